@@ -1,0 +1,11 @@
+//! What sessions and shards tell each other, and what a shard is given.
+#![tactic(auto)]
+
+mod message;
+mod reads;
+
+pub use message::{
+    Address, Answer, Ask, Commit, Done, Envelope, GiveUp, Input, Message, Outcome, Prepare, Read,
+    ReadAnswer, Vote,
+};
+pub use reads::Reads;

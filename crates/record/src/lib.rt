@@ -1,0 +1,6 @@
+//! The records of a shard's log.
+#![tactic(auto)]
+
+mod record;
+
+pub use record::{Committed, Prepared, Record};

@@ -1,0 +1,10 @@
+pub mod Faults
+pub mod Ids
+pub mod Keys
+pub mod Lists
+pub mod LockLaws
+pub mod Locks
+pub mod Padded
+pub mod Parts
+pub mod Texts
+pub mod Versions

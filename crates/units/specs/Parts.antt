@@ -1,0 +1,60 @@
+-- The shards of a transaction as a set of bits, and as the ascending list that the definitions read.
+use Rattle.std.specs.Prelude.{◌≡◌, ℕ, zero, suc, ◌+◌, ◌*◌, ◌/◌, ◌%◌, ◌^◌, ◌<◌, nat_eq, Bool, true, false, List, [], ◌∷◌, cond, refl}
+use Rattle.std.proofs.Common.{sym, ap, ◌∙◌, subst, arith}
+use Rattle.std.proofs.lemmas.Bool.Decides.{nat_tests}
+use Rattle.std.proofs.Math.Nat.{pow-suc, div-add-mod, mul-add, mul_assoc, mul-one, one-mul, mul-zero}
+
+-- the numbers from n on whose bit is set, in the next few bits
+abbrev pub shards_from : ℕ → ℕ → ℕ → List ℕ
+shards_from zero n mask = []
+shards_from (suc bits) n mask = cond (nat_eq (mask % 2) 1) (n ∷ shards_from bits (suc n) (mask / 2)) (shards_from bits (suc n) (mask / 2))
+
+-- the shards of a mask of 16 bits, ascending
+abbrev pub shards_of_mask : ℕ → List ℕ
+shards_of_mask mask = shards_from 16 0 mask
+
+-- the mask of some shards: 2^n for shard n, added
+abbrev pub mask_of : List ℕ → ℕ
+mask_of [] = 0
+mask_of (n ∷ ns) = 2 ^ n + mask_of ns
+
+-- a set bit, or one that is not set, above the bits of a half
+with_bit : (power half bit whole others : ℕ) → 2 * half + bit ≡ whole → others ≡ power * 2 * half → others + power * bit ≡ power * whole
+with_bit power half bit whole others sum is =
+    is-sum ∙ sym (mul-add power (2 * half) bit) ∙ ap (λ n. power * n) sum
+  where
+    is-sum : others + power * bit ≡ power * (2 * half) + power * bit
+    is-sum = ap (λ n. n + power * bit) (is ∙ mul_assoc power 2 half)
+
+by_bit : (power half bit whole place : ℕ) (test : Bool) (shards : List ℕ) → power ≡ 2 ^ place → test ≡ nat_eq bit 1 → bit < 2
+    → mask_of shards + power * bit ≡ power * whole → mask_of (cond test (place ∷ shards) shards) ≡ power * whole
+by_bit power half bit whole place true shards is tested small sum =
+    let one : bit ≡ 1 = grind (arith, nat_tests) in
+    let same : power * bit ≡ power = ap (λ n. power * n) one ∙ mul-one power in
+    omega (arith, is, same, sum)
+by_bit power half bit whole place false shards is tested small sum =
+    let none : bit ≡ 0 = grind (arith, nat_tests) in
+    let same : power * bit ≡ 0 = ap (λ n. power * n) none ∙ mul-zero power in
+    omega (arith, same, sum)
+
+-- the mask of the shards of a mask is that mask, as far as its bits go
+pub mask_from : (bits n mask : ℕ) → mask < 2 ^ bits → mask_of (shards_from bits n mask) ≡ 2 ^ n * mask
+mask_from zero n mask h =
+    let none : mask ≡ 0 = omega (arith, h) in
+    sym (ap (λ k. 2 ^ n * k) none ∙ mul-zero (2 ^ n))
+mask_from (suc bits) n mask h =
+    let half : mask / 2 < 2 ^ bits = half_below mask (2 ^ bits) (subst (λ p. mask < p) (pow-suc 2 bits) h) in
+    let rest : mask_of (shards_from bits (suc n) (mask / 2)) ≡ 2 ^ n * 2 * (mask / 2) =
+    mask_from bits (suc n) (mask / 2) half ∙ ap (λ p. p * (mask / 2)) (pow-suc 2 n) in
+    by_bit (2 ^ n) (mask / 2) (mask % 2) mask n (nat_eq (mask % 2) 1) (shards_from bits (suc n) (mask / 2)) refl refl (mod-lt mask)
+    (with_bit (2 ^ n) (mask / 2) (mask % 2) mask (mask_of (shards_from bits (suc n) (mask / 2))) (div-add-mod mask 2) rest)
+  where
+    mod-lt : (k : ℕ) → k % 2 < 2
+    mod-lt k = omega arith
+
+    half_below : (k power : ℕ) → k < power * 2 → k / 2 < power
+    half_below k power less = omega (arith, less)
+
+-- the mask of the shards of 16 bits
+pub mask_again : (mask : ℕ) → mask < 2 ^ 16 → mask_of (shards_of_mask mask) ≡ mask
+mask_again mask h = mask_from 16 0 mask h ∙ one-mul mask

@@ -1,0 +1,102 @@
+//! Keys.
+ghost use Rattle.std.specs.Prelude.{◌≡◌, ℕ, List, ◌<◌, ◌≤◌, ◌++◌, ◌⊎◌, length, MatchResult, take};
+ghost use Rattle.units.specs.Padded.{zeros_behind};
+ghost use Rattle.units.specs.Keys.{same_key, key_before};
+
+use crate::{Fault, Reason};
+use std::marker::Model;
+
+/// A key of 1 to 64 bytes. It is a plain value, so a copy of it takes no memory. Keys are ordered by their bytes.
+#[derive(Clone, Copy, Debug)]
+pub struct Key {
+    bytes: [u8; 64],
+    len: usize,
+}
+
+impl Model for Key {
+    ghost use Rattle.std.specs.Prelude.{ℕ, List, ◌++◌, length, take};
+    ghost use Rattle.std.proofs.lemmas.List.{length-take-le};
+    ghost use Rattle.std.proofs.Common.{ap, ◌∙◌};
+    ghost use Rattle.units.specs.Padded.{IsPadded, zeros_behind, padded_again};
+
+    ghost Value = { List ℕ };
+
+    ghost view = { λ k. take k.len k.bytes };
+
+    ghost invariant = { λ k. IsPadded k.bytes k.len };
+
+    ghost inverse = { λ b. record { bytes = b ++ zeros_behind (length b); len = length b } };
+
+    ghost inverse_ok = { λ a h. ap (λ (p : List ℕ × ℕ). record { bytes = p.0; len = p.1 }) (λ i. (padded_again a.bytes a.len h i, length-take-le a.len a.bytes h.whole i)) };
+}
+
+impl Key {
+    /// The key with these bytes.
+    pub fn new(bytes: &[u8]) -> Result<Key, Fault>
+        ensures { MatchResult result (λ key. (key ≡ bytes.now) × (1 ≤ length bytes.now) × (length bytes.now ≤ 64))
+            (λ fault. (fault ≡ Fault.BadRequest Reason.Key) × ((length bytes.now ≡ 0) ⊎ (64 < length bytes.now))) }
+    {
+        if bytes.is_empty() || bytes.len() > 64 {
+            return Err(Fault::BadRequest(Reason::Key));
+        }
+        let mut held = [0u8; 64];
+        fill(&mut held, bytes);
+        Ok(Key {
+            bytes: held,
+            len: bytes.len(),
+        })
+    }
+
+    /// Its bytes.
+    pub fn as_bytes(&self) -> &[u8]
+        ensures same { result.now ≡ self.now }
+        ensures least { 1 ≤ length result.now }
+        ensures most { length result.now ≤ 64 }
+    {
+        &self.bytes[..self.len]
+    }
+
+    /// It has the same bytes.
+    pub fn is(&self, other: &Key) -> bool
+        ensures { result ≡ same_key self.now other.now }
+    {
+        is_same(self.as_bytes(), other.as_bytes())
+    }
+
+    /// It comes before another key. A key comes before each longer one that it begins.
+    pub fn is_before(&self, other: &Key) -> bool
+        ensures { result ≡ key_before self.now other.now }
+    {
+        come_before(self.as_bytes(), other.as_bytes())
+    }
+}
+
+// Compares byte by byte.
+fn come_before(a: &[u8], b: &[u8]) -> bool
+    ensures { result ≡ key_before a.now b.now }
+{
+    match (a.split_first(), b.split_first()) {
+        (Some((x, more)), Some((y, others))) => {
+            *x < *y || (*x == *y && come_before(more, others))
+        }
+        (None, Some(_)) => true,
+        (_, None) => false,
+    }
+}
+
+// Puts the bytes at the front of a row of zeros.
+fn fill(row: &mut [u8], bytes: &[u8])
+    requires zeros { row.old ≡ zeros_behind 0 }
+    requires short { length bytes.now ≤ 64 }
+    ensures { row.new ≡ bytes.now ++ zeros_behind (length bytes.now) }
+{
+    for (i, byte) in bytes.iter().enumerate() {
+        row[i] = *byte;
+    }
+}
+
+fn is_same(a: &[u8], b: &[u8]) -> bool
+    ensures { result ≡ same_key a.now b.now }
+{
+    a == b
+}

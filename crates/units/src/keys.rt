@@ -1,0 +1,68 @@
+//! Lists of keys that ascend.
+ghost use Rattle.std.specs.Prelude.{◌≡◌, ◌≤◌, ◌<◌, ◌⊎◌, IsTrue, IsFalse, [], length, MatchResult};
+ghost use Rattle.units.specs.Keys.{key_before};
+ghost use Rattle.units.specs.Lists.{ascends};
+
+use crate::Key;
+use std::alloc::Global;
+use std::marker::Model;
+
+/// At most 128 keys, strictly ascending by bytes.
+#[derive(Debug, Drop)]
+pub struct Keys {
+    keys: Vec<Key>,
+}
+
+impl Model for Keys {
+    ghost use Rattle.std.specs.Prelude.{ℕ, List, ◌≤◌, length, IsTrue};
+    ghost use Rattle.units.specs.Keys.{key_before};
+    ghost use Rattle.units.specs.Lists.{ascends};
+
+    ghost Value = { List (List ℕ) };
+
+    ghost view = { λ k. k.keys.items };
+
+    ghost invariant = { λ k. (length k.keys.items ≤ 128) × IsTrue (ascends key_before k.keys.items) };
+}
+
+impl Keys {
+    /// No key.
+    pub fn none(alloc: Global) -> Keys
+        ensures { result ≡ [] }
+    {
+        Keys {
+            keys: Vec::new(alloc),
+        }
+    }
+
+    /// The keys of a list, which is handed back where they do not ascend or are more than 128.
+    pub fn from_vec(keys: Vec<Key>) -> Result<Keys, Vec<Key>>
+        ensures { MatchResult result (λ taken. (taken ≡ keys.items) × (length keys.items ≤ 128) × IsTrue (ascends key_before keys.items))
+            (λ back. (back.items ≡ keys.items) × ((128 < length keys.items) ⊎ IsFalse (ascends key_before keys.items))) }
+    {
+        if keys.len() > 128 || !ascend(keys.as_slice()) {
+            return Err(keys);
+        }
+        Ok(Keys { keys })
+    }
+
+    /// The keys in order.
+    pub fn as_slice(&self) -> &[Key]
+        ensures same { result.now ≡ self.now }
+        ensures few { length result.now ≤ 128 }
+        ensures ascending { IsTrue (ascends key_before result.now) }
+    {
+        self.keys.as_slice()
+    }
+}
+
+/// Each key is before the next one.
+pub(crate) fn ascend(keys: &[Key]) -> bool
+    ensures { result ≡ ascends key_before keys.now }
+{
+    match keys {
+        [first, second, ..] => first.is_before(second) && ascend(&keys[1..]),
+        [_] => true,
+        [] => true,
+    }
+}

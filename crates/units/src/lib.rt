@@ -1,0 +1,34 @@
+//! The small words of the store: timestamps, ids of transactions, keys, values, shards, writes, locks, report lines and
+//! the refusals of every call. Each type keeps its limits.
+#![tactic(auto)]
+
+mod fault;
+mod key;
+mod keys;
+mod line;
+mod lock;
+mod parts;
+mod setup;
+mod shard;
+mod splits;
+mod stamp;
+mod txn;
+mod value;
+mod writes;
+
+pub use fault::{Fault, Reason};
+pub use key::Key;
+pub use keys::Keys;
+pub use line::{Line, Seen, Verdict};
+pub use lock::{Asked, Ids, Lock, Mode};
+pub use parts::Parts;
+pub use setup::{Book, Setup, Stride};
+pub use shard::ShardNo;
+pub use splits::Splits;
+pub use stamp::{Epoch, Stamp};
+pub use txn::TxnId;
+pub use value::Value;
+pub use writes::{Install, Write, Writes};
+
+#[cfg(test)]
+mod tests;

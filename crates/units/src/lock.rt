@@ -1,0 +1,40 @@
+//! Locks, and the answer to a request for some.
+use crate::{Key, TxnId};
+use std::marker::Model;
+
+/// How a lock is held: several transactions may share a key, one alone holds it exclusively.
+#[derive(Clone, Copy, Debug, PartialEq, Eq)]
+pub enum Mode {
+    Shared,
+    Exclusive,
+}
+
+/// A key with the way in which it is locked.
+#[derive(Clone, Copy, Debug)]
+pub struct Lock {
+    pub key: Key,
+    pub mode: Mode,
+}
+
+/// Ids of transactions, in ascending order.
+#[derive(Debug, Drop)]
+pub struct Ids {
+    ids: Vec<TxnId>,
+}
+
+impl Model for Ids {
+    ghost use Rattle.std.specs.Prelude.{List};
+    ghost use Rattle.units.specs.Ids.{Id};
+
+    ghost Value = { List Id };
+
+    ghost view = { λ i. i.ids.items };
+}
+
+/// The answer to a request for locks: it is granted, it waits, or these younger holders are to be ended first.
+#[derive(Debug, Drop)]
+pub enum Asked {
+    Granted,
+    Waits,
+    Wounds(Ids),
+}

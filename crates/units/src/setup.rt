@@ -1,0 +1,63 @@
+//! What a shard is told when it is opened.
+ghost use Rattle.std.specs.Prelude.{◌≡◌, ◌≤◌, ◌↔◌, IsSome, IfSome};
+
+use crate::{ShardNo, Splits};
+use std::marker::Model;
+
+/// How far ahead of the served time a ceiling is logged, in microseconds: 0 to 10,000,000.
+#[derive(Clone, Copy, Debug, PartialEq, Eq)]
+pub struct Stride {
+    micros: u64,
+}
+
+impl Model for Stride {
+    ghost use Rattle.std.specs.Prelude.{ℕ, ◌≤◌};
+
+    ghost Value = { ℕ };
+
+    ghost view = { λ s. s.micros };
+
+    ghost invariant = { λ s. s.micros ≤ 10000000 };
+
+    ghost inverse = { λ n. record { micros = n } };
+}
+
+impl Stride {
+    /// The greatest stride, in microseconds.
+    pub const MAX: u64 = 10_000_000;
+
+    /// The stride of this many microseconds, where it is within the limit.
+    pub fn new(micros: u64) -> Option<Stride>
+        ensures value { IfSome result (λ stride. stride ≡ micros) }
+        ensures limit { IsSome result ↔ (micros ≤ 10000000) }
+    {
+        if micros <= Stride::MAX {
+            Some(Stride { micros })
+        } else {
+            None
+        }
+    }
+
+    /// Its microseconds.
+    pub fn micros(self) -> u64
+        ensures same { result ≡ self }
+        ensures limit { result ≤ 10000000 }
+    {
+        self.micros
+    }
+}
+
+/// Whether a shard keeps a book of its inputs. So far none does.
+#[derive(Clone, Copy, Debug, PartialEq, Eq)]
+pub enum Book {
+    Off,
+}
+
+/// What a shard is told when it is opened: its number, the splits of all shards, its stride and its book.
+#[derive(Debug, Drop)]
+pub struct Setup {
+    pub shard: ShardNo,
+    pub splits: Splits,
+    pub stride: Stride,
+    pub book: Book,
+}

@@ -1,0 +1,80 @@
+//! The keys that part the shards.
+ghost use Rattle.std.specs.Prelude.{◌≡◌, ◌≤◌, ◌<◌, ◌⊎◌, IsTrue, IsFalse, length, not, MatchResult};
+ghost use Rattle.units.specs.Keys.{key_before, shard_of};
+ghost use Rattle.units.specs.Lists.{ascends, count};
+
+use crate::keys::ascend;
+use crate::{Fault, Key, Reason, ShardNo};
+use std::alloc::Global;
+use std::marker::Model;
+
+/// The keys that part the shards, at most 15, strictly ascending. There is one shard more than splits.
+#[derive(Debug, Drop)]
+pub struct Splits {
+    keys: Vec<Key>,
+}
+
+impl Model for Splits {
+    ghost use Rattle.std.specs.Prelude.{ℕ, List, ◌≤◌, length, IsTrue};
+    ghost use Rattle.units.specs.Keys.{key_before};
+    ghost use Rattle.units.specs.Lists.{ascends};
+
+    ghost Value = { List (List ℕ) };
+
+    ghost view = { λ s. s.keys.items };
+
+    ghost invariant = { λ s. (length s.keys.items ≤ 15) × IsTrue (ascends key_before s.keys.items) };
+}
+
+impl Splits {
+    /// The splits at these keys. More than 15 are `many`, keys that do not ascend are `splits`.
+    pub fn new(alloc: Global, keys: &[Key]) -> Result<Splits, Fault>
+        ensures { MatchResult result (λ splits. (splits ≡ keys.now) × (length keys.now ≤ 15) × IsTrue (ascends key_before keys.now))
+            (λ fault. (fault ≡ Fault.Memory)
+            ⊎ ((fault ≡ Fault.BadRequest Reason.Many) × (15 < length keys.now))
+            ⊎ ((fault ≡ Fault.BadRequest Reason.Splits) × IsFalse (ascends key_before keys.now))) }
+    {
+        if keys.len() > 15 {
+            return Err(Fault::BadRequest(Reason::Many));
+        }
+        if !ascend(keys) {
+            return Err(Fault::BadRequest(Reason::Splits));
+        }
+        let keys = keys.to_vec(alloc)?;
+        Ok(Splits { keys })
+    }
+
+    /// The splits in order.
+    pub fn as_slice(&self) -> &[Key]
+        ensures same { result.now ≡ self.now }
+        ensures few { length result.now ≤ 15 }
+    {
+        self.keys.as_slice()
+    }
+
+    /// The shard that a key belongs to: the number of splits that are not greater than the key.
+    #[tactic(auto, unfolding(crate::specs::Keys::shard_of))]
+    pub fn shard_of(&self, key: &Key) -> ShardNo
+        ensures { result ≡ shard_of self.now key.now }
+    {
+        ShardNo::of_count(count_up_to(self.keys.as_slice(), key))
+    }
+}
+
+// How many splits are not greater than the key.
+fn count_up_to(splits: &[Key], key: &Key) -> usize
+    ensures value { result ≡ count (λ split. not (key_before key.now split)) splits.now }
+    ensures limit { result ≤ length splits.now }
+{
+    match splits.split_first() {
+        None => 0,
+        Some((split, rest)) => {
+            let others = count_up_to(rest, key);
+            if key.is_before(split) {
+                others
+            } else {
+                others + 1
+            }
+        }
+    }
+}

@@ -1,0 +1,83 @@
+//! Ids of transactions.
+ghost use Rattle.std.specs.Prelude.{◌≡◌, ◌<◌, ◌≤◌, ◌^◌, ◌⊎◌, Some, IsSome, IfSome, ◌↔◌};
+ghost use Rattle.units.specs.Ids.{same_id, older};
+ghost use Rattle.units.specs.Texts.{txn_text};
+
+use std::fmt;
+use std::marker::Model;
+
+/// A transaction's id: the run that made it, from 1 on, and its number in that run, both below 2^62. Its text is
+/// `run.number`. Ids are ordered by run, then by number; a smaller id is an older transaction.
+#[derive(Clone, Copy, Debug, PartialEq, Eq, PartialOrd, Ord)]
+pub struct TxnId {
+    run: u64,
+    number: u64,
+}
+
+impl Model for TxnId {
+    ghost use Rattle.std.specs.Prelude.{◌<◌, ◌≤◌, ◌^◌};
+    ghost use Rattle.units.specs.Ids.{Id};
+
+    ghost Value = { Id };
+
+    ghost view = { λ t. record { run = t.run; number = t.number } };
+
+    ghost invariant = { λ t. (1 ≤ t.run) × (t.run < 2 ^ 62) × (t.number < 2 ^ 62) };
+
+    ghost inverse = { λ t. record { run = t.run; number = t.number } };
+}
+
+impl TxnId {
+    /// The id, where both numbers are within their limits.
+    pub fn new(run: u64, number: u64) -> Option<TxnId>
+        ensures value { IfSome result (λ t. (t.run ≡ run) × (t.number ≡ number)) }
+        ensures limits { IsSome result ↔ ((1 ≤ run) × (run < 2 ^ 62) × (number < 2 ^ 62)) }
+    {
+        if run >= 1 && run < 1 << 62 && number < 1 << 62 {
+            Some(TxnId { run, number })
+        } else {
+            None
+        }
+    }
+
+    /// The run that made it.
+    pub fn run(self) -> u64
+        ensures value { result ≡ self.run }
+        ensures least { 1 ≤ result }
+        ensures limit { result < 2 ^ 62 }
+    {
+        self.run
+    }
+
+    /// Its number in that run.
+    pub fn number(self) -> u64
+        ensures value { result ≡ self.number }
+        ensures limit { result < 2 ^ 62 }
+    {
+        self.number
+    }
+
+    /// It is the same id.
+    pub fn is(self, other: TxnId) -> bool
+        ensures { result ≡ same_id self other }
+    {
+        self.run == other.run && self.number == other.number
+    }
+
+    /// It is the older one, which is the smaller id.
+    pub fn is_older_than(self, other: TxnId) -> bool
+        ensures { result ≡ older self other }
+    {
+        self.run < other.run || (self.run == other.run && self.number < other.number)
+    }
+}
+
+impl fmt::Display for TxnId {
+    ghost output = { λ t. Some (txn_text t) };
+
+    fn fmt<W: fmt::Write>(&self, f: &mut fmt::Formatter<W>) -> fmt::Result {
+        let run = self.run;
+        let number = self.number;
+        write!(f, "{run}.{number}")
+    }
+}

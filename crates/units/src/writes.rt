@@ -1,0 +1,92 @@
+//! Writes of keys, and the versions that they become.
+ghost use Rattle.std.specs.Prelude.{◌≡◌, ◌≤◌, ◌<◌, ◌⊎◌, IsTrue, IsFalse, [], length, MatchResult};
+ghost use Rattle.units.specs.Keys.{write_before};
+ghost use Rattle.units.specs.Lists.{ascends};
+
+use crate::{Key, Stamp, Value};
+use std::alloc::Global;
+use std::marker::Model;
+
+/// A write of a key: a value, or `None` for an erasure.
+#[derive(Debug, Drop)]
+pub struct Write {
+    pub key: Key,
+    pub value: Option<Value>,
+}
+
+/// A version: what a key holds from a timestamp on, or `None` for its erasure.
+#[derive(Debug, Drop)]
+pub struct Install {
+    pub key: Key,
+    pub at: Stamp,
+    pub value: Option<Value>,
+}
+
+/// At most 128 writes, by strictly ascending keys.
+#[derive(Debug, Drop)]
+pub struct Writes {
+    writes: Vec<Write>,
+}
+
+impl Model for Writes {
+    ghost use Rattle.std.specs.Prelude.{List, ◌≤◌, length, IsTrue};
+    ghost use Rattle.units.specs.declared.writes.Write.{Write};
+    ghost use Rattle.units.specs.Keys.{write_before};
+    ghost use Rattle.units.specs.Lists.{ascends};
+
+    ghost Value = { List Write };
+
+    ghost view = { λ w. w.writes.items };
+
+    ghost invariant = { λ w. (length w.writes.items ≤ 128) × IsTrue (ascends write_before w.writes.items) };
+}
+
+impl Writes {
+    /// No write.
+    pub fn none(alloc: Global) -> Writes
+        ensures { result ≡ [] }
+    {
+        Writes {
+            writes: Vec::new(alloc),
+        }
+    }
+
+    /// The writes of a list, which is handed back where their keys do not ascend or they are more than 128.
+    pub fn from_vec(writes: Vec<Write>) -> Result<Writes, Vec<Write>>
+        ensures { MatchResult result (λ taken. (taken ≡ writes.items) × (length writes.items ≤ 128) × IsTrue (ascends write_before writes.items))
+            (λ back. (back.items ≡ writes.items) × ((128 < length writes.items) ⊎ IsFalse (ascends write_before writes.items))) }
+    {
+        if writes.len() > 128 || !ascend(writes.as_slice()) {
+            return Err(writes);
+        }
+        Ok(Writes { writes })
+    }
+
+    /// The writes in order.
+    pub fn as_slice(&self) -> &[Write]
+        ensures same { result.now ≡ self.now }
+        ensures few { length result.now ≤ 128 }
+        ensures ascending { IsTrue (ascends write_before result.now) }
+    {
+        self.writes.as_slice()
+    }
+
+    /// The writes as a plain list.
+    pub fn into_vec(self) -> Vec<Write>
+        ensures { result.items ≡ self }
+    {
+        let Writes { writes } = self;
+        writes
+    }
+}
+
+// Each key is before the next one.
+fn ascend(writes: &[Write]) -> bool
+    ensures { result ≡ ascends write_before writes.now }
+{
+    match writes {
+        [first, second, ..] => first.key.is_before(&second.key) && ascend(&writes[1..]),
+        [_] => true,
+        [] => true,
+    }
+}
