@@ -1,0 +1,3 @@
+//! The step of a shard as a function of its state, a reading and an input: rows, drafts, cells. Definitions and their
+//! laws; no running code.
+#![tactic(auto)]
