@@ -1,9 +1,9 @@
 -- Laws of a single step.
-use Rattle.std.specs.Prelude.{◌-◌, ◌^◌, ◌≤◌, Option}
+use Rattle.std.specs.Prelude.{ℕ, ◌-◌, ◌^◌, ◌≤◌, Option}
 use Rattle.record.specs.Facts.{Facts}
 use Rattle.protocol.specs.Rows.{Memory}
 use Rattle.protocol.specs.Draft.{Stepped, Refuses, Does}
-use Rattle.protocol.specs.Step.{step, facts_after}
+use Rattle.protocol.specs.Step.{step_within, facts_after}
 use Rattle.truetime.specs.Interval.{Interval}
 use Rattle.units.specs.declared.setup.Setup.{Setup}
 use Rattle.record.specs.declared.record.Record.{Record}
@@ -23,5 +23,5 @@ IsInLimit _ = Unit {0}
 -- cannot lower it
 abbrev pub LastStaysUnderFloor : Type 0
 LastStaysUnderFloor =
-    (setup : Setup) (facts : Facts) (memory : Memory) (now : Interval) (i : Input) → IsInLimit i → memory.last ≤ facts.floor →
-    OnDone (step setup facts memory now i) (λ r after. after.last ≤ (facts_after facts r).floor)
+    (rows : ℕ) (setup : Setup) (facts : Facts) (memory : Memory) (now : Interval) (i : Input) → IsInLimit i → memory.last ≤ facts.floor →
+    OnDone (step_within rows setup facts memory now i) (λ r after. after.last ≤ (facts_after facts r).floor)
