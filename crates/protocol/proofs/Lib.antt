@@ -1,1 +1,4 @@
 mod LastUnderFloor
+mod LockTable
+pub mod Samples
+mod ShardSteps
