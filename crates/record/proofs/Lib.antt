@@ -1,0 +1,2 @@
+mod VerdictMeans
+mod WholeForAll

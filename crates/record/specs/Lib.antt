@@ -1,0 +1,10 @@
+pub mod Accepted
+pub mod Computing
+pub mod Facts
+pub mod History
+pub mod Installs
+pub mod Records
+pub mod Serially
+pub mod Verdict
+pub mod VerdictLaws
+pub mod Whole

@@ -1,6 +1,8 @@
 //! The records of a shard's log.
 #![tactic(auto)]
 
+mod laws;
 mod record;
 
+pub use laws::a_yes_is_sound;
 pub use record::{Committed, Prepared, Record};
