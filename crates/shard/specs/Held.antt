@@ -1,12 +1,11 @@
 -- What a core holds: the decision that stands, if there is one, the transactions that are settled, and the versions.
-use Rattle.std.specs.Prelude.{◌≡◌, ℕ, IsFalse, List, [], ◌∷◌, Option, Some, None}
-use Rattle.std.specs.Option.{ForSome}
-use Rattle.units.specs.Ids.{Id, same_id}
-use Rattle.units.specs.Lists.{any}
+use Rattle.std.specs.Prelude.{◌≡◌, ℕ, suc, cond, List, [], ◌∷◌, Option, Some, None}
+use Rattle.units.specs.Ids.{Id, same_id, older}
+use Rattle.units.specs.Lists.{first}
 use Rattle.units.specs.declared.setup.Setup.{Setup}
 use Rattle.units.specs.declared.writes.Install.{Install}
 use Rattle.record.specs.declared.record.Committed.{Committed}
-use Rattle.record.specs.Records.{StandsDecided}
+use Rattle.record.specs.Records.{StandsDecided, HasSettled}
 use Rattle.record.specs.Facts.{Facts, Entry, with_status}
 
 -- the statuses: the settled ones, and the decision that stands
@@ -19,17 +18,21 @@ abbrev pub facts_by : ℕ → ℕ → Option Committed → List Entry → List I
 facts_by epoch floor decided settled installs =
     record { epoch = epoch; floor = floor; entries = entries_by decided settled; installs = installs }
 
--- an id is settled
-abbrev pub is_settled : List Entry → Id → Bool
-is_settled settled t = any (λ e. same_id e.txn t) settled
+-- the settled transaction of an id
+abbrev pub settled_of : List Entry → Id → Option Entry
+settled_of settled t = first (λ e. same_id e.txn t) settled
+
+-- it is there, and was settled at a timestamp
+abbrev pub IsSettledAt : Option Entry → ℕ → Type 0
+IsSettledAt entry at = (t : Id) × (parts : List ℕ) × (entry ≡ Some (record { txn = t; status = HasSettled at parts }))
+
+-- how many entries at the front are older than an id
+abbrev pub older_count : List Entry → Id → ℕ
+older_count [] t = 0
+older_count (e ∷ es) t = cond (older e.txn t) (suc (older_count es t)) 0
 
 -- a decision that stands is of this shard alone, reads nothing and is not settled
 pub record IsStanding (shard : ℕ) (settled : List Entry) (c : Committed) : Type 0 where
   pub parts : c.parts ≡ shard ∷ []
   pub reads : c.reads ≡ []
-  pub new : IsFalse (is_settled settled c.txn)
-
--- each settled transaction has this shard as its one part
--- the decision that stands, if there is one
-abbrev pub HoldsOne : ℕ → List Entry → Option Committed → Type 0
-HoldsOne shard settled decided = ForSome decided (IsStanding shard settled)
+  pub new : settled_of settled c.txn ≡ None

@@ -1,7 +1,7 @@
 //! Writes of keys, and the versions that they become.
 ghost use Rattle.std.specs.Prelude.{◌≡◌, ◌≤◌, ◌<◌, ◌⊎◌, IsTrue, IsFalse, [], length, MatchResult, IfOk, IfErr};
-ghost use Rattle.units.specs.Keys.{write_before};
-ghost use Rattle.units.specs.Lists.{ascends};
+ghost use Rattle.units.specs.Keys.{write_before, writes_key};
+ghost use Rattle.units.specs.Lists.{any, ascends};
 
 use crate::{Fault, Key, Stamp, Value};
 use std::alloc::Global;
@@ -91,6 +91,25 @@ impl Writes {
         Ok(Writes { writes })
     }
 
+    /// The key is written.
+    pub fn writes_key(&self, key: &Key) -> bool
+        ensures { result ≡ writes_key self.now key.now }
+    {
+        is_written(self.writes.as_slice(), key)
+    }
+
+    /// Some key is written by both.
+    pub fn share_a_key(&self, other: &Writes) -> bool
+        ensures { result ≡ any (λ w. writes_key other.now w.key) self.now }
+    {
+        for write in &self.writes {
+            if other.writes_key(&write.key) {
+                return true;
+            }
+        }
+        false
+    }
+
     /// The writes in order.
     pub fn as_slice(&self) -> &[Write]
         ensures same { result.now ≡ self.now }
@@ -107,6 +126,18 @@ impl Writes {
         let Writes { writes } = self;
         writes
     }
+}
+
+// The key is written by one of them.
+fn is_written(writes: &[Write], key: &Key) -> bool
+    ensures { result ≡ writes_key writes.now key.now }
+{
+    for write in writes {
+        if write.key.is(key) {
+            return true;
+        }
+    }
+    false
 }
 
 // Each key is before the next one.
