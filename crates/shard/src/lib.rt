@@ -2,6 +2,7 @@
 #![tactic(auto)]
 
 mod input;
+mod settled;
 mod state;
 
 pub use input::Input;
