@@ -1,6 +1,14 @@
-//! The records of a shard's log.
+//! The records of a shard's log, and their one spelling as bytes.
 #![tactic(auto)]
 
+mod reading;
 mod record;
+mod unread;
+mod writing;
 
+pub use reading::decode;
 pub use record::{Committed, Prepared, Record};
+pub use writing::{encode, none_begins_another};
+
+#[cfg(test)]
+mod tests;
