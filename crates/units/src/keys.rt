@@ -1,9 +1,9 @@
 //! Lists of keys that ascend.
-ghost use Rattle.std.specs.Prelude.{◌≡◌, ◌≤◌, ◌<◌, ◌⊎◌, IsTrue, IsFalse, [], length, MatchResult};
+ghost use Rattle.std.specs.Prelude.{◌≡◌, ◌≤◌, ◌<◌, ◌⊎◌, IsTrue, IsFalse, [], length, MatchResult, IfOk, IfErr};
 ghost use Rattle.units.specs.Keys.{key_before};
 ghost use Rattle.units.specs.Lists.{ascends};
 
-use crate::Key;
+use crate::{Fault, Key};
 use std::alloc::Global;
 use std::marker::Model;
 
@@ -53,6 +53,15 @@ impl Keys {
         ensures ascending { IsTrue (ascends key_before result.now) }
     {
         self.keys.as_slice()
+    }
+
+    /// Equal keys with memory of their own.
+    pub fn copy(&self, alloc: Global) -> Result<Keys, Fault>
+        ensures same { IfOk result (λ keys. keys ≡ self.now) }
+        ensures memory { IfErr result (λ fault. fault ≡ Fault.Memory) }
+    {
+        let keys = self.keys.as_slice().to_vec(alloc)?;
+        Ok(Keys { keys })
     }
 }
 

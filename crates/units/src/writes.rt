@@ -1,9 +1,9 @@
 //! Writes of keys, and the versions that they become.
-ghost use Rattle.std.specs.Prelude.{◌≡◌, ◌≤◌, ◌<◌, ◌⊎◌, IsTrue, IsFalse, [], length, MatchResult};
+ghost use Rattle.std.specs.Prelude.{◌≡◌, ◌≤◌, ◌<◌, ◌⊎◌, IsTrue, IsFalse, [], length, MatchResult, IfOk, IfErr};
 ghost use Rattle.units.specs.Keys.{write_before};
 ghost use Rattle.units.specs.Lists.{ascends};
 
-use crate::{Key, Stamp, Value};
+use crate::{Fault, Key, Stamp, Value};
 use std::alloc::Global;
 use std::marker::Model;
 
@@ -12,6 +12,23 @@ use std::marker::Model;
 pub struct Write {
     pub key: Key,
     pub value: Option<Value>,
+}
+
+impl Write {
+    /// An equal write with memory of its own.
+    pub fn copy(&self, alloc: Global) -> Result<Write, Fault>
+        ensures same { IfOk result (λ write. write ≡ self.now) }
+        ensures memory { IfErr result (λ fault. fault ≡ Fault.Memory) }
+    {
+        let value = match &self.value {
+            None => None,
+            Some(value) => Some(value.copy(alloc)?),
+        };
+        Ok(Write {
+            key: self.key,
+            value,
+        })
+    }
 }
 
 /// A version: what a key holds from a timestamp on, or `None` for its erasure.
@@ -69,6 +86,18 @@ impl Writes {
         ensures ascending { IsTrue (ascends write_before result.now) }
     {
         self.writes.as_slice()
+    }
+
+    /// Equal writes with memory of their own.
+    pub fn copy(&self, alloc: Global) -> Result<Writes, Fault>
+        ensures same { IfOk result (λ writes. writes ≡ self.now) }
+        ensures memory { IfErr result (λ fault. fault ≡ Fault.Memory) }
+    {
+        let mut writes = Vec::new(alloc);
+        for write in &self.writes {
+            writes.push(write.copy(alloc)?)?;
+        }
+        Ok(Writes { writes })
     }
 
     /// The writes as a plain list.
