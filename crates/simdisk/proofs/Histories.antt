@@ -1,9 +1,9 @@
 -- What one change more does to a history.
-use Rattle.std.proofs.Common.{◌≡◌, ◌⊎◌, inl, inr, ℕ, zero, suc, ◌+◌, ◌<◌, ◌≤◌, max, List, [], ◌∷◌, ◌++◌, length, get_or, take, drop, Result, Ok, Err, refl, sym, subst, ap, ◌∙◌, arith}
+use Rattle.std.proofs.Common.{◌≡◌, ℕ, zero, suc, ◌+◌, ◌<◌, ◌≤◌, max, List, [], ◌∷◌, ◌++◌, length, get_or, take, drop, Result, Ok, Err, refl, sym, subst, ap, ◌∙◌, arith}
 use Rattle.std.proofs.lemmas.Bool.{false≢true}
 use Rattle.std.proofs.lemmas.List.{take_all, take-append-le, drop-append-le, length-append, length-drop, nil_from_length, drop-drop, take_more, length-take-le}
-use Rattle.std.specs.Prelude.{OnOk, OnErr, IsOk}
-use Rattle.disk.specs.File.{File, surface}
+use Rattle.std.specs.Prelude.{OnOk, IsOk}
+use Rattle.disk.specs.File.{File}
 use Rattle.simdisk.specs.declared.change.Change.{Change}
 use Rattle.simdisk.specs.Replay.{History, kept, size, end_of, total, furthest, step, replay, settled, file_at, file_of, pushed, IsStored}
 
@@ -86,10 +86,10 @@ furthest-push [] change = omega arith
 furthest-push (first ∷ changes) change = omega (arith, furthest-push changes change)
 
 -- each range ends within the furthest
-pub end-fits : (changes : List Change) (made : ℕ) (d : Change) → made < length changes → end_of (get_or changes made d) ≤ furthest changes
-end-fits [] made d lt = absurd (omega arith)
-end-fits (first ∷ changes) zero d lt = omega arith
-end-fits (first ∷ changes) (suc made) d lt = omega (arith, end-fits changes made d (omega arith))
+pub end-within : (changes : List Change) (made : ℕ) (d : Change) → made < length changes → end_of (get_or changes made d) ≤ furthest changes
+end-within [] made d lt = absurd (omega arith)
+end-within (first ∷ changes) zero d lt = omega arith
+end-within (first ∷ changes) (suc made) d lt = omega (arith, end-within changes made d (omega arith))
 
 replay-count : (changes : List Change) (store : List ℕ) (file : File) → length (replay changes store file).changes ≡ length file.changes + length changes
 replay-count [] store file = omega arith

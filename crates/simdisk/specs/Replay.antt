@@ -68,11 +68,6 @@ file_of h = file_at h (length h.changes)
 abbrev pub pushed : History → Change → List ℕ → History
 pushed h change bytes = record { base = h.base; changes = h.changes ++ change ∷ []; store = h.store ++ bytes }
 
--- the second history is the first with one change more, which has these bytes
-pub record IsPushed (old new : History) (change : Change) (bytes : List ℕ) : Type 0 where
-  pub is : new ≡ pushed old change bytes
-  pub fits : length bytes ≡ size change
-
 -- the store has the bytes of all changes
 abbrev pub IsStored : History → Type 0
 IsStored h = total h.changes ≡ length h.store

@@ -1,7 +1,7 @@
 // What a disk in memory holds. A crash takes no memory: each buffer has room for all that a crash may leave.
 ghost use Rattle.std.specs.Prelude.{◌≡◌, ◌+◌, ◌<◌, ◌≤◌, ℕ, [], ◌∷◌, ◌++◌, length, vec_len, vec_capacity, OnOk, OnErr, IsOk};
-ghost use Rattle.disk.specs.File.{surface, crashed};
-ghost use Rattle.simdisk.specs.Replay.{IsPushed, kept, settled, total, furthest, file_of};
+ghost use Rattle.disk.specs.File.{wrote, tried, cut, changed, synced, surface, crashed};
+ghost use Rattle.simdisk.specs.Replay.{kept, settled, total, furthest, file_of};
 
 use crate::change::Change;
 use crate::tear::{put, tear};
@@ -42,7 +42,7 @@ impl Buffers {
 
     /// Takes memory ahead, for changes of that many bytes in all, in at most 8 calls.
     pub fn reserve(&mut self, bytes: usize) -> Result<(), AllocError>
-        ensures same { held self.new ≡ held self.old }
+        ensures same { held_file self.new ≡ held_file self.old }
         ensures room { OnOk result (HasRoom self.new 8 bytes) }
     {
         self.changes.reserve(8)?;
@@ -74,8 +74,8 @@ impl Buffers {
     /// A write that is seen.
     pub fn write(&mut self, at: usize, bytes: &[u8]) -> Result<(), AllocError>
         requires { at ≤ length self.old.seen.items }
-        ensures ok { OnOk result (IsPushed (held self.old) (held self.new) (Change.Write at (length bytes.now)) bytes.now) }
-        ensures err { OnErr result (held self.new ≡ held self.old) }
+        ensures ok { OnOk result (held_file self.new ≡ changed (wrote at bytes.now) (held_file self.old)) }
+        ensures err { OnErr result (held_file self.new ≡ held_file self.old) }
         ensures room { (calls more : ℕ) → HasRoom self.old (calls + 1) (length bytes.now + more) → IsOk result × HasRoom self.new calls more }
     {
         self.make_ready(at, bytes.len())?;
@@ -91,8 +91,8 @@ impl Buffers {
     /// A write that failed: a read does not see it.
     pub fn try_write(&mut self, at: usize, bytes: &[u8]) -> Result<(), AllocError>
         requires { at ≤ length self.old.seen.items }
-        ensures ok { OnOk result (IsPushed (held self.old) (held self.new) (Change.Tried at (length bytes.now)) bytes.now) }
-        ensures err { OnErr result (held self.new ≡ held self.old) }
+        ensures ok { OnOk result (held_file self.new ≡ changed (tried at bytes.now) (held_file self.old)) }
+        ensures err { OnErr result (held_file self.new ≡ held_file self.old) }
         ensures room { (calls more : ℕ) → HasRoom self.old (calls + 1) (length bytes.now + more) → IsOk result × HasRoom self.new calls more }
     {
         self.make_ready(at, bytes.len())?;
@@ -106,25 +106,20 @@ impl Buffers {
 
     /// Cuts the file to a length.
     pub fn cut(&mut self, len: u64) -> Result<(), AllocError>
-        ensures ok { OnOk result (IsPushed (held self.old) (held self.new) (Change.Cut len) []) }
-        ensures err { OnErr result (held self.new ≡ held self.old) }
+        ensures ok { OnOk result (held_file self.new ≡ changed (cut len) (held_file self.old)) }
+        ensures err { OnErr result (held_file self.new ≡ held_file self.old) }
         ensures room { (calls more : ℕ) → HasRoom self.old (calls + 1) more → IsOk result × HasRoom self.new calls more }
     {
         self.changes.reserve(1)?;
-        keep(
-            &mut self.changes,
-            &mut self.store,
-            Change::Cut { len },
-            &[],
-        );
+        keep(&mut self.changes, &mut self.store, Change::Cut { len }, &[]);
         self.seen.truncate(len as usize);
         Ok(())
     }
 
     /// Nothing is unsynced any more.
     pub fn sync(&mut self) -> Result<(), AllocError>
-        ensures ok { OnOk result (held self.new ≡ kept self.old.seen.items [] []) }
-        ensures err { OnErr result (held self.new ≡ held self.old) }
+        ensures ok { OnOk result (held_file self.new ≡ synced (held_file self.old)) }
+        ensures err { OnErr result (held_file self.new ≡ held_file self.old) }
         ensures room { (calls more : ℕ) → HasRoom self.old (calls + 1) more → IsOk result × HasRoom self.new calls more }
     {
         let len = self.seen.len();
@@ -139,7 +134,7 @@ impl Buffers {
 
     /// Each change comes out by its fate, the oldest first.
     pub fn crash(&mut self, fates: &[Fate])
-        ensures { held self.new ≡ kept (crashed fates.now (held_file self.old)) [] [] }
+        ensures { held_file self.new ≡ settled (crashed fates.now (held_file self.old)) }
     {
         tear(&mut self.durable, &self.changes, &self.store, fates);
         self.seen.clear();

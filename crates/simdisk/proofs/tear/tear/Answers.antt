@@ -6,7 +6,7 @@ use Rattle.disk.specs.File.{File, by_fate, crashed}
 use Rattle.simdisk.specs.declared.change.Change.{Change}
 use Rattle.simdisk.specs.declared.change.Change.TheVariants.{Write}
 use Rattle.simdisk.specs.Replay.{kept, size, step, made, file_at, total}
-use Rattle.simdisk.proofs.Histories.{total-more, total-fits, file-more, end-fits, count-at}
+use Rattle.simdisk.proofs.Histories.{total-more, total-fits, file-more, end-within, count-at}
 use Rattle.simdisk.proofs.tear.tear.Goals as goal
 
 abbrev none : Change
@@ -24,7 +24,7 @@ change_by_fate-requires c =
     let at = c.loop-made.made in
     record {
       bytes = omega (arith, c.count.ensures, c.split_at.ensures.front_len);
-      room = omega (arith, c.requires.room, end-fits changes at none c.loop-made-test.true, c.loop-made.invariant.capacity);
+      room = omega (arith, c.requires.room, end-within changes at none c.loop-made-test.true, c.loop-made.invariant.capacity);
     }
 
 pub loop-made-preserved : goal.loop-made-preserved
@@ -48,6 +48,6 @@ loop-made-preserved c =
           ∙ ap (λ (f : File). crashed fates f) more;
       rest = c.split_at.ensures.back ∙ ap (λ (n : ℕ). drop n c.loop-made.rest.now) c.count.ensures ∙ ap (λ (l : List ℕ). drop (size change) l) rest
           ∙ drop-drop (size change) (total (take at h.changes)) h.store ∙ ap (λ (n : ℕ). drop n h.store) (sym (total-more h.changes at none lt));
-      len = omega (arith, c.change_by_fate.ensures.len, end-fits h.changes at none lt, c.loop-made.invariant.len);
+      len = omega (arith, c.change_by_fate.ensures.len, end-within h.changes at none lt, c.loop-made.invariant.len);
       capacity = omega (arith, c.change_by_fate.ensures.capacity, c.loop-made.invariant.capacity);
     }

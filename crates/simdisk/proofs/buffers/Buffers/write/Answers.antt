@@ -1,10 +1,10 @@
-use Rattle.std.proofs.Common.{◌≡◌, ℕ, List, [], length, ◌≤◌, ◌+◌, take, max, refl, sym, ap, ◌∙◌, arith}
+use Rattle.std.proofs.Common.{◌≡◌, ℕ, List, length, ◌≤◌, ◌+◌, max, refl, sym, ap, ◌∙◌, arith}
 use Rattle.disk.specs.Image.{with_bytes}
 use Rattle.disk.specs.File.{File, surface}
 use Rattle.disk.proofs.Crashes.{laid_is}
 use Rattle.simdisk.specs.declared.change.Change.{Change}
 use Rattle.simdisk.specs.declared.change.Change.TheVariants.{Write}
-use Rattle.simdisk.specs.Replay.{kept, pushed, file_of, furthest}
+use Rattle.simdisk.specs.Replay.{History, kept, pushed, file_of, furthest, step}
 use Rattle.simdisk.proofs.Histories.{then_pushed, stored_new, file_new, furthest-push}
 use Rattle.simdisk.proofs.buffers.Buffers.write.Goals as goal
 
@@ -27,6 +27,16 @@ invariant_of-self c =
       seen_fits = omega (arith, far, ready.seen_fits, fits.seen, c.put.ensures.capacity);
       copy_fits = omega (arith, ready.copy_fits, c.put.ensures.capacity);
     }
+
+pub returns-clause-ok : goal.returns-clause-ok
+returns-clause-ok c =
+    let ready = c.make_ready.new.self in
+    let h = kept ready.durable.items ready.changes.items ready.store.items in
+    let bytes = c.args.bytes.now in
+    let change : Change = Write c.args.at (length bytes) in
+    let new = kept h.base c.keep.new.changes.items c.keep.new.store.items in
+    file_new h new change bytes ready.stored refl (then_pushed h new.changes new.store change bytes c.keep.ensures.changes c.keep.ensures.store)
+    ∙ ap (λ (was : History). step change bytes (file_of was)) c.make_ready.ensures.same.0
 
 pub returns-clause-room : goal.returns-clause-room
 returns-clause-room c calls more room =
