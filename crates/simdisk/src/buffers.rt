@@ -127,8 +127,7 @@ impl Buffers {
             .reserve(len.saturating_sub(self.durable.len()))?;
         self.durable.clear();
         self.durable.extend_from_slice(&self.seen).unwrap();
-        self.changes.clear();
-        self.store.clear();
+        forget(&mut self.changes, &mut self.store);
         Ok(())
     }
 
@@ -139,8 +138,7 @@ impl Buffers {
         tear(&mut self.durable, &self.changes, &self.store, fates);
         self.seen.clear();
         self.seen.extend_from_slice(&self.durable).unwrap();
-        self.changes.clear();
-        self.store.clear();
+        forget(&mut self.changes, &mut self.store);
     }
 }
 
@@ -157,4 +155,15 @@ fn keep(changes: &mut Vec<Change>, store: &mut Vec<u8>, change: Change, bytes: &
 {
     store.extend_from_slice(bytes).unwrap();
     changes.push(change).unwrap();
+}
+
+// Nothing is unsynced.
+fn forget(changes: &mut Vec<Change>, store: &mut Vec<u8>)
+    ensures changes { (changes.new.items ≡ []) × (vec_len changes.new ≡ 0) }
+    ensures store { (store.new.items ≡ []) × (vec_len store.new ≡ 0) }
+    ensures changes_capacity { vec_capacity changes.old ≤ vec_capacity changes.new }
+    ensures store_capacity { vec_capacity store.old ≤ vec_capacity store.new }
+{
+    changes.clear();
+    store.clear();
 }

@@ -9,3 +9,6 @@ mod tear;
 
 pub use choice::Choice;
 pub use simdisk::SimDisk;
+
+#[cfg(test)]
+mod tests;
