@@ -1,11 +1,13 @@
 //! The records of a shard's log, and their one spelling as bytes.
 #![tactic(auto)]
 
+mod length;
 mod reading;
 mod record;
 mod unread;
 mod writing;
 
+pub use length::encoded_len;
 pub use reading::decode;
 pub use record::{Committed, Prepared, Record};
 pub use writing::{encode, none_begins_another};
