@@ -48,6 +48,11 @@ pub of_ok : {T E : Type 0} (A : Type 0) (result : Result T E) → IsOk result �
 of_ok A (Ok value) ok a = a
 of_ok A (Err error) ok a = absurd (false≢true ok)
 
+-- a sync that does not fail
+pub synced_unless : (failed : Bool) (old mid new : File) → failed ≡ false → mid ≡ old → new ≡ (if failed then mid else synced mid) → new ≡ synced old
+synced_unless true old mid new is same new-is = absurd (false≢true (sym is))
+synced_unless false old mid new is same new-is = new-is ∙ ap synced same
+
 -- the first of two calls fails
 pub first_fails : {T E : Type 0} (result : Result T E) (one two : Bool) (at : ℕ) (bytes : List ℕ) (file mid : File) → one ≡ true → IsErr result → mid ≡ changed (if one then tried at bytes else wrote at bytes) file
     → IsAsPlanned (one || two) result × (mid ≡ (if one then changed (tried at bytes) file else (if two then changed (wrote at bytes) file else synced (changed (wrote at bytes) file))))

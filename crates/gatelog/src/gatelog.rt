@@ -102,9 +102,11 @@ impl<D: Disk> GateLog<D> {
         ensures cause { IfErr result (λ refused. (refused.0 ≡ Fault.Memory)
             ⊎ (((refused.0 ≡ Fault.Device) × (D.failures disk < D.failures refused.1))
             ⊎ (D.keeps_model → log (surface (D.file disk)).seen ≡ Err refused.0))) }
-        // With room for the sync, and no call armed, the device does not fail.
-        ensures planned { D.obeys → D.has_room disk 1 0 → D.plan disk ≡ Never → IfOk result (λ opened. (D.plan (disk_of opened.0) ≡ Never) × (D.file (disk_of opened.0) ≡ synced (D.file disk))) }
-        ensures refused_planned { D.obeys → D.has_room disk 1 0 → D.plan disk ≡ Never → IfErr result (λ refused. (D.file refused.1 ≡ synced (D.file disk))
+        ensures failures_stay { IfOk result (λ opened. D.failures disk ≤ D.failures (disk_of opened.0)) }
+
+        // With no call armed, the device does not fail.
+        ensures planned { D.obeys → D.plan disk ≡ Never → IfOk result (λ opened. (D.plan (disk_of opened.0) ≡ Never) × (D.file (disk_of opened.0) ≡ synced (D.file disk))) }
+        ensures refused_planned { D.obeys → D.plan disk ≡ Never → IfErr result (λ refused. ((D.file refused.1 ≡ D.file disk) ⊎ (D.file refused.1 ≡ synced (D.file disk)))
             × ((refused.0 ≡ Fault.Memory) ⊎ (D.keeps_model → log (surface (D.file disk)).seen ≡ Err refused.0))) }
     {
         let mut disk = disk;
@@ -127,7 +129,9 @@ impl<D: Disk> GateLog<D> {
 
     /// A device call has failed in it.
     pub fn is_stopped(&self) -> bool
-        ensures { result ≡ is_stopped self.now }
+        ensures value { result ≡ is_stopped self.now }
+        // Between two calls every crash leaves the log that a read gives.
+        ensures stands { IsFalse result → D.keeps_model → Stands (surface (D.file (disk_of self.now))) (log (surface (D.file (disk_of self.now))).seen) }
     {
         self.stopped
     }
@@ -178,6 +182,9 @@ impl<D: Disk> GateLog<D> {
             Stands (surface (D.file (disk_of self.new))) (and_entry (log (surface (D.file (disk_of self.old))).seen) staged)) }
         ensures read { OnOk result (D.keeps_model →
             log (surface (D.file (disk_of self.new))).seen ≡ and_entry (log (surface (D.file (disk_of self.old))).seen) staged) }
+
+        // A read gives one of the two in any case.
+        ensures read_either { IsFalse (is_stopped self.old) → D.keeps_model → IsOldOrWith (log (surface (D.file (disk_of self.old))).seen) staged (surface (D.file (disk_of self.new))).seen }
 
         ensures names { IfOk result (λ logged. (logged ≡ staged.item) × IsFalse (is_stopped self.old) × IsFalse (is_stopped self.new)) }
         ensures failures_stay { D.failures (disk_of self.old) ≤ D.failures (disk_of self.new) }

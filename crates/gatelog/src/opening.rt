@@ -73,12 +73,15 @@ pub fn read_synced<D: Disk>(alloc: Global, disk: &mut D) -> Result<Vec<u8>, Faul
     ensures synced { OnOk result (D.keeps_model → surface (D.file disk.new) ≡ after_sync (surface (D.file disk.old))) }
     ensures bytes { IfOk result (λ image. D.keeps_model → image.items ≡ (surface (D.file disk.old)).seen) }
     ensures crash { D.keeps_model → LeavesOnly D.clock D.since disk.old disk.new (MayLeave (surface (D.file disk.old))) }
-    // With room for the sync, and no call armed, only memory is refused.
-    ensures planned { D.obeys → (calls bytes : ℕ) → D.has_room disk.old (calls + 1) bytes → D.plan disk.old ≡ Never →
-        (D.plan disk.new ≡ Never) × (D.file disk.new ≡ synced (D.file disk.old)) × D.has_room disk.new calls bytes × IfErr result (λ fault. fault ≡ Fault.Memory) }
+    // With no call armed, only memory is refused.
+    ensures memory { D.obeys → D.plan disk.old ≡ Never → IfErr result (λ fault. fault ≡ Fault.Memory) }
+    ensures plan { D.obeys → D.plan disk.old ≡ Never → D.plan disk.new ≡ Never }
+    ensures file { D.obeys → D.plan disk.old ≡ Never → OnOk result (D.file disk.new ≡ synced (D.file disk.old)) }
+    ensures file_either { D.obeys → D.plan disk.old ≡ Never → (D.file disk.new ≡ D.file disk.old) ⊎ (D.file disk.new ≡ synced (D.file disk.old)) }
     ensures failures_stay { D.failures disk.old ≤ D.failures disk.new }
     ensures cause { IfErr result (λ fault. (fault ≡ Fault.Memory) ⊎ ((fault ≡ Fault.Device) × (D.failures disk.old < D.failures disk.new))) }
 {
+    disk.reserve(0)?;
     disk.sync()?;
     let mut image = Vec::from_elem(alloc, 0, disk.len() as usize)?;
     disk.read_at(0, &mut image)?;

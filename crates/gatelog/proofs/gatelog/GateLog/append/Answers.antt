@@ -1,4 +1,4 @@
-use Rattle.std.proofs.Common.{◌≡◌, ◌+◌, ℕ, List, [], ◌∷◌, length, Bool, false, Result, Ok, refl, sym, ◌∙◌, subst, ap, arith}
+use Rattle.std.proofs.Common.{◌≡◌, ◌+◌, ◌≤◌, ℕ, List, [], ◌∷◌, length, Bool, false, Result, Ok, refl, sym, ◌∙◌, subst, ap, arith}
 use Rattle.std.specs.Prelude.{IsTrue, nat_lt}
 use Rattle.disk.specs.Image.{Surface, IsSynced, with_bytes, after_write, after_sync}
 use Rattle.disk.specs.File.{File, surface}
@@ -123,6 +123,10 @@ returns-clause-durable g c before image may =
 pub returns-clause-read : goal.returns-clause-read
 returns-clause-read g c keeps = returns-clause-durable g c keeps (surface (g.D.Disk.file c.write_and_sync-2.new.disk)).seen (g.met.D.Disk.reads_now c.write_and_sync-2.new.disk)
 
+-- what a read gives is one of the images since the start
+read_now : {D : Type 0} (clock : D → ℕ) (since : D → ℕ → List ℕ → Type 0) (old new : D) (P : List ℕ → Type 0) (image : List ℕ) → LeavesOnly clock since old new P → (clock old ≤ clock new → since new (clock old) image) → P image
+read_now clock since old new P image run there = run.each image (there run.later)
+
 -- which call fails, and what it leaves
 pub returns-in_err-write_and_sync-clause-planned : goal.returns-in_err-write_and_sync-clause-planned
 returns-in_err-write_and_sync-clause-planned g c running room =
@@ -216,3 +220,24 @@ returns-clause-armed g c call running keeps room plan-is =
     let planned = returns-clause-planned g c running room in
     armed_by_plan (g.D.Disk.file old.disk) (g.D.Disk.file c.write_and_sync-2.new.disk) (g.D.Disk.plan old.disk) old.gate inside.gate inside.item c.args.staged c.staged.view_is (old.synced running keeps) (old.whole running keeps) gate-is c.staged.invariant.1
     (Ok c.new.result) call plan-is planned.0 planned.1
+
+pub returns-in_err-write_and_sync-clause-read_either : goal.returns-in_err-write_and_sync-clause-read_either
+returns-in_err-write_and_sync-clause-read_either g c running keeps =
+    let new = c.write_and_sync.new.disk in
+    let image = (surface (g.D.Disk.file new)).seen in
+    read_now g.D.Disk.clock g.D.Disk.since c.args.self.now.disk new (IsOldOrWith (log (surface (g.D.Disk.file c.args.self.now.disk)).seen) c.args.staged) image (returns-in_err-write_and_sync-clause-any_moment g c running keeps)
+    (λ later. g.met.D.Disk.counts_now new (g.D.Disk.clock c.args.self.now.disk) image later (g.met.D.Disk.reads_now new))
+
+pub returns-in_err-write_and_sync-2-clause-read_either : goal.returns-in_err-write_and_sync-2-clause-read_either
+returns-in_err-write_and_sync-2-clause-read_either g c running keeps =
+    let new = c.write_and_sync-2.new.disk in
+    let image = (surface (g.D.Disk.file new)).seen in
+    read_now g.D.Disk.clock g.D.Disk.since c.args.self.now.disk new (IsOldOrWith (log (surface (g.D.Disk.file c.args.self.now.disk)).seen) c.args.staged) image (returns-in_err-write_and_sync-2-clause-any_moment g c running keeps)
+    (λ later. g.met.D.Disk.counts_now new (g.D.Disk.clock c.args.self.now.disk) image later (g.met.D.Disk.reads_now new))
+
+pub returns-clause-read_either : goal.returns-clause-read_either
+returns-clause-read_either g c running keeps =
+    let new = c.write_and_sync-2.new.disk in
+    let image = (surface (g.D.Disk.file new)).seen in
+    read_now g.D.Disk.clock g.D.Disk.since c.args.self.now.disk new (IsOldOrWith (log (surface (g.D.Disk.file c.args.self.now.disk)).seen) c.args.staged) image (returns-clause-any_moment g c running keeps)
+    (λ later. g.met.D.Disk.counts_now new (g.D.Disk.clock c.args.self.now.disk) image later (g.met.D.Disk.reads_now new))
