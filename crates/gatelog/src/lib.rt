@@ -8,3 +8,6 @@ mod token;
 
 pub use gatelog::GateLog;
 pub use token::{Entry, Logged, Staged};
+
+#[cfg(test)]
+mod tests;

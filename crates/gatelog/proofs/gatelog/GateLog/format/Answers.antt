@@ -1,4 +1,4 @@
-use Rattle.std.proofs.Common.{◌≡◌, ℕ, ◌⊎◌, inl, inr, List, [], ◌∷◌, Ok, refl, ◌∙◌, ap, lit<}
+use Rattle.std.proofs.Common.{◌≡◌, ℕ, List, [], ◌∷◌, Ok, refl, ◌∙◌, ap, lit<}
 use Rattle.gatelog.specs.Log.{log, scan, entries_at, entries_of, ends_with}
 use Rattle.gatelog.proofs.gatelog.GateLog.format.Goals as goal
 

@@ -1,4 +1,4 @@
-use Rattle.std.proofs.Common.{◌≡◌, ◌⊎◌, inl, inr, ⊎_elim, ℕ, List, sym, ap, ◌∙◌}
+use Rattle.std.proofs.Common.{inl, inr, ⊎_elim, ℕ, List, sym, ap, ◌∙◌}
 use Rattle.gatelog.specs.Log.{scan, entries_of}
 use Rattle.gatelog.proofs.gatelog.GateLog.open.Goals as goal
 
