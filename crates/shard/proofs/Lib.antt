@@ -3,3 +3,4 @@ pub mod Entries
 pub mod Steps
 pub mod Standings
 pub mod Learns
+pub mod Appends

@@ -2,6 +2,7 @@
 #![tactic(auto)]
 
 mod input;
+mod logging;
 mod settled;
 mod state;
 

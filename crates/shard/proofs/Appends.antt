@@ -1,0 +1,30 @@
+-- An append, as its records see it.
+use Rattle.std.proofs.Common.{◌≡◌, ◌⊎◌, inl, inr, ⊎_elim, ℕ, List, [], ◌∷◌, ◌++◌, map, Option, Some, Result, Ok, Err, refl, ap, ◌∙◌}
+use Rattle.units.specs.declared.fault.Fault.{Fault}
+use Rattle.disk.specs.File.{File, surface}
+use Rattle.record.specs.declared.record.Record.{Record}
+use Rattle.gatelog.specs.Placed.{Placed}
+use Rattle.gatelog.specs.Crash.{IsOldOrWith}
+use Rattle.gatelog.specs.Log.{log, and_entry}
+use Rattle.shard.specs.Logs.{items_of, records_in, and_logged, HoldsOldOrWith}
+
+items-append : (es : List Placed) (e : Placed) → map (λ p. p.item) (es ++ e ∷ []) ≡ map (λ p. p.item) es ++ e.item ∷ []
+items-append [] e = refl
+items-append (p ∷ es) e = ap (λ rest. p.item ∷ rest) (items-append es e)
+
+items-and_entry : (entries : Result (List Placed) Fault) (e : Placed) → items_of (and_entry entries e) ≡ and_logged (items_of entries) (Some e.item)
+items-and_entry (Ok es) e = ap (λ rs. Ok rs) (items-append es e)
+items-and_entry (Err fault) e = refl
+
+module _ (before now : File) (same : now ≡ before) (staged : Placed) (item : Record) (is : staged.item ≡ item) where
+  -- the log with the staged record, as records
+  pub logged-is : (image : List ℕ) → log image ≡ and_entry (log (surface now).seen) staged
+      → records_in image ≡ and_logged (records_in (surface before).seen) (Some item)
+  logged-is image with =
+      ap items_of with ∙ items-and_entry (log (surface now).seen) staged
+      ∙ ap (λ (r : Record). and_logged (records_in (surface now).seen) (Some r)) is
+      ∙ ap (λ (f : File). and_logged (records_in (surface f).seen) (Some item)) same
+
+  pub old_or_with : (image : List ℕ) → IsOldOrWith (log (surface now).seen) staged image → HoldsOldOrWith (records_in (surface before).seen) (Some item) image
+  old_or_with image (inl old) = inl (ap items_of old ∙ ap (λ (f : File). records_in (surface f).seen) same)
+  old_or_with image (inr with) = inr (logged-is image with)

@@ -1,0 +1,48 @@
+use Rattle.std.proofs.Common.{◌≡◌, inl, ap, ◌∙◌}
+use Rattle.disk.specs.Image.{MayLeave}
+use Rattle.disk.specs.File.{surface}
+use Rattle.disk.proofs.Runs.{and_then}
+use Rattle.gatelog.specs.Crash.{IsOldOrWith}
+use Rattle.gatelog.specs.Log.{log}
+use Rattle.gatelog.specs.Shown.{disk_of}
+use Rattle.shard.specs.Logs.{items_of, records_in, HoldsOldOrWith}
+use Rattle.shard.proofs.Appends.{logged-is, old_or_with}
+use Rattle.shard.proofs.logging.append_record.Goals as goal
+
+pub returns-in_err-logged-clause-any_moment : goal.returns-in_err-logged-clause-any_moment
+returns-in_err-logged-clause-any_moment g c running keeps =
+    let before = g.D.Disk.file (disk_of c.args.gate_log.now) in
+    let now = g.D.Disk.file (disk_of c.stage.new.self) in
+    let same = c.in_ok-staged.ensures.same in
+    let staged = c.in_ok-staged.staged in
+    and_then g.D.Disk.clock g.D.Disk.since (disk_of c.args.gate_log.now) (disk_of c.stage.new.self) (disk_of c.append.new.self)
+        (MayLeave (surface before)) (IsOldOrWith (log (surface now).seen) staged) _
+        c.in_ok-staged.ensures.time
+        (c.append.ensures.any_moment (same.1 ∙ running) keeps)
+        (λ image may. inl (ap items_of (c.is_stopped.ensures.stands c.if-is_stopped.false keeps image may)))
+        (old_or_with before now same.2 staged c.args.item.now c.in_ok-staged.ensures.staged.1)
+
+pub returns-clause-any_moment : goal.returns-clause-any_moment
+returns-clause-any_moment g c running keeps =
+    let before = g.D.Disk.file (disk_of c.args.gate_log.now) in
+    let now = g.D.Disk.file (disk_of c.stage.new.self) in
+    let same = c.in_ok-staged.ensures.same in
+    let staged = c.in_ok-staged.staged in
+    and_then g.D.Disk.clock g.D.Disk.since (disk_of c.args.gate_log.now) (disk_of c.stage.new.self) (disk_of c.append.new.self)
+        (MayLeave (surface before)) (IsOldOrWith (log (surface now).seen) staged) _
+        c.in_ok-staged.ensures.time
+        (c.append.ensures.any_moment (same.1 ∙ running) keeps)
+        (λ image may. inl (ap items_of (c.is_stopped.ensures.stands c.if-is_stopped.false keeps image may)))
+        (old_or_with before now same.2 staged c.args.item.now c.in_ok-staged.ensures.staged.1)
+
+pub returns-clause-durable : goal.returns-clause-durable
+returns-clause-durable g c keeps image may =
+    let same = c.in_ok-staged.ensures.same in
+    logged-is (g.D.Disk.file (disk_of c.args.gate_log.now)) (g.D.Disk.file (disk_of c.stage.new.self)) same.2 c.in_ok-staged.staged c.args.item.now c.in_ok-staged.ensures.staged.1
+        image (c.in_ok-logged.ensures.durable keeps image may)
+
+pub returns-clause-read : goal.returns-clause-read
+returns-clause-read g c keeps =
+    let same = c.in_ok-staged.ensures.same in
+    logged-is (g.D.Disk.file (disk_of c.args.gate_log.now)) (g.D.Disk.file (disk_of c.stage.new.self)) same.2 c.in_ok-staged.staged c.args.item.now c.in_ok-staged.ensures.staged.1
+        (surface (g.D.Disk.file (disk_of c.append.new.self))).seen (c.in_ok-logged.ensures.read keeps)

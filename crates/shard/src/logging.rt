@@ -1,0 +1,43 @@
+//! One record is staged and appended.
+ghost use Rattle.std.specs.Prelude.{◌≡◌, ◌⊎◌, ◌+◌, ◌<◌, ◌≤◌, ◌^◌, Some, IsTrue, IsFalse, IfErr, OnOk};
+ghost use Rattle.disk.specs.File.{surface};
+ghost use Rattle.disk.specs.Moments.{LeavesOnly};
+ghost use Rattle.gatelog.specs.Frames.{next_gate};
+ghost use Rattle.gatelog.specs.Shown.{disk_of, gate_at, is_stopped};
+ghost use Rattle.shard.specs.Logs.{records_in, and_logged, KeepsRecords, HoldsOldOrWith};
+
+use disk::Disk;
+use gatelog::GateLog;
+use record::Record;
+use std::alloc::Global;
+use units::Fault;
+
+/// Appends a record to a log, with all the memory taken before.
+pub fn append_record<D: Disk>(
+    gate_log: &mut GateLog<D>,
+    alloc: Global,
+    item: &Record,
+) -> Result<(), Fault>
+    ensures failures_stay { D.failures (disk_of gate_log.old) ≤ D.failures (disk_of gate_log.new) }
+    ensures running { OnOk result (IsFalse (is_stopped gate_log.old) × IsFalse (is_stopped gate_log.new)) }
+    ensures cause { IfErr result (λ fault. ((fault ≡ Fault.Stopped) × IsTrue (is_stopped gate_log.old))
+        ⊎ (((fault ≡ Fault.Memory) × IsFalse (is_stopped gate_log.old))
+        ⊎ (((fault ≡ Fault.TimeSpent) × IsFalse (is_stopped gate_log.old) × (2 ^ 40 < next_gate (gate_at gate_log.old) item.now + 1))
+        ⊎ ((fault ≡ Fault.Device) × IsFalse (is_stopped gate_log.old) × (D.failures (disk_of gate_log.old) < D.failures (disk_of gate_log.new)) × IsTrue (is_stopped gate_log.new))))) }
+    ensures kept { IfErr result (λ fault. (fault ≡ Fault.Device)
+        ⊎ ((is_stopped gate_log.new ≡ is_stopped gate_log.old) × (gate_at gate_log.new ≡ gate_at gate_log.old) × (D.file (disk_of gate_log.new) ≡ D.file (disk_of gate_log.old)))) }
+    ensures any_moment { IsFalse (is_stopped gate_log.old) → D.keeps_model →
+        LeavesOnly D.clock D.since (disk_of gate_log.old) (disk_of gate_log.new) (HoldsOldOrWith (records_in (surface (D.file (disk_of gate_log.old))).seen) (Some item.now)) }
+    ensures durable { OnOk result (D.keeps_model →
+        KeepsRecords (surface (D.file (disk_of gate_log.new))) (and_logged (records_in (surface (D.file (disk_of gate_log.old))).seen) (Some item.now))) }
+    ensures read { OnOk result (D.keeps_model →
+        records_in (surface (D.file (disk_of gate_log.new))).seen ≡ and_logged (records_in (surface (D.file (disk_of gate_log.old))).seen) (Some item.now)) }
+{
+    if gate_log.is_stopped() {
+        return Err(Fault::Stopped);
+    }
+    let staged = gate_log.stage(alloc, item)?;
+    let logged = gate_log.append(staged)?;
+    let _ = logged.spend();
+    Ok(())
+}
