@@ -48,6 +48,7 @@ opens (Filled byte) = byte == open_gate
 abbrev pub is_left : ℕ → Fate → Bool
 is_left call fate = if nat_le call 1 then false else (if nat_le call 3 then opens fate else true)
 
+-- a log, with the entry where a test holds
 abbrev pub with_if : Bool → Result (List Placed) Fault → Placed → Result (List Placed) Fault
 with_if true entries entry = and_entry entries entry
 with_if false entries entry = entries

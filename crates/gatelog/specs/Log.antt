@@ -17,6 +17,7 @@ framed bytes = do
   item ← read_record body.0
   Some (item, 4 + count.0)
 
+-- how many bytes a frame takes behind its gate, 0 where there is none
 abbrev pub taken : Option (Record × ℕ) → ℕ
 taken (Some frame) = frame.1
 taken None = 0
@@ -42,6 +43,7 @@ entries_at at zero (gate ∷ bytes) =
 unfoldable pub scan : List ℕ → Result (List Placed × ℕ) Fault
 scan image = if bytes_eq (take 8 image) header then entries_at 8 0 (drop 8 image) else Err NotALog
 
+-- the entries alone
 abbrev pub entries_of : Result (List Placed × ℕ) Fault → Result (List Placed) Fault
 entries_of (Ok found) = Ok found.0
 entries_of (Err fault) = Err fault
@@ -50,6 +52,7 @@ entries_of (Err fault) = Err fault
 abbrev pub log : List ℕ → Result (List Placed) Fault
 log image = entries_of (scan image)
 
+-- the scan found a closed gate at this offset
 abbrev pub ends_with : Result (List Placed × ℕ) Fault → ℕ → Bool
 ends_with (Ok found) gate = found.1 == gate
 ends_with (Err fault) gate = false

@@ -102,6 +102,8 @@ impl<D: Disk> GateLog<D> {
         ensures cause { IfErr result (λ refused. (refused.0 ≡ Fault.Memory)
             ⊎ (((refused.0 ≡ Fault.Device) × (D.failures disk < D.failures refused.1))
             ⊎ (D.keeps_model → log (surface (D.file disk)).seen ≡ Err refused.0))) }
+        // Refused, but for `Device`, the file reads as it did.
+        ensures unchanged { IfErr result (λ refused. (refused.0 ≡ Fault.Device) ⊎ (D.keeps_model → (surface (D.file refused.1)).seen ≡ (surface (D.file disk)).seen)) }
         ensures failures_stay { IfOk result (λ opened. D.failures disk ≤ D.failures (disk_of opened.0)) }
 
         // With no call armed, the device does not fail.

@@ -73,6 +73,7 @@ pub fn read_synced<D: Disk>(alloc: Global, disk: &mut D) -> Result<Vec<u8>, Faul
     ensures synced { OnOk result (D.keeps_model → surface (D.file disk.new) ≡ after_sync (surface (D.file disk.old))) }
     ensures bytes { IfOk result (λ image. D.keeps_model → image.items ≡ (surface (D.file disk.old)).seen) }
     ensures crash { D.keeps_model → LeavesOnly D.clock D.since disk.old disk.new (MayLeave (surface (D.file disk.old))) }
+    ensures unchanged { IfErr result (λ fault. (fault ≡ Fault.Device) ⊎ (D.keeps_model → (surface (D.file disk.new)).seen ≡ (surface (D.file disk.old)).seen)) }
     // With no call armed, only memory is refused.
     ensures memory { D.obeys → D.plan disk.old ≡ Never → IfErr result (λ fault. fault ≡ Fault.Memory) }
     ensures plan { D.obeys → D.plan disk.old ≡ Never → D.plan disk.new ≡ Never }

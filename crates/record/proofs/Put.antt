@@ -1,4 +1,4 @@
--- Five things put behind one another.
+-- Numbers put, and five things put behind one another.
 use Rattle.std.proofs.Common.{◌≡◌, ◌++◌, ℕ, List, ap, ◌∙◌, append_assoc}
 
 regroup : (out a b c d e : List ℕ) → ((((out ++ a) ++ b) ++ c) ++ d) ++ e ≡ out ++ ((((a ++ b) ++ c) ++ d) ++ e)
@@ -8,3 +8,7 @@ pub five_put : (out a b c d e o1 o2 o3 o4 o5 : List ℕ) → o1 ≡ out ++ a →
 five_put out a b c d e o1 o2 o3 o4 o5 h1 h2 h3 h4 h5 =
     h5 ∙ ap (λ (l : List ℕ). l ++ e) (h4 ∙ ap (λ (l : List ℕ). l ++ d) (h3 ∙ ap (λ (l : List ℕ). l ++ c) (h2 ∙ ap (λ (l : List ℕ). l ++ b) h1)))
     ∙ regroup out a b c d e
+
+-- a number that is another
+pub put_same : (spell : ℕ → List ℕ) (out new : List ℕ) (m n : ℕ) → m ≡ n → new ≡ out ++ spell m → new ≡ out ++ spell n
+put_same spell out new m n same put = put ∙ ap (λ (k : ℕ). out ++ spell k) same
