@@ -1,0 +1,3 @@
+pub mod FoundLemmas
+pub mod LineLemmas
+pub mod NumberLemmas

@@ -1,0 +1,5 @@
+pub mod Commands
+pub mod Lines
+pub mod Numbers
+pub mod Parser
+pub mod Views
