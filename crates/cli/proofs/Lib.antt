@@ -1,3 +1,4 @@
 pub mod FoundLemmas
 pub mod LineLemmas
 pub mod NumberLemmas
+pub mod ReplyLemmas

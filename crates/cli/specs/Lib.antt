@@ -2,4 +2,5 @@ pub mod Commands
 pub mod Lines
 pub mod Numbers
 pub mod Parser
+pub mod Replies
 pub mod Views
