@@ -1,11 +1,11 @@
 -- What is printed, line by line, is the reply.
-use Rattle.std.proofs.Common.{◌≡◌, ◌∙◌, ◌++◌, ℕ, Bool, true, false, refl, sym, ap, ap₂, List}
+use Rattle.std.proofs.Common.{◌≡◌, ◌∙◌, ◌++◌, ℕ, Bool, true, false, sym, ap, ap₂, List}
 use Rattle.std.specs.Prelude.{Result, Ok, if◌then◌else◌}
 use Rattle.truetime.specs.Interval.{Interval}
 use Rattle.truetime.specs.Reading.{after}
 use Rattle.units.specs.declared.fault.Fault.{Fault}
 use Rattle.cli.specs.Numbers.{and_then}
-use Rattle.cli.specs.Replies.{Reply, commit_line, commit_stamp, done_line, early_line, once_reply, settled_reply}
+use Rattle.cli.specs.Replies.{Reply, commit_line, commit_stamp, done_line, early_line, once_reply}
 
 abbrev printed : Reply → Result Reply Fault
 printed r = Ok r

@@ -1,5 +1,5 @@
 -- The lines that are printed, one behind the other, are the reply.
-use Rattle.std.proofs.Common.{◌≡◌, ◌∙◌, sym}
+use Rattle.std.proofs.Common.{◌∙◌, sym}
 use Rattle.std.proofs.KnownBytes.{Appends-trans}
 use Rattle.cli.proofs.ReplyLemmas.{reply_done, reply_early}
 use Rattle.cli.proofs.once.commit_and_settle.Goals as goal
