@@ -1,4 +1,5 @@
 pub mod Commands
+pub mod Failures
 pub mod Lines
 pub mod Numbers
 pub mod Parser

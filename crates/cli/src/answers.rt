@@ -1,7 +1,8 @@
 //! What the program answers to a command line.
-ghost use Rattle.std.specs.Prelude.{◌≡◌, ◌≢◌, ◌⊎◌, Ok, Err, IfOk, MatchResult, map, true, List, ℕ};
+ghost use Rattle.std.specs.Prelude.{◌≡◌, ◌≢◌, ◌⊎◌, Ok, Err, IfOk, IfErr, map, true, List, ℕ};
 ghost use Rattle.std.specs.Io.KnownBytes.{Appends};
 ghost use Rattle.units.specs.declared.fault.Fault.{Fault};
+ghost use Rattle.cli.specs.Failures.{FailsFor};
 ghost use Rattle.cli.specs.Lines.{are_plain};
 ghost use Rattle.cli.specs.Replies.{reply_to};
 
@@ -46,6 +47,8 @@ fn carry_out<'a, O: Write>(alloc: Global, words: &'a [&'a str], out: &mut O) -> 
         × Appends (O.contents out.old) (O.contents out.new) text) }
     ensures refused { are_plain (map (λ w. w.now) words.entry.now) ≡ true → (fault : Fault)
         → reply_to (map (λ w. w.now) words.entry.now) ≡ Err fault → out.new ≡ out.old }
+    ensures failures { are_plain (map (λ w. w.now) words.entry.now) ≡ true
+        → IfErr result (λ failure. FailsFor failure (reply_to (map (λ w. w.now) words.entry.now))) }
 {
     match command(alloc, words)? {
         Command::Once {

@@ -1,7 +1,10 @@
 //! The command `once`: one write from the command line to the log.
-ghost use Rattle.std.specs.Prelude.{◌≡◌, ◌⊎◌, Ok, Err, None, IfOk, OnOk, string_bytes, List, ℕ};
+ghost use Rattle.std.specs.Prelude.{◌≡◌, ◌⊎◌, Ok, Err, None, IfOk, IfErr, OnOk, string_bytes, List, ℕ};
 ghost use Rattle.std.specs.Io.KnownBytes.{Appends};
 ghost use Rattle.units.specs.declared.fault.Fault.{Fault};
+ghost use Rattle.units.specs.declared.fault.Fault.TheVariants.{Memory};
+ghost use Rattle.cli.specs.declared.failure.Failure.TheVariants.{Unwritten};
+ghost use Rattle.cli.specs.Failures.{FailsFor};
 ghost use Rattle.cli.specs.Replies.{commit_line, done_line, once_reply};
 
 use crate::engine::{Engine, only_txn};
@@ -25,6 +28,7 @@ pub fn once<O: Write>(
     ensures printed { IfOk result (λ status. (text : List ℕ) × (once_reply first.now second.now ≡ Ok (text, status))
         × Appends (O.contents out.old) (O.contents out.new) text) }
     ensures refused { (fault : Fault) → once_reply first.now second.now ≡ Err fault → out.new ≡ out.old }
+    ensures failures { IfErr result (λ failure. FailsFor failure (once_reply first.now second.now)) }
 {
     let mut engine = Engine::fresh(alloc)?;
     let status = commit_and_settle(alloc, &mut engine, key, value, first, second, out);
@@ -46,6 +50,7 @@ fn commit_and_settle<O: Write>(
     ensures printed { IfOk result (λ status. (text : List ℕ) × (once_reply first.now second.now ≡ Ok (text, status))
         × Appends (O.contents out.old) (O.contents out.new) text) }
     ensures refused { (fault : Fault) → once_reply first.now second.now ≡ Err fault → out.new ≡ out.old }
+    ensures failures { IfErr result (λ failure. FailsFor failure (once_reply first.now second.now)) }
 {
     let stamp = engine.commit(alloc, key, value, first)?;
     print(out, &committed(alloc, stamp)?)?;
@@ -59,21 +64,24 @@ fn commit_and_settle<O: Write>(
 }
 
 fn print<O: Write>(out: &mut O, line: &str) -> Result<(), Failure>
-    ensures { OnOk result (Appends (O.contents out.old) (O.contents out.new) line.now) }
+    ensures printed { OnOk result (Appends (O.contents out.old) (O.contents out.new) line.now) }
+    ensures unwritten { IfErr result (λ failure. failure ≡ Unwritten) }
 {
     out.write_all(line.as_bytes())?;
     Ok(())
 }
 
 fn committed(alloc: Global, stamp: Stamp) -> Result<String, Fault>
-    ensures { IfOk result (λ line. string_bytes line ≡ commit_line stamp) }
+    ensures line { IfOk result (λ line. string_bytes line ≡ commit_line stamp) }
+    ensures memory { IfErr result (λ fault. fault ≡ Memory) }
 {
     let id = only_txn();
     Ok(format!(in alloc; "commit {id} at {stamp}\n")?)
 }
 
 fn done(alloc: Global, stamp: Stamp) -> Result<String, Fault>
-    ensures { IfOk result (λ line. string_bytes line ≡ done_line stamp) }
+    ensures line { IfOk result (λ line. string_bytes line ≡ done_line stamp) }
+    ensures memory { IfErr result (λ fault. fault ≡ Memory) }
 {
     let id = only_txn();
     Ok(format!(in alloc; "done {id} committed {stamp}\n")?)

@@ -8,14 +8,14 @@ pub returns-in_ok-print-2-clause-printed : goal.returns-in_ok-print-2-clause-pri
 returns-in_ok-print-2-clause-printed g c = (
   _,
   reply_done c.args.first.now c.args.second.now c.in_ok-stamp.stamp _ _ c.in_ok-stamp.ensures.0 (sym (c.in_ok-settle.ensures _ c.in_ok-stamp.ensures.1) ∙ c.if-branch.true)
-      (c.deref.ensures ∙ c.in_ok-committed.ensures) (c.deref-then-branch.ensures ∙ c.in_ok-done.ensures),
-  Appends-trans _ _ _ _ _ c.in_ok-print.ensures c.in_ok-print-2.ensures,
+      (c.deref.ensures ∙ c.in_ok-committed.ensures.line) (c.deref-then-branch.ensures ∙ c.in_ok-done.ensures.line),
+  Appends-trans _ _ _ _ _ c.in_ok-print.ensures.printed c.in_ok-print-2.ensures.printed,
 )
 
 pub returns-in_ok-print-3-clause-printed : goal.returns-in_ok-print-3-clause-printed
 returns-in_ok-print-3-clause-printed g c = (
   _,
   reply_early c.args.first.now c.args.second.now c.in_ok-stamp.stamp _ c.in_ok-stamp.ensures.0 (sym (c.in_ok-settle.ensures _ c.in_ok-stamp.ensures.1) ∙ c.if-branch.false)
-      (c.deref.ensures ∙ c.in_ok-committed.ensures),
-  Appends-trans _ _ _ _ _ c.in_ok-print.ensures c.in_ok-print-3.ensures,
+      (c.deref.ensures ∙ c.in_ok-committed.ensures.line),
+  Appends-trans _ _ _ _ _ c.in_ok-print.ensures.printed c.in_ok-print-3.ensures.printed,
 )
