@@ -1,0 +1,6 @@
+pub mod Again
+mod Loop
+mod Put
+mod Taken
+mod VerdictMeans
+mod WholeForAll

@@ -1,6 +1,16 @@
-//! The records of a shard's log.
+//! The records of a shard's log, and their one spelling as bytes.
 #![tactic(auto)]
 
+mod laws;
+mod reading;
 mod record;
+mod unread;
+mod writing;
 
+pub use laws::a_yes_is_sound;
+pub use reading::decode;
 pub use record::{Committed, Prepared, Record};
+pub use writing::{encode, none_begins_another};
+
+#[cfg(test)]
+mod tests;

@@ -1,1 +1,3 @@
+pub mod IdLaws
+pub mod KeyLaws
 pub mod Short

@@ -19,6 +19,11 @@ older a b = nat_lt a.run b.run || (nat_eq a.run b.run && nat_lt a.number b.numbe
 abbrev pub has_id : List Id → Id → Bool
 has_id ids t = any (same_id t) ids
 
+-- the ids with one more in its place, where it is not there; they ascend
+abbrev pub with_id : List Id → Id → List Id
+with_id [] t = t ∷ []
+with_id (u ∷ us) t = cond (same_id u t) (u ∷ us) (cond (older u t) (u ∷ with_id us t) (t ∷ u ∷ us))
+
 -- each id once, in ascending order
 abbrev pub ids_once : List Id → List Id
 ids_once [] = []

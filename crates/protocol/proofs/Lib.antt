@@ -1,0 +1,4 @@
+mod LastUnderFloor
+mod LockTable
+pub mod Samples
+mod ShardSteps

@@ -1,0 +1,5 @@
+pub mod Computing
+pub mod Draft
+pub mod Rows
+pub mod Step
+pub mod StepLaws

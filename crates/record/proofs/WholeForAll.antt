@@ -1,0 +1,158 @@
+-- Where the inspector finds no torn id, every id is whole: those that no log is about as well.
+use Rattle.std.proofs.Common.{refl, sym, ◌∙◌, ap, subst, inl, inr}
+use Rattle.std.proofs.lemmas.Bool.{eqb-true}
+use Rattle.std.specs.Prelude.{ℕ, suc, ◌≡◌, Bool, true, false, not, cond, ◌&&◌, ◌||◌, ◌⊎◌, nat_eq, List, [], ◌∷◌, ◌++◌, map, None}
+use Rattle.units.specs.Lists.{any, each, keep, gather, join, insert, numbered}
+use Rattle.units.specs.Ids.{Id, same_id, older, has_id, ids_once}
+use Rattle.record.specs.Records.{id_in, as_committed}
+use Rattle.record.specs.Whole.{is_whole, is_whole_by, Decision, ends_at, all_ids}
+use Rattle.record.specs.Verdict.{verdict, first_torn}
+use Rattle.record.specs.VerdictLaws.{YesIsSound}
+use Rattle.record.specs.declared.record.Record.{Record}
+use Rattle.record.specs.declared.record.Record.TheVariants.{Opened, Ceiling, Prepare, Commit, Abort, Outcome}
+use Rattle.record.proofs.VerdictMeans.{both, head_none, kept_step, not_false, no_fault, acknowledged, looks, reads, order}
+
+-- ---- ids
+
+id_of_parts : (t u : Id) → t.run ≡ u.run → t.number ≡ u.number → t ≡ u
+id_of_parts t u e f =
+    ap (λ r. let i : Id = record { run = r; number = t.number } in i) e ∙ ap (λ n. let i : Id = record { run = u.run; number = n } in i) f
+
+same_is : (t u : Id) → same_id t u ≡ true → t ≡ u
+same_is t u e =
+    let p : (nat_eq t.run u.run ≡ true) × (nat_eq t.number u.number ≡ true) = both _ _ e in
+    id_of_parts t u (eqb-true _ _ p.0) (eqb-true _ _ p.1)
+
+neither : (a b : Bool) → (a || b) ≡ false → (a ≡ false) × (b ≡ false)
+neither true b e = cc
+neither false b e = (refl, e)
+
+one_of : (a b : Bool) → (a || b) ≡ true → (a ≡ true) ⊎ (b ≡ true)
+one_of true b e = inl refl
+one_of false b e = inr e
+
+-- ---- an id is among the sorted ids exactly where it is among them
+
+swap : (a b c : Bool) → (a || (b || c)) ≡ (b || (a || c))
+swap true true c = refl
+swap true false c = refl
+swap false true c = refl
+swap false false c = refl
+
+both_ways : (test : Id → Bool) (b : Bool) (xs ys : List Id) (g : Bool) → any test xs ≡ g → any test ys ≡ g → any test (cond b xs ys) ≡ g
+both_ways test true xs ys g e f = e
+both_ways test false xs ys g e f = f
+
+any_insert : (test : Id → Bool) (x : Id) (ys : List Id) → any test (insert older x ys) ≡ (test x || any test ys)
+any_insert test x [] = refl
+any_insert test x (y ∷ ys) =
+    both_ways test (older y x) (y ∷ insert older x ys) (x ∷ y ∷ ys) _
+    (ap (λ b. test y || b) (any_insert test x ys) ∙ swap (test y) (test x) (any test ys))
+    refl
+
+absorbed : (c : Bool) (t u : Id) (us : List Id) → same_id t u ≡ c → has_id us u ≡ true → any (same_id t) us ≡ (c || any (same_id t) us)
+absorbed true t u us e there = subst (λ v. any (same_id v) us ≡ true) (sym (same_is t u e)) there
+absorbed false t u us e there = refl
+
+once_step : (b : Bool) (t u : Id) (us : List Id) → has_id us u ≡ b → any (same_id t) (ids_once us) ≡ any (same_id t) us →
+    any (same_id t) (cond b (ids_once us) (insert older u (ids_once us))) ≡ (same_id t u || any (same_id t) us)
+once_step true t u us there e = e ∙ absorbed (same_id t u) t u us refl there
+once_step false t u us there e = any_insert (same_id t) u (ids_once us) ∙ ap (λ b. same_id t u || b) e
+
+any_once : (t : Id) (ts : List Id) → any (same_id t) (ids_once ts) ≡ any (same_id t) ts
+any_once t [] = refl
+any_once t (u ∷ us) = once_step (has_id us u) t u us refl (any_once t us)
+
+any_append : (test : Id → Bool) (xs ys : List Id) → any test (xs ++ ys) ≡ (any test xs || any test ys)
+any_append test [] ys = refl
+any_append test (x ∷ xs) ys = ap (λ b. test x || b) (any_append test xs ys) ∙ sym (or_assoc (test x) (any test xs) (any test ys))
+  where
+    or_assoc : (a b c : Bool) → ((a || b) || c) ≡ (a || (b || c))
+    or_assoc true b c = refl
+    or_assoc false b c = refl
+
+-- ---- an id that no record of a log is about
+
+kept_if : {A : Type 0} (b : Bool) (x : A) (rest : List A) → b ≡ false → rest ≡ [] → cond b (x ∷ rest) rest ≡ []
+kept_if true x rest e f = cc
+kept_if false x rest e f = f
+
+passes : (b c d : Bool) → b ≡ false → d ≡ true → ((not b || c) && d) ≡ true
+passes true c d e f = cc
+passes false c d e f = f
+
+no_commit : (t : Id) (log : List Record) → any (same_id t) (gather id_in log) ≡ false → keep (λ c. same_id t c.txn) (gather as_committed log) ≡ []
+no_commit t [] e = refl
+no_commit t (Opened epoch ∷ rs) e = no_commit t rs e
+no_commit t (Ceiling at ∷ rs) e = no_commit t rs e
+no_commit t (Prepare p ∷ rs) e = no_commit t rs ((neither _ _ e).1)
+no_commit t (Commit c ∷ rs) e = kept_if (same_id t c.txn) c _ ((neither _ _ e).0) (no_commit t rs ((neither _ _ e).1))
+no_commit t (Abort u ∷ rs) e = no_commit t rs ((neither _ _ e).1)
+no_commit t (Outcome u o ∷ rs) e = no_commit t rs ((neither _ _ e).1)
+
+no_end : (t : Id) (fits : ℕ → Bool) (log : List Record) → any (same_id t) (gather id_in log) ≡ false → ends_at log t fits ≡ true
+no_end t fits [] e = refl
+no_end t fits (Opened epoch ∷ rs) e = no_end t fits rs e
+no_end t fits (Ceiling at ∷ rs) e = no_end t fits rs e
+no_end t fits (Prepare p ∷ rs) e = no_end t fits rs ((neither _ _ e).1)
+no_end t fits (Commit c ∷ rs) e = no_end t fits rs ((neither _ _ e).1)
+no_end t fits (Abort u ∷ rs) e = no_end t fits rs ((neither _ _ e).1)
+no_end t fits (Outcome u o ∷ rs) e = passes (same_id t u) _ _ ((neither _ _ e).0) (no_end t fits rs ((neither _ _ e).1))
+
+-- its place in a log among others
+apart : (t : Id) (log : List Record) (logs : List (List Record)) → any (same_id t) (join (gather id_in) (log ∷ logs)) ≡ false →
+    (any (same_id t) (gather id_in log) ≡ false) × (any (same_id t) (join (gather id_in) logs) ≡ false)
+apart t log logs e = neither _ _ (sym (any_append (same_id t) (gather id_in log) (join (gather id_in) logs)) ∙ e)
+
+decisions_of : Id → ℕ × List Record → List Decision
+decisions_of t l = map (λ c. record { shard = l.0; commit = c }) (keep (λ c. same_id t c.txn) (gather as_committed l.1))
+
+no_decision : (t : Id) (n : ℕ) (logs : List (List Record)) → any (same_id t) (join (gather id_in) logs) ≡ false → join (decisions_of t) (numbered n logs) ≡ []
+unfolding decisions_of
+no_decision t n [] e = refl
+no_decision t n (log ∷ logs) e =
+    let p : (any (same_id t) (gather id_in log) ≡ false) × (any (same_id t) (join (gather id_in) logs) ≡ false) = apart t log logs e in
+    ap (λ cs. map (λ c. let d : Decision = record { shard = n; commit = c } in d) cs ++ join (decisions_of t) (numbered (suc n) logs)) (no_commit t log p.0)
+    ∙ no_decision t (suc n) logs p.1
+
+no_ends : (t : Id) (logs : List (List Record)) → any (same_id t) (join (gather id_in) logs) ≡ false → each (λ l. ends_at l t (λ s. false)) logs ≡ true
+no_ends t [] e = refl
+no_ends t (log ∷ logs) e =
+    let p : (any (same_id t) (gather id_in log) ≡ false) × (any (same_id t) (join (gather id_in) logs) ≡ false) = apart t log logs e in
+    ap (λ b. b && each (λ l. ends_at l t (λ s. false)) logs) (no_end t (λ s. false) log p.0) ∙ no_ends t logs p.1
+
+unmentioned : (t : Id) (logs : List (List Record)) → any (same_id t) (join (gather id_in) logs) ≡ false → is_whole t logs ≡ true
+unfolding is_whole decisions_of
+unmentioned t logs e = ap (λ ds. is_whole_by logs t ds) (no_decision t 0 logs e) ∙ no_ends t logs e
+
+-- ---- all ids
+
+mentioned : (t : Id) (logs : List (List Record)) (ids : List Id) → keep (λ u. not (is_whole u logs)) ids ≡ [] → any (same_id t) ids ≡ true → is_whole t logs ≡ true
+mentioned t logs [] e there = cc
+mentioned t logs (u ∷ us) e there =
+    let p : (not (is_whole u logs) ≡ false) × (keep (λ v. not (is_whole v logs)) us ≡ []) = kept_step (not (is_whole u logs)) u (keep (λ v. not (is_whole v logs)) us) e in
+    here_or_later (one_of (same_id t u) (any (same_id t) us) there) p.0 (λ later. mentioned t logs us p.1 later)
+  where
+    here_or_later : (same_id t u ≡ true) ⊎ (any (same_id t) us ≡ true) → not (is_whole u logs) ≡ false → (any (same_id t) us ≡ true → is_whole t logs ≡ true) → is_whole t logs ≡ true
+    here_or_later (inl same) good later = subst (λ v. is_whole v logs ≡ true) (sym (same_is t u same)) (not_false _ good)
+    here_or_later (inr more) good later = later more
+
+by_mention : (b : Bool) (t : Id) (logs : List (List Record)) → any (same_id t) (all_ids logs) ≡ b → first_torn logs ≡ None → is_whole t logs ≡ true
+by_mention true t logs e none = mentioned t logs (all_ids logs) (head_none _ none) e
+by_mention false t logs e none = unmentioned t logs (sym (any_once t (join (gather id_in) logs)) ∙ e)
+
+pub whole_for_all : (logs : List (List Record)) → first_torn logs ≡ None → (t : Id) → is_whole t logs ≡ true
+whole_for_all logs none t = by_mention (any (same_id t) (all_ids logs)) t logs refl none
+
+-- ---- what a yes means
+
+pub yes_is_sound : YesIsSound
+unfolding verdict
+yes_is_sound logs lines told =
+    record {
+      whole = whole_for_all logs ((no_fault _ _ _ _ told).0);
+      acknowledged = acknowledged logs lines told;
+      looks = looks logs lines told;
+      reads = reads logs lines told;
+      order = order logs lines told;
+    }

@@ -1,0 +1,101 @@
+-- Which lists of records a shard takes for its log. The others are damaged, at the first record that is refused, or
+-- speak of a key of another shard.
+use Rattle.std.specs.Prelude.{ℕ, ◌+◌, Bool, true, false, not, cond, ◌&&◌, ◌||◌, nat_eq, nat_lt, nat_le, List, [], ◌∷◌, ◌++◌, length, Option, Some, None}
+use Rattle.units.specs.Lists.{any, each, gather, head, when}
+use Rattle.units.specs.Ids.{Id}
+use Rattle.units.specs.Keys.{Bytes, shard_of}
+use Rattle.record.specs.Records.{Status, Unrecorded, StandsPrepared, StandsDecided, status_of, prepared_of, committed_of, ended_of, epoch_of, ids_of}
+use Rattle.record.specs.declared.record.Prepared.{Prepared}
+use Rattle.record.specs.declared.record.Committed.{Committed}
+use Rattle.record.specs.Installs.{installs_of, writes_by}
+use Rattle.units.specs.Versions.{above_versions}
+use Rattle.units.specs.Locks.{clash, locks_of}
+use Rattle.units.specs.declared.lock.Lock.{Lock}
+use Rattle.units.specs.declared.setup.Setup.{Setup}
+use Rattle.units.specs.declared.writes.Write.{Write}
+use Rattle.record.specs.declared.record.Record.{Record}
+use Rattle.record.specs.declared.record.Record.TheVariants.{Opened, Ceiling, Prepare, Commit, Abort, Outcome}
+
+-- no promise, decision or abort of the id stands in the log
+abbrev pub is_new : List Record → Id → Bool
+is_new log t = elim (status_of log t) [ Unrecorded ↦ true | _ ↦ false ]
+
+-- an outcome follows a promise or a decision that allows it
+abbrev pub outcome_fits : Option Prepared → Option Committed → Option ℕ → Bool
+outcome_fits p c (Some s) = when (λ x. nat_le x.at s) p || when (λ x. nat_eq x.at s) c
+outcome_fits p c None = when (λ x. true) p
+
+-- the rules of one id, and of the openings
+unfoldable pub follows : ℕ → List Record → Record → Bool
+follows shard before (Opened epoch) = nat_eq epoch (epoch_of before + 1)
+follows shard before (Ceiling at) = true
+follows shard before (Prepare p) = nat_lt 0 p.at && is_new before p.txn && nat_lt p.coordinator shard
+follows shard before (Commit c) = nat_lt 0 c.at && is_new before c.txn && when (nat_eq shard) (head c.parts)
+follows shard before (Abort t) = is_new before t
+follows shard before (Outcome t outcome) =
+    not (when (λ e. true) (ended_of before t)) && outcome_fits (prepared_of before t) (committed_of before t) outcome
+
+-- the locks of each promise or decision that stands
+abbrev pub standing_locks : Status → Option (List Lock)
+standing_locks (StandsPrepared p) = Some (locks_of p.reads p.writes)
+standing_locks (StandsDecided c) = Some (locks_of c.reads c.writes)
+standing_locks _ = None
+
+-- the locks of all of them
+abbrev pub standing : List Record → List (List Lock)
+standing log = gather (λ t. standing_locks (status_of log t)) (ids_of log)
+
+-- a new promise or decision: room among the rows, no lock in the way, and above the versions of what it writes
+abbrev pub stands : List Record → ℕ → List Bytes → List Write → Bool
+stands before at reads writes =
+    nat_lt (length (standing before)) 1024
+    && not (any (clash (locks_of reads writes)) (standing before))
+    && above_versions (installs_of before) at writes
+
+-- the rules of rows, locks and versions
+unfoldable pub fits_beside : List Record → Record → Bool
+fits_beside before (Prepare p) = stands before p.at p.reads p.writes
+fits_beside before (Commit c) = stands before c.at c.reads c.writes
+fits_beside before (Outcome t (Some at)) =
+    above_versions (installs_of before) at (writes_by (committed_of before t) (prepared_of before t))
+fits_beside before _ = true
+
+-- the first record is an opening
+abbrev pub begins : List Record → Record → Bool
+begins [] (Opened epoch) = true
+begins [] _ = false
+begins _ _ = true
+
+-- each key is of this shard
+abbrev pub keys_belong : Setup → List Bytes → List Write → Bool
+keys_belong setup reads writes =
+    each (λ k. nat_eq (shard_of setup.splits k) setup.shard) reads
+    && each (λ w. nat_eq (shard_of setup.splits w.key) setup.shard) writes
+
+-- a record names keys of this shard alone
+unfoldable pub belongs : Setup → Record → Bool
+belongs setup (Prepare p) = keys_belong setup p.reads p.writes
+belongs setup (Commit c) = keys_belong setup c.reads c.writes
+belongs setup _ = true
+
+-- the verdict on a list of records
+pub data Taken : Type 0 where
+  Accepted : Taken
+  DamagedAt : ℕ → Taken
+  StrangerAt : ℕ → Taken
+
+-- the next record after some others: a strange key comes before damage
+abbrev pub taken_next : Setup → List Record → Record → ℕ → Taken → Taken
+taken_next setup before r place rest =
+    cond (not (belongs setup r)) (StrangerAt place)
+    (cond (begins before r && follows setup.shard before r && fits_beside before r) rest (DamagedAt place))
+
+-- each record is taken after those before it; else the place of the first that is refused
+abbrev pub taken_from : Setup → List Record → ℕ → List Record → Taken
+taken_from setup before place [] = Accepted
+taken_from setup before place (r ∷ rs) =
+    let rest : Taken = taken_from setup (before ++ r ∷ []) (place + 1) rs in taken_next setup before r place rest
+
+-- a whole list of records
+unfoldable pub taken : Setup → List Record → Taken
+taken setup log = taken_from setup [] 0 log

@@ -1,0 +1,91 @@
+-- The part of a shard's state that its log determines, and how one more record changes it.
+use Rattle.std.specs.Prelude.{ℕ, Bool, cond, max, List, [], ◌∷◌, ◌++◌, map, ◌≡◌, IsTrue, Option, Some, None}
+use Rattle.units.specs.Lists.{first}
+use Rattle.units.specs.Ids.{Id, same_id, older}
+use Rattle.record.specs.Records.{Status, Unrecorded, StandsPrepared, StandsDecided, HasAborted, HasSettled, HasClosed, status_of, ids_of, epoch_of, floor_of, stamp_in}
+use Rattle.record.specs.Installs.{installs_of}
+use Rattle.units.specs.Versions.{versions}
+use Rattle.units.specs.declared.writes.Install.{Install}
+use Rattle.record.specs.declared.record.Record.{Record}
+use Rattle.record.specs.declared.record.Record.TheVariants.{Opened, Ceiling, Prepare, Commit, Abort, Outcome}
+
+-- an id and its status
+pub record Entry : Type 0 where
+  pub txn : Id
+  pub status : Status
+
+-- the epoch, the greatest timestamp, the status of each id that has a record (ascending by id), and the versions in the
+-- log's order
+pub record Facts : Type 0 where
+  pub epoch : ℕ
+  pub floor : ℕ
+  pub entries : List Entry
+  pub installs : List Install
+
+-- the facts of a log, read from the set of its records
+unfoldable pub facts_of : List Record → Facts
+facts_of log =
+    record {
+      epoch = epoch_of log;
+      floor = floor_of log;
+      entries = map (λ t. record { txn = t; status = status_of log t }) (ids_of log);
+      installs = installs_of log;
+    }
+
+-- the status of an id
+abbrev pub or_unrecorded : Option Entry → Status
+or_unrecorded None = Unrecorded
+or_unrecorded (Some e) = e.status
+
+-- the status of an id
+abbrev pub recorded : Facts → Id → Status
+recorded facts t = or_unrecorded (first (λ e. same_id e.txn t) facts.entries)
+
+-- the entries with the status of an id given anew, by ascending id
+abbrev pub with_status : List Entry → Id → Status → List Entry
+with_status [] t status = record { txn = t; status = status } ∷ []
+with_status (e ∷ es) t status =
+    cond (same_id e.txn t) (record { txn = t; status = status } ∷ es)
+    (cond (older e.txn t) (e ∷ with_status es t status) (record { txn = t; status = status } ∷ e ∷ es))
+
+-- what an outcome makes of a status
+abbrev pub after_outcome : Status → Option ℕ → Status
+after_outcome (StandsPrepared p) outcome = HasClosed p.coordinator outcome
+after_outcome (StandsDecided c) outcome = HasSettled c.at c.parts
+after_outcome status outcome = status
+
+-- what an outcome at a timestamp installs
+abbrev pub installs_at : Status → Option ℕ → List Install
+installs_at (StandsPrepared p) (Some s) = versions p.writes s
+installs_at (StandsDecided c) (Some s) = versions c.writes s
+installs_at _ _ = []
+
+-- the facts with one more status
+abbrev pub set_status : Facts → Id → Status → Facts
+set_status facts t status = record facts { entries = with_status facts.entries t status }
+
+-- a timestamp raises the floor
+abbrev pub or_floor : ℕ → Option ℕ → ℕ
+or_floor floor None = floor
+or_floor floor (Some at) = max floor at
+
+-- the statuses, the epoch and the versions after one more record
+abbrev pub noted : Facts → Record → Facts
+noted facts (Opened epoch) = record facts { epoch = epoch }
+noted facts (Ceiling at) = facts
+noted facts (Prepare p) = set_status facts p.txn (StandsPrepared p)
+noted facts (Commit c) = set_status facts c.txn (StandsDecided c)
+noted facts (Abort t) = set_status facts t HasAborted
+noted facts (Outcome t outcome) =
+    record (set_status facts t (after_outcome (recorded facts t) outcome)) {
+      installs = facts.installs ++ installs_at (recorded facts t) outcome;
+    }
+
+-- the facts after one more record
+unfoldable pub learn : Facts → Record → Facts
+learn facts r = record (noted facts r) { floor = or_floor facts.floor (stamp_in r) }
+
+-- one more record of an accepted log changes the facts by `learn` (to be proved where the facts are built)
+abbrev pub LearnAgrees : (List Record → Bool) → Type 0
+LearnAgrees accepted =
+    (log : List Record) (r : Record) → IsTrue (accepted (log ++ r ∷ [])) → facts_of (log ++ r ∷ []) ≡ learn (facts_of log) r

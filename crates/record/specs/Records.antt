@@ -1,0 +1,106 @@
+-- What a log says, each fact read from the set of its records.
+use Rattle.std.specs.Prelude.{ℕ, Bool, true, false, List, Option, Some, None}
+use Rattle.units.specs.Lists.{gather, first, any, greatest}
+use Rattle.units.specs.Ids.{Id, same_id, ids_once}
+use Rattle.record.specs.declared.record.Committed.{Committed}
+use Rattle.record.specs.declared.record.Prepared.{Prepared}
+use Rattle.record.specs.declared.record.Record.{Record}
+use Rattle.record.specs.declared.record.Record.TheVariants.{Opened, Ceiling, Prepare, Commit, Abort, Outcome}
+
+-- how a transaction ended at a shard: at a timestamp, or aborted
+pub record Ended : Type 0 where
+  pub txn : Id
+  pub outcome : Option ℕ
+
+-- the record as an opening's epoch
+abbrev pub as_opened : Record → Option ℕ
+as_opened (Opened epoch) = Some epoch
+as_opened _ = None
+
+-- the record as a prepared part
+abbrev pub as_prepared : Record → Option Prepared
+as_prepared (Prepare p) = Some p
+as_prepared _ = None
+
+-- the record as a commit decision
+abbrev pub as_committed : Record → Option Committed
+as_committed (Commit c) = Some c
+as_committed _ = None
+
+-- the record as an abort decision
+abbrev pub as_aborted : Record → Option Id
+as_aborted (Abort t) = Some t
+as_aborted _ = None
+
+-- the record as an outcome
+abbrev pub as_ended : Record → Option Ended
+as_ended (Outcome t o) = Some (record { txn = t; outcome = o })
+as_ended _ = None
+
+-- the timestamp that a record holds
+abbrev pub stamp_in : Record → Option ℕ
+stamp_in (Opened epoch) = None
+stamp_in (Ceiling at) = Some at
+stamp_in (Prepare p) = Some p.at
+stamp_in (Commit c) = Some c.at
+stamp_in (Abort t) = None
+stamp_in (Outcome t o) = o
+
+-- the id that a record is about
+abbrev pub id_in : Record → Option Id
+id_in (Opened epoch) = None
+id_in (Ceiling at) = None
+id_in (Prepare p) = Some p.txn
+id_in (Commit c) = Some c.txn
+id_in (Abort t) = Some t
+id_in (Outcome t o) = Some t
+
+-- the epoch: the greatest of the openings
+abbrev pub epoch_of : List Record → ℕ
+epoch_of log = greatest (gather as_opened log)
+
+-- the floor: the greatest timestamp, 0 where there is none
+abbrev pub floor_of : List Record → ℕ
+floor_of log = greatest (gather stamp_in log)
+
+-- what the log prepared of an id
+abbrev pub prepared_of : List Record → Id → Option Prepared
+prepared_of log t = first (λ p. same_id p.txn t) (gather as_prepared log)
+
+-- the log's commit decision of an id
+abbrev pub committed_of : List Record → Id → Option Committed
+committed_of log t = first (λ c. same_id c.txn t) (gather as_committed log)
+
+-- the log has an abort decision of an id
+abbrev pub is_aborted : List Record → Id → Bool
+is_aborted log t = any (same_id t) (gather as_aborted log)
+
+-- the log's outcome of an id
+abbrev pub ended_of : List Record → Id → Option Ended
+ended_of log t = first (λ e. same_id e.txn t) (gather as_ended log)
+
+-- the ids that the log is about, ascending
+abbrev pub ids_of : List Record → List Id
+ids_of log = ids_once (gather id_in log)
+
+-- the status of an id: nothing, a promise or a decision that stands, or how it ended
+pub data Status : Type 0 where
+  Unrecorded : Status
+  StandsPrepared : Prepared → Status
+  StandsDecided : Committed → Status
+  HasAborted : Status
+  HasSettled : (at : ℕ) → (parts : List ℕ) → Status
+  HasClosed : (coordinator : ℕ) → (outcome : Option ℕ) → Status
+
+-- the status by the abort decision, the commit decision, the promise and the outcome
+abbrev pub status_by : Bool → Option Committed → Option Prepared → Option Ended → Status
+status_by true c p e = HasAborted
+status_by false (Some c) p (Some e) = HasSettled c.at c.parts
+status_by false (Some c) p None = StandsDecided c
+status_by false None (Some p) (Some e) = HasClosed p.coordinator e.outcome
+status_by false None (Some p) None = StandsPrepared p
+status_by false None None e = Unrecorded
+
+-- the status of an id in a log
+unfoldable pub status_of : List Record → Id → Status
+status_of log t = status_by (is_aborted log t) (committed_of log t) (prepared_of log t) (ended_of log t)

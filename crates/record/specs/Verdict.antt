@@ -1,0 +1,78 @@
+-- The inspector's verdict on logs and report lines. `VerdictLaws` says what a yes means.
+use Rattle.std.specs.Prelude.{ℕ, ◌≡◌, Bool, true, false, not, cond, ◌&&◌, nat_eq, nat_lt, nat_le, List, [], slice_get, Option, Some, None}
+use Rattle.units.specs.Lists.{any, gather, first, head, mapped, when, numbered, same_numbers}
+use Rattle.units.specs.Ids.{Id, same_id, ids_once}
+use Rattle.units.specs.Keys.{Bytes}
+use Rattle.record.specs.History.{Txn, history, before, upto, find_txn}
+use Rattle.record.specs.Whole.{is_whole, all_ids}
+use Rattle.record.specs.declared.record.Record.{Record}
+use Rattle.units.specs.declared.line.Verdict.{Verdict}
+use Rattle.units.specs.declared.line.Verdict.TheVariants.{Yes, Torn, Lost, WrongRead, WrongOrder}
+use Rattle.units.specs.declared.line.Line.{Line}
+use Rattle.units.specs.declared.line.Line.TheVariants.{Begin, Ack, Read, Look}
+
+-- the two optional values are one
+abbrev pub same_value : Option Bytes → Option Bytes → Bool
+same_value None None = true
+same_value (Some v) (Some w) = same_numbers v w
+same_value _ _ = false
+
+-- the least id that is not whole
+abbrev pub first_torn : List (List Record) → Option Id
+first_torn logs = first (λ t. not (is_whole t logs)) (all_ids logs)
+
+-- the id is in the history at this timestamp
+abbrev pub is_in_at : List Txn → Id → ℕ → Bool
+is_in_at h t at = any (λ u. same_id u.txn t && nat_eq u.at at) h
+
+-- the id of an acknowledgement that the history lacks
+abbrev pub lost_by : List Txn → Line → Option Id
+lost_by h (Ack t at m) = cond (is_in_at h t at) None (Some t)
+lost_by h _ = None
+
+-- the least id that is lost
+abbrev pub first_lost : List Txn → List Line → Option Id
+first_lost h lines = head (ids_once (gather (lost_by h) lines))
+
+-- the line's value is that of the serial run; other lines have none
+abbrev pub line_reads_right : List Txn → Line → Bool
+line_reads_right h (Read t k x) = when (λ u. same_value (before h u k) x) (find_txn h t)
+line_reads_right h (Look k at x) = same_value (upto h at k) x
+line_reads_right h _ = true
+
+-- the place of the first line with a wrong value
+abbrev pub first_wrong_read : List Txn → List Line → Option ℕ
+first_wrong_read h lines = mapped (λ l. l.0) (first (λ l. not (line_reads_right h l.1)) (numbered 0 lines))
+
+-- the line acknowledges a transaction before this moment, at a timestamp that is not below this one
+abbrev pub is_late_ack : ℕ → ℕ → Line → Bool
+is_late_ack moment at (Ack t s m) = nat_lt m moment && nat_le at s
+is_late_ack moment at _ = false
+
+-- the places of the lines that acknowledge, before a begin line of a committed id, a timestamp not below its own
+abbrev pub late_acks : List Txn → List (ℕ × Line) → Line → List ℕ
+late_acks h lines (Begin t m) =
+    elim (find_txn h t) [ None ↦ [] | Some u ↦ gather (λ l. cond (is_late_ack m u.at l.1) (Some (l.0)) None) lines ]
+late_acks h lines _ = []
+
+-- the first begin line with such a line, and the first of those
+abbrev pub first_wrong_order : List Txn → List Line → Option (ℕ × ℕ)
+first_wrong_order h lines =
+    head (gather (λ l. mapped (λ j. (l.0, j)) (head (late_acks h (numbered 0 lines) l.1))) (numbered 0 lines))
+
+-- the first fault that there is
+abbrev pub first_fault : Option Id → Option Id → Option ℕ → Option (ℕ × ℕ) → Verdict
+first_fault (Some t) lost wrong late = Torn t
+first_fault None (Some t) wrong late = Lost t
+first_fault None None (Some i) late = WrongRead i
+first_fault None None None (Some p) = WrongOrder p.0 p.1
+first_fault None None None None = Yes
+
+-- the verdict
+unfoldable pub verdict : List (List Record) → List Line → Verdict
+verdict logs lines =
+    first_fault (first_torn logs) (first_lost (history logs) lines) (first_wrong_read (history logs) lines) (first_wrong_order (history logs) lines)
+
+-- the line is one of the report's
+abbrev pub IsLine : List Line → Line → Type 0
+IsLine lines l = (i : ℕ) × (slice_get lines i ≡ Some l)

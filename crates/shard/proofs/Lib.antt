@@ -1,0 +1,4 @@
+pub mod Clashes
+pub mod Entries
+pub mod Steps
+pub mod Standings
