@@ -1,3 +1,4 @@
+pub mod FirstStep
 pub mod FoundLemmas
 pub mod LineLemmas
 pub mod NumberLemmas
