@@ -1,17 +1,22 @@
 -- What a crash leaves by fates is within the disk model.
-use Rattle.std.proofs.Common.{◌≡◌, ◌⊎◌, inl, inr, ℕ, ◌+◌, ◌-◌, ◌<◌, ◌≤◌, List, [], ◌∷◌, ◌++◌, length, get_or, take, drop, replicate, true, refl, sym, ap, ◌∙◌, append-nil, arith, length-append}
+use Rattle.std.proofs.Common.{◌≡◌, ◌⊎◌, inl, inr, ℕ, ◌+◌, ◌-◌, ◌<◌, ◌≤◌, List, [], ◌∷◌, ◌++◌, length, get_or, take, drop, replicate, true, false, refl, sym, ap, ◌∙◌, append-nil, arith, length-append}
 use Rattle.std.proofs.lemmas.List.{length-take, length-take-le, length-drop, length-replicate, get_or_append_left, get_or-take}
 use Rattle.disk.specs.declared.plan.Fate.{Fate}
 use Rattle.disk.specs.declared.plan.Fate.TheVariants.{Old, New, Filled}
 use Rattle.disk.proofs.Runs.{get_or-with_bytes}
-use Rattle.disk.specs.Image.{MayLeave, IsUntouched, with_bytes}
-use Rattle.disk.specs.File.{Change, File, wrote, tried, cut, laid, apply, seen_by, kept_by, written_by, none_of, surface, by_fate, crashed_by, crashed}
+use Rattle.disk.specs.Image.{MayLeave, IsUntouched, with_bytes, after_write}
+use Rattle.disk.specs.File.{Change, File, wrote, tried, cut, laid, apply, seen_by, kept_by, written_by, none_of, surface, changed, by_fate, crashed_by, crashed}
 
 -- within the file, bytes are laid as they are written
 pub laid_is : (at : ℕ) (bytes file : List ℕ) → at ≤ length file → laid at bytes file ≡ with_bytes at bytes file
 laid_is at bytes file le =
     let none : at - length file ≡ 0 = omega (arith, le) in
     ap (λ (l : List ℕ). with_bytes at bytes l) (ap (λ (n : ℕ). file ++ replicate n 0) none ∙ append-nil file)
+
+-- a write within the file, as the disk model says it
+pub wrote_surface : (at : ℕ) (bytes : List ℕ) (file : File) → at ≤ length (surface file).seen → surface (changed (wrote at bytes) file) ≡ after_write at bytes (surface file)
+wrote_surface at bytes file le =
+    ap (λ (l : List ℕ). record { seen = l; kept = (surface file).kept; written = (at, length bytes) ∷ (surface file).written; synced = false }) (laid_is at bytes (surface file).seen le)
 
 padded-size : (at : ℕ) (file : List ℕ) → at ≤ length (file ++ replicate (at - length file) 0)
 padded-size at file = omega (arith, length-append file (replicate (at - length file) 0), length-replicate {A = ℕ} (at - length file) 0)

@@ -1,7 +1,7 @@
 //! A file as the log sees it: what a read gives, and what a crash may leave.
 #![tactic(auto)]
 
-ghost use Rattle.std.specs.Prelude.{◌≡◌, ◌≤◌, ◌+◌, List, ℕ, length, take, drop, OnOk, IfErr, IsOk, if◌then◌else◌};
+ghost use Rattle.std.specs.Prelude.{◌≡◌, ◌≤◌, ◌+◌, List, ℕ, length, take, drop, OnOk, OnErr, IfErr, IsErr, IsTrue, if◌then◌else◌};
 ghost use Rattle.units.specs.declared.fault.Fault.TheVariants.{Memory};
 ghost use Rattle.disk.specs.declared.plan.Plan.{Plan};
 ghost use Rattle.disk.specs.Image.{MayLeave, after_write, after_cut, after_sync, tried_write, tried_cut, IsWithin};
@@ -70,6 +70,8 @@ pub trait Disk {
             IsAsPlanned (fails (at_write (plan self.old))) result × has_room self.new calls more
             × (file self.new ≡ changed (if fails (at_write (plan self.old)) then tried at bytes.now else wrote at bytes.now) (file self.old)) }
         ensures plan { plan self.new ≡ next (at_write (plan self.old)) }
+        ensures fails { obeys → IsTrue (fails (at_write (plan self.old))) → IsErr result }
+        ensures failed { obeys → OnErr result ((surface (file self.new)).seen ≡ (surface (file self.old)).seen) }
         ensures written { OnOk result (keeps_model → surface (file self.new) ≡ after_write at bytes.now (surface (file self.old))) }
         ensures crash { keeps_model → IsWithin (tried_write at (length bytes.now) (surface (file self.old))) (surface (file self.new)) }
         ensures time { Elapses file clock since failures self.old self.new }
@@ -82,6 +84,8 @@ pub trait Disk {
             IsAsPlanned (fails (plan self.old)) result × has_room self.new calls more
             × (file self.new ≡ (if fails (plan self.old) then file self.old else changed (cut len) (file self.old))) }
         ensures plan { plan self.new ≡ next (plan self.old) }
+        ensures fails { obeys → IsTrue (fails (plan self.old)) → IsErr result }
+        ensures failed { obeys → OnErr result (file self.new ≡ file self.old) }
         ensures done { OnOk result (keeps_model → surface (file self.new) ≡ after_cut len (surface (file self.old))) }
         ensures crash { keeps_model → IsWithin (tried_cut len (surface (file self.old))) (surface (file self.new)) }
         ensures time { Elapses file clock since failures self.old self.new }
@@ -93,6 +97,8 @@ pub trait Disk {
             IsAsPlanned (fails (plan self.old)) result × has_room self.new calls more
             × (file self.new ≡ (if fails (plan self.old) then file self.old else synced (file self.old))) }
         ensures plan { plan self.new ≡ next (plan self.old) }
+        ensures fails { obeys → IsTrue (fails (plan self.old)) → IsErr result }
+        ensures failed { obeys → OnErr result (file self.new ≡ file self.old) }
         ensures durable { OnOk result (keeps_model → surface (file self.new) ≡ after_sync (surface (file self.old))) }
         ensures crash { keeps_model → IsWithin (surface (file self.old)) (surface (file self.new)) }
         ensures time { Elapses file clock since failures self.old self.new }

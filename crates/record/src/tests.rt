@@ -1,4 +1,4 @@
-use crate::{Committed, Prepared, Record, decode, encode};
+use crate::{Committed, Prepared, Record, decode, encode, encoded_len};
 use std::alloc::Global;
 use std::test::Fail;
 use units::{Epoch, Fault, Key, Keys, Parts, ShardNo, Stamp, TxnId, Value, Write, Writes};
@@ -151,5 +151,23 @@ fn keys_ascend(rt: HostRuntime) -> Result<(), Fail> {
     assert!(rt; !is_record(alloc, &commit)?, "b, b");
     commit[30] = 0x63;
     assert!(rt; !is_record(alloc, &commit)?, "c, b");
+    Ok(())
+}
+
+#[test]
+fn copies_and_lengths(rt: HostRuntime) -> Result<(), Fail> {
+    let alloc = rt.alloc();
+    for bytes in [
+        OPENED.as_slice(),
+        CEILING.as_slice(),
+        PREPARE.as_slice(),
+        COMMIT.as_slice(),
+        ABORT.as_slice(),
+        OUTCOME.as_slice(),
+    ] {
+        let copied = decode(alloc, bytes)?.ok_or("a record")?.copy(alloc)?;
+        assert_eq!(rt; encode(alloc, &copied)?.as_slice(), bytes);
+        assert_eq!(rt; encoded_len(&copied), bytes.len() as u64);
+    }
     Ok(())
 }

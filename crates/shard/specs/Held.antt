@@ -32,11 +32,15 @@ abbrev pub older_count : List Settled → Id → ℕ
 older_count [] t = 0
 older_count (s ∷ ss) t = cond (older s.txn t) (suc (older_count ss t)) 0
 
--- a decision that stands is of this shard alone, reads nothing, is not settled, and the floor is not below it
-pub record IsStanding (shard floor : ℕ) (settled : List Settled) (c : Committed) : Type 0 where
+-- a decision of this shard alone that reads nothing, of a transaction that is not settled
+pub record IsNew (shard : ℕ) (settled : List Settled) (c : Committed) : Type 0 where
   pub parts : c.parts ≡ shard ∷ []
   pub reads : c.reads ≡ []
   pub new : settled_of settled c.txn ≡ None
+
+-- a decision that stands: the floor is not below it
+pub record IsStanding (shard floor : ℕ) (settled : List Settled) (c : Committed) : Type 0 where
+  pub new : IsNew shard settled c
   pub past : c.at ≤ floor
 
 -- the one that stands, where there is one

@@ -1,5 +1,5 @@
 //! Writes of keys, and the versions that they become.
-ghost use Rattle.std.specs.Prelude.{◌≡◌, ◌≤◌, ◌<◌, ◌⊎◌, IsTrue, IsFalse, [], length, MatchResult, IfOk, IfErr};
+ghost use Rattle.std.specs.Prelude.{◌≡◌, ◌≤◌, ◌<◌, ◌⊎◌, IsTrue, IsFalse, [], length, MatchResult, IfOk, IfErr, vec_len};
 ghost use Rattle.units.specs.Keys.{write_before, writes_key};
 ghost use Rattle.units.specs.Lists.{any, ascends};
 
@@ -121,7 +121,8 @@ impl Writes {
 
     /// The writes as a plain list.
     pub fn into_vec(self) -> Vec<Write>
-        ensures { result.items ≡ self }
+        ensures same { result.items ≡ self }
+        ensures few { vec_len result ≤ 128 }
     {
         let Writes { writes } = self;
         writes
