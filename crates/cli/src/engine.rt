@@ -1,4 +1,5 @@
-//! One shard on a disk in memory, for one transaction.
+//! One shard for one transaction. Interim: it keeps the decision alone, with no log behind it, until the core of a shard
+//! takes its place.
 ghost use Rattle.std.specs.Prelude.{◌≡◌, ◌⊎◌, ℕ, Ok, Err, Some, None, IfErr, IfOk, OnErr, MatchResult};
 ghost use Rattle.truetime.specs.Reading.{after};
 ghost use Rattle.units.specs.declared.fault.Fault.TheVariants.{Memory};
