@@ -1,0 +1,79 @@
+-- What the parser found is the words of the line.
+use Rattle.std.proofs.Common.{◌≡◌, ◌∙◌, true, false, refl, sym, ap, List, Option, Some, None, codes, true≢false}
+use Rattle.std.specs.Prelude.{Box, option_map, Result, Ok, Err, IsOkAnd, MatchResult}
+use Rattle.std.specs.Box.{box_value}
+use Rattle.std.specs.Str.{bytes_eq}
+use Rattle.clap.proofs.WalkLemmas.{first_value-rows}
+use Rattle.clap.specs.Words.{Row, Text, first_of, first_value, rows_of, subcommand_rows, subcommand_rows_of}
+use Rattle.clap.specs.Matches.{subcommand_name_of}
+use Rattle.clap.specs.declared.parser.matches.ArgMatches.{ArgMatches}
+use Rattle.clap.specs.declared.parser.matches.ArgMatches.TheViews.{out-ArgMatches, out-SubCommand}
+use Rattle.clap.specs.declared.parser.matches.Found.{Found}
+use Rattle.clap.specs.declared.parser.matches.SubCommand.{SubCommand}
+use Rattle.cli.specs.Lines.{CommandLine, Word, once}
+use Rattle.cli.specs.Parser.{entry_of}
+use Rattle.cli.specs.Views.{line_view}
+use Rattle.cli.specs.declared.command_line.Line.{Line}
+
+-- the name beside the rows is the name
+names_same : {Z : Type 0} (o : Option (Box SubCommand Z))
+    → option_map (λ (p : Text × List Row). p.0) (subcommand_rows o) ≡ option_map (λ b. (out-SubCommand (box_value b)).name.now) o
+names_same None = refl
+names_same (Some b) = refl
+
+named_as : (m : ArgMatches) (line : CommandLine) (name : Word) → subcommand_rows_of m ≡ Some (entry_of line)
+    → subcommand_name_of m ≡ Some name → (entry_of line).0 ≡ name
+named_as m line name e n =
+    let both : Some (entry_of line).0 ≡ Some name =
+    sym (ap (option_map (λ (p : Text × List Row). p.0)) e) ∙ names_same (out-ArgMatches m).subcommand ∙ n in
+    cc
+
+rows_are : (m : ArgMatches) (line : CommandLine) (inner : Found) → subcommand_rows_of m ≡ Some (entry_of line)
+    → option_map (λ (p : Text × List Row). p.1) (subcommand_rows_of m) ≡ Some (rows_of inner) → rows_of inner ≡ (entry_of line).1
+rows_are m line inner e r =
+    let both : Some (rows_of inner) ≡ Some (entry_of line).1 = sym r ∙ ap (option_map (λ (p : Text × List Row). p.1)) e in
+    cc
+
+-- two names that differ
+differ : (a b : Word) → bytes_eq a b ≡ false → bytes_eq b b ≡ true → a ≡ b → ⊥
+differ a b unlike like e = true≢false (sym like ∙ ap (λ x. bytes_eq x b) (sym e) ∙ unlike)
+
+-- the word is the one that the argument was given
+abbrev pub Reads : Found → Word → Word → Type 0
+Reads inner id word = (text : Word) → first_value inner id ≡ Some text → word ≡ text
+
+reads_row : (inner : Found) (rows : List Row) (id word text : Word) → rows_of inner ≡ rows → Reads inner id word
+    → first_of id rows ≡ Some text → word ≡ text
+reads_row inner rows id word text e reads first = reads text (first_value-rows inner id ∙ ap (first_of id) e ∙ first)
+
+pub once_found : (m : ArgMatches) (line : CommandLine) (inner : Found) (key value e1 l1 e2 l2 : Word)
+    → subcommand_rows_of m ≡ Some (entry_of line) → subcommand_name_of m ≡ Some (codes "once")
+    → option_map (λ (p : Text × List Row). p.1) (subcommand_rows_of m) ≡ Some (rows_of inner)
+    → Reads inner (codes "key") key → Reads inner (codes "value") value → Reads inner (codes "e1") e1 → Reads inner (codes "l1") l1
+    → Reads inner (codes "e2") e2 → Reads inner (codes "l2") l2 → once key value e1 l1 e2 l2 ≡ line
+once_found m (once k v a b c d) inner key value e1 l1 e2 l2 e n r rk rv ra rb rc rd =
+    let rows = rows_are m (once k v a b c d) inner e r in
+    let ek = reads_row inner _ (codes "key") key k rows rk refl in
+    let ev = reads_row inner _ (codes "value") value v rows rv refl in
+    let ea = reads_row inner _ (codes "e1") e1 a rows ra refl in
+    let eb = reads_row inner _ (codes "l1") l1 b rows rb refl in
+    let ec = reads_row inner _ (codes "e2") e2 c rows rc refl in
+    let ed = reads_row inner _ (codes "l2") l2 d rows rd refl in
+    λ i. once (ek i) (ev i) (ea i) (eb i) (ec i) (ed i)
+
+-- a line has one of the names
+pub no_name : (m : ArgMatches) (line : CommandLine) → subcommand_rows_of m ≡ Some (entry_of line)
+    → (subcommand_name_of m ≡ Some (codes "once") → ⊥) → ⊥
+no_name m line e a =
+    let named : subcommand_name_of m ≡ Some (entry_of line).0 =
+    sym (names_same (out-ArgMatches m).subcommand) ∙ ap (option_map (λ (p : Text × List Row). p.0)) e in
+    go line named
+  where
+    go : (l : CommandLine) → subcommand_name_of m ≡ Some (entry_of l).0 → ⊥
+    go (once _ _ _ _ _ _) n = a n
+
+-- a line that was read is the line
+pub line_read : {E : Type 0} (r : Result Line E) (line : CommandLine) (expected : Option CommandLine) (Refused : E → Type 0) → expected ≡ Some line
+    → IsOkAnd r (λ l. line_view l ≡ line) → MatchResult r (λ l. expected ≡ Some (line_view l)) Refused
+line_read (Ok l) line expected Refused e same = e ∙ ap (λ (k : CommandLine). Some k) (sym same)
+line_read (Err f) line expected Refused e same = absurd same

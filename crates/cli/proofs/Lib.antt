@@ -1,0 +1,5 @@
+pub mod FirstStep
+pub mod FoundLemmas
+pub mod LineLemmas
+pub mod NumberLemmas
+pub mod ReplyLemmas

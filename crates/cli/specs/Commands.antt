@@ -1,0 +1,36 @@
+-- The commands that the words of a command line ask for.
+use Rattle.std.specs.Prelude.{◌&&◌, List, Option, Some, None, Result, Ok, Err, length, if◌then◌else◌, nat_le}
+use Rattle.units.specs.declared.fault.Fault.{Fault}
+use Rattle.units.specs.declared.fault.Fault.TheVariants.{BadRequest}
+use Rattle.units.specs.declared.fault.Reason.TheVariants as reason
+use Rattle.cli.specs.Lines.{CommandLine, Word, once, line_of}
+use Rattle.cli.specs.Numbers.{and_then, reading_of}
+use Rattle.cli.specs.declared.commands.Command.{Command}
+use Rattle.cli.specs.declared.commands.Command.TheVariants as code
+
+-- a key is the bytes of its word
+abbrev pub key_of : Word → Result Word Fault
+key_of word = if nat_le 1 (length word) && nat_le (length word) 64 then Ok word else Err (BadRequest reason.Key)
+
+-- a value is the bytes of its word
+abbrev pub value_of : Word → Result Word Fault
+value_of word = if nat_le (length word) 4096 then Ok word else Err (BadRequest reason.Value)
+
+-- the words of `once` from the left: a key, a value, and the readings of the commit and of its settling
+abbrev pub once_of_words : Word → Word → Word → Word → Word → Word → Result Command Fault
+once_of_words key value e1 l1 e2 l2 =
+    and_then (key_of key) (λ k. and_then (value_of value) (λ v. and_then (reading_of e1 l1) (λ first. and_then (reading_of e2 l2) (λ second.
+    Ok (code.Once k v first second)))))
+
+-- the command of a line
+abbrev pub command_of_line : CommandLine → Result Command Fault
+command_of_line (once key value e1 l1 e2 l2) = once_of_words key value e1 l1 e2 l2
+
+-- and what is no line is refused
+abbrev pub command_or_refusal : Option CommandLine → Result Command Fault
+command_or_refusal None = Err (BadRequest reason.Command)
+command_or_refusal (Some line) = command_of_line line
+
+-- the command that the words ask for
+abbrev pub command_of : List Word → Result Command Fault
+command_of words = command_or_refusal (line_of words)

@@ -1,0 +1,17 @@
+-- Why a command fails.
+use Rattle.std.specs.Prelude.{◌≡◌, ◌⊎◌, Result, Err}
+use Rattle.units.specs.declared.fault.Fault.{Fault}
+use Rattle.units.specs.declared.fault.Fault.TheVariants.{Memory}
+use Rattle.cli.specs.Replies.{Reply}
+use Rattle.cli.specs.declared.failure.Failure.{Failure}
+use Rattle.cli.specs.declared.failure.Failure.TheVariants.{Refused, Unwritten}
+
+-- the command is refused for what its words ask
+pub record IsRefusal (failure : Failure) (expected : Result Reply Fault) : Type 0 where
+  pub fault : Fault
+  pub told : failure ≡ Refused fault
+  pub due : expected ≡ Err fault
+
+-- a write failed, memory is wanting, or the command is refused
+abbrev pub FailsFor : Failure → Result Reply Fault → Type 0
+FailsFor failure expected = (failure ≡ Unwritten) ⊎ (failure ≡ Refused Memory) ⊎ IsRefusal failure expected

@@ -1,0 +1,7 @@
+pub mod Commands
+pub mod Failures
+pub mod Lines
+pub mod Numbers
+pub mod Parser
+pub mod Replies
+pub mod Views

@@ -1,0 +1,32 @@
+-- The command lines of the program, as lists of words.
+use Rattle.std.specs.Prelude.{ℕ, Bool, true, not, ◌==◌, List, [], ◌∷◌, Option, Some, None}
+use Rattle.std.specs.Prelude.{codes, if◌then◌else◌}
+use Rattle.std.specs.List.{list_all}
+use Rattle.std.specs.Str.{bytes_eq}
+
+-- the bytes of a word
+abbrev pub Word : Type 0
+Word = List ℕ
+
+-- a command, with its words
+pub data CommandLine : Type 0 where
+  once : Word → Word → Word → Word → Word → Word → CommandLine
+
+-- the word does not begin with `-` (45)
+abbrev pub is_plain : Word → Bool
+is_plain [] = true
+is_plain (c ∷ cs) = not (c == 45)
+
+-- no word begins with `-`
+abbrev pub are_plain : List Word → Bool
+are_plain = list_all is_plain
+
+-- KEY VALUE E1 L1 E2 L2
+abbrev pub once_of : List Word → Option CommandLine
+once_of (key ∷ value ∷ e1 ∷ l1 ∷ e2 ∷ l2 ∷ []) = Some (once key value e1 l1 e2 l2)
+once_of _ = None
+
+-- the command line that the words are
+abbrev pub line_of : List Word → Option CommandLine
+line_of [] = None
+line_of (name ∷ rest) = if bytes_eq (codes "once") name then once_of rest else None

@@ -1,0 +1,54 @@
+-- What the commands print, and their status.
+use Rattle.std.specs.Prelude.{ℕ, List, ◌++◌, ◌+◌, ◌^◌, codes, Result, Ok, Err, if◌then◌else◌, nat_lt}
+use Rattle.std.specs.Fmt.{decimal}
+use Rattle.truetime.specs.Interval.{Interval}
+use Rattle.truetime.specs.Reading.{after}
+use Rattle.units.specs.Ids.{Id}
+use Rattle.units.specs.Texts.{txn_text}
+use Rattle.units.specs.declared.fault.Fault.{Fault}
+use Rattle.units.specs.declared.fault.Fault.TheVariants.{TimeSpent}
+use Rattle.cli.specs.Commands.{command_of}
+use Rattle.cli.specs.Lines.{Word}
+use Rattle.cli.specs.Numbers.{and_then}
+use Rattle.cli.specs.declared.commands.Command.{Command}
+use Rattle.cli.specs.declared.commands.Command.TheVariants as code
+
+-- a text, and a status
+abbrev pub Reply : Type 0
+Reply = List ℕ × ℕ
+
+-- the one transaction of `once`
+abbrev pub only_txn : Id
+only_txn = record { run = 1; number = 1 }
+
+-- its commit decision
+abbrev pub commit_line : ℕ → List ℕ
+commit_line s = codes "commit " ++ (txn_text only_txn ++ (codes " at " ++ (decimal s ++ codes "\n")))
+
+-- its end
+abbrev pub done_line : ℕ → List ℕ
+done_line s = codes "done " ++ (txn_text only_txn ++ (codes " committed " ++ (decimal s ++ codes "\n")))
+
+-- it could not be settled yet
+abbrev pub early_line : List ℕ
+early_line = codes "early\n"
+
+-- the timestamp of a first commit: one above the latest of its reading
+abbrev pub commit_stamp : Interval → Result ℕ Fault
+commit_stamp first = if nat_lt (first.latest + 1) (2 ^ 62) then Ok (first.latest + 1) else Err TimeSpent
+
+-- how the commit at s ends at a reading: done once s has surely passed
+abbrev pub settled_reply : ℕ → Interval → Reply
+settled_reply s second = if after second s then (commit_line s ++ done_line s, 0) else (commit_line s ++ early_line, 1)
+
+-- one shard with a fresh log
+abbrev pub once_reply : Interval → Interval → Result Reply Fault
+once_reply first second = and_then (commit_stamp first) (λ s. Ok (settled_reply s second))
+
+-- what a command prints
+abbrev pub reply_of : Command → Result Reply Fault
+reply_of (code.Once key value first second) = once_reply first second
+
+-- what a command line is answered
+abbrev pub reply_to : List Word → Result Reply Fault
+reply_to words = and_then (command_of words) reply_of

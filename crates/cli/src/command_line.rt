@@ -1,0 +1,118 @@
+//! The words of a command line, told apart by `clap`.
+ghost use Rattle.std.specs.Prelude.{◌≡◌, ◌⊎◌, Some, None, IfOk, IfErr, IsOkAnd, MatchResult, codes, map, true, false};
+ghost use Rattle.clap.specs.Words.{app_of, first_value, found_of, shape_of, subcommand_rows_of, with_rule, with_subcommand};
+ghost use Rattle.clap.specs.declared.builder.command.Command.TheViews.{out-Command as fields_of};
+ghost use Rattle.units.specs.declared.fault.Fault.TheVariants.{BadRequest, Memory};
+ghost use Rattle.units.specs.declared.fault.Reason.TheVariants.{Command as command_reason};
+ghost use Rattle.cli.specs.Lines.{are_plain, line_of, CommandLine, Word};
+ghost use Rattle.cli.specs.Views.{line_view};
+ghost use Rattle.cli.specs.Parser.{entry_of, needed, once_app, shards_app};
+
+use clap::error::ErrorKind;
+use clap::{Arg, ArgMatches, Command};
+use std::alloc::{AllocError, Global};
+use units::{Fault, Reason};
+
+/// A command, with its words.
+#[derive(Clone, Copy, Debug)]
+pub enum Line<'a> {
+    Once {
+        key: &'a str,
+        value: &'a str,
+        first_earliest: &'a str,
+        first_latest: &'a str,
+        second_earliest: &'a str,
+        second_latest: &'a str,
+    },
+}
+
+/// The command line that the words are. Of words that do not begin with `-` it is found exactly
+/// where they are one.
+pub fn read_line<'a>(alloc: Global, words: &'a [&'a str]) -> Result<Line<'a>, Fault>
+    ensures exact { are_plain (map (λ w. w.now) words.entry.now) ≡ true → MatchResult result
+        (λ l. line_of (map (λ w. w.now) words.entry.now) ≡ Some (line_view l))
+        (λ f. (f ≡ Memory) ⊎ ((f ≡ BadRequest command_reason)
+        × (line_of (map (λ w. w.now) words.entry.now) ≡ None))) }
+    ensures faults { IfErr result (λ f. (f ≡ Memory) ⊎ (f ≡ BadRequest command_reason)) }
+{
+    match shards(alloc)?.try_get_matches_from(words) {
+        Ok(matches) => found_line(&matches),
+        Err(error) if error.kind() == ErrorKind::OutOfMemory => Err(Fault::Memory),
+        Err(_) => Err(Fault::BadRequest(Reason::Command)),
+    }
+}
+
+// The line that the parser found.
+fn found_line<'a>(matches: &ArgMatches<'a>) -> Result<Line<'a>, Fault>
+    ensures found { (line : CommandLine) → subcommand_rows_of matches.now ≡ Some (entry_of line)
+        → IsOkAnd result (λ l. line_view l ≡ line) }
+    ensures faults { IfErr result (λ f. f ≡ BadRequest command_reason) }
+{
+    if let Some(once) = matches.subcommand_matches("once") {
+        return Ok(Line::Once {
+            key: word(once, "key"),
+            value: word(once, "value"),
+            first_earliest: word(once, "e1"),
+            first_latest: word(once, "l1"),
+            second_earliest: word(once, "e2"),
+            second_latest: word(once, "l2"),
+        });
+    }
+    Err(Fault::BadRequest(Reason::Command))
+}
+
+// The word that the argument was given, and the empty word where it was given none.
+fn word<'a>(matches: &ArgMatches<'a>, id: &str) -> &'a str
+    ensures { (text : Word) → first_value (found_of matches.now) id.now ≡ Some text → result.now ≡ text }
+{
+    match matches.get_str(id) {
+        Some(text) => text,
+        None => "",
+    }
+}
+
+// The program's commands.
+fn shards<'a>(alloc: Global) -> Result<Command<'a>, AllocError>
+    ensures { IfOk result (λ c. app_of c ≡ shards_app) }
+{
+    let bare = Command::new(alloc, "shards")
+        .no_binary_name(true)
+        .disable_help_subcommand(true)
+        .subcommand_required(true);
+    with_command(bare, once_command(alloc)?)
+}
+
+// `once KEY VALUE E1 L1 E2 L2`.
+fn once_command<'a>(alloc: Global) -> Result<Command<'a>, AllocError>
+    ensures app { IfOk result (λ c. app_of c ≡ once_app) }
+    ensures local { IfOk result (λ c. (fields_of c).has_globals ≡ false) }
+{
+    let bare = Command::new(alloc, "once");
+    let with_key = with_word(alloc, bare, "key")?;
+    let with_value = with_word(alloc, with_key, "value")?;
+    let with_e1 = with_word(alloc, with_value, "e1")?;
+    let with_l1 = with_word(alloc, with_e1, "l1")?;
+    let with_e2 = with_word(alloc, with_l1, "e2")?;
+    with_word(alloc, with_e2, "l2")
+}
+
+// The command with one more word, which has to be given.
+fn with_word<'a>(
+    alloc: Global,
+    command: Command<'a>,
+    id: &'a str,
+) -> Result<Command<'a>, AllocError>
+    ensures app { IfOk result (λ c. app_of c ≡ with_rule (app_of command.entry) (needed id.entry.now)) }
+    ensures local { (fields_of command.entry).has_globals ≡ false
+        → IfOk result (λ c. (fields_of c).has_globals ≡ false) }
+{
+    command.arg(Arg::new(alloc, id).required(true))
+}
+
+// The command over one more.
+fn with_command<'a>(command: Command<'a>, below: Command<'a>) -> Result<Command<'a>, AllocError>
+    ensures { IfOk result (λ c. (fields_of below.entry).has_globals ≡ false
+        → app_of c ≡ with_subcommand (app_of command.entry) (shape_of below.entry)) }
+{
+    command.subcommand(below)
+}

@@ -1,0 +1,15 @@
+//! What a command line asks for.
+use truetime::Reading;
+use units::{Key, Value};
+
+/// A command.
+#[derive(Debug, Drop)]
+pub enum Command {
+    /// One shard commits the write of a value at the first reading, and settles it at the second.
+    Once {
+        key: Key,
+        value: Value,
+        first: Reading,
+        second: Reading,
+    },
+}

@@ -1,0 +1,18 @@
+//! Command lines, and what the program answers to them.
+#![tactic(auto)]
+
+mod answers;
+mod command_line;
+mod commands;
+mod engine;
+mod failure;
+mod numbers;
+mod once;
+mod words;
+
+pub use answers::answer;
+pub use commands::Command;
+pub use words::command;
+
+#[cfg(test)]
+mod tests;

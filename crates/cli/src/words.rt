@@ -1,0 +1,50 @@
+//! Commands, with their words read.
+ghost use Rattle.std.specs.Prelude.{◌≡◌, ◌⊎◌, Ok, Err, MatchResult, map, true};
+ghost use Rattle.units.specs.declared.fault.Fault.TheVariants.{Memory};
+ghost use Rattle.cli.specs.Lines.{are_plain};
+ghost use Rattle.cli.specs.Commands.{command_of, key_of, value_of};
+
+use crate::Command;
+use crate::command_line::{Line, read_line};
+use crate::numbers::read_reading;
+use std::alloc::Global;
+use units::{Fault, Key, Value};
+
+/// The command that the words ask for. The first bad word counts: a key, a value or a timestamp
+/// out of its limits is refused by its name, and all else that is no command line as `command`.
+pub fn command<'a>(alloc: Global, words: &'a [&'a str]) -> Result<Command, Fault>
+    ensures { are_plain (map (λ w. w.now) words.entry.now) ≡ true → MatchResult result
+        (λ c. command_of (map (λ w. w.now) words.entry.now) ≡ Ok c)
+        (λ f. (f ≡ Memory) ⊎ (command_of (map (λ w. w.now) words.entry.now) ≡ Err f)) }
+{
+    let Line::Once {
+        key,
+        value,
+        first_earliest,
+        first_latest,
+        second_earliest,
+        second_latest,
+    } = read_line(alloc, words)?;
+    let key = read_key(key)?;
+    let value = read_value(alloc, value)?;
+    let first = read_reading(first_earliest, first_latest)?;
+    let second = read_reading(second_earliest, second_latest)?;
+    Ok(Command::Once {
+        key,
+        value,
+        first,
+        second,
+    })
+}
+
+fn read_key(word: &str) -> Result<Key, Fault>
+    ensures { MatchResult result (λ k. key_of word.now ≡ Ok k) (λ f. key_of word.now ≡ Err f) }
+{
+    Key::new(word.as_bytes())
+}
+
+fn read_value(alloc: Global, word: &str) -> Result<Value, Fault>
+    ensures { MatchResult result (λ v. value_of word.now ≡ Ok v) (λ f. (f ≡ Memory) ⊎ (value_of word.now ≡ Err f)) }
+{
+    Value::new(alloc, word.as_bytes())
+}
