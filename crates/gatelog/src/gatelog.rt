@@ -70,6 +70,7 @@ impl<D: Disk> GateLog<D> {
         ensures empty { IfOk result (λ made. D.keeps_model → Stands (surface (D.file (disk_of made))) (Ok [])) }
         ensures read { IfOk result (λ made. D.keeps_model → log (surface (D.file (disk_of made))).seen ≡ Ok []) }
         ensures running { IfOk result (λ made. IsFalse (is_stopped made)) }
+        ensures gate { IfOk result (λ made. gate_at made ≡ 8) }
         ensures failures_stay { IfOk result (λ made. D.failures disk ≤ D.failures (disk_of made)) }
         ensures cause { IfErr result (λ refused. ((refused.0 ≡ Fault.Memory) × (D.file refused.1 ≡ D.file disk) × (D.plan refused.1 ≡ D.plan disk))
             ⊎ ((refused.0 ≡ Fault.Device) × (D.failures disk < D.failures refused.1))) }
@@ -196,6 +197,9 @@ impl<D: Disk> GateLog<D> {
         // With a call armed, counted from 0: what a read gives then, and what a crash leaves by each choice.
         ensures armed { (call : ℕ) → IsFalse (is_stopped self.old) → D.keeps_model → D.has_room (disk_of self.old) 4 (length (staged_bytes staged.item) + 1) → D.plan (disk_of self.old) ≡ AfterWrite call →
             IsAsPlanned (nat_lt call 4) result × IsArmed call (log (surface (D.file (disk_of self.old))).seen) staged (D.file (disk_of self.new)) }
+
+        // With no call armed, none is armed afterwards.
+        ensures never { D.plan (disk_of self.old) ≡ Never → D.plan (disk_of self.new) ≡ Never }
 
         // It needs no more than was reserved: with it, it fails only by the disk's plan.
         ensures planned { IsFalse (is_stopped self.old) → D.has_room (disk_of self.old) 4 (length (staged_bytes staged.item) + 1) →
