@@ -11,6 +11,7 @@ pub data Change : Type 0 where
   tried : ℕ → List ℕ → Change
   cut : ℕ → Change
 
+-- a file with what is not synced
 pub record File : Type 0 where
   -- what a crash right after the last sync leaves
   pub durable : List ℕ

@@ -7,14 +7,7 @@ use Rattle.disk.specs.File.{File}
 use Rattle.simdisk.specs.declared.change.Change.{Change}
 use Rattle.simdisk.specs.Replay.{History, kept, size, end_of, total, furthest, step, replay, settled, file_at, file_of, pushed, IsStored}
 
--- the bytes of later changes do not matter
-replay_before : (changes : List Change) (store more : List ℕ) (file : File) → total changes ≤ length store → replay changes (store ++ more) file ≡ replay changes store file
-replay_before [] store more file le = refl
-replay_before (change ∷ changes) store more file le =
-    let front : take (size change) (store ++ more) ≡ take (size change) store = take-append-le (size change) store more (omega arith) in
-    let back : drop (size change) (store ++ more) ≡ drop (size change) store ++ more = drop-append-le (size change) store more (omega arith) in
-    rw (front, back) (replay_before changes (drop (size change) store) more (step change (take (size change) store) file) (omega (arith, length-drop (size change) store)))
-
+-- one change more is one step more
 replay_push : (changes : List Change) (change : Change) (store bytes : List ℕ) (file : File) → total changes ≡ length store → length bytes ≡ size change → replay (changes ++ change ∷ []) (store ++ bytes) file ≡ step change bytes (replay changes store file)
 replay_push [] change store bytes file stored fits =
     let none : store ≡ [] = nil_from_length store (sym stored) in
@@ -57,6 +50,7 @@ module _ (h new : History) (change : Change) (bytes : List ℕ) (stored : IsStor
   pub file_new : file_of new ≡ step change bytes (file_of h)
   file_new = ap file_of is ∙ now h change bytes stored fits
 
+-- what holds of an answer that is Ok
 pub ok_of : {T E A : Type 0} (r : Result T E) → IsOk r → OnOk r A → A
 ok_of (Ok x) ok a = a
 ok_of (Err e) ok a = absurd (false≢true ok)
@@ -67,6 +61,7 @@ replay_append (first ∷ changes) change store file =
     replay_append changes change (drop (size first) store) (step first (take (size first) store) file)
     ∙ ap (λ (l : List ℕ). step change (take (size change) l) (replay changes (drop (size first) store) (step first (take (size first) store) file))) (drop-drop (total changes) (size first) store)
 
+-- how many bytes one change more has, and that the store has them
 pub total-more : (changes : List Change) (made : ℕ) (d : Change) → made < length changes → total (take (made + 1) changes) ≡ total (take made changes) + size (get_or changes made d)
 total-more changes made d lt = ap total (take_more changes made d lt) ∙ omega (arith, total-append (take made changes) (get_or changes made d ∷ []))
 

@@ -9,6 +9,7 @@ abbrev pub Left : ℕ → List File → List ℕ → Type 0
 Left moment [] image = ⊥
 Left moment (file ∷ earlier) image = ((moment ≤ length earlier) × MayLeave (surface file) image) ⊎ Left moment earlier image
 
+-- each moment is earlier than their number
 left-lt : (moment : ℕ) (files : List File) (image : List ℕ) → Left moment files image → moment < length files
 left-lt moment [] image left = absurd left
 left-lt moment (file ∷ earlier) image left =

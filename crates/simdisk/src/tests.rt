@@ -174,3 +174,15 @@ fn eight_calls_on_what_was_reserved(rt: HostRuntime) -> Result<(), Fail> {
     );
     Ok(())
 }
+
+fn sent<T: Send>(value: T) -> T {
+    value
+}
+
+#[test]
+fn a_disk_may_go_to_another_thread(rt: HostRuntime) -> Result<(), Fail> {
+    let alloc = rt.alloc();
+    let mut disk = sent(letters(alloc)?);
+    assert_eq!(rt; content(alloc, &mut disk)?.as_slice(), b"abcdef".as_slice());
+    Ok(())
+}
