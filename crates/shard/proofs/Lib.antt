@@ -4,3 +4,4 @@ pub mod Steps
 pub mod Standings
 pub mod Learns
 pub mod Appends
+pub mod Decisions

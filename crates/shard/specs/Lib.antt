@@ -5,3 +5,5 @@ pub mod Known
 pub mod Logs
 pub mod On
 pub mod Stepped
+pub mod Core
+pub mod Decided

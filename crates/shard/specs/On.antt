@@ -1,8 +1,10 @@
 -- What an input does to a core.
-use Rattle.std.specs.Prelude.{◌≡◌, ◌⊎◌, ℕ, ◌+◌, ◌<◌, ◌≤◌, ◌^◌, Bool, true, false, IsTrue, IsFalse, List, Option, Some, None, Result, IfOk, IfErr, OnOk}
+use Rattle.std.specs.Prelude.{◌≡◌, ◌≢◌, ◌⊎◌, ℕ, ◌+◌, ◌<◌, ◌≤◌, ◌^◌, Bool, true, false, IsTrue, IsFalse, List, Option, Some, None, Result, IfOk, IfErr, OnOk}
 use Rattle.units.specs.declared.fault.Fault.{Fault}
 use Rattle.units.specs.declared.fault.Fault.TheVariants.{Memory, Device, Stopped, TimeSpent}
 use Rattle.units.specs.declared.setup.Setup.{Setup}
+use Rattle.disk.specs.declared.plan.Plan.{Plan}
+use Rattle.disk.specs.declared.plan.Plan.TheVariants.{Never}
 use Rattle.disk.specs.Image.{Surface, MayLeave}
 use Rattle.disk.specs.File.{File, surface}
 use Rattle.disk.specs.Moments.{LeavesOnly}
@@ -55,7 +57,7 @@ IsKept file old new fault =
 
 -- An input was taken, or refused.
 pub record HasStepped {D : Type 0} (keeps : Type 0) (file : D → File) (clock : D → ℕ) (since : D → ℕ → List ℕ → Type 0) (failures : D → ℕ)
-    (old new : Seen D) (step : Stepped) (result : Result (List Envelope) Fault) : Type 0 where
+    (obeys : Type 0) (plan : D → Plan) (old new : Seen D) (step : Stepped) (result : Result (List Envelope) Fault) : Type 0 where
   pub setup : new.setup ≡ old.setup
   pub failures_stay : failures old.disk ≤ failures new.disk
   pub done : IfOk result (λ out. IsFalse old.stopped × IsFalse new.stopped × IsDone step old.facts new.facts out)
@@ -67,3 +69,5 @@ pub record HasStepped {D : Type 0} (keeps : Type 0) (file : D → File) (clock :
   -- from then on every crash leaves the records with the step's, and a read gives them
   pub durable : OnOk result (keeps → KeepsRecords (surface (file new.disk)) (and_logged (records_in (surface (file old.disk)).seen) (record_of step)))
   pub read : OnOk result (keeps → records_in (surface (file new.disk)).seen ≡ and_logged (records_in (surface (file old.disk)).seen) (record_of step))
+  -- with no call armed the device does not fail
+  pub planned : obeys → plan old.disk ≡ Never → (plan new.disk ≡ Never) × IfErr result (λ fault. fault ≢ Device)

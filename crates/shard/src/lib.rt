@@ -4,6 +4,8 @@
 mod input;
 mod logging;
 mod settled;
+mod shard_core;
 mod state;
 
 pub use input::Input;
+pub use shard_core::Core;

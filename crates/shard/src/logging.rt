@@ -1,6 +1,7 @@
 //! One record is staged and appended.
-ghost use Rattle.std.specs.Prelude.{◌≡◌, ◌⊎◌, ◌+◌, ◌<◌, ◌≤◌, ◌^◌, Some, IsTrue, IsFalse, IfErr, OnOk};
+ghost use Rattle.std.specs.Prelude.{◌≡◌, ◌≢◌, ◌⊎◌, ◌+◌, ◌<◌, ◌≤◌, ◌^◌, Some, IsTrue, IsFalse, IfErr, OnOk};
 ghost use Rattle.disk.specs.File.{surface};
+ghost use Rattle.disk.specs.declared.plan.Plan.TheVariants.{Never};
 ghost use Rattle.disk.specs.Moments.{LeavesOnly};
 ghost use Rattle.gatelog.specs.Frames.{next_gate};
 ghost use Rattle.gatelog.specs.Shown.{disk_of, gate_at, is_stopped};
@@ -32,6 +33,8 @@ pub fn append_record<D: Disk>(
         KeepsRecords (surface (D.file (disk_of gate_log.new))) (and_logged (records_in (surface (D.file (disk_of gate_log.old))).seen) (Some item.now))) }
     ensures read { OnOk result (D.keeps_model →
         records_in (surface (D.file (disk_of gate_log.new))).seen ≡ and_logged (records_in (surface (D.file (disk_of gate_log.old))).seen) (Some item.now)) }
+    // With no call armed the device does not fail.
+    ensures planned { D.obeys → D.plan (disk_of gate_log.old) ≡ Never → (D.plan (disk_of gate_log.new) ≡ Never) × IfErr result (λ fault. fault ≢ Fault.Device) }
 {
     if gate_log.is_stopped() {
         return Err(Fault::Stopped);

@@ -6,6 +6,7 @@ ghost use Rattle.units.specs.Versions.{versions};
 ghost use Rattle.protocol.specs.Rows.{standing, rebuilt};
 ghost use Rattle.record.specs.Facts.{facts_of, learn};
 ghost use Rattle.shard.specs.Held.{HoldsOne, IsNew};
+ghost use Rattle.shard.specs.Decided.{decided_in};
 
 use crate::settled::{Settled, find_settled, place_of};
 use record::{Committed, Record};
@@ -72,6 +73,17 @@ impl State {
             (Some(_), _) => Found::Decided,
             (None, Some(s)) => Found::Settled(s.at),
             (None, None) => Found::Unknown,
+        }
+    }
+
+    /// The n-th decision that stands. There is one at most.
+    pub fn nth_decided(&self, n: usize) -> Option<(TxnId, Stamp)>
+        ensures { result ≡ decided_in (facts_in self.now) n }
+    {
+        match &self.decided {
+            None => None,
+            Some(_) if n > 0 => None,
+            Some(c) => Some((c.txn, c.at)),
         }
     }
 
