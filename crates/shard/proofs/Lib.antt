@@ -4,4 +4,5 @@ pub mod Steps
 pub mod Standings
 pub mod Learns
 pub mod Appends
+pub mod Commits
 pub mod Decisions

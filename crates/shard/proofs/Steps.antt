@@ -19,12 +19,10 @@ use Rattle.message.specs.declared.message.Envelope.{Envelope}
 use Rattle.protocol.specs.Rows.{Memory, Row, Standing, IsUnknown, HasRow, WasEnded, WasAborted, WasClosed, WasSettled, Idle, WaitsCommit, IsDecided, standing, claims, claim_of}
 use Rattle.protocol.specs.Draft.{Draft, started, Stepped, Refuses, Does, done, done_to, decision, commit_stamp, in_time, with_room, is_full, put_row, set_rows, raise, log, say, tell, drop_row, close, wound, end_all, can_lock, take_locks, wait, decide, decide_at, time_limit, other_parts}
 use Rattle.protocol.specs.Step.{step_within, on_input, on_message, on_commit, commit_fresh, commit_now, commit_granted, on_settle, settle_at, is_for}
+use Rattle.shard.specs.Held.{decided_at}
+use Rattle.shard.specs.Input.{commit_message}
 use Rattle.shard.specs.Stepped.{row_limit}
 use Rattle.shard.proofs.Standings.{row_of}
-
--- the message of a commit of one part
-abbrev pub commit_message : Id → ℕ → List Write → Message
-commit_message t n ws = Message.Commit (record { txn = t; parts = n ∷ []; reads = record { epoch = 0; keys = [] }; writes = ws })
 
 module _ (setup : Setup) (facts : Facts) (memory : Memory) (now : Interval) (t : Id) (n : ℕ) (ws : List Write) where
   abbrev drafted : Draft
@@ -63,10 +61,6 @@ module _ (setup : Setup) (facts : Facts) (memory : Memory) (now : Interval) (t :
   commit-unknown ours stands = commit-line IsUnknown ours stands
 
 -- ---- a decision
-
--- the decision of a commit
-abbrev pub decided_at : Id → ℕ → ℕ → List Write → Committed
-decided_at t s n ws = record { txn = t; at = s; parts = n ∷ []; reads = []; writes = ws }
 
 module _ (n epoch floor : ℕ) (facts : Facts) (t : Id) (latest : ℕ) (ws : List Write) (same : nat_eq n n ≡ true) where
   abbrev empty : Draft

@@ -3,6 +3,7 @@ use Rattle.std.specs.Prelude.{◌≡◌, ℕ, suc, cond, ◌≤◌, List, [], �
 use Rattle.std.specs.Option.{ForSome}
 use Rattle.units.specs.Ids.{Id, same_id, older}
 use Rattle.units.specs.Lists.{first}
+use Rattle.units.specs.declared.writes.Write.{Write}
 use Rattle.units.specs.declared.writes.Install.{Install}
 use Rattle.record.specs.declared.record.Committed.{Committed}
 use Rattle.record.specs.Records.{StandsDecided, HasSettled}
@@ -31,6 +32,10 @@ settled_of settled t = first (λ s. same_id s.txn t) settled
 abbrev pub older_count : List Settled → Id → ℕ
 older_count [] t = 0
 older_count (s ∷ ss) t = cond (older s.txn t) (suc (older_count ss t)) 0
+
+-- the decision of a commit of one part, which reads nothing
+abbrev pub decided_at : Id → ℕ → ℕ → List Write → Committed
+decided_at t s n ws = record { txn = t; at = s; parts = n ∷ []; reads = []; writes = ws }
 
 -- a decision of this shard alone that reads nothing, of a transaction that is not settled
 pub record IsNew (shard : ℕ) (settled : List Settled) (c : Committed) : Type 0 where

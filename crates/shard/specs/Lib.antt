@@ -4,6 +4,7 @@ pub mod Input
 pub mod Known
 pub mod Logs
 pub mod On
+pub mod Replies
 pub mod Stepped
 pub mod Core
 pub mod Decided

@@ -1,6 +1,7 @@
 //! A shard: the core that takes inputs, logs what they decide, and puts out messages.
 #![tactic(auto)]
 
+mod deciding;
 mod input;
 mod logging;
 mod settled;

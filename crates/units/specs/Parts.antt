@@ -1,8 +1,8 @@
 -- The shards of a transaction as a set of bits, and as the ascending list that the definitions read.
 use Rattle.std.specs.Prelude.{◌≡◌, ℕ, zero, suc, ◌+◌, ◌*◌, ◌/◌, ◌%◌, ◌^◌, ◌<◌, nat_eq, Bool, true, false, List, [], ◌∷◌, cond, refl}
-use Rattle.std.proofs.Common.{sym, ap, ◌∙◌, subst, arith}
+use Rattle.std.proofs.Common.{sym, ap, ◌∙◌, subst, arith, add-zero, zero-add}
 use Rattle.std.proofs.lemmas.Bool.Decides.{nat_tests}
-use Rattle.std.proofs.Math.Nat.{pow-suc, div-add-mod, mul-add, mul_assoc, mul-one, one-mul, mul-zero}
+use Rattle.std.proofs.Math.Nat.{pow-suc, div-add-mod, mul-add, mul_assoc, mul-one, one-mul, mul-zero, mul-mod_left, mul-div_cancel}
 
 -- the numbers from n on whose bit is set, in the next few bits
 abbrev pub shards_from : ℕ → ℕ → ℕ → List ℕ
@@ -58,3 +58,21 @@ mask_from (suc bits) n mask h =
 -- the mask of the shards of 16 bits
 pub mask_again : (mask : ℕ) → mask < 2 ^ 16 → mask_of (shards_of_mask mask) ≡ mask
 mask_again mask h = mask_from 16 0 mask h ∙ one-mul mask
+
+-- no bit is set in 0
+shards_from-zero : (bits n : ℕ) → shards_from bits n 0 ≡ []
+shards_from-zero zero n = refl
+shards_from-zero (suc bits) n = shards_from-zero bits (suc n)
+
+-- one bit is one shard
+pub shards_from-bit : (bits n k : ℕ) → k < bits → shards_from bits n (2 ^ k) ≡ (n + k) ∷ []
+shards_from-bit zero n k h = absurd (omega (arith, h))
+shards_from-bit (suc bits) n zero h = ap (λ rest. n ∷ rest) (shards_from-zero bits (suc n)) ∙ ap (λ m. m ∷ []) (sym (add-zero n))
+shards_from-bit (suc bits) n (suc k) h =
+    let bit : 2 ^ suc k % 2 ≡ 0 = ap (λ p. p % 2) (pow-suc 2 k) ∙ mul-mod_left (2 ^ k) 2 in
+    let half : 2 ^ suc k / 2 ≡ 2 ^ k = ap (λ p. p / 2) (pow-suc 2 k) ∙ mul-div_cancel (2 ^ k) (omega arith) in
+    rw (bit, half) (shards_from-bit bits (suc n) k (omega (arith, h)) ∙ ap (λ m. m ∷ []) (omega arith))
+
+-- the shard of one bit of 16
+pub shards_of-bit : (k : ℕ) → k < 16 → shards_of_mask (2 ^ k) ≡ k ∷ []
+shards_of-bit k h = shards_from-bit 16 0 k h ∙ ap (λ m. m ∷ []) (zero-add k)

@@ -51,7 +51,7 @@ impl Keys {
         ensures same { IfOk result (λ keys. keys ≡ self.now) }
         ensures memory { IfErr result (λ fault. fault ≡ Fault.Memory) }
     {
-        let keys = self.keys.to_vec(alloc)?;
+        let keys = self.keys.as_slice().to_vec(alloc)?;
         Ok(Keys { keys })
     }
 

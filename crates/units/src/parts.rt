@@ -41,6 +41,14 @@ impl Parts {
         }
     }
 
+    /// One shard alone.
+    pub fn only(shard: ShardNo) -> Parts
+        ensures { result ≡ shard ∷ [] }
+    {
+        let number = shard.number();
+        Parts { mask: 1 << number }
+    }
+
     /// Their mask.
     pub fn mask(self) -> u16
         ensures value { result ≡ mask_of self }

@@ -1,5 +1,5 @@
 //! Timestamps and epochs.
-ghost use Rattle.std.specs.Prelude.{◌≡◌, ◌+◌, ◌<◌, ◌≤◌, ◌^◌, ◌↔◌, Some, Ok, Err, IsSome, IfSome, if◌then◌else◌, nat_lt, max};
+ghost use Rattle.std.specs.Prelude.{◌≡◌, ◌+◌, ◌<◌, ◌≤◌, ◌^◌, ◌↔◌, Some, Ok, Err, IsSome, IfSome, MatchResult, if◌then◌else◌, nat_lt, max};
 ghost use Rattle.std.specs.Fmt.{decimal};
 ghost use Rattle.units.specs.declared.fault.Fault.TheVariants.{BadRequest, TimeSpent};
 ghost use Rattle.units.specs.declared.fault.Reason.TheVariants.{Stamp as stamp_reason};
@@ -50,7 +50,7 @@ impl Stamp {
 
     /// The next timestamp.
     pub fn above(stamp: Stamp) -> Result<Stamp, Fault>
-        ensures { result ≡ (if nat_lt (stamp + 1) (2 ^ 62) then Ok (stamp + 1) else Err TimeSpent) }
+        ensures { MatchResult result (λ next. (next ≡ stamp + 1) × (stamp + 1 < 2 ^ 62)) (λ fault. (fault ≡ TimeSpent) × (2 ^ 62 ≤ stamp + 1)) }
     {
         if stamp.micros < Stamp::MAX {
             Ok(Stamp {
@@ -130,7 +130,7 @@ impl Epoch {
 
     /// The epoch of the next opening.
     pub fn next(self) -> Result<Epoch, Fault>
-        ensures { result ≡ (if nat_lt (self + 1) (2 ^ 62) then Ok (self + 1) else Err TimeSpent) }
+        ensures { MatchResult result (λ next. (next ≡ self + 1) × (self + 1 < 2 ^ 62)) (λ fault. (fault ≡ TimeSpent) × (2 ^ 62 ≤ self + 1)) }
     {
         if self.number < Stamp::MAX {
             Ok(Epoch {

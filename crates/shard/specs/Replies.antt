@@ -1,0 +1,26 @@
+-- What a core answers before anything is logged.
+use Rattle.std.specs.Prelude.{◌≡◌, ◌⊎◌, List, [], ◌∷◌, Some, None, Option}
+use Rattle.units.specs.Ids.{Id}
+use Rattle.units.specs.declared.fault.Fault.{Fault}
+use Rattle.units.specs.declared.fault.Fault.TheVariants.{Memory}
+use Rattle.record.specs.declared.record.Record.{Record}
+use Rattle.record.specs.declared.record.Committed.{Committed}
+use Rattle.record.specs.Facts.{Facts, learn}
+use Rattle.protocol.specs.Rows.{rebuilt}
+use Rattle.protocol.specs.Draft.{Stepped, Refuses, Does, done_to}
+use Rattle.shard.specs.declared.deciding.Reply.{Reply}
+
+-- nothing, the end of the transaction, or a decision that is to be logged
+abbrev pub IsReply : Stepped → Facts → Id → Reply → Type 0
+IsReply step facts t Reply.Nothing = step ≡ Does None (rebuilt facts) []
+IsReply step facts t (Reply.Told at) = step ≡ Does None (rebuilt facts) (done_to t (Some at) ∷ [])
+IsReply step facts t (Reply.Decided c) = step ≡ Does (Some (Record.Commit c)) (rebuilt (learn facts (Record.Commit c))) []
+
+-- the step would be done
+abbrev pub WouldBeDone : Stepped → Type 0
+WouldBeDone (Refuses fault) = ⊥
+WouldBeDone (Does logged memory outbox) = Unit {0}
+
+-- the step's own refusal; or want of memory, where it would be done
+abbrev pub IsRefusedBy : Stepped → Fault → Type 0
+IsRefusedBy step fault = (step ≡ Refuses fault) ⊎ ((fault ≡ Memory) × WouldBeDone step)

@@ -1,0 +1,76 @@
+//! What a commit is answered, before anything is logged.
+ghost use Rattle.std.specs.Prelude.{◌≡◌, [], None, true, false, MatchResult};
+ghost use Rattle.units.specs.Ids.{Id, same_id};
+ghost use Rattle.units.specs.Lists.{when};
+ghost use Rattle.record.specs.Facts.{learn};
+ghost use Rattle.protocol.specs.Rows.{standing, rebuilt, IsUnknown};
+ghost use Rattle.protocol.specs.Draft.{commit_stamp, Does};
+ghost use Rattle.protocol.specs.Step.{is_for};
+ghost use Rattle.shard.specs.Held.{decided_at, IsNew};
+ghost use Rattle.shard.specs.Input.{commit_message};
+ghost use Rattle.shard.specs.Stepped.{step_from};
+ghost use Rattle.shard.specs.declared.input.Input.{Input};
+
+use crate::state::{Found, State};
+use record::{Committed, Record};
+use std::alloc::Global;
+use truetime::Reading;
+use units::{Fault, Keys, Parts, ShardNo, Stamp, TxnId, Writes};
+
+/// What a commit comes to.
+#[derive(Debug, Drop)]
+pub enum Reply {
+    Nothing,
+    Told(Stamp),
+    Decided(Committed),
+}
+
+impl State {
+    ghost use Rattle.shard.specs.Known.{facts_in};
+    ghost use Rattle.shard.specs.Replies.{IsReply, IsRefusedBy};
+
+    /// The commit is for this shard: it is the one part, and each key belongs here.
+    #[tactic(auto, unfolding(protocol::specs::Step::is_for))]
+    fn is_ours(&self, part: ShardNo, writes: &Writes) -> bool
+        ensures { (t : Id) → is_for self.now.setup (commit_message t part writes.now) ≡ result }
+    {
+        self.setup.owns_writes(writes) && self.setup.shard == part
+    }
+
+    /// The decision on a transaction that is not known: above the latest end of the reading and above all that was
+    /// logged. Where a decision stands already, there is no room for its row.
+    fn decision(
+        &self,
+        alloc: Global,
+        now: &Reading,
+        txn: TxnId,
+        writes: &Writes,
+    ) -> Result<Committed, Fault>
+        requires ours { is_for self.now.setup (commit_message txn self.now.setup.shard writes.now) ≡ true }
+        requires unknown { standing (facts_in self.now) (rebuilt (facts_in self.now)) txn ≡ IsUnknown }
+        requires apart { when (λ c. same_id c.txn txn) self.now.decided ≡ false }
+        ensures { let step = step_from self.now.setup (facts_in self.now) now.now (Input.Commit txn self.now.setup.shard writes.now) in
+            MatchResult result
+            (λ c. (self.now.decided ≡ None) × (c ≡ decided_at txn (commit_stamp self.now.floor now.now.latest []) self.now.setup.shard writes.now) × IsReply step (facts_in self.now) txn (Reply.Decided c))
+            (IsRefusedBy step) }
+    {
+        let arrived = Stamp::above(now.latest())?;
+        match &self.decided {
+            None => {}
+            Some(c) if c.writes.share_a_key(writes) => return Err(Fault::RowsFull),
+            Some(_) => {
+                let _ = Stamp::above(self.floor)?;
+                return Err(Fault::RowsFull);
+            }
+        }
+        let served = Stamp::above(self.floor)?;
+        let writes = writes.copy(alloc)?;
+        Ok(Committed {
+            txn,
+            at: arrived.later(served),
+            parts: Parts::only(self.setup.shard),
+            reads: Keys::none(alloc),
+            writes,
+        })
+    }
+}
