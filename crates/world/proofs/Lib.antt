@@ -1,0 +1,7 @@
+mod Clients
+mod Events
+mod Faults
+mod OneShardRun
+mod RandomRuns
+mod Recovery
+mod TwoShardRun
