@@ -2,8 +2,8 @@
 use Rattle.std.proofs.Common.{refl, sym, ◌∙◌, ap, subst, inl, inr}
 use Rattle.std.proofs.lemmas.Bool.{eqb-true}
 use Rattle.std.specs.Prelude.{ℕ, suc, ◌≡◌, Bool, true, false, not, cond, ◌&&◌, ◌||◌, ◌⊎◌, nat_eq, List, [], ◌∷◌, ◌++◌, map, None}
-use Rattle.units.specs.Lists.{any, each, keep, gather, join, insert, numbered}
-use Rattle.units.specs.Ids.{Id, same_id, older, has_id, ids_once}
+use Rattle.units.specs.Lists.{any, each, keep, gather, join, numbered}
+use Rattle.units.specs.Ids.{Id, same_id, older, with_id, ids_once}
 use Rattle.record.specs.Records.{id_in, as_committed}
 use Rattle.record.specs.Whole.{is_whole, is_whole_by, Decision, ends_at, all_ids}
 use Rattle.record.specs.Verdict.{verdict, first_torn}
@@ -31,37 +31,33 @@ one_of : (a b : Bool) → (a || b) ≡ true → (a ≡ true) ⊎ (b ≡ true)
 one_of true b e = inl refl
 one_of false b e = inr e
 
--- ---- an id is among the sorted ids exactly where it is among them
+-- ---- an id is among the ids that stand once exactly where it is among them
 
-swap : (a b c : Bool) → (a || (b || c)) ≡ (b || (a || c))
-swap true true c = refl
-swap true false c = refl
-swap false true c = refl
-swap false false c = refl
+-- an id in its place among others is there, and so are they
+any_with : (t u : Id) (us : List Id) → any (same_id t) (with_id us u) ≡ (same_id t u || any (same_id t) us)
+any_with t u [] = refl
+any_with t u (v ∷ vs) = placed (same_id v u) (older v u) refl (any_with t u vs)
+  where
+    swap : (a b c : Bool) → (a || (b || c)) ≡ (b || (a || c))
+    swap true true c = refl
+    swap true false c = refl
+    swap false true c = refl
+    swap false false c = refl
 
-both_ways : (test : Id → Bool) (b : Bool) (xs ys : List Id) (g : Bool) → any test xs ≡ g → any test ys ≡ g → any test (cond b xs ys) ≡ g
-both_ways test true xs ys g e f = e
-both_ways test false xs ys g e f = f
+    twice : (a b : Bool) → (a || b) ≡ (a || (a || b))
+    twice true b = refl
+    twice false b = refl
 
-any_insert : (test : Id → Bool) (x : Id) (ys : List Id) → any test (insert older x ys) ≡ (test x || any test ys)
-any_insert test x [] = refl
-any_insert test x (y ∷ ys) =
-    both_ways test (older y x) (y ∷ insert older x ys) (x ∷ y ∷ ys) _
-    (ap (λ b. test y || b) (any_insert test x ys) ∙ swap (test y) (test x) (any test ys))
-    refl
-
-absorbed : (c : Bool) (t u : Id) (us : List Id) → same_id t u ≡ c → has_id us u ≡ true → any (same_id t) us ≡ (c || any (same_id t) us)
-absorbed true t u us e there = subst (λ v. any (same_id v) us ≡ true) (sym (same_is t u e)) there
-absorbed false t u us e there = refl
-
-once_step : (b : Bool) (t u : Id) (us : List Id) → has_id us u ≡ b → any (same_id t) (ids_once us) ≡ any (same_id t) us →
-    any (same_id t) (cond b (ids_once us) (insert older u (ids_once us))) ≡ (same_id t u || any (same_id t) us)
-once_step true t u us there e = e ∙ absorbed (same_id t u) t u us refl there
-once_step false t u us there e = any_insert (same_id t) u (ids_once us) ∙ ap (λ b. same_id t u || b) e
+    placed : (a b : Bool) → same_id v u ≡ a → any (same_id t) (with_id vs u) ≡ (same_id t u || any (same_id t) vs) →
+        any (same_id t) (cond a (v ∷ vs) (cond b (v ∷ with_id vs u) (u ∷ v ∷ vs))) ≡ (same_id t u || (same_id t v || any (same_id t) vs))
+    placed true b e rest =
+        subst (λ w. (same_id t v || any (same_id t) vs) ≡ (same_id t w || (same_id t v || any (same_id t) vs))) (same_is v u e) (twice (same_id t v) _)
+    placed false true e rest = ap (λ b. same_id t v || b) rest ∙ swap (same_id t v) (same_id t u) _
+    placed false false e rest = refl
 
 any_once : (t : Id) (ts : List Id) → any (same_id t) (ids_once ts) ≡ any (same_id t) ts
 any_once t [] = refl
-any_once t (u ∷ us) = once_step (has_id us u) t u us refl (any_once t us)
+any_once t (u ∷ us) = any_with t u (ids_once us) ∙ ap (λ b. same_id t u || b) (any_once t us)
 
 any_append : (test : Id → Bool) (xs ys : List Id) → any test (xs ++ ys) ≡ (any test xs || any test ys)
 any_append test [] ys = refl
