@@ -4,6 +4,8 @@ use Rattle.std.proofs.lemmas.Bool.{eqb-true}
 use Rattle.std.specs.Prelude.{ℕ, suc, ◌≡◌, Bool, true, false, not, cond, ◌&&◌, ◌||◌, ◌⊎◌, nat_eq, List, [], ◌∷◌, ◌++◌, map, None}
 use Rattle.units.specs.Lists.{any, each, keep, gather, join, numbered}
 use Rattle.units.specs.Ids.{Id, same_id, older, with_id, ids_once}
+use Rattle.units.proofs.Folds.{any_append}
+use Rattle.units.proofs.IdOrder.{same_is, any_once}
 use Rattle.record.specs.Records.{id_in, as_committed}
 use Rattle.record.specs.Whole.{is_whole, is_whole_by, Decision, ends_at, all_ids}
 use Rattle.record.specs.Verdict.{verdict, first_torn}
@@ -14,15 +16,6 @@ use Rattle.record.proofs.VerdictMeans.{both, head_none, kept_step, not_false, no
 
 -- ---- ids
 
-id_of_parts : (t u : Id) → t.run ≡ u.run → t.number ≡ u.number → t ≡ u
-id_of_parts t u e f =
-    ap (λ r. let i : Id = record { run = r; number = t.number } in i) e ∙ ap (λ n. let i : Id = record { run = u.run; number = n } in i) f
-
-same_is : (t u : Id) → same_id t u ≡ true → t ≡ u
-same_is t u e =
-    let p : (nat_eq t.run u.run ≡ true) × (nat_eq t.number u.number ≡ true) = both _ _ e in
-    id_of_parts t u (eqb-true _ _ p.0) (eqb-true _ _ p.1)
-
 neither : (a b : Bool) → (a || b) ≡ false → (a ≡ false) × (b ≡ false)
 neither true b e = cc
 neither false b e = (refl, e)
@@ -30,42 +23,6 @@ neither false b e = (refl, e)
 one_of : (a b : Bool) → (a || b) ≡ true → (a ≡ true) ⊎ (b ≡ true)
 one_of true b e = inl refl
 one_of false b e = inr e
-
--- ---- an id is among the ids that stand once exactly where it is among them
-
--- an id in its place among others is there, and so are they
-any_with : (t u : Id) (us : List Id) → any (same_id t) (with_id us u) ≡ (same_id t u || any (same_id t) us)
-any_with t u [] = refl
-any_with t u (v ∷ vs) = placed (same_id v u) (older v u) refl (any_with t u vs)
-  where
-    swap : (a b c : Bool) → (a || (b || c)) ≡ (b || (a || c))
-    swap true true c = refl
-    swap true false c = refl
-    swap false true c = refl
-    swap false false c = refl
-
-    twice : (a b : Bool) → (a || b) ≡ (a || (a || b))
-    twice true b = refl
-    twice false b = refl
-
-    placed : (a b : Bool) → same_id v u ≡ a → any (same_id t) (with_id vs u) ≡ (same_id t u || any (same_id t) vs) →
-        any (same_id t) (cond a (v ∷ vs) (cond b (v ∷ with_id vs u) (u ∷ v ∷ vs))) ≡ (same_id t u || (same_id t v || any (same_id t) vs))
-    placed true b e rest =
-        subst (λ w. (same_id t v || any (same_id t) vs) ≡ (same_id t w || (same_id t v || any (same_id t) vs))) (same_is v u e) (twice (same_id t v) _)
-    placed false true e rest = ap (λ b. same_id t v || b) rest ∙ swap (same_id t v) (same_id t u) _
-    placed false false e rest = refl
-
-any_once : (t : Id) (ts : List Id) → any (same_id t) (ids_once ts) ≡ any (same_id t) ts
-any_once t [] = refl
-any_once t (u ∷ us) = any_with t u (ids_once us) ∙ ap (λ b. same_id t u || b) (any_once t us)
-
-any_append : (test : Id → Bool) (xs ys : List Id) → any test (xs ++ ys) ≡ (any test xs || any test ys)
-any_append test [] ys = refl
-any_append test (x ∷ xs) ys = ap (λ b. test x || b) (any_append test xs ys) ∙ sym (or_assoc (test x) (any test xs) (any test ys))
-  where
-    or_assoc : (a b c : Bool) → ((a || b) || c) ≡ (a || (b || c))
-    or_assoc true b c = refl
-    or_assoc false b c = refl
 
 -- ---- an id that no record of a log is about
 

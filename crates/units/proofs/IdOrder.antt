@@ -3,7 +3,7 @@ use Rattle.std.proofs.Common.{refl, sym, ◌∙◌, ap, subst, arith}
 use Rattle.std.proofs.lemmas.Bool.{eqb-true}
 use Rattle.std.proofs.lemmas.Bool.Decides.{nat_tests}
 use Rattle.std.specs.Prelude.{ℕ, ◌≡◌, Bool, true, false, cond, ◌&&◌, ◌||◌, nat_eq, nat_lt, List, [], ◌∷◌, ◌++◌}
-use Rattle.units.specs.Lists.{each}
+use Rattle.units.specs.Lists.{any, each}
 use Rattle.units.specs.Ids.{Id, same_id, older, with_id, ids_once}
 
 both : (a b : Bool) → (a && b) ≡ true → (a ≡ true) × (b ≡ true)
@@ -146,6 +146,34 @@ any_turn us t u = by_way (way t u)
 pub once_more : (ts : List Id) (t : Id) → ids_once (ts ++ t ∷ []) ≡ with_id (ids_once ts) t
 once_more [] t = refl
 once_more (u ∷ us) t = ap (λ l. with_id l u) (once_more us t) ∙ any_turn (ids_once us) t u
+
+-- ---- an id is among the ids that stand once exactly where it is among them
+
+-- an id in its place among others is there, and so are they
+any_with : (t u : Id) (us : List Id) → any (same_id t) (with_id us u) ≡ (same_id t u || any (same_id t) us)
+any_with t u [] = refl
+any_with t u (v ∷ vs) = placed (same_id v u) (older v u) refl (any_with t u vs)
+  where
+    swap : (a b c : Bool) → (a || (b || c)) ≡ (b || (a || c))
+    swap true true c = refl
+    swap true false c = refl
+    swap false true c = refl
+    swap false false c = refl
+
+    twice : (a b : Bool) → (a || b) ≡ (a || (a || b))
+    twice true b = refl
+    twice false b = refl
+
+    placed : (a b : Bool) → same_id v u ≡ a → any (same_id t) (with_id vs u) ≡ (same_id t u || any (same_id t) vs) →
+        any (same_id t) (cond a (v ∷ vs) (cond b (v ∷ with_id vs u) (u ∷ v ∷ vs))) ≡ (same_id t u || (same_id t v || any (same_id t) vs))
+    placed true b e rest =
+        subst (λ w. (same_id t v || any (same_id t) vs) ≡ (same_id t w || (same_id t v || any (same_id t) vs))) (same_is v u e) (twice (same_id t v) _)
+    placed false true e rest = ap (λ b. same_id t v || b) rest ∙ swap (same_id t v) (same_id t u) _
+    placed false false e rest = refl
+
+pub any_once : (t : Id) (ts : List Id) → any (same_id t) (ids_once ts) ≡ any (same_id t) ts
+any_once t [] = refl
+any_once t (u ∷ us) = any_with t u (ids_once us) ∙ ap (λ b. same_id t u || b) (any_once t us)
 
 -- ---- ids in order
 
