@@ -1,2 +1,5 @@
+mod LearnAgrees
+mod Sound
+mod Statuses
 mod VerdictMeans
 mod WholeForAll

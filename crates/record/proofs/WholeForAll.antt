@@ -1,9 +1,8 @@
 -- Where the inspector finds no torn id, every id is whole: those that no log is about as well.
 use Rattle.std.proofs.Common.{refl, sym, ◌∙◌, ap, subst, inl, inr}
-use Rattle.std.proofs.lemmas.Bool.{eqb-true}
-use Rattle.std.specs.Prelude.{ℕ, suc, ◌≡◌, Bool, true, false, not, cond, ◌&&◌, ◌||◌, ◌⊎◌, nat_eq, List, [], ◌∷◌, ◌++◌, map, None}
+use Rattle.std.specs.Prelude.{ℕ, suc, ◌≡◌, Bool, true, false, not, cond, ◌&&◌, ◌||◌, ◌⊎◌, List, [], ◌∷◌, ◌++◌, map, None}
 use Rattle.units.specs.Lists.{any, each, keep, gather, join, numbered}
-use Rattle.units.specs.Ids.{Id, same_id, older, with_id, ids_once}
+use Rattle.units.specs.Ids.{Id, same_id}
 use Rattle.units.proofs.Folds.{any_append}
 use Rattle.units.proofs.IdOrder.{same_is, any_once}
 use Rattle.record.specs.Records.{id_in, as_committed}
@@ -12,7 +11,7 @@ use Rattle.record.specs.Verdict.{verdict, first_torn}
 use Rattle.record.specs.VerdictLaws.{YesIsSound}
 use Rattle.record.specs.declared.record.Record.{Record}
 use Rattle.record.specs.declared.record.Record.TheVariants.{Opened, Ceiling, Prepare, Commit, Abort, Outcome}
-use Rattle.record.proofs.VerdictMeans.{both, head_none, kept_step, not_false, no_fault, acknowledged, looks, reads, order}
+use Rattle.record.proofs.VerdictMeans.{head_none, kept_step, not_false, no_fault, acknowledged, looks, reads, order}
 
 -- ---- ids
 

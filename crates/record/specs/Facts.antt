@@ -1,5 +1,5 @@
 -- The part of a shard's state that its log determines, and how one more record changes it.
-use Rattle.std.specs.Prelude.{ℕ, Bool, cond, max, List, [], ◌∷◌, ◌++◌, map, Option, Some, None}
+use Rattle.std.specs.Prelude.{ℕ, cond, max, List, [], ◌∷◌, ◌++◌, map, Option, Some, None}
 use Rattle.units.specs.Lists.{first}
 use Rattle.units.specs.Ids.{Id, same_id, older}
 use Rattle.record.specs.Records.{Status, Unrecorded, StandsPrepared, StandsDecided, HasAborted, HasSettled, HasClosed, status_of, ids_of, epoch_of, floor_of, stamp_in}

@@ -4,5 +4,5 @@
 mod laws;
 mod record;
 
-pub use laws::a_yes_is_sound;
+pub use laws::{a_yes_is_sound, accepted_follows, learn_agrees, learnt_agrees};
 pub use record::{Committed, Prepared, Record};

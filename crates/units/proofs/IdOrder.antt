@@ -182,11 +182,11 @@ abbrev pub rises : List Id → Bool
 rises [] = true
 rises (t ∷ ts) = each (older t) ts && rises ts
 
-and_true : (a b : Bool) → a ≡ true → b ≡ true → (a && b) ≡ true
+pub and_true : (a b : Bool) → a ≡ true → b ≡ true → (a && b) ≡ true
 and_true true b e f = f
 and_true false b e f = cc
 
-above_more : (t u : Id) (us : List Id) → older t u ≡ true → each (older u) us ≡ true → each (older t) us ≡ true
+pub above_more : (t u : Id) (us : List Id) → older t u ≡ true → each (older u) us ≡ true → each (older t) us ≡ true
 above_more t u [] e h = refl
 above_more t u (v ∷ vs) e h =
     let p : (older u v ≡ true) × (each (older u) vs ≡ true) = both _ _ h in
