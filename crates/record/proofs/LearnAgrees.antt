@@ -11,7 +11,7 @@ use Rattle.units.proofs.Folds.{or_else, is_there, append_none, gather_append, jo
 use Rattle.units.proofs.IdOrder.{same_is, same_self, once_more, rises_once}
 use Rattle.record.specs.Accepted.{Taken, Accepted, DamagedAt, StrangerAt, taken, taken_from, belongs, begins, follows, fits_beside, followed, followed_from}
 use Rattle.record.specs.Facts.{Facts, Entry, facts_of, learn, with_status, after_outcome, installs_at, or_floor}
-use Rattle.record.specs.FactsLaws.{LearnAgrees, LearntAgrees, AcceptedFollows, learnt}
+use Rattle.record.specs.FactLaws.{LearnAgrees, LearntAgrees, AcceptedFollows, learnt}
 use Rattle.record.specs.Installs.{installs_of, installed_by, writes_by}
 use Rattle.record.specs.Records.{Ended, Status, Unrecorded, StandsPrepared, StandsDecided, HasAborted, HasSettled, HasClosed, as_opened, as_ended, stamp_in, id_in, ids_of, epoch_of, floor_of, prepared_of, committed_of, is_aborted, ended_of, status_by, status_of}
 use Rattle.record.specs.declared.record.Committed.{Committed}
@@ -357,3 +357,28 @@ followed_next setup before place (r ∷ rs) e =
 pub accepted_follows : AcceptedFollows
 unfolding taken followed
 accepted_follows setup log e = followed_next setup [] 0 log e
+
+-- ---- a list that is followed, and one more record
+
+and_turned : (a b c : Bool) → ((a && b) && c) ≡ (a && (b && c))
+and_turned true b c = refl
+and_turned false b c = refl
+
+followed_one_more : (shard : ℕ) (before log : List Record) (r : Record) →
+    followed_from shard before (log ++ r ∷ []) ≡ (followed_from shard before log && (begins (before ++ log) r && follows shard (before ++ log) r))
+followed_one_more shard before [] r =
+    all_true (begins before r && follows shard before r) ∙ ap (λ l. begins l r && follows shard l r) (sym (append_none before))
+  where
+    all_true : (b : Bool) → (b && true) ≡ b
+    all_true true = refl
+    all_true false = refl
+followed_one_more shard before (q ∷ qs) r =
+    ap (λ b. (begins before q && follows shard before q) && b)
+    (followed_one_more shard (before ++ q ∷ []) qs r
+    ∙ ap (λ l. followed_from shard (before ++ q ∷ []) qs && (begins l r && follows shard l r)) (append_one before q qs))
+    ∙ sym (and_turned (begins before q && follows shard before q) _ _)
+
+-- a list with one more record is followed where the list is, and the record follows it
+pub followed_more : (shard : ℕ) (log : List Record) (r : Record) → followed shard (log ++ r ∷ []) ≡ (followed shard log && (begins log r && follows shard log r))
+unfolding followed
+followed_more shard log r = followed_one_more shard [] log r

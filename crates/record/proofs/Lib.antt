@@ -1,5 +1,5 @@
-mod LearnAgrees
-mod Sound
-mod Statuses
+pub mod LearnAgrees
+pub mod Sound
+pub mod Statuses
 mod VerdictMeans
 mod WholeForAll

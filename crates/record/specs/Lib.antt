@@ -1,7 +1,7 @@
 pub mod Accepted
 pub mod Computing
+pub mod FactLaws
 pub mod Facts
-pub mod FactsLaws
 pub mod History
 pub mod Installs
 pub mod Records

@@ -1,5 +1,5 @@
 //! Laws of logs. Each is the contract of a function that does nothing.
-ghost use Rattle.record.specs.FactsLaws.{AcceptedFollows, LearnAgrees, LearntAgrees};
+ghost use Rattle.record.specs.FactLaws.{AcceptedFollows, LearnAgrees, LearntAgrees};
 ghost use Rattle.record.specs.VerdictLaws.{YesIsSound};
 
 /// Where the verdict is yes, every transaction is whole, what was acknowledged is in the history, every value is that of

@@ -72,7 +72,7 @@ asked_keys c = map (λ a. a.key) c.taken ++ listed c.doom ++ c.awaited
 unfoldable pub reads : List Bytes → Bytes → Client → Moved
 reads splits k c =
     unless ((nat_le 128 (length (asked_keys c)), Many) ∷ (was_answered c k, Again) ∷ (has_key c.awaited k, Awaited) ∷ (is_doomed c, Doomed) ∷ [])
-    (Goes (record c { awaited = k ∷ c.awaited })
+    (Goes (record c { awaited = c.awaited ++ k ∷ [] })
     (record { to = Shard (shard_of splits k); message = Message.Read (record { txn = c.txn; key = k }) } ∷ []))
 
 -- the writes with one given anew, by ascending key

@@ -4,4 +4,5 @@ mod Faults
 mod OneShardRun
 mod RandomRuns
 mod Recovery
+mod Served
 mod TwoShardRun
