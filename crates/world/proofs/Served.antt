@@ -2,20 +2,15 @@
 -- timestamp.
 use Rattle.std.proofs.Common.{refl}
 use Rattle.std.specs.Prelude.{ℕ, ◌≡◌, List, [], ◌∷◌, ◌++◌, slice_get, Option, Some, None}
-use Rattle.units.specs.declared.fault.Fault.TheVariants.{Early, NotYet, Stranger}
+use Rattle.units.specs.declared.fault.Fault.TheVariants.{NotYet, Stranger}
 use Rattle.units.specs.declared.line.Line.{Line}
-use Rattle.units.specs.declared.line.Verdict.TheVariants.{Yes}
-use Rattle.units.specs.Ids.{Id}
 use Rattle.record.specs.declared.record.Record.{Record}
-use Rattle.record.specs.History.{serial, history}
-use Rattle.record.specs.Verdict.{verdict}
 use Rattle.protocol.specs.Rows.{safe}
 use Rattle.protocol.specs.Draft.{decision, promise}
 use Rattle.protocol.proofs.Samples.{read_of, a, m, z, one, two, txn, clock, sets, commit_of, prepare_of, vote_of, outcome_of, answer_of, done_of, to_shard, to_session}
-use Rattle.message.specs.declared.message.Answer.TheVariants.{Holds, Refused}
-use Rattle.message.specs.declared.message.Envelope.{Envelope}
+use Rattle.message.specs.declared.message.Answer.TheVariants.{Holds}
 use Rattle.world.specs.Computing.{computing}
-use Rattle.world.specs.World.{World, ShardNow, State, Runs, IsStopped, IsDown, run, replies, logs_of}
+use Rattle.world.specs.World.{World, Runs, run, replies, logs_of}
 use Rattle.world.specs.declared.event.Act.{Act}
 use Rattle.world.specs.declared.event.Config.{Config}
 use Rattle.world.specs.declared.event.Doing.{Doing}
