@@ -14,7 +14,7 @@ use Rattle.world.specs.declared.event.Event.{Event}
 use Rattle.world.specs.declared.event.Reply.{Reply}
 use Rattle.protocol.specs.Draft.{decision}
 use Rattle.world.specs.Computing.{computing}
-use Rattle.protocol.proofs.Samples.{a, one, txn, clock, sets}
+use Rattle.protocol.proofs.Samples.{a, one, txn, clock, sets, commit_of, done_of, to_shard, to_session}
 use Rattle.world.proofs.Events.{two_shards, on}
 
 abbrev pub events : List Event
@@ -42,6 +42,11 @@ pub replies_are : replies two_shards events
     ≡ Reply.Done ∷ Reply.Done ∷ Reply.Done ∷ Reply.Done ∷ Reply.Refused Early ∷ Reply.Done ∷ []
 unfolding computing
 replies_are = refl
+
+pub messages_are : (run two_shards events).bag
+    ≡ to_shard 0 (commit_of (txn 1) (0 ∷ []) 0 [] (sets a one ∷ [])) ∷ to_session (txn 1) (done_of (txn 1) (Some 111)) ∷ []
+unfolding computing
+messages_are = refl
 
 pub logs_are : logs_of (run two_shards events) ≡ logs
 unfolding computing

@@ -257,9 +257,15 @@ the_second_tables = refl
 
 -- ---- the law at every moment, also within an event
 
--- the verdict on some logs and the lines so far is yes
+-- the log is taken by an opening
+abbrev pub is_accepted : Taken → Bool
+is_accepted Accepted = true
+is_accepted _ = false
+
+-- openings take the logs, and the verdict on them and the lines so far is yes
 abbrev pub is_consistent : List (List Record) → List Line → Bool
-is_consistent logs lines = elim (verdict logs (counted_lines logs lines)) [ Yes ↦ true | _ ↦ false ]
+is_consistent logs lines =
+    each is_accepted (taken_by 0 logs) && elim (verdict logs (counted_lines logs lines)) [ Yes ↦ true | _ ↦ false ]
 
 -- the logs with one more record at a shard
 abbrev pub with_record : List (List Record) → ℕ → Record → List (List Record)

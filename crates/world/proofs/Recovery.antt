@@ -1,6 +1,6 @@
 -- Runs with crashes, failing device calls and openings.
 use Rattle.std.proofs.Common.{refl}
-use Rattle.std.specs.Prelude.{ℕ, ◌≡◌, List, [], ◌∷◌, ◌++◌, Some, None}
+use Rattle.std.specs.Prelude.{ℕ, ◌≡◌, List, [], ◌∷◌, ◌++◌, map, Some, None}
 use Rattle.world.specs.World.{run, replies, logs_of}
 use Rattle.world.specs.Lawful.{first_unlawful_from}
 use Rattle.units.specs.declared.fault.Fault.TheVariants.{Early, Stopped, Device, NotYet, BadRequest}
@@ -16,6 +16,7 @@ use Rattle.world.specs.declared.event.Reply.{Reply}
 use Rattle.protocol.specs.Draft.{promise, decision}
 use Rattle.world.specs.Computing.{computing}
 use Rattle.protocol.proofs.Samples.{a, m, z, one, two, txn, clock, sets}
+use Rattle.world.proofs.Served.{served}
 use Rattle.world.proofs.Events.{two_shards, on}
 use Rattle.world.specs.World.{start}
 
@@ -140,20 +141,39 @@ fails_in call =
     ∷ on 108 (Act.At 0 Doing.Open)
     ∷ []
 
-pub a_stopped_shard_refuses : replies two_shards (fails_in 0)
-    ≡ Reply.Done ∷ Reply.Done ∷ Reply.Done ∷ Reply.Refused Device ∷ Reply.Refused Stopped ∷ Reply.Shows None ∷ Reply.Done ∷ []
+-- what is heard, whichever call fails: the failure, a refusal of what comes next, a look as before, and the opening
+abbrev pub stopped : List Reply
+stopped =
+    Reply.Done ∷ Reply.Done ∷ Reply.Done ∷ Reply.Refused Device ∷ Reply.Refused Stopped ∷ Reply.Shows None ∷ Reply.Done ∷ []
+
+pub a_stopped_shard_refuses : map (λ call. replies two_shards (fails_in call)) (0 ∷ 1 ∷ 2 ∷ 3 ∷ []) ≡ stopped ∷ stopped ∷ stopped ∷ stopped ∷ []
 unfolding computing
 a_stopped_shard_refuses = refl
 
-pub a_write_that_fails_leaves_nothing : logs_of (run two_shards (fails_in 2))
-    ≡ (Record.Opened 1 ∷ Record.Opened 2 ∷ []) ∷ (Record.Opened 1 ∷ []) ∷ []
+-- with a write that fails, or the sync before the gate is opened, nothing is left
+abbrev pub nothing_left : List (List Record)
+nothing_left = (Record.Opened 1 ∷ Record.Opened 2 ∷ []) ∷ (Record.Opened 1 ∷ []) ∷ []
+
+pub a_call_that_fails_early_leaves_nothing :
+    map (λ call. logs_of (run two_shards (fails_in call))) (0 ∷ 1 ∷ 2 ∷ []) ≡ nothing_left ∷ nothing_left ∷ nothing_left ∷ []
 unfolding computing
-a_write_that_fails_leaves_nothing = refl
+a_call_that_fails_early_leaves_nothing = refl
 
 pub a_last_sync_that_fails_leaves_the_record : logs_of (run two_shards (fails_in 3))
     ≡ (Record.Opened 1 ∷ decision (txn 1) 111 (0 ∷ []) [] (sets a one ∷ []) ∷ Record.Opened 2 ∷ []) ∷ (Record.Opened 1 ∷ []) ∷ []
 unfolding computing
 a_last_sync_that_fails_leaves_the_record = refl
+
+-- and its row is decided again
+pub and_its_row : served (run two_shards (fails_in 3)) 0 ≡ Some (111, 110)
+unfolding computing served
+and_its_row = refl
+
+-- the record of the last sync that failed is lost where the shard crashes before it is opened
+pub unless_it_crashes_first : logs_of (run two_shards (one_write ++ on 105 (Act.FailIn 0 3 (Doing.Take 0 (clock 100 110))) ∷ on 106 (Act.Crash 0) ∷ on 107 (Act.At 0 Doing.Open) ∷ []))
+    ≡ nothing_left
+unfolding computing
+unless_it_crashes_first = refl
 
 -- ---- what no network, clock or client can do
 
