@@ -2,10 +2,15 @@
 #![tactic(auto)]
 
 mod message;
+mod outbox;
 mod reads;
 
 pub use message::{
     Address, Answer, Ask, Commit, Done, Envelope, GiveUp, Input, Message, Outcome, Prepare, Read,
     ReadAnswer, Vote,
 };
+pub use outbox::Outbox;
 pub use reads::Reads;
+
+#[cfg(test)]
+mod tests;

@@ -8,7 +8,8 @@ use Rattle.units.specs.Versions.{versions}
 use Rattle.units.specs.declared.setup.Setup.{Setup}
 use Rattle.units.specs.declared.writes.Install.{Install}
 use Rattle.units.proofs.Folds.{or_else, is_there, append_none, gather_append, join_append, greatest_append, there_first, join_same}
-use Rattle.units.proofs.IdOrder.{same_is, same_self, once_more, rises_once}
+use Rattle.units.proofs.IdLaws.{same_id-is, same_id-refl}
+use Rattle.units.proofs.IdOrder.{once_more, rises_once}
 use Rattle.record.specs.Accepted.{Taken, Accepted, DamagedAt, StrangerAt, taken, taken_from, belongs, begins, follows, fits_beside, followed, followed_from}
 use Rattle.record.specs.Facts.{Facts, Entry, facts_of, learn, with_status, after_outcome, installs_at, or_floor}
 use Rattle.record.specs.FactLaws.{LearnAgrees, LearntAgrees, AcceptedFollows, learnt}
@@ -135,7 +136,7 @@ prepared_status log p u =
     ∙ by_parts _ false _ None _ (Some p) _ None
     (ap (λ b. b || false) u.aborted)
     (ap (λ o. or_else o None) u.committed)
-    (ap (λ o. or_else o (prepared_of (Prepare p ∷ []) p.txn)) u.prepared ∙ found_one (same_id p.txn p.txn) p (same_self p.txn))
+    (ap (λ o. or_else o (prepared_of (Prepare p ∷ []) p.txn)) u.prepared ∙ found_one (same_id p.txn p.txn) p (same_id-refl p.txn))
     (ap (λ o. or_else o None) u.ended)
 
 decided_status : (log : List Record) (c : Committed) → Untouched log c.txn → status_of (log ++ Commit c ∷ []) c.txn ≡ StandsDecided c
@@ -143,7 +144,7 @@ decided_status log c u =
     status_more log (Commit c) c.txn
     ∙ by_parts _ false _ (Some c) _ None _ None
     (ap (λ b. b || false) u.aborted)
-    (ap (λ o. or_else o (committed_of (Commit c ∷ []) c.txn)) u.committed ∙ found_one (same_id c.txn c.txn) c (same_self c.txn))
+    (ap (λ o. or_else o (committed_of (Commit c ∷ []) c.txn)) u.committed ∙ found_one (same_id c.txn c.txn) c (same_id-refl c.txn))
     (ap (λ o. or_else o None) u.prepared)
     (ap (λ o. or_else o None) u.ended)
 
@@ -155,7 +156,7 @@ aborted_status : (log : List Record) (t : Id) → status_of (log ++ Abort t ∷ 
 aborted_status log t =
     status_more log (Abort t) t
     ∙ ap (λ b. status_by b (or_else (committed_of log t) None) (or_else (prepared_of log t) None) (or_else (ended_of log t) None))
-    (or_true (is_aborted log t) (same_id t t || false) (ap (λ b. b || false) (same_self t)))
+    (or_true (is_aborted log t) (same_id t t || false) (ap (λ b. b || false) (same_id-refl t)))
 
 ended_by : (a : Bool) (c : Option Committed) (p : Option Prepared) (t : Id) (o : Option ℕ) →
     status_by a c p (Some (record { txn = t; outcome = o })) ≡ after_outcome (status_by a c p None) o
@@ -174,7 +175,7 @@ ended_status log t o none =
     status_more log (Outcome t o) t
     ∙ by_parts _ (is_aborted log t) _ (committed_of log t) _ (prepared_of log t) _ (Some (record { txn = t; outcome = o }))
     (or_false (is_aborted log t)) (or_none (committed_of log t)) (or_none (prepared_of log t))
-    (ap (λ e. or_else e (ended_of (Outcome t o ∷ []) t)) none ∙ found_one (same_id t t) (record { txn = t; outcome = o }) (same_self t))
+    (ap (λ e. or_else e (ended_of (Outcome t o ∷ []) t)) none ∙ found_one (same_id t t) (record { txn = t; outcome = o }) (same_id-refl t))
     ∙ ended_by (is_aborted log t) (committed_of log t) (prepared_of log t) t o
     ∙ ap (λ e. after_outcome (status_by (is_aborted log t) (committed_of log t) (prepared_of log t) e) o) (sym none)
 
@@ -191,7 +192,7 @@ all_made log s = weaker _ _ (λ e there. s.closed e.txn (there_first (λ d. same
     each_found : (es : List Ended) → each (λ e. any (λ d. same_id d.txn e.txn) es) es ≡ true
     each_found [] = refl
     each_found (e ∷ es) =
-        ap (λ b. (b || any (λ d. same_id d.txn e.txn) es) && each (λ x. same_id e.txn x.txn || any (λ d. same_id d.txn x.txn) es) es) (same_self e.txn)
+        ap (λ b. (b || any (λ d. same_id d.txn e.txn) es) && each (λ x. same_id e.txn x.txn || any (λ d. same_id d.txn x.txn) es) es) (same_id-refl e.txn)
         ∙ weaker _ _ (λ x h. or_true (same_id e.txn x.txn) _ h) es (each_found es)
 
 no_single : {A : Type 0} (b : Bool) (x : A) → (b ≡ true → false ≡ true) → first (λ y. b) (x ∷ []) ≡ None
@@ -204,9 +205,9 @@ single_none : (shard : ℕ) (log : List Record) (r : Record) (t : Id) → follow
 single_none shard log (Opened e) t h m = (refl, refl)
 single_none shard log (Ceiling at) t h m = (refl, refl)
 single_none shard log (Prepare p) t h m =
-    (refl, no_single (same_id p.txn t) p (λ e. sym (subst (λ v. made log v ≡ false) (same_is p.txn t e) ((new_facts log p.txn (prepare_new shard log p h)).1)) ∙ m))
+    (refl, no_single (same_id p.txn t) p (λ e. sym (subst (λ v. made log v ≡ false) (same_id-is p.txn t e) ((new_facts log p.txn (prepare_new shard log p h)).1)) ∙ m))
 single_none shard log (Commit c) t h m =
-    (no_single (same_id c.txn t) c (λ e. sym (subst (λ v. made log v ≡ false) (same_is c.txn t e) ((new_facts log c.txn (commit_new shard log c h)).1)) ∙ m), refl)
+    (no_single (same_id c.txn t) c (λ e. sym (subst (λ v. made log v ≡ false) (same_id-is c.txn t e) ((new_facts log c.txn (commit_new shard log c h)).1)) ∙ m), refl)
 single_none shard log (Abort u) t h m = (refl, refl)
 single_none shard log (Outcome u o) t h m = (refl, refl)
 

@@ -5,7 +5,7 @@ use Rattle.std.specs.Prelude.{ℕ, ◌+◌, ◌≡◌, Bool, true, false, not, c
 use Rattle.units.specs.Lists.{any, gather, first, head}
 use Rattle.units.specs.Ids.{Id, same_id}
 use Rattle.units.proofs.Folds.{or_else, is_there, there_or_else, gather_append, first_append, any_append}
-use Rattle.units.proofs.IdOrder.{same_is}
+use Rattle.units.proofs.IdLaws.{same_id-is}
 use Rattle.record.specs.Accepted.{is_new, outcome_fits, follows}
 use Rattle.record.specs.Records.{Ended, Unrecorded, as_prepared, as_committed, as_aborted, as_ended, prepared_of, committed_of, is_aborted, ended_of, status_by, status_of, epoch_of}
 use Rattle.record.specs.declared.record.Committed.{Committed}
@@ -131,7 +131,7 @@ ended_made shard log (Prepare p) t h there = cc
 ended_made shard log (Commit c) t h there = cc
 ended_made shard log (Abort u) t h there = cc
 ended_made shard log (Outcome u o) t h there =
-    let same : u ≡ t = same_is u t (sym (single (same_id u t) _) ∙ there) in
+    let same : u ≡ t = same_id-is u t (sym (single (same_id u t) _) ∙ there) in
     subst (λ v. made log v ≡ true) same (outcome_made log u o ((outcome_follows shard log u o h).1))
 
 -- an abort makes nothing, and comes of an id of which nothing is made
@@ -143,7 +143,7 @@ aborted_unmade shard log (Ceiling at) t h there = cc
 aborted_unmade shard log (Prepare p) t h there = cc
 aborted_unmade shard log (Commit c) t h there = cc
 aborted_unmade shard log (Abort u) t h there =
-    let same : t ≡ u = same_is t u (sym (or_false (same_id t u)) ∙ there) in
+    let same : t ≡ u = same_id-is t u (sym (or_false (same_id t u)) ∙ there) in
     (subst (λ v. made log v ≡ false) (sym same) ((new_facts log u (abort_new shard log u h)).1), refl)
 aborted_unmade shard log (Outcome u o) t h there = cc
 
@@ -153,10 +153,10 @@ unfolding made
 made_unaborted shard log (Opened e) t h there = cc
 made_unaborted shard log (Ceiling at) t h there = cc
 made_unaborted shard log (Prepare p) t h there =
-    let same : p.txn ≡ t = same_is p.txn t (sym (single (same_id p.txn t) p) ∙ (sym (or_false _) ∙ there)) in
+    let same : p.txn ≡ t = same_id-is p.txn t (sym (single (same_id p.txn t) p) ∙ (sym (or_false _) ∙ there)) in
     subst (λ v. is_aborted log v ≡ false) same ((new_facts log p.txn (prepare_new shard log p h)).0)
 made_unaborted shard log (Commit c) t h there =
-    let same : c.txn ≡ t = same_is c.txn t (sym (single (same_id c.txn t) c) ∙ there) in
+    let same : c.txn ≡ t = same_id-is c.txn t (sym (single (same_id c.txn t) c) ∙ there) in
     subst (λ v. is_aborted log v ≡ false) same ((new_facts log c.txn (commit_new shard log c h)).0)
 made_unaborted shard log (Abort u) t h there = cc
 made_unaborted shard log (Outcome u o) t h there = cc

@@ -4,7 +4,8 @@ use Rattle.std.specs.Prelude.{◌≡◌, Bool, true, false, cond, ◌||◌, List
 use Rattle.units.specs.Lists.{any, each, gather, first, head, keep}
 use Rattle.units.specs.Ids.{Id, same_id, older, with_id}
 use Rattle.units.proofs.Folds.{or_else}
-use Rattle.units.proofs.IdOrder.{same_is, same_flip, older_apart, older_total, and_true, above_more, rises, any_once}
+use Rattle.units.proofs.IdLaws.{same_id-is, same_id_comm, older_not_same, older_total}
+use Rattle.units.proofs.IdOrder.{and_true, above_more, rises, any_once}
 use Rattle.record.specs.Facts.{Entry, facts_of, recorded, or_unrecorded, with_status}
 use Rattle.record.specs.Records.{Ended, Status, Unrecorded, id_in, ids_of, prepared_of, committed_of, is_aborted, ended_of, status_by, status_of}
 use Rattle.record.specs.declared.record.Committed.{Committed}
@@ -51,7 +52,7 @@ no_single true x e = cc
 no_single false x e = refl
 
 apart_single : (t u : Id) → (same_id t u || false) ≡ false → same_id u t ≡ false
-apart_single t u e = same_flip u t ∙ (sym (or_false (same_id t u)) ∙ e)
+apart_single t u e = same_id_comm u t ∙ (sym (or_false (same_id t u)) ∙ e)
 
 -- the status of an id that the record is not about
 pub status_same : (log : List Record) (r : Record) (t : Id) → any (same_id t) (gather id_in (r ∷ [])) ≡ false → status_of (log ++ r ∷ []) t ≡ status_of log t
@@ -93,7 +94,7 @@ none_prepared t [] e = refl
 none_prepared t (Opened epoch ∷ rs) e = none_prepared t rs e
 none_prepared t (Ceiling at ∷ rs) e = none_prepared t rs e
 none_prepared t (Prepare p ∷ rs) e =
-    not_first (same_id p.txn t) p _ (same_flip p.txn t ∙ (neither _ _ e).0) (none_prepared t rs ((neither _ _ e).1))
+    not_first (same_id p.txn t) p _ (same_id_comm p.txn t ∙ (neither _ _ e).0) (none_prepared t rs ((neither _ _ e).1))
 none_prepared t (Commit c ∷ rs) e = none_prepared t rs ((neither _ _ e).1)
 none_prepared t (Abort u ∷ rs) e = none_prepared t rs ((neither _ _ e).1)
 none_prepared t (Outcome u o ∷ rs) e = none_prepared t rs ((neither _ _ e).1)
@@ -104,7 +105,7 @@ none_committed t (Opened epoch ∷ rs) e = none_committed t rs e
 none_committed t (Ceiling at ∷ rs) e = none_committed t rs e
 none_committed t (Prepare p ∷ rs) e = none_committed t rs ((neither _ _ e).1)
 none_committed t (Commit c ∷ rs) e =
-    not_first (same_id c.txn t) c _ (same_flip c.txn t ∙ (neither _ _ e).0) (none_committed t rs ((neither _ _ e).1))
+    not_first (same_id c.txn t) c _ (same_id_comm c.txn t ∙ (neither _ _ e).0) (none_committed t rs ((neither _ _ e).1))
 none_committed t (Abort u ∷ rs) e = none_committed t rs ((neither _ _ e).1)
 none_committed t (Outcome u o ∷ rs) e = none_committed t rs ((neither _ _ e).1)
 
@@ -131,8 +132,8 @@ found f t (u ∷ us) = by_test (same_id u t) refl (found f t us)
         or_unrecorded (head (keep (λ e. same_id e.txn t) (entries_by f us))) ≡ cond (any (same_id t) us) (f t) Unrecorded →
         or_unrecorded (head (cond b (record { txn = u; status = f u } ∷ keep (λ e. same_id e.txn t) (entries_by f us)) (keep (λ e. same_id e.txn t) (entries_by f us))))
         ≡ cond (same_id t u || any (same_id t) us) (f t) Unrecorded
-    by_test true e rest = ap f (same_is u t e) ∙ sym (ap (λ b. cond (b || any (same_id t) us) (f t) Unrecorded) (same_flip t u ∙ e))
-    by_test false e rest = rest ∙ sym (ap (λ b. cond (b || any (same_id t) us) (f t) Unrecorded) (same_flip t u ∙ e))
+    by_test true e rest = ap f (same_id-is u t e) ∙ sym (ap (λ b. cond (b || any (same_id t) us) (f t) Unrecorded) (same_id_comm t u ∙ e))
+    by_test false e rest = rest ∙ sym (ap (λ b. cond (b || any (same_id t) us) (f t) Unrecorded) (same_id_comm t u ∙ e))
 
 recorded_by : (b : Bool) (log : List Record) (t : Id) → any (same_id t) (ids_of log) ≡ b → cond b (status_of log t) Unrecorded ≡ status_of log t
 recorded_by true log t e = refl
@@ -151,7 +152,7 @@ unfolding entries_by
 entries_same f g t same [] h = refl
 entries_same f g t same (u ∷ us) h =
     let p : (older t u ≡ true) × (each (older t) us ≡ true) = both _ _ h in
-    let apart : same_id u t ≡ false = same_flip u t ∙ older_apart t u p.0 in
+    let apart : same_id u t ≡ false = same_id_comm u t ∙ older_not_same t u p.0 in
     ap (λ s. let e : Entry = record { txn = u; status = s } in e ∷ entries_by g us) (same u apart)
     ∙ ap (λ l. let e : Entry = record { txn = u; status = f u } in e ∷ l) (entries_same f g t same us p.1)
 
@@ -169,9 +170,9 @@ entries_with f g t same (u ∷ us) h =
         ≡ cond a (record { txn = t; status = g t } ∷ entries_by f us)
         (cond b (record { txn = u; status = f u } ∷ with_status (entries_by f us) t (g t)) (record { txn = t; status = g t } ∷ record { txn = u; status = f u } ∷ entries_by f us))
     placed true b e k p rest =
-        ap (λ v. let x : Entry = record { txn = v; status = g v } in x ∷ entries_by g us) (same_is u t e)
+        ap (λ v. let x : Entry = record { txn = v; status = g v } in x ∷ entries_by g us) (same_id-is u t e)
         ∙ ap (λ l. let x : Entry = record { txn = t; status = g t } in x ∷ l)
-        (entries_same f g t same us (subst (λ v. each (older v) us ≡ true) (same_is u t e) p.0))
+        (entries_same f g t same us (subst (λ v. each (older v) us ≡ true) (same_id-is u t e) p.0))
     placed false true e k p rest =
         ap (λ s. let x : Entry = record { txn = u; status = s } in x ∷ entries_by g (with_id us t)) (same u e)
         ∙ ap (λ l. let x : Entry = record { txn = u; status = f u } in x ∷ l) rest

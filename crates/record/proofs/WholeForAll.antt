@@ -4,7 +4,8 @@ use Rattle.std.specs.Prelude.{ℕ, suc, ◌≡◌, Bool, true, false, not, cond,
 use Rattle.units.specs.Lists.{any, each, keep, gather, join, numbered}
 use Rattle.units.specs.Ids.{Id, same_id}
 use Rattle.units.proofs.Folds.{any_append}
-use Rattle.units.proofs.IdOrder.{same_is, any_once}
+use Rattle.units.proofs.IdLaws.{same_id-is}
+use Rattle.units.proofs.IdOrder.{any_once}
 use Rattle.record.specs.Records.{id_in, as_committed}
 use Rattle.record.specs.Whole.{is_whole, is_whole_by, Decision, ends_at, all_ids}
 use Rattle.record.specs.Verdict.{verdict, first_torn}
@@ -86,7 +87,7 @@ mentioned t logs (u ∷ us) e there =
     here_or_later (one_of (same_id t u) (any (same_id t) us) there) p.0 (λ later. mentioned t logs us p.1 later)
   where
     here_or_later : (same_id t u ≡ true) ⊎ (any (same_id t) us ≡ true) → not (is_whole u logs) ≡ false → (any (same_id t) us ≡ true → is_whole t logs ≡ true) → is_whole t logs ≡ true
-    here_or_later (inl same) good later = subst (λ v. is_whole v logs ≡ true) (sym (same_is t u same)) (not_false _ good)
+    here_or_later (inl same) good later = subst (λ v. is_whole v logs ≡ true) (sym (same_id-is t u same)) (not_false _ good)
     here_or_later (inr more) good later = later more
 
 by_mention : (b : Bool) (t : Id) (logs : List (List Record)) → any (same_id t) (all_ids logs) ≡ b → first_torn logs ≡ None → is_whole t logs ≡ true

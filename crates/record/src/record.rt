@@ -1,5 +1,8 @@
 //! The kinds of record. Their types keep the limits of the grammar.
-use units::{Epoch, Keys, Parts, ShardNo, Stamp, TxnId, Writes};
+ghost use Rattle.std.specs.Prelude.{◌≡◌, IfOk, IfErr};
+
+use std::alloc::Global;
+use units::{Epoch, Fault, Keys, Parts, ShardNo, Stamp, TxnId, Writes};
 
 /// A transaction's part that a shard has promised at a timestamp, and the shard that decides.
 #[derive(Debug, Drop)]
@@ -32,4 +35,56 @@ pub enum Record {
     Commit(Committed),
     Abort { txn: TxnId },
     Outcome { txn: TxnId, outcome: Option<Stamp> },
+}
+
+impl Prepared {
+    /// An equal one with memory of its own.
+    pub fn copy(&self, alloc: Global) -> Result<Prepared, Fault>
+        ensures same { IfOk result (λ copied. copied ≡ self.now) }
+        ensures memory { IfErr result (λ fault. fault ≡ Fault.Memory) }
+    {
+        Ok(Prepared {
+            txn: self.txn,
+            coordinator: self.coordinator,
+            at: self.at,
+            reads: self.reads.copy(alloc)?,
+            writes: self.writes.copy(alloc)?,
+        })
+    }
+}
+
+impl Committed {
+    /// An equal one with memory of its own.
+    pub fn copy(&self, alloc: Global) -> Result<Committed, Fault>
+        ensures same { IfOk result (λ copied. copied ≡ self.now) }
+        ensures memory { IfErr result (λ fault. fault ≡ Fault.Memory) }
+    {
+        Ok(Committed {
+            txn: self.txn,
+            at: self.at,
+            parts: self.parts,
+            reads: self.reads.copy(alloc)?,
+            writes: self.writes.copy(alloc)?,
+        })
+    }
+}
+
+impl Record {
+    /// An equal record with memory of its own.
+    pub fn copy(&self, alloc: Global) -> Result<Record, Fault>
+        ensures same { IfOk result (λ copied. copied ≡ self.now) }
+        ensures memory { IfErr result (λ fault. fault ≡ Fault.Memory) }
+    {
+        match self {
+            Record::Opened { epoch } => Ok(Record::Opened { epoch: *epoch }),
+            Record::Ceiling { at } => Ok(Record::Ceiling { at: *at }),
+            Record::Prepare(prepared) => Ok(Record::Prepare(prepared.copy(alloc)?)),
+            Record::Commit(committed) => Ok(Record::Commit(committed.copy(alloc)?)),
+            Record::Abort { txn } => Ok(Record::Abort { txn: *txn }),
+            Record::Outcome { txn, outcome } => Ok(Record::Outcome {
+                txn: *txn,
+                outcome: *outcome,
+            }),
+        }
+    }
 }

@@ -4,3 +4,6 @@
 mod reading;
 
 pub use reading::{Clock, Reading};
+
+#[cfg(test)]
+mod tests;

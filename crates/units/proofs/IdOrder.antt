@@ -1,76 +1,15 @@
--- The order of ids is total, and ids put in their places one by one stand in the same list whatever the turn.
+-- Ids that are put in their places one by one stand in one list, whatever the turn.
 use Rattle.std.proofs.Common.{refl, sym, ◌∙◌, ap, subst, arith}
 use Rattle.std.proofs.lemmas.Bool.{eqb-true}
 use Rattle.std.proofs.lemmas.Bool.Decides.{nat_tests}
 use Rattle.std.specs.Prelude.{ℕ, ◌≡◌, Bool, true, false, cond, ◌&&◌, ◌||◌, nat_eq, nat_lt, List, [], ◌∷◌, ◌++◌}
+use Rattle.units.proofs.IdLaws.{same_id-is, same_id-refl, same_id_comm, older_total, older_not_younger, older_not_same, older-trans}
 use Rattle.units.specs.Lists.{any, each}
 use Rattle.units.specs.Ids.{Id, same_id, older, with_id, ids_once}
 
 both : (a b : Bool) → (a && b) ≡ true → (a ≡ true) × (b ≡ true)
 both true b e = (refl, e)
 both false b e = cc
-
-id_of_parts : (t u : Id) → t.run ≡ u.run → t.number ≡ u.number → t ≡ u
-id_of_parts t u e f =
-    ap (λ r. let i : Id = record { run = r; number = t.number } in i) e ∙ ap (λ n. let i : Id = record { run = u.run; number = n } in i) f
-
--- ids that test the same are one
-pub same_is : (t u : Id) → same_id t u ≡ true → t ≡ u
-same_is t u e =
-    let p : (nat_eq t.run u.run ≡ true) × (nat_eq t.number u.number ≡ true) = both _ _ e in
-    id_of_parts t u (eqb-true _ _ p.0) (eqb-true _ _ p.1)
-
--- ---- the order, over plain numbers
-
-abbrev same_pair : ℕ → ℕ → ℕ → ℕ → Bool
-same_pair r n s m = nat_eq r s && nat_eq n m
-
-abbrev less_pair : ℕ → ℕ → ℕ → ℕ → Bool
-less_pair r n s m = nat_lt r s || (nat_eq r s && nat_lt n m)
-
-pair_self : (r n : ℕ) → same_pair r n r n ≡ true
-pair_self r n = grind (arith, nat_tests)
-
-pair_irreflexive : (r n : ℕ) → less_pair r n r n ≡ false
-pair_irreflexive r n = grind (arith, nat_tests)
-
-pair_flip : (r n s m : ℕ) → same_pair r n s m ≡ same_pair s m r n
-pair_flip r n s m = grind (arith, nat_tests)
-
-pair_total : (r n s m : ℕ) → same_pair r n s m ≡ false → less_pair r n s m ≡ false → less_pair s m r n ≡ true
-pair_total r n s m e f = grind (arith, nat_tests)
-
-pair_asymmetric : (r n s m : ℕ) → less_pair r n s m ≡ true → less_pair s m r n ≡ false
-pair_asymmetric r n s m e = grind (arith, nat_tests)
-
-pair_apart : (r n s m : ℕ) → less_pair r n s m ≡ true → same_pair r n s m ≡ false
-pair_apart r n s m e = grind (arith, nat_tests)
-
-pair_through : (r n s m q k : ℕ) → less_pair r n s m ≡ true → less_pair s m q k ≡ true → less_pair r n q k ≡ true
-pair_through r n s m q k e f = grind (arith, nat_tests)
-
--- ---- the order of ids
-
-pub same_self : (t : Id) → same_id t t ≡ true
-same_self t = pair_self t.run t.number
-
-pub same_flip : (t u : Id) → same_id t u ≡ same_id u t
-same_flip t u = pair_flip t.run t.number u.run u.number
-
-pub older_irreflexive : (t : Id) → older t t ≡ false
-older_irreflexive t = pair_irreflexive t.run t.number
-
-pub older_total : (t u : Id) → same_id t u ≡ false → older t u ≡ false → older u t ≡ true
-older_total t u e f = pair_total t.run t.number u.run u.number e f
-
-pub older_asymmetric : (t u : Id) → older t u ≡ true → older u t ≡ false
-older_asymmetric t u e = pair_asymmetric t.run t.number u.run u.number e
-
-pub older_apart : (t u : Id) → older t u ≡ true → same_id t u ≡ false
-older_apart t u e = pair_apart t.run t.number u.run u.number e
-
-pub older_through : (t u v : Id) → older t u ≡ true → older u v ≡ true → older t v ≡ true
-older_through t u v e f = pair_through t.run t.number u.run u.number v.run v.number e f
 
 -- ---- an id in its place
 
@@ -84,22 +23,22 @@ way : (t u : Id) → Way t u
 way t u = by_tests (same_id t u) (older t u) refl refl
   where
     by_tests : (a b : Bool) → same_id t u ≡ a → older t u ≡ b → Way t u
-    by_tests true b e f = IsOne (same_is t u e)
+    by_tests true b e f = IsOne (same_id-is t u e)
     by_tests false true e f = IsBefore f
     by_tests false false e f = IsBehind (older_total t u e f)
 
 with_same : (us : List Id) (t : Id) → with_id (t ∷ us) t ≡ t ∷ us
-with_same us t = ap (λ b. cond b (t ∷ us) (cond (older t t) (t ∷ with_id us t) (t ∷ t ∷ us))) (same_self t)
+with_same us t = ap (λ b. cond b (t ∷ us) (cond (older t t) (t ∷ with_id us t) (t ∷ t ∷ us))) (same_id-refl t)
 
 with_later : (us : List Id) (u t : Id) → older u t ≡ true → with_id (u ∷ us) t ≡ u ∷ with_id us t
 with_later us u t e =
-    ap (λ b. cond b (u ∷ us) (cond (older u t) (u ∷ with_id us t) (t ∷ u ∷ us))) (older_apart u t e)
+    ap (λ b. cond b (u ∷ us) (cond (older u t) (u ∷ with_id us t) (t ∷ u ∷ us))) (older_not_same u t e)
     ∙ ap (λ b. cond b (u ∷ with_id us t) (t ∷ u ∷ us)) e
 
 with_earlier : (us : List Id) (u t : Id) → older t u ≡ true → with_id (u ∷ us) t ≡ t ∷ u ∷ us
 with_earlier us u t e =
-    ap (λ b. cond b (u ∷ us) (cond (older u t) (u ∷ with_id us t) (t ∷ u ∷ us))) (same_flip u t ∙ older_apart t u e)
-    ∙ ap (λ b. cond b (u ∷ with_id us t) (t ∷ u ∷ us)) (older_asymmetric t u e)
+    ap (λ b. cond b (u ∷ us) (cond (older u t) (u ∷ with_id us t) (t ∷ u ∷ us))) (same_id_comm u t ∙ older_not_same t u e)
+    ∙ ap (λ b. cond b (u ∷ with_id us t) (t ∷ u ∷ us)) (older_not_younger t u e)
 
 -- an id before the first goes before it, whatever was put in its place meanwhile
 earlier_still : (us : List Id) (y u t : Id) → older t y ≡ true → older t u ≡ true → with_id (with_id (y ∷ us) u) t ≡ t ∷ with_id (y ∷ us) u
@@ -126,7 +65,7 @@ turn_ordered (y ∷ ys) t u e = by_way (way y t) (turn_ordered ys t u e)
         let below : older y u ≡ true = subst (λ v. older v u ≡ true) (sym g) e in
         ap (λ l. with_id l u) (same ys) ∙ with_later ys y u below ∙ sym (ap (λ l. with_id l t) (with_later ys y u below) ∙ same (with_id ys u))
     by_way (IsBefore g) rest =
-        let below : older y u ≡ true = older_through y t u g e in
+        let below : older y u ≡ true = older-trans y t u g e in
         ap (λ l. with_id l u) (with_later ys y t g) ∙ with_later (with_id ys t) y u below
         ∙ ap (λ l. y ∷ l) rest
         ∙ sym (ap (λ l. with_id l t) (with_later ys y u below) ∙ with_later (with_id ys u) y t g)
@@ -167,7 +106,7 @@ any_with t u (v ∷ vs) = placed (same_id v u) (older v u) refl (any_with t u vs
     placed : (a b : Bool) → same_id v u ≡ a → any (same_id t) (with_id vs u) ≡ (same_id t u || any (same_id t) vs) →
         any (same_id t) (cond a (v ∷ vs) (cond b (v ∷ with_id vs u) (u ∷ v ∷ vs))) ≡ (same_id t u || (same_id t v || any (same_id t) vs))
     placed true b e rest =
-        subst (λ w. (same_id t v || any (same_id t) vs) ≡ (same_id t w || (same_id t v || any (same_id t) vs))) (same_is v u e) (twice (same_id t v) _)
+        subst (λ w. (same_id t v || any (same_id t) vs) ≡ (same_id t w || (same_id t v || any (same_id t) vs))) (same_id-is v u e) (twice (same_id t v) _)
     placed false true e rest = ap (λ b. same_id t v || b) rest ∙ swap (same_id t v) (same_id t u) _
     placed false false e rest = refl
 
@@ -190,7 +129,7 @@ pub above_more : (t u : Id) (us : List Id) → older t u ≡ true → each (olde
 above_more t u [] e h = refl
 above_more t u (v ∷ vs) e h =
     let p : (older u v ≡ true) × (each (older u) vs ≡ true) = both _ _ h in
-    and_true _ _ (older_through t u v e p.0) (above_more t u vs e p.1)
+    and_true _ _ (older-trans t u v e p.0) (above_more t u vs e p.1)
 
 above_with : (y t : Id) (us : List Id) → older y t ≡ true → each (older y) us ≡ true → each (older y) (with_id us t) ≡ true
 above_with y t [] e h = and_true _ _ e refl

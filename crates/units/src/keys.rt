@@ -1,9 +1,9 @@
 //! Lists of keys that ascend.
-ghost use Rattle.std.specs.Prelude.{◌≡◌, ◌≤◌, ◌<◌, ◌⊎◌, IsTrue, IsFalse, [], length, MatchResult};
+ghost use Rattle.std.specs.Prelude.{◌≡◌, ◌≤◌, ◌<◌, ◌⊎◌, IsTrue, IsFalse, [], length, MatchResult, IfOk, IfErr};
 ghost use Rattle.units.specs.Keys.{key_before};
 ghost use Rattle.units.specs.Lists.{ascends};
 
-use crate::Key;
+use crate::{Fault, Key};
 use std::alloc::Global;
 use std::marker::Model;
 
@@ -43,6 +43,15 @@ impl Keys {
         if keys.len() > 128 || !ascend(keys.as_slice()) {
             return Err(keys);
         }
+        Ok(Keys { keys })
+    }
+
+    /// Equal keys with memory of their own.
+    pub fn copy(&self, alloc: Global) -> Result<Keys, Fault>
+        ensures same { IfOk result (λ keys. keys ≡ self.now) }
+        ensures memory { IfErr result (λ fault. fault ≡ Fault.Memory) }
+    {
+        let keys = self.keys.to_vec(alloc)?;
         Ok(Keys { keys })
     }
 

@@ -1,7 +1,7 @@
 //! What a shard is told when it is opened.
-ghost use Rattle.std.specs.Prelude.{◌≡◌, ◌≤◌, ◌↔◌, IsSome, IfSome};
+ghost use Rattle.std.specs.Prelude.{◌≡◌, ◌≤◌, ◌↔◌, IsSome, IfSome, nat_eq};
 
-use crate::{ShardNo, Splits};
+use crate::{Key, ShardNo, Splits, Writes};
 use std::marker::Model;
 
 /// How far ahead of the served time a ceiling is logged, in microseconds: 0 to 10,000,000.
@@ -60,4 +60,28 @@ pub struct Setup {
     pub splits: Splits,
     pub stride: Stride,
     pub book: Book,
+}
+
+impl Setup {
+    ghost use Rattle.units.specs.Keys.{shard_of};
+    ghost use Rattle.units.specs.Lists.{each};
+
+    /// The key belongs to this shard.
+    pub fn owns(&self, key: &Key) -> bool
+        ensures { result ≡ nat_eq (shard_of self.now.splits key.now) self.now.shard }
+    {
+        self.splits.shard_of(key) == self.shard
+    }
+
+    /// Each key that is written belongs to this shard.
+    pub fn owns_writes(&self, writes: &Writes) -> bool
+        ensures { result ≡ each (λ w. nat_eq (shard_of self.now.splits w.key) self.now.shard) writes.now }
+    {
+        for write in writes.as_slice() {
+            if !self.owns(&write.key) {
+                return false;
+            }
+        }
+        true
+    }
 }

@@ -1,5 +1,5 @@
 //! Timestamps and epochs.
-ghost use Rattle.std.specs.Prelude.{◌≡◌, ◌+◌, ◌<◌, ◌≤◌, ◌^◌, ◌↔◌, Some, Ok, Err, IsSome, IfSome, if◌then◌else◌, nat_lt};
+ghost use Rattle.std.specs.Prelude.{◌≡◌, ◌+◌, ◌<◌, ◌≤◌, ◌^◌, ◌↔◌, Some, Ok, Err, IsSome, IfSome, if◌then◌else◌, nat_lt, max};
 ghost use Rattle.std.specs.Fmt.{decimal};
 ghost use Rattle.units.specs.declared.fault.Fault.TheVariants.{BadRequest, TimeSpent};
 ghost use Rattle.units.specs.declared.fault.Reason.TheVariants.{Stamp as stamp_reason};
@@ -58,6 +58,17 @@ impl Stamp {
             })
         } else {
             Err(Fault::TimeSpent)
+        }
+    }
+
+    /// The later of two timestamps.
+    pub fn later(self, other: Stamp) -> Stamp
+        ensures { result ≡ max self other }
+    {
+        if self.micros < other.micros {
+            other
+        } else {
+            self
         }
     }
 

@@ -1,9 +1,9 @@
 //! Writes of keys, and the versions that they become.
-ghost use Rattle.std.specs.Prelude.{◌≡◌, ◌≤◌, ◌<◌, ◌⊎◌, IsTrue, IsFalse, [], length, MatchResult};
-ghost use Rattle.units.specs.Keys.{write_before};
-ghost use Rattle.units.specs.Lists.{ascends};
+ghost use Rattle.std.specs.Prelude.{◌≡◌, ◌≤◌, ◌<◌, ◌⊎◌, IsTrue, IsFalse, [], length, MatchResult, IfOk, IfErr, vec_len};
+ghost use Rattle.units.specs.Keys.{write_before, writes_key};
+ghost use Rattle.units.specs.Lists.{any, ascends};
 
-use crate::{Key, Stamp, Value};
+use crate::{Fault, Key, Stamp, Value};
 use std::alloc::Global;
 use std::marker::Model;
 
@@ -12,6 +12,23 @@ use std::marker::Model;
 pub struct Write {
     pub key: Key,
     pub value: Option<Value>,
+}
+
+impl Write {
+    /// An equal write with memory of its own.
+    pub fn copy(&self, alloc: Global) -> Result<Write, Fault>
+        ensures same { IfOk result (λ write. write ≡ self.now) }
+        ensures memory { IfErr result (λ fault. fault ≡ Fault.Memory) }
+    {
+        let value = match &self.value {
+            None => None,
+            Some(value) => Some(value.copy(alloc)?),
+        };
+        Ok(Write {
+            key: self.key,
+            value,
+        })
+    }
 }
 
 /// A version: what a key holds from a timestamp on, or `None` for its erasure.
@@ -62,6 +79,37 @@ impl Writes {
         Ok(Writes { writes })
     }
 
+    /// Equal writes with memory of their own.
+    pub fn copy(&self, alloc: Global) -> Result<Writes, Fault>
+        ensures same { IfOk result (λ writes. writes ≡ self.now) }
+        ensures memory { IfErr result (λ fault. fault ≡ Fault.Memory) }
+    {
+        let mut writes = Vec::new(alloc);
+        for write in &self.writes {
+            writes.push(write.copy(alloc)?)?;
+        }
+        Ok(Writes { writes })
+    }
+
+    /// The key is written.
+    pub fn writes_key(&self, key: &Key) -> bool
+        ensures { result ≡ writes_key self.now key.now }
+    {
+        is_written(self.writes.as_slice(), key)
+    }
+
+    /// Some key is written by both.
+    pub fn share_a_key(&self, other: &Writes) -> bool
+        ensures { result ≡ any (λ w. writes_key other.now w.key) self.now }
+    {
+        for write in &self.writes {
+            if other.writes_key(&write.key) {
+                return true;
+            }
+        }
+        false
+    }
+
     /// The writes in order.
     pub fn as_slice(&self) -> &[Write]
         ensures same { result.now ≡ self.now }
@@ -73,11 +121,24 @@ impl Writes {
 
     /// The writes as a plain list.
     pub fn into_vec(self) -> Vec<Write>
-        ensures { result.items ≡ self }
+        ensures same { result.items ≡ self }
+        ensures few { vec_len result ≤ 128 }
     {
         let Writes { writes } = self;
         writes
     }
+}
+
+// The key is written by one of them.
+fn is_written(writes: &[Write], key: &Key) -> bool
+    ensures { result ≡ writes_key writes.now key.now }
+{
+    for write in writes {
+        if write.key.is(key) {
+            return true;
+        }
+    }
+    false
 }
 
 // Each key is before the next one.

@@ -1,0 +1,127 @@
+//! A file as the log sees it: what a read gives, and what a crash may leave.
+#![tactic(auto)]
+
+ghost use Rattle.std.specs.Prelude.{◌≡◌, ◌≤◌, ◌+◌, List, ℕ, length, take, drop, OnOk, OnErr, IfErr, IsErr, IsTrue, if◌then◌else◌};
+ghost use Rattle.units.specs.declared.fault.Fault.TheVariants.{Memory};
+ghost use Rattle.disk.specs.declared.plan.Plan.{Plan};
+ghost use Rattle.disk.specs.Image.{MayLeave, after_write, after_cut, after_sync, tried_write, tried_cut, IsWithin};
+ghost use Rattle.disk.specs.File.{File, wrote, tried, cut, surface, changed, synced};
+ghost use Rattle.disk.specs.Planned.{fails, next, at_write, armed, IsAsPlanned};
+ghost use Rattle.disk.specs.Moments.{Elapses, HasCause};
+
+mod plan;
+
+pub use plan::{Fate, Plan};
+use units::Fault;
+
+/// One file on a device, with what a crash may leave of it. Every refusal but that of `reserve` is `Fault::Device`.
+pub trait Disk {
+    /// Disks of this type keep the disk model.
+    ghost keeps_model: { Type 0 };
+
+    /// Disks of this type fail only by their plan, as long as they have room.
+    ghost obeys: { Type 0 };
+
+    /// What the last sync left, and the changes since.
+    ghost file: { Self → File };
+
+    /// The moment, as a number that does not fall.
+    ghost clock: { Self → ℕ };
+
+    /// What a crash at some moment from that one on might have left, within a call or between two.
+    ghost since: { Self → ℕ → List ℕ → Type 0 };
+
+    /// How often the device has failed.
+    ghost failures: { Self → ℕ };
+
+    /// Which call is to fail.
+    ghost plan: { Self → Plan };
+
+    /// That many more changes and syncs, of that many bytes in all, need no memory.
+    ghost has_room: { Self → ℕ → ℕ → Type 0 };
+
+    /// The length of the file.
+    fn len(&self) -> u64
+        ensures { keeps_model → result ≡ length (surface (file self.now)).seen };
+
+    /// Takes memory ahead, for changes of that many bytes in all, in at most 8 calls, syncs counted.
+    fn reserve(&mut self, bytes: u64) -> Result<(), Fault>
+        ensures room { OnOk result (obeys → has_room self.new 8 bytes) }
+        ensures cause { IfErr result (λ fault. fault ≡ Memory) }
+        ensures same { file self.new ≡ file self.old }
+        ensures plan { plan self.new ≡ plan self.old }
+        ensures time { Elapses file clock since failures self.old self.new };
+
+    /// Fills the buffer from an offset on. All of the range lies in the file.
+    fn read_at(&mut self, at: u64, buffer: &mut [u8]) -> Result<(), Fault>
+        requires { keeps_model → at + length buffer.old ≤ length (surface (file self.old)).seen }
+        ensures planned { obeys → IsAsPlanned (fails (plan self.old)) result }
+        ensures plan { plan self.new ≡ next (plan self.old) }
+        ensures room { (calls bytes : ℕ) → has_room self.old calls bytes → has_room self.new calls bytes }
+        ensures bytes { OnOk result (keeps_model → buffer.new ≡ take (length buffer.old) (drop at (surface (file self.old)).seen)) }
+        ensures same { file self.new ≡ file self.old }
+        ensures time { Elapses file clock since failures self.old self.new }
+        ensures cause { HasCause (failures self.old) (failures self.new) result };
+
+    /// Writes over what is there, and past the end. The offset is at most the length.
+    fn write_at(&mut self, at: u64, bytes: &[u8]) -> Result<(), Fault>
+        requires { keeps_model → at ≤ length (surface (file self.old)).seen }
+        ensures planned { (calls more : ℕ) → has_room self.old (calls + 1) (length bytes.now + more) →
+            IsAsPlanned (fails (at_write (plan self.old))) result × has_room self.new calls more
+            × (file self.new ≡ changed (if fails (at_write (plan self.old)) then tried at bytes.now else wrote at bytes.now) (file self.old)) }
+        ensures plan { plan self.new ≡ next (at_write (plan self.old)) }
+        ensures fails { obeys → IsTrue (fails (at_write (plan self.old))) → IsErr result }
+        ensures failed { obeys → OnErr result ((surface (file self.new)).seen ≡ (surface (file self.old)).seen) }
+        ensures written { OnOk result (keeps_model → surface (file self.new) ≡ after_write at bytes.now (surface (file self.old))) }
+        ensures crash { keeps_model → IsWithin (tried_write at (length bytes.now) (surface (file self.old))) (surface (file self.new)) }
+        ensures time { Elapses file clock since failures self.old self.new }
+        ensures cause { HasCause (failures self.old) (failures self.new) result };
+
+    /// Cuts the file to a length, which is at most its own.
+    fn cut(&mut self, len: u64) -> Result<(), Fault>
+        requires { keeps_model → len ≤ length (surface (file self.old)).seen }
+        ensures planned { (calls more : ℕ) → has_room self.old (calls + 1) more →
+            IsAsPlanned (fails (plan self.old)) result × has_room self.new calls more
+            × (file self.new ≡ (if fails (plan self.old) then file self.old else changed (cut len) (file self.old))) }
+        ensures plan { plan self.new ≡ next (plan self.old) }
+        ensures fails { obeys → IsTrue (fails (plan self.old)) → IsErr result }
+        ensures failed { obeys → OnErr result (file self.new ≡ file self.old) }
+        ensures done { OnOk result (keeps_model → surface (file self.new) ≡ after_cut len (surface (file self.old))) }
+        ensures crash { keeps_model → IsWithin (tried_cut len (surface (file self.old))) (surface (file self.new)) }
+        ensures time { Elapses file clock since failures self.old self.new }
+        ensures cause { HasCause (failures self.old) (failures self.new) result };
+
+    /// After it, a crash leaves what a read gives.
+    fn sync(&mut self) -> Result<(), Fault>
+        ensures planned { (calls more : ℕ) → has_room self.old (calls + 1) more →
+            IsAsPlanned (fails (plan self.old)) result × has_room self.new calls more
+            × (file self.new ≡ (if fails (plan self.old) then file self.old else synced (file self.old))) }
+        ensures plan { plan self.new ≡ next (plan self.old) }
+        ensures fails { obeys → IsTrue (fails (plan self.old)) → IsErr result }
+        ensures failed { obeys → OnErr result (file self.new ≡ file self.old) }
+        ensures durable { OnOk result (keeps_model → surface (file self.new) ≡ after_sync (surface (file self.old))) }
+        ensures crash { keeps_model → IsWithin (surface (file self.old)) (surface (file self.new)) }
+        ensures time { Elapses file clock since failures self.old self.new }
+        ensures cause { HasCause (failures self.old) (failures self.new) result };
+
+    /// For tests: of the calls `read_at`, `write_at`, `cut` and `sync`, the one that comes that many calls after the next `write_at`
+    /// (which is 0) fails once; with `None` none does. It does nothing on a real file.
+    fn arm(&mut self, call: Option<u64>)
+        ensures plan { obeys → plan self.new ≡ armed call }
+        ensures room { (calls bytes : ℕ) → has_room self.old calls bytes → has_room self.new calls bytes }
+        ensures same { file self.new ≡ file self.old }
+        ensures failures { failures self.new ≡ failures self.old }
+        ensures time { Elapses file clock since failures self.old self.new };
+
+    /// What is enough for more is enough for less.
+    ghost room_less: { (disk : Self) (calls bytes fewer less : ℕ) → fewer ≤ calls → less ≤ bytes → has_room disk calls bytes → has_room disk fewer less };
+
+    /// This moment is one of those since an earlier one.
+    ghost counts_now: { (disk : Self) (moment : ℕ) (image : List ℕ) → moment ≤ clock disk → MayLeave (surface (file disk)) image → since disk moment image };
+
+    /// What a read gives is one of them.
+    ghost reads_now: { (disk : Self) → MayLeave (surface (file disk)) (surface (file disk)).seen };
+
+    /// Since this moment there is no other.
+    ghost only_now: { (disk : Self) (image : List ℕ) → since disk (clock disk) image → MayLeave (surface (file disk)) image };
+}

@@ -1,0 +1,66 @@
+// For tests: which call of a disk is to fail, and what a crash makes of its changes.
+ghost use Rattle.std.specs.Prelude.{◌≡◌};
+ghost use Rattle.disk.specs.Planned.{fails, next, at_write, armed};
+
+/// Which of the calls `read_at`, `write_at`, `cut` and `sync` is to fail.
+#[derive(Clone, Copy, Debug, PartialEq, Eq)]
+pub enum Plan {
+    /// No call.
+    Never,
+    /// The call that comes so many calls from now: 0 is the next.
+    After(u64),
+    /// The call that comes so many calls after the next write, which is 0.
+    AfterWrite(u64),
+}
+
+impl Plan {
+    /// A call is made that is no write. Answers whether it fails.
+    pub fn call(&mut self) -> bool
+        ensures fails { result ≡ fails self.old }
+        ensures next { self.new ≡ next self.old }
+    {
+        match *self {
+            Plan::Never | Plan::AfterWrite(_) => false,
+            Plan::After(0) => {
+                *self = Plan::Never;
+                true
+            }
+            Plan::After(calls) => {
+                *self = Plan::After(calls - 1);
+                false
+            }
+        }
+    }
+
+    /// A write is made. Answers whether it fails.
+    pub fn write(&mut self) -> bool
+        ensures fails { result ≡ fails (at_write self.old) }
+        ensures next { self.new ≡ next (at_write self.old) }
+    {
+        if let Plan::AfterWrite(calls) = *self {
+            *self = Plan::After(calls);
+        }
+        self.call()
+    }
+
+    /// The plan that `Disk::arm` makes.
+    pub fn armed(call: Option<u64>) -> Plan
+        ensures { result ≡ armed call }
+    {
+        match call {
+            None => Plan::Never,
+            Some(calls) => Plan::AfterWrite(calls),
+        }
+    }
+}
+
+/// What a crash makes of a change that is not synced.
+#[derive(Clone, Copy, Debug, PartialEq, Eq)]
+pub enum Fate {
+    /// It is as if the change had not been made.
+    Old,
+    /// The change is made whole, a failed write too.
+    New,
+    /// Each byte of a write's range is this one. A cut is made.
+    Filled(u8),
+}

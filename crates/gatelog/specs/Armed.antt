@@ -1,0 +1,59 @@
+-- What an append does where a call of the disk is to fail.
+use Rattle.std.specs.Prelude.{◌≡◌, ℕ, ◌+◌, ◌||◌, ◌==◌, nat_le, Bool, true, false, if◌then◌else◌, List, [], ◌∷◌, get_or, Result}
+use Rattle.units.specs.declared.fault.Fault.{Fault}
+use Rattle.disk.specs.declared.plan.Plan.{Plan}
+use Rattle.disk.specs.declared.plan.Fate.{Fate}
+use Rattle.disk.specs.declared.plan.Fate.TheVariants.{Old, New, Filled}
+use Rattle.disk.specs.File.{File, wrote, tried, changed, synced, surface, crashed}
+use Rattle.disk.specs.Planned.{fails, next, at_write}
+use Rattle.gatelog.specs.Placed.{Placed}
+use Rattle.gatelog.specs.Frames.{open_gate}
+use Rattle.gatelog.specs.Log.{log, and_entry}
+
+-- one of a write and the sync behind it fails
+abbrev pub fails_in_two : Plan → Bool
+fails_in_two plan = fails (at_write plan) || fails (next (at_write plan))
+
+-- the plan behind both
+abbrev pub after_two : Plan → Plan
+after_two plan = next (next (at_write plan))
+
+-- the file behind the one that fails, or behind both
+abbrev pub two_made : Plan → ℕ → List ℕ → File → File
+two_made plan at bytes file =
+    if fails (at_write plan) then changed (tried at bytes) file else (if fails (next (at_write plan)) then changed (wrote at bytes) file else synced (changed (wrote at bytes) file))
+
+-- one of the four calls of an append fails
+abbrev pub fails_in_append : Plan → Bool
+fails_in_append plan = fails_in_two plan || fails_in_two (after_two plan)
+
+-- the file behind an append of these bytes, or behind its call that fails
+abbrev pub appended : Plan → ℕ → List ℕ → File → File
+appended plan gate bytes file =
+    if fails_in_two plan then two_made plan (gate + 1) bytes file else two_made (after_two plan) gate (open_gate ∷ []) (two_made plan (gate + 1) bytes file)
+
+-- ---- in terms of the log
+
+-- a read gives the record, where this call fails
+abbrev pub is_read : ℕ → Bool
+is_read call = nat_le 3 call
+
+-- a gate with this fate is open behind a crash
+abbrev pub opens : Fate → Bool
+opens Old = false
+opens New = true
+opens (Filled byte) = byte == open_gate
+
+-- a crash leaves the record, where this call fails and the oldest change that is not synced has this fate
+abbrev pub is_left : ℕ → Fate → Bool
+is_left call fate = if nat_le call 1 then false else (if nat_le call 3 then opens fate else true)
+
+abbrev pub with_if : Bool → Result (List Placed) Fault → Placed → Result (List Placed) Fault
+with_if true entries entry = and_entry entries entry
+with_if false entries entry = entries
+
+-- The log behind an append whose call of this number fails (behind a whole one from number 4 on): as it is read, and as a
+-- crash leaves it.
+pub record IsArmed (call : ℕ) (entries : Result (List Placed) Fault) (entry : Placed) (file : File) : Type 0 where
+  pub read : log (surface file).seen ≡ with_if (is_read call) entries entry
+  pub left : (fates : List Fate) → log (crashed fates file) ≡ with_if (is_left call (get_or fates 0 Old)) entries entry

@@ -1,0 +1,15 @@
+-- What a contract sees of an open log.
+use Rattle.std.specs.Prelude.{ℕ, Bool}
+use Rattle.gatelog.specs.declared.gatelog.GateLog.{GateLog}
+
+-- the disk that holds its file
+abbrev pub disk_of : {D : Type 0} {g : _} → GateLog D g → D
+disk_of log = log.disk
+
+-- the offset of the closed gate behind its last record
+abbrev pub gate_at : {D : Type 0} {g : _} → GateLog D g → ℕ
+gate_at log = log.gate
+
+-- a device call failed in it
+abbrev pub is_stopped : {D : Type 0} {g : _} → GateLog D g → Bool
+is_stopped log = log.stopped

@@ -1,0 +1,26 @@
+//! One change that is synced.
+ghost use Rattle.std.specs.Prelude.{◌≡◌, ◌≤◌, ◌<◌, length, OnOk, ℕ, ◌+◌};
+ghost use Rattle.disk.specs.Image.{MayLeave, after_write, after_sync, tried_write};
+ghost use Rattle.disk.specs.File.{surface};
+ghost use Rattle.disk.specs.Planned.{IsAsPlanned};
+ghost use Rattle.gatelog.specs.Armed.{fails_in_two, after_two, two_made};
+ghost use Rattle.disk.specs.Moments.{LeavesOnly, HasCause};
+
+use disk::Disk;
+use units::Fault;
+
+/// Writes, and syncs.
+pub fn write_and_sync<D: Disk>(disk: &mut D, at: u64, bytes: &[u8]) -> Result<(), Fault>
+    requires { D.keeps_model → at ≤ length (surface (D.file disk.old)).seen }
+    ensures planned { (calls more : ℕ) → D.has_room disk.old (calls + 2) (length bytes.now + more) →
+        IsAsPlanned (fails_in_two (D.plan disk.old)) result × OnOk result (D.has_room disk.new calls more)
+        × (D.file disk.new ≡ two_made (D.plan disk.old) at bytes.now (D.file disk.old)) }
+    ensures plan { OnOk result (D.plan disk.new ≡ after_two (D.plan disk.old)) }
+    ensures done { OnOk result (D.keeps_model → surface (D.file disk.new) ≡ after_sync (after_write at bytes.now (surface (D.file disk.old)))) }
+    ensures crash { D.keeps_model → LeavesOnly D.clock D.since disk.old disk.new (MayLeave (tried_write at (length bytes.now) (surface (D.file disk.old)))) }
+    ensures failures_stay { D.failures disk.old ≤ D.failures disk.new }
+    ensures cause { HasCause (D.failures disk.old) (D.failures disk.new) result }
+{
+    disk.write_at(at, bytes)?;
+    disk.sync()
+}

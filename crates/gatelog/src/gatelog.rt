@@ -1,0 +1,236 @@
+//! The log. A closed gate stands behind the last frame, on the disk before anything is written behind it. It is opened by
+//! a write of its own, once the frame behind it is on the disk.
+ghost use Rattle.std.specs.Prelude.{◌≡◌, ◌⊎◌, ◌+◌, ◌≤◌, ◌<◌, ◌^◌, ◌++◌, [], ◌∷◌, length, IsTrue, IsFalse, IfOk, IfErr, IsOk, OnOk, ℕ, nat_lt, Ok, Err};
+ghost use Rattle.std.specs.Int.{w32, to_be_bytes};
+ghost use Rattle.disk.specs.Image.{MayLeave, IsSynced, after_sync};
+ghost use Rattle.disk.specs.File.{surface, synced};
+ghost use Rattle.disk.specs.declared.plan.Plan.TheVariants.{Never, AfterWrite};
+ghost use Rattle.disk.specs.Planned.{IsAsPlanned, armed};
+ghost use Rattle.disk.specs.Moments.{LeavesOnly, HasCause};
+ghost use Rattle.gatelog.specs.Armed.{fails_in_append, appended, IsArmed};
+ghost use Rattle.gatelog.specs.Crash.{Stands, IsOldOrWith};
+ghost use Rattle.gatelog.specs.Frames.{next_gate, staged_bytes};
+ghost use Rattle.gatelog.specs.Log.{log, and_entry, ends_at};
+
+use crate::change::write_and_sync;
+use crate::opening::{entries_of, read_synced};
+use crate::token::{Entry, Logged, Staged};
+use byteorder::{BigEndian, ByteOrder};
+use disk::Disk;
+use record::{Record, encode, encoded_len};
+use std::alloc::Global;
+use units::Fault;
+
+const HEADER_AND_GATE: [u8; 9] = [0x53, 0x50, 0x4e, 0x4c, 0x4f, 0x47, 0x30, 0x31, 0];
+
+/// The log in a file on a disk. Once a device call has failed in it, it is stopped: it takes no record, and only
+/// `into_disk` and another opening go on.
+#[derive(Drop)]
+pub struct GateLog<D: Disk> {
+    disk: D,
+    gate: u64,
+    stopped: bool,
+    ghost small: { gate < 2 ^ 64 },
+    ghost synced: { IsFalse stopped → D.keeps_model → IsSynced (surface (D.file disk)) },
+    ghost whole: { IsFalse stopped → D.keeps_model → IsTrue (ends_at (surface (D.file disk)).seen gate) },
+}
+
+fn cut_and_write<D: Disk>(disk: &mut D) -> Result<(), Fault>
+    ensures done { OnOk result (D.keeps_model → ((surface (D.file disk.new)).seen ≡ HEADER_AND_GATE) × IsSynced (surface (D.file disk.new))) }
+    // With room for three changes, and no call armed, the device does not fail.
+    ensures planned { D.has_room disk.old 3 9 → D.plan disk.old ≡ Never → IsOk result × (D.plan disk.new ≡ Never) }
+    ensures failures_stay { D.failures disk.old ≤ D.failures disk.new }
+    ensures cause { HasCause (D.failures disk.old) (D.failures disk.new) result }
+{
+    disk.cut(0)?;
+    write_and_sync(disk, 0, &HEADER_AND_GATE)
+}
+
+// What an append writes behind the closed gate.
+fn bytes_behind(alloc: Global, body: &[u8]) -> Result<Vec<u8>, Fault>
+    requires { length body.now < 2 ^ 32 }
+    ensures bytes { IfOk result (λ bytes. bytes.items ≡ (to_be_bytes w32 (length body.now) ++ body.now) ++ 0 ∷ []) }
+    ensures memory { IfErr result (λ fault. fault ≡ Fault.Memory) }
+{
+    let mut count = [0; 4];
+    BigEndian::write_u32(&mut count, body.len() as u32);
+    let mut bytes = Vec::new(alloc);
+    bytes.extend_from_slice(&count)?;
+    bytes.extend_from_slice(body)?;
+    bytes.push(0)?;
+    Ok(bytes)
+}
+
+impl<D: Disk> GateLog<D> {
+    ghost use Rattle.gatelog.specs.Shown.{disk_of, gate_at, is_stopped};
+
+    /// Makes an empty log of a file, whatever was in it. Refused for `Memory`, the file is as it was.
+    pub fn format(disk: D) -> Result<GateLog<D>, (Fault, D)>
+        // From then on every crash leaves the empty log, and a read gives it.
+        ensures empty { IfOk result (λ made. D.keeps_model → Stands (surface (D.file (disk_of made))) (Ok [])) }
+        ensures read { IfOk result (λ made. D.keeps_model → log (surface (D.file (disk_of made))).seen ≡ Ok []) }
+        ensures running { IfOk result (λ made. IsFalse (is_stopped made)) }
+        ensures failures_stay { IfOk result (λ made. D.failures disk ≤ D.failures (disk_of made)) }
+        ensures cause { IfErr result (λ refused. ((refused.0 ≡ Fault.Memory) × (D.file refused.1 ≡ D.file disk) × (D.plan refused.1 ≡ D.plan disk))
+            ⊎ ((refused.0 ≡ Fault.Device) × (D.failures disk < D.failures refused.1))) }
+        // With no call armed, the device does not fail: it is made, or memory was refused.
+        ensures planned { D.obeys → D.plan disk ≡ Never → IfOk result (λ made. D.plan (disk_of made) ≡ Never) × IfErr result (λ refused. refused.0 ≡ Fault.Memory) }
+    {
+        let mut disk = disk;
+        if let Err(fault) = disk.reserve(9) {
+            return Err((fault, disk));
+        }
+        if let Err(fault) = cut_and_write(&mut disk) {
+            return Err((fault, disk));
+        }
+        Ok(GateLog {
+            disk,
+            gate: 8,
+            stopped: false,
+        })
+    }
+
+    /// Takes up the log of a file: its entries in order. It syncs before it reads. `NotALog` where the file does not
+    /// begin with the header, and `Damaged` at the gate where a frame is due and none is whole.
+    pub fn open(alloc: Global, disk: D) -> Result<(GateLog<D>, Vec<Entry>), (Fault, D)>
+        ensures entries { IfOk result (λ opened. D.keeps_model → log (surface (D.file disk)).seen ≡ Ok opened.1.items) }
+        ensures running { IfOk result (λ opened. IsFalse (is_stopped opened.0)) }
+        ensures synced { IfOk result (λ opened. D.keeps_model → surface (D.file (disk_of opened.0)) ≡ after_sync (surface (D.file disk))) }
+        // A crash at any moment of the call leaves no more than one before it.
+        ensures any_moment { IfOk result (λ opened. D.keeps_model → LeavesOnly D.clock D.since disk (disk_of opened.0) (MayLeave (surface (D.file disk)))) }
+        ensures refused_moment { IfErr result (λ refused. D.keeps_model → LeavesOnly D.clock D.since disk refused.1 (MayLeave (surface (D.file disk)))) }
+        ensures cause { IfErr result (λ refused. (refused.0 ≡ Fault.Memory)
+            ⊎ (((refused.0 ≡ Fault.Device) × (D.failures disk < D.failures refused.1))
+            ⊎ (D.keeps_model → log (surface (D.file disk)).seen ≡ Err refused.0))) }
+        ensures failures_stay { IfOk result (λ opened. D.failures disk ≤ D.failures (disk_of opened.0)) }
+
+        // With no call armed, the device does not fail.
+        ensures planned { D.obeys → D.plan disk ≡ Never → IfOk result (λ opened. (D.plan (disk_of opened.0) ≡ Never) × (D.file (disk_of opened.0) ≡ synced (D.file disk))) }
+        ensures refused_planned { D.obeys → D.plan disk ≡ Never → IfErr result (λ refused. ((D.file refused.1 ≡ D.file disk) ⊎ (D.file refused.1 ≡ synced (D.file disk)))
+            × ((refused.0 ≡ Fault.Memory) ⊎ (D.keeps_model → log (surface (D.file disk)).seen ≡ Err refused.0))) }
+    {
+        let mut disk = disk;
+        let image = match read_synced(alloc, &mut disk) {
+            Ok(image) => image,
+            Err(fault) => return Err((fault, disk)),
+        };
+        match entries_of(alloc, &image) {
+            Ok((entries, gate)) => Ok((
+                GateLog {
+                    disk,
+                    gate,
+                    stopped: false,
+                },
+                entries,
+            )),
+            Err(fault) => Err((fault, disk)),
+        }
+    }
+
+    /// A device call has failed in it.
+    pub fn is_stopped(&self) -> bool
+        ensures value { result ≡ is_stopped self.now }
+        // Between two calls every crash leaves the log that a read gives.
+        ensures stands { IsFalse result → D.keeps_model → Stands (surface (D.file (disk_of self.now))) (log (surface (D.file (disk_of self.now))).seen) }
+    {
+        self.stopped
+    }
+
+    /// Takes all the memory that an append of this record needs, the disk's too. `TimeSpent` where the file would grow
+    /// beyond 2^40 bytes.
+    pub fn stage(&mut self, alloc: Global, record: &Record) -> Result<Staged, Fault>
+        ensures staged { IfOk result (λ staged. (staged.offset ≡ gate_at self.old) × (staged.item ≡ «record».now)) }
+        ensures running { OnOk result (IsFalse (is_stopped self.old) × (next_gate (gate_at self.old) «record».now + 1 ≤ 2 ^ 40)) }
+        ensures room { OnOk result (D.obeys → D.has_room (disk_of self.new) 4 (length (staged_bytes «record».now) + 1)) }
+        ensures plan { D.plan (disk_of self.new) ≡ D.plan (disk_of self.old) }
+        ensures same { (gate_at self.new ≡ gate_at self.old) × (is_stopped self.new ≡ is_stopped self.old) × (D.file (disk_of self.new) ≡ D.file (disk_of self.old)) }
+        ensures failures_stay { D.failures (disk_of self.old) ≤ D.failures (disk_of self.new) }
+        ensures time { LeavesOnly D.clock D.since (disk_of self.old) (disk_of self.new) (MayLeave (surface (D.file (disk_of self.old)))) }
+        ensures cause { IfErr result (λ fault. ((fault ≡ Fault.Stopped) × IsTrue (is_stopped self.old))
+            ⊎ (((fault ≡ Fault.TimeSpent) × IsFalse (is_stopped self.old) × (2 ^ 40 < next_gate (gate_at self.old) «record».now + 1))
+            ⊎ ((fault ≡ Fault.Memory) × IsFalse (is_stopped self.old) × (next_gate (gate_at self.old) «record».now + 1 ≤ 2 ^ 40)))) }
+    {
+        if self.stopped {
+            return Err(Fault::Stopped);
+        }
+        let size = encoded_len(record) + 6;
+        if self.gate > 1 << 40 || size > (1 << 40) - self.gate {
+            return Err(Fault::TimeSpent);
+        }
+        let body = encode(alloc, record)?;
+        let bytes = bytes_behind(alloc, &body)?;
+        let item = record.copy(alloc)?;
+        self.disk.reserve(size)?;
+        Ok(Staged {
+            gate: self.gate,
+            item,
+            bytes,
+        })
+    }
+
+    /// Puts a record that was staged behind the last one. It takes no memory. After a refusal the log is stopped.
+    pub fn append(&mut self, staged: Staged) -> Result<Logged, Fault>
+        // No append came between.
+        requires { staged.offset ≡ gate_at self.old }
+
+        // A crash at any moment of the call leaves the old log, or the old log with the record.
+        ensures any_moment { IsFalse (is_stopped self.old) → D.keeps_model →
+            LeavesOnly D.clock D.since (disk_of self.old) (disk_of self.new) (IsOldOrWith (log (surface (D.file (disk_of self.old))).seen) staged) }
+
+        // From then on every crash leaves the log with the record, and a read gives it.
+        ensures durable { OnOk result (D.keeps_model →
+            Stands (surface (D.file (disk_of self.new))) (and_entry (log (surface (D.file (disk_of self.old))).seen) staged)) }
+        ensures read { OnOk result (D.keeps_model →
+            log (surface (D.file (disk_of self.new))).seen ≡ and_entry (log (surface (D.file (disk_of self.old))).seen) staged) }
+
+        // A read gives one of the two in any case.
+        ensures read_either { IsFalse (is_stopped self.old) → D.keeps_model → IsOldOrWith (log (surface (D.file (disk_of self.old))).seen) staged (surface (D.file (disk_of self.new))).seen }
+
+        ensures names { IfOk result (λ logged. (logged ≡ staged.item) × IsFalse (is_stopped self.old) × IsFalse (is_stopped self.new)) }
+        ensures failures_stay { D.failures (disk_of self.old) ≤ D.failures (disk_of self.new) }
+        ensures cause { IfErr result (λ fault. ((fault ≡ Fault.Stopped) × IsTrue (is_stopped self.old) × (self.new ≡ self.old))
+            ⊎ ((fault ≡ Fault.Device) × IsFalse (is_stopped self.old) × (D.failures (disk_of self.old) < D.failures (disk_of self.new)) × IsTrue (is_stopped self.new))) }
+
+        // With a call armed, counted from 0: what a read gives then, and what a crash leaves by each choice.
+        ensures armed { (call : ℕ) → IsFalse (is_stopped self.old) → D.keeps_model → D.has_room (disk_of self.old) 4 (length (staged_bytes staged.item) + 1) → D.plan (disk_of self.old) ≡ AfterWrite call →
+            IsAsPlanned (nat_lt call 4) result × IsArmed call (log (surface (D.file (disk_of self.old))).seen) staged (D.file (disk_of self.new)) }
+
+        // It needs no more than was reserved: with it, it fails only by the disk's plan.
+        ensures planned { IsFalse (is_stopped self.old) → D.has_room (disk_of self.old) 4 (length (staged_bytes staged.item) + 1) →
+            IsAsPlanned (fails_in_append (D.plan (disk_of self.old))) result
+            × (D.file (disk_of self.new) ≡ appended (D.plan (disk_of self.old)) staged.offset (staged_bytes staged.item) (D.file (disk_of self.old))) }
+    {
+        if self.stopped {
+            return Err(Fault::Stopped);
+        }
+        let Staged { gate, item, bytes } = staged;
+        self.stopped = true;
+        write_and_sync(&mut self.disk, gate + 1, &bytes)?;
+        write_and_sync(&mut self.disk, gate, &[0xa5])?;
+        self.gate = gate + bytes.len() as u64;
+        self.stopped = false;
+        Ok(Logged::new(item))
+    }
+
+    /// For tests: the device call that comes that many calls after the next append begins fails once, or none does.
+    pub fn arm(&mut self, call: Option<u64>)
+        ensures plan { D.obeys → D.plan (disk_of self.new) ≡ armed call }
+        ensures room { (calls bytes : ℕ) → D.has_room (disk_of self.old) calls bytes → D.has_room (disk_of self.new) calls bytes }
+        ensures same { (gate_at self.new ≡ gate_at self.old) × (is_stopped self.new ≡ is_stopped self.old) × (D.file (disk_of self.new) ≡ D.file (disk_of self.old)) × (D.failures (disk_of self.new) ≡ D.failures (disk_of self.old)) }
+        ensures time { LeavesOnly D.clock D.since (disk_of self.old) (disk_of self.new) (MayLeave (surface (D.file (disk_of self.old)))) }
+    {
+        self.disk.arm(call);
+    }
+
+    /// The disk as it is.
+    pub fn into_disk(self) -> D
+        ensures { result ≡ disk_of self }
+    {
+        let GateLog {
+            disk,
+            gate: _,
+            stopped: _,
+        } = self;
+        disk
+    }
+}

@@ -1,0 +1,13 @@
+//! The log of a shard: records in a file, each whole or absent after a crash.
+#![tactic(auto)]
+
+mod change;
+mod gatelog;
+mod opening;
+mod token;
+
+pub use gatelog::GateLog;
+pub use token::{Entry, Logged, Staged};
+
+#[cfg(test)]
+mod tests;

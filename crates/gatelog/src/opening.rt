@@ -1,0 +1,89 @@
+//! Reading a log from its file.
+ghost use Rattle.std.specs.Prelude.{◌≡◌, ◌⊎◌, ◌<◌, ◌≤◌, ◌+◌, ℕ, Ok, Err, length, IfOk, IfErr, IfSome, OnOk, MatchResult};
+ghost use Rattle.disk.specs.Image.{MayLeave, after_sync};
+ghost use Rattle.disk.specs.declared.plan.Plan.TheVariants.{Never};
+ghost use Rattle.disk.specs.File.{surface, synced};
+ghost use Rattle.disk.specs.Moments.{LeavesOnly};
+ghost use Rattle.gatelog.specs.Log.{framed, scan};
+
+use crate::token::Entry;
+use byteorder::{BigEndian, ByteOrder};
+use disk::Disk;
+use record::{Record, decode};
+use std::alloc::Global;
+use units::Fault;
+
+const HEADER: [u8; 8] = [0x53, 0x50, 0x4e, 0x4c, 0x4f, 0x47, 0x30, 0x31];
+
+// The record behind an open gate, and how many bytes it takes there.
+#[tactic(auto, unfolding(crate::specs::Log::framed))]
+fn frame_of(alloc: Global, bytes: &[u8]) -> Result<Option<(Record, usize)>, Fault>
+    ensures read { MatchResult result (λ found. framed bytes.now ≡ found) (λ fault. fault ≡ Fault.Memory) }
+    ensures fits { IfOk result (λ found. IfSome found (λ frame. frame.1 ≤ length bytes.now)) }
+{
+    if bytes.len() < 4 {
+        return Ok(None);
+    }
+    let (front, rest) = bytes.split_at(4);
+    let count = BigEndian::read_u32(front) as usize;
+    if count < 1 || count > 1 << 20 || rest.len() < count {
+        return Ok(None);
+    }
+    let (body, _) = rest.split_at(count);
+    match decode(alloc, body) {
+        Ok(Some(item)) => Ok(Some((item, 4 + count))),
+        Ok(None) => Ok(None),
+        Err(fault) => Err(fault),
+    }
+}
+
+/// The entries of a file, and the offset of its closed gate.
+pub fn entries_of(alloc: Global, image: &[u8]) -> Result<(Vec<Entry>, u64), Fault>
+    ensures found { IfOk result (λ found. scan image.now ≡ Ok (found.0.items, found.1)) }
+    ensures refused { IfErr result (λ fault. (fault ≡ Fault.Memory) ⊎ (scan image.now ≡ Err fault)) }
+{
+    if image.len() < 8 {
+        return Err(Fault::NotALog);
+    }
+    let (front, _) = image.split_at(8);
+    if front != HEADER.as_slice() {
+        return Err(Fault::NotALog);
+    }
+    let mut entries = Vec::new(alloc);
+    let mut at = 8;
+    while at < image.len() {
+        if image[at] != 0xa5 {
+            return Ok((entries, at as u64));
+        }
+        let offset = at as u64;
+        match frame_of(alloc, &image[at + 1..]) {
+            Ok(Some((item, count))) => {
+                entries.push(Entry::new(offset, item))?;
+                at += 1 + count;
+            }
+            Ok(None) => return Err(Fault::Damaged { offset }),
+            Err(fault) => return Err(fault),
+        }
+    }
+    Err(Fault::Damaged { offset: at as u64 })
+}
+
+/// The bytes of a file, synced.
+pub fn read_synced<D: Disk>(alloc: Global, disk: &mut D) -> Result<Vec<u8>, Fault>
+    ensures synced { OnOk result (D.keeps_model → surface (D.file disk.new) ≡ after_sync (surface (D.file disk.old))) }
+    ensures bytes { IfOk result (λ image. D.keeps_model → image.items ≡ (surface (D.file disk.old)).seen) }
+    ensures crash { D.keeps_model → LeavesOnly D.clock D.since disk.old disk.new (MayLeave (surface (D.file disk.old))) }
+    // With no call armed, only memory is refused.
+    ensures memory { D.obeys → D.plan disk.old ≡ Never → IfErr result (λ fault. fault ≡ Fault.Memory) }
+    ensures plan { D.obeys → D.plan disk.old ≡ Never → D.plan disk.new ≡ Never }
+    ensures file { D.obeys → D.plan disk.old ≡ Never → OnOk result (D.file disk.new ≡ synced (D.file disk.old)) }
+    ensures file_either { D.obeys → D.plan disk.old ≡ Never → (D.file disk.new ≡ D.file disk.old) ⊎ (D.file disk.new ≡ synced (D.file disk.old)) }
+    ensures failures_stay { D.failures disk.old ≤ D.failures disk.new }
+    ensures cause { IfErr result (λ fault. (fault ≡ Fault.Memory) ⊎ ((fault ≡ Fault.Device) × (D.failures disk.old < D.failures disk.new))) }
+{
+    disk.reserve(0)?;
+    disk.sync()?;
+    let mut image = Vec::from_elem(alloc, 0, disk.len() as usize)?;
+    disk.read_at(0, &mut image)?;
+    Ok(image)
+}

@@ -1,0 +1,103 @@
+//! What a log hands out.
+ghost use Rattle.std.specs.Prelude.{◌≡◌};
+
+use record::Record;
+use std::marker::Model;
+
+/// A record that a log holds, and where.
+#[derive(Drop)]
+pub struct Entry {
+    offset: u64,
+    item: Record,
+}
+
+impl Model for Entry {
+    ghost use Rattle.gatelog.specs.Placed.{Placed};
+
+    ghost Value = { Placed };
+
+    ghost view = { λ e. record { offset = e.offset; item = e.item } };
+
+    ghost inverse = { λ p. record { offset = p.offset; item = p.item } };
+}
+
+impl Entry {
+    pub(crate) fn new(offset: u64, item: Record) -> Entry
+        ensures { result ≡ record { offset = offset; item = item } }
+    {
+        Entry { offset, item }
+    }
+
+    /// The offset of its gate in the file.
+    pub fn offset(&self) -> u64
+        ensures { result ≡ self.now.offset }
+    {
+        self.offset
+    }
+
+    /// Its record.
+    pub fn item(&self) -> &Record
+        ensures { result.now ≡ self.now.item }
+    {
+        &self.item
+    }
+}
+
+/// A record that is ready to be appended at one place, with all the memory that this takes.
+#[derive(Drop)]
+pub struct Staged {
+    pub(crate) gate: u64,
+    pub(crate) item: Record,
+    pub(crate) bytes: Vec<u8>,
+}
+
+impl Model for Staged {
+    ghost use Rattle.std.specs.Prelude.{◌≡◌, ◌≤◌, ◌^◌, ◌+◌};
+    ghost use Rattle.gatelog.specs.Placed.{Placed};
+    ghost use Rattle.gatelog.specs.Frames.{staged_bytes, next_gate};
+    ghost use Rattle.record.specs.Grammar.{IsRecord};
+
+    ghost Value = { Placed };
+
+    ghost view = { λ s. record { offset = s.gate; item = s.item } };
+
+    ghost invariant = { λ s. (s.bytes.items ≡ staged_bytes s.item) × IsRecord s.item × (next_gate s.gate s.item + 1 ≤ 2 ^ 40) };
+}
+
+/// A record that stands in the log for good. Only an append makes it, and it has to be spent.
+pub struct Logged {
+    item: Record,
+}
+
+impl Model for Logged {
+    ghost use Rattle.record.specs.declared.record.Record.{Record};
+
+    ghost Value = { Record };
+
+    ghost view = { λ l. l.item };
+
+    ghost inverse = { λ r. record { item = r } };
+}
+
+impl Logged {
+    pub(crate) fn new(item: Record) -> Logged
+        ensures { result ≡ item }
+    {
+        Logged { item }
+    }
+
+    /// Its record.
+    pub fn item(&self) -> &Record
+        ensures { result.now ≡ self.now }
+    {
+        &self.item
+    }
+
+    /// Spends the token.
+    pub fn spend(self) -> Record
+        ensures { result ≡ self }
+    {
+        let Logged { item } = self;
+        item
+    }
+}

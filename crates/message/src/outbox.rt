@@ -1,0 +1,54 @@
+//! The messages that one step puts out.
+ghost use Rattle.std.specs.Prelude.{◌≡◌, []};
+
+use crate::Envelope;
+use std::alloc::Global;
+use std::marker::Model;
+
+/// The messages that a step puts out, in order.
+#[derive(Debug, Drop)]
+pub struct Outbox {
+    envelopes: Vec<Envelope>,
+}
+
+impl Model for Outbox {
+    ghost use Rattle.std.specs.Prelude.{List};
+    ghost use Rattle.message.specs.declared.message.Envelope.{Envelope};
+
+    ghost Value = { List Envelope };
+
+    ghost view = { λ o. o.envelopes.items };
+}
+
+impl Outbox {
+    /// No message.
+    pub fn none(alloc: Global) -> Outbox
+        ensures { result ≡ [] }
+    {
+        Outbox {
+            envelopes: Vec::new(alloc),
+        }
+    }
+
+    /// The messages of a list.
+    pub fn from_vec(envelopes: Vec<Envelope>) -> Outbox
+        ensures { result ≡ envelopes.items }
+    {
+        Outbox { envelopes }
+    }
+
+    /// The messages in order.
+    pub fn as_slice(&self) -> &[Envelope]
+        ensures { result.now ≡ self.now }
+    {
+        self.envelopes.as_slice()
+    }
+
+    /// The messages as a plain list.
+    pub fn into_vec(self) -> Vec<Envelope>
+        ensures { result.items ≡ self }
+    {
+        let Outbox { envelopes } = self;
+        envelopes
+    }
+}

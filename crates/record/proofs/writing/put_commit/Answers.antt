@@ -1,0 +1,14 @@
+use Rattle.std.proofs.Common.{◌++◌, ℕ, ap, ◌∙◌}
+use Rattle.std.specs.Int.{w64, to_be_bytes}
+use Rattle.record.specs.Grammar.{id_spelling, parts_spelling, keys_spelling, writes_spelling}
+use Rattle.record.proofs.Put.{five_put}
+use Rattle.record.proofs.writing.put_commit.Goals as goal
+
+pub returns-clause-ok : goal.returns-clause-ok
+returns-clause-ok c =
+    let committed = c.args.c.now in
+    five_put c.args.out.now.items (id_spelling committed.txn) (to_be_bytes w64 committed.at) (parts_spelling committed.parts) (keys_spelling committed.reads) (writes_spelling committed.writes)
+    c.put_id.new.out.items c.put_u64.new.out.items c.put_parts.new.out.items c.put_keys.new.out.items c.put_writes.new.out.items
+    c.in_ok-put_id.ensures.ok
+    (c.in_ok-put_u64.ensures.ok ∙ ap (λ (n : ℕ). c.put_id.new.out.items ++ to_be_bytes w64 n) c.micros.ensures.same)
+    c.in_ok-put_parts.ensures.ok c.in_ok-put_keys.ensures.ok c.in_ok-put_writes.ensures.ok

@@ -1,0 +1,15 @@
+use Rattle.std.proofs.Common.{◌++◌, ℕ, ap, ◌∙◌}
+use Rattle.std.specs.Int.{w64, to_be_bytes}
+use Rattle.record.specs.Grammar.{id_spelling, shard_spelling, keys_spelling, writes_spelling}
+use Rattle.record.proofs.Put.{five_put}
+use Rattle.record.proofs.writing.put_prepare.Goals as goal
+
+pub returns-clause-ok : goal.returns-clause-ok
+returns-clause-ok c =
+    let prepared = c.args.p.now in
+    five_put c.args.out.now.items (id_spelling prepared.txn) (shard_spelling prepared.coordinator) (to_be_bytes w64 prepared.at) (keys_spelling prepared.reads) (writes_spelling prepared.writes)
+    c.put_id.new.out.items c.push.new.self.items c.put_u64.new.out.items c.put_keys.new.out.items c.put_writes.new.out.items
+    c.in_ok-put_id.ensures.ok
+    (c.in_ok-push.ensures.items ∙ ap (λ (n : ℕ). c.put_id.new.out.items ++ shard_spelling n) c.number.ensures.same)
+    (c.in_ok-put_u64.ensures.ok ∙ ap (λ (n : ℕ). c.push.new.self.items ++ to_be_bytes w64 n) c.micros.ensures.same)
+    c.in_ok-put_keys.ensures.ok c.in_ok-put_writes.ensures.ok

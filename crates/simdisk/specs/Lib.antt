@@ -1,0 +1,4 @@
+pub mod Replay
+pub mod Held
+pub mod Moments
+pub mod State

@@ -1,0 +1,26 @@
+// A change that is not synced.
+ghost use Rattle.std.specs.Prelude.{◌≡◌};
+
+/// The bytes of writes are kept elsewhere, one behind another.
+#[derive(Clone, Copy, Debug, PartialEq, Eq)]
+pub enum Change {
+    /// A write that succeeded.
+    Write { at: u64, count: u64 },
+    /// A write that failed. A read does not see it, but a crash may.
+    Tried { at: u64, count: u64 },
+    Cut { len: u64 },
+}
+
+impl Change {
+    ghost use Rattle.simdisk.specs.Replay.{size};
+
+    /// How many bytes it has in the store.
+    pub fn count(&self) -> usize
+        ensures { result ≡ size self.now }
+    {
+        match *self {
+            Change::Write { at: _, count } | Change::Tried { at: _, count } => count as usize,
+            Change::Cut { len: _ } => 0,
+        }
+    }
+}

@@ -1,0 +1,107 @@
+// What a crash makes of the changes that are not synced, in memory that is there.
+ghost use Rattle.std.specs.Prelude.{◌≡◌, ◌+◌, ◌≤◌, max, length, get_or, replicate, vec_len, vec_capacity};
+ghost use Rattle.disk.specs.Image.{with_bytes};
+ghost use Rattle.disk.specs.File.{laid, by_fate, crashed, wrote, tried};
+ghost use Rattle.simdisk.specs.Replay.{kept, file_of, total, furthest, size, end_of, made};
+
+use crate::change::Change;
+use disk::Fate;
+
+/// Writes over a list of bytes, and past its end.
+pub fn put(image: &mut Vec<u8>, at: usize, bytes: &[u8])
+    requires within { at ≤ vec_len image.old }
+    requires room { at + length bytes.now ≤ vec_capacity image.old }
+    ensures items { image.new.items ≡ with_bytes at bytes.now image.old.items }
+    ensures len { vec_len image.new ≡ max (vec_len image.old) (at + length bytes.now) }
+    ensures capacity { vec_capacity image.old ≤ vec_capacity image.new }
+{
+    let over = bytes.len().min(image.len() - at);
+    image[at..at + over].copy_from_slice(&bytes[..over]);
+    image.extend_from_slice(&bytes[over..]).unwrap();
+}
+
+/// Writes bytes at an offset that may lie past the end: zeros stand between.
+fn lay(image: &mut Vec<u8>, at: usize, bytes: &[u8])
+    requires { at + length bytes.now ≤ vec_capacity image.old }
+    ensures items { image.new.items ≡ laid at bytes.now image.old.items }
+    ensures len { vec_len image.new ≡ max (vec_len image.old) (at + length bytes.now) }
+    ensures capacity { vec_capacity image.old ≤ vec_capacity image.new }
+{
+    if image.len() < at {
+        image.resize(at, 0).unwrap();
+    }
+    put(image, at, bytes);
+}
+
+/// Makes each byte of a range the same.
+fn fill(image: &mut Vec<u8>, at: usize, count: usize, byte: u8)
+    requires { at + count ≤ vec_len image.old }
+    ensures items { image.new.items ≡ with_bytes at (replicate count byte) image.old.items }
+    ensures len { vec_len image.new ≡ vec_len image.old }
+    ensures capacity { vec_capacity image.old ≤ vec_capacity image.new }
+{
+    image[at..at + count].fill(byte);
+}
+
+fn write_by_fate(image: &mut Vec<u8>, at: usize, bytes: &[u8], fate: Fate)
+    requires { at + length bytes.now ≤ vec_capacity image.old }
+    ensures wrote { image.new.items ≡ by_fate fate (wrote at bytes.now) image.old.items }
+    ensures tried { image.new.items ≡ by_fate fate (tried at bytes.now) image.old.items }
+    ensures len { vec_len image.new ≤ max (vec_len image.old) (at + length bytes.now) }
+    ensures capacity { vec_capacity image.old ≤ vec_capacity image.new }
+{
+    match fate {
+        Fate::Old => {}
+        Fate::New => lay(image, at, bytes),
+        Fate::Filled(byte) => {
+            lay(image, at, bytes);
+            fill(image, at, bytes.len(), byte);
+        }
+    }
+}
+
+fn change_by_fate(image: &mut Vec<u8>, change: Change, bytes: &[u8], fate: Fate)
+    requires bytes { length bytes.now ≡ size change }
+    requires room { end_of change ≤ vec_capacity image.old }
+    ensures image { image.new.items ≡ by_fate fate (made change bytes.now) image.old.items }
+    ensures len { vec_len image.new ≤ max (vec_len image.old) (end_of change) }
+    ensures capacity { vec_capacity image.old ≤ vec_capacity image.new }
+{
+    match change {
+        Change::Write { at, count: _ } | Change::Tried { at, count: _ } => {
+            write_by_fate(image, at as usize, bytes, fate)
+        }
+        Change::Cut { len } => {
+            if fate != Fate::Old {
+                image.truncate(len as usize);
+            }
+        }
+    }
+}
+
+fn fate_of(fates: &[Fate], place: usize) -> Fate
+    ensures { result ≡ get_or fates.now place Fate.Old }
+{
+    if place < fates.len() {
+        fates[place]
+    } else {
+        Fate::Old
+    }
+}
+
+/// Turns what the last sync left into what a crash leaves of it and the changes since.
+pub fn tear(image: &mut Vec<u8>, changes: &[Change], store: &[u8], fates: &[Fate])
+    requires stored { total changes.now ≡ length store.now }
+    requires room { furthest changes.now ≤ vec_capacity image.old }
+    ensures image { image.new.items ≡ crashed fates.now (file_of (kept image.old.items changes.now store.now)) }
+    ensures len { vec_len image.new ≤ max (vec_len image.old) (furthest changes.now) }
+    ensures capacity { vec_capacity image.old ≤ vec_capacity image.new }
+{
+    let mut rest = store;
+    for (made, change) in changes.iter().enumerate() {
+        let (bytes, after) = rest.split_at(change.count());
+        let fate = fate_of(fates, made);
+        change_by_fate(image, *change, bytes, fate);
+        rest = after;
+    }
+}
