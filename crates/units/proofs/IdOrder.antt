@@ -1,8 +1,6 @@
 -- Ids that are put in their places one by one stand in one list, whatever the turn.
-use Rattle.std.proofs.Common.{refl, sym, ◌∙◌, ap, subst, arith}
-use Rattle.std.proofs.lemmas.Bool.{eqb-true}
-use Rattle.std.proofs.lemmas.Bool.Decides.{nat_tests}
-use Rattle.std.specs.Prelude.{ℕ, ◌≡◌, Bool, true, false, cond, ◌&&◌, ◌||◌, nat_eq, nat_lt, List, [], ◌∷◌, ◌++◌}
+use Rattle.std.proofs.Common.{refl, sym, ◌∙◌, ap, subst}
+use Rattle.std.specs.Prelude.{◌≡◌, Bool, true, false, cond, ◌&&◌, ◌||◌, List, [], ◌∷◌, ◌++◌}
 use Rattle.units.proofs.IdLaws.{same_id-is, same_id-refl, same_id_comm, older_total, older_not_younger, older_not_same, older-trans}
 use Rattle.units.specs.Lists.{any, each}
 use Rattle.units.specs.Ids.{Id, same_id, older, with_id, ids_once}

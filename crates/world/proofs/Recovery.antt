@@ -8,7 +8,7 @@ use Rattle.units.specs.declared.fault.Reason.TheVariants.{Nothing}
 use Rattle.units.specs.declared.line.Line.{Line}
 use Rattle.record.specs.declared.record.Record.{Record}
 use Rattle.world.specs.declared.event.Act.{Act}
-use Rattle.world.specs.declared.event.Fate.{Fate}
+use Rattle.disk.specs.declared.plan.Fate.{Fate}
 use Rattle.world.specs.declared.event.Config.{Config}
 use Rattle.world.specs.declared.event.Doing.{Doing}
 use Rattle.world.specs.declared.event.Event.{Event}

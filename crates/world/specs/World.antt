@@ -27,7 +27,7 @@ use Rattle.message.specs.declared.message.Answer.TheVariants.{Holds, Refused}
 use Rattle.message.specs.declared.message.ReadAnswer.{ReadAnswer}
 use Rattle.message.specs.declared.message.Input.{Input}
 use Rattle.world.specs.declared.event.Act.{Act}
-use Rattle.world.specs.declared.event.Fate.{Fate}
+use Rattle.disk.specs.declared.plan.Fate.{Fate}
 use Rattle.world.specs.declared.event.Config.{Config}
 use Rattle.world.specs.declared.event.Doing.{Doing}
 use Rattle.world.specs.declared.event.Event.{Event}

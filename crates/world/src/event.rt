@@ -1,4 +1,5 @@
 //! The events of a run, and the reply to each.
+use disk::Fate;
 use truetime::Reading;
 use units::{Fault, Key, ShardNo, Splits, Stamp, Stride, TxnId, Value};
 
@@ -7,15 +8,6 @@ use units::{Fault, Key, ShardNo, Splits, Stamp, Stride, TxnId, Value};
 pub struct Config {
     pub splits: Splits,
     pub stride: Stride,
-}
-
-/// What a crash makes of a change that is not synced.
-#[derive(Clone, Copy, Debug, PartialEq, Eq)]
-pub enum Fate {
-    Old,
-    New,
-    /// Each byte of the range is this one.
-    Filled(u8),
 }
 
 /// What a shard does at an event. `Take` is the delivery of a message, by its number from 0.

@@ -4,4 +4,4 @@
 
 mod event;
 
-pub use event::{Act, Config, Doing, Event, Fate, Reply};
+pub use event::{Act, Config, Doing, Event, Reply};
