@@ -6,7 +6,7 @@ use Rattle.units.specs.Ids.{Id}
 use Rattle.units.specs.Keys.{Bytes}
 use Rattle.record.specs.Facts.{Facts, learn}
 use Rattle.units.specs.Locks.{exclusive, ready}
-use Rattle.protocol.specs.Rows.{Memory, Row, Phase, Idle, WaitsRead, WaitsPrepare, WaitsCommit, Collecting, IsPrepared, IsDecided, Voted, Standing, IsUnknown, WasEnded, HasRow, WasAborted, WasSettled, WasClosed, claims, find_row}
+use Rattle.protocol.specs.Rows.{Row, Phase, Idle, WaitsRead, WaitsPrepare, WaitsCommit, Collecting, IsPrepared, IsDecided, Voted, Standing, IsUnknown, WasEnded, HasRow, WasAborted, WasSettled, WasClosed, claims, find_row}
 use Rattle.protocol.specs.Draft.{Draft, Stepped, Refuses, Does, done, nothing, put_row, drop_row, raise, log, say, tell, end, end_all, abort, wound, take_locks, wait, answer_read, time_limit, in_time, prepare, prepare_at, decide, decide_at, close, with_room, is_full}
 use Rattle.protocol.specs.Step.{on_read, on_prepare, on_commit, on_vote, on_outcome, on_give_up, on_ask, on_resume, on_settle, on_advance, on_nudge, on_message, on_input, step_within, facts_after, read_now, read_row, refuse_read, prepare_now, prepare_fresh, refuse_vote, reads_stand, abort_all, commit_granted, commit_now, commit_fresh, count_vote, of_other_part, tell_voter, outcome_unpromised, raise_to, abort_for, go_on, resume_row, resume_id, settle_at, ceiling}
 use Rattle.protocol.specs.StepLaws.{OnDone, IsInLimit, LastStaysUnderFloor}

@@ -1,12 +1,11 @@
 -- Steps of one shard: promises, votes, decisions, wounds, waits, refusals.
 use Rattle.std.proofs.Common.{refl}
-use Rattle.std.specs.Prelude.{◌≡◌, List, [], ◌∷◌, length, Some, None}
+use Rattle.std.specs.Prelude.{◌≡◌, List, [], ◌∷◌, Some, None}
 use Rattle.protocol.specs.Rows.{safe}
 use Rattle.units.specs.declared.fault.Fault.TheVariants.{Early, TimeSpent, Future}
 use Rattle.units.specs.declared.writes.Write.{Write}
 use Rattle.truetime.specs.Interval.{Interval}
 use Rattle.record.specs.declared.record.Record.{Record}
-use Rattle.message.specs.declared.message.Message.{Message}
 use Rattle.message.specs.declared.message.Input.{Input}
 use Rattle.message.specs.declared.message.Answer.TheVariants.{Holds}
 use Rattle.protocol.specs.Draft.{promise, decision}

@@ -4,8 +4,7 @@ use Rattle.std.proofs.Common.{refl, sym, ◌∙◌, ap, subst}
 use Rattle.std.proofs.lemmas.Bool.{eqb-true, leb-false, lt-ltb}
 use Rattle.std.specs.Prelude.{ℕ, zero, suc, ◌≡◌, Bool, true, false, not, cond, ◌&&◌, nat_eq, nat_lt, nat_le, IsTrue, List, [], ◌∷◌, slice_get, Option, Some, None}
 use Rattle.units.specs.Lists.{keep, gather, head, mapped, follow, numbered, when, same_numbers}
-use Rattle.units.specs.Ids.{Id, has_id, ids_once, older}
-use Rattle.units.specs.Lists.{insert}
+use Rattle.units.specs.Ids.{Id, same_id, older, with_id, ids_once}
 use Rattle.units.specs.Keys.{Bytes}
 use Rattle.record.specs.History.{Txn, history, before}
 use Rattle.record.specs.Verdict.{verdict, first_fault, first_lost, first_wrong_read, first_wrong_order, lost_by, line_reads_right, late_acks, is_late_ack, is_in_at, same_value, IsLine}
@@ -92,26 +91,18 @@ reads_right h lines l e at =
     not_false (line_reads_right h l)
     (each_fails (λ q. not (line_reads_right h q)) 0 lines at.0 l (head_none _ (mapped_none (λ (q : ℕ × Line). q.0) _ e)) at.1)
 
-insert_some : {A : Type 0} (less : A → A → Bool) (x : A) (ys : List A) → ¬ (insert less x ys ≡ [])
-insert_some less x [] e = cc
-insert_some less x (y ∷ ys) e = one_or_other (less y x) y (insert less x ys) x (y ∷ ys) e
+with_some : (us : List Id) (t : Id) → ¬ (with_id us t ≡ [])
+with_some [] t e = cc
+with_some (u ∷ us) t e = placed (same_id u t) (older u t) e
   where
-    one_or_other : {A : Type 0} (b : Bool) (u : A) (us : List A) (v : A) (vs : List A) → ¬ (cond b (u ∷ us) (v ∷ vs) ≡ [])
-    one_or_other true u us v vs e = cc
-    one_or_other false u us v vs e = cc
-
-once_step : (b : Bool) (t : Id) (us : List Id) → cond b us (insert older t us) ≡ [] → (b ≡ true) × (us ≡ [])
-once_step true t us e = (refl, e)
-once_step false t us e = absurd (insert_some older t us e)
+    placed : (a b : Bool) → ¬ (cond a (u ∷ us) (cond b (u ∷ with_id us t) (t ∷ u ∷ us)) ≡ [])
+    placed true b f = cc
+    placed false true f = cc
+    placed false false f = cc
 
 once_none : (ts : List Id) → ids_once ts ≡ [] → ts ≡ []
 once_none [] e = refl
-once_none (t ∷ ts) e =
-    let p : (has_id ts t ≡ true) × (ids_once ts ≡ []) = once_step (has_id ts t) t (ids_once ts) e in
-    let none : false ≡ true = subst (λ us. has_id us t ≡ true) (once_none ts p.1) p.0 in absurd (not_true none)
-  where
-    not_true : ¬ (false ≡ true)
-    not_true e = cc
+once_none (t ∷ ts) e = absurd (with_some (ids_once ts) t e)
 
 in_history : (b : Bool) (t : Id) → cond b None (Some t) ≡ None → b ≡ true
 in_history true t e = refl

@@ -1,27 +1,20 @@
 -- Where the inspector finds no torn id, every id is whole: those that no log is about as well.
 use Rattle.std.proofs.Common.{refl, sym, ◌∙◌, ap, subst, inl, inr}
-use Rattle.std.proofs.lemmas.Bool.{eqb-true}
-use Rattle.std.specs.Prelude.{ℕ, suc, ◌≡◌, Bool, true, false, not, cond, ◌&&◌, ◌||◌, ◌⊎◌, nat_eq, List, [], ◌∷◌, ◌++◌, map, None}
-use Rattle.units.specs.Lists.{any, each, keep, gather, join, insert, numbered}
-use Rattle.units.specs.Ids.{Id, same_id, older, has_id, ids_once}
+use Rattle.std.specs.Prelude.{ℕ, suc, ◌≡◌, Bool, true, false, not, cond, ◌&&◌, ◌||◌, ◌⊎◌, List, [], ◌∷◌, ◌++◌, map, None}
+use Rattle.units.specs.Lists.{any, each, keep, gather, join, numbered}
+use Rattle.units.specs.Ids.{Id, same_id}
+use Rattle.units.proofs.Folds.{any_append}
+use Rattle.units.proofs.IdLaws.{same_id-is}
+use Rattle.units.proofs.IdOrder.{any_once}
 use Rattle.record.specs.Records.{id_in, as_committed}
 use Rattle.record.specs.Whole.{is_whole, is_whole_by, Decision, ends_at, all_ids}
 use Rattle.record.specs.Verdict.{verdict, first_torn}
 use Rattle.record.specs.VerdictLaws.{YesIsSound}
 use Rattle.record.specs.declared.record.Record.{Record}
 use Rattle.record.specs.declared.record.Record.TheVariants.{Opened, Ceiling, Prepare, Commit, Abort, Outcome}
-use Rattle.record.proofs.VerdictMeans.{both, head_none, kept_step, not_false, no_fault, acknowledged, looks, reads, order}
+use Rattle.record.proofs.VerdictMeans.{head_none, kept_step, not_false, no_fault, acknowledged, looks, reads, order}
 
 -- ---- ids
-
-id_of_parts : (t u : Id) → t.run ≡ u.run → t.number ≡ u.number → t ≡ u
-id_of_parts t u e f =
-    ap (λ r. let i : Id = record { run = r; number = t.number } in i) e ∙ ap (λ n. let i : Id = record { run = u.run; number = n } in i) f
-
-same_is : (t u : Id) → same_id t u ≡ true → t ≡ u
-same_is t u e =
-    let p : (nat_eq t.run u.run ≡ true) × (nat_eq t.number u.number ≡ true) = both _ _ e in
-    id_of_parts t u (eqb-true _ _ p.0) (eqb-true _ _ p.1)
 
 neither : (a b : Bool) → (a || b) ≡ false → (a ≡ false) × (b ≡ false)
 neither true b e = cc
@@ -30,46 +23,6 @@ neither false b e = (refl, e)
 one_of : (a b : Bool) → (a || b) ≡ true → (a ≡ true) ⊎ (b ≡ true)
 one_of true b e = inl refl
 one_of false b e = inr e
-
--- ---- an id is among the sorted ids exactly where it is among them
-
-swap : (a b c : Bool) → (a || (b || c)) ≡ (b || (a || c))
-swap true true c = refl
-swap true false c = refl
-swap false true c = refl
-swap false false c = refl
-
-both_ways : (test : Id → Bool) (b : Bool) (xs ys : List Id) (g : Bool) → any test xs ≡ g → any test ys ≡ g → any test (cond b xs ys) ≡ g
-both_ways test true xs ys g e f = e
-both_ways test false xs ys g e f = f
-
-any_insert : (test : Id → Bool) (x : Id) (ys : List Id) → any test (insert older x ys) ≡ (test x || any test ys)
-any_insert test x [] = refl
-any_insert test x (y ∷ ys) =
-    both_ways test (older y x) (y ∷ insert older x ys) (x ∷ y ∷ ys) _
-    (ap (λ b. test y || b) (any_insert test x ys) ∙ swap (test y) (test x) (any test ys))
-    refl
-
-absorbed : (c : Bool) (t u : Id) (us : List Id) → same_id t u ≡ c → has_id us u ≡ true → any (same_id t) us ≡ (c || any (same_id t) us)
-absorbed true t u us e there = subst (λ v. any (same_id v) us ≡ true) (sym (same_is t u e)) there
-absorbed false t u us e there = refl
-
-once_step : (b : Bool) (t u : Id) (us : List Id) → has_id us u ≡ b → any (same_id t) (ids_once us) ≡ any (same_id t) us →
-    any (same_id t) (cond b (ids_once us) (insert older u (ids_once us))) ≡ (same_id t u || any (same_id t) us)
-once_step true t u us there e = e ∙ absorbed (same_id t u) t u us refl there
-once_step false t u us there e = any_insert (same_id t) u (ids_once us) ∙ ap (λ b. same_id t u || b) e
-
-any_once : (t : Id) (ts : List Id) → any (same_id t) (ids_once ts) ≡ any (same_id t) ts
-any_once t [] = refl
-any_once t (u ∷ us) = once_step (has_id us u) t u us refl (any_once t us)
-
-any_append : (test : Id → Bool) (xs ys : List Id) → any test (xs ++ ys) ≡ (any test xs || any test ys)
-any_append test [] ys = refl
-any_append test (x ∷ xs) ys = ap (λ b. test x || b) (any_append test xs ys) ∙ sym (or_assoc (test x) (any test xs) (any test ys))
-  where
-    or_assoc : (a b c : Bool) → ((a || b) || c) ≡ (a || (b || c))
-    or_assoc true b c = refl
-    or_assoc false b c = refl
 
 -- ---- an id that no record of a log is about
 
@@ -134,7 +87,7 @@ mentioned t logs (u ∷ us) e there =
     here_or_later (one_of (same_id t u) (any (same_id t) us) there) p.0 (λ later. mentioned t logs us p.1 later)
   where
     here_or_later : (same_id t u ≡ true) ⊎ (any (same_id t) us ≡ true) → not (is_whole u logs) ≡ false → (any (same_id t) us ≡ true → is_whole t logs ≡ true) → is_whole t logs ≡ true
-    here_or_later (inl same) good later = subst (λ v. is_whole v logs ≡ true) (sym (same_is t u same)) (not_false _ good)
+    here_or_later (inl same) good later = subst (λ v. is_whole v logs ≡ true) (sym (same_id-is t u same)) (not_false _ good)
     here_or_later (inr more) good later = later more
 
 by_mention : (b : Bool) (t : Id) (logs : List (List Record)) → any (same_id t) (all_ids logs) ≡ b → first_torn logs ≡ None → is_whole t logs ≡ true

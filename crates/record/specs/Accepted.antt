@@ -66,6 +66,15 @@ begins [] (Opened epoch) = true
 begins [] _ = false
 begins _ _ = true
 
+-- each record follows those before it, and the first is an opening
+abbrev pub followed_from : ℕ → List Record → List Record → Bool
+followed_from shard before [] = true
+followed_from shard before (r ∷ rs) = (begins before r && follows shard before r) && followed_from shard (before ++ r ∷ []) rs
+
+-- the rules of one id, and of the openings, over a whole list of records
+unfoldable pub followed : ℕ → List Record → Bool
+followed shard log = followed_from shard [] log
+
 -- each key is of this shard
 abbrev pub keys_belong : Setup → List Bytes → List Write → Bool
 keys_belong setup reads writes =

@@ -1,5 +1,5 @@
 -- The part of a shard's state that its log determines, and how one more record changes it.
-use Rattle.std.specs.Prelude.{ℕ, Bool, cond, max, List, [], ◌∷◌, ◌++◌, map, ◌≡◌, IsTrue, Option, Some, None}
+use Rattle.std.specs.Prelude.{ℕ, cond, max, List, [], ◌∷◌, ◌++◌, map, Option, Some, None}
 use Rattle.units.specs.Lists.{first}
 use Rattle.units.specs.Ids.{Id, same_id, older}
 use Rattle.record.specs.Records.{Status, Unrecorded, StandsPrepared, StandsDecided, HasAborted, HasSettled, HasClosed, status_of, ids_of, epoch_of, floor_of, stamp_in}
@@ -84,8 +84,3 @@ noted facts (Outcome t outcome) =
 -- the facts after one more record
 unfoldable pub learn : Facts → Record → Facts
 learn facts r = record (noted facts r) { floor = or_floor facts.floor (stamp_in r) }
-
--- one more record of an accepted log changes the facts by `learn` (to be proved where the facts are built)
-abbrev pub LearnAgrees : (List Record → Bool) → Type 0
-LearnAgrees accepted =
-    (log : List Record) (r : Record) → IsTrue (accepted (log ++ r ∷ [])) → facts_of (log ++ r ∷ []) ≡ learn (facts_of log) r

@@ -1,5 +1,6 @@
 pub mod Accepted
 pub mod Computing
+pub mod FactLaws
 pub mod Facts
 pub mod Gives
 pub mod Grammar

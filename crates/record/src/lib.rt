@@ -8,7 +8,7 @@ mod record;
 mod unread;
 mod writing;
 
-pub use laws::a_yes_is_sound;
+pub use laws::{a_yes_is_sound, accepted_follows, learn_agrees, learnt_agrees};
 pub use length::encoded_len;
 pub use reading::decode;
 pub use record::{Committed, Prepared, Record};

@@ -1,3 +1,5 @@
+pub mod Folds
 pub mod IdLaws
+pub mod IdOrder
 pub mod KeyLaws
 pub mod Short

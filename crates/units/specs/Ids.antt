@@ -1,6 +1,6 @@
 -- Ids of transactions and their order: the age of a transaction, smaller is older.
 use Rattle.std.specs.Prelude.{ℕ, Bool, ◌&&◌, ◌||◌, nat_eq, nat_lt, List, [], ◌∷◌, cond}
-use Rattle.units.specs.Lists.{any, insert}
+use Rattle.units.specs.Lists.{any}
 
 -- the run that made it, and its number in that run
 pub record Id : Type 0 where
@@ -27,4 +27,4 @@ with_id (u ∷ us) t = cond (same_id u t) (u ∷ us) (cond (older u t) (u ∷ wi
 -- each id once, in ascending order
 abbrev pub ids_once : List Id → List Id
 ids_once [] = []
-ids_once (t ∷ ts) = cond (has_id ts t) (ids_once ts) (insert older t (ids_once ts))
+ids_once (t ∷ ts) = with_id (ids_once ts) t

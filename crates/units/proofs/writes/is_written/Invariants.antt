@@ -1,6 +1,5 @@
 use Rattle.std.proofs.Common.{◌≡◌, drop}
 use Rattle.units.specs.Keys.{writes_key}
-use Rattle.units.specs.Lists.{any}
 use Rattle.units.proofs.writes.is_written.Given as goal
 
 abbrev pub invariant-loop-write : goal.invariant-loop-write

@@ -1,0 +1,385 @@
+-- The facts that are learnt record by record are those that are read from the set of all records.
+use Rattle.std.proofs.Common.{refl, sym, ◌∙◌, ap, subst, arith}
+use Rattle.std.proofs.lemmas.Bool.{eqb-true}
+use Rattle.std.specs.Prelude.{ℕ, ◌+◌, ◌≡◌, max, Bool, true, false, not, cond, ◌&&◌, ◌||◌, List, [], ◌∷◌, ◌++◌, Option, Some, None}
+use Rattle.units.specs.Lists.{any, each, gather, join, first, greatest}
+use Rattle.units.specs.Ids.{Id, same_id, with_id, ids_once}
+use Rattle.units.specs.Versions.{versions}
+use Rattle.units.specs.declared.setup.Setup.{Setup}
+use Rattle.units.specs.declared.writes.Install.{Install}
+use Rattle.units.proofs.Folds.{or_else, is_there, append_none, gather_append, join_append, greatest_append, there_first, join_same}
+use Rattle.units.proofs.IdLaws.{same_id-is, same_id-refl}
+use Rattle.units.proofs.IdOrder.{once_more, rises_once}
+use Rattle.record.specs.Accepted.{Taken, Accepted, DamagedAt, StrangerAt, taken, taken_from, belongs, begins, follows, fits_beside, followed, followed_from}
+use Rattle.record.specs.Facts.{Facts, Entry, facts_of, learn, with_status, after_outcome, installs_at, or_floor}
+use Rattle.record.specs.FactLaws.{LearnAgrees, LearntAgrees, AcceptedFollows, learnt}
+use Rattle.record.specs.Installs.{installs_of, installed_by, writes_by}
+use Rattle.record.specs.Records.{Ended, Status, Unrecorded, StandsPrepared, StandsDecided, HasAborted, HasSettled, HasClosed, as_opened, as_ended, stamp_in, id_in, ids_of, epoch_of, floor_of, prepared_of, committed_of, is_aborted, ended_of, status_by, status_of}
+use Rattle.record.specs.declared.record.Committed.{Committed}
+use Rattle.record.specs.declared.record.Prepared.{Prepared}
+use Rattle.record.specs.declared.record.Record.{Record}
+use Rattle.record.specs.declared.record.Record.TheVariants.{Opened, Ceiling, Prepare, Commit, Abort, Outcome}
+use Rattle.record.proofs.Sound.{both, Sound, sound_empty, sound_more, made, new_facts, prepare_new, commit_new, outcome_follows, opened_follows, committed_more, prepared_more, outcome_made}
+use Rattle.record.proofs.Statuses.{status_more, status_same, recorded_is, entries_by, entries_with, or_none}
+
+-- ---- the epoch and the floor
+
+max_none : (n : ℕ) → max n 0 ≡ n
+max_none n = omega arith
+
+max_one : (n e : ℕ) → max n (max e 0) ≡ max n e
+max_one n e = omega arith
+
+max_next : (n e : ℕ) → e ≡ n + 1 → max n (max e 0) ≡ e
+max_next n e h = omega (arith, h)
+
+epoch_after : ℕ → Record → ℕ
+epoch_after n (Opened e) = e
+epoch_after n r = n
+
+epoch_more : (shard : ℕ) (log : List Record) (r : Record) → follows shard log r ≡ true → epoch_of (log ++ r ∷ []) ≡ epoch_after (epoch_of log) r
+unfolding epoch_after
+epoch_more shard log r h =
+    ap greatest (gather_append as_opened log (r ∷ [])) ∙ greatest_append (gather as_opened log) (gather as_opened (r ∷ [])) ∙ by_kind r h
+  where
+    by_kind : (q : Record) → follows shard log q ≡ true → max (epoch_of log) (greatest (gather as_opened (q ∷ []))) ≡ epoch_after (epoch_of log) q
+    by_kind (Opened e) k = max_next (epoch_of log) e (eqb-true _ _ (opened_follows shard log e k))
+    by_kind (Ceiling at) k = max_none _
+    by_kind (Prepare p) k = max_none _
+    by_kind (Commit c) k = max_none _
+    by_kind (Abort t) k = max_none _
+    by_kind (Outcome t o) k = max_none _
+
+floor_more : (log : List Record) (r : Record) → floor_of (log ++ r ∷ []) ≡ or_floor (floor_of log) (stamp_in r)
+floor_more log r =
+    ap greatest (gather_append stamp_in log (r ∷ [])) ∙ greatest_append (gather stamp_in log) (gather stamp_in (r ∷ [])) ∙ by_stamp (stamp_in r)
+  where
+    by_stamp : (o : Option ℕ) → max (floor_of log) (greatest (elim o as (λ q. List ℕ) [ None ↦ [] | Some s ↦ s ∷ [] ])) ≡ or_floor (floor_of log) o
+    by_stamp None = max_none _
+    by_stamp (Some s) = max_one _ s
+
+-- ---- the entries
+
+entries : List Record → List Entry
+entries log = entries_by (λ t. status_of log t) (ids_of log)
+
+-- a record of no id
+entries_stay : (log : List Record) (r : Record) → gather id_in (r ∷ []) ≡ [] → entries (log ++ r ∷ []) ≡ entries log
+unfolding entries
+entries_stay log r none =
+    let ids : gather id_in (log ++ r ∷ []) ≡ gather id_in log =
+    gather_append id_in log (r ∷ []) ∙ ap (λ l. gather id_in log ++ l) none ∙ append_none (gather id_in log) in
+    let same : (t : Id) → status_of (log ++ r ∷ []) t ≡ status_of log t = λ t. status_same log r t (ap (λ l. any (same_id t) l) none) in
+    ap (λ l. entries_by (λ t. status_of (log ++ r ∷ []) t) (ids_once l)) ids
+    ∙ ap (λ (f : Id → Status). entries_by f (ids_of log)) (λ i t. same t i)
+
+-- a record of an id
+entries_change : (log : List Record) (r : Record) (t : Id) (s : Status) → gather id_in (r ∷ []) ≡ t ∷ [] → status_of (log ++ r ∷ []) t ≡ s →
+    entries (log ++ r ∷ []) ≡ with_status (entries log) t s
+unfolding entries
+entries_change log r t s one new =
+    let ids : ids_of (log ++ r ∷ []) ≡ with_id (ids_of log) t =
+    ap ids_once (gather_append id_in log (r ∷ []) ∙ ap (λ l. gather id_in log ++ l) one) ∙ once_more (gather id_in log) t in
+    let same : (u : Id) → same_id u t ≡ false → status_of (log ++ r ∷ []) u ≡ status_of log u =
+    λ u e. status_same log r u (ap (λ l. any (same_id u) l) one ∙ ap (λ b. b || false) e) in
+    ap (λ l. entries_by (λ u. status_of (log ++ r ∷ []) u) l) ids
+    ∙ entries_with (λ u. status_of log u) (λ u. status_of (log ++ r ∷ []) u) t same (ids_of log) (rises_once (gather id_in log))
+    ∙ ap (λ x. with_status (entries log) t x) new
+
+-- ---- the status of the record's own id
+
+is_none : {A : Type 0} (o : Option A) → is_there o ≡ false → o ≡ None
+is_none None e = refl
+is_none (Some x) e = cc
+
+not_true : ¬ (false ≡ true)
+not_true e = cc
+
+neither : (a b : Bool) → (a || b) ≡ false → (a ≡ false) × (b ≡ false)
+neither true b e = cc
+neither false b e = (refl, e)
+
+not_there : (b : Bool) → ((b ≡ true) → false ≡ true) → b ≡ false
+not_there true h = absurd (not_true (h refl))
+not_there false h = refl
+
+-- nothing is there of an id that is new
+record Untouched (log : List Record) (t : Id) : Type 0 where
+  aborted : is_aborted log t ≡ false
+  committed : committed_of log t ≡ None
+  prepared : prepared_of log t ≡ None
+  ended : ended_of log t ≡ None
+
+untouched : (log : List Record) (t : Id) → Sound log → is_aborted log t ≡ false → made log t ≡ false → Untouched log t
+unfolding made
+untouched log t s a m =
+    record {
+      aborted = a;
+      committed = is_none _ ((neither _ _ m).1);
+      prepared = is_none _ ((neither _ _ m).0);
+      ended = is_none _ (not_there _ (λ there. sym m ∙ s.closed t there));
+    }
+
+new_untouched : (log : List Record) (t : Id) → Sound log → (is_aborted log t ≡ false) × (made log t ≡ false) → Untouched log t
+new_untouched log t s p = untouched log t s p.0 p.1
+
+found_one : {A : Type 0} (b : Bool) (x : A) → b ≡ true → first (λ y. b) (x ∷ []) ≡ Some x
+found_one true x e = refl
+found_one false x e = cc
+
+by_parts : (a b : Bool) (c d : Option Committed) (p q : Option Prepared) (e f : Option Ended) → a ≡ b → c ≡ d → p ≡ q → e ≡ f → status_by a c p e ≡ status_by b d q f
+by_parts a b c d p q e f g h k l = λ i. status_by (g i) (h i) (k i) (l i)
+
+prepared_status : (log : List Record) (p : Prepared) → Untouched log p.txn → status_of (log ++ Prepare p ∷ []) p.txn ≡ StandsPrepared p
+prepared_status log p u =
+    status_more log (Prepare p) p.txn
+    ∙ by_parts _ false _ None _ (Some p) _ None
+    (ap (λ b. b || false) u.aborted)
+    (ap (λ o. or_else o None) u.committed)
+    (ap (λ o. or_else o (prepared_of (Prepare p ∷ []) p.txn)) u.prepared ∙ found_one (same_id p.txn p.txn) p (same_id-refl p.txn))
+    (ap (λ o. or_else o None) u.ended)
+
+decided_status : (log : List Record) (c : Committed) → Untouched log c.txn → status_of (log ++ Commit c ∷ []) c.txn ≡ StandsDecided c
+decided_status log c u =
+    status_more log (Commit c) c.txn
+    ∙ by_parts _ false _ (Some c) _ None _ None
+    (ap (λ b. b || false) u.aborted)
+    (ap (λ o. or_else o (committed_of (Commit c ∷ []) c.txn)) u.committed ∙ found_one (same_id c.txn c.txn) c (same_id-refl c.txn))
+    (ap (λ o. or_else o None) u.prepared)
+    (ap (λ o. or_else o None) u.ended)
+
+or_true : (a b : Bool) → b ≡ true → (a || b) ≡ true
+or_true true b e = refl
+or_true false b e = e
+
+aborted_status : (log : List Record) (t : Id) → status_of (log ++ Abort t ∷ []) t ≡ HasAborted
+aborted_status log t =
+    status_more log (Abort t) t
+    ∙ ap (λ b. status_by b (or_else (committed_of log t) None) (or_else (prepared_of log t) None) (or_else (ended_of log t) None))
+    (or_true (is_aborted log t) (same_id t t || false) (ap (λ b. b || false) (same_id-refl t)))
+
+ended_by : (a : Bool) (c : Option Committed) (p : Option Prepared) (t : Id) (o : Option ℕ) →
+    status_by a c p (Some (record { txn = t; outcome = o })) ≡ after_outcome (status_by a c p None) o
+ended_by true c p t o = refl
+ended_by false (Some c) p t o = refl
+ended_by false None (Some p) t o = refl
+ended_by false None None t o = refl
+
+or_false : (a : Bool) → (a || false) ≡ a
+or_false true = refl
+or_false false = refl
+
+ended_status : (log : List Record) (t : Id) (o : Option ℕ) → ended_of log t ≡ None → status_of (log ++ Outcome t o ∷ []) t ≡ after_outcome (status_of log t) o
+unfolding status_of
+ended_status log t o none =
+    status_more log (Outcome t o) t
+    ∙ by_parts _ (is_aborted log t) _ (committed_of log t) _ (prepared_of log t) _ (Some (record { txn = t; outcome = o }))
+    (or_false (is_aborted log t)) (or_none (committed_of log t)) (or_none (prepared_of log t))
+    (ap (λ e. or_else e (ended_of (Outcome t o ∷ []) t)) none ∙ found_one (same_id t t) (record { txn = t; outcome = o }) (same_id-refl t))
+    ∙ ended_by (is_aborted log t) (committed_of log t) (prepared_of log t) t o
+    ∙ ap (λ e. after_outcome (status_by (is_aborted log t) (committed_of log t) (prepared_of log t) e) o) (sym none)
+
+-- ---- the versions
+
+-- an outcome was promised or decided
+all_made : (log : List Record) → Sound log → each (λ e. made log e.txn) (gather as_ended log) ≡ true
+all_made log s = weaker _ _ (λ e there. s.closed e.txn (there_first (λ d. same_id d.txn e.txn) (gather as_ended log) ∙ there)) (gather as_ended log) (each_found (gather as_ended log))
+  where
+    weaker : (P Q : Ended → Bool) → ((e : Ended) → P e ≡ true → Q e ≡ true) → (es : List Ended) → each P es ≡ true → each Q es ≡ true
+    weaker P Q more [] h = refl
+    weaker P Q more (e ∷ es) h = ap (λ b. b && each Q es) (more e ((both _ _ h).0)) ∙ weaker P Q more es ((both _ _ h).1)
+
+    each_found : (es : List Ended) → each (λ e. any (λ d. same_id d.txn e.txn) es) es ≡ true
+    each_found [] = refl
+    each_found (e ∷ es) =
+        ap (λ b. (b || any (λ d. same_id d.txn e.txn) es) && each (λ x. same_id e.txn x.txn || any (λ d. same_id d.txn x.txn) es) es) (same_id-refl e.txn)
+        ∙ weaker _ _ (λ x h. or_true (same_id e.txn x.txn) _ h) es (each_found es)
+
+no_single : {A : Type 0} (b : Bool) (x : A) → (b ≡ true → false ≡ true) → first (λ y. b) (x ∷ []) ≡ None
+no_single true x h = absurd (not_true (h refl))
+no_single false x h = refl
+
+-- what is promised or decided of an id stands before any further record of it
+single_none : (shard : ℕ) (log : List Record) (r : Record) (t : Id) → follows shard log r ≡ true → made log t ≡ true →
+    (committed_of (r ∷ []) t ≡ None) × (prepared_of (r ∷ []) t ≡ None)
+single_none shard log (Opened e) t h m = (refl, refl)
+single_none shard log (Ceiling at) t h m = (refl, refl)
+single_none shard log (Prepare p) t h m =
+    (refl, no_single (same_id p.txn t) p (λ e. sym (subst (λ v. made log v ≡ false) (same_id-is p.txn t e) ((new_facts log p.txn (prepare_new shard log p h)).1)) ∙ m))
+single_none shard log (Commit c) t h m =
+    (no_single (same_id c.txn t) c (λ e. sym (subst (λ v. made log v ≡ false) (same_id-is c.txn t e) ((new_facts log c.txn (commit_new shard log c h)).1)) ∙ m), refl)
+single_none shard log (Abort u) t h m = (refl, refl)
+single_none shard log (Outcome u o) t h m = (refl, refl)
+
+-- what it installs
+unfoldable installs_with : Option Committed → Option Prepared → Option ℕ → List Install
+installs_with c p o = elim o [ None ↦ [] | Some s ↦ versions (writes_by c p) s ]
+
+installed_same : (shard : ℕ) (log : List Record) (r : Record) → follows shard log r ≡ true → (e : Ended) → made log e.txn ≡ true →
+    installed_by (log ++ r ∷ []) e ≡ installed_by log e
+unfolding installs_with
+installed_same shard log r h e m =
+    let p : (committed_of (r ∷ []) e.txn ≡ None) × (prepared_of (r ∷ []) e.txn ≡ None) = single_none shard log r e.txn h m in
+    let c : committed_of (log ++ r ∷ []) e.txn ≡ committed_of log e.txn =
+    committed_more log r e.txn ∙ ap (λ o. or_else (committed_of log e.txn) o) p.0 ∙ or_none (committed_of log e.txn) in
+    let q : prepared_of (log ++ r ∷ []) e.txn ≡ prepared_of log e.txn =
+    prepared_more log r e.txn ∙ ap (λ o. or_else (prepared_of log e.txn) o) p.1 ∙ or_none (prepared_of log e.txn) in
+    λ i. installs_with (c i) (q i) e.outcome
+
+installed_all : (shard : ℕ) (log : List Record) (r : Record) → Sound log → follows shard log r ≡ true →
+    join (installed_by (log ++ r ∷ [])) (gather as_ended log) ≡ join (installed_by log) (gather as_ended log)
+installed_all shard log r s h =
+    join_same (installed_by (log ++ r ∷ [])) (installed_by log) (λ e. made log e.txn) (installed_same shard log r h) (gather as_ended log) (all_made log s)
+
+-- a record that is no outcome installs nothing
+installs_stay : (shard : ℕ) (log : List Record) (r : Record) → Sound log → follows shard log r ≡ true → gather as_ended (r ∷ []) ≡ [] →
+    installs_of (log ++ r ∷ []) ≡ installs_of log
+unfolding installs_of
+installs_stay shard log r s h none =
+    ap (λ l. join (installed_by (log ++ r ∷ [])) l) (gather_append as_ended log (r ∷ []) ∙ ap (λ l. gather as_ended log ++ l) none ∙ append_none (gather as_ended log))
+    ∙ installed_all shard log r s h
+
+none_installed : (s : Status) → installs_at s None ≡ []
+none_installed Unrecorded = refl
+none_installed (StandsPrepared p) = refl
+none_installed (StandsDecided c) = refl
+none_installed HasAborted = refl
+none_installed (HasSettled at parts) = refl
+none_installed (HasClosed c o) = refl
+
+installs_by : (a : Bool) (c : Option Committed) (p : Option Prepared) (v : ℕ) → a ≡ false → (is_there p || is_there c) ≡ true →
+    versions (writes_by c p) v ≡ installs_at (status_by a c p None) (Some v)
+installs_by true c p v e there = cc
+installs_by false (Some c) p v e there = refl
+installs_by false None (Some p) v e there = refl
+installs_by false None None v e there = cc
+
+-- an outcome installs by the status of its id
+outcome_installs : (log : List Record) (t : Id) (o : Option ℕ) → Sound log → ended_of log t ≡ None → made log t ≡ true →
+    installed_by log (record { txn = t; outcome = o }) ≡ installs_at (status_of log t) o
+unfolding status_of made
+outcome_installs log t None s none m = sym (none_installed (status_of log t))
+outcome_installs log t (Some v) s none m =
+    installs_by (is_aborted log t) (committed_of log t) (prepared_of log t) v (not_there _ (λ a. sym (s.apart t a) ∙ m)) m
+    ∙ ap (λ e. installs_at (status_by (is_aborted log t) (committed_of log t) (prepared_of log t) e) (Some v)) (sym none)
+
+installs_change : (shard : ℕ) (log : List Record) (t : Id) (o : Option ℕ) → Sound log → follows shard log (Outcome t o) ≡ true → ended_of log t ≡ None → made log t ≡ true →
+    installs_of (log ++ Outcome t o ∷ []) ≡ installs_of log ++ installs_at (status_of log t) o
+unfolding installs_of
+installs_change shard log t o s h none m =
+    ap (λ l. join (installed_by (log ++ Outcome t o ∷ [])) l) (gather_append as_ended log (Outcome t o ∷ []))
+    ∙ join_append (installed_by (log ++ Outcome t o ∷ [])) (gather as_ended log) (record { txn = t; outcome = o } ∷ [])
+    ∙ ap (λ l. l ++ (installed_by (log ++ Outcome t o ∷ []) (record { txn = t; outcome = o }) ++ [])) (installed_all shard log (Outcome t o) s h)
+    ∙ ap (λ l. join (installed_by log) (gather as_ended log) ++ l)
+    (append_none _ ∙ installed_same shard log (Outcome t o) h (record { txn = t; outcome = o }) m ∙ outcome_installs log t o s none m)
+
+-- ---- all facts
+
+same_facts : (e f : ℕ) (es : List Entry) (is : List Install) (g h : ℕ) (gs : List Entry) (js : List Install) → e ≡ g → f ≡ h → es ≡ gs → is ≡ js →
+    (let x : Facts = record { epoch = e; floor = f; entries = es; installs = is } in x) ≡ record { epoch = g; floor = h; entries = gs; installs = js }
+same_facts e f es is g h gs js p q r s = λ i. record { epoch = p i; floor = q i; entries = r i; installs = s i }
+
+not_false : (b : Bool) → not b ≡ true → b ≡ false
+not_false true e = cc
+not_false false e = refl
+
+pub learns : (shard : ℕ) (log : List Record) (r : Record) → Sound log → follows shard log r ≡ true → facts_of (log ++ r ∷ []) ≡ learn (facts_of log) r
+unfolding facts_of learn entries entries_by epoch_after
+learns shard log (Opened e) s h =
+    same_facts _ _ _ _ _ _ _ _ (epoch_more shard log (Opened e) h) (floor_more log (Opened e)) (entries_stay log (Opened e) refl) (installs_stay shard log (Opened e) s h refl)
+learns shard log (Ceiling at) s h =
+    same_facts _ _ _ _ _ _ _ _ (epoch_more shard log (Ceiling at) h) (floor_more log (Ceiling at)) (entries_stay log (Ceiling at) refl) (installs_stay shard log (Ceiling at) s h refl)
+learns shard log (Prepare p) s h =
+    same_facts _ _ _ _ _ _ _ _ (epoch_more shard log (Prepare p) h) (floor_more log (Prepare p))
+    (entries_change log (Prepare p) p.txn (StandsPrepared p) refl (prepared_status log p (new_untouched log p.txn s (new_facts log p.txn (prepare_new shard log p h)))))
+    (installs_stay shard log (Prepare p) s h refl)
+learns shard log (Commit c) s h =
+    same_facts _ _ _ _ _ _ _ _ (epoch_more shard log (Commit c) h) (floor_more log (Commit c))
+    (entries_change log (Commit c) c.txn (StandsDecided c) refl (decided_status log c (new_untouched log c.txn s (new_facts log c.txn (commit_new shard log c h)))))
+    (installs_stay shard log (Commit c) s h refl)
+learns shard log (Abort t) s h =
+    same_facts _ _ _ _ _ _ _ _ (epoch_more shard log (Abort t) h) (floor_more log (Abort t))
+    (entries_change log (Abort t) t HasAborted refl (aborted_status log t))
+    (installs_stay shard log (Abort t) s h refl)
+learns shard log (Outcome t o) s h =
+    let none : ended_of log t ≡ None = is_none _ (not_false _ ((outcome_follows shard log t o h).0)) in
+    let m : made log t ≡ true = outcome_made log t o ((outcome_follows shard log t o h).1) in
+    same_facts _ _ _ _ _ _ _ _ (epoch_more shard log (Outcome t o) h) (floor_more log (Outcome t o))
+    (entries_change log (Outcome t o) t _ refl (ended_status log t o none) ∙ ap (λ x. with_status (entries log) t (after_outcome x o)) (sym (recorded_is log t)))
+    (installs_change shard log t o s h none m ∙ ap (λ x. installs_of log ++ installs_at x o) (sym (recorded_is log t)))
+
+-- ---- whole lists
+
+append_one : {A : Type 0} (xs : List A) (x : A) (ys : List A) → (xs ++ x ∷ []) ++ ys ≡ xs ++ x ∷ ys
+append_one [] x ys = refl
+append_one (w ∷ ws) x ys = ap (λ l. w ∷ l) (append_one ws x ys)
+
+-- a list that is followed to its end is sound, and so is its last record
+last_follows : (shard : ℕ) (before log : List Record) (r : Record) → Sound before → followed_from shard before (log ++ r ∷ []) ≡ true →
+    Sound (before ++ log) × (follows shard (before ++ log) r ≡ true)
+last_follows shard before [] r s h =
+    (subst Sound (sym (append_none before)) s, subst (λ l. follows shard l r ≡ true) (sym (append_none before)) ((both _ _ ((both _ _ h).0)).1))
+last_follows shard before (q ∷ qs) r s h =
+    let p : Sound ((before ++ q ∷ []) ++ qs) × (follows shard ((before ++ q ∷ []) ++ qs) r ≡ true) =
+    last_follows shard (before ++ q ∷ []) qs r (sound_more shard before q s ((both _ _ ((both _ _ h).0)).1)) ((both _ _ h).1) in
+    subst (λ l. Sound l × (follows shard l r ≡ true)) (append_one before q qs) p
+
+pub learn_agrees : LearnAgrees
+unfolding followed
+learn_agrees shard log r h =
+    let p : Sound log × (follows shard log r ≡ true) = last_follows shard [] log r sound_empty h in learns shard log r p.0 p.1
+
+learnt_from : (shard : ℕ) (before log : List Record) → Sound before → followed_from shard before log ≡ true → learnt (facts_of before) log ≡ facts_of (before ++ log)
+learnt_from shard before [] s h = ap facts_of (sym (append_none before))
+learnt_from shard before (r ∷ rs) s h =
+    let f : follows shard before r ≡ true = (both _ _ ((both _ _ h).0)).1 in
+    ap (λ facts. learnt facts rs) (sym (learns shard before r s f))
+    ∙ learnt_from shard (before ++ r ∷ []) rs (sound_more shard before r s f) ((both _ _ h).1)
+    ∙ ap facts_of (append_one before r rs)
+
+pub learnt_agrees : LearntAgrees
+unfolding followed
+learnt_agrees shard log h = learnt_from shard [] log sound_empty h
+
+-- ---- what is accepted is followed
+
+taken_step : (a b : Bool) (place : ℕ) (rest : Taken) → cond a (StrangerAt place) (cond b rest (DamagedAt place)) ≡ Accepted → (b ≡ true) × (rest ≡ Accepted)
+taken_step true b place rest e = cc
+taken_step false true place rest e = (refl, e)
+taken_step false false place rest e = cc
+
+followed_next : (setup : Setup) (before : List Record) (place : ℕ) (log : List Record) → taken_from setup before place log ≡ Accepted → followed_from setup.shard before log ≡ true
+followed_next setup before place [] e = refl
+followed_next setup before place (r ∷ rs) e =
+    let p : ((begins before r && follows setup.shard before r && fits_beside before r) ≡ true) × (taken_from setup (before ++ r ∷ []) (place + 1) rs ≡ Accepted) =
+    taken_step (not (belongs setup r)) (begins before r && follows setup.shard before r && fits_beside before r) place _ e in
+    ap (λ b. b && followed_from setup.shard (before ++ r ∷ []) rs) ((both _ _ p.0).0) ∙ followed_next setup (before ++ r ∷ []) (place + 1) rs p.1
+
+pub accepted_follows : AcceptedFollows
+unfolding taken followed
+accepted_follows setup log e = followed_next setup [] 0 log e
+
+-- ---- a list that is followed, and one more record
+
+and_turned : (a b c : Bool) → ((a && b) && c) ≡ (a && (b && c))
+and_turned true b c = refl
+and_turned false b c = refl
+
+followed_one_more : (shard : ℕ) (before log : List Record) (r : Record) →
+    followed_from shard before (log ++ r ∷ []) ≡ (followed_from shard before log && (begins (before ++ log) r && follows shard (before ++ log) r))
+followed_one_more shard before [] r =
+    all_true (begins before r && follows shard before r) ∙ ap (λ l. begins l r && follows shard l r) (sym (append_none before))
+  where
+    all_true : (b : Bool) → (b && true) ≡ b
+    all_true true = refl
+    all_true false = refl
+followed_one_more shard before (q ∷ qs) r =
+    ap (λ b. (begins before q && follows shard before q) && b)
+    (followed_one_more shard (before ++ q ∷ []) qs r
+    ∙ ap (λ l. followed_from shard (before ++ q ∷ []) qs && (begins l r && follows shard l r)) (append_one before q qs))
+    ∙ sym (and_turned (begins before q && follows shard before q) _ _)
+
+-- a list with one more record is followed where the list is, and the record follows it
+pub followed_more : (shard : ℕ) (log : List Record) (r : Record) → followed shard (log ++ r ∷ []) ≡ (followed shard log && (begins log r && follows shard log r))
+unfolding followed
+followed_more shard log r = followed_one_more shard [] log r

@@ -1,0 +1,192 @@
+-- What holds of a log whose records each follow those before it: who ended was promised or decided, and who was aborted was
+-- neither.
+use Rattle.std.proofs.Common.{refl, sym, ◌∙◌, ap, subst}
+use Rattle.std.specs.Prelude.{ℕ, ◌+◌, ◌≡◌, Bool, true, false, not, cond, ◌&&◌, ◌||◌, nat_eq, List, [], ◌∷◌, ◌++◌, Option, Some, None}
+use Rattle.units.specs.Lists.{any, gather, first, head}
+use Rattle.units.specs.Ids.{Id, same_id}
+use Rattle.units.proofs.Folds.{or_else, is_there, there_or_else, gather_append, first_append, any_append}
+use Rattle.units.proofs.IdLaws.{same_id-is}
+use Rattle.record.specs.Accepted.{is_new, outcome_fits, follows}
+use Rattle.record.specs.Records.{Ended, Unrecorded, as_prepared, as_committed, as_aborted, as_ended, prepared_of, committed_of, is_aborted, ended_of, status_by, status_of, epoch_of}
+use Rattle.record.specs.declared.record.Committed.{Committed}
+use Rattle.record.specs.declared.record.Prepared.{Prepared}
+use Rattle.record.specs.declared.record.Record.{Record}
+use Rattle.record.specs.declared.record.Record.TheVariants.{Opened, Ceiling, Prepare, Commit, Abort, Outcome}
+
+pub both : (a b : Bool) → (a && b) ≡ true → (a ≡ true) × (b ≡ true)
+both true b e = (refl, e)
+both false b e = cc
+
+-- ---- one more record
+
+pub aborted_more : (log : List Record) (r : Record) (t : Id) → is_aborted (log ++ r ∷ []) t ≡ (is_aborted log t || is_aborted (r ∷ []) t)
+aborted_more log r t =
+    ap (λ l. any (same_id t) l) (gather_append as_aborted log (r ∷ []))
+    ∙ any_append (same_id t) (gather as_aborted log) (gather as_aborted (r ∷ []))
+
+pub prepared_more : (log : List Record) (r : Record) (t : Id) → prepared_of (log ++ r ∷ []) t ≡ or_else (prepared_of log t) (prepared_of (r ∷ []) t)
+prepared_more log r t =
+    ap (λ l. first (λ p. same_id p.txn t) l) (gather_append as_prepared log (r ∷ []))
+    ∙ first_append (λ p. same_id p.txn t) (gather as_prepared log) (gather as_prepared (r ∷ []))
+
+pub committed_more : (log : List Record) (r : Record) (t : Id) → committed_of (log ++ r ∷ []) t ≡ or_else (committed_of log t) (committed_of (r ∷ []) t)
+committed_more log r t =
+    ap (λ l. first (λ c. same_id c.txn t) l) (gather_append as_committed log (r ∷ []))
+    ∙ first_append (λ c. same_id c.txn t) (gather as_committed log) (gather as_committed (r ∷ []))
+
+pub ended_more : (log : List Record) (r : Record) (t : Id) → ended_of (log ++ r ∷ []) t ≡ or_else (ended_of log t) (ended_of (r ∷ []) t)
+ended_more log r t =
+    ap (λ l. first (λ e. same_id e.txn t) l) (gather_append as_ended log (r ∷ []))
+    ∙ first_append (λ e. same_id e.txn t) (gather as_ended log) (gather as_ended (r ∷ []))
+
+-- ---- a promise or a decision
+
+-- the log has a promise or a decision of an id
+unfoldable pub made : List Record → Id → Bool
+made log t = is_there (prepared_of log t) || is_there (committed_of log t)
+
+turned : (a b c d : Bool) → ((a || b) || (c || d)) ≡ ((a || c) || (b || d))
+turned true b c d = refl
+turned false true true d = refl
+turned false true false d = refl
+turned false false c d = refl
+
+pub made_more : (log : List Record) (r : Record) (t : Id) → made (log ++ r ∷ []) t ≡ (made log t || made (r ∷ []) t)
+unfolding made
+made_more log r t =
+    ap (λ o. is_there o || is_there (committed_of (log ++ r ∷ []) t)) (prepared_more log r t)
+    ∙ ap (λ o. is_there (or_else (prepared_of log t) (prepared_of (r ∷ []) t)) || is_there o) (committed_more log r t)
+    ∙ ap (λ b. b || is_there (or_else (committed_of log t) (committed_of (r ∷ []) t))) (there_or_else (prepared_of log t) (prepared_of (r ∷ []) t))
+    ∙ ap (λ b. (is_there (prepared_of log t) || is_there (prepared_of (r ∷ []) t)) || b) (there_or_else (committed_of log t) (committed_of (r ∷ []) t))
+    ∙ turned (is_there (prepared_of log t)) (is_there (prepared_of (r ∷ []) t)) (is_there (committed_of log t)) (is_there (committed_of (r ∷ []) t))
+
+-- who is new has neither an abort nor a promise nor a decision
+new_by : (a : Bool) (c : Option Committed) (p : Option Prepared) (e : Option Ended) →
+    (elim (status_by a c p e) as (λ s. Bool) [ Unrecorded ↦ true | _ ↦ false ]) ≡ true → (a ≡ false) × ((is_there p || is_there c) ≡ false)
+new_by true c p e h = cc
+new_by false (Some c) p (Some e) h = cc
+new_by false (Some c) p None h = cc
+new_by false None (Some p) (Some e) h = cc
+new_by false None (Some p) None h = cc
+new_by false None None e h = (refl, refl)
+
+pub new_facts : (log : List Record) (t : Id) → is_new log t ≡ true → (is_aborted log t ≡ false) × (made log t ≡ false)
+unfolding status_of made
+new_facts log t h = new_by (is_aborted log t) (committed_of log t) (prepared_of log t) (ended_of log t) h
+
+fits_made : (p : Option Prepared) (c : Option Committed) (o : Option ℕ) → outcome_fits p c o ≡ true → (is_there p || is_there c) ≡ true
+fits_made (Some p) c o h = refl
+fits_made None (Some c) o h = refl
+fits_made None None None h = cc
+fits_made None None (Some s) h = cc
+
+pub outcome_made : (log : List Record) (t : Id) (o : Option ℕ) → outcome_fits (prepared_of log t) (committed_of log t) o ≡ true → made log t ≡ true
+unfolding made
+outcome_made log t o h = fits_made (prepared_of log t) (committed_of log t) o h
+
+-- ---- what follows
+
+pub prepare_new : (shard : ℕ) (log : List Record) (p : Prepared) → follows shard log (Prepare p) ≡ true → is_new log p.txn ≡ true
+unfolding follows
+prepare_new shard log p h = (both _ _ ((both _ _ h).0)).1
+
+pub commit_new : (shard : ℕ) (log : List Record) (c : Committed) → follows shard log (Commit c) ≡ true → is_new log c.txn ≡ true
+unfolding follows
+commit_new shard log c h = (both _ _ ((both _ _ h).0)).1
+
+pub abort_new : (shard : ℕ) (log : List Record) (t : Id) → follows shard log (Abort t) ≡ true → is_new log t ≡ true
+unfolding follows
+abort_new shard log t h = h
+
+pub outcome_follows : (shard : ℕ) (log : List Record) (t : Id) (o : Option ℕ) → follows shard log (Outcome t o) ≡ true →
+    (not (is_there (ended_of log t)) ≡ true) × (outcome_fits (prepared_of log t) (committed_of log t) o ≡ true)
+unfolding follows
+outcome_follows shard log t o h = both _ _ h
+
+pub opened_follows : (shard : ℕ) (log : List Record) (epoch : ℕ) → follows shard log (Opened epoch) ≡ true → nat_eq epoch (epoch_of log + 1) ≡ true
+unfolding follows
+opened_follows shard log epoch h = h
+
+-- ---- the invariant
+
+-- who ended was promised or decided; who was aborted was neither
+pub record Sound (log : List Record) : Type 0 where
+  pub closed : (t : Id) → is_there (ended_of log t) ≡ true → made log t ≡ true
+  pub apart : (t : Id) → is_aborted log t ≡ true → made log t ≡ false
+
+-- a single record of an id
+pub single : {A : Type 0} (b : Bool) (x : A) → is_there (head (cond b (x ∷ []) [])) ≡ b
+single true x = refl
+single false x = refl
+
+or_false : (a : Bool) → (a || false) ≡ a
+or_false true = refl
+or_false false = refl
+
+-- the outcome of an id follows its promise or decision
+ended_made : (shard : ℕ) (log : List Record) (r : Record) (t : Id) → follows shard log r ≡ true → is_there (ended_of (r ∷ []) t) ≡ true → made log t ≡ true
+ended_made shard log (Opened e) t h there = cc
+ended_made shard log (Ceiling at) t h there = cc
+ended_made shard log (Prepare p) t h there = cc
+ended_made shard log (Commit c) t h there = cc
+ended_made shard log (Abort u) t h there = cc
+ended_made shard log (Outcome u o) t h there =
+    let same : u ≡ t = same_id-is u t (sym (single (same_id u t) _) ∙ there) in
+    subst (λ v. made log v ≡ true) same (outcome_made log u o ((outcome_follows shard log u o h).1))
+
+-- an abort makes nothing, and comes of an id of which nothing is made
+aborted_unmade : (shard : ℕ) (log : List Record) (r : Record) (t : Id) → follows shard log r ≡ true → is_aborted (r ∷ []) t ≡ true →
+    (made log t ≡ false) × (made (r ∷ []) t ≡ false)
+unfolding made
+aborted_unmade shard log (Opened e) t h there = cc
+aborted_unmade shard log (Ceiling at) t h there = cc
+aborted_unmade shard log (Prepare p) t h there = cc
+aborted_unmade shard log (Commit c) t h there = cc
+aborted_unmade shard log (Abort u) t h there =
+    let same : t ≡ u = same_id-is t u (sym (or_false (same_id t u)) ∙ there) in
+    (subst (λ v. made log v ≡ false) (sym same) ((new_facts log u (abort_new shard log u h)).1), refl)
+aborted_unmade shard log (Outcome u o) t h there = cc
+
+-- a promise or a decision comes of an id that is not aborted
+made_unaborted : (shard : ℕ) (log : List Record) (r : Record) (t : Id) → follows shard log r ≡ true → made (r ∷ []) t ≡ true → is_aborted log t ≡ false
+unfolding made
+made_unaborted shard log (Opened e) t h there = cc
+made_unaborted shard log (Ceiling at) t h there = cc
+made_unaborted shard log (Prepare p) t h there =
+    let same : p.txn ≡ t = same_id-is p.txn t (sym (single (same_id p.txn t) p) ∙ (sym (or_false _) ∙ there)) in
+    subst (λ v. is_aborted log v ≡ false) same ((new_facts log p.txn (prepare_new shard log p h)).0)
+made_unaborted shard log (Commit c) t h there =
+    let same : c.txn ≡ t = same_id-is c.txn t (sym (single (same_id c.txn t) c) ∙ there) in
+    subst (λ v. is_aborted log v ≡ false) same ((new_facts log c.txn (commit_new shard log c h)).0)
+made_unaborted shard log (Abort u) t h there = cc
+made_unaborted shard log (Outcome u o) t h there = cc
+
+not_true : ¬ (false ≡ true)
+not_true e = cc
+
+closed_by : (e f m n : Bool) → (e ≡ true → m ≡ true) → (f ≡ true → m ≡ true) → (e || f) ≡ true → (m || n) ≡ true
+closed_by e f true n g h k = refl
+closed_by true f false n g h k = absurd (not_true (g refl))
+closed_by false true false n g h k = absurd (not_true (h refl))
+closed_by false false false n g h k = cc
+
+apart_by : (a b m n : Bool) → (a ≡ true → m ≡ false) → (b ≡ true → (m ≡ false) × (n ≡ false)) → (n ≡ true → a ≡ false) → (a || b) ≡ true → (m || n) ≡ false
+apart_by true b m true g h k there = absurd (not_true (sym (k refl)))
+apart_by true b m false g h k there = ap (λ x. x || false) (g refl)
+apart_by false true m n g h k there = ap (λ x. x || n) ((h refl).0) ∙ (h refl).1
+apart_by false false m n g h k there = cc
+
+pub sound_more : (shard : ℕ) (log : List Record) (r : Record) → Sound log → follows shard log r ≡ true → Sound (log ++ r ∷ [])
+sound_more shard log r s h =
+    record {
+      closed = λ t there. made_more log r t ∙ closed_by (is_there (ended_of log t)) (is_there (ended_of (r ∷ []) t)) (made log t) (made (r ∷ []) t)
+          (s.closed t) (ended_made shard log r t h)
+          (sym (ap (λ o. is_there o) (ended_more log r t) ∙ there_or_else (ended_of log t) (ended_of (r ∷ []) t)) ∙ there);
+      apart = λ t there. made_more log r t ∙ apart_by (is_aborted log t) (is_aborted (r ∷ []) t) (made log t) (made (r ∷ []) t)
+          (s.apart t) (aborted_unmade shard log r t h) (made_unaborted shard log r t h)
+          (sym (aborted_more log r t) ∙ there);
+    }
+
+pub sound_empty : Sound []
+unfolding made
+sound_empty = record { closed = λ t there. cc; apart = λ t there. refl }

@@ -1,0 +1,2 @@
+//! A client's session. So far its definitions; no running code.
+#![tactic(auto)]

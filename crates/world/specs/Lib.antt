@@ -1,0 +1,5 @@
+pub mod Computing
+pub mod Headline
+pub mod Lawful
+pub mod TimeLaws
+pub mod World

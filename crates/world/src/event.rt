@@ -1,0 +1,64 @@
+//! The events of a run, and the reply to each.
+use disk::Fate;
+use truetime::Reading;
+use units::{Fault, Key, ShardNo, Splits, Stamp, Stride, TxnId, Value};
+
+/// The shards of a run: one more than there are splits, all with one stride.
+#[derive(Debug, Drop)]
+pub struct Config {
+    pub splits: Splits,
+    pub stride: Stride,
+}
+
+/// What a shard does at an event. `Take` is the delivery of a message, by its number from 0.
+#[derive(Clone, Copy, Debug)]
+pub enum Doing {
+    Take(u64, Reading),
+    Resume(Reading),
+    Settle(TxnId, Reading),
+    Advance(Stamp, Reading),
+    Nudge(TxnId, Reading),
+    Open,
+}
+
+/// What happens.
+#[derive(Debug, Drop)]
+pub enum Act {
+    /// The session of this id begins.
+    Begin(TxnId),
+    Read(TxnId, Key),
+    /// A write of a value, or of `None` for an erasure.
+    Write(TxnId, Key, Option<Value>),
+    Close(TxnId),
+    /// The session gives up.
+    Quit(TxnId),
+    /// A message, by its number from 0, comes to the shard or the session that it was put out for.
+    Deliver(u64, Reading),
+    /// A shard does something.
+    At(ShardNo, Doing),
+    Look(ShardNo, Key, Stamp),
+    /// A look at a view of a shard, by its number from 0.
+    View(ShardNo, u64, Key, Stamp),
+    /// A crash between events: all changes that are not synced are undone.
+    Crash(ShardNo),
+    /// A crash in a device call of a doing, by its number from 0. Each change that is not synced has this fate.
+    CrashIn(ShardNo, u64, Fate, Doing),
+    /// A device call of a doing, by its number from 0, fails.
+    FailIn(ShardNo, u64, Doing),
+}
+
+/// An event, with its true time in microseconds.
+#[derive(Debug, Drop)]
+pub struct Event {
+    pub time: u64,
+    pub act: Act,
+}
+
+/// The reply to an event. A look shows a value, or none.
+#[derive(Debug, Drop)]
+pub enum Reply {
+    Done,
+    Refused(Fault),
+    Shows(Option<Value>),
+    Crashed,
+}
