@@ -1,10 +1,11 @@
 -- What a core answers to a commit of a transaction that it does not know.
-use Rattle.std.proofs.Common.{◌≡◌, ℕ, ◌+◌, ◌<◌, ◌≤◌, ◌^◌, Bool, true, false, cond, nat_eq, nat_le, max, List, [], ◌∷◌, Option, Some, None, refl, sym, ap, ◌∙◌, arith}
+use Rattle.std.proofs.Common.{◌≡◌, inl, inr, ℕ, ◌+◌, ◌<◌, ◌≤◌, ◌^◌, Bool, true, false, cond, nat_eq, nat_le, max, List, [], ◌∷◌, Option, Some, None, refl, sym, ap, ◌∙◌, arith}
 use Rattle.std.proofs.lemmas.Bool.Decides.{nat_tests}
 use Rattle.units.specs.Ids.{Id, same_id}
 use Rattle.units.specs.Keys.{writes_key}
 use Rattle.units.specs.Lists.{any, when}
 use Rattle.units.specs.Locks.{clash, exclusive, locks_of}
+use Rattle.units.specs.declared.fault.Fault.{Fault}
 use Rattle.units.specs.declared.fault.Fault.TheVariants.{RowsFull, TimeSpent}
 use Rattle.units.specs.declared.setup.Setup.{Setup}
 use Rattle.units.specs.declared.writes.Write.{Write}
@@ -18,9 +19,10 @@ use Rattle.protocol.specs.Rows.{Memory, IsUnknown, standing, rebuilt}
 use Rattle.protocol.specs.Draft.{started, Stepped, Refuses, Does, commit_stamp, in_time, time_limit}
 use Rattle.protocol.specs.Step.{step_within, commit_now, is_for}
 use Rattle.shard.specs.declared.settled.Settled.{Settled}
-use Rattle.shard.specs.Held.{facts_by, decided_at}
+use Rattle.shard.specs.Held.{facts_by, decided_at, HoldsOne}
 use Rattle.shard.specs.Input.{commit_message}
 use Rattle.shard.specs.Stepped.{row_limit}
+use Rattle.shard.specs.Untimely.{IsCrowded, IsUntimely}
 use Rattle.shard.proofs.Clashes.{clash-writes}
 use Rattle.shard.proofs.Learns.{learn-decision}
 use Rattle.shard.proofs.Standings.{memory_by, rebuilt-facts}
@@ -110,3 +112,23 @@ module _ (setup : Setup) (epoch floor : ℕ) (ss : List Settled) (installs : Lis
         ∙ ap (λ (d : Committed). Does (Some (Record.Commit d)) (memory_by (max floor d.at) (Some d)) []) (sym is)
         ∙ ap (λ (m : Memory). Does (Some (Record.Commit c)) m []) (sym (rebuilt-facts epoch (max floor c.at) ss installs (Some c)))
         ∙ ap (λ (f : Facts). Does (Some (Record.Commit c)) (rebuilt f) []) (sym (learn-decision epoch floor ss installs c))
+
+  -- ---- as the code tells them apart
+
+  pub untimely : (d : Option Committed) (fault : Fault) → HoldsOne setup.shard floor ss d → IsNew d → when (λ c. same_id c.txn t) d ≡ false
+      → IsUntimely d floor now.latest ws fault → stepped d ≡ Refuses fault
+  untimely d fault stands unknown other (inl late) = late-refused d unknown late.1 ∙ ap (λ f. Refuses f) (sym late.0)
+  untimely None fault stands unknown other (inr crowded) =
+      fresh-late unknown crowded.0 crowded.1.1 ∙ ap (λ f. Refuses f) (sym crowded.1.0)
+  untimely (Some c) fault stands unknown other (inr crowded) = full crowded.1
+    where
+      full : IsCrowded (Some c) floor ws fault → stepped (Some c) ≡ Refuses fault
+      full (inl shares) = full-shares c unknown other (stands c refl).new.reads crowded.0 shares.1 ∙ ap (λ f. Refuses f) (sym shares.0)
+      full (inr (inl room)) = full-room c unknown other (stands c refl).new.reads crowded.0 room.1 room.2 ∙ ap (λ f. Refuses f) (sym room.0)
+      full (inr (inr late)) = full-late c unknown other (stands c refl).new.reads crowded.0 late.1 late.2 ∙ ap (λ f. Refuses f) (sym late.0)
+
+  pub timely-decided : (d : Option Committed) (c : Committed) → IsNew d → d ≡ None → now.latest + 1 < 2 ^ 62 → floor + 1 < 2 ^ 62
+      → c ≡ decided_at t (commit_stamp floor now.latest []) setup.shard ws
+      → stepped d ≡ Does (Some (Record.Commit c)) (rebuilt (learn (facts d) (Record.Commit c))) []
+  timely-decided None c unknown none early room is = fresh-decided unknown early room c is
+  timely-decided (Some e) c unknown none early room is = cc

@@ -6,5 +6,6 @@ pub mod Logs
 pub mod On
 pub mod Replies
 pub mod Stepped
+pub mod Untimely
 pub mod Core
 pub mod Decided

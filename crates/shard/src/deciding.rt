@@ -1,5 +1,5 @@
 //! What a commit is answered, before anything is logged.
-ghost use Rattle.std.specs.Prelude.{◌≡◌, [], None, true, false, MatchResult};
+ghost use Rattle.std.specs.Prelude.{◌≡◌, ◌<◌, ◌+◌, ◌^◌, [], None, true, false, MatchResult};
 ghost use Rattle.units.specs.Ids.{Id, same_id};
 ghost use Rattle.units.specs.Lists.{when};
 ghost use Rattle.record.specs.Facts.{learn};
@@ -28,6 +28,7 @@ pub enum Reply {
 impl State {
     ghost use Rattle.shard.specs.Known.{facts_in};
     ghost use Rattle.shard.specs.Replies.{IsReply, IsRefusedBy};
+    ghost use Rattle.shard.specs.Untimely.{IsUntimely};
 
     /// The commit is for this shard: it is the one part, and each key belongs here.
     #[tactic(auto, unfolding(protocol::specs::Step::is_for))]
@@ -54,23 +55,44 @@ impl State {
             (λ c. (self.now.decided ≡ None) × (c ≡ decided_at txn (commit_stamp self.now.floor now.now.latest []) self.now.setup.shard writes.now) × IsReply step (facts_in self.now) txn (Reply.Decided c))
             (IsRefusedBy step) }
     {
-        let arrived = Stamp::above(now.latest())?;
-        match &self.decided {
-            None => {}
-            Some(c) if c.writes.share_a_key(writes) => return Err(Fault::RowsFull),
-            Some(_) => {
-                let _ = Stamp::above(self.floor)?;
-                return Err(Fault::RowsFull);
-            }
+        let at = match self.commit_time(now, writes) {
+            Ok(at) => at,
+            Err(fault) => return Err(fault),
+        };
+        match writes.copy(alloc) {
+            Ok(writes) => Ok(Committed {
+                txn,
+                at,
+                parts: Parts::only(self.setup.shard),
+                reads: Keys::none(alloc),
+                writes,
+            }),
+            Err(fault) => Err(fault),
         }
-        let served = Stamp::above(self.floor)?;
-        let writes = writes.copy(alloc)?;
-        Ok(Committed {
-            txn,
-            at: arrived.later(served),
-            parts: Parts::only(self.setup.shard),
-            reads: Keys::none(alloc),
-            writes,
-        })
+    }
+
+    // Where a decision stands already, there is no room for another row; but where the new one could be decided at once,
+    // want of time comes first.
+    fn commit_time(&self, now: &Reading, writes: &Writes) -> Result<Stamp, Fault>
+        ensures { MatchResult result
+            (λ at. (self.now.decided ≡ None) × (at ≡ commit_stamp self.now.floor now.now.latest []) × (now.now.latest + 1 < 2 ^ 62) × (self.now.floor + 1 < 2 ^ 62))
+            (IsUntimely self.now.decided self.now.floor now.now.latest writes.now) }
+    {
+        let arrived = match Stamp::above(now.latest()) {
+            Ok(arrived) => arrived,
+            Err(fault) => return Err(fault),
+        };
+        let served = Stamp::above(self.floor);
+        match &self.decided {
+            Some(c) if c.writes.share_a_key(writes) => Err(Fault::RowsFull),
+            Some(_) => match served {
+                Ok(_) => Err(Fault::RowsFull),
+                Err(fault) => Err(fault),
+            },
+            None => match served {
+                Ok(served) => Ok(arrived.later(served)),
+                Err(fault) => Err(fault),
+            },
+        }
     }
 }
