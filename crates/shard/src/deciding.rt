@@ -1,12 +1,12 @@
 //! What a commit is answered, before anything is logged.
-ghost use Rattle.std.specs.Prelude.{◌≡◌, ◌<◌, ◌+◌, ◌^◌, [], None, true, false, MatchResult};
+ghost use Rattle.std.specs.Prelude.{◌≡◌, ◌<◌, ◌+◌, ◌^◌, [], IsTrue, None, true, false, MatchResult};
 ghost use Rattle.units.specs.Ids.{Id, same_id};
 ghost use Rattle.units.specs.Lists.{when};
 ghost use Rattle.record.specs.Facts.{learn};
 ghost use Rattle.protocol.specs.Rows.{standing, rebuilt, IsUnknown};
 ghost use Rattle.protocol.specs.Draft.{commit_stamp, Does};
 ghost use Rattle.protocol.specs.Step.{is_for};
-ghost use Rattle.shard.specs.Held.{decided_at, IsNew};
+ghost use Rattle.shard.specs.Held.{decided_at};
 ghost use Rattle.shard.specs.Input.{commit_message};
 ghost use Rattle.shard.specs.Stepped.{step_from};
 ghost use Rattle.shard.specs.declared.input.Input.{Input};
@@ -27,15 +27,43 @@ pub enum Reply {
 
 impl State {
     ghost use Rattle.shard.specs.Known.{facts_in};
-    ghost use Rattle.shard.specs.Replies.{IsReply, IsRefusedBy};
+    ghost use Rattle.shard.specs.Replies.{IsReply, IsNewReply, IsRefusedBy};
     ghost use Rattle.shard.specs.Untimely.{IsUntimely};
 
     /// The commit is for this shard: it is the one part, and each key belongs here.
     #[tactic(auto, unfolding(protocol::specs::Step::is_for))]
     fn is_ours(&self, part: ShardNo, writes: &Writes) -> bool
-        ensures { (t : Id) → is_for self.now.setup (commit_message t part writes.now) ≡ result }
+        ensures ours { (t : Id) → is_for self.now.setup (commit_message t part writes.now) ≡ result }
+        ensures part { IsTrue result → part ≡ self.now.setup.shard }
     {
         self.setup.owns_writes(writes) && self.setup.shard == part
+    }
+
+    /// What a commit comes to, by how its transaction stands.
+    pub fn on_commit(
+        &self,
+        alloc: Global,
+        now: &Reading,
+        txn: TxnId,
+        part: ShardNo,
+        writes: &Writes,
+    ) -> Result<Reply, Fault>
+        ensures { let step = step_from self.now.setup (facts_in self.now) now.now (Input.Commit txn part writes.now) in
+            MatchResult result
+            (λ reply. IsReply step (facts_in self.now) txn reply × IsNewReply self.now.setup.shard self.now.settled.items self.now.decided reply)
+            (IsRefusedBy step) }
+    {
+        if !self.is_ours(part, writes) {
+            return Err(Fault::Stranger);
+        }
+        match self.find(txn) {
+            Found::Decided => Ok(Reply::Nothing),
+            Found::Settled(at) => Ok(Reply::Told(at)),
+            Found::Unknown => match self.decision(alloc, now, txn, writes) {
+                Ok(c) => Ok(Reply::Decided(c)),
+                Err(fault) => Err(fault),
+            },
+        }
     }
 
     /// The decision on a transaction that is not known: above the latest end of the reading and above all that was

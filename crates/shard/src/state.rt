@@ -5,7 +5,7 @@ ghost use Rattle.units.specs.Lists.{when};
 ghost use Rattle.units.specs.Versions.{versions};
 ghost use Rattle.protocol.specs.Rows.{standing, rebuilt};
 ghost use Rattle.record.specs.Facts.{facts_of, learn};
-ghost use Rattle.shard.specs.Held.{HoldsOne, IsNew};
+ghost use Rattle.shard.specs.Held.{HoldsOne, IsNew, settled_of};
 ghost use Rattle.shard.specs.Decided.{decided_in};
 
 use crate::settled::{Settled, find_settled, place_of};
@@ -64,7 +64,8 @@ impl State {
 
     /// How a transaction stands.
     pub fn find(&self, txn: TxnId) -> Found
-        ensures { IsFound (standing (facts_in self.now) (rebuilt (facts_in self.now)) txn) result }
+        ensures found { IsFound (standing (facts_in self.now) (rebuilt (facts_in self.now)) txn) result }
+        ensures unknown { result ≡ Found.Unknown → (settled_of self.now.settled.items txn ≡ None) × (when (λ c. same_id c.txn txn) self.now.decided ≡ false) }
     {
         match (
             self.decided_of(txn),
