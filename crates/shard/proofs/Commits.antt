@@ -28,7 +28,7 @@ use Rattle.shard.proofs.Learns.{learn-decision}
 use Rattle.shard.proofs.Standings.{memory_by, rebuilt-facts}
 use Rattle.shard.proofs.Steps.{commit-unknown, commit-fresh, commit-full, full_answer}
 
-same-number : (n : ℕ) → nat_eq n n ≡ true
+pub same-number : (n : ℕ) → nat_eq n n ≡ true
 same-number n = grind (arith, nat_tests)
 
 in-limit : (n : ℕ) → n < 2 ^ 62 → nat_le n time_limit ≡ true
@@ -99,16 +99,16 @@ module _ (setup : Setup) (epoch floor : ℕ) (ss : List Settled) (installs : Lis
     pub fresh-late : 2 ^ 62 ≤ floor + 1 → stepped None ≡ Refuses TimeSpent
     fresh-late late =
         fresh-by ∙ ap (λ b. cond b (Does (Some (Record.Commit (decided_at t (commit_stamp floor now.latest []) setup.shard ws)))
-            (memory_by (max floor (commit_stamp floor now.latest [])) (Some (decided_at t (commit_stamp floor now.latest []) setup.shard ws))) []) (Refuses TimeSpent))
-            (past-limit (commit_stamp floor now.latest []) (omega (arith, late)))
+        (memory_by (max floor (commit_stamp floor now.latest [])) (Some (decided_at t (commit_stamp floor now.latest []) setup.shard ws))) []) (Refuses TimeSpent))
+        (past-limit (commit_stamp floor now.latest []) (omega (arith, late)))
 
     -- the decision that it becomes
     pub fresh-decided : floor + 1 < 2 ^ 62 → (c : Committed) → c ≡ decided_at t (commit_stamp floor now.latest []) setup.shard ws
         → stepped None ≡ Does (Some (Record.Commit c)) (rebuilt (learn (facts None) (Record.Commit c))) []
     fresh-decided room c is =
         fresh-by ∙ ap (λ b. cond b (Does (Some (Record.Commit (decided_at t (commit_stamp floor now.latest []) setup.shard ws)))
-            (memory_by (max floor (commit_stamp floor now.latest [])) (Some (decided_at t (commit_stamp floor now.latest []) setup.shard ws))) []) (Refuses TimeSpent))
-            (in-limit (commit_stamp floor now.latest []) (omega (arith, room, early)))
+        (memory_by (max floor (commit_stamp floor now.latest [])) (Some (decided_at t (commit_stamp floor now.latest []) setup.shard ws))) []) (Refuses TimeSpent))
+        (in-limit (commit_stamp floor now.latest []) (omega (arith, room, early)))
         ∙ ap (λ (d : Committed). Does (Some (Record.Commit d)) (memory_by (max floor d.at) (Some d)) []) (sym is)
         ∙ ap (λ (m : Memory). Does (Some (Record.Commit c)) m []) (sym (rebuilt-facts epoch (max floor c.at) ss installs (Some c)))
         ∙ ap (λ (f : Facts). Does (Some (Record.Commit c)) (rebuilt f) []) (sym (learn-decision epoch floor ss installs c))

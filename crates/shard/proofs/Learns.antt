@@ -34,8 +34,10 @@ module _ (epoch floor : ℕ) (ss : List Settled) (installs : List Install) (c : 
     where
       found : entry_for (with_status (entries ss) c.txn (StandsDecided c)) c.txn ≡ Some (entry c.txn (StandsDecided c))
       found = entry_for-same (entries ss) c.txn (StandsDecided c)
+
       floor-is : max floor c.at ≡ floor
       floor-is = omega (arith, stands.past)
+
       entries-are : with_status (with_status (entries ss) c.txn (StandsDecided c)) c.txn (after_outcome (or_unrecorded (entry_for (with_status (entries ss) c.txn (StandsDecided c)) c.txn)) (Some c.at))
           ≡ entries (insert ss (older_count ss c.txn) (settled_as shard))
       entries-are =

@@ -1,6 +1,8 @@
 pub mod Clashes
 pub mod Entries
 pub mod Steps
+pub mod Results
+pub mod Settles
 pub mod Standings
 pub mod Learns
 pub mod Appends

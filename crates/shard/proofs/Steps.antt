@@ -70,7 +70,7 @@ module _ (n epoch floor : ℕ) (facts : Facts) (t : Id) (latest : ℕ) (ws : Lis
   pub commit-fresh : let s : ℕ = commit_stamp floor latest [] in
       commit_now t latest (n ∷ []) [] ws empty
       ≡ in_time s (Does (Some (Record.Commit (decided_at t s n ws)))
-        (record { last = max floor s; rows = record { txn = t; held = with_locks [] (exclusive ws); phase = IsDecided s (n ∷ []) } ∷ []; ended = [] }) [])
+      (record { last = max floor s; rows = record { txn = t; held = with_locks [] (exclusive ws); phase = IsDecided s (n ∷ []) } ∷ []; ended = [] }) [])
   unfolding commit_now wound end_all wounded is_free take_locks put_row commit_granted decide decide_at raise log with_room
   commit-fresh = rw (same, same_id-refl t) refl
 

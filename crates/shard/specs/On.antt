@@ -9,7 +9,7 @@ use Rattle.disk.specs.Image.{Surface, MayLeave}
 use Rattle.disk.specs.File.{File, surface}
 use Rattle.disk.specs.Moments.{LeavesOnly}
 use Rattle.record.specs.declared.record.Record.{Record}
-use Rattle.record.specs.Facts.{Facts}
+use Rattle.record.specs.Facts.{Facts, learn}
 use Rattle.message.specs.declared.message.Envelope.{Envelope}
 use Rattle.protocol.specs.Rows.{Memory as RowMemory, rebuilt}
 use Rattle.protocol.specs.Draft.{Stepped, Refuses, Does}
@@ -42,32 +42,45 @@ abbrev pub IsLogFull : ℕ → Option Record → Type 0
 IsLogFull gate None = ⊥
 IsLogFull gate (Some r) = 2 ^ 40 < next_gate gate r + 1
 
--- Why an input is refused. A stopped core refuses all. Else it is the step's own refusal; where the step would be done,
--- a growth was refused, the log would pass its limit, or the device failed.
+-- why a record is not logged: a growth was refused, the log would pass its limit, or the device failed
+abbrev pub IsLogCause : Fault → Type 0 → Type 0 → Type 0
+IsLogCause fault full failed = (fault ≡ Memory) ⊎ (((fault ≡ TimeSpent) × full) ⊎ ((fault ≡ Device) × failed))
+
+-- Why an input is refused. A stopped core refuses all. Else it is the step's own refusal; or, where the step would be
+-- done, why its record is not logged.
 abbrev pub IsCause : Bool → Stepped → Fault → Type 0 → Type 0 → Type 0
 IsCause true step fault full failed = fault ≡ Stopped
 IsCause false (Refuses why) fault full failed = fault ≡ why
-IsCause false (Does logged memory outbox) fault full failed =
-    (fault ≡ Memory) ⊎ (((fault ≡ TimeSpent) × full) ⊎ ((fault ≡ Device) × failed))
+IsCause false (Does logged memory outbox) fault full failed = IsLogCause fault full failed
 
 -- what stands after a refusal: all as it was, but that a device's failure stops the core
 abbrev pub IsKept : {D : Type 0} → (D → File) → Seen D → Seen D → Fault → Type 0
 IsKept file old new fault =
     (new.facts ≡ old.facts) × ((fault ≡ Device) ⊎ ((new.stopped ≡ old.stopped) × (new.gate ≡ old.gate) × (file new.disk ≡ file old.disk)))
 
--- An input was taken, or refused.
-pub record HasStepped {D : Type 0} (keeps : Type 0) (file : D → File) (clock : D → ℕ) (since : D → ℕ → List ℕ → Type 0) (failures : D → ℕ)
-    (obeys : Type 0) (plan : D → Plan) (old new : Seen D) (step : Stepped) (result : Result (List Envelope) Fault) : Type 0 where
-  pub setup : new.setup ≡ old.setup
-  pub failures_stay : failures old.disk ≤ failures new.disk
-  pub done : IfOk result (λ out. IsFalse old.stopped × IsFalse new.stopped × IsDone step old.facts new.facts out)
-  pub cause : IfErr result (λ fault. IsCause old.stopped step fault (IsLogFull old.gate (record_of step)) ((failures old.disk < failures new.disk) × IsTrue new.stopped))
-  pub kept : IfErr result (IsKept file old new)
-  -- a crash at any moment since the start leaves the old records, or these with the step's
-  pub any_moment : IsFalse old.stopped → keeps →
-      LeavesOnly clock since old.disk new.disk (HoldsOldOrWith (records_in (surface (file old.disk)).seen) (record_of step))
-  -- from then on every crash leaves the records with the step's, and a read gives them
-  pub durable : OnOk result (keeps → KeepsRecords (surface (file new.disk)) (and_logged (records_in (surface (file old.disk)).seen) (record_of step)))
-  pub read : OnOk result (keeps → records_in (surface (file new.disk)).seen ≡ and_logged (records_in (surface (file old.disk)).seen) (record_of step))
-  -- with no call armed the device does not fail
-  pub planned : obeys → plan old.disk ≡ Never → (plan new.disk ≡ Never) × IfErr result (λ fault. fault ≢ Device)
+module _ {D : Type 0} (keeps obeys : Type 0) (file : D → File) (clock : D → ℕ) (since : D → ℕ → List ℕ → Type 0) (failures : D → ℕ) (plan : D → Plan) where
+  -- what holds of a core's disk over a call that logs a record, or nothing, whatever it answers
+  pub record HasWritten {T : Type 0} (old new : Seen D) (logged : Option Record) (result : Result T Fault) : Type 0 where
+    pub setup : new.setup ≡ old.setup
+    pub failures_stay : failures old.disk ≤ failures new.disk
+    -- a crash at any moment since the start leaves the old records, or these with the new one
+    pub any_moment : IsFalse old.stopped → keeps →
+        LeavesOnly clock since old.disk new.disk (HoldsOldOrWith (records_in (surface (file old.disk)).seen) logged)
+    -- from then on every crash leaves the records with the new one, and a read gives them
+    pub durable : OnOk result (keeps → KeepsRecords (surface (file new.disk)) (and_logged (records_in (surface (file old.disk)).seen) logged))
+    pub read : OnOk result (keeps → records_in (surface (file new.disk)).seen ≡ and_logged (records_in (surface (file old.disk)).seen) logged)
+    pub kept : IfErr result (IsKept file old new)
+    -- with no call armed the device does not fail
+    pub planned : obeys → plan old.disk ≡ Never → (plan new.disk ≡ Never) × IfErr result (λ fault. fault ≢ Device)
+
+  -- a record was logged and learnt, or not
+  pub record HasLogged {T : Type 0} (old new : Seen D) (logged : Record) (result : Result T Fault) : Type 0 where
+    pub written : HasWritten old new (Some logged) result
+    pub done : OnOk result (IsFalse new.stopped × (new.facts ≡ learn old.facts logged))
+    pub cause : IfErr result (λ fault. IsLogCause fault (IsLogFull old.gate (Some logged)) ((failures old.disk < failures new.disk) × IsTrue new.stopped))
+
+  -- an input was taken, or refused
+  pub record HasStepped (old new : Seen D) (step : Stepped) (result : Result (List Envelope) Fault) : Type 0 where
+    pub written : HasWritten old new (record_of step) result
+    pub done : IfOk result (λ out. IsFalse old.stopped × IsFalse new.stopped × IsDone step old.facts new.facts out)
+    pub cause : IfErr result (λ fault. IsCause old.stopped step fault (IsLogFull old.gate (record_of step)) ((failures old.disk < failures new.disk) × IsTrue new.stopped))

@@ -1,5 +1,5 @@
 //! What a commit is answered, before anything is logged.
-ghost use Rattle.std.specs.Prelude.{◌≡◌, ◌<◌, ◌+◌, ◌^◌, [], IsTrue, None, true, false, MatchResult};
+ghost use Rattle.std.specs.Prelude.{◌≡◌, ◌≢◌, ◌<◌, ◌+◌, ◌^◌, [], IsTrue, None, true, false, MatchResult, IfErr};
 ghost use Rattle.units.specs.Ids.{Id, same_id};
 ghost use Rattle.units.specs.Lists.{when};
 ghost use Rattle.record.specs.Facts.{learn};
@@ -48,7 +48,8 @@ impl State {
         part: ShardNo,
         writes: &Writes,
     ) -> Result<Reply, Fault>
-        ensures { let step = step_from self.now.setup (facts_in self.now) now.now (Input.Commit txn part writes.now) in
+        ensures device { IfErr result (λ fault. fault ≢ Fault.Device) }
+        ensures reply { let step = step_from self.now.setup (facts_in self.now) now.now (Input.Commit txn part writes.now) in
             MatchResult result
             (λ reply. IsReply step (facts_in self.now) txn reply × IsNewReply self.now.setup.shard self.now.settled.items self.now.decided reply)
             (IsRefusedBy step) }
@@ -78,7 +79,8 @@ impl State {
         requires ours { is_for self.now.setup (commit_message txn self.now.setup.shard writes.now) ≡ true }
         requires unknown { standing (facts_in self.now) (rebuilt (facts_in self.now)) txn ≡ IsUnknown }
         requires apart { when (λ c. same_id c.txn txn) self.now.decided ≡ false }
-        ensures { let step = step_from self.now.setup (facts_in self.now) now.now (Input.Commit txn self.now.setup.shard writes.now) in
+        ensures device { IfErr result (λ fault. fault ≢ Fault.Device) }
+        ensures decision { let step = step_from self.now.setup (facts_in self.now) now.now (Input.Commit txn self.now.setup.shard writes.now) in
             MatchResult result
             (λ c. (self.now.decided ≡ None) × (c ≡ decided_at txn (commit_stamp self.now.floor now.now.latest []) self.now.setup.shard writes.now) × IsReply step (facts_in self.now) txn (Reply.Decided c))
             (IsRefusedBy step) }
@@ -102,7 +104,8 @@ impl State {
     // Where a decision stands already, there is no room for another row; but where the new one could be decided at once,
     // want of time comes first.
     fn commit_time(&self, now: &Reading, writes: &Writes) -> Result<Stamp, Fault>
-        ensures { MatchResult result
+        ensures device { IfErr result (λ fault. fault ≢ Fault.Device) }
+        ensures time { MatchResult result
             (λ at. (self.now.decided ≡ None) × (at ≡ commit_stamp self.now.floor now.now.latest []) × (now.now.latest + 1 < 2 ^ 62) × (self.now.floor + 1 < 2 ^ 62))
             (IsUntimely self.now.decided self.now.floor now.now.latest writes.now) }
     {

@@ -1,26 +1,28 @@
 //! The core of a shard.
-ghost use Rattle.std.specs.Prelude.{◌≡◌, ◌≢◌, ◌⊎◌, ◌<◌, [], ◌∷◌, Some, None, Ok, IsTrue, IsFalse, IsSome, IfOk, IfErr, IfSome, true, false};
+ghost use Rattle.std.specs.Prelude.{◌≡◌, ◌⊎◌, ◌<◌, [], ◌∷◌, Some, Ok, IsFalse, IsSome, IfOk, IfErr, IfSome, vec_len, vec_capacity};
 ghost use Rattle.disk.specs.File.{surface};
 ghost use Rattle.disk.specs.declared.plan.Plan.TheVariants.{Never};
 ghost use Rattle.gatelog.specs.Shown.{disk_of, gate_at, is_stopped};
-ghost use Rattle.protocol.specs.Rows.{standing, rebuilt, IsUnknown};
+ghost use Rattle.protocol.specs.Draft.{done_to};
 ghost use Rattle.record.specs.Facts.{facts_of};
 ghost use Rattle.shard.specs.Known.{facts_in};
 ghost use Rattle.shard.specs.Logs.{records_in, facts_logged, KeepsRecords};
-ghost use Rattle.shard.specs.On.{HasStepped};
+ghost use Rattle.shard.specs.On.{HasLogged, HasStepped};
+ghost use Rattle.shard.specs.Held.{IsNew};
 ghost use Rattle.shard.specs.Decided.{decided_in};
 ghost use Rattle.shard.specs.Stepped.{step_from};
 
+use crate::deciding::Reply;
 use crate::input::Input;
 use crate::logging::append_record;
-use crate::state::{Found, State};
+use crate::state::State;
 use disk::Disk;
 use gatelog::GateLog;
 use message::{Address, Done, Envelope, Message, Outbox};
 use record::{Committed, Record};
 use std::alloc::Global;
 use truetime::Reading;
-use units::{Epoch, Fault, Parts, Setup, ShardNo, Stamp, TxnId, Writes};
+use units::{Epoch, Fault, Setup, ShardNo, Stamp, TxnId, Writes};
 use waiting::{Waited, pass};
 
 /// The core of a shard: its log, and what the log determines. Once a device call has failed in it, it is stopped, and
@@ -56,6 +58,114 @@ impl<D: Disk> Core<D> {
         }
     }
 
+    /// Takes an input. What it does is the step of the definitions; it appends at most one record. All growth is made
+    /// before, and a core that is stopped by its device refuses every input.
+    pub fn on(&mut self, alloc: Global, now: &Reading, input: &Input) -> Result<Outbox, Fault>
+        ensures { HasStepped D.keeps_model D.obeys D.file D.clock D.since D.failures D.plan (seen self.old) (seen self.new)
+            (step_from (seen self.old).setup (seen self.old).facts now.now input.now) result }
+    {
+        if self.gate_log.is_stopped() {
+            return Err(Fault::Stopped);
+        }
+        match input {
+            Input::Commit { txn, part, writes } => self.commit(alloc, now, *txn, *part, writes),
+            Input::Settle(txn) => self.settle(alloc, now, *txn),
+        }
+    }
+
+    fn commit(
+        &mut self,
+        alloc: Global,
+        now: &Reading,
+        txn: TxnId,
+        part: ShardNo,
+        writes: &Writes,
+    ) -> Result<Outbox, Fault>
+        requires running { IsFalse (seen self.old).stopped }
+        requires stands { D.keeps_model → KeepsRecords (surface (D.file (seen self.old).disk)) (records_in (surface (D.file (seen self.old).disk)).seen) }
+        ensures { HasStepped D.keeps_model D.obeys D.file D.clock D.since D.failures D.plan (seen self.old) (seen self.new)
+            (step_from (seen self.old).setup (seen self.old).facts now.now (Input.Commit txn part writes.now)) result }
+    {
+        let reply = match self.state.on_commit(alloc, now, txn, part, writes) {
+            Ok(reply) => reply,
+            Err(fault) => return Err(fault),
+        };
+        match reply {
+            Reply::Nothing => Ok(Outbox::none(alloc)),
+            Reply::Told(at) => told(alloc, txn, at),
+            Reply::Decided(c) => match self.log_decision(alloc, c) {
+                Ok(()) => Ok(Outbox::none(alloc)),
+                Err(fault) => Err(fault),
+            },
+        }
+    }
+
+    fn settle(&mut self, alloc: Global, now: &Reading, txn: TxnId) -> Result<Outbox, Fault>
+        requires running { IsFalse (seen self.old).stopped }
+        requires stands { D.keeps_model → KeepsRecords (surface (D.file (seen self.old).disk)) (records_in (surface (D.file (seen self.old).disk)).seen) }
+        ensures { HasStepped D.keeps_model D.obeys D.file D.clock D.since D.failures D.plan (seen self.old) (seen self.new)
+            (step_from (seen self.old).setup (seen self.old).facts now.now (Input.Settle txn)) result }
+    {
+        let at = match self.state.decided_of(txn) {
+            Some(c) => c.at,
+            None => return Err(Fault::Stranger),
+        };
+        let waited = match pass(at, now) {
+            Ok(waited) => waited,
+            Err(fault) => return Err(fault),
+        };
+        match self.log_outcome(alloc, txn, at) {
+            Ok(room) => Ok(done(room, txn, waited)),
+            Err(fault) => {
+                let _ = waited.spend();
+                Err(fault)
+            }
+        }
+    }
+
+    // Logs a decision, and learns it.
+    fn log_decision(&mut self, alloc: Global, c: Committed) -> Result<(), Fault>
+        requires running { IsFalse (seen self.old).stopped }
+        requires none { self.old.state.decided ≡ None }
+        requires new { IsNew self.old.state.setup.shard self.old.state.settled.items c }
+        ensures { HasLogged D.keeps_model D.obeys D.file D.clock D.since D.failures D.plan (seen self.old) (seen self.new) (Record.Commit c) result }
+    {
+        let decision = Record::Commit(c);
+        match append_record(&mut self.gate_log, alloc, &decision) {
+            Ok(()) => {
+                if let Some(c) = decision.into_commit() {
+                    self.state.decide(c);
+                }
+                Ok(())
+            }
+            Err(fault) => Err(fault),
+        }
+    }
+
+    // Logs the outcome of the decision that stands, and learns it. Gives a list with room for one message.
+    fn log_outcome(&mut self, alloc: Global, txn: TxnId, at: Stamp) -> Result<Vec<Envelope>, Fault>
+        requires running { IsFalse (seen self.old).stopped }
+        requires stands { D.keeps_model → KeepsRecords (surface (D.file (seen self.old).disk)) (records_in (surface (D.file (seen self.old).disk)).seen) }
+        requires some { IsSome self.old.state.decided }
+        requires decided { IfSome self.old.state.decided (λ c. (c.txn ≡ txn) × (c.at ≡ at)) }
+        ensures logged { HasLogged D.keeps_model D.obeys D.file D.clock D.since D.failures D.plan (seen self.old) (seen self.new) (Record.Outcome txn (Some at)) result }
+        ensures room { IfOk result (λ room. (room.items ≡ []) × (vec_len room < vec_capacity room)) }
+    {
+        let room = room_for_one(alloc)?;
+        self.state.reserve()?;
+        let outcome = Record::Outcome {
+            txn,
+            outcome: Some(at),
+        };
+        match append_record(&mut self.gate_log, alloc, &outcome) {
+            Ok(()) => {
+                self.state.settle();
+                Ok(room)
+            }
+            Err(fault) => Err(fault),
+        }
+    }
+
     /// The n-th transaction, from 0 by ascending id, that is decided and not settled, with its timestamp.
     pub fn decided(&self, n: usize) -> Option<(TxnId, Stamp)>
         ensures { result ≡ decided_in (seen self.now).facts n }
@@ -70,4 +180,48 @@ impl<D: Disk> Core<D> {
         let Core { gate_log, state: _ } = self;
         gate_log.into_disk()
     }
+}
+
+// The end of a transaction that committed, to its session.
+fn done_to(txn: TxnId, at: Stamp) -> Envelope
+    ensures { result ≡ done_to txn (Some at) }
+{
+    Envelope {
+        to: Address::Session(txn),
+        message: Message::Done(Done {
+            txn,
+            outcome: Some(at),
+        }),
+    }
+}
+
+// An empty list of messages, with room for one.
+fn room_for_one(alloc: Global) -> Result<Vec<Envelope>, Fault>
+    ensures room { IfOk result (λ room. (room.items ≡ []) × (vec_len room < vec_capacity room)) }
+    ensures memory { IfErr result (λ fault. fault ≡ Fault.Memory) }
+{
+    let mut room = Vec::new(alloc);
+    room.reserve(1)?;
+    Ok(room)
+}
+
+// Tells a session again what the log has as its transaction's outcome.
+fn told(alloc: Global, txn: TxnId, at: Stamp) -> Result<Outbox, Fault>
+    ensures told { IfOk result (λ out. out ≡ done_to txn (Some at) ∷ []) }
+    ensures memory { IfErr result (λ fault. fault ≡ Fault.Memory) }
+{
+    let mut room = room_for_one(alloc)?;
+    room.push_reserved(done_to(txn, at));
+    Ok(Outbox::from_vec(room))
+}
+
+// Tells a session that its transaction committed, once the timestamp has passed.
+fn done(room: Vec<Envelope>, txn: TxnId, waited: Waited) -> Outbox
+    requires empty { room.items ≡ [] }
+    requires room { vec_len room < vec_capacity room }
+    ensures { result ≡ done_to txn (Some waited) ∷ [] }
+{
+    let mut room = room;
+    room.push_reserved(done_to(txn, waited.spend()));
+    Outbox::from_vec(room)
 }

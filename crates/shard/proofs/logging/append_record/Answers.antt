@@ -16,11 +16,11 @@ returns-in_err-logged-clause-any_moment g c running keeps =
     let same = c.in_ok-staged.ensures.same in
     let staged = c.in_ok-staged.staged in
     and_then g.D.Disk.clock g.D.Disk.since (disk_of c.args.gate_log.now) (disk_of c.stage.new.self) (disk_of c.append.new.self)
-        (MayLeave (surface before)) (IsOldOrWith (log (surface now).seen) staged) _
-        c.in_ok-staged.ensures.time
-        (c.append.ensures.any_moment (same.1 ∙ running) keeps)
-        (λ image may. inl (ap items_of (c.is_stopped.ensures.stands c.if-is_stopped.false keeps image may)))
-        (old_or_with before now same.2 staged c.args.item.now c.in_ok-staged.ensures.staged.1)
+    (MayLeave (surface before)) (IsOldOrWith (log (surface now).seen) staged) _
+    c.in_ok-staged.ensures.time
+    (c.append.ensures.any_moment (same.1 ∙ running) keeps)
+    (λ image may. inl (ap items_of (c.is_stopped.ensures.stands c.if-is_stopped.false keeps image may)))
+    (old_or_with before now same.2 staged c.args.item.now c.in_ok-staged.ensures.staged.1)
 
 pub returns-clause-any_moment : goal.returns-clause-any_moment
 returns-clause-any_moment g c running keeps =
@@ -29,20 +29,20 @@ returns-clause-any_moment g c running keeps =
     let same = c.in_ok-staged.ensures.same in
     let staged = c.in_ok-staged.staged in
     and_then g.D.Disk.clock g.D.Disk.since (disk_of c.args.gate_log.now) (disk_of c.stage.new.self) (disk_of c.append.new.self)
-        (MayLeave (surface before)) (IsOldOrWith (log (surface now).seen) staged) _
-        c.in_ok-staged.ensures.time
-        (c.append.ensures.any_moment (same.1 ∙ running) keeps)
-        (λ image may. inl (ap items_of (c.is_stopped.ensures.stands c.if-is_stopped.false keeps image may)))
-        (old_or_with before now same.2 staged c.args.item.now c.in_ok-staged.ensures.staged.1)
+    (MayLeave (surface before)) (IsOldOrWith (log (surface now).seen) staged) _
+    c.in_ok-staged.ensures.time
+    (c.append.ensures.any_moment (same.1 ∙ running) keeps)
+    (λ image may. inl (ap items_of (c.is_stopped.ensures.stands c.if-is_stopped.false keeps image may)))
+    (old_or_with before now same.2 staged c.args.item.now c.in_ok-staged.ensures.staged.1)
 
 pub returns-clause-durable : goal.returns-clause-durable
 returns-clause-durable g c keeps image may =
     let same = c.in_ok-staged.ensures.same in
     logged-is (g.D.Disk.file (disk_of c.args.gate_log.now)) (g.D.Disk.file (disk_of c.stage.new.self)) same.2 c.in_ok-staged.staged c.args.item.now c.in_ok-staged.ensures.staged.1
-        image (c.in_ok-logged.ensures.durable keeps image may)
+    image (c.in_ok-logged.ensures.durable keeps image may)
 
 pub returns-clause-read : goal.returns-clause-read
 returns-clause-read g c keeps =
     let same = c.in_ok-staged.ensures.same in
     logged-is (g.D.Disk.file (disk_of c.args.gate_log.now)) (g.D.Disk.file (disk_of c.stage.new.self)) same.2 c.in_ok-staged.staged c.args.item.now c.in_ok-staged.ensures.staged.1
-        (surface (g.D.Disk.file (disk_of c.append.new.self))).seen (c.in_ok-logged.ensures.read keeps)
+    (surface (g.D.Disk.file (disk_of c.append.new.self))).seen (c.in_ok-logged.ensures.read keeps)
