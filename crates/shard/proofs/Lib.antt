@@ -6,5 +6,6 @@ pub mod Settles
 pub mod Standings
 pub mod Learns
 pub mod Appends
+pub mod Commitments
 pub mod Commits
 pub mod Decisions

@@ -5,6 +5,7 @@ pub mod Known
 pub mod Logs
 pub mod On
 pub mod Replies
+pub mod Settled
 pub mod Stepped
 pub mod Untimely
 pub mod Core

@@ -10,6 +10,7 @@ ghost use Rattle.shard.specs.Logs.{records_in, facts_logged, KeepsRecords};
 ghost use Rattle.shard.specs.On.{HasLogged, HasStepped};
 ghost use Rattle.shard.specs.Held.{IsNew};
 ghost use Rattle.shard.specs.Decided.{decided_in};
+ghost use Rattle.shard.specs.Settled.{IsDurablySettled};
 ghost use Rattle.shard.specs.Stepped.{step_from};
 
 use crate::deciding::Reply;
@@ -61,8 +62,9 @@ impl<D: Disk> Core<D> {
     /// Takes an input. What it does is the step of the definitions; it appends at most one record. All growth is made
     /// before, and a core that is stopped by its device refuses every input.
     pub fn on(&mut self, alloc: Global, now: &Reading, input: &Input) -> Result<Outbox, Fault>
-        ensures { HasStepped D.keeps_model D.obeys D.file D.clock D.since D.failures D.plan (seen self.old) (seen self.new)
+        ensures stepped { HasStepped D.keeps_model D.obeys D.file D.clock D.since D.failures D.plan (seen self.old) (seen self.new)
             (step_from (seen self.old).setup (seen self.old).facts now.now input.now) result }
+        ensures settled { IsDurablySettled D.keeps_model (surface (D.file (seen self.new).disk)) input.now result }
     {
         if self.gate_log.is_stopped() {
             return Err(Fault::Stopped);
@@ -103,8 +105,9 @@ impl<D: Disk> Core<D> {
     fn settle(&mut self, alloc: Global, now: &Reading, txn: TxnId) -> Result<Outbox, Fault>
         requires running { IsFalse (seen self.old).stopped }
         requires stands { D.keeps_model → KeepsRecords (surface (D.file (seen self.old).disk)) (records_in (surface (D.file (seen self.old).disk)).seen) }
-        ensures { HasStepped D.keeps_model D.obeys D.file D.clock D.since D.failures D.plan (seen self.old) (seen self.new)
+        ensures stepped { HasStepped D.keeps_model D.obeys D.file D.clock D.since D.failures D.plan (seen self.old) (seen self.new)
             (step_from (seen self.old).setup (seen self.old).facts now.now (Input.Settle txn)) result }
+        ensures settled { IsDurablySettled D.keeps_model (surface (D.file (seen self.new).disk)) (Input.Settle txn) result }
     {
         let at = match self.state.decided_of(txn) {
             Some(c) => c.at,

@@ -1,0 +1,99 @@
+-- A decision that stands was logged.
+use Rattle.std.proofs.Common.{◌≡◌, ◌⊎◌, inl, inr, ⊎_elim, ℕ, Bool, true, false, ◌&&◌, ◌||◌, nat_eq, List, [], ◌∷◌, ◌++◌, fold, Option, Some, None, Result, Ok, Err, refl, sym, ap, ◌∙◌, subst, arith}
+use Rattle.std.proofs.lemmas.Bool.Decides.{nat_tests}
+use Rattle.units.specs.Ids.{Id, same_id}
+use Rattle.units.specs.Lists.{any}
+use Rattle.units.specs.declared.fault.Fault.{Fault}
+use Rattle.units.proofs.IdLaws.{same_id-is}
+use Rattle.record.specs.declared.record.Committed.{Committed}
+use Rattle.record.specs.declared.record.Record.{Record}
+use Rattle.record.specs.Records.{Status, Unrecorded, StandsPrepared, StandsDecided, HasAborted, HasSettled, HasClosed}
+use Rattle.record.specs.Facts.{Facts, Entry, learn, recorded, or_unrecorded, with_status, after_outcome}
+use Rattle.shard.specs.Logs.{and_logged, facts_logged, learned, nothing}
+use Rattle.shard.specs.Settled.{is_commit, HasCommit}
+use Rattle.units.specs.declared.writes.Install.{Install}
+use Rattle.shard.specs.declared.settled.Settled.{Settled}
+use Rattle.shard.specs.Held.{facts_by}
+use Rattle.shard.proofs.Entries.{entry, entries, entry_for, entry_for-same, entry_for-other}
+
+-- the timestamp of a decision that stands
+abbrev decided_stamp : Status → ℕ
+decided_stamp (StandsDecided c) = c.at
+decided_stamp _ = 0
+
+module _ (t : Id) (c : Committed) where
+  -- an entry given anew for an id
+  given : (es : List Entry) (u : Id) (status : Status) (same : Bool) → same_id u t ≡ same → or_unrecorded (entry_for (with_status es u status) t) ≡ StandsDecided c
+      → ((same ≡ true) × (status ≡ StandsDecided c)) ⊎ (or_unrecorded (entry_for es t) ≡ StandsDecided c)
+  given es u status true is h =
+      inl (refl, sym (ap or_unrecorded (subst (λ v. entry_for (with_status es u status) v ≡ Some (entry u status)) (same_id-is u t is) (entry_for-same es u status))) ∙ h)
+  given es u status false is h = inr (sym (ap or_unrecorded (entry_for-other es u t status is)) ∙ h)
+
+  not-decided : (status : Status) (outcome : Option ℕ) → after_outcome status outcome ≡ StandsDecided c → ⊥
+  not-decided Unrecorded outcome h = cc
+  not-decided (StandsPrepared p) outcome h = cc
+  not-decided (StandsDecided d) outcome h = cc
+  not-decided HasAborted outcome h = cc
+  not-decided (HasSettled at parts) outcome h = cc
+  not-decided (HasClosed n o) outcome h = cc
+
+  same-stamp : (d : Committed) → same_id d.txn t ≡ true → StandsDecided d ≡ StandsDecided c → is_commit t c.at (Record.Commit d) ≡ true
+  same-stamp d same h = stamped (same_id d.txn t) d.at c.at same (ap decided_stamp h)
+    where
+      stamped : (b : Bool) (m n : ℕ) → b ≡ true → m ≡ n → (b && nat_eq m n) ≡ true
+      stamped b m n h e = grind (arith, nat_tests)
+
+  -- one record
+  learn-one : (f : Facts) (r : Record) → recorded (learn f r) t ≡ StandsDecided c → (recorded f t ≡ StandsDecided c) ⊎ (is_commit t c.at r ≡ true)
+  unfolding learn
+  learn-one f (Record.Opened epoch) h = inl h
+  learn-one f (Record.Ceiling at) h = inl h
+  learn-one f (Record.Prepare p) h = ⊎_elim (λ same. absurd (cc)) (λ before. inl before) (given f.entries p.txn (StandsPrepared p) (same_id p.txn t) refl h)
+  learn-one f (Record.Commit d) h =
+      ⊎_elim (λ same. inr (same-stamp d same.0 same.1)) (λ before. inl before) (given f.entries d.txn (StandsDecided d) (same_id d.txn t) refl h)
+  learn-one f (Record.Abort u) h = ⊎_elim (λ same. absurd (cc)) (λ before. inl before) (given f.entries u HasAborted (same_id u t) refl h)
+  learn-one f (Record.Outcome u outcome) h =
+      ⊎_elim (λ same. absurd (not-decided (recorded f u) outcome same.1)) (λ before. inl before) (given f.entries u (after_outcome (recorded f u) outcome) (same_id u t) refl h)
+
+  or-right : (a b : Bool) → b ≡ true → (a || b) ≡ true
+  or-right true b h = refl
+  or-right false b h = h
+
+  or-left : (a b : Bool) → a ≡ true → (a || b) ≡ true
+  or-left a b h = ap (λ x. x || b) h
+
+  -- a list of records
+  learn-all : (f : Facts) (rs : List Record) → recorded (fold learn f rs) t ≡ StandsDecided c → (recorded f t ≡ StandsDecided c) ⊎ (any (is_commit t c.at) rs ≡ true)
+  learn-all f [] h = inl h
+  learn-all f (r ∷ rs) h =
+      ⊎_elim (λ here. ⊎_elim (λ before. inl before) (λ is. inr (or-left (is_commit t c.at r) (any (is_commit t c.at) rs) is)) (learn-one f r here))
+          (λ later. inr (or-right (is_commit t c.at r) (any (is_commit t c.at) rs) later))
+          (learn-all (learn f r) rs h)
+
+  any-more : (test : Record → Bool) (rs more : List Record) → any test rs ≡ true → any test (rs ++ more) ≡ true
+  any-more test (r ∷ rs) more h = step (test r) h (any-more test rs more)
+    where
+      step : (b : Bool) → (b || any test rs) ≡ true → (any test rs ≡ true → any test (rs ++ more) ≡ true) → (b || any test (rs ++ more)) ≡ true
+      step true e ih = refl
+      step false e ih = ih e
+  any-more test [] more h = cc
+
+  abbrev given-facts : Option Facts → Facts
+  given-facts (Some f) = f
+  given-facts None = nothing
+
+  -- what stands decided by the facts of a log is in that log, and in one with a record more
+  pub has-commit : (records : Result (List Record) Fault) (facts : Facts) (r : Record) → facts_logged records ≡ Some facts → recorded facts t ≡ StandsDecided c
+      → HasCommit (and_logged records (Some r)) t c.at
+  has-commit (Ok rs) facts r logged stands =
+      let same : learned rs ≡ facts = ap given-facts logged in
+      any-more (is_commit t c.at) rs (r ∷ [])
+        (⊎_elim (λ before. absurd (cc)) (λ is. is) (learn-all nothing rs (ap (λ f. recorded f t) same ∙ stands)))
+  has-commit (Err fault) facts r logged stands = absurd (cc)
+
+-- the status of the decision that stands
+pub recorded-decided : (epoch floor : ℕ) (ss : List Settled) (installs : List Install) (d : Committed) (t : Id) → same_id d.txn t ≡ true
+    → recorded (facts_by epoch floor (Some d) ss installs) t ≡ StandsDecided d
+recorded-decided epoch floor ss installs d t same =
+    ap or_unrecorded (subst (λ v. entry_for (with_status (entries ss) d.txn (StandsDecided d)) v ≡ Some (entry d.txn (StandsDecided d))) (same_id-is d.txn t same)
+        (entry_for-same (entries ss) d.txn (StandsDecided d)))
