@@ -1,0 +1,4 @@
+pub mod Halves
+pub mod Newest
+pub mod Kept
+pub mod Places

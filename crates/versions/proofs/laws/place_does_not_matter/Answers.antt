@@ -1,0 +1,5 @@
+use Rattle.versions.proofs.Places as places
+use Rattle.versions.proofs.laws.place_does_not_matter.Goals as goal
+
+pub returns-clause-one : goal.returns-clause-one
+returns-clause-one c = places.place_does_not_matter
