@@ -2,3 +2,4 @@ pub mod Halves
 pub mod Newest
 pub mod Kept
 pub mod Places
+pub mod AtOnce

@@ -146,9 +146,6 @@ same_by : (test : Install → Bool) (i : Install) (ordered log : List Install)
     → value_by test ordered ≡ value_by test log → value_by test (installed ordered i) ≡ value_by test (log ++ i ∷ [])
 same_by test i ordered log h same = by_test (test i) refl
   where
-    value : Option Install → Option (List ℕ)
-    value found = follow found (λ i. i.value)
-
     by_test : (b : Bool) → test i ≡ b → value_by test (installed ordered i) ≡ value_by test (log ++ i ∷ [])
     by_test true k =
         ap (λ found. follow found (λ i. i.value)) (newest-installed test i ordered k (h k).0 ∙ sym (newest-last test i log k (h k).1))

@@ -24,6 +24,11 @@ installed [] install = install ∷ []
 installed (next ∷ rest) install =
     cond (is_not_after install.key install.at next) (next ∷ installed rest install) (install ∷ next ∷ rest)
 
+-- the versions with several more, one after another
+abbrev pub all_installed : List Install → List Install → List Install
+all_installed ordered [] = ordered
+all_installed ordered (install ∷ more) = all_installed (installed ordered install) more
+
 -- the first is before the second
 abbrev pub comes_before : Install → Install → Bool
 comes_before install next = key_before install.key next.key || (same_key install.key next.key && nat_lt install.at next.at)

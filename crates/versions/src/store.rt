@@ -1,13 +1,13 @@
 //! The versions of keys.
 ghost use Rattle.std.specs.Prelude.{◌≡◌, ℕ, ◌+◌, ◌<◌, ◌≤◌, ◌^◌, [], length, IsTrue, IsOk, IfErr, OnOk};
 ghost use Rattle.std.specs.Option.{option_copied};
-ghost use Rattle.units.specs.Versions.{latest, at_time};
-ghost use Rattle.versions.specs.Ordered.{installed, count_not_after, is_above, IsAscending};
+ghost use Rattle.units.specs.Versions.{latest, at_time, versions, above_versions};
+ghost use Rattle.versions.specs.Ordered.{installed, all_installed, count_not_after, is_above, IsAscending};
 
 use crate::search::{find, install, newest_by, newest_of};
 use std::alloc::Global;
 use std::marker::Model;
-use units::{Fault, Install, Key, Stamp, Value};
+use units::{Fault, Install, Key, Stamp, Value, Write, Writes};
 
 /// The versions of keys. Contracts see them ascending by key and timestamp, beside the room for more.
 #[derive(Drop)]
@@ -68,6 +68,19 @@ impl Versions {
         ensures room { self.new.room + 1 ≡ self.old.room }
     {
         install(&mut self.installs, Install { key, at, value });
+    }
+
+    /// Installs some writes at a timestamp above their keys' others. It takes no memory.
+    pub fn install_all(&mut self, writes: Writes, at: Stamp)
+        requires room { length writes ≤ self.old.room }
+        requires above { IsTrue (above_versions self.old.installs at writes) }
+        ensures installs { self.new.installs ≡ all_installed self.old.installs (versions writes at) }
+        ensures room { self.new.room + length writes ≡ self.old.room }
+    {
+        for write in writes.into_vec() {
+            let Write { key, value } = write;
+            self.install(key, at, value);
+        }
     }
 
     /// The most recent value of a key: none where there is none or it was erased.

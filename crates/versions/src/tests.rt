@@ -1,7 +1,7 @@
 use crate::Versions;
 use std::alloc::Global;
 use std::test::Fail;
-use units::{Key, Stamp, Value};
+use units::{Key, Stamp, Value, Write, Writes};
 
 // The versions of some keys, each a byte: the timestamp, and a value of one byte or an erasure.
 fn installed(alloc: Global, rows: &[(u8, u64, Option<u8>)]) -> Result<Versions, Fail> {
@@ -83,5 +83,29 @@ fn in_order_by_key_and_timestamp(rt: HostRuntime) -> Result<(), Fail> {
     assert!(rt; count == 2 && probes <= 3);
     let (count, probes) = Versions::none(rt.alloc()).find(&Key::new(b"b")?, Stamp::new(29)?);
     assert!(rt; count == 0 && probes == 0);
+    Ok(())
+}
+
+#[test]
+fn writes_at_one_timestamp(rt: HostRuntime) -> Result<(), Fail> {
+    let mut versions = Versions::none(rt.alloc());
+    let mut list = Vec::new(rt.alloc());
+    list.push(Write {
+        key: Key::new(b"a")?,
+        value: Some(Value::new(rt.alloc(), b"1")?),
+    })?;
+    list.push(Write {
+        key: Key::new(b"z")?,
+        value: None,
+    })?;
+    let Ok(writes) = Writes::from_vec(list) else {
+        return Err("ascending keys".into());
+    };
+    versions.reserve(2)?;
+    versions.install_all(writes, Stamp::new(200)?);
+    assert_eq!(rt; byte_at(&versions, b'a', 199)?, None);
+    assert_eq!(rt; byte_at(&versions, b'a', 200)?, Some(b'1'));
+    assert_eq!(rt; latest_byte(&versions, b'z')?, None);
+    assert_eq!(rt; versions.as_slice().len(), 2);
     Ok(())
 }
