@@ -1,6 +1,6 @@
 -- The part of a shard's state that a crash loses: its rows, the greatest timestamp served, and the ids that were ended.
-use Rattle.std.specs.Prelude.{ℕ, ◌-◌, Bool, true, false, not, cond, min, List, [], ◌∷◌, map, Option, Some, None}
-use Rattle.units.specs.Lists.{keep, gather, first}
+use Rattle.std.specs.Prelude.{ℕ, ◌-◌, Bool, true, false, not, cond, List, [], ◌∷◌, map, Option, Some, None}
+use Rattle.units.specs.Lists.{keep, gather, first, least_with}
 use Rattle.units.specs.Ids.{Id, same_id, older, has_id}
 use Rattle.units.specs.Keys.{Bytes}
 use Rattle.record.specs.Records.{Status, StandsPrepared, StandsDecided, HasAborted, HasSettled, HasClosed}
@@ -80,11 +80,6 @@ abbrev pub held_stamp : Phase → Option ℕ
 held_stamp (IsPrepared c p) = Some p
 held_stamp (IsDecided s ps) = Some s
 held_stamp _ = None
-
--- the least of some numbers and of one that is there in any case
-abbrev pub least_with : ℕ → List ℕ → ℕ
-least_with n [] = n
-least_with n (m ∷ ms) = min m (least_with n ms)
 
 -- reads are served up to `last`, and below the timestamp of each prepared and each decided row
 unfoldable pub safe : Memory → ℕ

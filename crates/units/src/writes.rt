@@ -123,6 +123,7 @@ impl Writes {
     pub fn into_vec(self) -> Vec<Write>
         ensures same { result.items ≡ self }
         ensures few { vec_len result ≤ 128 }
+        ensures ascending { IsTrue (ascends write_before result.items) }
     {
         let Writes { writes } = self;
         writes

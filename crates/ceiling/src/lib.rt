@@ -1,0 +1,25 @@
+//! The ceilings of a shard: served time that its log allows.
+#![tactic(auto)]
+
+ghost use Rattle.std.specs.Prelude.{◌≡◌, ◌+◌, min, nat_lt, if◌then◌else◌};
+
+use record::Record;
+use units::{Stamp, Stride};
+
+/// The record that has to be logged before `to` is served, where the log's greatest timestamp is `floor`. It stands a
+/// stride ahead, so that the next advances need none, and no later than the greatest timestamp.
+pub fn needed(floor: Stamp, to: Stamp, stride: Stride) -> Option<Record>
+    ensures { result ≡ (if nat_lt floor to then Some (Record.Ceiling (min (to + stride) Stamp.MAX)) else None) }
+{
+    if to <= floor {
+        return None;
+    }
+    let ahead = (to.micros() + stride.micros()).min(Stamp::MAX);
+    match Stamp::new(ahead) {
+        Ok(at) => Some(Record::Ceiling { at }),
+        Err(_) => unreachable!(),
+    }
+}
+
+#[cfg(test)]
+mod tests;

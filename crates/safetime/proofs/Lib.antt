@@ -1,0 +1,3 @@
+pub mod Lifts
+pub mod Orders
+pub mod Least

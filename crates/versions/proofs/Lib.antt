@@ -1,0 +1,5 @@
+pub mod Halves
+pub mod Newest
+pub mod Kept
+pub mod Places
+pub mod AtOnce

@@ -1,0 +1,4 @@
+pub mod Halves
+pub mod Ordered
+pub mod Places
+pub mod Store

@@ -1,0 +1,24 @@
+-- Versions in order answer as the same versions in the order of the log.
+use Rattle.std.specs.Prelude.{◌≡◌, ℕ, IsTrue, List, [], ◌∷◌, ◌++◌}
+use Rattle.units.specs.Keys.{Bytes, write_before}
+use Rattle.units.specs.Lists.{ascends}
+use Rattle.units.specs.Versions.{latest, at_time, versions, above_versions}
+use Rattle.units.specs.declared.writes.Install.{Install}
+use Rattle.units.specs.declared.writes.Write.{Write}
+use Rattle.versions.specs.Ordered.{installed, all_installed, is_above}
+
+-- the two lists give each key the same values, and take the same timestamps as new
+pub record SameValues (a b : List Install) : Type 0 where
+  pub now : (key : Bytes) → latest a key ≡ latest b key
+  pub at : (key : Bytes) (t : ℕ) → at_time a key t ≡ at_time b key t
+  pub above : (key : Bytes) (t : ℕ) → is_above a key t ≡ is_above b key t
+
+-- one more version, above its key's others, answers at its place in order as it does at the end of the log
+abbrev pub PlaceDoesNotMatter : Type 0
+PlaceDoesNotMatter = (install : Install) (ordered log : List Install) → IsTrue (is_above log install.key install.at)
+    → SameValues ordered log → SameValues (installed ordered install) (log ++ install ∷ [])
+
+-- and so do all writes of a transaction, at one timestamp
+abbrev pub PlacesDoNotMatter : Type 0
+PlacesDoNotMatter = (writes : List Write) (at : ℕ) (ordered log : List Install) → IsTrue (ascends write_before writes)
+    → IsTrue (above_versions log at writes) → SameValues ordered log → SameValues (all_installed ordered (versions writes at)) (log ++ versions writes at)

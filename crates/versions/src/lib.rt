@@ -1,0 +1,12 @@
+//! The versions of a shard's keys, in order by key and timestamp.
+#![tactic(auto)]
+
+mod laws;
+mod search;
+mod store;
+
+pub use laws::place_does_not_matter;
+pub use store::Versions;
+
+#[cfg(test)]
+mod tests;

@@ -1,0 +1,118 @@
+//! The versions of keys.
+ghost use Rattle.std.specs.Prelude.{◌≡◌, ℕ, ◌+◌, ◌<◌, ◌≤◌, ◌^◌, [], length, IsTrue, IsOk, IfErr, OnOk};
+ghost use Rattle.std.specs.Option.{option_copied};
+ghost use Rattle.units.specs.Versions.{latest, at_time, versions, above_versions};
+ghost use Rattle.versions.specs.Ordered.{installed, all_installed, count_not_after, is_above, IsAscending};
+
+use crate::search::{find, install, newest_by, newest_of};
+use std::alloc::Global;
+use std::marker::Model;
+use units::{Fault, Install, Key, Stamp, Value, Write, Writes};
+
+/// The versions of keys. Contracts see them ascending by key and timestamp, beside the room for more.
+#[derive(Drop)]
+pub struct Versions {
+    installs: Vec<Install>,
+}
+
+impl Model for Versions {
+    ghost use Rattle.std.specs.Prelude.{◌-◌, ◌^◌, vec_capacity, vec_len};
+    ghost use Rattle.versions.specs.Store.{Store};
+    ghost use Rattle.versions.specs.Ordered.{IsKept};
+
+    ghost Value = { Store };
+
+    ghost view = { λ a. record { installs = a.installs.items; room = vec_capacity a.installs - vec_len a.installs } };
+
+    ghost invariant = { λ a. IsKept (2 ^ 62 - 1) a.installs.items };
+}
+
+impl Versions {
+    /// No version, and no room.
+    pub fn none(alloc: Global) -> Versions
+        ensures { result.installs ≡ [] }
+    {
+        Versions {
+            installs: Vec::new(alloc),
+        }
+    }
+
+    /// Makes room for so many more installs.
+    pub fn reserve(&mut self, more: usize) -> Result<(), Fault>
+        ensures room { OnOk result (more ≤ self.new.room) }
+        ensures installs { self.new.installs ≡ self.old.installs }
+        ensures keeps { self.old.room ≤ self.new.room }
+        ensures refused { IfErr result (λ fault. (fault ≡ Fault.Memory) × (self.new ≡ self.old)) }
+        ensures succeeds { more ≤ self.old.room → IsOk result }
+    {
+        self.installs.reserve(more)?;
+        Ok(())
+    }
+
+    /// The timestamp is above all versions of the key, so that one may be installed there.
+    #[tactic(auto, using(crate::proofs::Newest::above_newest))]
+    pub fn takes(&self, key: &Key, at: Stamp) -> bool
+        ensures { result ≡ is_above self.now.installs key.now at }
+    {
+        match newest_of(&self.installs, key) {
+            Some(newest) => newest.at < at,
+            None => true,
+        }
+    }
+
+    /// Installs a value, or an erasure, at a timestamp above the key's others. It takes no memory.
+    pub fn install(&mut self, key: Key, at: Stamp, value: Option<Value>)
+        requires room { 0 < self.old.room }
+        requires above { IsTrue (is_above self.old.installs key at) }
+        ensures installs { self.new.installs ≡ installed self.old.installs (record { key = key; at = at; value = value }) }
+        ensures room { self.new.room + 1 ≡ self.old.room }
+    {
+        install(&mut self.installs, Install { key, at, value });
+    }
+
+    /// Installs some writes at a timestamp above their keys' others. It takes no memory.
+    pub fn install_all(&mut self, writes: Writes, at: Stamp)
+        requires room { length writes ≤ self.old.room }
+        requires above { IsTrue (above_versions self.old.installs at writes) }
+        ensures installs { self.new.installs ≡ all_installed self.old.installs (versions writes at) }
+        ensures room { self.new.room + length writes ≡ self.old.room }
+    {
+        for write in writes.into_vec() {
+            let Write { key, value } = write;
+            self.install(key, at, value);
+        }
+    }
+
+    /// The most recent value of a key: none where there is none or it was erased.
+    #[tactic(auto, using(crate::proofs::Newest::latest_is))]
+    pub fn latest(&self, key: &Key) -> Option<&Value>
+        ensures { option_copied result ≡ latest self.now.installs key.now }
+    {
+        newest_of(&self.installs, key)?.value.as_ref()
+    }
+
+    /// The value that a key has at a timestamp: none where there is none or it was erased.
+    #[tactic(auto, using(crate::proofs::Newest::at_time_is))]
+    pub fn at(&self, key: &Key, at: Stamp) -> Option<&Value>
+        ensures { option_copied result ≡ at_time self.now.installs key.now at }
+    {
+        newest_by(&self.installs, key, at.micros())?.value.as_ref()
+    }
+
+    /// How many versions are not after a key and timestamp, and how many were looked at to find that: no more than their
+    /// number has binary digits.
+    pub fn find(&self, key: &Key, at: Stamp) -> (usize, u32)
+        ensures count { result.0 ≡ count_not_after key.now at self.now.installs }
+        ensures probes { (digits : ℕ) → length self.now.installs < 2 ^ digits → result.1 ≤ digits }
+    {
+        find(&self.installs, key, at.micros())
+    }
+
+    /// The versions, ascending by key and then by timestamp.
+    pub fn as_slice(&self) -> &[Install]
+        ensures same { result.now ≡ self.now.installs }
+        ensures ascending { IsAscending result.now }
+    {
+        self.installs.as_slice()
+    }
+}
