@@ -190,6 +190,7 @@ impl<D: Disk> GateLog<D> {
         ensures read_either { IsFalse (is_stopped self.old) → D.keeps_model → IsOldOrWith (log (surface (D.file (disk_of self.old))).seen) staged (surface (D.file (disk_of self.new))).seen }
 
         ensures names { IfOk result (λ logged. (logged ≡ staged.item) × IsFalse (is_stopped self.old) × IsFalse (is_stopped self.new)) }
+        ensures gate { OnOk result (gate_at self.new ≡ next_gate staged.offset staged.item) }
         ensures failures_stay { D.failures (disk_of self.old) ≤ D.failures (disk_of self.new) }
         ensures cause { IfErr result (λ fault. ((fault ≡ Fault.Stopped) × IsTrue (is_stopped self.old) × (self.new ≡ self.old))
             ⊎ ((fault ≡ Fault.Device) × IsFalse (is_stopped self.old) × (D.failures (disk_of self.old) < D.failures (disk_of self.new)) × IsTrue (is_stopped self.new))) }

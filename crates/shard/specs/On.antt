@@ -42,6 +42,11 @@ abbrev pub IsLogFull : ℕ → Option Record → Type 0
 IsLogFull gate None = ⊥
 IsLogFull gate (Some r) = 2 ^ 40 < next_gate gate r + 1
 
+-- where the log ends behind the record, where there is one
+abbrev pub gate_behind : ℕ → Option Record → ℕ
+gate_behind gate None = gate
+gate_behind gate (Some r) = next_gate gate r
+
 -- why a record is not logged: a growth was refused, the log would pass its limit, or the device failed
 abbrev pub IsLogCause : Fault → Type 0 → Type 0 → Type 0
 IsLogCause fault full failed = (fault ≡ Memory) ⊎ (((fault ≡ TimeSpent) × full) ⊎ ((fault ≡ Device) × failed))
@@ -69,6 +74,7 @@ module _ {D : Type 0} (keeps obeys : Type 0) (file : D → File) (clock : D → 
     -- from then on every crash leaves the records with the new one, and a read gives them
     pub durable : OnOk result (keeps → KeepsRecords (surface (file new.disk)) (and_logged (records_in (surface (file old.disk)).seen) logged))
     pub read : OnOk result (keeps → records_in (surface (file new.disk)).seen ≡ and_logged (records_in (surface (file old.disk)).seen) logged)
+    pub gate : OnOk result (new.gate ≡ gate_behind old.gate logged)
     pub kept : IfErr result (IsKept file old new)
     -- with no call armed the device does not fail
     pub planned : obeys → plan old.disk ≡ Never → (plan new.disk ≡ Never) × IfErr result (λ fault. fault ≢ Device)

@@ -21,6 +21,7 @@ pub fn append_record<D: Disk>(
 ) -> Result<(), Fault>
     ensures failures_stay { D.failures (disk_of gate_log.old) ≤ D.failures (disk_of gate_log.new) }
     ensures running { OnOk result (IsFalse (is_stopped gate_log.old) × IsFalse (is_stopped gate_log.new)) }
+    ensures gate { OnOk result (gate_at gate_log.new ≡ next_gate (gate_at gate_log.old) item.now) }
     ensures cause { IfErr result (λ fault. ((fault ≡ Fault.Stopped) × IsTrue (is_stopped gate_log.old))
         ⊎ (((fault ≡ Fault.Memory) × IsFalse (is_stopped gate_log.old))
         ⊎ (((fault ≡ Fault.TimeSpent) × IsFalse (is_stopped gate_log.old) × (2 ^ 40 < next_gate (gate_at gate_log.old) item.now + 1))
