@@ -1,12 +1,12 @@
 -- What an input makes of the one shard of `once`.
-use Rattle.std.proofs.Common.{◌≡◌, ◌⊎◌, inl, inr, ◌∙◌, ◌+◌, ◌*◌, ◌^◌, ◌<◌, ◌≤◌, ℕ, Bool, true, false, List, [], ◌∷◌, ◌++◌, length, Some, Result, Ok, Err, refl, sym, ap, subst, arith}
+use Rattle.std.proofs.Common.{◌≡◌, ◌⊎◌, inl, inr, ⊎_elim, ◌∙◌, ◌+◌, ◌*◌, ◌^◌, ◌<◌, ◌≤◌, ℕ, Bool, true, false, List, [], ◌∷◌, ◌++◌, length, Some, Result, Ok, Err, refl, sym, ap, subst, arith}
 use Rattle.std.specs.Prelude.{IsTrue, MatchResult, nat_lt}
 use Rattle.std.proofs.lemmas.List.{length-append}
 use Rattle.std.proofs.lemmas.List.Sums.{fold-append}
 use Rattle.std.proofs.lemmas.Bool.Decides.{nat_tests}
 use Rattle.units.specs.Keys.{Bytes}
 use Rattle.units.specs.declared.fault.Fault.{Fault}
-use Rattle.units.specs.declared.fault.Fault.TheVariants.{Memory, Early, TimeSpent}
+use Rattle.units.specs.declared.fault.Fault.TheVariants.{Memory, Early, TimeSpent, Device}
 use Rattle.truetime.specs.Interval.{Interval}
 use Rattle.truetime.specs.Reading.{after}
 use Rattle.record.specs.Facts.{Facts, learn}
@@ -15,9 +15,10 @@ use Rattle.message.specs.declared.message.Envelope.{Envelope}
 use Rattle.protocol.specs.Rows.{Memory as RowMemory}
 use Rattle.protocol.specs.Draft.{Stepped, Does, Refuses}
 use Rattle.gatelog.specs.Frames.{IsFull}
+use Rattle.disk.specs.File.{File, surface}
 use Rattle.simdisk.specs.State.{disk_file, disk_plan, disk_clock, disk_failures, LeftSince}
 use Rattle.simdisk.specs.declared.simdisk.SimDisk.{SimDisk}
-use Rattle.shard.specs.Logs.{learned, nothing, and_logged}
+use Rattle.shard.specs.Logs.{learned, nothing, and_logged, records_in, KeepsRecords}
 use Rattle.shard.specs.On.{Seen, HasStepped, IsCause, IsLogFull, IsLogCause}
 use Rattle.shard.specs.Stepped.{step_from}
 use Rattle.shard.specs.declared.input.Input.{Input}
@@ -74,6 +75,21 @@ module _ (records : List Record) (old new : Seen SimDisk) (log : HasLog records 
         subst (λ (b : Bool). IsCause b (Refuses why) fault ⊥ ((disk_failures old.disk < disk_failures new.disk) × IsTrue new.stopped)) log.running
         (subst (λ (s : Stepped). Steps old new s (Err fault)) is taken).cause
 
+    -- and then the log is as it was
+    kept : (why ≡ Device → ⊥) → (fault : Fault) → Steps old new step (Err fault) → HasLog records new
+    kept other fault taken =
+        let has : Steps old new (Refuses why) (Err fault) = subst (λ (s : Stepped). Steps old new s (Err fault)) is taken in
+        let stays = ⊎_elim (λ failed. absurd (other (sym (only-refusal fault taken) ∙ failed))) (λ same. same) has.written.kept.1 in
+        record {
+          setup = has.written.setup ∙ log.setup;
+          facts = has.written.kept.0 ∙ log.facts;
+          gate = omega (arith, stays.1, log.gate);
+          running = stays.0 ∙ log.running;
+          plan = (has.written.planned tt log.plan).0;
+          read = ap (λ (f : File). records_in (surface f).seen) stays.2 ∙ log.read;
+          durable = subst (λ (f : File). KeepsRecords (surface f) (Ok records)) (sym stays.2) log.durable;
+        }
+
     no-answer : (out : List Envelope) → Steps old new step (Ok out) → ⊥
     no-answer out taken = (subst (λ (s : Stepped). Steps old new s (Ok out)) is taken).done.2
 
@@ -85,6 +101,10 @@ is-less a b h = grind (arith, nat_tests)
 is-not-less : (a b : ℕ) → nat_lt a b ≡ false → b ≤ a
 is-not-less a b h = grind (arith, nat_tests)
 
+-- what is early is no failing device
+early_is_no_device : Early ≡ Device → ⊥
+early_is_no_device same = cc
+
 -- what the commit comes to
 abbrev pub Commits : Interval → Bytes → Bytes → Seen SimDisk → Result (List Envelope) Fault → Type 0
 Commits now key value new result = MatchResult result
@@ -95,7 +115,7 @@ Commits now key value new result = MatchResult result
 abbrev pub Settles : Interval → Bytes → Bytes → ℕ → Seen SimDisk → Result (List Envelope) Fault → Type 0
 Settles now key value s new result = MatchResult result
     (λ out. (after now s ≡ true) × HasLog (settled_log key value s) new)
-    (λ fault. (fault ≡ Memory) ⊎ ((fault ≡ Early) × (after now s ≡ false)))
+    (λ fault. (fault ≡ Memory) ⊎ ((fault ≡ Early) × (after now s ≡ false) × HasLog (decided_log key value s) new))
 
 module _ (now : Interval) (key value : Bytes) (old new : Seen SimDisk) where
   pub commits : HasLog new_log old → (result : Result (List Envelope) Fault) → Steps old new (step_of old now (asked key value)) result → Commits now key value new result
@@ -130,4 +150,8 @@ module _ (now : Interval) (key value : Bytes) (old new : Seen SimDisk) where
       by false is (Ok out) has =
           absurd (no-answer (decided_log key value s) old new log Early _ (step ∙ settled-early now key value s (is-not-less _ _ is)) out has)
       by false is (Err fault) has =
-          inr (only-refusal (decided_log key value s) old new log Early _ (step ∙ settled-early now key value s (is-not-less _ _ is)) fault has, is)
+          let early : step_of old now (Input.Settle only_txn) ≡ Refuses Early = step ∙ settled-early now key value s (is-not-less _ _ is) in inr (
+            only-refusal (decided_log key value s) old new log Early _ early fault has,
+            is,
+            kept (decided_log key value s) old new log Early _ early early_is_no_device fault has,
+          )

@@ -1,5 +1,5 @@
 -- The one shard of `once`, by the records of its log.
-use Rattle.std.specs.Prelude.{◌≡◌, ℕ, ◌*◌, ◌^◌, ◌≤◌, List, [], ◌∷◌, ◌++◌, length, Some, Ok, IsFalse}
+use Rattle.std.specs.Prelude.{◌≡◌, ℕ, ◌*◌, ◌^◌, ◌≤◌, Bool, true, false, List, [], ◌∷◌, ◌++◌, length, Some, Ok, IsFalse}
 use Rattle.units.specs.Keys.{Bytes}
 use Rattle.units.specs.declared.setup.Setup.{Setup}
 use Rattle.units.specs.declared.setup.Book.TheVariants.{Off}
@@ -33,6 +33,11 @@ decided_log key value s = new_log ++ Record.Commit (decided_at only_txn s 0 (onl
 -- the log when it is settled
 abbrev pub settled_log : Bytes → Bytes → ℕ → List Record
 settled_log key value s = decided_log key value s ++ Record.Outcome only_txn (Some s) ∷ []
+
+-- the log behind a settling, by whether it is done
+abbrev pub log_after : Bool → Bytes → Bytes → ℕ → List Record
+log_after true = settled_log
+log_after false = decided_log
 
 -- the shard runs on a disk that does not fail; its log has these records, also after a crash, and ends far from its limit
 pub record HasLog (records : List Record) (core : Seen SimDisk) : Type 0 where

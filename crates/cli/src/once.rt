@@ -1,12 +1,12 @@
 //! The command `once`: one write from the command line to the log.
-ghost use Rattle.std.specs.Prelude.{◌≡◌, ◌⊎◌, Ok, Err, IfOk, IfErr, OnOk, string_bytes, List, ℕ};
+ghost use Rattle.std.specs.Prelude.{◌≡◌, ◌⊎◌, Ok, Err, IfOk, IfErr, OnOk, string_bytes, nat_eq, List, ℕ};
 ghost use Rattle.std.specs.Io.KnownBytes.{Appends};
 ghost use Rattle.units.specs.declared.fault.Fault.{Fault};
 ghost use Rattle.units.specs.declared.fault.Fault.TheVariants.{Memory};
 ghost use Rattle.cli.specs.declared.failure.Failure.TheVariants.{Unwritten};
 ghost use Rattle.cli.specs.Failures.{FailsFor};
-ghost use Rattle.cli.specs.Replies.{commit_line, done_line, once_reply};
-ghost use Rattle.cli.specs.Shards.{HasLog, new_log};
+ghost use Rattle.cli.specs.Replies.{commit_line, commit_stamp, done_line, once_reply};
+ghost use Rattle.cli.specs.Shards.{HasLog, new_log, log_after};
 ghost use Rattle.shard.specs.Core.{seen};
 
 use crate::failure::Failure;
@@ -54,6 +54,8 @@ fn commit_and_settle<O: Write>(
     ensures printed { IfOk result (λ status. (text : List ℕ) × (once_reply first.now second.now ≡ Ok (text, status))
         × Appends (O.contents out.old) (O.contents out.new) text) }
     ensures refused { (fault : Fault) → once_reply first.now second.now ≡ Err fault → out.new ≡ out.old }
+    ensures log { IfOk result (λ status. (stamp : ℕ) × (commit_stamp first.now ≡ Ok stamp)
+        × HasLog (log_after (nat_eq status 0) key value stamp) (seen core.new)) }
     ensures failures { IfErr result (λ failure. FailsFor failure (once_reply first.now second.now)) }
 {
     let stamp = commit(alloc, core, key, value, first)?;

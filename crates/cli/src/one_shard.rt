@@ -1,9 +1,9 @@
 //! One shard of all keys, on a disk in memory, for one transaction.
-ghost use Rattle.std.specs.Prelude.{◌≡◌, ◌⊎◌, ℕ, List, Ok, Err, IfErr, IfOk, IsTrue, MatchResult};
+ghost use Rattle.std.specs.Prelude.{◌≡◌, ◌⊎◌, ℕ, List, Ok, Err, IfErr, IfOk, MatchResult};
 ghost use Rattle.truetime.specs.Reading.{after};
 ghost use Rattle.units.specs.declared.fault.Fault.TheVariants.{Memory};
 ghost use Rattle.cli.specs.Replies.{commit_stamp, only_txn};
-ghost use Rattle.cli.specs.Shards.{HasLog, only_setup, only_write, new_log, decided_log, settled_log};
+ghost use Rattle.cli.specs.Shards.{HasLog, only_setup, only_write, new_log, decided_log, log_after};
 ghost use Rattle.shard.specs.Core.{seen};
 
 use shard::{Core, Input};
@@ -54,7 +54,7 @@ pub fn commit(
 pub fn settle(alloc: Global, core: &mut Core<SimDisk>, at: &Reading) -> Result<bool, Fault>
     ensures { (key value : List ℕ) (stamp : ℕ) → HasLog (decided_log key value stamp) (seen core.old)
         → MatchResult result
-        (λ done. (done ≡ after at.now stamp) × (IsTrue done → HasLog (settled_log key value stamp) (seen core.new)))
+        (λ done. (done ≡ after at.now stamp) × HasLog (log_after done key value stamp) (seen core.new))
         (λ fault. fault ≡ Memory) }
 {
     match core.on(alloc, at, &Input::Settle(only_txn())) {

@@ -1,6 +1,8 @@
 -- The lines that are printed, one behind the other, are the reply.
-use Rattle.std.proofs.Common.{◌∙◌, sym}
+use Rattle.std.proofs.Common.{◌∙◌, Bool, sym, subst}
 use Rattle.std.proofs.KnownBytes.{Appends-trans}
+use Rattle.shard.specs.Core.{seen}
+use Rattle.cli.specs.Shards.{HasLog, log_after}
 use Rattle.cli.proofs.ReplyLemmas.{reply_done, reply_early}
 use Rattle.cli.proofs.once.commit_and_settle.Goals as goal
 
@@ -18,4 +20,20 @@ returns-in_ok-print-3-clause-printed g c = (
   reply_early c.args.first.now c.args.second.now c.in_ok-stamp.stamp _ c.in_ok-stamp.ensures.0 (sym (c.in_ok-settle.ensures _ _ _ c.in_ok-stamp.ensures.1).0 ∙ c.if-branch.false)
       (c.deref.ensures ∙ c.in_ok-committed.ensures.line),
   Appends-trans _ _ _ _ _ c.in_ok-print.ensures.printed c.in_ok-print-3.ensures.printed,
+)
+
+pub returns-in_ok-print-2-clause-log : goal.returns-in_ok-print-2-clause-log
+returns-in_ok-print-2-clause-log g c = (
+  c.in_ok-stamp.stamp,
+  c.in_ok-stamp.ensures.0,
+  subst (λ (done : Bool). HasLog (log_after done c.args.key c.args.value c.in_ok-stamp.stamp) (seen c.settle.new.core)) c.if-branch.true
+      (c.in_ok-settle.ensures _ _ _ c.in_ok-stamp.ensures.1).1,
+)
+
+pub returns-in_ok-print-3-clause-log : goal.returns-in_ok-print-3-clause-log
+returns-in_ok-print-3-clause-log g c = (
+  c.in_ok-stamp.stamp,
+  c.in_ok-stamp.ensures.0,
+  subst (λ (done : Bool). HasLog (log_after done c.args.key c.args.value c.in_ok-stamp.stamp) (seen c.settle.new.core)) c.if-branch.false
+      (c.in_ok-settle.ensures _ _ _ c.in_ok-stamp.ensures.1).1,
 )
