@@ -9,7 +9,7 @@ use Rattle.record.specs.Facts.{Facts, learn}
 use Rattle.record.specs.declared.record.Committed.{Committed}
 use Rattle.record.specs.declared.record.Record.{Record}
 use Rattle.protocol.specs.Rows.{Memory, IsUnknown, standing, rebuilt}
-use Rattle.protocol.specs.Draft.{Stepped, Does, Refuses, commit_stamp, done_to}
+use Rattle.protocol.specs.Draft.{Does, Refuses, commit_stamp, done_to}
 use Rattle.protocol.specs.Step.{is_for}
 use Rattle.shard.specs.Decided.{decided_in, decided_row}
 use Rattle.shard.specs.Held.{decided_at, facts_by, IsStanding}
