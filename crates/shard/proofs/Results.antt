@@ -44,6 +44,7 @@ module _ {D : Type 0} (keeps obeys : Type 0) (file : D → File) (clock : D → 
       any_moment = λ run keep. untouched logged keep;
       durable = tt;
       read = tt;
+      gate = tt;
       kept = (refl, inr (refl, refl, refl));
       planned = λ obey never. (never, other);
     }
@@ -76,6 +77,7 @@ module _ {D : Type 0} (keeps obeys : Type 0) (file : D → File) (clock : D → 
             any_moment = has.written.any_moment;
             durable = has.written.durable;
             read = has.written.read;
+            gate = has.written.gate;
             kept = tt;
             planned = λ obey never. ((has.written.planned obey never).0, tt);
           };
@@ -93,6 +95,7 @@ module _ {D : Type 0} (keeps obeys : Type 0) (file : D → File) (clock : D → 
             any_moment = has.written.any_moment;
             durable = tt;
             read = tt;
+            gate = tt;
             kept = has.written.kept;
             planned = has.written.planned;
           };
