@@ -1,0 +1,7 @@
+pub mod Changes
+pub mod Clashes
+pub mod Pairs
+pub mod Places
+pub mod Release
+pub mod TableLaws
+pub mod WayLaws
