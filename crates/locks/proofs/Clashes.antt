@@ -2,7 +2,7 @@
 use Rattle.std.proofs.Common.{◌≡◌, Bool, true, false, ◌&&◌, ◌||◌, List, [], ◌∷◌, refl, sym, ap, ◌∙◌, arith, ◌⊎◌, inl, inr}
 use Rattle.std.proofs.lemmas.Bool.Decides.{nat_tests}
 use Rattle.units.specs.Lists.{any, ascends}
-use Rattle.units.specs.Keys.{same_key, key_before}
+use Rattle.units.specs.Keys.{same_key}
 use Rattle.units.specs.Locks.{modes_clash, locks_clash, clash, stronger, with_lock, with_locks, lock_before}
 use Rattle.units.specs.declared.lock.Lock.{Lock}
 use Rattle.units.specs.declared.lock.Mode.{Mode}

@@ -1,12 +1,12 @@
 -- The laws of a table, said of each pair of its claims.
-use Rattle.std.proofs.Common.{◌≡◌, Bool, true, false, ◌&&◌, ◌||◌, not, List, [], ◌∷◌, refl, sym, ap, ◌∙◌}
+use Rattle.std.proofs.Common.{◌≡◌, Bool, true, false, ◌&&◌, ◌||◌, not, List, refl, sym, ap, ◌∙◌}
 use Rattle.std.specs.List.{AllByRecursion}
 use Rattle.std.proofs.lemmas.Bool.{false≢true}
-use Rattle.units.specs.Lists.{any, each, keep, ascends}
+use Rattle.units.specs.Lists.{any, each, ascends}
 use Rattle.units.specs.Ids.{same_id, older}
 use Rattle.units.specs.ById.{IsById}
 use Rattle.units.specs.Locks.{Claim, clash, others, blockers, lock_before}
-use Rattle.units.specs.LockLaws.{IsLawfulTable, holds_by_key, keeps_lock_law, keeps_wait_law}
+use Rattle.units.specs.LockLaws.{IsLawfulTable, keeps_lock_law, keeps_wait_law}
 use Rattle.units.proofs.ListLaws.{all_of_each, each_of_all, all_gives, each-alike, not_any, each-keep, keep-keep}
 
 -- each claim, against each
@@ -74,7 +74,7 @@ wait_law_by_pairs : (table : List Claim) → keeps_wait_law table ≡ each (λ w
 wait_law_by_pairs table =
     each-alike (λ w. each (λ c. older c.txn w.txn || c.firm) (blockers table w.txn w.needs)) (λ w. each (wait_pair w) table)
     (λ w. ap (each (λ c. older c.txn w.txn || c.firm)) (keep-keep (λ (c : Claim). clash c.held w.needs) (λ c. not (same_id c.txn w.txn)) table)
-        ∙ each-keep (λ c. older c.txn w.txn || c.firm) (λ c. not (same_id c.txn w.txn) && clash c.held w.needs) table) table
+    ∙ each-keep (λ c. older c.txn w.txn || c.firm) (λ c. not (same_id c.txn w.txn) && clash c.held w.needs) table) table
 
 wait_pair-is : (s k o : Bool) → (not (not s && k) || o) ≡ true → s ≡ false → k ≡ true → o ≡ true
 wait_pair-is s k true h e f = refl

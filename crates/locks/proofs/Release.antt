@@ -1,5 +1,5 @@
 -- What a request is answered once those that it wounds are released.
-use Rattle.std.proofs.Common.{◌≡◌, ℕ, ◌+◌, Bool, true, false, ◌||◌, not, cond, List, [], ◌∷◌, map, length, refl, sym, ap, ◌∙◌, arith}
+use Rattle.std.proofs.Common.{◌≡◌, ◌+◌, Bool, true, false, ◌||◌, not, cond, List, [], ◌∷◌, map, length, refl, sym, ap, ◌∙◌, arith}
 use Rattle.std.specs.List.{list_any, filter, AllByRecursion}
 use Rattle.std.proofs.lemmas.Bool.{false≢true}
 use Rattle.std.proofs.lemmas.Bool.Decides.{nat_tests}
@@ -9,7 +9,7 @@ use Rattle.units.specs.declared.lock.Lock.{Lock}
 use Rattle.units.proofs.IdLaws.{same_id-refl, same_id_comm, older_not_same}
 use Rattle.units.proofs.ListLaws.{all_gives, all-keep}
 use Rattle.units.proofs.ByIdLaws.{find-without_other, has-without_other, all-without}
-use Rattle.locks.specs.Table.{has_claim, without_claim, without_claims, most_held, held_by, IsMadeWay, ReleaseMakesWay}
+use Rattle.locks.specs.Table.{has_claim, without_claim, without_claims, most_held, held_by, ReleaseMakesWay}
 use Rattle.locks.specs.Ways.{is_of, gives_way, is_wounding, ids_in_way}
 use Rattle.locks.proofs.WayLaws.{wounded-is, wounds_none}
 

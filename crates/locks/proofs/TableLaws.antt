@@ -4,20 +4,20 @@ use Rattle.std.specs.List.{list_any, find, AllByRecursion}
 use Rattle.std.specs.Option.{option_map}
 use Rattle.std.proofs.lemmas.Bool.{false≢true}
 use Rattle.std.proofs.lemmas.Bool.Decides.{nat_tests}
-use Rattle.units.specs.Lists.{any, keep, first, mapped, ascends}
+use Rattle.units.specs.Lists.{keep}
 use Rattle.units.specs.Ids.{Id, same_id, older}
 use Rattle.units.specs.ById.{IsById}
-use Rattle.units.specs.Locks.{Claim, clash, with_locks, lock_before, ready}
+use Rattle.units.specs.Locks.{Claim, clash, with_locks, ready}
 use Rattle.units.specs.LockLaws.{IsLawfulTable}
 use Rattle.units.specs.declared.lock.Lock.{Lock}
-use Rattle.units.proofs.IdLaws.{same_id-refl, same_id_comm, same_id-trans, same_id-along, older_not_same, older_total, older-along, older-along_right}
+use Rattle.units.proofs.IdLaws.{same_id-refl, same_id_comm, same_id-trans, older_not_same, older_total, older-along, older-along_right}
 use Rattle.units.proofs.ListLaws.{all_gives, all-keep}
 use Rattle.units.proofs.ByIdLaws.{by_id-keep, by_id-change, by_id-with, all-with, later_are_younger}
 use Rattle.locks.specs.Table.{has_claim, without_claim, with_claim, change_claim, entrant, granted, waiting, resumed, made_firm}
 use Rattle.locks.specs.Ways.{is_of, gives_way, is_wounding, stands_in_way, is_blocked, can_go}
 use Rattle.locks.proofs.Clashes.{clash_nil, clash_comm, clash-with_locks, ascends-with_locks}
 use Rattle.locks.proofs.WayLaws.{ready-is}
-use Rattle.locks.proofs.Pairs.{EachPair, LockPair, WaitPair, HoldsByKey, IsLawfulByPairs, by_pairs, from_pairs}
+use Rattle.locks.proofs.Pairs.{EachPair, LockPair, WaitPair, HoldsByKey, by_pairs, from_pairs}
 
 all-map : (P F Q : Claim → Type 0) (g : Claim → Claim) → ((b : Claim) → P b → F b → Q (g b)) → (t : List Claim) → AllByRecursion P t → AllByRecursion F t → AllByRecursion Q (map g t)
 all-map P F Q g h [] ps fs = tt

@@ -5,15 +5,14 @@ use Rattle.std.specs.List.{list_any, filter, find}
 use Rattle.std.specs.Option.{option_map}
 use Rattle.std.proofs.lemmas.Bool.{false≢true}
 use Rattle.std.proofs.lemmas.Bool.Decides.{nat_tests}
-use Rattle.units.specs.Lists.{any, keep, head, first, mapped}
+use Rattle.units.specs.Lists.{any, keep, head, mapped}
 use Rattle.units.specs.Ids.{Id, same_id, older}
 use Rattle.units.specs.Locks.{Claim, clash, others, may_wound, wounded, is_free, asked, asked_by, is_waiting, ready}
-use Rattle.units.specs.declared.lock.Asked.{Asked}
 use Rattle.units.specs.declared.lock.Asked.TheVariants.{Granted, Waits, Wounds}
 use Rattle.units.specs.declared.lock.Lock.{Lock}
 use Rattle.units.proofs.IdLaws.{same_id_comm, older_not_same}
 use Rattle.units.proofs.ListLaws.{list_any-is, filter-is, find-is, any-alike, keep-alike, any_or, keep-keep, any-keep}
-use Rattle.locks.specs.Ways.{is_of, gives_way, is_wounding, ids_in_way, stands_in_way, is_blocked, can_go, first_to_go}
+use Rattle.locks.specs.Ways.{gives_way, is_wounding, ids_in_way, stands_in_way, is_blocked, can_go, first_to_go}
 
 -- the three tests of one that is wounded, in another order
 wounds_alike : (s k o f : Bool) → (o ≡ true → s ≡ false) → ((not s && k) && (o && not f)) ≡ (o && (not f && k))
@@ -34,7 +33,7 @@ wounded-is table t needs = ap (map (λ c. c.txn)) (
     ap (keep (may_wound t)) (keep-keep (λ (c : Claim). clash c.held needs) (λ c. not (same_id c.txn t)) table)
     ∙ keep-keep (may_wound t) (λ c. not (same_id c.txn t) && clash c.held needs) table
     ∙ keep-alike (λ c. (not (same_id c.txn t) && clash c.held needs) && may_wound t c) (gives_way t needs)
-        (λ c. wounds_alike (same_id c.txn t) (clash c.held needs) (older t c.txn) c.firm (λ o. same_id_comm c.txn t ∙ older_not_same t c.txn o)) table
+    (λ c. wounds_alike (same_id c.txn t) (clash c.held needs) (older t c.txn) c.firm (λ o. same_id_comm c.txn t ∙ older_not_same t c.txn o)) table
     ∙ sym (filter-is (gives_way t needs) table))
 
 -- the two ways to be in the way, tested at once
@@ -56,16 +55,16 @@ is_free-is table t needs =
     let waits : Claim → Bool = λ c. older c.txn t && clash c.needs needs in
     let other : Claim → Bool = λ c. not (same_id c.txn t) in
     let left : any (λ c. true) (keep holds (others table t)) ≡ any (λ c. other c && (holds c && true)) table =
-        any-keep (λ c. true) holds (others table t) ∙ any-keep (λ c. holds c && true) other table in
+    any-keep (λ c. true) holds (others table t) ∙ any-keep (λ c. holds c && true) other table in
     let right : any (λ c. true) (keep waits (others table t)) ≡ any (λ c. other c && (waits c && true)) table =
-        any-keep (λ c. true) waits (others table t) ∙ any-keep (λ c. waits c && true) other table in
+    any-keep (λ c. true) waits (others table t) ∙ any-keep (λ c. waits c && true) other table in
     ap (λ b. not b && not (any (λ c. true) (keep waits (others table t)))) left
     ∙ ap (λ b. not (any (λ c. other c && (holds c && true)) table) && not b) right
     ∙ neither (any (λ c. other c && (holds c && true)) table) (any (λ c. other c && (waits c && true)) table)
     ∙ ap not (sym (any_or (λ c. other c && (holds c && true)) (λ c. other c && (waits c && true)) table)
-        ∙ any-alike (λ c. (other c && (holds c && true)) || (other c && (waits c && true))) (stands_in_way t needs)
-            (λ c. stands_alike (same_id c.txn t) (clash c.held needs) (older c.txn t) (clash c.needs needs)) table
-        ∙ sym (list_any-is (stands_in_way t needs) table))
+    ∙ any-alike (λ c. (other c && (holds c && true)) || (other c && (waits c && true))) (stands_in_way t needs)
+    (λ c. stands_alike (same_id c.txn t) (clash c.held needs) (older c.txn t) (clash c.needs needs)) table
+    ∙ sym (list_any-is (stands_in_way t needs) table))
 
 -- where some claim passes a test, the ids of those that pass are some
 some_ids : (ids : List Id) (free : Bool) → (ids ≡ [] → false ≡ true) → asked_by ids free ≡ Wounds ids
@@ -120,7 +119,7 @@ pub ready-is : (table : List Claim) → ready table ≡ first_to_go table
 unfolding ready
 ready-is table =
     ap (λ cs. mapped (λ c. c.txn) (head cs)) (keep-alike (λ c. is_waiting c && is_free table c.txn c.needs) (can_go table)
-        (λ c. ap (λ b. is_waiting c && b) (is_free-is table c.txn c.needs)) table)
+    (λ c. ap (λ b. is_waiting c && b) (is_free-is table c.txn c.needs)) table)
     ∙ ap (mapped (λ c. c.txn)) (sym (find-is (can_go table) table))
     ∙ sym (option_map-is (find (can_go table) table))
 

@@ -1,5 +1,5 @@
 -- Who is in the way of a request, tested claim by claim as the code does it.
-use Rattle.std.specs.Prelude.{◌≡◌, ℕ, Bool, true, ◌&&◌, ◌||◌, not, List, Option, map, filter, find}
+use Rattle.std.specs.Prelude.{ℕ, Bool, ◌&&◌, ◌||◌, not, List, Option, map, filter, find}
 use Rattle.std.specs.List.{list_any, position_or_len}
 use Rattle.std.specs.Option.{option_map}
 use Rattle.units.specs.Ids.{Id, same_id, older}

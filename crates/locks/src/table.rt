@@ -54,8 +54,7 @@ impl Table {
     /// The same request again, once those that it wounds are released, wounds nobody and has its room. It does nothing.
     pub fn release_makes_way()
         ensures { ReleaseMakesWay }
-    {
-    }
+    {}
 
     /// Takes in a transaction that is not in the table. It holds nothing yet. It is refused for want of memory alone.
     pub fn enter(&mut self, alloc: Global, txn: TxnId) -> Result<Held, Fault>
