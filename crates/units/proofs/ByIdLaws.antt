@@ -1,12 +1,12 @@
 -- A member of a list that ascends by id is looked up, put in, taken out or changed.
-use Rattle.std.proofs.Common.{◌≡◌, ℕ, zero, suc, ◌+◌, ◌<◌, Bool, true, false, ◌&&◌, ◌||◌, not, cond, List, [], ◌∷◌, map, length, get_or, set, Option, Some, None, refl, sym, ap, subst, ◌∙◌, arith}
+use Rattle.std.proofs.Common.{◌≡◌, ℕ, zero, suc, ◌<◌, Bool, true, false, ◌||◌, not, cond, List, [], ◌∷◌, map, length, get_or, set, Some, None, refl, sym, ap, subst, ◌∙◌, arith}
 use Rattle.std.specs.List.{insert, remove, position_or_len, AllByRecursion}
 use Rattle.std.proofs.lemmas.Bool.{false≢true}
 use Rattle.std.proofs.lemmas.Bool.Decides.{nat_tests}
-use Rattle.units.specs.Lists.{any, each, keep, head, first, mapped}
+use Rattle.units.specs.Lists.{keep, head, mapped}
 use Rattle.units.specs.Ids.{Id, same_id, older}
 use Rattle.units.specs.ById.{IsById, has_member, find_member, without_member, with_member, change_member}
-use Rattle.units.proofs.IdLaws.{same_id-refl, same_id_comm, same_id-trans, same_id-along, older_not_same, older_total, older-trans, older-along, older-along_right}
+use Rattle.units.proofs.IdLaws.{same_id-refl, same_id_comm, same_id-along, older_not_same, older_total, older-trans, older-along}
 use Rattle.units.proofs.ListLaws.{all_of_each, each_of_all, all_gives, all-keep}
 
 -- each of these is younger than an id
@@ -74,12 +74,15 @@ by_id-with {A = A} id (x ∷ xs) y up = by_tests (same_id (id x) (id y)) (older 
         → IsById id (cond a (y ∷ xs) (cond b (x ∷ with_member id xs y) (y ∷ x ∷ xs)))
     by_tests true b s o rest =
         by_id-cons id y xs (all_gives (λ z. older (id x) (id z) ≡ true) (λ z. older (id y) (id z) ≡ true)
-            (λ z k. sym (older-along (id x) (id y) (id z) s) ∙ k) xs young) up.1
+        (λ z k. sym (older-along (id x) (id y) (id z) s) ∙ k) xs young) up.1
     by_tests false true s o rest = by_id-cons id x (with_member id xs y) (all-with (λ z. older (id x) (id z) ≡ true) id xs y o young) rest
     by_tests false false s o rest =
         let first : older (id y) (id x) ≡ true = older_total (id x) (id y) s o in
-        by_id-cons id y (x ∷ xs) (first, all_gives (λ z. older (id x) (id z) ≡ true) (λ z. older (id y) (id z) ≡ true)
-            (λ z k. older-trans (id y) (id x) (id z) first k) xs young) up
+        by_id-cons id y (x ∷ xs) (
+          first,
+          all_gives (λ z. older (id x) (id z) ≡ true) (λ z. older (id y) (id z) ≡ true)
+              (λ z k. older-trans (id y) (id x) (id z) first k) xs young,
+        ) up
 
 -- where no member has the id, nothing is changed
 pub change_none : {A : Type 0} (id : A → Id) (xs : List A) (t : Id) (f : A → A) → AllByRecursion (λ y. same_id (id y) t ≡ false) xs → change_member id xs t f ≡ xs
@@ -192,7 +195,7 @@ change_is_with id (x ∷ xs) t f y up e same = by_test (same_id (id x) t) refl (
     by_test false s rest k =
         let t_is : same_id (id y) t ≡ true = found_is id xs t y k in
         let other : same_id (id x) (id (f y)) ≡ false =
-            ap (same_id (id x)) same ∙ same_id_comm (id x) (id y) ∙ same_id-along (id y) t (id x) t_is ∙ same_id_comm t (id x) ∙ s in
+        ap (same_id (id x)) same ∙ same_id_comm (id x) (id y) ∙ same_id-along (id y) t (id x) t_is ∙ same_id_comm t (id x) ∙ s in
         let before : older (id x) (id (f y)) ≡ true = ap (older (id x)) same ∙ found_all (λ z. older (id x) (id z) ≡ true) id xs t y (later_are_younger id x xs up) k in
         rw (other, before) (ap (λ r. x ∷ r) (rest k))
 
@@ -252,7 +255,7 @@ find-with_other id (x ∷ xs) y t differ = by_tests (same_id (id x) (id y)) (old
     by_tests true b s rest =
         let other : same_id (id x) t ≡ false = same_id-along (id x) (id y) t s ∙ differ in rw (differ, other) refl
     by_tests false true s rest = elim (same_id (id x) t) as (λ c. head (cond c (x ∷ keep (λ z. same_id (id z) t) (with_member id xs y)) (keep (λ z. same_id (id z) t) (with_member id xs y)))
-            ≡ head (cond c (x ∷ keep (λ z. same_id (id z) t) xs) (keep (λ z. same_id (id z) t) xs))) [ true ↦ refl | false ↦ rest ]
+        ≡ head (cond c (x ∷ keep (λ z. same_id (id z) t) xs) (keep (λ z. same_id (id z) t) xs))) [ true ↦ refl | false ↦ rest ]
     by_tests false false s rest = rw differ refl
 
 -- a view of each member that has the member's id

@@ -1,5 +1,5 @@
 -- The laws that a lock table keeps.
-use Rattle.std.specs.Prelude.{◌≡◌, IsTrue, Bool, ◌||◌, not, List, [], ◌∷◌}
+use Rattle.std.specs.Prelude.{◌≡◌, IsTrue, Bool, ◌||◌, not, List, []}
 use Rattle.units.specs.Lists.{any, each, ascends}
 use Rattle.units.specs.Ids.{older}
 use Rattle.units.specs.ById.{IsById}
