@@ -3,10 +3,10 @@ use Rattle.std.proofs.Common.{◌≡◌, ℕ, zero, suc, ◌<◌, Bool, true, fa
 use Rattle.std.specs.List.{insert, remove, position_or_len, AllByRecursion}
 use Rattle.std.proofs.lemmas.Bool.{false≢true}
 use Rattle.std.proofs.lemmas.Bool.Decides.{nat_tests}
-use Rattle.units.specs.Lists.{keep, head, mapped}
+use Rattle.units.specs.Lists.{keep, head, first, mapped}
 use Rattle.units.specs.Ids.{Id, same_id, older}
 use Rattle.units.specs.ById.{IsById, has_member, find_member, without_member, with_member, change_member}
-use Rattle.units.proofs.IdLaws.{same_id-refl, same_id_comm, same_id-along, older_not_same, older_total, older-trans, older-along}
+use Rattle.units.proofs.IdLaws.{same_id-refl, same_id_comm, same_id-along, older_not_same, older_not_younger, older_total, older-trans, older-along}
 use Rattle.units.proofs.ListLaws.{all_of_each, each_of_all, all_gives, all-keep}
 
 -- each of these is younger than an id
@@ -178,6 +178,65 @@ found_all P id (x ∷ xs) t y all e = by_test (same_id (id x) t) (λ k. found_al
     by_test : (b : Bool) → (find_member id xs t ≡ Some y → P y) → head (cond b (x ∷ keep (λ x. same_id (id x) t) xs) (keep (λ x. same_id (id x) t) xs)) ≡ Some y → P y
     by_test true rest k = let is : x ≡ y = cc in subst P is all.0
     by_test false rest k = rest k
+
+-- where no member passes a test, none is the first
+pub first_none : {A : Type 0} (p : A → Bool) (xs : List A) → first p xs ≡ None → AllByRecursion (λ x. p x ≡ false) xs
+first_none p [] e = tt
+first_none p (x ∷ xs) e = by_test (p x) refl (λ k. first_none p xs k) e
+  where
+    by_test : (b : Bool) → p x ≡ b → (first p xs ≡ None → AllByRecursion (λ x. p x ≡ false) xs) → head (cond b (x ∷ keep p xs) (keep p xs)) ≡ None
+        → AllByRecursion (λ x. p x ≡ false) (x ∷ xs)
+    by_test true s rest k = cc
+    by_test false s rest k = (s, rest k)
+
+-- the first that passes a test passes it
+pub first_passes : {A : Type 0} (p : A → Bool) (xs : List A) (y : A) → first p xs ≡ Some y → p y ≡ true
+first_passes p [] y e = cc
+first_passes p (x ∷ xs) y e = by_test (p x) refl (λ k. first_passes p xs y k) e
+  where
+    by_test : (b : Bool) → p x ≡ b → (first p xs ≡ Some y → p y ≡ true) → head (cond b (x ∷ keep p xs) (keep p xs)) ≡ Some y → p y ≡ true
+    by_test true s rest k = let is : x ≡ y = cc in ap p (sym is) ∙ s
+    by_test false s rest k = rest k
+
+-- it has what each has
+pub first_all : {A : Type 0} (P : A → Type 0) (p : A → Bool) (xs : List A) (y : A) → AllByRecursion P xs → first p xs ≡ Some y → P y
+first_all P p [] y all e = cc
+first_all P p (x ∷ xs) y all e = by_test (p x) (λ k. first_all P p xs y all.1 k) e
+  where
+    by_test : (b : Bool) → (first p xs ≡ Some y → P y) → head (cond b (x ∷ keep p xs) (keep p xs)) ≡ Some y → P y
+    by_test true rest k = let is : x ≡ y = cc in subst P is all.0
+    by_test false rest k = rest k
+
+-- it is the member of its id
+pub find-first : {A : Type 0} (id : A → Id) (p : A → Bool) (xs : List A) (y : A) → IsById id xs → first p xs ≡ Some y → find_member id xs (id y) ≡ Some y
+find-first id p [] y up e = cc
+find-first id p (x ∷ xs) y up e = by_test (p x) (λ k. find-first id p xs y up.1 k) e
+  where
+    by_test : (b : Bool) → (first p xs ≡ Some y → find_member id xs (id y) ≡ Some y) → head (cond b (x ∷ keep p xs) (keep p xs)) ≡ Some y
+        → head (cond (same_id (id x) (id y)) (x ∷ keep (λ z. same_id (id z) (id y)) xs) (keep (λ z. same_id (id z) (id y)) xs)) ≡ Some y
+    by_test true rest k =
+        let is : x ≡ y = cc in
+        let same : same_id (id x) (id y) ≡ true = ap (λ z. same_id (id x) (id z)) (sym is) ∙ same_id-refl (id x) in
+        rw same (ap (λ z. Some z) is)
+    by_test false rest k =
+        let other : same_id (id x) (id y) ≡ false = older_not_same (id x) (id y) (first_all (λ z. older (id x) (id z) ≡ true) p xs y (later_are_younger id x xs up) k) in
+        rw other (rest k)
+
+-- and no older member passes it
+pub first_oldest : {A : Type 0} (id : A → Id) (p : A → Bool) (xs : List A) (y : A) → IsById id xs → first p xs ≡ Some y
+    → AllByRecursion (λ z. older (id z) (id y) ≡ true → p z ≡ false) xs
+first_oldest id p [] y up e = tt
+first_oldest id p (x ∷ xs) y up e = by_test (p x) refl (λ k. first_oldest id p xs y up.1 k) e
+  where
+    by_test : (b : Bool) → p x ≡ b → (first p xs ≡ Some y → AllByRecursion (λ z. older (id z) (id y) ≡ true → p z ≡ false) xs)
+        → head (cond b (x ∷ keep p xs) (keep p xs)) ≡ Some y → AllByRecursion (λ z. older (id z) (id y) ≡ true → p z ≡ false) (x ∷ xs)
+    by_test true s rest k =
+        let is : x ≡ y = cc in (
+          λ o. absurd (false≢true (sym (older_not_same (id x) (id y) o) ∙ ap (λ z. same_id (id x) (id z)) (sym is) ∙ same_id-refl (id x))),
+          all_gives (λ z. older (id x) (id z) ≡ true) (λ z. older (id z) (id y) ≡ true → p z ≡ false)
+              (λ z young o. absurd (false≢true (sym (older_not_younger (id z) (id y) o) ∙ ap (λ w. older (id w) (id z)) (sym is) ∙ young))) xs (later_are_younger id x xs up),
+        )
+    by_test false s rest k = (λ o. s, rest k)
 
 -- changing the member that is found gives it anew
 pub change_is_with : {A : Type 0} (id : A → Id) (xs : List A) (t : Id) (f : A → A) (y : A) → IsById id xs → find_member id xs t ≡ Some y → id (f y) ≡ id y

@@ -1,8 +1,9 @@
 -- The laws that a lock table keeps.
-use Rattle.std.specs.Prelude.{◌≡◌, IsTrue, Bool, ◌||◌, not, List, []}
+use Rattle.std.specs.Prelude.{◌≡◌, IsTrue, Bool, true, ◌||◌, not, List, [], Option, None, Some}
+use Rattle.std.specs.List.{AllByRecursion}
 use Rattle.units.specs.Lists.{any, each, ascends}
-use Rattle.units.specs.Ids.{older}
-use Rattle.units.specs.ById.{IsById}
+use Rattle.units.specs.Ids.{Id, older}
+use Rattle.units.specs.ById.{IsById, find_member}
 use Rattle.units.specs.Locks.{Claim, clash, others, is_waiting, waits_before, blockers, lock_before}
 
 -- two transactions that hold one key both share it
@@ -28,3 +29,9 @@ pub record IsLawfulTable (table : List Claim) : Type 0 where
 abbrev pub IsReady : List Claim → Claim → Type 0
 IsReady table c =
     IsTrue (is_waiting c) × (blockers table c.txn c.needs ≡ []) × (waits_before table c.txn c.needs ≡ [])
+
+-- no waiter is ready, or the one of an id is and no older one is
+abbrev pub IsOldestReady : List Claim → Option Id → Type 0
+IsOldestReady table None = AllByRecursion (λ d. IsReady table d → ⊥) table
+IsOldestReady table (Some t) =
+    (c : Claim) × (find_member (λ d. d.txn) table t ≡ Some c) × IsReady table c × AllByRecursion (λ d. older d.txn t ≡ true → IsReady table d → ⊥) table
