@@ -1,5 +1,6 @@
 pub mod Changes
 pub mod Clashes
+pub mod Oldest
 pub mod Pairs
 pub mod Places
 pub mod Release

@@ -1,6 +1,6 @@
 //! The lock table.
 ghost use Rattle.std.specs.Prelude.{◌≡◌, ◌≤◌, [], Some, true, false, IsOk, IfOk, IfErr, OnOk, OnErr};
-ghost use Rattle.units.specs.LockLaws.{IsLawfulTable};
+ghost use Rattle.units.specs.LockLaws.{IsLawfulTable, IsOldestReady};
 ghost use Rattle.units.specs.Locks.{asked, ready, wounded};
 ghost use Rattle.locks.specs.Table.{has_claim, with_claim, without_claim, change_claim, entrant, made_firm, resumed, withdrawn, after, most_held, KeepsRoom, ReleaseMakesWay};
 
@@ -124,7 +124,8 @@ impl Table {
 
     /// The oldest waiter that would be granted now.
     pub fn ready(&self) -> Option<TxnId>
-        ensures { result ≡ ready self.now }
+        ensures value { result ≡ ready self.now }
+        ensures oldest { IsOldestReady self.now result }
     {
         ready(&self.entries)
     }
