@@ -17,7 +17,7 @@ unwrap-stamp-requires c =
     let input : Input.Commit c.only_txn.result c.first_shard.result c.in_ok-only_write.field-0 ≡ asked c.args.key c.args.value =
     λ i. Input.Commit (c.only_txn.ensures i) (c.first_shard.ensures i) (c.in_ok-only_write.ensures.write i) in
     let came = commits c.args.at.now c.args.key c.args.value (seen c.args.core.now) (seen c.on.new.self) c.requires _
-    (subst (λ (i : Input). Steps (seen c.args.core.now) (seen c.on.new.self) (step_of (seen c.args.core.now) c.args.at.now i) (Ok c.in-Ok.field-0)) input c.in-Ok.ensures) in
+    (subst (λ (i : Input). Steps (seen c.args.core.now) (seen c.on.new.self) (step_of (seen c.args.core.now) c.args.at.now i) (Ok c.in-Ok.field-0)) input c.in-Ok.ensures.stepped) in
     subst (λ (o : Option (Id × ℕ)). IsSome o)
     (sym (c.decided.ensures ∙ ap (λ (f : Facts). decided_in f 0) came.1.facts ∙ decided-is c.args.key c.args.value (c.args.at.now.latest + 1))) refl
 
@@ -26,7 +26,7 @@ returns-in-Ok c =
     let input : Input.Commit c.only_txn.result c.first_shard.result c.in_ok-only_write.field-0 ≡ asked c.args.key c.args.value =
     λ i. Input.Commit (c.only_txn.ensures i) (c.first_shard.ensures i) (c.in_ok-only_write.ensures.write i) in
     let came = commits c.args.at.now c.args.key c.args.value (seen c.args.core.now) (seen c.on.new.self) c.requires _
-    (subst (λ (i : Input). Steps (seen c.args.core.now) (seen c.on.new.self) (step_of (seen c.args.core.now) c.args.at.now i) (Ok c.in-Ok.field-0)) input c.in-Ok.ensures) in
+    (subst (λ (i : Input). Steps (seen c.args.core.now) (seen c.on.new.self) (step_of (seen c.args.core.now) c.args.at.now i) (Ok c.in-Ok.field-0)) input c.in-Ok.ensures.stepped) in
     let told : Some c.unwrap-stamp.result ≡ Some (only_txn, c.args.at.now.latest + 1) =
     sym c.unwrap-stamp.ensures ∙ c.decided.ensures ∙ ap (λ (f : Facts). decided_in f 0) came.1.facts ∙ decided-is c.args.key c.args.value (c.args.at.now.latest + 1) in
     let stamp : c.unwrap-stamp.result.1 ≡ c.args.at.now.latest + 1 = cc in
@@ -37,4 +37,4 @@ returns c =
     let input : Input.Commit c.only_txn.result c.first_shard.result c.in_ok-only_write.field-0 ≡ asked c.args.key c.args.value =
     λ i. Input.Commit (c.only_txn.ensures i) (c.first_shard.ensures i) (c.in_ok-only_write.ensures.write i) in
     commits c.args.at.now c.args.key c.args.value (seen c.args.core.now) (seen c.on.new.self) c.requires _
-    (subst (λ (i : Input). Steps (seen c.args.core.now) (seen c.on.new.self) (step_of (seen c.args.core.now) c.args.at.now i) (Err c.in-Err.fault)) input c.in-Err.ensures)
+    (subst (λ (i : Input). Steps (seen c.args.core.now) (seen c.on.new.self) (step_of (seen c.args.core.now) c.args.at.now i) (Err c.in-Err.fault)) input c.in-Err.ensures.stepped)
