@@ -1,9 +1,8 @@
 -- What an input that is refused, or that logs nothing, leaves of a core.
-use Rattle.std.proofs.Common.{◌≡◌, ◌⊎◌, inl, inr, ℕ, ◌≤◌, ◌<◌, Bool, true, false, IsTrue, IsFalse, List, [], ◌∷◌, Option, Some, None, Result, Ok, Err, refl, sym, ap, ◌∙◌, subst, arith}
+use Rattle.std.proofs.Common.{◌≡◌, inl, inr, ℕ, ◌<◌, IsTrue, IsFalse, List, Option, Some, None, Result, Ok, Err, refl, sym, ap, subst, arith}
 use Rattle.units.specs.declared.fault.Fault.{Fault}
-use Rattle.units.specs.declared.fault.Fault.TheVariants.{Memory, Device}
+use Rattle.units.specs.declared.fault.Fault.TheVariants.{Device}
 use Rattle.disk.specs.declared.plan.Plan.{Plan}
-use Rattle.disk.specs.declared.plan.Plan.TheVariants.{Never}
 use Rattle.disk.specs.Image.{MayLeave}
 use Rattle.disk.specs.File.{File, surface}
 use Rattle.disk.specs.Moments.{LeavesOnly}
@@ -13,8 +12,8 @@ use Rattle.protocol.specs.Rows.{rebuilt}
 use Rattle.protocol.specs.Draft.{Stepped, Refuses, Does}
 use Rattle.protocol.specs.Step.{facts_after}
 use Rattle.shard.specs.Logs.{records_in, KeepsRecords, HoldsOldOrWith}
-use Rattle.shard.specs.On.{Seen, record_of, IsCause, IsLogFull, IsLogCause, HasWritten, HasLogged, HasStepped}
-use Rattle.shard.specs.Replies.{IsRefusedBy, WouldBeDone}
+use Rattle.shard.specs.On.{Seen, IsCause, IsLogFull, HasWritten, HasLogged, HasStepped}
+use Rattle.shard.specs.Replies.{IsRefusedBy}
 
 -- an answer, and a refusal of some answer
 abbrev answered : {T : Type 0} → T → Result T Fault

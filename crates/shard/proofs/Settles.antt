@@ -1,5 +1,5 @@
 -- What a core answers to a settling.
-use Rattle.std.proofs.Common.{◌≡◌, ℕ, ◌<◌, ◌≤◌, Bool, true, false, cond, nat_lt, nat_eq, max, List, [], ◌∷◌, Option, Some, None, refl, sym, ap, ◌∙◌, subst, arith}
+use Rattle.std.proofs.Common.{◌≡◌, ℕ, ◌<◌, ◌≤◌, true, false, cond, nat_lt, List, [], ◌∷◌, Option, Some, None, sym, ap, ◌∙◌, arith}
 use Rattle.std.proofs.lemmas.Bool.Decides.{nat_tests}
 use Rattle.units.specs.Ids.{Id, same_id}
 use Rattle.units.specs.Lists.{when}
@@ -12,15 +12,15 @@ use Rattle.record.specs.declared.record.Committed.{Committed}
 use Rattle.record.specs.declared.record.Record.{Record}
 use Rattle.record.specs.Facts.{Facts, learn, or_unrecorded}
 use Rattle.message.specs.declared.message.Input.{Input}
-use Rattle.protocol.specs.Rows.{Memory, Standing, IsUnknown, HasRow, WasSettled, IsDecided, standing, standing_by, rebuilt}
+use Rattle.protocol.specs.Rows.{Memory, standing, standing_by, rebuilt}
 use Rattle.protocol.specs.Draft.{started, Stepped, Refuses, Does, done, done_to}
 use Rattle.protocol.specs.Step.{step_within, settle_at}
 use Rattle.units.specs.Locks.{locks_of}
 use Rattle.units.specs.Lists.{mapped}
 use Rattle.shard.specs.declared.settled.Settled.{Settled}
-use Rattle.shard.specs.Held.{facts_by, entry_of, settled_of, HoldsOne, IsStanding}
+use Rattle.shard.specs.Held.{facts_by, entry_of, settled_of, IsStanding}
 use Rattle.shard.specs.Stepped.{row_limit}
-use Rattle.shard.proofs.Learns.{settled_as, learn-outcome}
+use Rattle.shard.proofs.Learns.{learn-outcome}
 use Rattle.shard.proofs.Standings.{memory_by, rebuilt-facts, standing-decided, standing-else}
 use Rattle.shard.proofs.Steps.{settle-stranger, settle-line, settle-done, IsNoDecision}
 use Rattle.shard.proofs.Commits.{same-number}

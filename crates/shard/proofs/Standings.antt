@@ -1,18 +1,18 @@
 -- How a transaction stands at a core.
-use Rattle.std.proofs.Common.{◌≡◌, ℕ, Bool, true, false, cond, List, [], ◌∷◌, map, Option, Some, None, refl, sym, ap, ◌∙◌, subst}
+use Rattle.std.proofs.Common.{◌≡◌, ℕ, true, false, cond, List, [], ◌∷◌, Option, Some, None, refl, ap, ◌∙◌}
 use Rattle.units.specs.Ids.{Id, same_id}
 use Rattle.units.specs.Lists.{head, mapped, when}
 use Rattle.units.specs.Locks.{locks_of}
 use Rattle.units.specs.declared.writes.Install.{Install}
 use Rattle.record.specs.declared.record.Committed.{Committed}
 use Rattle.record.specs.Records.{StandsDecided}
-use Rattle.record.specs.Facts.{Facts, Entry, recorded, or_unrecorded}
-use Rattle.protocol.specs.Rows.{Row, Memory, IsDecided, Standing, IsUnknown, HasRow, WasSettled, standing, standing_by, standing_row, rebuilt, find_row}
+use Rattle.record.specs.Facts.{recorded, or_unrecorded}
+use Rattle.protocol.specs.Rows.{Row, Memory, IsDecided, Standing, HasRow, standing, standing_by, rebuilt, find_row}
 use Rattle.shard.specs.declared.settled.Settled.{Settled}
 use Rattle.shard.specs.declared.state.Found.{Found}
 use Rattle.shard.specs.Held.{entry_of, entries_by, facts_by, settled_of}
 use Rattle.shard.specs.Found.{IsFound}
-use Rattle.shard.proofs.Entries.{entry, entries, entry_for, rows-settled, rows-one, entry_for-settled, entry_for-other}
+use Rattle.shard.proofs.Entries.{entries, entry_for, rows-settled, rows-one, entry_for-settled, entry_for-other}
 
 -- the row of a decision that stands
 abbrev pub row_of : Committed → Row

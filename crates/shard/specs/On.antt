@@ -5,13 +5,12 @@ use Rattle.units.specs.declared.fault.Fault.TheVariants.{Memory, Device, Stopped
 use Rattle.units.specs.declared.setup.Setup.{Setup}
 use Rattle.disk.specs.declared.plan.Plan.{Plan}
 use Rattle.disk.specs.declared.plan.Plan.TheVariants.{Never}
-use Rattle.disk.specs.Image.{Surface, MayLeave}
 use Rattle.disk.specs.File.{File, surface}
 use Rattle.disk.specs.Moments.{LeavesOnly}
 use Rattle.record.specs.declared.record.Record.{Record}
 use Rattle.record.specs.Facts.{Facts, learn}
 use Rattle.message.specs.declared.message.Envelope.{Envelope}
-use Rattle.protocol.specs.Rows.{Memory as RowMemory, rebuilt}
+use Rattle.protocol.specs.Rows.{rebuilt}
 use Rattle.protocol.specs.Draft.{Stepped, Refuses, Does}
 use Rattle.protocol.specs.Step.{facts_after}
 use Rattle.gatelog.specs.Frames.{next_gate, IsFull}

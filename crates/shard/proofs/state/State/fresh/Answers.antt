@@ -1,4 +1,4 @@
-use Rattle.std.proofs.Common.{None, map}
+use Rattle.std.proofs.Common.{map}
 use Rattle.record.specs.Facts.{facts_of}
 use Rattle.record.specs.Installs.{installs_of}
 use Rattle.shard.specs.Held.{entry_of}

@@ -1,10 +1,9 @@
-use Rattle.std.proofs.Common.{◌≡◌, ◌++◌, List, Option, Some, None, Result, IsOk, is_ok, insert, if◌then◌else◌, sym, ap, ◌∙◌, subst}
+use Rattle.std.proofs.Common.{◌≡◌, ◌++◌, Option, Some, None, Result, IsOk, is_ok, insert, if◌then◌else◌, sym, ap, ◌∙◌, subst}
 use Rattle.std.specs.Prelude.{IfSome}
 use Rattle.units.specs.Versions.{versions}
 use Rattle.record.specs.declared.record.Committed.{Committed}
 use Rattle.record.specs.declared.record.Record.{Record}
 use Rattle.record.specs.Facts.{learn}
-use Rattle.shard.specs.declared.settled.Settled.{Settled}
 use Rattle.shard.specs.Held.{facts_by, older_count}
 use Rattle.shard.specs.Known.{facts_in}
 use Rattle.shard.proofs.Learns.{settled_as, learn-outcome}
