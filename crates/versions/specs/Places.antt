@@ -18,7 +18,7 @@ abbrev pub PlaceDoesNotMatter : Type 0
 PlaceDoesNotMatter = (install : Install) (ordered log : List Install) → IsTrue (is_above log install.key install.at)
     → SameValues ordered log → SameValues (installed ordered install) (log ++ install ∷ [])
 
--- and so do all writes of a transaction, at one timestamp
+-- all writes of a transaction, at one timestamp, answer in order as they do at the end of the log
 abbrev pub PlacesDoNotMatter : Type 0
 PlacesDoNotMatter = (writes : List Write) (at : ℕ) (ordered log : List Install) → IsTrue (ascends write_before writes)
     → IsTrue (above_versions log at writes) → SameValues ordered log → SameValues (all_installed ordered (versions writes at)) (log ++ versions writes at)
