@@ -10,6 +10,12 @@ use Rattle.shard.specs.declared.settled.Settled.{Settled}
 use Rattle.shard.specs.Held.{facts_by, entry_of, older_count, IsStanding}
 use Rattle.shard.proofs.Entries.{entry, entries, entry_for, entry_for-same, with_status-twice, with_status-new}
 
+-- a ceiling
+pub learn-ceiling : (epoch floor : ℕ) (ss : List Settled) (installs : List Install) (d : Option Committed) (at : ℕ)
+    → learn (facts_by epoch floor d ss installs) (Record.Ceiling at) ≡ facts_by epoch (max floor at) d ss installs
+unfolding learn
+learn-ceiling epoch floor ss installs d at = refl
+
 module _ (epoch floor : ℕ) (ss : List Settled) (installs : List Install) (c : Committed) where
   -- a decision
   pub learn-decision : learn (facts_by epoch floor None ss installs) (Record.Commit c) ≡ facts_by epoch (max floor c.at) (Some c) ss installs

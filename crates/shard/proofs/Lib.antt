@@ -4,6 +4,7 @@ pub mod Steps
 pub mod Results
 pub mod Settles
 pub mod Standings
+pub mod Keeps
 pub mod Learns
 pub mod Appends
 pub mod Commitments

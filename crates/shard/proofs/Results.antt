@@ -9,11 +9,11 @@ use Rattle.disk.specs.File.{File, surface}
 use Rattle.disk.specs.Moments.{LeavesOnly}
 use Rattle.message.specs.declared.message.Envelope.{Envelope}
 use Rattle.record.specs.declared.record.Record.{Record}
-use Rattle.protocol.specs.Rows.{rebuilt}
 use Rattle.protocol.specs.Draft.{Stepped, Refuses, Does}
 use Rattle.protocol.specs.Step.{facts_after}
 use Rattle.shard.specs.Logs.{records_in, KeepsRecords, HoldsOldOrWith}
-use Rattle.shard.specs.On.{Seen, record_of, IsCause, IsLogFull, IsLogCause, HasWritten, HasLogged, HasStepped}
+use Rattle.shard.specs.On.{CoreView, record_of, IsCause, IsLogFull, IsLogCause, HasWritten, HasLogged, HasStepped}
+use Rattle.shard.specs.Remembered.{remembered}
 use Rattle.shard.specs.Replies.{IsRefusedBy, WouldBeDone}
 
 -- an answer, and a refusal of some answer
@@ -28,7 +28,7 @@ no_answer fault = Err fault
 
 module _ {D : Type 0} (keeps obeys : Type 0) (file : D → File) (clock : D → ℕ) (since : D → ℕ → List ℕ → Type 0) (failures : D → ℕ) (plan : D → Plan)
     (only_now : (d : D) (image : List ℕ) → since d (clock d) image → MayLeave (surface (file d)) image) where
-  module _ (core : Seen D) (running : IsFalse core.stopped) (stands : keeps → KeepsRecords (surface (file core.disk)) (records_in (surface (file core.disk)).seen)) where
+  module _ (core : CoreView D) (running : IsFalse core.stopped) (stands : keeps → KeepsRecords (surface (file core.disk)) (records_in (surface (file core.disk)).seen)) where
     -- nothing was done
     untouched : (logged : Option Record) → keeps → LeavesOnly clock since core.disk core.disk (HoldsOldOrWith (records_in (surface (file core.disk)).seen) logged)
     untouched logged keep = record {
@@ -44,7 +44,7 @@ module _ {D : Type 0} (keeps obeys : Type 0) (file : D → File) (clock : D → 
       any_moment = λ run keep. untouched logged keep;
       durable = tt;
       read = tt;
-      kept = (refl, inr (refl, refl, refl));
+      kept = (refl, refl, inr (refl, refl, refl));
       planned = λ obey never. (never, other);
     }
 
@@ -64,9 +64,9 @@ module _ {D : Type 0} (keeps obeys : Type 0) (file : D → File) (clock : D → 
     refused (Refuses why) fault other (inr want) = absurd want.1
 
   -- a record that the step logs, with what it puts out
-  module _ (old new : Seen D) (running : IsFalse old.stopped) (step : Stepped) (logged : Record) (out : List Envelope)
-      (is : step ≡ Does (Some logged) (rebuilt (facts_after old.facts (Some logged))) out) where
-    pub logged-done : {T : Type 0} (x : T) → HasLogged keeps obeys file clock since failures plan old new logged (answered x)
+  module _ (old new : CoreView D) (running : IsFalse old.stopped) (step : Stepped) (logged : Record) (last : ℕ) (out : List Envelope)
+      (is : step ≡ Does (Some logged) (remembered last (facts_after old.facts (Some logged))) out) where
+    pub logged-done : {T : Type 0} (x : T) → HasLogged keeps obeys file clock since failures plan old new logged last (answered x)
         → HasStepped keeps obeys file clock since failures plan old new step (Ok out)
     logged-done x has =
         subst (λ s. HasStepped keeps obeys file clock since failures plan old new s (Ok out)) (sym is) (record {
@@ -79,11 +79,11 @@ module _ {D : Type 0} (keeps obeys : Type 0) (file : D → File) (clock : D → 
             kept = tt;
             planned = λ obey never. ((has.written.planned obey never).0, tt);
           };
-          done = (running, has.done.0, (has.done.1, ap rebuilt (sym has.done.1), refl));
+          done = (running, has.done.0, (has.done.1, ap (remembered last) (sym has.done.1) ∙ ap (λ (l : ℕ). remembered l new.facts) (sym has.done.2), refl));
           cause = tt;
         })
 
-    pub logged-refused : {T : Type 0} (fault : Fault) → HasLogged keeps obeys file clock since failures plan old new logged (refusal T fault)
+    pub logged-refused : {T : Type 0} (fault : Fault) → HasLogged keeps obeys file clock since failures plan old new logged last (refusal T fault)
         → HasStepped keeps obeys file clock since failures plan old new step (Err fault)
     logged-refused fault has =
         subst (λ s. HasStepped keeps obeys file clock since failures plan old new s (Err fault)) (sym is) (record {
@@ -97,5 +97,5 @@ module _ {D : Type 0} (keeps obeys : Type 0) (file : D → File) (clock : D → 
             planned = has.written.planned;
           };
           done = tt;
-          cause = subst (λ b. IsCause b (Does (Some logged) (rebuilt (facts_after old.facts (Some logged))) out) fault (IsLogFull old.gate (Some logged)) ((failures old.disk < failures new.disk) × IsTrue new.stopped)) (sym running) has.cause;
+          cause = subst (λ b. IsCause b (Does (Some logged) (remembered last (facts_after old.facts (Some logged))) out) fault (IsLogFull old.gate (Some logged)) ((failures old.disk < failures new.disk) × IsTrue new.stopped)) (sym running) has.cause;
         })

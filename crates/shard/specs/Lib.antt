@@ -4,6 +4,7 @@ pub mod Input
 pub mod Known
 pub mod Logs
 pub mod On
+pub mod Remembered
 pub mod Replies
 pub mod Settled
 pub mod Stepped

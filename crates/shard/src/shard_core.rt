@@ -1,5 +1,5 @@
 //! The core of a shard.
-ghost use Rattle.std.specs.Prelude.{◌≡◌, ◌⊎◌, ◌<◌, [], ◌∷◌, Some, Ok, IsFalse, IsSome, IfOk, IfErr, IfSome, vec_len, vec_capacity};
+ghost use Rattle.std.specs.Prelude.{◌≡◌, ◌⊎◌, ◌<◌, [], ◌∷◌, Some, Ok, IsFalse, IsSome, IfOk, IfErr, IfSome, max, vec_len, vec_capacity};
 ghost use Rattle.disk.specs.File.{surface};
 ghost use Rattle.disk.specs.declared.plan.Plan.TheVariants.{Never};
 ghost use Rattle.gatelog.specs.Shown.{disk_of, gate_at, is_stopped};
@@ -39,22 +39,23 @@ impl<D: Disk> Core<D> {
 
     /// Formats the disk, whatever was on it, and logs the first opening.
     pub fn fresh(alloc: Global, disk: D, setup: Setup) -> Result<Core<D>, (Fault, D)>
-        ensures made { IfOk result (λ core. ((seen core).setup ≡ setup) × ((seen core).facts ≡ facts_of (Record.Opened 1 ∷ [])) × IsFalse (seen core).stopped) }
+        ensures made { IfOk result (λ core. ((seen core).setup ≡ setup) × ((seen core).facts ≡ facts_of (Record.Opened 1 ∷ [])) × ((seen core).last ≡ 0) × IsFalse (seen core).stopped) }
         ensures durable { IfOk result (λ core. D.keeps_model → KeepsRecords (surface (D.file (seen core).disk)) (Ok (Record.Opened 1 ∷ []))) }
         ensures read { IfOk result (λ core. D.keeps_model → records_in (surface (D.file (seen core).disk)).seen ≡ Ok (Record.Opened 1 ∷ [])) }
         ensures cause { IfErr result (λ refused. (refused.0 ≡ Fault.Memory) ⊎ ((refused.0 ≡ Fault.Device) × (D.failures disk < D.failures refused.1))) }
         // With no call armed the device does not fail.
         ensures planned { D.obeys → D.plan disk ≡ Never → IfOk result (λ core. D.plan (seen core).disk ≡ Never) × IfErr result (λ refused. refused.0 ≡ Fault.Memory) }
     {
+        let state = match State::fresh(alloc, setup) {
+            Ok(state) => state,
+            Err(fault) => return Err((fault, disk)),
+        };
         let mut gate_log = GateLog::format(disk)?;
         let opened = Record::Opened {
             epoch: Epoch::first(),
         };
         match append_record(&mut gate_log, alloc, &opened) {
-            Ok(()) => Ok(Core {
-                gate_log,
-                state: State::fresh(alloc, setup),
-            }),
+            Ok(()) => Ok(Core { gate_log, state }),
             Err(fault) => Err((fault, gate_log.into_disk())),
         }
     }
@@ -63,7 +64,7 @@ impl<D: Disk> Core<D> {
     /// before, and a core that is stopped by its device refuses every input.
     pub fn on(&mut self, alloc: Global, now: &Reading, input: &Input) -> Result<Outbox, Fault>
         ensures stepped { HasStepped D.keeps_model D.obeys D.file D.clock D.since D.failures D.plan (seen self.old) (seen self.new)
-            (step_from (seen self.old).setup (seen self.old).facts now.now input.now) result }
+            (step_from (seen self.old).setup (seen self.old).facts (seen self.old).last now.now input.now) result }
         ensures settled { IsDurablySettled D.keeps_model (surface (D.file (seen self.new).disk)) input.now result }
     {
         if self.gate_log.is_stopped() {
@@ -86,7 +87,7 @@ impl<D: Disk> Core<D> {
         requires running { IsFalse (seen self.old).stopped }
         requires stands { D.keeps_model → KeepsRecords (surface (D.file (seen self.old).disk)) (records_in (surface (D.file (seen self.old).disk)).seen) }
         ensures { HasStepped D.keeps_model D.obeys D.file D.clock D.since D.failures D.plan (seen self.old) (seen self.new)
-            (step_from (seen self.old).setup (seen self.old).facts now.now (Input.Commit txn part writes.now)) result }
+            (step_from (seen self.old).setup (seen self.old).facts (seen self.old).last now.now (Input.Commit txn part writes.now)) result }
     {
         let reply = match self.state.on_commit(alloc, now, txn, part, writes) {
             Ok(reply) => reply,
@@ -106,7 +107,7 @@ impl<D: Disk> Core<D> {
         requires running { IsFalse (seen self.old).stopped }
         requires stands { D.keeps_model → KeepsRecords (surface (D.file (seen self.old).disk)) (records_in (surface (D.file (seen self.old).disk)).seen) }
         ensures stepped { HasStepped D.keeps_model D.obeys D.file D.clock D.since D.failures D.plan (seen self.old) (seen self.new)
-            (step_from (seen self.old).setup (seen self.old).facts now.now (Input.Settle txn)) result }
+            (step_from (seen self.old).setup (seen self.old).facts (seen self.old).last now.now (Input.Settle txn)) result }
         ensures settled { IsDurablySettled D.keeps_model (surface (D.file (seen self.new).disk)) (Input.Settle txn) result }
     {
         let at = match self.state.decided_of(txn) {
@@ -131,7 +132,8 @@ impl<D: Disk> Core<D> {
         requires running { IsFalse (seen self.old).stopped }
         requires none { self.old.state.decided ≡ None }
         requires new { IsNew self.old.state.setup.shard self.old.state.settled.items c }
-        ensures { HasLogged D.keeps_model D.obeys D.file D.clock D.since D.failures D.plan (seen self.old) (seen self.new) (Record.Commit c) result }
+        requires above { (seen self.old).last < c.at }
+        ensures { HasLogged D.keeps_model D.obeys D.file D.clock D.since D.failures D.plan (seen self.old) (seen self.new) (Record.Commit c) (max (seen self.old).last c.at) result }
     {
         let decision = Record::Commit(c);
         match append_record(&mut self.gate_log, alloc, &decision) {
@@ -151,10 +153,11 @@ impl<D: Disk> Core<D> {
         requires stands { D.keeps_model → KeepsRecords (surface (D.file (seen self.old).disk)) (records_in (surface (D.file (seen self.old).disk)).seen) }
         requires some { IsSome self.old.state.decided }
         requires decided { IfSome self.old.state.decided (λ c. (c.txn ≡ txn) × (c.at ≡ at)) }
-        ensures logged { HasLogged D.keeps_model D.obeys D.file D.clock D.since D.failures D.plan (seen self.old) (seen self.new) (Record.Outcome txn (Some at)) result }
+        ensures logged { HasLogged D.keeps_model D.obeys D.file D.clock D.since D.failures D.plan (seen self.old) (seen self.new) (Record.Outcome txn (Some at)) (seen self.old).last result }
         ensures room { IfOk result (λ room. (room.items ≡ []) × (vec_len room < vec_capacity room)) }
     {
         let room = room_for_one(alloc)?;
+        let writes = self.state.decided_writes(alloc)?;
         self.state.reserve()?;
         let outcome = Record::Outcome {
             txn,
@@ -162,7 +165,7 @@ impl<D: Disk> Core<D> {
         };
         match append_record(&mut self.gate_log, alloc, &outcome) {
             Ok(()) => {
-                self.state.settle();
+                self.state.settle(writes);
                 Ok(room)
             }
             Err(fault) => Err(fault),
