@@ -1,109 +1,104 @@
--- The first commit of a shard, and its settling.
-use Rattle.std.proofs.Common.{◌≡◌, ◌∙◌, ◌+◌, ℕ, Bool, true, false, refl, ap, List, [], ◌∷◌, Option, Some, map, arith}
-use Rattle.std.specs.Prelude.{max, cond, nat_lt, nat_le}
+-- The first commit of a new shard, and its settling.
+use Rattle.std.proofs.Common.{◌≡◌, ◌∙◌, ◌+◌, ◌<◌, ◌≤◌, ◌^◌, ℕ, true, refl, sym, ap, [], ◌∷◌, Some, None, arith}
+use Rattle.std.specs.Prelude.{max, slice_get}
 use Rattle.units.specs.Keys.{Bytes, shard_of}
-use Rattle.units.specs.declared.lock.Lock.{Lock}
-use Rattle.units.specs.declared.writes.Write.{Write}
-use Rattle.units.specs.declared.setup.Setup.{Setup}
-use Rattle.units.specs.declared.setup.Book.{Book}
+use Rattle.units.specs.Lists.{gather}
 use Rattle.units.specs.declared.fault.Fault.TheVariants.{Early, TimeSpent}
-use Rattle.units.specs.Locks.{exclusive, wounded, is_free}
 use Rattle.truetime.specs.Interval.{Interval}
 use Rattle.record.specs.Facts.{Facts, learn}
+use Rattle.record.specs.declared.record.Committed.{Committed}
 use Rattle.record.specs.declared.record.Record.{Record}
-use Rattle.message.specs.declared.message.Message.{Message}
-use Rattle.message.specs.declared.message.Input.{Input}
-use Rattle.protocol.specs.Rows.{Memory, Row, Idle, IsDecided, standing}
-use Rattle.protocol.specs.Draft.{Draft, started, Stepped, Does, Refuses, decision, in_time, time_limit, commit_stamp, decide, decide_at, log, raise, put_row, wound, end_all, take_locks, with_room, close, drop_row, tell, say, done_to, outcome_to, other_parts}
-use Rattle.protocol.specs.Step.{step, on_commit, commit_fresh, commit_now, commit_granted, is_for, on_message, on_input, on_settle, settle_at, step_within}
+use Rattle.protocol.specs.Rows.{Memory, IsUnknown, standing, rebuilt}
+use Rattle.protocol.specs.Draft.{Does, Refuses, commit_stamp, done_to}
+use Rattle.protocol.specs.Step.{is_for}
+use Rattle.shard.specs.Decided.{decided_in, decided_row}
+use Rattle.shard.specs.Held.{decided_at, facts_by, IsStanding}
+use Rattle.shard.specs.Input.{commit_message}
+use Rattle.shard.specs.Logs.{learned}
+use Rattle.shard.specs.Stepped.{step_from}
+use Rattle.shard.specs.declared.input.Input.{Input}
+use Rattle.shard.proofs.Commits.{late-refused, fresh-decided}
+use Rattle.shard.proofs.Learns.{learn-decision}
+use Rattle.shard.proofs.Settles.{settle-early, settle-passed}
+use Rattle.shard.proofs.Standings.{rebuilt-facts, found-unknown}
 use Rattle.cli.specs.Replies.{only_txn}
+use Rattle.cli.specs.Shards.{only_setup, only_write, new_log, decided_log, settled_log}
 
--- shard 0, to which every key belongs
-abbrev pub shard_zero : ℕ → Book → Setup
-shard_zero stride book = record { shard = 0; splits = []; stride = stride; book = book }
+-- what the write asks, and what it is decided as
+abbrev pub asked : Bytes → Bytes → Input
+asked key value = Input.Commit only_txn 0 (only_write key value)
+
+abbrev decision : Bytes → Bytes → ℕ → Committed
+decision key value s = decided_at only_txn s 0 (only_write key value)
 
 -- no transaction has a record
-abbrev pub fresh_facts : ℕ → ℕ → Facts
-fresh_facts epoch floor = record { epoch = epoch; floor = floor; entries = []; installs = [] }
+abbrev fresh_facts : Facts
+fresh_facts = facts_by 1 0 None [] []
 
--- nothing is served, held or ended
-abbrev pub fresh_memory : Memory
-fresh_memory = record { last = 0; rows = []; ended = [] }
+new-facts : learned new_log ≡ fresh_facts
+unfolding learn
+new-facts = refl
 
--- a memory with one row
-abbrev pub memory_of : ℕ → Row → Memory
-memory_of last row = record { last = last; rows = row ∷ []; ended = [] }
+not-less : (n : ℕ) → max 0 n ≡ n
+not-less n = omega arith
 
--- the row of a decision at s
-abbrev pub decided_row : List Lock → ℕ → Row
-decided_row held s = record { txn = only_txn; held = held; phase = IsDecided s (0 ∷ []) }
+stamp-is : (n : ℕ) → commit_stamp 0 n [] ≡ n + 1
+stamp-is n = omega arith
 
--- one write
-abbrev pub only_write : Bytes → Option Bytes → List Write
-only_write k v = record { key = k; value = v } ∷ []
+-- the decision stands
+decided-facts : (key value : Bytes) (s : ℕ) → learned (decided_log key value s) ≡ facts_by 1 s (Some (decision key value s)) [] []
+decided-facts key value s =
+    ap (λ (f : Facts). learn f (Record.Commit (decision key value s))) new-facts
+    ∙ learn-decision 1 0 [] [] (decision key value s)
+    ∙ ap (λ (n : ℕ). facts_by 1 n (Some (decision key value s)) [] []) (not-less s)
 
--- the message that asks to commit it
-abbrev pub the_commit : Bytes → Option Bytes → Input
-the_commit k v =
-    Input.Deliver (Message.Commit (record { txn = only_txn; parts = 0 ∷ []; reads = record { epoch = 0; keys = [] }; writes = only_write k v }))
+-- it is the first that stands
+pub decided-is : (key value : Bytes) (s : ℕ) → decided_in (learned (decided_log key value s)) 0 ≡ Some (only_txn, s)
+decided-is key value s =
+    ap (λ (f : Facts). decided_in f 0) (decided-facts key value s)
+    ∙ ap (λ (m : Memory). slice_get (gather decided_row m.rows) 0) (rebuilt-facts 1 s [] [] (Some (decision key value s)))
 
--- its decision at s
-abbrev pub the_decision : Bytes → Option Bytes → ℕ → Record
-the_decision k v s = decision only_txn s (0 ∷ []) [] (only_write k v)
+module _ (now : Interval) (key value : Bytes) where
+  -- every key is the shard's
+  ours : is_for only_setup (commit_message only_txn 0 (only_write key value)) ≡ true
+  unfolding is_for shard_of
+  ours = refl
 
--- the step that decides it at s
-abbrev pub decided_by : Bytes → Option Bytes → ℕ → ℕ → Stepped
-decided_by k v last s = Does (Some (the_decision k v s)) (memory_of last (decided_row (exclusive (only_write k v)) s)) []
+  unknown : standing fresh_facts (rebuilt fresh_facts) only_txn ≡ IsUnknown
+  unknown = found-unknown 1 0 [] [] None only_txn refl refl
 
--- the step with its lock
-abbrev locked : ℕ → ℕ → Bytes → Option Bytes → Draft
-locked epoch floor k v =
-    record (started 1024 0 (fresh_facts epoch floor) fresh_memory) {
-      memory = memory_of 0 (record { txn = only_txn; held = exclusive (only_write k v); phase = Idle });
-    }
+  from-fresh : step_from only_setup (learned new_log) now (asked key value) ≡ step_from only_setup fresh_facts now (asked key value)
+  from-fresh = ap (λ (f : Facts). step_from only_setup f now (asked key value)) new-facts
 
-granted : (stride : ℕ) (book : Book) (epoch floor : ℕ) (now : Interval) (k : Bytes) (v : Option Bytes)
-    → step (shard_zero stride book) (fresh_facts epoch floor) fresh_memory now (the_commit k v)
-    ≡ in_time (now.latest + 1) (decide only_txn now.latest (0 ∷ []) [] (only_write k v) [] (locked epoch floor k v))
-unfolding shard_of wounded is_free standing wound end_all take_locks put_row with_room on_commit commit_fresh commit_now commit_granted is_for on_message on_input step_within
-granted stride book epoch floor now k v = refl
+  -- the reading leaves no time
+  pub commit-late : 2 ^ 62 ≤ now.latest + 1 → step_from only_setup (learned new_log) now (asked key value) ≡ Refuses TimeSpent
+  commit-late late = from-fresh ∙ late-refused only_setup 1 0 [] [] now only_txn (only_write key value) ours None unknown late
 
-decides : (epoch floor n : ℕ) (k : Bytes) (v : Option Bytes)
-    → decide only_txn n (0 ∷ []) [] (only_write k v) [] (locked epoch floor k v)
-    ≡ in_time (commit_stamp 0 n []) (decided_by k v (max 0 (commit_stamp 0 n [])) (commit_stamp 0 n []))
-unfolding decide decide_at log raise put_row learn
-decides epoch floor n k v = refl
+  -- it is decided one above the latest of the reading
+  pub commit-decided : now.latest + 1 < 2 ^ 62 → step_from only_setup (learned new_log) now (asked key value)
+      ≡ Does (Some (Record.Commit (decision key value (now.latest + 1)))) (rebuilt (learned (decided_log key value (now.latest + 1)))) []
+  commit-decided early =
+      from-fresh
+      ∙ fresh-decided only_setup 1 0 [] [] now only_txn (only_write key value) ours unknown early (omega arith) (decision key value (now.latest + 1))
+      (ap (λ (n : ℕ). decision key value n) (sym (stamp-is now.latest)))
+      ∙ ap (λ (f : Facts). Does (Some (Record.Commit (decision key value (now.latest + 1)))) (rebuilt (learn f (Record.Commit (decision key value (now.latest + 1))))) []) (sym new-facts)
 
-stamp_is : (n : ℕ) → commit_stamp 0 n [] ≡ n + 1
-stamp_is n = omega arith
+  module _ (s : ℕ) where
+    from-decided : step_from only_setup (learned (decided_log key value s)) now (Input.Settle only_txn)
+        ≡ step_from only_setup (facts_by 1 s (Some (decision key value s)) [] []) now (Input.Settle only_txn)
+    from-decided = ap (λ (f : Facts). step_from only_setup f now (Input.Settle only_txn)) (decided-facts key value s)
 
-not_less : (n : ℕ) → max 0 n ≡ n
-not_less n = omega arith
+    stands : IsStanding 0 s [] (decision key value s)
+    stands = record { new = record { parts = refl; reads = refl; new = refl }; past = omega arith }
 
-in_time_twice : (s : ℕ) (a : Stepped) → in_time s (in_time s a) ≡ in_time s a
-in_time_twice s a = go (nat_le s time_limit)
-  where
-    go : (b : Bool) → cond b (cond b a (Refuses TimeSpent)) (Refuses TimeSpent) ≡ cond b a (Refuses TimeSpent)
-    go true = refl
-    go false = refl
+    -- the timestamp has not surely passed
+    pub settled-early : now.earliest ≤ s → step_from only_setup (learned (decided_log key value s)) now (Input.Settle only_txn) ≡ Refuses Early
+    settled-early early = from-decided ∙ settle-early only_setup 1 s [] [] now only_txn (decision key value s) refl early
 
--- the first commit of a shard is decided one above the latest of its reading
-pub first_commit : (stride : ℕ) (book : Book) (epoch floor : ℕ) (now : Interval) (k : Bytes) (v : Option Bytes)
-    → step (shard_zero stride book) (fresh_facts epoch floor) fresh_memory now (the_commit k v)
-    ≡ in_time (now.latest + 1) (decided_by k v (now.latest + 1) (now.latest + 1))
-first_commit stride book epoch floor now k v =
-    granted stride book epoch floor now k v
-    ∙ ap (in_time (now.latest + 1)) (decides epoch floor now.latest k v ∙ ap (λ s. in_time s (decided_by k v (max 0 s) s)) (stamp_is now.latest))
-    ∙ in_time_twice (now.latest + 1) _
-    ∙ ap (λ last. in_time (now.latest + 1) (decided_by k v last (now.latest + 1))) (not_less (now.latest + 1))
-
--- the decision is settled once its timestamp has surely passed, and before that it is too early
-pub first_settle : (setup : Setup) (facts : Facts) (now : Interval) (held : List Lock) (last s : ℕ) → setup.shard ≡ 0
-    → step setup facts (memory_of last (decided_row held s)) now (Input.Settle only_txn)
-    ≡ cond (nat_lt s now.earliest)
-    (Does (Some (Record.Outcome only_txn (Some s))) (record { last = last; rows = []; ended = [] }) (done_to only_txn (Some s) ∷ []))
-    (Refuses Early)
-unfolding on_input on_settle settle_at close drop_row tell say log step_within standing
-first_settle setup facts now held last s zero =
-    ap (λ (n : ℕ). cond (nat_lt s now.earliest) (Does (Some (Record.Outcome only_txn (Some s))) (record { last = last; rows = []; ended = [] })
-    (done_to only_txn (Some s) ∷ map (outcome_to n only_txn (Some s)) (other_parts n (0 ∷ [])))) (Refuses Early)) zero
+    -- it has
+    pub settled-passed : s < now.earliest → step_from only_setup (learned (decided_log key value s)) now (Input.Settle only_txn)
+        ≡ Does (Some (Record.Outcome only_txn (Some s))) (rebuilt (learned (settled_log key value s))) (done_to only_txn (Some s) ∷ [])
+    settled-passed passed =
+        from-decided
+        ∙ settle-passed only_setup 1 s [] [] now only_txn (decision key value s) refl passed stands
+        ∙ ap (λ (f : Facts). Does (Some (Record.Outcome only_txn (Some s))) (rebuilt (learn f (Record.Outcome only_txn (Some s)))) (done_to only_txn (Some s) ∷ [])) (sym (decided-facts key value s))

@@ -3,3 +3,4 @@ pub mod FoundLemmas
 pub mod LineLemmas
 pub mod NumberLemmas
 pub mod ReplyLemmas
+pub mod ShardLemmas

@@ -4,4 +4,5 @@ pub mod Lines
 pub mod Numbers
 pub mod Parser
 pub mod Replies
+pub mod Shards
 pub mod Views

@@ -4,10 +4,10 @@
 mod answers;
 mod command_line;
 mod commands;
-mod engine;
 mod failure;
 mod numbers;
 mod once;
+mod one_shard;
 mod words;
 
 pub use answers::answer;

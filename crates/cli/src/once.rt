@@ -1,14 +1,18 @@
 //! The command `once`: one write from the command line to the log.
-ghost use Rattle.std.specs.Prelude.{◌≡◌, ◌⊎◌, Ok, Err, None, IfOk, IfErr, OnOk, string_bytes, List, ℕ};
+ghost use Rattle.std.specs.Prelude.{◌≡◌, ◌⊎◌, Ok, Err, IfOk, IfErr, OnOk, string_bytes, nat_eq, List, ℕ};
 ghost use Rattle.std.specs.Io.KnownBytes.{Appends};
 ghost use Rattle.units.specs.declared.fault.Fault.{Fault};
 ghost use Rattle.units.specs.declared.fault.Fault.TheVariants.{Memory};
 ghost use Rattle.cli.specs.declared.failure.Failure.TheVariants.{Unwritten};
 ghost use Rattle.cli.specs.Failures.{FailsFor};
-ghost use Rattle.cli.specs.Replies.{commit_line, done_line, once_reply};
+ghost use Rattle.cli.specs.Replies.{commit_line, commit_stamp, done_line, once_reply};
+ghost use Rattle.cli.specs.Shards.{HasLog, new_log, log_after};
+ghost use Rattle.shard.specs.Core.{seen};
 
-use crate::engine::{Engine, only_txn};
 use crate::failure::Failure;
+use crate::one_shard::{commit, only_txn, open_new, settle};
+use shard::Core;
+use simdisk::SimDisk;
 use std::alloc::Global;
 use std::io::Write;
 use truetime::Reading;
@@ -30,31 +34,33 @@ pub fn once<O: Write>(
     ensures refused { (fault : Fault) → once_reply first.now second.now ≡ Err fault → out.new ≡ out.old }
     ensures failures { IfErr result (λ failure. FailsFor failure (once_reply first.now second.now)) }
 {
-    let mut engine = Engine::fresh(alloc)?;
-    let status = commit_and_settle(alloc, &mut engine, key, value, first, second, out);
-    engine.stop();
+    let mut core = open_new(alloc)?;
+    let status = commit_and_settle(alloc, &mut core, key, value, first, second, out);
+    let _disk = core.stop();
     status
 }
 
 fn commit_and_settle<O: Write>(
     alloc: Global,
-    engine: &mut Engine,
+    core: &mut Core<SimDisk>,
     key: Key,
     value: Value,
     first: &Reading,
     second: &Reading,
     out: &mut O,
 ) -> Result<u8, Failure>
-    requires { engine.old ≡ None }
+    requires { HasLog new_log (seen core.old) }
     ensures status { IfOk result (λ status. (status ≡ 0) ⊎ (status ≡ 1)) }
     ensures printed { IfOk result (λ status. (text : List ℕ) × (once_reply first.now second.now ≡ Ok (text, status))
         × Appends (O.contents out.old) (O.contents out.new) text) }
     ensures refused { (fault : Fault) → once_reply first.now second.now ≡ Err fault → out.new ≡ out.old }
+    ensures log { IfOk result (λ status. (stamp : ℕ) × (commit_stamp first.now ≡ Ok stamp)
+        × HasLog (log_after (nat_eq status 0) key value stamp) (seen core.new)) }
     ensures failures { IfErr result (λ failure. FailsFor failure (once_reply first.now second.now)) }
 {
-    let stamp = engine.commit(alloc, key, value, first)?;
+    let stamp = commit(alloc, core, key, value, first)?;
     print(out, &committed(alloc, stamp)?)?;
-    if engine.settle(alloc, second)? {
+    if settle(alloc, core, second)? {
         print(out, &done(alloc, stamp)?)?;
         Ok(0)
     } else {

@@ -9,7 +9,7 @@ ghost use Rattle.disk.specs.Planned.{IsAsPlanned, armed};
 ghost use Rattle.disk.specs.Moments.{LeavesOnly, HasCause};
 ghost use Rattle.gatelog.specs.Armed.{fails_in_append, appended, IsArmed};
 ghost use Rattle.gatelog.specs.Crash.{Stands, IsOldOrWith};
-ghost use Rattle.gatelog.specs.Frames.{next_gate, staged_bytes};
+ghost use Rattle.gatelog.specs.Frames.{next_gate, staged_bytes, IsFull};
 ghost use Rattle.gatelog.specs.Log.{log, and_entry, ends_at};
 
 use crate::change::write_and_sync;
@@ -144,13 +144,14 @@ impl<D: Disk> GateLog<D> {
     pub fn stage(&mut self, alloc: Global, record: &Record) -> Result<Staged, Fault>
         ensures staged { IfOk result (λ staged. (staged.offset ≡ gate_at self.old) × (staged.item ≡ «record».now)) }
         ensures running { OnOk result (IsFalse (is_stopped self.old) × (next_gate (gate_at self.old) «record».now + 1 ≤ 2 ^ 40)) }
+        ensures growth { OnOk result (next_gate (gate_at self.old) «record».now ≤ gate_at self.old + 2 ^ 20 + 5) }
         ensures room { OnOk result (D.obeys → D.has_room (disk_of self.new) 4 (length (staged_bytes «record».now) + 1)) }
         ensures plan { D.plan (disk_of self.new) ≡ D.plan (disk_of self.old) }
         ensures same { (gate_at self.new ≡ gate_at self.old) × (is_stopped self.new ≡ is_stopped self.old) × (D.file (disk_of self.new) ≡ D.file (disk_of self.old)) }
         ensures failures_stay { D.failures (disk_of self.old) ≤ D.failures (disk_of self.new) }
         ensures time { LeavesOnly D.clock D.since (disk_of self.old) (disk_of self.new) (MayLeave (surface (D.file (disk_of self.old)))) }
         ensures cause { IfErr result (λ fault. ((fault ≡ Fault.Stopped) × IsTrue (is_stopped self.old))
-            ⊎ (((fault ≡ Fault.TimeSpent) × IsFalse (is_stopped self.old) × (2 ^ 40 < next_gate (gate_at self.old) «record».now + 1))
+            ⊎ (((fault ≡ Fault.TimeSpent) × IsFalse (is_stopped self.old) × IsFull (gate_at self.old) «record».now)
             ⊎ ((fault ≡ Fault.Memory) × IsFalse (is_stopped self.old) × (next_gate (gate_at self.old) «record».now + 1 ≤ 2 ^ 40)))) }
     {
         if self.stopped {
@@ -190,6 +191,7 @@ impl<D: Disk> GateLog<D> {
         ensures read_either { IsFalse (is_stopped self.old) → D.keeps_model → IsOldOrWith (log (surface (D.file (disk_of self.old))).seen) staged (surface (D.file (disk_of self.new))).seen }
 
         ensures names { IfOk result (λ logged. (logged ≡ staged.item) × IsFalse (is_stopped self.old) × IsFalse (is_stopped self.new)) }
+        ensures gate { OnOk result (gate_at self.new ≡ next_gate staged.offset staged.item) }
         ensures failures_stay { D.failures (disk_of self.old) ≤ D.failures (disk_of self.new) }
         ensures cause { IfErr result (λ fault. ((fault ≡ Fault.Stopped) × IsTrue (is_stopped self.old) × (self.new ≡ self.old))
             ⊎ ((fault ≡ Fault.Device) × IsFalse (is_stopped self.old) × (D.failures (disk_of self.old) < D.failures (disk_of self.new)) × IsTrue (is_stopped self.new))) }

@@ -1,4 +1,5 @@
 mod LastUnderFloor
 mod LockTable
+pub mod RowTable
 pub mod Samples
 mod ShardSteps

@@ -1,5 +1,5 @@
 -- An append, as its records see it.
-use Rattle.std.proofs.Common.{◌≡◌, ◌⊎◌, inl, inr, ⊎_elim, ℕ, List, [], ◌∷◌, ◌++◌, map, Option, Some, Result, Ok, Err, refl, ap, ◌∙◌}
+use Rattle.std.proofs.Common.{◌≡◌, inl, inr, ℕ, List, [], ◌∷◌, ◌++◌, map, Some, Result, Ok, Err, refl, ap, ◌∙◌}
 use Rattle.units.specs.declared.fault.Fault.{Fault}
 use Rattle.disk.specs.File.{File, surface}
 use Rattle.record.specs.declared.record.Record.{Record}

@@ -1,6 +1,5 @@
 -- When the locks of two commits clash.
-use Rattle.std.proofs.Common.{◌≡◌, ℕ, Bool, true, false, cond, ◌&&◌, ◌||◌, List, [], ◌∷◌, map, refl, sym, ap, ◌∙◌}
-use Rattle.std.proofs.lemmas.Bool.{false≢true}
+use Rattle.std.proofs.Common.{◌≡◌, Bool, true, false, cond, ◌&&◌, ◌||◌, List, [], ◌∷◌, refl, sym, ap, ◌∙◌}
 use Rattle.units.specs.Keys.{Bytes, same_key, key_before, writes_key}
 use Rattle.units.specs.Lists.{any}
 use Rattle.units.specs.Locks.{clash, locks_clash, modes_clash, stronger, with_lock, with_locks, exclusive, locks_of}

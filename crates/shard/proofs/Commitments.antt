@@ -67,8 +67,8 @@ module _ (t : Id) (c : Committed) where
   learn-all f [] h = inl h
   learn-all f (r ∷ rs) h =
       ⊎_elim (λ here. ⊎_elim (λ before. inl before) (λ is. inr (or-left (is_commit t c.at r) (any (is_commit t c.at) rs) is)) (learn-one f r here))
-          (λ later. inr (or-right (is_commit t c.at r) (any (is_commit t c.at) rs) later))
-          (learn-all (learn f r) rs h)
+      (λ later. inr (or-right (is_commit t c.at r) (any (is_commit t c.at) rs) later))
+      (learn-all (learn f r) rs h)
 
   any-more : (test : Record → Bool) (rs more : List Record) → any test rs ≡ true → any test (rs ++ more) ≡ true
   any-more test (r ∷ rs) more h = step (test r) h (any-more test rs more)
@@ -88,7 +88,7 @@ module _ (t : Id) (c : Committed) where
   has-commit (Ok rs) facts r logged stands =
       let same : learned rs ≡ facts = ap given-facts logged in
       any-more (is_commit t c.at) rs (r ∷ [])
-        (⊎_elim (λ before. absurd (cc)) (λ is. is) (learn-all nothing rs (ap (λ f. recorded f t) same ∙ stands)))
+      (⊎_elim (λ before. absurd (cc)) (λ is. is) (learn-all nothing rs (ap (λ f. recorded f t) same ∙ stands)))
   has-commit (Err fault) facts r logged stands = absurd (cc)
 
 -- the status of the decision that stands
@@ -96,4 +96,4 @@ pub recorded-decided : (epoch floor : ℕ) (ss : List Settled) (installs : List 
     → recorded (facts_by epoch floor (Some d) ss installs) t ≡ StandsDecided d
 recorded-decided epoch floor ss installs d t same =
     ap or_unrecorded (subst (λ v. entry_for (with_status (entries ss) d.txn (StandsDecided d)) v ≡ Some (entry d.txn (StandsDecided d))) (same_id-is d.txn t same)
-        (entry_for-same (entries ss) d.txn (StandsDecided d)))
+    (entry_for-same (entries ss) d.txn (StandsDecided d)))

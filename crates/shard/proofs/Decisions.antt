@@ -1,5 +1,5 @@
 -- The decisions that stand at a core.
-use Rattle.std.proofs.Common.{◌≡◌, ◌<◌, ℕ, zero, suc, List, [], ◌∷◌, Option, Some, None, slice_get, refl, ap, ◌∙◌, arith}
+use Rattle.std.proofs.Common.{◌≡◌, ◌<◌, ℕ, zero, suc, List, Option, Some, None, slice_get, ap, arith}
 use Rattle.units.specs.Lists.{gather}
 use Rattle.units.specs.declared.writes.Install.{Install}
 use Rattle.record.specs.declared.record.Committed.{Committed}

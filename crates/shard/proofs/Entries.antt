@@ -1,9 +1,8 @@
 -- The entries of settled transactions, with one that is given anew.
-use Rattle.std.proofs.Common.{◌≡◌, ℕ, suc, Bool, true, false, cond, ◌&&◌, ◌||◌, not, List, [], ◌∷◌, ◌++◌, map, insert, Option, Some, None, refl, sym, ap, ◌∙◌, subst, arith}
-use Rattle.std.proofs.lemmas.Bool.{false≢true}
+use Rattle.std.proofs.Common.{◌≡◌, suc, Bool, true, false, cond, List, [], ◌∷◌, map, insert, Option, Some, None, refl, ap}
 use Rattle.units.specs.Ids.{Id, same_id, older}
 use Rattle.units.specs.Lists.{first, gather, keep, head, mapped}
-use Rattle.units.proofs.IdLaws.{same_id-refl, same_id-along, same_id_comm, same_id-is, older_not_same}
+use Rattle.units.proofs.IdLaws.{same_id-refl, same_id-along}
 use Rattle.record.specs.Records.{Status, HasSettled}
 use Rattle.record.specs.Facts.{Entry, with_status}
 use Rattle.protocol.specs.Rows.{Row, standing_row}

@@ -1,13 +1,13 @@
 -- What a core learns of the records that it logs.
-use Rattle.std.proofs.Common.{◌≡◌, ℕ, ◌≤◌, max, List, [], ◌∷◌, ◌++◌, insert, Option, Some, None, refl, sym, ap, ◌∙◌, arith}
+use Rattle.std.proofs.Common.{Option, ◌≡◌, ℕ, max, List, ◌++◌, insert, Some, None, refl, ap, ◌∙◌, arith}
 use Rattle.units.specs.Versions.{versions}
 use Rattle.units.specs.declared.writes.Install.{Install}
 use Rattle.record.specs.declared.record.Committed.{Committed}
 use Rattle.record.specs.declared.record.Record.{Record}
 use Rattle.record.specs.Records.{StandsDecided, HasSettled}
-use Rattle.record.specs.Facts.{Facts, Entry, learn, or_unrecorded, with_status, after_outcome, installs_at}
+use Rattle.record.specs.Facts.{learn, or_unrecorded, with_status, after_outcome, installs_at}
 use Rattle.shard.specs.declared.settled.Settled.{Settled}
-use Rattle.shard.specs.Held.{facts_by, entry_of, older_count, IsStanding}
+use Rattle.shard.specs.Held.{facts_by, older_count, IsStanding}
 use Rattle.shard.proofs.Entries.{entry, entries, entry_for, entry_for-same, with_status-twice, with_status-new}
 
 -- a ceiling

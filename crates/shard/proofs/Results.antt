@@ -1,9 +1,8 @@
 -- What an input that is refused, or that logs nothing, leaves of a core.
-use Rattle.std.proofs.Common.{◌≡◌, ◌⊎◌, inl, inr, ℕ, ◌≤◌, ◌<◌, Bool, true, false, IsTrue, IsFalse, List, [], ◌∷◌, Option, Some, None, Result, Ok, Err, refl, sym, ap, ◌∙◌, subst, arith}
+use Rattle.std.proofs.Common.{◌∙◌, ◌≡◌, inl, inr, ℕ, ◌<◌, IsTrue, IsFalse, List, Option, Some, None, Result, Ok, Err, refl, sym, ap, subst, arith}
 use Rattle.units.specs.declared.fault.Fault.{Fault}
-use Rattle.units.specs.declared.fault.Fault.TheVariants.{Memory, Device}
+use Rattle.units.specs.declared.fault.Fault.TheVariants.{Device}
 use Rattle.disk.specs.declared.plan.Plan.{Plan}
-use Rattle.disk.specs.declared.plan.Plan.TheVariants.{Never}
 use Rattle.disk.specs.Image.{MayLeave}
 use Rattle.disk.specs.File.{File, surface}
 use Rattle.disk.specs.Moments.{LeavesOnly}
@@ -12,7 +11,7 @@ use Rattle.record.specs.declared.record.Record.{Record}
 use Rattle.protocol.specs.Draft.{Stepped, Refuses, Does}
 use Rattle.protocol.specs.Step.{facts_after}
 use Rattle.shard.specs.Logs.{records_in, KeepsRecords, HoldsOldOrWith}
-use Rattle.shard.specs.On.{CoreView, record_of, IsCause, IsLogFull, IsLogCause, HasWritten, HasLogged, HasStepped}
+use Rattle.shard.specs.On.{CoreView, IsCause, IsLogFull, HasWritten, HasLogged, HasStepped}
 use Rattle.shard.specs.Remembered.{remembered}
 use Rattle.shard.specs.Replies.{IsRefusedBy, WouldBeDone}
 
@@ -44,6 +43,7 @@ module _ {D : Type 0} (keeps obeys : Type 0) (file : D → File) (clock : D → 
       any_moment = λ run keep. untouched logged keep;
       durable = tt;
       read = tt;
+      gate = tt;
       kept = (refl, refl, inr (refl, refl, refl));
       planned = λ obey never. (never, other);
     }
@@ -76,6 +76,7 @@ module _ {D : Type 0} (keeps obeys : Type 0) (file : D → File) (clock : D → 
             any_moment = has.written.any_moment;
             durable = has.written.durable;
             read = has.written.read;
+            gate = has.written.gate;
             kept = tt;
             planned = λ obey never. ((has.written.planned obey never).0, tt);
           };
@@ -93,6 +94,7 @@ module _ {D : Type 0} (keeps obeys : Type 0) (file : D → File) (clock : D → 
             any_moment = has.written.any_moment;
             durable = tt;
             read = tt;
+            gate = tt;
             kept = has.written.kept;
             planned = has.written.planned;
           };

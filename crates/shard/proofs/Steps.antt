@@ -1,23 +1,20 @@
 -- The step of a core, input by input.
-use Rattle.std.proofs.Common.{◌≡◌, ℕ, ◌+◌, ◌≤◌, ◌<◌, Bool, true, false, cond, not, ◌&&◌, ◌||◌, nat_eq, nat_le, max, List, [], ◌∷◌, ◌++◌, map, nat_lt, Option, Some, None, refl, sym, ap, ◌∙◌, subst}
+use Rattle.std.proofs.Common.{◌≡◌, ℕ, ◌+◌, Bool, true, false, cond, not, ◌&&◌, nat_eq, nat_le, max, List, [], ◌∷◌, map, nat_lt, Some, None, refl, ap, ◌∙◌}
 use Rattle.units.specs.Ids.{Id, same_id, older}
-use Rattle.units.specs.Lists.{any, each, keep, when, head}
+use Rattle.units.specs.Lists.{any, keep}
 use Rattle.units.specs.Locks.{Claim, exclusive, locks_of, with_locks, clash, wounded, is_free, may_wound}
 use Rattle.units.proofs.IdLaws.{same_id-refl}
 use Rattle.units.specs.declared.fault.Fault.TheVariants.{Stranger, Early, RowsFull, TimeSpent}
 use Rattle.units.specs.declared.lock.Lock.{Lock}
 use Rattle.units.specs.declared.setup.Setup.{Setup}
 use Rattle.units.specs.declared.writes.Write.{Write}
-use Rattle.units.specs.declared.writes.Install.{Install}
 use Rattle.truetime.specs.Interval.{Interval}
 use Rattle.record.specs.declared.record.Committed.{Committed}
 use Rattle.record.specs.declared.record.Record.{Record}
 use Rattle.record.specs.Facts.{Facts}
-use Rattle.message.specs.declared.message.Message.{Message}
 use Rattle.message.specs.declared.message.Input.{Input}
-use Rattle.message.specs.declared.message.Envelope.{Envelope}
-use Rattle.protocol.specs.Rows.{Memory, Row, Standing, IsUnknown, HasRow, WasEnded, WasAborted, WasClosed, WasSettled, Idle, WaitsCommit, IsDecided, standing, claims, claim_of}
-use Rattle.protocol.specs.Draft.{Draft, started, Stepped, Refuses, Does, done, done_to, decision, commit_stamp, in_time, with_room, is_full, put_row, set_rows, raise, log, say, tell, drop_row, close, wound, end_all, can_lock, take_locks, wait, decide, decide_at, time_limit, other_parts}
+use Rattle.protocol.specs.Rows.{Memory, Standing, IsUnknown, HasRow, WasEnded, WasAborted, WasClosed, WasSettled, Idle, WaitsCommit, IsDecided, standing, claim_of}
+use Rattle.protocol.specs.Draft.{Draft, started, Stepped, Refuses, Does, done, done_to, commit_stamp, in_time, with_room, put_row, raise, log, say, tell, drop_row, close, wound, end_all, can_lock, take_locks, wait, decide, decide_at, time_limit, other_parts}
 use Rattle.protocol.specs.Step.{step_within, on_input, on_message, on_commit, commit_fresh, commit_now, commit_granted, on_settle, settle_at, is_for}
 use Rattle.shard.specs.Held.{decided_at}
 use Rattle.shard.specs.Input.{commit_message}

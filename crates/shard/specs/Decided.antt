@@ -1,5 +1,5 @@
 -- The decisions that stand.
-use Rattle.std.specs.Prelude.{ℕ, List, slice_get, Option, Some, None}
+use Rattle.std.specs.Prelude.{ℕ, slice_get, Option, Some, None}
 use Rattle.units.specs.Ids.{Id}
 use Rattle.units.specs.Lists.{gather}
 use Rattle.record.specs.Facts.{Facts}

@@ -5,7 +5,6 @@ use Rattle.units.specs.declared.fault.Fault.TheVariants.{Memory, Device, Stopped
 use Rattle.units.specs.declared.setup.Setup.{Setup}
 use Rattle.disk.specs.declared.plan.Plan.{Plan}
 use Rattle.disk.specs.declared.plan.Plan.TheVariants.{Never}
-use Rattle.disk.specs.Image.{Surface, MayLeave}
 use Rattle.disk.specs.File.{File, surface}
 use Rattle.disk.specs.Moments.{LeavesOnly}
 use Rattle.record.specs.declared.record.Record.{Record}
@@ -13,7 +12,7 @@ use Rattle.record.specs.Facts.{Facts, learn}
 use Rattle.message.specs.declared.message.Envelope.{Envelope}
 use Rattle.protocol.specs.Draft.{Stepped, Refuses, Does}
 use Rattle.protocol.specs.Step.{facts_after}
-use Rattle.gatelog.specs.Frames.{next_gate}
+use Rattle.gatelog.specs.Frames.{next_gate, IsFull}
 use Rattle.shard.specs.Remembered.{remembered}
 use Rattle.shard.specs.Logs.{records_in, and_logged, KeepsRecords, HoldsOldOrWith}
 
@@ -40,7 +39,12 @@ IsDone (Does logged memory outbox) old new last out = (new ≡ facts_after old l
 -- the log has no room for the record
 abbrev pub IsLogFull : ℕ → Option Record → Type 0
 IsLogFull gate None = ⊥
-IsLogFull gate (Some r) = 2 ^ 40 < next_gate gate r + 1
+IsLogFull gate (Some r) = IsFull gate r
+
+-- where the log ends behind the record, where there is one
+abbrev pub gate_behind : ℕ → Option Record → ℕ
+gate_behind gate None = gate
+gate_behind gate (Some r) = next_gate gate r
 
 -- why a record is not logged: a growth was refused, the log would pass its limit, or the device failed
 abbrev pub IsLogCause : Fault → Type 0 → Type 0 → Type 0
@@ -69,6 +73,7 @@ module _ {D : Type 0} (keeps obeys : Type 0) (file : D → File) (clock : D → 
     -- from then on every crash leaves the records with the new one, and a read gives them
     pub durable : OnOk result (keeps → KeepsRecords (surface (file new.disk)) (and_logged (records_in (surface (file old.disk)).seen) logged))
     pub read : OnOk result (keeps → records_in (surface (file new.disk)).seen ≡ and_logged (records_in (surface (file old.disk)).seen) logged)
+    pub gate : OnOk result ((new.gate ≡ gate_behind old.gate logged) × (new.gate ≤ old.gate + 2 ^ 20 + 5))
     pub kept : IfErr result (IsKept file old new)
     -- with no call armed the device does not fail
     pub planned : obeys → plan old.disk ≡ Never → (plan new.disk ≡ Never) × IfErr result (λ fault. fault ≢ Device)

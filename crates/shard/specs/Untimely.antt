@@ -1,5 +1,5 @@
 -- When a commit that is not known has no timestamp, or no room.
-use Rattle.std.specs.Prelude.{◌≡◌, ◌⊎◌, ℕ, ◌+◌, ◌<◌, ◌≤◌, ◌^◌, Bool, true, false, List, Option, Some, None}
+use Rattle.std.specs.Prelude.{◌≡◌, ◌⊎◌, ℕ, ◌+◌, ◌<◌, ◌≤◌, ◌^◌, true, false, List, Option, Some, None}
 use Rattle.units.specs.Keys.{writes_key}
 use Rattle.units.specs.Lists.{any}
 use Rattle.units.specs.declared.fault.Fault.{Fault}

@@ -3,7 +3,7 @@ ghost use Rattle.std.specs.Prelude.{◌≡◌, ◌≢◌, ◌⊎◌, ◌+◌, �
 ghost use Rattle.disk.specs.File.{surface};
 ghost use Rattle.disk.specs.declared.plan.Plan.TheVariants.{Never};
 ghost use Rattle.disk.specs.Moments.{LeavesOnly};
-ghost use Rattle.gatelog.specs.Frames.{next_gate};
+ghost use Rattle.gatelog.specs.Frames.{next_gate, IsFull};
 ghost use Rattle.gatelog.specs.Shown.{disk_of, gate_at, is_stopped};
 ghost use Rattle.shard.specs.Logs.{records_in, and_logged, KeepsRecords, HoldsOldOrWith};
 
@@ -21,9 +21,10 @@ pub fn append_record<D: Disk>(
 ) -> Result<(), Fault>
     ensures failures_stay { D.failures (disk_of gate_log.old) ≤ D.failures (disk_of gate_log.new) }
     ensures running { OnOk result (IsFalse (is_stopped gate_log.old) × IsFalse (is_stopped gate_log.new)) }
+    ensures gate { OnOk result ((gate_at gate_log.new ≡ next_gate (gate_at gate_log.old) item.now) × (gate_at gate_log.new ≤ gate_at gate_log.old + 2 ^ 20 + 5)) }
     ensures cause { IfErr result (λ fault. ((fault ≡ Fault.Stopped) × IsTrue (is_stopped gate_log.old))
         ⊎ (((fault ≡ Fault.Memory) × IsFalse (is_stopped gate_log.old))
-        ⊎ (((fault ≡ Fault.TimeSpent) × IsFalse (is_stopped gate_log.old) × (2 ^ 40 < next_gate (gate_at gate_log.old) item.now + 1))
+        ⊎ (((fault ≡ Fault.TimeSpent) × IsFalse (is_stopped gate_log.old) × IsFull (gate_at gate_log.old) item.now)
         ⊎ ((fault ≡ Fault.Device) × IsFalse (is_stopped gate_log.old) × (D.failures (disk_of gate_log.old) < D.failures (disk_of gate_log.new)) × IsTrue (is_stopped gate_log.new))))) }
     ensures kept { IfErr result (λ fault. (fault ≡ Fault.Device)
         ⊎ ((is_stopped gate_log.new ≡ is_stopped gate_log.old) × (gate_at gate_log.new ≡ gate_at gate_log.old) × (D.file (disk_of gate_log.new) ≡ D.file (disk_of gate_log.old)))) }

@@ -2,6 +2,7 @@
 ghost use Rattle.std.specs.Prelude.{◌≡◌, ◌⊎◌, ◌<◌, [], ◌∷◌, Some, Ok, IsFalse, IsSome, IfOk, IfErr, IfSome, max, vec_len, vec_capacity};
 ghost use Rattle.disk.specs.File.{surface};
 ghost use Rattle.disk.specs.declared.plan.Plan.TheVariants.{Never};
+ghost use Rattle.gatelog.specs.Frames.{next_gate};
 ghost use Rattle.gatelog.specs.Shown.{disk_of, gate_at, is_stopped};
 ghost use Rattle.protocol.specs.Draft.{done_to};
 ghost use Rattle.record.specs.Facts.{facts_of};
@@ -40,6 +41,7 @@ impl<D: Disk> Core<D> {
     /// Formats the disk, whatever was on it, and logs the first opening.
     pub fn fresh(alloc: Global, disk: D, setup: Setup) -> Result<Core<D>, (Fault, D)>
         ensures made { IfOk result (λ core. ((seen core).setup ≡ setup) × ((seen core).facts ≡ facts_of (Record.Opened 1 ∷ [])) × ((seen core).last ≡ 0) × IsFalse (seen core).stopped) }
+        ensures gate { IfOk result (λ core. (seen core).gate ≡ next_gate 8 (Record.Opened 1)) }
         ensures durable { IfOk result (λ core. D.keeps_model → KeepsRecords (surface (D.file (seen core).disk)) (Ok (Record.Opened 1 ∷ []))) }
         ensures read { IfOk result (λ core. D.keeps_model → records_in (surface (D.file (seen core).disk)).seen ≡ Ok (Record.Opened 1 ∷ [])) }
         ensures cause { IfErr result (λ refused. (refused.0 ≡ Fault.Memory) ⊎ ((refused.0 ≡ Fault.Device) × (D.failures disk < D.failures refused.1))) }

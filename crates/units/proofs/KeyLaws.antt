@@ -1,5 +1,5 @@
 -- The laws of keys and of their order by bytes.
-use Rattle.std.proofs.Common.{◌≡◌, ℕ, true, false, refl, arith, List, [], ◌∷◌}
+use Rattle.std.proofs.Common.{◌≡◌, ℕ, true, false, refl, sym, ap, ◌∙◌, arith, List, [], ◌∷◌}
 use Rattle.std.proofs.lemmas.Bool.{false≢true}
 use Rattle.std.proofs.lemmas.Bool.Decides.{nat_tests}
 use Rattle.units.specs.Keys.{same_key, key_before}
@@ -37,3 +37,7 @@ key_before-total [] [] h k = cc
 key_before-total [] (y ∷ ys) h k = cc
 key_before-total (x ∷ xs) [] h k = refl
 key_before-total (x ∷ xs) (y ∷ ys) h k = grind (arith, nat_tests, key_before-total xs ys)
+
+-- a key is not before itself
+pub same_key-not_before : (a b : List ℕ) → same_key a b ≡ true → key_before a b ≡ false
+same_key-not_before a b h = ap (key_before a) (sym (same_key-is a b h)) ∙ key_before-irreflexive a

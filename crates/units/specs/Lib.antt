@@ -1,3 +1,4 @@
+pub mod ById
 pub mod Faults
 pub mod Ids
 pub mod Keys

@@ -73,6 +73,10 @@ is_waiting c = any (λ l. true) c.needs
 unfoldable pub ready : List Claim → Option Id
 ready table = mapped (λ c. c.txn) (first (λ c. is_waiting c && is_free table c.txn c.needs) table)
 
+-- the first lock's key is before the second's
+abbrev pub lock_before : Lock → Lock → Bool
+lock_before a b = key_before a.key b.key
+
 -- the stronger of two modes
 abbrev pub stronger : Mode → Mode → Mode
 stronger Shared m = m

@@ -1,4 +1,6 @@
 //! Locks, and the answer to a request for some.
+ghost use Rattle.std.specs.Prelude.{◌≡◌};
+
 use crate::{Key, TxnId};
 use std::marker::Model;
 
@@ -29,6 +31,22 @@ impl Model for Ids {
     ghost Value = { List Id };
 
     ghost view = { λ i. i.ids.items };
+}
+
+impl Ids {
+    /// The ids of a list, which ascend.
+    pub fn from_vec(ids: Vec<TxnId>) -> Ids
+        ensures { result ≡ ids.items }
+    {
+        Ids { ids }
+    }
+
+    /// The ids, the oldest first.
+    pub fn as_slice(&self) -> &[TxnId]
+        ensures { result.now ≡ self.now }
+    {
+        self.ids.as_slice()
+    }
 }
 
 /// The answer to a request for locks: it is granted, it waits, or these younger holders are to be ended first.

@@ -1,11 +1,11 @@
-use Rattle.std.proofs.Common.{◌≡◌, inl, ap, ◌∙◌}
+use Rattle.std.proofs.Common.{inl, ap, ◌∙◌}
 use Rattle.disk.specs.Image.{MayLeave}
 use Rattle.disk.specs.File.{surface}
 use Rattle.disk.proofs.Runs.{and_then}
 use Rattle.gatelog.specs.Crash.{IsOldOrWith}
 use Rattle.gatelog.specs.Log.{log}
 use Rattle.gatelog.specs.Shown.{disk_of}
-use Rattle.shard.specs.Logs.{items_of, records_in, HoldsOldOrWith}
+use Rattle.shard.specs.Logs.{items_of}
 use Rattle.shard.proofs.Appends.{logged-is, old_or_with}
 use Rattle.shard.proofs.logging.append_record.Goals as goal
 

@@ -1,13 +1,9 @@
 use Rattle.std.proofs.Common.{◌≡◌, ℕ, List, [], ◌∷◌, Some, Ok, Result, sym, ap, ◌∙◌}
 use Rattle.units.specs.declared.fault.Fault.{Fault}
-use Rattle.disk.specs.File.{File, surface}
-use Rattle.gatelog.specs.Log.{log}
 use Rattle.gatelog.specs.Placed.{Placed}
-use Rattle.gatelog.specs.Shown.{disk_of}
 use Rattle.record.specs.declared.record.Record.{Record}
 use Rattle.record.specs.Facts.{Facts, facts_of, learn}
 use Rattle.record.specs.Installs.{installs_of}
-use Rattle.shard.specs.Known.{facts_in}
 use Rattle.shard.specs.Logs.{items_of, and_logged, facts_logged}
 use Rattle.shard.proofs.shard_core.Core.fresh.Goals as goal
 

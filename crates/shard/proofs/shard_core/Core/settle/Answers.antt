@@ -14,7 +14,7 @@ use Rattle.shard.specs.Input.{step_input}
 use Rattle.shard.specs.Remembered.{remembered}
 use Rattle.shard.specs.On.{HasStepped}
 use Rattle.shard.specs.Known.{facts_in}
-use Rattle.shard.specs.Stepped.{row_limit, step_from}
+use Rattle.shard.specs.Stepped.{step_from}
 use Rattle.shard.specs.declared.input.Input.{Input}
 use Rattle.shard.specs.Settled.{HasCommit}
 use Rattle.shard.proofs.Commitments.{has-commit, recorded-decided}
@@ -80,12 +80,12 @@ returns-in-Ok-log_outcome-clause-settled g c =
     let d : Committed = c.in-Some.c.now in
     let has = c.in-Some.ensures in
     let decided : recorded (facts_in s) c.args.txn ≡ StandsDecided d =
-        subst (λ (o : Option Committed). recorded (facts_by s.epoch s.floor o s.settled.items s.installs.items) c.args.txn ≡ StandsDecided d) (sym has.0)
-            (recorded-decided s.epoch s.floor s.settled.items s.installs.items d c.args.txn has.1) in (
+    subst (λ (o : Option Committed). recorded (facts_by s.epoch s.floor o s.settled.items s.installs.items) c.args.txn ≡ StandsDecided d) (sym has.0)
+    (recorded-decided s.epoch s.floor s.settled.items s.installs.items d c.args.txn has.1) in (
       d.at,
       c.done.ensures ∙ ap (λ (n : ℕ). done_to c.args.txn (Some n) ∷ []) c.in-Ok.ensures.0,
       λ keeps image may.
-        subst (λ (records : Result (List Record) Fault). HasCommit records c.args.txn d.at)
-            (sym (c.in-Ok-log_outcome.ensures.logged.written.durable keeps image may))
-            (has-commit c.args.txn d _ (facts_in s) (Record.Outcome c.args.txn (Some d.at)) (c.args.self.now.agrees c.requires.running keeps) decided),
+          subst (λ (records : Result (List Record) Fault). HasCommit records c.args.txn d.at)
+          (sym (c.in-Ok-log_outcome.ensures.logged.written.durable keeps image may))
+          (has-commit c.args.txn d _ (facts_in s) (Record.Outcome c.args.txn (Some d.at)) (c.args.self.now.agrees c.requires.running keeps) decided),
     )

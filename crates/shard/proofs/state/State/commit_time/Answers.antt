@@ -1,4 +1,4 @@
-use Rattle.std.proofs.Common.{◌≡◌, inr, sym, ◌∙◌, subst, Option, arith}
+use Rattle.std.proofs.Common.{inr, sym, ◌∙◌, subst, Option, arith}
 use Rattle.record.specs.declared.record.Committed.{Committed}
 use Rattle.shard.specs.Untimely.{IsCrowded}
 use Rattle.shard.proofs.state.State.commit_time.Goals as goal

@@ -1,4 +1,4 @@
-use Rattle.std.proofs.Common.{◌≡◌, [], ◌∷◌, inl, inr, sym, ap, ◌∙◌, subst}
+use Rattle.std.proofs.Common.{◌≡◌, [], inl, inr, sym, subst}
 use Rattle.record.specs.declared.record.Committed.{Committed}
 use Rattle.protocol.specs.Draft.{Stepped, commit_stamp}
 use Rattle.shard.specs.Held.{decided_at}

@@ -1,4 +1,4 @@
-use Rattle.std.proofs.Common.{◌≡◌, Some, None, Option, sym, ap, ◌∙◌, subst}
+use Rattle.std.proofs.Common.{Option, sym, ap, ◌∙◌, subst}
 use Rattle.record.specs.declared.record.Committed.{Committed}
 use Rattle.protocol.specs.Rows.{standing}
 use Rattle.shard.specs.declared.state.Found.{Found}

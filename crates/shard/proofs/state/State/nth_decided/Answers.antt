@@ -1,4 +1,4 @@
-use Rattle.std.proofs.Common.{◌≡◌, Some, None, Option, ℕ, sym, ap, ◌∙◌, arith}
+use Rattle.std.proofs.Common.{◌≡◌, Some, Option, ℕ, sym, ap, ◌∙◌, arith}
 use Rattle.record.specs.declared.record.Committed.{Committed}
 use Rattle.shard.specs.Held.{facts_by}
 use Rattle.shard.specs.Decided.{decided_in}

@@ -1,0 +1,50 @@
+-- The one shard of `once`, by the records of its log.
+use Rattle.std.specs.Prelude.{◌≡◌, ℕ, ◌*◌, ◌^◌, ◌≤◌, Bool, true, false, List, [], ◌∷◌, ◌++◌, length, Some, Ok, IsFalse}
+use Rattle.units.specs.Keys.{Bytes}
+use Rattle.units.specs.declared.setup.Setup.{Setup}
+use Rattle.units.specs.declared.setup.Book.TheVariants.{Off}
+use Rattle.units.specs.declared.writes.Write.{Write}
+use Rattle.disk.specs.File.{surface}
+use Rattle.disk.specs.declared.plan.Plan.TheVariants.{Never}
+use Rattle.record.specs.declared.record.Record.{Record}
+use Rattle.simdisk.specs.State.{disk_file, disk_plan}
+use Rattle.simdisk.specs.declared.simdisk.SimDisk.{SimDisk}
+use Rattle.shard.specs.Held.{decided_at}
+use Rattle.shard.specs.Logs.{learned, records_in, KeepsRecords}
+use Rattle.shard.specs.On.{Seen}
+use Rattle.cli.specs.Replies.{only_txn}
+
+-- the shard of all keys
+abbrev pub only_setup : Setup
+only_setup = record { shard = 0; splits = []; stride = 0; book = Off }
+
+-- its one write
+abbrev pub only_write : Bytes → Bytes → List Write
+only_write key value = record { key = key; value = Some value } ∷ []
+
+-- the log when the shard is new
+abbrev pub new_log : List Record
+new_log = Record.Opened 1 ∷ []
+
+-- the log when the write is decided at a timestamp
+abbrev pub decided_log : Bytes → Bytes → ℕ → List Record
+decided_log key value s = new_log ++ Record.Commit (decided_at only_txn s 0 (only_write key value)) ∷ []
+
+-- the log when it is settled
+abbrev pub settled_log : Bytes → Bytes → ℕ → List Record
+settled_log key value s = decided_log key value s ++ Record.Outcome only_txn (Some s) ∷ []
+
+-- the log behind a settling, by whether it is done
+abbrev pub log_after : Bool → Bytes → Bytes → ℕ → List Record
+log_after true = settled_log
+log_after false = decided_log
+
+-- the shard runs on a disk that does not fail; its log has these records, also after a crash, and ends far from its limit
+pub record HasLog (records : List Record) (core : Seen SimDisk) : Type 0 where
+  pub setup : core.setup ≡ only_setup
+  pub facts : core.facts ≡ learned records
+  pub gate : core.gate ≤ 2 ^ 21 * length records
+  pub running : IsFalse core.stopped
+  pub plan : disk_plan core.disk ≡ Never
+  pub read : records_in (surface (disk_file core.disk)).seen ≡ Ok records
+  pub durable : KeepsRecords (surface (disk_file core.disk)) (Ok records)

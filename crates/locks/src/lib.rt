@@ -1,0 +1,15 @@
+//! A shard's lock table: shared and exclusive locks of keys by wound-wait. A smaller id is an older transaction. An older
+//! requester ends younger holders in its way; a younger one waits for older holders; nobody ends a firm one.
+#![tactic(auto)]
+
+mod buffer;
+mod conflict;
+mod entry;
+mod held;
+mod table;
+
+pub use held::Held;
+pub use table::Table;
+
+#[cfg(test)]
+mod tests;

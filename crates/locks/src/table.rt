@@ -1,0 +1,155 @@
+//! The lock table.
+ghost use Rattle.std.specs.Prelude.{◌≡◌, ◌≤◌, [], Some, true, false, IsOk, IfOk, IfErr, OnOk, OnErr};
+ghost use Rattle.units.specs.LockLaws.{IsLawfulTable, IsOldestReady};
+ghost use Rattle.units.specs.Locks.{asked, ready, wounded};
+ghost use Rattle.locks.specs.Table.{has_claim, with_claim, without_claim, change_claim, entrant, made_firm, resumed, withdrawn, after, most_held, KeepsRoom, ReleaseMakesWay};
+
+use crate::buffer::make_room;
+use crate::entry::{Entry, is_blocked, is_wounding, place, place_for, ready, wounded};
+use crate::held::Held;
+use std::alloc::Global;
+use std::marker::Model;
+use units::{Asked, Fault, Ids, Lock, TxnId};
+
+/// The locks of a shard and who waits for them: the claims of its transactions.
+///
+/// Calls take a transaction's token, and require that the table has a claim of the token's id. Only `enter` makes tokens,
+/// for ids that are not in the table, and only `release` spends them. So whoever keeps each token of one table beside it,
+/// in a row of its own, and no other, keeps this invariant: the ids of the rows are those of the table. From it each
+/// call's condition follows, and no token of another table, and no second one of the same id, can meet it.
+#[derive(Drop)]
+pub struct Table {
+    entries: Vec<Entry>,
+}
+
+impl Model for Table {
+    ghost use Rattle.std.specs.Prelude.{List};
+    ghost use Rattle.units.specs.Locks.{Claim};
+    ghost use Rattle.units.specs.LockLaws.{IsLawfulTable};
+
+    ghost Value = { List Claim };
+
+    ghost view = { λ t. t.entries.items };
+
+    ghost invariant = { λ t. IsLawfulTable t.entries.items };
+}
+
+impl Table {
+    /// A table without claims.
+    pub fn new(alloc: Global) -> Table
+        ensures { result ≡ [] }
+    {
+        Table {
+            entries: Vec::new(alloc),
+        }
+    }
+
+    /// The lock law and the wait law hold of each table, and its order. It does nothing.
+    pub fn laws(&self)
+        ensures { IsLawfulTable self.now }
+    {
+        let _ = &self.entries;
+    }
+
+    /// The same request again, once those that it wounds are released, wounds nobody and has its room. It does nothing.
+    pub fn release_makes_way()
+        ensures { ReleaseMakesWay }
+    {}
+
+    /// Takes in a transaction that is not in the table. It holds nothing yet. It is refused for want of memory alone.
+    pub fn enter(&mut self, alloc: Global, txn: TxnId) -> Result<Held, Fault>
+        requires { has_claim self.old txn ≡ false }
+        ensures token { IfOk result (λ held. held.txn ≡ txn) }
+        ensures ok { OnOk result (self.new ≡ with_claim self.old (entrant txn)) }
+        ensures err { OnErr result (self.new ≡ self.old) }
+        ensures memory { IfErr result (λ fault. fault ≡ Fault.Memory) }
+    {
+        let at = place_for(&self.entries, txn);
+        self.entries.insert(at, Entry::new(alloc, txn))?;
+        Ok(Held {
+            txn,
+            buffer: Vec::new(alloc),
+        })
+    }
+
+    /// Asks for all these locks at once. A new request takes the place of the wait that there was. Those that it wounds
+    /// are to be released first; the same request then takes no memory. It is refused for want of memory alone.
+    pub fn request(
+        &mut self,
+        alloc: Global,
+        held: &mut Held,
+        needs: &[Lock],
+    ) -> Result<Asked, Fault>
+        requires { has_claim self.old held.old.txn ≡ true }
+        ensures asked { IfOk result (λ answer. answer ≡ asked self.old held.old.txn needs.now) }
+        ensures ok { IfOk result (λ answer. self.new ≡ after answer self.old held.old.txn needs.now) }
+        ensures err { OnErr result (self.new ≡ self.old) }
+        ensures memory { IfErr result (λ fault. fault ≡ Fault.Memory) }
+        ensures txn { held.new.txn ≡ held.old.txn }
+        ensures room { IfOk result (λ answer. KeepsRoom answer (most_held self.old held.old.txn needs.now) held.new.room) }
+        ensures succeeds { wounded self.old held.old.txn needs.now ≡ []
+            → most_held self.old held.old.txn needs.now ≤ held.old.room → IsOk result }
+    {
+        let at = place(&self.entries, held.txn);
+        make_room(&mut held.buffer, self.entries[at].held_count(), needs.len())?;
+        if is_wounding(&self.entries, held.txn, needs) {
+            let ids = wounded(alloc, &self.entries, held.txn, needs)?;
+            return Ok(Asked::Wounds(Ids::from_vec(ids)));
+        }
+        if is_blocked(&self.entries, held.txn, needs) {
+            self.entries[at].wait(&mut held.buffer, needs);
+            return Ok(Asked::Waits);
+        }
+        self.entries[at].grant(&mut held.buffer, needs);
+        Ok(Asked::Granted)
+    }
+
+    /// From now on nobody ends it.
+    pub fn firm(&mut self, held: &Held)
+        requires { has_claim self.old held.now.txn ≡ true }
+        ensures { self.new ≡ change_claim self.old held.now.txn made_firm }
+    {
+        let at = place(&self.entries, held.txn);
+        self.entries[at].make_firm();
+    }
+
+    /// Gives up its wait, and keeps its locks.
+    pub fn withdraw(&mut self, held: &Held)
+        requires { has_claim self.old held.now.txn ≡ true }
+        ensures { self.new ≡ change_claim self.old held.now.txn withdrawn }
+    {
+        let at = place(&self.entries, held.txn);
+        self.entries[at].withdraw();
+    }
+
+    /// The oldest waiter that would be granted now.
+    pub fn ready(&self) -> Option<TxnId>
+        ensures value { result ≡ ready self.now }
+        ensures oldest { IsOldestReady self.now result }
+    {
+        ready(&self.entries)
+    }
+
+    /// Grants the wait of the one that is ready. It is refused for want of memory alone.
+    pub fn resume(&mut self, held: &mut Held) -> Result<(), Fault>
+        requires { ready self.old ≡ Some held.old.txn }
+        ensures ok { OnOk result (self.new ≡ change_claim self.old held.old.txn resumed) }
+        ensures err { OnErr result (self.new ≡ self.old) }
+        ensures memory { IfErr result (λ fault. fault ≡ Fault.Memory) }
+        ensures txn { held.new.txn ≡ held.old.txn }
+    {
+        let at = place(&self.entries, held.txn);
+        let entry = &self.entries[at];
+        make_room(&mut held.buffer, entry.held_count(), entry.needs_count())?;
+        self.entries[at].resume(&mut held.buffer);
+        Ok(())
+    }
+
+    /// Spends a token: its transaction goes, with its locks and its wait.
+    pub fn release(&mut self, held: Held)
+        ensures { self.new ≡ without_claim self.old held.txn }
+    {
+        let Held { txn, buffer: _ } = held;
+        self.entries.retain(|entry| !entry.is_of(txn));
+    }
+}

@@ -1,0 +1,197 @@
+ghost use Rattle.std.specs.Prelude.{◌≡◌, ◌<◌, ◌^◌, [], ◌∷◌, IfSome};
+ghost use Rattle.locks.specs.Table.{entrant};
+
+use crate::{Held, Table};
+use std::alloc::Global;
+use std::test::Fail;
+use units::{Asked, Fault, Key, Lock, Mode, TxnId};
+
+fn id(number: u64) -> TxnId
+    requires { number < 2 ^ 62 }
+    ensures { result ≡ record { run = 1; number = number } }
+{
+    match TxnId::new(1, number) {
+        Some(id) => id,
+        None => unreachable!(),
+    }
+}
+
+fn shares(key: Key) -> [Lock; 1] {
+    [Lock {
+        key,
+        mode: Mode::Shared,
+    }]
+}
+
+fn owns(key: Key) -> [Lock; 1] {
+    [Lock {
+        key,
+        mode: Mode::Exclusive,
+    }]
+}
+
+fn is_granted(answer: &Result<Asked, Fault>) -> bool {
+    matches!(answer, Ok(Asked::Granted))
+}
+
+fn waits(answer: &Result<Asked, Fault>) -> bool {
+    matches!(answer, Ok(Asked::Waits))
+}
+
+// Ends this transaction alone, and no other.
+fn wounds(answer: &Result<Asked, Fault>, txn: TxnId) -> bool {
+    match answer {
+        Ok(Asked::Wounds(ids)) => ids.as_slice() == [txn].as_slice(),
+        _ => false,
+    }
+}
+
+// 1.1 holds a shared. 1.3 asks for it exclusive and waits, 1.2 asks for it shared and is granted. When 1.1 is released
+// nobody is ready; when 1.2 is released 1.3 is.
+fn wait_for_sharers(alloc: Global, key: Key) -> Option<bool> {
+    let mut table = Table::new(alloc);
+    let Ok(mut first) = table.enter(alloc, id(1)) else {
+        return None;
+    };
+    let Ok(mut third) = table.enter(alloc, id(3)) else {
+        table.release(first);
+        return None;
+    };
+    let Ok(mut second) = table.enter(alloc, id(2)) else {
+        table.release(first);
+        table.release(third);
+        return None;
+    };
+    let holds = table.request(alloc, &mut first, &shares(key));
+    let younger = table.request(alloc, &mut third, &owns(key));
+    let between = table.request(alloc, &mut second, &shares(key));
+    table.release(first);
+    let early = table.ready();
+    table.release(second);
+    let late = table.ready();
+    table.release(third);
+    Some(
+        is_granted(&holds)
+            && waits(&younger)
+            && is_granted(&between)
+            && early.is_none()
+            && late == Some(id(3)),
+    )
+}
+
+#[test]
+fn a_younger_writer_waits_for_sharers(rt: HostRuntime) -> Result<(), Fail> {
+    assert!(rt; wait_for_sharers(rt.alloc(), Key::new(b"a")?) == Some(true));
+    Ok(())
+}
+
+// The tokens of 1.1 and 1.2, in a table of their own.
+fn enter_two(alloc: Global) -> Option<(Table, Held, Held)>
+    ensures claims { IfSome result (λ both. both.0 ≡ entrant (record { run = 1; number = 1 }) ∷ entrant (record { run = 1; number = 2 }) ∷ []) }
+    ensures first { IfSome result (λ both. both.1.txn ≡ record { run = 1; number = 1 }) }
+    ensures second { IfSome result (λ both. both.2.txn ≡ record { run = 1; number = 2 }) }
+{
+    let mut table = Table::new(alloc);
+    let Ok(first) = table.enter(alloc, id(1)) else {
+        return None;
+    };
+    let Ok(second) = table.enter(alloc, id(2)) else {
+        table.release(first);
+        return None;
+    };
+    Some((table, first, second))
+}
+
+// 1.1 and 1.2 hold a shared. 1.1 asks for it exclusive and wounds 1.2, and nothing is changed: nobody waits, and 1.2 is
+// granted what it holds once more.
+fn wound_a_sharer(alloc: Global, key: Key) -> Option<bool> {
+    let (mut table, mut first, mut second) = enter_two(alloc)?;
+    let names = first.txn() == id(1) && second.txn() == id(2);
+    let older = table.request(alloc, &mut first, &shares(key));
+    let younger = table.request(alloc, &mut second, &shares(key));
+    let wounding = table.request(alloc, &mut first, &owns(key));
+    let nobody = table.ready().is_none();
+    let again = table.request(alloc, &mut second, &shares(key));
+    table.release(first);
+    table.release(second);
+    Some(
+        names
+            && is_granted(&older)
+            && is_granted(&younger)
+            && wounds(&wounding, id(2))
+            && nobody
+            && is_granted(&again),
+    )
+}
+
+#[test]
+fn an_older_writer_wounds_a_sharer(rt: HostRuntime) -> Result<(), Fail> {
+    assert!(rt; wound_a_sharer(rt.alloc(), Key::new(b"a")?) == Some(true));
+    Ok(())
+}
+
+// 1.2 holds a shared, and 1.1 wounds it. When 1.2 is released the same request is granted.
+fn ask_once_more(alloc: Global, key: Key) -> Option<bool> {
+    let (mut table, mut first, mut second) = enter_two(alloc)?;
+    let younger = table.request(alloc, &mut second, &shares(key));
+    let wounding = table.request(alloc, &mut first, &owns(key));
+    table.release(second);
+    let alone = table.request(alloc, &mut first, &owns(key));
+    table.release(first);
+    Some(is_granted(&younger) && wounds(&wounding, id(2)) && is_granted(&alone))
+}
+
+#[test]
+fn the_same_request_after_the_release(rt: HostRuntime) -> Result<(), Fail> {
+    assert!(rt; ask_once_more(rt.alloc(), Key::new(b"a")?) == Some(true));
+    Ok(())
+}
+
+// 1.2 is firm and holds a exclusive. 1.1 asks for it shared and waits. When 1.2 is released 1.1 is ready, goes on, and
+// holds a, so that 1.3 waits for it.
+fn wait_for_a_firm_one(alloc: Global, key: Key) -> Option<bool> {
+    let (mut table, mut first, mut second) = enter_two(alloc)?;
+    let younger = table.request(alloc, &mut second, &owns(key));
+    table.firm(&second);
+    let older = table.request(alloc, &mut first, &shares(key));
+    table.release(second);
+    let is_ready = table.ready() == Some(id(1));
+    if !is_ready {
+        table.release(first);
+        return Some(false);
+    }
+    let went_on = table.resume(&mut first).is_ok();
+    let nobody = table.ready().is_none();
+    let Ok(mut third) = table.enter(alloc, id(3)) else {
+        table.release(first);
+        return None;
+    };
+    let behind = table.request(alloc, &mut third, &owns(key));
+    table.release(first);
+    table.release(third);
+    Some(is_granted(&younger) && waits(&older) && went_on && nobody && waits(&behind))
+}
+
+#[test]
+fn an_older_reader_waits_for_a_firm_writer(rt: HostRuntime) -> Result<(), Fail> {
+    assert!(rt; wait_for_a_firm_one(rt.alloc(), Key::new(b"a")?) == Some(true));
+    Ok(())
+}
+
+// 1.1 holds a exclusive, 1.2 waits for it and gives the wait up, so that nobody is ready when 1.1 is released.
+fn give_a_wait_up(alloc: Global, key: Key) -> Option<bool> {
+    let (mut table, mut first, mut second) = enter_two(alloc)?;
+    let older = table.request(alloc, &mut first, &owns(key));
+    let younger = table.request(alloc, &mut second, &shares(key));
+    table.withdraw(&second);
+    table.release(first);
+    let nobody = table.ready().is_none();
+    table.release(second);
+    Some(is_granted(&older) && waits(&younger) && nobody)
+}
+
+#[test]
+fn a_wait_is_given_up(rt: HostRuntime) -> Result<(), Fail> {
+    assert!(rt; give_a_wait_up(rt.alloc(), Key::new(b"a")?) == Some(true));
+    Ok(())
+}
