@@ -10,3 +10,4 @@ pub mod Appends
 pub mod Commitments
 pub mod Commits
 pub mod Decisions
+pub mod Advances

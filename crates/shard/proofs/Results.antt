@@ -1,5 +1,5 @@
 -- What an input that is refused, or that logs nothing, leaves of a core.
-use Rattle.std.proofs.Common.{◌∙◌, ◌≡◌, inl, inr, ℕ, ◌<◌, IsTrue, IsFalse, List, Option, Some, None, Result, Ok, Err, refl, sym, ap, subst, arith}
+use Rattle.std.proofs.Common.{◌∙◌, ◌≡◌, inl, inr, ℕ, ◌<◌, IsTrue, IsFalse, List, [], Option, Some, None, Result, Ok, Err, refl, sym, ap, subst, arith}
 use Rattle.units.specs.declared.fault.Fault.{Fault}
 use Rattle.units.specs.declared.fault.Fault.TheVariants.{Device}
 use Rattle.disk.specs.declared.plan.Plan.{Plan}
@@ -10,7 +10,7 @@ use Rattle.message.specs.declared.message.Envelope.{Envelope}
 use Rattle.record.specs.declared.record.Record.{Record}
 use Rattle.protocol.specs.Draft.{Stepped, Refuses, Does}
 use Rattle.protocol.specs.Step.{facts_after}
-use Rattle.shard.specs.Logs.{records_in, KeepsRecords, HoldsOldOrWith}
+use Rattle.shard.specs.Logs.{records_in, and_logged, KeepsRecords, HoldsOldOrWith}
 use Rattle.shard.specs.On.{CoreView, IsCause, IsLogFull, HasWritten, HasLogged, HasStepped}
 use Rattle.shard.specs.Remembered.{remembered}
 use Rattle.shard.specs.Replies.{IsRefusedBy, WouldBeDone}
@@ -24,6 +24,11 @@ refusal T fault = Err fault
 
 abbrev no_answer : Fault → Result (List Envelope) Fault
 no_answer fault = Err fault
+
+-- nothing is added
+and-none : (records : Result (List Record) Fault) → and_logged records None ≡ records
+and-none (Ok records) = refl
+and-none (Err fault) = refl
 
 module _ {D : Type 0} (keeps obeys : Type 0) (file : D → File) (clock : D → ℕ) (since : D → ℕ → List ℕ → Type 0) (failures : D → ℕ) (plan : D → Plan)
     (only_now : (d : D) (image : List ℕ) → since d (clock d) image → MayLeave (surface (file d)) image) where
@@ -62,6 +67,28 @@ module _ {D : Type 0} (keeps obeys : Type 0) (file : D → File) (clock : D → 
       cause = subst (λ b. IsCause b (Does logged memory out) fault (IsLogFull core.gate logged) ((failures core.disk < failures core.disk) × IsTrue core.stopped)) (sym running) (inl want.0);
     }
     refused (Refuses why) fault other (inr want) = absurd want.1
+
+    -- nothing is logged nor put out, and this is the greatest timestamp then
+    pub served : (new : CoreView D) (step : Stepped) (last : ℕ) (out : List Envelope) → new.disk ≡ core.disk → new.gate ≡ core.gate → new.stopped ≡ core.stopped → new.setup ≡ core.setup
+        → new.facts ≡ core.facts → new.last ≡ last → step ≡ Does None (remembered last core.facts) []
+        → out ≡ [] → HasStepped keeps obeys file clock since failures plan core new step (Ok out)
+    served new step last out disk gate stopped setup facts is_last is empty =
+        subst (λ o. HasStepped keeps obeys file clock since failures plan core new step (Ok o)) (sym empty)
+        (subst (λ s. HasStepped keeps obeys file clock since failures plan core new s (Ok [])) (sym is)
+        (subst (λ (d : D). HasStepped keeps obeys file clock since failures plan core (record new { disk = d }) (Does None (remembered last core.facts) []) (Ok [])) (sym disk) (record {
+          written = record {
+            setup = setup;
+            failures_stay = omega arith;
+            any_moment = λ run keep. untouched None keep;
+            durable = λ keep. subst (λ records. KeepsRecords (surface (file core.disk)) records) (sym (and-none (records_in (surface (file core.disk)).seen))) (stands keep);
+            read = λ keep. sym (and-none (records_in (surface (file core.disk)).seen));
+            gate = (gate, omega (arith, gate));
+            kept = tt;
+            planned = λ obey never. (never, tt);
+          };
+          done = (running, stopped ∙ running, (facts, ap (remembered last) (sym facts) ∙ ap (λ (l : ℕ). remembered l new.facts) (sym is_last), refl));
+          cause = tt;
+        })))
 
   -- a record that the step logs, with what it puts out
   module _ (old new : CoreView D) (running : IsFalse old.stopped) (step : Stepped) (logged : Record) (last : ℕ) (out : List Envelope)

@@ -11,3 +11,4 @@ pub mod Stepped
 pub mod Untimely
 pub mod Core
 pub mod Decided
+pub mod Look
