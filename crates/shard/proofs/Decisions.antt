@@ -7,11 +7,11 @@ use Rattle.protocol.specs.Rows.{Memory}
 use Rattle.shard.specs.declared.settled.Settled.{Settled}
 use Rattle.shard.specs.Held.{facts_by}
 use Rattle.shard.specs.Decided.{decided_row, decided_in}
-use Rattle.shard.proofs.Standings.{memory_by, rebuilt-facts}
+use Rattle.shard.proofs.Standings.{memory_by, remembered-facts}
 
 module _ (epoch floor : ℕ) (ss : List Settled) (installs : List Install) where
-  nth-is : (decided : Option Committed) (n : ℕ) → decided_in (facts_by epoch floor decided ss installs) n ≡ slice_get (gather decided_row (memory_by floor decided).rows) n
-  nth-is decided n = ap (λ (m : Memory). slice_get (gather decided_row m.rows) n) (rebuilt-facts epoch floor ss installs decided)
+  nth-is : (decided : Option Committed) (n : ℕ) → decided_in (facts_by epoch floor decided ss installs) n ≡ slice_get (gather decided_row (memory_by 0 decided).rows) n
+  nth-is decided n = ap (λ (m : Memory). slice_get (gather decided_row m.rows) n) (remembered-facts epoch floor 0 ss installs decided)
 
   pub nth-none : (n : ℕ) → decided_in (facts_by epoch floor None ss installs) n ≡ None
   nth-none n = nth-is None n

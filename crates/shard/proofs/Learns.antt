@@ -1,5 +1,5 @@
 -- What a core learns of the records that it logs.
-use Rattle.std.proofs.Common.{◌≡◌, ℕ, max, List, ◌++◌, insert, Some, None, refl, ap, ◌∙◌, arith}
+use Rattle.std.proofs.Common.{Option, ◌≡◌, ℕ, max, List, ◌++◌, insert, Some, None, refl, ap, ◌∙◌, arith}
 use Rattle.units.specs.Versions.{versions}
 use Rattle.units.specs.declared.writes.Install.{Install}
 use Rattle.record.specs.declared.record.Committed.{Committed}
@@ -9,6 +9,12 @@ use Rattle.record.specs.Facts.{learn, or_unrecorded, with_status, after_outcome,
 use Rattle.shard.specs.declared.settled.Settled.{Settled}
 use Rattle.shard.specs.Held.{facts_by, older_count, IsStanding}
 use Rattle.shard.proofs.Entries.{entry, entries, entry_for, entry_for-same, with_status-twice, with_status-new}
+
+-- a ceiling
+pub learn-ceiling : (epoch floor : ℕ) (ss : List Settled) (installs : List Install) (d : Option Committed) (at : ℕ)
+    → learn (facts_by epoch floor d ss installs) (Record.Ceiling at) ≡ facts_by epoch (max floor at) d ss installs
+unfolding learn
+learn-ceiling epoch floor ss installs d at = refl
 
 module _ (epoch floor : ℕ) (ss : List Settled) (installs : List Install) (c : Committed) where
   -- a decision

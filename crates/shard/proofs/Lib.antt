@@ -4,8 +4,10 @@ pub mod Steps
 pub mod Results
 pub mod Settles
 pub mod Standings
+pub mod Keeps
 pub mod Learns
 pub mod Appends
 pub mod Commitments
 pub mod Commits
 pub mod Decisions
+pub mod Advances

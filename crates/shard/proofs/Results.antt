@@ -1,5 +1,5 @@
 -- What an input that is refused, or that logs nothing, leaves of a core.
-use Rattle.std.proofs.Common.{◌≡◌, inl, inr, ℕ, ◌<◌, IsTrue, IsFalse, List, Option, Some, None, Result, Ok, Err, refl, sym, ap, subst, arith}
+use Rattle.std.proofs.Common.{◌∙◌, ◌≡◌, inl, inr, ℕ, ◌<◌, IsTrue, IsFalse, List, [], Option, Some, None, Result, Ok, Err, refl, sym, ap, subst, arith}
 use Rattle.units.specs.declared.fault.Fault.{Fault}
 use Rattle.units.specs.declared.fault.Fault.TheVariants.{Device}
 use Rattle.disk.specs.declared.plan.Plan.{Plan}
@@ -8,12 +8,12 @@ use Rattle.disk.specs.File.{File, surface}
 use Rattle.disk.specs.Moments.{LeavesOnly}
 use Rattle.message.specs.declared.message.Envelope.{Envelope}
 use Rattle.record.specs.declared.record.Record.{Record}
-use Rattle.protocol.specs.Rows.{rebuilt}
 use Rattle.protocol.specs.Draft.{Stepped, Refuses, Does}
 use Rattle.protocol.specs.Step.{facts_after}
-use Rattle.shard.specs.Logs.{records_in, KeepsRecords, HoldsOldOrWith}
-use Rattle.shard.specs.On.{Seen, IsCause, IsLogFull, HasWritten, HasLogged, HasStepped}
-use Rattle.shard.specs.Replies.{IsRefusedBy}
+use Rattle.shard.specs.Logs.{records_in, and_logged, KeepsRecords, HoldsOldOrWith}
+use Rattle.shard.specs.On.{CoreView, IsCause, IsLogFull, HasWritten, HasLogged, HasStepped}
+use Rattle.shard.specs.Remembered.{remembered}
+use Rattle.shard.specs.Replies.{IsRefusedBy, WouldBeDone}
 
 -- an answer, and a refusal of some answer
 abbrev answered : {T : Type 0} → T → Result T Fault
@@ -25,9 +25,14 @@ refusal T fault = Err fault
 abbrev no_answer : Fault → Result (List Envelope) Fault
 no_answer fault = Err fault
 
+-- nothing is added
+and-none : (records : Result (List Record) Fault) → and_logged records None ≡ records
+and-none (Ok records) = refl
+and-none (Err fault) = refl
+
 module _ {D : Type 0} (keeps obeys : Type 0) (file : D → File) (clock : D → ℕ) (since : D → ℕ → List ℕ → Type 0) (failures : D → ℕ) (plan : D → Plan)
     (only_now : (d : D) (image : List ℕ) → since d (clock d) image → MayLeave (surface (file d)) image) where
-  module _ (core : Seen D) (running : IsFalse core.stopped) (stands : keeps → KeepsRecords (surface (file core.disk)) (records_in (surface (file core.disk)).seen)) where
+  module _ (core : CoreView D) (running : IsFalse core.stopped) (stands : keeps → KeepsRecords (surface (file core.disk)) (records_in (surface (file core.disk)).seen)) where
     -- nothing was done
     untouched : (logged : Option Record) → keeps → LeavesOnly clock since core.disk core.disk (HoldsOldOrWith (records_in (surface (file core.disk)).seen) logged)
     untouched logged keep = record {
@@ -44,7 +49,7 @@ module _ {D : Type 0} (keeps obeys : Type 0) (file : D → File) (clock : D → 
       durable = tt;
       read = tt;
       gate = tt;
-      kept = (refl, inr (refl, refl, refl));
+      kept = (refl, refl, inr (refl, refl, refl));
       planned = λ obey never. (never, other);
     }
 
@@ -63,10 +68,32 @@ module _ {D : Type 0} (keeps obeys : Type 0) (file : D → File) (clock : D → 
     }
     refused (Refuses why) fault other (inr want) = absurd want.1
 
+    -- nothing is logged nor put out, and this is the greatest timestamp then
+    pub served : (new : CoreView D) (step : Stepped) (last : ℕ) (out : List Envelope) → new.disk ≡ core.disk → new.gate ≡ core.gate → new.stopped ≡ core.stopped → new.setup ≡ core.setup
+        → new.facts ≡ core.facts → new.last ≡ last → step ≡ Does None (remembered last core.facts) []
+        → out ≡ [] → HasStepped keeps obeys file clock since failures plan core new step (Ok out)
+    served new step last out disk gate stopped setup facts is_last is empty =
+        subst (λ o. HasStepped keeps obeys file clock since failures plan core new step (Ok o)) (sym empty)
+        (subst (λ s. HasStepped keeps obeys file clock since failures plan core new s (Ok [])) (sym is)
+        (subst (λ (d : D). HasStepped keeps obeys file clock since failures plan core (record new { disk = d }) (Does None (remembered last core.facts) []) (Ok [])) (sym disk) (record {
+          written = record {
+            setup = setup;
+            failures_stay = omega arith;
+            any_moment = λ run keep. untouched None keep;
+            durable = λ keep. subst (λ records. KeepsRecords (surface (file core.disk)) records) (sym (and-none (records_in (surface (file core.disk)).seen))) (stands keep);
+            read = λ keep. sym (and-none (records_in (surface (file core.disk)).seen));
+            gate = (gate, omega (arith, gate));
+            kept = tt;
+            planned = λ obey never. (never, tt);
+          };
+          done = (running, stopped ∙ running, (facts, ap (remembered last) (sym facts) ∙ ap (λ (l : ℕ). remembered l new.facts) (sym is_last), refl));
+          cause = tt;
+        })))
+
   -- a record that the step logs, with what it puts out
-  module _ (old new : Seen D) (running : IsFalse old.stopped) (step : Stepped) (logged : Record) (out : List Envelope)
-      (is : step ≡ Does (Some logged) (rebuilt (facts_after old.facts (Some logged))) out) where
-    pub logged-done : {T : Type 0} (x : T) → HasLogged keeps obeys file clock since failures plan old new logged (answered x)
+  module _ (old new : CoreView D) (running : IsFalse old.stopped) (step : Stepped) (logged : Record) (last : ℕ) (out : List Envelope)
+      (is : step ≡ Does (Some logged) (remembered last (facts_after old.facts (Some logged))) out) where
+    pub logged-done : {T : Type 0} (x : T) → HasLogged keeps obeys file clock since failures plan old new logged last (answered x)
         → HasStepped keeps obeys file clock since failures plan old new step (Ok out)
     logged-done x has =
         subst (λ s. HasStepped keeps obeys file clock since failures plan old new s (Ok out)) (sym is) (record {
@@ -80,11 +107,11 @@ module _ {D : Type 0} (keeps obeys : Type 0) (file : D → File) (clock : D → 
             kept = tt;
             planned = λ obey never. ((has.written.planned obey never).0, tt);
           };
-          done = (running, has.done.0, (has.done.1, ap rebuilt (sym has.done.1), refl));
+          done = (running, has.done.0, (has.done.1, ap (remembered last) (sym has.done.1) ∙ ap (λ (l : ℕ). remembered l new.facts) (sym has.done.2), refl));
           cause = tt;
         })
 
-    pub logged-refused : {T : Type 0} (fault : Fault) → HasLogged keeps obeys file clock since failures plan old new logged (refusal T fault)
+    pub logged-refused : {T : Type 0} (fault : Fault) → HasLogged keeps obeys file clock since failures plan old new logged last (refusal T fault)
         → HasStepped keeps obeys file clock since failures plan old new step (Err fault)
     logged-refused fault has =
         subst (λ s. HasStepped keeps obeys file clock since failures plan old new s (Err fault)) (sym is) (record {
@@ -99,5 +126,5 @@ module _ {D : Type 0} (keeps obeys : Type 0) (file : D → File) (clock : D → 
             planned = has.written.planned;
           };
           done = tt;
-          cause = subst (λ b. IsCause b (Does (Some logged) (rebuilt (facts_after old.facts (Some logged))) out) fault (IsLogFull old.gate (Some logged)) ((failures old.disk < failures new.disk) × IsTrue new.stopped)) (sym running) has.cause;
+          cause = subst (λ b. IsCause b (Does (Some logged) (remembered last (facts_after old.facts (Some logged))) out) fault (IsLogFull old.gate (Some logged)) ((failures old.disk < failures new.disk) × IsTrue new.stopped)) (sym running) has.cause;
         })

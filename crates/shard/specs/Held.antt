@@ -1,8 +1,8 @@
 -- What a core holds: the decision that stands, if there is one, the transactions that are settled, and the versions.
-use Rattle.std.specs.Prelude.{◌≡◌, ℕ, suc, cond, ◌≤◌, List, [], ◌∷◌, map, Option, Some, None}
+use Rattle.std.specs.Prelude.{IsTrue, nat_le, nat_lt, ◌≡◌, ℕ, suc, cond, ◌≤◌, List, [], ◌∷◌, map, Option, Some, None}
 use Rattle.std.specs.Option.{ForSome}
 use Rattle.units.specs.Ids.{Id, same_id, older}
-use Rattle.units.specs.Lists.{first}
+use Rattle.units.specs.Lists.{first, each}
 use Rattle.units.specs.declared.writes.Write.{Write}
 use Rattle.units.specs.declared.writes.Install.{Install}
 use Rattle.record.specs.declared.record.Committed.{Committed}
@@ -47,6 +47,16 @@ pub record IsNew (shard : ℕ) (settled : List Settled) (c : Committed) : Type 0
 pub record IsStanding (shard floor : ℕ) (settled : List Settled) (c : Committed) : Type 0 where
   pub new : IsNew shard settled c
   pub past : c.at ≤ floor
+
+-- the timestamp that holds the safe time
+abbrev pub holds_by : Option Committed → List ℕ
+holds_by None = []
+holds_by (Some c) = c.at ∷ []
+
+-- no version is above the greatest timestamp, and each is below the decision that stands
+pub record AreBelow (last : ℕ) (decided : Option Committed) (installs : List Install) : Type 0 where
+  pub below : IsTrue (each (λ i. nat_le i.at last) installs)
+  pub decision : ForSome decided (λ c. IsTrue (each (λ i. nat_lt i.at c.at) installs) × (c.at ≤ last))
 
 -- the one that stands, where there is one
 abbrev pub HoldsOne : ℕ → ℕ → List Settled → Option Committed → Type 0

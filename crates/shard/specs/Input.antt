@@ -14,3 +14,4 @@ commit_message t n ws = Message.Commit (record { txn = t; parts = n ∷ []; read
 abbrev pub step_input : Input → StepInput
 step_input (Input.Commit txn part writes) = StepInput.Deliver (commit_message txn part writes)
 step_input (Input.Settle txn) = StepInput.Settle txn
+step_input (Input.Advance at) = StepInput.Advance at

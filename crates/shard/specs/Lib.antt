@@ -4,9 +4,11 @@ pub mod Input
 pub mod Known
 pub mod Logs
 pub mod On
+pub mod Remembered
 pub mod Replies
 pub mod Settled
 pub mod Stepped
 pub mod Untimely
 pub mod Core
 pub mod Decided
+pub mod Look

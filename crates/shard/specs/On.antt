@@ -10,31 +10,31 @@ use Rattle.disk.specs.Moments.{LeavesOnly}
 use Rattle.record.specs.declared.record.Record.{Record}
 use Rattle.record.specs.Facts.{Facts, learn}
 use Rattle.message.specs.declared.message.Envelope.{Envelope}
-use Rattle.protocol.specs.Rows.{rebuilt}
 use Rattle.protocol.specs.Draft.{Stepped, Refuses, Does}
 use Rattle.protocol.specs.Step.{facts_after}
 use Rattle.gatelog.specs.Frames.{next_gate, IsFull}
+use Rattle.shard.specs.Remembered.{remembered}
 use Rattle.shard.specs.Logs.{records_in, and_logged, KeepsRecords, HoldsOldOrWith}
 
 -- what a contract sees of a core: its disk, where its log ends there, whether its device failed, what it was told when it
--- was opened, and the facts of its log
-pub record Seen (D : Type 0) : Type 0 where
+-- was opened, the facts of its log, and the greatest timestamp assigned, applied or served
+pub record CoreView (D : Type 0) : Type 0 where
   pub disk : D
   pub gate : ℕ
   pub stopped : Bool
   pub setup : Setup
   pub facts : Facts
+  pub last : ℕ
 
 -- the record that a step logs
 abbrev pub record_of : Stepped → Option Record
 record_of (Refuses fault) = None
 record_of (Does logged memory outbox) = logged
 
--- the step is done: the facts are those before it with its record, it remembers no more than an opening would find, and
--- these messages are put out
-abbrev pub IsDone : Stepped → Facts → Facts → List Envelope → Type 0
-IsDone (Refuses fault) old new out = ⊥
-IsDone (Does logged memory outbox) old new out = (new ≡ facts_after old logged) × (memory ≡ rebuilt new) × (out ≡ outbox)
+-- the step is done: the facts are those before it with its record, this is what is remembered, and these messages are put out
+abbrev pub IsDone : Stepped → Facts → Facts → ℕ → List Envelope → Type 0
+IsDone (Refuses fault) old new last out = ⊥
+IsDone (Does logged memory outbox) old new last out = (new ≡ facts_after old logged) × (memory ≡ remembered last new) × (out ≡ outbox)
 
 -- the log has no room for the record
 abbrev pub IsLogFull : ℕ → Option Record → Type 0
@@ -58,13 +58,13 @@ IsCause false (Refuses why) fault full failed = fault ≡ why
 IsCause false (Does logged memory outbox) fault full failed = IsLogCause fault full failed
 
 -- what stands after a refusal: all as it was, but that a device's failure stops the core
-abbrev pub IsKept : {D : Type 0} → (D → File) → Seen D → Seen D → Fault → Type 0
+abbrev pub IsKept : {D : Type 0} → (D → File) → CoreView D → CoreView D → Fault → Type 0
 IsKept file old new fault =
-    (new.facts ≡ old.facts) × ((fault ≡ Device) ⊎ ((new.stopped ≡ old.stopped) × (new.gate ≡ old.gate) × (file new.disk ≡ file old.disk)))
+    (new.facts ≡ old.facts) × (new.last ≡ old.last) × ((fault ≡ Device) ⊎ ((new.stopped ≡ old.stopped) × (new.gate ≡ old.gate) × (file new.disk ≡ file old.disk)))
 
 module _ {D : Type 0} (keeps obeys : Type 0) (file : D → File) (clock : D → ℕ) (since : D → ℕ → List ℕ → Type 0) (failures : D → ℕ) (plan : D → Plan) where
   -- what holds of a core's disk over a call that logs a record, or nothing, whatever it answers
-  pub record HasWritten {T : Type 0} (old new : Seen D) (logged : Option Record) (result : Result T Fault) : Type 0 where
+  pub record HasWritten {T : Type 0} (old new : CoreView D) (logged : Option Record) (result : Result T Fault) : Type 0 where
     pub setup : new.setup ≡ old.setup
     pub failures_stay : failures old.disk ≤ failures new.disk
     -- a crash at any moment since the start leaves the old records, or these with the new one
@@ -78,14 +78,14 @@ module _ {D : Type 0} (keeps obeys : Type 0) (file : D → File) (clock : D → 
     -- with no call armed the device does not fail
     pub planned : obeys → plan old.disk ≡ Never → (plan new.disk ≡ Never) × IfErr result (λ fault. fault ≢ Device)
 
-  -- a record was logged and learnt, or not
-  pub record HasLogged {T : Type 0} (old new : Seen D) (logged : Record) (result : Result T Fault) : Type 0 where
+  -- a record was logged and learnt, and this is the greatest timestamp then; or not
+  pub record HasLogged {T : Type 0} (old new : CoreView D) (logged : Record) (last : ℕ) (result : Result T Fault) : Type 0 where
     pub written : HasWritten old new (Some logged) result
-    pub done : OnOk result (IsFalse new.stopped × (new.facts ≡ learn old.facts logged))
+    pub done : OnOk result (IsFalse new.stopped × (new.facts ≡ learn old.facts logged) × (new.last ≡ last))
     pub cause : IfErr result (λ fault. IsLogCause fault (IsLogFull old.gate (Some logged)) ((failures old.disk < failures new.disk) × IsTrue new.stopped))
 
   -- an input was taken, or refused
-  pub record HasStepped (old new : Seen D) (step : Stepped) (result : Result (List Envelope) Fault) : Type 0 where
+  pub record HasStepped (old new : CoreView D) (step : Stepped) (result : Result (List Envelope) Fault) : Type 0 where
     pub written : HasWritten old new (record_of step) result
-    pub done : IfOk result (λ out. IsFalse old.stopped × IsFalse new.stopped × IsDone step old.facts new.facts out)
+    pub done : IfOk result (λ out. IsFalse old.stopped × IsFalse new.stopped × IsDone step old.facts new.facts new.last out)
     pub cause : IfErr result (λ fault. IsCause old.stopped step fault (IsLogFull old.gate (record_of step)) ((failures old.disk < failures new.disk) × IsTrue new.stopped))

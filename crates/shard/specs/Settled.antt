@@ -26,3 +26,4 @@ abbrev pub IsDurablySettled : Type 0 → Surface → Input → Result (List Enve
 IsDurablySettled keeps disk (Input.Settle t) result =
     IfOk result (λ out. (at : ℕ) × (out ≡ done_to t (Some at) ∷ []) × (keeps → (image : List ℕ) → MayLeave disk image → HasCommit (records_in image) t at))
 IsDurablySettled keeps disk (Input.Commit t part writes) result = Unit {0}
+IsDurablySettled keeps disk (Input.Advance at) result = Unit {0}

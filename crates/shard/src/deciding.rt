@@ -3,11 +3,12 @@ ghost use Rattle.std.specs.Prelude.{◌≡◌, ◌≢◌, ◌<◌, ◌+◌, ◌^
 ghost use Rattle.units.specs.Ids.{Id, same_id};
 ghost use Rattle.units.specs.Lists.{when};
 ghost use Rattle.record.specs.Facts.{learn};
-ghost use Rattle.protocol.specs.Rows.{standing, rebuilt, IsUnknown};
+ghost use Rattle.protocol.specs.Rows.{standing, IsUnknown};
 ghost use Rattle.protocol.specs.Draft.{commit_stamp, Does};
 ghost use Rattle.protocol.specs.Step.{is_for};
 ghost use Rattle.shard.specs.Held.{decided_at};
 ghost use Rattle.shard.specs.Input.{commit_message};
+ghost use Rattle.shard.specs.Remembered.{remembered};
 ghost use Rattle.shard.specs.Stepped.{step_from};
 ghost use Rattle.shard.specs.declared.input.Input.{Input};
 
@@ -26,7 +27,7 @@ pub enum Reply {
 }
 
 impl State {
-    ghost use Rattle.shard.specs.Known.{facts_in};
+    ghost use Rattle.shard.specs.Known.{facts_in, last_in};
     ghost use Rattle.shard.specs.Replies.{IsReply, IsNewReply, IsRefusedBy};
     ghost use Rattle.shard.specs.Untimely.{IsUntimely};
 
@@ -49,9 +50,9 @@ impl State {
         writes: &Writes,
     ) -> Result<Reply, Fault>
         ensures device { IfErr result (λ fault. fault ≢ Fault.Device) }
-        ensures reply { let step = step_from self.now.setup (facts_in self.now) now.now (Input.Commit txn part writes.now) in
+        ensures reply { let step = step_from self.now.setup (facts_in self.now) (last_in self.now) now.now (Input.Commit txn part writes.now) in
             MatchResult result
-            (λ reply. IsReply step (facts_in self.now) txn reply × IsNewReply self.now.setup.shard self.now.settled.items self.now.decided reply)
+            (λ reply. IsReply step (facts_in self.now) (last_in self.now) txn reply × IsNewReply self.now.setup.shard (last_in self.now) self.now.settled.items self.now.decided reply)
             (IsRefusedBy step) }
     {
         if !self.is_ours(part, writes) {
@@ -77,12 +78,12 @@ impl State {
         writes: &Writes,
     ) -> Result<Committed, Fault>
         requires ours { is_for self.now.setup (commit_message txn self.now.setup.shard writes.now) ≡ true }
-        requires unknown { standing (facts_in self.now) (rebuilt (facts_in self.now)) txn ≡ IsUnknown }
+        requires unknown { standing (facts_in self.now) (remembered (last_in self.now) (facts_in self.now)) txn ≡ IsUnknown }
         requires apart { when (λ c. same_id c.txn txn) self.now.decided ≡ false }
         ensures device { IfErr result (λ fault. fault ≢ Fault.Device) }
-        ensures decision { let step = step_from self.now.setup (facts_in self.now) now.now (Input.Commit txn self.now.setup.shard writes.now) in
+        ensures decision { let step = step_from self.now.setup (facts_in self.now) (last_in self.now) now.now (Input.Commit txn self.now.setup.shard writes.now) in
             MatchResult result
-            (λ c. (self.now.decided ≡ None) × (c ≡ decided_at txn (commit_stamp self.now.floor now.now.latest []) self.now.setup.shard writes.now) × IsReply step (facts_in self.now) txn (Reply.Decided c))
+            (λ c. (self.now.decided ≡ None) × (c ≡ decided_at txn (commit_stamp (last_in self.now) now.now.latest []) self.now.setup.shard writes.now) × IsReply step (facts_in self.now) (last_in self.now) txn (Reply.Decided c))
             (IsRefusedBy step) }
     {
         let at = match self.commit_time(now, writes) {
@@ -106,14 +107,14 @@ impl State {
     fn commit_time(&self, now: &Reading, writes: &Writes) -> Result<Stamp, Fault>
         ensures device { IfErr result (λ fault. fault ≢ Fault.Device) }
         ensures time { MatchResult result
-            (λ at. (self.now.decided ≡ None) × (at ≡ commit_stamp self.now.floor now.now.latest []) × (now.now.latest + 1 < 2 ^ 62) × (self.now.floor + 1 < 2 ^ 62))
-            (IsUntimely self.now.decided self.now.floor now.now.latest writes.now) }
+            (λ at. (self.now.decided ≡ None) × (at ≡ commit_stamp (last_in self.now) now.now.latest []) × (now.now.latest + 1 < 2 ^ 62) × (last_in self.now + 1 < 2 ^ 62))
+            (IsUntimely self.now.decided (last_in self.now) now.now.latest writes.now) }
     {
         let arrived = match Stamp::above(now.latest()) {
             Ok(arrived) => arrived,
             Err(fault) => return Err(fault),
         };
-        let served = Stamp::above(self.floor);
+        let served = Stamp::above(self.times.last());
         match &self.decided {
             Some(c) if c.writes.share_a_key(writes) => Err(Fault::RowsFull),
             Some(_) => match served {

@@ -1,5 +1,5 @@
 //! What a core is given.
-use units::{ShardNo, TxnId, Writes};
+use units::{ShardNo, Stamp, TxnId, Writes};
 
 /// An input of a shard. So far a transaction has no reads, and one shard takes part in it.
 #[derive(Debug, Drop)]
@@ -12,4 +12,6 @@ pub enum Input {
     },
     /// A decided transaction is settled, once its timestamp has surely passed.
     Settle(TxnId),
+    /// Reads are served up to a time that has come.
+    Advance(Stamp),
 }

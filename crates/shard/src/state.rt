@@ -1,28 +1,40 @@
-//! What a core holds in memory, as its log determines it.
-ghost use Rattle.std.specs.Prelude.{◌≡◌, ◌≤◌, ◌<◌, ◌+◌, [], ◌∷◌, ◌++◌, IsSome, IfSome, Some, None, false, true, length, vec_len, vec_capacity, MatchOption, OnOk, IfErr};
+//! What a core holds in memory.
+ghost use Rattle.std.specs.Prelude.{◌≡◌, ◌≤◌, ◌<◌, ◌+◌, [], ◌∷◌, ◌++◌, IsSome, IfSome, Some, None, false, true, length, max, vec_len, vec_capacity, MatchOption, OnOk, IfOk, IfErr};
+ghost use Rattle.std.specs.Option.{option_copied};
 ghost use Rattle.units.specs.Ids.{same_id};
 ghost use Rattle.units.specs.Lists.{when};
-ghost use Rattle.units.specs.Versions.{versions};
-ghost use Rattle.protocol.specs.Rows.{standing, rebuilt};
+ghost use Rattle.units.specs.Versions.{versions, at_time};
+ghost use Rattle.protocol.specs.Rows.{standing, safe};
 ghost use Rattle.record.specs.Facts.{facts_of, learn};
-ghost use Rattle.shard.specs.Held.{HoldsOne, IsNew, settled_of};
+ghost use Rattle.shard.specs.Held.{HoldsOne, IsNew, AreBelow, holds_by, settled_of};
 ghost use Rattle.shard.specs.Decided.{decided_in};
+ghost use Rattle.shard.specs.Remembered.{remembered};
+ghost use Rattle.versions.specs.Places.{SameValues};
 
 use crate::settled::{Settled, find_settled, place_of};
 use record::{Committed, Record};
+use safetime::SafeTime;
 use std::alloc::Global;
-use units::{Epoch, Fault, Install, Setup, Stamp, TxnId, Write, Writes};
+use units::{Epoch, Fault, Install, Key, Setup, Stamp, TxnId, Value, Write, Writes};
+use versions::Versions;
 
-/// The decision that stands, if there is one; the settled transactions, by ascending id; the versions in the log's order.
+/// The decision that stands, if there is one; the settled transactions, by ascending id; the versions, in the log's order
+/// and by key; the greatest timestamp of the log, and the greatest that was assigned, applied or served.
 #[derive(Drop)]
 pub struct State {
     pub setup: Setup,
     pub epoch: Epoch,
     pub floor: Stamp,
+    pub times: SafeTime,
     pub decided: Option<Committed>,
     pub settled: Vec<Settled>,
     pub installs: Vec<Install>,
+    pub versions: Versions,
     ghost standing: { HoldsOne setup.shard floor settled.items decided },
+    ghost held: { times.holds ≡ holds_by decided },
+    ghost under: { times.last ≤ floor },
+    ghost stamps: { AreBelow times.last decided installs.items },
+    ghost same: { SameValues versions.installs installs.items },
 }
 
 /// How a transaction stands.
@@ -34,22 +46,25 @@ pub enum Found {
 }
 
 impl State {
-    ghost use Rattle.shard.specs.Known.{facts_in};
+    ghost use Rattle.shard.specs.Known.{facts_in, last_in};
     ghost use Rattle.shard.specs.Found.{IsFound};
 
     /// What is held once the first opening is logged.
-    pub fn fresh(alloc: Global, setup: Setup) -> State
-        ensures setup { result.setup ≡ setup }
-        ensures facts { facts_in result ≡ facts_of (Record.Opened 1 ∷ []) }
+    pub fn fresh(alloc: Global, setup: Setup) -> Result<State, Fault>
+        ensures made { IfOk result (λ s. (s.setup ≡ setup) × (facts_in s ≡ facts_of (Record.Opened 1 ∷ [])) × (last_in s ≡ 0)) }
+        ensures memory { IfErr result (λ fault. fault ≡ Fault.Memory) }
     {
-        State {
+        let times = SafeTime::new(alloc, Stamp::zero())?;
+        Ok(State {
             setup,
             epoch: Epoch::first(),
             floor: Stamp::zero(),
+            times,
             decided: None,
             settled: Vec::new(alloc),
             installs: Vec::new(alloc),
-        }
+            versions: Versions::none(alloc),
+        })
     }
 
     /// The decision that stands, where it is this transaction's.
@@ -64,7 +79,7 @@ impl State {
 
     /// How a transaction stands.
     pub fn find(&self, txn: TxnId) -> Found
-        ensures found { IsFound (standing (facts_in self.now) (rebuilt (facts_in self.now)) txn) result }
+        ensures found { IsFound (standing (facts_in self.now) (remembered (last_in self.now) (facts_in self.now)) txn) result }
         ensures unknown { result ≡ Found.Unknown → (settled_of self.now.settled.items txn ≡ None) × (when (λ c. same_id c.txn txn) self.now.decided ≡ false) }
     {
         match (
@@ -88,34 +103,53 @@ impl State {
         }
     }
 
-    /// Takes the memory in which one more record is learnt.
+    /// Takes the memory in which an outcome is learnt.
     pub fn reserve(&mut self) -> Result<(), Fault>
-        ensures room { OnOk result ((vec_len self.new.settled < vec_capacity self.new.settled) × (vec_len self.new.installs + 128 ≤ vec_capacity self.new.installs)) }
-        ensures same { (facts_in self.new ≡ facts_in self.old) × (self.new.setup ≡ self.old.setup) × (self.new.decided ≡ self.old.decided) × (self.new.settled.items ≡ self.old.settled.items) × (self.new.floor ≡ self.old.floor) }
+        ensures room { OnOk result ((vec_len self.new.settled < vec_capacity self.new.settled) × (vec_len self.new.installs + 128 ≤ vec_capacity self.new.installs) × (128 ≤ self.new.versions.room)) }
+        ensures same { (facts_in self.new ≡ facts_in self.old) × (self.new.setup ≡ self.old.setup) × (self.new.decided ≡ self.old.decided) × (last_in self.new ≡ last_in self.old) }
         ensures memory { IfErr result (λ fault. fault ≡ Fault.Memory) }
     {
         self.settled.reserve(1)?;
         self.installs.reserve(128)?;
+        self.versions.reserve(128)?;
         Ok(())
     }
 
-    /// Learns a decision.
+    /// The writes of the decision that stands, with memory of their own.
+    pub fn decided_writes(&self, alloc: Global) -> Result<Writes, Fault>
+        ensures writes { IfOk result (λ writes. IfSome self.now.decided (λ c. writes ≡ c.writes)) }
+        ensures memory { IfErr result (λ fault. fault ≡ Fault.Memory) }
+    {
+        match &self.decided {
+            Some(c) => c.writes.copy(alloc),
+            None => Ok(Writes::none(alloc)),
+        }
+    }
+
+    /// Learns a decision, above all that was served.
     pub fn decide(&mut self, c: Committed)
         requires none { self.old.decided ≡ None }
         requires new { IsNew self.old.setup.shard self.old.settled.items c }
+        requires above { last_in self.old < c.at }
         ensures facts { facts_in self.new ≡ learn (facts_in self.old) (Record.Commit c) }
+        ensures last { last_in self.new ≡ max (last_in self.old) c.at }
         ensures setup { self.new.setup ≡ self.old.setup }
     {
         self.floor = self.floor.later(c.at);
+        self.times.assign(c.at);
+        self.times.hold(c.at);
         self.decided = Some(c);
     }
 
-    /// Learns that the decision that stands is settled. It takes no memory.
-    pub fn settle(&mut self)
+    /// Learns that the decision that stands is settled; `writes` is a copy of its writes. It takes no memory.
+    pub fn settle(&mut self, writes: Writes)
         requires settled_room { vec_len self.old.settled < vec_capacity self.old.settled }
         requires installs_room { vec_len self.old.installs + 128 ≤ vec_capacity self.old.installs }
+        requires versions_room { 128 ≤ self.old.versions.room }
         requires some { IsSome self.old.decided }
+        requires writes { IfSome self.old.decided (λ c. writes ≡ c.writes) }
         ensures facts { IfSome self.old.decided (λ c. facts_in self.new ≡ learn (facts_in self.old) (Record.Outcome c.txn (Some c.at))) }
+        ensures last { last_in self.new ≡ last_in self.old }
         ensures setup { self.new.setup ≡ self.old.setup }
     {
         let Some(c) = self.decided.take() else {
@@ -131,7 +165,44 @@ impl State {
                 part,
             },
         );
+        self.times.lift(c.at);
+        self.versions.install_all(writes, c.at);
         install_all(&mut self.installs, c.writes, c.at);
+    }
+
+    /// Learns a ceiling, and that some time at or below it is served.
+    pub fn serve_under(&mut self, ceiling: Stamp, to: Stamp)
+        requires { to ≤ ceiling }
+        ensures facts { facts_in self.new ≡ learn (facts_in self.old) (Record.Ceiling ceiling) }
+        ensures last { last_in self.new ≡ max (last_in self.old) to }
+        ensures setup { self.new.setup ≡ self.old.setup }
+    {
+        self.floor = self.floor.later(ceiling);
+        self.times.raise(to);
+    }
+
+    /// Serves up to a time at or below the floor.
+    pub fn serve(&mut self, to: Stamp)
+        requires { to ≤ self.old.floor }
+        ensures facts { facts_in self.new ≡ facts_in self.old }
+        ensures last { last_in self.new ≡ max (last_in self.old) to }
+        ensures setup { self.new.setup ≡ self.old.setup }
+    {
+        self.times.raise(to);
+    }
+
+    /// The greatest timestamp at which versions may be read.
+    pub fn safe(&self) -> Stamp
+        ensures { result ≡ safe (remembered (last_in self.now) (facts_in self.now)) }
+    {
+        self.times.safe()
+    }
+
+    /// The value of a key at a timestamp.
+    pub fn value_at(&self, key: &Key, at: Stamp) -> Option<&Value>
+        ensures { option_copied result ≡ at_time (facts_in self.now).installs key.now at }
+    {
+        self.versions.at(key, at)
     }
 }
 

@@ -2,4 +2,8 @@
 #![tactic(auto)]
 
 #[cfg(test)]
+mod fixtures;
+#[cfg(test)]
 mod one_commit;
+#[cfg(test)]
+mod serving;

@@ -1,11 +1,10 @@
+use crate::fixtures::{LAST, commit, is_refused, is_silent, reading, setup, txn};
 use disk::Disk;
 use message::{Address, Envelope, Message, Outbox};
 use shard::{Core, Input};
 use simdisk::SimDisk;
-use std::alloc::Global;
 use std::test::Fail;
-use truetime::Reading;
-use units::{Book, Fault, Key, Setup, ShardNo, Splits, Stamp, Stride, TxnId, Value, Write, Writes};
+use units::{Fault, Stamp, TxnId};
 
 // The log of one commit: the header; Opened 1; Commit 1.1 at 111, parts 0, no reads, a=1; Outcome 1.1 committed 111; a
 // closed gate.
@@ -15,40 +14,6 @@ const ONE_COMMIT: [u8; 96] = [
     0x6f, 0, 1, 0, 0, 0, 1, 1, 0x61, 1, 0, 1, 0x31, 0xa5, 0, 0, 0, 26, 6, 0, 0, 0, 0, 0, 0, 0, 1,
     0, 0, 0, 0, 0, 0, 0, 1, 1, 0, 0, 0, 0, 0, 0, 0, 0x6f, 0,
 ];
-
-const LAST: u64 = 4_611_686_018_427_387_903;
-
-fn txn(number: u64) -> Result<TxnId, Fail> {
-    Ok(TxnId::new(1, number).ok_or("an id")?)
-}
-
-fn reading(earliest: u64, latest: u64) -> Result<Reading, Fail> {
-    Ok(Reading::new(Stamp::new(earliest)?, Stamp::new(latest)?)?)
-}
-
-// Shard 0 of two, which are split at `m`.
-fn setup(alloc: Global) -> Result<Setup, Fail> {
-    Ok(Setup {
-        shard: ShardNo::new(0).ok_or("a shard")?,
-        splits: Splits::new(alloc, &[Key::new(b"m")?])?,
-        stride: Stride::new(0).ok_or("a stride")?,
-        book: Book::Off,
-    })
-}
-
-// The transaction 1.number writes a value to a key, at the one part.
-fn commit(alloc: Global, number: u64, part: u8, key: &[u8], value: &[u8]) -> Result<Input, Fail> {
-    let mut writes = Vec::new(alloc);
-    writes.push(Write {
-        key: Key::new(key)?,
-        value: Some(Value::new(alloc, value)?),
-    })?;
-    Ok(Input::Commit {
-        txn: txn(number)?,
-        part: ShardNo::new(part).ok_or("a shard")?,
-        writes: Writes::from_vec(writes).ok().ok_or("one write ascends")?,
-    })
-}
 
 // The one message is the end of this transaction, to its session, at this timestamp.
 fn is_done(out: &Outbox, txn: TxnId, at: u64) -> bool {
@@ -67,20 +32,6 @@ fn is_done(out: &Outbox, txn: TxnId, at: u64) -> bool {
                 }
         }
         _ => false,
-    }
-}
-
-fn is_silent(answer: Result<Outbox, Fault>) -> bool {
-    match answer {
-        Ok(out) => out.as_slice().is_empty(),
-        Err(_) => false,
-    }
-}
-
-fn is_refused(answer: Result<Outbox, Fault>, fault: Fault) -> bool {
-    match answer {
-        Ok(_) => false,
-        Err(why) => why == fault,
     }
 }
 

@@ -2,6 +2,8 @@
 ghost use Rattle.std.specs.Prelude.{◌≡◌, ℕ, ◌+◌, ◌<◌, ◌≤◌, ◌^◌, [], length, IsTrue, IsOk, IfErr, OnOk};
 ghost use Rattle.std.specs.Option.{option_copied};
 ghost use Rattle.units.specs.Versions.{latest, at_time, versions, above_versions};
+ghost use Rattle.units.specs.Keys.{write_before};
+ghost use Rattle.units.specs.Lists.{ascends};
 ghost use Rattle.versions.specs.Ordered.{installed, all_installed, count_not_after, is_above, IsAscending};
 
 use crate::search::{find, install, newest_by, newest_of};
@@ -75,6 +77,7 @@ impl Versions {
         requires room { length writes ≤ self.old.room }
         requires above { IsTrue (above_versions self.old.installs at writes) }
         ensures installs { self.new.installs ≡ all_installed self.old.installs (versions writes at) }
+        ensures order { IsTrue (ascends write_before writes) }
         ensures room { self.new.room + length writes ≡ self.old.room }
     {
         for write in writes.into_vec() {

@@ -15,9 +15,9 @@ first-learnt = λ i. Some (facts_of (Record.Opened 1 ∷ []))
 pub invariant_of-result : goal.invariant_of-result
 invariant_of-result g c = record {
   agrees = λ running keeps.
-      ap facts_logged (c.in-Ok.ensures.read keeps)
+      ap facts_logged (c.in-Ok-append_record.ensures.read keeps)
       ∙ ap (λ (l : Result (List Placed) Fault). facts_logged (and_logged (items_of l) (Some (Record.Opened c.first.result)))) (c.in_ok-gate_log.ensures.read keeps)
       ∙ ap (λ (n : ℕ). facts_logged (and_logged (Ok []) (Some (Record.Opened n)))) c.first.ensures
       ∙ first-learnt
-      ∙ ap (λ (f : Facts). Some f) (sym c.fresh.ensures.facts);
+      ∙ ap (λ (f : Facts). Some f) (sym c.in-Ok.ensures.made.1);
 }

@@ -7,6 +7,6 @@ pub returns-in-Err-served-clause-time : goal.returns-in-Err-served-clause-time
 returns-in-Err-served-clause-time c =
     inr (
       omega (arith, c.in-Ok.ensures.1, c.latest.ensures.value),
-      subst (λ (d : Option Committed). IsCrowded d c.args.self.now.floor c.args.writes.now c.in-Err-served.fault) (sym c.in-Some.is)
-          (inr (inr (c.in-Err-served.ensures.0, sym c.share_a_key.ensures ∙ c.if-share_a_key.false, c.in-Err-served.ensures.1))),
+      subst (λ (d : Option Committed). IsCrowded d c.args.self.now.times.last c.args.writes.now c.in-Err-served.fault) (sym c.in-Some.is)
+          (inr (inr (c.in-Err-served.ensures.0, sym c.share_a_key.ensures ∙ c.if-share_a_key.false, omega (arith, c.in-Err-served.ensures.1, c.last.ensures)))),
     )

@@ -9,7 +9,7 @@ use Rattle.shard.proofs.state.State.decision.Goals as goal
 pub returns-in-Err-clause-decision : goal.returns-in-Err-clause-decision
 returns-in-Err-clause-decision c =
     let s = c.args.self.now in
-    inl (untimely s.setup s.epoch s.floor s.settled.items s.installs.items c.args.now.now c.args.txn c.args.writes.now c.requires.ours
+    inl (untimely s.setup s.epoch s.floor s.times.last s.settled.items s.installs.items c.args.now.now c.args.txn c.args.writes.now c.requires.ours
     s.decided c.in-Err.fault s.standing c.requires.unknown c.requires.apart c.in-Err.ensures.time)
 
 pub returns-in-Ok-copy-clause-decision : goal.returns-in-Ok-copy-clause-decision
@@ -17,11 +17,11 @@ returns-in-Ok-copy-clause-decision c =
     let s = c.args.self.now in
     let time = c.in-Ok.ensures.time in
     let made : Committed = record { txn = c.args.txn; at = c.in-Ok.at; parts = c.only.result; reads = c.none.result; writes = c.in-Ok-copy.writes } in
-    let is : made ≡ decided_at c.args.txn (commit_stamp s.floor c.args.now.now.latest []) s.setup.shard c.args.writes.now =
+    let is : made ≡ decided_at c.args.txn (commit_stamp s.times.last c.args.now.now.latest []) s.setup.shard c.args.writes.now =
     λ i. record { txn = c.args.txn; at = time.1 i; parts = c.only.ensures i; reads = c.none.ensures i; writes = c.in-Ok-copy.ensures.same i } in (
       time.0,
       is,
-      timely-decided s.setup s.epoch s.floor s.settled.items s.installs.items c.args.now.now c.args.txn c.args.writes.now c.requires.ours
+      timely-decided s.setup s.epoch s.floor s.times.last s.settled.items s.installs.items c.args.now.now c.args.txn c.args.writes.now c.requires.ours
           s.decided made c.requires.unknown time.0 time.2 time.3 is,
     )
 
@@ -29,10 +29,10 @@ pub returns-in-Err-copy-clause-decision : goal.returns-in-Err-copy-clause-decisi
 returns-in-Err-copy-clause-decision c =
     let s = c.args.self.now in
     let time = c.in-Ok.ensures.time in
-    let made : Committed = decided_at c.args.txn (commit_stamp s.floor c.args.now.now.latest []) s.setup.shard c.args.writes.now in
+    let made : Committed = decided_at c.args.txn (commit_stamp s.times.last c.args.now.now.latest []) s.setup.shard c.args.writes.now in
     inr (
       c.in-Err-copy.ensures.memory,
       subst (λ (step : Stepped). WouldBeDone step)
-          (sym (timely-decided s.setup s.epoch s.floor s.settled.items s.installs.items c.args.now.now c.args.txn c.args.writes.now c.requires.ours
+          (sym (timely-decided s.setup s.epoch s.floor s.times.last s.settled.items s.installs.items c.args.now.now c.args.txn c.args.writes.now c.requires.ours
           s.decided made c.requires.unknown time.0 time.2 time.3 (λ i. made))) tt,
     )
