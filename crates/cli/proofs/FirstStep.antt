@@ -60,7 +60,7 @@ decided-is key value s =
     ap (λ (f : Facts). decided_in f 0) (decided-facts key value s)
     ∙ ap (λ (m : Memory). slice_get (gather decided_row m.rows) 0) (remembered-facts 1 s s [] [] (Some (decision key value s)))
 
--- the step, where no time is served beyond that of the facts
+-- the step, where the greatest timestamp is that of the facts
 abbrev pub step_at : Facts → Interval → Input → Stepped
 step_at facts now i = step_from only_setup facts facts.floor now i
 

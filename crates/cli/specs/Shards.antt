@@ -39,8 +39,8 @@ abbrev pub log_after : Bool → Bytes → Bytes → ℕ → List Record
 log_after true = settled_log
 log_after false = decided_log
 
--- the shard runs on a disk that does not fail; its log has these records, also after a crash, and ends far from its limit. No
--- time is served beyond that of the records
+-- the shard runs on a disk that does not fail; its log has these records, also after a crash, and ends far from its limit;
+-- the greatest timestamp that it served or assigned is theirs
 pub record HasLog (records : List Record) (core : CoreView SimDisk) : Type 0 where
   pub setup : core.setup ≡ only_setup
   pub facts : core.facts ≡ learned records
