@@ -1,5 +1,5 @@
 -- The first commit of a new shard, and its settling.
-use Rattle.std.proofs.Common.{◌≡◌, ◌∙◌, ◌+◌, ◌<◌, ◌≤◌, ◌^◌, ℕ, true, refl, sym, ap, [], ◌∷◌, Some, None, arith}
+use Rattle.std.proofs.Common.{List, ◌≡◌, ◌∙◌, ◌+◌, ◌<◌, ◌≤◌, ◌^◌, ℕ, true, refl, sym, ap, [], ◌∷◌, Some, None, arith}
 use Rattle.std.specs.Prelude.{max, slice_get}
 use Rattle.units.specs.Keys.{Bytes, shard_of}
 use Rattle.units.specs.Lists.{gather}
@@ -8,19 +8,21 @@ use Rattle.truetime.specs.Interval.{Interval}
 use Rattle.record.specs.Facts.{Facts, learn}
 use Rattle.record.specs.declared.record.Committed.{Committed}
 use Rattle.record.specs.declared.record.Record.{Record}
-use Rattle.protocol.specs.Rows.{Memory, IsUnknown, standing, rebuilt}
-use Rattle.protocol.specs.Draft.{Does, Refuses, commit_stamp, done_to}
+use Rattle.message.specs.declared.message.Envelope.{Envelope}
+use Rattle.protocol.specs.Rows.{Memory, IsUnknown, standing}
+use Rattle.protocol.specs.Draft.{Stepped, Does, Refuses, commit_stamp, done_to}
 use Rattle.protocol.specs.Step.{is_for}
 use Rattle.shard.specs.Decided.{decided_in, decided_row}
 use Rattle.shard.specs.Held.{decided_at, facts_by, IsStanding}
 use Rattle.shard.specs.Input.{commit_message}
 use Rattle.shard.specs.Logs.{learned}
+use Rattle.shard.specs.Remembered.{remembered}
 use Rattle.shard.specs.Stepped.{step_from}
 use Rattle.shard.specs.declared.input.Input.{Input}
 use Rattle.shard.proofs.Commits.{late-refused, fresh-decided}
 use Rattle.shard.proofs.Learns.{learn-decision}
 use Rattle.shard.proofs.Settles.{settle-early, settle-passed}
-use Rattle.shard.proofs.Standings.{rebuilt-facts, found-unknown}
+use Rattle.shard.proofs.Standings.{remembered-facts, found-unknown}
 use Rattle.cli.specs.Replies.{only_txn}
 use Rattle.cli.specs.Shards.{only_setup, only_write, new_log, decided_log, settled_log}
 
@@ -56,7 +58,15 @@ decided-facts key value s =
 pub decided-is : (key value : Bytes) (s : ℕ) → decided_in (learned (decided_log key value s)) 0 ≡ Some (only_txn, s)
 decided-is key value s =
     ap (λ (f : Facts). decided_in f 0) (decided-facts key value s)
-    ∙ ap (λ (m : Memory). slice_get (gather decided_row m.rows) 0) (rebuilt-facts 1 s [] [] (Some (decision key value s)))
+    ∙ ap (λ (m : Memory). slice_get (gather decided_row m.rows) 0) (remembered-facts 1 s s [] [] (Some (decision key value s)))
+
+-- the step, where the greatest timestamp is that of the facts
+abbrev pub step_at : Facts → Interval → Input → Stepped
+step_at facts now i = step_from only_setup facts facts.floor now i
+
+-- it logs a record, and remembers what the facts then give
+abbrev pub logs : Record → Facts → List Envelope → Stepped
+logs r facts outbox = Does (Some r) (remembered facts.floor facts) outbox
 
 module _ (now : Interval) (key value : Bytes) where
   -- every key is the shard's
@@ -64,41 +74,49 @@ module _ (now : Interval) (key value : Bytes) where
   unfolding is_for shard_of
   ours = refl
 
-  unknown : standing fresh_facts (rebuilt fresh_facts) only_txn ≡ IsUnknown
-  unknown = found-unknown 1 0 [] [] None only_txn refl refl
+  unknown : standing fresh_facts (remembered 0 fresh_facts) only_txn ≡ IsUnknown
+  unknown = found-unknown 1 0 0 [] [] None only_txn refl refl
 
-  from-fresh : step_from only_setup (learned new_log) now (asked key value) ≡ step_from only_setup fresh_facts now (asked key value)
-  from-fresh = ap (λ (f : Facts). step_from only_setup f now (asked key value)) new-facts
+  from-fresh : step_at (learned new_log) now (asked key value) ≡ step_at fresh_facts now (asked key value)
+  from-fresh = ap (λ (f : Facts). step_at f now (asked key value)) new-facts
 
   -- the reading leaves no time
-  pub commit-late : 2 ^ 62 ≤ now.latest + 1 → step_from only_setup (learned new_log) now (asked key value) ≡ Refuses TimeSpent
-  commit-late late = from-fresh ∙ late-refused only_setup 1 0 [] [] now only_txn (only_write key value) ours None unknown late
+  pub commit-late : 2 ^ 62 ≤ now.latest + 1 → step_at (learned new_log) now (asked key value) ≡ Refuses TimeSpent
+  commit-late late = from-fresh ∙ late-refused only_setup 1 0 0 [] [] now only_txn (only_write key value) ours None unknown late
 
   -- it is decided one above the latest of the reading
-  pub commit-decided : now.latest + 1 < 2 ^ 62 → step_from only_setup (learned new_log) now (asked key value)
-      ≡ Does (Some (Record.Commit (decision key value (now.latest + 1)))) (rebuilt (learned (decided_log key value (now.latest + 1)))) []
+  pub commit-decided : now.latest + 1 < 2 ^ 62 → step_at (learned new_log) now (asked key value)
+      ≡ logs (Record.Commit (decision key value (now.latest + 1))) (learned (decided_log key value (now.latest + 1))) []
   commit-decided early =
       from-fresh
-      ∙ fresh-decided only_setup 1 0 [] [] now only_txn (only_write key value) ours unknown early (omega arith) (decision key value (now.latest + 1))
+      ∙ fresh-decided only_setup 1 0 0 [] [] now only_txn (only_write key value) ours unknown early (omega arith) (decision key value (now.latest + 1))
       (ap (λ (n : ℕ). decision key value n) (sym (stamp-is now.latest)))
-      ∙ ap (λ (f : Facts). Does (Some (Record.Commit (decision key value (now.latest + 1)))) (rebuilt (learn f (Record.Commit (decision key value (now.latest + 1))))) []) (sym new-facts)
+      ∙ ap (λ (n : ℕ). Does (Some (Record.Commit (decision key value (now.latest + 1)))) (remembered n (learn fresh_facts (Record.Commit (decision key value (now.latest + 1))))) [])
+      (not-less (now.latest + 1) ∙ sym (ap (λ (f : Facts). f.floor) (decided-facts key value (now.latest + 1))))
+      ∙ ap (λ (f : Facts). Does (Some (Record.Commit (decision key value (now.latest + 1)))) (remembered (learned (decided_log key value (now.latest + 1))).floor (learn f (Record.Commit (decision key value (now.latest + 1))))) []) (sym new-facts)
 
   module _ (s : ℕ) where
-    from-decided : step_from only_setup (learned (decided_log key value s)) now (Input.Settle only_txn)
-        ≡ step_from only_setup (facts_by 1 s (Some (decision key value s)) [] []) now (Input.Settle only_txn)
-    from-decided = ap (λ (f : Facts). step_from only_setup f now (Input.Settle only_txn)) (decided-facts key value s)
+    from-decided : step_at (learned (decided_log key value s)) now (Input.Settle only_txn)
+        ≡ step_at (facts_by 1 s (Some (decision key value s)) [] []) now (Input.Settle only_txn)
+    from-decided = ap (λ (f : Facts). step_at f now (Input.Settle only_txn)) (decided-facts key value s)
 
     stands : IsStanding 0 s [] (decision key value s)
     stands = record { new = record { parts = refl; reads = refl; new = refl }; past = omega arith }
 
     -- the timestamp has not surely passed
-    pub settled-early : now.earliest ≤ s → step_from only_setup (learned (decided_log key value s)) now (Input.Settle only_txn) ≡ Refuses Early
-    settled-early early = from-decided ∙ settle-early only_setup 1 s [] [] now only_txn (decision key value s) refl early
+    pub settled-early : now.earliest ≤ s → step_at (learned (decided_log key value s)) now (Input.Settle only_txn) ≡ Refuses Early
+    settled-early early = from-decided ∙ settle-early only_setup 1 s s [] [] now only_txn (decision key value s) refl early
+
+    -- the outcome is at the timestamp of the decision
+    same-floor : (learn (facts_by 1 s (Some (decision key value s)) [] []) (Record.Outcome only_txn (Some s))).floor ≡ s
+    unfolding learn
+    same-floor = omega arith
 
     -- it has
-    pub settled-passed : s < now.earliest → step_from only_setup (learned (decided_log key value s)) now (Input.Settle only_txn)
-        ≡ Does (Some (Record.Outcome only_txn (Some s))) (rebuilt (learned (settled_log key value s))) (done_to only_txn (Some s) ∷ [])
+    pub settled-passed : s < now.earliest → step_at (learned (decided_log key value s)) now (Input.Settle only_txn)
+        ≡ logs (Record.Outcome only_txn (Some s)) (learned (settled_log key value s)) (done_to only_txn (Some s) ∷ [])
     settled-passed passed =
         from-decided
-        ∙ settle-passed only_setup 1 s [] [] now only_txn (decision key value s) refl passed stands
-        ∙ ap (λ (f : Facts). Does (Some (Record.Outcome only_txn (Some s))) (rebuilt (learn f (Record.Outcome only_txn (Some s)))) (done_to only_txn (Some s) ∷ [])) (sym (decided-facts key value s))
+        ∙ settle-passed only_setup 1 s s [] [] now only_txn (decision key value s) refl passed stands
+        ∙ ap (λ (n : ℕ). Does (Some (Record.Outcome only_txn (Some s))) (remembered n (learn (facts_by 1 s (Some (decision key value s)) [] []) (Record.Outcome only_txn (Some s)))) (done_to only_txn (Some s) ∷ [])) (sym same-floor)
+        ∙ ap (λ (f : Facts). logs (Record.Outcome only_txn (Some s)) (learn f (Record.Outcome only_txn (Some s))) (done_to only_txn (Some s) ∷ [])) (sym (decided-facts key value s))

@@ -11,7 +11,7 @@ use Rattle.simdisk.specs.State.{disk_file, disk_plan}
 use Rattle.simdisk.specs.declared.simdisk.SimDisk.{SimDisk}
 use Rattle.shard.specs.Held.{decided_at}
 use Rattle.shard.specs.Logs.{learned, records_in, KeepsRecords}
-use Rattle.shard.specs.On.{Seen}
+use Rattle.shard.specs.On.{CoreView}
 use Rattle.cli.specs.Replies.{only_txn}
 
 -- the shard of all keys
@@ -39,10 +39,12 @@ abbrev pub log_after : Bool → Bytes → Bytes → ℕ → List Record
 log_after true = settled_log
 log_after false = decided_log
 
--- the shard runs on a disk that does not fail; its log has these records, also after a crash, and ends far from its limit
-pub record HasLog (records : List Record) (core : Seen SimDisk) : Type 0 where
+-- the shard runs on a disk that does not fail; its log has these records, also after a crash, and ends far from its limit;
+-- the greatest timestamp that it served or assigned is theirs
+pub record HasLog (records : List Record) (core : CoreView SimDisk) : Type 0 where
   pub setup : core.setup ≡ only_setup
   pub facts : core.facts ≡ learned records
+  pub last : core.last ≡ (learned records).floor
   pub gate : core.gate ≤ 2 ^ 21 * length records
   pub running : IsFalse core.stopped
   pub plan : disk_plan core.disk ≡ Never
