@@ -29,7 +29,7 @@ once_more x n = grind (arith, nat_tests)
 
 -- whatever the others have drawn, a drawer that may still draw gets the word
 pub draws : (slots seat : ℕ) (hand : Hand) (held : List (ℕ × ℕ)) → length hand.drawn < 2 ^ 40 → hand.drawers ≡ 1
-    → Allows IsDrawn slots seat (hand, held) 0 (λ n. (n + 1) % 2 ^ 64) (λ found me. me ≡ (record { drawers = hand.drawers; drawn = hand.drawn ++ found ∷ [] }, held))
+    → Allows IsDrawn slots seat (hand, held) 0 (λ n. (n + 1) % 2 ^ 64) (λ found me. (found ≤ 2 ^ 48) × (me ≡ (record { drawers = hand.drawers; drawn = hand.drawn ++ found ∷ [] }, held)))
 draws slots seat hand held few one s is homes at fits =
     let n = is.word in
     let more : Hand = record { drawers = hand.drawers; drawn = hand.drawn ++ n ∷ [] } in
@@ -51,7 +51,7 @@ draws slots seat hand held few one s is homes at fits =
         counted = omega (arith, total-set (λ (h : Hand). length h.drawn) s.views seat hand more at, is.counted, length-append hand.drawn (n ∷ []));
         once = λ x. omega (arith, total-set (times x) s.views seat hand more at, is.once x, times-snoc x n hand, once_more x n);
       },
-      ap (λ (k : ℕ). (record { drawers = hand.drawers; drawn = hand.drawn ++ k ∷ [] }, held)) (sym here),
+      (subst (λ (k : ℕ). k ≤ 2 ^ 48) (sym here) (omega (arith, low)), ap (λ (k : ℕ). (record { drawers = hand.drawers; drawn = hand.drawn ++ k ∷ [] }, held)) (sym here)),
     )
 
 -- one drawer is cut off

@@ -24,9 +24,9 @@ pub record IsDrawn (s : State ℕ Hand) : Type 0 where
   pub counted : sum_by (λ (h : Hand). length h.drawn) s.views ≡ word
   pub once : (x : ℕ) → sum_by (times x) s.views ≡ once_below x word
 
--- the word just before the step is the number that was drawn
+-- the word just before the step is the number that was drawn, and all drawers together draw at most 2^48 times
 abbrev pub Draws : Step ℕ → Me ℕ Hand → ℕ → Me ℕ Hand → Type 0
-Draws step me found me' = me' ≡ (record { drawers = me.0.drawers; drawn = me.0.drawn ++ found ∷ [] }, me.1)
+Draws step me found me' = (found ≤ 2 ^ 48) × (me' ≡ (record { drawers = me.0.drawers; drawn = me.0.drawn ++ found ∷ [] }, me.1))
 
 -- what a contract sees of a drawer: the source that it draws from, and what it has drawn
 pub record Drawing : Type 0 where

@@ -103,6 +103,7 @@ impl Tickets {
     pub fn draw(&self, me: &mut Drawer) -> Result<u64, Fault>
         requires { me.old.source ≡ self.now }
         ensures source { me.new.source ≡ me.old.source }
+        ensures limit { IfOk result (λ n. n ≤ 2 ^ 48) }
         ensures drawn { MatchResult result (λ n. (length me.old.drawn < 2 ^ 40) × (me.new.drawn ≡ me.old.drawn ++ n ∷ [])) (λ e. (e ≡ Fault.TimeSpent) × (length me.old.drawn ≡ 2 ^ 40) × (me.new.drawn ≡ me.old.drawn)) }
     {
         if me.draws >= Drawer::DRAWS {
