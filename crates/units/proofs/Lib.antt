@@ -3,3 +3,4 @@ pub mod IdLaws
 pub mod IdOrder
 pub mod KeyLaws
 pub mod Short
+pub mod Marked
