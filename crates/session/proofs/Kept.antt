@@ -166,8 +166,8 @@ distinct_more (j ∷ js) k h new =
     let p = both _ _ h in
     let n = neither _ _ new in
     and_true _ _
-      (not_true _ (any_append (same_key j) js (k ∷ []) ∙ or_false _ _ (not_false _ p.0) (or_false _ _ (same_key_comm j k ∙ n.0) refl)))
-      (distinct_more js k p.1 n.1)
+    (not_true _ (any_append (same_key j) js (k ∷ []) ∙ or_false _ _ (not_false _ p.0) (or_false _ _ (same_key_comm j k ∙ n.0) refl)))
+    (distinct_more js k p.1 n.1)
 
 taken_more : (taken : List Answered) (a : Answered) → taken_keys (taken ++ a ∷ []) ≡ taken_keys taken ++ a.key ∷ []
 taken_more [] a = refl

@@ -39,7 +39,7 @@ keys_ascend q (a ∷ rest) h = by_test (q a) (keys_ascend q rest ((both _ _ h).1
         → ascends key_before (sorted key_before (map (λ (x : Answered). x.key) (cond b (a ∷ keep q rest) (keep q rest)))) ≡ true
     by_test true e =
         ascends_insert (λ (j : Bytes). j) a.key (keys_of q rest)
-            (keyed_self (keys_of q rest) a.key ∙ none_kept q rest a.key (not_false _ ((both _ _ h).0))) e
+        (keyed_self (keys_of q rest) a.key ∙ none_kept q rest a.key (not_false _ ((both _ _ h).0))) e
     by_test false e = e
 
 sorted_keys : (taken : List Answered) → length (sorted key_before (map (λ (a : Answered). a.key) taken)) ≡ length taken
@@ -56,15 +56,15 @@ pub keys_taken : (q : Answered → Bool) (taken : List Answered) (ws : List Writ
     → (128 < length ks) ⊎ IsFalse (ascends key_before ks) → ⊥
 keys_taken q taken ws ks is same =
     not_refused key_before ks
-        (subst (λ (l : List Bytes). length l ≤ 128) (sym same) (omega (arith, sorted_keys (keep q taken), length_keep q taken, is.few_keys)))
-        (subst (λ (l : List Bytes). ascends key_before l ≡ true) (sym same) (keys_ascend q taken is.once))
+    (subst (λ (l : List Bytes). length l ≤ 128) (sym same) (omega (arith, sorted_keys (keep q taken), length_keep q taken, is.few_keys)))
+    (subst (λ (l : List Bytes). ascends key_before l ≡ true) (sym same) (keys_ascend q taken is.once))
 
 pub writes_taken : (q : Write → Bool) (taken : List Answered) (ws part : List Write) → IsKept taken [] ws → part ≡ keep q ws
     → (128 < length part) ⊎ IsFalse (ascends write_before part) → ⊥
 writes_taken q taken ws part is same =
     not_refused write_before part
-        (subst (λ (l : List Write). length l ≤ 128) (sym same) (omega (arith, length_keep q ws, is.few_writes)))
-        (subst (λ (l : List Write). ascends write_before l ≡ true) (sym same) (ascends_keep (λ (w : Write). w.key) q ws is.ascending))
+    (subst (λ (l : List Write). length l ≤ 128) (sym same) (omega (arith, length_keep q ws, is.few_writes)))
+    (subst (λ (l : List Write). ascends write_before l ≡ true) (sym same) (ascends_keep (λ (w : Write). w.key) q ws is.ascending))
 
 -- where an answer was kept there is a key
 pub some_key : (q : Answered → Bool) (taken : List Answered) (a : Answered) (ks : List Bytes) → head (keep q taken) ≡ Some a → ks ≡ keys_of q taken → ks ≡ [] → ⊥

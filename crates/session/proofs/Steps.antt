@@ -114,9 +114,9 @@ pub heard_second_epoch : (n : ℕ) (k : Bytes) (epoch : ℕ) (a : Answer) (c : C
 heard_second_epoch n k epoch a c x e is agree =
     let h = heard_taken n k epoch (Holds x) c e in
     let d : doomed_by k c ≡ take_answer c n k epoch (Holds x) =
-        sym (λ i. cond (agree i)
-            (record c { taken = c.taken ++ record { key = k; shard = n; epoch = epoch; value = x } ∷ []; awaited = without_key c.awaited k })
-            (doomed_by k c)) in
+    sym (λ i. cond (agree i)
+    (record c { taken = c.taken ++ record { key = k; shard = n; epoch = epoch; value = x } ∷ []; awaited = without_key c.awaited k })
+    (doomed_by k c)) in
     subst (λ b. Hears n k epoch b c (doomed_by k c) Heard.Doomed) (sym is) (d ∙ h.0, sym (λ i. cond (agree i) (Heard.Value x) Heard.Doomed) ∙ h.1)
 
 -- ---- closing and giving up

@@ -103,7 +103,8 @@ impl<'s> Tx<'s, Closing> {
         ensures same { IfOk result (λ out. out ≡ closing_messages self.now.splits self.now.client) }
         ensures memory { IfErr result (λ fault. fault ≡ Fault.Memory) }
     {
-        self.request().messages(alloc)
+        let request = self.request();
+        request.messages(alloc)
     }
 
     /// Hears the end of the transaction, and spends it. The end of another is a `Stranger`.
@@ -205,7 +206,7 @@ impl<'s, S: Phase> Tx<'s, S> {
     }
 
     // It is over.
-    fn spend(self) {
+    pub(crate) fn spend(self) {
         let Tx {
             splits: _,
             txn: _,

@@ -10,3 +10,6 @@ mod tx;
 
 pub use answered::{Answered, Finished, Heard};
 pub use tx::{Closing, Open, Phase, Tx};
+
+#[cfg(test)]
+mod tests;

@@ -63,9 +63,15 @@ impl Request<'_> {
 
     // The message to the part that decides.
     fn commit(&self, alloc: Global, parts: Parts, shard: ShardNo) -> Result<Envelope, Fault>
-        ensures same { IfOk result (λ e. e ≡ record { to = Address.Shard shard; message = Message.Commit (record { txn = self.now.txn; parts = parts;
+        ensures same { IfOk result (λ e. e ≡ record {
+          to = Address.Shard shard;
+          message = Message.Commit (record {
+            txn = self.now.txn;
+            parts = parts;
             reads = read_set (closing_client self.now.txn self.now.taken.now self.now.writes.now) shard;
-            writes = writes_at self.now.splits.now (closing_client self.now.txn self.now.taken.now self.now.writes.now) shard }) }) }
+            writes = writes_at self.now.splits.now (closing_client self.now.txn self.now.taken.now self.now.writes.now) shard;
+          });
+        }) }
         ensures memory { IfErr result (λ fault. fault ≡ Fault.Memory) }
     {
         Ok(Envelope {

@@ -129,10 +129,10 @@ impl<'s> Tx<'s, Open> {
         ensures splits { self.new.splits ≡ self.old.splits }
         ensures step { MatchResult result
             (λ heard. (same_id self.old.client.txn answer.now.txn ≡ true)
-                × (self.new.client ≡ hears answer.now.from answer.now.key answer.now.epoch answer.now.answer self.old.client)
-                × (heard ≡ heard_as self.old.client answer.now.from answer.now.key answer.now.epoch answer.now.answer))
+            × (self.new.client ≡ hears answer.now.from answer.now.key answer.now.epoch answer.now.answer self.old.client)
+            × (heard ≡ heard_as self.old.client answer.now.from answer.now.key answer.now.epoch answer.now.answer))
             (λ fault. (self.new.client ≡ self.old.client)
-                × (((fault ≡ Fault.Stranger) × (same_id self.old.client.txn answer.now.txn ≡ false)) ⊎ ((fault ≡ Fault.Memory) × (same_id self.old.client.txn answer.now.txn ≡ true)))) }
+            × (((fault ≡ Fault.Stranger) × (same_id self.old.client.txn answer.now.txn ≡ false)) ⊎ ((fault ≡ Fault.Memory) × (same_id self.old.client.txn answer.now.txn ≡ true)))) }
     {
         if !self.is_of(answer.txn) {
             return Err(Fault::Stranger);
@@ -227,7 +227,7 @@ impl<'s> Tx<'s, Open> {
     fn may_read(&self, key: &Key) -> Result<(), Fault>
         ensures { MatchResult result
             (λ _. (nat_le 128 (length (asked_keys self.now.client)) ≡ false) × (was_answered self.now.client key.now ≡ false)
-                × (has_key self.now.client.awaited key.now ≡ false) × (is_doomed self.now.client ≡ false))
+            × (has_key self.now.client.awaited key.now ≡ false) × (is_doomed self.now.client ≡ false))
             (λ fault. reads self.now.splits key.now self.now.client ≡ Denies fault) }
     {
         if self.asked() >= 128 {

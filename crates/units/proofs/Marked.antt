@@ -3,7 +3,7 @@ use Rattle.std.proofs.Common.{◌≡◌, ◌≢◌, ℕ, zero, suc, ◌+◌, ◌
 use Rattle.std.specs.Prelude.{IfSome, IfNone}
 use Rattle.std.proofs.lemmas.Bool.Decides.{nat_tests}
 use Rattle.std.proofs.Math.Nat.{pow-suc}
-use Rattle.units.specs.Lists.{any, each, has, once, insert, sorted}
+use Rattle.units.specs.Lists.{each, has, once, insert, sorted}
 use Rattle.units.specs.Parts.{marked, shards_from, shards_of_mask}
 
 -- tests that agree from n on mark the same
@@ -125,33 +125,6 @@ bit_clear n rest v h none =
   where
     tested : nat_eq (rest % 2) 1 ≡ false
     tested = grind (arith, nat_tests)
-
--- one more bit in front of those that are marked
-pub bit_put : (f : ℕ → Bool) (bits n above bit : ℕ) → 0 < bits → bit < 2 → nat_eq bit 1 ≡ f n
-    → shards_from (bits - 1) (n + 1) above ≡ marked f (bits - 1) (n + 1)
-    → shards_from bits n (2 * above + bit) ≡ marked f bits n
-bit_put f bits n above bit some small is rest =
-    subst (λ b. shards_from b n (2 * above + bit) ≡ marked f b n) whole put
-  where
-    whole : suc (bits - 1) ≡ bits
-    whole = omega (arith, some)
-
-    low : (2 * above + bit) % 2 ≡ bit
-    low = omega (arith, small)
-
-    high : (2 * above + bit) / 2 ≡ above
-    high = omega (arith, small)
-
-    next : n + 1 ≡ suc n
-    next = omega arith
-
-    rest' : shards_from (bits - 1) (suc n) above ≡ marked f (bits - 1) (suc n)
-    rest' = subst (λ m. shards_from (bits - 1) m above ≡ marked f (bits - 1) m) next rest
-
-    put : shards_from (suc (bits - 1)) n (2 * above + bit) ≡ marked f (suc (bits - 1)) n
-    put =
-        (λ i. cond (nat_eq (low i) 1) (n ∷ shards_from (bits - 1) (suc n) (high i)) (shards_from (bits - 1) (suc n) (high i)))
-        ∙ (λ i. cond (is i) (n ∷ rest' i) (rest' i))
 
 -- a half of a mask, and one more bit
 pub bit_below : (bits above bit : ℕ) → 0 < bits → above < 2 ^ (bits - 1) → bit < 2 → 2 * above + bit < 2 ^ bits

@@ -12,9 +12,9 @@ returns-then-is_awaiting c =
 pub returns-then-is_doomed : goal.returns-then-is_doomed
 returns-then-is_doomed c =
     closes_doomed _ _ (sym c.is_blank.ensures ∙ c.if-is_blank.false) (sym c.is_awaiting.ensures ∙ c.if-is_awaiting.false)
-        (sym c.is_doomed.ensures ∙ c.if-is_doomed.true)
+    (sym c.is_doomed.ensures ∙ c.if-is_doomed.true)
 
 pub returns : goal.returns
 returns c =
     closes_goes _ _ (sym c.is_blank.ensures ∙ c.if-is_blank.false) (sym c.is_awaiting.ensures ∙ c.if-is_awaiting.false)
-        (sym c.is_doomed.ensures ∙ c.if-is_doomed.false)
+    (sym c.is_doomed.ensures ∙ c.if-is_doomed.false)

@@ -10,6 +10,6 @@ returns c =
     let s = c.args.self.now in
     let e = c.request.ensures in
     MatchResult-weaker c.messages.result (MatchResult-from_both c.messages.result _ _ c.messages.ensures.same c.messages.ensures.memory)
-        (λ out h. c.in_ok-may_close.ensures ∙ ap (Goes (record s.client { stage = IsClosing }))
-            (sym (h ∙ (λ i. closing_messages (e.splits i) (closing_client (e.txn i) (e.taken i) (e.writes i))) ∙ closing_same s.splits s.client)))
-        (λ fault h. inr (h, ap is_made c.in_ok-may_close.ensures))
+    (λ out h. c.in_ok-may_close.ensures ∙ ap (Goes (record s.client { stage = IsClosing }))
+    (sym (h ∙ (λ i. closing_messages (e.splits i) (closing_client (e.txn i) (e.taken i) (e.writes i))) ∙ closing_same s.splits s.client)))
+    (λ fault h. inr (h, ap is_made c.in_ok-may_close.ensures))

@@ -7,4 +7,4 @@ pub invariant_of-self : goal.invariant_of-self
 invariant_of-self c =
     let i = c.self.inside in
     subst (λ aw. IsKept i.taken.items aw i.writes.items) (sym c.drop_key.ensures.same)
-        (kept_doomed i.taken.items i.awaited.items i.writes.items c.args.key c.self.invariant)
+    (kept_doomed i.taken.items i.awaited.items i.writes.items c.args.key c.self.invariant)

@@ -12,9 +12,9 @@ returns-then-was_answered c =
 pub returns-then-awaits : goal.returns-then-awaits
 returns-then-awaits c =
     reads_awaited _ _ _ (below _ _ c.asked.ensures c.if-asked-ge128.false) (sym c.was_answered.ensures ∙ c.if-was_answered.false)
-        (sym c.awaits.ensures ∙ c.if-awaits.true)
+    (sym c.awaits.ensures ∙ c.if-awaits.true)
 
 pub returns-then-is_doomed : goal.returns-then-is_doomed
 returns-then-is_doomed c =
     reads_doomed _ _ _ (below _ _ c.asked.ensures c.if-asked-ge128.false) (sym c.was_answered.ensures ∙ c.if-was_answered.false)
-        (sym c.awaits.ensures ∙ c.if-awaits.false) (sym c.is_doomed.ensures ∙ c.if-is_doomed.true)
+    (sym c.awaits.ensures ∙ c.if-awaits.false) (sym c.is_doomed.ensures ∙ c.if-is_doomed.true)

@@ -15,9 +15,10 @@ returns-in_err-reserve-clause-step c =
     let s = c.args.self.now in
     let k = c.args.key in
     let may = c.in_ok-may_read.ensures in
-    rw (p.1, p.2, c.in_err-reserve.ensures.items)
-        (ap (λ (t : Session). t.client) c.self.view_is,
-         inr (refl, ap is_made (reads_goes s.splits k s.client (s.client.awaited ++ k ∷ []) (shard_of s.splits k) may.0 may.1 may.2 may.3 refl refl)))
+    rw (p.1, p.2, c.in_err-reserve.ensures.items) (
+      ap (λ (t : Session). t.client) c.self.view_is,
+      inr (refl, ap is_made (reads_goes s.splits k s.client (s.client.awaited ++ k ∷ []) (shard_of s.splits k) may.0 may.1 may.2 may.3 refl refl)),
+    )
 
 pub invariant_of-self-2 : goal.invariant_of-self-2
 invariant_of-self-2 c =
@@ -26,11 +27,11 @@ invariant_of-self-2 c =
     let k = c.args.key in
     let may = c.in_ok-may_read.ensures in
     let few : length i.taken.items + length i.awaited.items < 128 =
-        subst (λ (t : Session). length t.client.taken + length t.client.awaited < 128) (sym c.self.view_is) (few_asked s.client may.0) in
+    subst (λ (t : Session). length t.client.taken + length t.client.awaited < 128) (sym c.self.view_is) (few_asked s.client may.0) in
     let new : has_key (taken_keys i.taken.items) k ≡ false =
-        subst (λ (t : Session). has_key (taken_keys t.client.taken) k ≡ false) (sym c.self.view_is) (not_answered s.client k may.1) in
+    subst (λ (t : Session). has_key (taken_keys t.client.taken) k ≡ false) (sym c.self.view_is) (not_answered s.client k may.1) in
     let pushed : c.push_reserved.new.self.items ≡ i.awaited.items ++ k ∷ [] =
-        c.push_reserved.ensures.items ∙ ap (λ l. l ++ k ∷ []) c.in_ok-reserve.ensures.items in
+    c.push_reserved.ensures.items ∙ ap (λ l. l ++ k ∷ []) c.in_ok-reserve.ensures.items in
     subst (λ aw. IsKept i.taken.items aw i.writes.items) (sym pushed) (kept_read i.taken.items i.awaited.items i.writes.items k c.self.invariant few new)
 
 pub returns-clause-step : goal.returns-clause-step
@@ -41,7 +42,7 @@ returns-clause-step c =
     let aw = c.push_reserved.new.self.items in
     let n = c.shard_of-shard.result in
     let pushed : aw ≡ s.client.awaited ++ k ∷ [] =
-        c.push_reserved.ensures.items ∙ ap (λ l. l ++ k ∷ []) c.in_ok-reserve.ensures.items ∙ ap (λ (t : Session). t.client.awaited ++ k ∷ []) c.self.view_is in
+    c.push_reserved.ensures.items ∙ ap (λ l. l ++ k ∷ []) c.in_ok-reserve.ensures.items ∙ ap (λ (t : Session). t.client.awaited ++ k ∷ []) c.self.view_is in
     let at : n ≡ shard_of s.splits k = c.shard_of-shard.ensures ∙ ap (λ (t : Session). shard_of t.splits k) c.self.view_is in
     reads_goes s.splits k s.client aw n may.0 may.1 may.2 may.3 pushed at
     ∙ ap (λ (t : Session). Goes (record t.client { awaited = aw }) (record { to = Shard n; message = Message.Read (record { txn = t.client.txn; key = k }) } ∷ [])) (sym c.self.view_is)

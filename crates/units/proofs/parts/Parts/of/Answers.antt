@@ -8,10 +8,10 @@ pub returns-clause-none : goal.returns-clause-none
 returns-clause-none c =
     let ns = c.args.shards.now in
     (from_mask c.mask_from.result c.from_mask.result (sorted nat_lt (once ns)) c.from_mask.ensures
-        (c.mask_from.ensures.shards ∙ sym (sorted_once ns (c.mask_from.ensures.small (omega arith))))).0
+    (c.mask_from.ensures.shards ∙ sym (sorted_once ns (c.mask_from.ensures.small (omega arith))))).0
 
 pub returns-clause-some : goal.returns-clause-some
 returns-clause-some c =
     let ns = c.args.shards.now in
     (from_mask c.mask_from.result c.from_mask.result (sorted nat_lt (once ns)) c.from_mask.ensures
-        (c.mask_from.ensures.shards ∙ sym (sorted_once ns (c.mask_from.ensures.small (omega arith))))).1
+    (c.mask_from.ensures.shards ∙ sym (sorted_once ns (c.mask_from.ensures.small (omega arith))))).1
