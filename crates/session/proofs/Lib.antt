@@ -1,0 +1,4 @@
+pub mod Filters
+pub mod Kept
+pub mod Steps
+pub mod Requests

@@ -1,2 +1,4 @@
 pub mod Computing
+pub mod Places
 pub mod Sessions
+pub mod Shown

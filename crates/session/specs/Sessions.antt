@@ -14,13 +14,7 @@ use Rattle.message.specs.declared.message.Address.TheVariants.{Shard}
 use Rattle.message.specs.ReadSet.{ReadSet}
 use Rattle.message.specs.declared.message.Answer.{Answer}
 use Rattle.message.specs.declared.message.Answer.TheVariants.{Holds, Refused}
-
--- an answer with a value that the session took: the key, the shard, its epoch and the value
-pub record Answered : Type 0 where
-  pub key : Bytes
-  pub shard : ℕ
-  pub epoch : ℕ
-  pub value : Option Bytes
+use Rattle.session.specs.declared.answered.Answered.{Answered}
 
 -- open, closing (its messages are out), or over
 pub data Stage : Type 0 where

@@ -1,2 +1,15 @@
-//! A client's session. So far its definitions; no running code.
+//! A client's session: a transaction reads, buffers writes, closes into one set of messages, and hears its end.
 #![tactic(auto)]
+
+mod answered;
+mod closing;
+mod lists;
+mod request;
+mod taking;
+mod tx;
+
+pub use answered::{Answered, Finished, Heard};
+pub use tx::{Closing, Open, Phase, Tx};
+
+#[cfg(test)]
+mod tests;

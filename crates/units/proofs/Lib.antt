@@ -5,3 +5,4 @@ pub mod IdOrder
 pub mod KeyLaws
 pub mod ListLaws
 pub mod Short
+pub mod Marked

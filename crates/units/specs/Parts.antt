@@ -13,6 +13,11 @@ shards_from (suc bits) n mask = cond (nat_eq (mask % 2) 1) (n ∷ shards_from bi
 abbrev pub shards_of_mask : ℕ → List ℕ
 shards_of_mask mask = shards_from 16 0 mask
 
+-- the numbers from n on that pass a test, in the next few
+abbrev pub marked : (ℕ → Bool) → ℕ → ℕ → List ℕ
+marked test zero n = []
+marked test (suc bits) n = cond (test n) (n ∷ marked test bits (suc n)) (marked test bits (suc n))
+
 -- the mask of some shards: 2^n for shard n, added
 abbrev pub mask_of : List ℕ → ℕ
 mask_of [] = 0

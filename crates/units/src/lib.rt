@@ -26,7 +26,7 @@ pub use setup::{Book, Setup, Stride};
 pub use shard::ShardNo;
 pub use splits::Splits;
 pub use stamp::{Epoch, Stamp};
-pub use txn::TxnId;
+pub use txn::{Run, TxnId};
 pub use value::Value;
 pub use writes::{Install, Write, Writes};
 

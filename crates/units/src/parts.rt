@@ -1,9 +1,10 @@
 //! The shards that take part in a transaction.
-ghost use Rattle.std.specs.Prelude.{◌≡◌, ◌<◌, ◌≤◌, ◌^◌, [], ◌∷◌, Some, None, if◌then◌else◌, nat_eq, IsTrue};
-ghost use Rattle.units.specs.Lists.{has, head};
-ghost use Rattle.units.specs.Parts.{shards_of_mask, mask_of};
+ghost use Rattle.std.specs.Prelude.{◌≡◌, ◌+◌, ◌<◌, ◌^◌, [], ◌∷◌, Some, None, IfSome, IfNone, IfOk, IfErr, if◌then◌else◌, nat_eq, nat_lt, true};
+ghost use Rattle.units.specs.Lists.{each, has, once, sorted};
+ghost use Rattle.units.specs.Parts.{shards_of_mask, shards_from, mask_of, marked};
 
-use crate::ShardNo;
+use crate::{Fault, ShardNo};
+use std::alloc::Global;
 use std::marker::Model;
 
 /// The shards that take part in a transaction, at least one. Shard n is the bit 2^n; a contract sees the numbers in
@@ -49,6 +50,30 @@ impl Parts {
         Parts { mask: 1 << number }
     }
 
+    /// The shards of a list, each once, where there is at least one.
+    pub fn of(shards: &[ShardNo]) -> Option<Parts>
+        ensures none { IfNone result (sorted nat_lt (once shards.now) ≡ []) }
+        ensures some { IfSome result (λ parts. parts ≡ sorted nat_lt (once shards.now)) }
+    {
+        Parts::from_mask(mask_from(shards, 16, 0))
+    }
+
+    /// The shards in ascending order.
+    pub fn shards(self, alloc: Global) -> Result<Vec<ShardNo>, Fault>
+        ensures same { IfOk result (λ shards. shards.items ≡ self) }
+        ensures memory { IfErr result (λ fault. fault ≡ Fault.Memory) }
+    {
+        let mut shards = Vec::new(alloc);
+        let mut rest = self.mask;
+        for number in 0..16 {
+            if rest % 2 == 1 {
+                shards.push(ShardNo::of_count(number))?;
+            }
+            rest /= 2;
+        }
+        Ok(shards)
+    }
+
     /// Their mask.
     pub fn mask(self) -> u16
         ensures value { result ≡ mask_of self }
@@ -57,4 +82,33 @@ impl Parts {
     {
         self.mask
     }
+}
+
+// The bits of the shards of a list, from number n on.
+fn mask_from(shards: &[ShardNo], bits: u32, n: u8) -> u16
+    requires { bits + n ≡ 16 }
+    ensures limit { result < 2 ^ bits }
+    ensures shards { shards_from bits n result ≡ marked (has shards.now) bits n }
+    ensures small { 0 < bits → each (λ k. nat_lt k 16) shards.now ≡ true }
+{
+    if bits == 0 {
+        return 0;
+    }
+    let above = mask_from(shards, bits - 1, n + 1);
+    let bit = if is_among(shards, n) { 1 } else { 0 };
+    2 * above + bit
+}
+
+// The list has the shard of this number.
+fn is_among(shards: &[ShardNo], n: u8) -> bool
+    ensures among { result ≡ has shards.now n }
+    ensures small { each (λ k. nat_lt k 16) shards.now ≡ true }
+{
+    let mut found = false;
+    for shard in shards {
+        if n == shard.number() {
+            found = true;
+        }
+    }
+    found
 }

@@ -1,4 +1,4 @@
-use crate::{Epoch, Fault, Key, Keys, Reason, ShardNo, Splits, Stamp, TxnId, Value};
+use crate::{Epoch, Fault, Key, Keys, Reason, Run, ShardNo, Splits, Stamp, TxnId, Value};
 use std::test::Fail;
 
 #[test]
@@ -29,6 +29,8 @@ fn limits(rt: HostRuntime) -> Result<(), Fail> {
     assert!(rt; Stamp::new(Stamp::MAX).is_ok() && Stamp::new(Stamp::MAX + 1).is_err());
     assert!(rt; Epoch::new(1).is_some() && Epoch::new(0).is_none());
     assert!(rt; Epoch::new(Stamp::MAX).is_some() && Epoch::new(Stamp::MAX + 1).is_none());
+    assert!(rt; Run::new(1).is_some() && Run::new(0).is_none());
+    assert!(rt; Run::new(Stamp::MAX).is_some() && Run::new(Stamp::MAX + 1).is_none());
     assert!(rt; ShardNo::new(15).is_some() && ShardNo::new(16).is_none());
     Ok(())
 }

@@ -6,6 +6,47 @@ ghost use Rattle.units.specs.Texts.{txn_text};
 use std::fmt;
 use std::marker::Model;
 
+/// The number of a run, from 1 to 2^62 - 1.
+#[derive(Clone, Copy, Debug, PartialEq, Eq)]
+pub struct Run {
+    number: u64,
+}
+
+impl Model for Run {
+    ghost use Rattle.std.specs.Prelude.{ℕ, ◌<◌, ◌≤◌, ◌^◌};
+
+    ghost Value = { ℕ };
+
+    ghost view = { λ r. r.number };
+
+    ghost invariant = { λ r. (1 ≤ r.number) × (r.number < 2 ^ 62) };
+
+    ghost inverse = { λ n. record { number = n } };
+}
+
+impl Run {
+    /// The run of this number, where it is within the limits.
+    pub fn new(number: u64) -> Option<Run>
+        ensures value { IfSome result (λ run. run ≡ number) }
+        ensures limits { IsSome result ↔ ((1 ≤ number) × (number < 2 ^ 62)) }
+    {
+        if number >= 1 && number < 1 << 62 {
+            Some(Run { number })
+        } else {
+            None
+        }
+    }
+
+    /// Its number.
+    pub fn number(self) -> u64
+        ensures same { result ≡ self }
+        ensures least { 1 ≤ result }
+        ensures limit { result < 2 ^ 62 }
+    {
+        self.number
+    }
+}
+
 /// A transaction's id: the run that made it, from 1 on, and its number in that run, both below 2^62. Its text is
 /// `run.number`. Ids are ordered by run, then by number; a smaller id is an older transaction.
 #[derive(Clone, Copy, Debug, PartialEq, Eq, PartialOrd, Ord)]

@@ -1,0 +1,32 @@
+-- Filters, and where a member comes in an ascending list.
+use Rattle.std.proofs.Common.{◌≡◌, ℕ, suc, Bool, true, false, cond, not, List, [], ◌∷◌, ◌++◌, insert, filter, refl, sym, ap, ◌∙◌}
+use Rattle.units.specs.Lists.{keep, insert as put}
+use Rattle.units.specs.Keys.{Bytes, key_before, write_before}
+use Rattle.units.specs.declared.writes.Write.{Write}
+use Rattle.session.specs.Places.{place_among, write_place}
+
+pub keep_is_filter : {A : Type 0} (test : A → Bool) (xs : List A) → filter test xs ≡ keep test xs
+keep_is_filter test [] = refl
+keep_is_filter {A} test (x ∷ xs) = by_test (test x) (keep_is_filter test xs)
+  where
+    by_test : (b : Bool) → filter test xs ≡ keep test xs → cond b (x ∷ filter test xs) (filter test xs) ≡ cond b (x ∷ keep test xs) (keep test xs)
+    by_test true e = ap (λ l. x ∷ l) e
+    by_test false e = e
+
+pub insert_key : (ks : List Bytes) (k : Bytes) → insert ks (place_among ks k) k ≡ put key_before k ks
+insert_key [] k = refl
+insert_key (j ∷ js) k = by_test (key_before j k) (insert_key js k)
+  where
+    by_test : (b : Bool) → insert js (place_among js k) k ≡ put key_before k js →
+        insert (j ∷ js) (cond b (suc (place_among js k)) 0) k ≡ cond b (j ∷ put key_before k js) (k ∷ j ∷ js)
+    by_test true e = ap (λ l. j ∷ l) e
+    by_test false e = refl
+
+pub insert_write : (ws : List Write) (w : Write) → insert ws (write_place ws w.key) w ≡ put write_before w ws
+insert_write [] w = refl
+insert_write (v ∷ vs) w = by_test (key_before v.key w.key) (insert_write vs w)
+  where
+    by_test : (b : Bool) → insert vs (write_place vs w.key) w ≡ put write_before w vs →
+        insert (v ∷ vs) (cond b (suc (write_place vs w.key)) 0) w ≡ cond b (v ∷ put write_before w vs) (w ∷ v ∷ vs)
+    by_test true e = ap (λ l. v ∷ l) e
+    by_test false e = refl

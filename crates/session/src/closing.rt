@@ -1,0 +1,235 @@
+//! A transaction closes, gives up, and hears its end.
+ghost use Rattle.std.specs.Prelude.{◌≡◌, [], ◌++◌, map, true, false, not, ◌&&◌, MatchResult, IfOk, IfErr, IfNone, IfSome};
+ghost use Rattle.units.specs.Ids.{same_id};
+ghost use Rattle.units.specs.Keys.{shard_of};
+ghost use Rattle.units.specs.Lists.{listed, once, sorted};
+ghost use Rattle.session.specs.Sessions.{asked_keys, is_none, IsClosing, IsOver, Goes, Denies, closes, closing_messages, gives_up, shards_told, asked_shards};
+ghost use Rattle.session.specs.Shown.{IsRefused, finished_as, give_up_to, is_closing};
+
+use crate::request::{Request, push_asked, push_taken};
+use crate::{Closing, Finished, Open, Phase, Tx};
+use message::{Address, Done, Envelope, GiveUp, Message, Outbox};
+use std::alloc::Global;
+use std::marker::PhantomData;
+use units::{Fault, Parts, Reason, ShardNo, TxnId};
+
+impl<'s> Tx<'s, Open> {
+    /// Closes the transaction: Commit to the least shard that was read or written, then Prepare to each other, by shard.
+    /// With no read and no write it is `nothing`; while an answer is not yet taken, `awaited`; a transaction that can only
+    /// give up is `doomed`.
+    pub fn close(self, alloc: Global) -> Result<(Tx<'s, Closing>, Outbox), (Fault, Tx<'s, Open>)>
+        ensures splits { IfOk result (λ r. r.0.splits ≡ self.entry.splits) }
+        ensures step { MatchResult result
+            (λ r. closes self.entry.splits self.entry.client ≡ Goes r.0.client r.1)
+            (λ r. (r.1 ≡ self.entry) × IsRefused (closes self.entry.splits self.entry.client) r.0) }
+    {
+        match self.requests(alloc) {
+            Ok(out) => Ok((self.into_closing(), out)),
+            Err(fault) => Err((fault, self)),
+        }
+    }
+
+    // The messages of the closing, where it may close.
+    fn requests(&self, alloc: Global) -> Result<Outbox, Fault>
+        ensures { MatchResult result
+            (λ out. closes self.now.splits self.now.client ≡ Goes (record self.now.client { stage = IsClosing }) out)
+            (λ fault. IsRefused (closes self.now.splits self.now.client) fault) }
+    {
+        self.may_close()?;
+        self.request().messages(alloc)
+    }
+
+    // It may close.
+    fn may_close(&self) -> Result<(), Fault>
+        ensures { MatchResult result
+            (λ _. closes self.now.splits self.now.client ≡ Goes (record self.now.client { stage = IsClosing }) (closing_messages self.now.splits self.now.client))
+            (λ fault. closes self.now.splits self.now.client ≡ Denies fault) }
+    {
+        if self.is_blank() {
+            return Err(Fault::BadRequest(Reason::Nothing));
+        }
+        if self.is_awaiting() {
+            return Err(Fault::BadRequest(Reason::Awaited));
+        }
+        if self.is_doomed() {
+            return Err(Fault::BadRequest(Reason::Doomed));
+        }
+        Ok(())
+    }
+
+    // It has no read and no write.
+    fn is_blank(&self) -> bool
+        ensures { result ≡ (is_none (asked_keys self.now.client) && is_none self.now.client.writes) }
+    {
+        self.asked() == 0 && self.writes.is_empty()
+    }
+
+    // Some answer is not yet taken.
+    fn is_awaiting(&self) -> bool
+        ensures { result ≡ not (is_none self.now.client.awaited) }
+    {
+        !self.awaited.is_empty()
+    }
+
+    // The same transaction, closing.
+    fn into_closing(self) -> Tx<'s, Closing>
+        ensures splits { result.splits ≡ self.entry.splits }
+        ensures client { result.client ≡ record self.entry.client { stage = IsClosing } }
+    {
+        let Tx {
+            splits,
+            txn,
+            doom,
+            taken,
+            awaited,
+            writes,
+            phase: _,
+        } = self;
+        Tx {
+            splits,
+            txn,
+            doom,
+            taken,
+            awaited,
+            writes,
+            phase: PhantomData,
+        }
+    }
+}
+
+impl<'s> Tx<'s, Closing> {
+    /// The messages of the closing once more, the same each time.
+    pub fn again(&self, alloc: Global) -> Result<Outbox, Fault>
+        ensures same { IfOk result (λ out. out ≡ closing_messages self.now.splits self.now.client) }
+        ensures memory { IfErr result (λ fault. fault ≡ Fault.Memory) }
+    {
+        let request = self.request();
+        request.messages(alloc)
+    }
+
+    /// Hears the end of the transaction, and spends it. The end of another is a `Stranger`.
+    pub fn take(self, done: &Done) -> Result<Finished, (Fault, Tx<'s, Closing>)>
+        ensures { MatchResult result
+            (λ finished. (same_id self.entry.client.txn done.now.txn ≡ true) × (finished ≡ finished_as done.now.outcome))
+            (λ r. (r.1 ≡ self.entry) × (r.0 ≡ Fault.Stranger) × (same_id self.entry.client.txn done.now.txn ≡ false)) }
+    {
+        if !self.is_of(done.txn) {
+            return Err((Fault::Stranger, self));
+        }
+        self.spend();
+        Ok(match done.outcome {
+            Some(at) => Finished::Committed(at),
+            None => Finished::Aborted,
+        })
+    }
+}
+
+impl<'s, S: Phase> Tx<'s, S> {
+    /// Gives the transaction up, and spends it: each shard that was asked, or when closing each that takes part, is told,
+    /// by shard.
+    #[tactic(auto, unfolding(crate::specs::Sessions::gives_up))]
+    pub fn give_up(self, alloc: Global) -> Result<Outbox, (Fault, Tx<'s, S>)>
+        ensures { MatchResult result
+            (λ out. gives_up self.entry.splits self.entry.client ≡ Goes (record self.entry.client { stage = IsOver }) out)
+            (λ r. (r.1 ≡ self.entry) × (r.0 ≡ Fault.Memory)) }
+    {
+        match self.farewells(alloc) {
+            Ok(out) => {
+                self.spend();
+                Ok(out)
+            }
+            Err(fault) => Err((fault, self)),
+        }
+    }
+
+    // What the shards are told.
+    fn farewells(&self, alloc: Global) -> Result<Outbox, Fault>
+        ensures same { IfOk result (λ out. out ≡ map (give_up_to self.now.client.txn) (shards_told self.now.splits self.now.client)) }
+        ensures memory { IfErr result (λ fault. fault ≡ Fault.Memory) }
+    {
+        let shards = match self.told(alloc)? {
+            Some(parts) => parts.shards(alloc)?,
+            None => Vec::new(alloc),
+        };
+        give_ups(alloc, self.txn, shards.as_slice())
+    }
+
+    // The shards that are told.
+    fn told(&self, alloc: Global) -> Result<Option<Parts>, Fault>
+        ensures none { IfOk result (λ parts. IfNone parts (shards_told self.now.splits self.now.client ≡ [])) }
+        ensures some { IfOk result (λ parts. IfSome parts (λ ns. ns ≡ shards_told self.now.splits self.now.client)) }
+        ensures memory { IfErr result (λ fault. fault ≡ Fault.Memory) }
+    {
+        if self.is_closing() {
+            self.request().parts(alloc)
+        } else {
+            self.asked_parts(alloc)
+        }
+    }
+
+    // Its messages are out.
+    fn is_closing(&self) -> bool
+        ensures { result ≡ is_closing self.now.client.stage }
+    {
+        let _phase = &self.phase;
+        S::is_closing()
+    }
+
+    // The shards that were asked.
+    fn asked_parts(&self, alloc: Global) -> Result<Option<Parts>, Fault>
+        ensures none { IfOk result (λ parts. IfNone parts (asked_shards self.now.splits self.now.client ≡ [])) }
+        ensures some { IfOk result (λ parts. IfSome parts (λ ns. ns ≡ asked_shards self.now.splits self.now.client)) }
+        ensures memory { IfErr result (λ fault. fault ≡ Fault.Memory) }
+    {
+        let mut shards = Vec::new(alloc);
+        push_taken(&mut shards, self.taken.as_slice())?;
+        if let Some(key) = &self.doom {
+            shards.push(self.splits.shard_of(key))?;
+        }
+        push_asked(&mut shards, self.splits, self.awaited.as_slice())?;
+        Ok(Parts::of(shards.as_slice()))
+    }
+
+    // What it asks its shards to commit.
+    fn request(&self) -> Request<'_>
+        ensures splits { result.splits.now ≡ self.now.splits }
+        ensures txn { result.txn ≡ self.now.client.txn }
+        ensures taken { result.taken.now ≡ self.now.client.taken }
+        ensures writes { result.writes.now ≡ self.now.client.writes }
+    {
+        Request {
+            splits: self.splits,
+            txn: self.txn,
+            taken: self.taken.as_slice(),
+            writes: self.writes.as_slice(),
+        }
+    }
+
+    // It is over.
+    pub(crate) fn spend(self) {
+        let Tx {
+            splits: _,
+            txn: _,
+            doom: _,
+            taken: _,
+            awaited: _,
+            writes: _,
+            phase: _,
+        } = self;
+    }
+}
+
+// Each shard is told that the transaction is given up.
+fn give_ups(alloc: Global, txn: TxnId, shards: &[ShardNo]) -> Result<Outbox, Fault>
+    ensures same { IfOk result (λ out. out ≡ map (give_up_to txn) shards.now) }
+    ensures memory { IfErr result (λ fault. fault ≡ Fault.Memory) }
+{
+    let mut envelopes = Vec::new(alloc);
+    for shard in shards {
+        envelopes.push(Envelope {
+            to: Address::Shard(*shard),
+            message: Message::GiveUp(GiveUp { txn }),
+        })?;
+    }
+    Ok(Outbox::from_vec(envelopes))
+}

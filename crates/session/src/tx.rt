@@ -1,0 +1,278 @@
+//! A transaction's session.
+ghost use Rattle.std.specs.Prelude.{◌≡◌, ◌⊎◌, ◌^◌, [], ◌∷◌, ◌++◌, length, true, false, not, ◌&&◌, nat_le, Option, MatchResult, IfOk, IfErr, OnOk};
+ghost use Rattle.units.specs.Ids.{same_id};
+ghost use Rattle.units.specs.Keys.{Bytes, has_key, writes_key};
+ghost use Rattle.session.specs.Sessions.{Stage, IsOpen, IsClosing, begun, reads, buffers, hears, asked_keys, was_answered, is_doomed, epochs_agree, Goes, Denies};
+ghost use Rattle.session.specs.Shown.{Session, IsRefused, is_closing, heard_as};
+
+use crate::lists::{drop_write, epochs_agree, has_key, insert_write, is_written, was_taken};
+use crate::{Answered, Heard};
+use message::{Address, Answer, Envelope, Message, Read, ReadAnswer};
+use std::alloc::Global;
+use std::marker::{Model, PhantomData};
+use tickets::{Drawer, Tickets};
+use units::{Fault, Key, Reason, Run, Splits, TxnId, Value, Write};
+
+/// A stage of a transaction's session.
+pub trait Phase {
+    ghost stage: { Stage };
+
+    /// The messages that close the transaction are out.
+    fn is_closing() -> bool
+        ensures { result ≡ is_closing Self.stage };
+}
+
+/// The transaction reads and buffers writes.
+pub struct Open;
+
+impl Phase for Open {
+    ghost stage = { IsOpen };
+
+    fn is_closing() -> bool {
+        false
+    }
+}
+
+/// The transaction's messages are out, and its end is awaited.
+pub struct Closing;
+
+impl Phase for Closing {
+    ghost stage = { IsClosing };
+
+    fn is_closing() -> bool {
+        true
+    }
+}
+
+/// A transaction, as its client sees it. Its reads do not see its own writes, which are buffered until it closes. It has
+/// to be spent, by `take` or `give_up`.
+pub struct Tx<'s, S: Phase> {
+    pub(crate) splits: &'s Splits,
+    pub(crate) txn: TxnId,
+    pub(crate) doom: Option<Key>,
+    pub(crate) taken: Vec<Answered>,
+    pub(crate) awaited: Vec<Key>,
+    pub(crate) writes: Vec<Write>,
+    pub(crate) phase: PhantomData<S>,
+}
+
+impl<'s, S: Phase> Model for Tx<'s, S> {
+    ghost use Rattle.session.specs.Shown.{Session, IsKept};
+
+    ghost Value = { Session };
+
+    ghost view = { λ t. record { splits = t.splits.now; client = record { txn = t.txn; stage = S.stage; doom = t.doom; taken = t.taken.items; awaited = t.awaited.items; writes = t.writes.items } } };
+
+    ghost invariant = { λ t. IsKept t.taken.items t.awaited.items t.writes.items };
+}
+
+impl<'s> Tx<'s, Open> {
+    /// The transaction as it begins. It keeps the splits, and takes no memory.
+    pub fn begin(alloc: Global, txn: TxnId, splits: &'s Splits) -> Tx<'s, Open>
+        ensures splits { result.splits ≡ splits.now }
+        ensures begun { result.client ≡ begun txn }
+    {
+        Tx {
+            splits,
+            txn,
+            doom: None,
+            taken: Vec::new(alloc),
+            awaited: Vec::new(alloc),
+            writes: Vec::new(alloc),
+            phase: PhantomData,
+        }
+    }
+
+    /// A transaction of a run, whose number is drawn. A drawer that may draw no more is `TimeSpent`.
+    pub fn begin_drawn(
+        alloc: Global,
+        run: Run,
+        splits: &'s Splits,
+        tickets: &Tickets,
+        drawer: &mut Drawer,
+    ) -> Result<Tx<'s, Open>, Fault>
+        requires { drawer.old.source ≡ tickets.now }
+        ensures source { drawer.new.source ≡ drawer.old.source }
+        ensures splits { IfOk result (λ tx. tx.splits ≡ splits.now) }
+        ensures begun { IfOk result (λ tx. tx.client ≡ begun (record { run = run; number = tx.client.txn.number })) }
+        ensures drawn { MatchResult result
+            (λ tx. drawer.new.drawn ≡ drawer.old.drawn ++ tx.client.txn.number ∷ [])
+            (λ fault. (fault ≡ Fault.TimeSpent) × (length drawer.old.drawn ≡ 2 ^ 40) × (drawer.new.drawn ≡ drawer.old.drawn)) }
+    {
+        let number = tickets.draw(drawer)?;
+        match TxnId::new(run.number(), number) {
+            Some(txn) => Ok(Tx::begin(alloc, txn, splits)),
+            None => unreachable!(),
+        }
+    }
+
+    /// Asks the key's shard for its value. More than 128 keys are `many`; a key whose answer was taken is `again`, one
+    /// whose answer is not yet taken is `awaited`; a transaction that can only give up is `doomed`.
+    pub fn read(&mut self, key: Key) -> Result<Envelope, Fault>
+        ensures splits { self.new.splits ≡ self.old.splits }
+        ensures step { MatchResult result
+            (λ envelope. reads self.old.splits key self.old.client ≡ Goes self.new.client (envelope ∷ []))
+            (λ fault. (self.new.client ≡ self.old.client) × IsRefused (reads self.old.splits key self.old.client) fault) }
+    {
+        self.may_read(&key)?;
+        self.awaited.reserve(1)?;
+        self.awaited.push_reserved(key);
+        let shard = self.splits.shard_of(&key);
+        Ok(Envelope {
+            to: Address::Shard(shard),
+            message: Message::Read(Read { txn: self.txn, key }),
+        })
+    }
+
+    /// Takes an answer, where it is awaited. An answer to another transaction is a `Stranger`.
+    pub fn answered(&mut self, alloc: Global, answer: &ReadAnswer) -> Result<Heard, Fault>
+        ensures splits { self.new.splits ≡ self.old.splits }
+        ensures step { MatchResult result
+            (λ heard. (same_id self.old.client.txn answer.now.txn ≡ true)
+            × (self.new.client ≡ hears answer.now.from answer.now.key answer.now.epoch answer.now.answer self.old.client)
+            × (heard ≡ heard_as self.old.client answer.now.from answer.now.key answer.now.epoch answer.now.answer))
+            (λ fault. (self.new.client ≡ self.old.client)
+            × (((fault ≡ Fault.Stranger) × (same_id self.old.client.txn answer.now.txn ≡ false)) ⊎ ((fault ≡ Fault.Memory) × (same_id self.old.client.txn answer.now.txn ≡ true)))) }
+    {
+        if !self.is_of(answer.txn) {
+            return Err(Fault::Stranger);
+        }
+        if !self.expects(&answer.key) {
+            return Ok(Heard::Again);
+        }
+        match &answer.answer {
+            Answer::Refused => {
+                self.doom_by(answer.key);
+                Ok(Heard::Doomed)
+            }
+            Answer::Holds(value) => {
+                if self.agrees(answer) {
+                    self.take_value(alloc, answer, value)
+                } else {
+                    self.doom_by(answer.key);
+                    Ok(Heard::Doomed)
+                }
+            }
+        }
+    }
+
+    /// Buffers a write, or with no value an erasure; a later write of a key replaces the earlier. More than 128 keys are
+    /// `many`; a transaction that can only give up is `doomed`.
+    pub fn buffer(&mut self, key: Key, value: Option<Value>) -> Result<(), Fault>
+        ensures splits { self.new.splits ≡ self.old.splits }
+        ensures step { MatchResult result
+            (λ _. buffers (record { key = key; value = value }) self.old.client ≡ Goes self.new.client [])
+            (λ fault. (self.new.client ≡ self.old.client) × IsRefused (buffers (record { key = key; value = value }) self.old.client) fault) }
+    {
+        self.may_buffer(&key)?;
+        self.writes.reserve(1)?;
+        drop_write(&mut self.writes, &key);
+        insert_write(&mut self.writes, Write { key, value });
+        Ok(())
+    }
+
+    // How many keys were asked for.
+    pub(crate) fn asked(&self) -> usize
+        ensures { result ≡ length (asked_keys self.now.client) }
+    {
+        let doomed = if self.is_doomed() { 1 } else { 0 };
+        self.taken.len() + doomed + self.awaited.len()
+    }
+
+    // It can only give up.
+    pub(crate) fn is_doomed(&self) -> bool
+        ensures { result ≡ is_doomed self.now.client }
+    {
+        match &self.doom {
+            Some(_) => true,
+            None => false,
+        }
+    }
+
+    // The key's answer is not yet taken.
+    fn awaits(&self, key: &Key) -> bool
+        ensures { result ≡ has_key self.now.client.awaited key.now }
+    {
+        has_key(self.awaited.as_slice(), key)
+    }
+
+    // The key's answer was taken: a value, or the answer that doomed the session.
+    fn was_answered(&self, key: &Key) -> bool
+        ensures { result ≡ was_answered self.now.client key.now }
+    {
+        if was_taken(self.taken.as_slice(), key) {
+            return true;
+        }
+        match &self.doom {
+            Some(doom) => key.is(doom),
+            None => false,
+        }
+    }
+
+    // The key's answer is to be taken.
+    fn expects(&self, key: &Key) -> bool
+        ensures { result ≡ (has_key self.now.client.awaited key.now && not (is_doomed self.now.client)) }
+    {
+        self.awaits(key) && !self.is_doomed()
+    }
+
+    // The answer is of the epoch of its shard's other answers.
+    fn agrees(&self, answer: &ReadAnswer) -> bool
+        ensures { result ≡ epochs_agree self.now.client.taken answer.now.from answer.now.epoch }
+    {
+        epochs_agree(self.taken.as_slice(), answer.from, answer.epoch)
+    }
+
+    // The key may be asked for.
+    fn may_read(&self, key: &Key) -> Result<(), Fault>
+        ensures { MatchResult result
+            (λ _. (nat_le 128 (length (asked_keys self.now.client)) ≡ false) × (was_answered self.now.client key.now ≡ false)
+            × (has_key self.now.client.awaited key.now ≡ false) × (is_doomed self.now.client ≡ false))
+            (λ fault. reads self.now.splits key.now self.now.client ≡ Denies fault) }
+    {
+        if self.asked() >= 128 {
+            return Err(Fault::BadRequest(Reason::Many));
+        }
+        if self.was_answered(key) {
+            return Err(Fault::BadRequest(Reason::Again));
+        }
+        if self.awaits(key) {
+            return Err(Fault::BadRequest(Reason::Awaited));
+        }
+        if self.is_doomed() {
+            return Err(Fault::BadRequest(Reason::Doomed));
+        }
+        Ok(())
+    }
+
+    // There are as many writes as there may be, and none of the key.
+    fn is_full_for(&self, key: &Key) -> bool
+        ensures { result ≡ (nat_le 128 (length self.now.client.writes) && not (writes_key self.now.client.writes key.now)) }
+    {
+        self.writes.len() >= 128 && !is_written(self.writes.as_slice(), key)
+    }
+
+    // The key may be written.
+    fn may_buffer(&self, key: &Key) -> Result<(), Fault>
+        ensures { MatchResult result
+            (λ _. ((nat_le 128 (length self.now.client.writes) && not (writes_key self.now.client.writes key.now)) ≡ false) × (is_doomed self.now.client ≡ false))
+            (λ fault. (value : Option Bytes) → buffers (record { key = key.now; value = value }) self.now.client ≡ Denies fault) }
+    {
+        if self.is_full_for(key) {
+            return Err(Fault::BadRequest(Reason::Many));
+        }
+        if self.is_doomed() {
+            return Err(Fault::BadRequest(Reason::Doomed));
+        }
+        Ok(())
+    }
+}
+
+impl<S: Phase> Tx<'_, S> {
+    /// It is this transaction.
+    pub(crate) fn is_of(&self, txn: TxnId) -> bool
+        ensures { result ≡ same_id self.now.client.txn txn }
+    {
+        self.txn.is(txn)
+    }
+}

@@ -1,0 +1,10 @@
+//! Numbers that threads draw, each once.
+#![tactic(auto)]
+
+mod rule;
+mod source;
+
+pub use source::{Drawer, Tickets, each_once};
+
+#[cfg(test)]
+mod tests;
