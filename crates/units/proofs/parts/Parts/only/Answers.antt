@@ -1,4 +1,4 @@
-use Rattle.std.proofs.Common.{◌≡◌, ℕ, [], ◌∷◌, ◌*◌, ◌%◌, ◌^◌, sym, ap, ◌∙◌, subst, ◌<◌}
+use Rattle.std.proofs.Common.{◌≡◌, ℕ, [], ◌∷◌, ◌*◌, ◌%◌, ◌^◌, ap, ◌∙◌, ◌<◌}
 use Rattle.std.proofs.Math.Nat.{one-mul, mod-eq_of_lt}
 use Rattle.std.proofs.Math.Pow.{pow-lt}
 use Rattle.units.specs.Parts.{shards_of_mask, shards_of-bit}
