@@ -1,2 +1,4 @@
-pub mod Places
 pub mod Entries
+pub mod Kept
+pub mod Known
+pub mod Places

@@ -206,6 +206,7 @@ impl Facts {
     }
 
     // Notes a record that may come next.
+    #[tactic(auto, unfolding(record::specs::Facts::learn, crate::specs::Rules::follows_facts))]
     fn note(&mut self, item: Record)
         requires room { 1 ≤ self.old.room }
         requires follows { IsTrue (follows_facts self.old.shard self.old.facts item) }
@@ -231,6 +232,7 @@ impl Facts {
     }
 
     // Notes an outcome.
+    #[tactic(auto, unfolding(record::specs::Facts::learn, crate::specs::Rules::follows_facts))]
     fn end(&mut self, txn: TxnId, outcome: Option<Stamp>)
         requires room { 1 ≤ self.old.room }
         requires follows { IsTrue (follows_facts self.old.shard self.old.facts (Record.Outcome txn outcome)) }

@@ -4,7 +4,9 @@
 
 mod entry;
 mod facts;
+mod laws;
 mod table;
 
 pub use entry::{Entry, Status};
 pub use facts::Facts;
+pub use laws::{follows_as_known, learnt_as_followed, says_of_records};
