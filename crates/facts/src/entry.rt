@@ -75,9 +75,8 @@ impl Status {
         }
     }
 
-    /// The outcome may follow what stands: a promise at or below its timestamp, or a decision at its timestamp; aborted,
-    /// a promise.
-    pub fn allows(&self, outcome: Option<Stamp>) -> bool
+    /// The outcome may follow: at a timestamp a promise not above it or a decision at it, and aborted a promise.
+    pub(crate) fn allows(&self, outcome: Option<Stamp>) -> bool
         ensures { result ≡ allows (meaning self.now) outcome }
     {
         match (self, outcome) {
@@ -89,7 +88,7 @@ impl Status {
     }
 
     /// What an outcome that it allows makes of it.
-    pub fn after(&self, outcome: Option<Stamp>) -> Status
+    pub(crate) fn after(&self, outcome: Option<Stamp>) -> Status
         requires { IsTrue (allows (meaning self.now) outcome) }
         ensures { meaning result ≡ after_outcome (meaning self.now) outcome }
     {

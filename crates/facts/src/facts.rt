@@ -1,10 +1,8 @@
 //! The facts of a log, learnt record by record.
-ghost use Rattle.std.specs.Prelude.{◌≡◌, ◌<◌, ◌≤◌, [], IsTrue, IsFalse, IsOk, IfOk, IfErr, OnOk, OnErr, MatchResult, ◌^◌};
+ghost use Rattle.std.specs.Prelude.{◌≡◌, ◌<◌, ◌≤◌, [], IsTrue, IsFalse, IsOk, IfOk, IfErr, OnOk, OnErr, Err, ◌^◌};
 ghost use Rattle.std.specs.Option.{option_copied};
 ghost use Rattle.units.specs.declared.fault.Fault.TheVariants.{Memory, Damaged};
 ghost use Rattle.record.specs.Facts.{facts_of, learn, recorded};
-ghost use Rattle.record.specs.FactLaws.{learnt};
-ghost use Rattle.record.specs.Accepted.{followed};
 ghost use Rattle.facts.specs.Readers.{standing_promise, standing_decision, has_abort, outcome_in};
 ghost use Rattle.facts.specs.Rules.{follows_facts, is_unrecorded, allows};
 ghost use Rattle.facts.specs.Shown.{meant, shown, IsAscending};
@@ -202,6 +200,24 @@ impl Facts {
             return Err((Fault::Damaged { offset }, item));
         }
         self.note(item);
+        Ok(())
+    }
+
+    /// Learns a copy of the record that comes next in the log, with the memory that this takes. A record that may not come
+    /// next is damage at the offset.
+    pub fn learn_copy(&mut self, alloc: Global, offset: u64, item: &Record) -> Result<(), Fault>
+        ensures learnt { OnOk result (self.new.facts ≡ learn self.old.facts item.now) }
+        ensures shard { self.new.shard ≡ self.old.shard }
+        ensures damaged { IsFalse (follows_facts self.old.shard self.old.facts item.now) → result ≡ Err (Damaged offset) }
+        ensures memory { IsTrue (follows_facts self.old.shard self.old.facts item.now) → IfErr result (λ fault. fault ≡ Memory) }
+        ensures same { OnErr result (self.new.facts ≡ self.old.facts) }
+    {
+        if !self.follows(item) {
+            return Err(Fault::Damaged { offset });
+        }
+        let copy = item.copy(alloc)?;
+        self.reserve()?;
+        self.note(copy);
         Ok(())
     }
 

@@ -10,3 +10,6 @@ mod table;
 pub use entry::{Entry, Status};
 pub use facts::Facts;
 pub use laws::{follows_as_known, learnt_as_followed, says_of_records};
+
+#[cfg(test)]
+mod tests;
