@@ -1,9 +1,9 @@
 -- The entries of the code, looked up and set anew.
-use Rattle.std.proofs.Common.{◌≡◌, ℕ, zero, suc, ◌+◌, ◌<◌, ◌≤◌, Bool, true, false, cond, ◌&&◌, ◌||◌, List, [], ◌∷◌, length, get_or, set, map, insert, Option, Some, None, refl, sym, ap, ◌∙◌, subst, arith}
+use Rattle.std.proofs.Common.{◌≡◌, ℕ, zero, suc, ◌<◌, ◌≤◌, Bool, true, false, cond, List, [], ◌∷◌, length, get_or, set, map, insert, Some, None, refl, sym, ap, ◌∙◌, subst, arith}
 use Rattle.std.proofs.lemmas.List.{get_or_default}
-use Rattle.units.specs.Lists.{each, first, keep, head}
+use Rattle.units.specs.Lists.{each, keep, head}
 use Rattle.units.specs.Ids.{Id, older, same_id, with_id}
-use Rattle.units.proofs.IdLaws.{same_id-is, same_id-refl, same_id_comm, older_not_same, older_total}
+use Rattle.units.proofs.IdLaws.{same_id-is, same_id_comm, older_not_same, older_total}
 use Rattle.units.proofs.IdOrder.{rises, above_more, rises_with}
 use Rattle.record.specs.Records.{Unrecorded}
 use Rattle.record.specs.Records as records
@@ -69,11 +69,11 @@ set_at (e ∷ es) t s d lt is = by_first (older e.txn t) refl lt is (set_at es t
     by_first : (b : Bool) → older e.txn t ≡ b → cond b (suc (older_count (ids_in es) t)) 0 < suc (length es)
         → same_id (get_or (e ∷ es) (cond b (suc (older_count (ids_in es) t)) 0) d).txn t ≡ true
         → (older_count (ids_in es) t < length es → same_id (get_or es (older_count (ids_in es) t) d).txn t ≡ true
-            → shown (set es (older_count (ids_in es) t) now) ≡ with_status (shown es) t (meaning s))
+        → shown (set es (older_count (ids_in es) t) now) ≡ with_status (shown es) t (meaning s))
         → shown (set (e ∷ es) (cond b (suc (older_count (ids_in es) t)) 0) now)
         ≡ cond (same_id e.txn t) (record { txn = t; status = meaning s } ∷ shown es)
-            (cond b (record { txn = e.txn; status = meaning e.status } ∷ with_status (shown es) t (meaning s))
-                (record { txn = t; status = meaning s } ∷ record { txn = e.txn; status = meaning e.status } ∷ shown es))
+        (cond b (record { txn = e.txn; status = meaning e.status } ∷ with_status (shown es) t (meaning s))
+        (record { txn = t; status = meaning s } ∷ record { txn = e.txn; status = meaning e.status } ∷ shown es))
     by_first true before less same ih =
         rw (older_not_same e.txn t before) (ap (λ l. record { txn = e.txn; status = meaning e.status } ∷ l) (ih (omega (arith, less)) same))
     by_first false before less same ih = rw same refl
@@ -91,11 +91,11 @@ insert_at (e ∷ es) t s none = by_first (older e.txn t) refl none (insert_at es
     by_first : (b : Bool) → older e.txn t ≡ b
         → (cond b (suc (older_count (ids_in es) t)) 0 < suc (length es) → (d : Entry) → same_id (get_or (e ∷ es) (cond b (suc (older_count (ids_in es) t)) 0) d).txn t ≡ false)
         → ((older_count (ids_in es) t < length es → (d : Entry) → same_id (get_or es (older_count (ids_in es) t) d).txn t ≡ false)
-            → shown (insert es (older_count (ids_in es) t) now) ≡ with_status (shown es) t (meaning s))
+        → shown (insert es (older_count (ids_in es) t) now) ≡ with_status (shown es) t (meaning s))
         → shown (insert (e ∷ es) (cond b (suc (older_count (ids_in es) t)) 0) now)
         ≡ cond (same_id e.txn t) (record { txn = t; status = meaning s } ∷ shown es)
-            (cond b (record { txn = e.txn; status = meaning e.status } ∷ with_status (shown es) t (meaning s))
-                (record { txn = t; status = meaning s } ∷ record { txn = e.txn; status = meaning e.status } ∷ shown es))
+        (cond b (record { txn = e.txn; status = meaning e.status } ∷ with_status (shown es) t (meaning s))
+        (record { txn = t; status = meaning s } ∷ record { txn = e.txn; status = meaning e.status } ∷ shown es))
     by_first true before none ih =
         rw (older_not_same e.txn t before) (ap (λ l. record { txn = e.txn; status = meaning e.status } ∷ l) (ih (λ lt d. none (omega (arith, lt)) d)))
     by_first false before none ih = rw (none (omega arith) e) refl
@@ -116,7 +116,7 @@ found_at (e ∷ es) t d lt is = by_first (older e.txn t) refl lt is (found_at es
     by_first : (b : Bool) → older e.txn t ≡ b → cond b (suc (older_count (ids_in es) t)) 0 < suc (length es)
         → same_id (get_or (e ∷ es) (cond b (suc (older_count (ids_in es) t)) 0) d).txn t ≡ true
         → (older_count (ids_in es) t < length es → same_id (get_or es (older_count (ids_in es) t) d).txn t ≡ true
-            → meaning (get_or es (older_count (ids_in es) t) d).status ≡ status_in (shown es) t)
+        → meaning (get_or es (older_count (ids_in es) t) d).status ≡ status_in (shown es) t)
         → meaning (get_or (e ∷ es) (cond b (suc (older_count (ids_in es) t)) 0) d).status ≡ status_in (shown (e ∷ es)) t
     by_first true before less same ih = rw (older_not_same e.txn t before) (ih (omega (arith, less)) same)
     by_first false before less same ih = rw same refl

@@ -3,14 +3,14 @@
 use Rattle.std.proofs.Common.{refl, sym, ◌∙◌, ap, subst, arith}
 use Rattle.std.proofs.lemmas.Bool.{eqb-true}
 use Rattle.std.proofs.lemmas.Bool.Decides.{nat_tests}
-use Rattle.std.specs.Prelude.{ℕ, ◌+◌, ◌≡◌, Bool, true, false, not, cond, ◌&&◌, ◌||◌, nat_eq, nat_lt, List, [], ◌∷◌, ◌++◌, Option, Some, None}
-use Rattle.units.specs.Lists.{any, gather, first, head}
+use Rattle.std.specs.Prelude.{ℕ, ◌+◌, ◌≡◌, Bool, true, false, cond, ◌&&◌, ◌||◌, nat_lt, List, [], ◌∷◌, ◌++◌, Option, Some, None}
+use Rattle.units.specs.Lists.{head}
 use Rattle.units.specs.Ids.{Id, same_id}
 use Rattle.units.proofs.Folds.{or_else, is_there, there_or_else, append_none}
 use Rattle.units.proofs.IdLaws.{same_id-is}
 use Rattle.record.specs.Accepted.{begins, outcome_fits, follows, followed, followed_from}
 use Rattle.record.specs.Facts.{Facts, facts_of, learn}
-use Rattle.record.specs.Records.{Ended, prepared_of, committed_of, is_aborted, ended_of, epoch_of}
+use Rattle.record.specs.Records.{Ended, prepared_of, committed_of, ended_of, epoch_of}
 use Rattle.record.specs.declared.record.Committed.{Committed}
 use Rattle.record.specs.declared.record.Prepared.{Prepared}
 use Rattle.record.specs.declared.record.Record.{Record}
@@ -91,7 +91,7 @@ one_more shard log r k h t =
     ∙ ap (λ b. b && is_there (or_else (committed_of log t) (committed_of (r ∷ []) t))) (there_or_else (prepared_of log t) (prepared_of (r ∷ []) t))
     ∙ ap (λ b. (is_there (prepared_of log t) || is_there (prepared_of (r ∷ []) t)) && b) (there_or_else (committed_of log t) (committed_of (r ∷ []) t))
     ∙ one_by (is_there (prepared_of log t)) (is_there (committed_of log t)) (is_there (prepared_of (r ∷ []) t)) (is_there (committed_of (r ∷ []) t))
-        (k.one t) (one_single r t) (made_fresh shard log r t h)
+    (k.one t) (one_single r t) (made_fresh shard log r t h)
 
 -- ---- outcomes of decisions
 
@@ -143,12 +143,12 @@ settles_by shard log (Ceiling at) k h t = plain _ _ (k.settles t)
 settles_by shard log (Prepare p) k h t = plain _ _ (k.settles t)
 settles_by shard log (Commit c) k h t = decided (same_id c.txn t) (committed_of log t) (ended_of log t) c (k.settles t)
     (λ same. let m : made log t ≡ false = subst (λ v. made log v ≡ false) (same_id-is c.txn t same) ((new_facts log c.txn (commit_new shard log c h)).1) in
-        ((neither _ _ m).1, unended log t k.sound m))
+    ((neither _ _ m).1, unended log t k.sound m))
 settles_by shard log (Abort u) k h t = plain _ _ (k.settles t)
 settles_by shard log (Outcome u o) k h t = ends (same_id u t) (committed_of log t) (ended_of log t) (record { txn = u; outcome = o }) (k.settles t)
     (λ same x is. fits_decided (prepared_of log t) (committed_of log t) o x
-        (subst (λ v. outcome_fits (prepared_of log v) (committed_of log v) o ≡ true) (same_id-is u t same) ((outcome_follows shard log u o h).1))
-        (k.one t) is)
+    (subst (λ v. outcome_fits (prepared_of log v) (committed_of log v) o ≡ true) (same_id-is u t same) ((outcome_follows shard log u o h).1))
+    (k.one t) is)
 
 settles_more : (shard : ℕ) (log : List Record) (r : Record) → Kept log → follows shard log r ≡ true → (t : Id) →
     Settles (committed_of (log ++ r ∷ []) t) (ended_of (log ++ r ∷ []) t)
@@ -157,7 +157,6 @@ settles_more shard log r k h t =
     (subst (λ e. Settles (or_else (committed_of log t) (committed_of (r ∷ []) t)) e) (sym (ended_more log r t)) (settles_by shard log r k h t))
 
 -- ---- the first opening
-
 
 is_begun_more : (log : List Record) (r : Record) → is_begun (log ++ r ∷ []) ≡ true
 is_begun_more [] r = refl

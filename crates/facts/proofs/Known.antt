@@ -1,11 +1,11 @@
 -- What the facts alone tell of a log.
-use Rattle.std.proofs.Common.{refl, sym, ◌∙◌, ap, subst}
+use Rattle.std.proofs.Common.{refl, sym, ◌∙◌, ap}
 use Rattle.std.specs.Prelude.{ℕ, ◌+◌, ◌≡◌, Bool, true, false, not, cond, ◌&&◌, ◌||◌, nat_eq, nat_lt, List, [], ◌∷◌, ◌++◌, Option, Some, None}
 use Rattle.units.specs.Lists.{head, when, mapped}
 use Rattle.units.specs.Ids.{Id}
 use Rattle.units.proofs.Folds.{is_there, append_none}
 use Rattle.record.specs.Accepted.{begins, is_new, outcome_fits, follows, followed, followed_from}
-use Rattle.record.specs.Facts.{Facts, facts_of, learn, recorded}
+use Rattle.record.specs.Facts.{facts_of, learn, recorded}
 use Rattle.record.specs.Records.{Ended, Status, Unrecorded, StandsPrepared, StandsDecided, HasAborted, HasSettled, HasClosed, prepared_of, committed_of, is_aborted, ended_of, epoch_of, status_by, status_of}
 use Rattle.record.specs.declared.record.Committed.{Committed}
 use Rattle.record.specs.declared.record.Prepared.{Prepared}
@@ -16,8 +16,8 @@ use Rattle.record.proofs.LearnAgrees.{learns, followed_more}
 use Rattle.record.proofs.Statuses.{recorded_is}
 use Rattle.facts.specs.Laws.{FollowsAsKnown, LearntAsFollowed, SaysOfRecords, SaysOf, learnt_from}
 use Rattle.facts.specs.Readers.{standing_promise, standing_decision, has_abort, outcome_in}
-use Rattle.facts.specs.Rules.{is_unrecorded, allows, id_follows, follows_facts}
-use Rattle.facts.proofs.Kept.{Kept, Settles, is_begun, kept_empty, kept_more, kept_followed, append_one, begins_ceiling, begins_prepare, begins_commit, begins_abort, begins_outcome}
+use Rattle.facts.specs.Rules.{is_unrecorded, allows, follows_facts}
+use Rattle.facts.proofs.Kept.{Kept, Settles, kept_empty, kept_more, kept_followed, append_one, begins_ceiling, begins_prepare, begins_commit, begins_abort, begins_outcome}
 
 -- ---- the rules of one id
 
@@ -112,7 +112,7 @@ learnt_by shard before (r ∷ rs) k = by_test (begins before r && follows shard 
   where
     by_test : (b : Bool) → (begins before r && follows shard before r) ≡ b →
         (Kept (before ++ r ∷ []) → learnt_from shard (facts_of (before ++ r ∷ [])) rs
-            ≡ cond (followed_from shard (before ++ r ∷ []) rs) (Some (facts_of ((before ++ r ∷ []) ++ rs))) None) →
+        ≡ cond (followed_from shard (before ++ r ∷ []) rs) (Some (facts_of ((before ++ r ∷ []) ++ rs))) None) →
         learnt_from shard (facts_of before) (r ∷ rs) ≡ cond (followed_from shard before (r ∷ rs)) (Some (facts_of (before ++ r ∷ rs))) None
     by_test true e rest =
         let p : (begins before r ≡ true) × (follows shard before r ≡ true) = both _ _ e in

@@ -1,5 +1,5 @@
 -- The place of an id among ids in order.
-use Rattle.std.proofs.Common.{◌≡◌, ℕ, zero, suc, ◌+◌, ◌<◌, ◌≤◌, Bool, true, false, cond, ◌&&◌, List, [], ◌∷◌, length, get_or, refl, sym, ap, ◌∙◌, arith}
+use Rattle.std.proofs.Common.{◌≡◌, ℕ, zero, suc, ◌+◌, ◌<◌, ◌≤◌, Bool, true, false, cond, ◌&&◌, List, [], ◌∷◌, length, get_or, refl, arith}
 use Rattle.units.specs.Lists.{each}
 use Rattle.units.specs.Ids.{Id, older}
 use Rattle.units.proofs.IdLaws.{older-trans}

@@ -1,5 +1,5 @@
 -- What the facts alone tell of a log.
-use Rattle.std.specs.Prelude.{◌≡◌, ℕ, IsTrue, Bool, cond, List, [], ◌∷◌, ◌++◌, Option, Some, None}
+use Rattle.std.specs.Prelude.{◌≡◌, ℕ, IsTrue, cond, List, [], ◌∷◌, ◌++◌, Option, Some, None}
 use Rattle.units.specs.Ids.{Id}
 use Rattle.units.specs.Lists.{mapped}
 use Rattle.record.specs.Accepted.{followed}

@@ -4,7 +4,7 @@ use Rattle.units.specs.Lists.{head, when}
 use Rattle.record.specs.Facts.{Facts, recorded}
 use Rattle.record.specs.Records.{Status, Unrecorded, StandsPrepared, StandsDecided}
 use Rattle.record.specs.declared.record.Record.{Record}
-use Rattle.record.specs.declared.record.Record.TheVariants.{Opened, Ceiling, Prepare, Commit, Abort, Outcome}
+use Rattle.record.specs.declared.record.Record.TheVariants.{Opened, Prepare, Commit, Abort, Outcome}
 
 -- there is no promise, decision or abort
 abbrev pub is_unrecorded : Status → Bool

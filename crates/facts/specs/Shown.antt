@@ -1,5 +1,5 @@
 -- The entries of the code, as the definition of the facts has them.
-use Rattle.std.specs.Prelude.{ℕ, IsTrue, List, map, Option, Some, None}
+use Rattle.std.specs.Prelude.{IsTrue, List, map, Option, Some, None}
 use Rattle.units.specs.Ids.{Id, same_id}
 use Rattle.units.specs.Lists.{first}
 use Rattle.units.proofs.IdOrder.{rises}

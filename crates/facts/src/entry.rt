@@ -13,7 +13,10 @@ pub enum Status {
     Decided(Committed),
     Aborted,
     /// The decision was made here, and the transaction committed.
-    Settled { at: Stamp, parts: Parts },
+    Settled {
+        at: Stamp,
+        parts: Parts,
+    },
     /// The promise was made here, and the transaction ended: at a timestamp, or `None` for aborted.
     Closed {
         coordinator: ShardNo,

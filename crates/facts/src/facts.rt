@@ -33,9 +33,9 @@ impl Model for Facts {
     ghost Value = { Known };
 
     ghost view = { λ f. record {
-        shard = f.shard;
-        facts = record { epoch = f.epoch; floor = f.floor; entries = shown f.entries.items; installs = f.installs.items };
-        room = room_for (vec_capacity f.entries - vec_len f.entries) (vec_capacity f.installs - vec_len f.installs);
+      shard = f.shard;
+      facts = record { epoch = f.epoch; floor = f.floor; entries = shown f.entries.items; installs = f.installs.items };
+      room = room_for (vec_capacity f.entries - vec_len f.entries) (vec_capacity f.installs - vec_len f.installs);
     } };
 
     ghost invariant = { λ f. (f.epoch < 2 ^ 62) × IsAscending f.entries.items };
@@ -162,9 +162,7 @@ impl Facts {
                     && c.parts.least() == self.shard
             }
             Record::Abort { txn } => self.epoch > 0 && self.is_new(*txn),
-            Record::Outcome { txn, outcome } => {
-                self.epoch > 0 && self.allows(*txn, *outcome)
-            }
+            Record::Outcome { txn, outcome } => { self.epoch > 0 && self.allows(*txn, *outcome) }
         }
     }
 

@@ -66,7 +66,9 @@ fn record_of(alloc: Global, line: Line) -> Result<Record, Fail> {
             let epoch = Epoch::new(epoch).ok_or("an epoch")?;
             Ok(Record::Opened { epoch })
         }
-        Line::Ceiling(at) => Ok(Record::Ceiling { at: Stamp::new(at)? }),
+        Line::Ceiling(at) => Ok(Record::Ceiling {
+            at: Stamp::new(at)?,
+        }),
         Line::Prepare(number, at, coordinator) => prepare(alloc, number, at, coordinator),
         Line::Commit(number, at, mask) => commit(alloc, number, at, mask),
         Line::Abort(number) => Ok(Record::Abort { txn: id(number)? }),
@@ -93,9 +95,11 @@ fn is_damaged(alloc: Global, number: u8, lines: &[Line], last: Line) -> Result<b
     facts.reserve()?;
     match facts.learn(64, item) {
         Ok(()) => Ok(false),
-        Err((fault, back)) => Ok(refused == Err(Fault::Damaged { offset: 64 })
-            && fault == Fault::Damaged { offset: 64 }
-            && !facts.follows(&back)),
+        Err((fault, back)) => Ok(
+            refused == Err(Fault::Damaged { offset: 64 })
+                && fault == Fault::Damaged { offset: 64 }
+                && !facts.follows(&back),
+        ),
     }
 }
 
@@ -117,7 +121,11 @@ fn a_decision_stands(rt: HostRuntime) -> Result<(), Fail> {
 #[test]
 fn a_decision_is_settled(rt: HostRuntime) -> Result<(), Fail> {
     let alloc = rt.alloc();
-    let lines = [Line::Opened(1), Line::Commit(1, 111, 1), Line::Committed(1, 111)];
+    let lines = [
+        Line::Opened(1),
+        Line::Commit(1, 111, 1),
+        Line::Committed(1, 111),
+    ];
     let facts = after(alloc, 0, &lines)?;
     let (txn, at) = (id(1)?, Stamp::new(111)?);
     let key = Key::new(b"a")?;
@@ -157,13 +165,21 @@ fn promises_end(rt: HostRuntime) -> Result<(), Fail> {
 #[test]
 fn a_promise_and_an_abort(rt: HostRuntime) -> Result<(), Fail> {
     let alloc = rt.alloc();
-    let facts = after(alloc, 1, &[Line::Opened(1), Line::Prepare(2, 200, 0), Line::Abort(9)])?;
+    let facts = after(
+        alloc,
+        1,
+        &[Line::Opened(1), Line::Prepare(2, 200, 0), Line::Abort(9)],
+    )?;
     let (promised, aborted) = (id(2)?, id(9)?);
     assert!(rt; matches!(facts.prepared(promised), Some(p) if p.at.micros() == 200));
     assert!(rt; facts.aborted(aborted));
     assert!(rt; !facts.aborted(promised));
-    assert!(rt; matches!(facts.status(promised), Some(status) if status.prepared().is_some() && status.committed().is_none()));
-    assert!(rt; matches!(facts.status(aborted), Some(status) if status.is_aborted() && status.outcome().is_none()));
+    assert!(rt;
+        matches!(facts.status(promised), Some(status) if status.prepared().is_some() && status.committed().is_none())
+    );
+    assert!(rt;
+        matches!(facts.status(aborted), Some(status) if status.is_aborted() && status.outcome().is_none())
+    );
     Ok(())
 }
 
@@ -174,7 +190,14 @@ fn openings_and_beginnings(rt: HostRuntime) -> Result<(), Fail> {
     assert!(rt; is_damaged(alloc, 0, &[], Line::Abort(1))?);
     assert!(rt; is_damaged(alloc, 0, &[], Line::Ceiling(5))?);
     assert!(rt; is_damaged(alloc, 0, &[Line::Opened(1)], Line::Opened(1))?);
-    assert!(rt; is_damaged(alloc, 0, &[Line::Opened(1), Line::Opened(2)], Line::Opened(4))?);
+    assert!(rt;
+        is_damaged(
+            alloc,
+            0,
+            &[Line::Opened(1), Line::Opened(2)],
+            Line::Opened(4)
+        )?
+    );
     Ok(())
 }
 

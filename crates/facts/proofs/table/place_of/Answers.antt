@@ -1,7 +1,6 @@
-use Rattle.std.proofs.Common.{◌∙◌, ◌+◌, ◌-◌, ◌/◌, ◌<◌, ◌≤◌, length, sym, ap, arith}
+use Rattle.std.proofs.Common.{◌∙◌, ◌+◌, ◌-◌, ◌/◌, ◌<◌, sym, ap, arith}
 use Rattle.units.specs.Ids.{older}
 use Rattle.facts.specs.Shown.{ids_in}
-use Rattle.facts.specs.Places.{older_count}
 use Rattle.facts.proofs.Places.{place_behind, place_before, place_limit}
 use Rattle.facts.proofs.Entries.{id_at, ids_long}
 use Rattle.facts.proofs.table.place_of.Goals as goal

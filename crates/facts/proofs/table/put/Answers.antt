@@ -1,11 +1,9 @@
-use Rattle.std.proofs.Common.{◌≡◌, ◌<◌, ◌≤◌, ◌∙◌, length, get_or, List, sym, ap, subst, true, false, arith}
+use Rattle.std.proofs.Common.{◌≡◌, ◌<◌, ◌∙◌, length, get_or, List, sym, ap, arith}
 use Rattle.std.proofs.lemmas.List.{get_or_default}
-use Rattle.units.specs.Ids.{Id, same_id}
-use Rattle.record.specs.Facts.{with_status}
+use Rattle.units.specs.Ids.{same_id}
 use Rattle.facts.specs.declared.entry.Entry.{Entry}
-use Rattle.facts.specs.declared.entry.Status.{Status}
 use Rattle.facts.specs.Places.{older_count}
-use Rattle.facts.specs.Shown.{meaning, shown, ids_in, status_in}
+use Rattle.facts.specs.Shown.{meaning, shown, ids_in}
 use Rattle.facts.proofs.Entries.{NotThere, found_place, no_place, not_there, past_all, set_place, insert_place, ascending_set}
 use Rattle.facts.proofs.table.put.Goals as goal
 use Rattle.facts.proofs.table.put.Goals.{else-place-len-via-then-place-len+else-is, else-place-len-via-else-place-len}
@@ -18,11 +16,11 @@ returns-then-is-clause-entries c =
     let long : length es ≡ c.len.result = ap (λ (l : List Entry). length l) (sym c.deref.ensures.value) ∙ c.deref.ensures.len ∙ sym c.len.ensures in
     let lt : p < length es = omega (arith, long, c.if-place-len.true) in
     let same : c.index_mut.result.now ≡ get_or es p c.index.result.now =
-        c.index_mut.ensures.value ∙ get_or_default es p c.index_mut.result.now c.index.result.now lt in
+    c.index_mut.ensures.value ∙ get_or_default es p c.index_mut.result.now c.index.result.now lt in
     set_place es t p c.args.status c.index.result.now _
-        (c.place_of-place.ensures.place ∙ ap (λ l. older_count (ids_in l) t) c.deref.ensures.value) lt
-        (ap (λ (e : Entry). same_id e.txn t) (sym c.index.ensures) ∙ sym c.is.ensures ∙ c.if-is.true)
-        (λ i. let e : Entry = record { txn = (same i).txn; status = c.replace.ensures.after i } in e)
+    (c.place_of-place.ensures.place ∙ ap (λ l. older_count (ids_in l) t) c.deref.ensures.value) lt
+    (ap (λ (e : Entry). same_id e.txn t) (sym c.index.ensures) ∙ sym c.is.ensures ∙ c.if-is.true)
+    (λ i. let e : Entry = record { txn = (same i).txn; status = c.replace.ensures.after i } in e)
 
 pub returns-then-is-clause-former : goal.returns-then-is-clause-former
 returns-then-is-clause-former c =
@@ -32,8 +30,8 @@ returns-then-is-clause-former c =
     let long : length es ≡ c.len.result = ap (λ (l : List Entry). length l) (sym c.deref.ensures.value) ∙ c.deref.ensures.len ∙ sym c.len.ensures in
     ap meaning (c.replace.ensures.value ∙ ap (λ (e : Entry). e.status) c.index_mut.ensures.value)
     ∙ found_place es t p c.index.result.now c.index_mut.result.now
-        (c.place_of-place.ensures.place ∙ ap (λ l. older_count (ids_in l) t) c.deref.ensures.value) (omega (arith, long, c.if-place-len.true))
-        (ap (λ (e : Entry). same_id e.txn t) (sym c.index.ensures) ∙ sym c.is.ensures ∙ c.if-is.true)
+    (c.place_of-place.ensures.place ∙ ap (λ l. older_count (ids_in l) t) c.deref.ensures.value) (omega (arith, long, c.if-place-len.true))
+    (ap (λ (e : Entry). same_id e.txn t) (sym c.index.ensures) ∙ sym c.is.ensures ∙ c.if-is.true)
 
 pub returns-then-is-clause-order : goal.returns-then-is-clause-order
 returns-then-is-clause-order c =
@@ -46,9 +44,9 @@ not_at c =
     let p = c.place_of-place.result in
     let long : length es ≡ c.len.result = ap (λ (l : List Entry). length l) (sym c.deref.ensures.value) ∙ c.deref.ensures.len ∙ sym c.len.ensures in
     elim c.else-place-len.branch [
-        else-place-len-via-then-place-len+else-is w ↦
-            not_there es t p w.index.result.now (ap (λ (e : Entry). same_id e.txn t) (sym w.index.ensures) ∙ sym w.is.ensures ∙ w.if-is.false)
-        | else-place-len-via-else-place-len w ↦ past_all es t p (omega (arith, long, w.if-place-len.false))
+      | else-place-len-via-then-place-len+else-is w ↦
+          not_there es t p w.index.result.now (ap (λ (e : Entry). same_id e.txn t) (sym w.index.ensures) ∙ sym w.is.ensures ∙ w.if-is.false)
+      | else-place-len-via-else-place-len w ↦ past_all es t p (omega (arith, long, w.if-place-len.false))
     ]
 
 pub returns-clause-entries : goal.returns-clause-entries
@@ -64,7 +62,7 @@ returns-clause-former c =
     let es = c.args.entries.now.items in
     let t = c.args.txn in
     sym (no_place es t c.place_of-place.result (c.place_of-place.ensures.place ∙ ap (λ l. older_count (ids_in l) t) c.deref.ensures.value)
-        c.requires.order (not_at c))
+    c.requires.order (not_at c))
 
 pub returns-clause-order : goal.returns-clause-order
 returns-clause-order c =
