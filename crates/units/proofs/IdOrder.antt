@@ -139,7 +139,7 @@ above_with y t (u ∷ us) e h = placed (same_id u t) (older u t) (both _ _ h) (a
     placed false true p rest = and_true _ _ p.0 rest
     placed false false p rest = and_true _ _ e (and_true _ _ p.0 p.1)
 
-rises_with : (us : List Id) (t : Id) → rises us ≡ true → rises (with_id us t) ≡ true
+pub rises_with : (us : List Id) (t : Id) → rises us ≡ true → rises (with_id us t) ≡ true
 rises_with [] t h = refl
 rises_with (u ∷ us) t h = by_way (way u t) (both _ _ h) (rises_with us t ((both _ _ h).1))
   where

@@ -74,6 +74,19 @@ impl Parts {
         Ok(shards)
     }
 
+    /// The least of them, which is the coordinator.
+    pub fn least(self) -> ShardNo
+        ensures { head self ≡ Some result }
+    {
+        let mut rest = self.mask;
+        let mut number: u8 = 0;
+        while rest % 2 == 0 {
+            rest /= 2;
+            number += 1;
+        }
+        ShardNo::of_count(number as usize)
+    }
+
     /// Their mask.
     pub fn mask(self) -> u16
         ensures value { result ≡ mask_of self }

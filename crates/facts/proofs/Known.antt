@@ -1,0 +1,193 @@
+-- What the facts alone tell of a log.
+use Rattle.std.proofs.Common.{refl, sym, ◌∙◌, ap}
+use Rattle.std.specs.Prelude.{ℕ, ◌+◌, ◌≡◌, Bool, true, false, not, cond, ◌&&◌, ◌||◌, nat_eq, nat_lt, List, [], ◌∷◌, ◌++◌, Option, Some, None}
+use Rattle.units.specs.Lists.{head, when, mapped}
+use Rattle.units.specs.Ids.{Id}
+use Rattle.units.proofs.Folds.{is_there, append_none}
+use Rattle.record.specs.Accepted.{begins, is_new, outcome_fits, follows, followed, followed_from}
+use Rattle.record.specs.Facts.{facts_of, learn, recorded}
+use Rattle.record.specs.Records.{Ended, Status, Unrecorded, StandsPrepared, StandsDecided, HasAborted, HasSettled, HasClosed, prepared_of, committed_of, is_aborted, ended_of, epoch_of, status_by, status_of}
+use Rattle.record.specs.declared.record.Committed.{Committed}
+use Rattle.record.specs.declared.record.Prepared.{Prepared}
+use Rattle.record.specs.declared.record.Record.{Record}
+use Rattle.record.specs.declared.record.Record.TheVariants.{Opened, Ceiling, Prepare, Commit, Abort, Outcome}
+use Rattle.record.proofs.Sound.{both, made}
+use Rattle.record.proofs.LearnAgrees.{learns, followed_more}
+use Rattle.record.proofs.Statuses.{recorded_is}
+use Rattle.facts.specs.Laws.{FollowsAsKnown, LearntAsFollowed, SaysOfRecords, SaysOf, learnt_from}
+use Rattle.facts.specs.Readers.{standing_promise, standing_decision, has_abort, outcome_in}
+use Rattle.facts.specs.Rules.{is_unrecorded, allows, follows_facts}
+use Rattle.facts.proofs.Kept.{Kept, Settles, kept_empty, kept_more, kept_followed, append_one, begins_ceiling, begins_prepare, begins_commit, begins_abort, begins_outcome}
+
+-- ---- the rules of one id
+
+new_by : (s : Status) → (elim s as (λ x. Bool) [ Unrecorded ↦ true | _ ↦ false ]) ≡ is_unrecorded s
+new_by Unrecorded = refl
+new_by (StandsPrepared p) = refl
+new_by (StandsDecided c) = refl
+new_by HasAborted = refl
+new_by (HasSettled at parts) = refl
+new_by (HasClosed coordinator outcome) = refl
+
+new_known : (log : List Record) (t : Id) → is_new log t ≡ is_unrecorded (recorded (facts_of log) t)
+new_known log t = new_by (status_of log t) ∙ ap is_unrecorded (sym (recorded_is log t))
+
+or_false : (a : Bool) → (a || false) ≡ a
+or_false true = refl
+or_false false = refl
+
+and_false : (a : Bool) → (a && false) ≡ false
+and_false true = refl
+and_false false = refl
+
+no_fit : (o : Option ℕ) → outcome_fits None None o ≡ false
+no_fit None = refl
+no_fit (Some s) = refl
+
+none_allowed : (a : Bool) (o : Option ℕ) → a ≡ true → allows HasAborted o ≡ false
+none_allowed a None e = refl
+none_allowed a (Some s) e = refl
+
+-- an outcome, by the parts of the status
+allowed_by : (a : Bool) (c : Option Committed) (p : Option Prepared) (e : Option Ended) (o : Option ℕ)
+    → (a ≡ true → (is_there p || is_there c) ≡ false) → (is_there p && is_there c) ≡ false
+    → (not (is_there e) && outcome_fits p c o) ≡ allows (status_by a c p e) o
+allowed_by true (Some c) None e o apart one = absurd (not_true (apart refl))
+  where
+    not_true : true ≡ false → ⊥
+    not_true h = cc
+allowed_by true c (Some p) e o apart one = absurd (not_true (apart refl))
+  where
+    not_true : true ≡ false → ⊥
+    not_true h = cc
+allowed_by true None None e None apart one = and_false (not (is_there e))
+allowed_by true None None e (Some s) apart one = and_false (not (is_there e))
+allowed_by false (Some c) (Some p) e o apart one = cc
+allowed_by false (Some c) None (Some e) None apart one = refl
+allowed_by false (Some c) None (Some e) (Some s) apart one = refl
+allowed_by false (Some c) None None None apart one = refl
+allowed_by false (Some c) None None (Some s) apart one = refl
+allowed_by false None (Some p) (Some e) None apart one = refl
+allowed_by false None (Some p) (Some e) (Some s) apart one = refl
+allowed_by false None (Some p) None None apart one = refl
+allowed_by false None (Some p) None (Some s) apart one = or_false _
+allowed_by false None None e None apart one = and_false (not (is_there e))
+allowed_by false None None e (Some s) apart one = and_false (not (is_there e))
+
+allowed_known : (log : List Record) (t : Id) (o : Option ℕ) → Kept log →
+    (not (is_there (ended_of log t)) && outcome_fits (prepared_of log t) (committed_of log t) o) ≡ allows (recorded (facts_of log) t) o
+unfolding status_of made
+allowed_known log t o k =
+    allowed_by (is_aborted log t) (committed_of log t) (prepared_of log t) (ended_of log t) o (k.sound.apart t) (k.one t)
+    ∙ ap (λ s. allows s o) (sym (recorded_is log t))
+
+two : (a b c d : Bool) → a ≡ c → b ≡ d → (a && b) ≡ (c && d)
+two a b c d e f = λ i. e i && f i
+
+begins_opened : (log : List Record) (epoch : ℕ) → begins log (Opened epoch) ≡ true
+begins_opened [] epoch = refl
+begins_opened (q ∷ qs) epoch = refl
+
+known_next : (shard : ℕ) (log : List Record) (r : Record) → Kept log → (begins log r && follows shard log r) ≡ follows_facts shard (facts_of log) r
+unfolding follows follows_facts facts_of
+known_next shard log (Opened epoch) k = ap (λ b. b && nat_eq epoch (epoch_of log + 1)) (begins_opened log epoch)
+known_next shard log (Ceiling at) k = two _ _ _ _ (begins_ceiling log at ∙ k.begun) refl
+known_next shard log (Prepare p) k = two _ _ _ _ (begins_prepare log p ∙ k.begun)
+    (ap (λ b. nat_lt 0 p.at && b && nat_lt p.coordinator shard) (new_known log p.txn))
+known_next shard log (Commit c) k = two _ _ _ _ (begins_commit log c ∙ k.begun)
+    (ap (λ b. nat_lt 0 c.at && b && when (nat_eq shard) (head c.parts)) (new_known log c.txn))
+known_next shard log (Abort t) k = two _ _ _ _ (begins_abort log t ∙ k.begun) (new_known log t)
+known_next shard log (Outcome t o) k = two _ _ _ _ (begins_outcome log t o ∙ k.begun) (allowed_known log t o k)
+
+pub follows_as_known : FollowsAsKnown
+follows_as_known shard log r h =
+    followed_more shard log r ∙ ap (λ b. b && (begins log r && follows shard log r)) h ∙ known_next shard log r (kept_followed shard log h)
+
+-- ---- whole lists
+
+learnt_by : (shard : ℕ) (before log : List Record) → Kept before →
+    learnt_from shard (facts_of before) log ≡ cond (followed_from shard before log) (Some (facts_of (before ++ log))) None
+learnt_by shard before [] k = ap (λ l. Some (facts_of l)) (sym (append_none before))
+learnt_by shard before (r ∷ rs) k = by_test (begins before r && follows shard before r) refl (learnt_by shard (before ++ r ∷ []) rs)
+  where
+    by_test : (b : Bool) → (begins before r && follows shard before r) ≡ b →
+        (Kept (before ++ r ∷ []) → learnt_from shard (facts_of (before ++ r ∷ [])) rs
+        ≡ cond (followed_from shard (before ++ r ∷ []) rs) (Some (facts_of ((before ++ r ∷ []) ++ rs))) None) →
+        learnt_from shard (facts_of before) (r ∷ rs) ≡ cond (followed_from shard before (r ∷ rs)) (Some (facts_of (before ++ r ∷ rs))) None
+    by_test true e rest =
+        let p : (begins before r ≡ true) × (follows shard before r ≡ true) = both _ _ e in
+        ap (λ b. cond b (learnt_from shard (learn (facts_of before) r) rs) None) (sym (known_next shard before r k) ∙ e)
+        ∙ ap (λ f. learnt_from shard f rs) (sym (learns shard before r k.sound p.1))
+        ∙ rest (kept_more shard before r k p.0 p.1)
+        ∙ ap (λ l. cond (followed_from shard (before ++ r ∷ []) rs) (Some (facts_of l)) None) (append_one before r rs)
+        ∙ ap (λ b. cond (b && followed_from shard (before ++ r ∷ []) rs) (Some (facts_of (before ++ r ∷ rs))) None) (sym e)
+    by_test false e rest =
+        ap (λ b. cond b (learnt_from shard (learn (facts_of before) r) rs) None) (sym (known_next shard before r k) ∙ e)
+        ∙ ap (λ b. cond (b && followed_from shard (before ++ r ∷ []) rs) (Some (facts_of (before ++ r ∷ rs))) None) (sym e)
+
+pub learnt_as_followed : LearntAsFollowed
+unfolding followed
+learnt_as_followed shard log = learnt_by shard [] log kept_empty
+
+-- ---- what the facts still say
+
+not_true : true ≡ false → ⊥
+not_true h = cc
+
+promise_by : (a : Bool) (c : Option Committed) (p : Option Prepared) (e : Option Ended) → (a ≡ true → (is_there p || is_there c) ≡ false)
+    → (is_there p && is_there c) ≡ false → e ≡ None → standing_promise (status_by a c p e) ≡ p
+promise_by true c (Some p) e apart one none = absurd (not_true (apart refl))
+promise_by true c None e apart one none = refl
+promise_by false (Some c) (Some p) e apart one none = cc
+promise_by false (Some c) None (Some e) apart one none = refl
+promise_by false (Some c) None None apart one none = refl
+promise_by false None (Some p) (Some e) apart one none = cc
+promise_by false None (Some p) None apart one none = refl
+promise_by false None None e apart one none = refl
+
+decision_by : (a : Bool) (c : Option Committed) (p : Option Prepared) (e : Option Ended) → (a ≡ true → (is_there p || is_there c) ≡ false)
+    → e ≡ None → standing_decision (status_by a c p e) ≡ c
+decision_by true None p e apart none = refl
+decision_by true (Some c) None e apart none = absurd (not_true (apart refl))
+decision_by true (Some c) (Some p) e apart none = absurd (not_true (apart refl))
+decision_by false (Some c) p (Some e) apart none = cc
+decision_by false (Some c) p None apart none = refl
+decision_by false None (Some p) (Some e) apart none = refl
+decision_by false None (Some p) None apart none = refl
+decision_by false None None e apart none = refl
+
+abort_by : (a : Bool) (c : Option Committed) (p : Option Prepared) (e : Option Ended) → has_abort (status_by a c p e) ≡ a
+abort_by true c p e = refl
+abort_by false (Some c) p (Some e) = refl
+abort_by false (Some c) p None = refl
+abort_by false None (Some p) (Some e) = refl
+abort_by false None (Some p) None = refl
+abort_by false None None e = refl
+
+outcome_by : (a : Bool) (c : Option Committed) (p : Option Prepared) (e : Option Ended) → (a ≡ true → (is_there p || is_there c) ≡ false)
+    → (is_there e ≡ true → (is_there p || is_there c) ≡ true) → Settles c e → outcome_in (status_by a c p e) ≡ mapped (λ x. x.outcome) e
+outcome_by true c p (Some e) apart closed settles = absurd (not_true (sym (closed refl) ∙ apart refl))
+outcome_by true c p None apart closed settles = refl
+outcome_by false (Some c) p (Some e) apart closed settles = ap (λ o. Some o) (sym settles)
+outcome_by false (Some c) p None apart closed settles = refl
+outcome_by false None (Some p) (Some e) apart closed settles = refl
+outcome_by false None (Some p) None apart closed settles = refl
+outcome_by false None None (Some e) apart closed settles = absurd (not_true (sym (closed refl)))
+outcome_by false None None None apart closed settles = refl
+
+says : (log : List Record) → Kept log → (t : Id) → SaysOf log t
+unfolding status_of made
+says log k t =
+    let a = is_aborted log t in
+    let c = committed_of log t in
+    let p = prepared_of log t in
+    let e = ended_of log t in
+    record {
+      promise = λ none. ap standing_promise (recorded_is log t) ∙ promise_by a c p e (k.sound.apart t) (k.one t) none;
+      decision = λ none. ap standing_decision (recorded_is log t) ∙ decision_by a c p e (k.sound.apart t) none;
+      abort = ap has_abort (recorded_is log t) ∙ abort_by a c p e;
+      outcome = ap outcome_in (recorded_is log t) ∙ outcome_by a c p e (k.sound.apart t) (k.sound.closed t) (k.settles t);
+    }
+
+pub says_of_records : SaysOfRecords
+says_of_records shard log h t = says log (kept_followed shard log h) t

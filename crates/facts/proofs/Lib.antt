@@ -1,0 +1,4 @@
+pub mod Entries
+pub mod Kept
+pub mod Known
+pub mod Places

@@ -1,0 +1,13 @@
+use Rattle.facts.specs.Shown.{shown}
+use Rattle.record.specs.Facts.{facts_of}
+use Rattle.record.specs.Installs.{installs_of}
+use Rattle.facts.proofs.facts.Facts.new.Goals as goal
+
+pub returns-clause-facts : goal.returns-clause-facts
+unfolding facts_of installs_of
+returns-clause-facts c = λ i. record {
+  epoch = 0;
+  floor = c.zero.ensures i;
+  entries = shown (c.new.ensures.items i);
+  installs = c.new-2.ensures.items i;
+}

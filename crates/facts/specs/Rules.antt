@@ -1,0 +1,32 @@
+-- Which record may follow, told from the facts alone.
+use Rattle.std.specs.Prelude.{ℕ, ◌+◌, Bool, true, false, ◌&&◌, nat_eq, nat_lt, nat_le, Option, Some, None}
+use Rattle.units.specs.Lists.{head, when}
+use Rattle.record.specs.Facts.{Facts, recorded}
+use Rattle.record.specs.Records.{Status, Unrecorded, StandsPrepared, StandsDecided}
+use Rattle.record.specs.declared.record.Record.{Record}
+use Rattle.record.specs.declared.record.Record.TheVariants.{Opened, Prepare, Commit, Abort, Outcome}
+
+-- there is no promise, decision or abort
+abbrev pub is_unrecorded : Status → Bool
+is_unrecorded Unrecorded = true
+is_unrecorded _ = false
+
+-- an outcome follows a promise or a decision that stands and allows it
+abbrev pub allows : Status → Option ℕ → Bool
+allows (StandsPrepared p) (Some s) = nat_le p.at s
+allows (StandsPrepared p) None = true
+allows (StandsDecided c) (Some s) = nat_eq c.at s
+allows _ _ = false
+
+-- the rules of one id
+abbrev pub id_follows : ℕ → Facts → Record → Bool
+id_follows shard facts (Prepare p) = nat_lt 0 p.at && is_unrecorded (recorded facts p.txn) && nat_lt p.coordinator shard
+id_follows shard facts (Commit c) = nat_lt 0 c.at && is_unrecorded (recorded facts c.txn) && when (nat_eq shard) (head c.parts)
+id_follows shard facts (Abort t) = is_unrecorded (recorded facts t)
+id_follows shard facts (Outcome t outcome) = allows (recorded facts t) outcome
+id_follows shard facts _ = true
+
+-- the rules of the openings, the first of which comes before all else, and of one id
+unfoldable pub follows_facts : ℕ → Facts → Record → Bool
+follows_facts shard facts (Opened epoch) = nat_eq epoch (facts.epoch + 1)
+follows_facts shard facts r = nat_lt 0 facts.epoch && id_follows shard facts r

@@ -1,0 +1,40 @@
+-- The entries of the code, as the definition of the facts has them.
+use Rattle.std.specs.Prelude.{IsTrue, List, map, Option, Some, None}
+use Rattle.units.specs.Ids.{Id, same_id}
+use Rattle.units.specs.Lists.{first}
+use Rattle.units.proofs.IdOrder.{rises}
+use Rattle.record.specs.Records.{Unrecorded, StandsPrepared, StandsDecided, HasAborted, HasSettled, HasClosed}
+use Rattle.record.specs.Records as records
+use Rattle.record.specs.Facts as facts
+use Rattle.facts.specs.declared.entry.Entry.{Entry}
+use Rattle.facts.specs.declared.entry.Status.{Status}
+use Rattle.facts.specs.declared.entry.Status.TheVariants as status
+
+-- the status that is meant
+abbrev pub meaning : Status → records.Status
+meaning (status.Prepared p) = StandsPrepared p
+meaning (status.Decided c) = StandsDecided c
+meaning status.Aborted = HasAborted
+meaning (status.Settled at parts) = HasSettled at parts
+meaning (status.Closed coordinator outcome) = HasClosed coordinator outcome
+
+-- no entry is no record
+abbrev pub meant : Option Status → records.Status
+meant None = Unrecorded
+meant (Some s) = meaning s
+
+-- the entries that are meant
+abbrev pub shown : List Entry → List facts.Entry
+shown es = map (λ e. record { txn = e.txn; status = meaning e.status }) es
+
+-- their ids
+abbrev pub ids_in : List Entry → List Id
+ids_in es = map (λ e. e.txn) es
+
+-- each id is older than all behind it
+abbrev pub IsAscending : List Entry → Type 0
+IsAscending es = IsTrue (rises (ids_in es))
+
+-- the status of an id among some entries
+abbrev pub status_in : List facts.Entry → Id → records.Status
+status_in es t = facts.or_unrecorded (first (λ e. same_id e.txn t) es)

@@ -1,0 +1,110 @@
+//! How a transaction stands in a log.
+ghost use Rattle.std.specs.Prelude.{◌≡◌, IsTrue};
+ghost use Rattle.std.specs.Option.{option_copied};
+
+use record::{Committed, Prepared};
+use units::{Parts, ShardNo, Stamp, TxnId};
+
+/// How a transaction that has a record stands in a log: a promise or a decision without an outcome, an abort decision, or
+/// how it ended. Of one that ended the log's facts keep no reads and no writes.
+#[derive(Debug, Drop)]
+pub enum Status {
+    Prepared(Prepared),
+    Decided(Committed),
+    Aborted,
+    /// The decision was made here, and the transaction committed.
+    Settled {
+        at: Stamp,
+        parts: Parts,
+    },
+    /// The promise was made here, and the transaction ended: at a timestamp, or `None` for aborted.
+    Closed {
+        coordinator: ShardNo,
+        outcome: Option<Stamp>,
+    },
+}
+
+/// A transaction that has a record, and how it stands.
+#[derive(Debug, Drop)]
+pub struct Entry {
+    pub txn: TxnId,
+    pub status: Status,
+}
+
+impl Status {
+    ghost use Rattle.facts.specs.Shown.{meaning};
+    ghost use Rattle.facts.specs.Readers.{standing_promise, standing_decision, has_abort, outcome_in};
+    ghost use Rattle.facts.specs.Rules.{allows};
+    ghost use Rattle.record.specs.Facts.{after_outcome};
+
+    /// The promise, while it has no outcome.
+    pub fn prepared(&self) -> Option<&Prepared>
+        ensures { option_copied result ≡ standing_promise (meaning self.now) }
+    {
+        match self {
+            Status::Prepared(prepared) => Some(prepared),
+            _ => None,
+        }
+    }
+
+    /// The commit decision, while it has no outcome.
+    pub fn committed(&self) -> Option<&Committed>
+        ensures { option_copied result ≡ standing_decision (meaning self.now) }
+    {
+        match self {
+            Status::Decided(committed) => Some(committed),
+            _ => None,
+        }
+    }
+
+    /// There is an abort decision.
+    pub fn is_aborted(&self) -> bool
+        ensures { result ≡ has_abort (meaning self.now) }
+    {
+        matches!(self, Status::Aborted)
+    }
+
+    /// How the transaction ended here, where it has: at a timestamp, or `None` for aborted.
+    pub fn outcome(&self) -> Option<Option<Stamp>>
+        ensures { result ≡ outcome_in (meaning self.now) }
+    {
+        match self {
+            Status::Settled { at, parts: _ } => Some(Some(*at)),
+            Status::Closed {
+                coordinator: _,
+                outcome,
+            } => Some(*outcome),
+            _ => None,
+        }
+    }
+
+    /// The outcome may follow: at a timestamp a promise not above it or a decision at it, and aborted a promise.
+    pub(crate) fn allows(&self, outcome: Option<Stamp>) -> bool
+        ensures { result ≡ allows (meaning self.now) outcome }
+    {
+        match (self, outcome) {
+            (Status::Prepared(_), None) => true,
+            (Status::Prepared(prepared), Some(at)) => prepared.at <= at,
+            (Status::Decided(committed), Some(at)) => committed.at == at,
+            _ => false,
+        }
+    }
+
+    /// What an outcome that it allows makes of it.
+    pub(crate) fn after(&self, outcome: Option<Stamp>) -> Status
+        requires { IsTrue (allows (meaning self.now) outcome) }
+        ensures { meaning result ≡ after_outcome (meaning self.now) outcome }
+    {
+        match self {
+            Status::Prepared(prepared) => Status::Closed {
+                coordinator: prepared.coordinator,
+                outcome,
+            },
+            Status::Decided(committed) => Status::Settled {
+                at: committed.at,
+                parts: committed.parts,
+            },
+            _ => unreachable!(),
+        }
+    }
+}

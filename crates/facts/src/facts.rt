@@ -1,0 +1,263 @@
+//! The facts of a log, learnt record by record.
+ghost use Rattle.std.specs.Prelude.{◌≡◌, ◌<◌, ◌≤◌, [], IsTrue, IsFalse, IsOk, IfOk, IfErr, OnOk, OnErr, Err, ◌^◌};
+ghost use Rattle.std.specs.Option.{option_copied};
+ghost use Rattle.units.specs.declared.fault.Fault.TheVariants.{Memory, Damaged};
+ghost use Rattle.record.specs.Facts.{facts_of, learn, recorded};
+ghost use Rattle.facts.specs.Readers.{standing_promise, standing_decision, has_abort, outcome_in};
+ghost use Rattle.facts.specs.Rules.{follows_facts, is_unrecorded, allows};
+ghost use Rattle.facts.specs.Shown.{meant, shown, IsAscending};
+
+use crate::table::{ended, find, install, put};
+use crate::{Entry, Status};
+use record::{Committed, Prepared, Record};
+use std::alloc::Global;
+use std::marker::Model;
+use units::{Fault, Install, ShardNo, Stamp, TxnId};
+
+/// What a shard's log determines: the epoch, the greatest timestamp, how each transaction stands, and the versions in the
+/// log's order. It learns the records one by one, in the order of the log.
+#[derive(Drop)]
+pub struct Facts {
+    shard: ShardNo,
+    epoch: u64,
+    floor: Stamp,
+    entries: Vec<Entry>,
+    installs: Vec<Install>,
+}
+
+impl Model for Facts {
+    ghost use Rattle.std.specs.Prelude.{◌<◌, ◌^◌, ◌-◌, vec_len, vec_capacity};
+    ghost use Rattle.facts.specs.Known.{Known, room_for};
+    ghost use Rattle.facts.specs.Shown.{shown, IsAscending};
+
+    ghost Value = { Known };
+
+    ghost view = { λ f. record {
+      shard = f.shard;
+      facts = record { epoch = f.epoch; floor = f.floor; entries = shown f.entries.items; installs = f.installs.items };
+      room = room_for (vec_capacity f.entries - vec_len f.entries) (vec_capacity f.installs - vec_len f.installs);
+    } };
+
+    ghost invariant = { λ f. (f.epoch < 2 ^ 62) × IsAscending f.entries.items };
+}
+
+impl Facts {
+    /// The facts of no record.
+    pub fn new(alloc: Global, shard: ShardNo) -> Facts
+        ensures shard { result.shard ≡ shard }
+        ensures facts { result.facts ≡ facts_of [] }
+    {
+        Facts {
+            shard,
+            epoch: 0,
+            floor: Stamp::zero(),
+            entries: Vec::new(alloc),
+            installs: Vec::new(alloc),
+        }
+    }
+
+    /// Takes the memory in which one more record is learnt.
+    pub fn reserve(&mut self) -> Result<(), Fault>
+        ensures room { OnOk result (1 ≤ self.new.room) }
+        ensures same { (self.new.facts ≡ self.old.facts) × (self.new.shard ≡ self.old.shard) }
+        ensures keeps { self.old.room ≤ self.new.room }
+        ensures succeeds { 1 ≤ self.old.room → IsOk result }
+        ensures memory { IfErr result (λ fault. fault ≡ Memory) }
+    {
+        self.entries.reserve(1)?;
+        self.installs.reserve(128)?;
+        Ok(())
+    }
+
+    /// The shard whose log it is.
+    pub fn shard(&self) -> ShardNo
+        ensures { result ≡ self.now.shard }
+    {
+        self.shard
+    }
+
+    /// The epoch of the last opening, 0 before the first.
+    pub fn epoch(&self) -> u64
+        ensures value { result ≡ self.now.facts.epoch }
+        ensures limit { result < 2 ^ 62 }
+    {
+        self.epoch
+    }
+
+    /// The greatest timestamp, 0 where there is none.
+    pub fn floor(&self) -> Stamp
+        ensures { result ≡ self.now.facts.floor }
+    {
+        self.floor
+    }
+
+    /// How a transaction stands, where it has a record.
+    pub fn status(&self, txn: TxnId) -> Option<&Status>
+        ensures { meant (option_copied result) ≡ recorded self.now.facts txn }
+    {
+        find(&self.entries, txn)
+    }
+
+    /// The transaction's promise, while it has no outcome.
+    pub fn prepared(&self, txn: TxnId) -> Option<&Prepared>
+        ensures { option_copied result ≡ standing_promise (recorded self.now.facts txn) }
+    {
+        self.status(txn)?.prepared()
+    }
+
+    /// The transaction's commit decision, while it has no outcome.
+    pub fn committed(&self, txn: TxnId) -> Option<&Committed>
+        ensures { option_copied result ≡ standing_decision (recorded self.now.facts txn) }
+    {
+        self.status(txn)?.committed()
+    }
+
+    /// There is an abort decision of the transaction.
+    pub fn aborted(&self, txn: TxnId) -> bool
+        ensures { result ≡ has_abort (recorded self.now.facts txn) }
+    {
+        matches!(self.status(txn), Some(Status::Aborted))
+    }
+
+    /// The transaction's outcome, where there is one: a timestamp, or `None` for aborted.
+    pub fn outcome(&self, txn: TxnId) -> Option<Option<Stamp>>
+        ensures { result ≡ outcome_in (recorded self.now.facts txn) }
+    {
+        self.status(txn)?.outcome()
+    }
+
+    /// The transactions that have a record, by ascending id.
+    pub fn entries(&self) -> &[Entry]
+        ensures entries { shown result.now ≡ self.now.facts.entries }
+        ensures ascending { IsAscending result.now }
+    {
+        self.entries.as_slice()
+    }
+
+    /// The versions, in the log's order.
+    pub fn installs(&self) -> &[Install]
+        ensures { result.now ≡ self.now.facts.installs }
+    {
+        self.installs.as_slice()
+    }
+
+    /// The record may come next in the log, by the rules of one transaction and of openings.
+    #[tactic(auto, unfolding(crate::specs::Rules::follows_facts))]
+    pub fn follows(&self, item: &Record) -> bool
+        ensures { result ≡ follows_facts self.now.shard self.now.facts item.now }
+    {
+        match item {
+            Record::Opened { epoch } => epoch.number() == self.epoch + 1,
+            Record::Ceiling { at: _ } => self.epoch > 0,
+            Record::Prepare(p) => {
+                self.epoch > 0
+                    && Stamp::zero() < p.at
+                    && self.is_new(p.txn)
+                    && p.coordinator < self.shard
+            }
+            Record::Commit(c) => {
+                self.epoch > 0
+                    && Stamp::zero() < c.at
+                    && self.is_new(c.txn)
+                    && c.parts.least() == self.shard
+            }
+            Record::Abort { txn } => self.epoch > 0 && self.is_new(*txn),
+            Record::Outcome { txn, outcome } => { self.epoch > 0 && self.allows(*txn, *outcome) }
+        }
+    }
+
+    // The outcome may come next, by what stands of the transaction.
+    fn allows(&self, txn: TxnId, outcome: Option<Stamp>) -> bool
+        ensures { result ≡ allows (recorded self.now.facts txn) outcome }
+    {
+        match self.status(txn) {
+            Some(status) => status.allows(outcome),
+            None => false,
+        }
+    }
+
+    // Nothing is recorded of the transaction.
+    fn is_new(&self, txn: TxnId) -> bool
+        ensures { result ≡ is_unrecorded (recorded self.now.facts txn) }
+    {
+        self.status(txn).is_none()
+    }
+
+    /// Learns the record that comes next in the log. It takes no memory. A record that may not come next is damage at the
+    /// offset, and is handed back.
+    pub fn learn(&mut self, offset: u64, item: Record) -> Result<(), (Fault, Record)>
+        requires room { 1 ≤ self.old.room }
+        ensures learnt { OnOk result (self.new.facts ≡ learn self.old.facts item) }
+        ensures follows { OnOk result (IsTrue (follows_facts self.old.shard self.old.facts item)) }
+        ensures shard { self.new.shard ≡ self.old.shard }
+        ensures damaged { IfErr result (λ refused. refused ≡ (Damaged offset, item)) }
+        ensures same { OnErr result (self.new ≡ self.old) }
+        ensures strange { OnErr result (IsFalse (follows_facts self.old.shard self.old.facts item)) }
+    {
+        if !self.follows(&item) {
+            return Err((Fault::Damaged { offset }, item));
+        }
+        self.note(item);
+        Ok(())
+    }
+
+    /// Learns a copy of the record that comes next in the log, with the memory that this takes. A record that may not come
+    /// next is damage at the offset.
+    pub fn learn_copy(&mut self, alloc: Global, offset: u64, item: &Record) -> Result<(), Fault>
+        ensures learnt { OnOk result (self.new.facts ≡ learn self.old.facts item.now) }
+        ensures shard { self.new.shard ≡ self.old.shard }
+        ensures damaged { IsFalse (follows_facts self.old.shard self.old.facts item.now) → result ≡ Err (Damaged offset) }
+        ensures memory { IsTrue (follows_facts self.old.shard self.old.facts item.now) → IfErr result (λ fault. fault ≡ Memory) }
+        ensures same { OnErr result (self.new.facts ≡ self.old.facts) }
+    {
+        if !self.follows(item) {
+            return Err(Fault::Damaged { offset });
+        }
+        let copy = item.copy(alloc)?;
+        self.reserve()?;
+        self.note(copy);
+        Ok(())
+    }
+
+    // Notes a record that may come next.
+    #[tactic(auto, unfolding(record::specs::Facts::learn, crate::specs::Rules::follows_facts))]
+    fn note(&mut self, item: Record)
+        requires room { 1 ≤ self.old.room }
+        requires follows { IsTrue (follows_facts self.old.shard self.old.facts item) }
+        ensures facts { self.new.facts ≡ learn self.old.facts item }
+        ensures shard { self.new.shard ≡ self.old.shard }
+    {
+        match item {
+            Record::Opened { epoch } => self.epoch = epoch.number(),
+            Record::Ceiling { at } => self.floor = self.floor.later(at),
+            Record::Prepare(p) => {
+                self.floor = self.floor.later(p.at);
+                put(&mut self.entries, p.txn, Status::Prepared(p));
+            }
+            Record::Commit(c) => {
+                self.floor = self.floor.later(c.at);
+                put(&mut self.entries, c.txn, Status::Decided(c));
+            }
+            Record::Abort { txn } => {
+                put(&mut self.entries, txn, Status::Aborted);
+            }
+            Record::Outcome { txn, outcome } => self.end(txn, outcome),
+        }
+    }
+
+    // Notes an outcome.
+    #[tactic(auto, unfolding(record::specs::Facts::learn, crate::specs::Rules::follows_facts))]
+    fn end(&mut self, txn: TxnId, outcome: Option<Stamp>)
+        requires room { 1 ≤ self.old.room }
+        requires follows { IsTrue (follows_facts self.old.shard self.old.facts (Record.Outcome txn outcome)) }
+        ensures facts { self.new.facts ≡ learn self.old.facts (Record.Outcome txn outcome) }
+        ensures shard { self.new.shard ≡ self.old.shard }
+    {
+        let status = ended(&self.entries, txn, outcome);
+        let former = put(&mut self.entries, txn, status);
+        if let Some(at) = &outcome {
+            self.floor = self.floor.later(*at);
+            install(&mut self.installs, former, *at);
+        }
+    }
+}

@@ -1,0 +1,15 @@
+//! The facts of a shard's log, learnt record by record: the epoch, the greatest timestamp, how each transaction stands, and
+//! the versions.
+#![tactic(auto)]
+
+mod entry;
+mod facts;
+mod laws;
+mod table;
+
+pub use entry::{Entry, Status};
+pub use facts::Facts;
+pub use laws::{follows_as_known, learnt_as_followed, says_of_records};
+
+#[cfg(test)]
+mod tests;
