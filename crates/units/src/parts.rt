@@ -1,6 +1,6 @@
 //! The shards that take part in a transaction.
 ghost use Rattle.std.specs.Prelude.{◌≡◌, ◌+◌, ◌<◌, ◌^◌, [], ◌∷◌, Some, None, IfSome, IfNone, IfOk, IfErr, if◌then◌else◌, nat_eq, nat_lt, true};
-ghost use Rattle.units.specs.Lists.{each, has, once, sorted};
+ghost use Rattle.units.specs.Lists.{each, has, head, once, sorted};
 ghost use Rattle.units.specs.Parts.{shards_of_mask, shards_from, mask_of, marked};
 
 use crate::{Fault, ShardNo};
