@@ -1,3 +1,4 @@
+mod BookSample
 mod LastUnderFloor
 mod LockTable
 pub mod RowTable

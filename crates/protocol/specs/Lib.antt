@@ -3,3 +3,4 @@ pub mod Draft
 pub mod Rows
 pub mod Step
 pub mod StepLaws
+pub mod Replay
