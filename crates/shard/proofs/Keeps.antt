@@ -50,6 +50,7 @@ below-decided last now c installs above le are = record {
     stamp : Option Committed → ℕ
     stamp None = 0
     stamp (Some x) = x.at
+
     of-some : (e : Committed) → Some c ≡ Some e → IsTrue (each (λ i. nat_lt i.at e.at) installs) × (e.at ≤ now)
     of-some e same =
         let at-is : c.at ≡ e.at = ap stamp same in
@@ -61,6 +62,7 @@ each-versions (w ∷ ws) at last le = step (nat_le at last) (is-le at last le) (
   where
     is-le : (m n : ℕ) → m ≤ n → nat_le m n ≡ true
     is-le m n h = grind (arith, nat_tests)
+
     step : (b : Bool) → b ≡ true → each (λ i. nat_le i.at last) (versions ws at) ≡ true → (b && each (λ i. nat_le i.at last) (versions ws at)) ≡ true
     step b h ih = rw h ih
 

@@ -32,7 +32,13 @@ pub fn setup(alloc: Global) -> Result<Setup, Fail> {
 }
 
 // The transaction 1.number writes a value to a key, at the one part.
-pub fn commit(alloc: Global, number: u64, part: u8, key: &[u8], value: &[u8]) -> Result<Input, Fail> {
+pub fn commit(
+    alloc: Global,
+    number: u64,
+    part: u8,
+    key: &[u8],
+    value: &[u8],
+) -> Result<Input, Fail> {
     let mut writes = Vec::new(alloc);
     writes.push(Write {
         key: Key::new(key)?,

@@ -20,4 +20,4 @@ invariant_of-self-clause-stamps c =
     let s = c.args.self.now in
     let last = ap (λ (t : Times). t.last) c.hold.ensures ∙ ap (λ (t : Times). t.last) c.assign.ensures in
     below-decided s.times.last c.hold.new.self.last c.args.c s.installs.items c.requires.above (omega (arith, last))
-        (subst (λ (d : Option Committed). AreBelow s.times.last d s.installs.items) c.requires.none s.stamps)
+    (subst (λ (d : Option Committed). AreBelow s.times.last d s.installs.items) c.requires.none s.stamps)

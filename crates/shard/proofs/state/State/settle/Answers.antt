@@ -46,8 +46,8 @@ invariant_of-self-2 c =
     let last : c.lift.new.self.last ≡ s.times.last = ap (λ (t : Times). t.last) c.lift.ensures in
     let installs : c.install_all-2.new.installs.items ≡ s.installs.items ++ versions d.writes d.at = c.install_all-2.ensures in
     let same : SameValues (all_installed s.versions.installs (versions c.args.writes d.at)) (s.installs.items ++ versions c.args.writes d.at) =
-        places_do_not_matter c.args.writes d.at s.versions.installs s.installs.items c.install_all.ensures.order
-            (above-all s.installs.items d.at c.args.writes (stamps.decision d refl).0) s.same in
+    places_do_not_matter c.args.writes d.at s.versions.installs s.installs.items c.install_all.ensures.order
+    (above-all s.installs.items d.at c.args.writes (stamps.decision d refl).0) s.same in
     record {
       standing = λ x is. absurd (no-some x c.take.new.self none is);
       held = ap (λ (t : Times). t.holds) c.lift.ensures ∙ ap (lifted d.at) (s.held ∙ ap holds_by some) ∙ lifted-one d.at ∙ sym (ap holds_by none);
@@ -57,7 +57,7 @@ invariant_of-self-2 c =
           (subst (λ (is : List Install). AreBelow s.times.last None is) (sym installs) (below-settled s.times.last d s.installs.items stamps)));
       same = subst (λ (vs : List Install). SameValues vs c.install_all-2.new.installs.items) (sym c.install_all.ensures.installs)
           (subst (λ (is : List Install). SameValues (all_installed s.versions.installs (versions c.args.writes d.at)) is)
-              (ap (λ (ws : List Write). s.installs.items ++ versions ws d.at) writes ∙ sym installs) same);
+          (ap (λ (ws : List Write). s.installs.items ++ versions ws d.at) writes ∙ sym installs) same);
     }
 
 pub returns-clause-facts : goal.returns-clause-facts
