@@ -1,4 +1,3 @@
 pub mod Entries
 pub mod Kept
 pub mod Known
-pub mod Places

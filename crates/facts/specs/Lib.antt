@@ -1,6 +1,5 @@
 pub mod Known
 pub mod Laws
-pub mod Places
 pub mod Readers
 pub mod Rules
 pub mod Shown

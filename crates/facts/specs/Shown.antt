@@ -1,12 +1,11 @@
 -- The entries of the code, as the definition of the facts has them.
-use Rattle.std.specs.Prelude.{IsTrue, List, map, Option, Some, None}
+use Rattle.std.specs.Prelude.{List, map, Option, Some, None}
 use Rattle.units.specs.Ids.{Id, same_id}
+use Rattle.units.specs.ById.{IsById}
 use Rattle.units.specs.Lists.{first}
-use Rattle.units.proofs.IdOrder.{rises}
 use Rattle.record.specs.Records.{Unrecorded, StandsPrepared, StandsDecided, HasAborted, HasSettled, HasClosed}
 use Rattle.record.specs.Records as records
 use Rattle.record.specs.Facts as facts
-use Rattle.facts.specs.declared.entry.Entry.{Entry}
 use Rattle.facts.specs.declared.entry.Status.{Status}
 use Rattle.facts.specs.declared.entry.Status.TheVariants as status
 
@@ -24,16 +23,12 @@ meant None = Unrecorded
 meant (Some s) = meaning s
 
 -- the entries that are meant
-abbrev pub shown : List Entry → List facts.Entry
-shown es = map (λ e. record { txn = e.txn; status = meaning e.status }) es
-
--- their ids
-abbrev pub ids_in : List Entry → List Id
-ids_in es = map (λ e. e.txn) es
+abbrev pub shown : List (Id × Status) → List facts.Entry
+shown es = map (λ e. record { txn = e.0; status = meaning e.1 }) es
 
 -- each id is older than all behind it
-abbrev pub IsAscending : List Entry → Type 0
-IsAscending es = IsTrue (rises (ids_in es))
+abbrev pub IsAscending : List (Id × Status) → Type 0
+IsAscending es = IsById (λ e. e.0) es
 
 -- the status of an id among some entries
 abbrev pub status_in : List facts.Entry → Id → records.Status

@@ -3,7 +3,7 @@ ghost use Rattle.std.specs.Prelude.{◌≡◌, IsTrue};
 ghost use Rattle.std.specs.Option.{option_copied};
 
 use record::{Committed, Prepared};
-use units::{Parts, ShardNo, Stamp, TxnId};
+use units::{Parts, ShardNo, Stamp};
 
 /// How a transaction that has a record stands in a log: a promise or a decision without an outcome, an abort decision, or
 /// how it ended. Of one that ended the log's facts keep no reads and no writes.
@@ -22,13 +22,6 @@ pub enum Status {
         coordinator: ShardNo,
         outcome: Option<Stamp>,
     },
-}
-
-/// A transaction that has a record, and how it stands.
-#[derive(Debug, Drop)]
-pub struct Entry {
-    pub txn: TxnId,
-    pub status: Status,
 }
 
 impl Status {

@@ -2,13 +2,15 @@
 ghost use Rattle.std.specs.Prelude.{◌≡◌, ◌<◌, ◌≤◌, [], IsTrue, IsFalse, IsOk, IfOk, IfErr, OnOk, OnErr, Err, ◌^◌};
 ghost use Rattle.std.specs.Option.{option_copied};
 ghost use Rattle.units.specs.declared.fault.Fault.TheVariants.{Memory, Damaged};
-ghost use Rattle.record.specs.Facts.{facts_of, learn, recorded};
+ghost use Rattle.record.specs.Facts.{facts_of, learn, recorded, after_outcome};
 ghost use Rattle.facts.specs.Readers.{standing_promise, standing_decision, has_abort, outcome_in};
 ghost use Rattle.facts.specs.Rules.{follows_facts, is_unrecorded, allows};
-ghost use Rattle.facts.specs.Shown.{meant, shown, IsAscending};
+ghost use Rattle.facts.specs.Shown.{meaning, meant, shown, IsAscending};
 
-use crate::table::{ended, find, install, put};
-use crate::{Entry, Status};
+use crate::Status;
+use crate::table::{install, put};
+use indexmap::IndexMap;
+use indexmap::map::Slice;
 use record::{Committed, Prepared, Record};
 use std::alloc::Global;
 use std::marker::Model;
@@ -21,12 +23,13 @@ pub struct Facts {
     shard: ShardNo,
     epoch: u64,
     floor: Stamp,
-    entries: Vec<Entry>,
+    statuses: IndexMap<TxnId, Status>,
     installs: Vec<Install>,
 }
 
 impl Model for Facts {
     ghost use Rattle.std.specs.Prelude.{◌<◌, ◌^◌, ◌-◌, vec_len, vec_capacity};
+    ghost use Rattle.indexmap.specs.IndexMap.{spare};
     ghost use Rattle.facts.specs.Known.{Known, room_for};
     ghost use Rattle.facts.specs.Shown.{shown, IsAscending};
 
@@ -34,11 +37,11 @@ impl Model for Facts {
 
     ghost view = { λ f. record {
       shard = f.shard;
-      facts = record { epoch = f.epoch; floor = f.floor; entries = shown f.entries.items; installs = f.installs.items };
-      room = room_for (vec_capacity f.entries - vec_len f.entries) (vec_capacity f.installs - vec_len f.installs);
+      facts = record { epoch = f.epoch; floor = f.floor; entries = shown f.statuses.entries; installs = f.installs.items };
+      room = room_for (spare f.statuses) (vec_capacity f.installs - vec_len f.installs);
     } };
 
-    ghost invariant = { λ f. (f.epoch < 2 ^ 62) × IsAscending f.entries.items };
+    ghost invariant = { λ f. (f.epoch < 2 ^ 62) × IsAscending f.statuses.entries };
 }
 
 impl Facts {
@@ -51,7 +54,7 @@ impl Facts {
             shard,
             epoch: 0,
             floor: Stamp::zero(),
-            entries: Vec::new(alloc),
+            statuses: IndexMap::new(alloc),
             installs: Vec::new(alloc),
         }
     }
@@ -64,7 +67,7 @@ impl Facts {
         ensures succeeds { 1 ≤ self.old.room → IsOk result }
         ensures memory { IfErr result (λ fault. fault ≡ Memory) }
     {
-        self.entries.reserve(1)?;
+        self.statuses.reserve(1)?;
         self.installs.reserve(128)?;
         Ok(())
     }
@@ -95,7 +98,7 @@ impl Facts {
     pub fn status(&self, txn: TxnId) -> Option<&Status>
         ensures { meant (option_copied result) ≡ recorded self.now.facts txn }
     {
-        find(&self.entries, txn)
+        self.statuses.get(&txn)
     }
 
     /// The transaction's promise, while it has no outcome.
@@ -127,11 +130,11 @@ impl Facts {
     }
 
     /// The transactions that have a record, by ascending id.
-    pub fn entries(&self) -> &[Entry]
-        ensures entries { shown result.now ≡ self.now.facts.entries }
-        ensures ascending { IsAscending result.now }
+    pub fn entries(&self) -> Slice<'_, TxnId, Status>
+        ensures entries { shown result ≡ self.now.facts.entries }
+        ensures ascending { IsAscending result }
     {
-        self.entries.as_slice()
+        self.statuses.as_slice()
     }
 
     /// The versions, in the log's order.
@@ -232,16 +235,27 @@ impl Facts {
             Record::Ceiling { at } => self.floor = self.floor.later(at),
             Record::Prepare(p) => {
                 self.floor = self.floor.later(p.at);
-                put(&mut self.entries, p.txn, Status::Prepared(p));
+                put(&mut self.statuses, p.txn, Status::Prepared(p));
             }
             Record::Commit(c) => {
                 self.floor = self.floor.later(c.at);
-                put(&mut self.entries, c.txn, Status::Decided(c));
+                put(&mut self.statuses, c.txn, Status::Decided(c));
             }
             Record::Abort { txn } => {
-                put(&mut self.entries, txn, Status::Aborted);
+                put(&mut self.statuses, txn, Status::Aborted);
             }
             Record::Outcome { txn, outcome } => self.end(txn, outcome),
+        }
+    }
+
+    // How a transaction stands after an outcome that may come next.
+    fn ended(&self, txn: TxnId, outcome: Option<Stamp>) -> Status
+        requires { IsTrue (allows (recorded self.now.facts txn) outcome) }
+        ensures { meaning result ≡ after_outcome (recorded self.now.facts txn) outcome }
+    {
+        match self.status(txn) {
+            Some(status) => status.after(outcome),
+            None => unreachable!(),
         }
     }
 
@@ -253,8 +267,8 @@ impl Facts {
         ensures facts { self.new.facts ≡ learn self.old.facts (Record.Outcome txn outcome) }
         ensures shard { self.new.shard ≡ self.old.shard }
     {
-        let status = ended(&self.entries, txn, outcome);
-        let former = put(&mut self.entries, txn, status);
+        let status = self.ended(txn, outcome);
+        let former = put(&mut self.statuses, txn, status);
         if let Some(at) = &outcome {
             self.floor = self.floor.later(*at);
             install(&mut self.installs, former, *at);

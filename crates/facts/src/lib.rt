@@ -7,7 +7,7 @@ mod facts;
 mod laws;
 mod table;
 
-pub use entry::{Entry, Status};
+pub use entry::Status;
 pub use facts::Facts;
 pub use laws::{follows_as_known, learnt_as_followed, says_of_records};
 

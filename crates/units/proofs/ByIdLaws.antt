@@ -1,12 +1,12 @@
 -- A member of a list that ascends by id is looked up, put in, taken out or changed.
-use Rattle.std.proofs.Common.{◌≡◌, ℕ, zero, suc, ◌<◌, Bool, true, false, ◌||◌, not, cond, List, [], ◌∷◌, map, length, get_or, set, Some, None, refl, sym, ap, subst, ◌∙◌, arith}
+use Rattle.std.proofs.Common.{◌≡◌, ℕ, zero, suc, ◌<◌, Bool, true, false, ◌||◌, not, cond, List, [], ◌∷◌, map, length, get_or, set, Option, Some, None, refl, sym, ap, subst, ◌∙◌, arith}
 use Rattle.std.specs.List.{insert, remove, position_or_len, AllByRecursion}
 use Rattle.std.proofs.lemmas.Bool.{false≢true}
 use Rattle.std.proofs.lemmas.Bool.Decides.{nat_tests}
 use Rattle.units.specs.Lists.{keep, head, first, mapped}
 use Rattle.units.specs.Ids.{Id, same_id, older}
 use Rattle.units.specs.ById.{IsById, has_member, find_member, without_member, with_member, change_member}
-use Rattle.units.proofs.IdLaws.{same_id-refl, same_id_comm, same_id-along, older_not_same, older_not_younger, older_total, older-trans, older-along}
+use Rattle.units.proofs.IdLaws.{same_id-is, same_id-refl, same_id_comm, same_id-along, older_not_same, older_not_younger, older_total, older-trans, older-along}
 use Rattle.units.proofs.ListLaws.{all_of_each, each_of_all, all_gives, all-keep}
 
 -- each of these is younger than an id
@@ -347,3 +347,69 @@ with-map id of g same (x ∷ xs) y = rw (same x, same y) (by_tests (same_id (id 
     by_tests true b e = refl
     by_tests false true e = ap (λ r. g x ∷ r) e
     by_tests false false e = refl
+
+-- an id that is older than each member's has no member
+pub find_before : {A : Type 0} (id : A → Id) (xs : List A) (t : Id) → AllYounger id t xs → find_member id xs t ≡ None
+find_before id [] t young = refl
+find_before id (x ∷ xs) t young = rw (same_id_comm (id x) t ∙ older_not_same t (id x) young.0) (find_before id xs t young.1)
+
+-- the first of two lists whose ids have the same members is not before that of the other
+not_before : {A : Type 0} (id : A → Id) (x y : A) (xs ys : List A) → IsById id (y ∷ ys)
+    → ((t : Id) → find_member id (x ∷ xs) t ≡ find_member id (y ∷ ys) t) → older (id x) (id y) ≡ false
+not_before {A = A} id x y xs ys up same = by_test (older (id x) (id y)) refl
+  where
+    there : find_member id (x ∷ xs) (id x) ≡ Some x
+    there = rw (same_id-refl (id x)) refl
+
+    by_test : (b : Bool) → older (id x) (id y) ≡ b → b ≡ false
+    by_test true o =
+        let none : find_member id (y ∷ ys) (id x) ≡ None = find_before id (y ∷ ys) (id x) (
+          o,
+          all_gives (λ z. older (id y) (id z) ≡ true) (λ z. older (id x) (id z) ≡ true)
+              (λ z k. older-trans (id x) (id y) (id z) o k) ys (later_are_younger id y ys up),
+        ) in
+        let clash : ◌≡◌ {A = Option A} (Some x) None = sym there ∙ same (id x) ∙ none in
+        cc
+    by_test false o = refl
+
+-- behind a common first member two such lists have the same members too
+same_behind : {A : Type 0} (id : A → Id) (x : A) (xs ys : List A) → IsById id (x ∷ xs) → IsById id (x ∷ ys)
+    → ((t : Id) → find_member id (x ∷ xs) t ≡ find_member id (x ∷ ys) t) → (t : Id) → find_member id xs t ≡ find_member id ys t
+same_behind id x xs ys up vp same t = by_test (same_id (id x) t) refl (same t)
+  where
+    by_test : (b : Bool) → same_id (id x) t ≡ b
+        → head (cond b (x ∷ keep (λ z. same_id (id z) t) xs) (keep (λ z. same_id (id z) t) xs))
+        ≡ head (cond b (x ∷ keep (λ z. same_id (id z) t) ys) (keep (λ z. same_id (id z) t) ys))
+        → find_member id xs t ≡ find_member id ys t
+    by_test true s k =
+        subst (λ u. find_member id xs u ≡ find_member id ys u) (same_id-is (id x) t s)
+        (find_before id xs (id x) (later_are_younger id x xs up) ∙ sym (find_before id ys (id x) (later_are_younger id x ys vp)))
+    by_test false s k = k
+
+-- lists by id whose ids have the same members are one
+pub same_members : {A : Type 0} (id : A → Id) (xs ys : List A) → IsById id xs → IsById id ys
+    → ((t : Id) → find_member id xs t ≡ find_member id ys t) → xs ≡ ys
+same_members id [] [] up vp same = refl
+same_members {A = A} id [] (y ∷ ys) up vp same =
+    let there : find_member id (y ∷ ys) (id y) ≡ Some y = rw (same_id-refl (id y)) refl in
+    let clash : ◌≡◌ {A = Option A} None (Some y) = same (id y) ∙ there in
+    cc
+same_members {A = A} id (x ∷ xs) [] up vp same =
+    let there : find_member id (x ∷ xs) (id x) ≡ Some x = rw (same_id-refl (id x)) refl in
+    let clash : ◌≡◌ {A = Option A} (Some x) None = sym there ∙ same (id x) in
+    cc
+same_members {A = A} id (x ∷ xs) (y ∷ ys) up vp same =
+    let ids : same_id (id y) (id x) ≡ true =
+    by_test (same_id (id y) (id x)) refl (not_before id x y xs ys vp same) (not_before id y x ys xs up (λ t. sym (same t))) in
+    let mine : find_member id (x ∷ xs) (id x) ≡ Some x = rw (same_id-refl (id x)) refl in
+    let theirs : find_member id (y ∷ ys) (id x) ≡ Some y = rw ids refl in
+    let found : ◌≡◌ {A = Option A} (Some x) (Some y) = sym mine ∙ same (id x) ∙ theirs in
+    let one : y ≡ x = cc in
+    let behind : xs ≡ ys =
+    same_members id xs ys up.1 vp.1 (same_behind id x xs ys up (subst (λ z. IsById id (z ∷ ys)) one vp)
+    (subst (λ z. (t : Id) → find_member id (x ∷ xs) t ≡ find_member id (z ∷ ys) t) one same)) in
+    ap (λ l. x ∷ l) behind ∙ ap (λ z. z ∷ ys) (sym one)
+  where
+    by_test : (b : Bool) → same_id (id y) (id x) ≡ b → older (id x) (id y) ≡ false → older (id y) (id x) ≡ false → b ≡ true
+    by_test true s o p = refl
+    by_test false s o p = absurd (false≢true (sym o ∙ older_total (id y) (id x) s p))

@@ -1,3 +1,4 @@
+pub mod ByAge
 pub mod ByIdLaws
 pub mod Folds
 pub mod IdLaws

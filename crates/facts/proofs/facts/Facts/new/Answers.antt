@@ -8,6 +8,6 @@ unfolding facts_of installs_of
 returns-clause-facts c = λ i. record {
   epoch = 0;
   floor = c.zero.ensures i;
-  entries = shown (c.new.ensures.items i);
+  entries = shown (c.new.ensures.empty i);
   installs = c.new-2.ensures.items i;
 }
