@@ -158,7 +158,35 @@ fn promises_end(rt: HostRuntime) -> Result<(), Fail> {
     assert_eq!(rt; facts.outcome(older), Some(None));
     assert_eq!(rt; facts.outcome(younger), Some(Some(at)));
     assert_eq!(rt; facts.installs().len(), 1);
-    assert!(rt; matches!(facts.entries(), [a, b] if a.txn.is(older) && b.txn.is(younger)));
+    assert_eq!(rt; facts.entries().len(), 2);
+    Ok(())
+}
+
+// Whatever the turn in which the records come.
+#[test]
+fn ids_ascend(rt: HostRuntime) -> Result<(), Fail> {
+    let alloc = rt.alloc();
+    let lines = [
+        Line::Opened(1),
+        Line::Abort(5),
+        Line::Prepare(3, 200, 0),
+        Line::Abort(9),
+        Line::Prepare(1, 300, 0),
+        Line::Aborted(3),
+        Line::Abort(7),
+    ];
+    let facts = after(alloc, 1, &lines)?;
+    let mut numbers = Vec::new(alloc);
+    for (txn, _) in facts.entries() {
+        numbers.push(txn.number())?;
+    }
+    assert_eq!(rt; numbers.as_slice(), [1, 3, 5, 7, 9].as_slice());
+    assert!(rt;
+        matches!(facts.entries().get_index(1), Some((txn, status)) if txn.number() == 3 && status.outcome() == Some(None))
+    );
+    assert_eq!(rt; facts.outcome(id(3)?), Some(None));
+    assert!(rt; facts.prepared(id(1)?).is_some());
+    assert!(rt; facts.status(id(4)?).is_none());
     Ok(())
 }
 
