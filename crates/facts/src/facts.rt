@@ -17,7 +17,7 @@ use std::marker::Model;
 use units::{Fault, Install, ShardNo, Stamp, TxnId};
 
 /// What a shard's log determines: the epoch, the greatest timestamp, how each transaction stands, and the versions in the
-/// log's order. It learns the records one by one, in the order of the log.
+/// log's order. It learns the records one by one, in the order of the log. A look-up goes by the id's hash.
 #[derive(Drop)]
 pub struct Facts {
     shard: ShardNo,
@@ -129,7 +129,8 @@ impl Facts {
         self.status(txn)?.outcome()
     }
 
-    /// The transactions that have a record, by ascending id.
+    /// The transactions that have a record, by ascending id, each with how it stands. The slice is gone over by `for`, or read
+    /// by place with `len` and `get_index`.
     pub fn entries(&self) -> Slice<'_, TxnId, Status>
         ensures entries { shown result ≡ self.now.facts.entries }
         ensures ascending { IsAscending result }
