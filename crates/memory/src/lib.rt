@@ -2,6 +2,8 @@
 //! that were ended. Beside them the law that joins the holds of the safe time to the rows.
 #![tactic(auto)]
 
+mod ended;
 mod ledger;
 
+pub use ended::Ended;
 pub use ledger::Ledger;
