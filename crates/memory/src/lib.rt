@@ -3,7 +3,9 @@
 #![tactic(auto)]
 
 mod ended;
+mod laws;
 mod ledger;
 
 pub use ended::Ended;
+pub use laws::holds_follow_rows;
 pub use ledger::Ledger;
