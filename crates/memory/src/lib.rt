@@ -9,3 +9,6 @@ mod ledger;
 pub use ended::Ended;
 pub use laws::holds_follow_rows;
 pub use ledger::Ledger;
+
+#[cfg(test)]
+mod tests;
