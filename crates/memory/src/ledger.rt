@@ -130,7 +130,7 @@ impl Ledger {
         ensures writes { IfOk result (λ writes. writes ≡ writes_standing (recorded self.now.facts txn)) }
         ensures memory { IfErr result (λ fault. fault ≡ Fault.Memory) }
     {
-        match self.facts.status(txn) {
+        match self.status(txn) {
             Some(Status::Prepared(prepared)) => prepared.writes.copy(alloc),
             Some(Status::Decided(committed)) => committed.writes.copy(alloc),
             _ => Ok(Writes::none(alloc)),
