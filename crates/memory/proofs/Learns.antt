@@ -1,6 +1,6 @@
 -- The versions by key and those in the log's order, as a record is learnt.
-use Rattle.std.proofs.Common.{◌≡◌, ◌≤◌, ◌*◌, ◌/◌, ℕ, true, ◌&&◌, List, [], ◌∷◌, ◌++◌, length, min, Option, Some, None, refl, sym, ap, subst, ◌∙◌, arith}
-use Rattle.units.specs.Versions.{latest, at_time, versions, above_versions}
+use Rattle.std.proofs.Common.{◌≡◌, ℕ, true, List, [], ◌++◌, Some, None, refl, sym, ap, subst, ◌∙◌}
+use Rattle.units.specs.Versions.{latest, versions, above_versions}
 use Rattle.units.specs.Keys.{write_before}
 use Rattle.units.specs.Lists.{ascends}
 use Rattle.units.specs.declared.writes.Install.{Install}
@@ -11,7 +11,7 @@ use Rattle.record.specs.Installs.{installs_of}
 use Rattle.record.specs.Records.{Status, Unrecorded, StandsPrepared, StandsDecided, HasAborted, HasSettled, HasClosed}
 use Rattle.record.specs.declared.record.Record.{Record}
 use Rattle.record.specs.declared.record.Record.TheVariants.{Opened, Ceiling, Prepare, Commit, Abort, Outcome}
-use Rattle.versions.specs.Ordered.{all_installed, is_above}
+use Rattle.versions.specs.Ordered.{all_installed}
 use Rattle.versions.specs.Places.{SameValues}
 use Rattle.versions.proofs.AtOnce.{places_do_not_matter}
 use Rattle.memory.specs.Ledger.{writes_standing, outcome_stamp, CanInstall}

@@ -1,18 +1,18 @@
 -- The holds of the safe time beside the rows, as a row is put in or taken out.
-use Rattle.std.proofs.Common.{◌≡◌, ℕ, suc, ◌+◌, ◌<◌, ◌≤◌, Bool, true, false, cond, nat_eq, not, List, [], ◌∷◌, ◌++◌, length, Option, Some, None, refl, sym, ap, subst, ◌∙◌, arith}
+use Rattle.std.proofs.Common.{◌≡◌, ℕ, suc, ◌+◌, ◌<◌, ◌≤◌, Bool, true, false, cond, nat_eq, not, List, [], ◌∷◌, ◌++◌, length, Option, Some, None, refl, sym, ap, ◌∙◌, arith}
 use Rattle.std.proofs.lemmas.Bool.Decides.{nat_tests}
 use Rattle.std.specs.List.{AllByRecursion}
-use Rattle.units.specs.Lists.{count, gather, follow, head, keep, listed}
+use Rattle.units.specs.Lists.{count, follow, head, keep, listed}
 use Rattle.units.specs.Ids.{Id, same_id, older}
 use Rattle.units.specs.ById.{IsById}
 use Rattle.units.proofs.IdLaws.{older_total, older-trans, older_not_same, same_id_comm}
 use Rattle.units.proofs.ByIdLaws.{later_are_younger, later_differ}
 use Rattle.units.proofs.ListLaws.{all_gives}
 use Rattle.safetime.specs.Laws.{SameHolds}
-use Rattle.safetime.specs.Safe.{safe_of, lifted}
+use Rattle.safetime.specs.Safe.{lifted}
 use Rattle.safetime.proofs.Orders.{order_does_not_matter, hold_adds_one, lift_takes_one}
 use Rattle.protocol.specs.Rows.{Row, safe, find_row, without_row, with_row, held_stamp}
-use Rattle.memory.specs.Served.{stamps_held, stamp_held, IsHolding}
+use Rattle.memory.specs.Served.{stamps_held, stamp_held}
 use Rattle.memory.specs.ServedLaws.{SafeByHolds, HoldIsPut, NoneIsPut, HoldIsTaken, NoneIsTaken, HoldsAreFew}
 
 pub holding_safe : SafeByHolds

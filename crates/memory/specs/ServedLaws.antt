@@ -1,5 +1,5 @@
 -- The holds of the safe time follow the rows.
-use Rattle.std.specs.Prelude.{◌≡◌, ℕ, ◌≤◌, List, [], ◌∷◌, ◌++◌, length, Option, Some, None}
+use Rattle.std.specs.Prelude.{◌≡◌, ℕ, ◌≤◌, List, [], ◌∷◌, ◌++◌, length, Some, None}
 use Rattle.units.specs.ById.{IsById}
 use Rattle.units.specs.Ids.{Id}
 use Rattle.safetime.specs.Safe.{safe_of, lifted}

@@ -1,4 +1,4 @@
-use Rattle.std.proofs.Common.{[], List, sym, ap, subst}
+use Rattle.std.proofs.Common.{[], List, sym, subst}
 use Rattle.units.specs.declared.writes.Install.{Install}
 use Rattle.record.specs.Facts.{Facts}
 use Rattle.versions.specs.Places.{SameValues}
