@@ -1,11 +1,11 @@
 -- The front of a list by a test that no member passes behind one that fails it: what a search by halves finds.
-use Rattle.std.proofs.Common.{◌≡◌, ℕ, zero, suc, ◌+◌, ◌<◌, ◌≤◌, Bool, true, false, cond, ◌&&◌, ◌||◌, List, [], ◌∷◌, length, get_or, insert, refl, sym, ap, ◌∙◌, subst, arith}
+use Rattle.std.proofs.Common.{◌≡◌, ℕ, zero, suc, ◌<◌, ◌≤◌, Bool, true, false, cond, ◌&&◌, ◌||◌, List, [], ◌∷◌, length, get_or, insert, refl, sym, ap, ◌∙◌, subst, arith}
 use Rattle.std.proofs.lemmas.Bool.{false≢true}
 use Rattle.std.specs.List.Sorted.{IsPartitionPoint, IsPartitionedBy}
 use Rattle.units.specs.Fronts.{front}
-use Rattle.units.specs.Lists.{any, each}
+use Rattle.units.specs.Lists.{each}
 use Rattle.units.specs.Ids.{Id, same_id, older, has_id, with_id}
-use Rattle.units.proofs.IdLaws.{same_id-is, same_id_comm, older_not_same, older_total, older-trans}
+use Rattle.units.proofs.IdLaws.{same_id_comm, older_not_same, older_total, older-trans}
 use Rattle.units.proofs.IdOrder.{rises, above_more}
 
 -- the place of the first that fails is the length of the front
