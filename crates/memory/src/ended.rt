@@ -1,8 +1,8 @@
 //! The ids of the transactions that were ended.
-ghost use Rattle.std.specs.Prelude.{◌≡◌, ◌+◌, ◌≤◌, ◌<◌, [], IsTrue, IsOk, IfErr, OnOk, length, vec_len, vec_capacity};
+ghost use Rattle.std.specs.Prelude.{◌≡◌, ◌+◌, ◌≤◌, ◌<◌, [], IsOk, IfErr, OnOk, length, vec_len, vec_capacity};
 ghost use Rattle.units.specs.Fronts.{front};
+ghost use Rattle.units.specs.ById.{IsById};
 ghost use Rattle.units.specs.Ids.{older, has_id, with_id};
-ghost use Rattle.units.proofs.IdOrder.{rises};
 
 use std::alloc::Global;
 use std::marker::Model;
@@ -16,15 +16,15 @@ pub struct Ended {
 }
 
 impl Model for Ended {
-    ghost use Rattle.std.specs.Prelude.{◌-◌, IsTrue, vec_capacity, vec_len};
-    ghost use Rattle.units.proofs.IdOrder.{rises};
+    ghost use Rattle.std.specs.Prelude.{◌-◌, vec_capacity, vec_len};
+    ghost use Rattle.units.specs.ById.{IsById};
     ghost use Rattle.memory.specs.Ended.{Past};
 
     ghost Value = { Past };
 
     ghost view = { λ e. record { ids = e.ids.items; room = vec_capacity e.ids - vec_len e.ids } };
 
-    ghost invariant = { λ e. IsTrue (rises e.ids.items) };
+    ghost invariant = { λ e. IsById (λ id. id) e.ids.items };
 }
 
 impl Ended {
@@ -68,7 +68,7 @@ impl Ended {
     /// The ids, ascending.
     pub fn as_slice(&self) -> &[TxnId]
         ensures same { result.now ≡ self.now.ids }
-        ensures ascending { IsTrue (rises result.now) }
+        ensures ascending { IsById (λ id. id) result.now }
     {
         self.ids.as_slice()
     }
@@ -76,7 +76,7 @@ impl Ended {
 
 // How many ids are older. They ascend.
 fn place_of(ids: &[TxnId], txn: TxnId) -> usize
-    requires { IsTrue (rises ids.now) }
+    requires { IsById (λ id. id) ids.now }
     ensures place { result ≡ front (λ id. older id txn) ids.now }
     ensures limit { result ≤ length ids.now }
 {
@@ -85,7 +85,7 @@ fn place_of(ids: &[TxnId], txn: TxnId) -> usize
 
 // The id is among some that ascend.
 fn is_among(ids: &[TxnId], txn: TxnId) -> bool
-    requires { IsTrue (rises ids.now) }
+    requires { IsById (λ id. id) ids.now }
     ensures { result ≡ has_id ids.now txn }
 {
     let place = place_of(ids, txn);
@@ -94,10 +94,10 @@ fn is_among(ids: &[TxnId], txn: TxnId) -> bool
 
 // Puts an id in its place, where it is not there. There is room.
 fn put(ids: &mut Vec<TxnId>, txn: TxnId)
-    requires order { IsTrue (rises ids.old.items) }
+    requires order { IsById (λ id. id) ids.old.items }
     requires room { vec_len ids.old < vec_capacity ids.old }
     ensures items { ids.new.items ≡ with_id ids.old.items txn }
-    ensures order { IsTrue (rises ids.new.items) }
+    ensures order { IsById (λ id. id) ids.new.items }
     ensures len { vec_len ids.new ≤ vec_len ids.old + 1 }
     ensures capacity { vec_capacity ids.new ≡ vec_capacity ids.old }
 {
