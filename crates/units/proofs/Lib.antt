@@ -1,6 +1,7 @@
 pub mod ByAge
 pub mod ByIdLaws
 pub mod Folds
+pub mod FrontLaws
 pub mod IdLaws
 pub mod IdOrder
 pub mod KeyLaws

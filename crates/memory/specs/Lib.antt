@@ -1,0 +1,4 @@
+pub mod Ended
+pub mod Ledger
+pub mod Served
+pub mod ServedLaws
