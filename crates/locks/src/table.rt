@@ -2,7 +2,7 @@
 ghost use Rattle.std.specs.Prelude.{◌≡◌, ◌+◌, ◌≤◌, [], Some, true, false, length, IsOk, IfOk, IfErr, OnOk, OnErr};
 ghost use Rattle.units.specs.LockLaws.{IsLawfulTable, IsOldestReady};
 ghost use Rattle.units.specs.Locks.{asked, is_free, ready, wounded};
-ghost use Rattle.locks.specs.Table.{has_claim, with_claim, without_claim, without_claims, change_claim, entrant, made_firm, resumed, withdrawn, after, held_in, needs_in, most_held, KeepsRoom, ReleaseMakesWay};
+ghost use Rattle.locks.specs.Table.{has_claim, with_claim, without_claim, without_claims, change_claim, entrant, made_firm, granted, waiting, resumed, withdrawn, after, held_in, needs_in, most_held, KeepsRoom, ReleaseMakesWay};
 
 use crate::buffer::make_room;
 use crate::entry::{Entry, is_blocked, is_kept_out, is_wounding, place, place_for, ready, wounded};
@@ -130,6 +130,31 @@ impl Table {
         }
         self.entries[at].grant(&mut held.buffer, needs);
         Ok(Asked::Granted)
+    }
+
+    /// Grants a request that nobody is in the way of, with the room that its token has. It takes no memory.
+    pub fn grant(&mut self, held: &mut Held, needs: &[Lock])
+        requires claim { has_claim self.old held.old.txn ≡ true }
+        requires free { is_free self.old held.old.txn needs.now ≡ true }
+        requires room { most_held self.old held.old.txn needs.now ≤ held.old.room }
+        ensures table { self.new ≡ change_claim self.old held.old.txn (granted needs.now) }
+        ensures txn { held.new.txn ≡ held.old.txn }
+    {
+        let at = place(&self.entries, held.txn);
+        self.entries[at].grant(&mut held.buffer, needs);
+    }
+
+    /// Keeps a request that has to wait and ends nobody, with the room that its token has. It takes no memory.
+    pub fn wait(&mut self, held: &mut Held, needs: &[Lock])
+        requires claim { has_claim self.old held.old.txn ≡ true }
+        requires quiet { wounded self.old held.old.txn needs.now ≡ [] }
+        requires blocked { is_free self.old held.old.txn needs.now ≡ false }
+        requires room { most_held self.old held.old.txn needs.now ≤ held.old.room }
+        ensures table { self.new ≡ change_claim self.old held.old.txn (waiting needs.now) }
+        ensures txn { held.new.txn ≡ held.old.txn }
+    {
+        let at = place(&self.entries, held.txn);
+        self.entries[at].wait(&mut held.buffer, needs);
     }
 
     /// From now on nobody ends it.
