@@ -1,1 +1,2 @@
+pub mod CodeRows
 pub mod States
