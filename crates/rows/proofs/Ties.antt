@@ -13,7 +13,7 @@ use Rattle.protocol.specs.Rows.{Row, Phase, Idle, claim_of, claims, find_row, wi
 use Rattle.protocol.proofs.RowTable.{with_row-is, claims-find_row, claims-without_row, claims-with_row, claims-changed_row}
 use Rattle.protocol.specs.Draft.{held_by}
 use Rattle.locks.specs.Table.{has_claim, with_claim, without_claim, change_claim, entrant, held_in as held_in_table, held_by as held_by_claim}
-use Rattle.rows.specs.CodeRows.{txn_of, phase_of, row_of, has_txn, put_in, without_txn}
+use Rattle.rows.specs.CodeRows.{txn_of, phase_of, row_of, has_txn, passes, put_in, without_txn}
 use Rattle.rows.specs.RowTable.{paired, held_first, held_in, put_row, has_phase}
 use Rattle.rows.specs.declared.row.Row.{Row as CodeRow}
 
@@ -88,20 +88,28 @@ found_no_row (r ∷ rs) table t e = by_test (same_id (txn_of r) t) refl (λ k. f
     by_test true s further k = cc
     by_test false s further k = rw s (further k)
 
--- where a row passes a test, the code has it
-pub phase_there : (test : Phase → Bool) (rows : List CodeRow) (table : List Claim) (t : Id) → has_phase test (paired rows table) t ≡ true → has_txn rows t ≡ true
-phase_there test rows table t h = by_test (has_txn rows t) refl
+-- a test of the row that a contract sees is one of the code's row
+pub has_phase-is : (test : Phase → Bool) (rows : List CodeRow) (table : List Claim) (t : Id) → has_phase test (paired rows table) t ≡ passes test rows t
+has_phase-is test rows table t = by_row (row_of rows t) refl
+  where
+    tested : Option Row → Bool
+    tested o = when (λ (r : Row). test r.phase) o
+
+    by_row : (o : Option CodeRow) → row_of rows t ≡ o → has_phase test (paired rows table) t ≡ when (λ (r : CodeRow). test (phase_of r)) o
+    by_row None e = ap tested (found_no_row rows table t e)
+    by_row (Some y) e = ap tested (found_row rows table t y e)
+
+-- a transaction whose row passes a test has a row
+pub passes_there : (test : Phase → Bool) (rows : List CodeRow) (t : Id) → passes test rows t ≡ true → has_txn rows t ≡ true
+passes_there test rows t h = by_test (has_txn rows t) refl
   where
     by_test : (b : Bool) → has_txn rows t ≡ b → b ≡ true
     by_test true e = refl
-    by_test false e =
-        let none : find_row (paired rows table) t ≡ None = found_no_row rows table t (found_none txn_of rows t e) in
-        ap (when (λ (r : Row). test r.phase)) (sym none) ∙ h
+    by_test false e = ap (when (λ (r : CodeRow). test (phase_of r))) (sym (found_none txn_of rows t e)) ∙ h
 
--- and the code's row passes it
-pub phase_passes : (test : Phase → Bool) (rows : List CodeRow) (table : List Claim) (t : Id) (y : CodeRow) → row_of rows t ≡ Some y
-    → has_phase test (paired rows table) t ≡ true → test (phase_of y) ≡ true
-phase_passes test rows table t y e h = sym (ap (when (λ (r : Row). test r.phase)) (found_row rows table t y e)) ∙ h
+-- a row that is found passes the test that its transaction passes
+pub found_passes : (test : Phase → Bool) (rows : List CodeRow) (t : Id) (y : CodeRow) → row_of rows t ≡ Some y → passes test rows t ≡ true → test (phase_of y) ≡ true
+found_passes test rows t y e h = sym (ap (when (λ (r : CodeRow). test (phase_of r))) e) ∙ h
 
 -- what the table says that a transaction holds
 pub held_is : (rows : List CodeRow) (table : List Claim) (t : Id) → claims (paired rows table) ≡ table → held_in_table table t ≡ held_in (paired rows table) t

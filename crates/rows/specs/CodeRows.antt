@@ -1,8 +1,9 @@
 -- The rows as the code keeps them: typed states, by ascending id.
-use Rattle.std.specs.Prelude.{◌≡◌, ◌≤◌, ℕ, Bool, List, length, Option, None, Some}
+use Rattle.std.specs.Prelude.{◌≡◌, ◌≤◌, ℕ, Bool, true, false, not, List, length, Option, None, Some}
+use Rattle.units.specs.Lists.{when}
 use Rattle.units.specs.Ids.{Id}
 use Rattle.units.specs.ById.{IsById, has_member, find_member, without_member, with_member}
-use Rattle.protocol.specs.Rows.{Phase, Idle, WaitsRead, WaitsPrepare, WaitsCommit, Collecting as CollectsVotes, IsPrepared, IsDecided}
+use Rattle.protocol.specs.Rows.{Phase, Idle, WaitsRead, WaitsPrepare, WaitsCommit, Collecting as CollectsVotes, IsPrepared, IsDecided, is_firm}
 use Rattle.locks.specs.Table.{Token}
 use Rattle.rows.specs.States.{ReadingState}
 use Rattle.rows.specs.declared.row.Row.{Row}
@@ -34,6 +35,31 @@ phase_of (Collecting s) = CollectsVotes s.request.latest s.request.parts s.reque
 phase_of (Prepared s) = IsPrepared s.coordinator s.at
 phase_of (Decided s) = IsDecided s.at s.parts
 
+-- it reads: it is idle, or waits
+abbrev pub is_reading : Phase → Bool
+is_reading phase = not (is_firm phase)
+
+-- it is idle
+abbrev pub is_idle : Phase → Bool
+is_idle Idle = true
+is_idle _ = false
+
+-- it is idle, or collects votes
+abbrev pub may_decide : Phase → Bool
+may_decide Idle = true
+may_decide (CollectsVotes latest parts reads writes votes) = true
+may_decide _ = false
+
+-- nothing is promised or decided
+abbrev pub may_abort : Phase → Bool
+may_abort (IsPrepared coordinator at) = false
+may_abort (IsDecided at parts) = false
+may_abort _ = true
+
+-- it is prepared or decided
+abbrev pub may_close : Phase → Bool
+may_close phase = not (may_abort phase)
+
 -- the most rows that there may be
 abbrev pub most_rows : ℕ
 most_rows = 1024
@@ -45,6 +71,10 @@ has_txn rows t = has_member txn_of rows t
 -- the row of a transaction
 abbrev pub row_of : List Row → Id → Option Row
 row_of rows t = find_member txn_of rows t
+
+-- a transaction has a row whose phase passes a test
+abbrev pub passes : (Phase → Bool) → List Row → Id → Bool
+passes test rows t = when (λ r. test (phase_of r)) (row_of rows t)
 
 -- the rows without a transaction's
 abbrev pub without_txn : List Row → Id → List Row

@@ -1,15 +1,15 @@
 -- What a contract sees of the rows and of their lock table.
-use Rattle.std.specs.Prelude.{ℕ, Bool, true, false, not, List, [], ◌∷◌, map, slice_get, Option, None, Some}
+use Rattle.std.specs.Prelude.{◌≡◌, ℕ, Bool, true, List, [], ◌∷◌, map, slice_get, Option, None, Some}
 use Rattle.units.specs.Lists.{when, tail, gather}
 use Rattle.units.specs.Ids.{Id}
 use Rattle.units.specs.ById.{find_member, without_member}
 use Rattle.units.specs.Locks.{Claim}
 use Rattle.units.specs.declared.lock.Lock.{Lock}
 use Rattle.record.specs.declared.record.Record.{Record}
-use Rattle.protocol.specs.Rows.{Row, Phase, Idle, Collecting, IsPrepared, IsDecided, find_row, with_row, without_row, is_firm}
+use Rattle.protocol.specs.Rows.{Row, Phase, Idle, IsPrepared, IsDecided, find_row, with_row, without_row, needs_of}
 use Rattle.protocol.specs.Draft.{held_by}
 use Rattle.locks.specs.Table.{Token}
-use Rattle.rows.specs.CodeRows.{token_of, txn_of, phase_of}
+use Rattle.rows.specs.CodeRows.{token_of, txn_of, phase_of, is_reading}
 use Rattle.rows.specs.declared.row.Row.{Row as CodeRow}
 
 -- the rows, and the tokens of their transactions, by ascending id
@@ -52,6 +52,15 @@ held_in rows t = held_by (find_row rows t)
 abbrev pub put_row : List Row → Id → List Lock → Phase → List Row
 put_row rows t held phase = with_row rows (record { txn = t; held = held; phase = phase })
 
+-- the locks that a row wants, none where there is no row
+abbrev pub needs_by : Option Row → List Lock
+needs_by None = []
+needs_by (Some r) = needs_of r.phase
+
+-- the locks that a transaction waits for
+abbrev pub needs_in : List Row → Id → List Lock
+needs_in rows t = needs_by (find_row rows t)
+
 -- the rows without those of several transactions
 abbrev pub without_rows : List Row → List Id → List Row
 without_rows rows [] = rows
@@ -66,30 +75,10 @@ without_tokens tokens (t ∷ ts) = without_tokens (without_token tokens t) ts
 abbrev pub has_phase : (Phase → Bool) → List Row → Id → Bool
 has_phase test rows t = when (λ r. test r.phase) (find_row rows t)
 
--- it reads: it is idle, or waits
-abbrev pub is_reading : Phase → Bool
-is_reading phase = not (is_firm phase)
-
--- it is idle
-abbrev pub is_idle : Phase → Bool
-is_idle Idle = true
-is_idle _ = false
-
--- it is idle, or collects votes
-abbrev pub may_decide : Phase → Bool
-may_decide Idle = true
-may_decide (Collecting latest parts reads writes votes) = true
-may_decide _ = false
-
--- nothing is promised or decided
-abbrev pub may_abort : Phase → Bool
-may_abort (IsPrepared coordinator at) = false
-may_abort (IsDecided at parts) = false
-may_abort _ = true
-
--- it is prepared or decided
-abbrev pub may_close : Phase → Bool
-may_close phase = not (may_abort phase)
+-- several transactions may be ended, one by one: each has a row that is not firm
+abbrev pub MayEnd : List Row → List Id → Type 0
+MayEnd rows [] = Unit {0}
+MayEnd rows (t ∷ ts) = (has_phase is_reading rows t ≡ true) × MayEnd (without_row rows t) ts
 
 -- the phase that a logged promise or decision leads to
 abbrev pub phase_by : Record → Phase

@@ -3,11 +3,13 @@
 
 mod list;
 mod row;
+mod rows;
 mod states;
 mod votes;
 mod wait;
 
 pub use row::Row;
+pub use rows::Rows;
 pub use states::{Collecting, Decided, Prepared, Reading};
 pub use votes::{Gathering, Voted, Votes};
 pub use wait::{CommitRequest, PrepareRequest, Wait};

@@ -1,12 +1,12 @@
 //! The rows by ascending id, with the space for all that there may be.
 ghost use Rattle.std.specs.Prelude.{◌≡◌, ◌+◌, ◌<◌, ◌≤◌, [], true, false, Some, IfOk, IfErr, length, vec_capacity};
-ghost use Rattle.std.specs.List.{position_or_len};
+ghost use Rattle.std.specs.List.{find, position_or_len};
 ghost use Rattle.std.specs.Option.{option_copied};
 ghost use Rattle.units.specs.Ids.{same_id, older};
-ghost use Rattle.units.specs.ById.{IsById};
-ghost use Rattle.rows.specs.CodeRows.{txn_of, has_txn, row_of, without_txn, put_in, most_rows};
+ghost use Rattle.rows.specs.CodeRows.{txn_of, has_txn, row_of, passes, is_reading, without_txn, put_in, most_rows, IsRowList};
 
 use crate::row::Row;
+use crate::states::Reading;
 use std::alloc::Global;
 use std::marker::Model;
 use units::{Fault, TxnId};
@@ -41,13 +41,38 @@ impl RowList {
         Ok(RowList { rows })
     }
 
-    /// The rows in order.
-    pub fn as_slice(&self) -> &[Row]
-        ensures same { result.now ≡ self.now }
-        ensures order { IsById txn_of self.now }
-        ensures few { length self.now ≤ most_rows }
+    /// The rows ascend by id, and are not too many. It does nothing.
+    pub fn laws(&self)
+        ensures { IsRowList self.now }
     {
-        self.rows.as_slice()
+        let _ = &self.rows;
+    }
+
+    /// How many there are.
+    pub fn len(&self) -> usize
+        ensures { result ≡ length self.now }
+    {
+        self.rows.len()
+    }
+
+    /// The row of a transaction.
+    pub fn find(&self, txn: TxnId) -> Option<&Row>
+        ensures { option_copied result ≡ find (λ r. same_id (txn_of r) txn) self.now }
+    {
+        found(&self.rows, txn)
+    }
+
+    /// Takes out the row of a transaction that reads.
+    pub fn take_reading(&mut self, txn: TxnId) -> Reading
+        requires { passes is_reading self.old txn ≡ true }
+        ensures row { row_of self.old txn ≡ Some (Row.Reading result) }
+        ensures rest { self.new ≡ without_txn self.old txn }
+        ensures laws { IsRowList self.old }
+    {
+        match self.take(txn) {
+            Row::Reading(state) => state,
+            _ => unreachable!(),
+        }
     }
 
     /// Takes out the row of a transaction.
@@ -55,6 +80,7 @@ impl RowList {
         requires { has_txn self.old txn ≡ true }
         ensures row { row_of self.old txn ≡ Some result }
         ensures rest { self.new ≡ without_txn self.old txn }
+        ensures laws { IsRowList self.old }
     {
         let at = place(&self.rows, txn);
         self.rows.remove(at)
@@ -74,6 +100,13 @@ impl RowList {
     }
 }
 
+// The transaction's row.
+fn found(rows: &[Row], txn: TxnId) -> Option<&Row>
+    ensures { option_copied result ≡ find (λ r. same_id (txn_of r) txn) rows.now }
+{
+    rows.iter().find(|row| row.is_of(txn))
+}
+
 // Where the transaction's row stands.
 fn place(rows: &[Row], txn: TxnId) -> usize
     requires { has_txn rows.now txn ≡ true }
@@ -81,7 +114,7 @@ fn place(rows: &[Row], txn: TxnId) -> usize
     ensures place { result ≡ position_or_len (λ r. same_id (txn_of r) txn) rows.now }
 {
     for (at, row) in rows.iter().enumerate() {
-        if row.txn().is(txn) {
+        if row.is_of(txn) {
             return at;
         }
     }

@@ -1,5 +1,6 @@
 //! A row: a transaction in one of its states.
 ghost use Rattle.std.specs.Prelude.{◌≡◌};
+ghost use Rattle.units.specs.Ids.{same_id};
 ghost use Rattle.rows.specs.CodeRows.{txn_of};
 ghost use Rattle.locks.specs.Table.{without_claim};
 
@@ -26,6 +27,13 @@ impl Row {
             Row::Prepared(state) => state.txn(),
             Row::Decided(state) => state.txn(),
         }
+    }
+
+    /// Whether it is the transaction's.
+    pub fn is_of(&self, txn: TxnId) -> bool
+        ensures { result ≡ same_id (txn_of self.now) txn }
+    {
+        self.txn().is(txn)
     }
 
     // Its token goes, at the end of the table.
