@@ -1,16 +1,16 @@
 //! The claims of a table, and who is in the way of whom.
 ghost use Rattle.std.specs.Prelude.{◌≡◌, ◌+◌, ◌<◌, ◌≤◌, true, IfOk, length, vec_capacity};
 ghost use Rattle.std.specs.List.{position_or_len};
-ghost use Rattle.units.specs.Locks.{is_waiting};
-ghost use Rattle.locks.specs.Table.{has_claim, entrant, made_firm, granted, waiting, resumed, withdrawn};
-ghost use Rattle.locks.specs.Ways.{is_of, is_younger, gives_way, is_wounding, ids_in_way, stands_in_way, is_blocked, can_go, first_to_go};
+ghost use Rattle.units.specs.Locks.{holds, is_waiting};
+ghost use Rattle.locks.specs.Table.{has_claim, held_in, needs_in, entrant, made_firm, granted, waiting, resumed, withdrawn};
+ghost use Rattle.locks.specs.Ways.{is_of, is_younger, gives_way, is_wounding, ids_in_way, stands_in_way, is_blocked, can_go, first_to_go, keeps_out, is_kept_out};
 
 use crate::buffer::{copy, fill};
 use crate::conflict::clash;
 use std::alloc::{AllocError, Global};
 use std::marker::Model;
 use std::mem::swap;
-use units::{Lock, TxnId};
+use units::{Key, Lock, TxnId};
 
 /// A transaction in the table: what it holds, what it waits for, and whether it is firm.
 #[derive(Drop)]
@@ -67,6 +67,13 @@ impl Entry {
         !self.txn.is(txn)
             && (clash(&self.held, needs)
                 || (self.txn.is_older_than(txn) && clash(&self.needs, needs)))
+    }
+
+    /// A requester waits for it, and does not end it.
+    pub fn keeps_out(&self, txn: TxnId, needs: &[Lock]) -> bool
+        ensures { result ≡ keeps_out txn needs.now self.now }
+    {
+        self.stands_in_way(txn, needs) && !self.gives_way(txn, needs)
     }
 
     /// How many locks it holds.
@@ -152,6 +159,13 @@ pub fn is_wounding(table: &[Entry], txn: TxnId, needs: &[Lock]) -> bool
     table.iter().any(|entry| entry.gives_way(txn, needs))
 }
 
+/// Whether a request waits for some claim of one that it does not end.
+pub fn is_kept_out(table: &[Entry], txn: TxnId, needs: &[Lock]) -> bool
+    ensures { result ≡ is_kept_out txn needs.now table.now }
+{
+    table.iter().any(|entry| entry.keeps_out(txn, needs))
+}
+
 /// Whom a request ends, the oldest first.
 pub fn wounded(
     alloc: Global,
@@ -176,6 +190,42 @@ pub fn ready(table: &[Entry]) -> Option<TxnId>
         .iter()
         .find(|entry| entry.can_go(table))
         .map(|entry| entry.txn())
+}
+
+/// Whether a transaction holds a key.
+pub fn holds(table: &[Entry], txn: TxnId, key: &Key) -> bool
+    ensures { result ≡ holds (held_in table.now txn) key.now }
+{
+    for entry in table {
+        if entry.is_of(txn) {
+            return is_held(&entry.held, key);
+        }
+    }
+    false
+}
+
+/// How many locks a transaction waits for.
+pub fn needs_count(table: &[Entry], txn: TxnId) -> usize
+    ensures { result ≡ length (needs_in table.now txn) }
+{
+    for entry in table {
+        if entry.is_of(txn) {
+            return entry.needs_count();
+        }
+    }
+    0
+}
+
+// Some lock is of the key.
+fn is_held(locks: &[Lock], key: &Key) -> bool
+    ensures { result ≡ holds locks.now key.now }
+{
+    for lock in locks {
+        if lock.key.is(key) {
+            return true;
+        }
+    }
+    false
 }
 
 /// Where the transaction's claim stands.

@@ -1,0 +1,195 @@
+//! The rows by ascending id, with the space for all that there may be.
+ghost use Rattle.std.specs.Prelude.{◌≡◌, ◌+◌, ◌<◌, ◌≤◌, [], true, false, Some, IfOk, IfErr, length, slice_get, vec_capacity};
+ghost use Rattle.std.specs.List.{find, position_or_len};
+ghost use Rattle.std.specs.Option.{option_copied};
+ghost use Rattle.units.specs.Ids.{same_id, older};
+ghost use Rattle.units.specs.Lists.{gather};
+ghost use Rattle.rows.specs.CodeRows.{txn_of, has_txn, row_of, passes, is_reading, prepared_of, decided_of, without_txn, put_in, most_rows, IsRowList};
+
+use crate::row::Row;
+use crate::states::Reading;
+use locks::Table;
+use std::alloc::Global;
+use std::marker::Model;
+use units::{Fault, Stamp, TxnId};
+
+/// The most transactions of a shard at a time.
+pub const MOST_ROWS: usize = 1024;
+
+/// The rows of a shard's transactions, by ascending id.
+pub struct RowList {
+    rows: Vec<Row>,
+}
+
+impl Model for RowList {
+    ghost use Rattle.std.specs.Prelude.{List, ◌≤◌, vec_capacity};
+    ghost use Rattle.rows.specs.declared.row.Row.{Row};
+    ghost use Rattle.rows.specs.CodeRows.{IsRowList, most_rows};
+
+    ghost Value = { List Row };
+
+    ghost view = { λ l. l.rows.items };
+
+    ghost invariant = { λ l. IsRowList l.rows.items × (most_rows ≤ vec_capacity l.rows) };
+}
+
+impl RowList {
+    /// No rows, with the space for all that there may be. It is refused for want of memory alone.
+    pub fn new(alloc: Global) -> Result<RowList, Fault>
+        ensures none { IfOk result (λ rows. rows ≡ []) }
+        ensures memory { IfErr result (λ fault. fault ≡ Fault.Memory) }
+    {
+        let rows = Vec::with_capacity(alloc, MOST_ROWS)?;
+        Ok(RowList { rows })
+    }
+
+    /// The rows ascend by id, and are not too many. It does nothing.
+    pub fn laws(&self)
+        ensures { IsRowList self.now }
+    {
+        let _ = &self.rows;
+    }
+
+    /// How many there are.
+    pub fn len(&self) -> usize
+        ensures { result ≡ length self.now }
+    {
+        self.rows.len()
+    }
+
+    /// The row of a transaction.
+    pub fn find(&self, txn: TxnId) -> Option<&Row>
+        ensures { option_copied result ≡ find (λ r. same_id (txn_of r) txn) self.now }
+    {
+        found(&self.rows, txn)
+    }
+
+    /// The n-th prepared transaction, with its timestamp.
+    pub fn nth_prepared(&self, n: usize) -> Option<(TxnId, Stamp)>
+        ensures { result ≡ slice_get (gather prepared_of self.now) n }
+    {
+        nth_prepared(&self.rows, n)
+    }
+
+    /// The n-th decided transaction, with its timestamp.
+    pub fn nth_decided(&self, n: usize) -> Option<(TxnId, Stamp)>
+        ensures { result ≡ slice_get (gather decided_of self.now) n }
+    {
+        nth_decided(&self.rows, n)
+    }
+
+    /// Spends the token of each row.
+    pub fn release_all(self, table: &mut Table) {
+        let RowList { mut rows } = self;
+        for _ in 0..rows.len() {
+            match rows.pop() {
+                Some(row) => row.release(table),
+                None => {}
+            }
+        }
+        rows.destroy_empty();
+    }
+
+    /// Takes out the row of a transaction that reads.
+    pub fn take_reading(&mut self, txn: TxnId) -> Reading
+        requires { passes is_reading self.old txn ≡ true }
+        ensures row { row_of self.old txn ≡ Some (Row.Reading result) }
+        ensures rest { self.new ≡ without_txn self.old txn }
+        ensures laws { IsRowList self.old }
+    {
+        match self.take(txn) {
+            Row::Reading(state) => state,
+            _ => unreachable!(),
+        }
+    }
+
+    /// Takes out the row of a transaction.
+    pub fn take(&mut self, txn: TxnId) -> Row
+        requires { has_txn self.old txn ≡ true }
+        ensures row { row_of self.old txn ≡ Some result }
+        ensures rest { self.new ≡ without_txn self.old txn }
+        ensures laws { IsRowList self.old }
+    {
+        let at = place(&self.rows, txn);
+        self.rows.remove(at)
+    }
+
+    /// Puts in a row of a transaction that has none. It takes no memory.
+    pub fn put(&mut self, row: Row)
+        requires absent { has_txn self.old (txn_of row) ≡ false }
+        requires room { length self.old < most_rows }
+        ensures { self.new ≡ put_in self.old row }
+    {
+        let at = place_for(&self.rows, row.txn());
+        match self.rows.insert(at, row) {
+            Ok(()) => {}
+            Err(_) => unreachable!(),
+        }
+    }
+}
+
+// The transaction's row.
+fn found(rows: &[Row], txn: TxnId) -> Option<&Row>
+    ensures { option_copied result ≡ find (λ r. same_id (txn_of r) txn) rows.now }
+{
+    rows.iter().find(|row| row.is_of(txn))
+}
+
+// The n-th prepared transaction.
+fn nth_prepared(rows: &[Row], n: usize) -> Option<(TxnId, Stamp)>
+    ensures { result ≡ slice_get (gather prepared_of rows.now) n }
+{
+    let mut left = n;
+    for row in rows {
+        if let Some(found) = row.prepared() {
+            if left == 0 {
+                return Some(found);
+            }
+            left -= 1;
+        }
+    }
+    None
+}
+
+// The n-th decided transaction.
+fn nth_decided(rows: &[Row], n: usize) -> Option<(TxnId, Stamp)>
+    ensures { result ≡ slice_get (gather decided_of rows.now) n }
+{
+    let mut left = n;
+    for row in rows {
+        if let Some(found) = row.decided() {
+            if left == 0 {
+                return Some(found);
+            }
+            left -= 1;
+        }
+    }
+    None
+}
+
+// Where the transaction's row stands.
+fn place(rows: &[Row], txn: TxnId) -> usize
+    requires { has_txn rows.now txn ≡ true }
+    ensures within { result < length rows.now }
+    ensures place { result ≡ position_or_len (λ r. same_id (txn_of r) txn) rows.now }
+{
+    for (at, row) in rows.iter().enumerate() {
+        if row.is_of(txn) {
+            return at;
+        }
+    }
+    unreachable!()
+}
+
+// Where the transaction's row would go.
+fn place_for(rows: &[Row], txn: TxnId) -> usize
+    ensures within { result ≤ length rows.now }
+    ensures place { result ≡ position_or_len (λ r. older txn (txn_of r)) rows.now }
+{
+    for (at, row) in rows.iter().enumerate() {
+        if txn.is_older_than(row.txn()) {
+            return at;
+        }
+    }
+    rows.len()
+}

@@ -1,0 +1,78 @@
+//! A row: a transaction in one of its states.
+ghost use Rattle.std.specs.Prelude.{◌≡◌};
+ghost use Rattle.units.specs.Ids.{same_id};
+ghost use Rattle.rows.specs.CodeRows.{txn_of, phase_of, is_reading, prepared_of, decided_of};
+ghost use Rattle.locks.specs.Table.{without_claim};
+
+use crate::states::{Collecting, Decided, Prepared, Reading};
+use locks::Table;
+use units::{Stamp, TxnId};
+
+/// A transaction of a shard, in its state.
+pub enum Row {
+    Reading(Reading),
+    Collecting(Collecting),
+    Prepared(Prepared),
+    Decided(Decided),
+}
+
+impl Row {
+    /// Whose row it is.
+    pub fn txn(&self) -> TxnId
+        ensures { result ≡ txn_of self.now }
+    {
+        match self {
+            Row::Reading(state) => state.txn(),
+            Row::Collecting(state) => state.txn(),
+            Row::Prepared(state) => state.txn(),
+            Row::Decided(state) => state.txn(),
+        }
+    }
+
+    /// Whether it is the transaction's.
+    pub fn is_of(&self, txn: TxnId) -> bool
+        ensures { result ≡ same_id (txn_of self.now) txn }
+    {
+        self.txn().is(txn)
+    }
+
+    /// Whether it reads.
+    #[tactic(auto, using(crate::proofs::Transitions::reading_is_open))]
+    pub fn is_reading(&self) -> bool
+        ensures { result ≡ is_reading (phase_of self.now) }
+    {
+        matches!(self, Row::Reading(_))
+    }
+
+    /// Whose row it is and its timestamp, where it is prepared.
+    pub fn prepared(&self) -> Option<(TxnId, Stamp)>
+        ensures { result ≡ prepared_of self.now }
+    {
+        match self {
+            Row::Prepared(state) => Some((state.txn(), state.at())),
+            _ => None,
+        }
+    }
+
+    /// Whose row it is and its timestamp, where it is decided.
+    pub fn decided(&self) -> Option<(TxnId, Stamp)>
+        ensures { result ≡ decided_of self.now }
+    {
+        match self {
+            Row::Decided(state) => Some((state.txn(), state.at())),
+            _ => None,
+        }
+    }
+
+    // Its token goes, at the end of the table.
+    pub(crate) fn release(self, table: &mut Table)
+        ensures { table.new ≡ without_claim table.old (txn_of self) }
+    {
+        match self {
+            Row::Reading(state) => state.end(table),
+            Row::Collecting(state) => state.release(table),
+            Row::Prepared(state) => state.release(table),
+            Row::Decided(state) => state.release(table),
+        }
+    }
+}
