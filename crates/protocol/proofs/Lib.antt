@@ -1,7 +1,9 @@
 mod BookSample
+pub mod InWay
 mod LastUnderFloor
 mod LockTable
 pub mod RowChanges
 pub mod RowTable
 pub mod Samples
 mod ShardSteps
+pub mod Shapes
