@@ -2,6 +2,7 @@ mod BookSample
 pub mod InWay
 mod LastUnderFloor
 mod LockTable
+pub mod PlanWalk
 pub mod RowChanges
 pub mod RowTable
 pub mod Samples
