@@ -26,10 +26,10 @@ use Rattle.protocol.specs.Rows.{Memory, Row, Phase, Idle, WaitsRead, WaitsPrepar
 use Rattle.protocol.specs.Draft.{commit_stamp, held_by, other_parts, outcome_to}
 use Rattle.protocol.specs.Step.{is_for, is_outcome_for, with_vote}
 use Rattle.protocol.specs.Sound.{fits, holds_writes}
-use Rattle.protocol.specs.Plan.{Plan, Planned, Before, before, stands, still_stand, answers, replies, idles, ends, roomed, timed, to_read, is_crowded, in_way, opens, held_in, without_rows, of_part, plan_read_now, plan_read_row, plan_read, plan_promise, plan_prepare_now, plan_prepare_fresh, plan_prepare, plan_abort, plan_decide, plan_commit_granted, plan_commit_now, plan_commit_fresh, plan_commit, plan_count, plan_tell, plan_vote, plan_unpromised, plan_outcome, plan_give_up, plan_abort_for, plan_ask, plan_go_on, plan_resume_row, plan_resume_id, plan_resume, plan_settle, plan_advance, plan_nudge, plan_message, plan_input}
+use Rattle.protocol.specs.Plan.{Plan, Planned, Keeps, ceiling_for, Before, before, stands, still_stand, answers, replies, idles, ends, roomed, timed, to_read, is_crowded, in_way, opens, held_in, without_rows, of_part, plan_read_now, plan_read_row, plan_read, plan_promise, plan_prepare_now, plan_prepare_fresh, plan_prepare, plan_abort, plan_decide, plan_commit_granted, plan_commit_now, plan_commit_fresh, plan_commit, plan_count, plan_tell, plan_vote, plan_unpromised, plan_outcome, plan_give_up, plan_abort_for, plan_ask, plan_go_on, plan_resume_row, plan_resume_id, plan_resume, plan_settle, plan_advance, plan_nudge, plan_message, plan_input}
 use Rattle.protocol.proofs.RowChanges.{row_as}
 use Rattle.protocol.proofs.InWay.{row_at, stands_at, room_at, in_way_gone, free_of_nothing, free_when_ready, holds_exclusive}
-use Rattle.protocol.proofs.Shapes.{Shape, Shaped, Answers, IsEnd, IsAbort, IsClose, IsSettle, IsLock, IsWait, IsPromise, IsDecision, IsAdvance, IsCleared, IsLooseOther, IsLocked, IsWaiting, IsPromised, IsResolved, is_undecided, is_loose, all_fit, granted_to}
+use Rattle.protocol.proofs.Shapes.{Shape, Shaped, Answers, IsEnd, IsAbort, IsClose, IsSettle, IsLock, IsWait, IsPromise, IsDecision, ShapeOf, Acts, IsAdvance, ShapedBy, IsCleared, IsLooseOther, IsLocked, IsWaiting, IsPromised, IsResolved, is_undecided, is_loose, all_fit, granted_to}
 
 -- the rows of a state ascend by id
 abbrev Ascends : Before → Type 0
@@ -441,10 +441,6 @@ shaped_settle b earliest t (HasRow held (IsDecided s ps)) e =
     shaped_err b _ _ _ (planned b _ (IsSettle t s ps held _ (row_at b t held (IsDecided s ps) e) refl))
 shaped_settle b earliest t _ e = refused b _
 
-shaped_advance : (b : Before) (latest stride at : ℕ) → Shaped b (plan_advance b latest stride at)
-unfolding plan_advance
-shaped_advance b latest stride at = shaped_cond b _ _ _ (λ _. refused b Future) (λ _. planned b _ (IsAdvance stride at refl))
-
 shaped_nudge : (b : Before) (t : Id) (s : Standing) → stands b t ≡ s → Shaped b (plan_nudge b t s)
 unfolding plan_nudge
 shaped_nudge b t (HasRow held (IsPrepared c p)) e = shaped_reply b _
@@ -466,18 +462,33 @@ shaped_message rows setup facts memory now (Message.Outcome o) up e = shaped_out
 shaped_message rows setup facts memory now (Message.Ask a) up e = shaped_ask (before rows setup facts memory) a.from a.txn _ refl
 shaped_message rows setup facts memory now _ up e = refused (before rows setup facts memory) _
 
+acts : (b : Before) (i : Input) (plan : Planned) → Shaped b plan → ShapedBy b i plan
+unfolding Shaped ShapedBy
+acts b i (Ok p) h = Acts h
+acts b i (Err fault) h = tt
+
+shaped_advance : (b : Before) (latest stride at : ℕ) → ShapedBy b (Input.Advance at) (plan_advance b latest stride at)
+unfolding plan_advance ShapedBy
+shaped_advance b latest stride at = by_test (nat_lt latest at)
+  where
+    by_test : (late : Bool) → ShapedBy b (Input.Advance at) (cond late (Err Future)
+        (Ok (record { wounded = []; change = Keeps; logged = ceiling_for b.facts.floor stride at; last = max b.memory.last at; outbox = [] })))
+    by_test true = tt
+    by_test false = IsAdvance stride at refl refl
+
 shaped_input : (rows : ℕ) (setup : Setup) (facts : Facts) (memory : Memory) (now : Interval) (i : Input) → IsById (λ r. r.txn) memory.rows
-    → Shaped (before rows setup facts memory) (plan_input setup (before rows setup facts memory) now i)
+    → ShapedBy (before rows setup facts memory) i (plan_input setup (before rows setup facts memory) now i)
 unfolding plan_input
 shaped_input rows setup facts memory now (Input.Deliver m) up =
-    shaped_cond (before rows setup facts memory) (is_for setup m) _ _ (λ e. shaped_message rows setup facts memory now m up e) (λ _. refused (before rows setup facts memory) _)
-shaped_input rows setup facts memory now Input.Resume up = shaped_resume (before rows setup facts memory) now.earliest up
-shaped_input rows setup facts memory now (Input.Settle t) up = shaped_settle (before rows setup facts memory) now.earliest t _ refl
+    let b : Before = before rows setup facts memory in
+    acts b (Input.Deliver m) _ (shaped_cond b (is_for setup m) _ _ (λ e. shaped_message rows setup facts memory now m up e) (λ _. refused b _))
+shaped_input rows setup facts memory now Input.Resume up = acts _ Input.Resume _ (shaped_resume (before rows setup facts memory) now.earliest up)
+shaped_input rows setup facts memory now (Input.Settle t) up = acts _ (Input.Settle t) _ (shaped_settle (before rows setup facts memory) now.earliest t _ refl)
 shaped_input rows setup facts memory now (Input.Advance at) up = shaped_advance (before rows setup facts memory) now.latest setup.stride at
-shaped_input rows setup facts memory now (Input.Nudge t) up = shaped_nudge (before rows setup facts memory) t _ refl
+shaped_input rows setup facts memory now (Input.Nudge t) up = acts _ (Input.Nudge t) _ (shaped_nudge (before rows setup facts memory) t _ refl)
 
 -- each plan of a step has a shape
 pub shape_of : (rows : ℕ) (setup : Setup) (facts : Facts) (memory : Memory) (now : Interval) (i : Input) (p : Plan) → IsById (λ r. r.txn) memory.rows
-    → plan_input setup (before rows setup facts memory) now i ≡ Ok p → Shape (before rows setup facts memory) p
-unfolding Shaped
-shape_of rows setup facts memory now i p up e = subst (Shaped (before rows setup facts memory)) e (shaped_input rows setup facts memory now i up)
+    → plan_input setup (before rows setup facts memory) now i ≡ Ok p → ShapeOf (before rows setup facts memory) i p
+unfolding ShapedBy
+shape_of rows setup facts memory now i p up e = subst (ShapedBy (before rows setup facts memory) i) e (shaped_input rows setup facts memory now i up)

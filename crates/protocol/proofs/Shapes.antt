@@ -10,6 +10,7 @@ use Rattle.units.specs.declared.lock.Lock.{Lock}
 use Rattle.units.specs.declared.writes.Write.{Write}
 use Rattle.record.specs.declared.record.Record.{Record}
 use Rattle.message.specs.declared.message.Envelope.{Envelope}
+use Rattle.message.specs.declared.message.Input.{Input}
 use Rattle.protocol.specs.Rows.{Row, Phase, IsPrepared, IsDecided, Standing, IsUnknown, WasEnded, HasRow, claims, find_row, is_firm, needs_of}
 use Rattle.protocol.specs.Draft.{promise, decision}
 use Rattle.protocol.specs.Step.{is_outcome_for}
@@ -104,11 +105,19 @@ pub data Shape (b : Before) (p : Plan) : Type 0 where
   IsDecision : (t : Id) → (ended : List Id) → (needs : List Lock) → (at : ℕ) → (ps : List ℕ) → (rs : List Bytes) → (ws : List Write) → (out : List Envelope)
       → IsResolved b t ended needs at ps ws
       → p ≡ puts b ended t needs (IsDecided at ps) (Some (decision t at ps rs ws)) (max b.memory.last at) out → Shape b p
-  IsAdvance : (stride at : ℕ)
+
+-- the shape of the plan of an input: served time alone is advanced, or it is one of those above
+pub data ShapeOf (b : Before) (i : Input) (p : Plan) : Type 0 where
+  Acts : Shape b p → ShapeOf b i p
+  IsAdvance : (stride at : ℕ) → i ≡ Input.Advance at
       → p ≡ record { wounded = []; change = Keeps; logged = ceiling_for b.facts.floor stride at; last = max b.memory.last at; outbox = [] }
-      → Shape b p
+      → ShapeOf b i p
 
 -- where a plan is not refused, it has a shape
 unfoldable pub Shaped : Before → Planned → Type 0
 Shaped b (Err fault) = Unit {0}
 Shaped b (Ok p) = Shape b p
+
+unfoldable pub ShapedBy : Before → Input → Planned → Type 0
+ShapedBy b i (Err fault) = Unit {0}
+ShapedBy b i (Ok p) = ShapeOf b i p
