@@ -8,3 +8,4 @@ pub mod RowTable
 pub mod Samples
 mod ShardSteps
 pub mod Shapes
+pub mod WithinLimit
