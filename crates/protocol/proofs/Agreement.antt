@@ -1,0 +1,191 @@
+-- What the record of a transaction is where its row stands by one, and where it has none; and that what a step logs may
+-- come next.
+use Rattle.std.proofs.Common.{◌≡◌, ℕ, ◌<◌, ◌≤◌, Bool, true, false, cond, ◌&&◌, nat_lt, nat_le, nat_eq, List, Option, Some, None, Ok, refl, sym, ap, subst, ◌∙◌, arith}
+use Rattle.std.specs.Prelude.{IsTrue}
+use Rattle.std.proofs.lemmas.Bool.{false≢true}
+use Rattle.std.proofs.lemmas.Bool.Decides.{nat_tests}
+use Rattle.units.specs.Lists.{any, head, when}
+use Rattle.units.specs.Ids.{Id, same_id}
+use Rattle.units.specs.declared.lock.Lock.{Lock}
+use Rattle.units.specs.declared.writes.Install.{Install}
+use Rattle.record.specs.Records.{Status, Unrecorded, StandsPrepared, StandsDecided, HasAborted, HasSettled, HasClosed}
+use Rattle.record.specs.Facts.{Facts, recorded}
+use Rattle.record.specs.declared.record.Committed.{Committed}
+use Rattle.record.specs.declared.record.Prepared.{Prepared}
+use Rattle.record.specs.declared.record.Record.{Record}
+use Rattle.facts.specs.Rules.{allows, is_unrecorded, id_follows, follows_facts}
+use Rattle.message.specs.declared.message.Input.{Input}
+use Rattle.protocol.specs.Rows.{Memory, Row, Phase, IsPrepared, IsDecided, standing, standing_by, find_row}
+use Rattle.protocol.specs.Step.{is_outcome_for}
+use Rattle.protocol.specs.Sound.{Agrees, StandsBy, IsSound, is_open, LoggedFollows}
+use Rattle.protocol.specs.Plan.{Plan, Before, before, stands, ceiling_for}
+use Rattle.protocol.proofs.RowChanges.{row_as, by_id-claims}
+use Rattle.protocol.proofs.PlanWalk.{shape_of}
+use Rattle.protocol.proofs.Shapes.{Shape, Answers, IsEnd, IsAbort, IsClose, IsSettle, IsLock, IsWait, IsPromise, IsDecision, ShapeOf, Acts, IsAdvance, is_undecided}
+
+-- a state that is sound
+abbrev pub Sound : Before → Type 0
+Sound b = IsSound b.shard b.facts b.memory
+
+-- ---- the record of a transaction
+
+by_parts : (installs : List Install) (last : ℕ) (s : Status) (o : Option Row) (ended : Bool) → Agrees installs last s o
+    → is_undecided (standing_by o s ended) ≡ true → s ≡ Unrecorded
+by_parts installs last Unrecorded o ended a e = refl
+by_parts installs last (StandsPrepared p) (Some r) ended a e = absurd (false≢true (sym (ap is_open a.phase) ∙ e))
+by_parts installs last (StandsPrepared p) None ended a e = absurd a
+by_parts installs last (StandsDecided c) (Some r) ended a e = absurd (false≢true (sym (ap is_open a.phase) ∙ e))
+by_parts installs last (StandsDecided c) None ended a e = absurd a
+by_parts installs last HasAborted (Some r) ended a e = absurd a
+by_parts installs last HasAborted None ended a e = absurd (false≢true e)
+by_parts installs last (HasSettled at ps) (Some r) ended a e = absurd a
+by_parts installs last (HasSettled at ps) None ended a e = absurd (false≢true e)
+by_parts installs last (HasClosed c o) (Some r) ended a e = absurd a
+by_parts installs last (HasClosed c o) None ended a e = absurd (false≢true e)
+
+-- who is undecided has no record
+pub unrecorded : (b : Before) (t : Id) → Sound b → is_undecided (stands b t) ≡ true → recorded b.facts t ≡ Unrecorded
+unfolding standing
+unrecorded b t sound e =
+    by_parts b.facts.installs b.memory.last (recorded b.facts t) (find_row b.memory.rows t) (any (same_id t) b.memory.ended) (sound.agrees t) e
+
+-- the promise by which a row stands
+pub record PromiseOf (b : Before) (t : Id) (held : List Lock) (c at : ℕ) : Type 0 where
+  pub promise : Prepared
+  pub is : recorded b.facts t ≡ StandsPrepared promise
+  pub stands_by : StandsBy b.facts.installs b.memory.last (row_as t held (IsPrepared c at)) (IsPrepared promise.coordinator promise.at) promise.at promise.writes
+  pub stamp : promise.at ≡ at
+
+pub promise_of : (b : Before) (t : Id) (held : List Lock) (c at : ℕ) → Sound b → find_row b.memory.rows t ≡ Some (row_as t held (IsPrepared c at))
+    → PromiseOf b t held c at
+promise_of b t held c at sound found =
+    by_status (recorded b.facts t) refl (subst (Agrees b.facts.installs b.memory.last (recorded b.facts t)) found (sound.agrees t))
+  where
+    by_status : (s : Status) → recorded b.facts t ≡ s → Agrees b.facts.installs b.memory.last s (Some (row_as t held (IsPrepared c at))) → PromiseOf b t held c at
+    by_status (StandsPrepared p) e a =
+        let phase : IsPrepared c at ≡ IsPrepared p.coordinator p.at = a.phase in
+        let stamp : p.at ≡ at = cc in
+        record { promise = p; is = e; stands_by = a; stamp = stamp }
+    by_status (StandsDecided d) e a = let phase : IsPrepared c at ≡ IsDecided d.at d.parts = a.phase in cc
+    by_status Unrecorded e a = absurd (false≢true a)
+    by_status HasAborted e a = absurd a
+    by_status (HasSettled s ps) e a = absurd a
+    by_status (HasClosed d o) e a = absurd a
+
+-- the decision by which a row stands
+pub record DecisionOf (b : Before) (t : Id) (held : List Lock) (at : ℕ) (ps : List ℕ) : Type 0 where
+  pub decision : Committed
+  pub is : recorded b.facts t ≡ StandsDecided decision
+  pub stands_by : StandsBy b.facts.installs b.memory.last (row_as t held (IsDecided at ps)) (IsDecided decision.at decision.parts) decision.at decision.writes
+  pub stamp : decision.at ≡ at
+
+pub decision_of : (b : Before) (t : Id) (held : List Lock) (at : ℕ) (ps : List ℕ) → Sound b → find_row b.memory.rows t ≡ Some (row_as t held (IsDecided at ps))
+    → DecisionOf b t held at ps
+decision_of b t held at ps sound found =
+    by_status (recorded b.facts t) refl (subst (Agrees b.facts.installs b.memory.last (recorded b.facts t)) found (sound.agrees t))
+  where
+    by_status : (s : Status) → recorded b.facts t ≡ s → Agrees b.facts.installs b.memory.last s (Some (row_as t held (IsDecided at ps))) → DecisionOf b t held at ps
+    by_status (StandsDecided d) e a =
+        let phase : IsDecided at ps ≡ IsDecided d.at d.parts = a.phase in
+        let stamp : d.at ≡ at = cc in
+        record { decision = d; is = e; stands_by = a; stamp = stamp }
+    by_status (StandsPrepared p) e a = let phase : IsDecided at ps ≡ IsPrepared p.coordinator p.at = a.phase in cc
+    by_status Unrecorded e a = absurd (false≢true a)
+    by_status HasAborted e a = absurd a
+    by_status (HasSettled s qs) e a = absurd a
+    by_status (HasClosed d o) e a = absurd a
+
+-- ---- what is logged may come next
+
+-- where something is logged, it may come next
+abbrev LogFollows : Before → Option Record → Type 0
+LogFollows b None = Unit {0}
+LogFollows b (Some r) = IsTrue (follows_facts b.shard b.facts r)
+
+Follows : Before → Plan → Type 0
+Follows b p = LogFollows b p.logged
+
+is_opened : (epoch : ℕ) → 0 < epoch → nat_lt 0 epoch ≡ true
+is_opened epoch h = grind (arith, nat_tests)
+
+below : (m n : ℕ) → m ≤ n → nat_le m n ≡ true
+below m n h = grind (arith, nat_tests)
+
+same_number : (n : ℕ) → nat_eq n n ≡ true
+same_number n = grind (arith, nat_tests)
+
+and_true : (x y : Bool) → x ≡ true → y ≡ true → (x && y) ≡ true
+and_true true y e f = f
+and_true false y e f = e
+
+all_three : (x y z : Bool) → x ≡ true → y ≡ true → z ≡ true → (x && y && z) ≡ true
+all_three true y z e f g = and_true y z f g
+all_three false y z e f g = e
+
+opened : (b : Before) → Sound b → nat_lt 0 b.facts.epoch ≡ true
+opened b sound = is_opened b.facts.epoch sound.opened
+
+from_zero : (last at : ℕ) → last < at → nat_lt 0 at ≡ true
+from_zero last at h = grind (arith, nat_tests)
+
+follows_abort : (b : Before) (t : Id) → Sound b → is_undecided (stands b t) ≡ true → IsTrue (follows_facts b.shard b.facts (Record.Abort t))
+unfolding follows_facts
+follows_abort b t sound fresh = and_true _ _ (opened b sound) (ap is_unrecorded (unrecorded b t sound fresh))
+
+not_below : (n c at s : ℕ) → is_outcome_for n c at (Some s) ≡ true → nat_le at s ≡ true
+not_below n c at s e = grind (arith, nat_tests)
+
+follows_close : (b : Before) (t : Id) (n c at : ℕ) (held : List Lock) (outcome : Option ℕ) → Sound b
+    → find_row b.memory.rows t ≡ Some (row_as t held (IsPrepared c at)) → is_outcome_for n c at outcome ≡ true
+    → IsTrue (follows_facts b.shard b.facts (Record.Outcome t outcome))
+unfolding follows_facts
+follows_close b t n c at held outcome sound found k =
+    let made : PromiseOf b t held c at = promise_of b t held c at sound found in
+    and_true _ _ (opened b sound) (ap (λ s. allows s outcome) made.is ∙ by_outcome made.promise made.stamp outcome k)
+  where
+    by_outcome : (p : Prepared) → p.at ≡ at → (o : Option ℕ) → is_outcome_for n c at o ≡ true → allows (StandsPrepared p) o ≡ true
+    by_outcome p same None k = refl
+    by_outcome p same (Some s) k = ap (λ m. nat_le m s) same ∙ not_below n c at s k
+
+follows_settle : (b : Before) (t : Id) (at : ℕ) (ps : List ℕ) (held : List Lock) → Sound b
+    → find_row b.memory.rows t ≡ Some (row_as t held (IsDecided at ps)) → IsTrue (follows_facts b.shard b.facts (Record.Outcome t (Some at)))
+unfolding follows_facts
+follows_settle b t at ps held sound found =
+    let made : DecisionOf b t held at ps = decision_of b t held at ps sound found in
+    and_true _ _ (opened b sound) (ap (λ s. allows s (Some at)) made.is ∙ ap (λ m. nat_eq m at) made.stamp ∙ same_number at)
+
+follows : (b : Before) (p : Plan) → Sound b → Shape b p → Follows b p
+unfolding Follows follows_facts
+follows b p sound (Answers out e) = subst (Follows b) (sym e) tt
+follows b p sound (IsEnd t out s e) = subst (Follows b) (sym e) tt
+follows b p sound (IsAbort t out fresh e) = subst (Follows b) (sym e) (follows_abort b t sound fresh)
+follows b p sound (IsClose t n c at held outcome out found k e) = subst (Follows b) (sym e) (follows_close b t n c at held outcome sound found k)
+follows b p sound (IsSettle t at ps held out found e) = subst (Follows b) (sym e) (follows_settle b t at ps held sound found)
+follows b p sound (IsLock t ended needs phase out l e) = subst (Follows b) (sym e) tt
+follows b p sound (IsWait t needs phase out w e) = subst (Follows b) (sym e) tt
+follows b p sound (IsPromise t ended c at rs ws out l e) =
+    subst (Follows b) (sym e)
+    (and_true _ _ (opened b sound) (all_three _ _ _ (from_zero b.memory.last at l.above) (ap is_unrecorded (unrecorded b t sound l.undecided)) (l.lower sound.fit)))
+follows b p sound (IsDecision t ended needs at ps rs ws out l e) =
+    subst (Follows b) (sym e)
+    (and_true _ _ (opened b sound) (all_three _ _ _ (from_zero b.memory.last at l.above) (ap is_unrecorded (unrecorded b t sound l.undecided)) (l.first sound.fit)))
+
+follows_ceiling : (b : Before) (stride at : ℕ) → Sound b → LogFollows b (ceiling_for b.facts.floor stride at)
+unfolding follows_facts
+follows_ceiling b stride at sound = by_test (nat_lt b.facts.floor at) _
+  where
+    by_test : (high : Bool) (n : ℕ) → LogFollows b (cond high (Some (Record.Ceiling n)) None)
+    by_test true n = and_true _ _ (opened b sound) refl
+    by_test false n = tt
+
+follows_of : (b : Before) (i : Input) (p : Plan) → Sound b → ShapeOf b i p → Follows b p
+unfolding Follows
+follows_of b i p sound (Acts shape) = follows b p sound shape
+follows_of b i p sound (IsAdvance stride at k e) = subst (Follows b) (sym e) (follows_ceiling b stride at sound)
+
+pub logged_follows : LoggedFollows
+unfolding Follows
+logged_follows rows setup facts memory now i p r sound e logged =
+    let b : Before = before rows setup facts memory in
+    subst (LogFollows b) logged
+    (follows_of b i p sound (shape_of rows setup facts memory now i p (by_id-claims memory.rows sound.table.order) e))
