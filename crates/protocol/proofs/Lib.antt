@@ -1,3 +1,4 @@
+pub mod AboveVersions
 pub mod Agreement
 mod BookSample
 pub mod InWay
