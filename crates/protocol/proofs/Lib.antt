@@ -10,4 +10,5 @@ pub mod RowTable
 pub mod Samples
 mod ShardSteps
 pub mod Shapes
+pub mod StatusChanges
 pub mod WithinLimit

@@ -72,7 +72,7 @@ shaped_reply b out = Answers out refl
 
 -- ---- what the standing says
 
-undecided_of_loose : (s : Standing) → is_loose s ≡ true → is_undecided s ≡ true
+pub undecided_of_loose : (s : Standing) → is_loose s ≡ true → is_undecided s ≡ true
 undecided_of_loose IsUnknown e = refl
 undecided_of_loose WasEnded e = refl
 undecided_of_loose (HasRow held Idle) e = refl
