@@ -2,6 +2,7 @@ pub mod AboveVersions
 pub mod Agreement
 mod BookSample
 pub mod InWay
+pub mod KeptAgreement
 pub mod KeptFacts
 mod LastUnderFloor
 mod LockTable
