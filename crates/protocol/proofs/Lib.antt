@@ -4,6 +4,7 @@ mod BookSample
 pub mod InWay
 pub mod KeptAgreement
 pub mod KeptFacts
+pub mod KeptTable
 mod LastUnderFloor
 mod LockTable
 pub mod PlanWalk
