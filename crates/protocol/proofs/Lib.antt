@@ -4,7 +4,8 @@ mod BookSample
 pub mod InWay
 pub mod KeptAgreement
 pub mod KeptFacts
-pub mod KeptTable
+pub mod KeptRows
+pub mod ClaimsBeside
 mod LastUnderFloor
 mod LockTable
 pub mod PlanWalk
@@ -14,4 +15,5 @@ pub mod Samples
 mod ShardSteps
 pub mod Shapes
 pub mod StatusChanges
+pub mod StepSound
 pub mod WithinLimit

@@ -1,4 +1,4 @@
--- The rows stay a lawful lock table after a step, and each still fits the shard.
+-- A claim that is put beside the others of a table keeps its laws: where its locks are granted, and where it waits.
 use Rattle.std.proofs.Common.{◌≡◌, Bool, true, false, not, ◌||◌, List, [], ◌∷◌, Option, Some, None, refl, sym, ap, subst, ◌∙◌, arith, ◌⊎◌, inl, inr}
 use Rattle.std.specs.Prelude.{IsTrue}
 use Rattle.std.specs.List.{AllByRecursion, list_any}
@@ -31,12 +31,12 @@ use Rattle.protocol.proofs.WithinLimit.{others_gone}
 -- ---- a claim is put
 
 -- a claim stands beside another: neither holds what the other does, and who waits for the other does so by the wait law
-record IsBeside (e a : Claim) : Type 0 where
-  apart : LockPair e a
-  for_other : WaitPair e a
-  for_it : WaitPair a e
+pub record IsBeside (e a : Claim) : Type 0 where
+  pub apart : LockPair e a
+  pub for_other : WaitPair e a
+  pub for_it : WaitPair a e
 
-all_both : (P Q R : Claim → Type 0) → ((a : Claim) → P a → Q a → R a) → (t : List Claim) → AllByRecursion P t → AllByRecursion Q t → AllByRecursion R t
+pub all_both : (P Q R : Claim → Type 0) → ((a : Claim) → P a → Q a → R a) → (t : List Claim) → AllByRecursion P t → AllByRecursion Q t → AllByRecursion R t
 all_both P Q R h [] ps qs = tt
 all_both P Q R h (a ∷ t) ps qs = (h a ps.0 qs.0, all_both P Q R h t ps.1 qs.1)
 
@@ -53,7 +53,7 @@ lock_pair_turned : (e a : Claim) → LockPair e a → LockPair a e
 lock_pair_turned e a p d = clash_comm a.held e.held ∙ p (same_id_comm a.txn e.txn ∙ d)
 
 -- a table with a claim put that stands beside each
-lawful_put : (t : List Claim) (e : Claim) → IsLawfulTable t → HoldsByKey e → AllByRecursion (IsBeside e) t → IsLawfulTable (with_claim t e)
+pub lawful_put : (t : List Claim) (e : Claim) → IsLawfulTable t → HoldsByKey e → AllByRecursion (IsBeside e) t → IsLawfulTable (with_claim t e)
 lawful_put t e lawful keys beside =
     let laws = by_pairs t lawful in
     let right : AllByRecursion (LockPair e) t = all_gives (IsBeside e) (LockPair e) (λ a s. s.apart) t beside in
@@ -70,9 +70,9 @@ lawful_put t e lawful keys beside =
 -- ---- what a transaction held before
 
 -- what it held stands beside another's claim
-record OwnApart (t : Id) (held : List Lock) (firm : Bool) (a : Claim) : Type 0 where
-  apart : same_id a.txn t ≡ false → clash held a.held ≡ false
-  for_it : same_id t a.txn ≡ false → clash held a.needs ≡ true → (older t a.txn || firm) ≡ true
+pub record OwnApart (t : Id) (held : List Lock) (firm : Bool) (a : Claim) : Type 0 where
+  pub apart : same_id a.txn t ≡ false → clash held a.held ≡ false
+  pub for_it : same_id t a.txn ≡ false → clash held a.needs ≡ true → (older t a.txn || firm) ≡ true
 
 firmer : (o was now : Bool) → (now || not was) ≡ true → (o || was) ≡ true → (o || now) ≡ true
 firmer true was now h k = refl
@@ -81,10 +81,10 @@ firmer false true true h k = refl
 firmer false true false h k = h
 
 -- a transaction becomes firm, or was not firm before
-abbrev Firms : List Row → Id → Bool → Type 0
+abbrev pub Firms : List Row → Id → Bool → Type 0
 Firms rows t firm = (r : Row) → find_row rows t ≡ Some r → (firm || not (is_firm r.phase)) ≡ true
 
-own_of : (rows : List Row) (t : Id) (firm : Bool) (o : Option Row) → IsLawfulTable (claims rows) → find_row rows t ≡ o → Firms rows t firm
+pub own_of : (rows : List Row) (t : Id) (firm : Bool) (o : Option Row) → IsLawfulTable (claims rows) → find_row rows t ≡ o → Firms rows t firm
     → AllByRecursion (OwnApart t (held_by o) firm) (claims rows)
 own_of rows t firm None lawful found firms =
     all_of_any (OwnApart t [] firm) (λ a. record { apart = λ d. refl; for_it = λ d c. absurd (false≢true c) }) (claims rows)
@@ -105,7 +105,7 @@ own_of rows t firm (Some r) lawful found firms =
     }) (claims rows) locks waits
 
 -- what a row holds ascends by key
-keys_of : (rows : List Row) (t : Id) (o : Option Row) → IsLawfulTable (claims rows) → find_row rows t ≡ o → ascends lock_before (held_by o) ≡ true
+pub keys_of : (rows : List Row) (t : Id) (o : Option Row) → IsLawfulTable (claims rows) → find_row rows t ≡ o → ascends lock_before (held_by o) ≡ true
 keys_of rows t None lawful found = refl
 keys_of rows t (Some r) lawful found =
     found_all HoldsByKey (λ (c : Claim). c.txn) (claims rows) t (claim_of r) ((by_pairs (claims rows) lawful).keys) (claims-find_row rows t ∙ ap (mapped claim_of) found)
@@ -113,7 +113,7 @@ keys_of rows t (Some r) lawful found =
 -- ---- a grant and a wait
 
 -- some locks more, where nobody is in the way
-grant_beside : (t : Id) (held needs : List Lock) (e a : Claim) → e.txn ≡ t → e.held ≡ with_locks held needs → e.needs ≡ [] → OwnApart t held e.firm a
+pub grant_beside : (t : Id) (held needs : List Lock) (e a : Claim) → e.txn ≡ t → e.held ≡ with_locks held needs → e.needs ≡ [] → OwnApart t held e.firm a
     → stands_in_way t needs a ≡ false → IsBeside e a
 grant_beside t held needs e a own locks quiet before free = record {
   apart = λ d.
@@ -137,7 +137,7 @@ grant_beside t held needs e a own locks quiet before free = record {
         ]
 
 -- a wait for some locks, where nobody in the way may be ended
-wait_beside : (t : Id) (held needs : List Lock) (e a : Claim) → e.txn ≡ t → e.held ≡ held → e.needs ≡ needs → OwnApart t held e.firm a
+pub wait_beside : (t : Id) (held needs : List Lock) (e a : Claim) → e.txn ≡ t → e.held ≡ held → e.needs ≡ needs → OwnApart t held e.firm a
     → gives_way t needs a ≡ false → IsBeside e a
 wait_beside t held needs e a own locks wants before stays = record {
   apart = λ d. ap (λ ls. clash ls a.held) locks ∙ before.apart (ap (same_id a.txn) (sym own) ∙ d);

@@ -1,0 +1,37 @@
+-- A step keeps a shard sound, and a fresh shard is sound.
+use Rattle.std.proofs.Common.{◌≡◌, ℕ, ◌≤◌, List, [], ◌∷◌, Ok, refl, arith}
+use Rattle.units.specs.Ids.{Id}
+use Rattle.record.specs.Facts.{Facts, facts_of}
+use Rattle.record.specs.Computing.{computing as computing_logs}
+use Rattle.record.specs.declared.record.Record.{Record}
+use Rattle.message.specs.declared.message.Input.{Input}
+use Rattle.protocol.specs.Rows.{Memory}
+use Rattle.protocol.specs.Sound.{IsSound, StepKeepsSound}
+use Rattle.protocol.specs.Step.{facts_after}
+use Rattle.protocol.specs.StepLaws.{IsInLimit}
+use Rattle.protocol.specs.Plan.{Plan, Before, before, carried}
+use Rattle.protocol.proofs.Agreement.{Sound}
+use Rattle.protocol.proofs.KeptAgreement.{KeepsAgreement, agreeing_of}
+use Rattle.protocol.proofs.KeptFacts.{KeepsFacts, kept_facts_of}
+use Rattle.protocol.proofs.KeptRows.{KeepsFit, KeepsTable, kept_fit_of, kept_table_of}
+use Rattle.protocol.proofs.PlanWalk.{shape_of}
+use Rattle.protocol.proofs.RowChanges.{by_id-claims}
+use Rattle.protocol.proofs.Shapes.{ShapeOf}
+
+kept : (b : Before) (i : Input) (p : Plan) → IsInLimit i → Sound b → ShapeOf b i p → IsSound b.shard (facts_after b.facts p.logged) (carried p b.memory)
+unfolding KeepsFacts KeepsTable KeepsFit KeepsAgreement
+kept b i p fits sound shape =
+    let known = kept_facts_of b i p fits sound shape in record {
+      opened = known.opened;
+      table = kept_table_of b i p sound shape;
+      entries = known.entries;
+      ended = known.ended;
+      under = known.under;
+      installed = known.installed;
+      fit = kept_fit_of b i p sound shape;
+      agrees = agreeing_of b i p sound shape;
+    }
+
+pub step_keeps_sound : StepKeepsSound
+step_keeps_sound rows setup facts memory now i p fits sound e =
+    kept (before rows setup facts memory) i p fits sound (shape_of rows setup facts memory now i p (by_id-claims memory.rows sound.table.order) e)
