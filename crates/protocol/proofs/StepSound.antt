@@ -6,7 +6,7 @@ use Rattle.record.specs.Computing.{computing as computing_logs}
 use Rattle.record.specs.declared.record.Record.{Record}
 use Rattle.message.specs.declared.message.Input.{Input}
 use Rattle.protocol.specs.Rows.{Memory}
-use Rattle.protocol.specs.Sound.{IsSound, StepKeepsSound}
+use Rattle.protocol.specs.Sound.{FreshIsSound, IsSound, StepKeepsSound}
 use Rattle.protocol.specs.Step.{facts_after}
 use Rattle.protocol.specs.StepLaws.{IsInLimit}
 use Rattle.protocol.specs.Plan.{Plan, Before, before, carried}
@@ -35,3 +35,17 @@ kept b i p fits sound shape =
 pub step_keeps_sound : StepKeepsSound
 step_keeps_sound rows setup facts memory now i p fits sound e =
     kept (before rows setup facts memory) i p fits sound (shape_of rows setup facts memory now i p (by_id-claims memory.rows sound.table.order) e)
+
+-- nothing is recorded and nothing stands
+pub fresh_is_sound : FreshIsSound
+unfolding computing_logs
+fresh_is_sound shard = record {
+  opened = omega arith;
+  table = record { order = tt; keys = refl; lock_law = refl; wait_law = refl };
+  entries = tt;
+  ended = refl;
+  under = omega arith;
+  installed = refl;
+  fit = refl;
+  agrees = λ t. tt;
+}
