@@ -3,7 +3,7 @@
 use Rattle.std.proofs.Common.{◌≡◌, ℕ, ◌<◌, ◌≤◌, Bool, true, false, not, ◌&&◌, ◌||◌, nat_lt, nat_le, List, [], ◌∷◌, ◌++◌, Option, Some, None, Ok, refl, sym, ap, subst, ◌∙◌, arith}
 use Rattle.std.specs.Prelude.{IsTrue}
 use Rattle.std.specs.List.{AllByRecursion}
-use Rattle.std.proofs.lemmas.Bool.{false≢true}
+use Rattle.std.proofs.lemmas.Bool.{false≢true, and_parts, or_left, or_right, or_parts}
 use Rattle.std.proofs.lemmas.Bool.Decides.{nat_tests}
 use Rattle.units.specs.Lists.{any, each, mapped}
 use Rattle.units.specs.Ids.{Id, same_id}
@@ -31,7 +31,7 @@ use Rattle.protocol.specs.Step.{is_outcome_for}
 use Rattle.protocol.specs.Sound.{holds_alone, holds_writes, is_exclusive, writes_standing, InstallsAbove}
 use Rattle.protocol.specs.Plan.{Plan, Before, before, ceiling_for}
 use Rattle.protocol.proofs.Agreement.{Sound, PromiseOf, promise_of, DecisionOf, decision_of}
-use Rattle.protocol.proofs.PlanWalk.{shape_of}
+use Rattle.protocol.proofs.PlanShapes.{shape_of}
 use Rattle.protocol.proofs.RowChanges.{row_as, by_id-claims}
 use Rattle.protocol.proofs.RowTable.{claims-find_row}
 use Rattle.protocol.proofs.Shapes.{Shape, Answers, IsEnd, IsAbort, IsClose, IsSettle, IsLock, IsWait, IsPromise, IsDecision, ShapeOf, Acts, IsAdvance}
@@ -58,10 +58,6 @@ above_later installs at s ws h e =
     each_gives (λ (w : Write). each (λ i. nat_lt i.at at) (of_key installs w.key)) (λ (w : Write). each (λ i. nat_lt i.at s) (of_key installs w.key))
     (λ w. each_gives (λ (i : Install). nat_lt i.at at) (λ (i : Install). nat_lt i.at s) (λ i. lower_later at s i h) (of_key installs w.key)) ws e
 
-or_right : (a b : Bool) → b ≡ true → (a || b) ≡ true
-or_right true b h = refl
-or_right false b h = h
-
 below_last : (last at n : ℕ) → last < at → nat_le n last ≡ true → nat_lt n at ≡ true
 below_last last at n h e = grind (arith, nat_tests)
 
@@ -85,18 +81,10 @@ pub each_append : {A : Type 0} (p : A → Bool) (xs ys : List A) → each p xs �
 each_append p [] ys e f = f
 each_append p (x ∷ xs) ys e f = grind (arith, nat_tests, each_append p xs ys)
 
-or_left : (a b : Bool) → a ≡ true → (a || b) ≡ true
-or_left true b h = refl
-or_left false b h = absurd (false≢true h)
-
-and_both : (a b : Bool) → (a && b) ≡ true → (a ≡ true) × (b ≡ true)
-and_both true b e = (refl, e)
-and_both false b e = absurd (false≢true e)
-
 others_lower : (ws : List Write) (s at : ℕ) (k : Bytes) → none_of_key ws k ≡ true → each (lower at k) (versions ws s) ≡ true
 others_lower [] s at k e = refl
 others_lower (w ∷ ws) s at k e =
-    let p = and_both (not (same_key w.key k)) (none_of_key ws k) e in
+    let p = and_parts (not (same_key w.key k)) (none_of_key ws k) e in
     ap (λ b. b && each (lower at k) (versions ws s)) (or_left (not (same_key w.key k)) (nat_lt s at) p.0) ∙ others_lower ws s at k p.1
 
 -- versions of other keys leave it above
@@ -104,8 +92,8 @@ pub above_more : (installs : List Install) (at s : ℕ) (ws others : List Write)
     → IsTrue (above_versions installs at ws) → IsTrue (above_versions (installs ++ versions others s) at ws)
 above_more installs at s [] others differ e = refl
 above_more installs at s (w ∷ ws) others differ e =
-    let d = and_both (none_of_key others w.key) (each (λ w. none_of_key others w.key) ws) differ in
-    let p = and_both (each (λ i. nat_lt i.at at) (of_key installs w.key)) (above_versions installs at ws) e in
+    let d = and_parts (none_of_key others w.key) (each (λ w. none_of_key others w.key) ws) differ in
+    let p = and_parts (each (λ i. nat_lt i.at at) (of_key installs w.key)) (above_versions installs at ws) e in
     let now : each (λ i. nat_lt i.at at) (of_key (installs ++ versions others s) w.key) ≡ true =
     above_key (installs ++ versions others s) at w.key
     ∙ each_append (lower at w.key) installs (versions others s) (sym (above_key installs at w.key) ∙ p.0) (others_lower others s at w.key d.0) in
@@ -137,25 +125,21 @@ alone_differs [] others k free h o = h
 alone_differs (l ∷ ls) others k free h o =
     by_test (same_key l.key k && is_exclusive l.mode) refl h (λ f g. alone_differs ls others k f g o)
   where
-    or_false : (a b : Bool) → (a || b) ≡ false → (a ≡ false) × (b ≡ false)
-    or_false false b e = (refl, e)
-    or_false true b e = absurd (false≢true (sym e))
-
     by_test : (b : Bool) → (same_key l.key k && is_exclusive l.mode) ≡ b → (b || holds_alone ls k) ≡ true
         → (clash ls others ≡ false → holds_alone ls k ≡ true → false ≡ true) → false ≡ true
     by_test true f g rest =
-        let p = and_both (same_key l.key k) (is_exclusive l.mode) f in
-        sym ((or_false (any (locks_clash l) others) (clash ls others) free).0) ∙ alone_clashes l others k p.0 p.1 o
-    by_test false f g rest = rest ((or_false (any (locks_clash l) others) (clash ls others) free).1) g
+        let p = and_parts (same_key l.key k) (is_exclusive l.mode) f in
+        sym ((or_parts (any (locks_clash l) others) (clash ls others) free).0) ∙ alone_clashes l others k p.0 p.1 o
+    by_test false f g rest = rest ((or_parts (any (locks_clash l) others) (clash ls others) free).1) g
 
 one_apart : (held others : List Lock) (ws : List Write) (k : Bytes) → clash held others ≡ false → holds_alone held k ≡ true → holds_writes others ws ≡ true
     → none_of_key ws k ≡ true
 one_apart held others [] k free h o = refl
 one_apart held others (w ∷ ws) k free h o =
-    by_test (same_key w.key k) refl (one_apart held others ws k free h ((and_both (holds_alone others w.key) (holds_writes others ws) o).1))
+    by_test (same_key w.key k) refl (one_apart held others ws k free h ((and_parts (holds_alone others w.key) (holds_writes others ws) o).1))
   where
     p : (holds_alone others w.key ≡ true) × (holds_writes others ws ≡ true)
-    p = and_both (holds_alone others w.key) (holds_writes others ws) o
+    p = and_parts (holds_alone others w.key) (holds_writes others ws) o
 
     by_test : (b : Bool) → same_key w.key k ≡ b → none_of_key ws k ≡ true → (not b && none_of_key ws k) ≡ true
     by_test true e rest = alone_differs held others k free h (ap (holds_alone others) (sym (same_key-is w.key k e)) ∙ p.0)

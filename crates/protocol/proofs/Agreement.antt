@@ -2,7 +2,7 @@
 -- come next.
 use Rattle.std.proofs.Common.{◌≡◌, ℕ, ◌<◌, ◌≤◌, Bool, true, false, cond, ◌&&◌, nat_lt, nat_le, nat_eq, List, Option, Some, None, Ok, refl, sym, ap, subst, ◌∙◌, arith}
 use Rattle.std.specs.Prelude.{IsTrue}
-use Rattle.std.proofs.lemmas.Bool.{false≢true}
+use Rattle.std.proofs.lemmas.Bool.{false≢true, and_from, eq-eqb, lt-ltb}
 use Rattle.std.proofs.lemmas.Bool.Decides.{nat_tests}
 use Rattle.units.specs.Lists.{any, head, when}
 use Rattle.units.specs.Ids.{Id, same_id}
@@ -20,7 +20,7 @@ use Rattle.protocol.specs.Step.{is_outcome_for}
 use Rattle.protocol.specs.Sound.{Agrees, StandsBy, IsSound, is_open, LoggedFollows}
 use Rattle.protocol.specs.Plan.{Plan, Before, before, stands, ceiling_for}
 use Rattle.protocol.proofs.RowChanges.{row_as, by_id-claims}
-use Rattle.protocol.proofs.PlanWalk.{shape_of}
+use Rattle.protocol.proofs.PlanShapes.{shape_of}
 use Rattle.protocol.proofs.Shapes.{Shape, Answers, IsEnd, IsAbort, IsClose, IsSettle, IsLock, IsWait, IsPromise, IsDecision, ShapeOf, Acts, IsAdvance, is_undecided}
 
 -- a state that is sound
@@ -105,32 +105,19 @@ LogFollows b (Some r) = IsTrue (follows_facts b.shard b.facts r)
 Follows : Before → Plan → Type 0
 Follows b p = LogFollows b p.logged
 
-is_opened : (epoch : ℕ) → 0 < epoch → nat_lt 0 epoch ≡ true
-is_opened epoch h = grind (arith, nat_tests)
-
-below : (m n : ℕ) → m ≤ n → nat_le m n ≡ true
-below m n h = grind (arith, nat_tests)
-
-same_number : (n : ℕ) → nat_eq n n ≡ true
-same_number n = grind (arith, nat_tests)
-
-and_true : (x y : Bool) → x ≡ true → y ≡ true → (x && y) ≡ true
-and_true true y e f = f
-and_true false y e f = e
-
 all_three : (x y z : Bool) → x ≡ true → y ≡ true → z ≡ true → (x && y && z) ≡ true
-all_three true y z e f g = and_true y z f g
+all_three true y z e f g = and_from y z f g
 all_three false y z e f g = e
 
 opened : (b : Before) → Sound b → nat_lt 0 b.facts.epoch ≡ true
-opened b sound = is_opened b.facts.epoch sound.opened
+opened b sound = lt-ltb 0 b.facts.epoch sound.opened
 
-from_zero : (last at : ℕ) → last < at → nat_lt 0 at ≡ true
-from_zero last at h = grind (arith, nat_tests)
+stamped : (last at : ℕ) → last < at → nat_lt 0 at ≡ true
+stamped last at h = lt-ltb 0 at (omega (arith, h))
 
 follows_abort : (b : Before) (t : Id) → Sound b → is_undecided (stands b t) ≡ true → IsTrue (follows_facts b.shard b.facts (Record.Abort t))
 unfolding follows_facts
-follows_abort b t sound fresh = and_true _ _ (opened b sound) (ap is_unrecorded (unrecorded b t sound fresh))
+follows_abort b t sound fresh = and_from _ _ (opened b sound) (ap is_unrecorded (unrecorded b t sound fresh))
 
 not_below : (n c at s : ℕ) → is_outcome_for n c at (Some s) ≡ true → nat_le at s ≡ true
 not_below n c at s e = grind (arith, nat_tests)
@@ -141,7 +128,7 @@ follows_close : (b : Before) (t : Id) (n c at : ℕ) (held : List Lock) (outcome
 unfolding follows_facts
 follows_close b t n c at held outcome sound found k =
     let made : PromiseOf b t held c at = promise_of b t held c at sound found in
-    and_true _ _ (opened b sound) (ap (λ s. allows s outcome) made.is ∙ by_outcome made.promise made.stamp outcome k)
+    and_from _ _ (opened b sound) (ap (λ s. allows s outcome) made.is ∙ by_outcome made.promise made.stamp outcome k)
   where
     by_outcome : (p : Prepared) → p.at ≡ at → (o : Option ℕ) → is_outcome_for n c at o ≡ true → allows (StandsPrepared p) o ≡ true
     by_outcome p same None k = refl
@@ -152,7 +139,7 @@ follows_settle : (b : Before) (t : Id) (at : ℕ) (ps : List ℕ) (held : List L
 unfolding follows_facts
 follows_settle b t at ps held sound found =
     let made : DecisionOf b t held at ps = decision_of b t held at ps sound found in
-    and_true _ _ (opened b sound) (ap (λ s. allows s (Some at)) made.is ∙ ap (λ m. nat_eq m at) made.stamp ∙ same_number at)
+    and_from _ _ (opened b sound) (ap (λ s. allows s (Some at)) made.is ∙ ap (λ m. nat_eq m at) made.stamp ∙ eq-eqb at at refl)
 
 follows : (b : Before) (p : Plan) → Sound b → Shape b p → Follows b p
 unfolding Follows follows_facts
@@ -165,17 +152,17 @@ follows b p sound (IsLock t ended needs phase out l e) = subst (Follows b) (sym 
 follows b p sound (IsWait t needs phase out w e) = subst (Follows b) (sym e) tt
 follows b p sound (IsPromise t ended c at rs ws out l e) =
     subst (Follows b) (sym e)
-    (and_true _ _ (opened b sound) (all_three _ _ _ (from_zero b.memory.last at l.above) (ap is_unrecorded (unrecorded b t sound l.undecided)) (l.lower sound.fit)))
+    (and_from _ _ (opened b sound) (all_three _ _ _ (stamped b.memory.last at l.above) (ap is_unrecorded (unrecorded b t sound l.undecided)) (l.lower sound.fit)))
 follows b p sound (IsDecision t ended needs at ps rs ws out l e) =
     subst (Follows b) (sym e)
-    (and_true _ _ (opened b sound) (all_three _ _ _ (from_zero b.memory.last at l.above) (ap is_unrecorded (unrecorded b t sound l.undecided)) (l.first sound.fit)))
+    (and_from _ _ (opened b sound) (all_three _ _ _ (stamped b.memory.last at l.above) (ap is_unrecorded (unrecorded b t sound l.undecided)) (l.first sound.fit)))
 
 follows_ceiling : (b : Before) (stride at : ℕ) → Sound b → LogFollows b (ceiling_for b.facts.floor stride at)
 unfolding follows_facts
 follows_ceiling b stride at sound = by_test (nat_lt b.facts.floor at) _
   where
     by_test : (high : Bool) (n : ℕ) → LogFollows b (cond high (Some (Record.Ceiling n)) None)
-    by_test true n = and_true _ _ (opened b sound) refl
+    by_test true n = and_from _ _ (opened b sound) refl
     by_test false n = tt
 
 follows_of : (b : Before) (i : Input) (p : Plan) → Sound b → ShapeOf b i p → Follows b p

@@ -1,7 +1,7 @@
 -- The row of a standing, those in the way of a request, and the locks that a grant gives.
 use Rattle.std.proofs.Common.{◌≡◌, ℕ, Bool, true, false, ◌&&◌, ◌||◌, not, cond, nat_le, List, [], ◌∷◌, map, filter, length, Option, Some, None, refl, sym, ap, subst, ◌∙◌, arith}
 use Rattle.std.specs.List.{AllByRecursion}
-use Rattle.std.proofs.lemmas.Bool.{false≢true}
+use Rattle.std.proofs.lemmas.Bool.{false≢true, and_parts}
 use Rattle.std.proofs.lemmas.Bool.Decides.{nat_tests}
 use Rattle.units.specs.Lists.{any, each, head, keep, mapped}
 use Rattle.units.specs.Ids.{Id, same_id, older}
@@ -153,10 +153,6 @@ exclusive_still Shared n e = absurd (false≢true e)
 exclusive_now : (m : Mode) → is_exclusive (stronger m Exclusive) ≡ true
 exclusive_now Exclusive = refl
 exclusive_now Shared = refl
-
-and_both : (a b : Bool) → (a && b) ≡ true → (a ≡ true) × (b ≡ true)
-and_both true b e = (refl, e)
-and_both false b e = absurd (false≢true e)
 
 -- what was held alone is so with one lock more
 alone_still : (held : List Lock) (l : Lock) (k : Bytes) → holds_alone held k ≡ true → holds_alone (with_lock held l) k ≡ true

@@ -1,5 +1,6 @@
 -- Each transaction's record and its row agree after a step.
 use Rattle.std.proofs.Common.{◌≡◌, ℕ, ◌<◌, ◌≤◌, max, Bool, true, false, cond, nat_lt, List, [], ◌∷◌, ◌++◌, Option, Some, None, refl, sym, ap, subst, ◌∙◌, arith, ◌⊎◌, inl, inr}
+use Rattle.std.proofs.Math.Nat.{le-max_left, le-max_right}
 use Rattle.std.specs.Prelude.{IsTrue}
 use Rattle.std.specs.List.{AllByRecursion}
 use Rattle.std.proofs.lemmas.Bool.{false≢true}
@@ -23,7 +24,8 @@ use Rattle.protocol.specs.Plan.{Plan, Before, carried, changed, without_rows, st
 use Rattle.protocol.proofs.AboveVersions.{above_all, above_more, rows_apart, writes_apart}
 use Rattle.protocol.proofs.Agreement.{Sound, unrecorded}
 use Rattle.protocol.proofs.InWay.{holds_exclusive}
-use Rattle.protocol.proofs.PlanWalk.{undecided_of_loose}
+use Rattle.protocol.proofs.KeptFacts.{raised_up}
+use Rattle.protocol.proofs.Choices.{undecided_of_loose}
 use Rattle.protocol.proofs.RowChanges.{row_as, find-with_row_same, find-with_row_other, find-without_row_same, find-without_row_other, find-without_rows}
 use Rattle.protocol.proofs.StatusChanges.{Closing, closing, settling, installs_by, status_in, status_same, status_other}
 use Rattle.protocol.proofs.Shapes.{Shape, Answers, IsEnd, IsAbort, IsClose, IsSettle, IsLock, IsWait, IsPromise, IsDecision, ShapeOf, Acts, IsAdvance, IsLooseOther, IsPromised, IsResolved, is_undecided, granted_to}
@@ -178,26 +180,13 @@ open_agrees b t ended held phase sound gone fresh opened =
     put_agrees b t ended held phase b.memory.last b.facts.entries sound gone (omega arith) (same_still b t)
     (subst (λ s. Agrees b.facts.installs b.memory.last s (Some (row_as t held phase))) (sym (unrecorded b t sound fresh)) opened)
 
-max_up : (last at : ℕ) → last ≤ max last at
-max_up last at = omega arith
-
-max_own : (last at : ℕ) → at ≤ max last at
-max_own last at = omega arith
-
-from_zero : (last at : ℕ) → last < at → 0 < at
-from_zero last at h = omega (arith, h)
-
-raised_up : (last : ℕ) (outcome : Option ℕ) → last ≤ raised last outcome
-raised_up last None = omega arith
-raised_up last (Some s) = omega arith
-
 -- a row that is put with its record stands by it
 stands_now : (b : Before) (t : Id) (held : List Lock) (phase : Phase) (at : ℕ) (ws : List Write) → Sound b → b.memory.last < at → holds_writes held ws ≡ true
     → StandsBy b.facts.installs (max b.memory.last at) (row_as t held phase) phase at ws
 stands_now b t held phase at ws sound above holds = record {
   phase = refl;
-  above_zero = from_zero b.memory.last at above;
-  assigned = max_own b.memory.last at;
+  above_zero = omega (arith, above);
+  assigned = le-max_right b.memory.last at;
   held = holds;
   above = above_all b.facts.installs b.memory.last at ws above sound.installed;
 }
@@ -207,7 +196,7 @@ recorded_agrees : (b : Before) (t : Id) (ended : List Id) (held : List Lock) (ph
     → AllByRecursion (IsLooseOther b.memory.rows t) ended → Agrees b.facts.installs (max b.memory.last at) s (Some (row_as t held phase))
     → AllAgree b.facts.installs (max b.memory.last at) (with_status b.facts.entries t s) (with_row (without_rows b.memory.rows ended) (row_as t held phase))
 recorded_agrees b t ended held phase at ws s sound gone own =
-    put_agrees b t ended held phase (max b.memory.last at) (with_status b.facts.entries t s) sound gone (max_up b.memory.last at) (with_one b t s)
+    put_agrees b t ended held phase (max b.memory.last at) (with_status b.facts.entries t s) sound gone (le-max_left b.memory.last at) (with_one b t s)
     (subst (λ r. Agrees b.facts.installs (max b.memory.last at) r (Some (row_as t held phase))) (sym (status_same b.facts.entries t s)) own)
 
 agreeing : (b : Before) (p : Plan) → Sound b → Shape b p → KeepsAgreement b p
@@ -250,4 +239,4 @@ pub agreeing_of : (b : Before) (i : Input) (p : Plan) → Sound b → ShapeOf b 
 unfolding KeepsAgreement carried changed
 agreeing_of b i p sound (Acts shape) = agreeing b p sound shape
 agreeing_of b i p sound (IsAdvance stride at k e) =
-    subst (KeepsAgreement b) (sym e) (later_agrees b (max b.memory.last at) (nat_lt b.facts.floor at) _ sound (max_up b.memory.last at))
+    subst (KeepsAgreement b) (sym e) (later_agrees b (max b.memory.last at) (nat_lt b.facts.floor at) _ sound (le-max_left b.memory.last at))

@@ -1,6 +1,8 @@
 -- What a step keeps of the facts and of the greatest timestamp: the epoch, the order of the entries and of the ended ids, the
 -- floor above what was served, and no version above it.
 use Rattle.std.proofs.Common.{◌≡◌, ℕ, ◌+◌, ◌-◌, ◌^◌, ◌<◌, ◌≤◌, max, min, Bool, true, false, cond, ◌&&◌, nat_lt, nat_le, List, [], ◌∷◌, ◌++◌, Option, Some, None, refl, sym, ap, subst, ◌∙◌, arith, ltb-false}
+use Rattle.std.proofs.Math.Nat.{le-max_left}
+use Rattle.std.proofs.lemmas.Bool.{le-leb}
 use Rattle.std.specs.Prelude.{IsTrue}
 use Rattle.std.proofs.lemmas.Bool.Decides.{nat_tests}
 use Rattle.units.specs.Lists.{each, ascends}
@@ -20,6 +22,7 @@ use Rattle.protocol.specs.StepLaws.{IsInLimit}
 use Rattle.protocol.specs.Plan.{Plan, Before, carried, ended_by, raised, ceiling_for, in_way}
 use Rattle.protocol.proofs.AboveVersions.{each_append, each_gives}
 use Rattle.protocol.proofs.Agreement.{Sound, decision_of, DecisionOf}
+use Rattle.protocol.proofs.LastUnderFloor.{under_ceiling}
 use Rattle.protocol.proofs.StatusChanges.{Closing, closing, settling, installs_by, by_id-status, ascends-with_id, ascends-with_ids}
 use Rattle.protocol.proofs.Shapes.{Shape, Answers, IsEnd, IsAbort, IsClose, IsSettle, IsLock, IsWait, IsPromise, IsDecision, ShapeOf, Acts, IsAdvance}
 
@@ -47,12 +50,9 @@ pub covered_later : (last later : ℕ) (installs : List Install) → last ≤ la
 covered_later last later installs h e =
     each_gives (λ (i : Install). nat_le i.at last) (λ (i : Install). nat_le i.at later) (λ i k. not_above i.at last later h k) installs e
 
-le_true : (m n : ℕ) → m ≤ n → nat_le m n ≡ true
-le_true m n h = grind (arith, nat_tests)
-
 covered_versions : (ws : List Write) (s last : ℕ) → s ≤ last → Covered last (versions ws s)
 covered_versions [] s last h = refl
-covered_versions (w ∷ ws) s last h = ap (λ b. b && each (λ (i : Install). nat_le i.at last) (versions ws s)) (le_true s last h) ∙ covered_versions ws s last h
+covered_versions (w ∷ ws) s last h = ap (λ b. b && each (λ (i : Install). nat_le i.at last) (versions ws s)) (le-leb s last h) ∙ covered_versions ws s last h
 
 -- the versions after an outcome
 covered_after : (b : Before) (t : Id) (outcome : Option ℕ) (last : ℕ) → Closing b t outcome → b.memory.last ≤ last → ((s : ℕ) → outcome ≡ Some s → s ≤ last)
@@ -67,7 +67,7 @@ covered_after b t outcome last made h stamp e =
 
 -- ---- the timestamps
 
-raised_up : (last : ℕ) (outcome : Option ℕ) → last ≤ raised last outcome
+pub raised_up : (last : ℕ) (outcome : Option ℕ) → last ≤ raised last outcome
 raised_up last None = omega arith
 raised_up last (Some s) = omega arith
 
@@ -75,18 +75,12 @@ raised_stamp : (last : ℕ) (outcome : Option ℕ) (s : ℕ) → outcome ≡ Som
 raised_stamp last None s e = cc
 raised_stamp last (Some n) s e = let same : n ≡ s = cc in omega (arith, same)
 
-max_up : (last at : ℕ) → last ≤ max last at
-max_up last at = omega arith
-
 both_up : (last floor at : ℕ) → last ≤ floor → max last at ≤ max floor at
 both_up last floor at h = omega (arith, h)
 
 floor_up : (last floor at : ℕ) → last ≤ floor → last ≤ max floor at
 floor_up last floor at h = omega (arith, h)
 
--- served time is under its ceiling, which is cut at the limit of time
-under_ceiling : (last floor at stride : ℕ) → last ≤ floor → at ≤ 2 ^ 62 - 1 → max last at ≤ max floor (min (at + stride) (2 ^ 62 - 1))
-under_ceiling last floor at stride h fits = omega (arith, h, fits)
 
 -- ---- by shape
 
@@ -165,14 +159,14 @@ kept_facts b p sound (IsPromise t ended c at rs ws out l e) = subst (KeepsFacts 
   entries = by_id-status b.facts.entries t _ sound.entries;
   ended = ascends-with_ids b.memory.ended ended sound.ended;
   under = both_up b.memory.last b.facts.floor at sound.under;
-  installed = covered_later b.memory.last _ b.facts.installs (max_up b.memory.last at) sound.installed;
+  installed = covered_later b.memory.last _ b.facts.installs (le-max_left b.memory.last at) sound.installed;
 })
 kept_facts b p sound (IsDecision t ended needs at ps rs ws out l e) = subst (KeepsFacts b) (sym e) (record {
   opened = sound.opened;
   entries = by_id-status b.facts.entries t _ sound.entries;
   ended = ascends-with_ids b.memory.ended ended sound.ended;
   under = both_up b.memory.last b.facts.floor at sound.under;
-  installed = covered_later b.memory.last _ b.facts.installs (max_up b.memory.last at) sound.installed;
+  installed = covered_later b.memory.last _ b.facts.installs (le-max_left b.memory.last at) sound.installed;
 })
 
 -- ---- an advance
@@ -186,7 +180,7 @@ kept_ceiling b stride at rest true sound fits e same others = other_rows _ (reco
   entries = sound.entries;
   ended = sound.ended;
   under = under_ceiling b.memory.last b.facts.floor at stride sound.under fits;
-  installed = covered_later b.memory.last _ b.facts.installs (max_up b.memory.last at) sound.installed;
+  installed = covered_later b.memory.last _ b.facts.installs (le-max_left b.memory.last at) sound.installed;
 })
 kept_ceiling b stride at rest false sound fits e same others =
     let below : at ≤ b.facts.floor = ltb-false b.facts.floor at e in
@@ -196,7 +190,7 @@ kept_ceiling b stride at rest false sound fits e same others =
       entries = sound.entries;
       ended = sound.ended;
       under = omega (arith, below, under);
-      installed = covered_later b.memory.last _ b.facts.installs (max_up b.memory.last at) sound.installed;
+      installed = covered_later b.memory.last _ b.facts.installs (le-max_left b.memory.last at) sound.installed;
     })
 
 pub kept_facts_of : (b : Before) (i : Input) (p : Plan) → IsInLimit i → Sound b → ShapeOf b i p → KeepsFacts b p

@@ -2,7 +2,7 @@
 use Rattle.std.proofs.Common.{◌≡◌, Bool, true, false, not, ◌||◌, List, [], ◌∷◌, Option, Some, None, refl, sym, ap, subst, ◌∙◌}
 use Rattle.std.specs.Prelude.{IsTrue}
 use Rattle.std.specs.List.{AllByRecursion}
-use Rattle.std.proofs.lemmas.Bool.{false≢true}
+use Rattle.std.proofs.lemmas.Bool.{false≢true, not-true, or_right}
 use Rattle.units.specs.Lists.{each}
 use Rattle.units.specs.Ids.{Id, same_id}
 use Rattle.units.specs.Locks.{Claim, exclusive, is_free, with_locks, wounded}
@@ -41,16 +41,12 @@ lawful-without_rows : (rows : List Row) (us : List Id) → IsLawfulTable (claims
 lawful-without_rows rows [] lawful = lawful
 lawful-without_rows rows (u ∷ us) lawful = lawful-without_rows (without_row rows u) us (lawful-without_row rows u lawful)
 
-not_true : (b : Bool) → not b ≡ true → b ≡ false
-not_true false e = refl
-not_true true e = absurd (false≢true e)
-
 -- a row that is granted some locks
 lawful-grant : (rows : List Row) (t : Id) (needs : List Lock) (phase : Phase) → IsLawfulTable (claims rows) → is_free (claims rows) t needs ≡ true
     → needs_of phase ≡ [] → Firms rows t (is_firm phase) → IsLawfulTable (claims (with_row rows (row_as t (with_locks (held_in rows t) needs) phase)))
 lawful-grant rows t needs phase lawful free quiet firms =
     let r : Row = row_as t (with_locks (held_in rows t) needs) phase in
-    let open_way : is_blocked t needs (claims rows) ≡ false = not_true _ (sym (is_free-is (claims rows) t needs) ∙ free) in
+    let open_way : is_blocked t needs (claims rows) ≡ false = not-true _ (sym (is_free-is (claims rows) t needs) ∙ free) in
     subst IsLawfulTable (sym (claims-with_row rows r))
     (lawful_put (claims rows) (claim_of r) lawful (ascends-with_locks (held_in rows t) needs (keys_of rows t (find_row rows t) lawful refl))
     (all_both (OwnApart t (held_in rows t) (is_firm phase)) (λ a. stands_in_way t needs a ≡ false) (IsBeside (claim_of r))
@@ -98,10 +94,6 @@ grant_of : (b : Before) (t : Id) (ended : List Id) (needs : List Lock) (phase : 
 grant_of b t ended needs phase sound clear quiet e =
     lawful-grant (without_rows b.memory.rows ended) t needs phase (lawful-without_rows b.memory.rows ended sound.table) clear.free quiet
     (firms_of b t ended (is_firm phase) clear.gone e)
-
-or_right : (a c : Bool) → c ≡ true → (a || c) ≡ true
-or_right true c e = refl
-or_right false c e = e
 
 pub kept_table : (b : Before) (p : Plan) → Sound b → Shape b p → KeepsTable b p
 unfolding KeepsTable carried changed

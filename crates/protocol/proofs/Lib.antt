@@ -1,19 +1,22 @@
 pub mod AboveVersions
 pub mod Agreement
+pub mod AnswerShapes
 mod BookSample
+pub mod Choices
+pub mod ClaimsBeside
 pub mod InWay
 pub mod KeptAgreement
 pub mod KeptFacts
 pub mod KeptRows
-pub mod ClaimsBeside
-mod LastUnderFloor
+pub mod LastUnderFloor
 mod LockTable
-pub mod PlanWalk
+pub mod PlanShapes
+pub mod RequestShapes
 pub mod RowChanges
 pub mod RowTable
 pub mod Samples
-mod ShardSteps
 pub mod Shapes
+mod ShardSteps
 pub mod StatusChanges
 pub mod StepSound
 pub mod WithinLimit

@@ -1,7 +1,7 @@
 -- The statuses after one more record, and what the outcome of a row that stands leaves.
 use Rattle.std.proofs.Common.{◌≡◌, ℕ, ◌≤◌, Bool, true, false, cond, List, [], ◌∷◌, ◌++◌, Option, Some, None, refl, sym, ap, subst, ◌∙◌, arith}
 use Rattle.std.specs.Prelude.{IsTrue, ◌&&◌}
-use Rattle.std.proofs.lemmas.Bool.{false≢true}
+use Rattle.std.proofs.lemmas.Bool.{false≢true, and_parts, and_from}
 use Rattle.units.specs.Lists.{each, first, ascends}
 use Rattle.units.specs.Ids.{Id, same_id, older, with_id}
 use Rattle.units.specs.ById.{IsById, with_member}
@@ -48,24 +48,16 @@ by_id-status es t s up = subst (IsById (λ (e : Entry). e.txn)) (sym (with_statu
 
 -- ---- ids in order
 
-and_both : (a b : Bool) → (a && b) ≡ true → (a ≡ true) × (b ≡ true)
-and_both true b e = (refl, e)
-and_both false b e = absurd (false≢true e)
-
-and_true : (x y : Bool) → x ≡ true → y ≡ true → (x && y) ≡ true
-and_true true y e f = f
-and_true false y e f = e
-
 -- one more behind an older one
 ascends-behind : (u : Id) (us : List Id) (t : Id) → ascends older (u ∷ us) ≡ true → older u t ≡ true → ascends older (u ∷ with_id us t) ≡ true
-ascends-behind u [] t up e = and_true _ _ e refl
-ascends-behind u (v ∷ vs) t up e = by_tests (same_id v t) (older v t) refl refl (λ k. ascends-behind v vs t ((and_both _ _ up).1) k)
+ascends-behind u [] t up e = and_from _ _ e refl
+ascends-behind u (v ∷ vs) t up e = by_tests (same_id v t) (older v t) refl refl (λ k. ascends-behind v vs t ((and_parts _ _ up).1) k)
   where
     by_tests : (a b : Bool) → same_id v t ≡ a → older v t ≡ b → (older v t ≡ true → ascends older (v ∷ with_id vs t) ≡ true)
         → ascends older (u ∷ cond a (v ∷ vs) (cond b (v ∷ with_id vs t) (t ∷ v ∷ vs))) ≡ true
     by_tests true b s o rest = up
-    by_tests false true s o rest = and_true _ _ ((and_both _ _ up).0) (rest o)
-    by_tests false false s o rest = and_true _ _ e (and_true _ _ (older_total v t s o) ((and_both _ _ up).1))
+    by_tests false true s o rest = and_from _ _ ((and_parts _ _ up).0) (rest o)
+    by_tests false false s o rest = and_from _ _ e (and_from _ _ (older_total v t s o) ((and_parts _ _ up).1))
 
 pub ascends-with_id : (us : List Id) (t : Id) → ascends older us ≡ true → ascends older (with_id us t) ≡ true
 ascends-with_id [] t up = refl
@@ -74,7 +66,7 @@ ascends-with_id (u ∷ us) t up = by_tests (same_id u t) (older u t) refl refl
     by_tests : (a b : Bool) → same_id u t ≡ a → older u t ≡ b → ascends older (cond a (u ∷ us) (cond b (u ∷ with_id us t) (t ∷ u ∷ us))) ≡ true
     by_tests true b s o = up
     by_tests false true s o = ascends-behind u us t up o
-    by_tests false false s o = and_true _ _ (older_total u t s o) up
+    by_tests false false s o = and_from _ _ (older_total u t s o) up
 
 pub ascends-with_ids : (us ts : List Id) → ascends older us ≡ true → ascends older (with_ids us ts) ≡ true
 ascends-with_ids us [] up = up

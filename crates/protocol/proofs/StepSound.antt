@@ -14,7 +14,7 @@ use Rattle.protocol.proofs.Agreement.{Sound}
 use Rattle.protocol.proofs.KeptAgreement.{KeepsAgreement, agreeing_of}
 use Rattle.protocol.proofs.KeptFacts.{KeepsFacts, kept_facts_of}
 use Rattle.protocol.proofs.KeptRows.{KeepsFit, KeepsTable, kept_fit_of, kept_table_of}
-use Rattle.protocol.proofs.PlanWalk.{shape_of}
+use Rattle.protocol.proofs.PlanShapes.{shape_of}
 use Rattle.protocol.proofs.RowChanges.{by_id-claims}
 use Rattle.protocol.proofs.Shapes.{ShapeOf}
 
