@@ -1,6 +1,6 @@
 -- A timestamp above the versions of what is written: it is so where all versions are lower, and stays so where versions of
 -- other keys come. What two rows hold alone are different keys. What a step installs is above the versions of its keys.
-use Rattle.std.proofs.Common.{◌≡◌, ℕ, ◌<◌, ◌≤◌, Bool, true, false, not, ◌&&◌, ◌||◌, nat_lt, nat_le, List, [], ◌∷◌, ◌++◌, Option, Some, None, Ok, refl, sym, ap, subst, ◌∙◌, arith}
+use Rattle.std.proofs.Common.{◌≡◌, ℕ, ◌<◌, ◌≤◌, Bool, true, false, not, ◌&&◌, ◌||◌, nat_lt, nat_le, List, [], ◌∷◌, ◌++◌, Option, Some, None, refl, sym, ap, subst, ◌∙◌, arith}
 use Rattle.std.specs.Prelude.{IsTrue}
 use Rattle.std.specs.List.{AllByRecursion}
 use Rattle.std.proofs.lemmas.Bool.{false≢true, and_parts, or_left, or_right, or_parts}
@@ -19,10 +19,9 @@ use Rattle.units.specs.declared.writes.Install.{Install}
 use Rattle.units.specs.declared.writes.Write.{Write}
 use Rattle.units.proofs.ByIdLaws.{found_all, found_is}
 use Rattle.units.proofs.IdLaws.{same_id-is}
-use Rattle.units.proofs.KeyLaws.{same_key-is, same_key-refl, same_key_comm}
+use Rattle.units.proofs.KeyLaws.{same_key-is, same_key-refl}
 use Rattle.units.proofs.ListLaws.{all_of_each, each_of_all, all_gives, each-keep}
 use Rattle.locks.proofs.Pairs.{LockPair, by_pairs}
-use Rattle.record.specs.Records.{StandsPrepared}
 use Rattle.record.specs.Facts.{recorded}
 use Rattle.record.specs.declared.record.Record.{Record}
 use Rattle.message.specs.declared.message.Input.{Input}

@@ -1,21 +1,21 @@
 -- What the record of a transaction is where its row stands by one, and where it has none; and that what a step logs may
 -- come next.
-use Rattle.std.proofs.Common.{◌≡◌, ℕ, ◌<◌, ◌≤◌, Bool, true, false, cond, ◌&&◌, nat_lt, nat_le, nat_eq, List, Option, Some, None, Ok, refl, sym, ap, subst, ◌∙◌, arith}
+use Rattle.std.proofs.Common.{◌≡◌, ℕ, ◌<◌, Bool, true, false, cond, ◌&&◌, nat_lt, nat_le, nat_eq, List, Option, Some, None, refl, sym, ap, subst, ◌∙◌, arith}
 use Rattle.std.specs.Prelude.{IsTrue}
 use Rattle.std.proofs.lemmas.Bool.{false≢true, and_from, eq-eqb, lt-ltb}
 use Rattle.std.proofs.lemmas.Bool.Decides.{nat_tests}
-use Rattle.units.specs.Lists.{any, head, when}
+use Rattle.units.specs.Lists.{any}
 use Rattle.units.specs.Ids.{Id, same_id}
 use Rattle.units.specs.declared.lock.Lock.{Lock}
 use Rattle.units.specs.declared.writes.Install.{Install}
 use Rattle.record.specs.Records.{Status, Unrecorded, StandsPrepared, StandsDecided, HasAborted, HasSettled, HasClosed}
-use Rattle.record.specs.Facts.{Facts, recorded}
+use Rattle.record.specs.Facts.{recorded}
 use Rattle.record.specs.declared.record.Committed.{Committed}
 use Rattle.record.specs.declared.record.Prepared.{Prepared}
 use Rattle.record.specs.declared.record.Record.{Record}
-use Rattle.facts.specs.Rules.{allows, is_unrecorded, id_follows, follows_facts}
+use Rattle.facts.specs.Rules.{allows, is_unrecorded, follows_facts}
 use Rattle.message.specs.declared.message.Input.{Input}
-use Rattle.protocol.specs.Rows.{Memory, Row, Phase, IsPrepared, IsDecided, standing, standing_by, find_row}
+use Rattle.protocol.specs.Rows.{Row, IsPrepared, IsDecided, standing, standing_by, find_row}
 use Rattle.protocol.specs.Step.{is_outcome_for}
 use Rattle.protocol.specs.Sound.{Agrees, StandsBy, IsSound, is_open, LoggedFollows}
 use Rattle.protocol.specs.Plan.{Plan, Before, before, stands, ceiling_for}

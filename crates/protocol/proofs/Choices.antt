@@ -1,35 +1,21 @@
 -- The shape of a plan that is chosen by tests, and what the standing of a transaction says of its row.
-use Rattle.std.proofs.Common.{refl, arith, sym, subst, ap, ◌∙◌}
-use Rattle.std.specs.Prelude.{ℕ, ◌+◌, ◌≡◌, ◌<◌, max, Bool, true, false, not, cond, ◌&&◌, ◌||◌, nat_lt, nat_eq, List, [], ◌∷◌, Option, Some, None, Ok, Err}
-use Rattle.std.specs.List.{AllByRecursion}
-use Rattle.std.proofs.lemmas.Bool.{false≢true, and_parts, and_from}
-use Rattle.units.specs.Lists.{each, head, when}
+use Rattle.std.proofs.Common.{refl}
+use Rattle.std.specs.Prelude.{◌≡◌, Bool, true, false, cond, List, [], Ok, Err}
+use Rattle.std.proofs.lemmas.Bool.{false≢true}
 use Rattle.units.specs.Ids.{Id}
 use Rattle.units.specs.ById.{IsById}
-use Rattle.units.specs.Keys.{Bytes}
-use Rattle.units.specs.Locks.{exclusive, ready, is_free, with_locks}
+use Rattle.units.specs.Locks.{is_free}
 use Rattle.units.specs.declared.fault.Fault.{Fault}
-use Rattle.units.specs.declared.fault.Fault.TheVariants.{Future}
 use Rattle.units.specs.declared.lock.Lock.{Lock}
-use Rattle.units.specs.declared.setup.Setup.{Setup}
-use Rattle.units.specs.declared.writes.Write.{Write}
-use Rattle.units.proofs.IdLaws.{same_id-is}
-use Rattle.units.proofs.ByIdLaws.{found_all, found_is}
+use Rattle.units.proofs.ByIdLaws.{found_all}
 use Rattle.units.proofs.ListLaws.{all_of_each}
-use Rattle.truetime.specs.Interval.{Interval}
-use Rattle.record.specs.Facts.{Facts}
-use Rattle.record.specs.declared.record.Record.{Record}
-use Rattle.message.specs.declared.message.Message.{Message}
 use Rattle.message.specs.declared.message.Envelope.{Envelope}
-use Rattle.message.specs.declared.message.Input.{Input}
-use Rattle.protocol.specs.Rows.{Memory, Row, Phase, Idle, WaitsRead, WaitsPrepare, WaitsCommit, Collecting, IsPrepared, IsDecided, Voted, Standing, IsUnknown, WasEnded, HasRow, WasAborted, WasSettled, WasClosed, claims, find_row, is_firm, needs_of}
-use Rattle.protocol.specs.Draft.{commit_stamp, held_by, other_parts, outcome_to}
-use Rattle.protocol.specs.Step.{is_for, is_outcome_for, with_vote}
-use Rattle.protocol.specs.Sound.{fits, holds_writes}
-use Rattle.protocol.specs.Plan.{Plan, Planned, Keeps, ceiling_for, Before, before, stands, still_stand, answers, replies, idles, ends, roomed, timed, to_read, is_crowded, in_way, opens, held_in, without_rows, of_part, plan_read_now, plan_read_row, plan_read, plan_promise, plan_prepare_now, plan_prepare_fresh, plan_prepare, plan_abort, plan_decide, plan_commit_granted, plan_commit_now, plan_commit_fresh, plan_commit, plan_count, plan_tell, plan_vote, plan_unpromised, plan_outcome, plan_give_up, plan_abort_for, plan_ask, plan_go_on, plan_resume_row, plan_resume_id, plan_resume, plan_settle, plan_advance, plan_nudge, plan_message, plan_input}
+use Rattle.protocol.specs.Rows.{Row, Phase, Idle, WaitsRead, WaitsPrepare, WaitsCommit, Collecting, IsPrepared, IsDecided, Standing, IsUnknown, WasEnded, HasRow, WasAborted, WasSettled, WasClosed, claims}
+use Rattle.protocol.specs.Sound.{fits}
+use Rattle.protocol.specs.Plan.{Plan, Planned, Before, stands, replies, idles, roomed, in_way, opens}
 use Rattle.protocol.proofs.RowChanges.{row_as}
-use Rattle.protocol.proofs.InWay.{row_at, stands_at, room_at, in_way_gone, free_of_nothing, free_when_ready, holds_exclusive}
-use Rattle.protocol.proofs.Shapes.{Shape, Shaped, Answers, IsEnd, IsAbort, IsClose, IsSettle, IsLock, IsWait, IsPromise, IsDecision, ShapeOf, Acts, IsAdvance, ShapedBy, IsCleared, IsLooseOther, IsLocked, IsWaiting, IsPromised, IsResolved, is_undecided, is_loose, all_fit, granted_to}
+use Rattle.protocol.proofs.InWay.{row_at, in_way_gone}
+use Rattle.protocol.proofs.Shapes.{Shape, Shaped, Answers, IsCleared, is_undecided, is_loose, all_fit}
 
 -- the rows of a state ascend by id
 abbrev pub Ascends : Before → Type 0

@@ -1,32 +1,24 @@
 -- A claim that is put beside the others of a table keeps its laws: where its locks are granted, and where it waits.
-use Rattle.std.proofs.Common.{◌≡◌, Bool, true, false, not, ◌||◌, List, [], ◌∷◌, Option, Some, None, refl, sym, ap, subst, ◌∙◌, arith, ◌⊎◌, inl, inr}
-use Rattle.std.specs.Prelude.{IsTrue}
-use Rattle.std.specs.List.{AllByRecursion, list_any}
+use Rattle.std.proofs.Common.{◌≡◌, Bool, true, false, not, ◌||◌, List, [], ◌∷◌, Option, Some, None, refl, sym, ap, ◌∙◌, inl, inr}
+use Rattle.std.specs.List.{AllByRecursion}
 use Rattle.std.proofs.lemmas.Bool.{false≢true}
-use Rattle.units.specs.Lists.{each, ascends, mapped}
+use Rattle.units.specs.Lists.{ascends, mapped}
 use Rattle.units.specs.Ids.{Id, same_id, older}
 use Rattle.units.specs.ById.{find_member}
-use Rattle.units.specs.Locks.{Claim, clash, is_free, lock_before, with_locks, wounded}
+use Rattle.units.specs.Locks.{Claim, clash, lock_before, with_locks}
 use Rattle.units.specs.LockLaws.{IsLawfulTable}
 use Rattle.units.specs.declared.lock.Lock.{Lock}
 use Rattle.units.proofs.IdLaws.{same_id-is, same_id-refl, same_id_comm, older_total}
 use Rattle.units.proofs.ByIdLaws.{all-with, by_id-with, found_all, found_is}
-use Rattle.units.proofs.ListLaws.{all_of_each, each_of_all, all_gives, all-keep}
-use Rattle.locks.specs.Table.{with_claim, without_claim, without_claims}
-use Rattle.locks.specs.Ways.{gives_way, is_wounding, stands_in_way, is_blocked}
-use Rattle.locks.proofs.Clashes.{clash_nil, clash_comm, clash-with_locks, ascends-with_locks}
+use Rattle.units.proofs.ListLaws.{all_gives}
+use Rattle.locks.specs.Table.{with_claim}
+use Rattle.locks.specs.Ways.{gives_way, stands_in_way}
+use Rattle.locks.proofs.Clashes.{clash_nil, clash_comm, clash-with_locks}
 use Rattle.locks.proofs.Pairs.{EachPair, LockPair, WaitPair, HoldsByKey, by_pairs, from_pairs}
-use Rattle.locks.proofs.Release.{release_makes_way}
-use Rattle.locks.proofs.TableLaws.{all_fail, all_of_any, free_of, not_older_waiter, older_or_firm, or_true, true_or_false, lawful-without}
-use Rattle.locks.proofs.WayLaws.{is_free-is, none_wounded}
-use Rattle.protocol.specs.Rows.{Row, Phase, IsPrepared, IsDecided, Standing, claim_of, claims, find_row, is_firm, needs_of, with_row, without_row}
+use Rattle.locks.proofs.TableLaws.{all_of_any, free_of, not_older_waiter, older_or_firm, true_or_false}
+use Rattle.protocol.specs.Rows.{Row, claim_of, claims, find_row, is_firm}
 use Rattle.protocol.specs.Draft.{held_by}
-use Rattle.protocol.specs.Plan.{Before, without_rows, held_in, in_way, stands}
-use Rattle.protocol.proofs.InWay.{stands_at}
-use Rattle.protocol.proofs.RowChanges.{row_as, find-without_rows_other}
-use Rattle.protocol.proofs.RowTable.{claims-find_row, claims-with_row, claims-without_row}
-use Rattle.protocol.proofs.Shapes.{IsLooseOther, IsCleared, is_loose}
-use Rattle.protocol.proofs.WithinLimit.{others_gone}
+use Rattle.protocol.proofs.RowTable.{claims-find_row}
 
 -- ---- a claim is put
 

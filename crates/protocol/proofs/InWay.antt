@@ -1,12 +1,12 @@
 -- The row of a standing, those in the way of a request, and the locks that a grant gives.
-use Rattle.std.proofs.Common.{◌≡◌, ℕ, Bool, true, false, ◌&&◌, ◌||◌, not, cond, nat_le, List, [], ◌∷◌, map, filter, length, Option, Some, None, refl, sym, ap, subst, ◌∙◌, arith}
+use Rattle.std.proofs.Common.{◌≡◌, Bool, true, false, ◌&&◌, not, cond, nat_le, List, [], ◌∷◌, map, filter, length, Option, Some, None, refl, sym, ap, subst, ◌∙◌, arith}
 use Rattle.std.specs.List.{AllByRecursion}
-use Rattle.std.proofs.lemmas.Bool.{false≢true, and_parts}
+use Rattle.std.proofs.lemmas.Bool.{false≢true}
 use Rattle.std.proofs.lemmas.Bool.Decides.{nat_tests}
-use Rattle.units.specs.Lists.{any, each, head, keep, mapped}
+use Rattle.units.specs.Lists.{any, keep, mapped}
 use Rattle.units.specs.Ids.{Id, same_id, older}
 use Rattle.units.specs.ById.{IsById, find_member}
-use Rattle.units.specs.Keys.{Bytes, same_key}
+use Rattle.units.specs.Keys.{Bytes}
 use Rattle.units.specs.Locks.{Claim, blockers, waits_before, clash, exclusive, is_free, others, ready, stronger, with_lock, with_locks}
 use Rattle.units.specs.LockLaws.{IsReady, IsOldestReady}
 use Rattle.units.specs.declared.lock.Lock.{Lock}
@@ -14,15 +14,15 @@ use Rattle.units.specs.declared.lock.Mode.{Mode}
 use Rattle.units.specs.declared.lock.Mode.TheVariants.{Shared, Exclusive}
 use Rattle.units.specs.declared.writes.Write.{Write}
 use Rattle.units.proofs.IdLaws.{same_id-is, same_id_comm, older_not_same}
-use Rattle.units.proofs.KeyLaws.{same_key-is, same_key-refl}
-use Rattle.units.proofs.ByIdLaws.{found_is, found_has, find-map}
+use Rattle.units.proofs.KeyLaws.{same_key-refl}
+use Rattle.units.proofs.ByIdLaws.{found_is, found_has}
 use Rattle.record.specs.Records.{Status, Unrecorded, StandsPrepared, StandsDecided, HasAborted, HasSettled, HasClosed}
 use Rattle.record.specs.Facts.{recorded}
-use Rattle.locks.specs.Ways.{gives_way, ids_in_way}
+use Rattle.locks.specs.Ways.{gives_way}
 use Rattle.locks.proofs.Clashes.{clash_nil}
 use Rattle.locks.proofs.Oldest.{ready_is_oldest}
 use Rattle.locks.proofs.WayLaws.{wounded-is}
-use Rattle.protocol.specs.Rows.{Row, Phase, Standing, HasRow, standing, standing_by, claim_of, claims, find_row, is_firm, needs_of}
+use Rattle.protocol.specs.Rows.{Row, Phase, HasRow, standing, standing_by, claim_of, claims, find_row, is_firm, needs_of}
 use Rattle.protocol.specs.Sound.{holds_alone, holds_writes, is_exclusive}
 use Rattle.protocol.specs.Plan.{Before, stands, in_way, is_crowded}
 use Rattle.protocol.proofs.RowChanges.{row_as, find_each}

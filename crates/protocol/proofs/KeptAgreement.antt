@@ -1,11 +1,10 @@
 -- Each transaction's record and its row agree after a step.
-use Rattle.std.proofs.Common.{◌≡◌, ℕ, ◌<◌, ◌≤◌, max, Bool, true, false, cond, nat_lt, List, [], ◌∷◌, ◌++◌, Option, Some, None, refl, sym, ap, subst, ◌∙◌, arith, ◌⊎◌, inl, inr}
+use Rattle.std.proofs.Common.{◌≡◌, ℕ, ◌<◌, ◌≤◌, max, Bool, true, false, cond, nat_lt, List, [], ◌++◌, Option, Some, None, refl, sym, ap, subst, ◌∙◌, arith, ◌⊎◌, inl, inr}
 use Rattle.std.proofs.Math.Nat.{le-max_left, le-max_right}
 use Rattle.std.specs.Prelude.{IsTrue}
 use Rattle.std.specs.List.{AllByRecursion}
 use Rattle.std.proofs.lemmas.Bool.{false≢true}
 use Rattle.units.specs.Ids.{Id, same_id}
-use Rattle.units.specs.Keys.{Bytes}
 use Rattle.units.specs.Locks.{exclusive}
 use Rattle.units.specs.Versions.{above_versions}
 use Rattle.units.specs.declared.lock.Lock.{Lock}
@@ -14,13 +13,13 @@ use Rattle.units.specs.declared.writes.Write.{Write}
 use Rattle.units.proofs.Folds.{append_none}
 use Rattle.units.proofs.IdLaws.{same_id-is}
 use Rattle.record.specs.Records.{Status, Unrecorded, StandsPrepared, StandsDecided, HasAborted, HasSettled, HasClosed}
-use Rattle.record.specs.Facts.{Entry, Facts, learn, recorded, installs_at, with_status}
+use Rattle.record.specs.Facts.{Entry, learn, recorded, installs_at, with_status}
 use Rattle.record.specs.declared.record.Record.{Record}
 use Rattle.message.specs.declared.message.Input.{Input}
-use Rattle.protocol.specs.Rows.{Memory, Row, Phase, Idle, WaitsRead, WaitsPrepare, WaitsCommit, Collecting, IsPrepared, IsDecided, find_row, is_firm, with_row, without_row}
+use Rattle.protocol.specs.Rows.{Row, Phase, Idle, WaitsRead, WaitsPrepare, WaitsCommit, Collecting, IsPrepared, IsDecided, find_row, is_firm, with_row, without_row}
 use Rattle.protocol.specs.Step.{facts_after}
 use Rattle.protocol.specs.Sound.{Agrees, StandsBy, is_open, holds_writes}
-use Rattle.protocol.specs.Plan.{Plan, Before, carried, changed, without_rows, stands, raised, in_way, ceiling_for, held_in}
+use Rattle.protocol.specs.Plan.{Plan, Before, carried, changed, without_rows, stands, in_way}
 use Rattle.protocol.proofs.AboveVersions.{above_all, above_more, rows_apart, writes_apart}
 use Rattle.protocol.proofs.Agreement.{Sound, unrecorded}
 use Rattle.protocol.proofs.InWay.{holds_exclusive}
@@ -28,7 +27,7 @@ use Rattle.protocol.proofs.KeptFacts.{raised_up}
 use Rattle.protocol.proofs.Choices.{undecided_of_loose}
 use Rattle.protocol.proofs.RowChanges.{row_as, find-with_row_same, find-with_row_other, find-without_row_same, find-without_row_other, find-without_rows}
 use Rattle.protocol.proofs.StatusChanges.{Closing, closing, settling, installs_by, status_in, status_same, status_other}
-use Rattle.protocol.proofs.Shapes.{Shape, Answers, IsEnd, IsAbort, IsClose, IsSettle, IsLock, IsWait, IsPromise, IsDecision, ShapeOf, Acts, IsAdvance, IsLooseOther, IsPromised, IsResolved, is_undecided, granted_to}
+use Rattle.protocol.proofs.Shapes.{Shape, Answers, IsEnd, IsAbort, IsClose, IsSettle, IsLock, IsWait, IsPromise, IsDecision, ShapeOf, Acts, IsAdvance, IsLooseOther, is_undecided, granted_to}
 
 -- each transaction's record and its row agree
 abbrev pub AllAgree : List Install → ℕ → List Entry → List Row → Type 0
@@ -119,9 +118,9 @@ put_agrees b t ended held phase later es sound gone h others own =
     by_own (λ v. Agrees b.facts.installs later (status_in es v) (find_row (with_row left r) v)) t
     (subst (Agrees b.facts.installs later (status_in es t)) (sym (find-with_row_same left r)) own)
     (λ v differ.
-        subst (Agrees b.facts.installs later (status_in es v)) (sym (find-with_row_other left r v differ))
-        (subst (λ s. Agrees b.facts.installs later s (find_row left v)) (sym (others v differ))
-        (left_agrees b t v ended b.facts.installs later sound gone h (λ r at ws e k a. a))))
+    subst (Agrees b.facts.installs later (status_in es v)) (sym (find-with_row_other left r v differ))
+    (subst (λ s. Agrees b.facts.installs later s (find_row left v)) (sym (others v differ))
+    (left_agrees b t v ended b.facts.installs later sound gone h (λ r at ws e k a. a))))
 
 -- a row goes
 drop_agrees : (b : Before) (t : Id) (new : List Install) (later : ℕ) (es : List Entry) → Sound b → b.memory.last ≤ later → OthersKept b t es
@@ -131,9 +130,9 @@ drop_agrees b t new later es sound h others stays own =
     by_own (λ v. Agrees new later (status_in es v) (find_row (without_row b.memory.rows t) v)) t
     (subst (Agrees new later (status_in es t)) (sym (find-without_row_same b.memory.rows t)) own)
     (λ v differ.
-        subst (Agrees new later (status_in es v)) (sym (find-without_row_other b.memory.rows v t differ))
-        (subst (λ s. Agrees new later s (find_row b.memory.rows v)) (sym (others v differ))
-        (left_agrees b t v [] new later sound tt h (stays v differ))))
+    subst (Agrees new later (status_in es v)) (sym (find-without_row_other b.memory.rows v t differ))
+    (subst (λ s. Agrees new later s (find_row b.memory.rows v)) (sym (others v differ))
+    (left_agrees b t v [] new later sound tt h (stays v differ))))
 
 same_still : (b : Before) (t : Id) → OthersKept b t b.facts.entries
 same_still b t v differ = refl

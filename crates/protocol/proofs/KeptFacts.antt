@@ -11,7 +11,6 @@ use Rattle.units.specs.ById.{IsById}
 use Rattle.units.specs.Versions.{versions}
 use Rattle.units.specs.declared.writes.Install.{Install}
 use Rattle.units.specs.declared.writes.Write.{Write}
-use Rattle.units.proofs.Folds.{append_none}
 use Rattle.record.specs.Facts.{Facts, learn, installs_at, recorded}
 use Rattle.record.specs.declared.record.Record.{Record}
 use Rattle.message.specs.declared.message.Input.{Input}
@@ -19,7 +18,7 @@ use Rattle.protocol.specs.Rows.{Memory}
 use Rattle.protocol.specs.Draft.{time_limit}
 use Rattle.protocol.specs.Step.{facts_after}
 use Rattle.protocol.specs.StepLaws.{IsInLimit}
-use Rattle.protocol.specs.Plan.{Plan, Before, carried, ended_by, raised, ceiling_for, in_way}
+use Rattle.protocol.specs.Plan.{Plan, Before, carried, ended_by, raised, in_way}
 use Rattle.protocol.proofs.AboveVersions.{each_append, each_gives}
 use Rattle.protocol.proofs.Agreement.{Sound, decision_of, DecisionOf}
 use Rattle.protocol.proofs.LastUnderFloor.{under_ceiling}
@@ -80,7 +79,6 @@ both_up last floor at h = omega (arith, h)
 
 floor_up : (last floor at : ℕ) → last ≤ floor → last ≤ max floor at
 floor_up last floor at h = omega (arith, h)
-
 
 -- ---- by shape
 

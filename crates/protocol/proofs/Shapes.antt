@@ -1,5 +1,5 @@
 -- The few shapes that the plan of a step can have, with what each of them promises of the state that it is made from.
-use Rattle.std.specs.Prelude.{ℕ, ◌+◌, ◌≡◌, ◌<◌, ◌≤◌, Bool, true, false, not, ◌||◌, max, List, [], Option, Some, None, Ok, Err}
+use Rattle.std.specs.Prelude.{ℕ, ◌≡◌, ◌<◌, Bool, true, false, not, ◌||◌, max, List, [], Option, Some, None, Ok, Err}
 use Rattle.std.specs.List.{AllByRecursion}
 use Rattle.units.specs.Lists.{each, head, when}
 use Rattle.std.specs.Prelude.{nat_eq, nat_lt}

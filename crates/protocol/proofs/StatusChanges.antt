@@ -1,17 +1,17 @@
 -- The statuses after one more record, and what the outcome of a row that stands leaves.
-use Rattle.std.proofs.Common.{◌≡◌, ℕ, ◌≤◌, Bool, true, false, cond, List, [], ◌∷◌, ◌++◌, Option, Some, None, refl, sym, ap, subst, ◌∙◌, arith}
-use Rattle.std.specs.Prelude.{IsTrue, ◌&&◌}
-use Rattle.std.proofs.lemmas.Bool.{false≢true, and_parts, and_from}
-use Rattle.units.specs.Lists.{each, first, ascends}
+use Rattle.std.proofs.Common.{◌≡◌, ℕ, Bool, true, false, cond, List, [], ◌∷◌, Option, Some, None, refl, sym, ap, subst, ◌∙◌}
+use Rattle.std.specs.Prelude.{IsTrue}
+use Rattle.std.proofs.lemmas.Bool.{and_parts, and_from}
+use Rattle.units.specs.Lists.{first, ascends}
 use Rattle.units.specs.Ids.{Id, same_id, older, with_id}
 use Rattle.units.specs.ById.{IsById, with_member}
 use Rattle.units.specs.Versions.{versions}
 use Rattle.units.specs.declared.lock.Lock.{Lock}
 use Rattle.units.specs.declared.writes.Install.{Install}
 use Rattle.units.specs.declared.writes.Write.{Write}
-use Rattle.units.proofs.IdLaws.{same_id-is, older_total}
+use Rattle.units.proofs.IdLaws.{older_total}
 use Rattle.units.proofs.ByIdLaws.{find-with_same, find-with_other, by_id-with}
-use Rattle.record.specs.Records.{Status, StandsPrepared, StandsDecided, HasSettled, HasClosed}
+use Rattle.record.specs.Records.{Status, StandsPrepared}
 use Rattle.record.specs.Facts.{Entry, or_unrecorded, recorded, with_status, after_outcome, installs_at}
 use Rattle.protocol.specs.Rows.{Row, IsPrepared, IsDecided, find_row}
 use Rattle.protocol.specs.Sound.{Agrees, holds_writes}

@@ -1,11 +1,7 @@
 -- A step keeps a shard sound, and a fresh shard is sound.
-use Rattle.std.proofs.Common.{◌≡◌, ℕ, ◌≤◌, List, [], ◌∷◌, Ok, refl, arith}
-use Rattle.units.specs.Ids.{Id}
-use Rattle.record.specs.Facts.{Facts, facts_of}
+use Rattle.std.proofs.Common.{refl, arith}
 use Rattle.record.specs.Computing.{computing as computing_logs}
-use Rattle.record.specs.declared.record.Record.{Record}
 use Rattle.message.specs.declared.message.Input.{Input}
-use Rattle.protocol.specs.Rows.{Memory}
 use Rattle.protocol.specs.Sound.{FreshIsSound, IsSound, StepKeepsSound}
 use Rattle.protocol.specs.Step.{facts_after}
 use Rattle.protocol.specs.StepLaws.{IsInLimit}

@@ -1,5 +1,5 @@
 -- A step keeps the rows within the limit of the table.
-use Rattle.std.proofs.Common.{◌≡◌, ℕ, suc, ◌<◌, ◌≤◌, Bool, true, false, ◌&&◌, not, cond, nat_le, List, [], ◌∷◌, length, Ok, refl, sym, ap, subst, ◌∙◌, arith}
+use Rattle.std.proofs.Common.{◌≡◌, ℕ, suc, ◌<◌, ◌≤◌, Bool, true, false, ◌&&◌, not, nat_le, List, length, refl, sym, ap, subst, ◌∙◌, arith}
 use Rattle.std.specs.List.{AllByRecursion}
 use Rattle.std.proofs.lemmas.Bool.Decides.{nat_tests}
 use Rattle.units.specs.Lists.{any}
@@ -7,8 +7,8 @@ use Rattle.units.specs.Ids.{Id, same_id}
 use Rattle.units.specs.ById.{IsById}
 use Rattle.units.proofs.ListLaws.{all_gives}
 use Rattle.message.specs.declared.message.Input.{Input}
-use Rattle.protocol.specs.Rows.{Row, find_row, with_row}
-use Rattle.protocol.specs.Plan.{Plan, Before, before, Change, changed, carried, without_rows, is_crowded, held_in}
+use Rattle.protocol.specs.Rows.{Row, with_row}
+use Rattle.protocol.specs.Plan.{Plan, Before, before, changed, carried, without_rows}
 use Rattle.protocol.specs.Sound.{StaysWithin}
 use Rattle.protocol.proofs.RowChanges.{short-without_row, short-without_rows, length-with_row, length-with_row_same, any-without_rows, by_id-without_rows}
 use Rattle.protocol.proofs.Shapes.{Shape, Answers, IsEnd, IsAbort, IsClose, IsSettle, IsLock, IsWait, IsPromise, IsDecision, ShapeOf, Acts, IsAdvance, IsLooseOther}
