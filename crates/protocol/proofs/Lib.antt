@@ -4,7 +4,9 @@ pub mod AnswerShapes
 mod BookSample
 pub mod Choices
 pub mod ClaimsBeside
+pub mod Follows
 pub mod InWay
+pub mod InstallsAbove
 pub mod KeptAgreement
 pub mod KeptFacts
 pub mod KeptRows

@@ -1,4 +1,4 @@
-use Rattle.protocol.proofs.AboveVersions as laws
+use Rattle.protocol.proofs.InstallsAbove as laws
 use Rattle.protocol.proofs.laws.installs_above.Goals as goal
 
 pub returns : goal.returns

@@ -1,4 +1,4 @@
-use Rattle.protocol.proofs.Agreement as laws
+use Rattle.protocol.proofs.Follows as laws
 use Rattle.protocol.proofs.laws.logged_follows.Goals as goal
 
 pub returns : goal.returns
