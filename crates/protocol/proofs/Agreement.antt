@@ -1,6 +1,7 @@
 -- What the record of a transaction is where its row stands by one, and where it has none.
-use Rattle.std.proofs.Common.{◌≡◌, ℕ, Bool, true, List, Option, Some, None, refl, sym, ap, subst, ◌∙◌}
+use Rattle.std.proofs.Common.{◌≡◌, ℕ, ◌≤◌, Bool, true, List, Option, Some, None, refl, sym, ap, subst, ◌∙◌, arith}
 use Rattle.std.proofs.lemmas.Bool.{false≢true}
+use Rattle.std.proofs.lemmas.Bool.Decides.{nat_tests}
 use Rattle.units.specs.Lists.{any}
 use Rattle.units.specs.Ids.{Id, same_id}
 use Rattle.units.specs.declared.lock.Lock.{Lock}
@@ -10,6 +11,7 @@ use Rattle.record.specs.Facts.{recorded}
 use Rattle.record.specs.declared.record.Committed.{Committed}
 use Rattle.record.specs.declared.record.Prepared.{Prepared}
 use Rattle.protocol.specs.Rows.{Row, IsPrepared, IsDecided, standing, standing_by, find_row}
+use Rattle.protocol.specs.Step.{is_outcome_for}
 use Rattle.protocol.specs.Sound.{Agrees, StandsBy, IsSound, is_open}
 use Rattle.protocol.specs.Plan.{Before, stands}
 use Rattle.protocol.proofs.RowChanges.{row_as}
@@ -84,3 +86,7 @@ decision_of b t held at ps sound found =
     by_status HasAborted e a = absurd a
     by_status (HasSettled s qs) e a = absurd a
     by_status (HasClosed d o) e a = absurd a
+
+-- an outcome that a promise allows is not below it
+pub not_below : (n c at s : ℕ) → is_outcome_for n c at (Some s) ≡ true → at ≤ s
+not_below n c at s e = grind (arith, nat_tests)

@@ -1,8 +1,7 @@
 -- What a step logs may come next.
 use Rattle.std.proofs.Common.{◌≡◌, ℕ, ◌<◌, Bool, true, false, cond, ◌&&◌, nat_lt, nat_le, nat_eq, List, Option, Some, None, refl, sym, ap, subst, ◌∙◌, arith}
 use Rattle.std.specs.Prelude.{IsTrue}
-use Rattle.std.proofs.lemmas.Bool.{and_from, eq-eqb, lt-ltb}
-use Rattle.std.proofs.lemmas.Bool.Decides.{nat_tests}
+use Rattle.std.proofs.lemmas.Bool.{and_from, eq-eqb, lt-ltb, le-leb}
 use Rattle.units.specs.Ids.{Id}
 use Rattle.units.specs.declared.lock.Lock.{Lock}
 use Rattle.record.specs.Records.{StandsPrepared}
@@ -17,7 +16,7 @@ use Rattle.protocol.specs.Plan.{Plan, Before, before, stands, ceiling_for}
 use Rattle.protocol.proofs.RowChanges.{row_as, by_id-claims}
 use Rattle.protocol.proofs.PlanShapes.{shape_of}
 use Rattle.protocol.proofs.Shapes.{Shape, Answers, IsEnd, IsAbort, IsClose, IsSettle, IsLock, IsWait, IsPromise, IsDecision, ShapeOf, Acts, IsAdvance, is_undecided}
-use Rattle.protocol.proofs.Agreement.{Sound, unrecorded, PromiseOf, promise_of, DecisionOf, decision_of}
+use Rattle.protocol.proofs.Agreement.{Sound, unrecorded, PromiseOf, promise_of, DecisionOf, decision_of, not_below}
 
 -- where something is logged, it may come next
 abbrev LogFollows : Before → Option Record → Type 0
@@ -41,9 +40,6 @@ follows_abort : (b : Before) (t : Id) → Sound b → is_undecided (stands b t) 
 unfolding follows_facts
 follows_abort b t sound fresh = and_from _ _ (opened b sound) (ap is_unrecorded (unrecorded b t sound fresh))
 
-not_below : (n c at s : ℕ) → is_outcome_for n c at (Some s) ≡ true → nat_le at s ≡ true
-not_below n c at s e = grind (arith, nat_tests)
-
 follows_close : (b : Before) (t : Id) (n c at : ℕ) (held : List Lock) (outcome : Option ℕ) → Sound b
     → find_row b.memory.rows t ≡ Some (row_as t held (IsPrepared c at)) → is_outcome_for n c at outcome ≡ true
     → IsTrue (follows_facts b.shard b.facts (Record.Outcome t outcome))
@@ -54,7 +50,7 @@ follows_close b t n c at held outcome sound found k =
   where
     by_outcome : (p : Prepared) → p.at ≡ at → (o : Option ℕ) → is_outcome_for n c at o ≡ true → allows (StandsPrepared p) o ≡ true
     by_outcome p same None k = refl
-    by_outcome p same (Some s) k = ap (λ m. nat_le m s) same ∙ not_below n c at s k
+    by_outcome p same (Some s) k = ap (λ m. nat_le m s) same ∙ le-leb at s (not_below n c at s k)
 
 follows_settle : (b : Before) (t : Id) (at : ℕ) (ps : List ℕ) (held : List Lock) → Sound b
     → find_row b.memory.rows t ≡ Some (row_as t held (IsDecided at ps)) → IsTrue (follows_facts b.shard b.facts (Record.Outcome t (Some at)))

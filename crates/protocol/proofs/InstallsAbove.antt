@@ -1,7 +1,6 @@
 -- What a step installs is above the versions of its keys.
 use Rattle.std.proofs.Common.{◌≡◌, ℕ, ◌≤◌, Bool, true, false, nat_lt, List, Option, Some, None, refl, sym, subst, arith}
 use Rattle.std.specs.Prelude.{IsTrue}
-use Rattle.std.proofs.lemmas.Bool.Decides.{nat_tests}
 use Rattle.units.specs.Ids.{Id}
 use Rattle.units.specs.Versions.{above_versions}
 use Rattle.units.specs.declared.lock.Lock.{Lock}
@@ -12,7 +11,7 @@ use Rattle.protocol.specs.Rows.{IsPrepared, IsDecided, find_row}
 use Rattle.protocol.specs.Step.{is_outcome_for}
 use Rattle.protocol.specs.Sound.{writes_standing, InstallsAbove}
 use Rattle.protocol.specs.Plan.{Plan, Before, before, ceiling_for}
-use Rattle.protocol.proofs.Agreement.{Sound, PromiseOf, promise_of, DecisionOf, decision_of}
+use Rattle.protocol.proofs.Agreement.{Sound, PromiseOf, promise_of, DecisionOf, decision_of, not_below}
 use Rattle.protocol.proofs.PlanShapes.{shape_of}
 use Rattle.protocol.proofs.RowChanges.{row_as, by_id-claims}
 use Rattle.protocol.proofs.Shapes.{Shape, Answers, IsEnd, IsAbort, IsClose, IsSettle, IsLock, IsWait, IsPromise, IsDecision, ShapeOf, Acts, IsAdvance}
@@ -25,9 +24,6 @@ LogAbove b _ = Unit {0}
 
 Above : Before → Plan → Type 0
 Above b p = LogAbove b p.logged
-
-not_below : (n c at s : ℕ) → is_outcome_for n c at (Some s) ≡ true → at ≤ s
-not_below n c at s e = grind (arith, nat_tests)
 
 above_close : (b : Before) (t : Id) (n c at : ℕ) (held : List Lock) (outcome : Option ℕ) → Sound b
     → find_row b.memory.rows t ≡ Some (row_as t held (IsPrepared c at)) → is_outcome_for n c at outcome ≡ true → LogAbove b (Some (Record.Outcome t outcome))
