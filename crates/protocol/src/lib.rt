@@ -4,4 +4,7 @@
 
 mod laws;
 
-pub use laws::last_stays_under_floor;
+pub use laws::{
+    fresh_is_sound, installs_above, last_stays_under_floor, logged_follows, stays_within,
+    step_keeps_sound,
+};
