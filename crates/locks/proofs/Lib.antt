@@ -1,6 +1,7 @@
 pub mod Changes
 pub mod Clashes
 pub mod Oldest
+pub mod Opens
 pub mod Pairs
 pub mod Places
 pub mod Release

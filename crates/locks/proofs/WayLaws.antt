@@ -88,6 +88,14 @@ any_ids p (c ∷ cs) h e = by_test (p c) h e (any_ids p cs)
     by_test true k m rest = cc
     by_test false k m rest = rest k m
 
+-- nobody is in the way of a request that is free
+pub free_blocked : (table : List Claim) (t : Id) (needs : List Lock) → is_free table t needs ≡ true → is_blocked t needs table ≡ false
+free_blocked table t needs h = not_true (is_blocked t needs table) (sym (is_free-is table t needs) ∙ h)
+  where
+    not_true : (b : Bool) → not b ≡ true → b ≡ false
+    not_true true e = absurd (false≢true e)
+    not_true false e = refl
+
 -- a request wounds somebody where the test says so
 pub asked-wounds : (table : List Claim) (t : Id) (needs : List Lock) → is_wounding t needs table ≡ true → asked table t needs ≡ Wounds (ids_in_way t needs table)
 unfolding asked
@@ -100,6 +108,14 @@ wounds_none table t needs h = wounded-is table t needs ∙ no_ids (gives_way t n
 
 pub none_wounded : (table : List Claim) (t : Id) (needs : List Lock) → wounded table t needs ≡ [] → is_wounding t needs table ≡ true → false ≡ true
 none_wounded table t needs e h = any_ids (gives_way t needs) table h (sym (wounded-is table t needs) ∙ e)
+
+-- nobody gives way to a request that wounds nobody
+pub quiet_wounding : (table : List Claim) (t : Id) (needs : List Lock) → wounded table t needs ≡ [] → is_wounding t needs table ≡ false
+quiet_wounding table t needs e = by_test (is_wounding t needs table) (none_wounded table t needs e)
+  where
+    by_test : (b : Bool) → (b ≡ true → false ≡ true) → b ≡ false
+    by_test true h = absurd (false≢true (h refl))
+    by_test false h = refl
 
 pub asked-waits : (table : List Claim) (t : Id) (needs : List Lock) → is_wounding t needs table ≡ false → is_blocked t needs table ≡ true → asked table t needs ≡ Waits
 unfolding asked

@@ -63,9 +63,22 @@ abbrev pub held_by : Option Claim → List Lock
 held_by None = []
 held_by (Some c) = c.held
 
+-- the locks that a claim waits for, none where there is no claim
+abbrev pub needs_by : Option Claim → List Lock
+needs_by None = []
+needs_by (Some c) = c.needs
+
+-- what a transaction holds
+abbrev pub held_in : List Claim → Id → List Lock
+held_in table t = held_by (find_member (λ c. c.txn) table t)
+
+-- what it waits for
+abbrev pub needs_in : List Claim → Id → List Lock
+needs_in table t = needs_by (find_member (λ c. c.txn) table t)
+
 -- how many locks a transaction holds at most once its needs are granted
 abbrev pub most_held : List Claim → Id → List Lock → ℕ
-most_held table t needs = length (held_by (find_member (λ c. c.txn) table t)) + length needs
+most_held table t needs = length (held_in table t) + length needs
 
 -- a request that wounds leaves room for so many locks
 abbrev pub KeepsRoom : Asked → ℕ → ℕ → Type 0

@@ -3,7 +3,7 @@ ghost use Rattle.std.specs.Prelude.{◌≡◌, ◌+◌, ◌<◌, ◌≤◌, true
 ghost use Rattle.std.specs.List.{position_or_len};
 ghost use Rattle.units.specs.Locks.{is_waiting};
 ghost use Rattle.locks.specs.Table.{has_claim, entrant, made_firm, granted, waiting, resumed, withdrawn};
-ghost use Rattle.locks.specs.Ways.{is_of, is_younger, gives_way, is_wounding, ids_in_way, stands_in_way, is_blocked, can_go, first_to_go};
+ghost use Rattle.locks.specs.Ways.{is_of, is_younger, gives_way, is_wounding, ids_in_way, stands_in_way, is_blocked, can_go, first_to_go, keeps_out, is_kept_out};
 
 use crate::buffer::{copy, fill};
 use crate::conflict::clash;
@@ -67,6 +67,13 @@ impl Entry {
         !self.txn.is(txn)
             && (clash(&self.held, needs)
                 || (self.txn.is_older_than(txn) && clash(&self.needs, needs)))
+    }
+
+    /// A requester waits for it, and does not end it.
+    pub fn keeps_out(&self, txn: TxnId, needs: &[Lock]) -> bool
+        ensures { result ≡ keeps_out txn needs.now self.now }
+    {
+        self.stands_in_way(txn, needs) && !self.gives_way(txn, needs)
     }
 
     /// How many locks it holds.
@@ -150,6 +157,13 @@ pub fn is_wounding(table: &[Entry], txn: TxnId, needs: &[Lock]) -> bool
     ensures { result ≡ is_wounding txn needs.now table.now }
 {
     table.iter().any(|entry| entry.gives_way(txn, needs))
+}
+
+/// Whether a request waits for some claim of one that it does not end.
+pub fn is_kept_out(table: &[Entry], txn: TxnId, needs: &[Lock]) -> bool
+    ensures { result ≡ is_kept_out txn needs.now table.now }
+{
+    table.iter().any(|entry| entry.keeps_out(txn, needs))
 }
 
 /// Whom a request ends, the oldest first.

@@ -1,11 +1,11 @@
 //! The lock table.
-ghost use Rattle.std.specs.Prelude.{◌≡◌, ◌≤◌, [], Some, true, false, IsOk, IfOk, IfErr, OnOk, OnErr};
+ghost use Rattle.std.specs.Prelude.{◌≡◌, ◌+◌, ◌≤◌, [], Some, true, false, length, IsOk, IfOk, IfErr, OnOk, OnErr};
 ghost use Rattle.units.specs.LockLaws.{IsLawfulTable, IsOldestReady};
-ghost use Rattle.units.specs.Locks.{asked, ready, wounded};
-ghost use Rattle.locks.specs.Table.{has_claim, with_claim, without_claim, change_claim, entrant, made_firm, resumed, withdrawn, after, most_held, KeepsRoom, ReleaseMakesWay};
+ghost use Rattle.units.specs.Locks.{asked, is_free, ready, wounded};
+ghost use Rattle.locks.specs.Table.{has_claim, with_claim, without_claim, without_claims, change_claim, entrant, made_firm, granted, waiting, resumed, withdrawn, after, held_in, needs_in, most_held, KeepsRoom, ReleaseMakesWay};
 
 use crate::buffer::make_room;
-use crate::entry::{Entry, is_blocked, is_wounding, place, place_for, ready, wounded};
+use crate::entry::{Entry, is_blocked, is_kept_out, is_wounding, place, place_for, ready, wounded};
 use crate::held::Held;
 use std::alloc::Global;
 use std::marker::Model;
@@ -72,6 +72,34 @@ impl Table {
         })
     }
 
+    /// Whom a request ends, the oldest first. It is refused for want of memory alone.
+    pub fn wounded(&self, alloc: Global, txn: TxnId, needs: &[Lock]) -> Result<Ids, Fault>
+        ensures ok { IfOk result (λ ids. ids ≡ wounded self.now txn needs.now) }
+        ensures memory { IfErr result (λ fault. fault ≡ Fault.Memory) }
+    {
+        let ids = wounded(alloc, &self.entries, txn, needs)?;
+        Ok(Ids::from_vec(ids))
+    }
+
+    /// Whether a request is granted once those that it ends are released: nobody else is in its way.
+    pub fn opens(&self, txn: TxnId, needs: &[Lock]) -> bool
+        ensures { result ≡ is_free (without_claims self.now (wounded self.now txn needs.now)) txn needs.now }
+    {
+        !is_kept_out(&self.entries, txn, needs)
+    }
+
+    /// Takes the memory for so many locks more than the transaction holds. It is refused for want of memory alone.
+    pub fn make_room(&self, held: &mut Held, more: usize) -> Result<(), Fault>
+        requires { has_claim self.now held.old.txn ≡ true }
+        ensures txn { held.new.txn ≡ held.old.txn }
+        ensures room { OnOk result (length (held_in self.now held.old.txn) + more ≤ held.new.room) }
+        ensures memory { IfErr result (λ fault. fault ≡ Fault.Memory) }
+        ensures succeeds { length (held_in self.now held.old.txn) + more ≤ held.old.room → IsOk result }
+    {
+        let at = place(&self.entries, held.txn);
+        make_room(&mut held.buffer, self.entries[at].held_count(), more)
+    }
+
     /// Asks for all these locks at once. A new request takes the place of the wait that there was. Those that it wounds
     /// are to be released first; the same request then takes no memory. It is refused for want of memory alone.
     pub fn request(
@@ -104,6 +132,31 @@ impl Table {
         Ok(Asked::Granted)
     }
 
+    /// Grants a request that nobody is in the way of, with the room that its token has. It takes no memory.
+    pub fn grant(&mut self, held: &mut Held, needs: &[Lock])
+        requires claim { has_claim self.old held.old.txn ≡ true }
+        requires free { is_free self.old held.old.txn needs.now ≡ true }
+        requires room { most_held self.old held.old.txn needs.now ≤ held.old.room }
+        ensures table { self.new ≡ change_claim self.old held.old.txn (granted needs.now) }
+        ensures txn { held.new.txn ≡ held.old.txn }
+    {
+        let at = place(&self.entries, held.txn);
+        self.entries[at].grant(&mut held.buffer, needs);
+    }
+
+    /// Keeps a request that has to wait and ends nobody, with the room that its token has. It takes no memory.
+    pub fn wait(&mut self, held: &mut Held, needs: &[Lock])
+        requires claim { has_claim self.old held.old.txn ≡ true }
+        requires quiet { wounded self.old held.old.txn needs.now ≡ [] }
+        requires blocked { is_free self.old held.old.txn needs.now ≡ false }
+        requires room { most_held self.old held.old.txn needs.now ≤ held.old.room }
+        ensures table { self.new ≡ change_claim self.old held.old.txn (waiting needs.now) }
+        ensures txn { held.new.txn ≡ held.old.txn }
+    {
+        let at = place(&self.entries, held.txn);
+        self.entries[at].wait(&mut held.buffer, needs);
+    }
+
     /// From now on nobody ends it.
     pub fn firm(&mut self, held: &Held)
         requires { has_claim self.old held.now.txn ≡ true }
@@ -130,13 +183,15 @@ impl Table {
         ready(&self.entries)
     }
 
-    /// Grants the wait of the one that is ready. It is refused for want of memory alone.
+    /// Grants the wait of the one that is ready. It is refused for want of memory alone, and takes none where the token has
+    /// the room.
     pub fn resume(&mut self, held: &mut Held) -> Result<(), Fault>
         requires { ready self.old ≡ Some held.old.txn }
         ensures ok { OnOk result (self.new ≡ change_claim self.old held.old.txn resumed) }
         ensures err { OnErr result (self.new ≡ self.old) }
         ensures memory { IfErr result (λ fault. fault ≡ Fault.Memory) }
         ensures txn { held.new.txn ≡ held.old.txn }
+        ensures succeeds { most_held self.old held.old.txn (needs_in self.old held.old.txn) ≤ held.old.room → IsOk result }
     {
         let at = place(&self.entries, held.txn);
         let entry = &self.entries[at];

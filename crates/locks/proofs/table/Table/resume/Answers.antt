@@ -1,8 +1,9 @@
 use Rattle.std.proofs.Common.{◌≡◌, ◌∙◌, sym, ap, subst, arith, true, Some, List}
+use Rattle.std.proofs.lemmas.Bool.{false≢true}
 use Rattle.units.specs.Locks.{Claim, ready}
 use Rattle.units.specs.LockLaws.{IsLawfulTable}
-use Rattle.locks.specs.Table.{Token, has_claim, change_claim, resumed}
-use Rattle.locks.proofs.Changes.{put_is_change}
+use Rattle.locks.specs.Table.{Token, has_claim, change_claim, resumed, most_held, needs_in}
+use Rattle.locks.proofs.Changes.{put_is_change, resumed_at_place}
 use Rattle.locks.proofs.TableLaws.{lawful-resumed, ready_is_there}
 use Rattle.locks.proofs.table.Table.resume.Goals as goal
 
@@ -24,3 +25,12 @@ returns-clause-ok c =
     let items = c.self.inside.entries.items in
     put_is_change resumed c.held.inside.txn items c.self.invariant c.place-at.result c.index_mut.result.now c.resume.new.self (cc) (omega arith) c.index_mut.ensures.value c.resume.ensures
     ∙ ap (λ (t : List Claim). change_claim t c.held.inside.txn resumed) c.self.view_is ∙ ap (λ (h : Token). change_claim c.args.self.now h.txn resumed) c.held.view_is
+
+pub returns-in_err-make_room-clause-succeeds : goal.returns-in_err-make_room-clause-succeeds
+returns-in_err-make_room-clause-succeeds c = λ fits.
+    let items = c.self.inside.entries.items in
+    let most = ap (λ (t : List Claim). most_held t c.args.held.now.txn (needs_in t c.args.held.now.txn)) (sym c.self.view_is)
+    ∙ ap (λ (h : Token). most_held items h.txn (needs_in items h.txn)) (sym c.held.view_is)
+    ∙ resumed_at_place c.held.inside.txn items c.place-at.result c.index-entry.result.now (cc) (omega arith) c.index-entry.ensures in
+    let spare = ap (λ (h : Token). h.room) c.held.view_is in
+    absurd (false≢true (c.in_err-make_room.ensures.succeeds (omega (arith, c.held_count.ensures, c.needs_count.ensures, most, spare, fits))))

@@ -1,0 +1,75 @@
+//! The votes of a commit that is collected.
+ghost use Rattle.std.specs.Prelude.{◌≡◌, [], IfOk, IfErr};
+
+use crate::wait::CommitRequest;
+use std::alloc::Global;
+use std::marker::Model;
+use units::{Fault, ShardNo, Stamp};
+
+/// A yes that came: the shard, and its prepare timestamp.
+#[derive(Clone, Copy, Debug)]
+pub struct Voted {
+    pub shard: ShardNo,
+    pub at: Stamp,
+}
+
+/// The votes that came, in order, each shard's first, with the space for one of each shard.
+#[derive(Debug, Drop)]
+pub struct Votes {
+    votes: Vec<Voted>,
+}
+
+impl Model for Votes {
+    ghost use Rattle.std.specs.Prelude.{List, ◌≤◌, map, vec_capacity};
+    ghost use Rattle.protocol.specs.Rows.{Voted};
+    ghost use Rattle.rows.specs.States.{voted_of, most_votes};
+
+    ghost Value = { List Voted };
+
+    ghost view = { λ v. map voted_of v.votes.items };
+
+    ghost invariant = { λ v. most_votes ≤ vec_capacity v.votes };
+}
+
+impl Votes {
+    /// The most votes that there may be: one of each shard.
+    pub const MOST: usize = 16;
+
+    /// No votes, with the space for all that may come. It is refused for want of memory alone.
+    pub fn none(alloc: Global) -> Result<Votes, Fault>
+        ensures none { IfOk result (λ votes. votes ≡ []) }
+        ensures memory { IfErr result (λ fault. fault ≡ Fault.Memory) }
+    {
+        let votes = Vec::with_capacity(alloc, Votes::MOST)?;
+        Ok(Votes { votes })
+    }
+}
+
+/// A commit whose votes are to be collected, with the space for them.
+#[derive(Debug, Drop)]
+pub struct Gathering {
+    pub(crate) request: CommitRequest,
+    pub(crate) votes: Votes,
+}
+
+impl Model for Gathering {
+    ghost use Rattle.std.specs.Prelude.{◌≡◌, []};
+    ghost use Rattle.rows.specs.declared.wait.CommitRequest.{CommitRequest};
+
+    ghost Value = { CommitRequest };
+
+    ghost view = { λ g. g.request };
+
+    ghost invariant = { λ g. g.votes ≡ [] };
+}
+
+impl Gathering {
+    /// Takes the space for the votes of a commit. It is refused for want of memory alone.
+    pub fn new(alloc: Global, request: CommitRequest) -> Result<Gathering, Fault>
+        ensures same { IfOk result (λ gathering. gathering ≡ request) }
+        ensures memory { IfErr result (λ fault. fault ≡ Fault.Memory) }
+    {
+        let votes = Votes::none(alloc)?;
+        Ok(Gathering { request, votes })
+    }
+}
