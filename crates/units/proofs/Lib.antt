@@ -1,5 +1,6 @@
 pub mod ByIdLaws
 pub mod Folds
+pub mod FrontLaws
 pub mod IdLaws
 pub mod IdOrder
 pub mod KeyLaws

@@ -1,5 +1,6 @@
 pub mod ById
 pub mod Faults
+pub mod Fronts
 pub mod Ids
 pub mod Keys
 pub mod Lists

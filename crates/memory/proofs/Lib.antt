@@ -1,0 +1,2 @@
+pub mod Learns
+pub mod Served

@@ -1,0 +1,25 @@
+-- What the record that comes next installs.
+use Rattle.std.specs.Prelude.{◌≡◌, ℕ, IsTrue, List, [], Option, Some, None}
+use Rattle.units.specs.Versions.{above_versions}
+use Rattle.units.specs.declared.writes.Write.{Write}
+use Rattle.record.specs.Facts.{Facts, recorded}
+use Rattle.record.specs.Records.{Status, StandsPrepared, StandsDecided}
+use Rattle.record.specs.declared.record.Record.{Record}
+use Rattle.record.specs.declared.record.Record.TheVariants.{Outcome}
+
+-- the writes of a promise or a decision that stands
+abbrev pub writes_standing : Status → List Write
+writes_standing (StandsPrepared p) = p.writes
+writes_standing (StandsDecided c) = c.writes
+writes_standing _ = []
+
+-- the timestamp of an outcome
+abbrev pub outcome_stamp : Record → Option ℕ
+outcome_stamp (Outcome t outcome) = outcome
+outcome_stamp _ = None
+
+-- of an outcome at a timestamp: the writes are those that it installs, and it is above the versions of their keys
+abbrev pub CanInstall : Facts → Record → List Write → Type 0
+CanInstall facts (Outcome t (Some s)) writes =
+    (writes ≡ writes_standing (recorded facts t)) × IsTrue (above_versions facts.installs s writes)
+CanInstall facts r writes = Unit {0}

@@ -1,0 +1,9 @@
+//! What a shard keeps in memory beside the rows of its step: the facts of its log with the versions by key, and the ids
+//! that were ended. Beside them the law that joins the holds of the safe time to the rows.
+#![tactic(auto)]
+
+mod ended;
+mod ledger;
+
+pub use ended::Ended;
+pub use ledger::Ledger;
