@@ -1,3 +1,5 @@
 pub mod Ended
+pub mod Kept
 pub mod Ledger
+pub mod Plans
 pub mod Served

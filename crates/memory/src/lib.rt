@@ -4,6 +4,8 @@
 
 mod ended;
 mod ledger;
+pub mod plan;
+pub mod state;
 
 pub use ended::Ended;
 pub use ledger::Ledger;
