@@ -1,8 +1,8 @@
 //! The claims of a table, and who is in the way of whom.
 ghost use Rattle.std.specs.Prelude.{◌≡◌, ◌+◌, ◌<◌, ◌≤◌, true, IfOk, length, vec_capacity};
 ghost use Rattle.std.specs.List.{position_or_len};
-ghost use Rattle.units.specs.Locks.{is_waiting};
-ghost use Rattle.locks.specs.Table.{has_claim, entrant, made_firm, granted, waiting, resumed, withdrawn};
+ghost use Rattle.units.specs.Locks.{holds, is_waiting};
+ghost use Rattle.locks.specs.Table.{has_claim, held_in, entrant, made_firm, granted, waiting, resumed, withdrawn};
 ghost use Rattle.locks.specs.Ways.{is_of, is_younger, gives_way, is_wounding, ids_in_way, stands_in_way, is_blocked, can_go, first_to_go, keeps_out, is_kept_out};
 
 use crate::buffer::{copy, fill};
@@ -10,7 +10,7 @@ use crate::conflict::clash;
 use std::alloc::{AllocError, Global};
 use std::marker::Model;
 use std::mem::swap;
-use units::{Lock, TxnId};
+use units::{Key, Lock, TxnId};
 
 /// A transaction in the table: what it holds, what it waits for, and whether it is firm.
 #[derive(Drop)]
@@ -190,6 +190,30 @@ pub fn ready(table: &[Entry]) -> Option<TxnId>
         .iter()
         .find(|entry| entry.can_go(table))
         .map(|entry| entry.txn())
+}
+
+/// Whether a transaction holds a key.
+pub fn holds(table: &[Entry], txn: TxnId, key: &Key) -> bool
+    ensures { result ≡ holds (held_in table.now txn) key.now }
+{
+    for entry in table {
+        if entry.is_of(txn) {
+            return is_held(&entry.held, key);
+        }
+    }
+    false
+}
+
+// Some lock is of the key.
+fn is_held(locks: &[Lock], key: &Key) -> bool
+    ensures { result ≡ holds locks.now key.now }
+{
+    for lock in locks {
+        if lock.key.is(key) {
+            return true;
+        }
+    }
+    false
 }
 
 /// Where the transaction's claim stands.

@@ -1,15 +1,15 @@
 //! The lock table.
 ghost use Rattle.std.specs.Prelude.{◌≡◌, ◌+◌, ◌≤◌, [], Some, true, false, length, IsOk, IfOk, IfErr, OnOk, OnErr};
 ghost use Rattle.units.specs.LockLaws.{IsLawfulTable, IsOldestReady};
-ghost use Rattle.units.specs.Locks.{asked, is_free, ready, wounded};
+ghost use Rattle.units.specs.Locks.{asked, holds, is_free, ready, wounded};
 ghost use Rattle.locks.specs.Table.{has_claim, with_claim, without_claim, without_claims, change_claim, entrant, made_firm, granted, waiting, resumed, withdrawn, after, held_in, needs_in, most_held, KeepsRoom, ReleaseMakesWay};
 
 use crate::buffer::make_room;
-use crate::entry::{Entry, is_blocked, is_kept_out, is_wounding, place, place_for, ready, wounded};
+use crate::entry::{Entry, holds, is_blocked, is_kept_out, is_wounding, place, place_for, ready, wounded};
 use crate::held::Held;
 use std::alloc::Global;
 use std::marker::Model;
-use units::{Asked, Fault, Ids, Lock, TxnId};
+use units::{Asked, Fault, Ids, Key, Lock, TxnId};
 
 /// The locks of a shard and who waits for them: the claims of its transactions.
 ///
@@ -70,6 +70,13 @@ impl Table {
             txn,
             buffer: Vec::new(alloc),
         })
+    }
+
+    /// Whether a transaction holds a key. One that has no claim holds nothing.
+    pub fn holds(&self, txn: TxnId, key: &Key) -> bool
+        ensures { result ≡ holds (held_in self.now txn) key.now }
+    {
+        holds(&self.entries, txn, key)
     }
 
     /// Whom a request ends, the oldest first. It is refused for want of memory alone.

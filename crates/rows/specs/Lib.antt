@@ -1,1 +1,3 @@
+pub mod CodeRows
+pub mod RowTable
 pub mod States

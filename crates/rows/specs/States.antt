@@ -45,6 +45,10 @@ pub record DecidedState : Type 0 where
 abbrev pub reading_of : Token → Option Wait → ReadingState
 reading_of token wait = record { token = token; wait = wait }
 
+-- the state of a coordinator that has no vote yet
+abbrev pub collecting_of : Token → CommitRequest → CollectingState
+collecting_of token request = record { token = token; request = request; votes = [] }
+
 -- the record is a promise of the transaction
 abbrev pub is_prepare_of : Id → Record → Bool
 is_prepare_of t (Record.Prepare p) = same_id p.txn t

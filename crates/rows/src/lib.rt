@@ -1,15 +1,15 @@
 //! A shard's transactions, each in a typed state that holds its token of the lock table, and the rows of them all.
 #![tactic(auto)]
 
-
-
-
+mod list;
+mod row;
+mod rows;
 mod states;
 mod votes;
 mod wait;
 
-
-
+pub use row::Row;
+pub use rows::Rows;
 pub use states::{Collecting, Decided, Prepared, Reading};
 pub use votes::{Gathering, Voted, Votes};
 pub use wait::{CommitRequest, PrepareRequest, Wait};

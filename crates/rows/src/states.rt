@@ -1,8 +1,10 @@
 //! The states of a transaction at a shard. Each holds the transaction's token of the lock table, so that none can be
 //! dropped, and a step from one to the next spends the one before.
-ghost use Rattle.std.specs.Prelude.{◌≡◌, true, None};
-ghost use Rattle.rows.specs.States.{reading_of, is_prepare_of, is_commit_of, is_abort_of, is_outcome_of, prepared_by, decided_by};
-ghost use Rattle.locks.specs.Table.{has_claim, without_claim, change_claim, made_firm};
+ghost use Rattle.std.specs.Prelude.{◌≡◌, ◌≤◌, ◌+◌, [], Some, None, true, false, length, OnOk, IfErr};
+ghost use Rattle.std.specs.Option.{option_copied};
+ghost use Rattle.units.specs.Locks.{is_free, ready, wounded};
+ghost use Rattle.rows.specs.States.{reading_of, collecting_of, is_prepare_of, is_commit_of, is_abort_of, is_outcome_of, prepared_by, decided_by};
+ghost use Rattle.locks.specs.Table.{has_claim, without_claim, change_claim, granted, waiting, resumed, made_firm, held_in, needs_in, most_held};
 
 use crate::votes::{Gathering, Votes};
 use crate::wait::{CommitRequest, Wait};
@@ -10,12 +12,12 @@ use gatelog::Logged;
 use locks::{Held, Table};
 use record::Record;
 use std::marker::Model;
-use units::{Parts, ShardNo, Stamp, TxnId};
+use units::{Fault, Lock, Parts, ShardNo, Stamp, TxnId};
 
 /// It reads: it is idle, or waits with a read, a prepare or a commit.
 pub struct Reading {
-    pub(crate) held: Held,
-    pub(crate) wait: Option<Wait>,
+    held: Held,
+    wait: Option<Wait>,
 }
 
 impl Model for Reading {
@@ -28,7 +30,7 @@ impl Model for Reading {
 
 /// The coordinator, while it waits for votes.
 pub struct Collecting {
-    pub(crate) held: Held,
+    held: Held,
     request: CommitRequest,
     votes: Votes,
 }
@@ -43,7 +45,7 @@ impl Model for Collecting {
 
 /// A participant that has promised.
 pub struct Prepared {
-    pub(crate) held: Held,
+    held: Held,
     coordinator: ShardNo,
     at: Stamp,
 }
@@ -58,7 +60,7 @@ impl Model for Prepared {
 
 /// The coordinator, once its decision is logged.
 pub struct Decided {
-    pub(crate) held: Held,
+    held: Held,
     at: Stamp,
     parts: Parts,
 }
@@ -88,12 +90,90 @@ impl Reading {
 
     /// What it waits with.
     pub fn wait(&self) -> Option<&Wait>
-        ensures { result.entry ≡ self.now.wait }
+        ensures { option_copied result ≡ self.now.wait }
     {
         self.wait.as_ref()
     }
 
-    /// A logged promise is spent.
+    // Takes the memory for so many locks more.
+    pub(crate) fn make_room(&mut self, more: usize, table: &Table) -> Result<(), Fault>
+        requires { has_claim table.now self.old.token.txn ≡ true }
+        ensures txn { self.new.token.txn ≡ self.old.token.txn }
+        ensures wait { self.new.wait ≡ self.old.wait }
+        ensures room { OnOk result (length (held_in table.now self.old.token.txn) + more ≤ self.new.token.room) }
+        ensures memory { IfErr result (λ fault. fault ≡ Fault.Memory) }
+    {
+        table.make_room(&mut self.held, more)
+    }
+
+    // A request that nobody is in the way of is granted. It waits no longer.
+    pub(crate) fn grant(self, needs: &[Lock], table: &mut Table) -> Reading
+        requires claim { has_claim table.old self.token.txn ≡ true }
+        requires free { is_free table.old self.token.txn needs.now ≡ true }
+        requires room { most_held table.old self.token.txn needs.now ≤ self.token.room }
+        ensures txn { result.token.txn ≡ self.token.txn }
+        ensures wait { result.wait ≡ None }
+        ensures table { table.new ≡ change_claim table.old self.token.txn (granted needs.now) }
+    {
+        let Reading { mut held, wait: _ } = self;
+        table.grant(&mut held, needs);
+        Reading { held, wait: None }
+    }
+
+    // It waits with something that needs these locks.
+    pub(crate) fn block(self, needs: &[Lock], wait: Wait, table: &mut Table) -> Reading
+        requires claim { has_claim table.old self.token.txn ≡ true }
+        requires quiet { wounded table.old self.token.txn needs.now ≡ [] }
+        requires blocked { is_free table.old self.token.txn needs.now ≡ false }
+        requires room { most_held table.old self.token.txn needs.now ≤ self.token.room }
+        ensures txn { result.token.txn ≡ self.token.txn }
+        ensures wait { result.wait ≡ Some wait }
+        ensures table { table.new ≡ change_claim table.old self.token.txn (waiting needs.now) }
+    {
+        let Reading { mut held, wait: _ } = self;
+        table.wait(&mut held, needs);
+        Reading {
+            held,
+            wait: Some(wait),
+        }
+    }
+
+    // What it waits with is granted, and handed back.
+    pub(crate) fn resume(self, table: &mut Table) -> (Reading, Option<Wait>)
+        requires ready { ready table.old ≡ Some self.token.txn }
+        requires room { most_held table.old self.token.txn (needs_in table.old self.token.txn) ≤ self.token.room }
+        ensures txn { result.0.token.txn ≡ self.token.txn }
+        ensures idle { result.0.wait ≡ None }
+        ensures wait { result.1 ≡ self.wait }
+        ensures table { table.new ≡ change_claim table.old self.token.txn resumed }
+    {
+        let Reading { mut held, wait } = self;
+        match table.resume(&mut held) {
+            Ok(()) => (Reading { held, wait: None }, wait),
+            Err(_) => {
+                table.release(held);
+                unreachable!()
+            }
+        }
+    }
+
+    // The coordinator of several shards begins to wait for their votes.
+    pub(crate) fn collect(self, gathering: Gathering, table: &mut Table) -> Collecting
+        requires { has_claim table.old self.token.txn ≡ true }
+        ensures state { result ≡ collecting_of self.token gathering }
+        ensures table { table.new ≡ change_claim table.old self.token.txn made_firm }
+    {
+        let Reading { held, wait: _ } = self;
+        table.firm(&held);
+        let Gathering { request, votes } = gathering;
+        Collecting {
+            held,
+            request,
+            votes,
+        }
+    }
+
+    // A logged promise is spent.
     pub(crate) fn prepare(self, logged: Logged, table: &mut Table) -> (Prepared, Record)
         requires mine { is_prepare_of self.token.txn logged ≡ true }
         requires claim { has_claim table.old self.token.txn ≡ true }
@@ -115,5 +195,205 @@ impl Reading {
             }
             _ => unreachable!(),
         }
+    }
+
+    // A logged decision is spent.
+    pub(crate) fn decide(self, logged: Logged, table: &mut Table) -> (Decided, Record)
+        requires mine { is_commit_of self.token.txn logged ≡ true }
+        requires claim { has_claim table.old self.token.txn ≡ true }
+        ensures state { result.0 ≡ decided_by self.token logged }
+        ensures record { result.1 ≡ logged }
+        ensures table { table.new ≡ change_claim table.old self.token.txn made_firm }
+    {
+        let Reading { held, wait: _ } = self;
+        table.firm(&held);
+        decide(held, logged)
+    }
+
+    // A logged abort is spent, and the token with it.
+    pub(crate) fn abort(self, logged: Logged, table: &mut Table) -> Record
+        requires { is_abort_of self.token.txn logged ≡ true }
+        ensures record { result ≡ logged }
+        ensures table { table.new ≡ without_claim table.old self.token.txn }
+    {
+        self.end(table);
+        logged.spend()
+    }
+
+    // It ends, with nothing logged.
+    pub(crate) fn end(self, table: &mut Table)
+        ensures { table.new ≡ without_claim table.old self.token.txn }
+    {
+        let Reading { held, wait: _ } = self;
+        table.release(held);
+    }
+}
+
+impl Collecting {
+    /// Whose state it is.
+    pub fn txn(&self) -> TxnId
+        ensures { result ≡ self.now.token.txn }
+    {
+        self.held.txn()
+    }
+
+    /// The commit whose votes it collects.
+    pub fn request(&self) -> &CommitRequest
+        ensures { result.now ≡ self.now.request }
+    {
+        &self.request
+    }
+
+    /// The votes that came.
+    pub fn votes(&self) -> &Votes
+        ensures { result.now ≡ self.now.votes }
+    {
+        &self.votes
+    }
+
+    // A logged decision is spent.
+    pub(crate) fn decide(self, logged: Logged) -> (Decided, Record)
+        requires { is_commit_of self.token.txn logged ≡ true }
+        ensures state { result.0 ≡ decided_by self.token logged }
+        ensures record { result.1 ≡ logged }
+    {
+        let Collecting {
+            held,
+            request: _,
+            votes: _,
+        } = self;
+        decide(held, logged)
+    }
+
+    // A logged abort is spent, and the token with it.
+    pub(crate) fn abort(self, logged: Logged, table: &mut Table) -> Record
+        requires { is_abort_of self.token.txn logged ≡ true }
+        ensures record { result ≡ logged }
+        ensures table { table.new ≡ without_claim table.old self.token.txn }
+    {
+        self.release(table);
+        logged.spend()
+    }
+
+    // The token goes, at the end of the table.
+    pub(crate) fn release(self, table: &mut Table)
+        ensures { table.new ≡ without_claim table.old self.token.txn }
+    {
+        let Collecting {
+            held,
+            request: _,
+            votes: _,
+        } = self;
+        table.release(held);
+    }
+}
+
+impl Prepared {
+    /// Whose state it is.
+    pub fn txn(&self) -> TxnId
+        ensures { result ≡ self.now.token.txn }
+    {
+        self.held.txn()
+    }
+
+    /// The shard that decides.
+    pub fn coordinator(&self) -> ShardNo
+        ensures { result ≡ self.now.coordinator }
+    {
+        self.coordinator
+    }
+
+    /// Its prepare timestamp.
+    pub fn at(&self) -> Stamp
+        ensures { result ≡ self.now.at }
+    {
+        self.at
+    }
+
+    // A logged outcome is spent, and the token with it.
+    pub(crate) fn close(self, logged: Logged, table: &mut Table) -> Record
+        requires { is_outcome_of self.token.txn logged ≡ true }
+        ensures record { result ≡ logged }
+        ensures table { table.new ≡ without_claim table.old self.token.txn }
+    {
+        self.release(table);
+        logged.spend()
+    }
+
+    // The token goes, at the end of the table.
+    pub(crate) fn release(self, table: &mut Table)
+        ensures { table.new ≡ without_claim table.old self.token.txn }
+    {
+        let Prepared {
+            held,
+            coordinator: _,
+            at: _,
+        } = self;
+        table.release(held);
+    }
+}
+
+impl Decided {
+    /// Whose state it is.
+    pub fn txn(&self) -> TxnId
+        ensures { result ≡ self.now.token.txn }
+    {
+        self.held.txn()
+    }
+
+    /// Its commit timestamp.
+    pub fn at(&self) -> Stamp
+        ensures { result ≡ self.now.at }
+    {
+        self.at
+    }
+
+    /// The shards that take part.
+    pub fn parts(&self) -> Parts
+        ensures { result ≡ self.now.parts }
+    {
+        self.parts
+    }
+
+    // A logged outcome is spent, and the token with it.
+    pub(crate) fn close(self, logged: Logged, table: &mut Table) -> Record
+        requires { is_outcome_of self.token.txn logged ≡ true }
+        ensures record { result ≡ logged }
+        ensures table { table.new ≡ without_claim table.old self.token.txn }
+    {
+        self.release(table);
+        logged.spend()
+    }
+
+    // The token goes, at the end of the table.
+    pub(crate) fn release(self, table: &mut Table)
+        ensures { table.new ≡ without_claim table.old self.token.txn }
+    {
+        let Decided {
+            held,
+            at: _,
+            parts: _,
+        } = self;
+        table.release(held);
+    }
+}
+
+// The state after a logged decision.
+fn decide(held: Held, logged: Logged) -> (Decided, Record)
+    requires { is_commit_of held.txn logged ≡ true }
+    ensures state { result.0 ≡ decided_by held logged }
+    ensures record { result.1 ≡ logged }
+{
+    let record = logged.spend();
+    match &record {
+        Record::Commit(committed) => {
+            let state = Decided {
+                held,
+                at: committed.at,
+                parts: committed.parts,
+            };
+            (state, record)
+        }
+        _ => unreachable!(),
     }
 }

@@ -1,0 +1,50 @@
+//! A row: a transaction in one of its states.
+ghost use Rattle.std.specs.Prelude.{◌≡◌};
+ghost use Rattle.units.specs.Ids.{same_id};
+ghost use Rattle.rows.specs.CodeRows.{txn_of};
+ghost use Rattle.locks.specs.Table.{without_claim};
+
+use crate::states::{Collecting, Decided, Prepared, Reading};
+use locks::Table;
+use units::TxnId;
+
+/// A transaction of a shard, in its state.
+pub enum Row {
+    Reading(Reading),
+    Collecting(Collecting),
+    Prepared(Prepared),
+    Decided(Decided),
+}
+
+impl Row {
+    /// Whose row it is.
+    pub fn txn(&self) -> TxnId
+        ensures { result ≡ txn_of self.now }
+    {
+        match self {
+            Row::Reading(state) => state.txn(),
+            Row::Collecting(state) => state.txn(),
+            Row::Prepared(state) => state.txn(),
+            Row::Decided(state) => state.txn(),
+        }
+    }
+
+    /// Whether it is the transaction's.
+    pub fn is_of(&self, txn: TxnId) -> bool
+        ensures { result ≡ same_id (txn_of self.now) txn }
+    {
+        self.txn().is(txn)
+    }
+
+    // Its token goes, at the end of the table.
+    pub(crate) fn release(self, table: &mut Table)
+        ensures { table.new ≡ without_claim table.old (txn_of self) }
+    {
+        match self {
+            Row::Reading(state) => state.end(table),
+            Row::Collecting(state) => state.release(table),
+            Row::Prepared(state) => state.release(table),
+            Row::Decided(state) => state.release(table),
+        }
+    }
+}

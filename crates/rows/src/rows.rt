@@ -1,0 +1,157 @@
+//! The rows of a shard beside its lock table.
+ghost use Rattle.std.specs.Prelude.{◌≡◌, ◌+◌, ◌<◌, ◌≤◌, [], true, false, Some, None, nat_le, length, MatchOption, IfOk, IfErr, OnOk, OnErr};
+ghost use Rattle.units.specs.ById.{IsById};
+ghost use Rattle.units.specs.Lists.{each};
+ghost use Rattle.units.specs.LockLaws.{IsLawfulTable};
+ghost use Rattle.units.specs.Locks.{holds, is_free, ready, with_locks, wounded};
+ghost use Rattle.protocol.specs.Rows.{Idle, claims, find_row, needs_of, without_row};
+ghost use Rattle.rows.specs.States.{is_prepare_of, is_commit_of, is_abort_of, is_outcome_of};
+ghost use Rattle.rows.specs.CodeRows.{phase_of, phase_of_wait, is_reading, is_idle, may_decide, may_abort, may_close};
+ghost use Rattle.rows.specs.RowTable.{room, held_in, needs_in, has_phase, put_row, without_rows, without_tokens, without_token, MayEnd, phase_by};
+
+use crate::list::RowList;
+use crate::row::Row;
+use crate::states::Reading;
+use gatelog::Logged;
+use locks::Table;
+use record::Record;
+use std::alloc::Global;
+use std::marker::Model;
+use units::{Fault, Ids, Key, Keys, Lock, TxnId};
+
+/// The transactions of a shard: each has a row, in a state that holds its token of the lock table. There are at most
+/// 1,024.
+///
+/// The claims of the lock table are those of the rows, place by place. So each call of the table is given a token whose
+/// claim it has, and whoever holds the rows never speaks of the table. The rows hold tokens, so they cannot be dropped:
+/// `stop` spends them.
+pub struct Rows {
+    rows: RowList,
+    locks: Table,
+}
+
+impl Model for Rows {
+    ghost use Rattle.std.specs.Prelude.{◌≡◌};
+    ghost use Rattle.protocol.specs.Rows.{claims};
+    ghost use Rattle.rows.specs.RowTable.{RowTable, table_of, paired};
+
+    ghost Value = { RowTable };
+
+    ghost view = { λ r. table_of r.rows r.locks };
+
+    ghost invariant = { λ r. claims (paired r.rows r.locks) ≡ r.locks };
+}
+
+impl Rows {
+    /// No rows, with the space for all that there may be. It is refused for want of memory alone.
+    pub fn new(alloc: Global) -> Result<Rows, Fault>
+        ensures none { IfOk result (λ rows. rows.rows ≡ []) }
+        ensures memory { IfErr result (λ fault. fault ≡ Fault.Memory) }
+    {
+        let rows = RowList::new(alloc)?;
+        let locks = Table::new(alloc);
+        Ok(Rows { rows, locks })
+    }
+
+    /// What holds of the rows at any time. It does nothing.
+    pub fn laws(&self)
+        ensures locks { IsLawfulTable (claims self.now.rows) }
+        ensures few { length self.now.rows ≤ 1024 }
+        ensures order { IsById (λ r. r.txn) self.now.rows }
+    {
+        self.locks.laws();
+        self.rows.laws();
+    }
+
+    /// Whether there are as many rows as there may be.
+    pub fn is_full(&self) -> bool
+        ensures { result ≡ nat_le 1024 (length self.now.rows) }
+    {
+        self.rows.len() >= 1024
+    }
+
+    /// The row of a transaction.
+    pub fn find(&self, txn: TxnId) -> Option<&Row>
+        ensures { MatchOption result (find_row self.now.rows txn ≡ None)
+            (λ row. find_row self.now.rows txn ≡ Some (record { txn = txn; held = held_in self.now.rows txn; phase = phase_of row.now })) }
+    {
+        self.rows.find(txn)
+    }
+
+    /// Whether a transaction holds a key. One that has no row holds nothing.
+    pub fn holds(&self, txn: TxnId, key: &Key) -> bool
+        ensures { result ≡ holds (held_in self.now.rows txn) key.now }
+    {
+        self.locks.holds(txn, key)
+    }
+
+    /// Whether a transaction holds each of some keys.
+    pub fn holds_all(&self, txn: TxnId, keys: &Keys) -> bool
+        ensures { result ≡ each (holds (held_in self.now.rows txn)) keys.now }
+    {
+        for key in keys.as_slice() {
+            if !self.holds(txn, key) {
+                return false;
+            }
+        }
+        true
+    }
+
+    /// Whom a request ends, the oldest first. It is refused for want of memory alone.
+    pub fn wounded(&self, alloc: Global, txn: TxnId, needs: &[Lock]) -> Result<Ids, Fault>
+        ensures ok { IfOk result (λ ids. ids ≡ wounded (claims self.now.rows) txn needs.now) }
+        ensures memory { IfErr result (λ fault. fault ≡ Fault.Memory) }
+    {
+        self.locks.wounded(alloc, txn, needs)
+    }
+
+    /// Whether a request is granted once those that it ends are gone.
+    pub fn opens(&self, txn: TxnId, needs: &[Lock]) -> bool
+        ensures { result ≡ is_free (claims (without_rows self.now.rows (wounded (claims self.now.rows) txn needs.now))) txn needs.now }
+    {
+        self.locks.opens(txn, needs)
+    }
+
+    /// The oldest transaction that waits and would be granted now.
+    pub fn ready(&self) -> Option<TxnId>
+        ensures { result ≡ ready (claims self.now.rows) }
+    {
+        self.locks.ready()
+    }
+
+    /// Takes in a transaction that is new. It reads, and holds nothing. It is refused for want of memory alone.
+    pub fn admit(&mut self, alloc: Global, txn: TxnId) -> Result<(), Fault>
+        requires absent { find_row self.old.rows txn ≡ None }
+        requires room { length self.old.rows < 1024 }
+        ensures ok { OnOk result (self.new.rows ≡ put_row self.old.rows txn [] Idle) }
+        ensures err { OnErr result (self.new ≡ self.old) }
+        ensures memory { IfErr result (λ fault. fault ≡ Fault.Memory) }
+    {
+        let held = self.locks.enter(alloc, txn)?;
+        self.rows.put(Row::Reading(Reading::new(held)));
+        Ok(())
+    }
+
+    /// Ends a transaction that reads, with nothing logged, and leaves every other.
+    pub fn end(&mut self, txn: TxnId)
+        requires { has_phase is_reading self.old.rows txn ≡ true }
+        ensures rows { self.new.rows ≡ without_row self.old.rows txn }
+        ensures tokens { self.new.tokens ≡ without_token self.old.tokens txn }
+    {
+        let state = self.rows.take_reading(txn);
+        state.end(&mut self.locks);
+    }
+
+    /// A logged promise is spent: the transaction is prepared, and holds what it held. It takes no memory.
+    pub fn prepare(&mut self, txn: TxnId, logged: Logged) -> Record
+        requires idle { has_phase is_idle self.old.rows txn ≡ true }
+        requires mine { is_prepare_of txn logged ≡ true }
+        ensures rows { self.new.rows ≡ put_row self.old.rows txn (held_in self.old.rows txn) (phase_by logged) }
+        ensures record { result ≡ logged }
+    {
+        let reading = self.rows.take_reading(txn);
+        let (prepared, record) = reading.prepare(logged, &mut self.locks);
+        self.rows.put(Row::Prepared(prepared));
+        record
+    }
+}
