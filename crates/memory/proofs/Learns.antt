@@ -70,3 +70,13 @@ pub same_learnt : (ordered : List Install) (facts : Facts) (item : Record) (writ
 same_learnt ordered facts item writes s is can up same =
     let given = installs_given facts item writes s is can in
     subst (SameValues (all_installed ordered (versions writes s))) (sym given.0) (places_do_not_matter writes s ordered facts.installs up given.1 same)
+
+-- any writes may be given for a record that installs nothing
+pub installs_nothing : (facts : Facts) (item : Record) (writes : List Write) → outcome_stamp item ≡ None → CanInstall facts item writes
+installs_nothing facts (Opened e) writes is = tt
+installs_nothing facts (Ceiling at) writes is = tt
+installs_nothing facts (Prepare p) writes is = tt
+installs_nothing facts (Commit c) writes is = tt
+installs_nothing facts (Abort t) writes is = tt
+installs_nothing facts (Outcome t None) writes is = tt
+installs_nothing facts (Outcome t (Some at)) writes is = cc

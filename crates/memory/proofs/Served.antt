@@ -13,10 +13,9 @@ use Rattle.safetime.specs.Safe.{safe_of, lifted}
 use Rattle.safetime.proofs.Orders.{order_does_not_matter, hold_adds_one, lift_takes_one}
 use Rattle.protocol.specs.Rows.{Row, safe, find_row, without_row, with_row, held_stamp}
 use Rattle.memory.specs.Served.{stamps_held, stamp_held, IsHolding}
+use Rattle.memory.specs.ServedLaws.{SafeByHolds, HoldIsPut, NoneIsPut, HoldIsTaken, NoneIsTaken, HoldsAreFew}
 
--- the safe time by the holds is that by the rows
-pub holding_safe : (last : ℕ) (holds : List ℕ) (rows : List Row) (ended : List Id) → IsHolding holds rows
-    → safe_of (record { last = last; holds = holds }) ≡ safe (record { last = last; rows = rows; ended = ended })
+pub holding_safe : SafeByHolds
 unfolding safe
 holding_safe last holds rows ended same = order_does_not_matter last holds (stamps_held rows) same
 
@@ -90,9 +89,7 @@ held_none p o is = ap (held_by p) is
 
 -- ---- holds
 
--- a row that holds a timestamp is put in, where its id held none: one more hold
-pub holding_with : (holds : List ℕ) (rows : List Row) (r : Row) (at : ℕ) → IsById (λ q. q.txn) rows → IsHolding holds rows
-    → stamp_held rows r.txn ≡ None → held_stamp r.phase ≡ Some at → IsHolding (holds ++ at ∷ []) (with_row rows r)
+pub holding_with : HoldIsPut
 holding_with holds rows r at up same none is = record { each = λ n. more n }
   where
     more : (n : ℕ) → count (nat_eq n) (holds ++ at ∷ []) ≡ held_in (nat_eq n) (with_row rows r)
@@ -100,18 +97,14 @@ holding_with holds rows r at up same none is = record { each = λ n. more n }
         let new : held_by (nat_eq n) (held_stamp r.phase) ≡ count (nat_eq n) (at ∷ []) = ap (held_by (nat_eq n)) is in
         omega (arith, counted_with (nat_eq n) rows r up, held_none (nat_eq n) _ none, same.each n, (hold_adds_one at holds).each n, counted_one (nat_eq n) at holds)
 
--- a row that holds nothing is put in, where its id held nothing
-pub holding_with_none : (holds : List ℕ) (rows : List Row) (r : Row) → IsById (λ q. q.txn) rows → IsHolding holds rows
-    → stamp_held rows r.txn ≡ None → held_stamp r.phase ≡ None → IsHolding holds (with_row rows r)
+pub holding_with_none : NoneIsPut
 holding_with_none holds rows r up same none is = record { each = λ n. more n }
   where
     more : (n : ℕ) → count (nat_eq n) holds ≡ held_in (nat_eq n) (with_row rows r)
     more n =
         omega (arith, counted_with (nat_eq n) rows r up, held_none (nat_eq n) _ none, held_none (nat_eq n) _ is, same.each n)
 
--- a row that held a timestamp is taken out: one hold less
-pub holding_without : (holds : List ℕ) (rows : List Row) (t : Id) (at : ℕ) → IsById (λ q. q.txn) rows → IsHolding holds rows
-    → stamp_held rows t ≡ Some at → IsHolding (lifted at holds) (without_row rows t)
+pub holding_without : HoldIsTaken
 holding_without holds rows t at up same is = record { each = λ n. less n }
   where
     held : (n : ℕ) → held_in (nat_eq n) (without_row rows t) + count (nat_eq n) (at ∷ []) ≡ count (nat_eq n) holds
@@ -126,9 +119,7 @@ holding_without holds rows t at up same is = record { each = λ n. less n }
     less : (n : ℕ) → count (nat_eq n) (lifted at holds) ≡ held_in (nat_eq n) (without_row rows t)
     less n = omega (arith, held n, (lift_takes_one at holds some).each n, counted_one (nat_eq n) at (lifted at holds))
 
--- a row that held nothing, or none, is taken out
-pub holding_without_none : (holds : List ℕ) (rows : List Row) (t : Id) → IsById (λ q. q.txn) rows → IsHolding holds rows
-    → stamp_held rows t ≡ None → IsHolding holds (without_row rows t)
+pub holding_without_none : NoneIsTaken
 holding_without_none holds rows t up same none = record { each = λ n. more n }
   where
     more : (n : ℕ) → count (nat_eq n) holds ≡ held_in (nat_eq n) (without_row rows t)
@@ -164,6 +155,5 @@ stamps_few (q ∷ qs) = by_stamp (held_stamp q.phase) (stamps_few qs)
     by_stamp None rest = omega (arith, rest)
     by_stamp (Some at) rest = omega (arith, rest)
 
--- there are no more holds than rows
-pub holds_few : (holds : List ℕ) (rows : List Row) → IsHolding holds rows → length holds ≤ length rows
+pub holds_few : HoldsAreFew
 holds_few holds rows same = omega (arith, same_length holds (stamps_held rows) same, stamps_few rows)

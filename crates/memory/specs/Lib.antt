@@ -3,3 +3,4 @@ pub mod Kept
 pub mod Ledger
 pub mod Plans
 pub mod Served
+pub mod ServedLaws

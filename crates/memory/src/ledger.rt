@@ -1,7 +1,7 @@
 //! The facts of a log beside the versions by key.
 ghost use Rattle.std.specs.Prelude.{◌≡◌, ◌<◌, ◌≤◌, ◌^◌, [], IsTrue, IsOk, IfOk, IfErr, OnOk};
 ghost use Rattle.std.specs.Option.{option_copied};
-ghost use Rattle.units.specs.Versions.{latest, at_time};
+ghost use Rattle.units.specs.Versions.{latest, at_time, above_versions};
 ghost use Rattle.record.specs.Facts.{facts_of, learn, recorded};
 ghost use Rattle.facts.specs.Rules.{follows_facts};
 ghost use Rattle.facts.specs.Shown.{meant};
@@ -11,7 +11,7 @@ use facts::{Facts, Status};
 use record::Record;
 use std::alloc::Global;
 use std::marker::Model;
-use units::{Fault, Install, Key, ShardNo, Stamp, TxnId, Value, Writes};
+use units::{Fault, Install, Key, ShardNo, Stamp, TxnId, Value, Write, Writes};
 use versions::Versions;
 
 // How many versions a record installs at most.
@@ -97,6 +97,20 @@ impl Ledger {
         self.versions.at(key, at)
     }
 
+    /// The record may come next in the log, by the rules of one transaction and of openings.
+    pub fn follows(&self, item: &Record) -> bool
+        ensures { result ≡ follows_facts self.now.shard self.now.facts item.now }
+    {
+        self.facts.follows(item)
+    }
+
+    /// The timestamp is above all versions of the keys that are written.
+    pub fn takes(&self, writes: &Writes, at: Stamp) -> bool
+        ensures { result ≡ above_versions self.now.facts.installs at writes.now }
+    {
+        are_above(&self.versions, writes.as_slice(), at)
+    }
+
     /// Takes the memory in which one more record is learnt.
     pub fn reserve(&mut self) -> Result<(), Fault>
         ensures room { OnOk result (1 ≤ self.new.room) }
@@ -116,7 +130,7 @@ impl Ledger {
         ensures writes { IfOk result (λ writes. writes ≡ writes_standing (recorded self.now.facts txn)) }
         ensures memory { IfErr result (λ fault. fault ≡ Fault.Memory) }
     {
-        match self.facts.status(txn) {
+        match self.status(txn) {
             Some(Status::Prepared(prepared)) => prepared.writes.copy(alloc),
             Some(Status::Decided(committed)) => committed.writes.copy(alloc),
             _ => Ok(Writes::none(alloc)),
@@ -151,6 +165,18 @@ fn learn_next(facts: &mut Facts, item: Record)
         Ok(()) => {}
         Err(_) => unreachable!(),
     }
+}
+
+// The timestamp is above all versions of the keys that are written.
+fn are_above(versions: &Versions, writes: &[Write], at: Stamp) -> bool
+    ensures { result ≡ above_versions versions.now.installs at writes.now }
+{
+    for write in writes {
+        if !versions.takes(&write.key, at) {
+            return false;
+        }
+    }
+    true
 }
 
 // The timestamp of an outcome.

@@ -3,9 +3,14 @@
 #![tactic(auto)]
 
 mod ended;
+mod laws;
 mod ledger;
 pub mod plan;
 pub mod state;
 
 pub use ended::Ended;
+pub use laws::holds_follow_rows;
 pub use ledger::Ledger;
+
+#[cfg(test)]
+mod tests;
