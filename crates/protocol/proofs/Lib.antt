@@ -3,6 +3,7 @@ mod LastUnderFloor
 mod LockTable
 mod PlanRows
 mod PlannedActs
+mod PlannedAgain
 pub mod RowTable
 pub mod Samples
 mod ShardSteps
