@@ -7,3 +7,4 @@ mod PlannedAgain
 pub mod RowTable
 pub mod Samples
 mod ShardSteps
+mod StepIsPlanned

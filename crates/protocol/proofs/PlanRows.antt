@@ -1,14 +1,14 @@
 -- The rows under the acts of a step and under its plan: several ended at once, a row put twice, a row that is there.
-use Rattle.std.proofs.Common.{◌≡◌, ◌∙◌, ℕ, Bool, true, false, not, cond, ◌&&◌, List, [], ◌∷◌, ◌++◌, map, Option, Some, None, refl, sym, ap, append-nil, append_assoc}
+use Rattle.std.proofs.Common.{◌≡◌, ◌∙◌, ℕ, Bool, true, false, not, ◌&&◌, List, [], ◌∷◌, ◌++◌, map, Option, Some, None, refl, sym, ap, append-nil, append_assoc}
 use Rattle.std.specs.List.{AllByRecursion}
 use Rattle.units.specs.Lists.{any, keep}
 use Rattle.units.specs.Ids.{Id, same_id, older, has_id}
 use Rattle.units.specs.ById.{IsById, with_member}
-use Rattle.units.specs.Locks.{Claim, wounded, is_free, others, blockers, may_wound, clash, with_locks}
+use Rattle.units.specs.Locks.{Claim, wounded, is_free, others, blockers, may_wound, clash}
 use Rattle.units.specs.declared.lock.Lock.{Lock}
-use Rattle.units.proofs.IdLaws.{same_id-refl, same_id_comm, same_id-is, older_not_same}
+use Rattle.units.proofs.IdLaws.{same_id_comm, same_id-is, older_not_same}
 use Rattle.units.proofs.ListLaws.{all_gives, all-keep}
-use Rattle.units.proofs.ByIdLaws.{later_are_younger, by_id-keep, by_id-map, by_id-with, all-without, found_has, found_is, find-with_same, find-with_other, find-without_other}
+use Rattle.units.proofs.ByIdLaws.{later_are_younger, by_id-keep, by_id-map, all-without, found_is, find-with_same, find-with_other, find-without_other}
 use Rattle.units.proofs.ByIdTwice.{without-with_same, with-with_same, without-with_other}
 use Rattle.record.specs.Records.{Status, HasAborted, HasSettled, HasClosed}
 use Rattle.record.specs.Facts.{Facts, recorded}

@@ -3,16 +3,16 @@ use Rattle.std.proofs.Common.{◌≡◌, ◌∙◌, refl, ap, append-nil}
 use Rattle.std.specs.Prelude.{ℕ, ◌+◌, Bool, true, false, cond, nat_le, max, List, [], ◌∷◌, ◌++◌, Option, Some, None, Ok, Err}
 use Rattle.units.specs.Ids.{Id, with_id}
 use Rattle.units.specs.Keys.{Bytes}
-use Rattle.units.specs.Locks.{wounded, exclusive, with_locks}
+use Rattle.units.specs.Locks.{exclusive, with_locks}
 use Rattle.units.specs.declared.fault.Fault.{Fault}
 use Rattle.units.specs.declared.lock.Lock.{Lock}
 use Rattle.units.specs.declared.writes.Write.{Write}
 use Rattle.record.specs.declared.record.Record.{Record}
 use Rattle.message.specs.declared.message.Envelope.{Envelope}
-use Rattle.protocol.specs.Rows.{Row, Memory, Phase, Idle, WaitsRead, WaitsPrepare, WaitsCommit, Collecting, IsPrepared, IsDecided, Voted, claims, find_row, with_row, without_row}
-use Rattle.protocol.specs.Draft.{Draft, started, Stepped, Refuses, Does, done, put_row, drop_row, raise, log, say, tell, vote_to, done_to, refused_vote, end, abort, wound, can_lock, take_locks, wait, answer_read, time_limit, in_time, prepare, prepare_at, decide, decide_at, commit_stamp, promise, decision, with_room, is_full, other_parts, held_by}
+use Rattle.protocol.specs.Rows.{Row, Memory, Phase, Idle, WaitsRead, WaitsPrepare, WaitsCommit, Collecting, IsPrepared, IsDecided, Voted, find_row, without_row}
+use Rattle.protocol.specs.Draft.{Draft, started, Stepped, Refuses, Does, done, put_row, drop_row, raise, log, say, tell, vote_to, refused_vote, end, abort, wound, can_lock, take_locks, wait, answer_read, time_limit, in_time, prepare, prepare_at, decide, decide_at, commit_stamp, promise, decision, with_room, is_full, other_parts}
 use Rattle.protocol.specs.Step.{read_now, prepare_now, refuse_vote, abort_all, commit_granted, commit_now, reads_stand, prepare_fresh, commit_fresh}
-use Rattle.protocol.specs.Plan.{Plan, Planned, Before, carried, changed, ended_by, stepped, without_rows, with_ids, held_in, votes_of, in_way, opens, is_crowded, roomed, timed, to_read, answers, refuses, ends, puts, plan_read_now, plan_promise, plan_prepare_now, plan_abort, plan_decide, plan_commit_granted, plan_commit_now, plan_prepare_fresh, plan_commit_fresh, still_stand}
+use Rattle.protocol.specs.Plan.{Planned, Before, carried, changed, ended_by, stepped, without_rows, with_ids, held_in, votes_of, in_way, opens, is_crowded, roomed, timed, to_read, answers, refuses, ends, puts, plan_read_now, plan_promise, plan_prepare_now, plan_abort, plan_decide, plan_commit_granted, plan_commit_now, plan_prepare_fresh, plan_commit_fresh, still_stand}
 use Rattle.protocol.proofs.PlanRows.{Ascend, put_again, ended_at_once, end_all-is, wounded-by_id}
 
 -- the draft from where a step starts

@@ -3,19 +3,17 @@
 use Rattle.std.proofs.Common.{◌≡◌, ◌∙◌, refl, sym, ap, subst}
 use Rattle.std.proofs.Math.Bool.{and-false}
 use Rattle.std.specs.Prelude.{ℕ, ◌+◌, Bool, true, false, not, cond, ◌&&◌, nat_le, max, List, [], ◌∷◌, ◌++◌, length, Option, Some, None, Ok}
-use Rattle.units.specs.Lists.{any}
 use Rattle.units.specs.Ids.{Id, with_id}
 use Rattle.units.specs.Keys.{Bytes}
-use Rattle.units.specs.Locks.{is_free, wounded, exclusive, with_locks}
+use Rattle.units.specs.Locks.{is_free, exclusive, with_locks}
 use Rattle.units.specs.declared.lock.Lock.{Lock}
 use Rattle.units.specs.declared.writes.Write.{Write}
 use Rattle.units.proofs.ByIdLaws.{found_has, by_id-with}
-use Rattle.units.specs.ById.{IsById}
 use Rattle.record.specs.declared.record.Record.{Record}
 use Rattle.message.specs.declared.message.Envelope.{Envelope}
-use Rattle.protocol.specs.Rows.{Row, Memory, Phase, Idle, WaitsPrepare, WaitsCommit, Collecting, IsPrepared, IsDecided, claims, find_row, with_row, without_row}
+use Rattle.protocol.specs.Rows.{Row, Phase, Idle, WaitsPrepare, WaitsCommit, IsPrepared, IsDecided, claims, find_row, with_row}
 use Rattle.protocol.specs.Draft.{Stepped, Does, time_limit, vote_to, promise, decision, commit_stamp, held_by, done_to, other_parts}
-use Rattle.protocol.specs.Plan.{Plan, Planned, Before, carried, changed, ended_by, stepped, without_rows, with_ids, held_in, votes_of, in_way, opens, is_crowded, roomed, timed, refuses, ends, puts, tells, plan_promise, plan_prepare_now, plan_abort, plan_decide, plan_commit_granted, plan_commit_now, plan_prepare_fresh, plan_commit_fresh, still_stand}
+use Rattle.protocol.specs.Plan.{Planned, Before, carried, changed, ended_by, stepped, without_rows, with_ids, held_in, votes_of, in_way, opens, is_crowded, roomed, timed, refuses, ends, puts, tells, plan_promise, plan_prepare_now, plan_abort, plan_decide, plan_commit_granted, plan_commit_now, plan_prepare_fresh, plan_commit_fresh, still_stand}
 use Rattle.protocol.proofs.RowTable.{with_row-is}
 use Rattle.protocol.proofs.PlanRows.{Ascend, AllOther, with_row-twice, find-with_row, without-with_row, votes_of-with, without_rows-with, find-without_rows, wounded-differ, wounded-alike, is_free-alike, others-with_row}
 
