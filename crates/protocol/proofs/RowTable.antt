@@ -1,5 +1,5 @@
 -- The rows as a lock table: what an act does to the rows, the calls of a table do to its claims.
-use Rattle.std.proofs.Common.{◌≡◌, Bool, true, false, cond, List, [], ◌∷◌, Option, Some, None, refl, sym, ap, ◌∙◌}
+use Rattle.std.proofs.Common.{◌≡◌, cond, List, [], ◌∷◌, Some, refl, sym, ap, ◌∙◌}
 use Rattle.units.specs.Lists.{mapped}
 use Rattle.units.specs.Ids.{Id, same_id, older}
 use Rattle.units.specs.ById.{IsById, find_member, without_member, with_member, change_member}

@@ -4,4 +4,4 @@
 
 mod laws;
 
-pub use laws::last_stays_under_floor;
+pub use laws::{last_stays_under_floor, step_is_planned};

@@ -1,4 +1,5 @@
 pub mod ByIdLaws
+pub mod ByIdTwice
 pub mod Folds
 pub mod FrontLaws
 pub mod IdLaws
