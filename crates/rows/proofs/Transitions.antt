@@ -8,7 +8,8 @@ use Rattle.protocol.specs.Rows.{Row, Phase, Idle, claim_of, claims, needs_of, is
 use Rattle.locks.specs.Table.{Token, without_claim, change_claim, granted, waiting, resumed, made_firm}
 use Rattle.rows.specs.States.{ReadingState, CollectingState, PreparedState, DecidedState, is_prepare_of, is_commit_of, prepared_by, decided_by, collecting_of}
 use Rattle.rows.specs.CodeRows.{txn_of, phase_of, phase_of_wait, row_of, passes, put_in, without_txn, is_reading, is_idle, IsRowList}
-use Rattle.rows.specs.RowTable.{paired, held_in, put_row, phase_by}
+use Rattle.rows.specs.RowTable.{paired, put_row, phase_by}
+use Rattle.protocol.specs.Plan.{held_in}
 use Rattle.rows.specs.declared.row.Row.{Row as CodeRow}
 use Rattle.rows.specs.declared.row.Row.TheVariants.{Reading, Collecting, Prepared, Decided}
 use Rattle.rows.proofs.Ties.{IsMoved, found_txn, found_passes}

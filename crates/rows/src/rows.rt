@@ -7,7 +7,8 @@ ghost use Rattle.units.specs.Locks.{holds, is_free, ready, with_locks, wounded};
 ghost use Rattle.protocol.specs.Rows.{Idle, claims, find_row, needs_of, without_row};
 ghost use Rattle.rows.specs.States.{is_prepare_of, is_commit_of, is_abort_of, is_outcome_of};
 ghost use Rattle.rows.specs.CodeRows.{phase_of, phase_of_wait, is_reading, is_idle, may_decide, may_abort, may_close};
-ghost use Rattle.rows.specs.RowTable.{room, held_in, needs_in, has_phase, put_row, without_rows, without_tokens, without_token, MayEnd, phase_by};
+ghost use Rattle.rows.specs.RowTable.{room, needs_in, has_phase, put_row, without_tokens, without_token, MayEnd, phase_by};
+ghost use Rattle.protocol.specs.Plan.{held_in, without_rows};
 
 use crate::list::RowList;
 use crate::row::Row;
