@@ -121,12 +121,12 @@ pub fn resume_commit(
     if request.parts.has_others(state.setup().shard) {
         let copy = request.copy(alloc)?;
         let needs = exclusive(alloc, &copy.writes)?;
-        return collect(state, alloc, Ids::none(alloc), needs, txn, copy);
+        return collect(state, alloc, Ids::from_vec(Vec::new(alloc)), needs, txn, copy);
     }
     let at = commit_time(state, request.latest)?;
     let copy = request.copy(alloc)?;
     let needs = exclusive(alloc, &copy.writes)?;
-    decide(state, alloc, Ids::none(alloc), needs, txn, at, copy)
+    decide(state, alloc, Ids::from_vec(Vec::new(alloc)), needs, txn, at, copy)
 }
 
 // The timestamp of a decision without votes: above the latest end at the commit's arrival, and above all that was served.

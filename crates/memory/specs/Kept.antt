@@ -4,6 +4,7 @@ use Rattle.units.specs.Ids.{Id}
 use Rattle.units.specs.declared.fault.Fault.{Fault}
 use Rattle.units.specs.declared.setup.Setup.{Setup}
 use Rattle.record.specs.Facts.{Facts}
+use Rattle.locks.specs.Table.{Token}
 use Rattle.protocol.specs.Rows.{Memory, Standing, IsUnknown, WasEnded, WasAborted, WasSettled, WasClosed}
 use Rattle.protocol.specs.Plan as protocol
 use Rattle.memory.specs.Plans.{plan_of}
@@ -11,14 +12,14 @@ use Rattle.memory.specs.declared.plan.Plan.{Plan}
 use Rattle.memory.specs.declared.state.Past.{Past}
 
 -- what a shard was told, the facts of its log and the rest; and for what it has memory: to learn so many records, to end so
--- many transactions, and to grant each transaction so many locks
+-- many transactions, and to grant each transaction what its token has room for
 pub record Kept : Type 0 where
   pub setup : Setup
   pub facts : Facts
   pub memory : Memory
   pub records : ℕ
   pub ends : ℕ
-  pub locks : Id → ℕ
+  pub tokens : List Token
 
 -- where its next step starts. Its table holds 1,024 rows
 abbrev pub start_of : Kept → protocol.Before

@@ -42,12 +42,12 @@ pub fn done_to(txn: TxnId, outcome: Option<Stamp>) -> Envelope
 }
 
 /// The outcome, to a shard that takes part.
-pub fn outcome_to(from: ShardNo, txn: TxnId, outcome: Option<Stamp>, to: ShardNo) -> Envelope
-    ensures { result ≡ outcome_to from txn outcome to }
+pub fn outcome_to(told: &Outcome, to: ShardNo) -> Envelope
+    ensures { result ≡ outcome_to told.now.from told.now.txn told.now.outcome to }
 {
     Envelope {
         to: Address::Shard(to),
-        message: Message::Outcome(Outcome { from, txn, outcome }),
+        message: Message::Outcome(*told),
     }
 }
 

@@ -3,14 +3,14 @@ ghost use Rattle.std.specs.Prelude.{◌≡◌, ◌++◌, ◌∷◌, [], Some, No
 ghost use Rattle.units.specs.Locks.{exclusive};
 ghost use Rattle.units.specs.Lists.{each, listed};
 ghost use Rattle.protocol.specs.Draft.{other_parts};
-ghost use Rattle.protocol.specs.Plan.{replies, ends, drops, opens, votes_of, answers, tells, plan_abort};
+ghost use Rattle.protocol.specs.Plan.{replies, ends, drops, opens, votes_of, answers, tells, plan_abort, still_stand, held_in};
 ghost use Rattle.memory.specs.Kept.{start_of};
 ghost use Rattle.memory.specs.Plans.{change_of, plan_of};
 
 use crate::envelopes::{answer_to, done_to, outcome_to, vote_to};
 use crate::plan::{Change, Plan};
 use crate::state::State;
-use message::{Answer, Envelope, Outbox};
+use message::{Answer, Envelope, Outbox, Outcome, Reads};
 use record::Record;
 use rows::{Row, Wait};
 use std::alloc::Global;
@@ -41,6 +41,16 @@ pub fn other_parts(alloc: Global, shard: ShardNo, parts: Parts) -> Result<Vec<Sh
     Ok(others)
 }
 
+/// The reads of a transaction still stand: there are none, or their epoch is the present one and each of their keys is held.
+pub fn reads_stand(state: &State, txn: TxnId, reads: &Reads) -> bool
+    ensures { result ≡ still_stand (start_of state.now) reads.now.epoch reads.now.keys (held_in state.now.memory.rows txn) }
+{
+    if reads.keys().as_slice().is_empty() {
+        return true;
+    }
+    reads.epoch() == state.epoch().number() && state.holds_all(txn, reads.keys())
+}
+
 impl State {
     /// The request of exclusive locks of what is written is granted once those that it ends are gone. It takes no memory.
     pub fn opens_writes(&self, txn: TxnId, writes: &Writes) -> bool
@@ -63,7 +73,7 @@ impl State {
         ensures { plan_of self.now.memory.rows result ≡ replies (start_of self.now) out.items }
     {
         Plan {
-            wounded: Ids::none(alloc),
+            wounded: Ids::from_vec(Vec::new(alloc)),
             needs: Vec::new(alloc),
             change: Change::Keeps,
             logged: None,
@@ -92,7 +102,7 @@ impl State {
         ensures { plan_of self.now.memory.rows result ≡ ends (start_of self.now) txn out.items }
     {
         Plan {
-            wounded: Ids::none(alloc),
+            wounded: Ids::from_vec(Vec::new(alloc)),
             needs: Vec::new(alloc),
             change: Change::Ends(txn),
             logged: None,
@@ -106,7 +116,7 @@ impl State {
         ensures { plan_of self.now.memory.rows result ≡ drops txn item last out.items }
     {
         Plan {
-            wounded: Ids::none(alloc),
+            wounded: Ids::from_vec(Vec::new(alloc)),
             needs: Vec::new(alloc),
             change: Change::Drops(txn),
             logged: Some(item),
@@ -137,10 +147,11 @@ impl State {
         ensures memory { IfErr result (λ fault. fault ≡ Fault.Memory) }
     {
         let from = self.setup().shard;
+        let told = Outcome { from, txn, outcome };
         let others = other_parts(alloc, from, parts)?;
         let mut out = one(alloc, first)?;
         for other in others.as_slice() {
-            out.push(outcome_to(from, txn, outcome, *other))?;
+            out.push(outcome_to(&told, *other))?;
         }
         Ok(out)
     }

@@ -16,7 +16,7 @@ use rows::{Row, Rows};
 use safetime::SafeTime;
 use std::alloc::Global;
 use std::marker::Model;
-use units::{Fault, Ids, Install, Key, Keys, Lock, Parts, Setup, ShardNo, Stamp, TxnId, Value};
+use units::{Epoch, Fault, Ids, Install, Key, Keys, Lock, Parts, Setup, ShardNo, Stamp, TxnId, Value};
 
 /// What a shard keeps in memory: what it was told, the facts of its log with the versions by key, its rows with their
 /// locks, the ids that were ended, and its served time.
@@ -29,7 +29,7 @@ pub struct State {
 }
 
 impl Model for State {
-    ghost use Rattle.std.specs.Prelude.{◌≡◌};
+    ghost use Rattle.std.specs.Prelude.{◌≡◌, ◌<◌};
     ghost use Rattle.memory.specs.Kept.{Kept};
     ghost use Rattle.memory.specs.Served.{IsHolding};
 
@@ -41,10 +41,10 @@ impl Model for State {
       memory = record { last = s.times.last; rows = s.rows.rows; ended = s.ended.ids };
       records = s.ledger.room;
       ends = s.ended.room;
-      locks = s.rows.room;
+      tokens = s.rows.tokens;
     } };
 
-    ghost invariant = { λ s. (s.ledger.shard ≡ s.setup.shard) × IsHolding s.times.holds s.rows.rows };
+    ghost invariant = { λ s. (0 < s.ledger.facts.epoch) × (s.ledger.shard ≡ s.setup.shard) × IsHolding s.times.holds s.rows.rows };
 }
 
 /// How a transaction stands that has no row.
@@ -65,12 +65,14 @@ impl State {
         &self.setup
     }
 
-    /// The epoch of the last opening, 0 before the first.
-    pub fn epoch(&self) -> u64
-        ensures value { result ≡ self.now.facts.epoch }
-        ensures limit { result < 2 ^ 62 }
+    /// The epoch of the last opening.
+    pub fn epoch(&self) -> Epoch
+        ensures { result ≡ self.now.facts.epoch }
     {
-        self.ledger.epoch()
+        match Epoch::new(self.ledger.epoch()) {
+            Some(epoch) => epoch,
+            None => unreachable!(),
+        }
     }
 
     /// The greatest timestamp of the log.

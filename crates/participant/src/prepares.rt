@@ -163,7 +163,7 @@ pub fn resume_prepare(
     let at = promise_time(state, now)?;
     let copy = request.copy(alloc)?;
     let needs = exclusive(alloc, &copy.writes)?;
-    promise_at(state, alloc, Ids::none(alloc), needs, txn, at, copy)
+    promise_at(state, alloc, Ids::from_vec(Vec::new(alloc)), needs, txn, at, copy)
 }
 
 // The timestamp of a promise: above all that was served, and no earlier than the reading.

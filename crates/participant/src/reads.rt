@@ -71,7 +71,7 @@ pub fn resume_read(state: &State, alloc: Global, txn: TxnId, key: &Key) -> Resul
     ensures { (earliest : ℕ) → IsPlanned state.now (plan_go_on (start_of state.now) earliest txn (WaitsRead key.now)) result }
 {
     let needs = shared(alloc, key)?;
-    grant(state, alloc, Ids::none(alloc), needs, txn, key)
+    grant(state, alloc, Ids::from_vec(Vec::new(alloc)), needs, txn, key)
 }
 
 // The lock is granted, and the read answered.
