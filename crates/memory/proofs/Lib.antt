@@ -1,2 +1,4 @@
 pub mod Learns
+pub mod OpensEach
 pub mod Served
+pub mod States

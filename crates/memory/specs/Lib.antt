@@ -1,4 +1,6 @@
 pub mod Ended
+pub mod Kept
 pub mod Ledger
+pub mod Plans
 pub mod Served
 pub mod ServedLaws

@@ -3,12 +3,20 @@
 #![tactic(auto)]
 
 mod ended;
+mod envelopes;
 mod laws;
 mod ledger;
+pub mod plan;
+mod planning;
+pub mod state;
 
 pub use ended::Ended;
 pub use laws::holds_follow_rows;
+pub use envelopes::{answer_to, ask_to, done_to, outcome_to, vote_to};
 pub use ledger::Ledger;
+pub use plan::{Change, Plan};
+pub use planning::{exclusive, reads_stand};
+pub use state::{Past, State};
 
 #[cfg(test)]
 mod tests;

@@ -12,13 +12,18 @@ pub mod KeptFacts
 pub mod KeptRows
 pub mod LastUnderFloor
 mod LockTable
+mod PlanRows
+mod PlannedActs
+mod PlannedAgain
 pub mod PlanShapes
+pub mod Refusals
 pub mod RequestShapes
 pub mod RowChanges
 pub mod RowTable
 pub mod Samples
 pub mod Shapes
 mod ShardSteps
+mod StepIsPlanned
 pub mod StatusChanges
 pub mod StepSound
 pub mod WithinLimit

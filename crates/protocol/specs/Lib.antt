@@ -1,6 +1,7 @@
 pub mod Computing
 pub mod Draft
 pub mod Plan
+pub mod Refusals
 pub mod Rows
 pub mod Step
 pub mod StepLaws

@@ -19,7 +19,6 @@ use Rattle.record.specs.declared.record.Record.{Record}
 use Rattle.message.specs.declared.message.Message.{Message}
 use Rattle.message.specs.declared.message.Envelope.{Envelope}
 use Rattle.message.specs.declared.message.Input.{Input}
-use Rattle.message.specs.declared.message.Answer.{Answer}
 use Rattle.message.specs.declared.message.Answer.TheVariants.{Holds, Refused}
 use Rattle.protocol.specs.Rows.{Memory, Row, Phase, Idle, WaitsRead, WaitsPrepare, WaitsCommit, Collecting, IsPrepared, IsDecided, Voted, Standing, IsUnknown, WasEnded, HasRow, WasAborted, WasSettled, WasClosed, standing, claims, find_row, with_row, without_row}
 use Rattle.protocol.specs.Draft.{Stepped, Refuses, Does, promise, decision, vote_to, answer_to, done_to, outcome_to, ask_to, refused_vote, held_by, time_limit, commit_stamp, other_parts, all_voted}

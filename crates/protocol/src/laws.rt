@@ -1,10 +1,17 @@
 //! Laws of the step. Each is the contract of a function that does nothing.
+ghost use Rattle.protocol.specs.Plan.{StepIsPlanned};
+ghost use Rattle.protocol.specs.Refusals.{OwnRefusals};
 ghost use Rattle.protocol.specs.Sound.{FreshIsSound, InstallsAbove, LoggedFollows, StaysWithin, StepKeepsSound};
 ghost use Rattle.protocol.specs.StepLaws.{LastStaysUnderFloor};
 
 /// No step lets the greatest timestamp served pass that of the log.
 pub fn last_stays_under_floor()
     ensures { LastStaysUnderFloor }
+{}
+
+/// What a step does is what its plan says from the state before it.
+pub fn step_is_planned()
+    ensures { StepIsPlanned }
 {}
 
 /// A shard whose log has one opening alone is sound: its lock table, its facts and its rows agree.
@@ -30,4 +37,10 @@ pub fn installs_above()
 /// No step lets the rows grow past the table's limit.
 pub fn stays_within()
     ensures { StaysWithin }
+{}
+
+/// A step refuses for want of time or room, because it is too early, or because somebody is a stranger; never for another
+/// reason.
+pub fn own_refusals()
+    ensures { OwnRefusals }
 {}

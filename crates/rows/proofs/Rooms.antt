@@ -11,7 +11,8 @@ use Rattle.protocol.proofs.RowTable.{claims-find_row}
 use Rattle.locks.specs.Table.{Token, held_in as held_in_table, needs_in as needs_in_table, needs_by as needs_by_claim, most_held}
 use Rattle.rows.specs.States.{ReadingState}
 use Rattle.rows.specs.CodeRows.{token_of, txn_of, row_of, put_in}
-use Rattle.rows.specs.RowTable.{RowTable, paired, table_of, room, room_by, held_in, needs_in, needs_by}
+use Rattle.rows.specs.RowTable.{RowTable, paired, table_of, room, room_by, needs_in, needs_by}
+use Rattle.protocol.specs.Plan.{held_in}
 use Rattle.rows.specs.declared.row.Row.{Row as CodeRow}
 use Rattle.rows.specs.declared.row.Row.TheVariants.{Reading}
 use Rattle.rows.proofs.Ties.{held_is, found_txn}

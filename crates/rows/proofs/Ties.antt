@@ -14,7 +14,8 @@ use Rattle.protocol.proofs.RowTable.{with_row-is, claims-find_row, claims-withou
 use Rattle.protocol.specs.Draft.{held_by}
 use Rattle.locks.specs.Table.{has_claim, with_claim, without_claim, change_claim, entrant, held_in as held_in_table, held_by as held_by_claim}
 use Rattle.rows.specs.CodeRows.{txn_of, phase_of, row_of, has_txn, passes, put_in, without_txn}
-use Rattle.rows.specs.RowTable.{paired, held_first, held_in, put_row, has_phase}
+use Rattle.rows.specs.RowTable.{paired, held_first, put_row, has_phase}
+use Rattle.protocol.specs.Plan.{held_in}
 use Rattle.rows.specs.declared.row.Row.{Row as CodeRow}
 
 -- what a row of the code says without its claim, and the same of a row that a contract sees

@@ -12,7 +12,8 @@ use Rattle.protocol.proofs.RowTable.{with_row-is}
 use Rattle.locks.specs.Table.{Token, without_claim, change_claim, granted, waiting, resumed, made_firm}
 use Rattle.rows.specs.States.{ReadingState, CollectingState, PreparedState, DecidedState, is_prepare_of, is_commit_of, prepared_by, decided_by, collecting_of}
 use Rattle.rows.specs.CodeRows.{txn_of, phase_of, phase_of_wait, row_of, passes, put_in, without_txn, is_idle, may_decide, may_abort, may_close, IsRowList}
-use Rattle.rows.specs.RowTable.{paired, held_in, needs_in, needs_by, put_row, phase_by}
+use Rattle.rows.specs.RowTable.{paired, needs_in, needs_by, put_row, phase_by}
+use Rattle.protocol.specs.Plan.{held_in}
 use Rattle.rows.specs.declared.row.Row.{Row as CodeRow}
 use Rattle.rows.specs.declared.row.Row.TheVariants.{Reading, Collecting, Prepared, Decided}
 use Rattle.rows.specs.declared.wait.Wait.{Wait}

@@ -20,7 +20,8 @@ use Rattle.locks.proofs.WayLaws.{wounded-is}
 use Rattle.locks.proofs.Release.{wounded_differ, release_makes_way}
 use Rattle.locks.proofs.Oldest.{ready_is_oldest}
 use Rattle.rows.specs.CodeRows.{txn_of, phase_of, phase_of_wait, passes, is_reading}
-use Rattle.rows.specs.RowTable.{paired, has_phase, held_in, without_rows, without_token, without_tokens, MayEnd}
+use Rattle.rows.specs.RowTable.{paired, has_phase, without_token, without_tokens, MayEnd}
+use Rattle.protocol.specs.Plan.{held_in, without_rows}
 use Rattle.rows.specs.declared.row.Row.{Row as CodeRow}
 use Rattle.rows.specs.declared.wait.Wait.{Wait}
 use Rattle.rows.proofs.Ties.{by_id-paired, has_phase-is}

@@ -7,7 +7,7 @@ use Rattle.units.specs.Locks.{Claim}
 use Rattle.units.specs.declared.lock.Lock.{Lock}
 use Rattle.record.specs.declared.record.Record.{Record}
 use Rattle.protocol.specs.Rows.{Row, Phase, Idle, IsPrepared, IsDecided, find_row, with_row, without_row, needs_of}
-use Rattle.protocol.specs.Draft.{held_by}
+use Rattle.protocol.specs.Plan.{held_in, without_rows}
 use Rattle.locks.specs.Table.{Token}
 use Rattle.rows.specs.CodeRows.{token_of, txn_of, phase_of, is_reading}
 use Rattle.rows.specs.declared.row.Row.{Row as CodeRow}
@@ -44,10 +44,6 @@ room table t = room_by (find_member (λ k. k.txn) table.tokens t)
 abbrev pub without_token : List Token → Id → List Token
 without_token tokens t = without_member (λ k. k.txn) tokens t
 
--- what a transaction holds
-abbrev pub held_in : List Row → Id → List Lock
-held_in rows t = held_by (find_row rows t)
-
 -- the row of a transaction given anew
 abbrev pub put_row : List Row → Id → List Lock → Phase → List Row
 put_row rows t held phase = with_row rows (record { txn = t; held = held; phase = phase })
@@ -64,11 +60,6 @@ needs_by (Some r) = needs_of r.phase
 -- the locks that a transaction waits for
 abbrev pub needs_in : List Row → Id → List Lock
 needs_in rows t = needs_by (find_row rows t)
-
--- the rows without those of several transactions
-abbrev pub without_rows : List Row → List Id → List Row
-without_rows rows [] = rows
-without_rows rows (t ∷ ts) = without_rows (without_row rows t) ts
 
 -- the tokens without those of several transactions
 abbrev pub without_tokens : List Token → List Id → List Token

@@ -3,7 +3,8 @@ ghost use Rattle.std.specs.Prelude.{◌≡◌, [], true};
 ghost use Rattle.protocol.specs.Rows.{Collecting, without_row};
 ghost use Rattle.rows.specs.States.{is_prepare_of, is_commit_of, is_abort_of, is_outcome_of};
 ghost use Rattle.rows.specs.CodeRows.{is_idle, may_decide, may_abort, may_close};
-ghost use Rattle.rows.specs.RowTable.{held_in, has_phase, put_row, phase_by};
+ghost use Rattle.rows.specs.RowTable.{has_phase, put_row, phase_by};
+ghost use Rattle.protocol.specs.Plan.{held_in};
 
 use crate::row::Row;
 use crate::rows::Rows;

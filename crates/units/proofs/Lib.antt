@@ -1,5 +1,6 @@
 pub mod ByAge
 pub mod ByIdLaws
+pub mod ByIdTwice
 pub mod Folds
 pub mod FrontLaws
 pub mod IdLaws

@@ -1,6 +1,6 @@
 //! The shards that take part in a transaction.
-ghost use Rattle.std.specs.Prelude.{◌≡◌, ◌+◌, ◌<◌, ◌^◌, [], ◌∷◌, Some, None, IfSome, IfNone, IfOk, IfErr, if◌then◌else◌, nat_eq, nat_lt, true};
-ghost use Rattle.units.specs.Lists.{each, has, head, once, sorted};
+ghost use Rattle.std.specs.Prelude.{◌≡◌, ◌+◌, ◌<◌, ◌^◌, [], ◌∷◌, Some, None, IfSome, IfNone, IfOk, IfErr, if◌then◌else◌, nat_eq, nat_lt, not, true};
+ghost use Rattle.units.specs.Lists.{any, each, has, head, once, sorted};
 ghost use Rattle.units.specs.Parts.{shards_of_mask, shards_from, mask_of, marked};
 
 use crate::{Fault, ShardNo};
@@ -87,6 +87,20 @@ impl Parts {
         ShardNo::of_count(number as usize)
     }
 
+    /// The shard is one of them.
+    pub fn has(self, shard: ShardNo) -> bool
+        ensures { result ≡ has self shard }
+    {
+        has_from(self.mask, 16, 0, shard.number())
+    }
+
+    /// Another shard is one of them.
+    pub fn has_others(self, shard: ShardNo) -> bool
+        ensures { result ≡ any (λ n. not (nat_eq n shard)) self }
+    {
+        has_others_from(self.mask, 16, 0, shard.number())
+    }
+
     /// Their mask.
     pub fn mask(self) -> u16
         ensures value { result ≡ mask_of self }
@@ -95,6 +109,28 @@ impl Parts {
     {
         self.mask
     }
+}
+
+// A shard is among those of some bits, from number n on.
+fn has_from(mask: u16, bits: u32, n: u8, shard: u8) -> bool
+    requires { bits + n ≡ 16 }
+    ensures { result ≡ has (shards_from bits n mask) shard }
+{
+    if bits == 0 {
+        return false;
+    }
+    (mask % 2 == 1 && shard == n) || has_from(mask / 2, bits - 1, n + 1, shard)
+}
+
+// Another shard is among those of some bits, from number n on.
+fn has_others_from(mask: u16, bits: u32, n: u8, shard: u8) -> bool
+    requires { bits + n ≡ 16 }
+    ensures { result ≡ any (λ k. not (nat_eq k shard)) (shards_from bits n mask) }
+{
+    if bits == 0 {
+        return false;
+    }
+    (mask % 2 == 1 && n != shard) || has_others_from(mask / 2, bits - 1, n + 1, shard)
 }
 
 // The bits of the shards of a list, from number n on.

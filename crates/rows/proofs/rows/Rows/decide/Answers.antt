@@ -5,7 +5,8 @@ use Rattle.protocol.specs.Rows.{Row, Idle, claims, find_row, without_row, needs_
 use Rattle.locks.specs.Table.{Token, held_in as held_in_table}
 use Rattle.rows.specs.States.{ReadingState, CollectingState, PreparedState, DecidedState, is_commit_of, is_abort_of, is_outcome_of}
 use Rattle.rows.specs.CodeRows.{has_txn, passes, phase_of, phase_of_wait, is_reading, is_idle, may_decide, may_abort, may_close}
-use Rattle.rows.specs.RowTable.{RowTable, held_in, needs_in, has_phase, room, put_row, phase_by}
+use Rattle.rows.specs.RowTable.{RowTable, needs_in, has_phase, room, put_row, phase_by}
+use Rattle.protocol.specs.Plan.{held_in}
 use Rattle.rows.specs.declared.row.Row.TheVariants.{Reading, Collecting, Prepared, Decided}
 use Rattle.rows.specs.declared.wait.Wait.{Wait}
 use Rattle.rows.proofs.Ties.{has_phase-is, held_is, found_row, found_txn, found_passes, passes_there}

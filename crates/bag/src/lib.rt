@@ -1,0 +1,66 @@
+//! Every message ever put out, in order.
+#![tactic(auto)]
+
+ghost use Rattle.std.specs.Prelude.{◌≡◌, ◌++◌, ◌∷◌, [], length, slice_get, IfOk, IfErr, OnErr};
+ghost use Rattle.std.specs.Option.{option_copied};
+
+use message::Envelope;
+use std::alloc::Global;
+use std::marker::Model;
+use units::Fault;
+
+/// The messages that were put out, each with its number, from 0. A network may deliver each never, once or again, in any
+/// order, so none is ever taken out or altered.
+#[derive(Debug, Drop)]
+pub struct Bag {
+    envelopes: Vec<Envelope>,
+}
+
+impl Model for Bag {
+    ghost use Rattle.std.specs.Prelude.{List};
+    ghost use Rattle.message.specs.declared.message.Envelope.{Envelope};
+
+    ghost Value = { List Envelope };
+
+    ghost view = { λ b. b.envelopes.items };
+}
+
+impl Bag {
+    /// No message.
+    pub fn new(alloc: Global) -> Bag
+        ensures { result ≡ [] }
+    {
+        Bag {
+            envelopes: Vec::new(alloc),
+        }
+    }
+
+    /// Puts in one more message, behind all others, and gives its number.
+    pub fn put(&mut self, envelope: Envelope) -> Result<u64, Fault>
+        ensures number { IfOk result (λ number. number ≡ length self.old) }
+        ensures ok { IfOk result (λ number. self.new ≡ self.old ++ envelope ∷ []) }
+        ensures err { OnErr result (self.new ≡ self.old) }
+        ensures memory { IfErr result (λ fault. fault ≡ Fault.Memory) }
+    {
+        let number = self.len();
+        self.envelopes.push(envelope)?;
+        Ok(number)
+    }
+
+    /// The message of a number, where one was put in.
+    pub fn nth(&self, number: u64) -> Option<&Envelope>
+        ensures { option_copied result ≡ slice_get self.now number }
+    {
+        self.envelopes.get(number as usize)
+    }
+
+    /// How many messages there are: the number of the next one.
+    pub fn len(&self) -> u64
+        ensures { result ≡ length self.now }
+    {
+        self.envelopes.len() as u64
+    }
+}
+
+#[cfg(test)]
+mod tests;

@@ -1,0 +1,44 @@
+-- What contracts see of a shard's memory.
+use Rattle.std.specs.Prelude.{◌≡◌, ◌⊎◌, ℕ, Bool, true, false, List, Option, Some, None, Result, Ok, Err, MatchResult}
+use Rattle.units.specs.Ids.{Id}
+use Rattle.units.specs.declared.fault.Fault.{Fault}
+use Rattle.units.specs.declared.setup.Setup.{Setup}
+use Rattle.record.specs.Facts.{Facts}
+use Rattle.locks.specs.Table.{Token}
+use Rattle.protocol.specs.Rows.{Memory, Standing, IsUnknown, WasEnded, WasAborted, WasSettled, WasClosed}
+use Rattle.protocol.specs.Plan as protocol
+use Rattle.memory.specs.Plans.{plan_of}
+use Rattle.memory.specs.declared.plan.Plan.{Plan}
+use Rattle.memory.specs.declared.state.Past.{Past}
+
+-- what a shard was told, the facts of its log and the rest; and for what it has memory: to learn so many records, to end so
+-- many transactions, and to grant each transaction what its token has room for
+pub record Kept : Type 0 where
+  pub setup : Setup
+  pub facts : Facts
+  pub memory : Memory
+  pub records : ℕ
+  pub ends : ℕ
+  pub tokens : List Token
+
+-- where its next step starts. Its table holds 1,024 rows
+abbrev pub start_of : Kept → protocol.Before
+start_of k = protocol.before 1024 k.setup k.facts k.memory
+
+-- how a transaction stands that has no row
+abbrev pub IsPast : Standing → Past → Type 0
+IsPast standing Past.Unknown = standing ≡ IsUnknown
+IsPast standing Past.Ended = standing ≡ WasEnded
+IsPast standing Past.Aborted = standing ≡ WasAborted
+IsPast standing (Past.Settled at parts) = standing ≡ WasSettled at parts
+IsPast standing (Past.Closed outcome) = standing ≡ WasClosed outcome
+
+-- the plan's own refusal; or, where there is a plan, want of memory
+abbrev pub IsRefusal : protocol.Planned → Fault → Type 0
+IsRefusal (Err why) fault = fault ≡ why
+IsRefusal (Ok p) fault = fault ≡ Fault.Memory
+
+-- what a planner answers: the plan of the definitions, or why there is none
+abbrev pub IsPlanned : Kept → protocol.Planned → Result Plan Fault → Type 0
+IsPlanned k planned result =
+    MatchResult result (λ plan. planned ≡ Ok (plan_of k.memory.rows plan)) (IsRefusal planned)

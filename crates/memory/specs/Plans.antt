@@ -1,0 +1,56 @@
+-- A plan of the code as one of the protocol.
+use Rattle.std.specs.Prelude.{◌≡◌, ℕ, List, [], ◌∷◌, Option, Some, None}
+use Rattle.units.specs.Ids.{Id}
+use Rattle.units.specs.declared.lock.Lock.{Lock}
+use Rattle.record.specs.declared.record.Record.{Record}
+use Rattle.message.specs.declared.message.Envelope.{Envelope}
+use Rattle.rows.specs.CodeRows.{phase_of_wait}
+use Rattle.rows.specs.declared.wait.CommitRequest.{CommitRequest}
+use Rattle.protocol.specs.Rows.{Phase, Row, Voted, Idle, WaitsRead, WaitsPrepare, WaitsCommit, Collecting, IsPrepared, IsDecided, find_row}
+use Rattle.protocol.specs.Draft.{vote_to}
+use Rattle.protocol.specs.Step.{with_vote}
+use Rattle.protocol.specs.Plan as protocol
+use Rattle.memory.specs.declared.plan.Plan.{Plan}
+use Rattle.memory.specs.declared.plan.Change.{Change}
+
+-- a commit that collects votes, with those that came
+abbrev pub collecting : CommitRequest → List Voted → Phase
+collecting c votes = Collecting c.latest c.parts c.reads c.writes votes
+
+-- the phase of a row that stands by a record
+abbrev pub phase_by : Option Record → Phase
+phase_by (Some (Record.Prepare p)) = IsPrepared p.coordinator p.at
+phase_by (Some (Record.Commit c)) = IsDecided c.at c.parts
+phase_by _ = Idle
+
+-- the phase of a row that collects, with one vote more
+abbrev pub counted : ℕ → ℕ → Option Row → Phase
+counted n p None = Idle
+counted n p (Some r) = elim r.phase [ Collecting l ps rs ws votes ↦ Collecting l ps rs ws (with_vote n p votes) | _ ↦ r.phase ]
+
+-- a change as one of the protocol, with the locks that are asked for and the record that is logged
+abbrev pub change_of : List Row → List Lock → Option Record → Change → protocol.Change
+change_of rows needs logged Change.Keeps = protocol.Keeps
+change_of rows needs logged (Change.Ends t) = protocol.Ends t
+change_of rows needs logged (Change.Drops t) = protocol.Drops t
+change_of rows needs logged (Change.Reads t) = protocol.Puts t needs Idle
+change_of rows needs logged (Change.Waits t w) = protocol.Puts t [] (phase_of_wait (Some w))
+change_of rows needs logged (Change.Collects t c) = protocol.Puts t needs (collecting c [])
+change_of rows needs logged (Change.Counts t n p) = protocol.Puts t [] (counted n p (find_row rows t))
+change_of rows needs logged (Change.Stands t) = protocol.Puts t needs (phase_by logged)
+
+-- a plan as one of the protocol, where these are the rows before it
+abbrev pub plan_of : List Row → Plan → protocol.Plan
+plan_of rows p =
+    record {
+      wounded = p.wounded;
+      change = change_of rows p.needs.items p.logged p.change;
+      logged = p.logged;
+      last = p.last;
+      outbox = p.outbox;
+    }
+
+-- the refused vote of a transaction, to the coordinator that awaits one
+abbrev pub refusal : ℕ → Id → Option ℕ → List Envelope
+refusal n t None = []
+refusal n t (Some coordinator) = vote_to n coordinator t None ∷ []

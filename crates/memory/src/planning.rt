@@ -1,0 +1,225 @@
+//! The plans of which every step is one.
+ghost use Rattle.std.specs.Prelude.{◌≡◌, ◌++◌, ◌∷◌, [], Some, None, Ok, IfOk, IfErr, MatchResult};
+ghost use Rattle.units.specs.Locks.{exclusive};
+ghost use Rattle.units.specs.Lists.{each, listed};
+ghost use Rattle.protocol.specs.Draft.{other_parts, refused_vote};
+ghost use Rattle.protocol.specs.Rows.{find_row};
+ghost use Rattle.protocol.specs.Plan.{replies, ends, drops, votes_of, answers, tells, plan_abort, still_stand, held_in};
+ghost use Rattle.memory.specs.Kept.{start_of};
+ghost use Rattle.memory.specs.Plans.{change_of, plan_of, refusal};
+
+use crate::envelopes::{answer_to, done_to, outcome_to, vote_to};
+use crate::plan::{Change, Plan};
+use crate::state::State;
+use message::{Answer, Envelope, Outbox, Outcome, Reads};
+use record::Record;
+use rows::{Row, Wait};
+use std::alloc::Global;
+use units::{Fault, Ids, Key, Lock, Mode, Parts, ShardNo, Stamp, TxnId, Writes};
+
+/// An exclusive lock of each key that is written.
+pub fn exclusive(alloc: Global, writes: &Writes) -> Result<Vec<Lock>, Fault>
+    ensures locks { IfOk result (λ locks. locks.items ≡ exclusive writes.now) }
+    ensures memory { IfErr result (λ fault. fault ≡ Fault.Memory) }
+{
+    let mut locks = Vec::new(alloc);
+    for write in writes.as_slice() {
+        locks.push(Lock {
+            key: write.key,
+            mode: Mode::Exclusive,
+        })?;
+    }
+    Ok(locks)
+}
+
+/// The shards of a transaction other than one.
+pub fn other_parts(alloc: Global, shard: ShardNo, parts: Parts) -> Result<Vec<ShardNo>, Fault>
+    ensures others { IfOk result (λ others. others.items ≡ other_parts shard parts) }
+    ensures memory { IfErr result (λ fault. fault ≡ Fault.Memory) }
+{
+    let mut others = parts.shards(alloc)?;
+    others.retain(|other| *other != shard);
+    Ok(others)
+}
+
+/// The reads of a transaction still stand: there are none, or their epoch is the present one and each of their keys is held.
+pub fn reads_stand(state: &State, txn: TxnId, reads: &Reads) -> bool
+    ensures { result ≡ still_stand (start_of state.now) reads.now.epoch reads.now.keys (held_in state.now.memory.rows txn) }
+{
+    if reads.keys().as_slice().is_empty() {
+        return true;
+    }
+    reads.epoch() == state.epoch().number() && state.holds_all(txn, reads.keys())
+}
+
+impl State {
+    /// Messages alone.
+    pub fn replies(&self, alloc: Global, out: Vec<Envelope>) -> Plan
+        ensures { plan_of self.now.memory.rows result ≡ replies (start_of self.now) out.items }
+    {
+        Plan {
+            wounded: Ids::from_vec(Vec::new(alloc)),
+            needs: Vec::new(alloc),
+            change: Change::Keeps,
+            logged: None,
+            last: self.last(),
+            outbox: Outbox::from_vec(out),
+        }
+    }
+
+    /// Nothing at all.
+    pub fn idles(&self, alloc: Global) -> Plan
+        ensures { plan_of self.now.memory.rows result ≡ replies (start_of self.now) [] }
+    {
+        self.replies(alloc, Vec::new(alloc))
+    }
+
+    /// One message.
+    pub fn reply(&self, alloc: Global, envelope: Envelope) -> Result<Plan, Fault>
+        ensures plan { IfOk result (λ plan. plan_of self.now.memory.rows plan ≡ replies (start_of self.now) (envelope ∷ [])) }
+        ensures memory { IfErr result (λ fault. fault ≡ Fault.Memory) }
+    {
+        Ok(self.replies(alloc, one(alloc, envelope)?))
+    }
+
+    /// The transaction is ended.
+    pub fn ends(&self, alloc: Global, txn: TxnId, out: Vec<Envelope>) -> Plan
+        ensures { plan_of self.now.memory.rows result ≡ ends (start_of self.now) txn out.items }
+    {
+        Plan {
+            wounded: Ids::from_vec(Vec::new(alloc)),
+            needs: Vec::new(alloc),
+            change: Change::Ends(txn),
+            logged: None,
+            last: self.last(),
+            outbox: Outbox::from_vec(out),
+        }
+    }
+
+    /// The row goes by a record.
+    pub fn drops(&self, alloc: Global, txn: TxnId, item: Record, last: Stamp, out: Vec<Envelope>) -> Plan
+        ensures { plan_of self.now.memory.rows result ≡ drops txn item last out.items }
+    {
+        Plan {
+            wounded: Ids::from_vec(Vec::new(alloc)),
+            needs: Vec::new(alloc),
+            change: Change::Drops(txn),
+            logged: Some(item),
+            last,
+            outbox: Outbox::from_vec(out),
+        }
+    }
+
+    /// The decision to abort: the session and the other parts are told.
+    #[tactic(auto, unfolding(protocol::specs::Plan::plan_abort))]
+    pub fn aborts(&self, alloc: Global, txn: TxnId, parts: Parts) -> Result<Plan, Fault>
+        ensures plan { IfOk result (λ plan. plan_of self.now.memory.rows plan ≡ plan_abort (start_of self.now) txn parts) }
+        ensures memory { IfErr result (λ fault. fault ≡ Fault.Memory) }
+    {
+        let out = self.ending(alloc, done_to(txn, None), txn, None, parts)?;
+        Ok(self.drops(alloc, txn, Record::Abort { txn }, self.last(), out))
+    }
+
+    /// A first message, and the outcome to each other part.
+    pub fn ending(
+        &self,
+        alloc: Global,
+        first: Envelope,
+        txn: TxnId,
+        outcome: Option<Stamp>,
+        parts: Parts,
+    ) -> Result<Vec<Envelope>, Fault>
+        ensures out { IfOk result (λ out. out.items ≡ first ∷ tells (start_of self.now) txn outcome (other_parts self.now.setup.shard parts)) }
+        ensures memory { IfErr result (λ fault. fault ≡ Fault.Memory) }
+    {
+        let from = self.setup().shard;
+        let told = Outcome { from, txn, outcome };
+        let others = other_parts(alloc, from, parts)?;
+        let mut out = one(alloc, first)?;
+        for other in others.as_slice() {
+            out.push(outcome_to(&told, *other))?;
+        }
+        Ok(out)
+    }
+
+    /// Some are ended, and the row of a transaction is put.
+    pub fn puts(&self, alloc: Global, wounded: Ids, asked: (Vec<Lock>, Change), logged: Option<Record>, last: Stamp, reply: Option<Envelope>) -> Result<Plan, Fault>
+        ensures plan { IfOk result (λ plan. plan_of self.now.memory.rows plan ≡ record {
+            wounded = wounded;
+            change = change_of self.now.memory.rows (asked.0).items logged (asked.1);
+            logged = logged;
+            last = last;
+            outbox = votes_of self.now.setup.shard self.now.memory.rows wounded ++ listed reply;
+        }) }
+        ensures memory { IfErr result (λ fault. fault ≡ Fault.Memory) }
+    {
+        let mut out = self.votes_of(alloc, &wounded)?;
+        if let Some(reply) = reply {
+            out.push(reply)?;
+        }
+        let (needs, change) = asked;
+        Ok(Plan {
+            wounded,
+            needs,
+            change,
+            logged,
+            last,
+            outbox: Outbox::from_vec(out),
+        })
+    }
+
+    // The refused votes of those that are ended while they wait with a prepare.
+    fn votes_of(&self, alloc: Global, wounded: &Ids) -> Result<Vec<Envelope>, Fault>
+        ensures votes { IfOk result (λ out. out.items ≡ votes_of self.now.setup.shard self.now.memory.rows wounded.now) }
+        ensures memory { IfErr result (λ fault. fault ≡ Fault.Memory) }
+    {
+        let mut out = Vec::new(alloc);
+        for txn in wounded.as_slice() {
+            if let Some(coordinator) = self.awaits_vote(*txn) {
+                out.push(vote_to(self.setup().shard, coordinator, *txn, None))?;
+            }
+        }
+        Ok(out)
+    }
+
+    // The coordinator of the prepare that a transaction waits with.
+    fn awaits_vote(&self, txn: TxnId) -> Option<ShardNo>
+        ensures { refused_vote self.now.setup.shard (find_row self.now.memory.rows txn) ≡ refusal self.now.setup.shard txn result }
+    {
+        match self.row(txn) {
+            Some(Row::Reading(reading)) => match reading.wait() {
+                Some(Wait::Prepare(request)) => Some(request.coordinator),
+                _ => None,
+            },
+            _ => None,
+        }
+    }
+
+    /// The answer to a read: the latest value, with the epoch.
+    pub fn answer(&self, alloc: Global, txn: TxnId, key: &Key) -> Result<Envelope, Fault>
+        ensures answer { IfOk result (λ envelope. envelope ≡ answers (start_of self.now) txn key.now) }
+        ensures memory { IfErr result (λ fault. fault ≡ Fault.Memory) }
+    {
+        let value = match self.latest(key) {
+            Some(value) => Some(value.copy(alloc)?),
+            None => None,
+        };
+        Ok(answer_to(
+            self.setup().shard,
+            txn,
+            *key,
+            self.epoch(),
+            Answer::Holds(value),
+        ))
+    }
+}
+
+// A list of one message.
+fn one(alloc: Global, envelope: Envelope) -> Result<Vec<Envelope>, Fault>
+    ensures one { IfOk result (λ out. out.items ≡ envelope ∷ []) }
+    ensures memory { IfErr result (λ fault. fault ≡ Fault.Memory) }
+{
+    let mut out = Vec::new(alloc);
+    out.push(envelope)?;
+    Ok(out)
+}

@@ -1,0 +1,221 @@
+//! What a shard keeps in memory.
+ghost use Rattle.std.specs.Prelude.{◌≡◌, ◌≤◌, ◌^◌, ◌<◌, Some, None, MatchOption, IfOk, IfErr};
+ghost use Rattle.std.specs.Option.{option_copied};
+ghost use Rattle.units.specs.Lists.{each};
+ghost use Rattle.units.specs.Locks.{exclusive, holds, ready};
+ghost use Rattle.units.specs.Versions.{latest, at_time};
+ghost use Rattle.facts.specs.Shown.{meant};
+ghost use Rattle.protocol.specs.Rows.{safe, claims, find_row, standing_by};
+ghost use Rattle.protocol.specs.Plan.{stands, in_way, opens, is_crowded, held_in};
+ghost use Rattle.rows.specs.CodeRows.{phase_of};
+ghost use Rattle.memory.specs.Kept.{start_of, IsPast};
+
+use crate::ended::Ended;
+use crate::ledger::Ledger;
+use facts::Status;
+use rows::{Row, Rows};
+use safetime::SafeTime;
+use std::alloc::Global;
+use std::marker::Model;
+use units::{Epoch, Fault, Ids, Install, Key, Keys, Lock, Mode, Parts, Setup, Stamp, TxnId, Value, Writes};
+
+/// What a shard keeps in memory: what it was told, the facts of its log with the versions by key, its rows with their
+/// locks, the ids that were ended, and its served time.
+pub struct State {
+    setup: Setup,
+    ledger: Ledger,
+    rows: Rows,
+    ended: Ended,
+    times: SafeTime,
+}
+
+impl Model for State {
+    ghost use Rattle.std.specs.Prelude.{◌≡◌, ◌<◌};
+    ghost use Rattle.memory.specs.Kept.{Kept};
+    ghost use Rattle.memory.specs.Served.{IsHolding};
+
+    ghost Value = { Kept };
+
+    ghost view = { λ s. record {
+      setup = s.setup;
+      facts = s.ledger.facts;
+      memory = record { last = s.times.last; rows = s.rows.rows; ended = s.ended.ids };
+      records = s.ledger.room;
+      ends = s.ended.room;
+      tokens = s.rows.tokens;
+    } };
+
+    ghost invariant = { λ s. (0 < s.ledger.facts.epoch) × (s.ledger.shard ≡ s.setup.shard) × IsHolding s.times.holds s.rows.rows };
+}
+
+/// How a transaction stands that has no row.
+#[derive(Clone, Copy, Debug)]
+pub enum Past {
+    Unknown,
+    Ended,
+    Aborted,
+    Settled { at: Stamp, parts: Parts },
+    Closed { outcome: Option<Stamp> },
+}
+
+impl State {
+    /// What the shard was told.
+    pub fn setup(&self) -> &Setup
+        ensures { result.now ≡ self.now.setup }
+    {
+        &self.setup
+    }
+
+    /// The epoch of the last opening.
+    pub fn epoch(&self) -> Epoch
+        ensures { result ≡ self.now.facts.epoch }
+    {
+        match Epoch::new(self.ledger.epoch()) {
+            Some(epoch) => epoch,
+            None => unreachable!(),
+        }
+    }
+
+    /// The greatest timestamp of the log.
+    pub fn floor(&self) -> Stamp
+        ensures { result ≡ self.now.facts.floor }
+    {
+        self.ledger.floor()
+    }
+
+    /// The greatest timestamp assigned, applied or served.
+    pub fn last(&self) -> Stamp
+        ensures { result ≡ self.now.memory.last }
+    {
+        self.times.last()
+    }
+
+    /// The greatest timestamp at which versions may be read.
+    #[tactic(auto, using(crate::proofs::Served::holding_safe))]
+    pub fn safe(&self) -> Stamp
+        ensures { result ≡ safe self.now.memory }
+    {
+        self.times.safe()
+    }
+
+    /// The versions, in the log's order.
+    pub fn installs(&self) -> &[Install]
+        ensures { result.now ≡ self.now.facts.installs }
+    {
+        self.ledger.installs()
+    }
+
+    /// The most recent value of a key.
+    pub fn latest(&self, key: &Key) -> Option<&Value>
+        ensures { option_copied result ≡ latest self.now.facts.installs key.now }
+    {
+        self.ledger.latest(key)
+    }
+
+    /// The value of a key at a timestamp.
+    pub fn value_at(&self, key: &Key, at: Stamp) -> Option<&Value>
+        ensures { option_copied result ≡ at_time self.now.facts.installs key.now at }
+    {
+        self.ledger.at(key, at)
+    }
+
+    /// The row of a transaction.
+    pub fn row(&self, txn: TxnId) -> Option<&Row>
+        ensures { MatchOption result (find_row self.now.memory.rows txn ≡ None)
+            (λ row. find_row self.now.memory.rows txn ≡ Some (record { txn = txn; held = held_in self.now.memory.rows txn; phase = phase_of row.now })) }
+    {
+        self.rows.find(txn)
+    }
+
+    /// How a transaction stands that has no row.
+    pub fn past(&self, txn: TxnId) -> Past
+        requires { find_row self.now.memory.rows txn ≡ None }
+        ensures { IsPast (stands (start_of self.now) txn) result }
+    {
+        past_by(self.ledger.status(txn), self.ended.has(txn))
+    }
+
+    /// The transaction holds the key.
+    pub fn holds(&self, txn: TxnId, key: &Key) -> bool
+        ensures { result ≡ holds (held_in self.now.memory.rows txn) key.now }
+    {
+        self.rows.holds(txn, key)
+    }
+
+    /// The transaction holds each of the keys.
+    pub fn holds_all(&self, txn: TxnId, keys: &Keys) -> bool
+        ensures { result ≡ each (holds (held_in self.now.memory.rows txn)) keys.now }
+    {
+        self.rows.holds_all(txn, keys)
+    }
+
+    /// Whom a request of these locks ends.
+    pub fn in_way(&self, alloc: Global, txn: TxnId, needs: &[Lock]) -> Result<Ids, Fault>
+        ensures ids { IfOk result (λ ids. ids ≡ in_way (start_of self.now) txn needs.now) }
+        ensures memory { IfErr result (λ fault. fault ≡ Fault.Memory) }
+    {
+        self.rows.wounded(alloc, txn, needs)
+    }
+
+    /// The request is granted once those that it ends are gone.
+    pub fn opens(&self, txn: TxnId, needs: &[Lock]) -> bool
+        ensures { result ≡ opens (start_of self.now) txn needs.now }
+    {
+        self.rows.opens(txn, needs)
+    }
+
+    /// The request of exclusive locks of what is written is granted once those that it ends are gone. It takes no memory.
+    pub fn opens_writes(&self, txn: TxnId, writes: &Writes) -> bool
+        ensures { result ≡ opens (start_of self.now) txn (exclusive writes.now) }
+    {
+        self.rows.laws();
+        for write in writes.as_slice() {
+            let lock = [Lock {
+                key: write.key,
+                mode: Mode::Exclusive,
+            }];
+            if !self.opens(txn, &lock) {
+                return false;
+            }
+        }
+        true
+    }
+
+    /// The transaction has no row, and there is no room for one.
+    pub fn is_crowded(&self, txn: TxnId) -> bool
+        ensures { result ≡ is_crowded (start_of self.now) txn }
+    {
+        self.rows.is_full() && self.row(txn).is_none()
+    }
+
+    /// The oldest waiter that would be granted now.
+    pub fn ready(&self) -> Option<TxnId>
+        ensures { result ≡ ready (claims self.now.memory.rows) }
+    {
+        self.rows.ready()
+    }
+}
+
+// How a transaction stands that has no row, by its recorded status and by whether it was ended.
+fn past_by(status: Option<&Status>, ended: bool) -> Past
+    ensures { IsPast (standing_by None (meant (option_copied status.entry)) ended) result }
+{
+    match status {
+        Some(Status::Aborted) => Past::Aborted,
+        Some(Status::Settled { at, parts }) => Past::Settled {
+            at: *at,
+            parts: *parts,
+        },
+        Some(Status::Closed {
+            coordinator: _,
+            outcome,
+        }) => Past::Closed { outcome: *outcome },
+        Some(Status::Prepared(_)) | Some(Status::Decided(_)) | None => {
+            if ended {
+                Past::Ended
+            } else {
+                Past::Unknown
+            }
+        }
+    }
+}
