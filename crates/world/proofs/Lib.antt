@@ -1,6 +1,9 @@
 mod Clients
 mod Events
 mod Faults
+pub mod Members
+pub mod Moves
+pub mod Table
 mod OneShardRun
 mod RandomRuns
 mod Recovery

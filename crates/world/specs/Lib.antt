@@ -1,4 +1,5 @@
 pub mod Computing
+pub mod Evidence
 pub mod Headline
 pub mod Lawful
 pub mod TimeLaws
