@@ -127,3 +127,10 @@ module _ (sc : Scene) (log : List Record) (b : Before) where
   rooming true (Err f) h = tt
   rooming false (Ok p) h = h
   rooming false (Err f) h = h
+
+  pub choosing_plan : (c : Bool) (x y : Plan) → PlannedEvidence sc log b.shard (Ok x) → PlannedEvidence sc log b.shard (Ok y) → PlannedEvidence sc log b.shard (Ok (cond c x y))
+  choosing_plan true x y h k = h
+  choosing_plan false x y h k = k
+
+-- for `search`: what closes a cell of the table that has no arithmetic of its own
+pub ruleset cells = (replying, ending, dropping, putting, standing_by_record, refusing, choosing, rooming)

@@ -16,10 +16,10 @@ use Rattle.message.specs.declared.message.Envelope.{Envelope}
 use Rattle.protocol.specs.Rows.{Phase, Idle, WaitsRead, WaitsPrepare, WaitsCommit, Collecting, IsPrepared, IsDecided, Voted, Standing, IsUnknown, WasEnded, HasRow, WasAborted, WasSettled, WasClosed}
 use Rattle.protocol.specs.Draft.{promise, decision, vote_to, done_to, outcome_to, commit_stamp, other_parts, all_voted}
 use Rattle.protocol.specs.Step.{is_outcome_for, with_vote}
-use Rattle.protocol.specs.Plan.{Planned, Before, plan_read, plan_read_now, plan_read_row, plan_prepare, plan_prepare_fresh, plan_prepare_now, plan_promise, plan_commit, plan_commit_fresh, plan_commit_now, plan_commit_granted, plan_decide, plan_abort, plan_vote, plan_count, plan_tell, plan_outcome, plan_give_up, plan_ask, plan_go_on, plan_settle, plan_advance, plan_nudge, tells, stepped}
+use Rattle.protocol.specs.Plan.{Planned, Before, plan_read, plan_read_now, plan_read_row, plan_prepare, plan_prepare_fresh, plan_prepare_now, plan_promise, plan_commit, plan_commit_fresh, plan_commit_now, plan_commit_granted, plan_decide, plan_abort, plan_vote, plan_count, plan_tell, plan_outcome, plan_give_up, plan_ask, plan_go_on, plan_settle, plan_advance, plan_nudge, tells, answers, puts, in_way, to_read, opens, is_crowded}
 use Rattle.world.specs.Evidence.{Scene, IsAmong, Sent, PrepareAsked, CommitAsked, VotedYes, VoteBelow, HasPromise, HasDecision, HasOutcome, WasTold, CommitEvidence, WasAsked, WasQuestioned, RecordEvidence, Remembers, PhaseEvidence, Told, AllTold, BeganBy}
 use Rattle.world.proofs.Members.{among_left, among_last, all_append, all_at, Passes, some_passes}
-use Rattle.world.proofs.Moves.{PlanEvidence, PlannedEvidence, StandingEvidence, replying, ending, dropping, putting, standing_by_record, refusing, choosing, tested, rooming}
+use Rattle.world.proofs.Moves.{PlanEvidence, PlannedEvidence, StandingEvidence, replying, ending, dropping, putting, standing_by_record, refusing, choosing, choosing_plan, tested, rooming, cells}
 
 -- ---- votes
 
@@ -89,3 +89,70 @@ module _ (sc : Scene) (log : List Record) (b : Before) where
           })
           (decided t s ps rs ws) tt)
       (refusing sc log b TimeSpent)
+
+  -- ---- read
+
+  answering : (t : Id) (k : Bytes) → AllTold log sc.now b.shard (answers b t k ∷ [])
+  answering t k = (tt, tt)
+
+  reading_now : (t : Id) (k : Bytes) → PlannedEvidence sc log b.shard (plan_read_now b t k)
+  unfolding plan_read_now
+  reading_now t k =
+      let granted = puts b (in_way b t (to_read k)) t (to_read k) Idle None b.memory.last (answers b t k ∷ []) in
+      let waits = puts b (in_way b t (to_read k)) t [] (WaitsRead k) None b.memory.last [] in
+      rooming sc log b (is_crowded b t) (Ok (cond (opens b t (to_read k)) granted waits))
+      (choosing_plan sc log b (opens b t (to_read k)) granted waits
+      (putting sc log b (in_way b t (to_read k)) t (to_read k) Idle b.memory.last (answers b t k ∷ []) tt (answering t k))
+      (putting sc log b (in_way b t (to_read k)) t [] (WaitsRead k) b.memory.last [] tt tt))
+
+  reading_row : (t : Id) (k : Bytes) (held : List Lock) (waits : Bool) → PlannedEvidence sc log b.shard (plan_read_row b t k held waits)
+  unfolding plan_read_row
+  reading_row t k held waits = search (cells, answering, reading_now)
+
+  reading : (t : Id) (k : Bytes) (st : Standing) → PlannedEvidence sc log b.shard (plan_read b t k st)
+  unfolding plan_read
+  reading t k IsUnknown = search (cells, reading_now)
+  reading t k (HasRow held Idle) = reading_row t k held false
+  reading t k (HasRow held (WaitsRead j)) = reading_row t k held true
+  reading t k (HasRow held (WaitsPrepare c rs ws)) = reading_row t k held true
+  reading t k (HasRow held (WaitsCommit l ps rs ws)) = reading_row t k held true
+  reading t k (HasRow held _) = search cells
+  reading t k _ = search cells
+
+  -- ---- prepare
+
+  promising : (ended : List Id) (earliest : ℕ) (t : Id) (c : ℕ) (rs : List Bytes) (ws : List Write) → PrepareAsked sc.world b.shard t c rs ws →
+      PlannedEvidence sc log b.shard (plan_promise b ended earliest t c rs ws)
+  unfolding plan_promise
+  promising ended earliest t c rs ws asked =
+      let p = max (b.memory.last + 1) earliest in
+      choosing sc log b _ _ _
+      (standing_by_record sc log b ended t (exclusive ws) (IsPrepared c p) (promise t c p rs ws) _ _ asked (promised t c p rs ws)
+          ((refl, record { coordinator = c; promised = promised t c p rs ws }), tt))
+      (refusing sc log b TimeSpent)
+
+  preparing_now : (earliest : ℕ) (t : Id) (c : ℕ) (rs : List Bytes) (ws : List Write) → PrepareAsked sc.world b.shard t c rs ws →
+      PlannedEvidence sc log b.shard (plan_prepare_now b earliest t c rs ws)
+  unfolding plan_prepare_now
+  preparing_now earliest t c rs ws asked =
+      rooming sc log b _ _
+      (choosing sc log b _ _ _ (promising _ earliest t c rs ws asked) (putting sc log b _ t _ (WaitsPrepare c rs ws) _ _ asked tt))
+
+  preparing_fresh : (earliest : ℕ) (t : Id) (c epoch : ℕ) (rs : List Bytes) (ws : List Write) (held : List Lock) → PrepareAsked sc.world b.shard t c rs ws →
+      PlannedEvidence sc log b.shard (plan_prepare_fresh b earliest t c epoch rs ws held)
+  unfolding plan_prepare_fresh
+  preparing_fresh earliest t c epoch rs ws held asked =
+      choosing sc log b _ _ _ (preparing_now earliest t c rs ws asked) (ending sc log b t _ (tt, tt))
+
+  preparing : (earliest : ℕ) (t : Id) (c epoch : ℕ) (rs : List Bytes) (ws : List Write) → PrepareAsked sc.world b.shard t c rs ws →
+      (st : Standing) → StandingEvidence sc log b.shard t st → PlannedEvidence sc log b.shard (plan_prepare b earliest t c epoch rs ws st)
+  unfolding plan_prepare
+  preparing earliest t c epoch rs ws asked IsUnknown e = preparing_fresh earliest t c epoch rs ws [] asked
+  preparing earliest t c epoch rs ws asked (HasRow held Idle) e = preparing_fresh earliest t c epoch rs ws held asked
+  preparing earliest t c epoch rs ws asked (HasRow held (WaitsRead k)) e = preparing_fresh earliest t c epoch rs ws held asked
+  preparing earliest t c epoch rs ws asked (HasRow held (WaitsPrepare d qs vs)) e = replying sc log b _ tt
+  preparing earliest t c epoch rs ws asked WasEnded e = replying sc log b _ (tt, tt)
+  preparing earliest t c epoch rs ws asked (HasRow held (IsPrepared d p)) e = replying sc log b _ ((refl, record { coordinator = d; promised = e }), tt)
+  preparing earliest t c epoch rs ws asked (WasClosed None) e = replying sc log b _ (tt, tt)
+  preparing earliest t c epoch rs ws asked (WasClosed (Some s)) e = replying sc log b _ tt
+  preparing earliest t c epoch rs ws asked _ e = refusing sc log b Stranger
