@@ -156,3 +156,95 @@ module _ (sc : Scene) (log : List Record) (b : Before) where
   preparing earliest t c epoch rs ws asked (WasClosed None) e = replying sc log b _ (tt, tt)
   preparing earliest t c epoch rs ws asked (WasClosed (Some s)) e = replying sc log b _ tt
   preparing earliest t c epoch rs ws asked _ e = refusing sc log b Stranger
+
+  -- ---- commit
+
+  -- word of an abort, once it is logged
+  tells_told : (log2 : List Record) (t : Id) (ns : List ℕ) → IsAmong log2 (Record.Abort t) → AllTold log2 sc.now b.shard (tells b t None ns)
+  tells_told log2 t [] h = tt
+  tells_told log2 t (n ∷ ns) h = ((refl, h), tells_told log2 t ns h)
+
+  aborting : (t : Id) (ps : List ℕ) → WasAsked sc.world b.shard t ⊎ WasQuestioned sc.world b.shard t → PlannedEvidence sc log b.shard (Ok (plan_abort b t ps))
+  unfolding plan_abort
+  aborting t ps why =
+      let logged = among_last log (Record.Abort t) in
+      dropping sc log b t (Record.Abort t) b.memory.last (done_to t None ∷ tells b t None (other_parts b.shard ps)) why
+      (logged, tells_told (log ++ Record.Abort t ∷ []) t (other_parts b.shard ps) logged)
+
+  was_asked : (t : Id) (ps : List ℕ) (rs : List Bytes) (ws : List Write) → CommitAsked sc.world b.shard t ps rs ws → WasAsked sc.world b.shard t ⊎ WasQuestioned sc.world b.shard t
+  was_asked t ps rs ws h = inl (record { parts = ps; reads = rs; writes = ws; asked = h })
+
+  granting : (ended : List Id) (t : Id) (latest : ℕ) (ps : List ℕ) (rs : List Bytes) (ws : List Write) → Remembers sc b.shard t latest ps rs ws →
+      (ns : List ℕ) → other_parts b.shard ps ≡ ns → PlannedEvidence sc log b.shard (plan_commit_granted b ended t latest ps rs ws ns)
+  unfolding plan_commit_granted
+  granting ended t latest ps rs ws remembers [] e =
+      deciding ended t latest ps rs ws (exclusive ws) [] remembers tt (ap (λ ns. all_voted ns []) e)
+  granting ended t latest ps rs ws remembers (n ∷ ns) e =
+      putting sc log b ended t (exclusive ws) (Collecting latest ps rs ws []) b.memory.last [] (remembers, tt) tt
+
+  committing_now : (t : Id) (latest : ℕ) (ps : List ℕ) (rs : List Bytes) (ws : List Write) → Remembers sc b.shard t latest ps rs ws →
+      PlannedEvidence sc log b.shard (plan_commit_now b t latest ps rs ws)
+  unfolding plan_commit_now
+  committing_now t latest ps rs ws remembers =
+      rooming sc log b (is_crowded b t) _
+      (choosing sc log b _ _ _
+      (granting (in_way b t (exclusive ws)) t latest ps rs ws remembers (other_parts b.shard ps) refl)
+      (putting sc log b (in_way b t (exclusive ws)) t [] (WaitsCommit latest ps rs ws) b.memory.last [] remembers tt))
+
+  committing_fresh : (latest : ℕ) (t : Id) (ps : List ℕ) (epoch : ℕ) (rs : List Bytes) (ws : List Write) (held : List Lock) →
+      Remembers sc b.shard t latest ps rs ws → PlannedEvidence sc log b.shard (plan_commit_fresh b latest t ps epoch rs ws held)
+  unfolding plan_commit_fresh
+  committing_fresh latest t ps epoch rs ws held remembers =
+      choosing sc log b _ _ _
+      (choosing sc log b _ _ _ (committing_now t latest ps rs ws remembers) (refusing sc log b TimeSpent))
+      (aborting t ps (was_asked t ps rs ws remembers.asked))
+
+  committing : (latest : ℕ) (t : Id) (ps : List ℕ) (epoch : ℕ) (rs : List Bytes) (ws : List Write) → Remembers sc b.shard t latest ps rs ws →
+      (st : Standing) → StandingEvidence sc log b.shard t st → PlannedEvidence sc log b.shard (plan_commit b latest t ps epoch rs ws st)
+  unfolding plan_commit
+  committing latest t ps epoch rs ws remembers IsUnknown e = committing_fresh latest t ps epoch rs ws [] remembers
+  committing latest t ps epoch rs ws remembers (HasRow held Idle) e = committing_fresh latest t ps epoch rs ws held remembers
+  committing latest t ps epoch rs ws remembers (HasRow held (WaitsRead k)) e = committing_fresh latest t ps epoch rs ws held remembers
+  committing latest t ps epoch rs ws remembers (HasRow held (WaitsCommit l qs ss vs)) e = replying sc log b [] tt
+  committing latest t ps epoch rs ws remembers (HasRow held (Collecting l qs ss vs us)) e = replying sc log b [] tt
+  committing latest t ps epoch rs ws remembers (HasRow held (IsDecided s qs)) e = replying sc log b [] tt
+  committing latest t ps epoch rs ws remembers WasEnded e = aborting t ps (was_asked t ps rs ws remembers.asked)
+  committing latest t ps epoch rs ws remembers WasAborted e = replying sc log b (done_to t None ∷ []) (e, tt)
+  committing latest t ps epoch rs ws remembers (WasSettled s qs) e = replying sc log b (done_to t (Some s) ∷ []) (e, tt)
+  committing latest t ps epoch rs ws remembers _ e = refusing sc log b Stranger
+
+  -- ---- vote
+
+  one_more : (t : Id) (n p : ℕ) (votes : List Voted) → VotedYes sc.world b.shard t (record { shard = n; at = p }) → AllByRecursion (VotedYes sc.world b.shard t) votes →
+      AllByRecursion (VotedYes sc.world b.shard t) (with_vote n p votes)
+  one_more t n p votes new old = by_test (any (λ v. nat_eq v.shard n) votes)
+    where
+      by_test : (c : Bool) → AllByRecursion (VotedYes sc.world b.shard t) (cond c votes (votes ++ record { shard = n; at = p } ∷ []))
+      by_test true = old
+      by_test false = all_append (VotedYes sc.world b.shard t) votes (record { shard = n; at = p } ∷ []) old (new, tt)
+
+  counting : (n : ℕ) (t : Id) (vote : Option ℕ) (latest : ℕ) (ps : List ℕ) (rs : List Bytes) (ws : List Write) (votes : List Voted) →
+      Sent sc.world b.shard (Message.Vote (record { from = n; txn = t; vote = vote })) → Remembers sc b.shard t latest ps rs ws →
+      AllByRecursion (VotedYes sc.world b.shard t) votes → PlannedEvidence sc log b.shard (plan_count b n t vote latest ps rs ws votes)
+  unfolding plan_count
+  counting n t None latest ps rs ws votes sent remembers evidence = aborting t ps (was_asked t ps rs ws remembers.asked)
+  counting n t (Some p) latest ps rs ws votes sent remembers evidence =
+      let more = one_more t n p votes sent evidence in
+      tested sc log b (all_voted (other_parts b.shard ps) (with_vote n p votes)) _ _
+      (λ all. deciding [] t latest ps rs ws [] (with_vote n p votes) remembers more all)
+      (putting sc log b [] t [] (Collecting latest ps rs ws (with_vote n p votes)) b.memory.last [] (remembers, more) tt)
+
+  telling : (n : ℕ) (t : Id) (outcome vote : Option ℕ) → Told log sc.now b.shard (outcome_to b.shard t outcome n).to (outcome_to b.shard t outcome n).message →
+      PlannedEvidence sc log b.shard (Ok (plan_tell b n t outcome vote))
+  unfolding plan_tell
+  telling n t outcome (Some p) told = replying sc log b (outcome_to b.shard t outcome n ∷ []) (told, tt)
+  telling n t outcome None told = replying sc log b [] tt
+
+  voting : (n : ℕ) (t : Id) (vote : Option ℕ) → Sent sc.world b.shard (Message.Vote (record { from = n; txn = t; vote = vote })) →
+      (st : Standing) → StandingEvidence sc log b.shard t st → PlannedEvidence sc log b.shard (plan_vote b n t vote st)
+  unfolding plan_vote
+  voting n t vote sent (HasRow held (Collecting l ps rs ws votes)) e =
+      choosing sc log b _ _ _ (counting n t vote l ps rs ws votes sent e.0 e.1) (refusing sc log b Stranger)
+  voting n t vote sent WasAborted e = telling n t None vote (refl, e)
+  voting n t vote sent (WasSettled s ps) e = choosing sc log b _ _ _ (telling n t (Some s) vote (refl, e)) (refusing sc log b Stranger)
+  voting n t vote sent _ e = search cells
