@@ -1,5 +1,5 @@
 -- Each input in each standing is planned with evidence. The table is gone through once, here.
-use Rattle.std.proofs.Common.{◌≡◌, ◌⊎◌, inl, inr, ℕ, ◌+◌, ◌<◌, ◌≤◌, max, nat_eq, nat_lt, nat_le, Bool, true, false, cond, ◌&&◌, ◌||◌, List, [], ◌∷◌, ◌++◌, Option, Some, None, refl, sym, ap, subst, map, arith}
+use Rattle.std.proofs.Common.{◌≡◌, ◌⊎◌, inl, inr, ℕ, ◌+◌, ◌<◌, ◌≤◌, max, min, nat_eq, nat_lt, nat_le, Bool, true, false, cond, ◌&&◌, ◌||◌, List, [], ◌∷◌, ◌++◌, Option, Some, None, refl, sym, ap, subst, map, arith}
 use Rattle.std.specs.Prelude.{Ok, Err}
 use Rattle.std.specs.List.{AllByRecursion}
 use Rattle.std.proofs.lemmas.Bool.{eqb-true, ltb-true, leb-true}
@@ -14,9 +14,9 @@ use Rattle.record.specs.declared.record.Record.{Record}
 use Rattle.message.specs.declared.message.Message.{Message}
 use Rattle.message.specs.declared.message.Envelope.{Envelope}
 use Rattle.protocol.specs.Rows.{Phase, Idle, WaitsRead, WaitsPrepare, WaitsCommit, Collecting, IsPrepared, IsDecided, Voted, Standing, IsUnknown, WasEnded, HasRow, WasAborted, WasSettled, WasClosed}
-use Rattle.protocol.specs.Draft.{promise, decision, vote_to, done_to, outcome_to, commit_stamp, other_parts, all_voted}
+use Rattle.protocol.specs.Draft.{promise, decision, vote_to, done_to, outcome_to, ask_to, time_limit, commit_stamp, other_parts, all_voted}
 use Rattle.protocol.specs.Step.{is_outcome_for, with_vote}
-use Rattle.protocol.specs.Plan.{Planned, Before, plan_read, plan_read_now, plan_read_row, plan_prepare, plan_prepare_fresh, plan_prepare_now, plan_promise, plan_commit, plan_commit_fresh, plan_commit_now, plan_commit_granted, plan_decide, plan_abort, plan_vote, plan_count, plan_tell, plan_outcome, plan_give_up, plan_ask, plan_go_on, plan_settle, plan_advance, plan_nudge, tells, answers, puts, in_way, to_read, opens, is_crowded}
+use Rattle.protocol.specs.Plan.{Planned, Before, plan_read, plan_read_now, plan_read_row, plan_prepare, plan_prepare_fresh, plan_prepare_now, plan_promise, plan_commit, plan_commit_fresh, plan_commit_now, plan_commit_granted, plan_decide, plan_abort, plan_vote, plan_count, plan_tell, plan_outcome, plan_give_up, plan_ask, plan_go_on, plan_settle, plan_advance, plan_nudge, tells, answers, puts, in_way, to_read, opens, is_crowded, refuses, raised, plan_abort_for, Keeps}
 use Rattle.world.specs.Evidence.{Scene, IsAmong, Sent, PrepareAsked, CommitAsked, VotedYes, VoteBelow, HasPromise, HasDecision, HasOutcome, WasTold, CommitEvidence, WasAsked, WasQuestioned, RecordEvidence, Remembers, PhaseEvidence, Told, AllTold, BeganBy}
 use Rattle.world.proofs.Members.{among_left, among_last, all_append, all_at, Passes, some_passes}
 use Rattle.world.proofs.Moves.{PlanEvidence, PlannedEvidence, StandingEvidence, replying, ending, dropping, putting, standing_by_record, refusing, choosing, choosing_plan, tested, rooming, cells}
@@ -248,3 +248,126 @@ module _ (sc : Scene) (log : List Record) (b : Before) where
   voting n t vote sent WasAborted e = telling n t None vote (refl, e)
   voting n t vote sent (WasSettled s ps) e = choosing sc log b _ _ _ (telling n t (Some s) vote (refl, e)) (refusing sc log b Stranger)
   voting n t vote sent _ e = search cells
+
+  -- ---- outcome, give up, ask
+
+  -- a promise stands here, and its coordinator has told the outcome at a time that has passed
+  closing : (n : ℕ) (t : Id) (outcome : Option ℕ) (c p : ℕ) → Sent sc.world b.shard (Message.Outcome (record { from = n; txn = t; outcome = outcome })) →
+      ((s : ℕ) → outcome ≡ Some s → s < sc.now) → HasPromise log t c p → nat_eq n c ≡ true → RecordEvidence sc log b.shard (Record.Outcome t outcome)
+  closing n t outcome c p sent passed promised same = by_outcome outcome passed (record {
+    coordinator = c;
+    stamp = p;
+    promised = promised;
+    sent = subst (λ k. Sent sc.world b.shard (Message.Outcome (record { from = k; txn = t; outcome = outcome }))) (eqb-true n c same) sent;
+  })
+    where
+      by_outcome : (o : Option ℕ) → ((s : ℕ) → o ≡ Some s → s < sc.now) → WasTold sc.world log b.shard t o → RecordEvidence sc log b.shard (Record.Outcome t o)
+      by_outcome None early told = told
+      by_outcome (Some s) early told = (early s refl, inr told)
+
+  same_sender : (n c p : ℕ) (outcome : Option ℕ) → is_outcome_for n c p outcome ≡ true → nat_eq n c ≡ true
+  same_sender n c p None e = e
+  same_sender n c p (Some s) e = (both _ _ e).0
+
+  ending_by : (n : ℕ) (t : Id) (outcome : Option ℕ) → Sent sc.world b.shard (Message.Outcome (record { from = n; txn = t; outcome = outcome })) →
+      ((s : ℕ) → outcome ≡ Some s → s < sc.now) → (st : Standing) → StandingEvidence sc log b.shard t st → PlannedEvidence sc log b.shard (plan_outcome b n t outcome st)
+  unfolding plan_outcome
+  ending_by n t outcome sent passed (HasRow held (IsPrepared c p)) e =
+      tested sc log b (is_outcome_for n c p outcome) _ _
+      (λ fits. dropping sc log b t (Record.Outcome t outcome) (raised b.memory.last outcome) [] (closing n t outcome c p sent passed e (same_sender n c p outcome fits)) tt)
+      (refusing sc log b Stranger)
+  ending_by n t None sent passed IsUnknown e = ending sc log b t [] tt
+  ending_by n t (Some s) sent passed IsUnknown e = refusing sc log b Stranger
+  ending_by n t None sent passed (HasRow held Idle) e = ending sc log b t [] tt
+  ending_by n t (Some s) sent passed (HasRow held Idle) e = refusing sc log b Stranger
+  ending_by n t None sent passed (HasRow held (WaitsRead k)) e = ending sc log b t [] tt
+  ending_by n t (Some s) sent passed (HasRow held (WaitsRead k)) e = refusing sc log b Stranger
+  ending_by n t None sent passed (HasRow held (WaitsPrepare c rs ws)) e = ending sc log b t (refuses b t c ∷ []) (tt, tt)
+  ending_by n t (Some s) sent passed (HasRow held (WaitsPrepare c rs ws)) e = refusing sc log b Stranger
+  ending_by n t outcome sent passed WasEnded e = replying sc log b [] tt
+  ending_by n t outcome sent passed (WasClosed o) e = replying sc log b [] tt
+  ending_by n t outcome sent passed _ e = refusing sc log b Stranger
+
+  giving_up : (t : Id) (st : Standing) → StandingEvidence sc log b.shard t st → PlannedEvidence sc log b.shard (Ok (plan_give_up b t st))
+  unfolding plan_give_up
+  giving_up t IsUnknown e = ending sc log b t [] tt
+  giving_up t (HasRow held Idle) e = ending sc log b t [] tt
+  giving_up t (HasRow held (WaitsRead k)) e = ending sc log b t [] tt
+  giving_up t (HasRow held (WaitsPrepare c rs ws)) e = ending sc log b t (refuses b t c ∷ []) (tt, tt)
+  giving_up t (HasRow held (WaitsCommit l ps rs ws)) e = ending sc log b t [] tt
+  giving_up t (HasRow held (Collecting l ps rs ws votes)) e = aborting t ps (was_asked t ps rs ws e.0.asked)
+  giving_up t (HasRow held (IsPrepared c p)) e = replying sc log b [] tt
+  giving_up t (HasRow held (IsDecided s ps)) e = replying sc log b [] tt
+  giving_up t WasEnded e = replying sc log b [] tt
+  giving_up t WasAborted e = replying sc log b [] tt
+  giving_up t (WasSettled s ps) e = replying sc log b [] tt
+  giving_up t (WasClosed o) e = replying sc log b [] tt
+
+  aborting_for : (n : ℕ) (t : Id) → Sent sc.world b.shard (Message.Ask (record { from = n; txn = t })) → PlannedEvidence sc log b.shard (Ok (plan_abort_for b n t))
+  aborting_for n t sent =
+      dropping sc log b t (Record.Abort t) b.memory.last (outcome_to b.shard t None n ∷ []) (inr (record { from = n; sent = sent }))
+      ((refl, among_last log (Record.Abort t)), tt)
+
+  questioned : (n : ℕ) (t : Id) → Sent sc.world b.shard (Message.Ask (record { from = n; txn = t })) →
+      (st : Standing) → StandingEvidence sc log b.shard t st → PlannedEvidence sc log b.shard (plan_ask b n t st)
+  unfolding plan_ask
+  questioned n t sent IsUnknown e = aborting_for n t sent
+  questioned n t sent WasEnded e = aborting_for n t sent
+  questioned n t sent (HasRow held Idle) e = aborting_for n t sent
+  questioned n t sent (HasRow held (WaitsRead k)) e = aborting_for n t sent
+  questioned n t sent WasAborted e = replying sc log b (outcome_to b.shard t None n ∷ []) ((refl, e), tt)
+  questioned n t sent (WasSettled s ps) e = choosing sc log b _ _ _ (replying sc log b (outcome_to b.shard t (Some s) n ∷ []) ((refl, e), tt)) (refusing sc log b Stranger)
+  questioned n t sent (HasRow held (WaitsCommit l ps rs ws)) e = replying sc log b [] tt
+  questioned n t sent (HasRow held (Collecting l ps rs ws votes)) e = replying sc log b [] tt
+  questioned n t sent (HasRow held (IsDecided s ps)) e = replying sc log b [] tt
+  questioned n t sent _ e = refusing sc log b Stranger
+
+  -- ---- the chores of a shard
+
+  going_on : (earliest : ℕ) (t : Id) (phase : Phase) → PhaseEvidence sc log b.shard t phase → PlannedEvidence sc log b.shard (plan_go_on b earliest t phase)
+  unfolding plan_go_on
+  going_on earliest t (WaitsRead k) e = putting sc log b [] t (to_read k) Idle b.memory.last (answers b t k ∷ []) tt (answering t k)
+  going_on earliest t (WaitsPrepare c rs ws) e = promising [] earliest t c rs ws e
+  going_on earliest t (WaitsCommit l ps rs ws) e = granting [] t l ps rs ws e (other_parts b.shard ps) refl
+  going_on earliest t _ e = replying sc log b [] tt
+
+  -- word of a commit, once its outcome is logged
+  outcome_told : (log2 : List Record) (t : Id) (s : ℕ) (ns : List ℕ) → HasOutcome log2 sc.now t s → AllTold log2 sc.now b.shard (tells b t (Some s) ns)
+  outcome_told log2 t s [] h = tt
+  outcome_told log2 t s (n ∷ ns) h = ((refl, h), outcome_told log2 t s ns h)
+
+  settling : (earliest : ℕ) (t : Id) → earliest ≤ sc.now → (st : Standing) → StandingEvidence sc log b.shard t st →
+      PlannedEvidence sc log b.shard (plan_settle b earliest t st)
+  unfolding plan_settle
+  settling earliest t honest (HasRow held (IsDecided s ps)) e =
+      tested sc log b (nat_lt s earliest) _ _
+      (λ past.
+      let below : s < earliest = ltb-true s earliest past in
+      let passed : s < sc.now = omega (arith, below, honest) in
+      let more = log ++ Record.Outcome t (Some s) ∷ [] in
+      let stands : HasOutcome more sc.now t s = record {
+        decided = record { parts = e.parts; reads = e.reads; writes = e.writes; among = among_left log (Record.Outcome t (Some s) ∷ []) (decision t s e.parts e.reads e.writes) e.among };
+        ended = among_last log (Record.Outcome t (Some s));
+        passed = passed;
+      } in
+      dropping sc log b t (Record.Outcome t (Some s)) b.memory.last (done_to t (Some s) ∷ tells b t (Some s) (other_parts b.shard ps)) (passed, inl e)
+      (stands, outcome_told more t s (other_parts b.shard ps) stands))
+      (refusing sc log b Early)
+  settling earliest t honest _ e = refusing sc log b Stranger
+
+  advancing : (latest stride at : ℕ) → PlannedEvidence sc log b.shard (plan_advance b latest stride at)
+  unfolding plan_advance PlannedEvidence
+  advancing latest stride at = by_tests (nat_lt latest at) (nat_lt b.facts.floor at)
+    where
+      by_tests : (c d : Bool) →
+          PlannedEvidence sc log b.shard (cond c (Err Future)
+          (Ok (record { wounded = []; change = Keeps; logged = cond d (Some (Record.Ceiling (min (at + stride) time_limit))) None; last = max b.memory.last at; outbox = [] })))
+      by_tests true d = tt
+      by_tests false true = record { logged = tt; change = tt; told = tt }
+      by_tests false false = record { logged = tt; change = tt; told = tt }
+
+  nudging : (t : Id) (st : Standing) → StandingEvidence sc log b.shard t st → PlannedEvidence sc log b.shard (plan_nudge b t st)
+  unfolding plan_nudge
+  nudging t (HasRow held (IsPrepared c p)) e =
+      replying sc log b (ask_to b.shard c t ∷ []) ((refl, record { coordinator = c; stamp = p; promised = e; receiver = refl }), tt)
+  nudging t _ e = refusing sc log b Stranger
