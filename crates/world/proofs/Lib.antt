@@ -8,4 +8,5 @@ mod OneShardRun
 mod RandomRuns
 mod Recovery
 mod Served
+pub mod Steps
 mod TwoShardRun

@@ -109,7 +109,7 @@ module _ (sc : Scene) (log : List Record) (b : Before) where
   unfolding plan_read_row
   reading_row t k held waits = search (cells, answering, reading_now)
 
-  reading : (t : Id) (k : Bytes) (st : Standing) → PlannedEvidence sc log b.shard (plan_read b t k st)
+  pub reading : (t : Id) (k : Bytes) (st : Standing) → PlannedEvidence sc log b.shard (plan_read b t k st)
   unfolding plan_read
   reading t k IsUnknown = search (cells, reading_now)
   reading t k (HasRow held Idle) = reading_row t k held false
@@ -144,7 +144,7 @@ module _ (sc : Scene) (log : List Record) (b : Before) where
   preparing_fresh earliest t c epoch rs ws held asked =
       choosing sc log b _ _ _ (preparing_now earliest t c rs ws asked) (ending sc log b t _ (tt, tt))
 
-  preparing : (earliest : ℕ) (t : Id) (c epoch : ℕ) (rs : List Bytes) (ws : List Write) → PrepareAsked sc.world b.shard t c rs ws →
+  pub preparing : (earliest : ℕ) (t : Id) (c epoch : ℕ) (rs : List Bytes) (ws : List Write) → PrepareAsked sc.world b.shard t c rs ws →
       (st : Standing) → StandingEvidence sc log b.shard t st → PlannedEvidence sc log b.shard (plan_prepare b earliest t c epoch rs ws st)
   unfolding plan_prepare
   preparing earliest t c epoch rs ws asked IsUnknown e = preparing_fresh earliest t c epoch rs ws [] asked
@@ -199,7 +199,7 @@ module _ (sc : Scene) (log : List Record) (b : Before) where
       (choosing sc log b _ _ _ (committing_now t latest ps rs ws remembers) (refusing sc log b TimeSpent))
       (aborting t ps (was_asked t ps rs ws remembers.asked))
 
-  committing : (latest : ℕ) (t : Id) (ps : List ℕ) (epoch : ℕ) (rs : List Bytes) (ws : List Write) → Remembers sc b.shard t latest ps rs ws →
+  pub committing : (latest : ℕ) (t : Id) (ps : List ℕ) (epoch : ℕ) (rs : List Bytes) (ws : List Write) → Remembers sc b.shard t latest ps rs ws →
       (st : Standing) → StandingEvidence sc log b.shard t st → PlannedEvidence sc log b.shard (plan_commit b latest t ps epoch rs ws st)
   unfolding plan_commit
   committing latest t ps epoch rs ws remembers IsUnknown e = committing_fresh latest t ps epoch rs ws [] remembers
@@ -240,7 +240,7 @@ module _ (sc : Scene) (log : List Record) (b : Before) where
   telling n t outcome (Some p) told = replying sc log b (outcome_to b.shard t outcome n ∷ []) (told, tt)
   telling n t outcome None told = replying sc log b [] tt
 
-  voting : (n : ℕ) (t : Id) (vote : Option ℕ) → Sent sc.world b.shard (Message.Vote (record { from = n; txn = t; vote = vote })) →
+  pub voting : (n : ℕ) (t : Id) (vote : Option ℕ) → Sent sc.world b.shard (Message.Vote (record { from = n; txn = t; vote = vote })) →
       (st : Standing) → StandingEvidence sc log b.shard t st → PlannedEvidence sc log b.shard (plan_vote b n t vote st)
   unfolding plan_vote
   voting n t vote sent (HasRow held (Collecting l ps rs ws votes)) e =
@@ -269,7 +269,7 @@ module _ (sc : Scene) (log : List Record) (b : Before) where
   same_sender n c p None e = e
   same_sender n c p (Some s) e = (both _ _ e).0
 
-  ending_by : (n : ℕ) (t : Id) (outcome : Option ℕ) → Sent sc.world b.shard (Message.Outcome (record { from = n; txn = t; outcome = outcome })) →
+  pub ending_by : (n : ℕ) (t : Id) (outcome : Option ℕ) → Sent sc.world b.shard (Message.Outcome (record { from = n; txn = t; outcome = outcome })) →
       ((s : ℕ) → outcome ≡ Some s → s < sc.now) → (st : Standing) → StandingEvidence sc log b.shard t st → PlannedEvidence sc log b.shard (plan_outcome b n t outcome st)
   unfolding plan_outcome
   ending_by n t outcome sent passed (HasRow held (IsPrepared c p)) e =
@@ -288,7 +288,7 @@ module _ (sc : Scene) (log : List Record) (b : Before) where
   ending_by n t outcome sent passed (WasClosed o) e = replying sc log b [] tt
   ending_by n t outcome sent passed _ e = refusing sc log b Stranger
 
-  giving_up : (t : Id) (st : Standing) → StandingEvidence sc log b.shard t st → PlannedEvidence sc log b.shard (Ok (plan_give_up b t st))
+  pub giving_up : (t : Id) (st : Standing) → StandingEvidence sc log b.shard t st → PlannedEvidence sc log b.shard (Ok (plan_give_up b t st))
   unfolding plan_give_up
   giving_up t IsUnknown e = ending sc log b t [] tt
   giving_up t (HasRow held Idle) e = ending sc log b t [] tt
@@ -308,7 +308,7 @@ module _ (sc : Scene) (log : List Record) (b : Before) where
       dropping sc log b t (Record.Abort t) b.memory.last (outcome_to b.shard t None n ∷ []) (inr (record { from = n; sent = sent }))
       ((refl, among_last log (Record.Abort t)), tt)
 
-  questioned : (n : ℕ) (t : Id) → Sent sc.world b.shard (Message.Ask (record { from = n; txn = t })) →
+  pub questioned : (n : ℕ) (t : Id) → Sent sc.world b.shard (Message.Ask (record { from = n; txn = t })) →
       (st : Standing) → StandingEvidence sc log b.shard t st → PlannedEvidence sc log b.shard (plan_ask b n t st)
   unfolding plan_ask
   questioned n t sent IsUnknown e = aborting_for n t sent
@@ -324,7 +324,7 @@ module _ (sc : Scene) (log : List Record) (b : Before) where
 
   -- ---- the chores of a shard
 
-  going_on : (earliest : ℕ) (t : Id) (phase : Phase) → PhaseEvidence sc log b.shard t phase → PlannedEvidence sc log b.shard (plan_go_on b earliest t phase)
+  pub going_on : (earliest : ℕ) (t : Id) (phase : Phase) → PhaseEvidence sc log b.shard t phase → PlannedEvidence sc log b.shard (plan_go_on b earliest t phase)
   unfolding plan_go_on
   going_on earliest t (WaitsRead k) e = putting sc log b [] t (to_read k) Idle b.memory.last (answers b t k ∷ []) tt (answering t k)
   going_on earliest t (WaitsPrepare c rs ws) e = promising [] earliest t c rs ws e
@@ -336,7 +336,7 @@ module _ (sc : Scene) (log : List Record) (b : Before) where
   outcome_told log2 t s [] h = tt
   outcome_told log2 t s (n ∷ ns) h = ((refl, h), outcome_told log2 t s ns h)
 
-  settling : (earliest : ℕ) (t : Id) → earliest ≤ sc.now → (st : Standing) → StandingEvidence sc log b.shard t st →
+  pub settling : (earliest : ℕ) (t : Id) → earliest ≤ sc.now → (st : Standing) → StandingEvidence sc log b.shard t st →
       PlannedEvidence sc log b.shard (plan_settle b earliest t st)
   unfolding plan_settle
   settling earliest t honest (HasRow held (IsDecided s ps)) e =
@@ -355,7 +355,7 @@ module _ (sc : Scene) (log : List Record) (b : Before) where
       (refusing sc log b Early)
   settling earliest t honest _ e = refusing sc log b Stranger
 
-  advancing : (latest stride at : ℕ) → PlannedEvidence sc log b.shard (plan_advance b latest stride at)
+  pub advancing : (latest stride at : ℕ) → PlannedEvidence sc log b.shard (plan_advance b latest stride at)
   unfolding plan_advance PlannedEvidence
   advancing latest stride at = by_tests (nat_lt latest at) (nat_lt b.facts.floor at)
     where
@@ -366,7 +366,7 @@ module _ (sc : Scene) (log : List Record) (b : Before) where
       by_tests false true = record { logged = tt; change = tt; told = tt }
       by_tests false false = record { logged = tt; change = tt; told = tt }
 
-  nudging : (t : Id) (st : Standing) → StandingEvidence sc log b.shard t st → PlannedEvidence sc log b.shard (plan_nudge b t st)
+  pub nudging : (t : Id) (st : Standing) → StandingEvidence sc log b.shard t st → PlannedEvidence sc log b.shard (plan_nudge b t st)
   unfolding plan_nudge
   nudging t (HasRow held (IsPrepared c p)) e =
       replying sc log b (ask_to b.shard c t ∷ []) ((refl, record { coordinator = c; stamp = p; promised = e; receiver = refl }), tt)
