@@ -1,6 +1,7 @@
 mod Clients
 mod Events
 mod Faults
+pub mod Grows
 pub mod Members
 pub mod Moves
 pub mod Table
