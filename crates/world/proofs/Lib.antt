@@ -1,3 +1,4 @@
+pub mod Changes
 mod Clients
 mod Events
 mod Faults

@@ -19,7 +19,8 @@ use Rattle.message.specs.declared.message.Message.{Message}
 use Rattle.protocol.specs.Rows.{Row, Phase, WaitsPrepare, WaitsCommit, Collecting, IsPrepared, IsDecided, Voted}
 use Rattle.protocol.specs.Draft.{promise, decision, other_parts}
 use Rattle.session.specs.Sessions.{Client, Stage, IsOpen, closing_messages}
-use Rattle.world.specs.World.{World, client_of}
+use Rattle.world.specs.World.{World, ShardNow, State, Runs, Nothing, client_of}
+use Rattle.world.specs.Headline.{IsUnsure}
 
 -- a world with the true times of the events so far, and the present
 pub record Scene : Type 0 where
@@ -230,3 +231,26 @@ pub record AckEvidence (sc : Scene) (t : Id) (at event : ℕ) : Type 0 where
 abbrev pub LineEvidence : Scene → Line → Type 0
 LineEvidence sc (Line.Ack t at event) = AckEvidence sc t at event
 LineEvidence sc _ = Unit {0}
+
+-- ---- a whole scene
+
+-- what a running shard remembers rests on something, and no record of it is unsure
+abbrev pub StateEvidence : Scene → ShardNow → ℕ → State → Type 0
+StateEvidence sc s n (Runs m) = RowsEvidence sc s.log n m.rows × (s.unsure ≡ Nothing)
+StateEvidence sc s n _ = Unit {0}
+
+-- what stands behind a shard: its records, one that is unsure, and its rows
+pub record ShardEvidence (sc : Scene) (n : ℕ) (s : ShardNow) : Type 0 where
+  pub records : (r : Record) → IsAmong s.log r → RecordEvidence sc s.log n r
+  pub unsure : (r : Record) → IsUnsure s.unsure r → RecordEvidence sc s.log n r
+  pub state : StateEvidence sc s n s.state
+
+-- something stands behind all that there is
+pub record Holds (sc : Scene) : Type 0 where
+  pub messages : (e : Envelope) → IsAmong sc.world.bag e → MessageEvidence sc e.to e.message
+  pub shards : (n : ℕ) (s : ShardNow) → slice_get sc.world.shards n ≡ Some s → ShardEvidence sc n s
+  pub lines : (l : Line) → IsAmong sc.world.lines l → LineEvidence sc l
+  -- each session began, once
+  pub clients : (t : Id) (c : Client) → client_of sc.world t ≡ Some c → BeganBy sc t sc.now
+  pub begun : (t : Id) (event : ℕ) → IsAmong sc.world.lines (Line.Begin t event) → (c : Client) × (client_of sc.world t ≡ Some c)
+  pub once : (t : Id) (event other : ℕ) → IsAmong sc.world.lines (Line.Begin t event) → IsAmong sc.world.lines (Line.Begin t other) → event ≡ other
