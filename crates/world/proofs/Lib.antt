@@ -9,6 +9,7 @@ pub mod Table
 mod OneShardRun
 mod RandomRuns
 mod Recovery
+pub mod Says
 mod Served
 pub mod Steps
 mod TwoShardRun
