@@ -11,5 +11,6 @@ mod RandomRuns
 mod Recovery
 pub mod Says
 mod Served
+pub mod Sessions
 pub mod Steps
 mod TwoShardRun
