@@ -1,5 +1,6 @@
 pub mod Changes
 mod Clients
+pub mod Closings
 mod Events
 mod Faults
 pub mod Grows
