@@ -4,21 +4,24 @@ use Rattle.std.specs.List.{AllByRecursion}
 use Rattle.units.specs.Ids.{Id}
 use Rattle.units.specs.Keys.{Bytes, has_key, shard_of, writes_key}
 use Rattle.units.specs.declared.fault.Fault.{Fault}
+use Rattle.units.specs.declared.fault.Fault.TheVariants.{Stranger}
 use Rattle.units.specs.declared.fault.Reason.{Reason}
 use Rattle.units.specs.declared.fault.Reason.TheVariants.{Many, Nothing, Again, Awaited, Doomed}
 use Rattle.units.specs.declared.line.Line.{Line}
 use Rattle.units.specs.declared.writes.Write.{Write}
 use Rattle.units.proofs.IdLaws.{same_id-is}
 use Rattle.units.proofs.ByIdLaws.{found_is}
+use Rattle.units.proofs.Folds.{append_none}
 use Rattle.message.specs.declared.message.Answer.{Answer}
 use Rattle.message.specs.declared.message.Answer.TheVariants as answer
 use Rattle.message.specs.declared.message.Address.TheVariants.{Shard}
 use Rattle.message.specs.declared.message.Envelope.{Envelope}
 use Rattle.message.specs.declared.message.Message.{Message}
 use Rattle.message.specs.declared.message.ReadAnswer.{ReadAnswer}
-use Rattle.session.specs.Sessions.{Client, Stage, IsOpen, IsClosing, IsOver, Moved, Denies, Goes, unless, closing_messages, messages_for, prepare_for, parts_of, shards_told, reads, buffers, closes, gives_up, finishes, hears, take_answer, is_doomed, epochs_agree, was_taken, asked_keys, was_answered, with_write, is_none}
-use Rattle.world.specs.World.{World, After, client_of, set_client, put_out, moved, refused, if_open, if_not_over, if_closing, if_hearing, answered, read_lines, to_session}
-use Rattle.world.specs.Evidence.{Scene, IsAmong, ClosedOver, IsOfClosing, MessageEvidence, is_past_open, Holds}
+use Rattle.session.specs.Sessions.{Client, Stage, IsOpen, IsClosing, IsOver, Moved, Denies, Goes, unless, closing_messages, messages_for, prepare_for, parts_of, shards_told, reads, buffers, closes, gives_up, finishes, hears, take_answer, is_doomed, epochs_agree, was_taken, asked_keys, was_answered, with_write, is_none, without_key, doomed_by}
+use Rattle.world.specs.World.{World, After, client_of, set_client, put_out, moved, refused, if_open, if_not_over, if_closing, if_hearing, answered, read_lines, to_session, noted}
+use Rattle.world.specs.declared.event.Reply.{Reply}
+use Rattle.world.specs.Evidence.{Scene, IsAmong, ClosedOver, IsOfClosing, MessageEvidence, LineEvidence, is_past_open, Holds}
 use Rattle.world.proofs.Changes.{with_world}
 use Rattle.world.proofs.Says.{put_out_holds, said_holds, lined, bagged, IsNoBegin}
 use Rattle.world.proofs.Sessions.{KeepsClosing, client_holds, set_there}
@@ -130,3 +133,110 @@ module _ (sc : Scene) (h : Holds sc) (present : slice_get sc.times sc.world.even
   finishing : (c : Client) → MovedEvidence c (finishes c)
   unfolding closing_messages
   finishing c = record { same = refl; keeps = λ past. record { closed = λ p. refl; messages = refl }; told = tt }
+
+  -- ---- by the session of an id
+
+  if_open_holds : (f : Client → Moved) → ((c : Client) → client_of sc.world c.txn ≡ Some c → c.stage ≡ IsOpen → MovedEvidence c (f c)) →
+      (t : Id) (o : Option Client) → client_of sc.world t ≡ o → AfterHolds sc (if_open sc.world o f)
+  if_open_holds f steps t None e = h
+  if_open_holds f steps t (Some c) e = by_stage c.stage refl
+    where
+      by_stage : (s : Stage) → c.stage ≡ s → AfterHolds sc (elim s as (λ x. After) [ IsOpen ↦ moved sc.world (f c) | _ ↦ refused sc.world Stranger ])
+      by_stage IsOpen is = moved_holds t c e (f c) (steps c (found_txn t c e) is)
+      by_stage IsClosing is = h
+      by_stage IsOver is = h
+
+  pub reads_hold : (t : Id) (k : Bytes) → AfterHolds sc (if_open sc.world (client_of sc.world t) (reads sc.world.config.splits k))
+  reads_hold t k = if_open_holds (reads sc.world.config.splits k) (λ c there open_now. reading k c open_now) t (client_of sc.world t) refl
+
+  pub writes_hold : (t : Id) (w : Write) → AfterHolds sc (if_open sc.world (client_of sc.world t) (buffers w))
+  writes_hold t w = if_open_holds (buffers w) (λ c there open_now. buffering w c open_now) t (client_of sc.world t) refl
+
+  pub closes_hold : (t : Id) → AfterHolds sc (if_open sc.world (client_of sc.world t) (closes sc.world.config.splits))
+  closes_hold t = if_open_holds (closes sc.world.config.splits) closing t (client_of sc.world t) refl
+
+  pub quits_hold : (t : Id) (o : Option Client) → client_of sc.world t ≡ o → AfterHolds sc (if_not_over sc.world o (gives_up sc.world.config.splits))
+  quits_hold t None e = h
+  quits_hold t (Some c) e = by_stage c.stage
+    where
+      by_stage : (s : Stage) → AfterHolds sc (elim s as (λ x. After) [ IsOver ↦ refused sc.world Stranger | _ ↦ moved sc.world (gives_up sc.world.config.splits c) ])
+      by_stage IsOver = h
+      by_stage IsOpen = moved_holds t c e (gives_up sc.world.config.splits c) (giving_up c)
+      by_stage IsClosing = moved_holds t c e (gives_up sc.world.config.splits c) (giving_up c)
+
+  if_closing_holds : (t : Id) (o : Option Client) → client_of sc.world t ≡ o → AfterHolds sc (if_closing sc.world o)
+  if_closing_holds t None e = h
+  if_closing_holds t (Some c) e = by_stage c.stage
+    where
+      by_stage : (s : Stage) → AfterHolds sc (elim s as (λ x. After) [ IsClosing ↦ moved sc.world (finishes c) | _ ↦ refused sc.world Stranger ])
+      by_stage IsOver = h
+      by_stage IsOpen = h
+      by_stage IsClosing = moved_holds t c e (finishes c) (finishing c)
+
+  -- ---- an answer
+
+  taken_txn : (c : Client) (n : ℕ) (k : Bytes) (epoch : ℕ) (a : Answer) → (take_answer c n k epoch a).txn ≡ c.txn
+  taken_txn c n k epoch answer.Refused = refl
+  taken_txn c n k epoch (answer.Holds x) = by_test (epochs_agree c.taken n epoch)
+    where
+      by_test : (b : Bool) → (cond b (record c { taken = c.taken ++ record { key = k; shard = n; epoch = epoch; value = x } ∷ []; awaited = without_key c.awaited k }) (doomed_by k c)).txn ≡ c.txn
+      by_test true = refl
+      by_test false = refl
+
+  heard_txn : (c : Client) (n : ℕ) (k : Bytes) (epoch : ℕ) (a : Answer) → (hears n k epoch a c).txn ≡ c.txn
+  unfolding hears
+  heard_txn c n k epoch a = by_test (has_key c.awaited k && not (is_doomed c))
+    where
+      by_test : (b : Bool) → (cond b (take_answer c n k epoch a) c).txn ≡ c.txn
+      by_test true = taken_txn c n k epoch a
+      by_test false = refl
+
+  lines_told : (sc2 : Scene) (c d : Client) (k : Bytes) (a : Answer) → AllByRecursion (λ l. IsNoBegin l × LineEvidence sc2 l) (read_lines c d k a)
+  lines_told sc2 c d k answer.Refused = tt
+  lines_told sc2 c d k (answer.Holds x) = by_test (was_taken d k && not (was_taken c k))
+    where
+      by_test : (b : Bool) → AllByRecursion (λ l. IsNoBegin l × LineEvidence sc2 l) (cond b (Line.Read c.txn k x ∷ []) [])
+      by_test true = ((tt, tt), tt)
+      by_test false = tt
+
+  -- lines alone
+  lines_hold : (sc2 : Scene) (ls : List Line) → ((sc3 : Scene) → AllByRecursion (λ l. IsNoBegin l × LineEvidence sc3 l) ls) → Holds sc2 →
+      Holds (with_world sc2 (lined ls sc2.world))
+  lines_hold sc2 ls written k =
+      subst (λ bag. Holds (with_world sc2 (record (sc2.world) { bag = bag; lines = sc2.world.lines ++ ls }))) (append_none sc2.world.bag)
+      (said_holds sc2 [] ls tt (written _) k)
+
+  if_hearing_holds : (t : Id) (a : ReadAnswer) (o : Option Client) → client_of sc.world t ≡ o → AfterHolds sc (if_hearing sc.world o a)
+  if_hearing_holds t a None e = h
+  if_hearing_holds t a (Some c) e = by_stage c.stage refl
+    where
+      by_stage : (s : Stage) → c.stage ≡ s → AfterHolds sc (elim s as (λ x. After) [ IsOpen ↦ answered sc.world c a | _ ↦ refused sc.world Stranger ])
+      by_stage IsOver is = h
+      by_stage IsClosing is = h
+      by_stage IsOpen is =
+          let d = hears a.from a.key a.epoch a.answer c in
+          let there : client_of sc.world d.txn ≡ Some c = subst (λ u. client_of sc.world u ≡ Some c) (sym (heard_txn c a.from a.key a.epoch a.answer)) (found_txn t c e) in
+          lines_hold (with_world sc (set_client d sc.world)) (read_lines c d a.key a.answer) (λ sc3. lines_told sc3 c d a.key a.answer)
+          (client_holds sc c d there (open_keeps c d is) h)
+
+  -- a message comes to a session
+  pub to_session_holds : (m : Message) → AfterHolds sc (to_session sc.world m)
+  unfolding to_session
+  to_session_holds (Message.ReadAnswer a) = if_hearing_holds a.txn a (client_of sc.world a.txn) refl
+  to_session_holds (Message.Done d) = if_closing_holds d.txn (client_of sc.world d.txn) refl
+  to_session_holds (Message.Read r) = h
+  to_session_holds (Message.Prepare p) = h
+  to_session_holds (Message.Commit c) = h
+  to_session_holds (Message.GiveUp g) = h
+  to_session_holds (Message.Vote v) = h
+  to_session_holds (Message.Outcome o) = h
+  to_session_holds (Message.Ask a) = h
+
+-- an answered look is written down
+pub look_holds : (sc : Scene) (k : Bytes) (at : ℕ) (r : Reply) → Holds sc → AfterHolds sc (noted sc.world k at r)
+look_holds sc k at (Reply.Shows x) h =
+    subst (λ bag. Holds (with_world sc (record (sc.world) { bag = bag; lines = sc.world.lines ++ Line.Look k at x ∷ [] }))) (append_none sc.world.bag)
+    (said_holds sc [] (Line.Look k at x ∷ []) tt ((tt, tt), tt) h)
+look_holds sc k at Reply.Done h = h
+look_holds sc k at (Reply.Refused f) h = h
+look_holds sc k at Reply.Crashed h = h

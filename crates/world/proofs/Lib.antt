@@ -8,6 +8,7 @@ pub mod Members
 pub mod Moves
 pub mod Table
 mod OneShardRun
+pub mod Orderly
 mod RandomRuns
 mod Recovery
 pub mod Says
