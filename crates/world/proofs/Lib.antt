@@ -10,6 +10,7 @@ pub mod Table
 mod OneShardRun
 pub mod Orderly
 mod RandomRuns
+pub mod Recorded
 mod Recovery
 pub mod Says
 mod Served
