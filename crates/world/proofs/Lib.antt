@@ -1,6 +1,7 @@
 pub mod Changes
 mod Clients
 pub mod Closings
+pub mod Doings
 mod Events
 mod Faults
 pub mod Grows

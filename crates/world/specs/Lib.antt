@@ -2,5 +2,6 @@ pub mod Computing
 pub mod Evidence
 pub mod Headline
 pub mod Lawful
+pub mod Steady
 pub mod TimeLaws
 pub mod World

@@ -1,0 +1,20 @@
+-- What is known of the shards of a world one by one.
+use Rattle.std.specs.Prelude.{ℕ, ◌≡◌, IsTrue, List, slice_get, Some}
+use Rattle.units.specs.ById.{IsById}
+use Rattle.record.specs.Accepted.{followed}
+use Rattle.record.specs.declared.record.Record.{Record}
+use Rattle.protocol.specs.Rows.{Memory}
+use Rattle.world.specs.World.{World, ShardNow, Runs, run}
+use Rattle.world.specs.Lawful.{lawful}
+use Rattle.world.specs.Headline.{MayLeaveLog}
+use Rattle.world.specs.declared.event.Config.{Config}
+use Rattle.world.specs.declared.event.Event.{Event}
+
+-- in each log that a crash may leave each record follows those before it, and the rows of a running shard ascend by id
+pub record IsSteady (w : World) : Type 0 where
+  pub follows : (n : ℕ) (s : ShardNow) (log : List Record) → slice_get w.shards n ≡ Some s → MayLeaveLog s log → IsTrue (followed n log)
+  pub ascends : (n : ℕ) (s : ShardNow) (m : Memory) → slice_get w.shards n ≡ Some s → s.state ≡ Runs m → IsById (λ r. r.txn) m.rows
+
+-- so at every moment of a lawful run
+abbrev pub AlwaysSteady : Type 0
+AlwaysSteady = (config : Config) (es : List Event) → IsTrue (lawful config es) → IsSteady (run config es)
