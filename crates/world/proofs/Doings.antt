@@ -141,7 +141,7 @@ module _ (law : StepIsPlanned) (sc : Scene) (h : Holds sc) (n : ℕ) (s : ShardN
   passed_by from t at sent = (h.messages _ sent).told.1.passed
 
   -- the step of a running shard
-  step_evidence : (m : Memory) → s.state ≡ Runs m → IsById (λ r. r.txn) m.rows → IsOrderly s.log → (o : Option (Interval × Input)) → Given sc n o →
+  pub step_evidence : (m : Memory) → s.state ≡ Runs m → IsById (λ r. r.txn) m.rows → IsOrderly s.log → (o : Option (Interval × Input)) → Given sc n o →
       SteppedEvidence sc n s.log (step_with (setup_of sc.world.config n) (facts_of s.log) m o)
   step_evidence m runs up orderly None given_none = tt
   step_evidence m runs up orderly (Some p) heard =
@@ -160,7 +160,7 @@ module _ (law : StepIsPlanned) (sc : Scene) (h : Holds sc) (n : ℕ) (s : ShardN
       (stepped_evidence sc s.log n m state.0 (plan_input setup start p.0 p.1) (planned sc s.log start p.0 knows setup p.1 heard.0))
 
   -- an opening
-  opening_evidence : SteppedEvidence sc n (read_log s) (opening (facts_of (read_log s)))
+  pub opening_evidence : SteppedEvidence sc n (read_log s) (opening (facts_of (read_log s)))
   unfolding opening
   opening_evidence = by_test (nat_lt (facts_of (read_log s)).epoch time_limit)
     where

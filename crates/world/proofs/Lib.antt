@@ -16,5 +16,6 @@ mod Recovery
 pub mod Says
 mod Served
 pub mod Sessions
+pub mod Shards
 pub mod Steps
 mod TwoShardRun
