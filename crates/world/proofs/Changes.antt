@@ -79,6 +79,7 @@ module _ (sc : Scene) (n : ℕ) (old new : ShardNow) (there : slice_get sc.world
   -- another shard in the place of one
   pub set_holds : ShardEvidence sc n new → Holds sc → Holds (with_world sc (set_shard n new sc.world))
   set_holds evidence h = record {
+    counted = h.counted;
     messages = λ e k. message_stays sc _ set_grows e.to e.message (h.messages e k);
     shards = λ m s e. elim (cases_eq n m) [
       | inl same ↦ by_place m s same e

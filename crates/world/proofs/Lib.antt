@@ -3,6 +3,7 @@ mod Clients
 pub mod Closings
 pub mod Doings
 mod Events
+pub mod Every
 mod Faults
 pub mod Grows
 pub mod Members

@@ -45,6 +45,7 @@ module _ (sc : Scene) (out : List Envelope) (ls : List Line) where
       AllByRecursion (λ l. IsNoBegin l × LineEvidence (with_world sc (lined ls (bagged out sc.world))) l) ls →
       Holds sc → Holds (with_world sc (lined ls (bagged out sc.world)))
   said_holds told written h = record {
+    counted = h.counted;
     messages = λ e k. elim (among_cases sc.world.bag out e k) [
       | inl old ↦ message_stays sc _ said_grows e.to e.message (h.messages e old)
       | inr new ↦ message_stays sc _ said_grows e.to e.message (all_at (λ (x : Envelope). MessageEvidence sc x.to x.message) out e told new)

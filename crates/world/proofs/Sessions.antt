@@ -81,6 +81,7 @@ module _ (sc : Scene) (old new : Client) (there : client_of sc.world new.txn ≡
 
   pub client_holds : Holds sc → Holds (with_world sc (set_client new sc.world))
   client_holds h = record {
+    counted = h.counted;
     messages = λ e k. message_stays sc _ client_grows e.to e.message (h.messages e k);
     shards = λ n s e. shard_stays sc _ client_grows n s (h.shards n s e);
     lines = λ l k. line_stays sc _ client_grows l (h.lines l k);
@@ -155,6 +156,7 @@ module _ (sc : Scene) (t : Id) (fresh : client_of sc.world t ≡ None) (present 
 
   pub begin_holds : Holds sc → Holds (with_world sc (begin t sc.world))
   begin_holds h = record {
+    counted = h.counted;
     messages = λ e k. message_stays sc _ begin_grows e.to e.message (h.messages e k);
     shards = λ n s e. shard_stays sc _ begin_grows n s (h.shards n s e);
     lines = λ l k. elim (among_cases sc.world.lines (Line.Begin t sc.world.event ∷ []) l k) [

@@ -22,10 +22,11 @@ use Rattle.session.specs.Sessions.{Client, Stage, IsOpen, closing_messages}
 use Rattle.world.specs.World.{World, ShardNow, State, Runs, Nothing, client_of}
 use Rattle.world.specs.Headline.{IsUnsure}
 
--- a world with the true times of the events so far, and the present
+-- a world with the true times of the events so far, the number of the event under way, and the present
 pub record Scene : Type 0 where
   pub world : World
   pub times : List ℕ
+  pub event : ℕ
   pub now : ℕ
 
 -- a member of a list
@@ -247,6 +248,7 @@ pub record ShardEvidence (sc : Scene) (n : ℕ) (s : ShardNow) : Type 0 where
 
 -- something stands behind all that there is
 pub record Holds (sc : Scene) : Type 0 where
+  pub counted : sc.world.event ≡ sc.event
   pub messages : (e : Envelope) → IsAmong sc.world.bag e → MessageEvidence sc e.to e.message
   pub shards : (n : ℕ) (s : ShardNow) → slice_get sc.world.shards n ≡ Some s → ShardEvidence sc n s
   pub lines : (l : Line) → IsAmong sc.world.lines l → LineEvidence sc l
