@@ -23,8 +23,8 @@ use Rattle.world.specs.declared.event.Config.{Config}
 use Rattle.world.specs.declared.event.Doing.{Doing}
 use Rattle.world.specs.declared.event.Event.{Event}
 use Rattle.world.specs.declared.event.Reply.{Reply}
-use Rattle.world.specs.Evidence.{Scene, IsAmong, Holds, ShardEvidence}
-use Rattle.world.specs.Steady.{IsSteady}
+use Rattle.world.specs.Evidence.{Scene, IsAmong, RecordEvidence, Holds, ShardEvidence}
+use Rattle.world.specs.Steady.{IsSteady, AlwaysSteady}
 use Rattle.world.proofs.Grows.{Grows, message_stays, line_stays, began_stays}
 use Rattle.world.proofs.Changes.{with_world, shard_stays}
 use Rattle.world.proofs.Sessions.{begin_holds}
@@ -242,3 +242,45 @@ module _ (law : StepIsPlanned) where
       let after = next_holds sc x h c (steady [] refl) p.0 in
       holds_from (next sc x) after.0 after.1 xs p.1
       (λ ds l. steady (x ∷ ds) (ap (λ b. b && lawful_from ((happens sc.world x).0) ds) p.0 ∙ l))
+
+-- ---- the beginning
+
+fresh_evidence : (sc : Scene) (n : ℕ) → ShardEvidence sc n fresh_shard
+fresh_evidence sc n = record {
+  records = λ r k. elim k [ inl same ↦ subst (λ x. RecordEvidence sc fresh_log n x) same tt | inr none ↦ absurd none ];
+  unsure = λ r none. absurd none;
+  state = (rebuilt_rows fresh_log sc n, refl);
+}
+
+replicated : (count n : ℕ) (s : ShardNow) → slice_get (replicate count fresh_shard) n ≡ Some s → fresh_shard ≡ s
+replicated zero n s e = cc
+replicated (suc count) zero s e = some_is fresh_shard s e
+  where
+    some_is : (a b : ShardNow) → Some a ≡ Some b → a ≡ b
+    some_is a b k = cc
+replicated (suc count) (suc n) s e = replicated count n s e
+
+abbrev first_scene : Config → Scene
+first_scene config = record { world = start config; times = []; event = 0; now = 0 }
+
+start_holds : (config : Config) → Holds (first_scene config)
+unfolding start
+start_holds config = record {
+  counted = refl;
+  messages = λ e none. absurd none;
+  shards = λ n s e. subst (λ x. ShardEvidence (first_scene config) n x) (replicated (suc (length config.splits)) n s e) (fresh_evidence (first_scene config) n);
+  lines = λ l none. absurd none;
+  clients = λ t c e. cc;
+  begun = λ t event none. absurd none;
+  once = λ t event other none l. absurd none;
+}
+
+start_clock : (config : Config) → Clock (first_scene config)
+unfolding start
+start_clock config = record { count = refl; time = refl; below = λ i time e. cc; rises = λ i j a b up e k. cc }
+
+-- every lawful run
+pub every_run_holds : StepIsPlanned → AlwaysSteady → (config : Config) (es : List Event) → lawful config es ≡ true → RunEvidence (run config es)
+unfolding run lawful
+every_run_holds law steady config es e =
+    holds_from law (first_scene config) (start_holds config) (start_clock config) es e (λ ds l. steady config ds l)
