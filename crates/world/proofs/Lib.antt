@@ -9,6 +9,7 @@ pub mod Grows
 pub mod Members
 pub mod Moves
 pub mod Table
+pub mod Homes
 mod OneShardRun
 pub mod Orderly
 mod RandomRuns
