@@ -12,6 +12,7 @@ pub mod Table
 pub mod Homes
 mod OneShardRun
 pub mod Orderly
+pub mod Picked
 mod RandomRuns
 pub mod Recorded
 mod Recovery
