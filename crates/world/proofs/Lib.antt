@@ -1,6 +1,7 @@
 pub mod Changes
 mod Clients
 pub mod Closings
+pub mod Decisions
 pub mod Doings
 mod Events
 pub mod Every
