@@ -1,3 +1,4 @@
+pub mod AllWhole
 pub mod Changes
 mod Clients
 pub mod Closings
