@@ -29,7 +29,7 @@ place_within [] n x e = cc
 place_within (y ∷ ys) zero x e = omega arith
 place_within (y ∷ ys) (suc n) x e = let ih = place_within ys n x e in omega arith
 
-has_head : (xs : List ℕ) (n : ℕ) → head xs ≡ Some n → has xs n ≡ true
+pub has_head : (xs : List ℕ) (n : ℕ) → head xs ≡ Some n → has xs n ≡ true
 has_head [] n e = cc
 has_head (x ∷ xs) n e = let same : x ≡ n = some_is x n e in grind (arith, nat_tests)
   where

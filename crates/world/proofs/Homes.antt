@@ -187,7 +187,7 @@ module _ (sc : Scene) (h : Holds sc) (logs : List (List Record)) (left : AreLeft
           record { parts = home.parts; over = home.over; least = home.least ∙ ap (λ x. Some x) (sym (same_shard n said.told.1.coordinator said.told.1.receiver)) }
 
   -- two shards that are the least of a closing are one
-  one_home : (t : Id) (n m : ℕ) (ps qs : List ℕ) → ClosesOver sc.world t ps → head ps ≡ Some n → ClosesOver sc.world t qs → head qs ≡ Some m → n ≡ m
+  pub one_home : (t : Id) (n m : ℕ) (ps qs : List ℕ) → ClosesOver sc.world t ps → head ps ≡ Some n → ClosesOver sc.world t qs → head qs ≡ Some m → n ≡ m
   one_home t n m ps qs a k b l = some_same n m (sym k ∙ ap head (same_parts sc h t ps qs a b) ∙ l)
 
   pub not_both : (n m : ℕ) (c : Committed) → IsAmong (log_in logs n) (Record.Commit c) → IsAmong (log_in logs m) (Record.Abort c.txn) → ⊥

@@ -15,6 +15,7 @@ pub mod Homes
 mod OneShardRun
 pub mod Orderly
 pub mod Picked
+pub mod Resolved
 mod RandomRuns
 pub mod Recorded
 mod Recovery

@@ -28,7 +28,7 @@ among_keep test (y ∷ ys) x h = by_test (test y) h (λ k. among_keep test ys x 
     by_test true (inr later) rest = inr (rest later)
     by_test false k rest = inr (rest k)
 
-among_first : {A : Type 0} (test : A → Bool) (xs : List A) (x : A) → first test xs ≡ Some x → IsAmong xs x
+pub among_first : {A : Type 0} (test : A → Bool) (xs : List A) (x : A) → first test xs ≡ Some x → IsAmong xs x
 among_first {A} test xs x e = among_keep test xs x (by_list (keep test xs) e)
   where
     by_list : (ys : List A) → head ys ≡ Some x → IsAmong ys x
