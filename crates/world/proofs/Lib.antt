@@ -8,6 +8,7 @@ mod Events
 pub mod Every
 mod Faults
 pub mod Grows
+pub mod Lefts
 pub mod Members
 pub mod Moves
 pub mod Table

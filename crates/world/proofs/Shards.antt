@@ -99,7 +99,7 @@ module _ (law : StepIsPlanned) (sc : Scene) (h : Holds sc) (steady : IsSteady sc
   running o heard (IsStopped m) is = tt
   running o heard IsDown is = tt
 
-  effect_evidence : (doing : Doing) → Given sc n (input_of sc.world.bag doing) → SteppedEvidence sc n (read_log s) (effect (setup_of sc.world.config n) sc.world.bag s doing)
+  pub effect_evidence : (doing : Doing) → Given sc n (input_of sc.world.bag doing) → SteppedEvidence sc n (read_log s) (effect (setup_of sc.world.config n) sc.world.bag s doing)
   unfolding effect
   effect_evidence Doing.Open heard = by_state s.state
     where
@@ -116,7 +116,7 @@ module _ (law : StepIsPlanned) (sc : Scene) (h : Holds sc) (steady : IsSteady sc
   -- ---- the shard after it
 
   -- a log that is read, with what was logged
-  logged_known : (logged : Option Record) → LoggedEvidence sc (read_log s) n logged → (r : Record) → IsAmong (read_log s ++ listed logged) r →
+  pub logged_known : (logged : Option Record) → LoggedEvidence sc (read_log s) n logged → (r : Record) → IsAmong (read_log s ++ listed logged) r →
       RecordEvidence sc (read_log s ++ listed logged) n r
   logged_known logged rests r k = elim (among_cases (read_log s) (listed logged) r k) [
     | inl old ↦ in_log (read_log s ++ listed logged) (λ q j. among_left (read_log s) (listed logged) q (read_within q j)) r (read_known r old)
@@ -133,7 +133,7 @@ module _ (law : StepIsPlanned) (sc : Scene) (h : Holds sc) (steady : IsSteady sc
   with_listed None r k = among_left (read_log s) [] r k
   with_listed (Some q) r k = k
 
-  within_listed : (logged : Option Record) → Within s.log (read_log s ++ listed logged)
+  pub within_listed : (logged : Option Record) → Within s.log (read_log s ++ listed logged)
   within_listed logged r k = among_left (read_log s) (listed logged) r (read_within r k)
 
   finished_evidence : (doing : Doing) (logged : Option Record) (memory : Memory) (out : List Envelope) → DoesEvidence sc n (read_log s) logged memory out →
