@@ -36,7 +36,7 @@ has_head (x ∷ xs) n e = let same : x ≡ n = some_is x n e in grind (arith, na
     some_is : (a b : ℕ) → Some a ≡ Some b → a ≡ b
     some_is a b k = cc
 
-when_head : (xs : List ℕ) (n : ℕ) → head xs ≡ Some n → when (nat_eq n) (head xs) ≡ true
+pub when_head : (xs : List ℕ) (n : ℕ) → head xs ≡ Some n → when (nat_eq n) (head xs) ≡ true
 when_head xs n e = ap (when (nat_eq n)) e ∙ same_number n
   where
     same_number : (m : ℕ) → nat_eq m m ≡ true

@@ -10,6 +10,7 @@ mod Faults
 pub mod Grows
 pub mod Lefts
 pub mod Members
+pub mod Moments
 pub mod Moves
 pub mod Table
 pub mod Homes
