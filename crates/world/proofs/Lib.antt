@@ -9,6 +9,7 @@ pub mod Every
 mod Faults
 pub mod Grows
 pub mod Lefts
+pub mod InHistory
 pub mod Members
 pub mod Moments
 pub mod Moves
