@@ -1,8 +1,30 @@
+pub mod AllWhole
+pub mod Changes
 mod Clients
+pub mod Closings
+pub mod Decisions
+pub mod Doings
 mod Events
+pub mod Every
 mod Faults
+pub mod Grows
+pub mod Lefts
+pub mod InHistory
+pub mod Members
+pub mod Moments
+pub mod Moves
+pub mod Table
+pub mod Homes
 mod OneShardRun
+pub mod Orderly
+pub mod Picked
+pub mod Resolved
 mod RandomRuns
+pub mod Recorded
 mod Recovery
+pub mod Says
 mod Served
+pub mod Sessions
+pub mod Shards
+pub mod Steps
 mod TwoShardRun

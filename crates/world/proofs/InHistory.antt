@@ -1,0 +1,100 @@
+-- Acknowledged commits are in the history, and it is ordered by true time.
+use Rattle.std.proofs.Common.{◌≡◌, ◌⊎◌, inl, inr, ℕ, ◌<◌, ◌≤◌, Bool, true, false, cond, ◌&&◌, nat_eq, nat_lt, List, [], ◌∷◌, Option, Some, None, slice_get, refl, sym, ap, subst, ◌∙◌, arith}
+use Rattle.std.proofs.lemmas.Bool.{ltb-true}
+use Rattle.std.proofs.lemmas.Bool.Decides.{nat_tests}
+use Rattle.units.specs.Lists.{any, gather, join, head, when}
+use Rattle.units.specs.Ids.{Id, same_id}
+use Rattle.units.specs.declared.line.Line.{Line}
+use Rattle.units.proofs.IdLaws.{same_id-is, same_id-refl}
+use Rattle.units.proofs.ByIdLaws.{first_passes}
+use Rattle.record.specs.History.{Txn, history, whole_txn, find_txn, by_shard}
+use Rattle.record.specs.Records.{as_committed}
+use Rattle.record.specs.Serially.{OrderedByTime}
+use Rattle.record.specs.Verdict.{IsLine, is_in_at}
+use Rattle.record.specs.declared.record.Committed.{Committed}
+use Rattle.record.specs.declared.record.Record.{Record}
+use Rattle.world.specs.Evidence.{Scene, IsAmong, AckEvidence, Holds}
+use Rattle.world.specs.Left.{AreLeft}
+use Rattle.world.proofs.Recorded.{among_first, among_gather, Source, decision_among}
+use Rattle.world.proofs.Doings.{get_among}
+use Rattle.world.proofs.Homes.{log_in, evidence, kept, decision_home}
+use Rattle.world.proofs.AllWhole.{when_head}
+use Rattle.world.proofs.Decisions.{log_of_number, log_in-is, number_there}
+use Rattle.world.proofs.Picked.{any_of, gather_among, join_among, among_join, Joined, some_same}
+
+-- the transaction of a decision, where it stands in the log of its least part
+abbrev counted : List (List Record) → ℕ → Committed → Option Txn
+counted logs n c = cond (when (nat_eq n) (head c.parts)) (Some (whole_txn logs n c)) None
+
+abbrev counted_in : List (List Record) → ℕ × List Record → List Txn
+counted_in logs l = gather (counted logs l.0) (gather as_committed l.1)
+
+-- a decision at its least part is in the history
+history_has : (logs : List (List Record)) (n : ℕ) (c : Committed) → IsAmong (log_in logs n) (Record.Commit c) → head c.parts ≡ Some n → IsAmong (history logs) (whole_txn logs n c)
+unfolding history
+history_has logs n c k least =
+    join_among (counted_in logs) (by_shard logs) (n, log_in logs n) (whole_txn logs n c) (number_there logs n (Record.Commit c) k)
+    (gather_among (counted logs n) (gather as_committed (log_in logs n)) c (whole_txn logs n c) (gather_among as_committed (log_in logs n) (Record.Commit c) c k refl)
+        (ap (λ b. cond b (Some (whole_txn logs n c)) None) (when_head c.parts n least)))
+
+-- a transaction of the history has its decision
+record InHistory (logs : List (List Record)) (x : Txn) : Type 0 where
+  pub shard : ℕ
+  pub commit : Committed
+  pub among : IsAmong (log_in logs shard) (Record.Commit commit)
+  pub named : commit.txn ≡ x.txn
+  pub stamp : commit.at ≡ x.at
+
+from_history : (logs : List (List Record)) (x : Txn) → IsAmong (history logs) x → InHistory logs x
+unfolding history
+from_history logs x h =
+    let j = among_join (counted_in logs) (by_shard logs) x h in
+    let s = among_gather (counted logs j.from.0) (gather as_committed j.from.1) x j.within in
+    let is = by_test (when (nat_eq j.from.0) (head s.from.parts)) (whole_txn logs j.from.0 s.from) s.gives in
+    record {
+      shard = j.from.0;
+      commit = s.from;
+      among = subst (λ l. IsAmong l (Record.Commit s.from)) (sym (log_in-is logs j.from.0 j.from.1 (log_of_number logs j.from j.among))) (decision_among j.from.1 s.from s.among);
+      named = ap (λ (y : Txn). y.txn) is;
+      stamp = ap (λ (y : Txn). y.at) is;
+    }
+  where
+    by_test : (b : Bool) (y : Txn) → cond b (Some y) None ≡ Some x → y ≡ x
+    by_test true y e = some_same y x e
+    by_test false y e = cc
+
+module _ (sc : Scene) (h : Holds sc) (logs : List (List Record)) (left : AreLeft sc logs) where
+  -- what was acknowledged is in the history at its timestamp
+  pub acknowledged : (t : Id) (at m : ℕ) → IsLine sc.world.lines (Line.Ack t at m) → is_in_at (history logs) t at ≡ true
+  acknowledged t at m line =
+      let ack : AckEvidence sc t at m = h.lines (Line.Ack t at m) (get_among sc.world.lines line.0 (Line.Ack t at m) line.1) in
+      let said = h.messages _ ack.sent in
+      let d = said.told.decided in
+      let c : Committed = record { txn = t; at = at; parts = d.parts; reads = d.reads; writes = d.writes } in
+      let there = kept sc h logs left said.shard (Record.Commit c) d.among in
+      any_of (λ (u : Txn). same_id u.txn t && nat_eq u.at at) (history logs) (whole_txn logs said.shard c)
+      (history_has logs said.shard c there (decision_home sc h logs left said.shard c there).1) (both_same t at)
+    where
+      both_same : (u : Id) (s : ℕ) → (same_id u u && nat_eq s s) ≡ true
+      both_same u s = let same = same_id-refl u in grind (arith, nat_tests)
+
+  -- who began after an acknowledgement has the larger timestamp
+  pub ordered : ((i j a b : ℕ) → i ≤ j → slice_get sc.times i ≡ Some a → slice_get sc.times j ≡ Some b → a ≤ b) → OrderedByTime logs sc.world.lines
+  ordered rises t u at m n x acked begun before found =
+      let ack : AckEvidence sc t at m = h.lines (Line.Ack t at m) (get_among sc.world.lines acked.0 (Line.Ack t at m) acked.1) in
+      let p = from_history logs x (among_first (λ (y : Txn). same_id y.txn u) (history logs) x found) in
+      let named : p.commit.txn ≡ u = p.named ∙ same_id-is x.txn u (first_passes (λ (y : Txn). same_id y.txn u) (history logs) x found) in
+      let e = evidence sc h logs left p.shard (Record.Commit p.commit) p.among in
+      let began = e.began in
+      let same : began.event ≡ n = h.once u began.event n (subst (λ v. IsAmong sc.world.lines (Line.Begin v began.event)) named began.line)
+      (get_among sc.world.lines begun.0 (Line.Begin u n) begun.1) in
+      let earlier : m < n = ltb-true m n before in
+      let risen = rises m n ack.time began.time (omega (arith, earlier)) ack.timed (subst (λ i. slice_get sc.times i ≡ Some began.time) same began.timed) in
+      let above = ack.above in
+      let low = began.below in
+      let high = e.above in
+      let stamp = p.stamp in
+      less at x.at (omega (arith, risen, above, low, high, stamp))
+    where
+      less : (a b : ℕ) → a < b → nat_lt a b ≡ true
+      less a b k = grind (arith, nat_tests)

@@ -1,0 +1,95 @@
+-- What holds of a lawful run at each moment: of its world, and of the logs that a crash may leave there.
+use Rattle.std.proofs.Common.{◌≡◌, ◌⊎◌, inl, inr, ℕ, zero, suc, ◌<◌, ◌≤◌, Bool, true, false, cond, ◌&&◌, nat_eq, nat_lt, nat_le, List, [], ◌∷◌, ◌++◌, Option, Some, None, slice_get, refl, sym, ap, subst, ◌∙◌, map, arith}
+use Rattle.std.proofs.lemmas.Bool.{leb-true, eqb-true}
+use Rattle.std.proofs.lemmas.Bool.Decides.{nat_tests}
+use Rattle.units.specs.Lists.{any, each, gather, join, head, when}
+use Rattle.units.specs.Ids.{Id, same_id}
+use Rattle.units.specs.declared.line.Line.{Line}
+use Rattle.units.specs.declared.writes.Install.{Install}
+use Rattle.units.specs.declared.writes.Write.{Write}
+use Rattle.units.specs.Versions.{versions}
+use Rattle.units.proofs.IdLaws.{same_id-is, same_id-refl}
+use Rattle.units.proofs.ByIdLaws.{first_passes}
+use Rattle.record.specs.History.{Txn, history, whole_txn, find_txn, by_shard}
+use Rattle.record.specs.Installs.{installs_of, installed_by, writes_by}
+use Rattle.record.specs.Records.{Ended, as_committed, as_ended, committed_of, prepared_of}
+use Rattle.record.specs.Serially.{OrderedByTime}
+use Rattle.record.specs.Verdict.{IsLine, is_in_at}
+use Rattle.record.specs.declared.record.Committed.{Committed}
+use Rattle.record.specs.declared.record.Record.{Record}
+use Rattle.protocol.specs.Plan.{StepIsPlanned}
+use Rattle.world.specs.World.{World, ShardNow, run, run_from, start, happens}
+use Rattle.world.specs.Lawful.{lawful, lawful_from, may_happen, may_act}
+use Rattle.world.specs.Headline.{AllOrNothing, KeepsAcknowledged, MayBeLeft, MayLeaveLogs, MayLeaveWithin, doing_of}
+use Rattle.world.specs.TimeLaws.{InstalledInThePast, LooksCoverAcknowledged, installed_before}
+use Rattle.world.specs.declared.event.Act.{Act}
+use Rattle.world.specs.declared.event.Config.{Config}
+use Rattle.world.specs.declared.event.Event.{Event}
+use Rattle.world.specs.Evidence.{Scene, IsAmong, RecordEvidence, AckEvidence, Holds}
+use Rattle.world.specs.Left.{AreLeft}
+use Rattle.world.specs.Steady.{IsSteady, AlwaysSteady}
+use Rattle.world.proofs.Orderly.{both}
+use Rattle.world.proofs.Recorded.{among_first, among_gather, Source, decision_among, outcome_among}
+use Rattle.world.proofs.Doings.{get_among}
+use Rattle.world.proofs.Every.{Clock, RunEvidence, every_run_holds, tick_holds, present_now, below_now, rises_now}
+use Rattle.world.proofs.Lefts.{left_between, left_within}
+use Rattle.world.proofs.Homes.{log_in, evidence, kept, decision_home}
+use Rattle.world.proofs.AllWhole.{whole, when_head}
+use Rattle.world.proofs.Resolved.{resolves}
+use Rattle.world.proofs.Decisions.{log_of_number, log_in-is, number_there}
+use Rattle.world.proofs.Picked.{each_of, any_of, gather_among, join_among, among_join, Joined, among_map, Mapped}
+
+-- logs that a crash may leave of a world, in a scene in which something stands behind all that there is
+pub record Moment (w : World) (logs : List (List Record)) : Type 0 where
+  pub scene : Scene
+  pub same : scene.world ≡ w
+  pub holds : Holds scene
+  pub rises : (i j a b : ℕ) → i ≤ j → slice_get scene.times i ≡ Some a → slice_get scene.times j ≡ Some b → a ≤ b
+  pub left : AreLeft scene logs
+
+-- the last of some events may happen after the others
+last_may : (w : World) (es : List Event) (e : Event) → lawful_from w (es ++ e ∷ []) ≡ true → may_happen (run_from w es) e ≡ true
+last_may w [] e h = (both (may_happen w e) true h).0
+last_may w (x ∷ xs) e h = last_may ((happens w x).0) xs e (both (may_happen w x) (lawful_from ((happens w x).0) (xs ++ e ∷ [])) h).1
+
+module _ (law : StepIsPlanned) (always : AlwaysSteady) where
+  pub moment : (config : Config) (es : List Event) (logs : List (List Record)) → lawful config es ≡ true → MayBeLeft config es logs → Moment (run config es) logs
+  unfolding run lawful
+  moment config es logs fair (inl may) =
+      let r = every_run_holds law always config es fair in
+      let steady = subst IsSteady (sym r.same) (always config es fair) in
+      record {
+        scene = r.scene;
+        same = r.same;
+        holds = r.holds;
+        rises = r.clock.rises;
+        left = left_between r.scene r.holds steady logs (subst (λ (w : World). MayLeaveLogs w.shards logs) (sym r.same) may);
+      }
+  moment config es logs fair (inr within) =
+      let r = every_run_holds law always config es fair in
+      let steady = subst IsSteady (sym r.same) (always config es fair) in
+      let e = within.0 in
+      let n = within.1 in
+      let doing = within.2 in
+      let may = subst (λ (w : World). may_happen w e ≡ true) (sym r.same) (last_may (start config) es e within.3) in
+      let p = both (nat_le r.scene.world.time e.time) (may_act r.scene.world e.time e.act) may in
+      let from : r.scene.world.time ≤ e.time = leb-true _ _ p.0 in
+      let time = r.clock.time in
+      let later : r.scene.now ≤ e.time = omega (arith, from, time) in
+      let begun = tick_holds r.scene e.time r.holds r.clock later in
+      let sc : Scene = record { world = r.scene.world; times = r.scene.times ++ e.time ∷ []; event = r.scene.event; now = e.time } in
+      record {
+        scene = sc;
+        same = r.same;
+        holds = begun;
+        rises = rises_now r.scene e.time r.holds r.clock later;
+        left = left_within sc begun steady law (present_now r.scene e.time r.holds r.clock later) e.act n doing logs p.1
+            (subst (λ (w : World). doing_of w e.act ≡ Some (n, doing)) (sym r.same) within.4)
+            (subst (λ (w : World). MayLeaveWithin w n doing n w.shards logs) (sym r.same) within.5);
+      }
+
+  -- ---- whole
+
+  pub all_or_nothing : (config : Config) (es : List Event) (logs : List (List Record)) → lawful config es ≡ true → MayBeLeft config es logs → AllOrNothing logs
+  all_or_nothing config es logs fair may t =
+      let m = moment config es logs fair may in (whole m.scene m.holds logs m.left t, resolves m.scene m.holds logs m.left t)
