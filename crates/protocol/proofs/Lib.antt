@@ -12,6 +12,7 @@ pub mod KeptFacts
 pub mod KeptRows
 pub mod LastUnderFloor
 mod LockTable
+pub mod OpenedRows
 pub mod PlanShapes
 pub mod RequestShapes
 pub mod RowChanges

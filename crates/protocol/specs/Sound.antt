@@ -1,5 +1,5 @@
 -- What holds of a shard's facts and memory at every moment, and that a step keeps it.
-use Rattle.std.specs.Prelude.{ℕ, ◌≡◌, ◌≤◌, ◌<◌, Bool, true, false, ◌&&◌, IsTrue, nat_le, nat_lt, nat_eq, List, [], ◌∷◌, Option, Some, None, Ok, length}
+use Rattle.std.specs.Prelude.{ℕ, ◌+◌, ◌≡◌, ◌≤◌, ◌<◌, Bool, true, false, ◌&&◌, IsTrue, nat_le, nat_lt, nat_eq, List, [], ◌∷◌, Option, Some, None, Ok, length}
 use Rattle.units.specs.Lists.{any, each, ascends, head, when}
 use Rattle.units.specs.Ids.{Id, older}
 use Rattle.units.specs.ById.{IsById}
@@ -15,11 +15,11 @@ use Rattle.units.specs.declared.writes.Write.{Write}
 use Rattle.units.specs.declared.writes.Install.{Install}
 use Rattle.truetime.specs.Interval.{Interval}
 use Rattle.record.specs.Records.{Status, Unrecorded, StandsPrepared, StandsDecided}
-use Rattle.record.specs.Facts.{Facts, facts_of, recorded}
+use Rattle.record.specs.Facts.{Facts, facts_of, learn, recorded}
 use Rattle.record.specs.declared.record.Record.{Record}
 use Rattle.facts.specs.Rules.{follows_facts}
 use Rattle.message.specs.declared.message.Input.{Input}
-use Rattle.protocol.specs.Rows.{Memory, Row, Phase, WaitsPrepare, WaitsCommit, Collecting, IsPrepared, IsDecided, claims, find_row}
+use Rattle.protocol.specs.Rows.{Memory, Row, Phase, WaitsPrepare, WaitsCommit, Collecting, IsPrepared, IsDecided, claims, find_row, rebuilt}
 use Rattle.protocol.specs.Step.{facts_after}
 use Rattle.protocol.specs.StepLaws.{IsInLimit}
 use Rattle.protocol.specs.Plan.{Plan, before, plan_input, carried}
@@ -92,6 +92,12 @@ pub record IsSound (shard : ℕ) (facts : Facts) (memory : Memory) : Type 0 wher
 -- a shard that starts with one opening in its log and nothing in memory
 abbrev pub FreshIsSound : Type 0
 FreshIsSound = (shard : ℕ) → IsSound shard (facts_of (Record.Opened 1 ∷ [])) (record { last = 0; rows = []; ended = [] })
+
+-- an opening keeps it: after a crash the rows are those that the log holds
+abbrev pub OpeningKeepsSound : Type 0
+OpeningKeepsSound =
+    (shard : ℕ) (facts : Facts) (memory : Memory) → IsSound shard facts memory →
+    IsSound shard (learn facts (Record.Opened (facts.epoch + 1))) (rebuilt (learn facts (Record.Opened (facts.epoch + 1))))
 
 -- a step keeps it
 abbrev pub StepKeepsSound : Type 0
