@@ -9,8 +9,8 @@ use Rattle.units.specs.Locks.{holds}
 use Rattle.units.specs.declared.lock.Lock.{Lock}
 use Rattle.units.specs.declared.writes.Write.{Write}
 use Rattle.message.specs.declared.message.Envelope.{Envelope}
-use Rattle.protocol.specs.Rows.{Phase, Idle, WaitsRead, WaitsPrepare, WaitsCommit, Collecting, IsPrepared, IsDecided, Voted, Standing, IsUnknown, WasEnded, HasRow, WasAborted, WasSettled, WasClosed, claims}
-use Rattle.protocol.specs.Draft.{held_by, outcome_to}
+use Rattle.protocol.specs.Rows.{Idle, WaitsRead, WaitsPrepare, WaitsCommit, Collecting, IsPrepared, IsDecided, Voted, Standing, IsUnknown, WasEnded, HasRow, WasAborted, WasSettled, WasClosed, claims}
+use Rattle.protocol.specs.Draft.{outcome_to}
 use Rattle.protocol.specs.Step.{is_outcome_for, with_vote}
 use Rattle.protocol.specs.Sound.{holds_writes}
 use Rattle.protocol.specs.Plan.{Before, held_in, stands, ends, is_crowded, plan_count, plan_tell, plan_vote, plan_unpromised, plan_outcome, plan_give_up, plan_abort_for, plan_ask}

@@ -13,7 +13,9 @@ pub mod KeptRows
 pub mod LastUnderFloor
 mod LockTable
 pub mod OpenedRows
+pub mod OpeningSound
 pub mod PlanShapes
+pub mod RecordLocks
 pub mod RequestShapes
 pub mod RowChanges
 pub mod RowTable

@@ -1,12 +1,10 @@
 -- The rows that an opening finds: one for each promise and decision that stands, by ascending id.
-use Rattle.std.proofs.Common.{◌≡◌, ℕ, ◌≤◌, Bool, true, false, cond, List, [], ◌∷◌, Option, Some, None, refl, sym, ap, subst, ◌∙◌}
+use Rattle.std.proofs.Common.{◌≡◌, Bool, true, false, cond, List, [], ◌∷◌, Option, Some, None, refl, sym, ap, subst, ◌∙◌}
 use Rattle.std.specs.List.{AllByRecursion}
-use Rattle.std.proofs.lemmas.Bool.{false≢true}
 use Rattle.units.specs.Lists.{follow, gather, head, keep}
 use Rattle.units.specs.Ids.{Id, same_id, older}
 use Rattle.units.specs.ById.{IsById, find_member}
 use Rattle.units.proofs.IdLaws.{same_id-is, same_id_comm, older_not_same}
-use Rattle.units.proofs.ListLaws.{all_gives}
 use Rattle.units.proofs.ByIdLaws.{by_id-cons, later_are_younger}
 use Rattle.record.specs.Facts.{Entry}
 use Rattle.protocol.specs.Rows.{Row, find_row, standing_row}

@@ -1,5 +1,5 @@
 //! Laws of the step. Each is the contract of a function that does nothing.
-ghost use Rattle.protocol.specs.Sound.{FreshIsSound, InstallsAbove, LoggedFollows, StaysWithin, StepKeepsSound};
+ghost use Rattle.protocol.specs.Sound.{FreshIsSound, InstallsAbove, LoggedFollows, OpeningKeepsSound, StaysWithin, StepKeepsSound};
 ghost use Rattle.protocol.specs.StepLaws.{LastStaysUnderFloor};
 
 /// No step lets the greatest timestamp served pass that of the log.
@@ -15,6 +15,11 @@ pub fn fresh_is_sound()
 /// No step of a sound shard leaves it unsound.
 pub fn step_keeps_sound()
     ensures { StepKeepsSound }
+{}
+
+/// A shard that is opened anew from the log of a sound one is sound: what was read stays locked with what was written.
+pub fn opening_keeps_sound()
+    ensures { OpeningKeepsSound }
 {}
 
 /// A sound shard logs only what may come next.
