@@ -5,9 +5,11 @@ use Rattle.units.specs.Lists.{follow, gather, head, keep}
 use Rattle.units.specs.Ids.{Id, same_id, older}
 use Rattle.units.specs.ById.{IsById, find_member}
 use Rattle.units.proofs.IdLaws.{same_id-is, same_id_comm, older_not_same}
+use Rattle.units.proofs.ListLaws.{all_gives}
 use Rattle.units.proofs.ByIdLaws.{by_id-cons, later_are_younger}
 use Rattle.record.specs.Facts.{Entry}
 use Rattle.protocol.specs.Rows.{Row, find_row, standing_row}
+use Rattle.protocol.proofs.RowChanges.{none_found}
 
 -- the row of an entry has its id
 abbrev pub IsOwn : Entry → Type 0
@@ -46,10 +48,11 @@ by_id-gather (e ∷ es) up own = by_row (standing_row e) refl (by_id-gather es u
         by_id-cons (λ (q : Row). q.txn) r (gather standing_row es)
         (rows_younger r.txn es (subst (λ t. AllByRecursion (λ (f : Entry). older t f.txn ≡ true) es) (sym (own.0 r k)) (later_are_younger (λ (f : Entry). f.txn) e es up)) own.1) rest
 
--- no row of entries with other ids is found
-none_found : (rows : List Row) (t : Id) → AllByRecursion (λ r. older t r.txn ≡ true) rows → find_row rows t ≡ None
-none_found [] t young = refl
-none_found (r ∷ rs) t young = rw (same_id_comm r.txn t ∙ older_not_same t r.txn young.0) (none_found rs t young.1)
+-- no row is found of an id that all are younger than
+none_younger : (rows : List Row) (t : Id) → AllByRecursion (λ r. older t r.txn ≡ true) rows → find_row rows t ≡ None
+none_younger rows t young =
+    none_found rows t
+    (all_gives (λ (r : Row). older t r.txn ≡ true) (λ (r : Row). same_id r.txn t ≡ false) (λ r o. same_id_comm r.txn t ∙ older_not_same t r.txn o) rows young)
 
 -- the row of an id is that of its entry
 pub find-gather : (es : List Entry) (t : Id) → IsById (λ e. e.txn) es → AllByRecursion IsOwn es
@@ -65,7 +68,7 @@ find-gather (e ∷ es) t up own =
     none_behind : same_id e.txn t ≡ true → find_row rest t ≡ None
     none_behind s =
         let is : e.txn ≡ t = same_id-is e.txn t s in
-        none_found rest t (rows_younger t es (subst (λ u. AllByRecursion (λ (f : Entry). older u f.txn ≡ true) es) is (later_are_younger (λ (f : Entry). f.txn) e es up)) own.1)
+        none_younger rest t (rows_younger t es (subst (λ u. AllByRecursion (λ (f : Entry). older u f.txn ≡ true) es) is (later_are_younger (λ (f : Entry). f.txn) e es up)) own.1)
 
     by_row : (o : Option Row) (b : Bool) → standing_row e ≡ o → same_id e.txn t ≡ b → find_row rest t ≡ follow (find_member (λ (f : Entry). f.txn) es t) standing_row
         → find_row (elim o as (λ x. List Row) [ None ↦ rest | Some r ↦ r ∷ rest ]) t

@@ -27,7 +27,8 @@ pub find-with_row_other : (rows : List Row) (r : Row) (t : Id) → same_id r.txn
 find-with_row_other rows r t differ =
     ap (λ l. find_row l t) (with_row-is rows r) ∙ find-with_other (λ (q : Row). q.txn) rows r t differ
 
-none_found : (rows : List Row) (t : Id) → AllByRecursion (λ q. same_id q.txn t ≡ false) rows → find_row rows t ≡ None
+-- no row is found where none has the id
+pub none_found : (rows : List Row) (t : Id) → AllByRecursion (λ q. same_id q.txn t ≡ false) rows → find_row rows t ≡ None
 none_found [] t none = refl
 none_found (q ∷ qs) t none = rw none.0 (none_found qs t none.1)
 
