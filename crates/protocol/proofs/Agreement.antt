@@ -45,7 +45,7 @@ unrecorded b t sound e =
 pub record PromiseOf (b : Before) (t : Id) (held : List Lock) (c at : ℕ) : Type 0 where
   pub promise : Prepared
   pub is : recorded b.facts t ≡ StandsPrepared promise
-  pub stands_by : StandsBy b.facts.installs b.memory.last (row_as t held (IsPrepared c at)) (IsPrepared promise.coordinator promise.at) promise.at promise.writes
+  pub stands_by : StandsBy b.facts.installs b.memory.last (row_as t held (IsPrepared c at)) (IsPrepared promise.coordinator promise.at) promise.txn promise.at promise.reads promise.writes
   pub stamp : promise.at ≡ at
 
 pub promise_of : (b : Before) (t : Id) (held : List Lock) (c at : ℕ) → Sound b → find_row b.memory.rows t ≡ Some (row_as t held (IsPrepared c at))
@@ -68,7 +68,7 @@ promise_of b t held c at sound found =
 pub record DecisionOf (b : Before) (t : Id) (held : List Lock) (at : ℕ) (ps : List ℕ) : Type 0 where
   pub decision : Committed
   pub is : recorded b.facts t ≡ StandsDecided decision
-  pub stands_by : StandsBy b.facts.installs b.memory.last (row_as t held (IsDecided at ps)) (IsDecided decision.at decision.parts) decision.at decision.writes
+  pub stands_by : StandsBy b.facts.installs b.memory.last (row_as t held (IsDecided at ps)) (IsDecided decision.at decision.parts) decision.txn decision.at decision.reads decision.writes
   pub stamp : decision.at ≡ at
 
 pub decision_of : (b : Before) (t : Id) (held : List Lock) (at : ℕ) (ps : List ℕ) → Sound b → find_row b.memory.rows t ≡ Some (row_as t held (IsDecided at ps))

@@ -2,48 +2,48 @@
 use Rattle.std.proofs.Common.{refl, ap, ◌∙◌}
 use Rattle.std.specs.Prelude.{ℕ, ◌≡◌, true, false, ◌&&◌, nat_eq, List, [], ◌∷◌, Option, Some, None, Ok}
 use Rattle.std.proofs.lemmas.Bool.{and_parts, and_from}
-use Rattle.units.specs.Lists.{head, when}
+use Rattle.units.specs.Lists.{each, head, when}
 use Rattle.units.specs.Ids.{Id}
 use Rattle.units.specs.Keys.{Bytes}
+use Rattle.units.specs.Locks.{holds}
 use Rattle.units.specs.declared.lock.Lock.{Lock}
 use Rattle.units.specs.declared.writes.Write.{Write}
 use Rattle.message.specs.declared.message.Envelope.{Envelope}
-use Rattle.protocol.specs.Rows.{Phase, Idle, WaitsRead, WaitsPrepare, WaitsCommit, Collecting, IsPrepared, IsDecided, Voted, Standing, IsUnknown, WasEnded, HasRow, WasAborted, WasSettled, WasClosed, claims}
-use Rattle.protocol.specs.Draft.{held_by, outcome_to}
+use Rattle.protocol.specs.Rows.{Idle, WaitsRead, WaitsPrepare, WaitsCommit, Collecting, IsPrepared, IsDecided, Voted, Standing, IsUnknown, WasEnded, HasRow, WasAborted, WasSettled, WasClosed, claims}
+use Rattle.protocol.specs.Draft.{outcome_to}
 use Rattle.protocol.specs.Step.{is_outcome_for, with_vote}
 use Rattle.protocol.specs.Sound.{holds_writes}
-use Rattle.protocol.specs.Plan.{Before, stands, ends, is_crowded, plan_count, plan_tell, plan_vote, plan_unpromised, plan_outcome, plan_give_up, plan_abort_for, plan_ask}
+use Rattle.protocol.specs.Plan.{Before, held_in, stands, ends, is_crowded, plan_count, plan_tell, plan_vote, plan_unpromised, plan_outcome, plan_give_up, plan_abort_for, plan_ask}
 use Rattle.protocol.proofs.InWay.{row_at, room_at, free_of_nothing}
-use Rattle.protocol.proofs.Shapes.{Shaped, IsEnd, IsAbort, IsClose, IsLock, IsCleared, is_undecided, all_fit, granted_to}
-use Rattle.protocol.proofs.Choices.{planned, refused, shaped_cond, shaped_err, shaped_idle, shaped_reply, fits_at, clear}
+use Rattle.protocol.proofs.Shapes.{Shaped, IsEnd, IsAbort, IsClose, IsLock, IsCleared, is_undecided, all_fit, granted_to, reads_held}
+use Rattle.protocol.proofs.Choices.{planned, refused, shaped_cond, shaped_err, shaped_idle, shaped_reply, fits_at, clear, held_at}
 use Rattle.protocol.proofs.RequestShapes.{shaped_abort, shaped_decide}
 
 -- ---- vote
-
--- what a row holds that is given nothing more
-still_holds : (b : Before) (t : Id) (held : List Lock) (phase : Phase) → stands b t ≡ HasRow held phase → granted_to b t [] [] ≡ held
-still_holds b t held phase e = ap held_by (row_at b t held phase e)
 
 shaped_count : (b : Before) (n : ℕ) (t : Id) (vote : Option ℕ) (latest : ℕ) (ps : List ℕ) (rs : List Bytes) (ws : List Write) (votes : List Voted) (held : List Lock)
     → stands b t ≡ HasRow held (Collecting latest ps rs ws votes) → Shaped b (plan_count b n t vote latest ps rs ws votes)
 unfolding plan_count
 shaped_count b n t None latest ps rs ws votes held e = shaped_abort b t ps (ap is_undecided e)
 shaped_count b n t (Some p) latest ps rs ws votes held e =
-    let fitting : all_fit b → (when (nat_eq b.shard) (head ps) && holds_writes held ws) ≡ true = fits_at b t held (Collecting latest ps rs ws votes) e in
+    let same : held_in b.memory.rows t ≡ held = held_at b t held (Collecting latest ps rs ws votes) e in
+    let fitting : all_fit b → (when (nat_eq b.shard) (head ps) && (each (holds held) rs && holds_writes held ws)) ≡ true =
+    fits_at b t held (Collecting latest ps rs ws votes) e in
     let first : all_fit b → when (nat_eq b.shard) (head ps) ≡ true = λ f. (and_parts _ _ (fitting f)).0 in
-    let holds : all_fit b → holds_writes (granted_to b t [] []) ws ≡ true =
-    λ f. ap (λ ls. holds_writes ls ws) (still_holds b t held (Collecting latest ps rs ws votes) e) ∙ (and_parts _ _ (fitting f)).1 in
+    let read : all_fit b → reads_held b t rs = λ f. ap (λ ls. each (holds ls) rs) same ∙ (and_parts _ _ (and_parts _ _ (fitting f)).1).0 in
+    let alone : all_fit b → holds_writes (granted_to b t [] []) ws ≡ true =
+    λ f. ap (λ ls. holds_writes ls ws) same ∙ (and_parts _ _ (and_parts _ _ (fitting f)).1).1 in
     let room : is_crowded b t ≡ false = room_at b t _ (row_at b t held (Collecting latest ps rs ws votes) e) in
     let nobody : IsCleared b.memory.rows t [] [] = clear b t [] (free_of_nothing (claims b.memory.rows) t) in
     shaped_cond b _ _ _
-    (λ _. shaped_decide b [] t latest ps rs ws [] (with_vote n p votes) nobody (ap is_undecided e) first holds room)
+    (λ _. shaped_decide b [] t latest ps rs ws [] (with_vote n p votes) nobody (ap is_undecided e) first read alone room)
     (λ _. planned b _ (IsLock t [] [] (Collecting latest ps rs ws (with_vote n p votes)) [] (record {
       cleared = nobody;
       undecided = ap is_undecided e;
       firmer = refl;
       opened = refl;
       quiet = refl;
-      fit = λ f. and_from _ _ (first f) (holds f);
+      fit = λ f. and_from _ _ (first f) (and_from _ _ (read f) (alone f));
       room = room;
     }) refl))
 

@@ -4,8 +4,10 @@ use Rattle.std.proofs.Math.Nat.{le-max_left, le-max_right}
 use Rattle.std.specs.Prelude.{IsTrue}
 use Rattle.std.specs.List.{AllByRecursion}
 use Rattle.std.proofs.lemmas.Bool.{false≢true}
+use Rattle.units.specs.Lists.{each}
 use Rattle.units.specs.Ids.{Id, same_id}
-use Rattle.units.specs.Locks.{exclusive}
+use Rattle.units.specs.Keys.{Bytes}
+use Rattle.units.specs.Locks.{holds, exclusive}
 use Rattle.units.specs.Versions.{above_versions}
 use Rattle.units.specs.declared.lock.Lock.{Lock}
 use Rattle.units.specs.declared.writes.Install.{Install}
@@ -44,17 +46,17 @@ abbrev Stays : List Install → List Install → Option Row → Type 0
 Stays old new o =
     (r : Row) (at : ℕ) (ws : List Write) → o ≡ Some r → IsTrue (holds_writes r.held ws) → IsTrue (above_versions old at ws) → IsTrue (above_versions new at ws)
 
-stands_later : (old new : List Install) (last later : ℕ) (r : Row) (phase : Phase) (at : ℕ) (ws : List Write) → last ≤ later → Stays old new (Some r)
-    → StandsBy old last r phase at ws → StandsBy new later r phase at ws
-stands_later old new last later r phase at ws h stays a =
+stands_later : (old new : List Install) (last later : ℕ) (r : Row) (phase : Phase) (t : Id) (at : ℕ) (rs : List Bytes) (ws : List Write) → last ≤ later → Stays old new (Some r)
+    → StandsBy old last r phase t at rs ws → StandsBy new later r phase t at rs ws
+stands_later old new last later r phase t at rs ws h stays a =
     let low : at ≤ last = a.assigned in
-    record { phase = a.phase; above_zero = a.above_zero; assigned = omega (arith, low, h); held = a.held; above = stays r at ws refl a.held a.above }
+    record { phase = a.phase; own = a.own; read = a.read; above_zero = a.above_zero; assigned = omega (arith, low, h); held = a.held; above = stays r at ws refl a.held a.above }
 
 -- a record and its row agree later
 agrees_later : (old new : List Install) (last later : ℕ) (s : Status) (o : Option Row) → last ≤ later → Stays old new o → Agrees old last s o → Agrees new later s o
-agrees_later old new last later (StandsPrepared p) (Some r) h stays a = stands_later old new last later r _ p.at p.writes h stays a
+agrees_later old new last later (StandsPrepared p) (Some r) h stays a = stands_later old new last later r _ p.txn p.at p.reads p.writes h stays a
 agrees_later old new last later (StandsPrepared p) None h stays a = a
-agrees_later old new last later (StandsDecided c) (Some r) h stays a = stands_later old new last later r _ c.at c.writes h stays a
+agrees_later old new last later (StandsDecided c) (Some r) h stays a = stands_later old new last later r _ c.txn c.at c.reads c.writes h stays a
 agrees_later old new last later (StandsDecided c) None h stays a = a
 agrees_later old new last later Unrecorded (Some r) h stays a = a
 agrees_later old new last later Unrecorded None h stays a = tt
@@ -180,13 +182,16 @@ open_agrees b t ended held phase sound gone fresh opened =
     (subst (λ s. Agrees b.facts.installs b.memory.last s (Some (row_as t held phase))) (sym (unrecorded b t sound fresh)) opened)
 
 -- a row that is put with its record stands by it
-stands_now : (b : Before) (t : Id) (held : List Lock) (phase : Phase) (at : ℕ) (ws : List Write) → Sound b → b.memory.last < at → holds_writes held ws ≡ true
-    → StandsBy b.facts.installs (max b.memory.last at) (row_as t held phase) phase at ws
-stands_now b t held phase at ws sound above holds = record {
+stands_now : (b : Before) (t : Id) (held : List Lock) (phase : Phase) (at : ℕ) (rs : List Bytes) (ws : List Write) → Sound b → b.memory.last < at
+    → each (holds held) rs ≡ true → holds_writes held ws ≡ true
+    → StandsBy b.facts.installs (max b.memory.last at) (row_as t held phase) phase t at rs ws
+stands_now b t held phase at rs ws sound above read alone = record {
   phase = refl;
+  own = refl;
+  read = read;
   above_zero = omega (arith, above);
   assigned = le-max_right b.memory.last at;
-  held = holds;
+  held = alone;
   above = above_all b.facts.installs b.memory.last at ws above sound.installed;
 }
 
@@ -221,11 +226,11 @@ agreeing b p sound (IsWait t needs phase out w e) =
 agreeing b p sound (IsPromise t ended c at rs ws out l e) =
     subst (KeepsAgreement b) (sym e)
     (recorded_agrees b t ended (granted_to b t ended (exclusive ws)) (IsPrepared c at) at ws (StandsPrepared (record { txn = t; coordinator = c; at = at; reads = rs; writes = ws }))
-    sound l.cleared.gone (stands_now b t _ (IsPrepared c at) at ws sound l.above (holds_exclusive ws _)))
+    sound l.cleared.gone (stands_now b t _ (IsPrepared c at) at rs ws sound l.above (l.read sound.fit) (holds_exclusive ws _)))
 agreeing b p sound (IsDecision t ended needs at ps rs ws out l e) =
     subst (KeepsAgreement b) (sym e)
     (recorded_agrees b t ended (granted_to b t ended needs) (IsDecided at ps) at ws (StandsDecided (record { txn = t; at = at; parts = ps; reads = rs; writes = ws }))
-    sound l.cleared.gone (stands_now b t _ (IsDecided at ps) at ws sound l.above (l.holds sound.fit)))
+    sound l.cleared.gone (stands_now b t _ (IsDecided at ps) at rs ws sound l.above (l.read sound.fit) (l.alone sound.fit)))
 
 -- the facts that agreement speaks of are those before a ceiling
 later_agrees : (b : Before) (later : ℕ) (high : Bool) (at : ℕ) → Sound b → b.memory.last ≤ later

@@ -26,7 +26,7 @@ use Rattle.protocol.proofs.InWay.{stands_at}
 use Rattle.protocol.proofs.RowChanges.{row_as, find-without_rows_other}
 use Rattle.protocol.proofs.RowTable.{with_row-is, claims-with_row, claims-without_row}
 use Rattle.protocol.proofs.Shapes.{Shape, Answers, IsEnd, IsAbort, IsClose, IsSettle, IsLock, IsWait, IsPromise, IsDecision, ShapeOf, Acts, IsAdvance, IsLooseOther, IsCleared, is_loose}
-use Rattle.protocol.proofs.WithinLimit.{others_gone}
+use Rattle.protocol.proofs.Choices.{others_gone}
 
 -- ---- the lock table
 
@@ -151,7 +151,7 @@ kept_fit b p sound (IsAbort t out fresh e) = subst (KeepsFit b) (sym e) (fit-wit
 kept_fit b p sound (IsClose t n c at held outcome out found k e) = subst (KeepsFit b) (sym e) (fit-without_row b b.memory.rows t sound.fit)
 kept_fit b p sound (IsSettle t at ps held out found e) = subst (KeepsFit b) (sym e) (fit-without_row b b.memory.rows t sound.fit)
 kept_fit b p sound (IsLock t ended needs phase out l e) = subst (KeepsFit b) (sym e) (fit_put b ended _ sound (l.fit sound.fit))
-kept_fit b p sound (IsWait t needs phase out w e) = subst (KeepsFit b) (sym e) (fit_put b (in_way b t needs) _ sound (w.fit _))
+kept_fit b p sound (IsWait t needs phase out w e) = subst (KeepsFit b) (sym e) (fit_put b (in_way b t needs) _ sound w.fit)
 kept_fit b p sound (IsPromise t ended c at rs ws out l e) = subst (KeepsFit b) (sym e) (fit_put b ended _ sound refl)
 kept_fit b p sound (IsDecision t ended needs at ps rs ws out l e) = subst (KeepsFit b) (sym e) (fit_put b ended _ sound refl)
 

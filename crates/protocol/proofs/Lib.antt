@@ -17,6 +17,9 @@ mod PlannedActs
 mod PlannedAgain
 pub mod PlanShapes
 pub mod Refusals
+pub mod OpenedRows
+pub mod OpeningSound
+pub mod RecordLocks
 pub mod RequestShapes
 pub mod RowChanges
 pub mod RowTable

@@ -1,10 +1,11 @@
 -- Each plan of a step has one of the shapes.
-use Rattle.std.proofs.Common.{refl, sym, subst, ap}
-use Rattle.std.specs.Prelude.{ℕ, ◌≡◌, max, Bool, true, false, cond, nat_lt, List, [], Option, Some, None, Ok, Err}
+use Rattle.std.proofs.Common.{refl, sym, subst, ap, ◌∙◌}
+use Rattle.std.specs.Prelude.{ℕ, ◌≡◌, max, Bool, true, false, cond, ◌&&◌, nat_eq, nat_lt, List, [], Option, Some, None, Ok, Err}
 use Rattle.std.proofs.lemmas.Bool.{and_parts}
+use Rattle.units.specs.Lists.{each, head, when}
 use Rattle.units.specs.Ids.{Id}
 use Rattle.units.specs.ById.{IsById}
-use Rattle.units.specs.Locks.{exclusive, ready, is_free}
+use Rattle.units.specs.Locks.{exclusive, holds, ready, is_free}
 use Rattle.units.specs.declared.fault.Fault.TheVariants.{Future}
 use Rattle.units.specs.declared.lock.Lock.{Lock}
 use Rattle.units.specs.declared.setup.Setup.{Setup}
@@ -19,8 +20,8 @@ use Rattle.protocol.specs.Draft.{other_parts}
 use Rattle.protocol.specs.Step.{is_for}
 use Rattle.protocol.specs.Plan.{Plan, Planned, Keeps, ceiling_for, Before, before, stands, to_read, plan_go_on, plan_resume_row, plan_resume_id, plan_resume, plan_settle, plan_advance, plan_nudge, plan_message, plan_input}
 use Rattle.protocol.proofs.InWay.{row_at, stands_at, room_at, free_when_ready}
-use Rattle.protocol.proofs.Shapes.{Shaped, IsSettle, IsLock, ShapeOf, Acts, IsAdvance, ShapedBy, is_undecided, is_loose}
-use Rattle.protocol.proofs.Choices.{Ascends, planned, refused, shaped_cond, shaped_err, shaped_idle, shaped_reply, fits_at, clear}
+use Rattle.protocol.proofs.Shapes.{Shaped, IsSettle, IsLock, ShapeOf, Acts, IsAdvance, ShapedBy, is_undecided, is_loose, reads_held, all_fit}
+use Rattle.protocol.proofs.Choices.{Ascends, planned, refused, shaped_cond, shaped_err, shaped_idle, shaped_reply, fits_at, clear, held_at}
 use Rattle.protocol.proofs.RequestShapes.{shaped_read, shaped_promise, shaped_prepare, shaped_granted, shaped_commit}
 use Rattle.protocol.proofs.AnswerShapes.{shaped_vote, shaped_outcome, shaped_give_up, shaped_ask}
 
@@ -40,10 +41,14 @@ shaped_go_on b earliest t held (WaitsRead k) e free =
       room = room_at b t _ (row_at b t held (WaitsRead k) e);
     }) refl)
 shaped_go_on b earliest t held (WaitsPrepare c rs ws) e free =
-    shaped_promise b [] earliest t c rs ws (clear b t (exclusive ws) free) (ap is_undecided e) (fits_at b t held (WaitsPrepare c rs ws) e)
+    let fitting : all_fit b → (nat_lt c b.shard && each (holds held) rs) ≡ true = fits_at b t held (WaitsPrepare c rs ws) e in
+    let read : all_fit b → reads_held b t rs = λ f. ap (λ ls. each (holds ls) rs) (held_at b t held (WaitsPrepare c rs ws) e) ∙ (and_parts _ _ (fitting f)).1 in
+    shaped_promise b [] earliest t c rs ws (clear b t (exclusive ws) free) (ap is_undecided e) (λ f. (and_parts _ _ (fitting f)).0) read
     (room_at b t _ (row_at b t held (WaitsPrepare c rs ws) e))
 shaped_go_on b earliest t held (WaitsCommit l ps rs ws) e free =
-    shaped_granted b [] t l ps rs ws (other_parts b.shard ps) (clear b t (exclusive ws) free) (ap is_undecided e) (fits_at b t held (WaitsCommit l ps rs ws) e)
+    let fitting : all_fit b → (when (nat_eq b.shard) (head ps) && each (holds held) rs) ≡ true = fits_at b t held (WaitsCommit l ps rs ws) e in
+    let read : all_fit b → reads_held b t rs = λ f. ap (λ ls. each (holds ls) rs) (held_at b t held (WaitsCommit l ps rs ws) e) ∙ (and_parts _ _ (fitting f)).1 in
+    shaped_granted b [] t l ps rs ws (other_parts b.shard ps) (clear b t (exclusive ws) free) (ap is_undecided e) (λ f. (and_parts _ _ (fitting f)).0) read
     (room_at b t _ (row_at b t held (WaitsCommit l ps rs ws) e))
 shaped_go_on b earliest t held Idle e free = shaped_idle b
 shaped_go_on b earliest t held (Collecting l ps rs ws votes) e free = shaped_idle b

@@ -11,10 +11,10 @@ use Rattle.units.specs.declared.writes.Write.{Write}
 use Rattle.protocol.specs.Rows.{Idle, WaitsRead, WaitsPrepare, WaitsCommit, Collecting, IsPrepared, IsDecided, Voted, Standing, IsUnknown, WasEnded, HasRow, WasAborted, WasSettled, WasClosed}
 use Rattle.protocol.specs.Draft.{commit_stamp, other_parts}
 use Rattle.protocol.specs.Sound.{holds_writes}
-use Rattle.protocol.specs.Plan.{Before, stands, still_stand, answers, to_read, is_crowded, in_way, opens, plan_read_now, plan_read_row, plan_read, plan_promise, plan_prepare_now, plan_prepare_fresh, plan_prepare, plan_abort, plan_decide, plan_commit_granted, plan_commit_now, plan_commit_fresh, plan_commit}
+use Rattle.protocol.specs.Plan.{Before, stands, held_in, still_stand, answers, to_read, is_crowded, in_way, opens, plan_read_now, plan_read_row, plan_read, plan_promise, plan_prepare_now, plan_prepare_fresh, plan_prepare, plan_abort, plan_decide, plan_commit_granted, plan_commit_now, plan_commit_fresh, plan_commit}
 use Rattle.protocol.proofs.InWay.{in_way_gone, holds_exclusive}
-use Rattle.protocol.proofs.Shapes.{Shaped, IsEnd, IsAbort, IsLock, IsWait, IsPromise, IsDecision, IsCleared, is_undecided, is_loose, all_fit, granted_to}
-use Rattle.protocol.proofs.Choices.{Ascends, planned, refused, shaped_cond, shape_cond, shaped_err, shaped_roomed, shaped_idle, shaped_reply, undecided, cleared, clear}
+use Rattle.protocol.proofs.Shapes.{Shaped, IsEnd, IsAbort, IsLock, IsWait, IsPromise, IsDecision, IsCleared, is_undecided, is_loose, all_fit, granted_to, reads_held}
+use Rattle.protocol.proofs.Choices.{Ascends, planned, refused, shaped_cond, shape_cond, shaped_err, shaped_roomed, shaped_idle, shaped_reply, undecided, cleared, clear, held_at, held_unknown, reads_still, reads_granted}
 
 -- ---- read
 
@@ -35,7 +35,7 @@ shaped_read_now b t k up loose = shaped_roomed b (is_crowded b t) _ (λ room.
       loose = loose;
       slack = refl;
       wants = refl;
-      fit = λ _. refl;
+      fit = refl;
       gone = in_way_gone b t (to_read k) up;
       room = room;
     }) refl)))
@@ -70,46 +70,49 @@ above_last : (last earliest : ℕ) → last < max (last + 1) earliest
 above_last last earliest = omega arith
 
 pub shaped_promise : (b : Before) (ended : List Id) (earliest : ℕ) (t : Id) (c : ℕ) (rs : List Bytes) (ws : List Write)
-    → IsCleared b.memory.rows t ended (exclusive ws) → is_undecided (stands b t) ≡ true → (all_fit b → nat_lt c b.shard ≡ true) → is_crowded b t ≡ false
+    → IsCleared b.memory.rows t ended (exclusive ws) → is_undecided (stands b t) ≡ true → (all_fit b → nat_lt c b.shard ≡ true) → (all_fit b → reads_held b t rs) → is_crowded b t ≡ false
     → Shaped b (plan_promise b ended earliest t c rs ws)
 unfolding plan_promise
-shaped_promise b ended earliest t c rs ws clear fresh lower room =
+shaped_promise b ended earliest t c rs ws clear fresh lower read room =
     let at : ℕ = max (b.memory.last + 1) earliest in
     shaped_err b _ _ _ (planned b _ (IsPromise t ended c at rs ws _ (record {
       cleared = clear;
       undecided = fresh;
       above = above_last b.memory.last earliest;
       lower = lower;
+      read = λ f. reads_granted b t ended (exclusive ws) rs clear.gone (read f);
       room = room;
     }) refl))
 
 shaped_prepare_now : (b : Before) (earliest : ℕ) (t : Id) (c : ℕ) (rs : List Bytes) (ws : List Write) → Ascends b → is_loose (stands b t) ≡ true
-    → nat_lt c b.shard ≡ true → Shaped b (plan_prepare_now b earliest t c rs ws)
+    → nat_lt c b.shard ≡ true → reads_held b t rs → Shaped b (plan_prepare_now b earliest t c rs ws)
 unfolding plan_prepare_now
-shaped_prepare_now b earliest t c rs ws up loose lower = shaped_roomed b (is_crowded b t) _ (λ room.
+shaped_prepare_now b earliest t c rs ws up loose lower read = shaped_roomed b (is_crowded b t) _ (λ room.
     shaped_cond b (opens b t (exclusive ws)) _ _
-    (λ free. shaped_promise b _ earliest t c rs ws (cleared b t (exclusive ws) up free) (undecided b t loose) (λ _. lower) room)
+    (λ free. shaped_promise b _ earliest t c rs ws (cleared b t (exclusive ws) up free) (undecided b t loose) (λ _. lower) (λ _. read) room)
     (λ _. planned b _ (IsWait t (exclusive ws) (WaitsPrepare c rs ws) [] (record {
       loose = loose;
       slack = refl;
       wants = refl;
-      fit = λ _. lower;
+      fit = and_from _ _ lower (reads_granted b t (in_way b t (exclusive ws)) [] rs (in_way_gone b t (exclusive ws) up) read);
       gone = in_way_gone b t (exclusive ws) up;
       room = room;
     }) refl)))
 
 shaped_prepare_fresh : (b : Before) (earliest : ℕ) (t : Id) (c epoch : ℕ) (rs : List Bytes) (ws : List Write) (held : List Lock) → Ascends b
-    → is_loose (stands b t) ≡ true → nat_lt c b.shard ≡ true → Shaped b (plan_prepare_fresh b earliest t c epoch rs ws held)
+    → is_loose (stands b t) ≡ true → nat_lt c b.shard ≡ true → held_in b.memory.rows t ≡ held → Shaped b (plan_prepare_fresh b earliest t c epoch rs ws held)
 unfolding plan_prepare_fresh
-shaped_prepare_fresh b earliest t c epoch rs ws held up loose lower =
-    shaped_cond b (still_stand b epoch rs held) _ _ (λ _. shaped_prepare_now b earliest t c rs ws up loose lower) (λ _. planned b _ (IsEnd t _ (undecided b t loose) refl))
+shaped_prepare_fresh b earliest t c epoch rs ws held up loose lower same =
+    shaped_cond b (still_stand b epoch rs held) _ _ (λ k. shaped_prepare_now b earliest t c rs ws up loose lower (reads_still b t epoch rs held same k)) (λ _. planned b _ (IsEnd t _ (undecided b t loose) refl))
 
 pub shaped_prepare : (b : Before) (earliest : ℕ) (t : Id) (c epoch : ℕ) (rs : List Bytes) (ws : List Write) (s : Standing) → Ascends b → nat_lt c b.shard ≡ true
     → stands b t ≡ s → Shaped b (plan_prepare b earliest t c epoch rs ws s)
 unfolding plan_prepare
-shaped_prepare b earliest t c epoch rs ws IsUnknown up lower e = shaped_prepare_fresh b earliest t c epoch rs ws [] up (ap is_loose e) lower
-shaped_prepare b earliest t c epoch rs ws (HasRow held Idle) up lower e = shaped_prepare_fresh b earliest t c epoch rs ws held up (ap is_loose e) lower
-shaped_prepare b earliest t c epoch rs ws (HasRow held (WaitsRead k)) up lower e = shaped_prepare_fresh b earliest t c epoch rs ws held up (ap is_loose e) lower
+shaped_prepare b earliest t c epoch rs ws IsUnknown up lower e = shaped_prepare_fresh b earliest t c epoch rs ws [] up (ap is_loose e) lower (held_unknown b t e)
+shaped_prepare b earliest t c epoch rs ws (HasRow held Idle) up lower e =
+    shaped_prepare_fresh b earliest t c epoch rs ws held up (ap is_loose e) lower (held_at b t held Idle e)
+shaped_prepare b earliest t c epoch rs ws (HasRow held (WaitsRead k)) up lower e =
+    shaped_prepare_fresh b earliest t c epoch rs ws held up (ap is_loose e) lower (held_at b t held (WaitsRead k) e)
 shaped_prepare b earliest t c epoch rs ws (HasRow held (WaitsPrepare f qs vs)) up lower e = shaped_idle b
 shaped_prepare b earliest t c epoch rs ws WasEnded up lower e = shaped_reply b _
 shaped_prepare b earliest t c epoch rs ws (HasRow held (IsPrepared f p)) up lower e = shaped_reply b _
@@ -128,64 +131,67 @@ above_stamp g latest last = omega arith
 
 pub shaped_decide : (b : Before) (ended : List Id) (t : Id) (latest : ℕ) (ps : List ℕ) (rs : List Bytes) (ws : List Write) (needs : List Lock) (votes : List Voted)
     → IsCleared b.memory.rows t ended needs → is_undecided (stands b t) ≡ true → (all_fit b → when (nat_eq b.shard) (head ps) ≡ true)
-    → (all_fit b → holds_writes (granted_to b t ended needs) ws ≡ true) → is_crowded b t ≡ false
+    → (all_fit b → reads_held b t rs) → (all_fit b → holds_writes (granted_to b t ended needs) ws ≡ true) → is_crowded b t ≡ false
     → Shaped b (plan_decide b ended t latest ps rs ws needs votes)
 unfolding plan_decide
-shaped_decide b ended t latest ps rs ws needs votes clear fresh first holds room =
+shaped_decide b ended t latest ps rs ws needs votes clear fresh first read alone room =
     let at : ℕ = commit_stamp b.memory.last latest votes in
     shaped_err b _ _ _ (planned b _ (IsDecision t ended needs at ps rs ws [] (record {
       cleared = clear;
       undecided = fresh;
       above = above_stamp _ latest b.memory.last;
       first = first;
-      holds = holds;
+      read = λ f. reads_granted b t ended needs rs clear.gone (read f);
+      alone = alone;
       room = room;
     }) refl))
 
 pub shaped_granted : (b : Before) (ended : List Id) (t : Id) (latest : ℕ) (ps : List ℕ) (rs : List Bytes) (ws : List Write) (ns : List ℕ)
     → IsCleared b.memory.rows t ended (exclusive ws) → is_undecided (stands b t) ≡ true → (all_fit b → when (nat_eq b.shard) (head ps) ≡ true)
-    → is_crowded b t ≡ false → Shaped b (plan_commit_granted b ended t latest ps rs ws ns)
+    → (all_fit b → reads_held b t rs) → is_crowded b t ≡ false → Shaped b (plan_commit_granted b ended t latest ps rs ws ns)
 unfolding plan_commit_granted
-shaped_granted b ended t latest ps rs ws [] clear fresh first room =
-    shaped_decide b ended t latest ps rs ws (exclusive ws) [] clear fresh first (λ _. holds_exclusive ws _) room
-shaped_granted b ended t latest ps rs ws (n ∷ ns) clear fresh first room =
+shaped_granted b ended t latest ps rs ws [] clear fresh first read room =
+    shaped_decide b ended t latest ps rs ws (exclusive ws) [] clear fresh first read (λ _. holds_exclusive ws _) room
+shaped_granted b ended t latest ps rs ws (n ∷ ns) clear fresh first read room =
     planned b _ (IsLock t ended (exclusive ws) (Collecting latest ps rs ws []) [] (record {
       cleared = clear;
       undecided = fresh;
       firmer = refl;
       opened = refl;
       quiet = refl;
-      fit = λ f. and_from _ _ (first f) (holds_exclusive ws _);
+      fit = λ f. and_from _ _ (first f) (and_from _ _ (reads_granted b t ended (exclusive ws) rs clear.gone (read f)) (holds_exclusive ws _));
       room = room;
     }) refl)
 
 shaped_commit_now : (b : Before) (t : Id) (latest : ℕ) (ps : List ℕ) (rs : List Bytes) (ws : List Write) → Ascends b → is_loose (stands b t) ≡ true
-    → when (nat_eq b.shard) (head ps) ≡ true → Shaped b (plan_commit_now b t latest ps rs ws)
+    → when (nat_eq b.shard) (head ps) ≡ true → reads_held b t rs → Shaped b (plan_commit_now b t latest ps rs ws)
 unfolding plan_commit_now
-shaped_commit_now b t latest ps rs ws up loose first = shaped_roomed b (is_crowded b t) _ (λ room.
+shaped_commit_now b t latest ps rs ws up loose first read = shaped_roomed b (is_crowded b t) _ (λ room.
     shaped_cond b (opens b t (exclusive ws)) _ _
-    (λ free. shaped_granted b _ t latest ps rs ws (other_parts b.shard ps) (cleared b t (exclusive ws) up free) (undecided b t loose) (λ _. first) room)
+    (λ free. shaped_granted b _ t latest ps rs ws (other_parts b.shard ps) (cleared b t (exclusive ws) up free) (undecided b t loose) (λ _. first) (λ _. read) room)
     (λ _. planned b _ (IsWait t (exclusive ws) (WaitsCommit latest ps rs ws) [] (record {
       loose = loose;
       slack = refl;
       wants = refl;
-      fit = λ _. first;
+      fit = and_from _ _ first (reads_granted b t (in_way b t (exclusive ws)) [] rs (in_way_gone b t (exclusive ws) up) read);
       gone = in_way_gone b t (exclusive ws) up;
       room = room;
     }) refl)))
 
 shaped_commit_fresh : (b : Before) (latest : ℕ) (t : Id) (ps : List ℕ) (epoch : ℕ) (rs : List Bytes) (ws : List Write) (held : List Lock) → Ascends b
-    → is_loose (stands b t) ≡ true → when (nat_eq b.shard) (head ps) ≡ true → Shaped b (plan_commit_fresh b latest t ps epoch rs ws held)
+    → is_loose (stands b t) ≡ true → when (nat_eq b.shard) (head ps) ≡ true → held_in b.memory.rows t ≡ held → Shaped b (plan_commit_fresh b latest t ps epoch rs ws held)
 unfolding plan_commit_fresh
-shaped_commit_fresh b latest t ps epoch rs ws held up loose first =
-    shaped_cond b (still_stand b epoch rs held) _ _ (λ _. shaped_err b _ _ _ (shaped_commit_now b t latest ps rs ws up loose first)) (λ _. shaped_abort b t ps (undecided b t loose))
+shaped_commit_fresh b latest t ps epoch rs ws held up loose first same =
+    shaped_cond b (still_stand b epoch rs held) _ _ (λ k. shaped_err b _ _ _ (shaped_commit_now b t latest ps rs ws up loose first (reads_still b t epoch rs held same k))) (λ _. shaped_abort b t ps (undecided b t loose))
 
 pub shaped_commit : (b : Before) (latest : ℕ) (t : Id) (ps : List ℕ) (epoch : ℕ) (rs : List Bytes) (ws : List Write) (s : Standing) → Ascends b
     → when (nat_eq b.shard) (head ps) ≡ true → stands b t ≡ s → Shaped b (plan_commit b latest t ps epoch rs ws s)
 unfolding plan_commit
-shaped_commit b latest t ps epoch rs ws IsUnknown up first e = shaped_commit_fresh b latest t ps epoch rs ws [] up (ap is_loose e) first
-shaped_commit b latest t ps epoch rs ws (HasRow held Idle) up first e = shaped_commit_fresh b latest t ps epoch rs ws held up (ap is_loose e) first
-shaped_commit b latest t ps epoch rs ws (HasRow held (WaitsRead k)) up first e = shaped_commit_fresh b latest t ps epoch rs ws held up (ap is_loose e) first
+shaped_commit b latest t ps epoch rs ws IsUnknown up first e = shaped_commit_fresh b latest t ps epoch rs ws [] up (ap is_loose e) first (held_unknown b t e)
+shaped_commit b latest t ps epoch rs ws (HasRow held Idle) up first e =
+    shaped_commit_fresh b latest t ps epoch rs ws held up (ap is_loose e) first (held_at b t held Idle e)
+shaped_commit b latest t ps epoch rs ws (HasRow held (WaitsRead k)) up first e =
+    shaped_commit_fresh b latest t ps epoch rs ws held up (ap is_loose e) first (held_at b t held (WaitsRead k) e)
 shaped_commit b latest t ps epoch rs ws (HasRow held (WaitsCommit l qs ss vs)) up first e = shaped_idle b
 shaped_commit b latest t ps epoch rs ws (HasRow held (Collecting l qs ss vs us)) up first e = shaped_idle b
 shaped_commit b latest t ps epoch rs ws (HasRow held (IsDecided s qs)) up first e = shaped_idle b

@@ -5,7 +5,7 @@ use Rattle.std.proofs.lemmas.Bool.{false≢true}
 use Rattle.std.proofs.lemmas.Bool.Decides.{nat_tests}
 use Rattle.units.specs.Lists.{any}
 use Rattle.units.specs.Ids.{Id, same_id, older}
-use Rattle.units.specs.ById.{IsById}
+use Rattle.units.specs.ById.{IsById, find_member}
 use Rattle.units.specs.Locks.{Claim}
 use Rattle.units.specs.declared.lock.Lock.{Lock}
 use Rattle.units.proofs.IdLaws.{same_id-is, same_id-refl, older_not_same}
@@ -27,7 +27,8 @@ pub find-with_row_other : (rows : List Row) (r : Row) (t : Id) → same_id r.txn
 find-with_row_other rows r t differ =
     ap (λ l. find_row l t) (with_row-is rows r) ∙ find-with_other (λ (q : Row). q.txn) rows r t differ
 
-none_found : (rows : List Row) (t : Id) → AllByRecursion (λ q. same_id q.txn t ≡ false) rows → find_row rows t ≡ None
+-- no row is found where none has the id
+pub none_found : (rows : List Row) (t : Id) → AllByRecursion (λ q. same_id q.txn t ≡ false) rows → find_row rows t ≡ None
 none_found [] t none = refl
 none_found (q ∷ qs) t none = rw none.0 (none_found qs t none.1)
 
@@ -68,15 +69,19 @@ find-without_rows P rows (u ∷ us) t all = by_test (same_id u t) refl (find-wit
     by_test true e rest = inr (gone (same_id-is u t e) rest, subst P (same_id-is u t e) all.0)
     by_test false e rest = stays e rest
 
+-- each member is that of its id
+pub find_members : {A : Type 0} (id : A → Id) (xs : List A) → IsById id xs → AllByRecursion (λ x. find_member id xs (id x) ≡ Some x) xs
+find_members id [] up = tt
+find_members {A = A} id (x ∷ xs) up = (rw (same_id-refl (id x)) refl, behind xs (later_are_younger id x xs up) (find_members id xs up.1))
+  where
+    behind : (ys : List A) → AllByRecursion (λ y. older (id x) (id y) ≡ true) ys → AllByRecursion (λ y. find_member id xs (id y) ≡ Some y) ys
+        → AllByRecursion (λ y. find_member id (x ∷ xs) (id y) ≡ Some y) ys
+    behind [] young found = tt
+    behind (y ∷ ys) young found = (rw (older_not_same (id x) (id y) young.0) found.0, behind ys young.1 found.1)
+
 -- each row is that of its id
 pub find_each : (rows : List Row) → IsById (λ r. r.txn) rows → AllByRecursion (λ r. find_row rows r.txn ≡ Some r) rows
-find_each [] up = tt
-find_each (q ∷ qs) up = (rw (same_id-refl q.txn) refl, behind qs (later_are_younger (λ (r : Row). r.txn) q qs up) (find_each qs up.1))
-  where
-    behind : (rs : List Row) → AllByRecursion (λ (r : Row). older q.txn r.txn ≡ true) rs → AllByRecursion (λ r. find_row qs r.txn ≡ Some r) rs
-        → AllByRecursion (λ r. find_row (q ∷ qs) r.txn ≡ Some r) rs
-    behind [] young found = tt
-    behind (r ∷ rs) young found = (rw (older_not_same q.txn r.txn young.0) found.0, behind rs young.1 found.1)
+find_each rows up = find_members (λ (r : Row). r.txn) rows up
 
 -- ---- their order
 

@@ -5,7 +5,7 @@ use Rattle.units.specs.Lists.{each, head, when}
 use Rattle.std.specs.Prelude.{nat_eq, nat_lt}
 use Rattle.units.specs.Ids.{Id, same_id}
 use Rattle.units.specs.Keys.{Bytes}
-use Rattle.units.specs.Locks.{exclusive, is_free, with_locks}
+use Rattle.units.specs.Locks.{holds, exclusive, is_free, with_locks}
 use Rattle.units.specs.declared.lock.Lock.{Lock}
 use Rattle.units.specs.declared.writes.Write.{Write}
 use Rattle.record.specs.declared.record.Record.{Record}
@@ -45,6 +45,10 @@ pub record IsCleared (rows : List Row) (t : Id) (ended : List Id) (needs : List 
 abbrev pub granted_to : Before → Id → List Id → List Lock → List Lock
 granted_to b t ended needs = with_locks (held_in (without_rows b.memory.rows ended) t) needs
 
+-- a transaction holds these keys
+abbrev pub reads_held : Before → Id → List Bytes → Type 0
+reads_held b t rs = each (holds (held_in b.memory.rows t)) rs ≡ true
+
 -- each row fits the shard
 abbrev pub all_fit : Before → Type 0
 all_fit b = each (fits b.shard) b.memory.rows ≡ true
@@ -64,25 +68,27 @@ pub record IsWaiting (b : Before) (t : Id) (needs : List Lock) (phase : Phase) :
   pub loose : is_loose (stands b t) ≡ true
   pub slack : is_firm phase ≡ false
   pub wants : needs_of phase ≡ needs
-  pub fit : (held : List Lock) → fits b.shard (row_as t held phase) ≡ true
+  pub fit : fits b.shard (row_as t (granted_to b t (in_way b t needs) []) phase) ≡ true
   pub gone : AllByRecursion (IsLooseOther b.memory.rows t) (in_way b t needs)
   pub room : is_crowded b t ≡ false
 
 -- a promise
-pub record IsPromised (b : Before) (t : Id) (ended : List Id) (c at : ℕ) (ws : List Write) : Type 0 where
+pub record IsPromised (b : Before) (t : Id) (ended : List Id) (c at : ℕ) (rs : List Bytes) (ws : List Write) : Type 0 where
   pub cleared : IsCleared b.memory.rows t ended (exclusive ws)
   pub undecided : is_undecided (stands b t) ≡ true
   pub above : b.memory.last < at
   pub lower : all_fit b → nat_lt c b.shard ≡ true
+  pub read : all_fit b → each (holds (granted_to b t ended (exclusive ws))) rs ≡ true
   pub room : is_crowded b t ≡ false
 
 -- a decision
-pub record IsResolved (b : Before) (t : Id) (ended : List Id) (needs : List Lock) (at : ℕ) (ps : List ℕ) (ws : List Write) : Type 0 where
+pub record IsResolved (b : Before) (t : Id) (ended : List Id) (needs : List Lock) (at : ℕ) (ps : List ℕ) (rs : List Bytes) (ws : List Write) : Type 0 where
   pub cleared : IsCleared b.memory.rows t ended needs
   pub undecided : is_undecided (stands b t) ≡ true
   pub above : b.memory.last < at
   pub first : all_fit b → when (nat_eq b.shard) (head ps) ≡ true
-  pub holds : all_fit b → holds_writes (granted_to b t ended needs) ws ≡ true
+  pub read : all_fit b → each (holds (granted_to b t ended needs)) rs ≡ true
+  pub alone : all_fit b → holds_writes (granted_to b t ended needs) ws ≡ true
   pub room : is_crowded b t ≡ false
 
 -- the shape of a plan
@@ -100,10 +106,10 @@ pub data Shape (b : Before) (p : Plan) : Type 0 where
       → p ≡ puts b ended t needs phase None b.memory.last out → Shape b p
   IsWait : (t : Id) → (needs : List Lock) → (phase : Phase) → (out : List Envelope) → IsWaiting b t needs phase
       → p ≡ puts b (in_way b t needs) t [] phase None b.memory.last out → Shape b p
-  IsPromise : (t : Id) → (ended : List Id) → (c at : ℕ) → (rs : List Bytes) → (ws : List Write) → (out : List Envelope) → IsPromised b t ended c at ws
+  IsPromise : (t : Id) → (ended : List Id) → (c at : ℕ) → (rs : List Bytes) → (ws : List Write) → (out : List Envelope) → IsPromised b t ended c at rs ws
       → p ≡ puts b ended t (exclusive ws) (IsPrepared c at) (Some (promise t c at rs ws)) (max b.memory.last at) out → Shape b p
   IsDecision : (t : Id) → (ended : List Id) → (needs : List Lock) → (at : ℕ) → (ps : List ℕ) → (rs : List Bytes) → (ws : List Write) → (out : List Envelope)
-      → IsResolved b t ended needs at ps ws
+      → IsResolved b t ended needs at ps rs ws
       → p ≡ puts b ended t needs (IsDecided at ps) (Some (decision t at ps rs ws)) (max b.memory.last at) out → Shape b p
 
 -- the shape of the plan of an input: served time alone is advanced, or it is one of those above

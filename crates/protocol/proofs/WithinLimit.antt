@@ -5,18 +5,14 @@ use Rattle.std.proofs.lemmas.Bool.Decides.{nat_tests}
 use Rattle.units.specs.Lists.{any}
 use Rattle.units.specs.Ids.{Id, same_id}
 use Rattle.units.specs.ById.{IsById}
-use Rattle.units.proofs.ListLaws.{all_gives}
 use Rattle.message.specs.declared.message.Input.{Input}
 use Rattle.protocol.specs.Rows.{Row, with_row}
 use Rattle.protocol.specs.Plan.{Plan, Before, before, changed, carried, without_rows}
 use Rattle.protocol.specs.Sound.{StaysWithin}
 use Rattle.protocol.proofs.RowChanges.{short-without_row, short-without_rows, length-with_row, length-with_row_same, any-without_rows, by_id-without_rows}
-use Rattle.protocol.proofs.Shapes.{Shape, Answers, IsEnd, IsAbort, IsClose, IsSettle, IsLock, IsWait, IsPromise, IsDecision, ShapeOf, Acts, IsAdvance, IsLooseOther}
+use Rattle.protocol.proofs.Shapes.{Shape, Answers, IsEnd, IsAbort, IsClose, IsSettle, IsLock, IsWait, IsPromise, IsDecision, ShapeOf, Acts, IsAdvance}
+use Rattle.protocol.proofs.Choices.{others_gone}
 use Rattle.protocol.proofs.PlanShapes.{shape_of}
-
--- who is ended is another
-pub others_gone : (rows : List Row) (t : Id) (us : List Id) → AllByRecursion (IsLooseOther rows t) us → AllByRecursion (λ u. same_id u t ≡ false) us
-others_gone rows t us gone = all_gives (IsLooseOther rows t) (λ u. same_id u t ≡ false) (λ u l. l.other) us gone
 
 -- there is room, or there is a row already
 below : (capacity count : ℕ) → (nat_le capacity count && not false) ≡ false → count < capacity

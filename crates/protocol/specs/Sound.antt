@@ -1,9 +1,10 @@
 -- What holds of a shard's facts and memory at every moment, and that a step keeps it.
-use Rattle.std.specs.Prelude.{ℕ, ◌≡◌, ◌≤◌, ◌<◌, Bool, true, false, ◌&&◌, IsTrue, nat_le, nat_lt, nat_eq, List, [], ◌∷◌, Option, Some, None, Ok, length}
+use Rattle.std.specs.Prelude.{ℕ, ◌+◌, ◌≡◌, ◌≤◌, ◌<◌, Bool, true, false, ◌&&◌, IsTrue, nat_le, nat_lt, nat_eq, List, [], ◌∷◌, Option, Some, None, Ok, length}
 use Rattle.units.specs.Lists.{any, each, ascends, head, when}
 use Rattle.units.specs.Ids.{Id, older}
 use Rattle.units.specs.ById.{IsById}
 use Rattle.units.specs.Keys.{Bytes, same_key}
+use Rattle.units.specs.Locks.{holds}
 use Rattle.units.specs.LockLaws.{IsLawfulTable}
 use Rattle.units.specs.Versions.{above_versions}
 use Rattle.units.specs.declared.lock.Lock.{Lock}
@@ -14,11 +15,11 @@ use Rattle.units.specs.declared.writes.Write.{Write}
 use Rattle.units.specs.declared.writes.Install.{Install}
 use Rattle.truetime.specs.Interval.{Interval}
 use Rattle.record.specs.Records.{Status, Unrecorded, StandsPrepared, StandsDecided}
-use Rattle.record.specs.Facts.{Facts, facts_of, recorded}
+use Rattle.record.specs.Facts.{Facts, facts_of, learn, recorded}
 use Rattle.record.specs.declared.record.Record.{Record}
 use Rattle.facts.specs.Rules.{follows_facts}
 use Rattle.message.specs.declared.message.Input.{Input}
-use Rattle.protocol.specs.Rows.{Memory, Row, Phase, WaitsPrepare, WaitsCommit, Collecting, IsPrepared, IsDecided, claims, find_row}
+use Rattle.protocol.specs.Rows.{Memory, Row, Phase, WaitsPrepare, WaitsCommit, Collecting, IsPrepared, IsDecided, claims, find_row, rebuilt}
 use Rattle.protocol.specs.Step.{facts_after}
 use Rattle.protocol.specs.StepLaws.{IsInLimit}
 use Rattle.protocol.specs.Plan.{Plan, before, plan_input, carried}
@@ -42,32 +43,35 @@ is_open (IsPrepared c p) = false
 is_open (IsDecided s ps) = false
 is_open _ = true
 
--- a row that stands by a record: its phase, its timestamp, which was assigned, its locks, and that it is above the versions
--- of what it writes
-pub record StandsBy (installs : List Install) (last : ℕ) (r : Row) (standing : Phase) (at : ℕ) (writes : List Write) : Type 0 where
+-- a row that stands by a record: its phase, its id, its timestamp, which was assigned, its locks, and that it is above the
+-- versions of what it writes
+pub record StandsBy (installs : List Install) (last : ℕ) (r : Row) (standing : Phase) (txn : Id) (at : ℕ) (reads : List Bytes) (writes : List Write) : Type 0 where
   pub phase : r.phase ≡ standing
+  pub own : r.txn ≡ txn
   pub above_zero : 0 < at
   pub assigned : at ≤ last
+  pub read : IsTrue (each (holds r.held) reads)
   pub held : IsTrue (holds_writes r.held writes)
   pub above : IsTrue (above_versions installs at writes)
 
 -- a transaction's record and its row agree: a promise and a decision stand in a row, and a row without them has no record
 abbrev pub Agrees : List Install → ℕ → Status → Option Row → Type 0
-Agrees installs last (StandsPrepared p) (Some r) = StandsBy installs last r (IsPrepared p.coordinator p.at) p.at p.writes
-Agrees installs last (StandsDecided c) (Some r) = StandsBy installs last r (IsDecided c.at c.parts) c.at c.writes
+Agrees installs last (StandsPrepared p) (Some r) = StandsBy installs last r (IsPrepared p.coordinator p.at) p.txn p.at p.reads p.writes
+Agrees installs last (StandsDecided c) (Some r) = StandsBy installs last r (IsDecided c.at c.parts) c.txn c.at c.reads c.writes
 Agrees installs last Unrecorded (Some r) = IsTrue (is_open r.phase)
 Agrees installs last (StandsPrepared p) None = ⊥
 Agrees installs last (StandsDecided c) None = ⊥
 Agrees installs last _ (Some r) = ⊥
 Agrees installs last _ None = Unit {0}
 
--- a row that waits or collects is of a message that was for this shard, and one that collects holds what it writes alone
+-- a row that waits or collects is of a message that was for this shard, and holds what it read; one that collects holds what
+-- it writes alone
 abbrev pub fits : ℕ → Row → Bool
 fits shard r =
     elim r.phase [
-      | WaitsPrepare c rs ws ↦ nat_lt c shard
-      | WaitsCommit l ps rs ws ↦ when (nat_eq shard) (head ps)
-      | Collecting l ps rs ws votes ↦ when (nat_eq shard) (head ps) && holds_writes r.held ws
+      | WaitsPrepare c rs ws ↦ nat_lt c shard && each (holds r.held) rs
+      | WaitsCommit l ps rs ws ↦ when (nat_eq shard) (head ps) && each (holds r.held) rs
+      | Collecting l ps rs ws votes ↦ when (nat_eq shard) (head ps) && (each (holds r.held) rs && holds_writes r.held ws)
       | _ ↦ true
     ]
 
@@ -88,6 +92,12 @@ pub record IsSound (shard : ℕ) (facts : Facts) (memory : Memory) : Type 0 wher
 -- a shard that starts with one opening in its log and nothing in memory
 abbrev pub FreshIsSound : Type 0
 FreshIsSound = (shard : ℕ) → IsSound shard (facts_of (Record.Opened 1 ∷ [])) (record { last = 0; rows = []; ended = [] })
+
+-- an opening keeps it: after a crash the rows are those that the log holds
+abbrev pub OpeningKeepsSound : Type 0
+OpeningKeepsSound =
+    (shard : ℕ) (facts : Facts) (memory : Memory) → IsSound shard facts memory →
+    IsSound shard (learn facts (Record.Opened (facts.epoch + 1))) (rebuilt (learn facts (Record.Opened (facts.epoch + 1))))
 
 -- a step keeps it
 abbrev pub StepKeepsSound : Type 0

@@ -1,7 +1,7 @@
 //! Laws of the step. Each is the contract of a function that does nothing.
 ghost use Rattle.protocol.specs.Plan.{StepIsPlanned};
 ghost use Rattle.protocol.specs.Refusals.{OwnRefusals};
-ghost use Rattle.protocol.specs.Sound.{FreshIsSound, InstallsAbove, LoggedFollows, StaysWithin, StepKeepsSound};
+ghost use Rattle.protocol.specs.Sound.{FreshIsSound, InstallsAbove, LoggedFollows, OpeningKeepsSound, StaysWithin, StepKeepsSound};
 ghost use Rattle.protocol.specs.StepLaws.{LastStaysUnderFloor};
 
 /// No step lets the greatest timestamp served pass that of the log.
@@ -43,4 +43,9 @@ pub fn stays_within()
 /// reason.
 pub fn own_refusals()
     ensures { OwnRefusals }
+{}
+
+/// A shard that is opened anew from the log of a sound one is sound: what was read stays locked with what was written.
+pub fn opening_keeps_sound()
+    ensures { OpeningKeepsSound }
 {}
