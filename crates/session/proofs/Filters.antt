@@ -1,5 +1,5 @@
 -- Filters, and where a member comes in an ascending list.
-use Rattle.std.proofs.Common.{◌≡◌, ℕ, suc, Bool, true, false, cond, not, List, [], ◌∷◌, ◌++◌, insert, filter, refl, sym, ap, ◌∙◌}
+use Rattle.std.proofs.Common.{◌≡◌, suc, Bool, true, false, cond, List, [], ◌∷◌, insert, filter, refl, ap}
 use Rattle.units.specs.Lists.{keep, insert as put}
 use Rattle.units.specs.Keys.{Bytes, key_before, write_before}
 use Rattle.units.specs.declared.writes.Write.{Write}

@@ -1,10 +1,9 @@
 -- The keys and writes of a message ascend and are few.
-use Rattle.std.proofs.Common.{◌≡◌, ◌⊎◌, ℕ, zero, suc, ◌+◌, ◌≤◌, ◌<◌, Bool, true, false, cond, not, ◌&&◌, ◌||◌, List, [], ◌∷◌, ◌++◌, length, map, Some, refl, sym, ap, ◌∙◌, subst, ⊎_elim, arith}
+use Rattle.std.proofs.Common.{◌≡◌, ◌⊎◌, ◌≤◌, ◌<◌, Bool, true, false, cond, List, [], ◌∷◌, length, map, Some, refl, sym, ap, ◌∙◌, subst, ⊎_elim, arith}
 use Rattle.std.specs.Prelude.{IsFalse}
 use Rattle.units.specs.Lists.{any, head, keep, insert, sorted, ascends}
 use Rattle.units.specs.Keys.{Bytes, same_key, key_before, has_key, write_before}
 use Rattle.units.specs.declared.writes.Write.{Write}
-use Rattle.units.proofs.KeyLaws.{same_key_comm}
 use Rattle.session.specs.declared.answered.Answered.{Answered}
 use Rattle.session.specs.Shown.{distinct, taken_keys, IsKept}
 use Rattle.session.proofs.Kept.{both, neither, or_false, not_false, ascends_insert, ascends_keep, length_insert, length_keep, keyed_self}

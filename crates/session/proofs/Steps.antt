@@ -1,16 +1,14 @@
 -- The steps of a session, by the tests that they make.
-use Rattle.std.proofs.Common.{◌≡◌, ◌≢◌, ℕ, ◌+◌, ◌≤◌, ◌<◌, Bool, true, false, cond, not, ◌&&◌, ◌||◌, nat_le, List, [], ◌∷◌, ◌++◌, length, map, Option, Some, None, refl, sym, ap, ◌∙◌, subst, arith}
+use Rattle.std.proofs.Common.{◌≡◌, ◌≢◌, ℕ, ◌≤◌, ◌<◌, Bool, true, false, cond, not, ◌&&◌, nat_le, List, [], ◌∷◌, ◌++◌, length, Option, refl, sym, ◌∙◌, subst, arith}
 use Rattle.std.proofs.lemmas.Bool.Decides.{nat_tests}
 use Rattle.units.specs.Keys.{Bytes, has_key, shard_of, writes_key}
 use Rattle.units.specs.declared.fault.Fault.TheVariants.{BadRequest}
-use Rattle.units.specs.declared.fault.Reason.{Reason}
 use Rattle.units.specs.declared.fault.Reason.TheVariants.{Many, Nothing, Again, Awaited, Doomed}
 use Rattle.units.specs.declared.writes.Write.{Write}
 use Rattle.message.specs.declared.message.Message.{Message}
 use Rattle.message.specs.declared.message.Address.TheVariants.{Shard}
 use Rattle.message.specs.declared.message.Answer.{Answer}
 use Rattle.message.specs.declared.message.Answer.TheVariants.{Holds, Refused}
-use Rattle.session.specs.declared.answered.Answered.{Answered}
 use Rattle.session.specs.declared.answered.Heard.{Heard}
 use Rattle.session.specs.Shown.{heard_as, taken_as, closing_client, is_closing}
 use Rattle.session.specs.Sessions.{Client, Moved, Denies, Goes, unless, asked_keys, was_answered, is_doomed, reads, buffers, hears, with_write, take_answer, epochs_agree, doomed_by, without_key, Stage, IsOpen, IsClosing, IsOver, is_none, closes, closing_messages, parts_of, asked_shards, shards_told}

@@ -1,7 +1,6 @@
 use Rattle.std.proofs.Common.{◌≡◌, true, ◌++◌, [], ◌∷◌, sym, ap, ◌∙◌, subst}
 use Rattle.units.specs.Keys.{has_key}
 use Rattle.session.specs.declared.answered.Answered.{Answered}
-use Rattle.session.specs.Sessions.{without_key}
 use Rattle.session.specs.Shown.{Session, IsKept}
 use Rattle.session.proofs.Kept.{kept_taken}
 use Rattle.session.proofs.taking.Tx+Open.take_value.Goals as goal

@@ -1,6 +1,6 @@
 use Rattle.std.proofs.Common.{◌≡◌, [], refl, sym, ◌∙◌, subst}
 use Rattle.std.specs.Prelude.{IfOk, IfSome, IfNone}
-use Rattle.session.specs.Sessions.{parts_of, shards_told}
+use Rattle.session.specs.Sessions.{parts_of}
 use Rattle.session.specs.Shown.{closing_client}
 use Rattle.session.proofs.Steps.{told_closing, told_open}
 use Rattle.session.proofs.tx.Tx.told.Goals as goal
