@@ -1,4 +1,3 @@
 pub mod Learns
-pub mod OpensEach
 pub mod Served
 pub mod States

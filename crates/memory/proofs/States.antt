@@ -1,5 +1,5 @@
 -- What the readers of a state and its planners say of the rows.
-use Rattle.std.proofs.Common.{◌≡◌, ℕ, nat_le, Bool, true, false, ◌&&◌, ◌||◌, not, cond, List, [], ◌∷◌, ◌++◌, length, drop, get_or, ◌<◌, ◌+◌, Option, Some, None, refl, sym, ap, ◌∙◌}
+use Rattle.std.proofs.Common.{◌≡◌, ℕ, nat_le, Bool, true, false, ◌&&◌, ◌||◌, not, cond, List, [], ◌∷◌, ◌++◌, length, drop, get_or, ◌<◌, ◌+◌, Option, Some, None, Result, Ok, Err, IfOk, IfErr, refl, sym, ap, subst, ◌∙◌}
 use Rattle.std.specs.Option.{MatchOption, is_some}
 use Rattle.std.proofs.lemmas.Bool.{false≢true}
 use Rattle.std.proofs.lemmas.List.{at_drop_more}
@@ -10,14 +10,19 @@ use Rattle.units.specs.Locks.{Claim, is_free, wounded, exclusive}
 use Rattle.units.specs.declared.lock.Lock.{Lock}
 use Rattle.units.specs.declared.writes.Write.{Write}
 use Rattle.units.specs.declared.lock.Mode.TheVariants.{Exclusive}
+use Rattle.units.specs.declared.fault.Fault.{Fault}
 use Rattle.record.specs.Records.{Status}
 use Rattle.record.specs.Facts.{recorded}
 use Rattle.protocol.specs.Rows.{Row, Standing, HasRow, standing, standing_by, claims, find_row, without_row}
-use Rattle.protocol.specs.Plan.{Before, stands, opens, is_crowded, in_way, without_rows}
+use Rattle.protocol.specs.Plan.{Before, Plan, Planned, stands, opens, is_crowded, in_way, without_rows}
 use Rattle.protocol.proofs.RowTable.{claims-by_id}
 use Rattle.locks.specs.Table.{without_claims}
 use Rattle.rows.proofs.Steps.{claims-without_rows}
-use Rattle.memory.proofs.OpensEach.{opens_in, opens-none, opens-more}
+use Rattle.memory.specs.Kept.{Kept, start_of, IsPast, IsPlanned, IsRefusal, standing_of}
+use Rattle.memory.specs.Plans.{plan_of}
+use Rattle.memory.specs.declared.plan.Plan.{Plan as CodePlan}
+use Rattle.memory.specs.declared.state.Past.{Past}
+use Rattle.locks.proofs.OpensEach.{opens_in, opens-none, opens-more}
 
 -- ---- how a transaction stands
 
@@ -32,6 +37,43 @@ stands-past b t status ended e recorded_so ended_so =
     ap (λ o. standing_by o (recorded b.facts t) (has_id b.memory.ended t)) e
     ∙ ap (λ s. standing_by None s (has_id b.memory.ended t)) recorded_so
     ∙ ap (standing_by None status) ended_so
+
+is_past : (standing : Standing) (past : Past) → IsPast standing past → standing ≡ standing_of past
+is_past standing Past.Unknown e = e
+is_past standing Past.Ended e = e
+is_past standing Past.Aborted e = e
+is_past standing (Past.Settled at parts) e = e
+is_past standing (Past.Closed outcome) e = e
+
+-- ---- plans by how a transaction stands
+
+-- a plan that may be refused for want of memory alone
+pub planned-ok : (k : Kept) (p : Plan) (result : Result CodePlan Fault) → IfOk result (λ plan. plan_of k.memory.rows plan ≡ p)
+    → IfErr result (λ fault. fault ≡ Fault.Memory) → IsPlanned k (Ok p) result
+planned-ok k p (Ok plan) made memory = ap Ok (sym made)
+planned-ok k p (Err fault) made memory = memory
+
+pub planned-by : (k : Kept) (planned : Planned) (p : Plan) (result : Result CodePlan Fault) → planned ≡ Ok p
+    → IfOk result (λ plan. plan_of k.memory.rows plan ≡ p) → IfErr result (λ fault. fault ≡ Fault.Memory) → IsPlanned k planned result
+planned-by k planned p result is made memory = subst (λ q. IsPlanned k q result) (sym is) (planned-ok k p result made memory)
+
+-- a refusal
+pub refused-by : (planned : Planned) (fault : Fault) → planned ≡ Err fault → IsRefusal planned fault
+refused-by planned fault is = subst (λ q. IsRefusal q fault) (sym is) refl
+
+pub planned-err : (k : Kept) (planned : Planned) (result : Result CodePlan Fault) (fault : Fault) → planned ≡ Err fault → result ≡ Err fault
+    → IsPlanned k planned result
+planned-err k planned result fault is made = subst (λ (r : Result CodePlan Fault). IsPlanned k planned r) (sym made) (refused-by planned fault is)
+
+-- by the row
+pub planned-row : (k : Kept) (t : Id) (plan : Standing → Planned) (r : Row) (result : Result CodePlan Fault) → find_row k.memory.rows t ≡ Some r
+    → IsPlanned k (plan (HasRow r.held r.phase)) result → IsPlanned k (plan (stands (start_of k) t)) result
+planned-row k t plan r result e made = subst (λ s. IsPlanned k (plan s) result) (sym (stands-row (start_of k) t r e)) made
+
+-- by what is told of one that has no row
+pub planned-past : (k : Kept) (t : Id) (plan : Standing → Planned) (past : Past) (result : Result CodePlan Fault) → IsPast (stands (start_of k) t) past
+    → IsPlanned k (plan (standing_of past)) result → IsPlanned k (plan (stands (start_of k) t)) result
+planned-past k t plan past result e made = subst (λ s. IsPlanned k (plan s) result) (sym (is_past (stands (start_of k) t) past e)) made
 
 -- ---- whether there is room
 

@@ -1,0 +1,11 @@
+//! What a shard does for a transaction in which it takes part: it answers reads, promises, and hears the outcome. Each
+//! function tells the plan of its message and changes nothing.
+#![tactic(auto)]
+
+mod outcomes;
+mod prepares;
+mod reads;
+
+pub use outcomes::{end_reading, on_nudge, on_outcome};
+pub use prepares::{on_prepare, resume_prepare};
+pub use reads::{on_read, resume_read};

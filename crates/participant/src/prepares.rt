@@ -1,0 +1,291 @@
+//! Prepares.
+ghost use Rattle.std.specs.Prelude.{◌≡◌, ℕ, true, false, ◌+◌, ◌<◌, ◌≤◌, ◌^◌, max, IfOk, IfErr, MatchResult, [], ◌∷◌, Some, None, Ok, Err};
+ghost use Rattle.std.specs.Option.{option_copied};
+ghost use Rattle.units.specs.Locks.{exclusive};
+ghost use Rattle.protocol.specs.Plan.{plan_prepare, plan_prepare_fresh, plan_prepare_now, plan_promise, opens, in_way, ends, puts, replies, stands, held_in};
+ghost use Rattle.protocol.specs.Draft.{vote_to};
+ghost use Rattle.protocol.specs.Rows.{HasRow, WaitsPrepare, find_row};
+ghost use Rattle.rows.specs.CodeRows.{phase_of, phase_of_wait};
+ghost use Rattle.memory.specs.Kept.{start_of, standing_of, IsPlanned};
+ghost use Rattle.memory.specs.Plans.{plan_of};
+ghost use Rattle.participant.specs.Asks.{promises};
+
+use memory::{Change, Past, Plan, State, exclusive, reads_stand, vote_to};
+use message::Prepare;
+use record::{Prepared, Record};
+use rows::{PrepareRequest, Row, Wait};
+use std::alloc::Global;
+use truetime::Reading;
+use units::{Fault, Ids, Lock, Stamp, TxnId};
+
+/// A prepare: where the reads still stand and the locks of what is written are granted, a promise is logged at a timestamp
+/// above all that was served, and voted for; else the vote is refused, or the transaction waits.
+pub fn on_prepare(
+    state: &State,
+    alloc: Global,
+    now: &Reading,
+    prepare: &Prepare,
+) -> Result<Plan, Fault>
+    ensures { IsPlanned state.now (plan_prepare (start_of state.now) now.now.earliest prepare.now.txn prepare.now.coordinator prepare.now.reads.epoch prepare.now.reads.keys prepare.now.writes (stands (start_of state.now) prepare.now.txn)) result }
+{
+    match state.row(prepare.txn) {
+        Some(row) => prepare_with_row(state, alloc, now, prepare, row),
+        None => prepare_without_row(state, alloc, now, prepare, state.past(prepare.txn)),
+    }
+}
+
+// A prepare of a transaction that has a row.
+#[tactic(auto, unfolding(protocol::specs::Plan::plan_prepare))]
+fn prepare_with_row(
+    state: &State,
+    alloc: Global,
+    now: &Reading,
+    prepare: &Prepare,
+    row: &Row,
+) -> Result<Plan, Fault>
+    ensures { IsPlanned state.now (plan_prepare (start_of state.now) now.now.earliest prepare.now.txn prepare.now.coordinator prepare.now.reads.epoch prepare.now.reads.keys prepare.now.writes (HasRow (held_in state.now.memory.rows prepare.now.txn) (phase_of row.now))) result }
+{
+    match row {
+        Row::Reading(reading) => prepare_with_wait(state, alloc, now, prepare, reading.wait()),
+        Row::Prepared(prepared) => vote(state, alloc, prepare, Some(prepared.at())),
+        Row::Collecting(_) | Row::Decided(_) => Err(Fault::Stranger),
+    }
+}
+
+// A prepare of a transaction that reads, by what it waits with.
+#[tactic(auto, unfolding(protocol::specs::Plan::plan_prepare))]
+fn prepare_with_wait(
+    state: &State,
+    alloc: Global,
+    now: &Reading,
+    prepare: &Prepare,
+    wait: Option<&Wait>,
+) -> Result<Plan, Fault>
+    ensures { IsPlanned state.now (plan_prepare (start_of state.now) now.now.earliest prepare.now.txn prepare.now.coordinator prepare.now.reads.epoch prepare.now.reads.keys prepare.now.writes (HasRow (held_in state.now.memory.rows prepare.now.txn) (phase_of_wait (option_copied wait.entry)))) result }
+{
+    match wait {
+        Some(Wait::Prepare(_)) => Ok(state.idles(alloc)),
+        Some(Wait::Commit(_)) => Err(Fault::Stranger),
+        Some(Wait::Read(_)) | None => prepare_fresh(state, alloc, now, prepare),
+    }
+}
+
+// A prepare of a transaction that has no row.
+#[tactic(auto, unfolding(protocol::specs::Plan::plan_prepare))]
+fn prepare_without_row(
+    state: &State,
+    alloc: Global,
+    now: &Reading,
+    prepare: &Prepare,
+    past: Past,
+) -> Result<Plan, Fault>
+    requires { find_row state.now.memory.rows prepare.now.txn ≡ None }
+    ensures { IsPlanned state.now (plan_prepare (start_of state.now) now.now.earliest prepare.now.txn prepare.now.coordinator prepare.now.reads.epoch prepare.now.reads.keys prepare.now.writes (standing_of past)) result }
+{
+    match past {
+        Past::Unknown => prepare_fresh(state, alloc, now, prepare),
+        Past::Ended => vote(state, alloc, prepare, None),
+        Past::Closed { outcome: None } => vote(state, alloc, prepare, None),
+        Past::Closed { outcome: Some(_) } => Ok(state.idles(alloc)),
+        Past::Aborted | Past::Settled { .. } => Err(Fault::Stranger),
+    }
+}
+
+// The vote, to the coordinator that the prepare names.
+fn vote(
+    state: &State,
+    alloc: Global,
+    prepare: &Prepare,
+    vote: Option<Stamp>,
+) -> Result<Plan, Fault>
+    ensures plan { IfOk result (λ plan. plan_of state.now.memory.rows plan ≡ replies (start_of state.now) (vote_to state.now.setup.shard prepare.now.coordinator prepare.now.txn vote ∷ [])) }
+    ensures memory { IfErr result (λ fault. fault ≡ Fault.Memory) }
+{
+    let envelope = vote_to(
+        state.setup().shard,
+        prepare.coordinator,
+        prepare.txn,
+        vote,
+    );
+    state.reply(alloc, envelope)
+}
+
+// Where the reads do not stand any more, the transaction is ended here.
+fn prepare_fresh(
+    state: &State,
+    alloc: Global,
+    now: &Reading,
+    prepare: &Prepare,
+) -> Result<Plan, Fault>
+    ensures { IsPlanned state.now (plan_prepare_fresh (start_of state.now) now.now.earliest prepare.now.txn prepare.now.coordinator prepare.now.reads.epoch prepare.now.reads.keys prepare.now.writes (held_in state.now.memory.rows prepare.now.txn)) result }
+{
+    if reads_stand(state, prepare.txn, &prepare.reads) {
+        return prepare_now(state, alloc, now, prepare);
+    }
+    refuse(state, alloc, prepare)
+}
+
+// The vote is refused, and the transaction ended.
+fn refuse(state: &State, alloc: Global, prepare: &Prepare) -> Result<Plan, Fault>
+    ensures plan { IfOk result (λ plan. plan_of state.now.memory.rows plan ≡ ends (start_of state.now) prepare.now.txn (vote_to state.now.setup.shard prepare.now.coordinator prepare.now.txn None ∷ [])) }
+    ensures memory { IfErr result (λ fault. fault ≡ Fault.Memory) }
+{
+    let shard = state.setup().shard;
+    let mut out = Vec::new(alloc);
+    out.push(vote_to(shard, prepare.coordinator, prepare.txn, None))?;
+    Ok(state.ends(alloc, prepare.txn, out))
+}
+
+// Exclusive locks of what is written, and the promise; or a wait.
+fn prepare_now(
+    state: &State,
+    alloc: Global,
+    now: &Reading,
+    prepare: &Prepare,
+) -> Result<Plan, Fault>
+    ensures { IsPlanned state.now (plan_prepare_now (start_of state.now) now.now.earliest prepare.now.txn prepare.now.coordinator prepare.now.reads.keys prepare.now.writes) result }
+{
+    if state.opens_writes(prepare.txn, &prepare.writes) {
+        promise_now(state, alloc, now, prepare)
+    } else {
+        wait(state, alloc, prepare)
+    }
+}
+
+// The locks are granted, and the promise is made.
+fn promise_now(
+    state: &State,
+    alloc: Global,
+    now: &Reading,
+    prepare: &Prepare,
+) -> Result<Plan, Fault>
+    requires { opens (start_of state.now) prepare.now.txn (exclusive prepare.now.writes) ≡ true }
+    ensures { IsPlanned state.now (plan_prepare_now (start_of state.now) now.now.earliest prepare.now.txn prepare.now.coordinator prepare.now.reads.keys prepare.now.writes) result }
+{
+    let at = promise_time(state, now)?;
+    if state.is_crowded(prepare.txn) {
+        return Err(Fault::RowsFull);
+    }
+    promise_anew(state, alloc, prepare, at)
+}
+
+// Whoever is in the way is ended, and the promise logged.
+fn promise_anew(
+    state: &State,
+    alloc: Global,
+    prepare: &Prepare,
+    at: Stamp,
+) -> Result<Plan, Fault>
+    ensures plan { IfOk result (λ plan. plan_of state.now.memory.rows plan ≡
+        promises (start_of state.now) (in_way (start_of state.now) prepare.now.txn (exclusive prepare.now.writes)) prepare.now.txn at prepare.now.coordinator prepare.now.reads.keys prepare.now.writes) }
+    ensures memory { IfErr result (λ fault. fault ≡ Fault.Memory) }
+{
+    let request = request_of(alloc, prepare)?;
+    let needs = exclusive(alloc, &request.writes)?;
+    let wounded = state.in_way(alloc, prepare.txn, &needs)?;
+    promise_at(state, alloc, wounded, needs, prepare.txn, at, request)
+}
+
+// The transaction waits with its prepare.
+fn wait(state: &State, alloc: Global, prepare: &Prepare) -> Result<Plan, Fault>
+    requires { opens (start_of state.now) prepare.now.txn (exclusive prepare.now.writes) ≡ false }
+    ensures { (earliest : ℕ) → IsPlanned state.now (plan_prepare_now (start_of state.now) earliest prepare.now.txn prepare.now.coordinator prepare.now.reads.keys prepare.now.writes) result }
+{
+    if state.is_crowded(prepare.txn) {
+        return Err(Fault::RowsFull);
+    }
+    wait_in_row(state, alloc, prepare)
+}
+
+// Whoever is in the way and may be ended is ended, and the row waits.
+fn wait_in_row(state: &State, alloc: Global, prepare: &Prepare) -> Result<Plan, Fault>
+    ensures plan { IfOk result (λ plan. plan_of state.now.memory.rows plan ≡
+        puts (start_of state.now) (in_way (start_of state.now) prepare.now.txn (exclusive prepare.now.writes)) prepare.now.txn [] (WaitsPrepare prepare.now.coordinator prepare.now.reads.keys prepare.now.writes) None state.now.memory.last []) }
+    ensures memory { IfErr result (λ fault. fault ≡ Fault.Memory) }
+{
+    let request = request_of(alloc, prepare)?;
+    let needs = exclusive(alloc, &request.writes)?;
+    let wounded = state.in_way(alloc, prepare.txn, &needs)?;
+    let asked = (needs, Change::Waits(prepare.txn, Wait::Prepare(request)));
+    state.puts(alloc, wounded, asked, None, state.last(), None)
+}
+
+/// The prepare that a transaction waits with, once its locks are granted.
+pub fn resume_prepare(
+    state: &State,
+    alloc: Global,
+    now: &Reading,
+    txn: TxnId,
+    request: &PrepareRequest,
+) -> Result<Plan, Fault>
+    ensures { IsPlanned state.now (plan_promise (start_of state.now) [] now.now.earliest txn request.now.coordinator request.now.reads request.now.writes) result }
+{
+    let at = promise_time(state, now)?;
+    promise_alone(state, alloc, txn, at, request)
+}
+
+// The promise is logged with nobody ended.
+fn promise_alone(
+    state: &State,
+    alloc: Global,
+    txn: TxnId,
+    at: Stamp,
+    request: &PrepareRequest,
+) -> Result<Plan, Fault>
+    ensures plan { IfOk result (λ plan. plan_of state.now.memory.rows plan ≡ promises (start_of state.now) [] txn at request.now.coordinator request.now.reads request.now.writes) }
+    ensures memory { IfErr result (λ fault. fault ≡ Fault.Memory) }
+{
+    let copy = request.copy(alloc)?;
+    let needs = exclusive(alloc, &copy.writes)?;
+    let nobody = Ids::from_vec(Vec::new(alloc));
+    promise_at(state, alloc, nobody, needs, txn, at, copy)
+}
+
+// The timestamp of a promise: above all that was served, and no earlier than the reading.
+fn promise_time(state: &State, now: &Reading) -> Result<Stamp, Fault>
+    ensures { MatchResult result
+        (λ at. (at ≡ max (state.now.memory.last + 1) now.now.earliest) × (at < 2 ^ 62))
+        (λ fault. (fault ≡ Fault.TimeSpent) × (2 ^ 62 ≤ max (state.now.memory.last + 1) now.now.earliest)) }
+{
+    let above = Stamp::above(state.last())?;
+    Ok(above.later(now.earliest()))
+}
+
+// The promise is logged, and voted for.
+fn promise_at(
+    state: &State,
+    alloc: Global,
+    wounded: Ids,
+    needs: Vec<Lock>,
+    txn: TxnId,
+    at: Stamp,
+    request: PrepareRequest,
+) -> Result<Plan, Fault>
+    requires { needs.items ≡ exclusive request.writes }
+    ensures plan { IfOk result (λ plan. plan_of state.now.memory.rows plan ≡ promises (start_of state.now) wounded txn at request.coordinator request.reads request.writes) }
+    ensures memory { IfErr result (λ fault. fault ≡ Fault.Memory) }
+{
+    let yes = vote_to(state.setup().shard, request.coordinator, txn, Some(at));
+    let promise = Record::Prepare(Prepared {
+        txn,
+        coordinator: request.coordinator,
+        at,
+        reads: request.reads,
+        writes: request.writes,
+    });
+    let asked = (needs, Change::Stands(txn));
+    let last = state.last().later(at);
+    state.puts(alloc, wounded, asked, Some(promise), last, Some(yes))
+}
+
+// The request of a prepare, with memory of its own.
+fn request_of(alloc: Global, prepare: &Prepare) -> Result<PrepareRequest, Fault>
+    ensures same { IfOk result (λ request. (request.coordinator ≡ prepare.now.coordinator) × (request.reads ≡ prepare.now.reads.keys) × (request.writes ≡ prepare.now.writes)) }
+    ensures memory { IfErr result (λ fault. fault ≡ Fault.Memory) }
+{
+    Ok(PrepareRequest {
+        coordinator: prepare.coordinator,
+        reads: prepare.reads.keys().copy(alloc)?,
+        writes: prepare.writes.copy(alloc)?,
+    })
+}

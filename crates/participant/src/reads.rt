@@ -1,0 +1,174 @@
+//! Reads.
+ghost use Rattle.std.specs.Prelude.{◌≡◌, ℕ, IfOk, IfErr, [], ◌∷◌, None};
+ghost use Rattle.message.specs.declared.message.Answer.TheVariants.{Refused};
+ghost use Rattle.protocol.specs.Draft.{answer_to};
+ghost use Rattle.protocol.specs.Rows.{Idle, WaitsRead, HasRow};
+ghost use Rattle.protocol.specs.Plan.{plan_read, plan_read_row, plan_read_now, plan_go_on, puts, replies, answers, stands, held_in, to_read};
+ghost use Rattle.rows.specs.CodeRows.{phase_of};
+ghost use Rattle.memory.specs.Kept.{start_of, standing_of, IsPlanned};
+ghost use Rattle.memory.specs.Plans.{plan_of};
+ghost use Rattle.participant.specs.Asks.{read_asks};
+
+use memory::{Change, Past, Plan, State, answer_to};
+use message::{Answer, Read};
+use rows::{Row, Wait};
+use std::alloc::Global;
+use units::{Fault, Ids, Key, Lock, Mode, TxnId};
+
+/// A read: a key that is held is answered at once; else a shared lock is asked for, and the answer comes once it is held.
+pub fn on_read(state: &State, alloc: Global, read: &Read) -> Result<Plan, Fault>
+    ensures { IsPlanned state.now (plan_read (start_of state.now) read.now.txn read.now.key (stands (start_of state.now) read.now.txn)) result }
+{
+    match state.row(read.txn) {
+        Some(row) => read_with_row(state, alloc, read, row),
+        None => read_without_row(state, alloc, read, state.past(read.txn)),
+    }
+}
+
+// A read of a transaction that has a row.
+#[tactic(auto, unfolding(protocol::specs::Plan::plan_read))]
+fn read_with_row(state: &State, alloc: Global, read: &Read, row: &Row) -> Result<Plan, Fault>
+    ensures { IsPlanned state.now (plan_read (start_of state.now) read.now.txn read.now.key (HasRow (held_in state.now.memory.rows read.now.txn) (phase_of row.now))) result }
+{
+    match row {
+        Row::Reading(reading) => {
+            let waits = reading.wait().is_some();
+            read_row(state, alloc, read.txn, &read.key, waits)
+        }
+        Row::Collecting(_) | Row::Prepared(_) | Row::Decided(_) => Ok(state.idles(alloc)),
+    }
+}
+
+// A read of a transaction that has no row.
+#[tactic(auto, unfolding(protocol::specs::Plan::plan_read))]
+fn read_without_row(
+    state: &State,
+    alloc: Global,
+    read: &Read,
+    past: Past,
+) -> Result<Plan, Fault>
+    ensures { IsPlanned state.now (plan_read (start_of state.now) read.now.txn read.now.key (standing_of past)) result }
+{
+    match past {
+        Past::Unknown => read_now(state, alloc, read.txn, &read.key),
+        Past::Ended | Past::Aborted | Past::Settled { .. } | Past::Closed { .. } => {
+            refuse(state, alloc, read.txn, &read.key)
+        }
+    }
+}
+
+// A key that is held is answered at once; a row that waits stays as it is.
+fn read_row(
+    state: &State,
+    alloc: Global,
+    txn: TxnId,
+    key: &Key,
+    waits: bool,
+) -> Result<Plan, Fault>
+    ensures { IsPlanned state.now (plan_read_row (start_of state.now) txn key.now (held_in state.now.memory.rows txn) waits) result }
+{
+    if state.holds(txn, key) {
+        return answer_held(state, alloc, txn, key);
+    }
+    if waits {
+        return Ok(state.idles(alloc));
+    }
+    read_now(state, alloc, txn, key)
+}
+
+// A key that is held is answered.
+fn answer_held(state: &State, alloc: Global, txn: TxnId, key: &Key) -> Result<Plan, Fault>
+    ensures plan { IfOk result (λ plan. plan_of state.now.memory.rows plan ≡ replies (start_of state.now) (answers (start_of state.now) txn key.now ∷ [])) }
+    ensures memory { IfErr result (λ fault. fault ≡ Fault.Memory) }
+{
+    let answer = state.answer(alloc, txn, key)?;
+    state.reply(alloc, answer)
+}
+
+// A shared lock and the answer, or a wait, where there is room for the row.
+fn read_now(state: &State, alloc: Global, txn: TxnId, key: &Key) -> Result<Plan, Fault>
+    ensures { IsPlanned state.now (plan_read_now (start_of state.now) txn key.now) result }
+{
+    if state.is_crowded(txn) {
+        return Err(Fault::RowsFull);
+    }
+    ask_for_key(state, alloc, txn, key)
+}
+
+// A shared lock and the answer, or a wait.
+fn ask_for_key(state: &State, alloc: Global, txn: TxnId, key: &Key) -> Result<Plan, Fault>
+    ensures plan { IfOk result (λ plan. plan_of state.now.memory.rows plan ≡ read_asks (start_of state.now) txn key.now) }
+    ensures memory { IfErr result (λ fault. fault ≡ Fault.Memory) }
+{
+    let needs = shared(alloc, key)?;
+    let wounded = state.in_way(alloc, txn, &needs)?;
+    if state.opens(txn, &needs) {
+        grant(state, alloc, wounded, needs, txn, key)
+    } else {
+        let asked = (needs, Change::Waits(txn, Wait::Read(*key)));
+        state.puts(alloc, wounded, asked, None, state.last(), None)
+    }
+}
+
+/// The read that a transaction waits with, once its lock is granted.
+pub fn resume_read(state: &State, alloc: Global, txn: TxnId, key: &Key) -> Result<Plan, Fault>
+    ensures { (earliest : ℕ) → IsPlanned state.now (plan_go_on (start_of state.now) earliest txn (WaitsRead key.now)) result }
+{
+    grant_alone(state, alloc, txn, key)
+}
+
+// The lock is granted with nobody ended, and the read answered.
+fn grant_alone(state: &State, alloc: Global, txn: TxnId, key: &Key) -> Result<Plan, Fault>
+    ensures plan { IfOk result (λ plan. plan_of state.now.memory.rows plan ≡ puts (start_of state.now) [] txn (to_read key.now) Idle None state.now.memory.last (answers (start_of state.now) txn key.now ∷ [])) }
+    ensures memory { IfErr result (λ fault. fault ≡ Fault.Memory) }
+{
+    let needs = shared(alloc, key)?;
+    let nobody = Ids::from_vec(Vec::new(alloc));
+    grant(state, alloc, nobody, needs, txn, key)
+}
+
+// The lock is granted, and the read answered.
+fn grant(
+    state: &State,
+    alloc: Global,
+    wounded: Ids,
+    needs: Vec<Lock>,
+    txn: TxnId,
+    key: &Key,
+) -> Result<Plan, Fault>
+    requires { needs.items ≡ to_read key.now }
+    ensures plan { IfOk result (λ plan. plan_of state.now.memory.rows plan ≡ puts (start_of state.now) wounded txn (to_read key.now) Idle None state.now.memory.last (answers (start_of state.now) txn key.now ∷ [])) }
+    ensures memory { IfErr result (λ fault. fault ≡ Fault.Memory) }
+{
+    let answer = state.answer(alloc, txn, key)?;
+    let asked = (needs, Change::Reads(txn));
+    state.puts(alloc, wounded, asked, None, state.last(), Some(answer))
+}
+
+// The read is refused.
+fn refuse(state: &State, alloc: Global, txn: TxnId, key: &Key) -> Result<Plan, Fault>
+    ensures plan { IfOk result (λ plan. plan_of state.now.memory.rows plan ≡ replies (start_of state.now) (answer_to state.now.setup.shard txn key.now state.now.facts.epoch Refused ∷ [])) }
+    ensures memory { IfErr result (λ fault. fault ≡ Fault.Memory) }
+{
+    let answer = answer_to(
+        state.setup().shard,
+        txn,
+        *key,
+        state.epoch(),
+        Answer::Refused,
+    );
+    state.reply(alloc, answer)
+}
+
+// A shared lock of a key.
+fn shared(alloc: Global, key: &Key) -> Result<Vec<Lock>, Fault>
+    ensures lock { IfOk result (λ locks. locks.items ≡ to_read key.now) }
+    ensures memory { IfErr result (λ fault. fault ≡ Fault.Memory) }
+{
+    let mut locks = Vec::new(alloc);
+    locks.push(Lock {
+        key: *key,
+        mode: Mode::Shared,
+    })?;
+    Ok(locks)
+}
