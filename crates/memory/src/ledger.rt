@@ -154,7 +154,7 @@ impl Ledger {
     }
 }
 
-// Learns the record that comes next in the log. It takes no memory.
+// Learns the record that comes next in the log. It is not damaged, so its offset does not matter. It takes no memory.
 fn learn_next(facts: &mut Facts, item: Record)
     requires room { 1 ≤ facts.old.room }
     requires follows { IsTrue (follows_facts facts.old.shard facts.old.facts item) }
