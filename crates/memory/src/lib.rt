@@ -6,6 +6,7 @@ mod ended;
 mod envelopes;
 mod laws;
 mod ledger;
+mod making;
 pub mod plan;
 mod planning;
 pub mod state;

@@ -1,0 +1,65 @@
+//! How a state is made and ended, and what it shows of its rows.
+ghost use Rattle.std.specs.Prelude.{◌≡◌, [], ◌∷◌, IfOk, IfErr};
+ghost use Rattle.record.specs.Facts.{facts_of};
+ghost use Rattle.rows.specs.RowTable.{nth_prepared, nth_decided};
+
+use crate::ended::Ended;
+use crate::ledger::Ledger;
+use crate::state::State;
+use record::Record;
+use rows::Rows;
+use safetime::SafeTime;
+use std::alloc::Global;
+use units::{Epoch, Fault, Setup, Stamp, TxnId, Writes};
+
+impl State {
+    /// What a shard keeps once its first opening is logged. It is refused for want of memory alone.
+    pub fn fresh(alloc: Global, setup: Setup) -> Result<State, Fault>
+        ensures setup { IfOk result (λ s. s.setup ≡ setup) }
+        ensures facts { IfOk result (λ s. s.facts ≡ facts_of (Record.Opened 1 ∷ [])) }
+        ensures empty { IfOk result (λ s. s.memory ≡ record { last = 0; rows = []; ended = [] }) }
+        ensures memory { IfErr result (λ fault. fault ≡ Fault.Memory) }
+    {
+        let mut ledger = Ledger::new(alloc, setup.shard);
+        ledger.reserve()?;
+        let opened = Record::Opened {
+            epoch: Epoch::first(),
+        };
+        ledger.learn(opened, Writes::none(alloc));
+        let times = SafeTime::new(alloc, Stamp::zero())?;
+        let rows = Rows::new(alloc)?;
+        Ok(State {
+            setup,
+            ledger,
+            rows,
+            ended: Ended::none(alloc),
+            times,
+        })
+    }
+
+    /// Ends the state: the tokens of its rows are spent. It takes no memory.
+    pub fn stop(self) {
+        let State {
+            setup: _,
+            ledger: _,
+            rows,
+            ended: _,
+            times: _,
+        } = self;
+        rows.stop();
+    }
+
+    /// The n-th transaction, from 0 by ascending id, that is prepared, with its timestamp.
+    pub fn nth_prepared(&self, n: usize) -> Option<(TxnId, Stamp)>
+        ensures { result ≡ nth_prepared self.now.memory.rows n }
+    {
+        self.rows.nth_prepared(n)
+    }
+
+    /// The n-th transaction, from 0 by ascending id, that is decided, with its timestamp.
+    pub fn nth_decided(&self, n: usize) -> Option<(TxnId, Stamp)>
+        ensures { result ≡ nth_decided self.now.memory.rows n }
+    {
+        self.rows.nth_decided(n)
+    }
+}
