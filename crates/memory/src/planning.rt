@@ -97,7 +97,14 @@ impl State {
     }
 
     /// The row goes by a record.
-    pub fn drops(&self, alloc: Global, txn: TxnId, item: Record, last: Stamp, out: Vec<Envelope>) -> Plan
+    pub fn drops(
+        &self,
+        alloc: Global,
+        txn: TxnId,
+        item: Record,
+        last: Stamp,
+        out: Vec<Envelope>,
+    ) -> Plan
         ensures { plan_of self.now.memory.rows result ≡ drops txn item last out.items }
     {
         Plan {
@@ -143,13 +150,21 @@ impl State {
     }
 
     /// Some are ended, and the row of a transaction is put.
-    pub fn puts(&self, alloc: Global, wounded: Ids, asked: (Vec<Lock>, Change), logged: Option<Record>, last: Stamp, reply: Option<Envelope>) -> Result<Plan, Fault>
+    pub fn puts(
+        &self,
+        alloc: Global,
+        wounded: Ids,
+        asked: (Vec<Lock>, Change),
+        logged: Option<Record>,
+        last: Stamp,
+        reply: Option<Envelope>,
+    ) -> Result<Plan, Fault>
         ensures plan { IfOk result (λ plan. plan_of self.now.memory.rows plan ≡ record {
-            wounded = wounded;
-            change = change_of self.now.memory.rows (asked.0).items logged (asked.1);
-            logged = logged;
-            last = last;
-            outbox = votes_of self.now.setup.shard self.now.memory.rows wounded ++ listed reply;
+          wounded = wounded;
+          change = change_of self.now.memory.rows (asked.0).items logged (asked.1);
+          logged = logged;
+          last = last;
+          outbox = votes_of self.now.setup.shard self.now.memory.rows wounded ++ listed reply;
         }) }
         ensures memory { IfErr result (λ fault. fault ≡ Fault.Memory) }
     {

@@ -17,7 +17,9 @@ use rows::{Row, Rows};
 use safetime::SafeTime;
 use std::alloc::Global;
 use std::marker::Model;
-use units::{Epoch, Fault, Ids, Install, Key, Keys, Lock, Mode, Parts, Setup, Stamp, TxnId, Value, Writes};
+use units::{
+    Epoch, Fault, Ids, Install, Key, Keys, Lock, Mode, Parts, Setup, Stamp, TxnId, Value, Writes,
+};
 
 /// What a shard keeps in memory: what it was told, the facts of its log with the versions by key, its rows with their
 /// locks, the ids that were ended, and its served time.
@@ -206,16 +208,14 @@ fn past_by(status: Option<&Status>, ended: bool) -> Past
             at: *at,
             parts: *parts,
         },
-        Some(Status::Closed {
-            coordinator: _,
-            outcome,
-        }) => Past::Closed { outcome: *outcome },
+        Some(
+            Status::Closed {
+                coordinator: _,
+                outcome,
+            },
+        ) => Past::Closed { outcome: *outcome },
         Some(Status::Prepared(_)) | Some(Status::Decided(_)) | None => {
-            if ended {
-                Past::Ended
-            } else {
-                Past::Unknown
-            }
+            if ended { Past::Ended } else { Past::Unknown }
         }
     }
 }

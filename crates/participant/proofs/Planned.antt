@@ -9,11 +9,11 @@ use Rattle.units.specs.declared.fault.Fault.{Fault}
 use Rattle.units.specs.declared.fault.Fault.TheVariants.{Stranger, RowsFull, TimeSpent}
 use Rattle.units.specs.declared.lock.Lock.{Lock}
 use Rattle.units.specs.declared.writes.Write.{Write}
-use Rattle.record.specs.Records.{Status, Unrecorded, StandsPrepared, StandsDecided, HasAborted, HasSettled, HasClosed}
+use Rattle.record.specs.Records.{Status, HasAborted, HasSettled, HasClosed}
 use Rattle.record.specs.Facts.{recorded}
 use Rattle.protocol.specs.Rows.{HasRow, Idle, WaitsRead, WaitsPrepare, find_row, standing_by}
 use Rattle.protocol.specs.Draft.{time_limit, held_by}
-use Rattle.protocol.specs.Plan.{Before, Planned, stands, opens, in_way, is_crowded, still_stand, replies, idles, ends, puts, answers, refuses, roomed, timed, to_read, plan_go_on, plan_nudge, plan_read, plan_read_row, plan_read_now, plan_prepare, plan_prepare_fresh, plan_prepare_now, plan_promise, held_in}
+use Rattle.protocol.specs.Plan.{Before, Planned, stands, opens, in_way, is_crowded, still_stand, replies, idles, ends, puts, answers, refuses, roomed, to_read, plan_go_on, plan_nudge, plan_read, plan_read_row, plan_read_now, plan_prepare, plan_prepare_fresh, plan_prepare_now, plan_promise, held_in}
 use Rattle.rows.specs.CodeRows.{phase_of_wait}
 use Rattle.rows.specs.declared.wait.Wait.{Wait}
 use Rattle.memory.specs.Kept.{Kept, start_of, standing_of, IsPlanned}

@@ -29,12 +29,7 @@ pub fn on_outcome(state: &State, alloc: Global, told: &Outcome) -> Result<Plan, 
 
 // The outcome of a transaction that has a row.
 #[tactic(auto, unfolding(protocol::specs::Plan::plan_outcome))]
-fn outcome_with_row(
-    state: &State,
-    alloc: Global,
-    told: &Outcome,
-    row: &Row,
-) -> Result<Plan, Fault>
+fn outcome_with_row(state: &State, alloc: Global, told: &Outcome, row: &Row) -> Result<Plan, Fault>
     ensures { IsPlanned state.now (plan_outcome (start_of state.now) told.now.from told.now.txn told.now.outcome (HasRow (held_in state.now.memory.rows told.now.txn) (phase_of row.now))) result }
 {
     match row {
@@ -126,12 +121,7 @@ pub fn end_reading(
 {
     let mut out = Vec::new(alloc);
     if let Some(Wait::Prepare(request)) = wait {
-        out.push(vote_to(
-            state.setup().shard,
-            request.coordinator,
-            txn,
-            None,
-        ))?;
+        out.push(vote_to(state.setup().shard, request.coordinator, txn, None))?;
     }
     Ok(state.ends(alloc, txn, out))
 }

@@ -92,21 +92,11 @@ fn prepare_without_row(
 }
 
 // The vote, to the coordinator that the prepare names.
-fn vote(
-    state: &State,
-    alloc: Global,
-    prepare: &Prepare,
-    vote: Option<Stamp>,
-) -> Result<Plan, Fault>
+fn vote(state: &State, alloc: Global, prepare: &Prepare, vote: Option<Stamp>) -> Result<Plan, Fault>
     ensures plan { IfOk result (λ plan. plan_of state.now.memory.rows plan ≡ replies (start_of state.now) (vote_to state.now.setup.shard prepare.now.coordinator prepare.now.txn vote ∷ [])) }
     ensures memory { IfErr result (λ fault. fault ≡ Fault.Memory) }
 {
-    let envelope = vote_to(
-        state.setup().shard,
-        prepare.coordinator,
-        prepare.txn,
-        vote,
-    );
+    let envelope = vote_to(state.setup().shard, prepare.coordinator, prepare.txn, vote);
     state.reply(alloc, envelope)
 }
 
@@ -170,12 +160,7 @@ fn promise_now(
 }
 
 // Whoever is in the way is ended, and the promise logged.
-fn promise_anew(
-    state: &State,
-    alloc: Global,
-    prepare: &Prepare,
-    at: Stamp,
-) -> Result<Plan, Fault>
+fn promise_anew(state: &State, alloc: Global, prepare: &Prepare, at: Stamp) -> Result<Plan, Fault>
     ensures plan { IfOk result (λ plan. plan_of state.now.memory.rows plan ≡
         promises (start_of state.now) (in_way (start_of state.now) prepare.now.txn (exclusive prepare.now.writes)) prepare.now.txn at prepare.now.coordinator prepare.now.reads.keys prepare.now.writes) }
     ensures memory { IfErr result (λ fault. fault ≡ Fault.Memory) }

@@ -41,12 +41,7 @@ fn read_with_row(state: &State, alloc: Global, read: &Read, row: &Row) -> Result
 
 // A read of a transaction that has no row.
 #[tactic(auto, unfolding(protocol::specs::Plan::plan_read))]
-fn read_without_row(
-    state: &State,
-    alloc: Global,
-    read: &Read,
-    past: Past,
-) -> Result<Plan, Fault>
+fn read_without_row(state: &State, alloc: Global, read: &Read, past: Past) -> Result<Plan, Fault>
     ensures { IsPlanned state.now (plan_read (start_of state.now) read.now.txn read.now.key (standing_of past)) result }
 {
     match past {
@@ -58,13 +53,7 @@ fn read_without_row(
 }
 
 // A key that is held is answered at once; a row that waits stays as it is.
-fn read_row(
-    state: &State,
-    alloc: Global,
-    txn: TxnId,
-    key: &Key,
-    waits: bool,
-) -> Result<Plan, Fault>
+fn read_row(state: &State, alloc: Global, txn: TxnId, key: &Key, waits: bool) -> Result<Plan, Fault>
     ensures { IsPlanned state.now (plan_read_row (start_of state.now) txn key.now (held_in state.now.memory.rows txn) waits) result }
 {
     if state.holds(txn, key) {

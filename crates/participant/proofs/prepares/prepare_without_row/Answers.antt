@@ -1,4 +1,3 @@
-use Rattle.memory.specs.Kept.{start_of}
 use Rattle.participant.proofs.Planned.{prepare_unknown}
 use Rattle.participant.proofs.prepares.prepare_without_row.Goals as goal
 

@@ -1,4 +1,4 @@
-use Rattle.std.proofs.Common.{◌≡◌, ◌∙◌, Bool, Option, Some, None, Bor, ap, sym, refl, subst}
+use Rattle.std.proofs.Common.{◌≡◌, ◌∙◌, Option, Some, None, Bor, ap, sym, refl, subst}
 use Rattle.std.specs.Option.{option_copied, is_some}
 use Rattle.protocol.specs.Rows.{HasRow}
 use Rattle.protocol.specs.Plan.{plan_read, plan_read_row, held_in}
