@@ -154,8 +154,8 @@ impl Table {
         ensures table { self.new ≡ change_claim self.old held.old.txn (granted needs.now) }
         ensures txn { held.new.txn ≡ held.old.txn }
     {
-        let at = place(&self.entries, held.txn);
-        self.entries[at].grant(&mut held.buffer, needs);
+        let spot = place(&self.entries, held.txn);
+        self.entries[spot].grant(&mut held.buffer, needs);
     }
 
     /// Keeps a request that has to wait and ends nobody, with the room that its token has. It takes no memory.
@@ -167,8 +167,8 @@ impl Table {
         ensures table { self.new ≡ change_claim self.old held.old.txn (waiting needs.now) }
         ensures txn { held.new.txn ≡ held.old.txn }
     {
-        let at = place(&self.entries, held.txn);
-        self.entries[at].wait(&mut held.buffer, needs);
+        let spot = place(&self.entries, held.txn);
+        self.entries[spot].wait(&mut held.buffer, needs);
     }
 
     /// From now on nobody ends it.
