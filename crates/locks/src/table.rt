@@ -5,7 +5,10 @@ ghost use Rattle.units.specs.Locks.{asked, holds, is_free, ready, wounded};
 ghost use Rattle.locks.specs.Table.{has_claim, with_claim, without_claim, without_claims, change_claim, entrant, made_firm, granted, waiting, resumed, withdrawn, after, held_in, needs_in, most_held, KeepsRoom, ReleaseMakesWay};
 
 use crate::buffer::make_room;
-use crate::entry::{Entry, holds, is_blocked, is_kept_out, is_wounding, needs_count, place, place_for, ready, wounded};
+use crate::entry::{
+    Entry, holds, is_blocked, is_kept_out, is_wounding, needs_count, place, place_for, ready,
+    wounded,
+};
 use crate::held::Held;
 use std::alloc::Global;
 use std::marker::Model;
