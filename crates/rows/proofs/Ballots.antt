@@ -1,10 +1,9 @@
 -- Votes of each shard once are sixteen at most.
-use Rattle.std.proofs.Common.{◌≡◌, ℕ, zero, suc, ◌+◌, ◌<◌, ◌≤◌, Bool, true, false, cond, ◌&&◌, ◌||◌, nat_eq, nat_lt, List, [], ◌∷◌, ◌++◌, map, length, refl, sym, ap, subst, ◌∙◌, arith}
+use Rattle.std.proofs.Common.{◌≡◌, ℕ, zero, suc, ◌<◌, ◌≤◌, Bool, true, false, cond, ◌&&◌, ◌||◌, nat_eq, nat_lt, List, [], ◌∷◌, ◌++◌, map, length, refl, sym, ap, ◌∙◌, arith}
 use Rattle.std.proofs.lemmas.Bool.Decides.{nat_tests}
 use Rattle.units.specs.Lists.{any, each, has, once, insert, sorted}
 use Rattle.units.specs.Parts.{marked}
 use Rattle.units.proofs.Marked.{sorted_once}
-use Rattle.protocol.specs.Rows.{Voted}
 use Rattle.protocol.specs.Step.{with_vote}
 use Rattle.rows.specs.States.{voted_of, has_voted, AreVotes, most_votes}
 use Rattle.rows.specs.declared.votes.Voted.{Voted as CastVote}

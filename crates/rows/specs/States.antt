@@ -1,11 +1,9 @@
 -- What the states of a transaction are seen as, and the records that lead from one to the next.
-use Rattle.std.specs.Prelude.{◌≡◌, ℕ, Bool, true, false, nat_eq, nat_lt, List, [], ◌∷◌, map, Option, None, Some}
+use Rattle.std.specs.Prelude.{◌≡◌, ℕ, Bool, true, false, nat_eq, nat_lt, List, [], ◌∷◌, Option}
 use Rattle.units.specs.Lists.{any}
 use Rattle.units.specs.Ids.{Id, same_id}
-use Rattle.units.specs.Keys.{Bytes}
-use Rattle.units.specs.declared.writes.Write.{Write}
 use Rattle.record.specs.declared.record.Record.{Record}
-use Rattle.protocol.specs.Rows.{Phase, Voted, Idle, WaitsRead, WaitsPrepare, WaitsCommit, Collecting, IsPrepared, IsDecided}
+use Rattle.protocol.specs.Rows.{Voted}
 use Rattle.protocol.specs.Step.{with_vote}
 use Rattle.locks.specs.Table.{Token}
 use Rattle.rows.specs.declared.votes.Voted.{Voted as CastVote}

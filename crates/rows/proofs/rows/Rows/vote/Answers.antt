@@ -1,4 +1,4 @@
-use Rattle.std.proofs.Common.{◌≡◌, ◌∙◌, sym, ap, true}
+use Rattle.std.proofs.Common.{◌∙◌, sym, ap}
 use Rattle.rows.specs.States.{CollectingState}
 use Rattle.rows.specs.CodeRows.{has_txn, is_collecting}
 use Rattle.rows.specs.RowTable.{RowTable, held_in, has_phase, put_row, phase_in, with_yes}
