@@ -6,7 +6,8 @@ ghost use Rattle.locks.specs.Table.{has_claim, with_claim, without_claim, withou
 
 use crate::buffer::make_room;
 use crate::entry::{
-    Entry, holds, is_blocked, is_kept_out, is_wounding, needs_count, place, place_for, ready, wounded,
+    Entry, holds, is_blocked, is_kept_out, is_wounding, needs_count, place, place_for, ready,
+    wounded,
 };
 use crate::held::Held;
 use std::alloc::Global;
@@ -156,8 +157,8 @@ impl Table {
         ensures table { self.new ≡ change_claim self.old held.old.txn (granted needs.now) }
         ensures txn { held.new.txn ≡ held.old.txn }
     {
-        let at = place(&self.entries, held.txn);
-        self.entries[at].grant(&mut held.buffer, needs);
+        let spot = place(&self.entries, held.txn);
+        self.entries[spot].grant(&mut held.buffer, needs);
     }
 
     /// Keeps a request that has to wait and ends nobody, with the room that its token has. It takes no memory.
@@ -169,8 +170,8 @@ impl Table {
         ensures table { self.new ≡ change_claim self.old held.old.txn (waiting needs.now) }
         ensures txn { held.new.txn ≡ held.old.txn }
     {
-        let at = place(&self.entries, held.txn);
-        self.entries[at].wait(&mut held.buffer, needs);
+        let spot = place(&self.entries, held.txn);
+        self.entries[spot].wait(&mut held.buffer, needs);
     }
 
     /// From now on nobody ends it.

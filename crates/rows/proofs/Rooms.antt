@@ -1,8 +1,7 @@
 -- The room of a transaction is that of the token in its row.
-use Rattle.std.proofs.Common.{◌≡◌, ℕ, ◌+◌, ◌≤◌, List, length, Option, Some, None, refl, sym, ap, ◌∙◌, arith}
+use Rattle.std.proofs.Common.{◌≡◌, ◌+◌, ◌≤◌, List, length, Option, Some, None, refl, sym, ap, ◌∙◌, arith}
 use Rattle.units.specs.Lists.{mapped}
 use Rattle.units.specs.Ids.{Id}
-use Rattle.units.specs.ById.{find_member}
 use Rattle.units.specs.Locks.{Claim}
 use Rattle.units.specs.declared.lock.Lock.{Lock}
 use Rattle.units.proofs.ByIdLaws.{find-map, find-with_same}

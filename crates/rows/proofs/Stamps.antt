@@ -5,7 +5,6 @@ use Rattle.units.specs.Ids.{Id}
 use Rattle.units.specs.Locks.{Claim}
 use Rattle.units.specs.declared.lock.Lock.{Lock}
 use Rattle.protocol.specs.Rows.{Row}
-use Rattle.rows.specs.States.{ReadingState}
 use Rattle.rows.specs.CodeRows.{txn_of, phase_of, phase_of_wait, prepared_of, decided_of}
 use Rattle.rows.specs.RowTable.{paired, held_first, prepared_row, decided_row}
 use Rattle.rows.specs.declared.row.Row.{Row as CodeRow}

@@ -1,9 +1,8 @@
 -- The rows of the code and the claims of their lock table, place by place, make the rows that a contract sees.
 use Rattle.std.proofs.Common.{◌≡◌, Bool, true, false, not, cond, List, [], ◌∷◌, map, Option, Some, None, refl, sym, ap, subst, ◌∙◌}
-use Rattle.std.proofs.lemmas.Bool.{false≢true}
 use Rattle.units.specs.Lists.{keep, head, mapped, tail, when}
 use Rattle.units.specs.Ids.{Id, same_id, older}
-use Rattle.units.specs.ById.{IsById, has_member, find_member, without_member, with_member, change_member}
+use Rattle.units.specs.ById.{IsById, without_member, with_member}
 use Rattle.units.specs.Locks.{Claim}
 use Rattle.units.specs.declared.lock.Lock.{Lock}
 use Rattle.units.proofs.IdLaws.{same_id-is, same_id_comm, older_not_same, older_not_younger, older_total, older-trans, older-along}

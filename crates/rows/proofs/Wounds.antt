@@ -1,27 +1,26 @@
 -- Those whom a request ends may be ended one by one, and the requester stays as it is.
-use Rattle.std.proofs.Common.{◌≡◌, Bool, true, false, ◌&&◌, ◌||◌, not, cond, List, [], ◌∷◌, map, Option, Some, None, refl, sym, ap, subst, ◌∙◌, arith}
+use Rattle.std.proofs.Common.{◌≡◌, Bool, true, false, ◌&&◌, cond, List, [], ◌∷◌, map, Option, Some, None, refl, sym, ap, subst, ◌∙◌}
 use Rattle.std.proofs.lemmas.Bool.{false≢true}
-use Rattle.std.proofs.lemmas.Bool.Decides.{nat_tests}
 use Rattle.std.specs.List.{AllByRecursion}
 use Rattle.units.specs.Lists.{any, keep, mapped, when}
-use Rattle.units.specs.Ids.{Id, same_id, older}
+use Rattle.units.specs.Ids.{Id, same_id}
 use Rattle.units.specs.ById.{IsById, find_member}
-use Rattle.units.specs.LockLaws.{IsOldestReady, IsReady}
-use Rattle.units.specs.Locks.{Claim, wounded, is_free, is_waiting, ready}
+use Rattle.units.specs.LockLaws.{IsOldestReady}
+use Rattle.units.specs.Locks.{Claim, wounded, is_waiting, ready}
 use Rattle.units.specs.declared.lock.Lock.{Lock}
-use Rattle.units.proofs.IdLaws.{same_id-refl, same_id_comm, older_not_same}
+use Rattle.units.proofs.IdLaws.{same_id-refl, older_not_same}
 use Rattle.units.proofs.ListLaws.{filter-is}
 use Rattle.units.proofs.ByIdLaws.{AllYounger, later_are_younger, later_differ, without_none, find-without_other}
-use Rattle.protocol.specs.Rows.{Row, Phase, Idle, WaitsRead, WaitsPrepare, WaitsCommit, Collecting, IsPrepared, IsDecided, claim_of, claims, find_row, without_row, needs_of, is_firm}
+use Rattle.protocol.specs.Rows.{Row, Phase, Idle, WaitsRead, WaitsPrepare, WaitsCommit, Collecting, IsPrepared, IsDecided, claim_of, claims, find_row, without_row, needs_of}
 use Rattle.protocol.proofs.RowTable.{claims-find_row, claims-by_id}
 use Rattle.locks.specs.Table.{Token, without_claims}
-use Rattle.locks.specs.Ways.{gives_way, ids_in_way}
+use Rattle.locks.specs.Ways.{gives_way}
 use Rattle.locks.proofs.WayLaws.{wounded-is}
 use Rattle.locks.proofs.Release.{wounded_differ, release_makes_way}
 use Rattle.locks.proofs.Oldest.{ready_is_oldest}
-use Rattle.rows.specs.CodeRows.{txn_of, phase_of, phase_of_wait, passes, is_reading}
+use Rattle.rows.specs.CodeRows.{txn_of, phase_of_wait, passes, is_reading}
 use Rattle.rows.specs.RowTable.{paired, has_phase, without_token, without_tokens, MayEnd}
-use Rattle.protocol.specs.Plan.{held_in, without_rows}
+use Rattle.protocol.specs.Plan.{without_rows}
 use Rattle.rows.specs.declared.row.Row.{Row as CodeRow}
 use Rattle.rows.specs.declared.wait.Wait.{Wait}
 use Rattle.rows.proofs.Ties.{by_id-paired, has_phase-is}

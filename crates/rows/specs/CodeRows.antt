@@ -1,11 +1,10 @@
 -- The rows as the code keeps them: typed states, by ascending id.
-use Rattle.std.specs.Prelude.{◌≡◌, ◌≤◌, ℕ, Bool, true, false, not, List, length, Option, None, Some}
+use Rattle.std.specs.Prelude.{◌≤◌, ℕ, Bool, true, false, not, List, length, Option, None, Some}
 use Rattle.units.specs.Lists.{when}
 use Rattle.units.specs.Ids.{Id}
 use Rattle.units.specs.ById.{IsById, has_member, find_member, without_member, with_member}
 use Rattle.protocol.specs.Rows.{Phase, Idle, WaitsRead, WaitsPrepare, WaitsCommit, Collecting as CollectsVotes, IsPrepared, IsDecided, is_firm}
 use Rattle.locks.specs.Table.{Token}
-use Rattle.rows.specs.States.{ReadingState}
 use Rattle.rows.specs.declared.row.Row.{Row}
 use Rattle.rows.specs.declared.row.Row.TheVariants.{Reading, Collecting, Prepared, Decided}
 use Rattle.rows.specs.declared.wait.Wait.{Wait}
@@ -43,6 +42,11 @@ is_reading phase = not (is_firm phase)
 abbrev pub is_idle : Phase → Bool
 is_idle Idle = true
 is_idle _ = false
+
+-- it collects votes
+abbrev pub is_collecting : Phase → Bool
+is_collecting (CollectsVotes latest parts reads writes votes) = true
+is_collecting _ = false
 
 -- it is idle, or collects votes
 abbrev pub may_decide : Phase → Bool

@@ -16,6 +16,5 @@ pub use states::{Collecting, Decided, Prepared, Reading};
 pub use votes::{Gathering, Voted, Votes};
 pub use wait::{CommitRequest, PrepareRequest, Wait};
 
-
 #[cfg(test)]
 mod tests;

@@ -119,14 +119,20 @@ fn gathering(alloc: Global) -> Result<Gathering, Fault> {
     Gathering::new(alloc, request)
 }
 
-// 1.1 collects votes, is decided at 111 and closed.
+// 1.1 collects a vote of shard 1, whose first counts, is decided at 111 and closed.
 fn decision_kept(rows: &mut Rows, alloc: Global) -> Result<bool, Fault>
     requires { rows.old.rows ≡ idle_row (record { run = 1; number = 1 }) ∷ [] }
 {
     rows.collect(id(1), gathering(alloc)?);
+    rows.vote(id(1), shard(1), Stamp::new(108)?);
+    rows.vote(id(1), shard(1), Stamp::new(109)?);
     let collects = match rows.find(id(1)) {
         Some(Row::Collecting(state)) => {
-            state.txn() == id(1) && state.request().latest == Stamp::new(105)?
+            let votes = state.votes().as_slice();
+            state.txn() == id(1)
+                && state.request().latest == Stamp::new(105)?
+                && votes.len() == 1
+                && votes[0].at == Stamp::new(108)?
         }
         _ => false,
     };
@@ -229,13 +235,15 @@ fn wounds(rows: &mut Rows, alloc: Global, a: Key) -> Result<bool, Fault>
     let younger = own(rows, alloc, id(2), a)?;
     let older = own(rows, alloc, id(1), a)?;
     let keys = only(alloc, a)?;
-    Ok(younger
-        && older
-        && rows.find(id(2)).is_none()
-        && rows.holds(id(1), &a)
-        && rows.holds_all(id(1), &keys)
-        && !rows.holds_all(id(2), &keys)
-        && !rows.is_full())
+    Ok(
+        younger
+            && older
+            && rows.find(id(2)).is_none()
+            && rows.holds(id(1), &a)
+            && rows.holds_all(id(1), &keys)
+            && !rows.holds_all(id(2), &keys)
+            && !rows.is_full(),
+    )
 }
 
 #[test]

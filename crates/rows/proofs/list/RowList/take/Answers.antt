@@ -1,5 +1,5 @@
 use Rattle.std.proofs.Common.{◌∙◌, sym, ap, subst, arith}
-use Rattle.units.proofs.ByIdLaws.{find_at_place, remove_is_without, by_id-keep}
+use Rattle.units.proofs.ByIdLaws.{find_at_place, remove_is_without}
 use Rattle.rows.specs.CodeRows.{IsRowList, txn_of, row_of, without_txn}
 use Rattle.rows.proofs.Lists.{row_list-without}
 use Rattle.rows.proofs.list.RowList.take.Goals as goal

@@ -1,7 +1,5 @@
-use Rattle.std.proofs.Common.{◌≡◌, ◌<◌, ◌∙◌, ℕ, sym, ap, subst, length, false, List, []}
-use Rattle.units.specs.Ids.{Id}
-use Rattle.protocol.specs.Rows.{Row, Idle, find_row}
-use Rattle.locks.specs.Table.{Token}
+use Rattle.std.proofs.Common.{◌<◌, ◌∙◌, ℕ, sym, ap, subst, length, []}
+use Rattle.protocol.specs.Rows.{Idle, find_row}
 use Rattle.rows.specs.States.{ReadingState}
 use Rattle.rows.specs.CodeRows.{has_txn, phase_of}
 use Rattle.rows.specs.RowTable.{RowTable, put_row}

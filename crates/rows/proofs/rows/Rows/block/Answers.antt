@@ -1,19 +1,15 @@
-use Rattle.std.proofs.Common.{◌≡◌, ◌≤◌, ◌+◌, ◌∙◌, sym, ap, subst, true, false, length, List, [], OnOk, ℕ, Some, None, Option}
+use Rattle.std.proofs.Common.{◌∙◌, sym, ap, List, Some}
 use Rattle.units.specs.Ids.{Id}
-use Rattle.units.specs.Locks.{Claim, is_free, wounded, with_locks, ready}
-use Rattle.protocol.specs.Rows.{Row, Idle, claims, find_row, without_row, needs_of}
-use Rattle.locks.specs.Table.{Token, held_in as held_in_table}
-use Rattle.rows.specs.States.{ReadingState, CollectingState, PreparedState, DecidedState, is_commit_of, is_abort_of, is_outcome_of}
-use Rattle.rows.specs.CodeRows.{has_txn, passes, phase_of, phase_of_wait, is_reading, is_idle, may_decide, may_abort, may_close}
-use Rattle.rows.specs.RowTable.{RowTable, needs_in, has_phase, room, put_row, phase_by}
+use Rattle.units.specs.Locks.{Claim, is_free, wounded}
+use Rattle.protocol.specs.Rows.{claims}
+use Rattle.rows.specs.CodeRows.{has_txn, phase_of_wait, is_reading}
+use Rattle.rows.specs.RowTable.{RowTable, has_phase, put_row}
 use Rattle.protocol.specs.Plan.{held_in}
-use Rattle.rows.specs.declared.row.Row.TheVariants.{Reading, Collecting, Prepared, Decided}
-use Rattle.rows.specs.declared.wait.Wait.{Wait}
-use Rattle.rows.proofs.Ties.{has_phase-is, held_is, found_row, found_txn, found_passes, passes_there}
-use Rattle.rows.proofs.Steps.{taken, left, has_its_claim, idle_reads, decided_token}
-use Rattle.rows.proofs.Rooms.{room_fits, room_resumes, room_put}
-use Rattle.rows.proofs.Transitions.{decided, decided_by_votes, collected, granted_more, waits_with, goes_on, given_room, who_decides, who_aborts, who_closes}
-use Rattle.rows.proofs.Wounds.{waits, ready_waits, ready_reads, waits_some}
+use Rattle.rows.specs.declared.row.Row.TheVariants.{Reading}
+use Rattle.rows.proofs.Ties.{has_phase-is, found_txn}
+use Rattle.rows.proofs.Steps.{taken, has_its_claim}
+use Rattle.rows.proofs.Rooms.{room_fits}
+use Rattle.rows.proofs.Transitions.{waits_with}
 use Rattle.rows.proofs.rows.Rows.block.Goals as goal
 
 pub take_reading-reading-requires : goal.take_reading-reading-requires

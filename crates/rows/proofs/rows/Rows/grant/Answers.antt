@@ -1,14 +1,14 @@
-use Rattle.std.proofs.Common.{◌≡◌, ◌≤◌, ◌+◌, ◌∙◌, sym, ap, true, false, length, List, [], Option, Some, arith}
+use Rattle.std.proofs.Common.{◌≡◌, ◌∙◌, ap, length, List, Option, arith}
 use Rattle.units.specs.ById.{find_member}
-use Rattle.units.specs.Locks.{with_locks, wounded}
-use Rattle.protocol.specs.Rows.{Row, Idle, claims, find_row}
+use Rattle.units.specs.Locks.{with_locks}
+use Rattle.protocol.specs.Rows.{Row, Idle, find_row}
 use Rattle.protocol.specs.Draft.{held_by}
 use Rattle.locks.specs.Table.{Token}
-use Rattle.rows.specs.CodeRows.{phase_of_wait, is_reading}
-use Rattle.rows.specs.RowTable.{RowTable, room, room_by, put_row}
+use Rattle.rows.specs.CodeRows.{is_reading}
+use Rattle.rows.specs.RowTable.{room, room_by, put_row}
 use Rattle.protocol.specs.Plan.{held_in}
 use Rattle.units.specs.Lists.{when}
-use Rattle.rows.proofs.Wounds.{may_end_wounded, others_end, row_stays, token_stays, then_quiet}
+use Rattle.rows.proofs.Wounds.{may_end_wounded, others_end, row_stays, token_stays}
 use Rattle.rows.proofs.rows.Rows.grant.Goals as goal
 
 pub end_each-requires : goal.end_each-requires

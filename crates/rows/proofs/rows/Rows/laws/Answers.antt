@@ -1,4 +1,4 @@
-use Rattle.std.proofs.Common.{◌≡◌, ◌≤◌, ◌∙◌, ℕ, sym, ap, subst, length}
+use Rattle.std.proofs.Common.{◌≤◌, ◌∙◌, ℕ, sym, ap, subst, length}
 use Rattle.units.specs.ById.{IsById}
 use Rattle.protocol.specs.Rows.{Row}
 use Rattle.rows.specs.RowTable.{RowTable}

@@ -1,4 +1,4 @@
-use Rattle.std.proofs.Common.{◌≡◌, ◌∙◌, sym, ap, List}
+use Rattle.std.proofs.Common.{◌∙◌, sym, ap, List}
 use Rattle.units.specs.Locks.{Claim, is_free, wounded}
 use Rattle.protocol.specs.Rows.{claims}
 use Rattle.locks.specs.Table.{without_claims}
