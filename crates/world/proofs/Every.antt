@@ -252,7 +252,7 @@ fresh_evidence sc n = record {
   state = (rebuilt_rows fresh_log sc n, refl);
 }
 
-replicated : (count n : ℕ) (s : ShardNow) → slice_get (replicate count fresh_shard) n ≡ Some s → fresh_shard ≡ s
+pub replicated : (count n : ℕ) (s : ShardNow) → slice_get (replicate count fresh_shard) n ≡ Some s → fresh_shard ≡ s
 replicated zero n s e = cc
 replicated (suc count) zero s e = some_is fresh_shard s e
   where

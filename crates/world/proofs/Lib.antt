@@ -26,5 +26,6 @@ pub mod Says
 mod Served
 pub mod Sessions
 pub mod Shards
+pub mod Sounds
 pub mod Steps
 mod TwoShardRun

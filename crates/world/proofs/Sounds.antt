@@ -1,0 +1,416 @@
+-- What each step of a shard keeps and each opening brings back holds at every moment of a run, and so each log follows.
+use Rattle.std.proofs.Common.{◌≡◌, ◌⊎◌, inl, inr, ℕ, zero, suc, ◌+◌, Bool, true, false, cond, ◌&&◌, nat_eq, nat_lt, List, [], ◌∷◌, ◌++◌, length, Option, Some, None, slice_get, refl, sym, ap, subst, ◌∙◌, arith}
+use Rattle.std.specs.Prelude.{Ok, Err, replicate}
+use Rattle.std.proofs.lemmas.Bool.{cases_eq}
+use Rattle.std.proofs.lemmas.Bool.Decides.{nat_tests}
+use Rattle.units.specs.Keys.{Bytes}
+use Rattle.units.specs.Lists.{listed, mapped, replaced}
+use Rattle.units.specs.ById.{IsById}
+use Rattle.units.specs.declared.fault.Fault.{Fault}
+use Rattle.units.specs.declared.fault.Fault.TheVariants.{Stopped, Stranger, Device, TimeSpent}
+use Rattle.units.specs.declared.setup.Setup.{Setup}
+use Rattle.units.proofs.Folds.{append_none}
+use Rattle.truetime.specs.Interval.{Interval}
+use Rattle.disk.specs.declared.plan.Fate.{Fate}
+use Rattle.record.specs.Accepted.{followed, follows, begins}
+use Rattle.record.specs.Facts.{Facts, facts_of, learn}
+use Rattle.record.proofs.LearnAgrees.{learn_agrees, followed_more}
+use Rattle.record.specs.declared.record.Record.{Record}
+use Rattle.message.specs.declared.message.Address.{Address}
+use Rattle.message.specs.declared.message.Address.TheVariants.{Shard, Session}
+use Rattle.message.specs.declared.message.Envelope.{Envelope}
+use Rattle.message.specs.declared.message.Input.{Input}
+use Rattle.message.specs.declared.message.Message.{Message}
+use Rattle.message.specs.declared.message.ReadAnswer.{ReadAnswer}
+use Rattle.protocol.specs.Rows.{Memory, rebuilt}
+use Rattle.protocol.specs.Draft.{Stepped, Refuses, Does, time_limit}
+use Rattle.protocol.specs.Step.{facts_after}
+use Rattle.protocol.specs.Plan.{Plan, Planned, StepIsPlanned, before, plan_input, stepped, carried}
+use Rattle.session.specs.Sessions.{Client, Stage, IsOpen, IsClosing, IsOver, Moved, Denies, Goes, reads, buffers, closes, gives_up, finishes}
+use Rattle.world.specs.World.{World, ShardNow, State, Runs, IsStopped, IsDown, Unsure, Nothing, Shown, Hidden, shown, read_log, setup_of, opening, input_of, step_with, effect, finished, crashed, crashed_in, failed_in, left_of, left_unsure, left_by_refused, is_left, opens_gate, stopped, set_shard, fresh_log, fresh_shard, After, client_of, put_out, moved, refused, if_open, if_not_over, if_closing, if_hearing, answered, to_session, refused_doing, did, did_with_failure, at_shard, do_at, deliver_to, noted, look_shard, look_at_view, acts, happens, start, run, run_from}
+use Rattle.world.specs.Headline.{IsUnsure, MayLeaveLog}
+use Rattle.world.specs.declared.event.Act.{Act}
+use Rattle.world.specs.declared.event.Config.{Config}
+use Rattle.world.specs.declared.event.Doing.{Doing}
+use Rattle.world.specs.declared.event.Event.{Event}
+use Rattle.world.specs.declared.event.Reply.{Reply}
+use Rattle.world.specs.Steady.{IsSteady, AlwaysSteady}
+use Rattle.world.proofs.Changes.{get-replaced_same, get-replaced_other}
+use Rattle.world.proofs.Every.{replicated}
+use Rattle.world.proofs.Moves.{with_record}
+
+module _ (law : StepIsPlanned) (Sound : ℕ → Facts → Memory → Type 0)
+    (ascends : (n : ℕ) (f : Facts) (m : Memory) → Sound n f m → IsById (λ r. r.txn) m.rows)
+    (keeps : (setup : Setup) (f : Facts) (m : Memory) (now : Interval) (i : Input) (p : Plan) → Sound setup.shard f m →
+        plan_input setup (before 1024 setup f m) now i ≡ Ok p → Sound setup.shard (facts_after f p.logged) (carried p m))
+    (logs : (setup : Setup) (log : List Record) (m : Memory) (now : Interval) (i : Input) (p : Plan) (r : Record) → followed setup.shard log ≡ true →
+        Sound setup.shard (facts_of log) m → plan_input setup (before 1024 setup (facts_of log) m) now i ≡ Ok p → p.logged ≡ Some r →
+        followed setup.shard (log ++ r ∷ []) ≡ true)
+    (opens : (n : ℕ) (f : Facts) (m : Memory) → Sound n f m → Sound n (learn f (Record.Opened (f.epoch + 1))) (rebuilt f)) where
+  -- ---- one shard
+
+  -- a log with which some memory is sound
+  pub record SoundLog (n : ℕ) (log : List Record) : Type 0 where
+    pub memory : Memory
+    pub sound : Sound n (facts_of log) memory
+    pub follows : followed n log ≡ true
+
+  abbrev SoundState : ℕ → ShardNow → State → Type 0
+  SoundState n s (Runs m) = Sound n (facts_of s.log) m × (s.unsure ≡ Nothing)
+  SoundState n s _ = Unit {0}
+
+  -- each log that a crash may leave of it is sound, and so is its memory
+  pub record SoundShard (n : ℕ) (s : ShardNow) : Type 0 where
+    pub left : (log : List Record) → MayLeaveLog s log → SoundLog n log
+    pub state : SoundState n s s.state
+
+  -- a step that is done leaves a sound log and memory
+  pub record SoundStep (n : ℕ) (log : List Record) (memory : Memory) : Type 0 where
+    pub sound : Sound n (facts_of log) memory
+    pub follows : followed n log ≡ true
+
+  abbrev SteppedSound : ℕ → List Record → Stepped → Type 0
+  SteppedSound n log (Refuses f) = Unit {0}
+  SteppedSound n log (Does logged memory out) = SoundStep n (with_record log logged) memory
+
+  -- one more record
+  more : (n : ℕ) (log : List Record) (r : Record) (m : Memory) → followed n (log ++ r ∷ []) ≡ true → Sound n (learn (facts_of log) r) m → SoundStep n (log ++ r ∷ []) m
+  more n log r m next sound = record { sound = subst (λ x. Sound n x m) (sym (learn_agrees n log r next)) sound; follows = next }
+
+  -- an opening may always come next
+  opening_follows : (n : ℕ) (log : List Record) → followed n log ≡ true → followed n (log ++ Record.Opened ((facts_of log).epoch + 1) ∷ []) ≡ true
+  unfolding follows facts_of
+  opening_follows n log h = followed_more n log (Record.Opened ((facts_of log).epoch + 1)) ∙ and_true _ _ h (and_true _ _ (first_begins log) (same_number ((facts_of log).epoch + 1)))
+    where
+      and_true : (a b : Bool) → a ≡ true → b ≡ true → (a && b) ≡ true
+      and_true true b e f = f
+      and_true false b e f = cc
+
+      same_number : (k : ℕ) → nat_eq k k ≡ true
+      same_number k = grind (arith, nat_tests)
+
+      first_begins : (l : List Record) → begins l (Record.Opened ((facts_of log).epoch + 1)) ≡ true
+      first_begins [] = refl
+      first_begins (r ∷ rs) = refl
+
+  -- a step of a running shard
+  of_plan : (setup : Setup) (log : List Record) (m : Memory) (now : Interval) (i : Input) → followed setup.shard log ≡ true → Sound setup.shard (facts_of log) m →
+      (p : Planned) → plan_input setup (before 1024 setup (facts_of log) m) now i ≡ p → SteppedSound setup.shard log (stepped m p)
+  of_plan setup log m now i follows sound (Err f) e = tt
+  of_plan setup log m now i follows sound (Ok p) e = by_record p.logged refl (keeps setup (facts_of log) m now i p sound e)
+    where
+      by_record : (o : Option Record) → p.logged ≡ o → Sound setup.shard (facts_after (facts_of log) o) (carried p m) → SoundStep setup.shard (with_record log o) (carried p m)
+      by_record None is kept = record { sound = kept; follows = follows }
+      by_record (Some r) is kept = more setup.shard log r (carried p m) (logs setup log m now i p r follows sound e is) kept
+
+  module _ (config : Config) (bag : List Envelope) (n : ℕ) (s : ShardNow) (sound : SoundShard n s) where
+    plain : SoundLog n s.log
+    plain = sound.left s.log (inl refl)
+
+    -- a read of the disk
+    pub read_left : MayLeaveLog s (read_log s)
+    read_left = by_unsure s.unsure refl
+      where
+        by_unsure : (u : Unsure) → s.unsure ≡ u → MayLeaveLog s (s.log ++ shown u)
+        by_unsure Nothing is = inl (append_none s.log)
+        by_unsure (Shown r) is = inr (r, subst (λ u. IsUnsure u r) (sym is) refl, refl)
+        by_unsure (Hidden r) is = inl (append_none s.log)
+
+    running : (o : Option (Interval × Input)) (st : State) → s.state ≡ st →
+        SteppedSound n (read_log s) (elim st as (λ x. Stepped) [ Runs m ↦ step_with (setup_of config n) (facts_of s.log) m o | _ ↦ Refuses Stopped ])
+    running o (IsStopped m) is = tt
+    running o IsDown is = tt
+    running None (Runs m) is = tt
+    running (Some p) (Runs m) is =
+        let state : SoundState n s (Runs m) = subst (SoundState n s) is sound.state in
+        let read_is : read_log s ≡ s.log = ap (λ u. s.log ++ shown u) state.1 ∙ append_none s.log in
+        subst (λ l. SteppedSound n l (step_with (setup_of config n) (facts_of s.log) m (Some p))) (sym read_is)
+        (subst (SteppedSound n s.log) (sym (law 1024 (setup_of config n) (facts_of s.log) m p.0 p.1 (ascends n (facts_of s.log) m state.0)))
+        (of_plan (setup_of config n) s.log m p.0 p.1 plain.follows state.0 (plan_input (setup_of config n) (before 1024 (setup_of config n) (facts_of s.log) m) p.0 p.1) refl))
+
+    opened : SteppedSound n (read_log s) (opening (facts_of (read_log s)))
+    unfolding opening
+    opened = by_test (nat_lt (facts_of (read_log s)).epoch time_limit)
+      where
+        by_test : (b : Bool) → SteppedSound n (read_log s) (cond b (Does (Some (Record.Opened ((facts_of (read_log s)).epoch + 1))) (rebuilt (facts_of (read_log s))) []) (Refuses TimeSpent))
+        by_test false = tt
+        by_test true =
+            let l = sound.left (read_log s) read_left in
+            more n (read_log s) (Record.Opened ((facts_of (read_log s)).epoch + 1)) (rebuilt (facts_of (read_log s))) (opening_follows n (read_log s) l.follows)
+            (opens n (facts_of (read_log s)) l.memory l.sound)
+
+    pub effect_sound : (doing : Doing) → SteppedSound n (read_log s) (effect (setup_of config n) bag s doing)
+    unfolding effect
+    effect_sound Doing.Open = by_state s.state
+      where
+        by_state : (st : State) → SteppedSound n (read_log s) (elim st as (λ x. Stepped) [ Runs m ↦ Refuses Stopped | _ ↦ opening (facts_of (read_log s)) ])
+        by_state (Runs m) = tt
+        by_state (IsStopped m) = opened
+        by_state IsDown = opened
+    effect_sound (Doing.Take m now) = running (input_of bag (Doing.Take m now)) s.state refl
+    effect_sound (Doing.Resume now) = running (input_of bag (Doing.Resume now)) s.state refl
+    effect_sound (Doing.Settle t now) = running (input_of bag (Doing.Settle t now)) s.state refl
+    effect_sound (Doing.Advance at now) = running (input_of bag (Doing.Advance at now)) s.state refl
+    effect_sound (Doing.Nudge t now) = running (input_of bag (Doing.Nudge t now)) s.state refl
+
+    -- ---- the shard after it
+
+    -- a shard without an unsure record
+    sure : (new : ShardNow) → new.unsure ≡ Nothing → SoundLog n new.log → SoundState n new new.state → SoundShard n new
+    sure new none l state = record { left = by_left; state = state }
+      where
+        by_left : (log : List Record) → MayLeaveLog new log → SoundLog n log
+        by_left log (inl same) = subst (SoundLog n) (sym same) l
+        by_left log (inr unsure) = absurd (subst (λ u. IsUnsure u unsure.0) none unsure.1)
+
+    pub crashed_sound : (log : List Record) → SoundLog n log → SoundShard n (crashed s log)
+    crashed_sound log l = sure (crashed s log) refl l tt
+
+    left_sound : (fate : Fate) → SoundLog n (s.log ++ left_of fate s.unsure)
+    left_sound fate = sound.left (s.log ++ left_of fate s.unsure) (by_unsure s.unsure refl)
+      where
+        by_gate : (r : Record) → IsUnsure s.unsure r → (b : Bool) → MayLeaveLog s (s.log ++ cond b (r ∷ []) [])
+        by_gate r is true = inr (r, is, refl)
+        by_gate r is false = inl (append_none s.log)
+
+        by_unsure : (u : Unsure) → s.unsure ≡ u → MayLeaveLog s (s.log ++ left_of fate u)
+        by_unsure Nothing is = inl (append_none s.log)
+        by_unsure (Shown r) is = by_gate r (subst (λ u. IsUnsure u r) (sym is) refl) (opens_gate fate)
+        by_unsure (Hidden r) is = by_gate r (subst (λ u. IsUnsure u r) (sym is) refl) (opens_gate fate)
+
+    with_listed : (o : Option Record) → with_record (read_log s) o ≡ read_log s ++ listed o
+    with_listed None = sym (append_none (read_log s))
+    with_listed (Some r) = refl
+
+    pub finished_sound : (doing : Doing) (logged : Option Record) (memory : Memory) → SoundStep n (with_record (read_log s) logged) memory → SoundShard n (finished s doing logged memory)
+    unfolding finished
+    finished_sound doing logged memory e =
+        let k = subst (λ l. SoundStep n l memory) (with_listed logged) e in
+        sure (finished s doing logged memory) refl (record { memory = memory; sound = k.sound; follows = k.follows }) (k.sound, refl)
+
+    pub refused_left_sound : (fate : Fate) (doing : Doing) → SoundShard n (crashed s (left_by_refused s fate doing))
+    refused_left_sound fate Doing.Open = crashed_sound (read_log s) (sound.left (read_log s) read_left)
+    refused_left_sound fate (Doing.Take m now) = crashed_sound _ (left_sound fate)
+    refused_left_sound fate (Doing.Resume now) = crashed_sound _ (left_sound fate)
+    refused_left_sound fate (Doing.Settle t now) = crashed_sound _ (left_sound fate)
+    refused_left_sound fate (Doing.Advance at now) = crashed_sound _ (left_sound fate)
+    refused_left_sound fate (Doing.Nudge t now) = crashed_sound _ (left_sound fate)
+
+    pub crashed_in_sound : (call : ℕ) (fate : Fate) (doing : Doing) (st : Stepped) → SteppedSound n (read_log s) st → SoundShard n (crashed_in s call fate doing st)
+    unfolding crashed_in
+    crashed_in_sound call fate doing (Refuses f) e = refused_left_sound fate doing
+    crashed_in_sound call fate doing (Does None memory out) e = crashed_sound (read_log s) (sound.left (read_log s) read_left)
+    crashed_in_sound call fate doing (Does (Some r) memory out) e = by_test (is_left call fate)
+      where
+        by_test : (b : Bool) → SoundShard n (crashed s (read_log s ++ cond b (r ∷ []) []))
+        by_test true = crashed_sound (read_log s ++ r ∷ []) (record { memory = memory; sound = e.sound; follows = e.follows })
+        by_test false = crashed_sound (read_log s ++ []) (subst (SoundLog n) (sym (append_none (read_log s))) (sound.left (read_log s) read_left))
+
+    pub failed_sound : (call : ℕ) (r : Record) (memory : Memory) → SoundStep n (read_log s ++ r ∷ []) memory → SoundShard n (failed_in s call r)
+    unfolding failed_in
+    failed_sound call r memory e = record { left = by_left; state = by_state s.state }
+      where
+        by_state : (st : State) → SoundState n (failed_in s call r) (stopped st)
+        by_state (Runs m) = tt
+        by_state (IsStopped m) = tt
+        by_state IsDown = tt
+
+        unsure_is : (a b : Bool) (q : Record) → IsUnsure (cond a (Hidden r) (cond b (Shown r) Nothing)) q → r ≡ q
+        unsure_is true b q k = k
+        unsure_is false true q k = k
+        unsure_is false false q k = absurd k
+
+        by_left : (log : List Record) → MayLeaveLog (failed_in s call r) log → SoundLog n log
+        by_left log (inl same) = subst (SoundLog n) (sym same) (sound.left (read_log s) read_left)
+        by_left log (inr x) =
+            let is : r ≡ x.0 = unsure_is (nat_eq call 2) (nat_eq call 3) x.0 x.1 in
+            subst (SoundLog n) (sym x.2) (subst (λ q. SoundLog n (read_log s ++ q ∷ [])) is (record { memory = memory; sound = e.sound; follows = e.follows }))
+
+  -- ---- a world
+
+  -- each shard is sound
+  abbrev pub SoundWorld : World → Type 0
+  SoundWorld w = (n : ℕ) (s : ShardNow) → slice_get w.shards n ≡ Some s → SoundShard n s
+
+  module _ (w : World) (sound : SoundWorld w) where
+    set_sound : (n : ℕ) (old new : ShardNow) → slice_get w.shards n ≡ Some old → SoundShard n new → SoundWorld (set_shard n new w)
+    set_sound n old new there new_sound m s e = elim (cases_eq n m) [
+      | inl same ↦ by_place same
+      | inr ne ↦ sound m s (sym (get-replaced_other w.shards n m new ne) ∙ e)
+    ]
+      where
+        some_same : (a b : ShardNow) → Some a ≡ Some b → a ≡ b
+        some_same a b k = cc
+
+        by_place : n ≡ m → SoundShard m s
+        by_place same =
+            let is : new ≡ s = some_same new s (sym (get-replaced_same w.shards n old new there) ∙ subst (λ k. slice_get (replaced w.shards n new) k ≡ Some s) (sym same) e) in
+            subst (λ k. SoundShard k s) same (subst (SoundShard n) is new_sound)
+
+    -- sessions touch no shard
+    moved_sound : (m : Moved) → SoundWorld ((moved w m).0)
+    unfolding put_out
+    moved_sound (Denies f) = sound
+    moved_sound (Goes c out) = sound
+
+    if_open_sound : (o : Option Client) (f : Client → Moved) → SoundWorld ((if_open w o f).0)
+    if_open_sound None f = sound
+    if_open_sound (Some c) f = by_stage c.stage
+      where
+        by_stage : (s : Stage) → SoundWorld ((elim s as (λ x. After) [ IsOpen ↦ moved w (f c) | _ ↦ refused w Stranger ]).0)
+        by_stage IsOpen = moved_sound (f c)
+        by_stage IsClosing = sound
+        by_stage IsOver = sound
+
+    if_not_over_sound : (o : Option Client) (f : Client → Moved) → SoundWorld ((if_not_over w o f).0)
+    if_not_over_sound None f = sound
+    if_not_over_sound (Some c) f = by_stage c.stage
+      where
+        by_stage : (s : Stage) → SoundWorld ((elim s as (λ x. After) [ IsOver ↦ refused w Stranger | _ ↦ moved w (f c) ]).0)
+        by_stage IsOpen = moved_sound (f c)
+        by_stage IsClosing = moved_sound (f c)
+        by_stage IsOver = sound
+
+    if_closing_sound : (o : Option Client) → SoundWorld ((if_closing w o).0)
+    if_closing_sound None = sound
+    if_closing_sound (Some c) = by_stage c.stage
+      where
+        by_stage : (s : Stage) → SoundWorld ((elim s as (λ x. After) [ IsClosing ↦ moved w (finishes c) | _ ↦ refused w Stranger ]).0)
+        by_stage IsOpen = sound
+        by_stage IsClosing = moved_sound (finishes c)
+        by_stage IsOver = sound
+
+    if_hearing_sound : (o : Option Client) (a : ReadAnswer) → SoundWorld ((if_hearing w o a).0)
+    if_hearing_sound None a = sound
+    if_hearing_sound (Some c) a = by_stage c.stage
+      where
+        by_stage : (s : Stage) → SoundWorld ((elim s as (λ x. After) [ IsOpen ↦ answered w c a | _ ↦ refused w Stranger ]).0)
+        by_stage IsOpen = sound
+        by_stage IsClosing = sound
+        by_stage IsOver = sound
+
+    to_session_sound : (m : Message) → SoundWorld ((to_session w m).0)
+    unfolding to_session
+    to_session_sound (Message.ReadAnswer a) = if_hearing_sound (client_of w a.txn) a
+    to_session_sound (Message.Done d) = if_closing_sound (client_of w d.txn)
+    to_session_sound (Message.Read r) = sound
+    to_session_sound (Message.Prepare p) = sound
+    to_session_sound (Message.Commit c) = sound
+    to_session_sound (Message.GiveUp g) = sound
+    to_session_sound (Message.Vote v) = sound
+    to_session_sound (Message.Outcome o) = sound
+    to_session_sound (Message.Ask a) = sound
+
+    noted_sound : (k : Bytes) (at : ℕ) (r : Reply) → SoundWorld ((noted w k at r).0)
+    noted_sound k at (Reply.Shows x) = sound
+    noted_sound k at Reply.Done = sound
+    noted_sound k at (Reply.Refused f) = sound
+    noted_sound k at Reply.Crashed = sound
+
+    module _ (n : ℕ) (s : ShardNow) (there : slice_get w.shards n ≡ Some s) where
+      refused_sound : (doing : Doing) (f : Fault) → SoundWorld ((refused_doing w n s doing f).0)
+      refused_sound Doing.Open f = by_state s.state
+        where
+          down : SoundWorld (set_shard n (crashed s (read_log s)) w)
+          down = set_sound n s (crashed s (read_log s)) there (crashed_sound w.config w.bag n s (sound n s there) (read_log s) ((sound n s there).left (read_log s) (read_left w.config w.bag n s (sound n s there))))
+
+          by_state : (st : State) → SoundWorld ((elim st as (λ x. After) [ Runs m ↦ refused w f | _ ↦ (set_shard n (crashed s (read_log s)) w, Reply.Refused f) ]).0)
+          by_state (Runs m) = sound
+          by_state (IsStopped m) = down
+          by_state IsDown = down
+      refused_sound (Doing.Take m now) f = sound
+      refused_sound (Doing.Resume now) f = sound
+      refused_sound (Doing.Settle t now) f = sound
+      refused_sound (Doing.Advance at now) f = sound
+      refused_sound (Doing.Nudge t now) f = sound
+
+      did_sound : (doing : Doing) (st : Stepped) → SteppedSound n (read_log s) st → SoundWorld ((did w n s doing st).0)
+      unfolding did put_out
+      did_sound doing (Refuses f) e = refused_sound doing f
+      did_sound doing (Does logged memory out) e = set_sound n s (finished s doing logged memory) there (finished_sound w.config w.bag n s (sound n s there) doing logged memory e)
+
+      failing_sound : (call : ℕ) (doing : Doing) (st : Stepped) → SteppedSound n (read_log s) st → SoundWorld ((did_with_failure w n s call doing st).0)
+      unfolding did_with_failure
+      failing_sound call doing (Refuses f) e = did_sound doing (Refuses f) e
+      failing_sound call doing (Does None memory out) e = did_sound doing (Does None memory out) e
+      failing_sound call doing (Does (Some r) memory out) e = by_test (nat_lt call 4)
+        where
+          by_test : (b : Bool) → SoundWorld ((cond {A = After} b (set_shard n (failed_in s call r) w, Reply.Refused Device) (did w n s doing (Does (Some r) memory out))).0)
+          by_test true = set_sound n s (failed_in s call r) there (failed_sound w.config w.bag n s (sound n s there) call r memory e)
+          by_test false = did_sound doing (Does (Some r) memory out) e
+
+      effect_is_sound : (doing : Doing) → SteppedSound n (read_log s) (effect (setup_of w.config n) w.bag s doing)
+      effect_is_sound doing = effect_sound w.config w.bag n s (sound n s there) doing
+
+    at_shard_sound : (n : ℕ) (f : Setup → ShardNow → After) → ((s : ShardNow) → slice_get w.shards n ≡ Some s → SoundWorld ((f (setup_of w.config n) s).0)) → SoundWorld ((at_shard w n f).0)
+    at_shard_sound n f each = by_value (slice_get w.shards n) refl
+      where
+        by_value : (o : Option ShardNow) → slice_get w.shards n ≡ o → SoundWorld ((elim o as (λ x. After) [ None ↦ refused w Stranger | Some s ↦ f (setup_of w.config n) s ]).0)
+        by_value None e = sound
+        by_value (Some s) e = each s e
+
+    do_at_sound : (n : ℕ) (doing : Doing) → SoundWorld ((do_at w n doing).0)
+    do_at_sound n doing = at_shard_sound n (λ setup s. did w n s doing (effect setup w.bag s doing)) (λ s there. did_sound n s there doing _ (effect_is_sound n s there doing))
+
+    deliver_sound : (m : ℕ) (now : Interval) (o : Option Envelope) → SoundWorld ((deliver_to w m now o).0)
+    unfolding deliver_to
+    deliver_sound m now None = sound
+    deliver_sound m now (Some e) = by_address e.to
+      where
+        by_address : (a : Address) → SoundWorld ((elim a as (λ x. After) [ Shard n ↦ do_at w n (Doing.Take m now) | Session t ↦ to_session w e.message ]).0)
+        by_address (Shard n) = do_at_sound n (Doing.Take m now)
+        by_address (Session t) = to_session_sound e.message
+
+    pub acts_sound : (a : Act) → SoundWorld ((acts w a).0)
+    unfolding acts
+    acts_sound (Act.Begin t) = sound
+    acts_sound (Act.Read t k) = if_open_sound (client_of w t) (reads w.config.splits k)
+    acts_sound (Act.Write t k x) = if_open_sound (client_of w t) (buffers (record { key = k; value = x }))
+    acts_sound (Act.Close t) = if_open_sound (client_of w t) (closes w.config.splits)
+    acts_sound (Act.Quit t) = if_not_over_sound (client_of w t) (gives_up w.config.splits)
+    acts_sound (Act.Deliver m now) = deliver_sound m now (slice_get w.bag m)
+    acts_sound (Act.At n doing) = do_at_sound n doing
+    acts_sound (Act.Look n k at) = at_shard_sound n (λ setup s. noted w k at (look_shard setup s k at)) (λ s there. noted_sound k at (look_shard (setup_of w.config n) s k at))
+    acts_sound (Act.View n v k at) =
+        at_shard_sound n (λ setup s. noted w k at (look_at_view setup (slice_get s.views v) k at)) (λ s there. noted_sound k at (look_at_view (setup_of w.config n) (slice_get s.views v) k at))
+    acts_sound (Act.Crash n) = at_shard_sound n (λ setup s. (set_shard n (crashed s s.log) w, Reply.Crashed))
+        (λ s there. set_sound n s (crashed s s.log) there (crashed_sound w.config w.bag n s (sound n s there) s.log ((sound n s there).left s.log (inl refl))))
+    acts_sound (Act.CrashIn n call fate doing) =
+        at_shard_sound n (λ setup s. (set_shard n (crashed_in s call fate doing (effect setup w.bag s doing)) w, Reply.Crashed))
+        (λ s there. set_sound n s (crashed_in s call fate doing (effect (setup_of w.config n) w.bag s doing)) there
+            (crashed_in_sound w.config w.bag n s (sound n s there) call fate doing (effect (setup_of w.config n) w.bag s doing) (effect_is_sound n s there doing)))
+    acts_sound (Act.FailIn n call doing) = at_shard_sound n (λ setup s. did_with_failure w n s call doing (effect setup w.bag s doing))
+        (λ s there. failing_sound n s there call doing _ (effect_is_sound n s there doing))
+
+    -- so the world is steady
+    pub steady : IsSteady w
+    steady = record {
+      follows = λ n s log there may. ((sound n s there).left log may).follows;
+      logged = λ n s doing r memory out there e. (subst (SteppedSound n (read_log s)) e (effect_is_sound n s there doing)).follows;
+      ascends = λ n s m there runs. ascends n (facts_of s.log) m (subst (SoundState n s) runs (sound n s there).state).0;
+    }
+
+  run_sound : (w : World) (es : List Event) → SoundWorld w → SoundWorld (run_from w es)
+  unfolding happens
+  run_sound w [] sound = sound
+  run_sound w (e ∷ es) sound = run_sound ((happens w e).0) es (acts_sound w sound e.act)
+
+  module _ (fresh : (n : ℕ) → Sound n (facts_of fresh_log) (rebuilt (facts_of fresh_log))) where
+    fresh_sound : (n : ℕ) → SoundShard n fresh_shard
+    unfolding followed follows
+    fresh_sound n = record {
+      left = λ log may. elim may [
+        | inl same ↦ subst (SoundLog n) (sym same) (record { memory = rebuilt (facts_of fresh_log); sound = fresh n; follows = refl })
+        | inr unsure ↦ absurd unsure.1
+      ];
+      state = (fresh n, refl);
+    }
+
+    start_sound : (config : Config) → SoundWorld (start config)
+    unfolding start
+    start_sound config n s e = subst (SoundShard n) (replicated (suc (length config.splits)) n s e) (fresh_sound n)
+
+    -- every lawful run is steady
+    pub always_steady : AlwaysSteady
+    unfolding run
+    always_steady config es fair = steady (run_from (start config) es) (run_sound (start config) es (start_sound config))
