@@ -29,3 +29,4 @@ pub mod Shards
 pub mod Sounds
 pub mod Steps
 mod TwoShardRun
+pub mod Untouched

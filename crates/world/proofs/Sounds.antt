@@ -37,6 +37,7 @@ use Rattle.world.specs.declared.event.Reply.{Reply}
 use Rattle.world.specs.Steady.{IsSteady, AlwaysSteady}
 use Rattle.world.proofs.Changes.{get-replaced_same, get-replaced_other}
 use Rattle.world.proofs.Every.{replicated}
+use Rattle.world.proofs.Untouched.{if_open_keeps, if_not_over_keeps, to_session_keeps, noted_keeps}
 use Rattle.world.proofs.Moves.{with_record}
 
 module _ (law : StepIsPlanned) (Sound : ℕ → Facts → Memory → Type 0)
@@ -247,65 +248,9 @@ module _ (law : StepIsPlanned) (Sound : ℕ → Facts → Memory → Type 0)
             let is : new ≡ s = some_same new s (sym (get-replaced_same w.shards n old new there) ∙ subst (λ k. slice_get (replaced w.shards n new) k ≡ Some s) (sym same) e) in
             subst (λ k. SoundShard k s) same (subst (SoundShard n) is new_sound)
 
-    -- sessions touch no shard
-    moved_sound : (m : Moved) → SoundWorld ((moved w m).0)
-    unfolding put_out
-    moved_sound (Denies f) = sound
-    moved_sound (Goes c out) = sound
-
-    if_open_sound : (o : Option Client) (f : Client → Moved) → SoundWorld ((if_open w o f).0)
-    if_open_sound None f = sound
-    if_open_sound (Some c) f = by_stage c.stage
-      where
-        by_stage : (s : Stage) → SoundWorld ((elim s as (λ x. After) [ IsOpen ↦ moved w (f c) | _ ↦ refused w Stranger ]).0)
-        by_stage IsOpen = moved_sound (f c)
-        by_stage IsClosing = sound
-        by_stage IsOver = sound
-
-    if_not_over_sound : (o : Option Client) (f : Client → Moved) → SoundWorld ((if_not_over w o f).0)
-    if_not_over_sound None f = sound
-    if_not_over_sound (Some c) f = by_stage c.stage
-      where
-        by_stage : (s : Stage) → SoundWorld ((elim s as (λ x. After) [ IsOver ↦ refused w Stranger | _ ↦ moved w (f c) ]).0)
-        by_stage IsOpen = moved_sound (f c)
-        by_stage IsClosing = moved_sound (f c)
-        by_stage IsOver = sound
-
-    if_closing_sound : (o : Option Client) → SoundWorld ((if_closing w o).0)
-    if_closing_sound None = sound
-    if_closing_sound (Some c) = by_stage c.stage
-      where
-        by_stage : (s : Stage) → SoundWorld ((elim s as (λ x. After) [ IsClosing ↦ moved w (finishes c) | _ ↦ refused w Stranger ]).0)
-        by_stage IsOpen = sound
-        by_stage IsClosing = moved_sound (finishes c)
-        by_stage IsOver = sound
-
-    if_hearing_sound : (o : Option Client) (a : ReadAnswer) → SoundWorld ((if_hearing w o a).0)
-    if_hearing_sound None a = sound
-    if_hearing_sound (Some c) a = by_stage c.stage
-      where
-        by_stage : (s : Stage) → SoundWorld ((elim s as (λ x. After) [ IsOpen ↦ answered w c a | _ ↦ refused w Stranger ]).0)
-        by_stage IsOpen = sound
-        by_stage IsClosing = sound
-        by_stage IsOver = sound
-
-    to_session_sound : (m : Message) → SoundWorld ((to_session w m).0)
-    unfolding to_session
-    to_session_sound (Message.ReadAnswer a) = if_hearing_sound (client_of w a.txn) a
-    to_session_sound (Message.Done d) = if_closing_sound (client_of w d.txn)
-    to_session_sound (Message.Read r) = sound
-    to_session_sound (Message.Prepare p) = sound
-    to_session_sound (Message.Commit c) = sound
-    to_session_sound (Message.GiveUp g) = sound
-    to_session_sound (Message.Vote v) = sound
-    to_session_sound (Message.Outcome o) = sound
-    to_session_sound (Message.Ask a) = sound
-
-    noted_sound : (k : Bytes) (at : ℕ) (r : Reply) → SoundWorld ((noted w k at r).0)
-    noted_sound k at (Reply.Shows x) = sound
-    noted_sound k at Reply.Done = sound
-    noted_sound k at (Reply.Refused f) = sound
-    noted_sound k at Reply.Crashed = sound
+    -- a change that touches no shard
+    untouched : (v : World) → v.shards ≡ w.shards → SoundWorld v
+    untouched v same n s e = sound n s (subst (λ (l : List ShardNow). slice_get l n ≡ Some s) same e)
 
     module _ (n : ℕ) (s : ShardNow) (there : slice_get w.shards n ≡ Some s) where
       refused_sound : (doing : Doing) (f : Fault) → SoundWorld ((refused_doing w n s doing f).0)
@@ -359,20 +304,20 @@ module _ (law : StepIsPlanned) (Sound : ℕ → Facts → Memory → Type 0)
       where
         by_address : (a : Address) → SoundWorld ((elim a as (λ x. After) [ Shard n ↦ do_at w n (Doing.Take m now) | Session t ↦ to_session w e.message ]).0)
         by_address (Shard n) = do_at_sound n (Doing.Take m now)
-        by_address (Session t) = to_session_sound e.message
+        by_address (Session t) = untouched ((to_session w e.message).0) (to_session_keeps w e.message)
 
     pub acts_sound : (a : Act) → SoundWorld ((acts w a).0)
     unfolding acts
     acts_sound (Act.Begin t) = sound
-    acts_sound (Act.Read t k) = if_open_sound (client_of w t) (reads w.config.splits k)
-    acts_sound (Act.Write t k x) = if_open_sound (client_of w t) (buffers (record { key = k; value = x }))
-    acts_sound (Act.Close t) = if_open_sound (client_of w t) (closes w.config.splits)
-    acts_sound (Act.Quit t) = if_not_over_sound (client_of w t) (gives_up w.config.splits)
+    acts_sound (Act.Read t k) = untouched ((if_open w (client_of w t) (reads w.config.splits k)).0) (if_open_keeps w (client_of w t) (reads w.config.splits k))
+    acts_sound (Act.Write t k x) = untouched ((if_open w (client_of w t) (buffers (record { key = k; value = x }))).0) (if_open_keeps w (client_of w t) (buffers (record { key = k; value = x })))
+    acts_sound (Act.Close t) = untouched ((if_open w (client_of w t) (closes w.config.splits)).0) (if_open_keeps w (client_of w t) (closes w.config.splits))
+    acts_sound (Act.Quit t) = untouched ((if_not_over w (client_of w t) (gives_up w.config.splits)).0) (if_not_over_keeps w (client_of w t) (gives_up w.config.splits))
     acts_sound (Act.Deliver m now) = deliver_sound m now (slice_get w.bag m)
     acts_sound (Act.At n doing) = do_at_sound n doing
-    acts_sound (Act.Look n k at) = at_shard_sound n (λ setup s. noted w k at (look_shard setup s k at)) (λ s there. noted_sound k at (look_shard (setup_of w.config n) s k at))
+    acts_sound (Act.Look n k at) = at_shard_sound n (λ setup s. noted w k at (look_shard setup s k at)) (λ s there. untouched ((noted w k at (look_shard (setup_of w.config n) s k at)).0) (noted_keeps w k at (look_shard (setup_of w.config n) s k at)))
     acts_sound (Act.View n v k at) =
-        at_shard_sound n (λ setup s. noted w k at (look_at_view setup (slice_get s.views v) k at)) (λ s there. noted_sound k at (look_at_view (setup_of w.config n) (slice_get s.views v) k at))
+        at_shard_sound n (λ setup s. noted w k at (look_at_view setup (slice_get s.views v) k at)) (λ s there. untouched ((noted w k at (look_at_view (setup_of w.config n) (slice_get s.views v) k at)).0) (noted_keeps w k at (look_at_view (setup_of w.config n) (slice_get s.views v) k at)))
     acts_sound (Act.Crash n) = at_shard_sound n (λ setup s. (set_shard n (crashed s s.log) w, Reply.Crashed))
         (λ s there. set_sound n s (crashed s s.log) there (crashed_sound w.config w.bag n s (sound n s there) s.log ((sound n s there).left s.log (inl refl))))
     acts_sound (Act.CrashIn n call fate doing) =
