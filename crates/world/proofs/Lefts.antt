@@ -1,19 +1,17 @@
 -- Something stands behind each record of logs that a crash may leave, between events and within one.
-use Rattle.std.proofs.Common.{◌≡◌, ◌⊎◌, inl, inr, ℕ, zero, suc, ◌<◌, ◌≤◌, Bool, true, false, cond, ◌&&◌, nat_le, List, [], ◌∷◌, ◌++◌, Option, Some, None, slice_get, refl, sym, ap, subst, ◌∙◌, arith}
-use Rattle.std.proofs.lemmas.Bool.{leb-true, cases_eq}
+use Rattle.std.proofs.Common.{◌≡◌, ◌⊎◌, inl, inr, ℕ, zero, suc, ◌≤◌, true, nat_le, List, [], ◌∷◌, ◌++◌, Option, Some, None, slice_get, refl, sym, ap, subst}
+use Rattle.std.proofs.lemmas.Bool.{leb-true}
 use Rattle.units.specs.Lists.{mapped, when}
-use Rattle.truetime.specs.Interval.{Interval}
 use Rattle.truetime.specs.Reading.{is_honest}
 use Rattle.record.specs.declared.record.Record.{Record}
 use Rattle.message.specs.declared.message.Address.{Address}
 use Rattle.message.specs.declared.message.Address.TheVariants.{Shard, Session}
 use Rattle.message.specs.declared.message.Envelope.{Envelope}
 use Rattle.message.specs.declared.message.Input.{Input}
-use Rattle.protocol.specs.Draft.{Stepped, Does}
 use Rattle.protocol.specs.Plan.{StepIsPlanned}
-use Rattle.world.specs.World.{World, ShardNow, Unsure, read_log, shown, effect, setup_of, input_of}
-use Rattle.world.specs.Lawful.{may_act, may_do, can_come}
-use Rattle.world.specs.Headline.{IsUnsure, MayLeaveLog, MayLeaveLogs, MayHaveLogged, MayLeaveWithin, doing_of}
+use Rattle.world.specs.World.{World, ShardNow, read_log, input_of}
+use Rattle.world.specs.Lawful.{may_act, can_come}
+use Rattle.world.specs.Headline.{MayLeaveLog, MayLeaveLogs, MayHaveLogged, MayLeaveWithin, doing_of}
 use Rattle.world.specs.declared.event.Act.{Act}
 use Rattle.world.specs.declared.event.Doing.{Doing}
 use Rattle.world.specs.Evidence.{Scene, IsAmong, RecordEvidence, Holds}

@@ -1,44 +1,37 @@
 -- What holds of a lawful run at each moment: of its world, and of the logs that a crash may leave there.
-use Rattle.std.proofs.Common.{◌≡◌, ◌⊎◌, inl, inr, ℕ, zero, suc, ◌<◌, ◌≤◌, Bool, true, false, cond, ◌&&◌, nat_eq, nat_lt, nat_le, List, [], ◌∷◌, ◌++◌, Option, Some, None, slice_get, refl, sym, ap, subst, ◌∙◌, map, arith}
-use Rattle.std.proofs.lemmas.Bool.{leb-true, eqb-true}
+use Rattle.std.proofs.Common.{◌≡◌, inl, inr, ℕ, suc, ◌<◌, ◌≤◌, true, ◌&&◌, nat_lt, nat_le, List, [], ◌∷◌, ◌++◌, Option, Some, None, slice_get, refl, sym, ap, subst, ◌∙◌, arith}
+use Rattle.std.proofs.lemmas.Bool.{leb-true}
 use Rattle.std.proofs.lemmas.Bool.Decides.{nat_tests}
-use Rattle.units.specs.Lists.{any, each, gather, join, head, when}
-use Rattle.units.specs.Ids.{Id, same_id}
+use Rattle.units.specs.Lists.{each, gather}
+use Rattle.units.specs.Ids.{Id}
 use Rattle.units.specs.declared.line.Line.{Line}
 use Rattle.units.specs.declared.writes.Install.{Install}
 use Rattle.units.specs.declared.writes.Write.{Write}
 use Rattle.units.specs.Versions.{versions}
-use Rattle.units.proofs.IdLaws.{same_id-is, same_id-refl}
-use Rattle.units.proofs.ByIdLaws.{first_passes}
-use Rattle.record.specs.History.{Txn, history, whole_txn, find_txn, by_shard}
 use Rattle.record.specs.Installs.{installs_of, installed_by, writes_by}
-use Rattle.record.specs.Records.{Ended, as_committed, as_ended, committed_of, prepared_of}
+use Rattle.record.specs.Records.{as_ended, committed_of, prepared_of}
 use Rattle.record.specs.Serially.{OrderedByTime}
-use Rattle.record.specs.Verdict.{IsLine, is_in_at}
-use Rattle.record.specs.declared.record.Committed.{Committed}
+use Rattle.record.specs.Verdict.{IsLine}
 use Rattle.record.specs.declared.record.Record.{Record}
 use Rattle.protocol.specs.Plan.{StepIsPlanned}
 use Rattle.world.specs.World.{World, ShardNow, run, run_from, start, happens}
 use Rattle.world.specs.Lawful.{lawful, lawful_from, may_happen, may_act}
 use Rattle.world.specs.Headline.{AllOrNothing, KeepsAcknowledged, MayBeLeft, MayLeaveLogs, MayLeaveWithin, doing_of}
 use Rattle.world.specs.TimeLaws.{InstalledInThePast, LooksCoverAcknowledged, installed_before}
-use Rattle.world.specs.declared.event.Act.{Act}
 use Rattle.world.specs.declared.event.Config.{Config}
 use Rattle.world.specs.declared.event.Event.{Event}
-use Rattle.world.specs.Evidence.{Scene, IsAmong, RecordEvidence, AckEvidence, Holds}
+use Rattle.world.specs.Evidence.{Scene, IsAmong, AckEvidence, Holds}
 use Rattle.world.specs.Left.{AreLeft}
 use Rattle.world.specs.Steady.{IsSteady, AlwaysSteady}
 use Rattle.world.proofs.Orderly.{both}
-use Rattle.world.proofs.Recorded.{among_first, among_gather, Source, decision_among, outcome_among}
+use Rattle.world.proofs.Recorded.{outcome_among}
 use Rattle.world.proofs.Doings.{get_among}
-use Rattle.world.proofs.Every.{Clock, RunEvidence, every_run_holds, tick_holds, present_now, below_now, rises_now}
+use Rattle.world.proofs.Every.{RunEvidence, every_run_holds, tick_holds, present_now, rises_now}
 use Rattle.world.proofs.InHistory.{acknowledged, ordered}
 use Rattle.world.proofs.Lefts.{left_between, left_within}
-use Rattle.world.proofs.Homes.{log_in, evidence, kept, decision_home}
-use Rattle.world.proofs.AllWhole.{whole, when_head}
+use Rattle.world.proofs.AllWhole.{whole}
 use Rattle.world.proofs.Resolved.{resolves}
-use Rattle.world.proofs.Decisions.{log_of_number, log_in-is, number_there}
-use Rattle.world.proofs.Picked.{each_of, any_of, gather_among, join_among, among_join, Joined, among_map, Mapped}
+use Rattle.world.proofs.Picked.{each_of, among_join, Joined}
 
 -- logs that a crash may leave of a world, in a scene in which something stands behind all that there is
 pub record Moment (w : World) (logs : List (List Record)) : Type 0 where

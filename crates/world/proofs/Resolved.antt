@@ -1,8 +1,8 @@
 -- Every transaction stands at one timestamp on all its shards, or on none.
-use Rattle.std.proofs.Common.{◌≡◌, ◌≢◌, ◌⊎◌, inl, inr, ℕ, suc, Bool, true, false, not, cond, ◌&&◌, nat_eq, List, [], ◌∷◌, Option, Some, None, slice_get, refl, sym, ap, subst, ◌∙◌, map, arith}
+use Rattle.std.proofs.Common.{◌≡◌, inl, inr, ℕ, suc, Bool, true, false, not, cond, ◌&&◌, nat_eq, List, [], ◌∷◌, Option, Some, None, slice_get, refl, sym, ap, subst, ◌∙◌, map, arith}
 use Rattle.std.proofs.lemmas.Bool.{cases_eq}
 use Rattle.std.proofs.lemmas.Bool.Decides.{nat_tests}
-use Rattle.units.specs.Lists.{any, each, keep, gather, first, has, head, when}
+use Rattle.units.specs.Lists.{each, keep, gather, has, head, when}
 use Rattle.units.specs.Ids.{Id, same_id}
 use Rattle.units.proofs.IdLaws.{same_id-is, same_id-refl}
 use Rattle.units.proofs.ByIdLaws.{first_passes}
@@ -13,13 +13,13 @@ use Rattle.record.specs.Whole.{Decision, decisions, stands_at, stands_by, coordi
 use Rattle.record.specs.declared.record.Committed.{Committed}
 use Rattle.record.specs.declared.record.Prepared.{Prepared}
 use Rattle.record.specs.declared.record.Record.{Record}
-use Rattle.world.specs.Evidence.{Scene, IsAmong, Holds, HasDecision, WasTold, RecordEvidence}
+use Rattle.world.specs.Evidence.{Scene, IsAmong, Holds, HasDecision, WasTold}
 use Rattle.world.specs.Left.{AreLeft}
 use Rattle.world.proofs.Recorded.{among_first, promise_among, decision_among, outcome_among}
 use Rattle.world.proofs.Homes.{log_in, evidence, decision_home, no_aborted, outcome_decided, outcome_stamp, one_place, promised, promise_of_part, promise_home, one_home, TakesPart, ClosesOver}
 use Rattle.world.proofs.AllWhole.{has_head}
-use Rattle.world.proofs.Decisions.{Decided, decision_stands, stands_decided, one_decided, log_of_number, log_in-is}
-use Rattle.world.proofs.Picked.{each_of, any_of, gather_among, AtMostOne, is_single}
+use Rattle.world.proofs.Decisions.{decision_stands, stands_decided, one_decided, log_of_number, log_in-is}
+use Rattle.world.proofs.Picked.{each_of, any_of, gather_among, AtMostOne}
 
 -- ---- what a log holds of an id
 

@@ -1,10 +1,9 @@
 -- What each step of a shard keeps and each opening brings back holds at every moment of a run, and so each log follows.
-use Rattle.std.proofs.Common.{◌≡◌, ◌⊎◌, inl, inr, ℕ, zero, suc, ◌+◌, Bool, true, false, cond, ◌&&◌, nat_eq, nat_lt, List, [], ◌∷◌, ◌++◌, length, Option, Some, None, slice_get, refl, sym, ap, subst, ◌∙◌, arith}
-use Rattle.std.specs.Prelude.{Ok, Err, replicate}
+use Rattle.std.proofs.Common.{◌≡◌, inl, inr, ℕ, suc, ◌+◌, Bool, true, false, cond, ◌&&◌, nat_eq, nat_lt, List, [], ◌∷◌, ◌++◌, length, Option, Some, None, slice_get, refl, sym, ap, subst, ◌∙◌, arith}
+use Rattle.std.specs.Prelude.{Ok, Err}
 use Rattle.std.proofs.lemmas.Bool.{cases_eq}
 use Rattle.std.proofs.lemmas.Bool.Decides.{nat_tests}
-use Rattle.units.specs.Keys.{Bytes}
-use Rattle.units.specs.Lists.{listed, mapped, replaced}
+use Rattle.units.specs.Lists.{listed, replaced}
 use Rattle.units.specs.ById.{IsById}
 use Rattle.units.specs.declared.fault.Fault.{Fault}
 use Rattle.units.specs.declared.fault.Fault.TheVariants.{Stopped, Stranger, Device, TimeSpent}
@@ -20,14 +19,12 @@ use Rattle.message.specs.declared.message.Address.{Address}
 use Rattle.message.specs.declared.message.Address.TheVariants.{Shard, Session}
 use Rattle.message.specs.declared.message.Envelope.{Envelope}
 use Rattle.message.specs.declared.message.Input.{Input}
-use Rattle.message.specs.declared.message.Message.{Message}
-use Rattle.message.specs.declared.message.ReadAnswer.{ReadAnswer}
 use Rattle.protocol.specs.Rows.{Memory, rebuilt}
 use Rattle.protocol.specs.Draft.{Stepped, Refuses, Does, time_limit}
 use Rattle.protocol.specs.Step.{facts_after}
 use Rattle.protocol.specs.Plan.{Plan, Planned, StepIsPlanned, before, plan_input, stepped, carried}
-use Rattle.session.specs.Sessions.{Client, Stage, IsOpen, IsClosing, IsOver, Moved, Denies, Goes, reads, buffers, closes, gives_up, finishes}
-use Rattle.world.specs.World.{World, ShardNow, State, Runs, IsStopped, IsDown, Unsure, Nothing, Shown, Hidden, shown, read_log, setup_of, opening, input_of, step_with, effect, finished, crashed, crashed_in, failed_in, left_of, left_unsure, left_by_refused, is_left, opens_gate, stopped, set_shard, fresh_log, fresh_shard, After, client_of, put_out, moved, refused, if_open, if_not_over, if_closing, if_hearing, answered, to_session, refused_doing, did, did_with_failure, at_shard, do_at, deliver_to, noted, look_shard, look_at_view, acts, happens, start, run, run_from}
+use Rattle.session.specs.Sessions.{reads, buffers, closes, gives_up}
+use Rattle.world.specs.World.{World, ShardNow, State, Runs, IsStopped, IsDown, Unsure, Nothing, Shown, Hidden, shown, read_log, setup_of, opening, input_of, step_with, effect, finished, crashed, crashed_in, failed_in, left_of, left_by_refused, is_left, opens_gate, stopped, set_shard, fresh_log, fresh_shard, After, client_of, put_out, refused, if_open, if_not_over, to_session, refused_doing, did, did_with_failure, at_shard, do_at, deliver_to, noted, look_shard, look_at_view, acts, happens, start, run, run_from}
 use Rattle.world.specs.Headline.{IsUnsure, MayLeaveLog}
 use Rattle.world.specs.declared.event.Act.{Act}
 use Rattle.world.specs.declared.event.Config.{Config}
@@ -43,10 +40,10 @@ use Rattle.world.proofs.Moves.{with_record}
 module _ (law : StepIsPlanned) (Sound : ℕ → Facts → Memory → Type 0)
     (ascends : (n : ℕ) (f : Facts) (m : Memory) → Sound n f m → IsById (λ r. r.txn) m.rows)
     (keeps : (setup : Setup) (f : Facts) (m : Memory) (now : Interval) (i : Input) (p : Plan) → Sound setup.shard f m →
-        plan_input setup (before 1024 setup f m) now i ≡ Ok p → Sound setup.shard (facts_after f p.logged) (carried p m))
+    plan_input setup (before 1024 setup f m) now i ≡ Ok p → Sound setup.shard (facts_after f p.logged) (carried p m))
     (logs : (setup : Setup) (log : List Record) (m : Memory) (now : Interval) (i : Input) (p : Plan) (r : Record) → followed setup.shard log ≡ true →
-        Sound setup.shard (facts_of log) m → plan_input setup (before 1024 setup (facts_of log) m) now i ≡ Ok p → p.logged ≡ Some r →
-        followed setup.shard (log ++ r ∷ []) ≡ true)
+    Sound setup.shard (facts_of log) m → plan_input setup (before 1024 setup (facts_of log) m) now i ≡ Ok p → p.logged ≡ Some r →
+    followed setup.shard (log ++ r ∷ []) ≡ true)
     (opens : (n : ℕ) (f : Facts) (m : Memory) → Sound n f m → Sound n (learn f (Record.Opened (f.epoch + 1))) (rebuilt f)) where
   -- ---- one shard
 
@@ -323,7 +320,7 @@ module _ (law : StepIsPlanned) (Sound : ℕ → Facts → Memory → Type 0)
     acts_sound (Act.CrashIn n call fate doing) =
         at_shard_sound n (λ setup s. (set_shard n (crashed_in s call fate doing (effect setup w.bag s doing)) w, Reply.Crashed))
         (λ s there. set_sound n s (crashed_in s call fate doing (effect (setup_of w.config n) w.bag s doing)) there
-            (crashed_in_sound w.config w.bag n s (sound n s there) call fate doing (effect (setup_of w.config n) w.bag s doing) (effect_is_sound n s there doing)))
+        (crashed_in_sound w.config w.bag n s (sound n s there) call fate doing (effect (setup_of w.config n) w.bag s doing) (effect_is_sound n s there doing)))
     acts_sound (Act.FailIn n call doing) = at_shard_sound n (λ setup s. did_with_failure w n s call doing (effect setup w.bag s doing))
         (λ s there. failing_sound n s there call doing _ (effect_is_sound n s there doing))
 
