@@ -34,75 +34,60 @@ use Rattle.world.specs.declared.event.Reply.{Reply}
 use Rattle.world.specs.Steady.{IsSteady, AlwaysSteady}
 use Rattle.world.proofs.Changes.{get-replaced_same, get-replaced_other}
 use Rattle.world.proofs.Every.{replicated}
-use Rattle.world.proofs.Untouched.{if_open_keeps, if_not_over_keeps, to_session_keeps, noted_keeps}
+use Rattle.world.proofs.Untouched.{Kept, if_open_keeps, if_not_over_keeps, to_session_keeps, noted_keeps}
 use Rattle.world.proofs.Moves.{with_record}
 
-module _ (law : StepIsPlanned) (Sound : ℕ → Facts → Memory → Type 0)
-    (ascends : (n : ℕ) (f : Facts) (m : Memory) → Sound n f m → IsById (λ r. r.txn) m.rows)
-    (keeps : (setup : Setup) (f : Facts) (m : Memory) (now : Interval) (i : Input) (p : Plan) → Sound setup.shard f m →
-    plan_input setup (before 1024 setup f m) now i ≡ Ok p → Sound setup.shard (facts_after f p.logged) (carried p m))
-    (logs : (setup : Setup) (log : List Record) (m : Memory) (now : Interval) (i : Input) (p : Plan) (r : Record) → followed setup.shard log ≡ true →
-    Sound setup.shard (facts_of log) m → plan_input setup (before 1024 setup (facts_of log) m) now i ≡ Ok p → p.logged ≡ Some r →
-    followed setup.shard (log ++ r ∷ []) ≡ true)
-    (opens : (n : ℕ) (f : Facts) (m : Memory) → Sound n f m → Sound n (learn f (Record.Opened (f.epoch + 1))) (rebuilt f)) where
+module _ (law : StepIsPlanned) (Sound : Setup → Facts → Memory → Type 0) (Good : Setup → List Record → Type 0)
+    (ascends : (setup : Setup) (f : Facts) (m : Memory) → Sound setup f m → IsById (λ r. r.txn) m.rows)
+    (keeps : (setup : Setup) (f : Facts) (m : Memory) (now : Interval) (i : Input) (p : Plan) → Sound setup f m →
+        plan_input setup (before 1024 setup f m) now i ≡ Ok p → Sound setup (facts_after f p.logged) (carried p m))
+    (opens : (setup : Setup) (f : Facts) (m : Memory) → Sound setup f m → Sound setup (learn f (Record.Opened (f.epoch + 1))) (rebuilt f))
+    (follows : (setup : Setup) (log : List Record) → Good setup log → followed setup.shard log ≡ true)
+    (logs : (setup : Setup) (log : List Record) (m : Memory) (now : Interval) (i : Input) (p : Plan) (r : Record) → Good setup log →
+        Sound setup (facts_of log) m → plan_input setup (before 1024 setup (facts_of log) m) now i ≡ Ok p → p.logged ≡ Some r → Good setup (log ++ r ∷ []))
+    (good_opens : (setup : Setup) (log : List Record) → Good setup log → Good setup (log ++ Record.Opened ((facts_of log).epoch + 1) ∷ [])) where
   -- ---- one shard
 
   -- a log with which some memory is sound
-  pub record SoundLog (n : ℕ) (log : List Record) : Type 0 where
+  pub record SoundLog (setup : Setup) (log : List Record) : Type 0 where
     pub memory : Memory
-    pub sound : Sound n (facts_of log) memory
-    pub follows : followed n log ≡ true
+    pub sound : Sound setup (facts_of log) memory
+    pub good : Good setup log
 
-  abbrev SoundState : ℕ → ShardNow → State → Type 0
-  SoundState n s (Runs m) = Sound n (facts_of s.log) m × (s.unsure ≡ Nothing)
-  SoundState n s _ = Unit {0}
+  abbrev SoundState : Setup → ShardNow → State → Type 0
+  SoundState setup s (Runs m) = Sound setup (facts_of s.log) m × (s.unsure ≡ Nothing)
+  SoundState setup s _ = Unit {0}
 
   -- each log that a crash may leave of it is sound, and so is its memory
-  pub record SoundShard (n : ℕ) (s : ShardNow) : Type 0 where
-    pub left : (log : List Record) → MayLeaveLog s log → SoundLog n log
-    pub state : SoundState n s s.state
+  pub record SoundShard (setup : Setup) (s : ShardNow) : Type 0 where
+    pub left : (log : List Record) → MayLeaveLog s log → SoundLog setup log
+    pub state : SoundState setup s s.state
 
   -- a step that is done leaves a sound log and memory
-  pub record SoundStep (n : ℕ) (log : List Record) (memory : Memory) : Type 0 where
-    pub sound : Sound n (facts_of log) memory
-    pub follows : followed n log ≡ true
+  pub record SoundStep (setup : Setup) (log : List Record) (memory : Memory) : Type 0 where
+    pub sound : Sound setup (facts_of log) memory
+    pub good : Good setup log
 
-  abbrev SteppedSound : ℕ → List Record → Stepped → Type 0
-  SteppedSound n log (Refuses f) = Unit {0}
-  SteppedSound n log (Does logged memory out) = SoundStep n (with_record log logged) memory
+  abbrev SteppedSound : Setup → List Record → Stepped → Type 0
+  SteppedSound setup log (Refuses f) = Unit {0}
+  SteppedSound setup log (Does logged memory out) = SoundStep setup (with_record log logged) memory
 
   -- one more record
-  more : (n : ℕ) (log : List Record) (r : Record) (m : Memory) → followed n (log ++ r ∷ []) ≡ true → Sound n (learn (facts_of log) r) m → SoundStep n (log ++ r ∷ []) m
-  more n log r m next sound = record { sound = subst (λ x. Sound n x m) (sym (learn_agrees n log r next)) sound; follows = next }
-
-  -- an opening may always come next
-  opening_follows : (n : ℕ) (log : List Record) → followed n log ≡ true → followed n (log ++ Record.Opened ((facts_of log).epoch + 1) ∷ []) ≡ true
-  unfolding follows facts_of
-  opening_follows n log h = followed_more n log (Record.Opened ((facts_of log).epoch + 1)) ∙ and_true _ _ h (and_true _ _ (first_begins log) (same_number ((facts_of log).epoch + 1)))
-    where
-      and_true : (a b : Bool) → a ≡ true → b ≡ true → (a && b) ≡ true
-      and_true true b e f = f
-      and_true false b e f = cc
-
-      same_number : (k : ℕ) → nat_eq k k ≡ true
-      same_number k = grind (arith, nat_tests)
-
-      first_begins : (l : List Record) → begins l (Record.Opened ((facts_of log).epoch + 1)) ≡ true
-      first_begins [] = refl
-      first_begins (r ∷ rs) = refl
+  more : (setup : Setup) (log : List Record) (r : Record) (m : Memory) → Good setup (log ++ r ∷ []) → Sound setup (learn (facts_of log) r) m → SoundStep setup (log ++ r ∷ []) m
+  more setup log r m next sound = record { sound = subst (λ x. Sound setup x m) (sym (learn_agrees setup.shard log r (follows setup (log ++ r ∷ []) next))) sound; good = next }
 
   -- a step of a running shard
-  of_plan : (setup : Setup) (log : List Record) (m : Memory) (now : Interval) (i : Input) → followed setup.shard log ≡ true → Sound setup.shard (facts_of log) m →
-      (p : Planned) → plan_input setup (before 1024 setup (facts_of log) m) now i ≡ p → SteppedSound setup.shard log (stepped m p)
-  of_plan setup log m now i follows sound (Err f) e = tt
-  of_plan setup log m now i follows sound (Ok p) e = by_record p.logged refl (keeps setup (facts_of log) m now i p sound e)
+  of_plan : (setup : Setup) (log : List Record) (m : Memory) (now : Interval) (i : Input) → Good setup log → Sound setup (facts_of log) m →
+      (p : Planned) → plan_input setup (before 1024 setup (facts_of log) m) now i ≡ p → SteppedSound setup log (stepped m p)
+  of_plan setup log m now i good sound (Err f) e = tt
+  of_plan setup log m now i good sound (Ok p) e = by_record p.logged refl (keeps setup (facts_of log) m now i p sound e)
     where
-      by_record : (o : Option Record) → p.logged ≡ o → Sound setup.shard (facts_after (facts_of log) o) (carried p m) → SoundStep setup.shard (with_record log o) (carried p m)
-      by_record None is kept = record { sound = kept; follows = follows }
-      by_record (Some r) is kept = more setup.shard log r (carried p m) (logs setup log m now i p r follows sound e is) kept
+      by_record : (o : Option Record) → p.logged ≡ o → Sound setup (facts_after (facts_of log) o) (carried p m) → SoundStep setup (with_record log o) (carried p m)
+      by_record None is kept = record { sound = kept; good = good }
+      by_record (Some r) is kept = more setup log r (carried p m) (logs setup log m now i p r good sound e is) kept
 
-  module _ (config : Config) (bag : List Envelope) (n : ℕ) (s : ShardNow) (sound : SoundShard n s) where
-    plain : SoundLog n s.log
+  module _ (config : Config) (bag : List Envelope) (n : ℕ) (s : ShardNow) (sound : SoundShard (setup_of config n) s) where
+    plain : SoundLog (setup_of config n) s.log
     plain = sound.left s.log (inl refl)
 
     -- a read of the disk
@@ -115,33 +100,33 @@ module _ (law : StepIsPlanned) (Sound : ℕ → Facts → Memory → Type 0)
         by_unsure (Hidden r) is = inl (append_none s.log)
 
     running : (o : Option (Interval × Input)) (st : State) → s.state ≡ st →
-        SteppedSound n (read_log s) (elim st as (λ x. Stepped) [ Runs m ↦ step_with (setup_of config n) (facts_of s.log) m o | _ ↦ Refuses Stopped ])
+        SteppedSound (setup_of config n) (read_log s) (elim st as (λ x. Stepped) [ Runs m ↦ step_with (setup_of config n) (facts_of s.log) m o | _ ↦ Refuses Stopped ])
     running o (IsStopped m) is = tt
     running o IsDown is = tt
     running None (Runs m) is = tt
     running (Some p) (Runs m) is =
-        let state : SoundState n s (Runs m) = subst (SoundState n s) is sound.state in
+        let state : SoundState (setup_of config n) s (Runs m) = subst (SoundState (setup_of config n) s) is sound.state in
         let read_is : read_log s ≡ s.log = ap (λ u. s.log ++ shown u) state.1 ∙ append_none s.log in
-        subst (λ l. SteppedSound n l (step_with (setup_of config n) (facts_of s.log) m (Some p))) (sym read_is)
-        (subst (SteppedSound n s.log) (sym (law 1024 (setup_of config n) (facts_of s.log) m p.0 p.1 (ascends n (facts_of s.log) m state.0)))
-        (of_plan (setup_of config n) s.log m p.0 p.1 plain.follows state.0 (plan_input (setup_of config n) (before 1024 (setup_of config n) (facts_of s.log) m) p.0 p.1) refl))
+        subst (λ l. SteppedSound (setup_of config n) l (step_with (setup_of config n) (facts_of s.log) m (Some p))) (sym read_is)
+        (subst (SteppedSound (setup_of config n) s.log) (sym (law 1024 (setup_of config n) (facts_of s.log) m p.0 p.1 (ascends (setup_of config n) (facts_of s.log) m state.0)))
+        (of_plan (setup_of config n) s.log m p.0 p.1 plain.good state.0 (plan_input (setup_of config n) (before 1024 (setup_of config n) (facts_of s.log) m) p.0 p.1) refl))
 
-    opened : SteppedSound n (read_log s) (opening (facts_of (read_log s)))
+    opened : SteppedSound (setup_of config n) (read_log s) (opening (facts_of (read_log s)))
     unfolding opening
     opened = by_test (nat_lt (facts_of (read_log s)).epoch time_limit)
       where
-        by_test : (b : Bool) → SteppedSound n (read_log s) (cond b (Does (Some (Record.Opened ((facts_of (read_log s)).epoch + 1))) (rebuilt (facts_of (read_log s))) []) (Refuses TimeSpent))
+        by_test : (b : Bool) → SteppedSound (setup_of config n) (read_log s) (cond b (Does (Some (Record.Opened ((facts_of (read_log s)).epoch + 1))) (rebuilt (facts_of (read_log s))) []) (Refuses TimeSpent))
         by_test false = tt
         by_test true =
             let l = sound.left (read_log s) read_left in
-            more n (read_log s) (Record.Opened ((facts_of (read_log s)).epoch + 1)) (rebuilt (facts_of (read_log s))) (opening_follows n (read_log s) l.follows)
-            (opens n (facts_of (read_log s)) l.memory l.sound)
+            more (setup_of config n) (read_log s) (Record.Opened ((facts_of (read_log s)).epoch + 1)) (rebuilt (facts_of (read_log s))) (good_opens (setup_of config n) (read_log s) l.good)
+            (opens (setup_of config n) (facts_of (read_log s)) l.memory l.sound)
 
-    pub effect_sound : (doing : Doing) → SteppedSound n (read_log s) (effect (setup_of config n) bag s doing)
+    pub effect_sound : (doing : Doing) → SteppedSound (setup_of config n) (read_log s) (effect (setup_of config n) bag s doing)
     unfolding effect
     effect_sound Doing.Open = by_state s.state
       where
-        by_state : (st : State) → SteppedSound n (read_log s) (elim st as (λ x. Stepped) [ Runs m ↦ Refuses Stopped | _ ↦ opening (facts_of (read_log s)) ])
+        by_state : (st : State) → SteppedSound (setup_of config n) (read_log s) (elim st as (λ x. Stepped) [ Runs m ↦ Refuses Stopped | _ ↦ opening (facts_of (read_log s)) ])
         by_state (Runs m) = tt
         by_state (IsStopped m) = opened
         by_state IsDown = opened
@@ -154,17 +139,17 @@ module _ (law : StepIsPlanned) (Sound : ℕ → Facts → Memory → Type 0)
     -- ---- the shard after it
 
     -- a shard without an unsure record
-    sure : (new : ShardNow) → new.unsure ≡ Nothing → SoundLog n new.log → SoundState n new new.state → SoundShard n new
+    sure : (new : ShardNow) → new.unsure ≡ Nothing → SoundLog (setup_of config n) new.log → SoundState (setup_of config n) new new.state → SoundShard (setup_of config n) new
     sure new none l state = record { left = by_left; state = state }
       where
-        by_left : (log : List Record) → MayLeaveLog new log → SoundLog n log
-        by_left log (inl same) = subst (SoundLog n) (sym same) l
+        by_left : (log : List Record) → MayLeaveLog new log → SoundLog (setup_of config n) log
+        by_left log (inl same) = subst (SoundLog (setup_of config n)) (sym same) l
         by_left log (inr unsure) = absurd (subst (λ u. IsUnsure u unsure.0) none unsure.1)
 
-    pub crashed_sound : (log : List Record) → SoundLog n log → SoundShard n (crashed s log)
+    pub crashed_sound : (log : List Record) → SoundLog (setup_of config n) log → SoundShard (setup_of config n) (crashed s log)
     crashed_sound log l = sure (crashed s log) refl l tt
 
-    left_sound : (fate : Fate) → SoundLog n (s.log ++ left_of fate s.unsure)
+    left_sound : (fate : Fate) → SoundLog (setup_of config n) (s.log ++ left_of fate s.unsure)
     left_sound fate = sound.left (s.log ++ left_of fate s.unsure) (by_unsure s.unsure refl)
       where
         by_gate : (r : Record) → IsUnsure s.unsure r → (b : Bool) → MayLeaveLog s (s.log ++ cond b (r ∷ []) [])
@@ -180,13 +165,13 @@ module _ (law : StepIsPlanned) (Sound : ℕ → Facts → Memory → Type 0)
     with_listed None = sym (append_none (read_log s))
     with_listed (Some r) = refl
 
-    pub finished_sound : (doing : Doing) (logged : Option Record) (memory : Memory) → SoundStep n (with_record (read_log s) logged) memory → SoundShard n (finished s doing logged memory)
+    pub finished_sound : (doing : Doing) (logged : Option Record) (memory : Memory) → SoundStep (setup_of config n) (with_record (read_log s) logged) memory → SoundShard (setup_of config n) (finished s doing logged memory)
     unfolding finished
     finished_sound doing logged memory e =
-        let k = subst (λ l. SoundStep n l memory) (with_listed logged) e in
-        sure (finished s doing logged memory) refl (record { memory = memory; sound = k.sound; follows = k.follows }) (k.sound, refl)
+        let k = subst (λ l. SoundStep (setup_of config n) l memory) (with_listed logged) e in
+        sure (finished s doing logged memory) refl (record { memory = memory; sound = k.sound; good = k.good }) (k.sound, refl)
 
-    pub refused_left_sound : (fate : Fate) (doing : Doing) → SoundShard n (crashed s (left_by_refused s fate doing))
+    pub refused_left_sound : (fate : Fate) (doing : Doing) → SoundShard (setup_of config n) (crashed s (left_by_refused s fate doing))
     refused_left_sound fate Doing.Open = crashed_sound (read_log s) (sound.left (read_log s) read_left)
     refused_left_sound fate (Doing.Take m now) = crashed_sound _ (left_sound fate)
     refused_left_sound fate (Doing.Resume now) = crashed_sound _ (left_sound fate)
@@ -194,21 +179,21 @@ module _ (law : StepIsPlanned) (Sound : ℕ → Facts → Memory → Type 0)
     refused_left_sound fate (Doing.Advance at now) = crashed_sound _ (left_sound fate)
     refused_left_sound fate (Doing.Nudge t now) = crashed_sound _ (left_sound fate)
 
-    pub crashed_in_sound : (call : ℕ) (fate : Fate) (doing : Doing) (st : Stepped) → SteppedSound n (read_log s) st → SoundShard n (crashed_in s call fate doing st)
+    pub crashed_in_sound : (call : ℕ) (fate : Fate) (doing : Doing) (st : Stepped) → SteppedSound (setup_of config n) (read_log s) st → SoundShard (setup_of config n) (crashed_in s call fate doing st)
     unfolding crashed_in
     crashed_in_sound call fate doing (Refuses f) e = refused_left_sound fate doing
     crashed_in_sound call fate doing (Does None memory out) e = crashed_sound (read_log s) (sound.left (read_log s) read_left)
     crashed_in_sound call fate doing (Does (Some r) memory out) e = by_test (is_left call fate)
       where
-        by_test : (b : Bool) → SoundShard n (crashed s (read_log s ++ cond b (r ∷ []) []))
-        by_test true = crashed_sound (read_log s ++ r ∷ []) (record { memory = memory; sound = e.sound; follows = e.follows })
-        by_test false = crashed_sound (read_log s ++ []) (subst (SoundLog n) (sym (append_none (read_log s))) (sound.left (read_log s) read_left))
+        by_test : (b : Bool) → SoundShard (setup_of config n) (crashed s (read_log s ++ cond b (r ∷ []) []))
+        by_test true = crashed_sound (read_log s ++ r ∷ []) (record { memory = memory; sound = e.sound; good = e.good })
+        by_test false = crashed_sound (read_log s ++ []) (subst (SoundLog (setup_of config n)) (sym (append_none (read_log s))) (sound.left (read_log s) read_left))
 
-    pub failed_sound : (call : ℕ) (r : Record) (memory : Memory) → SoundStep n (read_log s ++ r ∷ []) memory → SoundShard n (failed_in s call r)
+    pub failed_sound : (call : ℕ) (r : Record) (memory : Memory) → SoundStep (setup_of config n) (read_log s ++ r ∷ []) memory → SoundShard (setup_of config n) (failed_in s call r)
     unfolding failed_in
     failed_sound call r memory e = record { left = by_left; state = by_state s.state }
       where
-        by_state : (st : State) → SoundState n (failed_in s call r) (stopped st)
+        by_state : (st : State) → SoundState (setup_of config n) (failed_in s call r) (stopped st)
         by_state (Runs m) = tt
         by_state (IsStopped m) = tt
         by_state IsDown = tt
@@ -218,20 +203,20 @@ module _ (law : StepIsPlanned) (Sound : ℕ → Facts → Memory → Type 0)
         unsure_is false true q k = k
         unsure_is false false q k = absurd k
 
-        by_left : (log : List Record) → MayLeaveLog (failed_in s call r) log → SoundLog n log
-        by_left log (inl same) = subst (SoundLog n) (sym same) (sound.left (read_log s) read_left)
+        by_left : (log : List Record) → MayLeaveLog (failed_in s call r) log → SoundLog (setup_of config n) log
+        by_left log (inl same) = subst (SoundLog (setup_of config n)) (sym same) (sound.left (read_log s) read_left)
         by_left log (inr x) =
             let is : r ≡ x.0 = unsure_is (nat_eq call 2) (nat_eq call 3) x.0 x.1 in
-            subst (SoundLog n) (sym x.2) (subst (λ q. SoundLog n (read_log s ++ q ∷ [])) is (record { memory = memory; sound = e.sound; follows = e.follows }))
+            subst (SoundLog (setup_of config n)) (sym x.2) (subst (λ q. SoundLog (setup_of config n) (read_log s ++ q ∷ [])) is (record { memory = memory; sound = e.sound; good = e.good }))
 
   -- ---- a world
 
   -- each shard is sound
   abbrev pub SoundWorld : World → Type 0
-  SoundWorld w = (n : ℕ) (s : ShardNow) → slice_get w.shards n ≡ Some s → SoundShard n s
+  SoundWorld w = (n : ℕ) (s : ShardNow) → slice_get w.shards n ≡ Some s → SoundShard (setup_of w.config n) s
 
   module _ (w : World) (sound : SoundWorld w) where
-    set_sound : (n : ℕ) (old new : ShardNow) → slice_get w.shards n ≡ Some old → SoundShard n new → SoundWorld (set_shard n new w)
+    set_sound : (n : ℕ) (old new : ShardNow) → slice_get w.shards n ≡ Some old → SoundShard (setup_of w.config n) new → SoundWorld (set_shard n new w)
     set_sound n old new there new_sound m s e = elim (cases_eq n m) [
       | inl same ↦ by_place same
       | inr ne ↦ sound m s (sym (get-replaced_other w.shards n m new ne) ∙ e)
@@ -240,14 +225,15 @@ module _ (law : StepIsPlanned) (Sound : ℕ → Facts → Memory → Type 0)
         some_same : (a b : ShardNow) → Some a ≡ Some b → a ≡ b
         some_same a b k = cc
 
-        by_place : n ≡ m → SoundShard m s
+        by_place : n ≡ m → SoundShard (setup_of w.config m) s
         by_place same =
             let is : new ≡ s = some_same new s (sym (get-replaced_same w.shards n old new there) ∙ subst (λ k. slice_get (replaced w.shards n new) k ≡ Some s) (sym same) e) in
-            subst (λ k. SoundShard k s) same (subst (SoundShard n) is new_sound)
+            subst (λ k. SoundShard (setup_of w.config k) s) same (subst (SoundShard (setup_of w.config n)) is new_sound)
 
     -- a change that touches no shard
-    untouched : (v : World) → v.shards ≡ w.shards → SoundWorld v
-    untouched v same n s e = sound n s (subst (λ (l : List ShardNow). slice_get l n ≡ Some s) same e)
+    untouched : (v : World) → Kept w v → SoundWorld v
+    untouched v same n s e =
+        subst (λ (c : Config). SoundShard (setup_of c n) s) (sym same.1) (sound n s (subst (λ (l : List ShardNow). slice_get l n ≡ Some s) same.0 e))
 
     module _ (n : ℕ) (s : ShardNow) (there : slice_get w.shards n ≡ Some s) where
       refused_sound : (doing : Doing) (f : Fault) → SoundWorld ((refused_doing w n s doing f).0)
@@ -266,12 +252,12 @@ module _ (law : StepIsPlanned) (Sound : ℕ → Facts → Memory → Type 0)
       refused_sound (Doing.Advance at now) f = sound
       refused_sound (Doing.Nudge t now) f = sound
 
-      did_sound : (doing : Doing) (st : Stepped) → SteppedSound n (read_log s) st → SoundWorld ((did w n s doing st).0)
+      did_sound : (doing : Doing) (st : Stepped) → SteppedSound (setup_of w.config n) (read_log s) st → SoundWorld ((did w n s doing st).0)
       unfolding did put_out
       did_sound doing (Refuses f) e = refused_sound doing f
       did_sound doing (Does logged memory out) e = set_sound n s (finished s doing logged memory) there (finished_sound w.config w.bag n s (sound n s there) doing logged memory e)
 
-      failing_sound : (call : ℕ) (doing : Doing) (st : Stepped) → SteppedSound n (read_log s) st → SoundWorld ((did_with_failure w n s call doing st).0)
+      failing_sound : (call : ℕ) (doing : Doing) (st : Stepped) → SteppedSound (setup_of w.config n) (read_log s) st → SoundWorld ((did_with_failure w n s call doing st).0)
       unfolding did_with_failure
       failing_sound call doing (Refuses f) e = did_sound doing (Refuses f) e
       failing_sound call doing (Does None memory out) e = did_sound doing (Does None memory out) e
@@ -281,7 +267,7 @@ module _ (law : StepIsPlanned) (Sound : ℕ → Facts → Memory → Type 0)
           by_test true = set_sound n s (failed_in s call r) there (failed_sound w.config w.bag n s (sound n s there) call r memory e)
           by_test false = did_sound doing (Does (Some r) memory out) e
 
-      effect_is_sound : (doing : Doing) → SteppedSound n (read_log s) (effect (setup_of w.config n) w.bag s doing)
+      effect_is_sound : (doing : Doing) → SteppedSound (setup_of w.config n) (read_log s) (effect (setup_of w.config n) w.bag s doing)
       effect_is_sound doing = effect_sound w.config w.bag n s (sound n s there) doing
 
     at_shard_sound : (n : ℕ) (f : Setup → ShardNow → After) → ((s : ShardNow) → slice_get w.shards n ≡ Some s → SoundWorld ((f (setup_of w.config n) s).0)) → SoundWorld ((at_shard w n f).0)
@@ -327,9 +313,9 @@ module _ (law : StepIsPlanned) (Sound : ℕ → Facts → Memory → Type 0)
     -- so the world is steady
     pub steady : IsSteady w
     steady = record {
-      follows = λ n s log there may. ((sound n s there).left log may).follows;
-      logged = λ n s doing r memory out there e. (subst (SteppedSound n (read_log s)) e (effect_is_sound n s there doing)).follows;
-      ascends = λ n s m there runs. ascends n (facts_of s.log) m (subst (SoundState n s) runs (sound n s there).state).0;
+      follows = λ n s log there may. follows (setup_of w.config n) log ((sound n s there).left log may).good;
+      logged = λ n s doing r memory out there e. follows (setup_of w.config n) (read_log s ++ r ∷ []) (subst (SteppedSound (setup_of w.config n) (read_log s)) e (effect_is_sound n s there doing)).good;
+      ascends = λ n s m there runs. ascends (setup_of w.config n) (facts_of s.log) m (subst (SoundState (setup_of w.config n) s) runs (sound n s there).state).0;
     }
 
   run_sound : (w : World) (es : List Event) → SoundWorld w → SoundWorld (run_from w es)
@@ -337,22 +323,25 @@ module _ (law : StepIsPlanned) (Sound : ℕ → Facts → Memory → Type 0)
   run_sound w [] sound = sound
   run_sound w (e ∷ es) sound = run_sound ((happens w e).0) es (acts_sound w sound e.act)
 
-  module _ (fresh : (n : ℕ) → Sound n (facts_of fresh_log) (rebuilt (facts_of fresh_log))) where
-    fresh_sound : (n : ℕ) → SoundShard n fresh_shard
-    unfolding followed follows
-    fresh_sound n = record {
+  module _ (fresh : (setup : Setup) → Sound setup (facts_of fresh_log) (rebuilt (facts_of fresh_log))) (good_fresh : (setup : Setup) → Good setup fresh_log) where
+    fresh_sound : (setup : Setup) → SoundShard setup fresh_shard
+    fresh_sound setup = record {
       left = λ log may. elim may [
-        | inl same ↦ subst (SoundLog n) (sym same) (record { memory = rebuilt (facts_of fresh_log); sound = fresh n; follows = refl })
+        | inl same ↦ subst (SoundLog setup) (sym same) (record { memory = rebuilt (facts_of fresh_log); sound = fresh setup; good = good_fresh setup })
         | inr unsure ↦ absurd unsure.1
       ];
-      state = (fresh n, refl);
+      state = (fresh setup, refl);
     }
 
     start_sound : (config : Config) → SoundWorld (start config)
     unfolding start
-    start_sound config n s e = subst (SoundShard n) (replicated (suc (length config.splits)) n s e) (fresh_sound n)
+    start_sound config n s e = subst (SoundShard (setup_of config n)) (replicated (suc (length config.splits)) n s e) (fresh_sound (setup_of config n))
+
+    -- each shard is sound at every moment
+    pub always_sound : (config : Config) (es : List Event) → SoundWorld (run config es)
+    unfolding run
+    always_sound config es = run_sound (start config) es (start_sound config)
 
     -- every lawful run is steady
     pub always_steady : AlwaysSteady
-    unfolding run
-    always_steady config es fair = steady (run_from (start config) es) (run_sound (start config) es (start_sound config))
+    always_steady config es fair = steady (run config es) (always_sound config es)
