@@ -16,6 +16,7 @@ pub mod Moves
 pub mod Table
 pub mod Homes
 mod OneShardRun
+pub mod Openings
 pub mod Orderly
 pub mod Picked
 pub mod Resolved
