@@ -2,6 +2,7 @@ pub mod AllWhole
 pub mod Changes
 mod Clients
 pub mod Closings
+pub mod Consistent
 pub mod Decisions
 pub mod Doings
 mod Events

@@ -310,6 +310,14 @@ module _ (law : StepIsPlanned) (Sound : Setup → Facts → Memory → Type 0) (
     acts_sound (Act.FailIn n call doing) = at_shard_sound n (λ setup s. did_with_failure w n s call doing (effect setup w.bag s doing))
         (λ s there. failing_sound n s there call doing _ (effect_is_sound n s there doing))
 
+    -- each log that a crash may leave is good, between steps and within one
+    pub left_good : (n : ℕ) (s : ShardNow) (log : List Record) → slice_get w.shards n ≡ Some s → MayLeaveLog s log → Good (setup_of w.config n) log
+    left_good n s log there may = ((sound n s there).left log may).good
+
+    pub logged_good : (n : ℕ) (s : ShardNow) (doing : Doing) (r : Record) (memory : Memory) (out : List Envelope) → slice_get w.shards n ≡ Some s →
+        effect (setup_of w.config n) w.bag s doing ≡ Does (Some r) memory out → Good (setup_of w.config n) (read_log s ++ r ∷ [])
+    logged_good n s doing r memory out there e = (subst (SteppedSound (setup_of w.config n) (read_log s)) e (effect_is_sound n s there doing)).good
+
     -- so the world is steady
     pub steady : IsSteady w
     steady = record {
