@@ -39,9 +39,6 @@ shard_stays a b g n s h = record {
 }
 
 module _ (sc : Scene) (n : ℕ) (old new : ShardNow) (there : slice_get sc.world.shards n ≡ Some old) (within : Within old.log new.log) where
-  after : Scene
-  after = with_world sc (set_shard n new sc.world)
-
   pub log_after : log_at (set_shard n new sc.world) n ≡ new.log
   log_after = ap (λ o. elim o as (λ x. List Record) [ None ↦ [] | Some s ↦ s.log ]) (get-replaced_same sc.world.shards n old new there)
 

@@ -30,9 +30,6 @@ abbrev pub AfterHolds : Scene → After → Type 0
 AfterHolds sc after = Holds (with_world sc after.0)
 
 module _ (sc : Scene) (h : Holds sc) (present : slice_get sc.times sc.world.event ≡ Some sc.now) where
-  splits : List Bytes
-  splits = sc.world.config.splits
-
   -- what a step of a session may come to
   record MoveEvidence (c d : Client) (out : List Envelope) : Type 0 where
     pub same : d.txn ≡ c.txn

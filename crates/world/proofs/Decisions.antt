@@ -18,9 +18,6 @@ use Rattle.world.proofs.Picked.{keep_among, kept_passes, gather_among, map_among
 
 -- ---- of one log
 
-commits : List Record → Id → List Committed
-commits log t = keep (λ c. same_id t c.txn) (gather as_committed log)
-
 skipped : {B : Type 0} (f : Record → Option B) (b : Bool) (r : Record) (rest : List Record) → f r ≡ None → gather f (cond b (r ∷ rest) rest) ≡ gather f rest
 skipped {B} f true r rest e = ap (λ o. elim o as (λ q. List B) [ None ↦ gather f rest | Some y ↦ y ∷ gather f rest ]) e
 skipped f false r rest e = refl

@@ -133,9 +133,6 @@ length_push (y ∷ xs) x = ap suc (length_push xs x)
 
 module _ (sc : Scene) (time : ℕ) (h : Holds sc) (c : Clock sc) (later : sc.now ≤ time) where
   -- the next event begins
-  pub ticking : Scene
-  ticking = record { world = sc.world; times = sc.times ++ time ∷ []; event = sc.event; now = time }
-
   tick_grows : Grows sc (record { world = sc.world; times = sc.times ++ time ∷ []; event = sc.event; now = time })
   tick_grows = record {
     sent = λ e k. k;

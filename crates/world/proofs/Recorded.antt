@@ -171,9 +171,6 @@ module _ (log : List Record) where
   found_rows sc n [] = tt
   found_rows sc n (t ∷ ts) = by_row (standing_row (record { txn = t; status = status_of log t })) refl (found_rows sc n ts)
     where
-      others : List Row
-      others = gather standing_row (map (λ u. record { txn = u; status = status_of log u }) ts)
-
       by_row : (o : Option Row) → standing_row (record { txn = t; status = status_of log t }) ≡ o → RowsEvidence sc log n (gather standing_row (map (λ u. record { txn = u; status = status_of log u }) ts)) →
           RowsEvidence sc log n (elim o as (λ q. List Row) [ None ↦ gather standing_row (map (λ u. record { txn = u; status = status_of log u }) ts) | Some y ↦ y ∷ gather standing_row (map (λ u. record { txn = u; status = status_of log u }) ts) ])
       by_row None e rest = rest

@@ -67,11 +67,8 @@ module _ (sc : Scene) (h : Holds sc) (logs : List (List Record)) (left : AreLeft
 
     nowhere : (n : ℕ) → not (when (λ s. true) (stands_at logs (log_in logs n) t)) ≡ true
     unfolding stands_at
-    nowhere n = by_parts (committed_of log t) refl (ended_of log t) refl (prepared_of log t) refl
+    nowhere n = by_parts (committed_of (log_in logs n) t) refl (ended_of (log_in logs n) t) refl (prepared_of (log_in logs n) t) refl
       where
-        log : List Record
-        log = log_in logs n
-
         by_parts : (c : Option Committed) → committed_of (log_in logs n) t ≡ c → (e : Option Ended) → ended_of (log_in logs n) t ≡ e → (p : Option Prepared) → prepared_of (log_in logs n) t ≡ p →
             not (when (λ s. true) (stands_by logs c e p)) ≡ true
         by_parts (Some c) hc e he p hp = let k = committed_is (log_in logs n) t c hc in absurd (no_commit n c k.0 k.1)

@@ -28,9 +28,6 @@ IsNoBegin _ = Unit {0}
 
 -- a scene with the same sessions and shards, and more messages and lines
 module _ (sc : Scene) (out : List Envelope) (ls : List Line) where
-  said : Scene
-  said = with_world sc (lined ls (bagged out sc.world))
-
   pub said_grows : Grows sc (with_world sc (lined ls (bagged out sc.world)))
   said_grows = record {
     sent = λ e h. among_left sc.world.bag out e h;
@@ -68,9 +65,6 @@ module _ (sc : Scene) (out : List Envelope) (ls : List Line) where
 
 -- the lines of the acknowledgements among new messages rest on these
 module _ (sc : Scene) (out : List Envelope) (ls : List Line) (present : slice_get sc.times sc.world.event ≡ Some sc.now) where
-  Written : Line → Type 0
-  Written l = IsNoBegin l × LineEvidence (with_world sc (lined ls (bagged out sc.world))) l
-
   ack_written : (to : Address) (t : Id) (o : Option ℕ) → IsAmong out (record { to = to; message = Message.Done (record { txn = t; outcome = o }) }) →
       MessageEvidence sc to (Message.Done (record { txn = t; outcome = o })) →
       AllByRecursion (λ l. IsNoBegin l × LineEvidence (with_world sc (lined ls (bagged out sc.world))) l) (ack_of sc.world t o)
