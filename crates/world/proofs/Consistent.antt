@@ -1,6 +1,6 @@
 -- What the laws of single shards give of every lawful run and every crash: all of external consistency but the values that
 -- are read.
-use Rattle.std.proofs.Common.{◌≡◌, ◌⊎◌, inl, inr, ℕ, ◌+◌, true, List, [], ◌∷◌, ◌++◌, Option, Some, None, slice_get, refl, sym, subst}
+use Rattle.std.proofs.Common.{◌≡◌, ◌⊎◌, inl, inr, ℕ, ◌+◌, true, List, [], ◌∷◌, ◌++◌, Some, slice_get, refl, sym, subst}
 use Rattle.std.specs.Prelude.{Ok}
 use Rattle.units.specs.ById.{IsById}
 use Rattle.units.specs.declared.setup.Setup.{Setup}
@@ -10,16 +10,14 @@ use Rattle.record.specs.Facts.{Facts, facts_of, learn}
 use Rattle.record.proofs.LearnAgrees.{accepted_follows}
 use Rattle.record.specs.Serially.{LooksSerially, ReadsSerially}
 use Rattle.record.specs.declared.record.Record.{Record}
-use Rattle.message.specs.declared.message.Envelope.{Envelope}
 use Rattle.message.specs.declared.message.Input.{Input}
 use Rattle.protocol.specs.Rows.{Memory, rebuilt}
-use Rattle.protocol.specs.Draft.{Does}
 use Rattle.protocol.specs.Step.{facts_after}
 use Rattle.protocol.specs.StepLaws.{IsInLimit}
 use Rattle.protocol.specs.Plan.{Plan, StepIsPlanned, before, plan_input, carried}
-use Rattle.world.specs.World.{World, ShardNow, setup_of, effect, read_log, run, fresh_log}
+use Rattle.world.specs.World.{World, ShardNow, setup_of, run, fresh_log}
 use Rattle.world.specs.Lawful.{lawful, may_act}
-use Rattle.world.specs.Headline.{AllAccepted, IsExternallyConsistent, MayBeLeft, MayLeaveLog, MayLeaveLogs, MayHaveLogged, MayLeaveWithin}
+use Rattle.world.specs.Headline.{AllAccepted, IsExternallyConsistent, MayBeLeft, MayLeaveLog, MayHaveLogged}
 use Rattle.world.specs.Steady.{AlwaysSteady}
 use Rattle.world.specs.TimeLaws.{InstalledInThePast, LooksCoverAcknowledged}
 use Rattle.world.specs.declared.event.Act.{Act}
@@ -47,13 +45,13 @@ module _ (planned : StepIsPlanned)
     (ascends : (setup : Setup) (f : Facts) (m : Memory) → Sound setup f m → IsById (λ r. r.txn) m.rows)
     -- a step keeps it, an opening brings it back, and it holds at the beginning
     (keeps : (setup : Setup) (f : Facts) (m : Memory) (now : Interval) (i : Input) (p : Plan) → IsInLimit i → Sound setup f m →
-        plan_input setup (before 1024 setup f m) now i ≡ Ok p → Sound setup (facts_after f p.logged) (carried p m))
+    plan_input setup (before 1024 setup f m) now i ≡ Ok p → Sound setup (facts_after f p.logged) (carried p m))
     (opens : (setup : Setup) (f : Facts) (m : Memory) → Sound setup f m → Sound setup (learn f (Record.Opened (f.epoch + 1))) (rebuilt f))
     (fresh : (setup : Setup) → Sound setup (facts_of fresh_log) (rebuilt (facts_of fresh_log)))
     -- what a step logs is taken
     (logs : (setup : Setup) (log : List Record) (m : Memory) (now : Interval) (i : Input) (p : Plan) (r : Record) → taken setup log ≡ Accepted →
-        Sound setup (facts_of log) m → plan_input setup (before 1024 setup (facts_of log) m) now i ≡ Ok p → p.logged ≡ Some r →
-        taken setup (log ++ r ∷ []) ≡ Accepted)
+    Sound setup (facts_of log) m → plan_input setup (before 1024 setup (facts_of log) m) now i ≡ Ok p → p.logged ≡ Some r →
+    taken setup (log ++ r ∷ []) ≡ Accepted)
     -- the timestamps that events name are within the limit
     (limits : (w : World) (time : ℕ) (a : Act) → may_act w time a ≡ true → ActLimit a) where
   pub steady : AlwaysSteady

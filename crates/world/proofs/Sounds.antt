@@ -1,8 +1,7 @@
 -- What each step of a shard keeps and each opening brings back holds at every moment of a run, and so each log follows.
-use Rattle.std.proofs.Common.{◌≡◌, ◌≤◌, ◌^◌, ◌-◌, nat_le, inl, inr, ℕ, suc, ◌+◌, Bool, true, false, cond, ◌&&◌, nat_eq, nat_lt, List, [], ◌∷◌, ◌++◌, length, Option, Some, None, slice_get, refl, sym, ap, subst, ◌∙◌, arith}
+use Rattle.std.proofs.Common.{◌≡◌, ◌≤◌, ◌^◌, ◌-◌, nat_le, inl, inr, ℕ, suc, ◌+◌, Bool, true, false, cond, nat_eq, nat_lt, List, [], ◌∷◌, ◌++◌, length, Option, Some, None, slice_get, refl, sym, ap, subst, ◌∙◌}
 use Rattle.std.specs.Prelude.{Ok, Err}
 use Rattle.std.proofs.lemmas.Bool.{cases_eq}
-use Rattle.std.proofs.lemmas.Bool.Decides.{nat_tests}
 use Rattle.units.specs.Lists.{listed, mapped, replaced}
 use Rattle.units.specs.ById.{IsById}
 use Rattle.units.specs.declared.fault.Fault.{Fault}
@@ -11,9 +10,9 @@ use Rattle.units.specs.declared.setup.Setup.{Setup}
 use Rattle.units.proofs.Folds.{append_none}
 use Rattle.truetime.specs.Interval.{Interval}
 use Rattle.disk.specs.declared.plan.Fate.{Fate}
-use Rattle.record.specs.Accepted.{followed, follows, begins}
+use Rattle.record.specs.Accepted.{followed}
 use Rattle.record.specs.Facts.{Facts, facts_of, learn}
-use Rattle.record.proofs.LearnAgrees.{learn_agrees, followed_more}
+use Rattle.record.proofs.LearnAgrees.{learn_agrees}
 use Rattle.record.specs.declared.record.Record.{Record}
 use Rattle.message.specs.declared.message.Address.{Address}
 use Rattle.message.specs.declared.message.Address.TheVariants.{Shard, Session}
@@ -55,11 +54,11 @@ ActLimit _ = Unit {0}
 module _ (law : StepIsPlanned) (Sound : Setup → Facts → Memory → Type 0) (Good : Setup → List Record → Type 0)
     (ascends : (setup : Setup) (f : Facts) (m : Memory) → Sound setup f m → IsById (λ r. r.txn) m.rows)
     (keeps : (setup : Setup) (f : Facts) (m : Memory) (now : Interval) (i : Input) (p : Plan) → IsInLimit i → Sound setup f m →
-        plan_input setup (before 1024 setup f m) now i ≡ Ok p → Sound setup (facts_after f p.logged) (carried p m))
+    plan_input setup (before 1024 setup f m) now i ≡ Ok p → Sound setup (facts_after f p.logged) (carried p m))
     (opens : (setup : Setup) (f : Facts) (m : Memory) → Sound setup f m → Sound setup (learn f (Record.Opened (f.epoch + 1))) (rebuilt f))
     (follows : (setup : Setup) (log : List Record) → Good setup log → followed setup.shard log ≡ true)
     (logs : (setup : Setup) (log : List Record) (m : Memory) (now : Interval) (i : Input) (p : Plan) (r : Record) → Good setup log →
-        Sound setup (facts_of log) m → plan_input setup (before 1024 setup (facts_of log) m) now i ≡ Ok p → p.logged ≡ Some r → Good setup (log ++ r ∷ []))
+    Sound setup (facts_of log) m → plan_input setup (before 1024 setup (facts_of log) m) now i ≡ Ok p → p.logged ≡ Some r → Good setup (log ++ r ∷ []))
     (good_opens : (setup : Setup) (log : List Record) → Good setup log → Good setup (log ++ Record.Opened ((facts_of log).epoch + 1) ∷ [])) where
   -- ---- one shard
 
