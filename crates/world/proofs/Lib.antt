@@ -21,6 +21,7 @@ pub mod Openings
 pub mod Orderly
 pub mod Picked
 pub mod Resolved
+pub mod Quiet
 mod RandomRuns
 pub mod Recorded
 mod Recovery

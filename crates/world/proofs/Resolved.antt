@@ -24,13 +24,13 @@ use Rattle.world.proofs.Picked.{each_of, any_of, gather_among, AtMostOne}
 -- ---- what a log holds of an id
 
 module _ (log : List Record) (t : Id) where
-  committed_is : (c : Committed) → committed_of log t ≡ Some c → IsAmong log (Record.Commit c) × (c.txn ≡ t)
+  pub committed_is : (c : Committed) → committed_of log t ≡ Some c → IsAmong log (Record.Commit c) × (c.txn ≡ t)
   committed_is c e = (
     decision_among log c (among_first (λ (x : Committed). same_id x.txn t) (gather as_committed log) c e),
     same_id-is c.txn t (first_passes (λ (x : Committed). same_id x.txn t) (gather as_committed log) c e),
   )
 
-  prepared_is : (p : Prepared) → prepared_of log t ≡ Some p → IsAmong log (Record.Prepare p) × (p.txn ≡ t)
+  pub prepared_is : (p : Prepared) → prepared_of log t ≡ Some p → IsAmong log (Record.Prepare p) × (p.txn ≡ t)
   prepared_is p e = (
     promise_among log p (among_first (λ (x : Prepared). same_id x.txn t) (gather as_prepared log) p e),
     same_id-is p.txn t (first_passes (λ (x : Prepared). same_id x.txn t) (gather as_prepared log) p e),
