@@ -1,16 +1,16 @@
 -- What a log answers up to a time stays, once no promise and no decision up to it stands and all later ones are above it.
-use Rattle.std.proofs.Common.{◌≡◌, ◌⊎◌, inl, inr, ℕ, ◌<◌, ◌≤◌, Bool, true, false, not, cond, ◌&&◌, ◌||◌, nat_eq, nat_le, List, [], ◌∷◌, ◌++◌, Option, Some, None, refl, sym, ap, subst, ◌∙◌, arith}
+use Rattle.std.proofs.Common.{◌≡◌, ◌⊎◌, inl, inr, ℕ, ◌<◌, ◌≤◌, Bool, true, false, not, cond, ◌||◌, nat_eq, nat_le, List, [], ◌∷◌, ◌++◌, Option, Some, None, refl, sym, ap, subst, ◌∙◌, arith}
 use Rattle.std.proofs.lemmas.Bool.{leb-true, eqb-true, cases_lt}
 use Rattle.std.proofs.lemmas.Bool.Decides.{nat_tests}
 use Rattle.units.specs.Ids.{Id, same_id}
 use Rattle.units.specs.Keys.{Bytes}
-use Rattle.units.specs.Lists.{any, gather, keep, when}
+use Rattle.units.specs.Lists.{gather, keep, when}
 use Rattle.units.specs.Versions.{versions, at_time, latest}
 use Rattle.units.specs.declared.writes.Install.{Install}
 use Rattle.units.specs.declared.writes.Write.{Write}
-use Rattle.units.proofs.Folds.{append_none, is_there, there_first}
+use Rattle.units.proofs.Folds.{append_none, there_first}
 use Rattle.units.proofs.IdLaws.{same_id-refl}
-use Rattle.record.specs.Accepted.{followed, follows, begins, outcome_fits}
+use Rattle.record.specs.Accepted.{followed, follows, outcome_fits}
 use Rattle.record.specs.Facts.{Facts, facts_of, learn, recorded, installs_at}
 use Rattle.record.specs.Installs.{installs_of}
 use Rattle.record.specs.Records.{Ended, Status, Unrecorded, StandsPrepared, StandsDecided, HasAborted, HasSettled, HasClosed, as_ended, ended_of, prepared_of, committed_of}
@@ -154,5 +154,5 @@ answer_stays shard log r k at h q =
     by_kind (Outcome t (Some s)) e =
         same_answer (installs_of log) (installs_at (recorded (facts_of log) t) (Some s)) k at
         (installed_unseen (recorded (facts_of log) t) at s
-            (outcome_above log at t s q (both (not (when (λ x. true) (ended_of log t))) (outcome_fits (prepared_of log t) (committed_of log t) (Some s)) e).0
-            (prepared_of log t) refl (committed_of log t) refl (both (not (when (λ x. true) (ended_of log t))) (outcome_fits (prepared_of log t) (committed_of log t) (Some s)) e).1))
+        (outcome_above log at t s q (both (not (when (λ x. true) (ended_of log t))) (outcome_fits (prepared_of log t) (committed_of log t) (Some s)) e).0
+        (prepared_of log t) refl (committed_of log t) refl (both (not (when (λ x. true) (ended_of log t))) (outcome_fits (prepared_of log t) (committed_of log t) (Some s)) e).1))
