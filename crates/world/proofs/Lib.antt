@@ -26,6 +26,7 @@ mod RandomRuns
 pub mod Recorded
 mod Recovery
 pub mod Says
+pub mod Rising
 mod Served
 pub mod Sessions
 pub mod Shards
