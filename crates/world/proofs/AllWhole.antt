@@ -1,6 +1,6 @@
 -- Every transaction is whole over logs that a crash may leave.
-use Rattle.std.proofs.Common.{◌≡◌, ◌≢◌, ◌⊎◌, inl, inr, ℕ, zero, suc, ◌<◌, ◌≤◌, Bool, true, false, not, cond, ◌&&◌, ◌||◌, nat_eq, nat_lt, nat_le, List, [], ◌∷◌, length, Option, Some, None, slice_get, refl, sym, ap, subst, ◌∙◌, arith}
-use Rattle.std.proofs.lemmas.Bool.{cases_eq, eqb-true}
+use Rattle.std.proofs.Common.{◌≡◌, ◌≢◌, inl, inr, ℕ, zero, suc, ◌<◌, ◌≤◌, Bool, true, false, not, cond, ◌&&◌, ◌||◌, nat_eq, nat_lt, nat_le, List, [], ◌∷◌, length, Option, Some, None, slice_get, refl, sym, ap, subst, ◌∙◌, arith}
+use Rattle.std.proofs.lemmas.Bool.{cases_eq}
 use Rattle.std.proofs.lemmas.Bool.Decides.{nat_tests}
 use Rattle.units.specs.Lists.{any, each, gather, has, head, when}
 use Rattle.units.specs.Ids.{Id, same_id}
@@ -8,7 +8,6 @@ use Rattle.units.proofs.IdLaws.{same_id-is, same_id-refl}
 use Rattle.record.specs.History.{by_shard}
 use Rattle.record.specs.Records.{Ended, as_ended, as_prepared, is_aborted}
 use Rattle.record.specs.Whole.{is_whole, is_whole_by, Decision, decisions, ends_at, turns_down, fits_decision, parts_exist, promises, is_promise_for}
-use Rattle.record.specs.declared.record.Committed.{Committed}
 use Rattle.record.specs.declared.record.Prepared.{Prepared}
 use Rattle.record.specs.declared.record.Record.{Record}
 use Rattle.world.specs.Evidence.{Scene, IsAmong, Holds}
@@ -17,7 +16,7 @@ use Rattle.world.proofs.Members.{some_passes}
 use Rattle.world.proofs.Orderly.{both}
 use Rattle.world.proofs.Recorded.{among_keep, promise_among, outcome_among, is_aborted_among}
 use Rattle.world.proofs.Homes.{log_in, decision_home, not_both, no_aborted, outcome_decided, outcome_stamp, promised, promise_of_part, is_orderly}
-use Rattle.world.proofs.Decisions.{Decided, decision_stands, stands_decided, one_decided, one_promise_in, log_of_number, log_in-is, there_in}
+use Rattle.world.proofs.Decisions.{decision_stands, stands_decided, one_decided, one_promise_in, log_of_number, log_in-is, there_in}
 use Rattle.world.proofs.Picked.{each_of, keep_among, kept_passes, gather_among, AtMostOne, is_none, is_single}
 
 and_true : (a b : Bool) → a ≡ true → b ≡ true → (a && b) ≡ true

@@ -1,18 +1,10 @@
 -- The few changes of which every event is made, and that each keeps something behind all that there is.
-use Rattle.std.proofs.Common.{◌≡◌, ◌≢◌, ◌⊎◌, inl, inr, ℕ, zero, suc, ◌≤◌, ◌<◌, Bool, true, false, cond, List, [], ◌∷◌, ◌++◌, Option, Some, None, slice_get, refl, sym, ap, subst, ◌∙◌, arith, map}
+use Rattle.std.proofs.Common.{◌≡◌, ◌≢◌, inl, inr, ℕ, zero, suc, List, [], ◌∷◌, Some, None, slice_get, refl, sym, ap, subst, ◌∙◌, arith}
 use Rattle.std.proofs.lemmas.Bool.{cases_eq}
-use Rattle.std.specs.List.{AllByRecursion}
-use Rattle.units.specs.Lists.{any, first, join, mapped, replaced, when}
-use Rattle.units.specs.Ids.{Id, same_id}
-use Rattle.units.specs.declared.line.Line.{Line}
+use Rattle.units.specs.Lists.{replaced}
 use Rattle.record.specs.declared.record.Record.{Record}
-use Rattle.message.specs.declared.message.Address.{Address}
-use Rattle.message.specs.declared.message.Done.{Done}
-use Rattle.message.specs.declared.message.Envelope.{Envelope}
-use Rattle.message.specs.declared.message.Message.{Message}
-use Rattle.world.specs.World.{World, ShardNow, State, Runs, IsStopped, IsDown, client_of, set_shard, put_out, acks_of, ack_of, commit_told, note}
-use Rattle.world.specs.Evidence.{Scene, IsAmong, log_at, ClosedOver, BeganBy, RecordEvidence, StateEvidence, ShardEvidence, RowsEvidence, Told, SaidBySome, MessageEvidence, AckEvidence, LineEvidence, Holds}
-use Rattle.world.proofs.Members.{among_left, among_right, among_cases}
+use Rattle.world.specs.World.{World, ShardNow, State, Runs, IsStopped, IsDown, set_shard}
+use Rattle.world.specs.Evidence.{Scene, IsAmong, log_at, StateEvidence, ShardEvidence, Holds}
 use Rattle.world.proofs.Grows.{Within, Grows, message_stays, line_stays, began_stays, record_stays, rows_stay}
 
 -- the scene with another world
@@ -47,9 +39,6 @@ shard_stays a b g n s h = record {
 }
 
 module _ (sc : Scene) (n : ℕ) (old new : ShardNow) (there : slice_get sc.world.shards n ≡ Some old) (within : Within old.log new.log) where
-  after : Scene
-  after = with_world sc (set_shard n new sc.world)
-
   pub log_after : log_at (set_shard n new sc.world) n ≡ new.log
   log_after = ap (λ o. elim o as (λ x. List Record) [ None ↦ [] | Some s ↦ s.log ]) (get-replaced_same sc.world.shards n old new there)
 

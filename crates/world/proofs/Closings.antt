@@ -1,9 +1,8 @@
 -- The steps of sessions keep something behind all that there is.
-use Rattle.std.proofs.Common.{◌≡◌, ◌⊎◌, inl, inr, ℕ, Bool, true, false, not, cond, ◌&&◌, nat_le, length, List, [], ◌∷◌, ◌++◌, Option, Some, None, slice_get, refl, sym, ap, subst, ◌∙◌, map}
+use Rattle.std.proofs.Common.{◌≡◌, inl, inr, ℕ, Bool, true, false, not, cond, ◌&&◌, nat_le, length, List, [], ◌∷◌, ◌++◌, Option, Some, None, slice_get, refl, sym, subst, map}
 use Rattle.std.specs.List.{AllByRecursion}
 use Rattle.units.specs.Ids.{Id}
 use Rattle.units.specs.Keys.{Bytes, has_key, shard_of, writes_key}
-use Rattle.units.specs.declared.fault.Fault.{Fault}
 use Rattle.units.specs.declared.fault.Fault.TheVariants.{Stranger}
 use Rattle.units.specs.declared.fault.Reason.{Reason}
 use Rattle.units.specs.declared.fault.Reason.TheVariants.{Many, Nothing, Again, Awaited, Doomed}
@@ -19,11 +18,11 @@ use Rattle.message.specs.declared.message.Envelope.{Envelope}
 use Rattle.message.specs.declared.message.Message.{Message}
 use Rattle.message.specs.declared.message.ReadAnswer.{ReadAnswer}
 use Rattle.session.specs.Sessions.{Client, Stage, IsOpen, IsClosing, IsOver, Moved, Denies, Goes, unless, closing_messages, messages_for, prepare_for, parts_of, shards_told, reads, buffers, closes, gives_up, finishes, hears, take_answer, is_doomed, epochs_agree, was_taken, asked_keys, was_answered, with_write, is_none, without_key, doomed_by}
-use Rattle.world.specs.World.{World, After, client_of, set_client, put_out, moved, refused, if_open, if_not_over, if_closing, if_hearing, answered, read_lines, to_session, noted}
+use Rattle.world.specs.World.{After, client_of, set_client, moved, refused, if_open, if_not_over, if_closing, if_hearing, answered, read_lines, to_session, noted}
 use Rattle.world.specs.declared.event.Reply.{Reply}
 use Rattle.world.specs.Evidence.{Scene, IsAmong, ClosedOver, IsOfClosing, MessageEvidence, LineEvidence, is_past_open, Holds}
 use Rattle.world.proofs.Changes.{with_world}
-use Rattle.world.proofs.Says.{put_out_holds, said_holds, lined, bagged, IsNoBegin}
+use Rattle.world.proofs.Says.{put_out_holds, said_holds, lined, IsNoBegin}
 use Rattle.world.proofs.Sessions.{KeepsClosing, client_holds, set_there}
 
 -- something stands behind all that there is after an event
@@ -31,9 +30,6 @@ abbrev pub AfterHolds : Scene → After → Type 0
 AfterHolds sc after = Holds (with_world sc after.0)
 
 module _ (sc : Scene) (h : Holds sc) (present : slice_get sc.times sc.world.event ≡ Some sc.now) where
-  splits : List Bytes
-  splits = sc.world.config.splits
-
   -- what a step of a session may come to
   record MoveEvidence (c d : Client) (out : List Envelope) : Type 0 where
     pub same : d.txn ≡ c.txn

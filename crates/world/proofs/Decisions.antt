@@ -1,26 +1,22 @@
 -- The decisions of an id over all logs: at most one.
-use Rattle.std.proofs.Common.{◌≡◌, ◌⊎◌, inl, inr, ℕ, zero, suc, ◌+◌, ◌<◌, ◌≤◌, Bool, true, false, not, cond, ◌&&◌, ◌||◌, nat_eq, nat_lt, List, [], ◌∷◌, ◌++◌, length, Option, Some, None, slice_get, refl, sym, ap, subst, ◌∙◌, map, arith, zero-add}
-use Rattle.units.specs.Lists.{keep, gather, join, head, when, numbered}
+use Rattle.std.proofs.Common.{◌≡◌, ℕ, Bool, true, false, cond, List, [], ◌∷◌, Option, Some, None, slice_get, refl, sym, ap, subst, ◌∙◌, map, zero-add}
+use Rattle.units.specs.Lists.{keep, gather}
 use Rattle.units.specs.Ids.{Id, same_id}
 use Rattle.units.proofs.IdLaws.{same_id-is, same_id_comm, same_id-refl}
 use Rattle.record.specs.History.{by_shard}
 use Rattle.record.specs.Records.{as_committed, as_prepared}
 use Rattle.record.specs.Whole.{Decision, decisions, promises}
 use Rattle.record.specs.declared.record.Committed.{Committed}
-use Rattle.record.specs.declared.record.Prepared.{Prepared}
 use Rattle.record.specs.declared.record.Record.{Record}
 use Rattle.record.specs.declared.record.Record.TheVariants.{Opened, Ceiling, Prepare, Commit, Abort, Outcome}
 use Rattle.world.specs.Evidence.{Scene, IsAmong, Holds}
 use Rattle.world.specs.Left.{AreLeft}
 use Rattle.world.proofs.Orderly.{IsOrderly, IsOne, claims_of, orderly}
-use Rattle.world.proofs.Recorded.{among_keep, decision_among, promise_among}
+use Rattle.world.proofs.Recorded.{among_keep, decision_among}
 use Rattle.world.proofs.Homes.{log_in, one_place}
-use Rattle.world.proofs.Picked.{keep_among, kept_passes, gather_among, map_among, among_map, Mapped, join_among, among_join, Joined, AtMostOne, numbered_place, place_numbered, Numbered, one_of_numbered, some_same}
+use Rattle.world.proofs.Picked.{keep_among, kept_passes, gather_among, map_among, among_map, join_among, among_join, AtMostOne, numbered_place, place_numbered, one_of_numbered}
 
 -- ---- of one log
-
-commits : List Record → Id → List Committed
-commits log t = keep (λ c. same_id t c.txn) (gather as_committed log)
 
 skipped : {B : Type 0} (f : Record → Option B) (b : Bool) (r : Record) (rest : List Record) → f r ≡ None → gather f (cond b (r ∷ rest) rest) ≡ gather f rest
 skipped {B} f true r rest e = ap (λ o. elim o as (λ q. List B) [ None ↦ gather f rest | Some y ↦ y ∷ gather f rest ]) e
@@ -122,13 +118,13 @@ pub stands_decided : (logs : List (List Record)) (n : ℕ) (c : Committed) → I
 stands_decided logs n c h =
     join_among (decided_in c.txn) (by_shard logs) (n, log_in logs n) (record { shard = n; commit = c }) (number_there logs n (Commit c) h)
     (map_among (λ x. record { shard = n; commit = x }) (keep (λ x. same_id c.txn x.txn) (gather as_committed (log_in logs n))) c
-        (keep_among (λ x. same_id c.txn x.txn) (gather as_committed (log_in logs n)) c (gather_among as_committed (log_in logs n) (Commit c) c h refl) (same_id-refl c.txn)))
+    (keep_among (λ x. same_id c.txn x.txn) (gather as_committed (log_in logs n)) c (gather_among as_committed (log_in logs n) (Commit c) c h refl) (same_id-refl c.txn)))
 
 module _ (sc : Scene) (h : Holds sc) (logs : List (List Record)) (left : AreLeft sc logs) where
   pub one_decided : (t : Id) → AtMostOne (decisions logs t)
   one_decided t = one_of_numbered (decided_in t) 0 logs
       (λ p k. one_mapped (λ c. record { shard = p.0; commit = c }) (keep (λ c. same_id t c.txn) (gather as_committed p.1))
-          (one_commit_in p.1 t (orderly p.0 p.1 (left.each p.0 p.1 (log_of_number logs p k)).follows)))
+      (one_commit_in p.1 t (orderly p.0 p.1 (left.each p.0 p.1 (log_of_number logs p k)).follows)))
       same_number
     where
       by : (p : ℕ × List Record) (d : Decision) → IsAmong (by_shard logs) p → IsAmong (decided_in t p) d → Decided logs t d × (d.shard ≡ p.0)

@@ -1,36 +1,34 @@
 -- What a shard does rests on something.
-use Rattle.std.proofs.Common.{◌≡◌, ◌⊎◌, inl, inr, ℕ, zero, suc, nat_le, ◌+◌, ◌<◌, ◌≤◌, Bool, true, false, cond, ◌&&◌, nat_eq, nat_lt, List, [], ◌∷◌, ◌++◌, Option, Some, None, slice_get, refl, sym, ap, subst, ◌∙◌, arith}
+use Rattle.std.proofs.Common.{◌≡◌, inl, inr, ℕ, zero, suc, nat_le, ◌+◌, ◌<◌, ◌≤◌, Bool, true, false, cond, ◌&&◌, nat_eq, nat_lt, List, [], ◌∷◌, Option, Some, None, slice_get, refl, sym, ap, subst, ◌∙◌, arith}
 use Rattle.std.specs.Prelude.{Ok, Err}
 use Rattle.std.specs.List.{AllByRecursion}
 use Rattle.std.proofs.lemmas.Bool.{leb-true, eqb-true}
-use Rattle.units.specs.Lists.{mapped, listed, when}
+use Rattle.units.specs.Lists.{mapped, when}
 use Rattle.units.specs.ById.{IsById}
 use Rattle.units.specs.Ids.{Id}
 use Rattle.units.specs.Keys.{Bytes}
-use Rattle.units.specs.declared.fault.Fault.TheVariants.{Stopped, TimeSpent}
-use Rattle.units.specs.declared.setup.Setup.{Setup}
+use Rattle.units.specs.declared.fault.Fault.TheVariants.{TimeSpent}
 use Rattle.units.specs.declared.writes.Write.{Write}
 use Rattle.units.proofs.ByIdLaws.{all-with}
-use Rattle.units.proofs.Folds.{append_none}
 use Rattle.units.proofs.ListLaws.{all-keep}
 use Rattle.truetime.specs.Interval.{Interval}
-use Rattle.record.specs.Facts.{Facts, facts_of}
+use Rattle.record.specs.Facts.{facts_of}
 use Rattle.record.specs.declared.record.Record.{Record}
 use Rattle.message.specs.declared.message.Address.{Address}
 use Rattle.message.specs.declared.message.Address.TheVariants.{Shard, Session}
 use Rattle.message.specs.declared.message.Envelope.{Envelope}
 use Rattle.message.specs.declared.message.Input.{Input}
 use Rattle.message.specs.declared.message.Message.{Message}
-use Rattle.protocol.specs.Rows.{Memory, Row, rebuilt, without_row, with_row}
+use Rattle.protocol.specs.Rows.{Memory, Row, rebuilt, without_row}
 use Rattle.protocol.specs.Draft.{Stepped, Refuses, Does, time_limit}
-use Rattle.protocol.specs.Plan.{Before, before, Plan, Planned, Change, Keeps, Ends, Drops, Puts, StepIsPlanned, plan_input, stepped, carried, changed, without_rows, held_in}
+use Rattle.protocol.specs.Plan.{before, Plan, Planned, Change, Keeps, Ends, Drops, Puts, StepIsPlanned, plan_input, stepped, carried, changed, without_rows}
 use Rattle.protocol.proofs.RowTable.{with_row-is}
-use Rattle.world.specs.World.{World, ShardNow, State, Runs, IsStopped, IsDown, Unsure, Nothing, Shown, Hidden, shown, read_log, setup_of, opening, input_of, step_with, effect, client_of}
+use Rattle.world.specs.World.{ShardNow, Runs, read_log, setup_of, opening, input_of, step_with}
 use Rattle.world.specs.Lawful.{goes_to, may_do}
 use Rattle.world.specs.declared.event.Doing.{Doing}
-use Rattle.world.specs.Evidence.{Scene, IsAmong, Sent, CommitAsked, BeganBy, PhaseEvidence, RowsEvidence, AllTold, ShardEvidence, StateEvidence, Holds}
-use Rattle.world.proofs.Members.{among_left, among_cases}
-use Rattle.world.proofs.Moves.{with_record, LoggedEvidence, ChangeEvidence, PlanEvidence, PlannedEvidence}
+use Rattle.world.specs.Evidence.{Scene, IsAmong, Sent, CommitAsked, BeganBy, PhaseEvidence, RowsEvidence, AllTold, StateEvidence, Holds}
+use Rattle.world.proofs.Members.{among_left}
+use Rattle.world.proofs.Moves.{with_record, LoggedEvidence, ChangeEvidence, PlannedEvidence}
 use Rattle.world.proofs.Steps.{Knows, Heard, planned}
 use Rattle.world.proofs.Grows.{Within, Grows, rows_stay}
 use Rattle.world.proofs.Orderly.{IsOrderly, both}

@@ -1,7 +1,6 @@
 -- Something stands behind all that there is, at every moment of every lawful run.
-use Rattle.std.proofs.Common.{◌≡◌, ◌⊎◌, inl, inr, ℕ, zero, suc, ◌+◌, ◌<◌, ◌≤◌, Bool, true, false, not, cond, ◌&&◌, nat_eq, nat_lt, nat_le, List, [], ◌∷◌, ◌++◌, length, Option, Some, None, slice_get, refl, sym, ap, subst, ◌∙◌, arith}
+use Rattle.std.proofs.Common.{◌≡◌, ◌⊎◌, inl, inr, ℕ, zero, suc, ◌<◌, ◌≤◌, true, not, ◌&&◌, nat_le, List, [], ◌∷◌, ◌++◌, length, Option, Some, None, slice_get, refl, sym, ap, subst, ◌∙◌, arith}
 use Rattle.std.specs.Prelude.{replicate}
-use Rattle.std.specs.List.{AllByRecursion}
 use Rattle.std.proofs.lemmas.Bool.{leb-true}
 use Rattle.units.specs.Lists.{when, mapped}
 use Rattle.units.specs.Ids.{Id}
@@ -9,7 +8,6 @@ use Rattle.units.specs.declared.fault.Fault.TheVariants.{Stranger}
 use Rattle.units.specs.declared.setup.Setup.{Setup}
 use Rattle.truetime.specs.Interval.{Interval}
 use Rattle.truetime.specs.Reading.{is_honest}
-use Rattle.record.specs.declared.record.Record.{Record}
 use Rattle.message.specs.declared.message.Address.{Address}
 use Rattle.message.specs.declared.message.Address.TheVariants.{Shard, Session}
 use Rattle.message.specs.declared.message.Envelope.{Envelope}
@@ -17,7 +15,7 @@ use Rattle.message.specs.declared.message.Input.{Input}
 use Rattle.protocol.specs.Plan.{StepIsPlanned}
 use Rattle.session.specs.Sessions.{Client}
 use Rattle.world.specs.World.{World, After, ShardNow, client_of, input_of, at_shard, do_at, deliver_to, acts, happens, ticked, start, run, run_from, setup_of, did, effect, did_with_failure, crashed, crashed_in, set_shard, to_session, refused, noted, look_shard, look_at_view, fresh_shard, fresh_log}
-use Rattle.world.specs.Lawful.{has_begun, may_act, may_do, may_crash, may_happen, can_come, lawful_from, lawful, goes_to}
+use Rattle.world.specs.Lawful.{has_begun, may_act, may_happen, can_come, lawful_from, lawful}
 use Rattle.world.specs.declared.event.Act.{Act}
 use Rattle.world.specs.declared.event.Config.{Config}
 use Rattle.world.specs.declared.event.Doing.{Doing}
@@ -135,9 +133,6 @@ length_push (y ∷ xs) x = ap suc (length_push xs x)
 
 module _ (sc : Scene) (time : ℕ) (h : Holds sc) (c : Clock sc) (later : sc.now ≤ time) where
   -- the next event begins
-  pub ticking : Scene
-  ticking = record { world = sc.world; times = sc.times ++ time ∷ []; event = sc.event; now = time }
-
   tick_grows : Grows sc (record { world = sc.world; times = sc.times ++ time ∷ []; event = sc.event; now = time })
   tick_grows = record {
     sent = λ e k. k;
@@ -252,7 +247,7 @@ fresh_evidence sc n = record {
   state = (rebuilt_rows fresh_log sc n, refl);
 }
 
-replicated : (count n : ℕ) (s : ShardNow) → slice_get (replicate count fresh_shard) n ≡ Some s → fresh_shard ≡ s
+pub replicated : (count n : ℕ) (s : ShardNow) → slice_get (replicate count fresh_shard) n ≡ Some s → fresh_shard ≡ s
 replicated zero n s e = cc
 replicated (suc count) zero s e = some_is fresh_shard s e
   where

@@ -1,5 +1,5 @@
 -- A scene that has grown: all that stood behind something still does.
-use Rattle.std.proofs.Common.{◌≡◌, ◌⊎◌, inl, inr, ℕ, ◌<◌, ◌≤◌, Bool, true, List, [], ◌∷◌, Option, Some, None, slice_get, arith}
+use Rattle.std.proofs.Common.{◌≡◌, inl, inr, ℕ, ◌≤◌, List, Option, Some, None, slice_get, arith}
 use Rattle.std.specs.List.{AllByRecursion}
 use Rattle.units.specs.Ids.{Id}
 use Rattle.units.specs.Keys.{Bytes}
@@ -9,14 +9,10 @@ use Rattle.units.proofs.ListLaws.{all_gives}
 use Rattle.record.specs.declared.record.Committed.{Committed}
 use Rattle.record.specs.declared.record.Record.{Record}
 use Rattle.message.specs.declared.message.Address.{Address}
-use Rattle.message.specs.declared.message.Ask.{Ask}
-use Rattle.message.specs.declared.message.Done.{Done}
 use Rattle.message.specs.declared.message.Envelope.{Envelope}
 use Rattle.message.specs.declared.message.Message.{Message}
-use Rattle.message.specs.declared.message.Outcome.{Outcome}
-use Rattle.message.specs.declared.message.Vote.{Vote}
 use Rattle.protocol.specs.Rows.{Row, Phase, Idle, WaitsRead, WaitsPrepare, WaitsCommit, Collecting, IsPrepared, IsDecided, Voted}
-use Rattle.world.specs.Evidence.{Scene, IsAmong, log_at, ClosedOver, IsOfClosing, BeganBy, PrepareAsked, CommitAsked, VotedYes, VoteBelow, HasPromise, HasDecision, HasOutcome, WasTold, CommitEvidence, WasAsked, WasQuestioned, RecordEvidence, Remembers, PhaseEvidence, RowsEvidence, AskEvidence, VoteEvidence, Told, AllTold, SaidBySome, MessageEvidence, AckEvidence, LineEvidence}
+use Rattle.world.specs.Evidence.{Scene, IsAmong, log_at, ClosedOver, IsOfClosing, BeganBy, PrepareAsked, CommitAsked, VotedYes, HasPromise, HasDecision, HasOutcome, WasTold, CommitEvidence, RecordEvidence, Remembers, PhaseEvidence, RowsEvidence, Told, SaidBySome, MessageEvidence, LineEvidence}
 
 -- each member of the first list is one of the second
 abbrev pub Within : {A : Type 0} → List A → List A → Type 0
@@ -64,12 +60,15 @@ module _ (log more : List Record) (within : Within log more) where
   pub told_stays : (now later n : ℕ) → now ≤ later → (to : Address) (m : Message) → Told log now n to m → Told more later n to m
   told_stays now later n on to (Message.Vote v) h = vote_stays now later n on to v.from v.txn v.vote h
   told_stays now later n on to (Message.Outcome o) h = word_stays now later n on to o.from o.txn o.outcome h
-  told_stays now later n on to (Message.Ask a) h = (h.0, record {
-    coordinator = h.1.coordinator;
-    stamp = h.1.stamp;
-    promised = promise_stays a.txn h.1.coordinator h.1.stamp h.1.promised;
-    receiver = h.1.receiver;
-  })
+  told_stays now later n on to (Message.Ask a) h = (
+    h.0,
+    record {
+      coordinator = h.1.coordinator;
+      stamp = h.1.stamp;
+      promised = promise_stays a.txn h.1.coordinator h.1.stamp h.1.promised;
+      receiver = h.1.receiver;
+    },
+  )
   told_stays now later n on to (Message.Done d) h = done_stays now later n on to d.txn d.outcome h
   told_stays now later n on to (Message.ReadAnswer a) h = tt
   told_stays now later n on to (Message.Read r) h = absurd h

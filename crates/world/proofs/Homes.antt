@@ -1,26 +1,22 @@
 -- Where the records of a transaction stand: all follow from its one closing.
-use Rattle.std.proofs.Common.{◌≡◌, ◌≢◌, ◌⊎◌, inl, inr, ℕ, ◌<◌, ◌≤◌, Bool, true, false, not, cond, ◌&&◌, ◌||◌, nat_eq, List, [], ◌∷◌, ◌++◌, Option, Some, None, slice_get, refl, sym, ap, subst, ◌∙◌, map, arith}
-use Rattle.std.proofs.lemmas.Bool.{cases_eq}
+use Rattle.std.proofs.Common.{◌≡◌, ◌≢◌, inl, inr, ℕ, ◌≤◌, Bool, true, false, not, cond, ◌||◌, nat_eq, List, [], ◌∷◌, Option, Some, None, slice_get, refl, sym, ap, subst, ◌∙◌, map, arith}
 use Rattle.std.proofs.lemmas.Bool.Decides.{nat_tests}
-use Rattle.units.specs.Lists.{any, keep, has, head}
+use Rattle.units.specs.Lists.{has, head}
 use Rattle.units.specs.Ids.{Id}
 use Rattle.units.specs.Keys.{Bytes}
 use Rattle.units.specs.declared.writes.Write.{Write}
 use Rattle.record.specs.declared.record.Committed.{Committed}
 use Rattle.record.specs.declared.record.Prepared.{Prepared}
 use Rattle.record.specs.declared.record.Record.{Record}
-use Rattle.message.specs.declared.message.Address.{Address}
 use Rattle.message.specs.declared.message.Address.TheVariants.{Shard, Session}
 use Rattle.message.specs.declared.message.Envelope.{Envelope}
 use Rattle.message.specs.declared.message.Message.{Message}
-use Rattle.message.specs.declared.message.Commit.{Commit}
-use Rattle.message.specs.declared.message.Prepare.{Prepare}
-use Rattle.protocol.specs.Draft.{promise, decision, other_parts}
+use Rattle.protocol.specs.Draft.{other_parts}
 use Rattle.session.specs.Sessions.{Client, closing_messages, messages_for, prepare_for, parts_of}
 use Rattle.world.specs.World.{World, ShardNow, client_of}
-use Rattle.world.specs.Evidence.{Scene, IsAmong, Sent, log_at, IsOfClosing, CommitAsked, PrepareAsked, HasDecision, HasOutcome, HasPromise, WasTold, WasAsked, WasQuestioned, CommitEvidence, VoteBelow, RecordEvidence, Told, SaidBySome, MessageEvidence, Holds}
+use Rattle.world.specs.Evidence.{Scene, IsAmong, log_at, IsOfClosing, CommitAsked, PrepareAsked, HasDecision, WasTold, WasAsked, WasQuestioned, RecordEvidence, Holds}
 use Rattle.world.specs.Left.{IsLeftLog, AreLeft}
-use Rattle.world.proofs.Orderly.{IsOrderly, orderly, one_decision, one_promise, decided_not_promised, decided_not_aborted}
+use Rattle.world.proofs.Orderly.{IsOrderly, orderly, one_decision, decided_not_aborted}
 
 -- ---- the closing of a transaction
 

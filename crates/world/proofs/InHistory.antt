@@ -1,13 +1,13 @@
 -- Acknowledged commits are in the history, and it is ordered by true time.
-use Rattle.std.proofs.Common.{◌≡◌, ◌⊎◌, inl, inr, ℕ, ◌<◌, ◌≤◌, Bool, true, false, cond, ◌&&◌, nat_eq, nat_lt, List, [], ◌∷◌, Option, Some, None, slice_get, refl, sym, ap, subst, ◌∙◌, arith}
+use Rattle.std.proofs.Common.{◌≡◌, ℕ, ◌<◌, ◌≤◌, Bool, true, false, cond, ◌&&◌, nat_eq, nat_lt, List, Option, Some, None, slice_get, refl, sym, ap, subst, ◌∙◌, arith}
 use Rattle.std.proofs.lemmas.Bool.{ltb-true}
 use Rattle.std.proofs.lemmas.Bool.Decides.{nat_tests}
-use Rattle.units.specs.Lists.{any, gather, join, head, when}
+use Rattle.units.specs.Lists.{gather, head, when}
 use Rattle.units.specs.Ids.{Id, same_id}
 use Rattle.units.specs.declared.line.Line.{Line}
 use Rattle.units.proofs.IdLaws.{same_id-is, same_id-refl}
 use Rattle.units.proofs.ByIdLaws.{first_passes}
-use Rattle.record.specs.History.{Txn, history, whole_txn, find_txn, by_shard}
+use Rattle.record.specs.History.{Txn, history, whole_txn, by_shard}
 use Rattle.record.specs.Records.{as_committed}
 use Rattle.record.specs.Serially.{OrderedByTime}
 use Rattle.record.specs.Verdict.{IsLine, is_in_at}
@@ -15,12 +15,12 @@ use Rattle.record.specs.declared.record.Committed.{Committed}
 use Rattle.record.specs.declared.record.Record.{Record}
 use Rattle.world.specs.Evidence.{Scene, IsAmong, AckEvidence, Holds}
 use Rattle.world.specs.Left.{AreLeft}
-use Rattle.world.proofs.Recorded.{among_first, among_gather, Source, decision_among}
+use Rattle.world.proofs.Recorded.{among_first, among_gather, decision_among}
 use Rattle.world.proofs.Doings.{get_among}
 use Rattle.world.proofs.Homes.{log_in, evidence, kept, decision_home}
 use Rattle.world.proofs.AllWhole.{when_head}
 use Rattle.world.proofs.Decisions.{log_of_number, log_in-is, number_there}
-use Rattle.world.proofs.Picked.{any_of, gather_among, join_among, among_join, Joined, some_same}
+use Rattle.world.proofs.Picked.{any_of, gather_among, join_among, among_join, some_same}
 
 -- the transaction of a decision, where it stands in the log of its least part
 abbrev counted : List (List Record) → ℕ → Committed → Option Txn
@@ -35,7 +35,7 @@ unfolding history
 history_has logs n c k least =
     join_among (counted_in logs) (by_shard logs) (n, log_in logs n) (whole_txn logs n c) (number_there logs n (Record.Commit c) k)
     (gather_among (counted logs n) (gather as_committed (log_in logs n)) c (whole_txn logs n c) (gather_among as_committed (log_in logs n) (Record.Commit c) c k refl)
-        (ap (λ b. cond b (Some (whole_txn logs n c)) None) (when_head c.parts n least)))
+    (ap (λ b. cond b (Some (whole_txn logs n c)) None) (when_head c.parts n least)))
 
 -- a transaction of the history has its decision
 record InHistory (logs : List (List Record)) (x : Txn) : Type 0 where

@@ -1,19 +1,17 @@
 -- Something stands behind each record of logs that a crash may leave, between events and within one.
-use Rattle.std.proofs.Common.{◌≡◌, ◌⊎◌, inl, inr, ℕ, zero, suc, ◌<◌, ◌≤◌, Bool, true, false, cond, ◌&&◌, nat_le, List, [], ◌∷◌, ◌++◌, Option, Some, None, slice_get, refl, sym, ap, subst, ◌∙◌, arith}
-use Rattle.std.proofs.lemmas.Bool.{leb-true, cases_eq}
+use Rattle.std.proofs.Common.{◌≡◌, ◌⊎◌, inl, inr, ℕ, zero, suc, ◌≤◌, true, nat_le, List, [], ◌∷◌, ◌++◌, Option, Some, None, slice_get, refl, sym, ap, subst}
+use Rattle.std.proofs.lemmas.Bool.{leb-true}
 use Rattle.units.specs.Lists.{mapped, when}
-use Rattle.truetime.specs.Interval.{Interval}
 use Rattle.truetime.specs.Reading.{is_honest}
 use Rattle.record.specs.declared.record.Record.{Record}
 use Rattle.message.specs.declared.message.Address.{Address}
 use Rattle.message.specs.declared.message.Address.TheVariants.{Shard, Session}
 use Rattle.message.specs.declared.message.Envelope.{Envelope}
 use Rattle.message.specs.declared.message.Input.{Input}
-use Rattle.protocol.specs.Draft.{Stepped, Does}
 use Rattle.protocol.specs.Plan.{StepIsPlanned}
-use Rattle.world.specs.World.{World, ShardNow, Unsure, read_log, shown, effect, setup_of, input_of}
-use Rattle.world.specs.Lawful.{may_act, may_do, can_come}
-use Rattle.world.specs.Headline.{IsUnsure, MayLeaveLog, MayLeaveLogs, MayHaveLogged, MayLeaveWithin, doing_of}
+use Rattle.world.specs.World.{World, ShardNow, read_log, input_of}
+use Rattle.world.specs.Lawful.{may_act, can_come}
+use Rattle.world.specs.Headline.{MayLeaveLog, MayLeaveLogs, MayHaveLogged, MayLeaveWithin, doing_of}
 use Rattle.world.specs.declared.event.Act.{Act}
 use Rattle.world.specs.declared.event.Doing.{Doing}
 use Rattle.world.specs.Evidence.{Scene, IsAmong, RecordEvidence, Holds}
@@ -31,12 +29,12 @@ some_same : {A : Type 0} (a b : A) → Some a ≡ Some b → a ≡ b
 some_same a b e = cc
 
 -- the shard of a log that a crash may leave
-record ShardOf (ss : List ShardNow) (n : ℕ) (P : ShardNow → Type 0) : Type 0 where
+pub record ShardOf (ss : List ShardNow) (n : ℕ) (P : ShardNow → Type 0) : Type 0 where
   pub shard : ShardNow
   pub there : slice_get ss n ≡ Some shard
   pub fits : P shard
 
-left_get : (ss : List ShardNow) (ls : List (List Record)) (n : ℕ) (l : List Record) → MayLeaveLogs ss ls → slice_get ls n ≡ Some l → ShardOf ss n (λ s. MayLeaveLog s l)
+pub left_get : (ss : List ShardNow) (ls : List (List Record)) (n : ℕ) (l : List Record) → MayLeaveLogs ss ls → slice_get ls n ≡ Some l → ShardOf ss n (λ s. MayLeaveLog s l)
 left_get [] [] n l h e = cc
 left_get [] (m ∷ ls) n l h e = absurd h
 left_get (s ∷ ss) [] n l h e = cc
@@ -50,7 +48,7 @@ left_all (x ∷ ss) (m ∷ ls) zero s h e = (m, refl)
 left_all (x ∷ ss) (m ∷ ls) (suc n) s h e = left_all ss ls n s h.1 e
 
 module _ (w : World) (n : ℕ) (doing : Doing) where
-  within_get : (i : ℕ) (ss : List ShardNow) (ls : List (List Record)) (k : ℕ) (l : List Record) → MayLeaveWithin w n doing i ss ls → slice_get ls k ≡ Some l →
+  pub within_get : (i : ℕ) (ss : List ShardNow) (ls : List (List Record)) (k : ℕ) (l : List Record) → MayLeaveWithin w n doing i ss ls → slice_get ls k ≡ Some l →
       ShardOf ss k (λ s. MayLeaveLog s l ⊎ ((k ≡ i) × MayHaveLogged w s n doing l))
   within_get i [] [] k l h e = cc
   within_get zero [] (m ∷ ls) k l h e = absurd h

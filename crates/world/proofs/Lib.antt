@@ -2,6 +2,7 @@ pub mod AllWhole
 pub mod Changes
 mod Clients
 pub mod Closings
+pub mod Consistent
 pub mod Decisions
 pub mod Doings
 mod Events
@@ -16,15 +17,20 @@ pub mod Moves
 pub mod Table
 pub mod Homes
 mod OneShardRun
+pub mod Openings
 pub mod Orderly
 pub mod Picked
 pub mod Resolved
+pub mod Quiet
 mod RandomRuns
 pub mod Recorded
 mod Recovery
 pub mod Says
+pub mod Rising
 mod Served
 pub mod Sessions
 pub mod Shards
+pub mod Sounds
 pub mod Steps
 mod TwoShardRun
+pub mod Untouched

@@ -1,7 +1,7 @@
 -- Members of a list.
-use Rattle.std.proofs.Common.{◌≡◌, ◌⊎◌, inl, inr, ℕ, Bool, true, false, cond, ◌||◌, List, [], ◌∷◌, ◌++◌, refl, sym, subst}
+use Rattle.std.proofs.Common.{◌≡◌, ◌⊎◌, inl, inr, Bool, true, false, ◌||◌, List, [], ◌∷◌, ◌++◌, refl, subst}
 use Rattle.std.specs.List.{AllByRecursion}
-use Rattle.units.specs.Lists.{any, keep}
+use Rattle.units.specs.Lists.{any}
 use Rattle.world.specs.Evidence.{IsAmong}
 
 pub among_left : {A : Type 0} (xs ys : List A) (x : A) → IsAmong xs x → IsAmong (xs ++ ys) x

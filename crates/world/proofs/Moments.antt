@@ -1,43 +1,37 @@
 -- What holds of a lawful run at each moment: of its world, and of the logs that a crash may leave there.
-use Rattle.std.proofs.Common.{◌≡◌, ◌⊎◌, inl, inr, ℕ, zero, suc, ◌<◌, ◌≤◌, Bool, true, false, cond, ◌&&◌, nat_eq, nat_lt, nat_le, List, [], ◌∷◌, ◌++◌, Option, Some, None, slice_get, refl, sym, ap, subst, ◌∙◌, map, arith}
-use Rattle.std.proofs.lemmas.Bool.{leb-true, eqb-true}
+use Rattle.std.proofs.Common.{◌≡◌, inl, inr, ℕ, suc, ◌<◌, ◌≤◌, true, ◌&&◌, nat_lt, nat_le, List, [], ◌∷◌, ◌++◌, Option, Some, None, slice_get, refl, sym, ap, subst, ◌∙◌, arith}
+use Rattle.std.proofs.lemmas.Bool.{leb-true}
 use Rattle.std.proofs.lemmas.Bool.Decides.{nat_tests}
-use Rattle.units.specs.Lists.{any, each, gather, join, head, when}
-use Rattle.units.specs.Ids.{Id, same_id}
+use Rattle.units.specs.Lists.{each, gather}
+use Rattle.units.specs.Ids.{Id}
 use Rattle.units.specs.declared.line.Line.{Line}
 use Rattle.units.specs.declared.writes.Install.{Install}
 use Rattle.units.specs.declared.writes.Write.{Write}
 use Rattle.units.specs.Versions.{versions}
-use Rattle.units.proofs.IdLaws.{same_id-is, same_id-refl}
-use Rattle.units.proofs.ByIdLaws.{first_passes}
-use Rattle.record.specs.History.{Txn, history, whole_txn, find_txn, by_shard}
 use Rattle.record.specs.Installs.{installs_of, installed_by, writes_by}
-use Rattle.record.specs.Records.{Ended, as_committed, as_ended, committed_of, prepared_of}
+use Rattle.record.specs.Records.{as_ended, committed_of, prepared_of}
 use Rattle.record.specs.Serially.{OrderedByTime}
-use Rattle.record.specs.Verdict.{IsLine, is_in_at}
-use Rattle.record.specs.declared.record.Committed.{Committed}
+use Rattle.record.specs.Verdict.{IsLine}
 use Rattle.record.specs.declared.record.Record.{Record}
 use Rattle.protocol.specs.Plan.{StepIsPlanned}
 use Rattle.world.specs.World.{World, ShardNow, run, run_from, start, happens}
 use Rattle.world.specs.Lawful.{lawful, lawful_from, may_happen, may_act}
 use Rattle.world.specs.Headline.{AllOrNothing, KeepsAcknowledged, MayBeLeft, MayLeaveLogs, MayLeaveWithin, doing_of}
 use Rattle.world.specs.TimeLaws.{InstalledInThePast, LooksCoverAcknowledged, installed_before}
-use Rattle.world.specs.declared.event.Act.{Act}
 use Rattle.world.specs.declared.event.Config.{Config}
 use Rattle.world.specs.declared.event.Event.{Event}
-use Rattle.world.specs.Evidence.{Scene, IsAmong, RecordEvidence, AckEvidence, Holds}
+use Rattle.world.specs.Evidence.{Scene, IsAmong, AckEvidence, Holds}
 use Rattle.world.specs.Left.{AreLeft}
 use Rattle.world.specs.Steady.{IsSteady, AlwaysSteady}
 use Rattle.world.proofs.Orderly.{both}
-use Rattle.world.proofs.Recorded.{among_first, among_gather, Source, decision_among, outcome_among}
+use Rattle.world.proofs.Recorded.{outcome_among}
 use Rattle.world.proofs.Doings.{get_among}
-use Rattle.world.proofs.Every.{Clock, RunEvidence, every_run_holds, tick_holds, present_now, below_now, rises_now}
+use Rattle.world.proofs.Every.{RunEvidence, every_run_holds, tick_holds, present_now, rises_now}
+use Rattle.world.proofs.InHistory.{acknowledged, ordered}
 use Rattle.world.proofs.Lefts.{left_between, left_within}
-use Rattle.world.proofs.Homes.{log_in, evidence, kept, decision_home}
-use Rattle.world.proofs.AllWhole.{whole, when_head}
+use Rattle.world.proofs.AllWhole.{whole}
 use Rattle.world.proofs.Resolved.{resolves}
-use Rattle.world.proofs.Decisions.{log_of_number, log_in-is, number_there}
-use Rattle.world.proofs.Picked.{each_of, any_of, gather_among, join_among, among_join, Joined, among_map, Mapped}
+use Rattle.world.proofs.Picked.{each_of, among_join, Joined}
 
 -- logs that a crash may leave of a world, in a scene in which something stands behind all that there is
 pub record Moment (w : World) (logs : List (List Record)) : Type 0 where
@@ -93,3 +87,75 @@ module _ (law : StepIsPlanned) (always : AlwaysSteady) where
   pub all_or_nothing : (config : Config) (es : List Event) (logs : List (List Record)) → lawful config es ≡ true → MayBeLeft config es logs → AllOrNothing logs
   all_or_nothing config es logs fair may t =
       let m = moment config es logs fair may in (whole m.scene m.holds logs m.left t, resolves m.scene m.holds logs m.left t)
+
+  -- ---- what was acknowledged, and its order
+
+  pub keeps_acknowledged : (config : Config) (es : List Event) (logs : List (List Record)) → lawful config es ≡ true → MayBeLeft config es logs →
+      KeepsAcknowledged logs (run config es).lines
+  keeps_acknowledged config es logs fair may t at n line =
+      let m = moment config es logs fair may in
+      (acknowledged m.scene m.holds logs m.left t at n (subst (λ (w : World). IsLine w.lines (Line.Ack t at n)) (sym m.same) line), whole m.scene m.holds logs m.left t)
+
+  pub ordered_by_time : (config : Config) (es : List Event) (logs : List (List Record)) → lawful config es ≡ true → MayBeLeft config es logs →
+      OrderedByTime logs (run config es).lines
+  ordered_by_time config es logs fair may =
+      let m = moment config es logs fair may in
+      subst (λ (w : World). OrderedByTime logs w.lines) m.same (ordered m.scene m.holds logs m.left m.rises)
+
+  -- ---- true time
+
+  pub installed_in_the_past : InstalledInThePast
+  unfolding installs_of
+  installed_in_the_past config es fair =
+      let r = every_run_holds law always config es fair in
+      subst (λ (w : World). each (installed_before w.time) w.shards ≡ true) r.same (each_place r.scene.world.time r.scene.world.shards (λ n s there. by_shard r n s there))
+    where
+      each_place : (time : ℕ) (ss : List ShardNow) → ((n : ℕ) (s : ShardNow) → slice_get ss n ≡ Some s → installed_before time s ≡ true) → each (installed_before time) ss ≡ true
+      each_place time [] k = refl
+      each_place time (s ∷ ss) k = ap (λ b. b && each (installed_before time) ss) (k 0 s refl) ∙ each_place time ss (λ n x e. k (suc n) x e)
+
+      version_stamp : (ws : List Write) (s : ℕ) (i : Install) → IsAmong (versions ws s) i → i.at ≡ s
+      version_stamp [] s i h = absurd h
+      version_stamp (w ∷ ws) s i (inl same) = sym (ap (λ (x : Install). x.at) same)
+      version_stamp (w ∷ ws) s i (inr later) = version_stamp ws s i later
+
+      less : (a b : ℕ) → a < b → nat_lt a b ≡ true
+      less a b k = grind (arith, nat_tests)
+
+      by_shard : {w : World} (r : RunEvidence w) (n : ℕ) (s : ShardNow) → slice_get r.scene.world.shards n ≡ Some s → installed_before r.scene.world.time s ≡ true
+      by_shard r n s there = each_of (λ i. nat_lt i.at r.scene.world.time) (installs_of s.log) (λ i k. from_join i (among_join (installed_by s.log) (gather as_ended s.log) i k))
+        where
+          by_outcome : (t : Id) (o : Option ℕ) (i : Install) → IsAmong s.log (Record.Outcome t o) → IsAmong (elim o as (λ x. List Install) [ None ↦ [] | Some at ↦ versions (writes_by (committed_of s.log t) (prepared_of s.log t)) at ]) i →
+              nat_lt i.at r.scene.world.time ≡ true
+          by_outcome t None i logged k = absurd k
+          by_outcome t (Some at) i logged k =
+              let passed = ((r.holds.shards n s there).records (Record.Outcome t (Some at)) logged).0 in
+              let stamp = version_stamp (writes_by (committed_of s.log t) (prepared_of s.log t)) at i k in
+              let time = r.clock.time in
+              less i.at r.scene.world.time (omega (arith, passed, stamp, time))
+
+          from_join : (i : Install) → Joined (installed_by s.log) (gather as_ended s.log) i → nat_lt i.at r.scene.world.time ≡ true
+          from_join i j = by_outcome j.from.txn j.from.outcome i (outcome_among s.log j.from j.among) j.within
+
+  pub looks_cover_acknowledged : LooksCoverAcknowledged
+  unfolding run lawful
+  looks_cover_acknowledged config es time n k at t s m fair late line =
+      let earlier = first_lawful (start config) es _ fair in
+      let r = every_run_holds law always config es earlier in
+      let ack : AckEvidence r.scene t s m = r.holds.lines (Line.Ack t s m) (get_among r.scene.world.lines (there r).0 (Line.Ack t s m) (there r).1) in
+      let may = last_may (start config) es _ fair in
+      let from : (run config es).time ≤ time = leb-true _ _ (both (nat_le (run config es).time time) _ may).0 in
+      let same : r.scene.world.time ≡ (run config es).time = ap (λ (w : World). w.time) r.same in
+      let above = ack.above in
+      let below = r.clock.below m ack.time ack.timed in
+      let clock = r.clock.time in
+      omega (arith, above, below, clock, same, from, late)
+    where
+      there : (r : RunEvidence (run config es)) → IsLine r.scene.world.lines (Line.Ack t s m)
+      there r = subst (λ (w : World). IsLine w.lines (Line.Ack t s m)) (sym r.same) line
+
+      first_lawful : (w : World) (ds : List Event) (e : Event) → lawful_from w (ds ++ e ∷ []) ≡ true → lawful_from w ds ≡ true
+      first_lawful w [] e h = refl
+      first_lawful w (x ∷ xs) e h =
+          let p = both (may_happen w x) (lawful_from ((happens w x).0) (xs ++ e ∷ [])) h in
+          ap (λ b. b && lawful_from ((happens w x).0) xs) p.0 ∙ first_lawful ((happens w x).0) xs e p.1

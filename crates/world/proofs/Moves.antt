@@ -1,17 +1,14 @@
 -- The few kinds of plan, each with what it rests on.
-use Rattle.std.proofs.Common.{◌≡◌, ◌⊎◌, inl, inr, ℕ, ◌<◌, ◌≤◌, Bool, true, false, cond, List, [], ◌∷◌, ◌++◌, Option, Some, None, refl, map}
+use Rattle.std.proofs.Common.{◌≡◌, ℕ, Bool, true, false, cond, List, [], ◌∷◌, ◌++◌, Option, Some, None, refl}
 use Rattle.std.specs.Prelude.{Ok, Err}
-use Rattle.std.specs.List.{AllByRecursion}
-use Rattle.units.specs.Lists.{join}
 use Rattle.units.specs.Ids.{Id}
-use Rattle.units.specs.Keys.{Bytes}
 use Rattle.units.specs.declared.fault.Fault.{Fault}
 use Rattle.units.specs.declared.lock.Lock.{Lock}
 use Rattle.record.specs.declared.record.Record.{Record}
 use Rattle.message.specs.declared.message.Envelope.{Envelope}
-use Rattle.protocol.specs.Rows.{Row, Phase, Idle, WaitsRead, WaitsPrepare, WaitsCommit, Collecting, IsPrepared, IsDecided, Standing, IsUnknown, WasEnded, HasRow, WasAborted, WasSettled, WasClosed, find_row}
+use Rattle.protocol.specs.Rows.{Row, Phase, Idle, WaitsRead, WaitsPrepare, WaitsCommit, Collecting, IsPrepared, IsDecided, Standing, HasRow, WasAborted, WasSettled, find_row}
 use Rattle.protocol.specs.Draft.{refused_vote}
-use Rattle.protocol.specs.Plan.{Change, Keeps, Ends, Drops, Puts, Plan, Planned, Before, votes_of, replies, ends, drops, puts, roomed}
+use Rattle.protocol.specs.Plan.{Change, Puts, Plan, Planned, Before, votes_of, replies, ends, drops, puts, roomed}
 use Rattle.world.specs.Evidence.{Scene, IsAmong, RecordEvidence, PhaseEvidence, Told, AllTold, HasOutcome}
 use Rattle.world.proofs.Members.{all_append}
 

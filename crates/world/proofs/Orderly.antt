@@ -1,11 +1,11 @@
 -- A log whose records follow one another has of each id one promise, decision or abort at most.
 use Rattle.std.proofs.Common.{◌≡◌, ◌⊎◌, inl, inr, ℕ, Bool, true, false, cond, ◌&&◌, ◌||◌, List, [], ◌∷◌, ◌++◌, Option, Some, None, refl, sym, ap, subst, ◌∙◌, append_assoc}
-use Rattle.units.specs.Lists.{any, keep, gather, first, when, head}
+use Rattle.units.specs.Lists.{any, keep, gather}
 use Rattle.units.specs.Ids.{Id, same_id}
 use Rattle.units.proofs.IdLaws.{same_id-is, same_id-refl}
 use Rattle.units.proofs.Folds.{append_none, is_there, there_first}
-use Rattle.record.specs.Accepted.{followed, followed_from, follows, is_new, begins}
-use Rattle.record.specs.Records.{Ended, Status, Unrecorded, StandsPrepared, StandsDecided, HasAborted, HasSettled, HasClosed, as_committed, as_prepared, as_aborted, status_by, status_of, is_aborted, committed_of, prepared_of, ended_of}
+use Rattle.record.specs.Accepted.{followed, followed_from, follows, is_new}
+use Rattle.record.specs.Records.{Ended, Status, Unrecorded, as_committed, as_prepared, status_by, status_of, is_aborted, committed_of, prepared_of, ended_of}
 use Rattle.record.specs.declared.record.Committed.{Committed}
 use Rattle.record.specs.declared.record.Prepared.{Prepared}
 use Rattle.record.specs.declared.record.Record.{Record}

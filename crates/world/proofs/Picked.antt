@@ -1,5 +1,5 @@
 -- Members of lists that are made from others.
-use Rattle.std.proofs.Common.{◌≡◌, ◌⊎◌, inl, inr, ℕ, zero, suc, ◌+◌, ◌<◌, Bool, true, false, not, cond, ◌&&◌, ◌||◌, List, [], ◌∷◌, ◌++◌, length, Option, Some, None, slice_get, refl, sym, ap, subst, ◌∙◌, map, arith}
+use Rattle.std.proofs.Common.{◌≡◌, ◌⊎◌, inl, inr, ℕ, zero, suc, ◌+◌, Bool, true, false, cond, ◌&&◌, ◌||◌, List, [], ◌∷◌, ◌++◌, Option, Some, None, slice_get, refl, sym, ap, subst, ◌∙◌, map, arith}
 use Rattle.units.specs.Lists.{any, each, keep, gather, join, numbered}
 use Rattle.world.specs.Evidence.{IsAmong}
 use Rattle.world.proofs.Members.{among_left, among_right, among_cases}

@@ -1,20 +1,19 @@
 -- What the facts of a log say of an id rests on its records, and so do the rows that an opening finds.
-use Rattle.std.proofs.Common.{◌≡◌, ◌⊎◌, inl, inr, ℕ, ◌<◌, Bool, true, false, cond, ◌||◌, List, [], ◌∷◌, Option, Some, None, refl, sym, ap, subst, ◌∙◌, map}
-use Rattle.std.specs.List.{AllByRecursion}
-use Rattle.units.specs.Lists.{any, keep, gather, first, head}
+use Rattle.std.proofs.Common.{◌≡◌, ◌⊎◌, inl, inr, ℕ, ◌<◌, Bool, true, false, cond, List, [], ◌∷◌, Option, Some, None, refl, sym, ap, subst, ◌∙◌, map}
+use Rattle.units.specs.Lists.{keep, gather, first, head}
 use Rattle.units.specs.Ids.{Id, same_id}
 use Rattle.units.proofs.IdLaws.{same_id-is}
 use Rattle.units.proofs.ByIdLaws.{first_passes}
-use Rattle.record.specs.Facts.{Entry, Facts, facts_of, recorded}
+use Rattle.record.specs.Facts.{facts_of, recorded}
 use Rattle.record.specs.Records.{Ended, Status, Unrecorded, StandsPrepared, StandsDecided, HasAborted, HasSettled, HasClosed, as_committed, as_prepared, as_aborted, as_ended, status_by, status_of, is_aborted, committed_of, prepared_of, ended_of, ids_of}
 use Rattle.record.proofs.Statuses.{recorded_is}
 use Rattle.record.specs.declared.record.Committed.{Committed}
 use Rattle.record.specs.declared.record.Prepared.{Prepared}
 use Rattle.record.specs.declared.record.Record.{Record}
 use Rattle.record.specs.declared.record.Record.TheVariants.{Opened, Ceiling, Prepare, Commit, Abort, Outcome}
-use Rattle.protocol.specs.Rows.{Memory, Row, IsPrepared, IsDecided, standing_row, rebuilt}
-use Rattle.world.specs.Evidence.{Scene, IsAmong, RecordEvidence, StatusEvidence, PhaseEvidence, RowsEvidence, HasPromise, HasDecision, HasOutcome, WasTold}
-use Rattle.world.proofs.Members.{Passes, some_passes}
+use Rattle.protocol.specs.Rows.{Row, IsPrepared, IsDecided, standing_row, rebuilt}
+use Rattle.world.specs.Evidence.{Scene, IsAmong, RecordEvidence, StatusEvidence, PhaseEvidence, RowsEvidence, HasDecision, HasOutcome, WasTold}
+use Rattle.world.proofs.Members.{some_passes}
 use Rattle.world.proofs.Orderly.{IsOrderly, one_decision, decided_not_promised}
 
 -- ---- members of filters
@@ -172,9 +171,6 @@ module _ (log : List Record) where
   found_rows sc n [] = tt
   found_rows sc n (t ∷ ts) = by_row (standing_row (record { txn = t; status = status_of log t })) refl (found_rows sc n ts)
     where
-      others : List Row
-      others = gather standing_row (map (λ u. record { txn = u; status = status_of log u }) ts)
-
       by_row : (o : Option Row) → standing_row (record { txn = t; status = status_of log t }) ≡ o → RowsEvidence sc log n (gather standing_row (map (λ u. record { txn = u; status = status_of log u }) ts)) →
           RowsEvidence sc log n (elim o as (λ q. List Row) [ None ↦ gather standing_row (map (λ u. record { txn = u; status = status_of log u }) ts) | Some y ↦ y ∷ gather standing_row (map (λ u. record { txn = u; status = status_of log u }) ts) ])
       by_row None e rest = rest

@@ -1,8 +1,8 @@
 -- Every transaction stands at one timestamp on all its shards, or on none.
-use Rattle.std.proofs.Common.{◌≡◌, ◌≢◌, ◌⊎◌, inl, inr, ℕ, suc, Bool, true, false, not, cond, ◌&&◌, nat_eq, List, [], ◌∷◌, Option, Some, None, slice_get, refl, sym, ap, subst, ◌∙◌, map, arith}
+use Rattle.std.proofs.Common.{◌≡◌, inl, inr, ℕ, suc, Bool, true, false, not, cond, ◌&&◌, nat_eq, List, [], ◌∷◌, Option, Some, None, slice_get, refl, sym, ap, subst, ◌∙◌, map, arith}
 use Rattle.std.proofs.lemmas.Bool.{cases_eq}
 use Rattle.std.proofs.lemmas.Bool.Decides.{nat_tests}
-use Rattle.units.specs.Lists.{any, each, keep, gather, first, has, head, when}
+use Rattle.units.specs.Lists.{each, keep, gather, has, head, when}
 use Rattle.units.specs.Ids.{Id, same_id}
 use Rattle.units.proofs.IdLaws.{same_id-is, same_id-refl}
 use Rattle.units.proofs.ByIdLaws.{first_passes}
@@ -13,24 +13,24 @@ use Rattle.record.specs.Whole.{Decision, decisions, stands_at, stands_by, coordi
 use Rattle.record.specs.declared.record.Committed.{Committed}
 use Rattle.record.specs.declared.record.Prepared.{Prepared}
 use Rattle.record.specs.declared.record.Record.{Record}
-use Rattle.world.specs.Evidence.{Scene, IsAmong, Holds, HasDecision, WasTold, RecordEvidence}
+use Rattle.world.specs.Evidence.{Scene, IsAmong, Holds, HasDecision, WasTold}
 use Rattle.world.specs.Left.{AreLeft}
 use Rattle.world.proofs.Recorded.{among_first, promise_among, decision_among, outcome_among}
 use Rattle.world.proofs.Homes.{log_in, evidence, decision_home, no_aborted, outcome_decided, outcome_stamp, one_place, promised, promise_of_part, promise_home, one_home, TakesPart, ClosesOver}
 use Rattle.world.proofs.AllWhole.{has_head}
-use Rattle.world.proofs.Decisions.{Decided, decision_stands, stands_decided, one_decided, log_of_number, log_in-is}
-use Rattle.world.proofs.Picked.{each_of, any_of, gather_among, AtMostOne, is_single}
+use Rattle.world.proofs.Decisions.{decision_stands, stands_decided, one_decided, log_of_number, log_in-is}
+use Rattle.world.proofs.Picked.{each_of, any_of, gather_among, AtMostOne}
 
 -- ---- what a log holds of an id
 
 module _ (log : List Record) (t : Id) where
-  committed_is : (c : Committed) → committed_of log t ≡ Some c → IsAmong log (Record.Commit c) × (c.txn ≡ t)
+  pub committed_is : (c : Committed) → committed_of log t ≡ Some c → IsAmong log (Record.Commit c) × (c.txn ≡ t)
   committed_is c e = (
     decision_among log c (among_first (λ (x : Committed). same_id x.txn t) (gather as_committed log) c e),
     same_id-is c.txn t (first_passes (λ (x : Committed). same_id x.txn t) (gather as_committed log) c e),
   )
 
-  prepared_is : (p : Prepared) → prepared_of log t ≡ Some p → IsAmong log (Record.Prepare p) × (p.txn ≡ t)
+  pub prepared_is : (p : Prepared) → prepared_of log t ≡ Some p → IsAmong log (Record.Prepare p) × (p.txn ≡ t)
   prepared_is p e = (
     promise_among log p (among_first (λ (x : Prepared). same_id x.txn t) (gather as_prepared log) p e),
     same_id-is p.txn t (first_passes (λ (x : Prepared). same_id x.txn t) (gather as_prepared log) p e),
@@ -67,11 +67,8 @@ module _ (sc : Scene) (h : Holds sc) (logs : List (List Record)) (left : AreLeft
 
     nowhere : (n : ℕ) → not (when (λ s. true) (stands_at logs (log_in logs n) t)) ≡ true
     unfolding stands_at
-    nowhere n = by_parts (committed_of log t) refl (ended_of log t) refl (prepared_of log t) refl
+    nowhere n = by_parts (committed_of (log_in logs n) t) refl (ended_of (log_in logs n) t) refl (prepared_of (log_in logs n) t) refl
       where
-        log : List Record
-        log = log_in logs n
-
         by_parts : (c : Option Committed) → committed_of (log_in logs n) t ≡ c → (e : Option Ended) → ended_of (log_in logs n) t ≡ e → (p : Option Prepared) → prepared_of (log_in logs n) t ≡ p →
             not (when (λ s. true) (stands_by logs c e p)) ≡ true
         by_parts (Some c) hc e he p hp = let k = committed_is (log_in logs n) t c hc in absurd (no_commit n c k.0 k.1)

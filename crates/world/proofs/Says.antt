@@ -1,5 +1,5 @@
 -- Messages that are put out and lines that are written keep something behind all that there is.
-use Rattle.std.proofs.Common.{◌≡◌, ◌⊎◌, inl, inr, ℕ, ◌≤◌, ◌<◌, Bool, true, false, cond, List, [], ◌∷◌, ◌++◌, Option, Some, None, slice_get, refl, sym, ap, subst, ◌∙◌, arith}
+use Rattle.std.proofs.Common.{◌≡◌, inl, inr, ℕ, Bool, true, false, cond, List, [], ◌∷◌, ◌++◌, Option, Some, None, slice_get, refl, arith}
 use Rattle.std.specs.List.{AllByRecursion}
 use Rattle.units.specs.Lists.{any, join, when}
 use Rattle.units.specs.Ids.{Id}
@@ -8,7 +8,7 @@ use Rattle.message.specs.declared.message.Address.{Address}
 use Rattle.message.specs.declared.message.Envelope.{Envelope}
 use Rattle.message.specs.declared.message.Message.{Message}
 use Rattle.world.specs.World.{World, put_out, acks_of, ack_of, commit_told}
-use Rattle.world.specs.Evidence.{Scene, IsAmong, MessageEvidence, HasOutcome, AckEvidence, LineEvidence, Holds, log_at}
+use Rattle.world.specs.Evidence.{Scene, IsAmong, MessageEvidence, AckEvidence, LineEvidence, Holds}
 use Rattle.world.proofs.Members.{among_left, among_right, among_cases, all_append, all_at}
 use Rattle.world.proofs.Grows.{Grows, message_stays, line_stays, began_stays}
 use Rattle.world.proofs.Changes.{with_world, shard_stays}
@@ -28,9 +28,6 @@ IsNoBegin _ = Unit {0}
 
 -- a scene with the same sessions and shards, and more messages and lines
 module _ (sc : Scene) (out : List Envelope) (ls : List Line) where
-  said : Scene
-  said = with_world sc (lined ls (bagged out sc.world))
-
   pub said_grows : Grows sc (with_world sc (lined ls (bagged out sc.world)))
   said_grows = record {
     sent = λ e h. among_left sc.world.bag out e h;
@@ -68,9 +65,6 @@ module _ (sc : Scene) (out : List Envelope) (ls : List Line) where
 
 -- the lines of the acknowledgements among new messages rest on these
 module _ (sc : Scene) (out : List Envelope) (ls : List Line) (present : slice_get sc.times sc.world.event ≡ Some sc.now) where
-  Written : Line → Type 0
-  Written l = IsNoBegin l × LineEvidence (with_world sc (lined ls (bagged out sc.world))) l
-
   ack_written : (to : Address) (t : Id) (o : Option ℕ) → IsAmong out (record { to = to; message = Message.Done (record { txn = t; outcome = o }) }) →
       MessageEvidence sc to (Message.Done (record { txn = t; outcome = o })) →
       AllByRecursion (λ l. IsNoBegin l × LineEvidence (with_world sc (lined ls (bagged out sc.world))) l) (ack_of sc.world t o)

@@ -1,23 +1,16 @@
 -- What sessions do keeps something behind all that there is: each transaction has one set of closing messages.
-use Rattle.std.proofs.Common.{◌≡◌, ◌⊎◌, inl, inr, ℕ, ◌≤◌, ◌<◌, Bool, true, false, not, cond, ◌&&◌, List, [], ◌∷◌, ◌++◌, Option, Some, None, slice_get, refl, sym, ap, subst, ◌∙◌, arith, map}
-use Rattle.std.specs.List.{AllByRecursion}
+use Rattle.std.proofs.Common.{◌≡◌, ◌⊎◌, inl, inr, ℕ, Bool, true, false, cond, List, [], ◌∷◌, ◌++◌, Option, Some, None, slice_get, refl, sym, ap, subst, ◌∙◌, arith}
 use Rattle.units.specs.Lists.{first, mapped, head}
 use Rattle.units.specs.Ids.{Id, same_id}
 use Rattle.units.specs.Keys.{Bytes}
-use Rattle.units.specs.declared.fault.Fault.{Fault}
 use Rattle.units.specs.declared.line.Line.{Line}
-use Rattle.units.specs.declared.writes.Write.{Write}
 use Rattle.units.proofs.IdLaws.{same_id-is, same_id-refl}
 use Rattle.units.proofs.ByIdLaws.{found_is, find-map}
 use Rattle.units.proofs.Folds.{or_else, first_append}
-use Rattle.message.specs.declared.message.Answer.{Answer}
-use Rattle.message.specs.declared.message.Answer.TheVariants.{Holds as HoldsValue, Refused}
 use Rattle.message.specs.declared.message.Envelope.{Envelope}
-use Rattle.message.specs.declared.message.Message.{Message}
-use Rattle.message.specs.declared.message.ReadAnswer.{ReadAnswer}
-use Rattle.session.specs.Sessions.{Client, Stage, IsOpen, IsClosing, IsOver, begun, closing_messages, messages_for, prepare_for, parts_of, hears, take_answer}
-use Rattle.world.specs.World.{World, client_of, set_client, begin, note, put_out}
-use Rattle.world.specs.Evidence.{Scene, IsAmong, ClosedOver, IsOfClosing, BeganBy, LineEvidence, MessageEvidence, is_past_open, Holds}
+use Rattle.session.specs.Sessions.{Client, begun, closing_messages}
+use Rattle.world.specs.World.{World, client_of, set_client, begin}
+use Rattle.world.specs.Evidence.{Scene, IsAmong, ClosedOver, BeganBy, LineEvidence, is_past_open, Holds}
 use Rattle.world.proofs.Members.{among_left, among_last, among_cases}
 use Rattle.world.proofs.Grows.{Grows, message_stays, line_stays, began_stays}
 use Rattle.world.proofs.Changes.{with_world, shard_stays}

@@ -1,9 +1,8 @@
 -- What happens at a shard, crashes and failures with it, keeps something behind all that there is.
-use Rattle.std.proofs.Common.{◌≡◌, ◌⊎◌, inl, inr, ℕ, ◌+◌, ◌<◌, ◌≤◌, Bool, true, false, not, cond, ◌&&◌, ◌||◌, nat_eq, nat_lt, nat_le, List, [], ◌∷◌, ◌++◌, Option, Some, None, slice_get, refl, sym, ap, subst, ◌∙◌, arith}
-use Rattle.std.specs.List.{AllByRecursion}
+use Rattle.std.proofs.Common.{◌≡◌, inl, inr, ℕ, Bool, true, false, cond, nat_eq, nat_lt, List, [], ◌∷◌, ◌++◌, Option, Some, None, slice_get, refl, sym, ap, subst, ◌∙◌, arith}
 use Rattle.units.specs.Lists.{listed}
 use Rattle.units.specs.declared.fault.Fault.{Fault}
-use Rattle.units.specs.declared.fault.Fault.TheVariants.{Stopped, Stranger, Device}
+use Rattle.units.specs.declared.fault.Fault.TheVariants.{Stopped, Device}
 use Rattle.units.proofs.Folds.{append_none}
 use Rattle.units.proofs.ListLaws.{all_gives}
 use Rattle.truetime.specs.Interval.{Interval}
@@ -17,20 +16,20 @@ use Rattle.message.specs.declared.message.Message.{Message}
 use Rattle.protocol.specs.Rows.{Memory}
 use Rattle.protocol.specs.Draft.{Stepped, Refuses, Does}
 use Rattle.protocol.specs.Plan.{StepIsPlanned}
-use Rattle.world.specs.World.{World, After, ShardNow, State, Runs, IsStopped, IsDown, Unsure, Nothing, Shown, Hidden, shown, read_log, setup_of, opening, input_of, step_with, effect, finished, crashed, crashed_in, failed_in, left_of, left_unsure, left_by_refused, is_left, opens_gate, stopped, set_shard, did, did_with_failure, refused_doing, refused}
+use Rattle.world.specs.World.{After, ShardNow, State, Runs, IsStopped, IsDown, Unsure, Nothing, Shown, Hidden, shown, read_log, setup_of, opening, input_of, step_with, effect, finished, crashed, crashed_in, failed_in, left_of, left_unsure, left_by_refused, is_left, opens_gate, stopped, set_shard, did, did_with_failure, refused_doing, refused}
 use Rattle.world.specs.declared.event.Doing.{Doing}
 use Rattle.world.specs.declared.event.Reply.{Reply}
-use Rattle.world.specs.Evidence.{Scene, IsAmong, log_at, RecordEvidence, StateEvidence, ShardEvidence, Told, AllTold, SaidBySome, MessageEvidence, Holds}
+use Rattle.world.specs.Evidence.{Scene, IsAmong, log_at, RecordEvidence, StateEvidence, ShardEvidence, Told, MessageEvidence, Holds}
 use Rattle.world.specs.Headline.{IsUnsure}
 use Rattle.world.specs.Steady.{IsSteady}
-use Rattle.world.proofs.Members.{among_left, among_right, among_cases}
+use Rattle.world.proofs.Members.{among_left, among_cases}
 use Rattle.world.proofs.Moves.{with_record, LoggedEvidence}
-use Rattle.world.proofs.Grows.{Within, Grows, told_stays, record_stays, rows_stay}
+use Rattle.world.proofs.Grows.{Within, told_stays, record_stays, rows_stay}
 use Rattle.world.proofs.Changes.{with_world, set_holds, log_after}
 use Rattle.world.proofs.Says.{put_out_holds}
 use Rattle.world.proofs.Closings.{AfterHolds}
 use Rattle.world.proofs.Orderly.{orderly}
-use Rattle.world.proofs.Doings.{DoesEvidence, SteppedEvidence, Given, grows_same, within_record, step_evidence, opening_evidence}
+use Rattle.world.proofs.Doings.{DoesEvidence, SteppedEvidence, Given, grows_same, step_evidence, opening_evidence}
 
 -- what a shard said is backed
 told_backed : (sc : Scene) (n : ℕ) (to : Address) (m : Message) → Told (log_at sc.world n) sc.now n to m → MessageEvidence sc to m
@@ -174,9 +173,9 @@ module _ (law : StepIsPlanned) (sc : Scene) (h : Holds sc) (steady : IsSteady sc
       let log_is : log_at sc2.world n ≡ read_log s ++ listed logged = log_after sc n s new there (within_listed logged) in
       put_out_holds sc2 out present
       (all_gives (λ (x : Envelope). Told (with_record (read_log s) logged) sc.now n x.to x.message) (λ (x : Envelope). MessageEvidence sc2 x.to x.message)
-          (λ x told. told_backed sc2 n x.to x.message (subst (λ l. Told l sc.now n x.to x.message) (sym log_is)
-              (told_stays (with_record (read_log s) logged) (read_log s ++ listed logged) (with_listed logged) sc.now sc.now n (omega arith) x.to x.message told)))
-          out e.told)
+      (λ x told. told_backed sc2 n x.to x.message (subst (λ l. Told l sc.now n x.to x.message) (sym log_is)
+      (told_stays (with_record (read_log s) logged) (read_log s ++ listed logged) (with_listed logged) sc.now sc.now n (omega arith) x.to x.message told)))
+      out e.told)
       (set_holds sc n s new there (within_listed logged) (finished_evidence doing logged memory out e) h)
 
   refused_holds : (doing : Doing) (f : Fault) → AfterHolds sc (refused_doing sc.world n s doing f)

@@ -1,8 +1,6 @@
 -- A step does only what something stands behind, given that of what it starts from.
-use Rattle.std.proofs.Common.{◌≡◌, ◌⊎◌, inl, inr, ℕ, ◌<◌, ◌≤◌, Bool, true, false, cond, List, [], ◌∷◌, ◌++◌, Option, Some, None, refl, sym, ap, subst, ◌∙◌}
-use Rattle.std.specs.Prelude.{Ok, Err}
-use Rattle.std.specs.List.{AllByRecursion}
-use Rattle.units.specs.Ids.{Id, same_id, has_id}
+use Rattle.std.proofs.Common.{◌≡◌, ℕ, ◌<◌, ◌≤◌, Bool, true, false, List, [], Option, Some, None, refl, subst}
+use Rattle.units.specs.Ids.{Id, has_id}
 use Rattle.units.specs.Keys.{Bytes}
 use Rattle.units.specs.Locks.{ready}
 use Rattle.units.specs.declared.fault.Fault.TheVariants.{Stranger}
@@ -16,9 +14,9 @@ use Rattle.record.specs.Records.{Status, Unrecorded, StandsPrepared, StandsDecid
 use Rattle.record.specs.declared.record.Record.{Record}
 use Rattle.message.specs.declared.message.Input.{Input}
 use Rattle.message.specs.declared.message.Message.{Message}
-use Rattle.protocol.specs.Rows.{Row, Standing, HasRow, standing, standing_by, find_row, claims}
+use Rattle.protocol.specs.Rows.{Row, standing, standing_by, find_row, claims}
 use Rattle.protocol.specs.Step.{is_for}
-use Rattle.protocol.specs.Plan.{Before, Planned, plan_resume, plan_resume_id, plan_resume_row, plan_message, plan_input, stands}
+use Rattle.protocol.specs.Plan.{Before, plan_resume, plan_resume_id, plan_resume_row, plan_message, plan_input, stands}
 use Rattle.world.specs.Evidence.{Scene, Sent, CommitAsked, BeganBy, PhaseEvidence, RowsEvidence, StatusEvidence}
 use Rattle.world.proofs.Moves.{PlannedEvidence, StandingEvidence, replying, refusing, choosing}
 use Rattle.world.proofs.Table.{reading, preparing, committing, voting, ending_by, giving_up, questioned, going_on, settling, advancing, nudging}

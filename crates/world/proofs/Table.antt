@@ -1,9 +1,9 @@
 -- Each input in each standing is planned with evidence. The table is gone through once, here.
-use Rattle.std.proofs.Common.{◌≡◌, ◌⊎◌, inl, inr, ℕ, ◌+◌, ◌<◌, ◌≤◌, max, min, nat_eq, nat_lt, nat_le, Bool, true, false, cond, ◌&&◌, ◌||◌, List, [], ◌∷◌, ◌++◌, Option, Some, None, refl, sym, ap, subst, map, arith}
+use Rattle.std.proofs.Common.{◌≡◌, ◌⊎◌, inl, inr, ℕ, ◌+◌, ◌<◌, ◌≤◌, max, min, nat_eq, nat_lt, Bool, true, false, cond, ◌&&◌, ◌||◌, List, [], ◌∷◌, ◌++◌, Option, Some, None, refl, sym, ap, subst, map, arith}
 use Rattle.std.specs.Prelude.{Ok, Err}
 use Rattle.std.specs.List.{AllByRecursion}
-use Rattle.std.proofs.lemmas.Bool.{eqb-true, ltb-true, leb-true}
-use Rattle.units.specs.Lists.{any, each, has, greatest}
+use Rattle.std.proofs.lemmas.Bool.{eqb-true, ltb-true}
+use Rattle.units.specs.Lists.{any, has, greatest}
 use Rattle.units.specs.Ids.{Id}
 use Rattle.units.specs.Keys.{Bytes}
 use Rattle.units.specs.Locks.{exclusive}
@@ -12,14 +12,13 @@ use Rattle.units.specs.declared.lock.Lock.{Lock}
 use Rattle.units.specs.declared.writes.Write.{Write}
 use Rattle.record.specs.declared.record.Record.{Record}
 use Rattle.message.specs.declared.message.Message.{Message}
-use Rattle.message.specs.declared.message.Envelope.{Envelope}
 use Rattle.protocol.specs.Rows.{Phase, Idle, WaitsRead, WaitsPrepare, WaitsCommit, Collecting, IsPrepared, IsDecided, Voted, Standing, IsUnknown, WasEnded, HasRow, WasAborted, WasSettled, WasClosed}
-use Rattle.protocol.specs.Draft.{promise, decision, vote_to, done_to, outcome_to, ask_to, time_limit, commit_stamp, other_parts, all_voted}
+use Rattle.protocol.specs.Draft.{promise, decision, done_to, outcome_to, ask_to, time_limit, commit_stamp, other_parts, all_voted}
 use Rattle.protocol.specs.Step.{is_outcome_for, with_vote}
-use Rattle.protocol.specs.Plan.{Planned, Before, plan_read, plan_read_now, plan_read_row, plan_prepare, plan_prepare_fresh, plan_prepare_now, plan_promise, plan_commit, plan_commit_fresh, plan_commit_now, plan_commit_granted, plan_decide, plan_abort, plan_vote, plan_count, plan_tell, plan_outcome, plan_give_up, plan_ask, plan_go_on, plan_settle, plan_advance, plan_nudge, tells, answers, puts, in_way, to_read, opens, is_crowded, refuses, raised, plan_abort_for, Keeps}
-use Rattle.world.specs.Evidence.{Scene, IsAmong, Sent, PrepareAsked, CommitAsked, VotedYes, VoteBelow, HasPromise, HasDecision, HasOutcome, WasTold, CommitEvidence, WasAsked, WasQuestioned, RecordEvidence, Remembers, PhaseEvidence, Told, AllTold, BeganBy}
-use Rattle.world.proofs.Members.{among_left, among_last, all_append, all_at, Passes, some_passes}
-use Rattle.world.proofs.Moves.{PlanEvidence, PlannedEvidence, StandingEvidence, replying, ending, dropping, putting, standing_by_record, refusing, choosing, choosing_plan, tested, rooming, cells}
+use Rattle.protocol.specs.Plan.{Before, plan_read, plan_read_now, plan_read_row, plan_prepare, plan_prepare_fresh, plan_prepare_now, plan_promise, plan_commit, plan_commit_fresh, plan_commit_now, plan_commit_granted, plan_decide, plan_abort, plan_vote, plan_count, plan_tell, plan_outcome, plan_give_up, plan_ask, plan_go_on, plan_settle, plan_advance, plan_nudge, tells, answers, puts, in_way, to_read, opens, is_crowded, refuses, raised, plan_abort_for, Keeps}
+use Rattle.world.specs.Evidence.{Scene, IsAmong, Sent, PrepareAsked, CommitAsked, VotedYes, VoteBelow, HasPromise, HasDecision, HasOutcome, WasTold, WasAsked, WasQuestioned, RecordEvidence, Remembers, PhaseEvidence, Told, AllTold}
+use Rattle.world.proofs.Members.{among_left, among_last, all_append, all_at, some_passes}
+use Rattle.world.proofs.Moves.{PlannedEvidence, StandingEvidence, replying, ending, dropping, putting, standing_by_record, refusing, choosing, choosing_plan, tested, rooming, cells}
 
 -- ---- votes
 
@@ -80,14 +79,14 @@ module _ (sc : Scene) (log : List Record) (b : Before) where
       let s = commit_stamp b.memory.last latest votes in
       choosing sc log b _ _ _
       (standing_by_record sc log b ended t needs (IsDecided s ps) (decision t s ps rs ws) (max b.memory.last s) []
-          (record {
-            asked = remembers.asked;
-            voted = λ m h. voted_below t (other_parts b.shard ps) votes s m (top_of b.memory.last latest votes) all evidence h;
-            latest = latest;
-            began = remembers.began;
-            above = over b.memory.last latest votes;
-          })
-          (decided t s ps rs ws) tt)
+      (record {
+        asked = remembers.asked;
+        voted = λ m h. voted_below t (other_parts b.shard ps) votes s m (top_of b.memory.last latest votes) all evidence h;
+        latest = latest;
+        began = remembers.began;
+        above = over b.memory.last latest votes;
+      })
+      (decided t s ps rs ws) tt)
       (refusing sc log b TimeSpent)
 
   -- ---- read
@@ -128,7 +127,7 @@ module _ (sc : Scene) (log : List Record) (b : Before) where
       let p = max (b.memory.last + 1) earliest in
       choosing sc log b _ _ _
       (standing_by_record sc log b ended t (exclusive ws) (IsPrepared c p) (promise t c p rs ws) _ _ asked (promised t c p rs ws)
-          ((refl, record { coordinator = c; promised = promised t c p rs ws }), tt))
+      ((refl, record { coordinator = c; promised = promised t c p rs ws }), tt))
       (refusing sc log b TimeSpent)
 
   preparing_now : (earliest : ℕ) (t : Id) (c : ℕ) (rs : List Bytes) (ws : List Write) → PrepareAsked sc.world b.shard t c rs ws →

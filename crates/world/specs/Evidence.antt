@@ -1,6 +1,6 @@
 -- What stands behind each record, each row, each message and each line of a run: something that was put out, or something
 -- that was logged. Each of these facts stays true once it holds.
-use Rattle.std.specs.Prelude.{ℕ, ◌≡◌, ◌⊎◌, ◌<◌, ◌≤◌, Bool, true, false, List, [], ◌∷◌, ◌++◌, slice_get, Option, Some, None}
+use Rattle.std.specs.Prelude.{ℕ, ◌≡◌, ◌⊎◌, ◌<◌, ◌≤◌, Bool, true, false, List, [], ◌∷◌, slice_get, Option, Some, None}
 use Rattle.std.specs.List.{AllByRecursion}
 use Rattle.units.specs.Lists.{has}
 use Rattle.units.specs.Ids.{Id}
@@ -9,12 +9,10 @@ use Rattle.units.specs.declared.line.Line.{Line}
 use Rattle.units.specs.declared.writes.Write.{Write}
 use Rattle.record.specs.Records.{Status, HasAborted, HasSettled}
 use Rattle.record.specs.declared.record.Committed.{Committed}
-use Rattle.record.specs.declared.record.Prepared.{Prepared}
 use Rattle.record.specs.declared.record.Record.{Record}
 use Rattle.message.specs.declared.message.Address.{Address}
 use Rattle.message.specs.declared.message.Address.TheVariants.{Shard}
 use Rattle.message.specs.declared.message.Envelope.{Envelope}
-use Rattle.message.specs.declared.message.Input.{Input}
 use Rattle.message.specs.declared.message.Message.{Message}
 use Rattle.protocol.specs.Rows.{Row, Phase, WaitsPrepare, WaitsCommit, Collecting, IsPrepared, IsDecided, Voted}
 use Rattle.protocol.specs.Draft.{promise, decision, other_parts}

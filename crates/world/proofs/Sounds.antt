@@ -1,0 +1,384 @@
+-- What each step of a shard keeps and each opening brings back holds at every moment of a run, and so each log follows.
+use Rattle.std.proofs.Common.{◌≡◌, ◌≤◌, ◌^◌, ◌-◌, nat_le, inl, inr, ℕ, suc, ◌+◌, Bool, true, false, cond, nat_eq, nat_lt, List, [], ◌∷◌, ◌++◌, length, Option, Some, None, slice_get, refl, sym, ap, subst, ◌∙◌}
+use Rattle.std.specs.Prelude.{Ok, Err}
+use Rattle.std.proofs.lemmas.Bool.{cases_eq}
+use Rattle.units.specs.Lists.{listed, mapped, replaced}
+use Rattle.units.specs.ById.{IsById}
+use Rattle.units.specs.declared.fault.Fault.{Fault}
+use Rattle.units.specs.declared.fault.Fault.TheVariants.{Stopped, Stranger, Device, TimeSpent}
+use Rattle.units.specs.declared.setup.Setup.{Setup}
+use Rattle.units.proofs.Folds.{append_none}
+use Rattle.truetime.specs.Interval.{Interval}
+use Rattle.disk.specs.declared.plan.Fate.{Fate}
+use Rattle.record.specs.Accepted.{followed}
+use Rattle.record.specs.Facts.{Facts, facts_of, learn}
+use Rattle.record.proofs.LearnAgrees.{learn_agrees}
+use Rattle.record.specs.declared.record.Record.{Record}
+use Rattle.message.specs.declared.message.Address.{Address}
+use Rattle.message.specs.declared.message.Address.TheVariants.{Shard, Session}
+use Rattle.message.specs.declared.message.Envelope.{Envelope}
+use Rattle.message.specs.declared.message.Input.{Input}
+use Rattle.protocol.specs.Rows.{Memory, rebuilt}
+use Rattle.protocol.specs.Draft.{Stepped, Refuses, Does, time_limit}
+use Rattle.protocol.specs.Step.{facts_after}
+use Rattle.protocol.specs.StepLaws.{IsInLimit}
+use Rattle.world.specs.Lawful.{lawful, lawful_from, may_happen, may_act}
+use Rattle.world.proofs.Orderly.{both}
+use Rattle.protocol.specs.Plan.{Plan, Planned, StepIsPlanned, before, plan_input, stepped, carried}
+use Rattle.session.specs.Sessions.{reads, buffers, closes, gives_up}
+use Rattle.world.specs.World.{World, ShardNow, State, Runs, IsStopped, IsDown, Unsure, Nothing, Shown, Hidden, shown, read_log, setup_of, opening, input_of, step_with, effect, finished, crashed, crashed_in, failed_in, left_of, left_by_refused, is_left, opens_gate, stopped, set_shard, fresh_log, fresh_shard, After, client_of, put_out, refused, if_open, if_not_over, to_session, refused_doing, did, did_with_failure, at_shard, do_at, deliver_to, noted, look_shard, look_at_view, acts, happens, start, run, run_from}
+use Rattle.world.specs.Headline.{IsUnsure, MayLeaveLog}
+use Rattle.world.specs.declared.event.Act.{Act}
+use Rattle.world.specs.declared.event.Config.{Config}
+use Rattle.world.specs.declared.event.Doing.{Doing}
+use Rattle.world.specs.declared.event.Event.{Event}
+use Rattle.world.specs.declared.event.Reply.{Reply}
+use Rattle.world.specs.Steady.{IsSteady, AlwaysSteady}
+use Rattle.world.proofs.Changes.{get-replaced_same, get-replaced_other}
+use Rattle.world.proofs.Every.{replicated}
+use Rattle.world.proofs.Untouched.{Kept, if_open_keeps, if_not_over_keeps, to_session_keeps, noted_keeps}
+use Rattle.world.proofs.Moves.{with_record}
+
+-- the timestamp that a doing names is within the limit
+abbrev pub DoingLimit : Doing → Type 0
+DoingLimit (Doing.Advance at now) = at ≤ 2 ^ 62 - 1
+DoingLimit _ = Unit {0}
+
+-- so of an act
+abbrev pub ActLimit : Act → Type 0
+ActLimit (Act.At n doing) = DoingLimit doing
+ActLimit (Act.CrashIn n call fate doing) = DoingLimit doing
+ActLimit (Act.FailIn n call doing) = DoingLimit doing
+ActLimit _ = Unit {0}
+
+module _ (law : StepIsPlanned) (Sound : Setup → Facts → Memory → Type 0) (Good : Setup → List Record → Type 0)
+    (ascends : (setup : Setup) (f : Facts) (m : Memory) → Sound setup f m → IsById (λ r. r.txn) m.rows)
+    (keeps : (setup : Setup) (f : Facts) (m : Memory) (now : Interval) (i : Input) (p : Plan) → IsInLimit i → Sound setup f m →
+    plan_input setup (before 1024 setup f m) now i ≡ Ok p → Sound setup (facts_after f p.logged) (carried p m))
+    (opens : (setup : Setup) (f : Facts) (m : Memory) → Sound setup f m → Sound setup (learn f (Record.Opened (f.epoch + 1))) (rebuilt f))
+    (follows : (setup : Setup) (log : List Record) → Good setup log → followed setup.shard log ≡ true)
+    (logs : (setup : Setup) (log : List Record) (m : Memory) (now : Interval) (i : Input) (p : Plan) (r : Record) → Good setup log →
+    Sound setup (facts_of log) m → plan_input setup (before 1024 setup (facts_of log) m) now i ≡ Ok p → p.logged ≡ Some r → Good setup (log ++ r ∷ []))
+    (good_opens : (setup : Setup) (log : List Record) → Good setup log → Good setup (log ++ Record.Opened ((facts_of log).epoch + 1) ∷ [])) where
+  -- ---- one shard
+
+  -- a log with which some memory is sound
+  pub record SoundLog (setup : Setup) (log : List Record) : Type 0 where
+    pub memory : Memory
+    pub sound : Sound setup (facts_of log) memory
+    pub good : Good setup log
+
+  abbrev SoundState : Setup → ShardNow → State → Type 0
+  SoundState setup s (Runs m) = Sound setup (facts_of s.log) m × (s.unsure ≡ Nothing)
+  SoundState setup s _ = Unit {0}
+
+  -- each log that a crash may leave of it is sound, and so is its memory
+  pub record SoundShard (setup : Setup) (s : ShardNow) : Type 0 where
+    pub left : (log : List Record) → MayLeaveLog s log → SoundLog setup log
+    pub state : SoundState setup s s.state
+
+  -- a step that is done leaves a good log, and a sound memory where its input was within the limit
+  pub record SoundStep (L : Type 0) (setup : Setup) (log : List Record) (memory : Memory) : Type 0 where
+    pub sound : L → Sound setup (facts_of log) memory
+    pub good : Good setup log
+
+  abbrev SteppedSound : Type 0 → Setup → List Record → Stepped → Type 0
+  SteppedSound L setup log (Refuses f) = Unit {0}
+  SteppedSound L setup log (Does logged memory out) = SoundStep L setup (with_record log logged) memory
+
+  -- one more record
+  more : (L : Type 0) (setup : Setup) (log : List Record) (r : Record) (m : Memory) → Good setup (log ++ r ∷ []) → (L → Sound setup (learn (facts_of log) r) m) →
+      SoundStep L setup (log ++ r ∷ []) m
+  more L setup log r m next sound = record { sound = λ l. subst (λ x. Sound setup x m) (sym (learn_agrees setup.shard log r (follows setup (log ++ r ∷ []) next))) (sound l); good = next }
+
+  -- a step of a running shard
+  of_plan : (L : Type 0) (setup : Setup) (log : List Record) (m : Memory) (now : Interval) (i : Input) → (L → IsInLimit i) → Good setup log → Sound setup (facts_of log) m →
+      (p : Planned) → plan_input setup (before 1024 setup (facts_of log) m) now i ≡ p → SteppedSound L setup log (stepped m p)
+  of_plan L setup log m now i limit good sound (Err f) e = tt
+  of_plan L setup log m now i limit good sound (Ok p) e = by_record p.logged refl (λ l. keeps setup (facts_of log) m now i p (limit l) sound e)
+    where
+      by_record : (o : Option Record) → p.logged ≡ o → (L → Sound setup (facts_after (facts_of log) o) (carried p m)) → SoundStep L setup (with_record log o) (carried p m)
+      by_record None is kept = record { sound = kept; good = good }
+      by_record (Some r) is kept = more L setup log r (carried p m) (logs setup log m now i p r good sound e is) kept
+
+  module _ (config : Config) (bag : List Envelope) (n : ℕ) (s : ShardNow) (sound : SoundShard (setup_of config n) s) where
+    plain : SoundLog (setup_of config n) s.log
+    plain = sound.left s.log (inl refl)
+
+    -- a read of the disk
+    pub read_left : MayLeaveLog s (read_log s)
+    read_left = by_unsure s.unsure refl
+      where
+        by_unsure : (u : Unsure) → s.unsure ≡ u → MayLeaveLog s (s.log ++ shown u)
+        by_unsure Nothing is = inl (append_none s.log)
+        by_unsure (Shown r) is = inr (r, subst (λ u. IsUnsure u r) (sym is) refl, refl)
+        by_unsure (Hidden r) is = inl (append_none s.log)
+
+    running : (L : Type 0) (o : Option (Interval × Input)) → ((p : Interval × Input) → o ≡ Some p → L → IsInLimit p.1) → (st : State) → s.state ≡ st →
+        SteppedSound L (setup_of config n) (read_log s) (elim st as (λ x. Stepped) [ Runs m ↦ step_with (setup_of config n) (facts_of s.log) m o | _ ↦ Refuses Stopped ])
+    running L o limit (IsStopped m) is = tt
+    running L o limit IsDown is = tt
+    running L None limit (Runs m) is = tt
+    running L (Some p) limit (Runs m) is =
+        let state : SoundState (setup_of config n) s (Runs m) = subst (SoundState (setup_of config n) s) is sound.state in
+        let read_is : read_log s ≡ s.log = ap (λ u. s.log ++ shown u) state.1 ∙ append_none s.log in
+        subst (λ l. SteppedSound L (setup_of config n) l (step_with (setup_of config n) (facts_of s.log) m (Some p))) (sym read_is)
+        (subst (SteppedSound L (setup_of config n) s.log) (sym (law 1024 (setup_of config n) (facts_of s.log) m p.0 p.1 (ascends (setup_of config n) (facts_of s.log) m state.0)))
+        (of_plan L (setup_of config n) s.log m p.0 p.1 (limit p refl) plain.good state.0 (plan_input (setup_of config n) (before 1024 (setup_of config n) (facts_of s.log) m) p.0 p.1) refl))
+
+    opened : SteppedSound (Unit {0}) (setup_of config n) (read_log s) (opening (facts_of (read_log s)))
+    unfolding opening
+    opened = by_test (nat_lt (facts_of (read_log s)).epoch time_limit)
+      where
+        by_test : (b : Bool) → SteppedSound (Unit {0}) (setup_of config n) (read_log s) (cond b (Does (Some (Record.Opened ((facts_of (read_log s)).epoch + 1))) (rebuilt (facts_of (read_log s))) []) (Refuses TimeSpent))
+        by_test false = tt
+        by_test true =
+            let l = sound.left (read_log s) read_left in
+            more (Unit {0}) (setup_of config n) (read_log s) (Record.Opened ((facts_of (read_log s)).epoch + 1)) (rebuilt (facts_of (read_log s))) (good_opens (setup_of config n) (read_log s) l.good)
+            (λ u. opens (setup_of config n) (facts_of (read_log s)) l.memory l.sound)
+
+    -- the input of a doing is within the limit where the doing is
+    limit_is : (i : Input) (now : Interval) (L : Type 0) → (L → IsInLimit i) → (p : Interval × Input) → ◌≡◌ {A = Option (Interval × Input)} (Some (now, i)) (Some p) → L → IsInLimit p.1
+    limit_is i now L limit p same l = subst (λ (q : Interval × Input). IsInLimit q.1) (some_is (now, i) p same) (limit l)
+      where
+        some_is : (a b : Interval × Input) → ◌≡◌ {A = Option (Interval × Input)} (Some a) (Some b) → a ≡ b
+        some_is a b k = cc
+
+    take_limit : (now : Interval) (o : Option Envelope) (p : Interval × Input) → mapped (λ (e : Envelope). (now, Input.Deliver e.message)) o ≡ Some p → Unit {0} → IsInLimit p.1
+    take_limit now None p same u = cc
+    take_limit now (Some e) p same u = limit_is (Input.Deliver e.message) now (Unit {0}) (λ v. tt) p same u
+
+    pub effect_sound : (doing : Doing) → SteppedSound (DoingLimit doing) (setup_of config n) (read_log s) (effect (setup_of config n) bag s doing)
+    unfolding effect
+    effect_sound Doing.Open = by_state s.state
+      where
+        by_state : (st : State) → SteppedSound (Unit {0}) (setup_of config n) (read_log s) (elim st as (λ x. Stepped) [ Runs m ↦ Refuses Stopped | _ ↦ opening (facts_of (read_log s)) ])
+        by_state (Runs m) = tt
+        by_state (IsStopped m) = opened
+        by_state IsDown = opened
+    effect_sound (Doing.Take m now) = running (Unit {0}) (input_of bag (Doing.Take m now)) (take_limit now (slice_get bag m)) s.state refl
+    effect_sound (Doing.Resume now) = running (Unit {0}) (input_of bag (Doing.Resume now)) (limit_is Input.Resume now (Unit {0}) (λ u. tt)) s.state refl
+    effect_sound (Doing.Settle t now) = running (Unit {0}) (input_of bag (Doing.Settle t now)) (limit_is (Input.Settle t) now (Unit {0}) (λ u. tt)) s.state refl
+    effect_sound (Doing.Advance at now) = running (at ≤ 2 ^ 62 - 1) (input_of bag (Doing.Advance at now)) (limit_is (Input.Advance at) now (at ≤ 2 ^ 62 - 1) (λ l. l)) s.state refl
+    effect_sound (Doing.Nudge t now) = running (Unit {0}) (input_of bag (Doing.Nudge t now)) (limit_is (Input.Nudge t) now (Unit {0}) (λ u. tt)) s.state refl
+
+    -- ---- the shard after it
+
+    -- a shard without an unsure record
+    sure : (new : ShardNow) → new.unsure ≡ Nothing → SoundLog (setup_of config n) new.log → SoundState (setup_of config n) new new.state → SoundShard (setup_of config n) new
+    sure new none l state = record { left = by_left; state = state }
+      where
+        by_left : (log : List Record) → MayLeaveLog new log → SoundLog (setup_of config n) log
+        by_left log (inl same) = subst (SoundLog (setup_of config n)) (sym same) l
+        by_left log (inr unsure) = absurd (subst (λ u. IsUnsure u unsure.0) none unsure.1)
+
+    pub crashed_sound : (log : List Record) → SoundLog (setup_of config n) log → SoundShard (setup_of config n) (crashed s log)
+    crashed_sound log l = sure (crashed s log) refl l tt
+
+    left_sound : (fate : Fate) → SoundLog (setup_of config n) (s.log ++ left_of fate s.unsure)
+    left_sound fate = sound.left (s.log ++ left_of fate s.unsure) (by_unsure s.unsure refl)
+      where
+        by_gate : (r : Record) → IsUnsure s.unsure r → (b : Bool) → MayLeaveLog s (s.log ++ cond b (r ∷ []) [])
+        by_gate r is true = inr (r, is, refl)
+        by_gate r is false = inl (append_none s.log)
+
+        by_unsure : (u : Unsure) → s.unsure ≡ u → MayLeaveLog s (s.log ++ left_of fate u)
+        by_unsure Nothing is = inl (append_none s.log)
+        by_unsure (Shown r) is = by_gate r (subst (λ u. IsUnsure u r) (sym is) refl) (opens_gate fate)
+        by_unsure (Hidden r) is = by_gate r (subst (λ u. IsUnsure u r) (sym is) refl) (opens_gate fate)
+
+    with_listed : (o : Option Record) → with_record (read_log s) o ≡ read_log s ++ listed o
+    with_listed None = sym (append_none (read_log s))
+    with_listed (Some r) = refl
+
+    pub finished_sound : (L : Type 0) → L → (doing : Doing) (logged : Option Record) (memory : Memory) → SoundStep L (setup_of config n) (with_record (read_log s) logged) memory → SoundShard (setup_of config n) (finished s doing logged memory)
+    unfolding finished
+    finished_sound L limit doing logged memory e =
+        let k = subst (λ l. SoundStep L (setup_of config n) l memory) (with_listed logged) e in
+        sure (finished s doing logged memory) refl (record { memory = memory; sound = k.sound limit; good = k.good }) (k.sound limit, refl)
+
+    pub refused_left_sound : (fate : Fate) (doing : Doing) → SoundShard (setup_of config n) (crashed s (left_by_refused s fate doing))
+    refused_left_sound fate Doing.Open = crashed_sound (read_log s) (sound.left (read_log s) read_left)
+    refused_left_sound fate (Doing.Take m now) = crashed_sound _ (left_sound fate)
+    refused_left_sound fate (Doing.Resume now) = crashed_sound _ (left_sound fate)
+    refused_left_sound fate (Doing.Settle t now) = crashed_sound _ (left_sound fate)
+    refused_left_sound fate (Doing.Advance at now) = crashed_sound _ (left_sound fate)
+    refused_left_sound fate (Doing.Nudge t now) = crashed_sound _ (left_sound fate)
+
+    pub crashed_in_sound : (L : Type 0) → L → (call : ℕ) (fate : Fate) (doing : Doing) (st : Stepped) → SteppedSound L (setup_of config n) (read_log s) st → SoundShard (setup_of config n) (crashed_in s call fate doing st)
+    unfolding crashed_in
+    crashed_in_sound L limit call fate doing (Refuses f) e = refused_left_sound fate doing
+    crashed_in_sound L limit call fate doing (Does None memory out) e = crashed_sound (read_log s) (sound.left (read_log s) read_left)
+    crashed_in_sound L limit call fate doing (Does (Some r) memory out) e = by_test (is_left call fate)
+      where
+        by_test : (b : Bool) → SoundShard (setup_of config n) (crashed s (read_log s ++ cond b (r ∷ []) []))
+        by_test true = crashed_sound (read_log s ++ r ∷ []) (record { memory = memory; sound = e.sound limit; good = e.good })
+        by_test false = crashed_sound (read_log s ++ []) (subst (SoundLog (setup_of config n)) (sym (append_none (read_log s))) (sound.left (read_log s) read_left))
+
+    pub failed_sound : (L : Type 0) → L → (call : ℕ) (r : Record) (memory : Memory) → SoundStep L (setup_of config n) (read_log s ++ r ∷ []) memory → SoundShard (setup_of config n) (failed_in s call r)
+    unfolding failed_in
+    failed_sound L limit call r memory e = record { left = by_left; state = by_state s.state }
+      where
+        by_state : (st : State) → SoundState (setup_of config n) (failed_in s call r) (stopped st)
+        by_state (Runs m) = tt
+        by_state (IsStopped m) = tt
+        by_state IsDown = tt
+
+        unsure_is : (a b : Bool) (q : Record) → IsUnsure (cond a (Hidden r) (cond b (Shown r) Nothing)) q → r ≡ q
+        unsure_is true b q k = k
+        unsure_is false true q k = k
+        unsure_is false false q k = absurd k
+
+        by_left : (log : List Record) → MayLeaveLog (failed_in s call r) log → SoundLog (setup_of config n) log
+        by_left log (inl same) = subst (SoundLog (setup_of config n)) (sym same) (sound.left (read_log s) read_left)
+        by_left log (inr x) =
+            let is : r ≡ x.0 = unsure_is (nat_eq call 2) (nat_eq call 3) x.0 x.1 in
+            subst (SoundLog (setup_of config n)) (sym x.2) (subst (λ q. SoundLog (setup_of config n) (read_log s ++ q ∷ [])) is (record { memory = memory; sound = e.sound limit; good = e.good }))
+
+  -- ---- a world
+
+  -- each shard is sound
+  abbrev pub SoundWorld : World → Type 0
+  SoundWorld w = (n : ℕ) (s : ShardNow) → slice_get w.shards n ≡ Some s → SoundShard (setup_of w.config n) s
+
+  module _ (w : World) (sound : SoundWorld w) where
+    set_sound : (n : ℕ) (old new : ShardNow) → slice_get w.shards n ≡ Some old → SoundShard (setup_of w.config n) new → SoundWorld (set_shard n new w)
+    set_sound n old new there new_sound m s e = elim (cases_eq n m) [
+      | inl same ↦ by_place same
+      | inr ne ↦ sound m s (sym (get-replaced_other w.shards n m new ne) ∙ e)
+    ]
+      where
+        some_same : (a b : ShardNow) → Some a ≡ Some b → a ≡ b
+        some_same a b k = cc
+
+        by_place : n ≡ m → SoundShard (setup_of w.config m) s
+        by_place same =
+            let is : new ≡ s = some_same new s (sym (get-replaced_same w.shards n old new there) ∙ subst (λ k. slice_get (replaced w.shards n new) k ≡ Some s) (sym same) e) in
+            subst (λ k. SoundShard (setup_of w.config k) s) same (subst (SoundShard (setup_of w.config n)) is new_sound)
+
+    -- a change that touches no shard
+    untouched : (v : World) → Kept w v → SoundWorld v
+    untouched v same n s e =
+        subst (λ (c : Config). SoundShard (setup_of c n) s) (sym same.1) (sound n s (subst (λ (l : List ShardNow). slice_get l n ≡ Some s) same.0 e))
+
+    module _ (n : ℕ) (s : ShardNow) (there : slice_get w.shards n ≡ Some s) where
+      refused_sound : (doing : Doing) (f : Fault) → SoundWorld ((refused_doing w n s doing f).0)
+      refused_sound Doing.Open f = by_state s.state
+        where
+          down : SoundWorld (set_shard n (crashed s (read_log s)) w)
+          down = set_sound n s (crashed s (read_log s)) there (crashed_sound w.config w.bag n s (sound n s there) (read_log s) ((sound n s there).left (read_log s) (read_left w.config w.bag n s (sound n s there))))
+
+          by_state : (st : State) → SoundWorld ((elim st as (λ x. After) [ Runs m ↦ refused w f | _ ↦ (set_shard n (crashed s (read_log s)) w, Reply.Refused f) ]).0)
+          by_state (Runs m) = sound
+          by_state (IsStopped m) = down
+          by_state IsDown = down
+      refused_sound (Doing.Take m now) f = sound
+      refused_sound (Doing.Resume now) f = sound
+      refused_sound (Doing.Settle t now) f = sound
+      refused_sound (Doing.Advance at now) f = sound
+      refused_sound (Doing.Nudge t now) f = sound
+
+      did_sound : (doing : Doing) → DoingLimit doing → (st : Stepped) → SteppedSound (DoingLimit doing) (setup_of w.config n) (read_log s) st → SoundWorld ((did w n s doing st).0)
+      unfolding did put_out
+      did_sound doing limit (Refuses f) e = refused_sound doing f
+      did_sound doing limit (Does logged memory out) e = set_sound n s (finished s doing logged memory) there (finished_sound w.config w.bag n s (sound n s there) (DoingLimit doing) limit doing logged memory e)
+
+      failing_sound : (call : ℕ) (doing : Doing) → DoingLimit doing → (st : Stepped) → SteppedSound (DoingLimit doing) (setup_of w.config n) (read_log s) st → SoundWorld ((did_with_failure w n s call doing st).0)
+      unfolding did_with_failure
+      failing_sound call doing limit (Refuses f) e = did_sound doing limit (Refuses f) e
+      failing_sound call doing limit (Does None memory out) e = did_sound doing limit (Does None memory out) e
+      failing_sound call doing limit (Does (Some r) memory out) e = by_test (nat_lt call 4)
+        where
+          by_test : (b : Bool) → SoundWorld ((cond {A = After} b (set_shard n (failed_in s call r) w, Reply.Refused Device) (did w n s doing (Does (Some r) memory out))).0)
+          by_test true = set_sound n s (failed_in s call r) there (failed_sound w.config w.bag n s (sound n s there) (DoingLimit doing) limit call r memory e)
+          by_test false = did_sound doing limit (Does (Some r) memory out) e
+
+      effect_is_sound : (doing : Doing) → SteppedSound (DoingLimit doing) (setup_of w.config n) (read_log s) (effect (setup_of w.config n) w.bag s doing)
+      effect_is_sound doing = effect_sound w.config w.bag n s (sound n s there) doing
+
+    at_shard_sound : (n : ℕ) (f : Setup → ShardNow → After) → ((s : ShardNow) → slice_get w.shards n ≡ Some s → SoundWorld ((f (setup_of w.config n) s).0)) → SoundWorld ((at_shard w n f).0)
+    at_shard_sound n f each = by_value (slice_get w.shards n) refl
+      where
+        by_value : (o : Option ShardNow) → slice_get w.shards n ≡ o → SoundWorld ((elim o as (λ x. After) [ None ↦ refused w Stranger | Some s ↦ f (setup_of w.config n) s ]).0)
+        by_value None e = sound
+        by_value (Some s) e = each s e
+
+    do_at_sound : (n : ℕ) (doing : Doing) → DoingLimit doing → SoundWorld ((do_at w n doing).0)
+    do_at_sound n doing limit = at_shard_sound n (λ setup s. did w n s doing (effect setup w.bag s doing)) (λ s there. did_sound n s there doing limit _ (effect_is_sound n s there doing))
+
+    deliver_sound : (m : ℕ) (now : Interval) (o : Option Envelope) → SoundWorld ((deliver_to w m now o).0)
+    unfolding deliver_to
+    deliver_sound m now None = sound
+    deliver_sound m now (Some e) = by_address e.to
+      where
+        by_address : (a : Address) → SoundWorld ((elim a as (λ x. After) [ Shard n ↦ do_at w n (Doing.Take m now) | Session t ↦ to_session w e.message ]).0)
+        by_address (Shard n) = do_at_sound n (Doing.Take m now) tt
+        by_address (Session t) = untouched ((to_session w e.message).0) (to_session_keeps w e.message)
+
+    pub acts_sound : (a : Act) → ActLimit a → SoundWorld ((acts w a).0)
+    unfolding acts
+    acts_sound (Act.Begin t) limit = sound
+    acts_sound (Act.Read t k) limit = untouched ((if_open w (client_of w t) (reads w.config.splits k)).0) (if_open_keeps w (client_of w t) (reads w.config.splits k))
+    acts_sound (Act.Write t k x) limit = untouched ((if_open w (client_of w t) (buffers (record { key = k; value = x }))).0) (if_open_keeps w (client_of w t) (buffers (record { key = k; value = x })))
+    acts_sound (Act.Close t) limit = untouched ((if_open w (client_of w t) (closes w.config.splits)).0) (if_open_keeps w (client_of w t) (closes w.config.splits))
+    acts_sound (Act.Quit t) limit = untouched ((if_not_over w (client_of w t) (gives_up w.config.splits)).0) (if_not_over_keeps w (client_of w t) (gives_up w.config.splits))
+    acts_sound (Act.Deliver m now) limit = deliver_sound m now (slice_get w.bag m)
+    acts_sound (Act.At n doing) limit = do_at_sound n doing limit
+    acts_sound (Act.Look n k at) limit = at_shard_sound n (λ setup s. noted w k at (look_shard setup s k at)) (λ s there. untouched ((noted w k at (look_shard (setup_of w.config n) s k at)).0) (noted_keeps w k at (look_shard (setup_of w.config n) s k at)))
+    acts_sound (Act.View n v k at) limit =
+        at_shard_sound n (λ setup s. noted w k at (look_at_view setup (slice_get s.views v) k at)) (λ s there. untouched ((noted w k at (look_at_view (setup_of w.config n) (slice_get s.views v) k at)).0) (noted_keeps w k at (look_at_view (setup_of w.config n) (slice_get s.views v) k at)))
+    acts_sound (Act.Crash n) limit = at_shard_sound n (λ setup s. (set_shard n (crashed s s.log) w, Reply.Crashed))
+        (λ s there. set_sound n s (crashed s s.log) there (crashed_sound w.config w.bag n s (sound n s there) s.log ((sound n s there).left s.log (inl refl))))
+    acts_sound (Act.CrashIn n call fate doing) limit =
+        at_shard_sound n (λ setup s. (set_shard n (crashed_in s call fate doing (effect setup w.bag s doing)) w, Reply.Crashed))
+        (λ s there. set_sound n s (crashed_in s call fate doing (effect (setup_of w.config n) w.bag s doing)) there
+        (crashed_in_sound w.config w.bag n s (sound n s there) (DoingLimit doing) limit call fate doing (effect (setup_of w.config n) w.bag s doing) (effect_is_sound n s there doing)))
+    acts_sound (Act.FailIn n call doing) limit = at_shard_sound n (λ setup s. did_with_failure w n s call doing (effect setup w.bag s doing))
+        (λ s there. failing_sound n s there call doing limit _ (effect_is_sound n s there doing))
+
+    -- each log that a crash may leave is good, between steps and within one
+    pub left_good : (n : ℕ) (s : ShardNow) (log : List Record) → slice_get w.shards n ≡ Some s → MayLeaveLog s log → Good (setup_of w.config n) log
+    left_good n s log there may = ((sound n s there).left log may).good
+
+    pub logged_good : (n : ℕ) (s : ShardNow) (doing : Doing) (r : Record) (memory : Memory) (out : List Envelope) → slice_get w.shards n ≡ Some s →
+        effect (setup_of w.config n) w.bag s doing ≡ Does (Some r) memory out → Good (setup_of w.config n) (read_log s ++ r ∷ [])
+    logged_good n s doing r memory out there e = (subst (SteppedSound (DoingLimit doing) (setup_of w.config n) (read_log s)) e (effect_is_sound n s there doing)).good
+
+    -- so the world is steady
+    pub steady : IsSteady w
+    steady = record {
+      follows = λ n s log there may. follows (setup_of w.config n) log ((sound n s there).left log may).good;
+      logged = λ n s doing r memory out there e. follows (setup_of w.config n) (read_log s ++ r ∷ []) (subst (SteppedSound (DoingLimit doing) (setup_of w.config n) (read_log s)) e (effect_is_sound n s there doing)).good;
+      ascends = λ n s m there runs. ascends (setup_of w.config n) (facts_of s.log) m (subst (SoundState (setup_of w.config n) s) runs (sound n s there).state).0;
+    }
+
+  module _ (limits : (w : World) (time : ℕ) (a : Act) → may_act w time a ≡ true → ActLimit a)
+      (fresh : (setup : Setup) → Sound setup (facts_of fresh_log) (rebuilt (facts_of fresh_log))) (good_fresh : (setup : Setup) → Good setup fresh_log) where
+    run_sound : (w : World) (es : List Event) → lawful_from w es ≡ true → SoundWorld w → SoundWorld (run_from w es)
+    unfolding happens
+    run_sound w [] fair sound = sound
+    run_sound w (e ∷ es) fair sound =
+        let p = both (may_happen w e) (lawful_from ((happens w e).0) es) fair in
+        run_sound ((happens w e).0) es p.1 (acts_sound w sound e.act (limits w e.time e.act (both (nat_le w.time e.time) (may_act w e.time e.act) p.0).1))
+
+    fresh_sound : (setup : Setup) → SoundShard setup fresh_shard
+    fresh_sound setup = record {
+      left = λ log may. elim may [
+        | inl same ↦ subst (SoundLog setup) (sym same) (record { memory = rebuilt (facts_of fresh_log); sound = fresh setup; good = good_fresh setup })
+        | inr unsure ↦ absurd unsure.1
+      ];
+      state = (fresh setup, refl);
+    }
+
+    start_sound : (config : Config) → SoundWorld (start config)
+    unfolding start
+    start_sound config n s e = subst (SoundShard (setup_of config n)) (replicated (suc (length config.splits)) n s e) (fresh_sound (setup_of config n))
+
+    -- each shard is sound at every moment
+    pub always_sound : (config : Config) (es : List Event) → lawful config es ≡ true → SoundWorld (run config es)
+    unfolding run lawful
+    always_sound config es fair = run_sound (start config) es fair (start_sound config)
+
+    -- every lawful run is steady
+    pub always_steady : AlwaysSteady
+    always_steady config es fair = steady (run config es) (always_sound config es fair)
