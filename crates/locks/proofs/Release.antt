@@ -32,7 +32,7 @@ has-without id (other ∷ ids) t differ =
     has-without id ids (without_claim t other) differ.1 ∙ has-without_other (λ (c : Claim). c.txn) t id other differ.0
 
 -- the requester is not among those that it wounds
-wounded_differ : (id : Id) (needs : List Lock) (t : List Claim) → AllByRecursion (λ other. same_id other id ≡ false) (ids_in_way id needs t)
+pub wounded_differ : (id : Id) (needs : List Lock) (t : List Claim) → AllByRecursion (λ other. same_id other id ≡ false) (ids_in_way id needs t)
 wounded_differ id needs [] = tt
 wounded_differ id needs (x ∷ t) = by_test (gives_way id needs x) refl (wounded_differ id needs t)
   where

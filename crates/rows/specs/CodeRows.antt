@@ -60,6 +60,15 @@ may_abort _ = true
 abbrev pub may_close : Phase → Bool
 may_close phase = not (may_abort phase)
 
+-- the transaction and its timestamp, of a row that is prepared, and of one that is decided
+abbrev pub prepared_of : Row → Option (Id × ℕ)
+prepared_of (Prepared s) = Some (s.token.txn, s.at)
+prepared_of _ = None
+
+abbrev pub decided_of : Row → Option (Id × ℕ)
+decided_of (Decided s) = Some (s.token.txn, s.at)
+decided_of _ = None
+
 -- the most rows that there may be
 abbrev pub most_rows : ℕ
 most_rows = 1024

@@ -1,7 +1,9 @@
 //! A shard's transactions, each in a typed state that holds its token of the lock table, and the rows of them all.
 #![tactic(auto)]
 
+mod deciding;
 mod list;
+mod locking;
 mod row;
 mod rows;
 mod states;

@@ -1,15 +1,17 @@
 //! The rows by ascending id, with the space for all that there may be.
-ghost use Rattle.std.specs.Prelude.{◌≡◌, ◌+◌, ◌<◌, ◌≤◌, [], true, false, Some, IfOk, IfErr, length, vec_capacity};
+ghost use Rattle.std.specs.Prelude.{◌≡◌, ◌+◌, ◌<◌, ◌≤◌, [], true, false, Some, IfOk, IfErr, length, slice_get, vec_capacity};
 ghost use Rattle.std.specs.List.{find, position_or_len};
 ghost use Rattle.std.specs.Option.{option_copied};
 ghost use Rattle.units.specs.Ids.{same_id, older};
-ghost use Rattle.rows.specs.CodeRows.{txn_of, has_txn, row_of, passes, is_reading, without_txn, put_in, most_rows, IsRowList};
+ghost use Rattle.units.specs.Lists.{gather};
+ghost use Rattle.rows.specs.CodeRows.{txn_of, has_txn, row_of, passes, is_reading, prepared_of, decided_of, without_txn, put_in, most_rows, IsRowList};
 
 use crate::row::Row;
 use crate::states::Reading;
+use locks::Table;
 use std::alloc::Global;
 use std::marker::Model;
-use units::{Fault, TxnId};
+use units::{Fault, Stamp, TxnId};
 
 /// The most transactions of a shard at a time.
 pub const MOST_ROWS: usize = 1024;
@@ -62,6 +64,32 @@ impl RowList {
         found(&self.rows, txn)
     }
 
+    /// The n-th prepared transaction, with its timestamp.
+    pub fn nth_prepared(&self, n: usize) -> Option<(TxnId, Stamp)>
+        ensures { result ≡ slice_get (gather prepared_of self.now) n }
+    {
+        nth_prepared(&self.rows, n)
+    }
+
+    /// The n-th decided transaction, with its timestamp.
+    pub fn nth_decided(&self, n: usize) -> Option<(TxnId, Stamp)>
+        ensures { result ≡ slice_get (gather decided_of self.now) n }
+    {
+        nth_decided(&self.rows, n)
+    }
+
+    /// Spends the token of each row.
+    pub fn release_all(self, table: &mut Table) {
+        let RowList { mut rows } = self;
+        for _ in 0..rows.len() {
+            match rows.pop() {
+                Some(row) => row.release(table),
+                None => {}
+            }
+        }
+        rows.destroy_empty();
+    }
+
     /// Takes out the row of a transaction that reads.
     pub fn take_reading(&mut self, txn: TxnId) -> Reading
         requires { passes is_reading self.old txn ≡ true }
@@ -105,6 +133,38 @@ fn found(rows: &[Row], txn: TxnId) -> Option<&Row>
     ensures { option_copied result ≡ find (λ r. same_id (txn_of r) txn) rows.now }
 {
     rows.iter().find(|row| row.is_of(txn))
+}
+
+// The n-th prepared transaction.
+fn nth_prepared(rows: &[Row], n: usize) -> Option<(TxnId, Stamp)>
+    ensures { result ≡ slice_get (gather prepared_of rows.now) n }
+{
+    let mut left = n;
+    for row in rows {
+        if let Some(found) = row.prepared() {
+            if left == 0 {
+                return Some(found);
+            }
+            left -= 1;
+        }
+    }
+    None
+}
+
+// The n-th decided transaction.
+fn nth_decided(rows: &[Row], n: usize) -> Option<(TxnId, Stamp)>
+    ensures { result ≡ slice_get (gather decided_of rows.now) n }
+{
+    let mut left = n;
+    for row in rows {
+        if let Some(found) = row.decided() {
+            if left == 0 {
+                return Some(found);
+            }
+            left -= 1;
+        }
+    }
+    None
 }
 
 // Where the transaction's row stands.

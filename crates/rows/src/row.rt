@@ -1,12 +1,12 @@
 //! A row: a transaction in one of its states.
 ghost use Rattle.std.specs.Prelude.{◌≡◌};
 ghost use Rattle.units.specs.Ids.{same_id};
-ghost use Rattle.rows.specs.CodeRows.{txn_of};
+ghost use Rattle.rows.specs.CodeRows.{txn_of, prepared_of, decided_of};
 ghost use Rattle.locks.specs.Table.{without_claim};
 
 use crate::states::{Collecting, Decided, Prepared, Reading};
 use locks::Table;
-use units::TxnId;
+use units::{Stamp, TxnId};
 
 /// A transaction of a shard, in its state.
 pub enum Row {
@@ -34,6 +34,26 @@ impl Row {
         ensures { result ≡ same_id (txn_of self.now) txn }
     {
         self.txn().is(txn)
+    }
+
+    /// Whose row it is and its timestamp, where it is prepared.
+    pub fn prepared(&self) -> Option<(TxnId, Stamp)>
+        ensures { result ≡ prepared_of self.now }
+    {
+        match self {
+            Row::Prepared(state) => Some((state.txn(), state.at())),
+            _ => None,
+        }
+    }
+
+    /// Whose row it is and its timestamp, where it is decided.
+    pub fn decided(&self) -> Option<(TxnId, Stamp)>
+        ensures { result ≡ decided_of self.now }
+    {
+        match self {
+            Row::Decided(state) => Some((state.txn(), state.at())),
+            _ => None,
+        }
     }
 
     // Its token goes, at the end of the table.

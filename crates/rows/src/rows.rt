@@ -1,24 +1,21 @@
 //! The rows of a shard beside its lock table.
-ghost use Rattle.std.specs.Prelude.{◌≡◌, ◌+◌, ◌<◌, ◌≤◌, [], true, false, Some, None, nat_le, length, MatchOption, IfOk, IfErr, OnOk, OnErr};
+ghost use Rattle.std.specs.Prelude.{◌≡◌, ◌<◌, ◌≤◌, [], true, Some, None, nat_le, length, MatchOption, IfOk, IfErr, OnOk, OnErr};
 ghost use Rattle.units.specs.ById.{IsById};
 ghost use Rattle.units.specs.Lists.{each};
 ghost use Rattle.units.specs.LockLaws.{IsLawfulTable};
-ghost use Rattle.units.specs.Locks.{holds, is_free, ready, with_locks, wounded};
-ghost use Rattle.protocol.specs.Rows.{Idle, claims, find_row, needs_of, without_row};
-ghost use Rattle.rows.specs.States.{is_prepare_of, is_commit_of, is_abort_of, is_outcome_of};
-ghost use Rattle.rows.specs.CodeRows.{phase_of, phase_of_wait, is_reading, is_idle, may_decide, may_abort, may_close};
-ghost use Rattle.rows.specs.RowTable.{room, needs_in, has_phase, put_row, without_tokens, without_token, MayEnd, phase_by};
+ghost use Rattle.units.specs.Locks.{holds, is_free, ready, wounded};
+ghost use Rattle.protocol.specs.Rows.{Idle, claims, find_row, without_row};
+ghost use Rattle.rows.specs.CodeRows.{phase_of, is_reading};
+ghost use Rattle.rows.specs.RowTable.{has_phase, put_row, nth_prepared, nth_decided, without_token};
 ghost use Rattle.protocol.specs.Plan.{held_in, without_rows};
 
 use crate::list::RowList;
 use crate::row::Row;
 use crate::states::Reading;
-use gatelog::Logged;
 use locks::Table;
-use record::Record;
 use std::alloc::Global;
 use std::marker::Model;
-use units::{Fault, Ids, Key, Keys, Lock, TxnId};
+use units::{Fault, Ids, Key, Keys, Lock, Stamp, TxnId};
 
 /// The transactions of a shard: each has a row, in a state that holds its token of the lock table. There are at most
 /// 1,024.
@@ -27,8 +24,8 @@ use units::{Fault, Ids, Key, Keys, Lock, TxnId};
 /// claim it has, and whoever holds the rows never speaks of the table. The rows hold tokens, so they cannot be dropped:
 /// `stop` spends them.
 pub struct Rows {
-    rows: RowList,
-    locks: Table,
+    pub(crate) rows: RowList,
+    pub(crate) locks: Table,
 }
 
 impl Model for Rows {
@@ -120,6 +117,20 @@ impl Rows {
         self.locks.ready()
     }
 
+    /// The n-th prepared transaction by ascending id, with its prepare timestamp.
+    pub fn nth_prepared(&self, n: usize) -> Option<(TxnId, Stamp)>
+        ensures { result ≡ nth_prepared self.now.rows n }
+    {
+        self.rows.nth_prepared(n)
+    }
+
+    /// The n-th decided transaction by ascending id, with its commit timestamp.
+    pub fn nth_decided(&self, n: usize) -> Option<(TxnId, Stamp)>
+        ensures { result ≡ nth_decided self.now.rows n }
+    {
+        self.rows.nth_decided(n)
+    }
+
     /// Takes in a transaction that is new. It reads, and holds nothing. It is refused for want of memory alone.
     pub fn admit(&mut self, alloc: Global, txn: TxnId) -> Result<(), Fault>
         requires absent { find_row self.old.rows txn ≡ None }
@@ -143,16 +154,9 @@ impl Rows {
         state.end(&mut self.locks);
     }
 
-    /// A logged promise is spent: the transaction is prepared, and holds what it held. It takes no memory.
-    pub fn prepare(&mut self, txn: TxnId, logged: Logged) -> Record
-        requires idle { has_phase is_idle self.old.rows txn ≡ true }
-        requires mine { is_prepare_of txn logged ≡ true }
-        ensures rows { self.new.rows ≡ put_row self.old.rows txn (held_in self.old.rows txn) (phase_by logged) }
-        ensures record { result ≡ logged }
-    {
-        let reading = self.rows.take_reading(txn);
-        let (prepared, record) = reading.prepare(logged, &mut self.locks);
-        self.rows.put(Row::Prepared(prepared));
-        record
+    /// Spends every token, so that the rows are gone. It takes no memory.
+    pub fn stop(self) {
+        let Rows { rows, mut locks } = self;
+        rows.release_all(&mut locks);
     }
 }

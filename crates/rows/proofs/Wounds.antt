@@ -1,0 +1,143 @@
+-- Those whom a request ends may be ended one by one, and the requester stays as it is.
+use Rattle.std.proofs.Common.{◌≡◌, Bool, true, false, ◌&&◌, ◌||◌, not, cond, List, [], ◌∷◌, map, Option, Some, None, refl, sym, ap, subst, ◌∙◌, arith}
+use Rattle.std.proofs.lemmas.Bool.{false≢true}
+use Rattle.std.proofs.lemmas.Bool.Decides.{nat_tests}
+use Rattle.std.specs.List.{AllByRecursion}
+use Rattle.units.specs.Lists.{any, keep, mapped, when}
+use Rattle.units.specs.Ids.{Id, same_id, older}
+use Rattle.units.specs.ById.{IsById, find_member}
+use Rattle.units.specs.LockLaws.{IsOldestReady, IsReady}
+use Rattle.units.specs.Locks.{Claim, wounded, is_free, is_waiting, ready}
+use Rattle.units.specs.declared.lock.Lock.{Lock}
+use Rattle.units.proofs.IdLaws.{same_id-refl, same_id_comm, older_not_same}
+use Rattle.units.proofs.ListLaws.{filter-is}
+use Rattle.units.proofs.ByIdLaws.{AllYounger, later_are_younger, later_differ, without_none, find-without_other}
+use Rattle.protocol.specs.Rows.{Row, Phase, Idle, WaitsRead, WaitsPrepare, WaitsCommit, Collecting, IsPrepared, IsDecided, claim_of, claims, find_row, without_row, needs_of, is_firm}
+use Rattle.protocol.proofs.RowTable.{claims-find_row, claims-by_id}
+use Rattle.locks.specs.Table.{Token, without_claims}
+use Rattle.locks.specs.Ways.{gives_way, ids_in_way}
+use Rattle.locks.proofs.WayLaws.{wounded-is}
+use Rattle.locks.proofs.Release.{wounded_differ, release_makes_way}
+use Rattle.locks.proofs.Oldest.{ready_is_oldest}
+use Rattle.rows.specs.CodeRows.{txn_of, phase_of, phase_of_wait, passes, is_reading}
+use Rattle.rows.specs.RowTable.{paired, has_phase, without_token, without_tokens, MayEnd}
+use Rattle.protocol.specs.Plan.{held_in, without_rows}
+use Rattle.rows.specs.declared.row.Row.{Row as CodeRow}
+use Rattle.rows.specs.declared.wait.Wait.{Wait}
+use Rattle.rows.proofs.Ties.{by_id-paired, has_phase-is}
+use Rattle.rows.proofs.Steps.{claims-without_rows, passes_more}
+
+-- a row of another id in front changes nothing
+may_end_behind : (q : Row) (ts : List Id) (rows : List Row) → AllByRecursion (λ t. same_id q.txn t ≡ false) ts → MayEnd rows ts → MayEnd (q ∷ rows) ts
+may_end_behind q [] rows differ may = tt
+may_end_behind q (t ∷ ts) rows differ may = rw differ.0 (may.0, may_end_behind q ts (without_row rows t) differ.1 may.1)
+
+-- the ids of younger rows are others
+ids_differ : (p : Row → Bool) (q : Row) (rows : List Row) → AllYounger (λ (r : Row). r.txn) q.txn rows
+    → AllByRecursion (λ t. same_id q.txn t ≡ false) (map (λ r. r.txn) (keep p rows))
+ids_differ p q [] young = tt
+ids_differ p q (r ∷ rows) young = by_test (p r) (ids_differ p q rows young.1)
+  where
+    by_test : (b : Bool) → AllByRecursion (λ t. same_id q.txn t ≡ false) (map (λ r. r.txn) (keep p rows))
+        → AllByRecursion (λ t. same_id q.txn t ≡ false) (map (λ r. r.txn) (cond b (r ∷ keep p rows) (keep p rows)))
+    by_test true rest = (older_not_same q.txn r.txn young.0, rest)
+    by_test false rest = rest
+
+-- rows that pass a test may be ended one by one, where those that pass it read
+may_end_kept : (p : Row → Bool) → ((q : Row) → p q ≡ true → is_reading q.phase ≡ true) → (rows : List Row) → IsById (λ q. q.txn) rows
+    → MayEnd rows (map (λ q. q.txn) (keep p rows))
+may_end_kept p reads [] up = tt
+may_end_kept p reads (q ∷ rows) up = by_test (p q) refl (may_end_kept p reads rows up.1)
+  where
+    young : AllYounger (λ (r : Row). r.txn) q.txn rows
+    young = later_are_younger (λ (r : Row). r.txn) q rows up
+
+    left : without_row (q ∷ rows) q.txn ≡ rows
+    left = rw (same_id-refl q.txn) (without_none (λ (r : Row). r.txn) rows q.txn (later_differ (λ (r : Row). r.txn) q.txn q rows (same_id-refl q.txn) young))
+
+    there : p q ≡ true → has_phase is_reading (q ∷ rows) q.txn ≡ true
+    there e = rw (same_id-refl q.txn) (reads q e)
+
+    by_test : (b : Bool) → p q ≡ b → MayEnd rows (map (λ r. r.txn) (keep p rows))
+        → MayEnd (q ∷ rows) (map (λ r. r.txn) (cond b (q ∷ keep p rows) (keep p rows)))
+    by_test true e rest = (there e, subst (λ l. MayEnd l (map (λ r. r.txn) (keep p rows))) (sym left) rest)
+    by_test false e rest = may_end_behind q (map (λ r. r.txn) (keep p rows)) rows (ids_differ p q rows young) rest
+
+-- the ids of claims that pass a test
+ids-map : (p : Claim → Bool) (rows : List Row) → map (λ c. c.txn) (keep p (claims rows)) ≡ map (λ q. q.txn) (keep (λ q. p (claim_of q)) rows)
+ids-map p [] = refl
+ids-map p (q ∷ rows) = by_test (p (claim_of q)) (ids-map p rows)
+  where
+    by_test : (b : Bool) → map (λ c. c.txn) (keep p (claims rows)) ≡ map (λ q. q.txn) (keep (λ q. p (claim_of q)) rows)
+        → map (λ c. c.txn) (cond b (claim_of q ∷ keep p (claims rows)) (keep p (claims rows))) ≡ map (λ r. r.txn) (cond b (q ∷ keep (λ r. p (claim_of r)) rows) (keep (λ r. p (claim_of r)) rows))
+    by_test true e = ap (λ l. q.txn ∷ l) e
+    by_test false e = e
+
+wounded-rows : (rows : List Row) (t : Id) (needs : List Lock) → wounded (claims rows) t needs ≡ map (λ q. q.txn) (keep (λ q. gives_way t needs (claim_of q)) rows)
+wounded-rows rows t needs = wounded-is (claims rows) t needs ∙ ap (map (λ c. c.txn)) (filter-is (gives_way t needs) (claims rows)) ∙ ids-map (gives_way t needs) rows
+
+middle_of : (a b c : Bool) → (a && (b && c)) ≡ true → b ≡ true
+middle_of true true c e = refl
+middle_of true false c e = e
+middle_of false b c e = absurd (false≢true e)
+
+pub may_end_wounded : (rows : List Row) (t : Id) (needs : List Lock) (ts : List Id) → IsById (λ q. q.txn) rows → ts ≡ wounded (claims rows) t needs → MayEnd rows ts
+may_end_wounded rows t needs ts up is =
+    subst (MayEnd rows) (sym (is ∙ wounded-rows rows t needs))
+    (may_end_kept (λ q. gives_way t needs (claim_of q)) (λ q e. middle_of _ _ _ e) rows up)
+
+-- the requester is not among the wounded
+pub others_end : (rows : List Row) (t : Id) (needs : List Lock) (ts : List Id) → ts ≡ wounded (claims rows) t needs → AllByRecursion (λ u. same_id u t ≡ false) ts
+others_end rows t needs ts is = subst (AllByRecursion (λ u. same_id u t ≡ false)) (sym (is ∙ wounded-is (claims rows) t needs)) (wounded_differ t needs (claims rows))
+
+-- so its row stays
+pub row_stays : (rows : List Row) (t : Id) (ts : List Id) → AllByRecursion (λ u. same_id u t ≡ false) ts → find_row (without_rows rows ts) t ≡ find_row rows t
+row_stays rows t [] differ = refl
+row_stays rows t (u ∷ ts) differ = row_stays (without_row rows u) t ts differ.1 ∙ find-without_other (λ (q : Row). q.txn) rows t u differ.0
+
+-- and its token
+pub token_stays : (tokens : List Token) (t : Id) (ts : List Id) → AllByRecursion (λ u. same_id u t ≡ false) ts
+    → find_member (λ k. k.txn) (without_tokens tokens ts) t ≡ find_member (λ k. k.txn) tokens t
+token_stays tokens t [] differ = refl
+token_stays tokens t (u ∷ ts) differ = token_stays (without_token tokens u) t ts differ.1 ∙ find-without_other (λ (k : Token). k.txn) tokens t u differ.0
+
+-- the same request then ends nobody
+pub then_quiet : (rows : List Row) (t : Id) (needs : List Lock) (ts : List Id) → ts ≡ wounded (claims rows) t needs → wounded (claims (without_rows rows ts)) t needs ≡ []
+then_quiet rows t needs ts is =
+    ap (λ s. wounded s t needs) (claims-without_rows rows ts ∙ ap (without_claims (claims rows)) is) ∙ (release_makes_way (claims rows) t needs).quiet
+
+-- a phase that waits for locks
+abbrev pub waits : Phase → Bool
+waits p = any (λ l. true) (needs_of p)
+
+-- who is ready waits
+pub ready_waits : (rows : List CodeRow) (table : List Claim) (t : Id) → IsById txn_of rows → claims (paired rows table) ≡ table → ready table ≡ Some t → passes waits rows t ≡ true
+ready_waits rows table t up tied is =
+    let seen = paired rows table in
+    let by : IsById (λ (c : Claim). c.txn) table = subst (IsById (λ (c : Claim). c.txn)) tied (claims-by_id seen (by_id-paired rows table up)) in
+    let oldest : IsOldestReady table (Some t) = subst (IsOldestReady table) is (ready_is_oldest table by) in
+    sym (has_phase-is waits rows table t)
+    ∙ sym (by_row (find_row seen t))
+    ∙ ap (when is_waiting) (sym (claims-find_row seen t) ∙ ap (λ s. find_member (λ (c : Claim). c.txn) s t) tied ∙ oldest.1)
+    ∙ oldest.2.0
+  where
+    by_row : (o : Option Row) → when is_waiting (mapped claim_of o) ≡ when (λ (r : Row). waits r.phase) o
+    by_row None = refl
+    by_row (Some q) = refl
+
+waits_reads : (p : Phase) → waits p ≡ true → is_reading p ≡ true
+waits_reads Idle e = refl
+waits_reads (WaitsRead k) e = refl
+waits_reads (WaitsPrepare c rs ws) e = refl
+waits_reads (WaitsCommit l ps rs ws) e = refl
+waits_reads (Collecting l ps rs ws vs) e = absurd (false≢true e)
+waits_reads (IsPrepared c p) e = absurd (false≢true e)
+waits_reads (IsDecided s ps) e = absurd (false≢true e)
+
+pub ready_reads : (rows : List CodeRow) (t : Id) → passes waits rows t ≡ true → passes is_reading rows t ≡ true
+ready_reads rows t h = passes_more waits is_reading waits_reads rows t h
+
+-- so it waits with something
+pub waits_some : (w : Option Wait) → waits (phase_of_wait w) ≡ true → w ≡ None → ⊥
+waits_some None h e = false≢true h
+waits_some (Some w) h e = cc

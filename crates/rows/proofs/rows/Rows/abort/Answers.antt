@@ -1,0 +1,41 @@
+use Rattle.std.proofs.Common.{◌≡◌, ◌≤◌, ◌+◌, ◌∙◌, sym, ap, subst, true, false, length, List, [], OnOk, ℕ, Some, None, Option}
+use Rattle.units.specs.Ids.{Id}
+use Rattle.units.specs.Locks.{Claim, is_free, wounded, with_locks, ready}
+use Rattle.protocol.specs.Rows.{Row, Idle, claims, find_row, without_row, needs_of}
+use Rattle.locks.specs.Table.{Token, held_in as held_in_table}
+use Rattle.rows.specs.States.{ReadingState, CollectingState, PreparedState, DecidedState, is_commit_of, is_abort_of, is_outcome_of}
+use Rattle.rows.specs.CodeRows.{has_txn, passes, phase_of, phase_of_wait, is_reading, is_idle, may_decide, may_abort, may_close}
+use Rattle.rows.specs.RowTable.{RowTable, needs_in, has_phase, room, put_row, phase_by}
+use Rattle.protocol.specs.Plan.{held_in}
+use Rattle.rows.specs.declared.row.Row.TheVariants.{Reading, Collecting, Prepared, Decided}
+use Rattle.rows.specs.declared.wait.Wait.{Wait}
+use Rattle.rows.proofs.Ties.{has_phase-is, held_is, found_row, found_txn, found_passes, passes_there}
+use Rattle.rows.proofs.Steps.{taken, left, has_its_claim, idle_reads, decided_token}
+use Rattle.rows.proofs.Rooms.{room_fits, room_resumes, room_put}
+use Rattle.rows.proofs.Transitions.{decided, decided_by_votes, collected, granted_more, waits_with, goes_on, given_room, who_decides, who_aborts, who_closes}
+use Rattle.rows.proofs.Wounds.{waits, ready_waits, ready_reads, waits_some}
+use Rattle.rows.proofs.rows.Rows.abort.Goals as goal
+
+pub take-requires : goal.take-requires
+take-requires c = passes_there may_abort c.self.inside.rows c.args.txn (sym (has_phase-is may_abort c.self.inside.rows c.self.inside.locks c.args.txn) ∙ ap (λ (t : RowTable). has_phase may_abort t.rows c.args.txn) c.self.view_is ∙ c.requires.may)
+
+pub abort-requires : goal.abort-requires
+abort-requires c = ap (λ (i : Id). is_abort_of i c.args.logged) (found_txn c.self.inside.rows c.args.txn (Reading c.in-Reading.reading) c.in-Reading.ensures.row) ∙ c.requires.mine
+
+pub invariant_of-self : goal.invariant_of-self
+invariant_of-self c = (left c.self.inside.rows c.take.new.self c.self.inside.locks c.abort.new.table c.args.txn (Reading c.in-Reading.reading) c.self.invariant c.in-Reading.ensures.row c.in-Reading.ensures.rest c.abort.ensures.table).tied
+
+pub returns-in-Reading-clause-rows : goal.returns-in-Reading-clause-rows
+returns-in-Reading-clause-rows c = (left c.self.inside.rows c.take.new.self c.self.inside.locks c.abort.new.table c.args.txn (Reading c.in-Reading.reading) c.self.invariant c.in-Reading.ensures.row c.in-Reading.ensures.rest c.abort.ensures.table).rows_are ∙ ap (λ (t : RowTable). without_row t.rows c.args.txn) c.self.view_is
+
+pub abort-requires-in-Collecting : goal.abort-requires-in-Collecting
+abort-requires-in-Collecting c = ap (λ (i : Id). is_abort_of i c.args.logged) (found_txn c.self.inside.rows c.args.txn (Collecting c.in-Collecting.collecting) c.in-Collecting.ensures.row) ∙ c.requires.mine
+
+pub invariant_of-self-in-Collecting : goal.invariant_of-self-in-Collecting
+invariant_of-self-in-Collecting c = (left c.self.inside.rows c.take.new.self c.self.inside.locks c.abort-in-Collecting.new.table c.args.txn (Collecting c.in-Collecting.collecting) c.self.invariant c.in-Collecting.ensures.row c.in-Collecting.ensures.rest c.abort-in-Collecting.ensures.table).tied
+
+pub returns-in-Collecting-clause-rows : goal.returns-in-Collecting-clause-rows
+returns-in-Collecting-clause-rows c = (left c.self.inside.rows c.take.new.self c.self.inside.locks c.abort-in-Collecting.new.table c.args.txn (Collecting c.in-Collecting.collecting) c.self.invariant c.in-Collecting.ensures.row c.in-Collecting.ensures.rest c.abort-in-Collecting.ensures.table).rows_are ∙ ap (λ (t : RowTable). without_row t.rows c.args.txn) c.self.view_is
+
+pub unreachable-requires : goal.unreachable-requires
+unreachable-requires c = who_aborts c.take.result (found_passes may_abort c.self.inside.rows c.args.txn c.take.result c.take.ensures.row (sym (has_phase-is may_abort c.self.inside.rows c.self.inside.locks c.args.txn) ∙ ap (λ (t : RowTable). has_phase may_abort t.rows c.args.txn) c.self.view_is ∙ c.requires.may)) c.in_default.not-Reading c.in_default.not-Collecting

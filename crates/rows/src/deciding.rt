@@ -1,0 +1,89 @@
+//! What is promised and decided: transitions that spend a logged record.
+ghost use Rattle.std.specs.Prelude.{◌≡◌, [], true};
+ghost use Rattle.protocol.specs.Rows.{Collecting, without_row};
+ghost use Rattle.rows.specs.States.{is_prepare_of, is_commit_of, is_abort_of, is_outcome_of};
+ghost use Rattle.rows.specs.CodeRows.{is_idle, may_decide, may_abort, may_close};
+ghost use Rattle.rows.specs.RowTable.{has_phase, put_row, phase_by};
+ghost use Rattle.protocol.specs.Plan.{held_in};
+
+use crate::row::Row;
+use crate::rows::Rows;
+use crate::votes::Gathering;
+use gatelog::Logged;
+use record::Record;
+use units::TxnId;
+
+impl Rows {
+    /// The coordinator of several shards begins to wait for their votes, with what it holds. It takes no memory.
+    pub fn collect(&mut self, txn: TxnId, gathering: Gathering)
+        requires { has_phase is_idle self.old.rows txn ≡ true }
+        ensures { self.new.rows ≡ put_row self.old.rows txn (held_in self.old.rows txn) (Collecting gathering.latest gathering.parts gathering.reads gathering.writes []) }
+    {
+        let reading = self.rows.take_reading(txn);
+        let collecting = reading.collect(gathering, &mut self.locks);
+        self.rows.put(Row::Collecting(collecting));
+    }
+
+    /// A logged promise is spent: the transaction is prepared, and holds what it held. It takes no memory.
+    pub fn prepare(&mut self, txn: TxnId, logged: Logged) -> Record
+        requires idle { has_phase is_idle self.old.rows txn ≡ true }
+        requires mine { is_prepare_of txn logged ≡ true }
+        ensures rows { self.new.rows ≡ put_row self.old.rows txn (held_in self.old.rows txn) (phase_by logged) }
+        ensures record { result ≡ logged }
+    {
+        let reading = self.rows.take_reading(txn);
+        let (prepared, record) = reading.prepare(logged, &mut self.locks);
+        self.rows.put(Row::Prepared(prepared));
+        record
+    }
+
+    /// A logged decision is spent: the transaction is decided, and holds what it held. It takes no memory.
+    pub fn decide(&mut self, txn: TxnId, logged: Logged) -> Record
+        requires may { has_phase may_decide self.old.rows txn ≡ true }
+        requires mine { is_commit_of txn logged ≡ true }
+        ensures rows { self.new.rows ≡ put_row self.old.rows txn (held_in self.old.rows txn) (phase_by logged) }
+        ensures record { result ≡ logged }
+    {
+        match self.rows.take(txn) {
+            Row::Reading(reading) => {
+                let (decided, record) = reading.decide(logged, &mut self.locks);
+                self.rows.put(Row::Decided(decided));
+                record
+            }
+            Row::Collecting(collecting) => {
+                let (decided, record) = collecting.decide(logged);
+                self.rows.put(Row::Decided(decided));
+                record
+            }
+            _ => unreachable!(),
+        }
+    }
+
+    /// A logged abort is spent, and the transaction ends. It takes no memory.
+    pub fn abort(&mut self, txn: TxnId, logged: Logged) -> Record
+        requires may { has_phase may_abort self.old.rows txn ≡ true }
+        requires mine { is_abort_of txn logged ≡ true }
+        ensures rows { self.new.rows ≡ without_row self.old.rows txn }
+        ensures record { result ≡ logged }
+    {
+        match self.rows.take(txn) {
+            Row::Reading(reading) => reading.abort(logged, &mut self.locks),
+            Row::Collecting(collecting) => collecting.abort(logged, &mut self.locks),
+            _ => unreachable!(),
+        }
+    }
+
+    /// A logged outcome is spent, and the transaction that was prepared or decided is done. It takes no memory.
+    pub fn close(&mut self, txn: TxnId, logged: Logged) -> Record
+        requires may { has_phase may_close self.old.rows txn ≡ true }
+        requires mine { is_outcome_of txn logged ≡ true }
+        ensures rows { self.new.rows ≡ without_row self.old.rows txn }
+        ensures record { result ≡ logged }
+    {
+        match self.rows.take(txn) {
+            Row::Prepared(prepared) => prepared.close(logged, &mut self.locks),
+            Row::Decided(decided) => decided.close(logged, &mut self.locks),
+            _ => unreachable!(),
+        }
+    }
+}
