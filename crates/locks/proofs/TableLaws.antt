@@ -36,7 +36,7 @@ each_pair-keep P keeps t pairs =
     all-keep (λ a. AllByRecursion (P a) (keep keeps t)) keeps t
     (all_gives (λ a. AllByRecursion (P a) t) (λ a. AllByRecursion (P a) (keep keeps t)) (λ a row. all-keep (P a) keeps t row) t pairs)
 
-all_of_any : (P : Claim → Type 0) → ((x : Claim) → P x) → (t : List Claim) → AllByRecursion P t
+pub all_of_any : (P : Claim → Type 0) → ((x : Claim) → P x) → (t : List Claim) → AllByRecursion P t
 all_of_any P h [] = tt
 all_of_any P h (x ∷ t) = (h x, all_of_any P h t)
 
@@ -48,11 +48,11 @@ each_pair-with P e t left right pairs =
     (all_gives (λ a. AllByRecursion (P a) t) (λ a. AllByRecursion (P a) (with_claim t e)) (λ a row. all-with (P a) (λ (c : Claim). c.txn) t e (left a) row) t pairs)
 
 -- where none passes a test, each fails it
-all_fail : (p : Claim → Bool) (t : List Claim) → list_any p t ≡ false → AllByRecursion (λ x. p x ≡ false) t
+pub all_fail : (p : Claim → Bool) (t : List Claim) → list_any p t ≡ false → AllByRecursion (λ x. p x ≡ false) t
 all_fail p [] h = tt
 all_fail p (x ∷ t) h = (grind (arith, nat_tests), all_fail p t (grind (arith, nat_tests)))
 
-true_or_false : (b : Bool) → (b ≡ true) ⊎ (b ≡ false)
+pub true_or_false : (b : Bool) → (b ≡ true) ⊎ (b ≡ false)
 true_or_false true = inl refl
 true_or_false false = inr refl
 
@@ -90,11 +90,11 @@ lawful-entrant t id lawful =
     })
 
 -- another that is not in the way holds nothing in conflict
-free_of : (id : Id) (needs : List Lock) (b : Claim) → is_of id b ≡ false → stands_in_way id needs b ≡ false → clash b.held needs ≡ false
+pub free_of : (id : Id) (needs : List Lock) (b : Claim) → is_of id b ≡ false → stands_in_way id needs b ≡ false → clash b.held needs ≡ false
 free_of id needs b other free = grind (arith, nat_tests)
 
 -- and, where it waits in conflict, it is not older
-not_older_waiter : (id : Id) (needs : List Lock) (b : Claim) → is_of id b ≡ false → stands_in_way id needs b ≡ false → clash b.needs needs ≡ true → older b.txn id ≡ false
+pub not_older_waiter : (id : Id) (needs : List Lock) (b : Claim) → is_of id b ≡ false → stands_in_way id needs b ≡ false → clash b.needs needs ≡ true → older b.txn id ≡ false
 not_older_waiter id needs b other free waits = grind (arith, nat_tests)
 
 -- claims of one transaction have one id
@@ -149,7 +149,7 @@ wait-locks needs a b false true p = p
 wait-locks needs a b false false p = p
 
 -- what holds in conflict and is not to be ended is older or firm
-older_or_firm : (id : Id) (needs : List Lock) (w h : Claim) → is_of id w ≡ true → gives_way id needs h ≡ false → same_id h.txn w.txn ≡ false → clash h.held needs ≡ true
+pub older_or_firm : (id : Id) (needs : List Lock) (w h : Claim) → is_of id w ≡ true → gives_way id needs h ≡ false → same_id h.txn w.txn ≡ false → clash h.held needs ≡ true
     → (older h.txn w.txn || h.firm) ≡ true
 older_or_firm id needs w h iw stays d clashes =
     let along = older-along w.txn id h.txn iw in
@@ -185,7 +185,7 @@ firm-locks a b true false p = p
 firm-locks a b false true p = p
 firm-locks a b false false p = p
 
-or_true : (a : Bool) → (a || true) ≡ true
+pub or_true : (a : Bool) → (a || true) ≡ true
 or_true true = refl
 or_true false = refl
 

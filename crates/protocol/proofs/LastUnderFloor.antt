@@ -333,7 +333,7 @@ keeps_nudge_cell f t d (HasRow held (IsPrepared c p)) h = keeps_done f _ (fresh_
 keeps_nudge_cell f t d _ h = keeps_refuses f _
 
 -- served time is under its ceiling, which is cut at the limit of time
-under_ceiling : (last floor at stride : ℕ) → last ≤ floor → at ≤ 2 ^ 62 - 1 → max last at ≤ max floor (min (at + stride) (2 ^ 62 - 1))
+pub under_ceiling : (last floor at stride : ℕ) → last ≤ floor → at ≤ 2 ^ 62 - 1 → max last at ≤ max floor (min (at + stride) (2 ^ 62 - 1))
 under_ceiling last floor at stride h fits = omega (arith, h, fits)
 
 keeps_advanced : (f : Facts) (stride at : ℕ) (d : Draft) → Fresh f d → at ≤ 2 ^ 62 - 1 → (b : Bool) → (nat_lt d.facts.floor at ≡ b) →

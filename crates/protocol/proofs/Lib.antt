@@ -1,10 +1,28 @@
+pub mod AboveVersions
+pub mod Agreement
+pub mod AnswerShapes
 mod BookSample
-mod LastUnderFloor
+pub mod Choices
+pub mod ClaimsBeside
+pub mod Follows
+pub mod InWay
+pub mod InstallsAbove
+pub mod KeptAgreement
+pub mod KeptFacts
+pub mod KeptRows
+pub mod LastUnderFloor
 mod LockTable
 mod PlanRows
 mod PlannedActs
 mod PlannedAgain
+pub mod PlanShapes
+pub mod RequestShapes
+pub mod RowChanges
 pub mod RowTable
 pub mod Samples
+pub mod Shapes
 mod ShardSteps
 mod StepIsPlanned
+pub mod StatusChanges
+pub mod StepSound
+pub mod WithinLimit

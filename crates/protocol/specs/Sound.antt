@@ -1,5 +1,5 @@
 -- What holds of a shard's facts and memory at every moment, and that a step keeps it.
-use Rattle.std.specs.Prelude.{ℕ, ◌≡◌, ◌≤◌, ◌<◌, Bool, true, false, ◌&&◌, IsTrue, nat_le, nat_lt, nat_eq, List, [], Option, Some, None, Ok, length}
+use Rattle.std.specs.Prelude.{ℕ, ◌≡◌, ◌≤◌, ◌<◌, Bool, true, false, ◌&&◌, IsTrue, nat_le, nat_lt, nat_eq, List, [], ◌∷◌, Option, Some, None, Ok, length}
 use Rattle.units.specs.Lists.{any, each, ascends, head, when}
 use Rattle.units.specs.Ids.{Id, older}
 use Rattle.units.specs.ById.{IsById}
@@ -14,7 +14,7 @@ use Rattle.units.specs.declared.writes.Write.{Write}
 use Rattle.units.specs.declared.writes.Install.{Install}
 use Rattle.truetime.specs.Interval.{Interval}
 use Rattle.record.specs.Records.{Status, Unrecorded, StandsPrepared, StandsDecided}
-use Rattle.record.specs.Facts.{Facts, recorded}
+use Rattle.record.specs.Facts.{Facts, facts_of, recorded}
 use Rattle.record.specs.declared.record.Record.{Record}
 use Rattle.facts.specs.Rules.{follows_facts}
 use Rattle.message.specs.declared.message.Input.{Input}
@@ -84,6 +84,10 @@ pub record IsSound (shard : ℕ) (facts : Facts) (memory : Memory) : Type 0 wher
   pub installed : IsTrue (each (λ i. nat_le i.at memory.last) facts.installs)
   pub fit : IsTrue (each (fits shard) memory.rows)
   pub agrees : (t : Id) → Agrees facts.installs memory.last (recorded facts t) (find_row memory.rows t)
+
+-- a shard that starts with one opening in its log and nothing in memory
+abbrev pub FreshIsSound : Type 0
+FreshIsSound = (shard : ℕ) → IsSound shard (facts_of (Record.Opened 1 ∷ [])) (record { last = 0; rows = []; ended = [] })
 
 -- a step keeps it
 abbrev pub StepKeepsSound : Type 0

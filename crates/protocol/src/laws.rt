@@ -1,5 +1,6 @@
 //! Laws of the step. Each is the contract of a function that does nothing.
 ghost use Rattle.protocol.specs.Plan.{StepIsPlanned};
+ghost use Rattle.protocol.specs.Sound.{FreshIsSound, InstallsAbove, LoggedFollows, StaysWithin, StepKeepsSound};
 ghost use Rattle.protocol.specs.StepLaws.{LastStaysUnderFloor};
 
 /// No step lets the greatest timestamp served pass that of the log.
@@ -10,4 +11,29 @@ pub fn last_stays_under_floor()
 /// What a step does is what its plan says from the state before it.
 pub fn step_is_planned()
     ensures { StepIsPlanned }
+{}
+
+/// A shard whose log has one opening alone is sound: its lock table, its facts and its rows agree.
+pub fn fresh_is_sound()
+    ensures { FreshIsSound }
+{}
+
+/// No step of a sound shard leaves it unsound.
+pub fn step_keeps_sound()
+    ensures { StepKeepsSound }
+{}
+
+/// A sound shard logs only what may come next.
+pub fn logged_follows()
+    ensures { LoggedFollows }
+{}
+
+/// No version that a sound shard installs is below another of its key.
+pub fn installs_above()
+    ensures { InstallsAbove }
+{}
+
+/// No step lets the rows grow past the table's limit.
+pub fn stays_within()
+    ensures { StaysWithin }
 {}

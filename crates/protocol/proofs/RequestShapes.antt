@@ -1,0 +1,195 @@
+-- The plans of reads, prepares and commits have a shape.
+use Rattle.std.proofs.Common.{refl, arith, sym, ap}
+use Rattle.std.specs.Prelude.{ℕ, ◌+◌, ◌≡◌, ◌<◌, max, Bool, true, false, nat_lt, nat_eq, List, [], ◌∷◌, Some, None, Ok}
+use Rattle.std.proofs.lemmas.Bool.{false≢true, and_from}
+use Rattle.units.specs.Lists.{head, when}
+use Rattle.units.specs.Ids.{Id}
+use Rattle.units.specs.Keys.{Bytes}
+use Rattle.units.specs.Locks.{exclusive}
+use Rattle.units.specs.declared.lock.Lock.{Lock}
+use Rattle.units.specs.declared.writes.Write.{Write}
+use Rattle.protocol.specs.Rows.{Idle, WaitsRead, WaitsPrepare, WaitsCommit, Collecting, IsPrepared, IsDecided, Voted, Standing, IsUnknown, WasEnded, HasRow, WasAborted, WasSettled, WasClosed}
+use Rattle.protocol.specs.Draft.{commit_stamp, other_parts}
+use Rattle.protocol.specs.Sound.{holds_writes}
+use Rattle.protocol.specs.Plan.{Before, stands, still_stand, answers, to_read, is_crowded, in_way, opens, plan_read_now, plan_read_row, plan_read, plan_promise, plan_prepare_now, plan_prepare_fresh, plan_prepare, plan_abort, plan_decide, plan_commit_granted, plan_commit_now, plan_commit_fresh, plan_commit}
+use Rattle.protocol.proofs.InWay.{in_way_gone, holds_exclusive}
+use Rattle.protocol.proofs.Shapes.{Shaped, IsEnd, IsAbort, IsLock, IsWait, IsPromise, IsDecision, IsCleared, is_undecided, is_loose, all_fit, granted_to}
+use Rattle.protocol.proofs.Choices.{Ascends, planned, refused, shaped_cond, shape_cond, shaped_err, shaped_roomed, shaped_idle, shaped_reply, undecided, cleared, clear}
+
+-- ---- read
+
+shaped_read_now : (b : Before) (t : Id) (k : Bytes) → Ascends b → is_loose (stands b t) ≡ true → Shaped b (plan_read_now b t k)
+unfolding plan_read_now
+shaped_read_now b t k up loose = shaped_roomed b (is_crowded b t) _ (λ room.
+    planned b _ (shape_cond b (opens b t (to_read k)) _ _
+    (λ free. IsLock t (in_way b t (to_read k)) (to_read k) Idle _ (record {
+      cleared = cleared b t (to_read k) up free;
+      undecided = undecided b t loose;
+      firmer = loose;
+      opened = refl;
+      quiet = refl;
+      fit = λ _. refl;
+      room = room;
+    }) refl)
+    (λ _. IsWait t (to_read k) (WaitsRead k) [] (record {
+      loose = loose;
+      slack = refl;
+      wants = refl;
+      fit = λ _. refl;
+      gone = in_way_gone b t (to_read k) up;
+      room = room;
+    }) refl)))
+
+shaped_read_row : (b : Before) (t : Id) (k : Bytes) (held : List Lock) (waits : Bool) → Ascends b → (waits ≡ false → is_loose (stands b t) ≡ true)
+    → Shaped b (plan_read_row b t k held waits)
+unfolding plan_read_row
+shaped_read_row b t k held waits up loose =
+    shaped_cond b _ _ _ (λ _. shaped_reply b (answers b t k ∷ [])) (λ _. shaped_cond b waits _ _ (λ _. shaped_idle b) (λ e. shaped_read_now b t k up (loose e)))
+
+waits_already : (b : Before) (t : Id) → true ≡ false → is_loose (stands b t) ≡ true
+waits_already b t e = absurd (false≢true (sym e))
+
+pub shaped_read : (b : Before) (t : Id) (k : Bytes) (s : Standing) → Ascends b → stands b t ≡ s → Shaped b (plan_read b t k s)
+unfolding plan_read
+shaped_read b t k IsUnknown up e = shaped_read_now b t k up (ap is_loose e)
+shaped_read b t k (HasRow held Idle) up e = shaped_read_row b t k held false up (λ _. ap is_loose e)
+shaped_read b t k (HasRow held (WaitsRead j)) up e = shaped_read_row b t k held true up (waits_already b t)
+shaped_read b t k (HasRow held (WaitsPrepare c rs ws)) up e = shaped_read_row b t k held true up (waits_already b t)
+shaped_read b t k (HasRow held (WaitsCommit l ps rs ws)) up e = shaped_read_row b t k held true up (waits_already b t)
+shaped_read b t k (HasRow held (Collecting l ps rs ws votes)) up e = shaped_idle b
+shaped_read b t k (HasRow held (IsPrepared c p)) up e = shaped_idle b
+shaped_read b t k (HasRow held (IsDecided s ps)) up e = shaped_idle b
+shaped_read b t k WasEnded up e = shaped_reply b _
+shaped_read b t k WasAborted up e = shaped_reply b _
+shaped_read b t k (WasSettled s ps) up e = shaped_reply b _
+shaped_read b t k (WasClosed o) up e = shaped_reply b _
+
+-- ---- prepare
+
+above_last : (last earliest : ℕ) → last < max (last + 1) earliest
+above_last last earliest = omega arith
+
+pub shaped_promise : (b : Before) (ended : List Id) (earliest : ℕ) (t : Id) (c : ℕ) (rs : List Bytes) (ws : List Write)
+    → IsCleared b.memory.rows t ended (exclusive ws) → is_undecided (stands b t) ≡ true → (all_fit b → nat_lt c b.shard ≡ true) → is_crowded b t ≡ false
+    → Shaped b (plan_promise b ended earliest t c rs ws)
+unfolding plan_promise
+shaped_promise b ended earliest t c rs ws clear fresh lower room =
+    let at : ℕ = max (b.memory.last + 1) earliest in
+    shaped_err b _ _ _ (planned b _ (IsPromise t ended c at rs ws _ (record {
+      cleared = clear;
+      undecided = fresh;
+      above = above_last b.memory.last earliest;
+      lower = lower;
+      room = room;
+    }) refl))
+
+shaped_prepare_now : (b : Before) (earliest : ℕ) (t : Id) (c : ℕ) (rs : List Bytes) (ws : List Write) → Ascends b → is_loose (stands b t) ≡ true
+    → nat_lt c b.shard ≡ true → Shaped b (plan_prepare_now b earliest t c rs ws)
+unfolding plan_prepare_now
+shaped_prepare_now b earliest t c rs ws up loose lower = shaped_roomed b (is_crowded b t) _ (λ room.
+    shaped_cond b (opens b t (exclusive ws)) _ _
+    (λ free. shaped_promise b _ earliest t c rs ws (cleared b t (exclusive ws) up free) (undecided b t loose) (λ _. lower) room)
+    (λ _. planned b _ (IsWait t (exclusive ws) (WaitsPrepare c rs ws) [] (record {
+      loose = loose;
+      slack = refl;
+      wants = refl;
+      fit = λ _. lower;
+      gone = in_way_gone b t (exclusive ws) up;
+      room = room;
+    }) refl)))
+
+shaped_prepare_fresh : (b : Before) (earliest : ℕ) (t : Id) (c epoch : ℕ) (rs : List Bytes) (ws : List Write) (held : List Lock) → Ascends b
+    → is_loose (stands b t) ≡ true → nat_lt c b.shard ≡ true → Shaped b (plan_prepare_fresh b earliest t c epoch rs ws held)
+unfolding plan_prepare_fresh
+shaped_prepare_fresh b earliest t c epoch rs ws held up loose lower =
+    shaped_cond b (still_stand b epoch rs held) _ _ (λ _. shaped_prepare_now b earliest t c rs ws up loose lower) (λ _. planned b _ (IsEnd t _ (undecided b t loose) refl))
+
+pub shaped_prepare : (b : Before) (earliest : ℕ) (t : Id) (c epoch : ℕ) (rs : List Bytes) (ws : List Write) (s : Standing) → Ascends b → nat_lt c b.shard ≡ true
+    → stands b t ≡ s → Shaped b (plan_prepare b earliest t c epoch rs ws s)
+unfolding plan_prepare
+shaped_prepare b earliest t c epoch rs ws IsUnknown up lower e = shaped_prepare_fresh b earliest t c epoch rs ws [] up (ap is_loose e) lower
+shaped_prepare b earliest t c epoch rs ws (HasRow held Idle) up lower e = shaped_prepare_fresh b earliest t c epoch rs ws held up (ap is_loose e) lower
+shaped_prepare b earliest t c epoch rs ws (HasRow held (WaitsRead k)) up lower e = shaped_prepare_fresh b earliest t c epoch rs ws held up (ap is_loose e) lower
+shaped_prepare b earliest t c epoch rs ws (HasRow held (WaitsPrepare f qs vs)) up lower e = shaped_idle b
+shaped_prepare b earliest t c epoch rs ws WasEnded up lower e = shaped_reply b _
+shaped_prepare b earliest t c epoch rs ws (HasRow held (IsPrepared f p)) up lower e = shaped_reply b _
+shaped_prepare b earliest t c epoch rs ws (WasClosed None) up lower e = shaped_reply b _
+shaped_prepare b earliest t c epoch rs ws (WasClosed (Some s)) up lower e = shaped_idle b
+shaped_prepare b earliest t c epoch rs ws _ up lower e = refused b _
+
+-- ---- commit
+
+pub shaped_abort : (b : Before) (t : Id) (ps : List ℕ) → is_undecided (stands b t) ≡ true → Shaped b (Ok (plan_abort b t ps))
+unfolding plan_abort
+shaped_abort b t ps fresh = planned b _ (IsAbort t _ fresh refl)
+
+above_stamp : (g latest last : ℕ) → last < max g (max (latest + 1) (last + 1))
+above_stamp g latest last = omega arith
+
+pub shaped_decide : (b : Before) (ended : List Id) (t : Id) (latest : ℕ) (ps : List ℕ) (rs : List Bytes) (ws : List Write) (needs : List Lock) (votes : List Voted)
+    → IsCleared b.memory.rows t ended needs → is_undecided (stands b t) ≡ true → (all_fit b → when (nat_eq b.shard) (head ps) ≡ true)
+    → (all_fit b → holds_writes (granted_to b t ended needs) ws ≡ true) → is_crowded b t ≡ false
+    → Shaped b (plan_decide b ended t latest ps rs ws needs votes)
+unfolding plan_decide
+shaped_decide b ended t latest ps rs ws needs votes clear fresh first holds room =
+    let at : ℕ = commit_stamp b.memory.last latest votes in
+    shaped_err b _ _ _ (planned b _ (IsDecision t ended needs at ps rs ws [] (record {
+      cleared = clear;
+      undecided = fresh;
+      above = above_stamp _ latest b.memory.last;
+      first = first;
+      holds = holds;
+      room = room;
+    }) refl))
+
+pub shaped_granted : (b : Before) (ended : List Id) (t : Id) (latest : ℕ) (ps : List ℕ) (rs : List Bytes) (ws : List Write) (ns : List ℕ)
+    → IsCleared b.memory.rows t ended (exclusive ws) → is_undecided (stands b t) ≡ true → (all_fit b → when (nat_eq b.shard) (head ps) ≡ true)
+    → is_crowded b t ≡ false → Shaped b (plan_commit_granted b ended t latest ps rs ws ns)
+unfolding plan_commit_granted
+shaped_granted b ended t latest ps rs ws [] clear fresh first room =
+    shaped_decide b ended t latest ps rs ws (exclusive ws) [] clear fresh first (λ _. holds_exclusive ws _) room
+shaped_granted b ended t latest ps rs ws (n ∷ ns) clear fresh first room =
+    planned b _ (IsLock t ended (exclusive ws) (Collecting latest ps rs ws []) [] (record {
+      cleared = clear;
+      undecided = fresh;
+      firmer = refl;
+      opened = refl;
+      quiet = refl;
+      fit = λ f. and_from _ _ (first f) (holds_exclusive ws _);
+      room = room;
+    }) refl)
+
+shaped_commit_now : (b : Before) (t : Id) (latest : ℕ) (ps : List ℕ) (rs : List Bytes) (ws : List Write) → Ascends b → is_loose (stands b t) ≡ true
+    → when (nat_eq b.shard) (head ps) ≡ true → Shaped b (plan_commit_now b t latest ps rs ws)
+unfolding plan_commit_now
+shaped_commit_now b t latest ps rs ws up loose first = shaped_roomed b (is_crowded b t) _ (λ room.
+    shaped_cond b (opens b t (exclusive ws)) _ _
+    (λ free. shaped_granted b _ t latest ps rs ws (other_parts b.shard ps) (cleared b t (exclusive ws) up free) (undecided b t loose) (λ _. first) room)
+    (λ _. planned b _ (IsWait t (exclusive ws) (WaitsCommit latest ps rs ws) [] (record {
+      loose = loose;
+      slack = refl;
+      wants = refl;
+      fit = λ _. first;
+      gone = in_way_gone b t (exclusive ws) up;
+      room = room;
+    }) refl)))
+
+shaped_commit_fresh : (b : Before) (latest : ℕ) (t : Id) (ps : List ℕ) (epoch : ℕ) (rs : List Bytes) (ws : List Write) (held : List Lock) → Ascends b
+    → is_loose (stands b t) ≡ true → when (nat_eq b.shard) (head ps) ≡ true → Shaped b (plan_commit_fresh b latest t ps epoch rs ws held)
+unfolding plan_commit_fresh
+shaped_commit_fresh b latest t ps epoch rs ws held up loose first =
+    shaped_cond b (still_stand b epoch rs held) _ _ (λ _. shaped_err b _ _ _ (shaped_commit_now b t latest ps rs ws up loose first)) (λ _. shaped_abort b t ps (undecided b t loose))
+
+pub shaped_commit : (b : Before) (latest : ℕ) (t : Id) (ps : List ℕ) (epoch : ℕ) (rs : List Bytes) (ws : List Write) (s : Standing) → Ascends b
+    → when (nat_eq b.shard) (head ps) ≡ true → stands b t ≡ s → Shaped b (plan_commit b latest t ps epoch rs ws s)
+unfolding plan_commit
+shaped_commit b latest t ps epoch rs ws IsUnknown up first e = shaped_commit_fresh b latest t ps epoch rs ws [] up (ap is_loose e) first
+shaped_commit b latest t ps epoch rs ws (HasRow held Idle) up first e = shaped_commit_fresh b latest t ps epoch rs ws held up (ap is_loose e) first
+shaped_commit b latest t ps epoch rs ws (HasRow held (WaitsRead k)) up first e = shaped_commit_fresh b latest t ps epoch rs ws held up (ap is_loose e) first
+shaped_commit b latest t ps epoch rs ws (HasRow held (WaitsCommit l qs ss vs)) up first e = shaped_idle b
+shaped_commit b latest t ps epoch rs ws (HasRow held (Collecting l qs ss vs us)) up first e = shaped_idle b
+shaped_commit b latest t ps epoch rs ws (HasRow held (IsDecided s qs)) up first e = shaped_idle b
+shaped_commit b latest t ps epoch rs ws WasEnded up first e = shaped_abort b t ps (ap is_undecided e)
+shaped_commit b latest t ps epoch rs ws WasAborted up first e = shaped_reply b _
+shaped_commit b latest t ps epoch rs ws (WasSettled s qs) up first e = shaped_reply b _
+shaped_commit b latest t ps epoch rs ws _ up first e = refused b _
