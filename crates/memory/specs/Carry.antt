@@ -1,5 +1,6 @@
 -- What a plan needs of the state that it is carried out in, and what is made ready for it.
 use Rattle.std.specs.Prelude.{◌≡◌, ◌≤◌, ◌<◌, ◌+◌, ℕ, Bool, true, false, nat_lt, List, [], ◌∷◌, Option, Some, None, length}
+use Rattle.units.specs.ById.{IsById}
 use Rattle.units.specs.Ids.{Id}
 use Rattle.units.specs.Locks.{is_free, wounded}
 use Rattle.units.specs.declared.lock.Lock.{Lock}
@@ -8,15 +9,21 @@ use Rattle.record.specs.Facts.{Facts, recorded}
 use Rattle.record.specs.declared.record.Record.{Record}
 use Rattle.facts.specs.Rules.{follows_facts}
 use Rattle.locks.specs.Table.{Token}
-use Rattle.protocol.specs.Rows.{Row, Memory, Idle, claims, find_row, needs_of}
-use Rattle.protocol.specs.Plan.{held_in, without_rows}
-use Rattle.rows.specs.CodeRows.{is_reading, may_abort, may_close, is_collecting, phase_of_wait}
+use Rattle.protocol.specs.Rows.{Row, Memory, Phase, Idle, Collecting, claims, find_row, needs_of}
+use Rattle.protocol.specs.Plan.{held_in, without_rows, carried}
+use Rattle.rows.specs.CodeRows.{is_reading, is_idle, may_decide, may_abort, may_close, phase_of_wait}
 use Rattle.rows.specs.RowTable.{RowTable, put_row, has_phase, room}
 use Rattle.rows.specs.States.{is_prepare_of, is_commit_of, is_abort_of, is_outcome_of}
 use Rattle.memory.specs.Kept.{Kept}
 use Rattle.memory.specs.Ledger.{writes_standing, CanInstall}
+use Rattle.memory.specs.Plans.{plan_of}
 use Rattle.memory.specs.declared.plan.Plan.{Plan}
 use Rattle.memory.specs.declared.plan.Change.{Change}
+
+-- it collects votes
+abbrev pub is_collecting : Phase → Bool
+is_collecting (Collecting latest parts reads writes votes) = true
+is_collecting _ = false
 
 -- a transaction may ask for locks: it reads, or has no row while there is room for one
 abbrev pub may_ask : List Row → Id → Bool
@@ -94,9 +101,13 @@ abbrev pub admitted_to : Memory → Option Id → Memory
 admitted_to m t = record m { rows = admitted m.rows t }
 
 -- the asker has room for its locks
-abbrev pub HasRoom : Kept → Option Id → ℕ → Type 0
-HasRoom k None more = Unit {0}
-HasRoom k (Some t) more = length (held_in k.memory.rows t) + more ≤ room (record { rows = k.memory.rows; tokens = k.tokens }) t
+abbrev pub HasRoom : RowTable → Option Id → ℕ → Type 0
+HasRoom table None more = Unit {0}
+HasRoom table (Some t) more = length (held_in table.rows t) + more ≤ room table t
+
+-- the rows and the tokens of a state
+abbrev pub table_in : Kept → RowTable
+table_in k = record { rows = k.memory.rows; tokens = k.tokens }
 
 -- the writes that a record installs
 abbrev pub installed_by : Facts → Option Record → List Write
@@ -120,7 +131,7 @@ pub record IsReady (old new : Kept) (p : Plan) : Type 0 where
   pub memory : new.memory ≡ admitted_to old.memory (asker p.change)
   pub records : 1 ≤ new.records
   pub ends : length p.wounded < new.ends
-  pub locks : HasRoom new (asker p.change) (length p.needs.items)
+  pub locks : HasRoom (table_in new) (asker p.change) (length p.needs.items)
 
 -- whether the asker had no row, and was taken in
 abbrev pub Admits : List Row → Option Id → Bool → Type 0
@@ -134,6 +145,35 @@ pub record IsCarriable (k : Kept) (p : Plan) (writes : List Write) : Type 0 wher
   pub there : admitted k.memory.rows (asker p.change) ≡ k.memory.rows
   pub records : 1 ≤ k.records
   pub ends : length p.wounded < k.ends
-  pub locks : HasRoom k (asker p.change) (length p.needs.items)
+  pub locks : HasRoom (table_in k) (asker p.change) (length p.needs.items)
   pub follows : MayFollow k.setup.shard k.facts p.logged
   pub installs : MayInstall k.facts p.logged writes
+
+-- a row that was taken in goes again
+abbrev pub MayUndo : List Row → Option Id → Bool → Type 0
+MayUndo rows (Some t) true = has_phase is_reading rows t ≡ true
+MayUndo rows _ _ = Unit {0}
+
+-- a row may stand by a record: a promise of an idle row, or a decision of one that is idle or collects; above 0
+abbrev pub CanStand : List Row → Id → Record → Type 0
+CanStand rows t (Record.Prepare p) = (p.txn ≡ t) × (has_phase is_idle rows t ≡ true) × (0 < p.at)
+CanStand rows t (Record.Commit c) = (c.txn ≡ t) × (has_phase may_decide rows t ≡ true) × (0 < c.at)
+CanStand rows t _ = ⊥
+
+-- a promise or a decision that is logged has a timestamp above 0
+abbrev pub IsDated : Option Record → Type 0
+IsDated (Some (Record.Prepare p)) = 0 < p.at
+IsDated (Some (Record.Commit c)) = 0 < c.at
+IsDated _ = Unit {0}
+
+-- a plan makes the same of a state whether its asker was taken in before it or not
+abbrev pub AdmissionIsUnseen : Type 0
+AdmissionIsUnseen =
+    (m : Memory) (p : Plan) → IsById (λ r. r.txn) m.rows → FitsRows m.rows p.wounded p.needs.items p.logged p.change →
+    carried (plan_of (admitted m.rows (asker p.change)) p) (admitted_to m (asker p.change)) ≡ carried (plan_of m.rows p) m
+
+-- a plan that fits can be carried out once all is ready, where its record may come next and install what it does
+abbrev pub ReadyIsCarriable : Type 0
+ReadyIsCarriable =
+    (old new : Kept) (p : Plan) (writes : List Write) → IsById (λ r. r.txn) old.memory.rows → IsFit old p → IsReady old new p →
+    MayFollow old.setup.shard old.facts p.logged → MayInstall old.facts p.logged writes → IsCarriable new p writes

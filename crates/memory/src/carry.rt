@@ -1,19 +1,25 @@
 //! Carrying out a plan: first all memory is taken; then, once its record is logged, nothing can fail.
-ghost use Rattle.std.specs.Prelude.{◌≡◌, Some, None, true, false, OnOk, OnErr, IfOk, IfErr, IsSome};
-ghost use Rattle.protocol.specs.Rows.{Memory, find_row};
+ghost use Rattle.std.specs.Prelude.{◌≡◌, ◌×◌, ◌≤◌, ◌<◌, ◌+◌, Some, None, true, false, OnOk, OnErr, IfOk, IfErr, IsSome, length};
+ghost use Rattle.units.specs.Locks.{with_locks};
+ghost use Rattle.protocol.specs.Rows.{Memory, Idle, find_row, without_row};
 ghost use Rattle.protocol.specs.Step.{facts_after};
-ghost use Rattle.protocol.specs.Plan.{carried};
-ghost use Rattle.memory.specs.Carry.{IsFit, IsReady, IsCarriable, Admits, asker, installed_by};
-ghost use Rattle.memory.specs.Plans.{plan_of};
+ghost use Rattle.protocol.specs.Plan.{carried, changed, ended_by, held_in, with_ids, without_rows};
+ghost use Rattle.rows.specs.RowTable.{put_row, phase_by, room};
+ghost use Rattle.memory.specs.Carry.{IsFit, IsReady, IsCarriable, IsDated, Admits, MayUndo, MayDrop, CanStand, FitsRows, Asks, HasRoom, asker, admitted, admitted_to, installed_by, may_ask, may_end};
+ghost use Rattle.memory.specs.Plans.{plan_of, change_of};
+ghost use Rattle.memory.specs.Served.{IsHolding};
 
+use crate::ended::Ended;
+use crate::ledger::Ledger;
 use crate::plan::{Change, Plan};
 use crate::state::State;
 use gatelog::Logged;
 use message::Outbox;
 use record::Record;
-use rows::Row;
+use rows::{Row, Rows};
+use safetime::SafeTime;
 use std::alloc::Global;
-use units::{Fault, Ids, Lock, Stamp, TxnId, Writes};
+use units::{Fault, Lock, TxnId, Writes};
 
 /// What was made ready for a plan: a copy of the writes that its record installs, and whether its transaction got a row.
 #[derive(Debug, Drop)]
@@ -43,49 +49,25 @@ impl State {
     pub fn make_ready(&mut self, alloc: Global, plan: &Plan) -> Result<Ready, Fault>
         requires { IsFit self.old plan.now }
         ensures ready { OnOk result (IsReady self.old self.new plan.now) }
-        ensures made { IfOk result (λ ready. (ready.writes ≡ installed_by self.old.facts plan.now.logged) × Admits self.old.memory.rows (asker plan.now.change) ready.admitted) }
+        ensures writes { IfOk result (λ ready. ready.writes ≡ installed_by self.old.facts plan.now.logged) }
+        ensures admits { IfOk result (λ ready. Admits self.old.memory.rows (asker plan.now.change) ready.admitted) }
+        ensures undo { IfOk result (λ ready. MayUndo self.new.memory.rows (asker plan.now.change) ready.admitted) }
         ensures kept { OnErr result ((self.new.setup ≡ self.old.setup) × (self.new.facts ≡ self.old.facts) × (self.new.memory ≡ self.old.memory)) }
         ensures memory { IfErr result (λ fault. fault ≡ Fault.Memory) }
     {
         self.ledger.reserve()?;
         self.ended.reserve(plan.wounded.as_slice().len() + 1)?;
-        let writes = self.writes_for(alloc, plan.logged.as_ref())?;
+        let writes = writes_for(&self.ledger, alloc, plan)?;
         let admitted = match plan.change.asker() {
-            Some(txn) => self.admit(alloc, txn, plan.needs.len())?,
+            Some(txn) => admit(&mut self.rows, alloc, txn, plan.needs.len())?,
             None => false,
         };
         Ok(Ready { writes, admitted })
     }
 
-    // A copy of the writes that a record installs.
-    fn writes_for(&self, alloc: Global, logged: Option<&Record>) -> Result<Writes, Fault> {
-        match logged {
-            Some(Record::Outcome {
-                txn,
-                outcome: Some(_),
-            }) => self.ledger.copy_of_writes(alloc, *txn),
-            _ => Ok(Writes::none(alloc)),
-        }
-    }
-
-    // Takes the memory for some locks of a transaction, which gets a row where it has none.
-    fn admit(&mut self, alloc: Global, txn: TxnId, more: usize) -> Result<bool, Fault> {
-        if self.rows.find(txn).is_some() {
-            self.rows.make_room(txn, more)?;
-            return Ok(false);
-        }
-        self.rows.admit(alloc, txn)?;
-        match self.rows.make_room(txn, more) {
-            Ok(()) => Ok(true),
-            Err(fault) => {
-                self.rows.end(txn);
-                Err(fault)
-            }
-        }
-    }
-
     /// Takes back what was made ready for a plan whose record was not logged: the row that its transaction got.
     pub fn undo(&mut self, plan: &Plan, ready: Ready)
+        requires { MayUndo self.old.memory.rows (asker plan.now.change) ready.admitted }
         ensures setup { self.new.setup ≡ self.old.setup }
         ensures facts { self.new.facts ≡ self.old.facts }
         ensures memory { (m : Memory) → Admits m.rows (asker plan.now.change) ready.admitted → self.old.memory ≡ admitted_to m (asker plan.now.change) → self.new.memory ≡ m }
@@ -98,7 +80,7 @@ impl State {
 
     /// Carries out a plan for which all was made ready, once its record is logged. It takes no memory.
     pub fn carry(&mut self, plan: Plan, ready: Ready, logged: Option<Logged>) -> Outbox
-        requires { IsCarriable self.old plan ready.writes }
+        requires ready { IsCarriable self.old plan ready.writes }
         requires logged { logged ≡ plan.logged }
         ensures setup { self.new.setup ≡ self.old.setup }
         ensures facts { self.new.facts ≡ facts_after self.old.facts plan.logged }
@@ -114,105 +96,193 @@ impl State {
             outbox,
         } = plan;
         self.times.raise(last);
-        let item = self.change(change, &wounded, &needs, logged);
+        let item = make_change(
+            &mut self.rows,
+            &mut self.ended,
+            &mut self.times,
+            change,
+            wounded.as_slice(),
+            &needs,
+            logged,
+        );
         if let Some(item) = item {
             self.ledger.learn(item, ready.writes);
         }
         outbox
     }
+}
 
-    // Makes the change of the rows, and gives back the record that was logged.
-    fn change(
-        &mut self,
-        change: Change,
-        wounded: &Ids,
-        needs: &[Lock],
-        logged: Option<Logged>,
-    ) -> Option<Record> {
-        match change {
-            Change::Keeps => spend(logged),
-            Change::Ends(txn) => {
-                if self.rows.find(txn).is_some() {
-                    self.rows.end(txn);
-                }
-                self.ended.add(txn);
-                spend(logged)
-            }
-            Change::Drops(txn) => self.drop_row(txn, logged),
-            Change::Reads(txn) => {
-                self.grant(txn, wounded, needs);
-                spend(logged)
-            }
-            Change::Waits(txn, wait) => {
-                self.note_ended(wounded);
-                self.rows.wait(txn, wounded.as_slice(), needs, wait);
-                spend(logged)
-            }
-            Change::Collects(txn, gathering) => {
-                self.grant(txn, wounded, needs);
-                self.rows.collect(txn, gathering);
-                spend(logged)
-            }
-            Change::Counts(txn, from, at) => {
-                self.rows.vote(txn, from, at);
-                spend(logged)
-            }
-            Change::Stands(txn) => {
-                self.grant(txn, wounded, needs);
-                self.stand(txn, logged)
-            }
-            Change::Decides(txn) => self.stand(txn, logged),
+// A copy of the writes that the record of a plan installs.
+fn writes_for(ledger: &Ledger, alloc: Global, plan: &Plan) -> Result<Writes, Fault>
+    ensures writes { IfOk result (λ writes. writes ≡ installed_by ledger.now.facts plan.now.logged) }
+    ensures memory { IfErr result (λ fault. fault ≡ Fault.Memory) }
+{
+    match &plan.logged {
+        Some(Record::Outcome {
+            txn,
+            outcome: Some(_),
+        }) => ledger.copy_of_writes(alloc, *txn),
+        _ => Ok(Writes::none(alloc)),
+    }
+}
+
+// Takes the memory for some locks of a transaction, which gets a row where it has none.
+fn admit(rows: &mut Rows, alloc: Global, txn: TxnId, more: usize) -> Result<bool, Fault>
+    requires { may_ask rows.old.rows txn ≡ true }
+    ensures rows { OnOk result (rows.new.rows ≡ admitted rows.old.rows (Some txn)) }
+    ensures room { OnOk result (length (held_in rows.new.rows txn) + more ≤ room rows.new txn) }
+    ensures admits { IfOk result (λ taken. Admits rows.old.rows (Some txn) taken) }
+    ensures undo { IfOk result (λ taken. MayUndo rows.new.rows (Some txn) taken) }
+    ensures kept { OnErr result (rows.new.rows ≡ rows.old.rows) }
+    ensures memory { IfErr result (λ fault. fault ≡ Fault.Memory) }
+{
+    if rows.find(txn).is_some() {
+        rows.make_room(txn, more)?;
+        return Ok(false);
+    }
+    rows.admit(alloc, txn)?;
+    match rows.make_room(txn, more) {
+        Ok(()) => Ok(true),
+        Err(fault) => {
+            rows.end(txn);
+            Err(fault)
         }
     }
+}
 
-    // The row of a transaction goes by the record that was logged.
-    fn drop_row(&mut self, txn: TxnId, logged: Option<Logged>) -> Option<Record> {
-        let Some(logged) = logged else {
-            return None;
-        };
-        match self.rows.find(txn) {
-            None => Some(logged.spend()),
-            Some(Row::Prepared(prepared)) => {
-                self.times.lift(prepared.at());
-                Some(self.rows.close(txn, logged))
-            }
-            Some(Row::Decided(decided)) => {
-                self.times.lift(decided.at());
-                Some(self.rows.close(txn, logged))
-            }
-            Some(_) => Some(self.rows.abort(txn, logged)),
+// Makes the change of the rows, and gives back the record that was logged.
+fn make_change(
+    rows: &mut Rows,
+    ended: &mut Ended,
+    times: &mut SafeTime,
+    change: Change,
+    wounded: &[TxnId],
+    needs: &[Lock],
+    logged: Option<Logged>,
+) -> Option<Record>
+    requires holding { IsHolding times.old.holds rows.old.rows }
+    requires fits { FitsRows rows.old.rows wounded.now needs.now logged change }
+    requires there { admitted rows.old.rows (asker change) ≡ rows.old.rows }
+    requires ends { length wounded.now < ended.old.room }
+    requires locks { HasRoom rows.old (asker change) (length needs.now) }
+    requires dated { IsDated logged }
+    ensures holding { IsHolding times.new.holds rows.new.rows }
+    ensures last { times.new.last ≡ times.old.last }
+    ensures rows { rows.new.rows ≡ changed (change_of rows.old.rows needs.now logged change) (without_rows rows.old.rows wounded.now) }
+    ensures ended { ended.new.ids ≡ ended_by (change_of rows.old.rows needs.now logged change) (with_ids ended.old.ids wounded.now) }
+    ensures record { result ≡ logged }
+{
+    rows.laws();
+    note_ended(ended, wounded);
+    match change {
+        Change::Keeps => spend(logged),
+        Change::Ends(txn) => {
+            end(rows, txn);
+            ended.add(txn);
+            spend(logged)
         }
-    }
-
-    // A row stands by the record that was logged: a promise or a decision. It holds the served time below its timestamp.
-    fn stand(&mut self, txn: TxnId, logged: Option<Logged>) -> Option<Record> {
-        let Some(logged) = logged else {
-            return None;
-        };
-        match logged.item() {
-            Record::Prepare(prepared) => {
-                self.times.hold(prepared.at);
-                Some(self.rows.prepare(txn, logged))
-            }
-            Record::Commit(committed) => {
-                self.times.hold(committed.at);
-                Some(self.rows.decide(txn, logged))
-            }
-            _ => unreachable!(),
+        Change::Drops(txn) => Some(drop_row(rows, times, txn, there(logged))),
+        Change::Reads(txn) => {
+            rows.grant(txn, wounded, needs);
+            spend(logged)
         }
-    }
-
-    // Ends those in the way, and grants the locks.
-    fn grant(&mut self, txn: TxnId, wounded: &Ids, needs: &[Lock]) {
-        self.note_ended(wounded);
-        self.rows.grant(txn, wounded.as_slice(), needs);
-    }
-
-    // Counts some transactions as ended.
-    fn note_ended(&mut self, wounded: &Ids) {
-        for txn in wounded.as_slice() {
-            self.ended.add(*txn);
+        Change::Waits(txn, wait) => {
+            rows.wait(txn, wounded, needs, wait);
+            spend(logged)
         }
+        Change::Collects(txn, gathering) => {
+            rows.grant(txn, wounded, needs);
+            rows.collect(txn, gathering);
+            spend(logged)
+        }
+        Change::Counts(txn, from, at) => {
+            vote(rows, txn, from, at);
+            spend(logged)
+        }
+        Change::Stands(txn) => {
+            rows.grant(txn, wounded, needs);
+            Some(stand(rows, times, txn, there(logged)))
+        }
+        Change::Decides(txn) => Some(stand(rows, times, txn, there(logged))),
+    }
+}
+
+// Ends a transaction that reads, or has no row.
+fn end(rows: &mut Rows, txn: TxnId)
+    requires { may_end rows.old.rows txn ≡ true }
+    ensures { rows.new.rows ≡ without_row rows.old.rows txn }
+{
+    if rows.find(txn).is_some() {
+        rows.end(txn);
+    }
+}
+
+// The row of a transaction goes by the record that was logged.
+fn drop_row(rows: &mut Rows, times: &mut SafeTime, txn: TxnId, logged: Logged) -> Record
+    requires holding { IsHolding times.old.holds rows.old.rows }
+    requires may { MayDrop rows.old.rows txn (Some logged) }
+    ensures holding { IsHolding times.new.holds rows.new.rows }
+    ensures last { times.new.last ≡ times.old.last }
+    ensures rows { rows.new.rows ≡ without_row rows.old.rows txn }
+    ensures record { result ≡ logged }
+{
+    rows.laws();
+    match rows.find(txn) {
+        None => logged.spend(),
+        Some(Row::Prepared(prepared)) => {
+            times.lift(prepared.at());
+            rows.close(txn, logged)
+        }
+        Some(Row::Decided(decided)) => {
+            times.lift(decided.at());
+            rows.close(txn, logged)
+        }
+        Some(_) => rows.abort(txn, logged),
+    }
+}
+
+// A row stands by the record that was logged: a promise or a decision. It holds the served time below its timestamp.
+fn stand(rows: &mut Rows, times: &mut SafeTime, txn: TxnId, logged: Logged) -> Record
+    requires holding { IsHolding times.old.holds rows.old.rows }
+    requires stands { CanStand rows.old.rows txn logged }
+    ensures holding { IsHolding times.new.holds rows.new.rows }
+    ensures last { times.new.last ≡ times.old.last }
+    ensures rows { rows.new.rows ≡ put_row rows.old.rows txn (held_in rows.old.rows txn) (phase_by logged) }
+    ensures record { result ≡ logged }
+{
+    rows.laws();
+    match logged.item() {
+        Record::Prepare(prepared) => {
+            times.hold(prepared.at);
+            rows.prepare(txn, logged)
+        }
+        Record::Commit(committed) => {
+            times.hold(committed.at);
+            rows.decide(txn, logged)
+        }
+        _ => unreachable!(),
+    }
+}
+
+// Counts some transactions as ended.
+fn note_ended(ended: &mut Ended, txns: &[TxnId])
+    requires { length txns.now < ended.old.room }
+    ensures ids { ended.new.ids ≡ with_ids ended.old.ids txns.now }
+    ensures room { 1 ≤ ended.new.room }
+{
+    for txn in txns {
+        ended.add(*txn);
+    }
+}
+
+// The word that a record was logged, which is there.
+fn there(logged: Option<Logged>) -> Logged
+    requires { IsSome logged }
+    ensures { logged ≡ Some result }
+{
+    match logged {
+        Some(logged) => logged,
+        None => unreachable!(),
     }
 }
 

@@ -21,11 +21,11 @@ use units::{Epoch, Fault, Ids, Install, Key, Keys, Lock, Parts, Setup, ShardNo, 
 /// What a shard keeps in memory: what it was told, the facts of its log with the versions by key, its rows with their
 /// locks, the ids that were ended, and its served time.
 pub struct State {
-    setup: Setup,
-    ledger: Ledger,
-    rows: Rows,
-    ended: Ended,
-    times: SafeTime,
+    pub(crate) setup: Setup,
+    pub(crate) ledger: Ledger,
+    pub(crate) rows: Rows,
+    pub(crate) ended: Ended,
+    pub(crate) times: SafeTime,
 }
 
 impl Model for State {
