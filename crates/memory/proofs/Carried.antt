@@ -35,6 +35,9 @@ pub some_found : {X : Type 0} (o : Option X) (P : Type 0) (Q : X → Type 0) →
 some_found None P Q said e = absurd (false≢true e)
 some_found (Some x) P Q said e = (x, said)
 
+pub not_found : {X : Type 0} (o : Option X) (P : Type 0) (Q : X → Type 0) (b : Bool) → MatchOption o P Q → is_some o ≡ not b → b ≡ true → P
+not_found o P Q b said e h = none_found o P Q said (e ∙ ap not h)
+
 -- who has no row leaves none
 pub gone_already : (rows : List Row) (t : Id) → find_row rows t ≡ None → without_row rows t ≡ rows
 gone_already rows t none = without_none (λ (r : Row). r.txn) rows t (first_none (λ (r : Row). same_id r.txn t) rows none)
@@ -196,53 +199,6 @@ holding_stands test none holds rows next t held phase at up same has stamp is =
     (holding_with holds rows (record { txn = t; held = held; phase = phase }) at up same (none_held test none rows t has) stamp)
 
 -- ---- a row goes by a record
-
-closing : (p : Phase) (at : ℕ) → held_stamp p ≡ Some at → may_abort p ≡ false
-closing Idle at e = cc
-closing (WaitsRead k) at e = cc
-closing (WaitsPrepare c rs ws) at e = cc
-closing (WaitsCommit l ps rs ws) at e = cc
-closing (Collecting l ps rs ws votes) at e = cc
-closing (IsPrepared c p) at e = refl
-closing (IsDecided s ps) at e = refl
-
-opening : (p : Phase) → held_stamp p ≡ None → may_abort p ≡ true
-opening Idle e = refl
-opening (WaitsRead k) e = refl
-opening (WaitsPrepare c rs ws) e = refl
-opening (WaitsCommit l ps rs ws) e = refl
-opening (Collecting l ps rs ws votes) e = refl
-opening (IsPrepared c p) e = cc
-opening (IsDecided s ps) e = cc
-
--- one that holds a timestamp goes by its outcome
-pub closes : (rows : List Row) (t : Id) (o : Record) (at : ℕ) → MayDrop rows t (Some o) → stamp_held rows t ≡ Some at
-    → (has_phase may_close rows t ≡ true) × (is_outcome_of t o ≡ true)
-closes rows t (Outcome u outcome) at may stamp = (may.1, ap (λ v. same_id v t) may.0 ∙ same_id-refl t)
-closes rows t (Abort u) at may stamp = absurd (by_row (find_row rows t) stamp may.1)
-  where
-    by_row : (o : Option Row) → follow o (λ r. held_stamp r.phase) ≡ Some at → elim o as (λ _. Bool) [ None ↦ true | Some r ↦ may_abort r.phase ] ≡ true → ⊥
-    by_row None e h = cc
-    by_row (Some r) e h = false≢true (sym (closing r.phase at e) ∙ h)
-closes rows t (Opened e) at may stamp = absurd may
-closes rows t (Ceiling c) at may stamp = absurd may
-closes rows t (Prepare p) at may stamp = absurd may
-closes rows t (Commit c) at may stamp = absurd may
-
--- one that holds none goes by an abort
-pub aborts : (rows : List Row) (t : Id) (o : Record) (r : Row) → MayDrop rows t (Some o) → find_row rows t ≡ Some r → stamp_held rows t ≡ None
-    → (has_phase may_abort rows t ≡ true) × (is_abort_of t o ≡ true)
-aborts rows t (Abort u) r may found stamp =
-    (phase_found may_abort rows t r found (opening r.phase (ap (λ (o : Option Row). follow o (λ q. held_stamp q.phase)) (sym found) ∙ stamp)), ap (λ v. same_id v t) may.0 ∙ same_id-refl t)
-aborts rows t (Outcome u outcome) r may found stamp = absurd (by_row (find_row rows t) stamp may.1)
-  where
-    by_row : (o : Option Row) → follow o (λ q. held_stamp q.phase) ≡ None → when (λ (q : Row). may_close q.phase) o ≡ true → ⊥
-    by_row None e h = false≢true h
-    by_row (Some q) e h = false≢true (sym (ap not (opening q.phase e)) ∙ h)
-aborts rows t (Opened e) r may found stamp = absurd may
-aborts rows t (Ceiling c) r may found stamp = absurd may
-aborts rows t (Prepare p) r may found stamp = absurd may
-aborts rows t (Commit c) r may found stamp = absurd may
 
 -- the hold of one that goes is lifted
 pub holding_gone : (holds : List ℕ) (rows next : List Row) (t : Id) (at : ℕ) → Ascend rows → IsHolding holds rows → stamp_held rows t ≡ Some at → next ≡ without_row rows t
