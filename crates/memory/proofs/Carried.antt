@@ -7,21 +7,22 @@ use Rattle.units.specs.Ids.{Id, same_id}
 use Rattle.units.specs.ById.{IsById}
 use Rattle.units.specs.Locks.{wounded, with_locks}
 use Rattle.units.specs.declared.lock.Lock.{Lock}
-use Rattle.units.proofs.IdLaws.{same_id-refl}
 use Rattle.units.proofs.ByIdLaws.{by_id-keep, first_none, without_none}
 use Rattle.record.specs.declared.record.Record.{Record}
 use Rattle.record.specs.declared.record.Record.TheVariants.{Opened, Ceiling, Prepare, Commit, Abort, Outcome}
 use Rattle.safetime.specs.Safe.{lifted}
 use Rattle.protocol.specs.Rows.{Row, Phase, Idle, WaitsRead, WaitsPrepare, WaitsCommit, Collecting, IsPrepared, IsDecided, claims, find_row, without_row, with_row, held_stamp}
 use Rattle.protocol.specs.Draft.{held_by}
+use Rattle.protocol.specs.Step.{with_vote}
 use Rattle.protocol.specs.Plan.{Puts, changed, held_in, without_rows}
 use Rattle.protocol.proofs.PlanRows.{Ascend, put_again, find-with_row, without-with_row}
 use Rattle.protocol.proofs.RowChanges.{by_id-without_rows, short-without_row}
-use Rattle.rows.specs.CodeRows.{is_reading, is_idle, may_decide, may_abort, may_close}
+use Rattle.rows.specs.CodeRows.{is_reading, is_idle, may_decide, phase_of_wait}
+use Rattle.rows.specs.declared.wait.Wait.{Wait}
 use Rattle.rows.specs.RowTable.{has_phase, put_row, MayEnd}
-use Rattle.rows.specs.States.{is_abort_of, is_outcome_of}
 use Rattle.rows.proofs.Wounds.{may_end_wounded, others_end, row_stays}
-use Rattle.memory.specs.Carry.{MayDrop, may_ask, may_end}
+use Rattle.memory.specs.Carry.{is_collecting, may_ask, may_end, admitted, MayStand, IsDated, CanStand}
+use Rattle.memory.specs.Plans.{counted}
 use Rattle.memory.specs.Served.{IsHolding, stamp_held}
 use Rattle.memory.proofs.Served.{holding_with, holding_with_none, holding_without, holding_without_none, holds_few}
 
@@ -88,15 +89,6 @@ deciding_holds_none (WaitsCommit l ps rs ws) e = refl
 deciding_holds_none (Collecting l ps rs ws votes) e = refl
 deciding_holds_none (IsPrepared c p) e = absurd (false≢true e)
 deciding_holds_none (IsDecided s ps) e = absurd (false≢true e)
-
-pub open_holds_none : (p : Phase) → may_abort p ≡ true → held_stamp p ≡ None
-open_holds_none Idle e = refl
-open_holds_none (WaitsRead k) e = refl
-open_holds_none (WaitsPrepare c rs ws) e = refl
-open_holds_none (WaitsCommit l ps rs ws) e = refl
-open_holds_none (Collecting l ps rs ws votes) e = refl
-open_holds_none (IsPrepared c p) e = absurd (false≢true e)
-open_holds_none (IsDecided s ps) e = absurd (false≢true e)
 
 -- nor does its row
 pub none_held : (test : Phase → Bool) → ((p : Phase) → test p ≡ true → held_stamp p ≡ None) → (rows : List Row) (t : Id) → has_phase test rows t ≡ true
@@ -208,3 +200,87 @@ holding_gone holds rows next t at up same stamp is = subst (IsHolding (lifted at
 -- or it held none
 pub holding_left : (holds : List ℕ) (rows next : List Row) (t : Id) → Ascend rows → IsHolding holds rows → stamp_held rows t ≡ None → next ≡ without_row rows t → IsHolding holds next
 holding_left holds rows next t up same stamp is = subst (IsHolding holds) (sym is) (holding_without_none holds rows t up same stamp)
+
+-- ---- a change
+
+-- who asks has a row once it was taken in, and reads
+pub asker_reads : (rows : List Row) (t : Id) → admitted rows (Some t) ≡ rows → may_ask rows t ≡ true → has_phase is_reading rows t ≡ true
+asker_reads rows t there may = by_row (find_row rows t) refl there may
+  where
+    by_row : (o : Option Row) → find_row rows t ≡ o → elim o as (λ _. List Row) [ None ↦ put_row rows t [] Idle | Some r ↦ rows ] ≡ rows
+        → elim o as (λ _. Bool) [ None ↦ nat_lt (length rows) 1024 | Some r ↦ is_reading r.phase ] ≡ true → when (λ (r : Row). is_reading r.phase) o ≡ true
+    by_row None e there may =
+        let found : find_row rows t ≡ Some (record { txn = t; held = []; phase = Idle }) =
+        ap (λ (l : List Row). find_row l t) (sym there) ∙ find-with_row rows (record { txn = t; held = []; phase = Idle }) in
+        cc
+    by_row (Some r) e there may = may
+
+-- who may be ended holds nothing
+pub ending_holds_none : (rows : List Row) (t : Id) → may_end rows t ≡ true → stamp_held rows t ≡ None
+ending_holds_none rows t may = by_row (find_row rows t) may
+  where
+    by_row : (o : Option Row) → elim o as (λ _. Bool) [ None ↦ true | Some r ↦ is_reading r.phase ] ≡ true → follow o (λ r. held_stamp r.phase) ≡ None
+    by_row None e = refl
+    by_row (Some r) e = reading_holds_none r.phase e
+
+-- nor does who collects, with one vote more
+counted_holds_none : (n p : ℕ) (o : Option Row) → when (λ (r : Row). is_collecting r.phase) o ≡ true → held_stamp (counted n p o) ≡ None
+counted_holds_none n p None e = refl
+counted_holds_none n p (Some r) e = by_phase r.phase e
+  where
+    by_phase : (q : Phase) → is_collecting q ≡ true → held_stamp (elim q as (λ _. Phase) [ Collecting l ps rs ws votes ↦ Collecting l ps rs ws (with_vote n p votes) | _ ↦ q ]) ≡ None
+    by_phase (Collecting l ps rs ws votes) e = refl
+    by_phase Idle e = absurd (false≢true e)
+    by_phase (WaitsRead k) e = absurd (false≢true e)
+    by_phase (WaitsPrepare c rs ws) e = absurd (false≢true e)
+    by_phase (WaitsCommit l ps rs ws) e = absurd (false≢true e)
+    by_phase (IsPrepared c p) e = absurd (false≢true e)
+    by_phase (IsDecided s ps) e = absurd (false≢true e)
+
+collecting_holds_none : (p : Phase) → is_collecting p ≡ true → held_stamp p ≡ None
+collecting_holds_none Idle e = refl
+collecting_holds_none (WaitsRead k) e = refl
+collecting_holds_none (WaitsPrepare c rs ws) e = refl
+collecting_holds_none (WaitsCommit l ps rs ws) e = refl
+collecting_holds_none (Collecting l ps rs ws votes) e = refl
+collecting_holds_none (IsPrepared c p) e = absurd (false≢true e)
+collecting_holds_none (IsDecided s ps) e = absurd (false≢true e)
+
+pub holding_counted : (holds : List ℕ) (rows next : List Row) (t : Id) (n p : ℕ) (held : List Lock) → Ascend rows → IsHolding holds rows → has_phase is_collecting rows t ≡ true
+    → next ≡ put_row rows t held (counted n p (find_row rows t)) → IsHolding holds next
+holding_counted holds rows next t n p held up same has is =
+    subst (IsHolding holds) (sym is)
+    (holding_with_none holds rows (record { txn = t; held = held; phase = counted n p (find_row rows t) }) up same
+    (none_held is_collecting collecting_holds_none rows t has) (counted_holds_none n p (find_row rows t) has))
+
+-- who is idle may decide
+idle_decides : (rows : List Row) (t : Id) → has_phase is_idle rows t ≡ true → has_phase may_decide rows t ≡ true
+idle_decides rows t h = by_row (find_row rows t) h
+  where
+    by_phase : (p : Phase) → is_idle p ≡ true → may_decide p ≡ true
+    by_phase Idle e = refl
+    by_phase (WaitsRead k) e = absurd (false≢true e)
+    by_phase (WaitsPrepare c rs ws) e = absurd (false≢true e)
+    by_phase (WaitsCommit l ps rs ws) e = absurd (false≢true e)
+    by_phase (Collecting l ps rs ws votes) e = refl
+    by_phase (IsPrepared c p) e = absurd (false≢true e)
+    by_phase (IsDecided s ps) e = absurd (false≢true e)
+
+    by_row : (o : Option Row) → when (λ (r : Row). is_idle r.phase) o ≡ true → when (λ (r : Row). may_decide r.phase) o ≡ true
+    by_row None e = e
+    by_row (Some r) e = by_phase r.phase e
+
+-- an idle row may stand by a promise or a decision
+pub can_stand : (rows : List Row) (t : Id) (r : Record) → MayStand t (Some r) → IsDated (Some r) → has_phase is_idle rows t ≡ true → CanStand rows t r
+can_stand rows t (Prepare p) may dated idle = (may, idle, dated)
+can_stand rows t (Commit c) may dated idle = (may, idle_decides rows t idle, dated)
+can_stand rows t (Abort u) may dated idle = absurd may
+can_stand rows t (Outcome u outcome) may dated idle = absurd may
+can_stand rows t (Opened e) may dated idle = absurd may
+can_stand rows t (Ceiling at) may dated idle = absurd may
+
+-- nor does who waits
+pub wait_holds_none : (w : Wait) → held_stamp (phase_of_wait (Some w)) ≡ None
+wait_holds_none (Wait.Read k) = refl
+wait_holds_none (Wait.Prepare p) = refl
+wait_holds_none (Wait.Commit c) = refl
