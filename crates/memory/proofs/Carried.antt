@@ -11,7 +11,7 @@ use Rattle.units.proofs.ByIdLaws.{by_id-keep, first_none, without_none}
 use Rattle.record.specs.declared.record.Record.{Record}
 use Rattle.record.specs.declared.record.Record.TheVariants.{Opened, Ceiling, Prepare, Commit, Abort, Outcome}
 use Rattle.safetime.specs.Safe.{lifted}
-use Rattle.protocol.specs.Rows.{Row, Phase, Idle, WaitsRead, WaitsPrepare, WaitsCommit, Collecting, IsPrepared, IsDecided, claims, find_row, without_row, with_row, held_stamp}
+use Rattle.protocol.specs.Rows.{Row, Memory, Phase, Idle, WaitsRead, WaitsPrepare, WaitsCommit, Collecting, IsPrepared, IsDecided, claims, find_row, without_row, with_row, held_stamp}
 use Rattle.protocol.specs.Draft.{held_by}
 use Rattle.protocol.specs.Step.{with_vote}
 use Rattle.protocol.specs.Plan.{Puts, changed, held_in, without_rows}
@@ -21,8 +21,9 @@ use Rattle.rows.specs.CodeRows.{is_reading, is_idle, may_decide, phase_of_wait}
 use Rattle.rows.specs.declared.wait.Wait.{Wait}
 use Rattle.rows.specs.RowTable.{has_phase, put_row, MayEnd}
 use Rattle.rows.proofs.Wounds.{may_end_wounded, others_end, row_stays}
-use Rattle.memory.specs.Carry.{is_collecting, may_ask, may_end, admitted, MayStand, IsDated, CanStand}
+use Rattle.memory.specs.Carry.{Admits, MayUndo, MayAsk, FitsRows, admitted_to, asker, is_collecting, may_ask, may_end, admitted, MayStand, IsDated, CanStand}
 use Rattle.memory.specs.Plans.{counted}
+use Rattle.memory.specs.declared.plan.Change.{Change}
 use Rattle.memory.specs.Served.{IsHolding, stamp_held}
 use Rattle.memory.proofs.Served.{holding_with, holding_with_none, holding_without, holding_without_none, holds_few}
 
@@ -284,3 +285,48 @@ pub wait_holds_none : (w : Wait) → held_stamp (phase_of_wait (Some w)) ≡ Non
 wait_holds_none (Wait.Read k) = refl
 wait_holds_none (Wait.Prepare p) = refl
 wait_holds_none (Wait.Commit c) = refl
+
+-- ---- what was made ready is taken back
+
+pub undo_reads : (rows : List Row) (who : Option Id) (taken : Bool) (t : Id) → who ≡ Some t → taken ≡ true → MayUndo rows who taken → has_phase is_reading rows t ≡ true
+undo_reads rows None taken t e f may = cc
+undo_reads rows (Some u) false t e f may = absurd (false≢true f)
+undo_reads rows (Some u) true t e f may =
+    let same : u ≡ t = cc in
+    ap (has_phase is_reading rows) (sym same) ∙ may
+
+-- who was taken in had no row
+taken_in : (rows : List Row) (t : Id) → Admits rows (Some t) true → find_row rows t ≡ None
+taken_in rows t admits = by_row (find_row rows t) admits
+  where
+    by_row : (o : Option Row) → elim o as (λ _. Type 0) [ None ↦ true ≡ true | Some r ↦ true ≡ false ] → o ≡ None
+    by_row None e = refl
+    by_row (Some r) e = absurd (false≢true (sym e))
+
+taken_rows : (rows : List Row) (t : Id) → find_row rows t ≡ None → admitted rows (Some t) ≡ put_row rows t [] Idle
+taken_rows rows t none = ap (λ (o : Option Row). elim o as (λ _. List Row) [ None ↦ put_row rows t [] Idle | Some r ↦ rows ]) none
+
+pub undone : (m now : Memory) (next : List Row) (who : Option Id) (taken : Bool) (t : Id) → who ≡ Some t → taken ≡ true → Admits m.rows who taken
+    → now ≡ admitted_to m who → next ≡ without_row now.rows t → record { last = now.last; rows = next; ended = now.ended } ≡ m
+undone m now next None taken t e f admits is gone = cc
+undone m now next (Some u) false t e f admits is gone = absurd (false≢true f)
+undone m now next (Some u) true t e f admits is gone =
+    let same : t ≡ u = cc in
+    let none : find_row m.rows u ≡ None = taken_in m.rows u admits in
+    let last : now.last ≡ m.last = ap (λ (k : Memory). k.last) is in
+    let ended : now.ended ≡ m.ended = ap (λ (k : Memory). k.ended) is in
+    let rows : next ≡ m.rows =
+    gone ∙ ap (without_row now.rows) same ∙ put_and_gone m.rows now.rows u [] Idle (ap (λ (k : Memory). k.rows) is ∙ taken_rows m.rows u none) none in
+    λ i. record { last = last i; rows = rows i; ended = ended i }
+
+-- the asker of a plan that fits may ask
+pub fits_asks : (rows : List Row) (us : List Id) (needs : List Lock) (logged : Option Record) (h : Change) → FitsRows rows us needs logged h → MayAsk rows (asker h)
+fits_asks rows us needs logged Change.Keeps fits = tt
+fits_asks rows us needs logged (Change.Ends t) fits = tt
+fits_asks rows us needs logged (Change.Drops t) fits = tt
+fits_asks rows us needs logged (Change.Reads t) fits = fits.0.may
+fits_asks rows us needs logged (Change.Waits t w) fits = fits.0.may
+fits_asks rows us needs logged (Change.Collects t c) fits = fits.0.may
+fits_asks rows us needs logged (Change.Counts t n p) fits = tt
+fits_asks rows us needs logged (Change.Stands t) fits = fits.0.may
+fits_asks rows us needs logged (Change.Decides t) fits = tt

@@ -1,3 +1,4 @@
+pub mod Admission
 pub mod Carried
 pub mod Learns
 pub mod Served

@@ -149,6 +149,11 @@ pub record IsCarriable (k : Kept) (p : Plan) (writes : List Write) : Type 0 wher
   pub follows : MayFollow k.setup.shard k.facts p.logged
   pub installs : MayInstall k.facts p.logged writes
 
+-- who asks may
+abbrev pub MayAsk : List Row → Option Id → Type 0
+MayAsk rows None = Unit {0}
+MayAsk rows (Some t) = may_ask rows t ≡ true
+
 -- a row that was taken in goes again
 abbrev pub MayUndo : List Row → Option Id → Bool → Type 0
 MayUndo rows (Some t) true = has_phase is_reading rows t ≡ true

@@ -5,7 +5,7 @@ ghost use Rattle.protocol.specs.Rows.{Memory, Idle, find_row, without_row};
 ghost use Rattle.protocol.specs.Step.{facts_after};
 ghost use Rattle.protocol.specs.Plan.{carried, changed, ended_by, held_in, with_ids, without_rows};
 ghost use Rattle.rows.specs.RowTable.{has_phase, put_row, phase_by, room};
-ghost use Rattle.memory.specs.Carry.{IsFit, IsReady, IsCarriable, IsDated, Admits, MayUndo, MayDrop, CanStand, FitsRows, Asks, HasRoom, asker, admitted, admitted_to, installed_by, is_collecting, may_ask, may_end};
+ghost use Rattle.memory.specs.Carry.{AdmissionIsUnseen, ReadyIsCarriable, IsFit, MayAsk, IsReady, IsCarriable, IsDated, Admits, MayUndo, MayDrop, CanStand, FitsRows, Asks, HasRoom, asker, admitted, admitted_to, installed_by, is_collecting, may_ask, may_end};
 ghost use Rattle.memory.specs.Plans.{plan_of, change_of, counted};
 ghost use Rattle.memory.specs.Served.{IsHolding, stamp_held};
 
@@ -58,10 +58,7 @@ impl State {
         self.ledger.reserve()?;
         self.ended.reserve(plan.wounded.as_slice().len() + 1)?;
         let writes = writes_for(&self.ledger, alloc, plan)?;
-        let admitted = match plan.change.asker() {
-            Some(txn) => admit(&mut self.rows, alloc, txn, plan.needs.len())?,
-            None => false,
-        };
+        let admitted = admit_asker(&mut self.rows, alloc, plan.change.asker(), plan.needs.len())?;
         Ok(Ready { writes, admitted })
     }
 
@@ -113,6 +110,14 @@ impl State {
     }
 }
 
+/// A row that was taken in for a plan shows in nothing that the plan does, and a plan that fits can be carried out once all
+/// is ready. It does nothing.
+pub fn ready_plans_can_be_carried()
+    ensures unseen { AdmissionIsUnseen }
+    ensures carriable { ReadyIsCarriable }
+{
+}
+
 // A copy of the writes that the record of a plan installs.
 fn writes_for(ledger: &Ledger, alloc: Global, plan: &Plan) -> Result<Writes, Fault>
     ensures writes { IfOk result (λ writes. writes ≡ installed_by ledger.now.facts plan.now.logged) }
@@ -127,6 +132,28 @@ fn writes_for(ledger: &Ledger, alloc: Global, plan: &Plan) -> Result<Writes, Fau
     }
 }
 
+// Takes the memory for some locks of the transaction that asks for them, where there is one.
+fn admit_asker(
+    rows: &mut Rows,
+    alloc: Global,
+    asker: Option<TxnId>,
+    more: usize,
+) -> Result<bool, Fault>
+    requires { MayAsk rows.old.rows asker }
+    ensures rows { OnOk result (rows.new.rows ≡ admitted rows.old.rows asker) }
+    ensures room { OnOk result (HasRoom rows.new asker more) }
+    ensures admits { IfOk result (λ taken. Admits rows.old.rows asker taken) }
+    ensures undo { IfOk result (λ taken. MayUndo rows.new.rows asker taken) }
+    ensures holding { (holds : List ℕ) → IsHolding holds rows.old.rows → IsHolding holds rows.new.rows }
+    ensures kept { OnErr result (rows.new.rows ≡ rows.old.rows) }
+    ensures memory { IfErr result (λ fault. fault ≡ Fault.Memory) }
+{
+    match asker {
+        Some(txn) => admit(rows, alloc, txn, more),
+        None => Ok(false),
+    }
+}
+
 // Takes the memory for some locks of a transaction, which gets a row where it has none.
 fn admit(rows: &mut Rows, alloc: Global, txn: TxnId, more: usize) -> Result<bool, Fault>
     requires { may_ask rows.old.rows txn ≡ true }
@@ -134,7 +161,7 @@ fn admit(rows: &mut Rows, alloc: Global, txn: TxnId, more: usize) -> Result<bool
     ensures room { OnOk result (length (held_in rows.new.rows txn) + more ≤ room rows.new txn) }
     ensures admits { IfOk result (λ taken. Admits rows.old.rows (Some txn) taken) }
     ensures undo { IfOk result (λ taken. MayUndo rows.new.rows (Some txn) taken) }
-    ensures holding { OnOk result ((holds : List ℕ) → IsHolding holds rows.old.rows → IsHolding holds rows.new.rows) }
+    ensures holding { (holds : List ℕ) → IsHolding holds rows.old.rows → IsHolding holds rows.new.rows }
     ensures kept { OnErr result (rows.new.rows ≡ rows.old.rows) }
     ensures memory { IfErr result (λ fault. fault ≡ Fault.Memory) }
 {

@@ -11,7 +11,7 @@ pub mod plan;
 mod planning;
 pub mod state;
 
-pub use carry::Ready;
+pub use carry::{Ready, ready_plans_can_be_carried};
 pub use ended::Ended;
 pub use laws::holds_follow_rows;
 pub use envelopes::{answer_to, ask_to, done_to, outcome_to, vote_to};

@@ -1,5 +1,6 @@
-use Rattle.std.proofs.Common.{◌≡◌, ◌∙◌, sym, ap, None}
+use Rattle.std.proofs.Common.{◌≡◌, ◌∙◌, sym, ap, subst, None}
 use Rattle.protocol.specs.Rows.{find_row, without_row}
+use Rattle.memory.specs.Served.{IsHolding}
 use Rattle.memory.proofs.Carried.{none_found, some_found, asks_reading, put_reads, put_and_gone, holding_admitted}
 use Rattle.memory.proofs.carry.admit.Goals as goal
 
@@ -26,3 +27,9 @@ pub returns-in-Err-clause-kept : goal.returns-in-Err-clause-kept
 returns-in-Err-clause-kept c =
     let none : find_row c.args.rows.now.rows c.args.txn ≡ None = none_found c.find.result _ _ c.find.ensures (sym c.is_some.ensures ∙ c.if-is_some.false) in
     c.end.ensures.rows ∙ put_and_gone c.args.rows.now.rows c.make_room-2.new.self.rows c.args.txn _ _ (c.make_room-2.ensures.rows ∙ c.in_ok-admit.ensures.ok) none
+
+pub returns-in-Err-clause-holding : goal.returns-in-Err-clause-holding
+returns-in-Err-clause-holding c =
+    let none : find_row c.args.rows.now.rows c.args.txn ≡ None = none_found c.find.result _ _ c.find.ensures (sym c.is_some.ensures ∙ c.if-is_some.false) in
+    let back = c.end.ensures.rows ∙ put_and_gone c.args.rows.now.rows c.make_room-2.new.self.rows c.args.txn _ _ (c.make_room-2.ensures.rows ∙ c.in_ok-admit.ensures.ok) none in
+    λ holds same. subst (IsHolding holds) (sym back) same
