@@ -1,4 +1,5 @@
 pub mod Admission
 pub mod Carried
 pub mod Learns
+pub mod Logged
 pub mod Served

@@ -5,7 +5,7 @@ ghost use Rattle.protocol.specs.Rows.{Memory, Idle, find_row, without_row};
 ghost use Rattle.protocol.specs.Step.{facts_after};
 ghost use Rattle.protocol.specs.Plan.{carried, changed, ended_by, held_in, with_ids, without_rows};
 ghost use Rattle.rows.specs.RowTable.{has_phase, put_row, phase_by, room};
-ghost use Rattle.memory.specs.Carry.{AdmissionIsUnseen, ReadyIsCarriable, IsFit, MayAsk, IsReady, IsCarriable, IsDated, Admits, MayUndo, MayDrop, CanStand, FitsRows, Asks, HasRoom, asker, admitted, admitted_to, installed_by, is_collecting, may_ask, may_end};
+ghost use Rattle.memory.specs.Carry.{AdmissionIsUnseen, ReadyIsCarriable, IsFit, MayAsk, IsReady, IsCarriable, IsDated, Admits, MayUndo, MayDrop, MayFollow, MayInstall, CanStand, FitsRows, Asks, HasRoom, asker, admitted, admitted_to, installed_by, is_collecting, may_ask, may_end};
 ghost use Rattle.memory.specs.Plans.{plan_of, change_of, counted};
 ghost use Rattle.memory.specs.Served.{IsHolding, stamp_held};
 
@@ -103,9 +103,7 @@ impl State {
             &needs,
             logged,
         );
-        if let Some(item) = item {
-            self.ledger.learn(item, ready.writes);
-        }
+        learn(&mut self.ledger, item, ready.writes);
         outbox
     }
 }
@@ -311,6 +309,21 @@ fn note_ended(ended: &mut Ended, txns: &[TxnId])
 {
     for txn in txns {
         ended.add(*txn);
+    }
+}
+
+// Learns the record that was logged, where there is one.
+fn learn(ledger: &mut Ledger, item: Option<Record>, writes: Writes)
+    requires room { 1 ≤ ledger.old.room }
+    requires opened { 0 < ledger.old.facts.epoch }
+    requires follows { MayFollow ledger.old.shard ledger.old.facts item }
+    requires installs { MayInstall ledger.old.facts item writes }
+    ensures facts { ledger.new.facts ≡ facts_after ledger.old.facts item }
+    ensures shard { ledger.new.shard ≡ ledger.old.shard }
+    ensures opened { 0 < ledger.new.facts.epoch }
+{
+    if let Some(item) = item {
+        ledger.learn(item, writes);
     }
 }
 
