@@ -5,7 +5,10 @@ ghost use Rattle.units.specs.Locks.{asked, holds, is_free, ready, wounded};
 ghost use Rattle.locks.specs.Table.{has_claim, with_claim, without_claim, without_claims, change_claim, entrant, made_firm, granted, waiting, resumed, withdrawn, after, held_in, needs_in, most_held, KeepsRoom, ReleaseMakesWay};
 
 use crate::buffer::make_room;
-use crate::entry::{Entry, holds, is_blocked, is_kept_out, is_wounding, place, place_for, ready, wounded};
+use crate::entry::{
+    Entry, holds, is_blocked, is_kept_out, is_wounding, needs_count, place, place_for, ready,
+    wounded,
+};
 use crate::held::Held;
 use std::alloc::Global;
 use std::marker::Model;
@@ -79,6 +82,13 @@ impl Table {
         holds(&self.entries, txn, key)
     }
 
+    /// How many locks a transaction waits for.
+    pub fn needs_count(&self, txn: TxnId) -> usize
+        ensures { result ≡ length (needs_in self.now txn) }
+    {
+        needs_count(&self.entries, txn)
+    }
+
     /// Whom a request ends, the oldest first. It is refused for want of memory alone.
     pub fn wounded(&self, alloc: Global, txn: TxnId, needs: &[Lock]) -> Result<Ids, Fault>
         ensures ok { IfOk result (λ ids. ids ≡ wounded self.now txn needs.now) }
@@ -147,8 +157,8 @@ impl Table {
         ensures table { self.new ≡ change_claim self.old held.old.txn (granted needs.now) }
         ensures txn { held.new.txn ≡ held.old.txn }
     {
-        let at = place(&self.entries, held.txn);
-        self.entries[at].grant(&mut held.buffer, needs);
+        let spot = place(&self.entries, held.txn);
+        self.entries[spot].grant(&mut held.buffer, needs);
     }
 
     /// Keeps a request that has to wait and ends nobody, with the room that its token has. It takes no memory.
@@ -160,8 +170,8 @@ impl Table {
         ensures table { self.new ≡ change_claim self.old held.old.txn (waiting needs.now) }
         ensures txn { held.new.txn ≡ held.old.txn }
     {
-        let at = place(&self.entries, held.txn);
-        self.entries[at].wait(&mut held.buffer, needs);
+        let spot = place(&self.entries, held.txn);
+        self.entries[spot].wait(&mut held.buffer, needs);
     }
 
     /// From now on nobody ends it.

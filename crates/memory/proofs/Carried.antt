@@ -17,11 +17,11 @@ use Rattle.protocol.specs.Step.{with_vote}
 use Rattle.protocol.specs.Plan.{Puts, changed, held_in, without_rows}
 use Rattle.protocol.proofs.PlanRows.{Ascend, put_again, find-with_row, without-with_row}
 use Rattle.protocol.proofs.RowChanges.{by_id-without_rows, short-without_row}
-use Rattle.rows.specs.CodeRows.{is_reading, is_idle, may_decide, phase_of_wait}
+use Rattle.rows.specs.CodeRows.{is_reading, is_collecting, is_idle, may_decide, phase_of_wait}
 use Rattle.rows.specs.declared.wait.Wait.{Wait}
-use Rattle.rows.specs.RowTable.{has_phase, put_row, MayEnd}
+use Rattle.rows.specs.RowTable.{has_phase, phase_of_row, put_row, with_yes, MayEnd}
 use Rattle.rows.proofs.Wounds.{may_end_wounded, others_end, row_stays}
-use Rattle.memory.specs.Carry.{Admits, MayUndo, MayAsk, FitsRows, admitted_to, asker, is_collecting, may_ask, may_end, admitted, MayStand, IsDated, CanStand}
+use Rattle.memory.specs.Carry.{Admits, MayUndo, MayAsk, FitsRows, admitted_to, asker, may_ask, may_end, admitted, MayStand, IsDated, CanStand}
 use Rattle.memory.specs.Plans.{counted}
 use Rattle.memory.specs.declared.plan.Change.{Change}
 use Rattle.memory.specs.Served.{IsHolding, stamp_held}
@@ -246,6 +246,20 @@ collecting_holds_none (WaitsCommit l ps rs ws) e = refl
 collecting_holds_none (Collecting l ps rs ws votes) e = refl
 collecting_holds_none (IsPrepared c p) e = absurd (false≢true e)
 collecting_holds_none (IsDecided s ps) e = absurd (false≢true e)
+
+-- the phase with a yes
+counted_by : (n p : ℕ) (q : Phase) → with_yes n p q ≡ elim q as (λ _. Phase) [ Collecting l ps rs ws votes ↦ Collecting l ps rs ws (with_vote n p votes) | _ ↦ q ]
+counted_by n p Idle = refl
+counted_by n p (WaitsRead k) = refl
+counted_by n p (WaitsPrepare c rs ws) = refl
+counted_by n p (WaitsCommit l ps rs ws) = refl
+counted_by n p (Collecting l ps rs ws votes) = refl
+counted_by n p (IsPrepared c at) = refl
+counted_by n p (IsDecided s ps) = refl
+
+pub counted_is : (n p : ℕ) (o : Option Row) → with_yes n p (phase_of_row o) ≡ counted n p o
+counted_is n p None = refl
+counted_is n p (Some r) = counted_by n p r.phase
 
 pub holding_counted : (holds : List ℕ) (rows next : List Row) (t : Id) (n p : ℕ) (held : List Lock) → Ascend rows → IsHolding holds rows → has_phase is_collecting rows t ≡ true
     → next ≡ put_row rows t held (counted n p (find_row rows t)) → IsHolding holds next

@@ -9,9 +9,9 @@ use Rattle.record.specs.Facts.{Facts, recorded}
 use Rattle.record.specs.declared.record.Record.{Record}
 use Rattle.facts.specs.Rules.{follows_facts}
 use Rattle.locks.specs.Table.{Token}
-use Rattle.protocol.specs.Rows.{Row, Memory, Phase, Idle, Collecting, claims, find_row, needs_of}
+use Rattle.protocol.specs.Rows.{Row, Memory, Idle, claims, find_row, needs_of}
 use Rattle.protocol.specs.Plan.{held_in, without_rows, carried}
-use Rattle.rows.specs.CodeRows.{is_reading, is_idle, may_decide, may_abort, may_close, phase_of_wait}
+use Rattle.rows.specs.CodeRows.{is_reading, is_collecting, is_idle, may_decide, may_abort, may_close, phase_of_wait}
 use Rattle.rows.specs.RowTable.{RowTable, put_row, has_phase, room}
 use Rattle.rows.specs.States.{is_prepare_of, is_commit_of, is_abort_of, is_outcome_of}
 use Rattle.memory.specs.Kept.{Kept}
@@ -19,11 +19,6 @@ use Rattle.memory.specs.Ledger.{writes_standing, CanInstall}
 use Rattle.memory.specs.Plans.{plan_of}
 use Rattle.memory.specs.declared.plan.Plan.{Plan}
 use Rattle.memory.specs.declared.plan.Change.{Change}
-
--- it collects votes
-abbrev pub is_collecting : Phase → Bool
-is_collecting (Collecting latest parts reads writes votes) = true
-is_collecting _ = false
 
 -- a transaction may ask for locks: it reads, or has no row while there is room for one
 abbrev pub may_ask : List Row → Id → Bool

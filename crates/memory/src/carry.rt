@@ -4,9 +4,9 @@ ghost use Rattle.units.specs.Locks.{with_locks};
 ghost use Rattle.protocol.specs.Rows.{Memory, Idle, find_row, without_row};
 ghost use Rattle.protocol.specs.Step.{facts_after};
 ghost use Rattle.protocol.specs.Plan.{carried, changed, ended_by, held_in, with_ids, without_rows};
-ghost use Rattle.rows.specs.RowTable.{has_phase, put_row, phase_by, room};
-ghost use Rattle.memory.specs.Carry.{AdmissionIsUnseen, ReadyIsCarriable, IsFit, MayAsk, IsReady, IsCarriable, IsDated, Admits, MayUndo, MayDrop, MayFollow, MayInstall, CanStand, FitsRows, Asks, HasRoom, asker, admitted, admitted_to, installed_by, is_collecting, may_ask, may_end};
-ghost use Rattle.memory.specs.Plans.{plan_of, change_of, counted};
+ghost use Rattle.rows.specs.RowTable.{put_row, phase_by, room};
+ghost use Rattle.memory.specs.Carry.{AdmissionIsUnseen, ReadyIsCarriable, IsFit, MayAsk, IsReady, IsCarriable, IsDated, Admits, MayUndo, MayDrop, MayFollow, MayInstall, CanStand, FitsRows, Asks, HasRoom, asker, admitted, admitted_to, installed_by, may_ask, may_end};
+ghost use Rattle.memory.specs.Plans.{plan_of, change_of};
 ghost use Rattle.memory.specs.Served.{IsHolding, stamp_held};
 
 use crate::ended::Ended;
@@ -19,7 +19,7 @@ use record::Record;
 use rows::{Row, Rows};
 use safetime::SafeTime;
 use std::alloc::Global;
-use units::{Fault, Lock, ShardNo, Stamp, TxnId, Writes};
+use units::{Fault, Lock, Stamp, TxnId, Writes};
 
 /// What was made ready for a plan: a copy of the writes that its record installs, and whether its transaction got a row.
 #[derive(Debug, Drop)]
@@ -224,7 +224,7 @@ fn make_change(
             spend(logged)
         }
         Change::Counts(txn, from, at) => {
-            vote(rows, txn, from, at);
+            rows.vote(txn, from, at);
             spend(logged)
         }
         Change::Stands(txn) => {
@@ -346,12 +346,4 @@ fn spend(logged: Option<Logged>) -> Option<Record>
         Some(logged) => Some(logged.spend()),
         None => None,
     }
-}
-
-// A shard's yes is kept.
-fn vote(rows: &mut Rows, txn: TxnId, from: ShardNo, at: Stamp)
-    requires { has_phase is_collecting rows.old.rows txn ≡ true }
-    ensures { rows.new.rows ≡ put_row rows.old.rows txn (held_in rows.old.rows txn) (counted from at (find_row rows.old.rows txn)) }
-{
-    let _ = (txn, from, at);
 }

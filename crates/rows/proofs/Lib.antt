@@ -1,3 +1,4 @@
+pub mod Ballots
 pub mod Lists
 pub mod Rooms
 pub mod Stamps

@@ -17,8 +17,13 @@ use Rattle.protocol.proofs.RowTable.{claims-find_row, claims-without_row}
 use Rattle.locks.specs.Table.{Token, has_claim, without_claim, without_claims, change_claim, made_firm}
 use Rattle.rows.specs.States.{ReadingState, is_prepare_of, is_commit_of, prepared_by, decided_by}
 use Rattle.rows.specs.CodeRows.{token_of, txn_of, phase_of, row_of, has_txn, passes, put_in, without_txn, is_reading, is_idle, most_rows, IsRowList}
+<<<<<<< HEAD
 use Rattle.rows.specs.RowTable.{RowTable, paired, table_of, put_row, room, room_by, without_token, phase_by}
 use Rattle.protocol.specs.Plan.{held_in, without_rows}
+=======
+use Rattle.rows.specs.RowTable.{RowTable, paired, table_of, has_phase, put_row, room, room_by, without_token, phase_by}
+use Rattle.protocol.specs.Plan.{held_in, without_rows}
+>>>>>>> 9a6369b38d0ab1f0aa2562e1e5a32d91494b313a
 use Rattle.rows.specs.declared.row.Row.{Row as CodeRow}
 use Rattle.rows.specs.declared.row.Row.TheVariants.{Prepared, Decided}
 use Rattle.rows.proofs.Lists.{length-keep}
@@ -164,6 +169,12 @@ pub matched : (o : Option (Bor CodeRow)) (rows : List CodeRow) (table : List Cla
     (λ r. find_row (paired rows table) t ≡ Some (record { txn = t; held = held_in (paired rows table) t; phase = phase_of r.now }))
 matched None rows table t e = found_no_row rows table t (sym (e ∙ find-is (λ r. same_id (txn_of r) t) rows))
 matched (Some r) rows table t e = found_row rows table t r.now (sym (e ∙ find-is (λ r. same_id (txn_of r) t) rows))
+
+-- a test of it is one of the row that a contract sees
+pub tested : (test : Phase → Bool) (o : Option CodeRow) (rows : List CodeRow) (table : List Claim) (t : Id) → o ≡ find (λ r. same_id (txn_of r) t) rows
+    → when (λ r. test (phase_of r)) o ≡ has_phase test (paired rows table) t
+tested test o rows table t e =
+    ap (when (λ (r : CodeRow). test (phase_of r))) (e ∙ find-is (λ r. same_id (txn_of r) t) rows) ∙ sym (has_phase-is test rows table t)
 
 -- a transaction without a row has none of the code's, and no claim
 pub absent_row : (rows : List CodeRow) (table : List Claim) (t : Id) → find_row (paired rows table) t ≡ None → has_txn rows t ≡ false

@@ -1,5 +1,5 @@
 -- Each transition of a state, as a contract sees the rows before and after it.
-use Rattle.std.proofs.Common.{◌≡◌, Bool, true, false, not, cond, List, [], ◌∷◌, Option, Some, None, refl, sym, ap, ◌∙◌}
+use Rattle.std.proofs.Common.{◌≡◌, ℕ, Bool, true, false, not, cond, List, [], ◌∷◌, Option, Some, None, refl, sym, ap, ◌∙◌}
 use Rattle.std.proofs.lemmas.Bool.{false≢true}
 use Rattle.units.specs.Ids.{Id, same_id}
 use Rattle.units.specs.ById.{IsById, change_member}
@@ -10,10 +10,17 @@ use Rattle.record.specs.declared.record.Record.{Record}
 use Rattle.protocol.specs.Rows.{Row, Phase, Idle, claim_of, claims, find_row, with_row, needs_of, is_firm}
 use Rattle.protocol.proofs.RowTable.{with_row-is}
 use Rattle.locks.specs.Table.{Token, without_claim, change_claim, granted, waiting, resumed, made_firm}
+<<<<<<< HEAD
 use Rattle.rows.specs.States.{ReadingState, CollectingState, PreparedState, DecidedState, is_prepare_of, is_commit_of, prepared_by, decided_by, collecting_of}
 use Rattle.rows.specs.CodeRows.{txn_of, phase_of, phase_of_wait, row_of, passes, put_in, without_txn, is_idle, may_decide, may_abort, may_close, IsRowList}
 use Rattle.rows.specs.RowTable.{paired, needs_in, needs_by, put_row, phase_by}
 use Rattle.protocol.specs.Plan.{held_in}
+=======
+use Rattle.rows.specs.States.{ReadingState, CollectingState, PreparedState, DecidedState, is_prepare_of, is_commit_of, prepared_by, decided_by, collecting_of, with_yes as with_yes_state}
+use Rattle.rows.specs.CodeRows.{txn_of, phase_of, phase_of_wait, row_of, passes, put_in, without_txn, is_idle, is_collecting, may_decide, may_abort, may_close, IsRowList}
+use Rattle.rows.specs.RowTable.{paired, needs_in, needs_by, put_row, phase_by, phase_in, phase_of_row, with_yes}
+use Rattle.protocol.specs.Plan.{held_in}
+>>>>>>> 9a6369b38d0ab1f0aa2562e1e5a32d91494b313a
 use Rattle.rows.specs.declared.row.Row.{Row as CodeRow}
 use Rattle.rows.specs.declared.row.Row.TheVariants.{Reading, Collecting, Prepared, Decided}
 use Rattle.rows.specs.declared.wait.Wait.{Wait}
@@ -194,3 +201,28 @@ given_room rows mid new table t s z laws tied found mid_is new_is same wait =
     ∙ with_same seen (record { txn = t; held = held_in seen t; phase = phase_of_wait s.wait }) (by_id-paired rows table laws.order) (found_row rows table t (Reading s) found))
     (kept rows mid new table t (Reading s) (Reading z) laws tied found mid_is new_is (same ∙ found_txn rows t (Reading s) found)
     (ap (λ (w : Option Wait). needs_of (phase_of_wait w)) wait) (ap (λ (w : Option Wait). is_firm (phase_of_wait w)) wait))
+
+-- who collects votes is the coordinator
+pub who_collects : (y : CodeRow) → is_collecting (phase_of y) ≡ true → ((x : CollectingState) → y ≡ Collecting x → ⊥) → ⊥
+who_collects (Reading s) h n = by_wait s.wait h
+  where
+    by_wait : (w : Option Wait) → is_collecting (phase_of_wait w) ≡ true → ⊥
+    by_wait None e = false≢true e
+    by_wait (Some (Wait.Read k)) e = false≢true e
+    by_wait (Some (Wait.Prepare p)) e = false≢true e
+    by_wait (Some (Wait.Commit c)) e = false≢true e
+who_collects (Collecting s) h n = n s refl
+who_collects (Prepared s) h n = false≢true h
+who_collects (Decided s) h n = false≢true h
+
+-- a yes comes
+pub voted : (rows mid new : List CodeRow) (table : List Claim) (t : Id) (s z : CollectingState) (n p : ℕ)
+    → IsRowList rows → claims (paired rows table) ≡ table
+    → row_of rows t ≡ Some (Collecting s) → mid ≡ without_txn rows t → new ≡ put_in mid (Collecting z) → z ≡ with_yes_state n p s
+    → IsMoved new table (put_row (paired rows table) t (held_in (paired rows table) t) (with_yes n p (phase_in (paired rows table) t)))
+voted rows mid new table t s z n p laws tied found mid_is new_is z_is =
+    let seen = paired rows table in
+    told new table _ _ (ap (λ (x : CollectingState). put_row seen t (held_in seen t) (phase_of (Collecting x))) z_is
+    ∙ ap (λ (o : Option Row). put_row seen t (held_in seen t) (with_yes n p (phase_of_row o))) (sym (found_row rows table t (Collecting s) found)))
+    (kept rows mid new table t (Collecting s) (Collecting z) laws tied found mid_is new_is
+    (ap (λ (x : CollectingState). x.token.txn) z_is ∙ found_txn rows t (Collecting s) found) refl refl)

@@ -44,6 +44,11 @@ abbrev pub is_idle : Phase → Bool
 is_idle Idle = true
 is_idle _ = false
 
+-- it collects votes
+abbrev pub is_collecting : Phase → Bool
+is_collecting (CollectsVotes latest parts reads writes votes) = true
+is_collecting _ = false
+
 -- it is idle, or collects votes
 abbrev pub may_decide : Phase → Bool
 may_decide Idle = true

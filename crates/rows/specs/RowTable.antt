@@ -6,8 +6,9 @@ use Rattle.units.specs.ById.{find_member, without_member}
 use Rattle.units.specs.Locks.{Claim}
 use Rattle.units.specs.declared.lock.Lock.{Lock}
 use Rattle.record.specs.declared.record.Record.{Record}
-use Rattle.protocol.specs.Rows.{Row, Phase, Idle, IsPrepared, IsDecided, find_row, with_row, without_row, needs_of}
+use Rattle.protocol.specs.Rows.{Row, Phase, Idle, Collecting, IsPrepared, IsDecided, find_row, with_row, without_row, needs_of}
 use Rattle.protocol.specs.Plan.{held_in, without_rows}
+use Rattle.protocol.specs.Step.{with_vote}
 use Rattle.locks.specs.Table.{Token}
 use Rattle.rows.specs.CodeRows.{token_of, txn_of, phase_of, is_reading}
 use Rattle.rows.specs.declared.row.Row.{Row as CodeRow}
@@ -48,6 +49,10 @@ without_token tokens t = without_member (λ k. k.txn) tokens t
 abbrev pub put_row : List Row → Id → List Lock → Phase → List Row
 put_row rows t held phase = with_row rows (record { txn = t; held = held; phase = phase })
 
+-- a transaction that holds nothing and is idle
+abbrev pub idle_row : Id → Row
+idle_row t = record { txn = t; held = []; phase = Idle }
+
 -- the locks that a row wants, none where there is no row
 abbrev pub needs_by : Option Row → List Lock
 needs_by None = []
@@ -65,6 +70,19 @@ without_tokens tokens (t ∷ ts) = without_tokens (without_token tokens t) ts
 -- a transaction has a row whose phase passes a test
 abbrev pub has_phase : (Phase → Bool) → List Row → Id → Bool
 has_phase test rows t = when (λ r. test r.phase) (find_row rows t)
+
+-- the phase of a transaction, idle where it has no row
+abbrev pub phase_of_row : Option Row → Phase
+phase_of_row None = Idle
+phase_of_row (Some r) = r.phase
+
+abbrev pub phase_in : List Row → Id → Phase
+phase_in rows t = phase_of_row (find_row rows t)
+
+-- a phase with a yes of a shard, where it collects votes
+abbrev pub with_yes : ℕ → ℕ → Phase → Phase
+with_yes n p (Collecting latest parts reads writes votes) = Collecting latest parts reads writes (with_vote n p votes)
+with_yes n p phase = phase
 
 -- several transactions may be ended, one by one: each has a row that is not firm
 abbrev pub MayEnd : List Row → List Id → Type 0

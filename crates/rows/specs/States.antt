@@ -1,10 +1,12 @@
 -- What the states of a transaction are seen as, and the records that lead from one to the next.
-use Rattle.std.specs.Prelude.{ℕ, Bool, false, List, [], map, Option, None, Some}
+use Rattle.std.specs.Prelude.{◌≡◌, ℕ, Bool, true, false, nat_eq, nat_lt, List, [], ◌∷◌, map, Option, None, Some}
+use Rattle.units.specs.Lists.{any}
 use Rattle.units.specs.Ids.{Id, same_id}
 use Rattle.units.specs.Keys.{Bytes}
 use Rattle.units.specs.declared.writes.Write.{Write}
 use Rattle.record.specs.declared.record.Record.{Record}
 use Rattle.protocol.specs.Rows.{Phase, Voted, Idle, WaitsRead, WaitsPrepare, WaitsCommit, Collecting, IsPrepared, IsDecided}
+use Rattle.protocol.specs.Step.{with_vote}
 use Rattle.locks.specs.Table.{Token}
 use Rattle.rows.specs.declared.votes.Voted.{Voted as CastVote}
 use Rattle.rows.specs.declared.wait.Wait.{Wait}
@@ -13,6 +15,15 @@ use Rattle.rows.specs.declared.wait.CommitRequest.{CommitRequest}
 -- a vote as the protocol sees it
 abbrev pub voted_of : CastVote → Voted
 voted_of v = record { shard = v.shard; at = v.at }
+
+-- a shard has voted
+abbrev pub has_voted : ℕ → List CastVote → Bool
+has_voted n votes = any (λ v. nat_eq v.shard n) votes
+
+-- votes of shards below 16, each shard once
+abbrev pub AreVotes : List CastVote → Type 0
+AreVotes [] = Unit {0}
+AreVotes (v ∷ vs) = (nat_lt v.shard 16 ≡ true) × (has_voted v.shard vs ≡ false) × AreVotes vs
 
 -- one vote of each shard
 abbrev pub most_votes : ℕ
@@ -48,6 +59,10 @@ reading_of token wait = record { token = token; wait = wait }
 -- the state of a coordinator that has no vote yet
 abbrev pub collecting_of : Token → CommitRequest → CollectingState
 collecting_of token request = record { token = token; request = request; votes = [] }
+
+-- the state with a yes of a shard
+abbrev pub with_yes : ℕ → ℕ → CollectingState → CollectingState
+with_yes n p s = record { token = s.token; request = s.request; votes = with_vote n p s.votes }
 
 -- the record is a promise of the transaction
 abbrev pub is_prepare_of : Id → Record → Bool

@@ -2,8 +2,8 @@
 ghost use Rattle.std.specs.Prelude.{◌≡◌, [], true};
 ghost use Rattle.protocol.specs.Rows.{Collecting, without_row};
 ghost use Rattle.rows.specs.States.{is_prepare_of, is_commit_of, is_abort_of, is_outcome_of};
-ghost use Rattle.rows.specs.CodeRows.{is_idle, may_decide, may_abort, may_close};
-ghost use Rattle.rows.specs.RowTable.{has_phase, put_row, phase_by};
+ghost use Rattle.rows.specs.CodeRows.{is_idle, is_collecting, may_decide, may_abort, may_close};
+ghost use Rattle.rows.specs.RowTable.{has_phase, put_row, phase_by, phase_in, with_yes};
 ghost use Rattle.protocol.specs.Plan.{held_in};
 
 use crate::row::Row;
@@ -11,7 +11,7 @@ use crate::rows::Rows;
 use crate::votes::Gathering;
 use gatelog::Logged;
 use record::Record;
-use units::TxnId;
+use units::{ShardNo, Stamp, TxnId};
 
 impl Rows {
     /// The coordinator of several shards begins to wait for their votes, with what it holds. It takes no memory.
@@ -22,6 +22,19 @@ impl Rows {
         let reading = self.rows.take_reading(txn);
         let collecting = reading.collect(gathering, &mut self.locks);
         self.rows.put(Row::Collecting(collecting));
+    }
+
+    /// A yes of a shard comes to the coordinator. The first of each shard is kept. It takes no memory.
+    pub fn vote(&mut self, txn: TxnId, from: ShardNo, at: Stamp)
+        requires { has_phase is_collecting self.old.rows txn ≡ true }
+        ensures { self.new.rows ≡ put_row self.old.rows txn (held_in self.old.rows txn) (with_yes from at (phase_in self.old.rows txn)) }
+    {
+        match self.rows.take(txn) {
+            Row::Collecting(collecting) => {
+                self.rows.put(Row::Collecting(collecting.vote(from, at)));
+            }
+            _ => unreachable!(),
+        }
     }
 
     /// A logged promise is spent: the transaction is prepared, and holds what it held. It takes no memory.

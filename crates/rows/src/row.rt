@@ -1,7 +1,7 @@
 //! A row: a transaction in one of its states.
 ghost use Rattle.std.specs.Prelude.{◌≡◌};
 ghost use Rattle.units.specs.Ids.{same_id};
-ghost use Rattle.rows.specs.CodeRows.{txn_of, prepared_of, decided_of};
+ghost use Rattle.rows.specs.CodeRows.{txn_of, phase_of, is_reading, prepared_of, decided_of};
 ghost use Rattle.locks.specs.Table.{without_claim};
 
 use crate::states::{Collecting, Decided, Prepared, Reading};
@@ -34,6 +34,14 @@ impl Row {
         ensures { result ≡ same_id (txn_of self.now) txn }
     {
         self.txn().is(txn)
+    }
+
+    /// Whether it reads.
+    #[tactic(auto, using(crate::proofs::Transitions::reading_is_open))]
+    pub fn is_reading(&self) -> bool
+        ensures { result ≡ is_reading (phase_of self.now) }
+    {
+        matches!(self, Row::Reading(_))
     }
 
     /// Whose row it is and its timestamp, where it is prepared.

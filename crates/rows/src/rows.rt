@@ -6,7 +6,7 @@ ghost use Rattle.units.specs.LockLaws.{IsLawfulTable};
 ghost use Rattle.units.specs.Locks.{holds, is_free, ready, wounded};
 ghost use Rattle.protocol.specs.Rows.{Idle, claims, find_row, without_row};
 ghost use Rattle.rows.specs.CodeRows.{phase_of, is_reading};
-ghost use Rattle.rows.specs.RowTable.{has_phase, put_row, nth_prepared, nth_decided, without_token};
+ghost use Rattle.rows.specs.RowTable.{needs_in, has_phase, put_row, nth_prepared, nth_decided, without_token};
 ghost use Rattle.protocol.specs.Plan.{held_in, without_rows};
 
 use crate::list::RowList;
@@ -74,6 +74,23 @@ impl Rows {
             (λ row. find_row self.now.rows txn ≡ Some (record { txn = txn; held = held_in self.now.rows txn; phase = phase_of row.now })) }
     {
         self.rows.find(txn)
+    }
+
+    /// Whether a transaction reads, so that it may be ended, granted locks, or made to wait.
+    pub fn is_reading(&self, txn: TxnId) -> bool
+        ensures { result ≡ has_phase is_reading self.now.rows txn }
+    {
+        match self.rows.find(txn) {
+            Some(row) => row.is_reading(),
+            None => false,
+        }
+    }
+
+    /// How many locks a transaction waits for.
+    pub fn needs_count(&self, txn: TxnId) -> usize
+        ensures { result ≡ length (needs_in self.now.rows txn) }
+    {
+        self.locks.needs_count(txn)
     }
 
     /// Whether a transaction holds a key. One that has no row holds nothing.

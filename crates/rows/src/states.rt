@@ -3,7 +3,7 @@
 ghost use Rattle.std.specs.Prelude.{◌≡◌, ◌≤◌, ◌+◌, [], Some, None, true, false, length, OnOk, IfErr};
 ghost use Rattle.std.specs.Option.{option_copied};
 ghost use Rattle.units.specs.Locks.{is_free, ready, wounded};
-ghost use Rattle.rows.specs.States.{reading_of, collecting_of, is_prepare_of, is_commit_of, is_abort_of, is_outcome_of, prepared_by, decided_by};
+ghost use Rattle.rows.specs.States.{reading_of, collecting_of, with_yes, is_prepare_of, is_commit_of, is_abort_of, is_outcome_of, prepared_by, decided_by};
 ghost use Rattle.locks.specs.Table.{has_claim, without_claim, change_claim, granted, waiting, resumed, made_firm, held_in, needs_in, most_held};
 
 use crate::votes::{Gathering, Votes};
@@ -230,6 +230,23 @@ impl Reading {
 }
 
 impl Collecting {
+    // A yes of a shard comes. Its first is kept.
+    pub(crate) fn vote(self, from: ShardNo, at: Stamp) -> Collecting
+        ensures { result ≡ with_yes from at self }
+    {
+        let Collecting {
+            held,
+            request,
+            mut votes,
+        } = self;
+        votes.add(from, at);
+        Collecting {
+            held,
+            request,
+            votes,
+        }
+    }
+
     /// Whose state it is.
     pub fn txn(&self) -> TxnId
         ensures { result ≡ self.now.token.txn }

@@ -1,5 +1,7 @@
 //! The votes of a commit that is collected.
-ghost use Rattle.std.specs.Prelude.{◌≡◌, [], IfOk, IfErr};
+ghost use Rattle.std.specs.Prelude.{◌≡◌, [], IfOk, IfErr, map};
+ghost use Rattle.protocol.specs.Step.{with_vote};
+ghost use Rattle.rows.specs.States.{has_voted, voted_of};
 
 use crate::wait::CommitRequest;
 use std::alloc::Global;
@@ -22,13 +24,13 @@ pub struct Votes {
 impl Model for Votes {
     ghost use Rattle.std.specs.Prelude.{List, ◌≤◌, map, vec_capacity};
     ghost use Rattle.protocol.specs.Rows.{Voted};
-    ghost use Rattle.rows.specs.States.{voted_of, most_votes};
+    ghost use Rattle.rows.specs.States.{voted_of, most_votes, AreVotes};
 
     ghost Value = { List Voted };
 
     ghost view = { λ v. map voted_of v.votes.items };
 
-    ghost invariant = { λ v. most_votes ≤ vec_capacity v.votes };
+    ghost invariant = { λ v. AreVotes v.votes.items × (most_votes ≤ vec_capacity v.votes) };
 }
 
 impl Votes {
@@ -43,6 +45,36 @@ impl Votes {
         let votes = Vec::with_capacity(alloc, Votes::MOST)?;
         Ok(Votes { votes })
     }
+
+    /// A yes of a shard comes. Its first is kept. It takes no memory.
+    pub fn add(&mut self, shard: ShardNo, at: Stamp)
+        ensures { self.new ≡ with_vote shard at self.old }
+    {
+        let _number = shard.number();
+        if has_voted(&self.votes, shard) {
+            return;
+        }
+        self.votes.push_reserved(Voted { shard, at });
+    }
+
+    /// The votes in order.
+    pub fn as_slice(&self) -> &[Voted]
+        ensures { map voted_of result.now ≡ self.now }
+    {
+        self.votes.as_slice()
+    }
+}
+
+// The shard has voted.
+fn has_voted(votes: &[Voted], shard: ShardNo) -> bool
+    ensures { result ≡ has_voted shard votes.now }
+{
+    for voted in votes {
+        if voted.shard == shard {
+            return true;
+        }
+    }
+    false
 }
 
 /// A commit whose votes are to be collected, with the space for them.

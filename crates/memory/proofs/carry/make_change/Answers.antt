@@ -11,7 +11,7 @@ use Rattle.memory.specs.Plans.{change_of, collecting, counted}
 use Rattle.memory.specs.Served.{IsHolding}
 use Rattle.memory.specs.declared.plan.Change.{Change}
 use Rattle.memory.specs.declared.plan.Change.TheVariants.{Keeps, Ends, Drops, Reads, Waits, Collects, Counts, Stands, Decides}
-use Rattle.memory.proofs.Carried.{asker_reads, put_is_idle, put_twice, put_is_change, holding_put, holding_left, holding_counted, ending_holds_none, wait_holds_none, can_stand}
+use Rattle.memory.proofs.Carried.{asker_reads, put_is_idle, put_twice, put_is_change, holding_put, holding_left, holding_counted, counted_is, ending_holds_none, wait_holds_none, can_stand}
 use Rattle.memory.proofs.carry.make_change.Goals as goal
 
 pub grant-requires-clause-reading : goal.grant-requires-clause-reading
@@ -169,13 +169,13 @@ returns-in-Collects-clause-ended c =
 pub returns-in-Counts-clause-holding : goal.returns-in-Counts-clause-holding
 returns-in-Counts-clause-holding c =
     let fits : FitsRows c.args.rows.now.rows c.args.wounded.now c.args.needs.now c.args.logged (Counts c.in-Counts.txn c.in-Counts.from c.in-Counts.at) = subst (FitsRows c.args.rows.now.rows c.args.wounded.now c.args.needs.now c.args.logged) c.in-Counts.is c.requires.fits in
-    holding_counted c.args.times.now.holds c.args.rows.now.rows c.vote.new.rows.rows c.in-Counts.txn c.in-Counts.from c.in-Counts.at _ c.laws.ensures.order c.requires.holding fits.2 c.vote.ensures
+    holding_counted c.args.times.now.holds c.args.rows.now.rows c.vote.new.self.rows c.in-Counts.txn c.in-Counts.from c.in-Counts.at _ c.laws.ensures.order c.requires.holding fits.2 (c.vote.ensures ∙ ap (put_row c.args.rows.now.rows c.in-Counts.txn (held_in c.args.rows.now.rows c.in-Counts.txn)) (counted_is c.in-Counts.from c.in-Counts.at (find_row c.args.rows.now.rows c.in-Counts.txn)))
 
 pub returns-in-Counts-clause-rows : goal.returns-in-Counts-clause-rows
 unfolding changed
 returns-in-Counts-clause-rows c =
     let fits : FitsRows c.args.rows.now.rows c.args.wounded.now c.args.needs.now c.args.logged (Counts c.in-Counts.txn c.in-Counts.from c.in-Counts.at) = subst (FitsRows c.args.rows.now.rows c.args.wounded.now c.args.needs.now c.args.logged) c.in-Counts.is c.requires.fits in
-    c.vote.ensures ∙ ap (λ (us : List Id). put_row (without_rows c.args.rows.now.rows us) c.in-Counts.txn (held_in (without_rows c.args.rows.now.rows us) c.in-Counts.txn) (counted c.in-Counts.from c.in-Counts.at (find_row c.args.rows.now.rows c.in-Counts.txn))) (sym fits.0)
+    c.vote.ensures ∙ ap (put_row c.args.rows.now.rows c.in-Counts.txn (held_in c.args.rows.now.rows c.in-Counts.txn)) (counted_is c.in-Counts.from c.in-Counts.at (find_row c.args.rows.now.rows c.in-Counts.txn)) ∙ ap (λ (us : List Id). put_row (without_rows c.args.rows.now.rows us) c.in-Counts.txn (held_in (without_rows c.args.rows.now.rows us) c.in-Counts.txn) (counted c.in-Counts.from c.in-Counts.at (find_row c.args.rows.now.rows c.in-Counts.txn))) (sym fits.0)
     ∙ ap (λ (h : Change). changed (change_of c.args.rows.now.rows c.args.needs.now c.args.logged h) (without_rows c.args.rows.now.rows c.args.wounded.now)) (sym c.in-Counts.is)
 
 pub returns-in-Counts-clause-ended : goal.returns-in-Counts-clause-ended
