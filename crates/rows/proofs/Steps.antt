@@ -17,13 +17,8 @@ use Rattle.protocol.proofs.RowTable.{claims-find_row, claims-without_row}
 use Rattle.locks.specs.Table.{Token, has_claim, without_claim, without_claims, change_claim, made_firm}
 use Rattle.rows.specs.States.{ReadingState, is_prepare_of, is_commit_of, prepared_by, decided_by}
 use Rattle.rows.specs.CodeRows.{token_of, txn_of, phase_of, row_of, has_txn, passes, put_in, without_txn, is_reading, is_idle, most_rows, IsRowList}
-<<<<<<< HEAD
-use Rattle.rows.specs.RowTable.{RowTable, paired, table_of, put_row, room, room_by, without_token, phase_by}
-use Rattle.protocol.specs.Plan.{held_in, without_rows}
-=======
 use Rattle.rows.specs.RowTable.{RowTable, paired, table_of, has_phase, put_row, room, room_by, without_token, phase_by}
 use Rattle.protocol.specs.Plan.{held_in, without_rows}
->>>>>>> 9a6369b38d0ab1f0aa2562e1e5a32d91494b313a
 use Rattle.rows.specs.declared.row.Row.{Row as CodeRow}
 use Rattle.rows.specs.declared.row.Row.TheVariants.{Prepared, Decided}
 use Rattle.rows.proofs.Lists.{length-keep}
