@@ -2,6 +2,7 @@ pub mod Changes
 pub mod Clashes
 pub mod Oldest
 pub mod Opens
+pub mod OpensEach
 pub mod Pairs
 pub mod Places
 pub mod Release

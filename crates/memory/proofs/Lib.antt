@@ -3,3 +3,4 @@ pub mod Carried
 pub mod Learns
 pub mod Logged
 pub mod Served
+pub mod States

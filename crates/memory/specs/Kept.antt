@@ -42,3 +42,11 @@ IsRefusal (Ok p) fault = fault ≡ Fault.Memory
 abbrev pub IsPlanned : Kept → protocol.Planned → Result Plan Fault → Type 0
 IsPlanned k planned result =
     MatchResult result (λ plan. planned ≡ Ok (plan_of k.memory.rows plan)) (IsRefusal planned)
+
+-- how a transaction stands, by what is told of one that has no row
+abbrev pub standing_of : Past → Standing
+standing_of Past.Unknown = IsUnknown
+standing_of Past.Ended = WasEnded
+standing_of Past.Aborted = WasAborted
+standing_of (Past.Settled at parts) = WasSettled at parts
+standing_of (Past.Closed outcome) = WasClosed outcome

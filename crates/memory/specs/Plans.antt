@@ -1,12 +1,14 @@
 -- A plan of the code as one of the protocol.
-use Rattle.std.specs.Prelude.{◌≡◌, ℕ, List, [], Option, Some, None}
+use Rattle.std.specs.Prelude.{◌≡◌, ℕ, List, [], ◌∷◌, Option, Some, None}
 use Rattle.units.specs.Ids.{Id}
 use Rattle.units.specs.declared.lock.Lock.{Lock}
 use Rattle.record.specs.declared.record.Record.{Record}
+use Rattle.message.specs.declared.message.Envelope.{Envelope}
 use Rattle.rows.specs.CodeRows.{phase_of_wait}
 use Rattle.rows.specs.RowTable.{phase_by}
 use Rattle.rows.specs.declared.wait.CommitRequest.{CommitRequest}
-use Rattle.protocol.specs.Rows.{Phase, Row, Voted, Idle, Collecting, find_row}
+use Rattle.protocol.specs.Rows.{Phase, Row, Voted, Idle, WaitsRead, WaitsPrepare, WaitsCommit, Collecting, IsPrepared, IsDecided, find_row}
+use Rattle.protocol.specs.Draft.{vote_to}
 use Rattle.protocol.specs.Step.{with_vote}
 use Rattle.protocol.specs.Plan as protocol
 use Rattle.memory.specs.declared.plan.Plan.{Plan}
@@ -48,3 +50,8 @@ plan_of rows p =
       last = p.last;
       outbox = p.outbox;
     }
+
+-- the refused vote of a transaction, to the coordinator that awaits one
+abbrev pub refusal : ℕ → Id → Option ℕ → List Envelope
+refusal n t None = []
+refusal n t (Some coordinator) = vote_to n coordinator t None ∷ []

@@ -13,8 +13,8 @@ pub mod state;
 
 pub use carry::{Ready, ready_plans_can_be_carried};
 pub use ended::Ended;
-pub use laws::holds_follow_rows;
 pub use envelopes::{answer_to, ask_to, done_to, outcome_to, vote_to};
+pub use laws::holds_follow_rows;
 pub use ledger::Ledger;
 pub use plan::{Change, Plan};
 pub use planning::{exclusive, reads_stand};

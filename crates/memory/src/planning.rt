@@ -2,10 +2,11 @@
 ghost use Rattle.std.specs.Prelude.{◌≡◌, ◌++◌, ◌∷◌, [], Some, None, Ok, IfOk, IfErr, MatchResult};
 ghost use Rattle.units.specs.Locks.{exclusive};
 ghost use Rattle.units.specs.Lists.{each, listed};
-ghost use Rattle.protocol.specs.Draft.{other_parts};
-ghost use Rattle.protocol.specs.Plan.{replies, ends, drops, opens, votes_of, answers, tells, plan_abort, still_stand, held_in};
+ghost use Rattle.protocol.specs.Draft.{other_parts, refused_vote};
+ghost use Rattle.protocol.specs.Rows.{find_row};
+ghost use Rattle.protocol.specs.Plan.{replies, ends, drops, votes_of, answers, tells, plan_abort, still_stand, held_in};
 ghost use Rattle.memory.specs.Kept.{start_of};
-ghost use Rattle.memory.specs.Plans.{change_of, plan_of};
+ghost use Rattle.memory.specs.Plans.{change_of, plan_of, refusal};
 
 use crate::envelopes::{answer_to, done_to, outcome_to, vote_to};
 use crate::plan::{Change, Plan};
@@ -52,22 +53,6 @@ pub fn reads_stand(state: &State, txn: TxnId, reads: &Reads) -> bool
 }
 
 impl State {
-    /// The request of exclusive locks of what is written is granted once those that it ends are gone. It takes no memory.
-    pub fn opens_writes(&self, txn: TxnId, writes: &Writes) -> bool
-        ensures { result ≡ opens (start_of self.now) txn (exclusive writes.now) }
-    {
-        for write in writes.as_slice() {
-            let lock = [Lock {
-                key: write.key,
-                mode: Mode::Exclusive,
-            }];
-            if !self.opens(txn, &lock) {
-                return false;
-            }
-        }
-        true
-    }
-
     /// Messages alone.
     pub fn replies(&self, alloc: Global, out: Vec<Envelope>) -> Plan
         ensures { plan_of self.now.memory.rows result ≡ replies (start_of self.now) out.items }
@@ -112,7 +97,14 @@ impl State {
     }
 
     /// The row goes by a record.
-    pub fn drops(&self, alloc: Global, txn: TxnId, item: Record, last: Stamp, out: Vec<Envelope>) -> Plan
+    pub fn drops(
+        &self,
+        alloc: Global,
+        txn: TxnId,
+        item: Record,
+        last: Stamp,
+        out: Vec<Envelope>,
+    ) -> Plan
         ensures { plan_of self.now.memory.rows result ≡ drops txn item last out.items }
     {
         Plan {
@@ -126,6 +118,7 @@ impl State {
     }
 
     /// The decision to abort: the session and the other parts are told.
+    #[tactic(auto, unfolding(protocol::specs::Plan::plan_abort))]
     pub fn aborts(&self, alloc: Global, txn: TxnId, parts: Parts) -> Result<Plan, Fault>
         ensures plan { IfOk result (λ plan. plan_of self.now.memory.rows plan ≡ plan_abort (start_of self.now) txn parts) }
         ensures memory { IfErr result (λ fault. fault ≡ Fault.Memory) }
@@ -157,13 +150,21 @@ impl State {
     }
 
     /// Some are ended, and the row of a transaction is put.
-    pub fn puts(&self, alloc: Global, wounded: Ids, asked: (Vec<Lock>, Change), logged: Option<Record>, last: Stamp, reply: Option<Envelope>) -> Result<Plan, Fault>
+    pub fn puts(
+        &self,
+        alloc: Global,
+        wounded: Ids,
+        asked: (Vec<Lock>, Change),
+        logged: Option<Record>,
+        last: Stamp,
+        reply: Option<Envelope>,
+    ) -> Result<Plan, Fault>
         ensures plan { IfOk result (λ plan. plan_of self.now.memory.rows plan ≡ record {
-            wounded = wounded;
-            change = change_of self.now.memory.rows (asked.0).items logged (asked.1);
-            logged = logged;
-            last = last;
-            outbox = votes_of self.now.setup.shard self.now.memory.rows wounded ++ listed reply;
+          wounded = wounded;
+          change = change_of self.now.memory.rows (asked.0).items logged (asked.1);
+          logged = logged;
+          last = last;
+          outbox = votes_of self.now.setup.shard self.now.memory.rows wounded ++ listed reply;
         }) }
         ensures memory { IfErr result (λ fault. fault ≡ Fault.Memory) }
     {
@@ -197,7 +198,9 @@ impl State {
     }
 
     // The coordinator of the prepare that a transaction waits with.
-    fn awaits_vote(&self, txn: TxnId) -> Option<ShardNo> {
+    fn awaits_vote(&self, txn: TxnId) -> Option<ShardNo>
+        ensures { refused_vote self.now.setup.shard (find_row self.now.memory.rows txn) ≡ refusal self.now.setup.shard txn result }
+    {
         match self.row(txn) {
             Some(Row::Reading(reading)) => match reading.wait() {
                 Some(Wait::Prepare(request)) => Some(request.coordinator),

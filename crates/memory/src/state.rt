@@ -2,9 +2,10 @@
 ghost use Rattle.std.specs.Prelude.{◌≡◌, ◌≤◌, ◌^◌, ◌<◌, Some, None, MatchOption, IfOk, IfErr};
 ghost use Rattle.std.specs.Option.{option_copied};
 ghost use Rattle.units.specs.Lists.{each};
-ghost use Rattle.units.specs.Locks.{holds, ready};
+ghost use Rattle.units.specs.Locks.{exclusive, holds, ready};
 ghost use Rattle.units.specs.Versions.{latest, at_time};
-ghost use Rattle.protocol.specs.Rows.{safe, claims, find_row};
+ghost use Rattle.facts.specs.Shown.{meant};
+ghost use Rattle.protocol.specs.Rows.{safe, claims, find_row, standing_by};
 ghost use Rattle.protocol.specs.Plan.{stands, in_way, opens, is_crowded, held_in};
 ghost use Rattle.rows.specs.CodeRows.{phase_of};
 ghost use Rattle.memory.specs.Kept.{start_of, IsPast};
@@ -16,7 +17,9 @@ use rows::{Row, Rows};
 use safetime::SafeTime;
 use std::alloc::Global;
 use std::marker::Model;
-use units::{Epoch, Fault, Ids, Install, Key, Keys, Lock, Parts, Setup, ShardNo, Stamp, TxnId, Value};
+use units::{
+    Epoch, Fault, Ids, Install, Key, Keys, Lock, Mode, Parts, Setup, Stamp, TxnId, Value, Writes,
+};
 
 /// What a shard keeps in memory: what it was told, the facts of its log with the versions by key, its rows with their
 /// locks, the ids that were ended, and its served time.
@@ -90,6 +93,7 @@ impl State {
     }
 
     /// The greatest timestamp at which versions may be read.
+    #[tactic(auto, using(crate::proofs::Served::holding_safe))]
     pub fn safe(&self) -> Stamp
         ensures { result ≡ safe self.now.memory }
     {
@@ -130,19 +134,7 @@ impl State {
         requires { find_row self.now.memory.rows txn ≡ None }
         ensures { IsPast (stands (start_of self.now) txn) result }
     {
-        match self.ledger.status(txn) {
-            Some(Status::Aborted) => Past::Aborted,
-            Some(Status::Settled { at, parts }) => Past::Settled {
-                at: *at,
-                parts: *parts,
-            },
-            Some(Status::Closed {
-                coordinator: _,
-                outcome,
-            }) => Past::Closed { outcome: *outcome },
-            _ if self.ended.has(txn) => Past::Ended,
-            _ => Past::Unknown,
-        }
+        past_by(self.ledger.status(txn), self.ended.has(txn))
     }
 
     /// The transaction holds the key.
@@ -174,11 +166,28 @@ impl State {
         self.rows.opens(txn, needs)
     }
 
+    /// The request of exclusive locks of what is written is granted once those that it ends are gone. It takes no memory.
+    pub fn opens_writes(&self, txn: TxnId, writes: &Writes) -> bool
+        ensures { result ≡ opens (start_of self.now) txn (exclusive writes.now) }
+    {
+        self.rows.laws();
+        for write in writes.as_slice() {
+            let lock = [Lock {
+                key: write.key,
+                mode: Mode::Exclusive,
+            }];
+            if !self.opens(txn, &lock) {
+                return false;
+            }
+        }
+        true
+    }
+
     /// The transaction has no row, and there is no room for one.
     pub fn is_crowded(&self, txn: TxnId) -> bool
         ensures { result ≡ is_crowded (start_of self.now) txn }
     {
-        self.rows.is_full() && self.rows.find(txn).is_none()
+        self.rows.is_full() && self.row(txn).is_none()
     }
 
     /// The oldest waiter that would be granted now.
@@ -186,5 +195,27 @@ impl State {
         ensures { result ≡ ready (claims self.now.memory.rows) }
     {
         self.rows.ready()
+    }
+}
+
+// How a transaction stands that has no row, by its recorded status and by whether it was ended.
+fn past_by(status: Option<&Status>, ended: bool) -> Past
+    ensures { IsPast (standing_by None (meant (option_copied status.entry)) ended) result }
+{
+    match status {
+        Some(Status::Aborted) => Past::Aborted,
+        Some(Status::Settled { at, parts }) => Past::Settled {
+            at: *at,
+            parts: *parts,
+        },
+        Some(
+            Status::Closed {
+                coordinator: _,
+                outcome,
+            },
+        ) => Past::Closed { outcome: *outcome },
+        Some(Status::Prepared(_)) | Some(Status::Decided(_)) | None => {
+            if ended { Past::Ended } else { Past::Unknown }
+        }
     }
 }

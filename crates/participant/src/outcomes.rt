@@ -1,10 +1,11 @@
 //! Outcomes, and what a participant does until they come.
 ghost use Rattle.std.specs.Prelude.{◌≡◌, ◌∷◌, [], Some, None, Ok, IfOk, IfErr};
 ghost use Rattle.std.specs.Option.{option_copied};
-ghost use Rattle.protocol.specs.Rows.{IsPrepared, HasRow, find_row};
+ghost use Rattle.protocol.specs.Rows.{HasRow};
 ghost use Rattle.protocol.specs.Step.{is_outcome_for};
-ghost use Rattle.protocol.specs.Plan.{plan_outcome, plan_give_up, plan_nudge, ends, raised, stands, held_in};
-ghost use Rattle.memory.specs.Kept.{start_of, IsPlanned};
+ghost use Rattle.protocol.specs.Plan.{plan_outcome, plan_nudge, drops, ends, raised, stands, held_in};
+ghost use Rattle.rows.specs.CodeRows.{phase_of, phase_of_wait};
+ghost use Rattle.memory.specs.Kept.{start_of, standing_of, IsPlanned};
 ghost use Rattle.memory.specs.Plans.{plan_of};
 ghost use Rattle.participant.specs.Votes.{refused_by};
 
@@ -21,24 +22,62 @@ pub fn on_outcome(state: &State, alloc: Global, told: &Outcome) -> Result<Plan, 
     ensures { IsPlanned state.now (plan_outcome (start_of state.now) told.now.from told.now.txn told.now.outcome (stands (start_of state.now) told.now.txn)) result }
 {
     match state.row(told.txn) {
-        Some(Row::Prepared(prepared)) => {
+        Some(row) => outcome_with_row(state, alloc, told, row),
+        None => outcome_without_row(state, alloc, told, state.past(told.txn)),
+    }
+}
+
+// The outcome of a transaction that has a row.
+#[tactic(auto, unfolding(protocol::specs::Plan::plan_outcome))]
+fn outcome_with_row(state: &State, alloc: Global, told: &Outcome, row: &Row) -> Result<Plan, Fault>
+    ensures { IsPlanned state.now (plan_outcome (start_of state.now) told.now.from told.now.txn told.now.outcome (HasRow (held_in state.now.memory.rows told.now.txn) (phase_of row.now))) result }
+{
+    match row {
+        Row::Reading(reading) => outcome_with_wait(state, alloc, told, reading.wait()),
+        Row::Prepared(prepared) => {
             if !is_outcome_for(prepared, told) {
                 return Err(Fault::Stranger);
             }
             Ok(close(state, alloc, told))
         }
-        Some(Row::Reading(reading)) => match (reading.wait(), told.outcome) {
-            (Some(Wait::Commit(_)), _) => Err(Fault::Stranger),
-            (_, Some(_)) => Err(Fault::Stranger),
-            (wait, None) => end_reading(state, alloc, told.txn, wait),
+        Row::Collecting(_) | Row::Decided(_) => Err(Fault::Stranger),
+    }
+}
+
+// The outcome of a transaction that reads, by what it waits with.
+#[tactic(auto, unfolding(protocol::specs::Plan::plan_outcome))]
+fn outcome_with_wait(
+    state: &State,
+    alloc: Global,
+    told: &Outcome,
+    wait: Option<&Wait>,
+) -> Result<Plan, Fault>
+    ensures { IsPlanned state.now (plan_outcome (start_of state.now) told.now.from told.now.txn told.now.outcome (HasRow (held_in state.now.memory.rows told.now.txn) (phase_of_wait (option_copied wait.entry)))) result }
+{
+    match (wait, told.outcome) {
+        (Some(Wait::Commit(_)), _) => Err(Fault::Stranger),
+        (_, Some(_)) => Err(Fault::Stranger),
+        (wait, None) => end_reading(state, alloc, told.txn, wait),
+    }
+}
+
+// The outcome of a transaction that has no row.
+#[tactic(auto, unfolding(protocol::specs::Plan::plan_outcome))]
+fn outcome_without_row(
+    state: &State,
+    alloc: Global,
+    told: &Outcome,
+    past: Past,
+) -> Result<Plan, Fault>
+    ensures { IsPlanned state.now (plan_outcome (start_of state.now) told.now.from told.now.txn told.now.outcome (standing_of past)) result }
+{
+    match past {
+        Past::Unknown => match told.outcome {
+            Some(_) => Err(Fault::Stranger),
+            None => end_reading(state, alloc, told.txn, None),
         },
-        Some(_) => Err(Fault::Stranger),
-        None => match (state.past(told.txn), told.outcome) {
-            (Past::Unknown, None) => end_reading(state, alloc, told.txn, None),
-            (Past::Ended, _) => Ok(state.idles(alloc)),
-            (Past::Closed { .. }, _) => Ok(state.idles(alloc)),
-            _ => Err(Fault::Stranger),
-        },
+        Past::Ended | Past::Closed { .. } => Ok(state.idles(alloc)),
+        Past::Aborted | Past::Settled { .. } => Err(Fault::Stranger),
     }
 }
 
@@ -77,17 +116,12 @@ pub fn end_reading(
     txn: TxnId,
     wait: Option<&Wait>,
 ) -> Result<Plan, Fault>
-    ensures plan { IfOk result (λ plan. plan_of state.now.memory.rows plan ≡ ends (start_of state.now) txn (refused_by state.now.setup.shard txn (option_copied wait))) }
+    ensures plan { IfOk result (λ plan. plan_of state.now.memory.rows plan ≡ ends (start_of state.now) txn (refused_by state.now.setup.shard txn (option_copied wait.entry))) }
     ensures memory { IfErr result (λ fault. fault ≡ Fault.Memory) }
 {
     let mut out = Vec::new(alloc);
     if let Some(Wait::Prepare(request)) = wait {
-        out.push(vote_to(
-            state.setup().shard,
-            request.coordinator,
-            txn,
-            None,
-        ))?;
+        out.push(vote_to(state.setup().shard, request.coordinator, txn, None))?;
     }
     Ok(state.ends(alloc, txn, out))
 }
@@ -97,14 +131,21 @@ pub fn on_nudge(state: &State, alloc: Global, txn: TxnId) -> Result<Plan, Fault>
     ensures { IsPlanned state.now (plan_nudge (start_of state.now) txn (stands (start_of state.now) txn)) result }
 {
     match state.row(txn) {
-        Some(Row::Prepared(prepared)) => {
+        Some(row) => nudge_with_row(state, alloc, txn, row),
+        None => Err(Fault::Stranger),
+    }
+}
+
+// A nudge of a transaction that has a row.
+#[tactic(auto, unfolding(protocol::specs::Plan::plan_nudge))]
+fn nudge_with_row(state: &State, alloc: Global, txn: TxnId, row: &Row) -> Result<Plan, Fault>
+    ensures { IsPlanned state.now (plan_nudge (start_of state.now) txn (HasRow (held_in state.now.memory.rows txn) (phase_of row.now))) result }
+{
+    match row {
+        Row::Prepared(prepared) => {
             let ask = ask_to(state.setup().shard, prepared.coordinator(), txn);
             state.reply(alloc, ask)
         }
-        Some(_) => Err(Fault::Stranger),
-        None => {
-            let _ = state.past(txn);
-            Err(Fault::Stranger)
-        }
+        Row::Reading(_) | Row::Collecting(_) | Row::Decided(_) => Err(Fault::Stranger),
     }
 }

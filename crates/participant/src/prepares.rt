@@ -1,11 +1,14 @@
 //! Prepares.
 ghost use Rattle.std.specs.Prelude.{◌≡◌, ℕ, true, false, ◌+◌, ◌<◌, ◌≤◌, ◌^◌, max, IfOk, IfErr, MatchResult, [], ◌∷◌, Some, None, Ok, Err};
+ghost use Rattle.std.specs.Option.{option_copied};
 ghost use Rattle.units.specs.Locks.{exclusive};
-ghost use Rattle.protocol.specs.Plan.{plan_prepare, plan_prepare_fresh, plan_prepare_now, plan_promise, opens, puts, replies, stands, held_in};
-ghost use Rattle.protocol.specs.Draft.{promise, vote_to};
-ghost use Rattle.protocol.specs.Rows.{IsPrepared, find_row};
-ghost use Rattle.memory.specs.Kept.{start_of, IsPlanned};
+ghost use Rattle.protocol.specs.Plan.{plan_prepare, plan_prepare_fresh, plan_prepare_now, plan_promise, opens, in_way, ends, puts, replies, stands, held_in};
+ghost use Rattle.protocol.specs.Draft.{vote_to};
+ghost use Rattle.protocol.specs.Rows.{HasRow, WaitsPrepare, find_row};
+ghost use Rattle.rows.specs.CodeRows.{phase_of, phase_of_wait};
+ghost use Rattle.memory.specs.Kept.{start_of, standing_of, IsPlanned};
 ghost use Rattle.memory.specs.Plans.{plan_of};
+ghost use Rattle.participant.specs.Asks.{promises};
 
 use memory::{Change, Past, Plan, State, exclusive, reads_stand, vote_to};
 use message::Prepare;
@@ -26,54 +29,74 @@ pub fn on_prepare(
     ensures { IsPlanned state.now (plan_prepare (start_of state.now) now.now.earliest prepare.now.txn prepare.now.coordinator prepare.now.reads.epoch prepare.now.reads.keys prepare.now.writes (stands (start_of state.now) prepare.now.txn)) result }
 {
     match state.row(prepare.txn) {
-        Some(Row::Reading(reading)) => match reading.wait() {
-            Some(Wait::Prepare(_)) => Ok(state.idles(alloc)),
-            Some(Wait::Commit(_)) => Err(Fault::Stranger),
-            Some(Wait::Read(_)) => prepare_fresh(state, alloc, now, prepare),
-            None => prepare_fresh(state, alloc, now, prepare),
-        },
-        Some(Row::Prepared(prepared)) => vote(state, alloc, prepare, Some(prepared.at())),
-        Some(_) => Err(Fault::Stranger),
-        None => prepare_without_row(state, alloc, now, prepare),
+        Some(row) => prepare_with_row(state, alloc, now, prepare, row),
+        None => prepare_without_row(state, alloc, now, prepare, state.past(prepare.txn)),
+    }
+}
+
+// A prepare of a transaction that has a row.
+#[tactic(auto, unfolding(protocol::specs::Plan::plan_prepare))]
+fn prepare_with_row(
+    state: &State,
+    alloc: Global,
+    now: &Reading,
+    prepare: &Prepare,
+    row: &Row,
+) -> Result<Plan, Fault>
+    ensures { IsPlanned state.now (plan_prepare (start_of state.now) now.now.earliest prepare.now.txn prepare.now.coordinator prepare.now.reads.epoch prepare.now.reads.keys prepare.now.writes (HasRow (held_in state.now.memory.rows prepare.now.txn) (phase_of row.now))) result }
+{
+    match row {
+        Row::Reading(reading) => prepare_with_wait(state, alloc, now, prepare, reading.wait()),
+        Row::Prepared(prepared) => vote(state, alloc, prepare, Some(prepared.at())),
+        Row::Collecting(_) | Row::Decided(_) => Err(Fault::Stranger),
+    }
+}
+
+// A prepare of a transaction that reads, by what it waits with.
+#[tactic(auto, unfolding(protocol::specs::Plan::plan_prepare))]
+fn prepare_with_wait(
+    state: &State,
+    alloc: Global,
+    now: &Reading,
+    prepare: &Prepare,
+    wait: Option<&Wait>,
+) -> Result<Plan, Fault>
+    ensures { IsPlanned state.now (plan_prepare (start_of state.now) now.now.earliest prepare.now.txn prepare.now.coordinator prepare.now.reads.epoch prepare.now.reads.keys prepare.now.writes (HasRow (held_in state.now.memory.rows prepare.now.txn) (phase_of_wait (option_copied wait.entry)))) result }
+{
+    match wait {
+        Some(Wait::Prepare(_)) => Ok(state.idles(alloc)),
+        Some(Wait::Commit(_)) => Err(Fault::Stranger),
+        Some(Wait::Read(_)) | None => prepare_fresh(state, alloc, now, prepare),
     }
 }
 
 // A prepare of a transaction that has no row.
+#[tactic(auto, unfolding(protocol::specs::Plan::plan_prepare))]
 fn prepare_without_row(
     state: &State,
     alloc: Global,
     now: &Reading,
     prepare: &Prepare,
+    past: Past,
 ) -> Result<Plan, Fault>
     requires { find_row state.now.memory.rows prepare.now.txn ≡ None }
-    ensures { IsPlanned state.now (plan_prepare (start_of state.now) now.now.earliest prepare.now.txn prepare.now.coordinator prepare.now.reads.epoch prepare.now.reads.keys prepare.now.writes (stands (start_of state.now) prepare.now.txn)) result }
+    ensures { IsPlanned state.now (plan_prepare (start_of state.now) now.now.earliest prepare.now.txn prepare.now.coordinator prepare.now.reads.epoch prepare.now.reads.keys prepare.now.writes (standing_of past)) result }
 {
-    match state.past(prepare.txn) {
+    match past {
         Past::Unknown => prepare_fresh(state, alloc, now, prepare),
         Past::Ended => vote(state, alloc, prepare, None),
         Past::Closed { outcome: None } => vote(state, alloc, prepare, None),
         Past::Closed { outcome: Some(_) } => Ok(state.idles(alloc)),
-        Past::Aborted => Err(Fault::Stranger),
-        Past::Settled { .. } => Err(Fault::Stranger),
+        Past::Aborted | Past::Settled { .. } => Err(Fault::Stranger),
     }
 }
 
 // The vote, to the coordinator that the prepare names.
-fn vote(
-    state: &State,
-    alloc: Global,
-    prepare: &Prepare,
-    vote: Option<Stamp>,
-) -> Result<Plan, Fault>
+fn vote(state: &State, alloc: Global, prepare: &Prepare, vote: Option<Stamp>) -> Result<Plan, Fault>
     ensures plan { IfOk result (λ plan. plan_of state.now.memory.rows plan ≡ replies (start_of state.now) (vote_to state.now.setup.shard prepare.now.coordinator prepare.now.txn vote ∷ [])) }
     ensures memory { IfErr result (λ fault. fault ≡ Fault.Memory) }
 {
-    let envelope = vote_to(
-        state.setup().shard,
-        prepare.coordinator,
-        prepare.txn,
-        vote,
-    );
+    let envelope = vote_to(state.setup().shard, prepare.coordinator, prepare.txn, vote);
     state.reply(alloc, envelope)
 }
 
@@ -89,13 +112,17 @@ fn prepare_fresh(
     if reads_stand(state, prepare.txn, &prepare.reads) {
         return prepare_now(state, alloc, now, prepare);
     }
+    refuse(state, alloc, prepare)
+}
+
+// The vote is refused, and the transaction ended.
+fn refuse(state: &State, alloc: Global, prepare: &Prepare) -> Result<Plan, Fault>
+    ensures plan { IfOk result (λ plan. plan_of state.now.memory.rows plan ≡ ends (start_of state.now) prepare.now.txn (vote_to state.now.setup.shard prepare.now.coordinator prepare.now.txn None ∷ [])) }
+    ensures memory { IfErr result (λ fault. fault ≡ Fault.Memory) }
+{
+    let shard = state.setup().shard;
     let mut out = Vec::new(alloc);
-    out.push(vote_to(
-        state.setup().shard,
-        prepare.coordinator,
-        prepare.txn,
-        None,
-    ))?;
+    out.push(vote_to(shard, prepare.coordinator, prepare.txn, None))?;
     Ok(state.ends(alloc, prepare.txn, out))
 }
 
@@ -129,6 +156,15 @@ fn promise_now(
     if state.is_crowded(prepare.txn) {
         return Err(Fault::RowsFull);
     }
+    promise_anew(state, alloc, prepare, at)
+}
+
+// Whoever is in the way is ended, and the promise logged.
+fn promise_anew(state: &State, alloc: Global, prepare: &Prepare, at: Stamp) -> Result<Plan, Fault>
+    ensures plan { IfOk result (λ plan. plan_of state.now.memory.rows plan ≡
+        promises (start_of state.now) (in_way (start_of state.now) prepare.now.txn (exclusive prepare.now.writes)) prepare.now.txn at prepare.now.coordinator prepare.now.reads.keys prepare.now.writes) }
+    ensures memory { IfErr result (λ fault. fault ≡ Fault.Memory) }
+{
     let request = request_of(alloc, prepare)?;
     let needs = exclusive(alloc, &request.writes)?;
     let wounded = state.in_way(alloc, prepare.txn, &needs)?;
@@ -143,6 +179,15 @@ fn wait(state: &State, alloc: Global, prepare: &Prepare) -> Result<Plan, Fault>
     if state.is_crowded(prepare.txn) {
         return Err(Fault::RowsFull);
     }
+    wait_in_row(state, alloc, prepare)
+}
+
+// Whoever is in the way and may be ended is ended, and the row waits.
+fn wait_in_row(state: &State, alloc: Global, prepare: &Prepare) -> Result<Plan, Fault>
+    ensures plan { IfOk result (λ plan. plan_of state.now.memory.rows plan ≡
+        puts (start_of state.now) (in_way (start_of state.now) prepare.now.txn (exclusive prepare.now.writes)) prepare.now.txn [] (WaitsPrepare prepare.now.coordinator prepare.now.reads.keys prepare.now.writes) None state.now.memory.last []) }
+    ensures memory { IfErr result (λ fault. fault ≡ Fault.Memory) }
+{
     let request = request_of(alloc, prepare)?;
     let needs = exclusive(alloc, &request.writes)?;
     let wounded = state.in_way(alloc, prepare.txn, &needs)?;
@@ -161,9 +206,24 @@ pub fn resume_prepare(
     ensures { IsPlanned state.now (plan_promise (start_of state.now) [] now.now.earliest txn request.now.coordinator request.now.reads request.now.writes) result }
 {
     let at = promise_time(state, now)?;
+    promise_alone(state, alloc, txn, at, request)
+}
+
+// The promise is logged with nobody ended.
+fn promise_alone(
+    state: &State,
+    alloc: Global,
+    txn: TxnId,
+    at: Stamp,
+    request: &PrepareRequest,
+) -> Result<Plan, Fault>
+    ensures plan { IfOk result (λ plan. plan_of state.now.memory.rows plan ≡ promises (start_of state.now) [] txn at request.now.coordinator request.now.reads request.now.writes) }
+    ensures memory { IfErr result (λ fault. fault ≡ Fault.Memory) }
+{
     let copy = request.copy(alloc)?;
     let needs = exclusive(alloc, &copy.writes)?;
-    promise_at(state, alloc, Ids::from_vec(Vec::new(alloc)), needs, txn, at, copy)
+    let nobody = Ids::from_vec(Vec::new(alloc));
+    promise_at(state, alloc, nobody, needs, txn, at, copy)
 }
 
 // The timestamp of a promise: above all that was served, and no earlier than the reading.
@@ -187,9 +247,7 @@ fn promise_at(
     request: PrepareRequest,
 ) -> Result<Plan, Fault>
     requires { needs.items ≡ exclusive request.writes }
-    ensures plan { IfOk result (λ plan. plan_of state.now.memory.rows plan ≡
-        puts (start_of state.now) wounded txn (exclusive request.writes) (IsPrepared request.coordinator at) (Some (promise txn request.coordinator at request.reads request.writes)) (max state.now.memory.last at)
-        (vote_to state.now.setup.shard request.coordinator txn (Some at) ∷ [])) }
+    ensures plan { IfOk result (λ plan. plan_of state.now.memory.rows plan ≡ promises (start_of state.now) wounded txn at request.coordinator request.reads request.writes) }
     ensures memory { IfErr result (λ fault. fault ≡ Fault.Memory) }
 {
     let yes = vote_to(state.setup().shard, request.coordinator, txn, Some(at));

@@ -2,10 +2,12 @@
 ghost use Rattle.std.specs.Prelude.{◌≡◌, ℕ, IfOk, IfErr, [], ◌∷◌, None};
 ghost use Rattle.message.specs.declared.message.Answer.TheVariants.{Refused};
 ghost use Rattle.protocol.specs.Draft.{answer_to};
-ghost use Rattle.protocol.specs.Rows.{Idle, WaitsRead};
+ghost use Rattle.protocol.specs.Rows.{Idle, WaitsRead, HasRow};
 ghost use Rattle.protocol.specs.Plan.{plan_read, plan_read_row, plan_read_now, plan_go_on, puts, replies, answers, stands, held_in, to_read};
-ghost use Rattle.memory.specs.Kept.{start_of, IsPlanned};
+ghost use Rattle.rows.specs.CodeRows.{phase_of};
+ghost use Rattle.memory.specs.Kept.{start_of, standing_of, IsPlanned};
 ghost use Rattle.memory.specs.Plans.{plan_of};
+ghost use Rattle.participant.specs.Asks.{read_asks};
 
 use memory::{Change, Past, Plan, State, answer_to};
 use message::{Answer, Read};
@@ -18,30 +20,44 @@ pub fn on_read(state: &State, alloc: Global, read: &Read) -> Result<Plan, Fault>
     ensures { IsPlanned state.now (plan_read (start_of state.now) read.now.txn read.now.key (stands (start_of state.now) read.now.txn)) result }
 {
     match state.row(read.txn) {
-        Some(Row::Reading(reading)) => {
-            read_row(state, alloc, read.txn, &read.key, reading.wait().is_some())
+        Some(row) => read_with_row(state, alloc, read, row),
+        None => read_without_row(state, alloc, read, state.past(read.txn)),
+    }
+}
+
+// A read of a transaction that has a row.
+#[tactic(auto, unfolding(protocol::specs::Plan::plan_read))]
+fn read_with_row(state: &State, alloc: Global, read: &Read, row: &Row) -> Result<Plan, Fault>
+    ensures { IsPlanned state.now (plan_read (start_of state.now) read.now.txn read.now.key (HasRow (held_in state.now.memory.rows read.now.txn) (phase_of row.now))) result }
+{
+    match row {
+        Row::Reading(reading) => {
+            let waits = reading.wait().is_some();
+            read_row(state, alloc, read.txn, &read.key, waits)
         }
-        Some(_) => Ok(state.idles(alloc)),
-        None => match state.past(read.txn) {
-            Past::Unknown => read_now(state, alloc, read.txn, &read.key),
-            _ => refuse(state, alloc, read.txn, &read.key),
-        },
+        Row::Collecting(_) | Row::Prepared(_) | Row::Decided(_) => Ok(state.idles(alloc)),
+    }
+}
+
+// A read of a transaction that has no row.
+#[tactic(auto, unfolding(protocol::specs::Plan::plan_read))]
+fn read_without_row(state: &State, alloc: Global, read: &Read, past: Past) -> Result<Plan, Fault>
+    ensures { IsPlanned state.now (plan_read (start_of state.now) read.now.txn read.now.key (standing_of past)) result }
+{
+    match past {
+        Past::Unknown => read_now(state, alloc, read.txn, &read.key),
+        Past::Ended | Past::Aborted | Past::Settled { .. } | Past::Closed { .. } => {
+            refuse(state, alloc, read.txn, &read.key)
+        }
     }
 }
 
 // A key that is held is answered at once; a row that waits stays as it is.
-fn read_row(
-    state: &State,
-    alloc: Global,
-    txn: TxnId,
-    key: &Key,
-    waits: bool,
-) -> Result<Plan, Fault>
+fn read_row(state: &State, alloc: Global, txn: TxnId, key: &Key, waits: bool) -> Result<Plan, Fault>
     ensures { IsPlanned state.now (plan_read_row (start_of state.now) txn key.now (held_in state.now.memory.rows txn) waits) result }
 {
     if state.holds(txn, key) {
-        let answer = state.answer(alloc, txn, key)?;
-        return state.reply(alloc, answer);
+        return answer_held(state, alloc, txn, key);
     }
     if waits {
         return Ok(state.idles(alloc));
@@ -49,13 +65,30 @@ fn read_row(
     read_now(state, alloc, txn, key)
 }
 
-// A shared lock and the answer, or a wait.
+// A key that is held is answered.
+fn answer_held(state: &State, alloc: Global, txn: TxnId, key: &Key) -> Result<Plan, Fault>
+    ensures plan { IfOk result (λ plan. plan_of state.now.memory.rows plan ≡ replies (start_of state.now) (answers (start_of state.now) txn key.now ∷ [])) }
+    ensures memory { IfErr result (λ fault. fault ≡ Fault.Memory) }
+{
+    let answer = state.answer(alloc, txn, key)?;
+    state.reply(alloc, answer)
+}
+
+// A shared lock and the answer, or a wait, where there is room for the row.
 fn read_now(state: &State, alloc: Global, txn: TxnId, key: &Key) -> Result<Plan, Fault>
     ensures { IsPlanned state.now (plan_read_now (start_of state.now) txn key.now) result }
 {
     if state.is_crowded(txn) {
         return Err(Fault::RowsFull);
     }
+    ask_for_key(state, alloc, txn, key)
+}
+
+// A shared lock and the answer, or a wait.
+fn ask_for_key(state: &State, alloc: Global, txn: TxnId, key: &Key) -> Result<Plan, Fault>
+    ensures plan { IfOk result (λ plan. plan_of state.now.memory.rows plan ≡ read_asks (start_of state.now) txn key.now) }
+    ensures memory { IfErr result (λ fault. fault ≡ Fault.Memory) }
+{
     let needs = shared(alloc, key)?;
     let wounded = state.in_way(alloc, txn, &needs)?;
     if state.opens(txn, &needs) {
@@ -70,8 +103,17 @@ fn read_now(state: &State, alloc: Global, txn: TxnId, key: &Key) -> Result<Plan,
 pub fn resume_read(state: &State, alloc: Global, txn: TxnId, key: &Key) -> Result<Plan, Fault>
     ensures { (earliest : ℕ) → IsPlanned state.now (plan_go_on (start_of state.now) earliest txn (WaitsRead key.now)) result }
 {
+    grant_alone(state, alloc, txn, key)
+}
+
+// The lock is granted with nobody ended, and the read answered.
+fn grant_alone(state: &State, alloc: Global, txn: TxnId, key: &Key) -> Result<Plan, Fault>
+    ensures plan { IfOk result (λ plan. plan_of state.now.memory.rows plan ≡ puts (start_of state.now) [] txn (to_read key.now) Idle None state.now.memory.last (answers (start_of state.now) txn key.now ∷ [])) }
+    ensures memory { IfErr result (λ fault. fault ≡ Fault.Memory) }
+{
     let needs = shared(alloc, key)?;
-    grant(state, alloc, Ids::from_vec(Vec::new(alloc)), needs, txn, key)
+    let nobody = Ids::from_vec(Vec::new(alloc));
+    grant(state, alloc, nobody, needs, txn, key)
 }
 
 // The lock is granted, and the read answered.

@@ -1,5 +1,8 @@
 //! What a transaction waits with.
-use units::{Key, Keys, Parts, ShardNo, Stamp, Writes};
+ghost use Rattle.std.specs.Prelude.{◌≡◌, IfOk, IfErr};
+
+use std::alloc::Global;
+use units::{Fault, Key, Keys, Parts, ShardNo, Stamp, Writes};
 
 /// A prepare that came: who decides, and the part of the transaction at this shard.
 #[derive(Debug, Drop)]
@@ -25,4 +28,33 @@ pub enum Wait {
     Read(Key),
     Prepare(PrepareRequest),
     Commit(CommitRequest),
+}
+
+impl PrepareRequest {
+    /// The same request, with memory of its own.
+    pub fn copy(&self, alloc: Global) -> Result<PrepareRequest, Fault>
+        ensures same { IfOk result (λ copy. copy ≡ self.now) }
+        ensures memory { IfErr result (λ fault. fault ≡ Fault.Memory) }
+    {
+        Ok(PrepareRequest {
+            coordinator: self.coordinator,
+            reads: self.reads.copy(alloc)?,
+            writes: self.writes.copy(alloc)?,
+        })
+    }
+}
+
+impl CommitRequest {
+    /// The same request, with memory of its own.
+    pub fn copy(&self, alloc: Global) -> Result<CommitRequest, Fault>
+        ensures same { IfOk result (λ copy. copy ≡ self.now) }
+        ensures memory { IfErr result (λ fault. fault ≡ Fault.Memory) }
+    {
+        Ok(CommitRequest {
+            latest: self.latest,
+            parts: self.parts,
+            reads: self.reads.copy(alloc)?,
+            writes: self.writes.copy(alloc)?,
+        })
+    }
 }

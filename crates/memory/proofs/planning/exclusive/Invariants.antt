@@ -3,4 +3,4 @@ use Rattle.units.specs.Locks.{exclusive}
 use Rattle.memory.proofs.planning.exclusive.Given as goal
 
 abbrev pub invariant-loop-write : goal.invariant-loop-write
-invariant-loop-write l = l.needs.items ≡ exclusive (take l.write-index l.write-items)
+invariant-loop-write l = l.locks.items ≡ exclusive (take l.write-index l.write-items)

@@ -1,0 +1,128 @@
+-- What the readers of a state and its planners say of the rows.
+use Rattle.std.proofs.Common.{◌≡◌, ℕ, nat_le, Bool, true, false, ◌&&◌, ◌||◌, not, cond, List, [], ◌∷◌, ◌++◌, length, drop, get_or, ◌<◌, ◌+◌, Option, Some, None, Result, Ok, Err, IfOk, IfErr, refl, sym, ap, subst, ◌∙◌}
+use Rattle.std.specs.Option.{MatchOption, is_some}
+use Rattle.std.proofs.lemmas.Bool.{false≢true}
+use Rattle.std.proofs.lemmas.List.{at_drop_more}
+use Rattle.units.specs.Lists.{any, head, keep, first}
+use Rattle.units.specs.Ids.{Id, same_id, has_id}
+use Rattle.units.specs.ById.{IsById}
+use Rattle.units.specs.Locks.{Claim, is_free, wounded, exclusive}
+use Rattle.units.specs.declared.lock.Lock.{Lock}
+use Rattle.units.specs.declared.writes.Write.{Write}
+use Rattle.units.specs.declared.lock.Mode.TheVariants.{Exclusive}
+use Rattle.units.specs.declared.fault.Fault.{Fault}
+use Rattle.record.specs.Records.{Status}
+use Rattle.record.specs.Facts.{recorded}
+use Rattle.protocol.specs.Rows.{Row, Standing, HasRow, standing, standing_by, claims, find_row, without_row}
+use Rattle.protocol.specs.Plan.{Before, Plan, Planned, stands, opens, is_crowded, in_way, without_rows}
+use Rattle.protocol.proofs.RowTable.{claims-by_id}
+use Rattle.locks.specs.Table.{without_claims}
+use Rattle.rows.proofs.Steps.{claims-without_rows}
+use Rattle.memory.specs.Kept.{Kept, start_of, IsPast, IsPlanned, IsRefusal, standing_of}
+use Rattle.memory.specs.Plans.{plan_of}
+use Rattle.memory.specs.declared.plan.Plan.{Plan as CodePlan}
+use Rattle.memory.specs.declared.state.Past.{Past}
+use Rattle.locks.proofs.OpensEach.{opens_in, opens-none, opens-more}
+
+-- ---- how a transaction stands
+
+pub stands-row : (b : Before) (t : Id) (r : Row) → find_row b.memory.rows t ≡ Some r → stands b t ≡ HasRow r.held r.phase
+unfolding standing
+stands-row b t r e = ap (λ o. standing_by o (recorded b.facts t) (has_id b.memory.ended t)) e
+
+pub stands-past : (b : Before) (t : Id) (status : Status) (ended : Bool) → find_row b.memory.rows t ≡ None → recorded b.facts t ≡ status
+    → has_id b.memory.ended t ≡ ended → stands b t ≡ standing_by None status ended
+unfolding standing
+stands-past b t status ended e recorded_so ended_so =
+    ap (λ o. standing_by o (recorded b.facts t) (has_id b.memory.ended t)) e
+    ∙ ap (λ s. standing_by None s (has_id b.memory.ended t)) recorded_so
+    ∙ ap (standing_by None status) ended_so
+
+is_past : (standing : Standing) (past : Past) → IsPast standing past → standing ≡ standing_of past
+is_past standing Past.Unknown e = e
+is_past standing Past.Ended e = e
+is_past standing Past.Aborted e = e
+is_past standing (Past.Settled at parts) e = e
+is_past standing (Past.Closed outcome) e = e
+
+-- ---- plans by how a transaction stands
+
+-- a plan that may be refused for want of memory alone
+pub planned-ok : (k : Kept) (p : Plan) (result : Result CodePlan Fault) → IfOk result (λ plan. plan_of k.memory.rows plan ≡ p)
+    → IfErr result (λ fault. fault ≡ Fault.Memory) → IsPlanned k (Ok p) result
+planned-ok k p (Ok plan) made memory = ap Ok (sym made)
+planned-ok k p (Err fault) made memory = memory
+
+pub planned-by : (k : Kept) (planned : Planned) (p : Plan) (result : Result CodePlan Fault) → planned ≡ Ok p
+    → IfOk result (λ plan. plan_of k.memory.rows plan ≡ p) → IfErr result (λ fault. fault ≡ Fault.Memory) → IsPlanned k planned result
+planned-by k planned p result is made memory = subst (λ q. IsPlanned k q result) (sym is) (planned-ok k p result made memory)
+
+-- a refusal
+pub refused-by : (planned : Planned) (fault : Fault) → planned ≡ Err fault → IsRefusal planned fault
+refused-by planned fault is = subst (λ q. IsRefusal q fault) (sym is) refl
+
+pub planned-err : (k : Kept) (planned : Planned) (result : Result CodePlan Fault) (fault : Fault) → planned ≡ Err fault → result ≡ Err fault
+    → IsPlanned k planned result
+planned-err k planned result fault is made = subst (λ (r : Result CodePlan Fault). IsPlanned k planned r) (sym made) (refused-by planned fault is)
+
+-- by the row
+pub planned-row : (k : Kept) (t : Id) (plan : Standing → Planned) (r : Row) (result : Result CodePlan Fault) → find_row k.memory.rows t ≡ Some r
+    → IsPlanned k (plan (HasRow r.held r.phase)) result → IsPlanned k (plan (stands (start_of k) t)) result
+planned-row k t plan r result e made = subst (λ s. IsPlanned k (plan s) result) (sym (stands-row (start_of k) t r e)) made
+
+-- by what is told of one that has no row
+pub planned-past : (k : Kept) (t : Id) (plan : Standing → Planned) (past : Past) (result : Result CodePlan Fault) → IsPast (stands (start_of k) t) past
+    → IsPlanned k (plan (standing_of past)) result → IsPlanned k (plan (stands (start_of k) t)) result
+planned-past k t plan past result e made = subst (λ s. IsPlanned k (plan s) result) (sym (is_past (stands (start_of k) t) past e)) made
+
+-- ---- whether there is room
+
+-- a transaction has a row where one is found
+any-first : (p : Row → Bool) (rows : List Row) → any p rows ≡ elim (first p rows) as (λ _. Bool) [ None ↦ false | Some r ↦ true ]
+any-first p [] = refl
+any-first p (q ∷ qs) = by_test (p q) (any-first p qs)
+  where
+    by_test : (b : Bool) → any p qs ≡ elim (first p qs) as (λ _. Bool) [ None ↦ false | Some r ↦ true ]
+        → (b || any p qs) ≡ elim (head (cond b (q ∷ keep p qs) (keep p qs))) as (λ _. Bool) [ None ↦ false | Some r ↦ true ]
+    by_test true e = refl
+    by_test false e = e
+
+crowded_by : (b : Before) (t : Id) (o : Option Row) → find_row b.memory.rows t ≡ o → true ≡ nat_le b.capacity (length b.memory.rows)
+    → not (elim o as (λ _. Bool) [ None ↦ false | Some r ↦ true ]) ≡ is_crowded b t
+crowded_by b t o e full =
+    ap (λ (p : Option Row). not (elim p as (λ _. Bool) [ None ↦ false | Some r ↦ true ])) (sym e)
+    ∙ ap not (sym (any-first (λ r. same_id r.txn t) b.memory.rows))
+    ∙ ap (λ a. a && not (any (λ r. same_id r.txn t) b.memory.rows)) full
+
+-- in a full table, by what the search for its row finds
+pub crowded-search : {X : Type 0} (b : Before) (t : Id) (o : Option X) (is_none : Bool) (seen : X → Row)
+    → MatchOption o (find_row b.memory.rows t ≡ None) (λ x. find_row b.memory.rows t ≡ Some (seen x))
+    → is_some o ≡ not is_none → true ≡ nat_le b.capacity (length b.memory.rows) → is_none ≡ is_crowded b t
+crowded-search b t None true seen found said full = crowded_by b t None found full
+crowded-search b t None false seen found said full = absurd (false≢true said)
+crowded-search b t (Some x) true seen found said full = absurd (false≢true (sym said))
+crowded-search b t (Some x) false seen found said full = crowded_by b t (Some (seen x)) found full
+
+-- ---- whether a request is granted
+
+opens-claims : (b : Before) (t : Id) (needs : List Lock) → opens b t needs ≡ opens_in (claims b.memory.rows) t needs
+opens-claims b t needs = ap (λ (s : List Claim). is_free s t needs) (claims-without_rows b.memory.rows (in_way b t needs))
+
+pub opens_no_writes : (b : Before) (t : Id) → IsById (λ r. r.txn) b.memory.rows → opens b t [] ≡ true
+opens_no_writes b t up = opens-claims b t [] ∙ opens-none (claims b.memory.rows) t (claims-by_id b.memory.rows up)
+
+pub opens_one_more : (b : Before) (t : Id) (l : Lock) (ls : List Lock) → IsById (λ r. r.txn) b.memory.rows
+    → opens b t (l ∷ ls) ≡ (opens b t (l ∷ []) && opens b t ls)
+opens_one_more b t l ls up =
+    opens-claims b t (l ∷ ls)
+    ∙ opens-more (claims b.memory.rows) t l ls (claims-by_id b.memory.rows up)
+    ∙ ap (λ a. a && opens_in (claims b.memory.rows) t ls) (sym (opens-claims b t (l ∷ [])))
+    ∙ ap (λ a. opens b t (l ∷ []) && a) (sym (opens-claims b t ls))
+
+-- the writes that are left, and the next of them
+pub opens_next : (b : Before) (t : Id) (ws : List Write) (i : ℕ) (w : Write) → IsById (λ r. r.txn) b.memory.rows → i < length ws → w ≡ get_or ws i w
+    → opens b t (exclusive (drop i ws)) ≡ (opens b t (exclusive (w ∷ [])) && opens b t (exclusive (drop (i + 1) ws)))
+opens_next b t ws i w up less is =
+    at_drop_more (λ (vs : List Write). opens b t (exclusive vs)) ws i w less
+    ∙ ap (λ (v : Write). opens b t (exclusive (v ∷ drop (i + 1) ws))) (sym is)
+    ∙ opens_one_more b t (record { key = w.key; mode = Exclusive }) (exclusive (drop (i + 1) ws)) up

@@ -1,0 +1,18 @@
+use Rattle.protocol.specs.Plan.{plan_prepare}
+use Rattle.memory.specs.Kept.{start_of}
+use Rattle.memory.proofs.States.{planned-row, planned-past}
+use Rattle.participant.proofs.prepares.on_prepare.Goals as goal
+
+pub returns-in-Some : goal.returns-in-Some
+returns-in-Some c =
+    let k = c.args.state.now in
+    let p = c.args.prepare.now in
+    planned-row k p.txn (plan_prepare (start_of k) c.args.now.now.earliest p.txn p.coordinator p.reads.epoch p.reads.keys p.writes) _
+    c.prepare_with_row.result c.in-Some.ensures c.prepare_with_row.ensures
+
+pub returns-in-None : goal.returns-in-None
+returns-in-None c =
+    let k = c.args.state.now in
+    let p = c.args.prepare.now in
+    planned-past k p.txn (plan_prepare (start_of k) c.args.now.now.earliest p.txn p.coordinator p.reads.epoch p.reads.keys p.writes) c.past.result
+    c.prepare_without_row.result c.past.ensures c.prepare_without_row.ensures
