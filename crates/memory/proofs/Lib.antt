@@ -1,3 +1,6 @@
+pub mod Admission
+pub mod Carried
 pub mod Learns
+pub mod Logged
 pub mod Served
 pub mod States

@@ -1,3 +1,4 @@
+pub mod Carry
 pub mod Ended
 pub mod Kept
 pub mod Ledger

@@ -5,6 +5,7 @@ use Rattle.units.specs.declared.lock.Lock.{Lock}
 use Rattle.record.specs.declared.record.Record.{Record}
 use Rattle.message.specs.declared.message.Envelope.{Envelope}
 use Rattle.rows.specs.CodeRows.{phase_of_wait}
+use Rattle.rows.specs.RowTable.{phase_by}
 use Rattle.rows.specs.declared.wait.CommitRequest.{CommitRequest}
 use Rattle.protocol.specs.Rows.{Phase, Row, Voted, Idle, WaitsRead, WaitsPrepare, WaitsCommit, Collecting, IsPrepared, IsDecided, find_row}
 use Rattle.protocol.specs.Draft.{vote_to}
@@ -18,10 +19,9 @@ abbrev pub collecting : CommitRequest → List Voted → Phase
 collecting c votes = Collecting c.latest c.parts c.reads c.writes votes
 
 -- the phase of a row that stands by a record
-abbrev pub phase_by : Option Record → Phase
-phase_by (Some (Record.Prepare p)) = IsPrepared p.coordinator p.at
-phase_by (Some (Record.Commit c)) = IsDecided c.at c.parts
-phase_by _ = Idle
+abbrev pub phase_logged : Option Record → Phase
+phase_logged None = Idle
+phase_logged (Some r) = phase_by r
 
 -- the phase of a row that collects, with one vote more
 abbrev pub counted : ℕ → ℕ → Option Row → Phase
@@ -37,7 +37,8 @@ change_of rows needs logged (Change.Reads t) = protocol.Puts t needs Idle
 change_of rows needs logged (Change.Waits t w) = protocol.Puts t [] (phase_of_wait (Some w))
 change_of rows needs logged (Change.Collects t c) = protocol.Puts t needs (collecting c [])
 change_of rows needs logged (Change.Counts t n p) = protocol.Puts t [] (counted n p (find_row rows t))
-change_of rows needs logged (Change.Stands t) = protocol.Puts t needs (phase_by logged)
+change_of rows needs logged (Change.Stands t) = protocol.Puts t needs (phase_logged logged)
+change_of rows needs logged (Change.Decides t) = protocol.Puts t [] (phase_logged logged)
 
 -- a plan as one of the protocol, where these are the rows before it
 abbrev pub plan_of : List Row → Plan → protocol.Plan

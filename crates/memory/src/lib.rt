@@ -2,6 +2,7 @@
 //! that were ended. Beside them the law that joins the holds of the safe time to the rows.
 #![tactic(auto)]
 
+mod carry;
 mod ended;
 mod envelopes;
 mod laws;
@@ -11,6 +12,7 @@ pub mod plan;
 mod planning;
 pub mod state;
 
+pub use carry::{Ready, ready_plans_can_be_carried};
 pub use ended::Ended;
 pub use envelopes::{answer_to, ask_to, done_to, outcome_to, vote_to};
 pub use laws::holds_follow_rows;

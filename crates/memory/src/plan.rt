@@ -23,6 +23,8 @@ pub enum Change {
     Counts(TxnId, ShardNo, Stamp),
     /// It is granted the locks, and stands by the record that is logged: a promise or a decision.
     Stands(TxnId),
+    /// The votes are all there, and it stands by the decision that is logged.
+    Decides(TxnId),
 }
 
 /// What a step does: whom it ends first, the locks that its transaction asks for, the change of that transaction's row, the

@@ -1,0 +1,44 @@
+-- What follows of a record that may come next, and the memory once a plan is carried out.
+use Rattle.std.proofs.Common.{◌≡◌, ◌∙◌, ℕ, ◌+◌, ◌<◌, ◌≤◌, Bool, true, false, ◌&&◌, nat_lt, List, Option, Some, None, max, refl, sym, ap, arith}
+use Rattle.std.proofs.lemmas.Bool.{false≢true}
+use Rattle.std.proofs.lemmas.Bool.Decides.{nat_tests}
+use Rattle.record.specs.Facts.{Facts, learn}
+use Rattle.record.specs.declared.record.Record.{Record}
+use Rattle.record.specs.declared.record.Record.TheVariants.{Opened, Ceiling, Prepare, Commit, Abort, Outcome}
+use Rattle.facts.specs.Rules.{follows_facts}
+use Rattle.protocol.specs.Rows.{Memory}
+use Rattle.protocol.specs.Plan.{carried, changed, ended_by, with_ids, without_rows}
+use Rattle.memory.specs.Carry.{MayFollow, IsDated}
+use Rattle.memory.specs.Plans.{change_of, plan_of}
+use Rattle.memory.specs.declared.plan.Plan.{Plan}
+
+-- a promise or a decision that may come next is above 0
+pub dated : (shard : ℕ) (facts : Facts) (o : Option Record) → MayFollow shard facts o → IsDated o
+unfolding follows_facts
+dated shard facts None follows = tt
+dated shard facts (Some (Prepare p)) follows = grind (arith, nat_tests)
+dated shard facts (Some (Commit c)) follows = grind (arith, nat_tests)
+dated shard facts (Some (Abort t)) follows = tt
+dated shard facts (Some (Outcome t outcome)) follows = tt
+dated shard facts (Some (Opened e)) follows = tt
+dated shard facts (Some (Ceiling at)) follows = tt
+
+-- a log that was opened stays so
+pub stays_opened : (shard : ℕ) (facts : Facts) (r : Record) → 0 < facts.epoch → follows_facts shard facts r ≡ true → 0 < (learn facts r).epoch
+unfolding follows_facts learn
+stays_opened shard facts (Opened e) opened follows = grind (arith, nat_tests)
+stays_opened shard facts (Ceiling at) opened follows = opened
+stays_opened shard facts (Prepare p) opened follows = opened
+stays_opened shard facts (Commit c) opened follows = opened
+stays_opened shard facts (Abort t) opened follows = opened
+stays_opened shard facts (Outcome t outcome) opened follows = opened
+
+-- the memory by its parts
+pub carried_is : (m next : Memory) (p : Plan) → next.last ≡ p.last → next.rows ≡ changed (change_of m.rows p.needs.items p.logged p.change) (without_rows m.rows p.wounded)
+    → next.ended ≡ ended_by (change_of m.rows p.needs.items p.logged p.change) (with_ids m.ended p.wounded) → next ≡ carried (plan_of m.rows p) m
+unfolding carried
+carried_is m next p last rows ended = λ i. record { last = last i; rows = rows i; ended = ended i }
+
+-- the greatest timestamp that is raised
+pub raised_to : (last at : ℕ) → last ≤ at → max last at ≡ at
+raised_to last at h = omega (arith, h)

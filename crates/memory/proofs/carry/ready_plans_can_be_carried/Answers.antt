@@ -1,0 +1,8 @@
+use Rattle.memory.proofs.Admission.{admission_is_unseen, ready_is_carriable}
+use Rattle.memory.proofs.carry.ready_plans_can_be_carried.Goals as goal
+
+pub returns-clause-unseen : goal.returns-clause-unseen
+returns-clause-unseen c = admission_is_unseen
+
+pub returns-clause-carriable : goal.returns-clause-carriable
+returns-clause-carriable c = ready_is_carriable

@@ -1,0 +1,179 @@
+-- What a plan needs of the state that it is carried out in, and what is made ready for it.
+use Rattle.std.specs.Prelude.{◌≡◌, ◌≤◌, ◌<◌, ◌+◌, ℕ, Bool, true, false, nat_lt, List, [], ◌∷◌, Option, Some, None, length}
+use Rattle.units.specs.ById.{IsById}
+use Rattle.units.specs.Ids.{Id}
+use Rattle.units.specs.Locks.{is_free, wounded}
+use Rattle.units.specs.declared.lock.Lock.{Lock}
+use Rattle.units.specs.declared.writes.Write.{Write}
+use Rattle.record.specs.Facts.{Facts, recorded}
+use Rattle.record.specs.declared.record.Record.{Record}
+use Rattle.facts.specs.Rules.{follows_facts}
+use Rattle.locks.specs.Table.{Token}
+use Rattle.protocol.specs.Rows.{Row, Memory, Idle, claims, find_row, needs_of}
+use Rattle.protocol.specs.Plan.{held_in, without_rows, carried}
+use Rattle.rows.specs.CodeRows.{is_reading, is_collecting, is_idle, may_decide, may_abort, may_close, phase_of_wait}
+use Rattle.rows.specs.RowTable.{RowTable, put_row, has_phase, room}
+use Rattle.rows.specs.States.{is_prepare_of, is_commit_of, is_abort_of, is_outcome_of}
+use Rattle.memory.specs.Kept.{Kept}
+use Rattle.memory.specs.Ledger.{writes_standing, CanInstall}
+use Rattle.memory.specs.Plans.{plan_of}
+use Rattle.memory.specs.declared.plan.Plan.{Plan}
+use Rattle.memory.specs.declared.plan.Change.{Change}
+
+-- a transaction may ask for locks: it reads, or has no row while there is room for one
+abbrev pub may_ask : List Row → Id → Bool
+may_ask rows t = elim (find_row rows t) [ None ↦ nat_lt (length rows) 1024 | Some r ↦ is_reading r.phase ]
+
+-- a transaction may be ended: it reads, or has no row
+abbrev pub may_end : List Row → Id → Bool
+may_end rows t = elim (find_row rows t) [ None ↦ true | Some r ↦ is_reading r.phase ]
+
+-- it may be aborted: it reads or collects, or has no row
+abbrev pub may_drop : List Row → Id → Bool
+may_drop rows t = elim (find_row rows t) [ None ↦ true | Some r ↦ may_abort r.phase ]
+
+-- a request: it may be made, these are ended by it, and whether it is granted then
+pub record Asks (rows : List Row) (t : Id) (us : List Id) (needs : List Lock) (opens : Bool) : Type 0 where
+  pub may : may_ask rows t ≡ true
+  pub ended : us ≡ wounded (claims rows) t needs
+  pub free : is_free (claims (without_rows rows us)) t needs ≡ opens
+
+-- nothing is logged but a ceiling
+abbrev pub IsServing : Option Record → Type 0
+IsServing None = Unit {0}
+IsServing (Some (Record.Ceiling at)) = Unit {0}
+IsServing (Some _) = ⊥
+
+-- a row goes by an abort, or by its outcome
+abbrev pub MayDrop : List Row → Id → Option Record → Type 0
+MayDrop rows t (Some (Record.Abort u)) = (u ≡ t) × (may_drop rows t ≡ true)
+MayDrop rows t (Some (Record.Outcome u o)) = (u ≡ t) × (has_phase may_close rows t ≡ true)
+MayDrop rows t _ = ⊥
+
+-- a row stands by a promise or a decision of its transaction
+abbrev pub MayStand : Id → Option Record → Type 0
+MayStand t (Some (Record.Prepare p)) = p.txn ≡ t
+MayStand t (Some (Record.Commit c)) = c.txn ≡ t
+MayStand t _ = ⊥
+
+-- a decision of the transaction is logged
+abbrev pub IsDecision : Id → Option Record → Type 0
+IsDecision t (Some (Record.Commit c)) = c.txn ≡ t
+IsDecision t _ = ⊥
+
+-- a change that may be made of these rows
+abbrev pub FitsRows : List Row → List Id → List Lock → Option Record → Change → Type 0
+FitsRows rows ended needs logged Change.Keeps = (ended ≡ []) × IsServing logged
+FitsRows rows ended needs logged (Change.Ends t) = (ended ≡ []) × (logged ≡ None) × (may_end rows t ≡ true)
+FitsRows rows ended needs logged (Change.Drops t) = (ended ≡ []) × MayDrop rows t logged
+FitsRows rows ended needs logged (Change.Reads t) = Asks rows t ended needs true × (logged ≡ None)
+FitsRows rows ended needs logged (Change.Waits t w) = Asks rows t ended needs false × (needs ≡ needs_of (phase_of_wait (Some w))) × (logged ≡ None)
+FitsRows rows ended needs logged (Change.Collects t c) = Asks rows t ended needs true × (logged ≡ None)
+FitsRows rows ended needs logged (Change.Counts t n p) = (ended ≡ []) × (logged ≡ None) × (has_phase is_collecting rows t ≡ true)
+FitsRows rows ended needs logged (Change.Stands t) = Asks rows t ended needs true × MayStand t logged
+FitsRows rows ended needs logged (Change.Decides t) = (ended ≡ []) × IsDecision t logged × (has_phase is_collecting rows t ≡ true)
+
+-- a plan that may be carried out
+pub record IsFit (k : Kept) (p : Plan) : Type 0 where
+  pub rows : FitsRows k.memory.rows p.wounded p.needs.items p.logged p.change
+  pub last : k.memory.last ≤ p.last
+
+-- who asks for locks by a change
+abbrev pub asker : Change → Option Id
+asker (Change.Reads t) = Some t
+asker (Change.Waits t w) = Some t
+asker (Change.Collects t c) = Some t
+asker (Change.Stands t) = Some t
+asker _ = None
+
+-- the rows once the asker is taken in where it has none
+abbrev pub admitted : List Row → Option Id → List Row
+admitted rows None = rows
+admitted rows (Some t) = elim (find_row rows t) [ None ↦ put_row rows t [] Idle | Some r ↦ rows ]
+
+-- the memory then
+abbrev pub admitted_to : Memory → Option Id → Memory
+admitted_to m t = record m { rows = admitted m.rows t }
+
+-- the asker has room for its locks
+abbrev pub HasRoom : RowTable → Option Id → ℕ → Type 0
+HasRoom table None more = Unit {0}
+HasRoom table (Some t) more = length (held_in table.rows t) + more ≤ room table t
+
+-- the rows and the tokens of a state
+abbrev pub table_in : Kept → RowTable
+table_in k = record { rows = k.memory.rows; tokens = k.tokens }
+
+-- the writes that a record installs
+abbrev pub installed_by : Facts → Option Record → List Write
+installed_by facts (Some (Record.Outcome t (Some s))) = writes_standing (recorded facts t)
+installed_by facts _ = []
+
+-- a record, where there is one, may come next in the log
+abbrev pub MayFollow : ℕ → Facts → Option Record → Type 0
+MayFollow shard facts None = Unit {0}
+MayFollow shard facts (Some r) = follows_facts shard facts r ≡ true
+
+-- what a record installs is above the versions of its keys
+abbrev pub MayInstall : Facts → Option Record → List Write → Type 0
+MayInstall facts None writes = Unit {0}
+MayInstall facts (Some r) writes = CanInstall facts r writes
+
+-- all memory for a plan is there: the state is what it was, with the asker taken in
+pub record IsReady (old new : Kept) (p : Plan) : Type 0 where
+  pub setup : new.setup ≡ old.setup
+  pub facts : new.facts ≡ old.facts
+  pub memory : new.memory ≡ admitted_to old.memory (asker p.change)
+  pub records : 1 ≤ new.records
+  pub ends : length p.wounded < new.ends
+  pub locks : HasRoom (table_in new) (asker p.change) (length p.needs.items)
+
+-- whether the asker had no row, and was taken in
+abbrev pub Admits : List Row → Option Id → Bool → Type 0
+Admits rows None taken = taken ≡ false
+Admits rows (Some t) taken = elim (find_row rows t) [ None ↦ taken ≡ true | Some r ↦ taken ≡ false ]
+
+-- a plan that can be carried out now: it fits, its asker has a row, all memory is there, its record may come next, and what
+-- it installs is above the versions of its keys
+pub record IsCarriable (k : Kept) (p : Plan) (writes : List Write) : Type 0 where
+  pub fit : IsFit k p
+  pub there : admitted k.memory.rows (asker p.change) ≡ k.memory.rows
+  pub records : 1 ≤ k.records
+  pub ends : length p.wounded < k.ends
+  pub locks : HasRoom (table_in k) (asker p.change) (length p.needs.items)
+  pub follows : MayFollow k.setup.shard k.facts p.logged
+  pub installs : MayInstall k.facts p.logged writes
+
+-- who asks may
+abbrev pub MayAsk : List Row → Option Id → Type 0
+MayAsk rows None = Unit {0}
+MayAsk rows (Some t) = may_ask rows t ≡ true
+
+-- a row that was taken in goes again
+abbrev pub MayUndo : List Row → Option Id → Bool → Type 0
+MayUndo rows (Some t) true = has_phase is_reading rows t ≡ true
+MayUndo rows _ _ = Unit {0}
+
+-- a row may stand by a record: a promise of an idle row, or a decision of one that is idle or collects; above 0
+abbrev pub CanStand : List Row → Id → Record → Type 0
+CanStand rows t (Record.Prepare p) = (p.txn ≡ t) × (has_phase is_idle rows t ≡ true) × (0 < p.at)
+CanStand rows t (Record.Commit c) = (c.txn ≡ t) × (has_phase may_decide rows t ≡ true) × (0 < c.at)
+CanStand rows t _ = ⊥
+
+-- a promise or a decision that is logged has a timestamp above 0
+abbrev pub IsDated : Option Record → Type 0
+IsDated (Some (Record.Prepare p)) = 0 < p.at
+IsDated (Some (Record.Commit c)) = 0 < c.at
+IsDated _ = Unit {0}
+
+-- a plan makes the same of a state whether its asker was taken in before it or not
+abbrev pub AdmissionIsUnseen : Type 0
+AdmissionIsUnseen =
+    (m : Memory) (p : Plan) → IsById (λ r. r.txn) m.rows → FitsRows m.rows p.wounded p.needs.items p.logged p.change →
+    carried (plan_of (admitted m.rows (asker p.change)) p) (admitted_to m (asker p.change)) ≡ carried (plan_of m.rows p) m
+
+-- a plan that fits can be carried out once all is ready, where its record may come next and install what it does
+abbrev pub ReadyIsCarriable : Type 0
+ReadyIsCarriable =
+    (old new : Kept) (p : Plan) (writes : List Write) → IsById (λ r. r.txn) old.memory.rows → IsFit old p → IsReady old new p →
+    MayFollow old.setup.shard old.facts p.logged → MayInstall old.facts p.logged writes → IsCarriable new p writes

@@ -1,0 +1,349 @@
+//! Carrying out a plan: first all memory is taken; then, once its record is logged, nothing can fail.
+ghost use Rattle.std.specs.Prelude.{◌≡◌, ◌≤◌, ◌<◌, ◌+◌, Some, None, true, false, OnOk, OnErr, IfOk, IfErr, IsSome, length, List, ℕ};
+ghost use Rattle.units.specs.Locks.{with_locks};
+ghost use Rattle.protocol.specs.Rows.{Memory, Idle, find_row, without_row};
+ghost use Rattle.protocol.specs.Step.{facts_after};
+ghost use Rattle.protocol.specs.Plan.{carried, changed, ended_by, held_in, with_ids, without_rows};
+ghost use Rattle.rows.specs.RowTable.{put_row, phase_by, room};
+ghost use Rattle.memory.specs.Carry.{AdmissionIsUnseen, ReadyIsCarriable, IsFit, MayAsk, IsReady, IsCarriable, IsDated, Admits, MayUndo, MayDrop, MayFollow, MayInstall, CanStand, FitsRows, Asks, HasRoom, asker, admitted, admitted_to, installed_by, may_ask, may_end};
+ghost use Rattle.memory.specs.Plans.{plan_of, change_of};
+ghost use Rattle.memory.specs.Served.{IsHolding, stamp_held};
+
+use crate::ended::Ended;
+use crate::ledger::Ledger;
+use crate::plan::{Change, Plan};
+use crate::state::State;
+use gatelog::Logged;
+use message::Outbox;
+use record::Record;
+use rows::{Row, Rows};
+use safetime::SafeTime;
+use std::alloc::Global;
+use units::{Fault, Lock, Stamp, TxnId, Writes};
+
+/// What was made ready for a plan: a copy of the writes that its record installs, and whether its transaction got a row.
+#[derive(Debug, Drop)]
+pub struct Ready {
+    pub writes: Writes,
+    pub admitted: bool,
+}
+
+impl Change {
+    /// The transaction that asks for locks.
+    pub fn asker(&self) -> Option<TxnId>
+        ensures { result ≡ asker self.now }
+    {
+        match self {
+            Change::Reads(txn) => Some(*txn),
+            Change::Waits(txn, _) => Some(*txn),
+            Change::Collects(txn, _) => Some(*txn),
+            Change::Stands(txn) => Some(*txn),
+            _ => None,
+        }
+    }
+}
+
+impl State {
+    /// Takes all the memory that a plan needs. A transaction that asks for locks, and has no row, gets one. Where memory is
+    /// refused, all is as it was.
+    pub fn make_ready(&mut self, alloc: Global, plan: &Plan) -> Result<Ready, Fault>
+        requires { IsFit self.old plan.now }
+        ensures ready { OnOk result (IsReady self.old self.new plan.now) }
+        ensures writes { IfOk result (λ ready. ready.writes ≡ installed_by self.old.facts plan.now.logged) }
+        ensures admits { IfOk result (λ ready. Admits self.old.memory.rows (asker plan.now.change) ready.admitted) }
+        ensures undo { IfOk result (λ ready. MayUndo self.new.memory.rows (asker plan.now.change) ready.admitted) }
+        ensures kept { OnErr result ((self.new.setup ≡ self.old.setup) × (self.new.facts ≡ self.old.facts) × (self.new.memory ≡ self.old.memory)) }
+        ensures memory { IfErr result (λ fault. fault ≡ Fault.Memory) }
+    {
+        self.ledger.reserve()?;
+        self.ended.reserve(plan.wounded.as_slice().len() + 1)?;
+        let writes = writes_for(&self.ledger, alloc, plan)?;
+        let admitted = admit_asker(&mut self.rows, alloc, plan.change.asker(), plan.needs.len())?;
+        Ok(Ready { writes, admitted })
+    }
+
+    /// Takes back what was made ready for a plan whose record was not logged: the row that its transaction got.
+    pub fn undo(&mut self, plan: &Plan, ready: Ready)
+        requires { MayUndo self.old.memory.rows (asker plan.now.change) ready.admitted }
+        ensures setup { self.new.setup ≡ self.old.setup }
+        ensures facts { self.new.facts ≡ self.old.facts }
+        ensures memory { (m : Memory) → Admits m.rows (asker plan.now.change) ready.admitted → self.old.memory ≡ admitted_to m (asker plan.now.change) → self.new.memory ≡ m }
+    {
+        self.rows.laws();
+        match plan.change.asker() {
+            Some(txn) if ready.admitted => self.rows.end(txn),
+            _ => {}
+        }
+    }
+
+    /// Carries out a plan for which all was made ready, once its record is logged. It takes no memory.
+    pub fn carry(&mut self, plan: Plan, ready: Ready, logged: Option<Logged>) -> Outbox
+        requires ready { IsCarriable self.old plan ready.writes }
+        requires logged { logged ≡ plan.logged }
+        ensures setup { self.new.setup ≡ self.old.setup }
+        ensures facts { self.new.facts ≡ facts_after self.old.facts plan.logged }
+        ensures memory { self.new.memory ≡ carried (plan_of self.old.memory.rows plan) self.old.memory }
+        ensures outbox { result ≡ plan.outbox }
+    {
+        let Plan {
+            wounded,
+            needs,
+            change,
+            logged: _,
+            last,
+            outbox,
+        } = plan;
+        self.times.raise(last);
+        let item = make_change(
+            &mut self.rows,
+            &mut self.ended,
+            &mut self.times,
+            change,
+            wounded.as_slice(),
+            &needs,
+            logged,
+        );
+        learn(&mut self.ledger, item, ready.writes);
+        outbox
+    }
+}
+
+/// A row that was taken in for a plan shows in nothing that the plan does, and a plan that fits can be carried out once all
+/// is ready. It does nothing.
+pub fn ready_plans_can_be_carried()
+    ensures unseen { AdmissionIsUnseen }
+    ensures carriable { ReadyIsCarriable }
+{
+}
+
+// A copy of the writes that the record of a plan installs.
+fn writes_for(ledger: &Ledger, alloc: Global, plan: &Plan) -> Result<Writes, Fault>
+    ensures writes { IfOk result (λ writes. writes ≡ installed_by ledger.now.facts plan.now.logged) }
+    ensures memory { IfErr result (λ fault. fault ≡ Fault.Memory) }
+{
+    match &plan.logged {
+        Some(Record::Outcome {
+            txn,
+            outcome: Some(_),
+        }) => ledger.copy_of_writes(alloc, *txn),
+        _ => Ok(Writes::none(alloc)),
+    }
+}
+
+// Takes the memory for some locks of the transaction that asks for them, where there is one.
+fn admit_asker(
+    rows: &mut Rows,
+    alloc: Global,
+    asker: Option<TxnId>,
+    more: usize,
+) -> Result<bool, Fault>
+    requires { MayAsk rows.old.rows asker }
+    ensures rows { OnOk result (rows.new.rows ≡ admitted rows.old.rows asker) }
+    ensures room { OnOk result (HasRoom rows.new asker more) }
+    ensures admits { IfOk result (λ taken. Admits rows.old.rows asker taken) }
+    ensures undo { IfOk result (λ taken. MayUndo rows.new.rows asker taken) }
+    ensures holding { (holds : List ℕ) → IsHolding holds rows.old.rows → IsHolding holds rows.new.rows }
+    ensures kept { OnErr result (rows.new.rows ≡ rows.old.rows) }
+    ensures memory { IfErr result (λ fault. fault ≡ Fault.Memory) }
+{
+    match asker {
+        Some(txn) => admit(rows, alloc, txn, more),
+        None => Ok(false),
+    }
+}
+
+// Takes the memory for some locks of a transaction, which gets a row where it has none.
+fn admit(rows: &mut Rows, alloc: Global, txn: TxnId, more: usize) -> Result<bool, Fault>
+    requires { may_ask rows.old.rows txn ≡ true }
+    ensures rows { OnOk result (rows.new.rows ≡ admitted rows.old.rows (Some txn)) }
+    ensures room { OnOk result (length (held_in rows.new.rows txn) + more ≤ room rows.new txn) }
+    ensures admits { IfOk result (λ taken. Admits rows.old.rows (Some txn) taken) }
+    ensures undo { IfOk result (λ taken. MayUndo rows.new.rows (Some txn) taken) }
+    ensures holding { (holds : List ℕ) → IsHolding holds rows.old.rows → IsHolding holds rows.new.rows }
+    ensures kept { OnErr result (rows.new.rows ≡ rows.old.rows) }
+    ensures memory { IfErr result (λ fault. fault ≡ Fault.Memory) }
+{
+    rows.laws();
+    if rows.find(txn).is_some() {
+        rows.make_room(txn, more)?;
+        return Ok(false);
+    }
+    rows.admit(alloc, txn)?;
+    match rows.make_room(txn, more) {
+        Ok(()) => Ok(true),
+        Err(fault) => {
+            rows.end(txn);
+            Err(fault)
+        }
+    }
+}
+
+// Makes the change of the rows, and gives back the record that was logged.
+fn make_change(
+    rows: &mut Rows,
+    ended: &mut Ended,
+    times: &mut SafeTime,
+    change: Change,
+    wounded: &[TxnId],
+    needs: &[Lock],
+    logged: Option<Logged>,
+) -> Option<Record>
+    requires holding { IsHolding times.old.holds rows.old.rows }
+    requires fits { FitsRows rows.old.rows wounded.now needs.now logged change }
+    requires there { admitted rows.old.rows (asker change) ≡ rows.old.rows }
+    requires ends { length wounded.now < ended.old.room }
+    requires locks { HasRoom rows.old (asker change) (length needs.now) }
+    requires dated { IsDated logged }
+    ensures holding { IsHolding times.new.holds rows.new.rows }
+    ensures last { times.new.last ≡ times.old.last }
+    ensures rows { rows.new.rows ≡ changed (change_of rows.old.rows needs.now logged change) (without_rows rows.old.rows wounded.now) }
+    ensures ended { ended.new.ids ≡ ended_by (change_of rows.old.rows needs.now logged change) (with_ids ended.old.ids wounded.now) }
+    ensures record { result ≡ logged }
+{
+    rows.laws();
+    note_ended(ended, wounded);
+    match change {
+        Change::Keeps => spend(logged),
+        Change::Ends(txn) => {
+            end(rows, txn);
+            ended.add(txn);
+            spend(logged)
+        }
+        Change::Drops(txn) => Some(drop_row(rows, times, txn, there(logged))),
+        Change::Reads(txn) => {
+            rows.grant(txn, wounded, needs);
+            spend(logged)
+        }
+        Change::Waits(txn, wait) => {
+            rows.wait(txn, wounded, needs, wait);
+            spend(logged)
+        }
+        Change::Collects(txn, gathering) => {
+            rows.grant(txn, wounded, needs);
+            rows.collect(txn, gathering);
+            spend(logged)
+        }
+        Change::Counts(txn, from, at) => {
+            rows.vote(txn, from, at);
+            spend(logged)
+        }
+        Change::Stands(txn) => {
+            rows.grant(txn, wounded, needs);
+            Some(stand(rows, times, txn, there(logged)))
+        }
+        Change::Decides(txn) => Some(stand(rows, times, txn, there(logged))),
+    }
+}
+
+// Ends a transaction that reads, or has no row.
+fn end(rows: &mut Rows, txn: TxnId)
+    requires { may_end rows.old.rows txn ≡ true }
+    ensures { rows.new.rows ≡ without_row rows.old.rows txn }
+{
+    if rows.find(txn).is_some() {
+        rows.end(txn);
+    }
+}
+
+// The row of a transaction goes by the record that was logged.
+fn drop_row(rows: &mut Rows, times: &mut SafeTime, txn: TxnId, logged: Logged) -> Record
+    requires holding { IsHolding times.old.holds rows.old.rows }
+    requires may { MayDrop rows.old.rows txn (Some logged) }
+    ensures holding { IsHolding times.new.holds rows.new.rows }
+    ensures last { times.new.last ≡ times.old.last }
+    ensures rows { rows.new.rows ≡ without_row rows.old.rows txn }
+    ensures record { result ≡ logged }
+{
+    if rows.find(txn).is_none() {
+        return logged.spend();
+    }
+    rows.laws();
+    match held_at(rows, txn) {
+        Some(at) => {
+            times.lift(at);
+            rows.close(txn, logged)
+        }
+        None => rows.abort(txn, logged),
+    }
+}
+
+// The timestamp that the row of a transaction holds the served time below.
+fn held_at(rows: &Rows, txn: TxnId) -> Option<Stamp>
+    ensures { result ≡ stamp_held rows.now.rows txn }
+{
+    match rows.find(txn) {
+        Some(Row::Prepared(prepared)) => Some(prepared.at()),
+        Some(Row::Decided(decided)) => Some(decided.at()),
+        _ => None,
+    }
+}
+
+// A row stands by the record that was logged: a promise or a decision. It holds the served time below its timestamp.
+fn stand(rows: &mut Rows, times: &mut SafeTime, txn: TxnId, logged: Logged) -> Record
+    requires holding { IsHolding times.old.holds rows.old.rows }
+    requires stands { CanStand rows.old.rows txn logged }
+    ensures holding { IsHolding times.new.holds rows.new.rows }
+    ensures last { times.new.last ≡ times.old.last }
+    ensures rows { rows.new.rows ≡ put_row rows.old.rows txn (held_in rows.old.rows txn) (phase_by logged) }
+    ensures record { result ≡ logged }
+{
+    rows.laws();
+    match logged.item() {
+        Record::Prepare(prepared) => {
+            times.hold(prepared.at);
+            rows.prepare(txn, logged)
+        }
+        Record::Commit(committed) => {
+            times.hold(committed.at);
+            rows.decide(txn, logged)
+        }
+        _ => unreachable!(),
+    }
+}
+
+// Counts some transactions as ended.
+fn note_ended(ended: &mut Ended, txns: &[TxnId])
+    requires { length txns.now < ended.old.room }
+    ensures ids { ended.new.ids ≡ with_ids ended.old.ids txns.now }
+    ensures room { 1 ≤ ended.new.room }
+{
+    for txn in txns {
+        ended.add(*txn);
+    }
+}
+
+// Learns the record that was logged, where there is one.
+fn learn(ledger: &mut Ledger, item: Option<Record>, writes: Writes)
+    requires room { 1 ≤ ledger.old.room }
+    requires opened { 0 < ledger.old.facts.epoch }
+    requires follows { MayFollow ledger.old.shard ledger.old.facts item }
+    requires installs { MayInstall ledger.old.facts item writes }
+    ensures facts { ledger.new.facts ≡ facts_after ledger.old.facts item }
+    ensures shard { ledger.new.shard ≡ ledger.old.shard }
+    ensures opened { 0 < ledger.new.facts.epoch }
+{
+    if let Some(item) = item {
+        ledger.learn(item, writes);
+    }
+}
+
+// The word that a record was logged, which is there.
+fn there(logged: Option<Logged>) -> Logged
+    requires { IsSome logged }
+    ensures { logged ≡ Some result }
+{
+    match logged {
+        Some(logged) => logged,
+        None => unreachable!(),
+    }
+}
+
+// Spends the word that a record was logged, where there is one.
+fn spend(logged: Option<Logged>) -> Option<Record>
+    ensures { result ≡ logged }
+{
+    match logged {
+        Some(logged) => Some(logged.spend()),
+        None => None,
+    }
+}
