@@ -1,5 +1,5 @@
 -- A step logs promises and decisions above all that was served, and the greatest timestamp does not fall.
-use Rattle.std.proofs.Common.{◌≡◌, ℕ, ◌+◌, ◌<◌, ◌≤◌, max, min, nat_lt, nat_le, Bool, true, false, cond, List, [], ◌∷◌, ◌++◌, Option, Some, None, refl, arith}
+use Rattle.std.proofs.Common.{ℕ, ◌+◌, ◌≤◌, max, min, nat_lt, nat_le, Bool, true, false, cond, List, [], ◌∷◌, Option, Some, None, arith}
 use Rattle.std.specs.Prelude.{Ok, Err}
 use Rattle.units.specs.Ids.{Id}
 use Rattle.units.specs.Keys.{Bytes}
@@ -15,9 +15,9 @@ use Rattle.message.specs.declared.message.Envelope.{Envelope}
 use Rattle.message.specs.declared.message.Input.{Input}
 use Rattle.message.specs.declared.message.Message.{Message}
 use Rattle.protocol.specs.Rows.{Row, Phase, Idle, WaitsRead, WaitsPrepare, WaitsCommit, Collecting, IsPrepared, IsDecided, Voted, Standing, IsUnknown, WasEnded, HasRow, WasAborted, WasSettled, WasClosed, claims, find_row}
-use Rattle.protocol.specs.Draft.{done_to, vote_to, promise, decision, commit_stamp, other_parts, all_voted, time_limit}
+use Rattle.protocol.specs.Draft.{done_to, vote_to, promise, decision, commit_stamp, other_parts, time_limit}
 use Rattle.protocol.specs.Step.{is_for, with_vote}
-use Rattle.protocol.specs.Plan.{Plan, Planned, Before, Keeps, replies, ends, drops, puts, roomed, plan_read, plan_read_now, plan_read_row, plan_prepare, plan_prepare_fresh, plan_prepare_now, plan_promise, plan_commit, plan_commit_fresh, plan_commit_now, plan_commit_granted, plan_decide, plan_abort, plan_vote, plan_count, plan_tell, plan_outcome, raised, plan_abort_for, plan_give_up, plan_ask, plan_go_on, plan_resume, plan_resume_id, plan_resume_row, plan_settle, plan_advance, plan_nudge, plan_message, plan_input, in_way, to_read, opens, is_crowded, answers, tells, stands}
+use Rattle.protocol.specs.Plan.{Plan, Planned, Before, Keeps, replies, ends, drops, puts, roomed, plan_read, plan_read_now, plan_read_row, plan_prepare, plan_prepare_fresh, plan_prepare_now, plan_promise, plan_commit, plan_commit_fresh, plan_commit_now, plan_commit_granted, plan_decide, plan_abort, plan_vote, plan_count, plan_tell, plan_outcome, plan_abort_for, plan_give_up, plan_ask, plan_go_on, plan_resume, plan_resume_id, plan_resume_row, plan_settle, plan_advance, plan_nudge, plan_message, plan_input, in_way, to_read, opens, is_crowded, answers, tells, stands}
 use Rattle.world.proofs.Quiet.{IsAbove}
 
 -- what is logged is above a time
