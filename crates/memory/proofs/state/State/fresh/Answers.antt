@@ -50,5 +50,5 @@ invariant_of-result c =
       omega (arith, epoch),
       c.learn.ensures.shard ∙ c.in_ok-reserve.ensures.same.1 ∙ c.new-ledger.ensures.shard,
       subst (λ (rows : List Row). SameHolds c.in_ok-times.times.holds (stamps_held rows)) (sym c.in_ok-rows.ensures.none)
-      (subst (λ (times : Times). SameHolds times.holds (stamps_held [])) (sym c.in_ok-times.ensures.times) (record { each = λ at. refl })),
+          (subst (λ (times : Times). SameHolds times.holds (stamps_held [])) (sym c.in_ok-times.ensures.times) (record { each = λ at. refl })),
     )
