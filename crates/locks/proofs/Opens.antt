@@ -1,9 +1,8 @@
 -- What is left of a table without those that a request wounds.
-use Rattle.std.proofs.Common.{◌≡◌, Bool, true, false, ◌&&◌, ◌||◌, not, cond, List, [], ◌∷◌, map, refl, sym, ap, ◌∙◌, arith}
-use Rattle.std.specs.List.{list_any, filter, AllByRecursion}
-use Rattle.std.proofs.lemmas.Bool.Decides.{nat_tests}
-use Rattle.units.specs.Lists.{any, keep}
-use Rattle.units.specs.Ids.{Id, same_id, older}
+use Rattle.std.proofs.Common.{◌≡◌, Bool, true, false, ◌&&◌, not, cond, List, [], ◌∷◌, map, refl, sym, ap, ◌∙◌}
+use Rattle.std.specs.List.{AllByRecursion}
+use Rattle.units.specs.Lists.{keep}
+use Rattle.units.specs.Ids.{Id, same_id}
 use Rattle.units.specs.ById.{IsById}
 use Rattle.units.specs.Locks.{Claim, wounded, is_free}
 use Rattle.units.specs.declared.lock.Lock.{Lock}
@@ -11,7 +10,7 @@ use Rattle.units.proofs.IdLaws.{same_id-refl, older_not_same}
 use Rattle.units.proofs.ListLaws.{list_any-is, filter-is, any-keep, any-alike}
 use Rattle.units.proofs.ByIdLaws.{AllYounger, later_are_younger, later_differ, without_none}
 use Rattle.locks.specs.Table.{without_claim, without_claims}
-use Rattle.locks.specs.Ways.{gives_way, stands_in_way, is_blocked, ids_in_way, keeps_out, is_kept_out}
+use Rattle.locks.specs.Ways.{gives_way, stands_in_way, keeps_out, is_kept_out}
 use Rattle.locks.proofs.WayLaws.{wounded-is, is_free-is}
 
 -- a claim of another id stays in front

@@ -1,8 +1,7 @@
-use Rattle.std.proofs.Common.{◌≡◌, ◌+◌, ◌≤◌, ◌∙◌, sym, ap, subst, arith, length, true, false, [], List}
+use Rattle.std.proofs.Common.{◌≡◌, ◌∙◌, sym, ap, subst, arith, true, List}
 use Rattle.units.specs.Locks.{Claim, is_free}
 use Rattle.units.specs.LockLaws.{IsLawfulTable}
 use Rattle.locks.specs.Table.{Token, change_claim, granted, most_held}
-use Rattle.locks.specs.Ways.{is_blocked}
 use Rattle.locks.proofs.Changes.{put_is_change, most_at_place}
 use Rattle.locks.proofs.TableLaws.{lawful-granted}
 use Rattle.locks.proofs.WayLaws.{free_blocked}

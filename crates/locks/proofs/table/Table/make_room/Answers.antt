@@ -1,4 +1,4 @@
-use Rattle.std.proofs.Common.{◌≡◌, ℕ, subst, ◌+◌, ◌≤◌, ◌∙◌, sym, ap, arith, length, List, IsOk, OnOk}
+use Rattle.std.proofs.Common.{ℕ, subst, ◌+◌, ◌≤◌, ◌∙◌, sym, ap, arith, length, List, OnOk}
 use Rattle.units.specs.Locks.{Claim}
 use Rattle.locks.specs.Table.{Token, held_in}
 use Rattle.locks.proofs.Changes.{held_at_place}
