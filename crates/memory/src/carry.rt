@@ -113,8 +113,7 @@ impl State {
 pub fn ready_plans_can_be_carried()
     ensures unseen { AdmissionIsUnseen }
     ensures carriable { ReadyIsCarriable }
-{
-}
+{}
 
 // A copy of the writes that the record of a plan installs.
 fn writes_for(ledger: &Ledger, alloc: Global, plan: &Plan) -> Result<Writes, Fault>
@@ -122,10 +121,12 @@ fn writes_for(ledger: &Ledger, alloc: Global, plan: &Plan) -> Result<Writes, Fau
     ensures memory { IfErr result (λ fault. fault ≡ Fault.Memory) }
 {
     match &plan.logged {
-        Some(Record::Outcome {
-            txn,
-            outcome: Some(_),
-        }) => ledger.copy_of_writes(alloc, *txn),
+        Some(
+            Record::Outcome {
+                txn,
+                outcome: Some(_),
+            },
+        ) => ledger.copy_of_writes(alloc, *txn),
         _ => Ok(Writes::none(alloc)),
     }
 }
