@@ -12,7 +12,7 @@ pub mod KeptFacts
 pub mod KeptRows
 pub mod LastUnderFloor
 mod LockTable
-mod PlanRows
+pub mod PlanRows
 mod PlannedActs
 mod PlannedAgain
 pub mod PlanShapes
