@@ -47,3 +47,55 @@ pub fn on_vote(state: &State, alloc: Global, vote: &Vote) -> Result<Plan, Fault>
         },
     }
 }
+
+// The shard takes part, and is not this one.
+fn is_of_part(state: &State, parts: Parts, shard: ShardNo) -> bool
+    ensures { result ≡ has (other_parts state.now.setup.shard parts) shard }
+{
+    shard != state.setup().shard && parts.has(shard)
+}
+
+// Who voted yes is told the outcome.
+fn tell(
+    state: &State,
+    alloc: Global,
+    vote: &Vote,
+    outcome: Option<Stamp>,
+) -> Result<Plan, Fault>
+    ensures plan { IfOk result (λ plan. plan_of state.now.memory.rows plan ≡ plan_tell (start_of state.now) vote.now.from vote.now.txn outcome vote.now.vote) }
+    ensures memory { IfErr result (λ fault. fault ≡ Fault.Memory) }
+{
+    if vote.vote.is_none() {
+        return Ok(state.idles(alloc));
+    }
+    let told = Outcome {
+        from: state.setup().shard,
+        txn: vote.txn,
+        outcome,
+    };
+    state.reply(alloc, outcome_to(&told, vote.from))
+}
+
+// A yes is kept, and the last one decides.
+fn count(
+    state: &State,
+    alloc: Global,
+    collecting: &Collecting,
+    vote: &Vote,
+    at: Stamp,
+) -> Result<Plan, Fault>
+    ensures { IsPlanned state.now (plan_count (start_of state.now) vote.now.from vote.now.txn (Some at) collecting.now.request.latest collecting.now.request.parts collecting.now.request.reads collecting.now.request.writes collecting.now.votes) result }
+{
+    let request = collecting.request();
+    let last = Voted {
+        shard: vote.from,
+        at,
+    };
+    if !have_all_voted(state.setup().shard, request.parts, collecting.votes(), last) {
+        let asked = (Vec::new(alloc), Change::Counts(vote.txn, vote.from, at));
+        let nobody = Ids::from_vec(Vec::new(alloc));
+        return state.puts(alloc, nobody, asked, None, state.last(), None);
+    }
+    let at = decision_time(state, request.latest, collecting.votes(), last)?;
+    decide(state, alloc, vote.txn, at, request.copy(alloc)?)
+}
