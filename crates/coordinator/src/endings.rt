@@ -1,12 +1,16 @@
 //! How a transaction that this shard decides ends: given up, asked for, or settled.
 ghost use Rattle.std.specs.Prelude.{◌≡◌, [], ◌∷◌, Some, None, Ok, IfOk, IfErr};
-ghost use Rattle.protocol.specs.Draft.{other_parts};
-ghost use Rattle.protocol.specs.Plan.{plan_give_up, plan_ask, plan_abort_for, plan_settle, stands};
-ghost use Rattle.memory.specs.Kept.{start_of, IsPlanned};
+ghost use Rattle.std.specs.Option.{option_copied};
+ghost use Rattle.protocol.specs.Rows.{HasRow, IsDecided};
+ghost use Rattle.protocol.specs.Draft.{outcome_to};
+ghost use Rattle.protocol.specs.Plan.{plan_give_up, plan_ask, plan_abort_for, plan_settle, replies, stands, held_in};
+ghost use Rattle.rows.specs.CodeRows.{phase_of, phase_of_wait};
+ghost use Rattle.memory.specs.Kept.{start_of, standing_of, IsPlanned};
 ghost use Rattle.memory.specs.Plans.{plan_of};
 
+use crate::parts::is_of_part;
 use memory::{Past, Plan, State, done_to, outcome_to};
-use message::{Ask, GiveUp, Outcome};
+use message::{Ask, Envelope, GiveUp, Outcome};
 use participant::end_reading;
 use record::Record;
 use rows::{Decided, Row, Wait};
@@ -20,15 +24,45 @@ pub fn give_up(state: &State, alloc: Global, given: &GiveUp) -> Result<Plan, Fau
     ensures { IsPlanned state.now (Ok (plan_give_up (start_of state.now) given.now.txn (stands (start_of state.now) given.now.txn))) result }
 {
     match state.row(given.txn) {
-        Some(Row::Reading(reading)) => end_reading(state, alloc, given.txn, reading.wait()),
-        Some(Row::Collecting(collecting)) => {
+        Some(row) => give_up_with_row(state, alloc, given, row),
+        None => give_up_without_row(state, alloc, given, state.past(given.txn)),
+    }
+}
+
+// A giving up of a transaction that has a row.
+#[tactic(auto, unfolding(protocol::specs::Plan::plan_give_up))]
+fn give_up_with_row(
+    state: &State,
+    alloc: Global,
+    given: &GiveUp,
+    row: &Row,
+) -> Result<Plan, Fault>
+    ensures { IsPlanned state.now (Ok (plan_give_up (start_of state.now) given.now.txn (HasRow (held_in state.now.memory.rows given.now.txn) (phase_of row.now)))) result }
+{
+    match row {
+        Row::Reading(reading) => end_reading(state, alloc, given.txn, reading.wait()),
+        Row::Collecting(collecting) => {
             state.aborts(alloc, given.txn, collecting.request().parts)
         }
-        Some(_) => Ok(state.idles(alloc)),
-        None => match state.past(given.txn) {
-            Past::Unknown => end_reading(state, alloc, given.txn, None),
-            _ => Ok(state.idles(alloc)),
-        },
+        Row::Prepared(_) | Row::Decided(_) => Ok(state.idles(alloc)),
+    }
+}
+
+// A giving up of a transaction that has no row.
+#[tactic(auto, unfolding(protocol::specs::Plan::plan_give_up))]
+fn give_up_without_row(
+    state: &State,
+    alloc: Global,
+    given: &GiveUp,
+    past: Past,
+) -> Result<Plan, Fault>
+    ensures { IsPlanned state.now (Ok (plan_give_up (start_of state.now) given.now.txn (standing_of past))) result }
+{
+    match past {
+        Past::Unknown => end_reading(state, alloc, given.txn, None),
+        Past::Ended | Past::Aborted | Past::Settled { .. } | Past::Closed { .. } => {
+            Ok(state.idles(alloc))
+        }
     }
 }
 
@@ -37,27 +71,60 @@ pub fn on_ask(state: &State, alloc: Global, ask: &Ask) -> Result<Plan, Fault>
     ensures { IsPlanned state.now (plan_ask (start_of state.now) ask.now.from ask.now.txn (stands (start_of state.now) ask.now.txn)) result }
 {
     match state.row(ask.txn) {
-        Some(Row::Reading(reading)) => match reading.wait() {
-            Some(Wait::Prepare(_)) => Err(Fault::Stranger),
-            Some(Wait::Commit(_)) => Ok(state.idles(alloc)),
-            Some(Wait::Read(_)) => abort_for(state, alloc, ask),
-            None => abort_for(state, alloc, ask),
-        },
-        Some(Row::Collecting(_)) => Ok(state.idles(alloc)),
-        Some(Row::Decided(_)) => Ok(state.idles(alloc)),
-        Some(Row::Prepared(_)) => Err(Fault::Stranger),
-        None => match state.past(ask.txn) {
-            Past::Unknown => abort_for(state, alloc, ask),
-            Past::Ended => abort_for(state, alloc, ask),
-            Past::Aborted => answer(state, alloc, ask, None),
-            Past::Settled { at, parts } => {
-                if !is_of_part(state, parts, ask.from) {
-                    return Err(Fault::Stranger);
-                }
-                answer(state, alloc, ask, Some(at))
+        Some(row) => ask_with_row(state, alloc, ask, row),
+        None => ask_without_row(state, alloc, ask, state.past(ask.txn)),
+    }
+}
+
+// A question about a transaction that has a row.
+#[tactic(auto, unfolding(protocol::specs::Plan::plan_ask))]
+fn ask_with_row(state: &State, alloc: Global, ask: &Ask, row: &Row) -> Result<Plan, Fault>
+    ensures { IsPlanned state.now (plan_ask (start_of state.now) ask.now.from ask.now.txn (HasRow (held_in state.now.memory.rows ask.now.txn) (phase_of row.now))) result }
+{
+    match row {
+        Row::Reading(reading) => ask_with_wait(state, alloc, ask, reading.wait()),
+        Row::Collecting(_) | Row::Decided(_) => Ok(state.idles(alloc)),
+        Row::Prepared(_) => Err(Fault::Stranger),
+    }
+}
+
+// A question about a transaction that reads, by what it waits with.
+#[tactic(auto, unfolding(protocol::specs::Plan::plan_ask))]
+fn ask_with_wait(
+    state: &State,
+    alloc: Global,
+    ask: &Ask,
+    wait: Option<&Wait>,
+) -> Result<Plan, Fault>
+    ensures { IsPlanned state.now (plan_ask (start_of state.now) ask.now.from ask.now.txn (HasRow (held_in state.now.memory.rows ask.now.txn) (phase_of_wait (option_copied wait.entry)))) result }
+{
+    match wait {
+        Some(Wait::Prepare(_)) => Err(Fault::Stranger),
+        Some(Wait::Commit(_)) => Ok(state.idles(alloc)),
+        Some(Wait::Read(_)) | None => abort_for(state, alloc, ask),
+    }
+}
+
+// A question about a transaction that has no row.
+#[tactic(auto, unfolding(protocol::specs::Plan::plan_ask))]
+fn ask_without_row(
+    state: &State,
+    alloc: Global,
+    ask: &Ask,
+    past: Past,
+) -> Result<Plan, Fault>
+    ensures { IsPlanned state.now (plan_ask (start_of state.now) ask.now.from ask.now.txn (standing_of past)) result }
+{
+    match past {
+        Past::Unknown | Past::Ended => abort_for(state, alloc, ask),
+        Past::Aborted => answer(state, alloc, ask, None),
+        Past::Settled { at, parts } => {
+            if !is_of_part(state, parts, ask.from) {
+                return Err(Fault::Stranger);
             }
-            Past::Closed { .. } => Err(Fault::Stranger),
-        },
+            answer(state, alloc, ask, Some(at))
+        }
+        Past::Closed { .. } => Err(Fault::Stranger),
     }
 }
 
@@ -71,6 +138,19 @@ fn told(state: &State, ask: &Ask, outcome: Option<Stamp>) -> Envelope
         outcome,
     };
     outcome_to(&told, ask.from)
+}
+
+// The shard that asked is told the outcome.
+fn answer(
+    state: &State,
+    alloc: Global,
+    ask: &Ask,
+    outcome: Option<Stamp>,
+) -> Result<Plan, Fault>
+    ensures plan { IfOk result (λ plan. plan_of state.now.memory.rows plan ≡ replies (start_of state.now) (outcome_to state.now.setup.shard ask.now.txn outcome ask.now.from ∷ [])) }
+    ensures memory { IfErr result (λ fault. fault ≡ Fault.Memory) }
+{
+    state.reply(alloc, told(state, ask, outcome))
 }
 
 // The transaction is aborted, and the shard that asked is told.
@@ -89,20 +169,39 @@ pub fn settle(state: &State, alloc: Global, now: &Reading, txn: TxnId) -> Result
     ensures { IsPlanned state.now (plan_settle (start_of state.now) now.now.earliest txn (stands (start_of state.now) txn)) result }
 {
     match state.row(txn) {
-        Some(Row::Decided(decided)) => settle_decided(state, alloc, now, txn, decided),
-        Some(_) => Err(Fault::Stranger),
+        Some(row) => settle_with_row(state, alloc, now, txn, row),
         None => Err(Fault::Stranger),
     }
 }
 
+// A settling of a transaction that has a row.
+#[tactic(auto, unfolding(protocol::specs::Plan::plan_settle))]
+fn settle_with_row(
+    state: &State,
+    alloc: Global,
+    now: &Reading,
+    txn: TxnId,
+    row: &Row,
+) -> Result<Plan, Fault>
+    ensures { IsPlanned state.now (plan_settle (start_of state.now) now.now.earliest txn (HasRow (held_in state.now.memory.rows txn) (phase_of row.now))) result }
+{
+    match row {
+        Row::Decided(decided) => settle_decided(state, alloc, now, txn, decided),
+        Row::Reading(_) | Row::Collecting(_) | Row::Prepared(_) => Err(Fault::Stranger),
+    }
+}
+
 // Nobody is told of a commit before its timestamp has passed (commit wait): the end is made of the word that it has.
+#[tactic(auto, unfolding(protocol::specs::Plan::plan_settle))]
 fn settle_decided(
     state: &State,
     alloc: Global,
     now: &Reading,
     txn: TxnId,
     decided: &Decided,
-) -> Result<Plan, Fault> {
+) -> Result<Plan, Fault>
+    ensures { IsPlanned state.now (plan_settle (start_of state.now) now.now.earliest txn (HasRow (held_in state.now.memory.rows txn) (IsDecided decided.now.at decided.now.parts))) result }
+{
     let at = pass(decided.at(), now)?.spend();
     let end = done_to(txn, Some(at));
     let out = state.ending(alloc, end, txn, Some(at), decided.parts())?;

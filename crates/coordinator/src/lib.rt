@@ -2,10 +2,7 @@
 //! has passed, and tells the outcome. Each function tells the plan of its message and changes nothing.
 #![tactic(auto)]
 
-mod commits;
 mod endings;
-mod votes;
+mod parts;
 
-pub use commits::{on_commit, resume_commit};
 pub use endings::{give_up, on_ask, settle};
-pub use votes::on_vote;

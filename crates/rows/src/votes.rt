@@ -1,5 +1,6 @@
 //! The votes of a commit that is collected.
-ghost use Rattle.std.specs.Prelude.{◌≡◌, [], IfOk, IfErr};
+ghost use Rattle.std.specs.Prelude.{◌≡◌, [], IfOk, IfErr, map};
+ghost use Rattle.rows.specs.States.{voted_of};
 
 use crate::wait::CommitRequest;
 use std::alloc::Global;
@@ -42,6 +43,13 @@ impl Votes {
     {
         let votes = Vec::with_capacity(alloc, Votes::MOST)?;
         Ok(Votes { votes })
+    }
+
+    /// The votes in order.
+    pub fn as_slice(&self) -> &[Voted]
+        ensures { map voted_of result.now ≡ self.now }
+    {
+        self.votes.as_slice()
     }
 }
 
