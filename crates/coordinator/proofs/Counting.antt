@@ -1,22 +1,21 @@
 -- One vote more: who has voted then, and the timestamp of the decision.
-use Rattle.std.proofs.Common.{◌≡◌, ◌∙◌, ℕ, zero, suc, ◌+◌, ◌-◌, ◌<◌, ◌≤◌, ◌^◌, ◌/◌, ◌%◌, max, Bool, true, false, not, cond, ◌&&◌, ◌||◌, nat_eq, nat_le, List, [], ◌∷◌, ◌++◌, map, Option, Some, None, Ok, Err, refl, sym, ap, arith}
+use Rattle.std.proofs.Common.{◌≡◌, ◌∙◌, ℕ, zero, suc, ◌+◌, ◌-◌, ◌<◌, ◌≤◌, ◌^◌, ◌/◌, ◌%◌, max, Bool, true, false, not, cond, ◌&&◌, ◌||◌, nat_eq, List, [], ◌∷◌, ◌++◌, map, Some, None, Ok, Err, refl, sym, ap, arith}
 use Rattle.std.proofs.lemmas.Bool.Decides.{nat_tests}
-use Rattle.units.specs.Lists.{any, each, greatest}
+use Rattle.units.specs.Lists.{any, greatest}
 use Rattle.units.specs.Ids.{Id}
 use Rattle.units.specs.Keys.{Bytes}
 use Rattle.units.specs.Parts.{shards_from}
-use Rattle.units.specs.declared.fault.Fault.TheVariants.{Stranger, TimeSpent}
+use Rattle.units.specs.declared.fault.Fault.TheVariants.{TimeSpent}
 use Rattle.units.specs.declared.writes.Write.{Write}
 use Rattle.protocol.specs.Draft.{other_parts, all_voted, commit_stamp}
 use Rattle.protocol.specs.Rows.{Row, Voted, Collecting, find_row}
 use Rattle.protocol.specs.Step.{with_vote}
-use Rattle.protocol.specs.Plan.{Before, Planned, of_part, puts, plan_decide, plan_count}
+use Rattle.protocol.specs.Plan.{Before, puts, plan_decide, plan_count}
 use Rattle.rows.specs.States.{voted_of}
 use Rattle.rows.specs.declared.votes.Voted.{Voted as CastVote}
 use Rattle.memory.specs.Plans.{counted}
 use Rattle.coordinator.specs.Granted.{decides, more_votes}
 use Rattle.coordinator.proofs.Granting.{decide_late, decide_made}
-use Rattle.units.specs.Lists.{has}
 
 -- ---- votes as the rows keep them
 

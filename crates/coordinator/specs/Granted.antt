@@ -1,5 +1,5 @@
 -- The plans of a commit whose locks are granted.
-use Rattle.std.specs.Prelude.{ℕ, max, List, [], map, Option, Some, None}
+use Rattle.std.specs.Prelude.{ℕ, max, List, [], map, Some, None}
 use Rattle.units.specs.Ids.{Id}
 use Rattle.units.specs.Keys.{Bytes}
 use Rattle.units.specs.Locks.{exclusive}

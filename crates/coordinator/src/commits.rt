@@ -93,12 +93,7 @@ fn commit_without_row(
 }
 
 // Where the reads do not stand any more, it is aborted.
-fn commit_fresh(
-    state: &State,
-    alloc: Global,
-    now: &Reading,
-    commit: &Commit,
-) -> Result<Plan, Fault>
+fn commit_fresh(state: &State, alloc: Global, now: &Reading, commit: &Commit) -> Result<Plan, Fault>
     ensures { IsPlanned state.now (plan_commit_fresh (start_of state.now) now.now.latest commit.now.txn commit.now.parts commit.now.reads.epoch commit.now.reads.keys commit.now.writes (held_in state.now.memory.rows commit.now.txn)) result }
 {
     if reads_stand(state, commit.txn, &commit.reads) {
@@ -121,12 +116,7 @@ fn commit_in_time(
 }
 
 // Exclusive locks of what is written, and so on; or a wait.
-fn commit_now(
-    state: &State,
-    alloc: Global,
-    now: &Reading,
-    commit: &Commit,
-) -> Result<Plan, Fault>
+fn commit_now(state: &State, alloc: Global, now: &Reading, commit: &Commit) -> Result<Plan, Fault>
     ensures { IsPlanned state.now (plan_commit_now (start_of state.now) commit.now.txn now.now.latest commit.now.parts commit.now.reads.keys commit.now.writes) result }
 {
     if !state.opens_writes(commit.txn, &commit.writes) {
@@ -140,12 +130,7 @@ fn commit_now(
 }
 
 // The locks are granted, and no other shard takes part.
-fn decide_now(
-    state: &State,
-    alloc: Global,
-    now: &Reading,
-    commit: &Commit,
-) -> Result<Plan, Fault>
+fn decide_now(state: &State, alloc: Global, now: &Reading, commit: &Commit) -> Result<Plan, Fault>
     requires opens { opens (start_of state.now) commit.now.txn (exclusive commit.now.writes) ≡ true }
     requires alone { any (λ n. not (nat_eq n state.now.setup.shard)) commit.now.parts ≡ false }
     ensures { IsPlanned state.now (plan_commit_now (start_of state.now) commit.now.txn now.now.latest commit.now.parts commit.now.reads.keys commit.now.writes) result }
@@ -176,12 +161,7 @@ fn decide_anew(
 }
 
 // The locks are granted, and other shards take part.
-fn collect_now(
-    state: &State,
-    alloc: Global,
-    now: &Reading,
-    commit: &Commit,
-) -> Result<Plan, Fault>
+fn collect_now(state: &State, alloc: Global, now: &Reading, commit: &Commit) -> Result<Plan, Fault>
     requires opens { opens (start_of state.now) commit.now.txn (exclusive commit.now.writes) ≡ true }
     requires others { any (λ n. not (nat_eq n state.now.setup.shard)) commit.now.parts ≡ true }
     ensures { IsPlanned state.now (plan_commit_now (start_of state.now) commit.now.txn now.now.latest commit.now.parts commit.now.reads.keys commit.now.writes) result }
@@ -193,12 +173,7 @@ fn collect_now(
 }
 
 // Whoever is in the way is ended, and votes are collected.
-fn collect_anew(
-    state: &State,
-    alloc: Global,
-    now: &Reading,
-    commit: &Commit,
-) -> Result<Plan, Fault>
+fn collect_anew(state: &State, alloc: Global, now: &Reading, commit: &Commit) -> Result<Plan, Fault>
     ensures plan { IfOk result (λ plan. plan_of state.now.memory.rows plan ≡
         collects (start_of state.now) (in_way (start_of state.now) commit.now.txn (exclusive commit.now.writes)) commit.now.txn now.now.latest commit.now.parts commit.now.reads.keys commit.now.writes) }
     ensures memory { IfErr result (λ fault. fault ≡ Fault.Memory) }
@@ -221,12 +196,7 @@ fn wait(state: &State, alloc: Global, now: &Reading, commit: &Commit) -> Result<
 }
 
 // Whoever is in the way and may be ended is ended, and the row waits.
-fn wait_in_row(
-    state: &State,
-    alloc: Global,
-    now: &Reading,
-    commit: &Commit,
-) -> Result<Plan, Fault>
+fn wait_in_row(state: &State, alloc: Global, now: &Reading, commit: &Commit) -> Result<Plan, Fault>
     ensures plan { IfOk result (λ plan. plan_of state.now.memory.rows plan ≡
         waits (start_of state.now) commit.now.txn now.now.latest commit.now.parts commit.now.reads.keys commit.now.writes) }
     ensures memory { IfErr result (λ fault. fault ≡ Fault.Memory) }

@@ -31,12 +31,7 @@ pub fn give_up(state: &State, alloc: Global, given: &GiveUp) -> Result<Plan, Fau
 
 // A giving up of a transaction that has a row.
 #[tactic(auto, unfolding(protocol::specs::Plan::plan_give_up))]
-fn give_up_with_row(
-    state: &State,
-    alloc: Global,
-    given: &GiveUp,
-    row: &Row,
-) -> Result<Plan, Fault>
+fn give_up_with_row(state: &State, alloc: Global, given: &GiveUp, row: &Row) -> Result<Plan, Fault>
     ensures { IsPlanned state.now (Ok (plan_give_up (start_of state.now) given.now.txn (HasRow (held_in state.now.memory.rows given.now.txn) (phase_of row.now)))) result }
 {
     match row {
@@ -107,12 +102,7 @@ fn ask_with_wait(
 
 // A question about a transaction that has no row.
 #[tactic(auto, unfolding(protocol::specs::Plan::plan_ask))]
-fn ask_without_row(
-    state: &State,
-    alloc: Global,
-    ask: &Ask,
-    past: Past,
-) -> Result<Plan, Fault>
+fn ask_without_row(state: &State, alloc: Global, ask: &Ask, past: Past) -> Result<Plan, Fault>
     ensures { IsPlanned state.now (plan_ask (start_of state.now) ask.now.from ask.now.txn (standing_of past)) result }
 {
     match past {
@@ -141,12 +131,7 @@ fn told(state: &State, ask: &Ask, outcome: Option<Stamp>) -> Envelope
 }
 
 // The shard that asked is told the outcome.
-fn answer(
-    state: &State,
-    alloc: Global,
-    ask: &Ask,
-    outcome: Option<Stamp>,
-) -> Result<Plan, Fault>
+fn answer(state: &State, alloc: Global, ask: &Ask, outcome: Option<Stamp>) -> Result<Plan, Fault>
     ensures plan { IfOk result (λ plan. plan_of state.now.memory.rows plan ≡ replies (start_of state.now) (outcome_to state.now.setup.shard ask.now.txn outcome ask.now.from ∷ [])) }
     ensures memory { IfErr result (λ fault. fault ≡ Fault.Memory) }
 {

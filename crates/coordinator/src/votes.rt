@@ -33,12 +33,7 @@ pub fn on_vote(state: &State, alloc: Global, vote: &Vote) -> Result<Plan, Fault>
 
 // A vote for a transaction that has a row.
 #[tactic(auto, unfolding(protocol::specs::Plan::plan_vote))]
-fn vote_with_row(
-    state: &State,
-    alloc: Global,
-    vote: &Vote,
-    row: &Row,
-) -> Result<Plan, Fault>
+fn vote_with_row(state: &State, alloc: Global, vote: &Vote, row: &Row) -> Result<Plan, Fault>
     requires { find_row state.now.memory.rows vote.now.txn ≡ Some (record { txn = vote.now.txn; held = held_in state.now.memory.rows vote.now.txn; phase = phase_of row.now }) }
     ensures { IsPlanned state.now (plan_vote (start_of state.now) vote.now.from vote.now.txn vote.now.vote (HasRow (held_in state.now.memory.rows vote.now.txn) (phase_of row.now))) result }
 {
@@ -68,12 +63,7 @@ fn vote_with_wait(
 
 // A vote for a transaction that has no row.
 #[tactic(auto, unfolding(protocol::specs::Plan::plan_vote))]
-fn vote_without_row(
-    state: &State,
-    alloc: Global,
-    vote: &Vote,
-    past: Past,
-) -> Result<Plan, Fault>
+fn vote_without_row(state: &State, alloc: Global, vote: &Vote, past: Past) -> Result<Plan, Fault>
     ensures { IsPlanned state.now (plan_vote (start_of state.now) vote.now.from vote.now.txn vote.now.vote (standing_of past)) result }
 {
     match past {
@@ -91,12 +81,7 @@ fn vote_without_row(
 
 // Who voted yes is told the outcome.
 #[tactic(auto, unfolding(protocol::specs::Plan::plan_tell))]
-fn tell(
-    state: &State,
-    alloc: Global,
-    vote: &Vote,
-    outcome: Option<Stamp>,
-) -> Result<Plan, Fault>
+fn tell(state: &State, alloc: Global, vote: &Vote, outcome: Option<Stamp>) -> Result<Plan, Fault>
     ensures plan { IfOk result (λ plan. plan_of state.now.memory.rows plan ≡ plan_tell (start_of state.now) vote.now.from vote.now.txn outcome vote.now.vote) }
     ensures memory { IfErr result (λ fault. fault ≡ Fault.Memory) }
 {
@@ -274,17 +259,17 @@ fn decision_time(state: &State, collecting: &Collecting, last: &Voted) -> Result
         (λ at. (at ≡ commit_stamp state.now.memory.last collecting.now.request.latest (with_vote last.now.shard last.now.at collecting.now.votes)) × (at < 2 ^ 62))
         (λ fault. (fault ≡ Fault.TimeSpent) × (2 ^ 62 ≤ commit_stamp state.now.memory.last collecting.now.request.latest (with_vote last.now.shard last.now.at collecting.now.votes))) }
 {
-    time_by(state, collecting.request().latest, collecting.votes().as_slice(), last)
+    time_by(
+        state,
+        collecting.request().latest,
+        collecting.votes().as_slice(),
+        last,
+    )
 }
 
 // The timestamp of a decision by some votes and one more.
 #[tactic(auto, using(crate::proofs::Counting::stamp_late, crate::proofs::Counting::stamp_again, crate::proofs::Counting::stamp_with))]
-fn time_by(
-    state: &State,
-    latest: Stamp,
-    votes: &[Voted],
-    last: &Voted,
-) -> Result<Stamp, Fault>
+fn time_by(state: &State, latest: Stamp, votes: &[Voted], last: &Voted) -> Result<Stamp, Fault>
     ensures { MatchResult result
         (λ at. (at ≡ commit_stamp state.now.memory.last latest (with_vote last.now.shard last.now.at (map voted_of votes.now))) × (at < 2 ^ 62))
         (λ fault. (fault ≡ Fault.TimeSpent) × (2 ^ 62 ≤ commit_stamp state.now.memory.last latest (with_vote last.now.shard last.now.at (map voted_of votes.now)))) }

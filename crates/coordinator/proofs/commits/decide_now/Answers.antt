@@ -9,7 +9,7 @@ pub returns-in_err-at : goal.returns-in_err-at
 returns-in_err-at c =
     let m = c.args.commit.now in
     planned-err c.args.state.now _ c.from_residual.result c.in_err-at.field-0.0
-    (decided_late (start_of c.args.state.now) m.txn c.args.now.now.latest m.parts m.reads.keys m.writes c.requires.opens c.requires.alone 
+    (decided_late (start_of c.args.state.now) m.txn c.args.now.now.latest m.parts m.reads.keys m.writes c.requires.opens c.requires.alone
     (subst (λ l. 2 ^ 62 ≤ commit_stamp c.args.state.now.memory.last l []) c.latest.ensures.value c.in_err-at.ensures.1)
     ∙ ap Err (sym c.in_err-at.ensures.0)) (search rules)
 
