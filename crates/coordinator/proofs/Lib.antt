@@ -1,0 +1,4 @@
+pub mod Counting
+pub mod Granting
+pub mod Others
+pub mod Planned

@@ -1,0 +1,19 @@
+use Rattle.std.proofs.Common.{◌∙◌, sym}
+use Rattle.memory.specs.Kept.{start_of}
+use Rattle.memory.proofs.States.{planned-by, refused-by}
+use Rattle.coordinator.proofs.Granting.{wait_crowded, wait_roomy}
+use Rattle.coordinator.proofs.commits.wait.Goals as goal
+
+pub returns-then-is_crowded : goal.returns-then-is_crowded
+returns-then-is_crowded c =
+    let m = c.args.commit.now in
+    refused-by _ _ (wait_crowded (start_of c.args.state.now) m.txn c.args.now.now.latest m.parts m.reads.keys m.writes c.requires
+    (sym c.is_crowded.ensures ∙ c.if-is_crowded.true))
+
+pub returns : goal.returns
+returns c =
+    let k = c.args.state.now in
+    let m = c.args.commit.now in
+    planned-by k _ _ c.wait_in_row.result
+    (wait_roomy (start_of k) m.txn c.args.now.now.latest m.parts m.reads.keys m.writes c.requires (sym c.is_crowded.ensures ∙ c.if-is_crowded.false))
+    c.wait_in_row.ensures.plan c.wait_in_row.ensures.memory

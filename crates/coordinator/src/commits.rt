@@ -1,0 +1,325 @@
+//! Commits.
+ghost use Rattle.std.specs.Prelude.{◌≡◌, ℕ, true, false, not, nat_eq, ◌+◌, ◌<◌, ◌≤◌, ◌^◌, IfOk, IfErr, MatchResult, [], ◌∷◌, Some, None, Ok, Err};
+ghost use Rattle.std.specs.Option.{option_copied};
+ghost use Rattle.units.specs.Lists.{any};
+ghost use Rattle.units.specs.Locks.{exclusive};
+ghost use Rattle.protocol.specs.Draft.{commit_stamp, other_parts};
+ghost use Rattle.protocol.specs.Rows.{HasRow, find_row};
+ghost use Rattle.protocol.specs.Plan.{plan_commit, plan_commit_fresh, plan_commit_now, plan_commit_granted, timed, opens, in_way, stands, held_in};
+ghost use Rattle.rows.specs.CodeRows.{phase_of, phase_of_wait};
+ghost use Rattle.memory.specs.Kept.{start_of, standing_of, IsPlanned};
+ghost use Rattle.memory.specs.Plans.{plan_of};
+ghost use Rattle.coordinator.specs.Granted.{decides, collects, waits};
+
+use memory::{Change, Past, Plan, State, done_to, exclusive, reads_stand};
+use message::Commit;
+use record::{Committed, Record};
+use rows::{CommitRequest, Gathering, Row, Wait};
+use std::alloc::Global;
+use truetime::Reading;
+use units::{Fault, Ids, Lock, Stamp, TxnId};
+
+/// A commit: where the reads still stand and the locks of what is written are granted, a transaction of this shard alone is
+/// decided at once, and one of several collects votes; else it is aborted, or waits.
+pub fn on_commit(
+    state: &State,
+    alloc: Global,
+    now: &Reading,
+    commit: &Commit,
+) -> Result<Plan, Fault>
+    ensures { IsPlanned state.now (plan_commit (start_of state.now) now.now.latest commit.now.txn commit.now.parts commit.now.reads.epoch commit.now.reads.keys commit.now.writes (stands (start_of state.now) commit.now.txn)) result }
+{
+    match state.row(commit.txn) {
+        Some(row) => commit_with_row(state, alloc, now, commit, row),
+        None => commit_without_row(state, alloc, now, commit, state.past(commit.txn)),
+    }
+}
+
+// A commit of a transaction that has a row.
+#[tactic(auto, unfolding(protocol::specs::Plan::plan_commit))]
+fn commit_with_row(
+    state: &State,
+    alloc: Global,
+    now: &Reading,
+    commit: &Commit,
+    row: &Row,
+) -> Result<Plan, Fault>
+    ensures { IsPlanned state.now (plan_commit (start_of state.now) now.now.latest commit.now.txn commit.now.parts commit.now.reads.epoch commit.now.reads.keys commit.now.writes (HasRow (held_in state.now.memory.rows commit.now.txn) (phase_of row.now))) result }
+{
+    match row {
+        Row::Reading(reading) => commit_with_wait(state, alloc, now, commit, reading.wait()),
+        Row::Collecting(_) | Row::Decided(_) => Ok(state.idles(alloc)),
+        Row::Prepared(_) => Err(Fault::Stranger),
+    }
+}
+
+// A commit of a transaction that reads, by what it waits with.
+#[tactic(auto, unfolding(protocol::specs::Plan::plan_commit))]
+fn commit_with_wait(
+    state: &State,
+    alloc: Global,
+    now: &Reading,
+    commit: &Commit,
+    wait: Option<&Wait>,
+) -> Result<Plan, Fault>
+    ensures { IsPlanned state.now (plan_commit (start_of state.now) now.now.latest commit.now.txn commit.now.parts commit.now.reads.epoch commit.now.reads.keys commit.now.writes (HasRow (held_in state.now.memory.rows commit.now.txn) (phase_of_wait (option_copied wait.entry)))) result }
+{
+    match wait {
+        Some(Wait::Prepare(_)) => Err(Fault::Stranger),
+        Some(Wait::Commit(_)) => Ok(state.idles(alloc)),
+        Some(Wait::Read(_)) | None => commit_fresh(state, alloc, now, commit),
+    }
+}
+
+// A commit of a transaction that has no row.
+#[tactic(auto, unfolding(protocol::specs::Plan::plan_commit))]
+fn commit_without_row(
+    state: &State,
+    alloc: Global,
+    now: &Reading,
+    commit: &Commit,
+    past: Past,
+) -> Result<Plan, Fault>
+    requires { find_row state.now.memory.rows commit.now.txn ≡ None }
+    ensures { IsPlanned state.now (plan_commit (start_of state.now) now.now.latest commit.now.txn commit.now.parts commit.now.reads.epoch commit.now.reads.keys commit.now.writes (standing_of past)) result }
+{
+    match past {
+        Past::Unknown => commit_fresh(state, alloc, now, commit),
+        Past::Ended => state.aborts(alloc, commit.txn, commit.parts),
+        Past::Aborted => state.reply(alloc, done_to(commit.txn, None)),
+        Past::Settled { at, parts: _ } => state.reply(alloc, done_to(commit.txn, Some(at))),
+        Past::Closed { .. } => Err(Fault::Stranger),
+    }
+}
+
+// Where the reads do not stand any more, it is aborted.
+fn commit_fresh(state: &State, alloc: Global, now: &Reading, commit: &Commit) -> Result<Plan, Fault>
+    ensures { IsPlanned state.now (plan_commit_fresh (start_of state.now) now.now.latest commit.now.txn commit.now.parts commit.now.reads.epoch commit.now.reads.keys commit.now.writes (held_in state.now.memory.rows commit.now.txn)) result }
+{
+    if reads_stand(state, commit.txn, &commit.reads) {
+        return commit_in_time(state, alloc, now, commit);
+    }
+    state.aborts(alloc, commit.txn, commit.parts)
+}
+
+// A commit may come only while there is a timestamp above the reading.
+fn commit_in_time(
+    state: &State,
+    alloc: Global,
+    now: &Reading,
+    commit: &Commit,
+) -> Result<Plan, Fault>
+    ensures { IsPlanned state.now (timed (now.now.latest + 1) (plan_commit_now (start_of state.now) commit.now.txn now.now.latest commit.now.parts commit.now.reads.keys commit.now.writes)) result }
+{
+    let _above = Stamp::above(now.latest())?;
+    commit_now(state, alloc, now, commit)
+}
+
+// Exclusive locks of what is written, and so on; or a wait.
+fn commit_now(state: &State, alloc: Global, now: &Reading, commit: &Commit) -> Result<Plan, Fault>
+    ensures { IsPlanned state.now (plan_commit_now (start_of state.now) commit.now.txn now.now.latest commit.now.parts commit.now.reads.keys commit.now.writes) result }
+{
+    if !state.opens_writes(commit.txn, &commit.writes) {
+        return wait(state, alloc, now, commit);
+    }
+    if commit.parts.has_others(state.setup().shard) {
+        collect_now(state, alloc, now, commit)
+    } else {
+        decide_now(state, alloc, now, commit)
+    }
+}
+
+// The locks are granted, and no other shard takes part.
+fn decide_now(state: &State, alloc: Global, now: &Reading, commit: &Commit) -> Result<Plan, Fault>
+    requires opens { opens (start_of state.now) commit.now.txn (exclusive commit.now.writes) ≡ true }
+    requires alone { any (λ n. not (nat_eq n state.now.setup.shard)) commit.now.parts ≡ false }
+    ensures { IsPlanned state.now (plan_commit_now (start_of state.now) commit.now.txn now.now.latest commit.now.parts commit.now.reads.keys commit.now.writes) result }
+{
+    let at = commit_time(state, now.latest())?;
+    if state.is_crowded(commit.txn) {
+        return Err(Fault::RowsFull);
+    }
+    decide_anew(state, alloc, now, commit, at)
+}
+
+// Whoever is in the way is ended, and the decision logged.
+fn decide_anew(
+    state: &State,
+    alloc: Global,
+    now: &Reading,
+    commit: &Commit,
+    at: Stamp,
+) -> Result<Plan, Fault>
+    ensures plan { IfOk result (λ plan. plan_of state.now.memory.rows plan ≡
+        decides (start_of state.now) (in_way (start_of state.now) commit.now.txn (exclusive commit.now.writes)) commit.now.txn (exclusive commit.now.writes) at commit.now.parts commit.now.reads.keys commit.now.writes) }
+    ensures memory { IfErr result (λ fault. fault ≡ Fault.Memory) }
+{
+    let request = request_of(alloc, now, commit)?;
+    let needs = exclusive(alloc, &request.writes)?;
+    let wounded = state.in_way(alloc, commit.txn, &needs)?;
+    decide(state, alloc, wounded, needs, commit.txn, at, request)
+}
+
+// The locks are granted, and other shards take part.
+fn collect_now(state: &State, alloc: Global, now: &Reading, commit: &Commit) -> Result<Plan, Fault>
+    requires opens { opens (start_of state.now) commit.now.txn (exclusive commit.now.writes) ≡ true }
+    requires others { any (λ n. not (nat_eq n state.now.setup.shard)) commit.now.parts ≡ true }
+    ensures { IsPlanned state.now (plan_commit_now (start_of state.now) commit.now.txn now.now.latest commit.now.parts commit.now.reads.keys commit.now.writes) result }
+{
+    if state.is_crowded(commit.txn) {
+        return Err(Fault::RowsFull);
+    }
+    collect_anew(state, alloc, now, commit)
+}
+
+// Whoever is in the way is ended, and votes are collected.
+fn collect_anew(state: &State, alloc: Global, now: &Reading, commit: &Commit) -> Result<Plan, Fault>
+    ensures plan { IfOk result (λ plan. plan_of state.now.memory.rows plan ≡
+        collects (start_of state.now) (in_way (start_of state.now) commit.now.txn (exclusive commit.now.writes)) commit.now.txn now.now.latest commit.now.parts commit.now.reads.keys commit.now.writes) }
+    ensures memory { IfErr result (λ fault. fault ≡ Fault.Memory) }
+{
+    let request = request_of(alloc, now, commit)?;
+    let needs = exclusive(alloc, &request.writes)?;
+    let wounded = state.in_way(alloc, commit.txn, &needs)?;
+    collect(state, alloc, wounded, needs, commit.txn, request)
+}
+
+// The transaction waits with its commit.
+fn wait(state: &State, alloc: Global, now: &Reading, commit: &Commit) -> Result<Plan, Fault>
+    requires { opens (start_of state.now) commit.now.txn (exclusive commit.now.writes) ≡ false }
+    ensures { IsPlanned state.now (plan_commit_now (start_of state.now) commit.now.txn now.now.latest commit.now.parts commit.now.reads.keys commit.now.writes) result }
+{
+    if state.is_crowded(commit.txn) {
+        return Err(Fault::RowsFull);
+    }
+    wait_in_row(state, alloc, now, commit)
+}
+
+// Whoever is in the way and may be ended is ended, and the row waits.
+fn wait_in_row(state: &State, alloc: Global, now: &Reading, commit: &Commit) -> Result<Plan, Fault>
+    ensures plan { IfOk result (λ plan. plan_of state.now.memory.rows plan ≡
+        waits (start_of state.now) commit.now.txn now.now.latest commit.now.parts commit.now.reads.keys commit.now.writes) }
+    ensures memory { IfErr result (λ fault. fault ≡ Fault.Memory) }
+{
+    let request = request_of(alloc, now, commit)?;
+    let needs = exclusive(alloc, &request.writes)?;
+    let wounded = state.in_way(alloc, commit.txn, &needs)?;
+    let asked = (needs, Change::Waits(commit.txn, Wait::Commit(request)));
+    state.puts(alloc, wounded, asked, None, state.last(), None)
+}
+
+/// The commit that a transaction waits with, once its locks are granted.
+pub fn resume_commit(
+    state: &State,
+    alloc: Global,
+    txn: TxnId,
+    request: &CommitRequest,
+) -> Result<Plan, Fault>
+    ensures { IsPlanned state.now (plan_commit_granted (start_of state.now) [] txn request.now.latest request.now.parts request.now.reads request.now.writes (other_parts state.now.setup.shard request.now.parts)) result }
+{
+    if request.parts.has_others(state.setup().shard) {
+        return collect_alone(state, alloc, txn, request);
+    }
+    let at = commit_time(state, request.latest)?;
+    decide_alone(state, alloc, txn, at, request)
+}
+
+// Votes are collected with nobody ended.
+fn collect_alone(
+    state: &State,
+    alloc: Global,
+    txn: TxnId,
+    request: &CommitRequest,
+) -> Result<Plan, Fault>
+    ensures plan { IfOk result (λ plan. plan_of state.now.memory.rows plan ≡ collects (start_of state.now) [] txn request.now.latest request.now.parts request.now.reads request.now.writes) }
+    ensures memory { IfErr result (λ fault. fault ≡ Fault.Memory) }
+{
+    let copy = request.copy(alloc)?;
+    let needs = exclusive(alloc, &copy.writes)?;
+    let nobody = Ids::from_vec(Vec::new(alloc));
+    collect(state, alloc, nobody, needs, txn, copy)
+}
+
+// The decision is logged with nobody ended.
+fn decide_alone(
+    state: &State,
+    alloc: Global,
+    txn: TxnId,
+    at: Stamp,
+    request: &CommitRequest,
+) -> Result<Plan, Fault>
+    ensures plan { IfOk result (λ plan. plan_of state.now.memory.rows plan ≡ decides (start_of state.now) [] txn (exclusive request.now.writes) at request.now.parts request.now.reads request.now.writes) }
+    ensures memory { IfErr result (λ fault. fault ≡ Fault.Memory) }
+{
+    let copy = request.copy(alloc)?;
+    let needs = exclusive(alloc, &copy.writes)?;
+    let nobody = Ids::from_vec(Vec::new(alloc));
+    decide(state, alloc, nobody, needs, txn, at, copy)
+}
+
+// The timestamp of a decision without votes: above the latest end at the commit's arrival, and above all that was served.
+pub(crate) fn commit_time(state: &State, latest: Stamp) -> Result<Stamp, Fault>
+    ensures { MatchResult result
+        (λ at. (at ≡ commit_stamp state.now.memory.last latest []) × (at < 2 ^ 62))
+        (λ fault. (fault ≡ Fault.TimeSpent) × (2 ^ 62 ≤ commit_stamp state.now.memory.last latest [])) }
+{
+    let arrived = Stamp::above(latest)?;
+    let served = Stamp::above(state.last())?;
+    Ok(arrived.later(served))
+}
+
+// The decision is logged.
+pub(crate) fn decide(
+    state: &State,
+    alloc: Global,
+    wounded: Ids,
+    needs: Vec<Lock>,
+    txn: TxnId,
+    at: Stamp,
+    request: CommitRequest,
+) -> Result<Plan, Fault>
+    ensures plan { IfOk result (λ plan. plan_of state.now.memory.rows plan ≡ decides (start_of state.now) wounded txn needs.items at request.parts request.reads request.writes) }
+    ensures memory { IfErr result (λ fault. fault ≡ Fault.Memory) }
+{
+    let decision = Record::Commit(Committed {
+        txn,
+        at,
+        parts: request.parts,
+        reads: request.reads,
+        writes: request.writes,
+    });
+    let asked = (needs, Change::Stands(txn));
+    let last = state.last().later(at);
+    state.puts(alloc, wounded, asked, Some(decision), last, None)
+}
+
+// It collects votes.
+fn collect(
+    state: &State,
+    alloc: Global,
+    wounded: Ids,
+    needs: Vec<Lock>,
+    txn: TxnId,
+    request: CommitRequest,
+) -> Result<Plan, Fault>
+    requires { needs.items ≡ exclusive request.writes }
+    ensures plan { IfOk result (λ plan. plan_of state.now.memory.rows plan ≡ collects (start_of state.now) wounded txn request.latest request.parts request.reads request.writes) }
+    ensures memory { IfErr result (λ fault. fault ≡ Fault.Memory) }
+{
+    let gathering = Gathering::new(alloc, request)?;
+    let asked = (needs, Change::Collects(txn, gathering));
+    state.puts(alloc, wounded, asked, None, state.last(), None)
+}
+
+// The request of a commit, with memory of its own.
+fn request_of(alloc: Global, now: &Reading, commit: &Commit) -> Result<CommitRequest, Fault>
+    ensures same { IfOk result (λ request. (request.latest ≡ now.now.latest) × (request.parts ≡ commit.now.parts) × (request.reads ≡ commit.now.reads.keys) × (request.writes ≡ commit.now.writes)) }
+    ensures memory { IfErr result (λ fault. fault ≡ Fault.Memory) }
+{
+    Ok(CommitRequest {
+        latest: now.latest(),
+        parts: commit.parts,
+        reads: commit.reads.keys().copy(alloc)?,
+        writes: commit.writes.copy(alloc)?,
+    })
+}

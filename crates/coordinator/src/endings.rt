@@ -1,0 +1,198 @@
+//! How a transaction that this shard decides ends: given up, asked for, or settled.
+ghost use Rattle.std.specs.Prelude.{◌≡◌, [], ◌∷◌, Some, None, Ok, IfOk, IfErr};
+ghost use Rattle.std.specs.Option.{option_copied};
+ghost use Rattle.protocol.specs.Rows.{HasRow, IsDecided};
+ghost use Rattle.protocol.specs.Draft.{outcome_to};
+ghost use Rattle.protocol.specs.Plan.{plan_give_up, plan_ask, plan_abort_for, plan_settle, replies, stands, held_in};
+ghost use Rattle.rows.specs.CodeRows.{phase_of, phase_of_wait};
+ghost use Rattle.memory.specs.Kept.{start_of, standing_of, IsPlanned};
+ghost use Rattle.memory.specs.Plans.{plan_of};
+
+use crate::parts::is_of_part;
+use memory::{Past, Plan, State, done_to, outcome_to};
+use message::{Ask, Envelope, GiveUp, Outcome};
+use participant::end_reading;
+use record::Record;
+use rows::{Decided, Row, Wait};
+use std::alloc::Global;
+use truetime::Reading;
+use units::{Fault, Stamp, TxnId};
+use waiting::pass;
+
+/// A giving up: a transaction that reads is ended, and one that collects votes is aborted; any other goes on.
+pub fn give_up(state: &State, alloc: Global, given: &GiveUp) -> Result<Plan, Fault>
+    ensures { IsPlanned state.now (Ok (plan_give_up (start_of state.now) given.now.txn (stands (start_of state.now) given.now.txn))) result }
+{
+    match state.row(given.txn) {
+        Some(row) => give_up_with_row(state, alloc, given, row),
+        None => give_up_without_row(state, alloc, given, state.past(given.txn)),
+    }
+}
+
+// A giving up of a transaction that has a row.
+#[tactic(auto, unfolding(protocol::specs::Plan::plan_give_up))]
+fn give_up_with_row(state: &State, alloc: Global, given: &GiveUp, row: &Row) -> Result<Plan, Fault>
+    ensures { IsPlanned state.now (Ok (plan_give_up (start_of state.now) given.now.txn (HasRow (held_in state.now.memory.rows given.now.txn) (phase_of row.now)))) result }
+{
+    match row {
+        Row::Reading(reading) => end_reading(state, alloc, given.txn, reading.wait()),
+        Row::Collecting(collecting) => {
+            state.aborts(alloc, given.txn, collecting.request().parts)
+        }
+        Row::Prepared(_) | Row::Decided(_) => Ok(state.idles(alloc)),
+    }
+}
+
+// A giving up of a transaction that has no row.
+#[tactic(auto, unfolding(protocol::specs::Plan::plan_give_up))]
+fn give_up_without_row(
+    state: &State,
+    alloc: Global,
+    given: &GiveUp,
+    past: Past,
+) -> Result<Plan, Fault>
+    ensures { IsPlanned state.now (Ok (plan_give_up (start_of state.now) given.now.txn (standing_of past))) result }
+{
+    match past {
+        Past::Unknown => end_reading(state, alloc, given.txn, None),
+        Past::Ended | Past::Aborted | Past::Settled { .. } | Past::Closed { .. } => {
+            Ok(state.idles(alloc))
+        }
+    }
+}
+
+/// The question how a transaction ended. One that is not known, or only reads, is aborted before it is answered.
+pub fn on_ask(state: &State, alloc: Global, ask: &Ask) -> Result<Plan, Fault>
+    ensures { IsPlanned state.now (plan_ask (start_of state.now) ask.now.from ask.now.txn (stands (start_of state.now) ask.now.txn)) result }
+{
+    match state.row(ask.txn) {
+        Some(row) => ask_with_row(state, alloc, ask, row),
+        None => ask_without_row(state, alloc, ask, state.past(ask.txn)),
+    }
+}
+
+// A question about a transaction that has a row.
+#[tactic(auto, unfolding(protocol::specs::Plan::plan_ask))]
+fn ask_with_row(state: &State, alloc: Global, ask: &Ask, row: &Row) -> Result<Plan, Fault>
+    ensures { IsPlanned state.now (plan_ask (start_of state.now) ask.now.from ask.now.txn (HasRow (held_in state.now.memory.rows ask.now.txn) (phase_of row.now))) result }
+{
+    match row {
+        Row::Reading(reading) => ask_with_wait(state, alloc, ask, reading.wait()),
+        Row::Collecting(_) | Row::Decided(_) => Ok(state.idles(alloc)),
+        Row::Prepared(_) => Err(Fault::Stranger),
+    }
+}
+
+// A question about a transaction that reads, by what it waits with.
+#[tactic(auto, unfolding(protocol::specs::Plan::plan_ask))]
+fn ask_with_wait(
+    state: &State,
+    alloc: Global,
+    ask: &Ask,
+    wait: Option<&Wait>,
+) -> Result<Plan, Fault>
+    ensures { IsPlanned state.now (plan_ask (start_of state.now) ask.now.from ask.now.txn (HasRow (held_in state.now.memory.rows ask.now.txn) (phase_of_wait (option_copied wait.entry)))) result }
+{
+    match wait {
+        Some(Wait::Prepare(_)) => Err(Fault::Stranger),
+        Some(Wait::Commit(_)) => Ok(state.idles(alloc)),
+        Some(Wait::Read(_)) | None => abort_for(state, alloc, ask),
+    }
+}
+
+// A question about a transaction that has no row.
+#[tactic(auto, unfolding(protocol::specs::Plan::plan_ask))]
+fn ask_without_row(state: &State, alloc: Global, ask: &Ask, past: Past) -> Result<Plan, Fault>
+    ensures { IsPlanned state.now (plan_ask (start_of state.now) ask.now.from ask.now.txn (standing_of past)) result }
+{
+    match past {
+        Past::Unknown | Past::Ended => abort_for(state, alloc, ask),
+        Past::Aborted => answer(state, alloc, ask, None),
+        Past::Settled { at, parts } => {
+            if !is_of_part(state, parts, ask.from) {
+                return Err(Fault::Stranger);
+            }
+            answer(state, alloc, ask, Some(at))
+        }
+        Past::Closed { .. } => Err(Fault::Stranger),
+    }
+}
+
+// The outcome, to the shard that asked.
+fn told(state: &State, ask: &Ask, outcome: Option<Stamp>) -> Envelope
+    ensures { result ≡ outcome_to state.now.setup.shard ask.now.txn outcome ask.now.from }
+{
+    let told = Outcome {
+        from: state.setup().shard,
+        txn: ask.txn,
+        outcome,
+    };
+    outcome_to(&told, ask.from)
+}
+
+// The shard that asked is told the outcome.
+fn answer(state: &State, alloc: Global, ask: &Ask, outcome: Option<Stamp>) -> Result<Plan, Fault>
+    ensures plan { IfOk result (λ plan. plan_of state.now.memory.rows plan ≡ replies (start_of state.now) (outcome_to state.now.setup.shard ask.now.txn outcome ask.now.from ∷ [])) }
+    ensures memory { IfErr result (λ fault. fault ≡ Fault.Memory) }
+{
+    state.reply(alloc, told(state, ask, outcome))
+}
+
+// The transaction is aborted, and the shard that asked is told.
+fn abort_for(state: &State, alloc: Global, ask: &Ask) -> Result<Plan, Fault>
+    ensures plan { IfOk result (λ plan. plan_of state.now.memory.rows plan ≡ plan_abort_for (start_of state.now) ask.now.from ask.now.txn) }
+    ensures memory { IfErr result (λ fault. fault ≡ Fault.Memory) }
+{
+    let mut out = Vec::new(alloc);
+    out.push(told(state, ask, None))?;
+    let abort = Record::Abort { txn: ask.txn };
+    Ok(state.drops(alloc, ask.txn, abort, state.last(), out))
+}
+
+/// A decided transaction is settled, once its timestamp has surely passed: its session and the other parts are told.
+pub fn settle(state: &State, alloc: Global, now: &Reading, txn: TxnId) -> Result<Plan, Fault>
+    ensures { IsPlanned state.now (plan_settle (start_of state.now) now.now.earliest txn (stands (start_of state.now) txn)) result }
+{
+    match state.row(txn) {
+        Some(row) => settle_with_row(state, alloc, now, txn, row),
+        None => Err(Fault::Stranger),
+    }
+}
+
+// A settling of a transaction that has a row.
+#[tactic(auto, unfolding(protocol::specs::Plan::plan_settle))]
+fn settle_with_row(
+    state: &State,
+    alloc: Global,
+    now: &Reading,
+    txn: TxnId,
+    row: &Row,
+) -> Result<Plan, Fault>
+    ensures { IsPlanned state.now (plan_settle (start_of state.now) now.now.earliest txn (HasRow (held_in state.now.memory.rows txn) (phase_of row.now))) result }
+{
+    match row {
+        Row::Decided(decided) => settle_decided(state, alloc, now, txn, decided),
+        Row::Reading(_) | Row::Collecting(_) | Row::Prepared(_) => Err(Fault::Stranger),
+    }
+}
+
+// Nobody is told of a commit before its timestamp has passed (commit wait): the end is made of the word that it has.
+#[tactic(auto, unfolding(protocol::specs::Plan::plan_settle))]
+fn settle_decided(
+    state: &State,
+    alloc: Global,
+    now: &Reading,
+    txn: TxnId,
+    decided: &Decided,
+) -> Result<Plan, Fault>
+    ensures { IsPlanned state.now (plan_settle (start_of state.now) now.now.earliest txn (HasRow (held_in state.now.memory.rows txn) (IsDecided decided.now.at decided.now.parts))) result }
+{
+    let at = pass(decided.at(), now)?.spend();
+    let end = done_to(txn, Some(at));
+    let out = state.ending(alloc, end, txn, Some(at), decided.parts())?;
+    let outcome = Record::Outcome {
+        txn,
+        outcome: Some(at),
+    };
+    Ok(state.drops(alloc, txn, outcome, state.last(), out))
+}

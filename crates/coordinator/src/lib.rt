@@ -1,0 +1,12 @@
+//! What a shard does for a transaction that it decides: it takes the commit, counts the votes, waits until the timestamp
+//! has passed, and tells the outcome. Each function tells the plan of its message and changes nothing.
+#![tactic(auto)]
+
+mod commits;
+mod endings;
+mod parts;
+mod votes;
+
+pub use commits::{on_commit, resume_commit};
+pub use endings::{give_up, on_ask, settle};
+pub use votes::on_vote;

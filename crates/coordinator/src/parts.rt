@@ -1,0 +1,15 @@
+//! The shards that take part in a transaction, beside the one that decides it.
+ghost use Rattle.std.specs.Prelude.{◌≡◌};
+ghost use Rattle.units.specs.Lists.{has};
+ghost use Rattle.protocol.specs.Draft.{other_parts};
+
+use memory::State;
+use units::{Parts, ShardNo};
+
+// The shard takes part, and is not this one.
+#[tactic(auto, using(crate::proofs::Others::other_part))]
+pub(crate) fn is_of_part(state: &State, parts: Parts, shard: ShardNo) -> bool
+    ensures { result ≡ has (other_parts state.now.setup.shard parts) shard }
+{
+    shard != state.setup().shard && parts.has(shard)
+}

@@ -1,0 +1,284 @@
+//! Votes.
+ghost use Rattle.std.specs.Prelude.{◌≡◌, ◌+◌, ◌<◌, ◌≤◌, ◌^◌, nat_eq, not, map, max, true, false, [], ◌∷◌, Some, None, Ok, IfOk, IfErr, MatchResult};
+ghost use Rattle.std.specs.Option.{option_copied};
+ghost use Rattle.units.specs.Lists.{any, greatest};
+ghost use Rattle.units.specs.Parts.{shards_from};
+ghost use Rattle.protocol.specs.Rows.{Collecting as CollectsVotes, HasRow, find_row};
+ghost use Rattle.protocol.specs.Draft.{all_voted, commit_stamp, other_parts};
+ghost use Rattle.protocol.specs.Step.{with_vote};
+ghost use Rattle.protocol.specs.Plan.{plan_vote, plan_count, plan_tell, of_part, puts, stands, held_in};
+ghost use Rattle.rows.specs.CodeRows.{phase_of, phase_of_wait};
+ghost use Rattle.rows.specs.States.{voted_of};
+ghost use Rattle.memory.specs.Kept.{start_of, standing_of, IsPlanned};
+ghost use Rattle.memory.specs.Plans.{plan_of};
+ghost use Rattle.coordinator.specs.Granted.{decides, more_votes};
+
+use crate::commits::{commit_time, decide};
+use crate::parts::is_of_part;
+use memory::{Change, Past, Plan, State, outcome_to};
+use message::{Outcome, Vote};
+use rows::{Collecting, Row, Voted, Wait};
+use std::alloc::Global;
+use units::{Fault, Ids, ShardNo, Stamp, TxnId};
+
+/// A vote: a yes is kept, and the last one decides; a no aborts. Who votes for a transaction that ended here is told how.
+pub fn on_vote(state: &State, alloc: Global, vote: &Vote) -> Result<Plan, Fault>
+    ensures { IsPlanned state.now (plan_vote (start_of state.now) vote.now.from vote.now.txn vote.now.vote (stands (start_of state.now) vote.now.txn)) result }
+{
+    match state.row(vote.txn) {
+        Some(row) => vote_with_row(state, alloc, vote, row),
+        None => vote_without_row(state, alloc, vote, state.past(vote.txn)),
+    }
+}
+
+// A vote for a transaction that has a row.
+#[tactic(auto, unfolding(protocol::specs::Plan::plan_vote))]
+fn vote_with_row(state: &State, alloc: Global, vote: &Vote, row: &Row) -> Result<Plan, Fault>
+    requires { find_row state.now.memory.rows vote.now.txn ≡ Some (record { txn = vote.now.txn; held = held_in state.now.memory.rows vote.now.txn; phase = phase_of row.now }) }
+    ensures { IsPlanned state.now (plan_vote (start_of state.now) vote.now.from vote.now.txn vote.now.vote (HasRow (held_in state.now.memory.rows vote.now.txn) (phase_of row.now))) result }
+{
+    match row {
+        Row::Reading(reading) => vote_with_wait(state, alloc, vote, reading.wait()),
+        Row::Collecting(collecting) => vote_collected(state, alloc, vote, collecting),
+        Row::Prepared(_) => Err(Fault::Stranger),
+        Row::Decided(_) => Ok(state.idles(alloc)),
+    }
+}
+
+// A vote for a transaction that reads, by what it waits with.
+#[tactic(auto, unfolding(protocol::specs::Plan::plan_vote))]
+fn vote_with_wait(
+    state: &State,
+    alloc: Global,
+    vote: &Vote,
+    wait: Option<&Wait>,
+) -> Result<Plan, Fault>
+    ensures { IsPlanned state.now (plan_vote (start_of state.now) vote.now.from vote.now.txn vote.now.vote (HasRow (held_in state.now.memory.rows vote.now.txn) (phase_of_wait (option_copied wait.entry)))) result }
+{
+    match wait {
+        Some(Wait::Prepare(_)) => Err(Fault::Stranger),
+        Some(Wait::Read(_)) | Some(Wait::Commit(_)) | None => Ok(state.idles(alloc)),
+    }
+}
+
+// A vote for a transaction that has no row.
+#[tactic(auto, unfolding(protocol::specs::Plan::plan_vote))]
+fn vote_without_row(state: &State, alloc: Global, vote: &Vote, past: Past) -> Result<Plan, Fault>
+    ensures { IsPlanned state.now (plan_vote (start_of state.now) vote.now.from vote.now.txn vote.now.vote (standing_of past)) result }
+{
+    match past {
+        Past::Unknown | Past::Ended => Ok(state.idles(alloc)),
+        Past::Aborted => tell(state, alloc, vote, None),
+        Past::Settled { at, parts } => {
+            if !is_of_part(state, parts, vote.from) {
+                return Err(Fault::Stranger);
+            }
+            tell(state, alloc, vote, Some(at))
+        }
+        Past::Closed { .. } => Err(Fault::Stranger),
+    }
+}
+
+// Who voted yes is told the outcome.
+#[tactic(auto, unfolding(protocol::specs::Plan::plan_tell))]
+fn tell(state: &State, alloc: Global, vote: &Vote, outcome: Option<Stamp>) -> Result<Plan, Fault>
+    ensures plan { IfOk result (λ plan. plan_of state.now.memory.rows plan ≡ plan_tell (start_of state.now) vote.now.from vote.now.txn outcome vote.now.vote) }
+    ensures memory { IfErr result (λ fault. fault ≡ Fault.Memory) }
+{
+    match vote.vote {
+        Some(_) => {
+            let told = Outcome {
+                from: state.setup().shard,
+                txn: vote.txn,
+                outcome,
+            };
+            state.reply(alloc, outcome_to(&told, vote.from))
+        }
+        None => Ok(state.idles(alloc)),
+    }
+}
+
+// A vote for a transaction that collects votes.
+#[tactic(auto, unfolding(protocol::specs::Plan::plan_count))]
+fn vote_collected(
+    state: &State,
+    alloc: Global,
+    vote: &Vote,
+    collecting: &Collecting,
+) -> Result<Plan, Fault>
+    requires { find_row state.now.memory.rows vote.now.txn ≡ Some (record { txn = vote.now.txn; held = held_in state.now.memory.rows vote.now.txn; phase = CollectsVotes collecting.now.request.latest collecting.now.request.parts collecting.now.request.reads collecting.now.request.writes collecting.now.votes }) }
+    ensures { IsPlanned state.now (of_part (start_of state.now) vote.now.from collecting.now.request.parts (plan_count (start_of state.now) vote.now.from vote.now.txn vote.now.vote collecting.now.request.latest collecting.now.request.parts collecting.now.request.reads collecting.now.request.writes collecting.now.votes)) result }
+{
+    let parts = collecting.request().parts;
+    if !is_of_part(state, parts, vote.from) {
+        return Err(Fault::Stranger);
+    }
+    match vote.vote {
+        Some(at) => {
+            let last = Voted {
+                shard: vote.from,
+                at,
+            };
+            count(state, alloc, collecting, vote.txn, &last)
+        }
+        None => state.aborts(alloc, vote.txn, parts),
+    }
+}
+
+// A yes is kept, and the last one decides.
+fn count(
+    state: &State,
+    alloc: Global,
+    collecting: &Collecting,
+    txn: TxnId,
+    last: &Voted,
+) -> Result<Plan, Fault>
+    requires { find_row state.now.memory.rows txn ≡ Some (record { txn = txn; held = held_in state.now.memory.rows txn; phase = CollectsVotes collecting.now.request.latest collecting.now.request.parts collecting.now.request.reads collecting.now.request.writes collecting.now.votes }) }
+    ensures { IsPlanned state.now (plan_count (start_of state.now) last.now.shard txn (Some last.now.at) collecting.now.request.latest collecting.now.request.parts collecting.now.request.reads collecting.now.request.writes collecting.now.votes) result }
+{
+    if have_all_voted(state, collecting, last) {
+        return decide_last(state, alloc, collecting, txn, last);
+    }
+    keep_vote(state, alloc, collecting, txn, last)
+}
+
+// The last vote decides.
+fn decide_last(
+    state: &State,
+    alloc: Global,
+    collecting: &Collecting,
+    txn: TxnId,
+    last: &Voted,
+) -> Result<Plan, Fault>
+    requires { all_voted (other_parts state.now.setup.shard collecting.now.request.parts) (with_vote last.now.shard last.now.at collecting.now.votes) ≡ true }
+    ensures { IsPlanned state.now (plan_count (start_of state.now) last.now.shard txn (Some last.now.at) collecting.now.request.latest collecting.now.request.parts collecting.now.request.reads collecting.now.request.writes collecting.now.votes) result }
+{
+    let at = decision_time(state, collecting, last)?;
+    decide_counted(state, alloc, txn, at, collecting)
+}
+
+// A yes is kept.
+#[tactic(auto, using(crate::proofs::Counting::counted_row))]
+fn keep_vote(
+    state: &State,
+    alloc: Global,
+    collecting: &Collecting,
+    txn: TxnId,
+    last: &Voted,
+) -> Result<Plan, Fault>
+    requires { find_row state.now.memory.rows txn ≡ Some (record { txn = txn; held = held_in state.now.memory.rows txn; phase = CollectsVotes collecting.now.request.latest collecting.now.request.parts collecting.now.request.reads collecting.now.request.writes collecting.now.votes }) }
+    ensures plan { IfOk result (λ plan. plan_of state.now.memory.rows plan ≡
+        puts (start_of state.now) [] txn [] (CollectsVotes collecting.now.request.latest collecting.now.request.parts collecting.now.request.reads collecting.now.request.writes (with_vote last.now.shard last.now.at collecting.now.votes)) None state.now.memory.last []) }
+    ensures memory { IfErr result (λ fault. fault ≡ Fault.Memory) }
+{
+    let _row = collecting;
+    let asked = (Vec::new(alloc), Change::Counts(txn, last.shard, last.at));
+    let nobody = Ids::from_vec(Vec::new(alloc));
+    state.puts(alloc, nobody, asked, None, state.last(), None)
+}
+
+// The decision is logged, of a transaction that holds its locks.
+fn decide_counted(
+    state: &State,
+    alloc: Global,
+    txn: TxnId,
+    at: Stamp,
+    collecting: &Collecting,
+) -> Result<Plan, Fault>
+    ensures plan { IfOk result (λ plan. plan_of state.now.memory.rows plan ≡ decides (start_of state.now) [] txn [] at collecting.now.request.parts collecting.now.request.reads collecting.now.request.writes) }
+    ensures memory { IfErr result (λ fault. fault ≡ Fault.Memory) }
+{
+    let request = collecting.request().copy(alloc)?;
+    let nobody = Ids::from_vec(Vec::new(alloc));
+    decide(state, alloc, nobody, Vec::new(alloc), txn, at, request)
+}
+
+// Each of the other parts has voted, once this vote is counted too.
+#[tactic(auto, unfolding(crate::specs::Granted::more_votes))]
+fn have_all_voted(state: &State, collecting: &Collecting, last: &Voted) -> bool
+    ensures { result ≡ all_voted (other_parts state.now.setup.shard collecting.now.request.parts) (with_vote last.now.shard last.now.at collecting.now.votes) }
+{
+    let mask = collecting.request().parts.mask();
+    let votes = collecting.votes().as_slice();
+    have_marked_voted(mask, 16, 0, state.setup().shard, votes, last)
+}
+
+// Each of the shards of a mask from number n on, but for one, has voted, once this vote is counted too.
+#[tactic(auto, using(crate::proofs::Counting::marked_each))]
+fn have_marked_voted(
+    mask: u16,
+    bits: u32,
+    n: u8,
+    except: ShardNo,
+    votes: &[Voted],
+    last: &Voted,
+) -> bool
+    requires { bits + n ≡ 16 }
+    ensures { result ≡ all_voted (other_parts except (shards_from bits n mask)) (more_votes last.now.shard last.now.at votes.now) }
+{
+    if bits == 0 {
+        return true;
+    }
+    let is_here = mask % 2 == 1 && n != except.number();
+    let voted = !is_here || has_voted_with(votes, n, last);
+    voted && have_marked_voted(mask / 2, bits - 1, n + 1, except, votes, last)
+}
+
+// The shard of a number has voted.
+fn has_voted(votes: &[Voted], number: u8) -> bool
+    ensures { result ≡ any (λ v. nat_eq v.shard number) votes.now }
+{
+    for vote in votes {
+        if vote.shard.number() == number {
+            return true;
+        }
+    }
+    false
+}
+
+// The shard of a number has voted, once this vote is counted too.
+fn has_voted_with(votes: &[Voted], number: u8, last: &Voted) -> bool
+    ensures { result ≡ any (λ v. nat_eq v.shard number) (more_votes last.now.shard last.now.at votes.now) }
+{
+    has_voted(votes, number) || last.shard.number() == number
+}
+
+// The greatest timestamp of some votes, 0 where there is none.
+fn greatest_vote(votes: &[Voted]) -> Stamp
+    ensures { result ≡ greatest (map (λ v. v.at) votes.now) }
+{
+    match votes {
+        [first, ..] => first.at.later(greatest_vote(&votes[1..])),
+        [] => Stamp::zero(),
+    }
+}
+
+// The timestamp of the decision, once this vote is counted too.
+fn decision_time(state: &State, collecting: &Collecting, last: &Voted) -> Result<Stamp, Fault>
+    ensures { MatchResult result
+        (λ at. (at ≡ commit_stamp state.now.memory.last collecting.now.request.latest (with_vote last.now.shard last.now.at collecting.now.votes)) × (at < 2 ^ 62))
+        (λ fault. (fault ≡ Fault.TimeSpent) × (2 ^ 62 ≤ commit_stamp state.now.memory.last collecting.now.request.latest (with_vote last.now.shard last.now.at collecting.now.votes))) }
+{
+    time_by(
+        state,
+        collecting.request().latest,
+        collecting.votes().as_slice(),
+        last,
+    )
+}
+
+// The timestamp of a decision by some votes and one more.
+#[tactic(auto, using(crate::proofs::Counting::stamp_late, crate::proofs::Counting::stamp_again, crate::proofs::Counting::stamp_with))]
+fn time_by(state: &State, latest: Stamp, votes: &[Voted], last: &Voted) -> Result<Stamp, Fault>
+    ensures { MatchResult result
+        (λ at. (at ≡ commit_stamp state.now.memory.last latest (with_vote last.now.shard last.now.at (map voted_of votes.now))) × (at < 2 ^ 62))
+        (λ fault. (fault ≡ Fault.TimeSpent) × (2 ^ 62 ≤ commit_stamp state.now.memory.last latest (with_vote last.now.shard last.now.at (map voted_of votes.now)))) }
+{
+    let least = commit_time(state, latest)?;
+    let voted = least.later(greatest_vote(votes));
+    if has_voted(votes, last.shard.number()) {
+        Ok(voted)
+    } else {
+        Ok(voted.later(last.at))
+    }
+}
