@@ -10,3 +10,6 @@ mod votes;
 pub use commits::{on_commit, resume_commit};
 pub use endings::{give_up, on_ask, settle};
 pub use votes::on_vote;
+
+#[cfg(test)]
+mod tests;
