@@ -26,7 +26,7 @@ pub mod RowTable
 pub mod Samples
 pub mod Shapes
 mod ShardSteps
-mod StepIsPlanned
+pub mod StepIsPlanned
 pub mod StatusChanges
 pub mod StepSound
 pub mod WithinLimit
