@@ -18,6 +18,7 @@ mod PlannedAgain
 pub mod PlanShapes
 pub mod Refusals
 pub mod OpenedRows
+pub mod OwnKeys
 pub mod OpeningSound
 pub mod RecordLocks
 pub mod RequestShapes
