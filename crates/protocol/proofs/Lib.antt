@@ -4,6 +4,7 @@ pub mod AnswerShapes
 mod BookSample
 pub mod Choices
 pub mod ClaimsBeside
+pub mod FitsBeside
 pub mod Follows
 pub mod InWay
 pub mod InstallsAbove
@@ -23,6 +24,7 @@ pub mod OpeningSound
 pub mod RecordLocks
 pub mod RequestShapes
 pub mod RowChanges
+pub mod RowCounts
 pub mod RowTable
 pub mod Samples
 pub mod Shapes

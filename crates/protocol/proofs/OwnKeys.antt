@@ -3,7 +3,7 @@ use Rattle.std.proofs.Common.{refl, sym, ap, subst, ◌∙◌}
 use Rattle.std.specs.Prelude.{ℕ, ◌≡◌, Bool, true, false, not, cond, nat_lt, List, [], ◌∷◌, Option, Some, None, Ok, Err}
 use Rattle.std.specs.List.{AllByRecursion}
 use Rattle.std.proofs.lemmas.Bool.{and_parts}
-use Rattle.units.specs.Lists.{each, gather}
+use Rattle.units.specs.Lists.{gather}
 use Rattle.units.specs.Ids.{Id, same_id}
 use Rattle.units.specs.Keys.{Bytes}
 use Rattle.units.specs.Locks.{ready}
@@ -23,10 +23,10 @@ use Rattle.message.specs.declared.message.Envelope.{Envelope}
 use Rattle.message.specs.declared.message.Input.{Input}
 use Rattle.message.specs.declared.message.Message.{Message}
 use Rattle.protocol.specs.OwnKeys.{LoggedBelongs, StepKeepsOwn, all_own, is_own}
-use Rattle.protocol.specs.Rows.{Memory, Row, Phase, Idle, WaitsRead, WaitsPrepare, WaitsCommit, Collecting, IsPrepared, IsDecided, Voted, Standing, IsUnknown, WasEnded, HasRow, WasAborted, WasSettled, WasClosed, claims, find_row, rebuilt, standing_row, with_row, without_row}
+use Rattle.protocol.specs.Rows.{Memory, Row, Phase, Idle, WaitsRead, WaitsPrepare, WaitsCommit, Collecting, IsPrepared, IsDecided, Voted, Standing, IsUnknown, WasEnded, HasRow, WasAborted, WasSettled, WasClosed, claims, find_row, rebuilt, standing_row, without_row}
 use Rattle.protocol.specs.Draft.{other_parts}
 use Rattle.protocol.specs.Step.{is_for}
-use Rattle.protocol.specs.Plan.{Before, Change, Keeps, Ends, Drops, Puts, Plan, Planned, before, carried, changed, in_way, is_crowded, opens, plan_abort, plan_abort_for, plan_advance, plan_ask, plan_commit, plan_commit_fresh, plan_commit_granted, plan_commit_now, plan_count, plan_decide, plan_give_up, plan_go_on, plan_input, plan_message, plan_nudge, plan_outcome, plan_prepare, plan_prepare_fresh, plan_prepare_now, plan_promise, plan_read, plan_read_now, plan_read_row, plan_resume, plan_resume_id, plan_resume_row, plan_settle, plan_tell, plan_unpromised, plan_vote, roomed, stands, to_read, without_rows}
+use Rattle.protocol.specs.Plan.{Before, Change, Keeps, Ends, Drops, Puts, Plan, Planned, before, carried, changed, is_crowded, opens, plan_abort, plan_advance, plan_ask, plan_commit, plan_commit_fresh, plan_commit_granted, plan_commit_now, plan_count, plan_decide, plan_give_up, plan_go_on, plan_input, plan_message, plan_nudge, plan_outcome, plan_prepare, plan_prepare_fresh, plan_prepare_now, plan_promise, plan_read, plan_read_now, plan_read_row, plan_resume, plan_resume_id, plan_resume_row, plan_settle, plan_tell, plan_unpromised, plan_vote, roomed, stands, to_read, without_rows}
 use Rattle.protocol.proofs.InWay.{row_at}
 use Rattle.protocol.proofs.RowChanges.{row_as}
 use Rattle.protocol.proofs.RowTable.{with_row-is}

@@ -1,4 +1,5 @@
 //! Laws of the step. Each is the contract of a function that does nothing.
+ghost use Rattle.protocol.specs.FitsBeside.{LoggedFitsBeside};
 ghost use Rattle.protocol.specs.OwnKeys.{LoggedBelongs, StepKeepsOwn};
 ghost use Rattle.protocol.specs.Plan.{StepIsPlanned};
 ghost use Rattle.protocol.specs.Refusals.{OwnRefusals};
@@ -59,4 +60,9 @@ pub fn step_keeps_own()
 /// A shard logs no record of another shard's keys.
 pub fn logged_belongs()
     ensures { LoggedBelongs }
+{}
+
+/// A sound shard logs a promise or a decision only where there is room for its row and its locks are in nobody's way.
+pub fn logged_fits_beside()
+    ensures { LoggedFitsBeside }
 {}
