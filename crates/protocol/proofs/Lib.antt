@@ -4,6 +4,7 @@ pub mod AnswerShapes
 mod BookSample
 pub mod Choices
 pub mod ClaimsBeside
+pub mod FitsBeside
 pub mod Follows
 pub mod InWay
 pub mod InstallsAbove
@@ -18,15 +19,17 @@ mod PlannedAgain
 pub mod PlanShapes
 pub mod Refusals
 pub mod OpenedRows
+pub mod OwnKeys
 pub mod OpeningSound
 pub mod RecordLocks
 pub mod RequestShapes
 pub mod RowChanges
+pub mod RowCounts
 pub mod RowTable
 pub mod Samples
 pub mod Shapes
 mod ShardSteps
-mod StepIsPlanned
+pub mod StepIsPlanned
 pub mod StatusChanges
 pub mod StepSound
 pub mod WithinLimit

@@ -1,6 +1,7 @@
 -- An opening keeps a shard sound: the rows that the log holds are a lawful table, and agree with the records.
 use Rattle.std.proofs.Common.{◌≡◌, ℕ, ◌+◌, ◌<◌, ◌≤◌, true, false, List, [], ◌∷◌, Option, Some, None, refl, sym, ap, subst, ◌∙◌, arith}
 use Rattle.std.specs.List.{AllByRecursion}
+use Rattle.std.specs.Prelude.{IsTrue}
 use Rattle.std.proofs.lemmas.Bool.{false≢true}
 use Rattle.units.specs.Lists.{each, follow, gather}
 use Rattle.units.specs.Ids.{Id}
@@ -42,12 +43,12 @@ all_known shard facts memory sound =
 -- ---- a row from its entry
 
 -- a row that the log holds, beside the one that its id had: the log's locks conflict with no more
-record Backed (memory : Memory) (r : Row) : Type 0 where
-  row : Row
-  found : find_row memory.rows r.txn ≡ Some row
-  less : (ms : List Lock) → clash row.held ms ≡ false → clash r.held ms ≡ false
-  keys : HoldsByKey (claim_of r)
-  still : (claim_of r).needs ≡ []
+pub record Backed (memory : Memory) (r : Row) : Type 0 where
+  pub row : Row
+  pub found : find_row memory.rows r.txn ≡ Some row
+  pub less : (ms : List Lock) → clash row.held ms ≡ false → clash r.held ms ≡ false
+  pub keys : HoldsByKey (claim_of r)
+  pub still : (claim_of r).needs ≡ []
 
 keys_of_record : (rs : List Bytes) (ws : List Write) (c : Claim) → c.held ≡ locks_of rs ws → HoldsByKey c
 keys_of_record rs ws c same =
@@ -159,23 +160,46 @@ agrees_again facts memory last t (Some e) h found known =
 next_opened : (epoch : ℕ) → 0 < epoch + 1
 next_opened epoch = omega arith
 
+-- what an opening finds of a sound shard
+module _ (shard : ℕ) (facts : Facts) (memory : Memory) (sound : IsSound shard facts memory) where
+  known : AllByRecursion (Known facts memory) facts.entries
+  known = all_known shard facts memory sound
+
+  -- each entry leaves a row of its own id
+  pub entries_own : AllByRecursion IsOwn facts.entries
+  entries_own = all_gives (Known facts memory) IsOwn (λ e a r k. (left_of facts memory e r k a).own) facts.entries known
+
+  -- the rows ascend by id
+  pub opened_up : IsById (λ r. r.txn) (gather standing_row facts.entries)
+  opened_up = by_id-gather facts.entries sound.entries entries_own
+
+  -- each was there before
+  pub opened_backed : AllByRecursion (Backed memory) (gather standing_row facts.entries)
+  opened_backed = all-gather (Known facts memory) (Backed memory) (λ e r k a. (left_of facts memory e r k a).backed) facts.entries known
+
+  -- and they are a lawful table
+  pub opened_lawful : IsLawfulTable (claims (gather standing_row facts.entries))
+  opened_lawful = lawful_again memory (gather standing_row facts.entries) sound.table opened_up opened_backed
+
+  opened_fit : IsTrue (each (fits shard) (gather standing_row facts.entries))
+  opened_fit =
+      each_of_all (fits shard) (gather standing_row facts.entries)
+      (all-gather (Known facts memory) (λ r. fits shard r ≡ true) (λ e r k a. (left_of facts memory e r k a).fit shard) facts.entries known)
+
+  opened_agrees : (t : Id) → Agrees facts.installs facts.floor (recorded facts t) (find_row (gather standing_row facts.entries) t)
+  opened_agrees t =
+      subst (Agrees facts.installs facts.floor (recorded facts t)) (sym (find-gather facts.entries t sound.entries entries_own))
+      (agrees_again facts memory facts.floor t (find_member (λ (e : Entry). e.txn) facts.entries t) sound.under refl known)
+
 pub opening_keeps_sound : OpeningKeepsSound
 unfolding learn rebuilt
-opening_keeps_sound shard facts memory sound =
-    let known = all_known shard facts memory sound in
-    let rows : List Row = gather standing_row facts.entries in
-    let own : AllByRecursion IsOwn facts.entries = all_gives (Known facts memory) IsOwn (λ e a r k. (left_of facts memory e r k a).own) facts.entries known in
-    let up : IsById (λ (r : Row). r.txn) rows = by_id-gather facts.entries sound.entries own in
-    let backed : AllByRecursion (Backed memory) rows = all-gather (Known facts memory) (Backed memory) (λ e r k a. (left_of facts memory e r k a).backed) facts.entries known in
-    record {
-      opened = next_opened facts.epoch;
-      table = lawful_again memory rows sound.table up backed;
-      entries = sound.entries;
-      ended = refl;
-      under = omega arith;
-      installed = covered_later memory.last facts.floor facts.installs sound.under sound.installed;
-      fit = each_of_all (fits shard) rows (all-gather (Known facts memory) (λ r. fits shard r ≡ true) (λ e r k a. (left_of facts memory e r k a).fit shard) facts.entries known);
-      agrees = λ t.
-          subst (Agrees facts.installs facts.floor (recorded facts t)) (sym (find-gather facts.entries t sound.entries own))
-          (agrees_again facts memory facts.floor t (find_member (λ (e : Entry). e.txn) facts.entries t) sound.under refl known);
-    }
+opening_keeps_sound shard facts memory sound = record {
+  opened = next_opened facts.epoch;
+  table = opened_lawful shard facts memory sound;
+  entries = sound.entries;
+  ended = refl;
+  under = omega arith;
+  installed = covered_later memory.last facts.floor facts.installs sound.under sound.installed;
+  fit = opened_fit shard facts memory sound;
+  agrees = opened_agrees shard facts memory sound;
+}

@@ -1,13 +1,11 @@
 -- A step refuses for reasons of its own alone: never for want of memory, a failing device, a full log.
-use Rattle.std.proofs.Common.{◌≡◌, ℕ, ◌+◌, Bool, true, false, cond, nat_le, nat_lt, List, [], ◌∷◌, Option, Some, None, Ok, Err, refl}
+use Rattle.std.proofs.Common.{ℕ, ◌+◌, Bool, true, false, cond, nat_le, nat_lt, List, [], ◌∷◌, Option, Some, None, Ok, Err, refl}
 use Rattle.units.specs.Ids.{Id}
 use Rattle.units.specs.Keys.{Bytes}
 use Rattle.units.specs.Lists.{has}
 use Rattle.units.specs.Locks.{exclusive, holds, ready}
-use Rattle.units.specs.declared.fault.Fault.{Fault}
-use Rattle.units.specs.declared.fault.Fault.TheVariants.{TimeSpent, RowsFull, Future, Early, Stranger}
+use Rattle.units.specs.declared.fault.Fault.TheVariants.{TimeSpent, Future, Early, Stranger}
 use Rattle.units.specs.declared.lock.Lock.{Lock}
-use Rattle.units.specs.declared.setup.Setup.{Setup}
 use Rattle.units.specs.declared.writes.Write.{Write}
 use Rattle.truetime.specs.Interval.{Interval}
 use Rattle.message.specs.declared.message.Message.{Message}
@@ -16,7 +14,7 @@ use Rattle.protocol.specs.Rows.{Row, Phase, Idle, WaitsRead, WaitsPrepare, Waits
 use Rattle.protocol.specs.Draft.{time_limit, other_parts, all_voted}
 use Rattle.protocol.specs.Step.{is_for, is_outcome_for, with_vote}
 use Rattle.protocol.specs.Plan.{Planned, Before, plan_read_now, plan_read_row, plan_read, plan_promise, plan_prepare_now, plan_prepare_fresh, plan_prepare, plan_decide, plan_commit_granted, plan_commit_now, plan_commit_fresh, plan_commit, plan_count, plan_vote, plan_outcome, plan_ask, plan_go_on, plan_resume, plan_resume_id, plan_resume_row, plan_settle, plan_advance, plan_nudge, plan_message, plan_input, roomed, timed, still_stand, opens, of_part, stands}
-use Rattle.protocol.specs.Refusals.{is_own, Owns, OwnRefusals}
+use Rattle.protocol.specs.Refusals.{Owns, OwnRefusals}
 
 owns_cond : (test : Bool) (p q : Planned) → Owns p → Owns q → Owns (cond test p q)
 owns_cond true p q h k = h

@@ -34,14 +34,19 @@ with_status-is (e ∷ es) t s =
 abbrev pub status_in : List Entry → Id → Status
 status_in es t = or_unrecorded (first (λ e. same_id e.txn t) es)
 
-pub status_same : (es : List Entry) (t : Id) (s : Status) → status_in (with_status es t s) t ≡ s
+pub entry_same : (es : List Entry) (t : Id) (s : Status) → first (λ e. same_id e.txn t) (with_status es t s) ≡ Some (record { txn = t; status = s })
 unfolding entry_of
-status_same es t s = ap (λ l. status_in l t) (with_status-is es t s) ∙ ap or_unrecorded (find-with_same (λ (e : Entry). e.txn) es (entry_of t s))
+entry_same es t s = ap (first (λ (e : Entry). same_id e.txn t)) (with_status-is es t s) ∙ find-with_same (λ (e : Entry). e.txn) es (entry_of t s)
+
+pub entry_other : (es : List Entry) (t u : Id) (s : Status) → same_id t u ≡ false → first (λ e. same_id e.txn u) (with_status es t s) ≡ first (λ e. same_id e.txn u) es
+unfolding entry_of
+entry_other es t u s differ = ap (first (λ (e : Entry). same_id e.txn u)) (with_status-is es t s) ∙ find-with_other (λ (e : Entry). e.txn) es (entry_of t s) u differ
+
+pub status_same : (es : List Entry) (t : Id) (s : Status) → status_in (with_status es t s) t ≡ s
+status_same es t s = ap or_unrecorded (entry_same es t s)
 
 pub status_other : (es : List Entry) (t u : Id) (s : Status) → same_id t u ≡ false → status_in (with_status es t s) u ≡ status_in es u
-unfolding entry_of
-status_other es t u s differ =
-    ap (λ l. status_in l u) (with_status-is es t s) ∙ ap or_unrecorded (find-with_other (λ (e : Entry). e.txn) es (entry_of t s) u differ)
+status_other es t u s differ = ap or_unrecorded (entry_other es t u s differ)
 
 pub by_id-status : (es : List Entry) (t : Id) (s : Status) → IsById (λ e. e.txn) es → IsById (λ e. e.txn) (with_status es t s)
 by_id-status es t s up = subst (IsById (λ (e : Entry). e.txn)) (sym (with_status-is es t s)) (by_id-with (λ (e : Entry). e.txn) es (entry_of t s) up)

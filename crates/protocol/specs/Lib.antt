@@ -1,5 +1,7 @@
 pub mod Computing
 pub mod Draft
+pub mod FitsBeside
+pub mod OwnKeys
 pub mod Plan
 pub mod Refusals
 pub mod Rows

@@ -1,4 +1,6 @@
 //! Laws of the step. Each is the contract of a function that does nothing.
+ghost use Rattle.protocol.specs.FitsBeside.{LoggedFitsBeside};
+ghost use Rattle.protocol.specs.OwnKeys.{LoggedBelongs, StepKeepsOwn};
 ghost use Rattle.protocol.specs.Plan.{StepIsPlanned};
 ghost use Rattle.protocol.specs.Refusals.{OwnRefusals};
 ghost use Rattle.protocol.specs.Sound.{FreshIsSound, InstallsAbove, LoggedFollows, OpeningKeepsSound, StaysWithin, StepKeepsSound};
@@ -48,4 +50,19 @@ pub fn own_refusals()
 /// A shard that is opened anew from the log of a sound one is sound: what was read stays locked with what was written.
 pub fn opening_keeps_sound()
     ensures { OpeningKeepsSound }
+{}
+
+/// Rows that speak of the shard's own keys alone do so after each step.
+pub fn step_keeps_own()
+    ensures { StepKeepsOwn }
+{}
+
+/// A shard logs no record of another shard's keys.
+pub fn logged_belongs()
+    ensures { LoggedBelongs }
+{}
+
+/// A sound shard logs a promise or a decision only where there is room for its row and its locks are in nobody's way.
+pub fn logged_fits_beside()
+    ensures { LoggedFitsBeside }
 {}

@@ -17,6 +17,7 @@ use Rattle.protocol.specs.StepLaws.{IsInLimit}
 use Rattle.protocol.specs.Plan.{Plan, StepIsPlanned, before, plan_input, carried}
 use Rattle.world.specs.World.{World, ShardNow, setup_of, run, fresh_log}
 use Rattle.world.specs.Lawful.{lawful, may_act}
+use Rattle.world.specs.ButForReads.{ConsistentButForReads}
 use Rattle.world.specs.Headline.{AllAccepted, IsExternallyConsistent, MayBeLeft, MayLeaveLog, MayHaveLogged}
 use Rattle.world.specs.Steady.{AlwaysSteady}
 use Rattle.world.specs.TimeLaws.{InstalledInThePast, LooksCoverAcknowledged}
@@ -83,17 +84,26 @@ module _ (planned : StepIsPlanned)
   pub recovered : (config : Config) (es : List Event) (ls : List (List Record)) → lawful config es ≡ true → MayBeLeft config es ls → AllAccepted config ls
   recovered config es ls fair may = subst (λ c. AllAccepted c ls) (run_settings config es) (accepted config es ls fair may)
 
-  -- with the values that are read, all of it
-  pub consistent : (config : Config) (es : List Event) (ls : List (List Record)) → lawful config es ≡ true → MayBeLeft config es ls →
-      LooksSerially ls (run config es).lines → ReadsSerially ls (run config es).lines → IsExternallyConsistent config ls (run config es).lines
-  consistent config es ls fair may looks reads = record {
+  pub but_for_reads : ConsistentButForReads
+  but_for_reads config es ls fair may = record {
     recovered = recovered config es ls fair may;
     acknowledged = keeps_acknowledged planned steady config es ls fair may;
     all_or_nothing = all_or_nothing planned steady config es ls fair may;
-    looks = looks;
-    reads = reads;
     order = ordered_by_time planned steady config es ls fair may;
   }
+
+  -- with the values that are read, all of it
+  pub consistent : (config : Config) (es : List Event) (ls : List (List Record)) → lawful config es ≡ true → MayBeLeft config es ls →
+      LooksSerially ls (run config es).lines → ReadsSerially ls (run config es).lines → IsExternallyConsistent config ls (run config es).lines
+  consistent config es ls fair may looks reads =
+      let k = but_for_reads config es ls fair may in record {
+        recovered = k.recovered;
+        acknowledged = k.acknowledged;
+        all_or_nothing = k.all_or_nothing;
+        looks = looks;
+        reads = reads;
+        order = k.order;
+      }
 
   pub in_the_past : InstalledInThePast
   in_the_past = installed_in_the_past planned steady

@@ -121,7 +121,7 @@ given sc n (Doing.Take m now) h =
     by_message (Some e) is honest goes = (sent_to sc n m e is goes, honest.0, honest.1)
 given sc n (Doing.Resume now) h = let p = honest_given sc now h in (tt, p.0, p.1)
 given sc n (Doing.Settle t now) h = let p = honest_given sc now h in (tt, p.0, p.1)
-given sc n (Doing.Advance at now) h = let p = honest_given sc now h in (tt, p.0, p.1)
+given sc n (Doing.Advance at now) h = let p = honest_given sc now (both _ _ h).0 in (tt, p.0, p.1)
 given sc n (Doing.Nudge t now) h = let p = honest_given sc now h in (tt, p.0, p.1)
 given sc n Doing.Open h = tt
 

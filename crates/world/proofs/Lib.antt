@@ -7,6 +7,7 @@ pub mod Decisions
 pub mod Doings
 mod Events
 pub mod Every
+pub mod EveryRun
 mod Faults
 pub mod Grows
 pub mod Lefts

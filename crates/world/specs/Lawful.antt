@@ -5,6 +5,7 @@ use Rattle.units.specs.Ids.{Id}
 use Rattle.world.specs.World.{World, State, Runs, IsDown, start, happens, client_of}
 use Rattle.truetime.specs.Reading.{is_honest}
 use Rattle.message.specs.declared.message.Envelope.{Envelope}
+use Rattle.protocol.specs.Draft.{time_limit}
 use Rattle.message.specs.declared.message.Address.TheVariants.{Shard, Session}
 use Rattle.world.specs.declared.event.Act.{Act}
 use Rattle.world.specs.declared.event.Config.{Config}
@@ -37,12 +38,13 @@ goes_to n e = elim e.to [ Shard m ↦ nat_eq m n | Session t ↦ false ]
 abbrev pub can_come : World → Envelope → Bool
 can_come w e = elim e.to [ Shard m ↦ true | Session t ↦ has_begun w t ]
 
--- a doing at a shard: its reading is honest, its message was put out for this shard, an opening is of one that is not up
+-- a doing at a shard: its reading is honest, its message was put out for this shard, the time that it advances to is within
+-- the limit, an opening is of one that is not up
 abbrev pub may_do : World → ℕ → ℕ → Doing → Bool
 may_do w time n (Doing.Take m now) = is_honest time now && when (goes_to n) (slice_get w.bag m)
 may_do w time n (Doing.Resume now) = is_honest time now
 may_do w time n (Doing.Settle t now) = is_honest time now
-may_do w time n (Doing.Advance at now) = is_honest time now
+may_do w time n (Doing.Advance at now) = is_honest time now && nat_le at time_limit
 may_do w time n (Doing.Nudge t now) = is_honest time now
 may_do w time n Doing.Open = is_in w n (λ s. not (is_up s))
 

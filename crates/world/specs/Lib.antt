@@ -1,3 +1,4 @@
+pub mod ButForReads
 pub mod Computing
 pub mod Evidence
 pub mod Headline

@@ -1,0 +1,308 @@
+-- What a step logs fits beside what the log holds: after it the log's rows are a lawful table still, and no more than the
+-- rows in memory.
+use Rattle.std.proofs.Common.{◌≡◌, ℕ, suc, ◌<◌, ◌≤◌, Bool, true, false, not, nat_lt, List, [], ◌∷◌, map, length, Option, Some, None, refl, sym, ap, subst, ◌∙◌, arith}
+use Rattle.std.specs.Prelude.{IsTrue, Ok, Err, cond}
+use Rattle.std.specs.List.{AllByRecursion}
+use Rattle.std.proofs.lemmas.Bool.{false≢true, and_from, and_parts, lt-ltb}
+use Rattle.units.specs.Lists.{any, follow, gather}
+use Rattle.units.specs.Ids.{Id, same_id}
+use Rattle.units.specs.ById.{find_member}
+use Rattle.units.specs.Keys.{Bytes}
+use Rattle.units.specs.Locks.{clash, locks_of}
+use Rattle.units.specs.Versions.{above_versions}
+use Rattle.units.specs.declared.fault.Fault.TheVariants.{Future}
+use Rattle.units.specs.declared.lock.Lock.{Lock}
+use Rattle.units.specs.declared.setup.Setup.{Setup}
+use Rattle.units.specs.declared.writes.Install.{Install}
+use Rattle.units.specs.declared.writes.Write.{Write}
+use Rattle.units.proofs.ByIdLaws.{first_none, found_has, has-without_other}
+use Rattle.units.proofs.IdLaws.{same_id_comm}
+use Rattle.units.proofs.ListLaws.{all_gives}
+use Rattle.truetime.specs.Interval.{Interval}
+use Rattle.record.specs.Accepted.{fits_beside, stands, standing, standing_locks}
+use Rattle.record.specs.Facts.{Entry, Facts, facts_of, learn, or_unrecorded, recorded, with_status}
+use Rattle.record.specs.Installs.{installs_of, writes_by}
+use Rattle.record.specs.Records.{Ended, Status, Unrecorded, StandsPrepared, StandsDecided, HasAborted, HasSettled, HasClosed, status_by, status_of, ids_of, is_aborted, committed_of, prepared_of, ended_of}
+use Rattle.record.specs.declared.record.Committed.{Committed}
+use Rattle.record.specs.declared.record.Prepared.{Prepared}
+use Rattle.record.specs.declared.record.Record.{Record}
+use Rattle.record.proofs.Statuses.{recorded_is}
+use Rattle.facts.specs.Rules.{allows, follows_facts, is_unrecorded}
+use Rattle.message.specs.declared.message.Input.{Input}
+use Rattle.protocol.specs.FitsBeside.{LoggedFitsBeside}
+use Rattle.protocol.specs.Rows.{Memory, Row, IsPrepared, IsDecided, find_row, standing_row, without_row}
+use Rattle.protocol.specs.Plan.{Keeps, Plan, Planned, before, carried, plan_advance, plan_input}
+use Rattle.protocol.specs.Sound.{Agrees, IsSound, writes_standing}
+use Rattle.protocol.specs.Step.{facts_after}
+use Rattle.protocol.specs.StepLaws.{IsInLimit}
+use Rattle.protocol.proofs.AboveVersions.{rows_apart}
+use Rattle.protocol.proofs.Follows.{logged_follows}
+use Rattle.protocol.proofs.InstallsAbove.{installs_above}
+use Rattle.protocol.proofs.OpenedRows.{find-gather}
+use Rattle.protocol.proofs.OpeningSound.{Backed, entries_own, opened_backed, opened_lawful, opened_up}
+use Rattle.protocol.proofs.RowChanges.{by_id-claims, find_each}
+use Rattle.protocol.proofs.RowCounts.{has_row, no_more, shorter-without_row}
+use Rattle.protocol.proofs.StatusChanges.{entry_other, entry_same, status_same}
+use Rattle.protocol.proofs.StepSound.{step_keeps_sound}
+use Rattle.protocol.proofs.WithinLimit.{stays_within}
+
+-- ---- the locks that stand are those of the log's rows
+
+gather-map : {A B C : Type 0} (f : B → Option C) (g : A → B) (xs : List A) → gather (λ x. f (g x)) xs ≡ gather f (map g xs)
+gather-map f g [] = refl
+gather-map {C = C} f g (x ∷ xs) = by_value (f (g x)) (gather-map f g xs)
+  where
+    by_value : (o : Option C) → gather (λ x. f (g x)) xs ≡ gather f (map g xs) →
+        (elim o as (λ q. List C) [ None ↦ gather (λ x. f (g x)) xs | Some y ↦ y ∷ gather (λ x. f (g x)) xs ])
+        ≡ (elim o as (λ q. List C) [ None ↦ gather f (map g xs) | Some y ↦ y ∷ gather f (map g xs) ])
+    by_value None e = e
+    by_value (Some y) e = ap (λ l. y ∷ l) e
+
+-- the rows that some facts hold
+abbrev pub log_rows : Facts → List Row
+log_rows f = gather standing_row f.entries
+
+locks_of_rows : (es : List Entry) → gather (λ e. standing_locks e.status) es ≡ map (λ r. r.held) (gather standing_row es)
+locks_of_rows [] = refl
+locks_of_rows (e ∷ es) = by_status e.status (locks_of_rows es)
+  where
+    by_status : (s : Status) → gather (λ e. standing_locks e.status) es ≡ map (λ r. r.held) (gather standing_row es)
+        → gather (λ e. standing_locks e.status) (record { txn = e.txn; status = s } ∷ es) ≡ map (λ r. r.held) (gather standing_row (record { txn = e.txn; status = s } ∷ es))
+    by_status (StandsPrepared p) k = ap (λ l. locks_of p.reads p.writes ∷ l) k
+    by_status (StandsDecided c) k = ap (λ l. locks_of c.reads c.writes ∷ l) k
+    by_status Unrecorded k = k
+    by_status HasAborted k = k
+    by_status (HasSettled at ps) k = k
+    by_status (HasClosed c o) k = k
+
+standing_is : (log : List Record) → standing log ≡ map (λ r. r.held) (log_rows (facts_of log))
+unfolding facts_of
+standing_is log =
+    gather-map (λ (e : Entry). standing_locks e.status) (λ t. record { txn = t; status = status_of log t }) (ids_of log)
+    ∙ locks_of_rows (facts_of log).entries
+
+length-held : (rows : List Row) → length (map (λ (r : Row). r.held) rows) ≡ length rows
+length-held [] = refl
+length-held (r ∷ rs) = ap suc (length-held rs)
+
+none_clashes : (ls : List Lock) (rows : List Row) → AllByRecursion (λ r. clash ls r.held ≡ false) rows → any (clash ls) (map (λ r. r.held) rows) ≡ false
+none_clashes ls [] free = refl
+none_clashes ls (r ∷ rs) free = rw free.0 (none_clashes ls rs free.1)
+
+-- no more rows than in memory
+pub few_opened : (shard : ℕ) (f : Facts) (m : Memory) → IsSound shard f m → length (log_rows f) ≤ length m.rows
+few_opened shard f m sound =
+    no_more (log_rows f) m.rows (opened_up shard f m sound)
+    (all_gives (Backed m) (λ x. has_row m.rows x.txn ≡ true) (λ r x. found_has (λ (q : Row). q.txn) m.rows r.txn x.row x.found) (log_rows f) (opened_backed shard f m sound))
+
+-- ---- one more record that stands
+
+module _ (shard : ℕ) (f after : Facts) (m later : Memory) (t : Id) (s : Status) (new : Row) (sound : IsSound shard f m) (next : IsSound shard after later)
+    (put : after.entries ≡ with_status f.entries t s) (stands : standing_row (record { txn = t; status = s }) ≡ Some new) (fresh : recorded f t ≡ Unrecorded) where
+  -- the log had no row of the id
+  none_before : find_row (log_rows f) t ≡ None
+  none_before = find-gather f.entries t sound.entries (entries_own shard f m sound) ∙ by_entry (find_member (λ (e : Entry). e.txn) f.entries t) fresh
+    where
+      by_status : (e : Entry) (q : Status) → q ≡ Unrecorded → follow (Some (record { txn = e.txn; status = q })) standing_row ≡ None
+      by_status e Unrecorded k = refl
+      by_status e HasAborted k = refl
+      by_status e (HasSettled at ps) k = refl
+      by_status e (HasClosed c o) k = refl
+      by_status e (StandsPrepared p) k = cc
+      by_status e (StandsDecided c) k = cc
+
+      by_entry : (o : Option Entry) → or_unrecorded o ≡ Unrecorded → follow o standing_row ≡ None
+      by_entry None k = refl
+      by_entry (Some e) k = by_status e e.status k
+
+  differ : AllByRecursion (λ (r : Row). same_id r.txn t ≡ false) (log_rows f)
+  differ = first_none (λ (r : Row). same_id r.txn t) (log_rows f) none_before
+
+  found_new : find_row (log_rows after) t ≡ Some new
+  found_new =
+      find-gather after.entries t next.entries (entries_own shard after later next)
+      ∙ ap (λ es. follow (find_member (λ (e : Entry). e.txn) es t) standing_row) put
+      ∙ ap (λ o. follow o standing_row) (entry_same f.entries t s)
+      ∙ stands
+
+  found_old : (r : Row) → find_row (log_rows f) r.txn ≡ Some r → same_id r.txn t ≡ false → find_row (log_rows after) r.txn ≡ Some r
+  found_old r found apart =
+      find-gather after.entries r.txn next.entries (entries_own shard after later next)
+      ∙ ap (λ es. follow (find_member (λ (e : Entry). e.txn) es r.txn) standing_row) put
+      ∙ ap (λ o. follow o standing_row) (entry_other f.entries t r.txn s (same_id_comm t r.txn ∙ apart))
+      ∙ sym (find-gather f.entries r.txn sound.entries (entries_own shard f m sound))
+      ∙ found
+
+  -- each row of the log before is there, and is another's
+  Old : Row → Type 0
+  Old r = (find_row (log_rows after) r.txn ≡ Some r) × (same_id r.txn t ≡ false)
+
+  all_old : AllByRecursion Old (log_rows f)
+  unfolding Old
+  all_old = both (log_rows f) (find_each (log_rows f) (opened_up shard f m sound)) differ
+    where
+      both : (rows : List Row) → AllByRecursion (λ (r : Row). find_row (log_rows f) r.txn ≡ Some r) rows → AllByRecursion (λ (r : Row). same_id r.txn t ≡ false) rows
+          → AllByRecursion Old rows
+      both [] found apart = tt
+      both (r ∷ rs) found apart = ((found_old r found.0 apart.0, apart.0), both rs found.1 apart.1)
+
+  clear : AllByRecursion (λ (r : Row). clash new.held r.held ≡ false) (log_rows f)
+  unfolding Old
+  clear =
+      all_gives Old (λ (r : Row). clash new.held r.held ≡ false)
+      (λ r o. rows_apart (log_rows after) t r.txn new r (opened_lawful shard after later next) found_new o.0 o.1) (log_rows f) all_old
+
+  few : length later.rows ≤ 1024 → length (log_rows f) < 1024
+  unfolding Old
+  few room =
+      let others : length (log_rows f) ≤ length (without_row (log_rows after) t) =
+      no_more (log_rows f) (without_row (log_rows after) t) (opened_up shard f m sound)
+      (all_gives Old (λ (r : Row). has_row (without_row (log_rows after) t) r.txn ≡ true)
+      (λ r o. has-without_other (λ (q : Row). q.txn) (log_rows after) r.txn t (same_id_comm t r.txn ∙ o.1)
+      ∙ found_has (λ (q : Row). q.txn) (log_rows after) r.txn r o.0) (log_rows f) all_old) in
+      let fewer : length (without_row (log_rows after) t) < length (log_rows after) =
+      shorter-without_row (log_rows after) t (found_has (λ (q : Row). q.txn) (log_rows after) t new found_new) in
+      let all : length (log_rows after) ≤ length later.rows = few_opened shard after later next in
+      omega (arith, others, fewer, all, room)
+
+not_false : (b : Bool) → b ≡ false → not b ≡ true
+not_false false e = refl
+not_false true e = cc
+
+installs_are : (log : List Record) → (facts_of log).installs ≡ installs_of log
+unfolding facts_of
+installs_are log = refl
+
+-- so it stands beside what the log holds
+stands_beside : (shard : ℕ) (log : List Record) (after : Facts) (m later : Memory) (t : Id) (s : Status) (at : ℕ) (rs : List Bytes) (ws : List Write) (new : Row)
+    → IsSound shard (facts_of log) m → IsSound shard after later → length later.rows ≤ 1024
+    → after.entries ≡ with_status (facts_of log).entries t s → standing_row (record { txn = t; status = s }) ≡ Some new → new.held ≡ locks_of rs ws
+    → recorded (facts_of log) t ≡ Unrecorded → IsTrue (above_versions (facts_of log).installs at ws) → stands log at rs ws ≡ true
+stands_beside shard log after m later t s at rs ws new sound next room put held locks fresh above =
+    let small : length (log_rows (facts_of log)) < 1024 = few shard (facts_of log) after m later t s new sound next put held fresh room in
+    let count : length (standing log) ≡ length (log_rows (facts_of log)) = ap length (standing_is log) ∙ length-held (log_rows (facts_of log)) in
+    let free : any (clash (locks_of rs ws)) (standing log) ≡ false =
+    ap (any (clash (locks_of rs ws))) (standing_is log)
+    ∙ none_clashes (locks_of rs ws) (log_rows (facts_of log))
+    (subst (λ ls. AllByRecursion (λ (r : Row). clash ls r.held ≡ false) (log_rows (facts_of log))) locks (clear shard (facts_of log) after m later t s new sound next put held fresh)) in
+    and_from _ _ (and_from _ _ (ap (λ n. nat_lt n 1024) count ∙ lt-ltb _ _ small) (not_false _ free)) (subst (λ is. IsTrue (above_versions is at ws)) (installs_are log) above)
+
+-- ---- the records
+
+unrecorded_is : (s : Status) → is_unrecorded s ≡ true → s ≡ Unrecorded
+unrecorded_is Unrecorded e = refl
+unrecorded_is (StandsPrepared p) e = absurd (false≢true e)
+unrecorded_is (StandsDecided c) e = absurd (false≢true e)
+unrecorded_is HasAborted e = absurd (false≢true e)
+unrecorded_is (HasSettled at ps) e = absurd (false≢true e)
+unrecorded_is (HasClosed c o) e = absurd (false≢true e)
+
+-- what stands is above the versions of what it writes
+above_promise : (installs : List Install) (last : ℕ) (p : Prepared) (o : Option Row) → Agrees installs last (StandsPrepared p) o → IsTrue (above_versions installs p.at p.writes)
+above_promise installs last p (Some r) a = a.above
+above_promise installs last p None a = absurd a
+
+above_decision : (installs : List Install) (last : ℕ) (c : Committed) (o : Option Row) → Agrees installs last (StandsDecided c) o → IsTrue (above_versions installs c.at c.writes)
+above_decision installs last c (Some r) a = a.above
+above_decision installs last c None a = absurd a
+
+fits_prepare : (shard : ℕ) (log : List Record) (m later : Memory) (p : Prepared) → IsSound shard (facts_of log) m → IsSound shard (learn (facts_of log) (Record.Prepare p)) later
+    → length later.rows ≤ 1024 → follows_facts shard (facts_of log) (Record.Prepare p) ≡ true → fits_beside log (Record.Prepare p) ≡ true
+unfolding fits_beside follows_facts learn
+fits_prepare shard log m later p sound next room follows =
+    let fresh : recorded (facts_of log) p.txn ≡ Unrecorded =
+    unrecorded_is (recorded (facts_of log) p.txn) (and_parts _ _ (and_parts _ _ (and_parts _ _ follows).1).0).1 in
+    stands_beside shard log (learn (facts_of log) (Record.Prepare p)) m later p.txn (StandsPrepared p) p.at p.reads p.writes
+    (record { txn = p.txn; held = locks_of p.reads p.writes; phase = IsPrepared p.coordinator p.at }) sound next room refl refl refl fresh
+    (above_promise (facts_of log).installs later.last p (find_row later.rows p.txn)
+    (subst (λ s. Agrees (facts_of log).installs later.last s (find_row later.rows p.txn)) (status_same (facts_of log).entries p.txn (StandsPrepared p)) (next.agrees p.txn)))
+
+fits_commit : (shard : ℕ) (log : List Record) (m later : Memory) (c : Committed) → IsSound shard (facts_of log) m → IsSound shard (learn (facts_of log) (Record.Commit c)) later
+    → length later.rows ≤ 1024 → follows_facts shard (facts_of log) (Record.Commit c) ≡ true → fits_beside log (Record.Commit c) ≡ true
+unfolding fits_beside follows_facts learn
+fits_commit shard log m later c sound next room follows =
+    let fresh : recorded (facts_of log) c.txn ≡ Unrecorded =
+    unrecorded_is (recorded (facts_of log) c.txn) (and_parts _ _ (and_parts _ _ (and_parts _ _ follows).1).0).1 in
+    stands_beside shard log (learn (facts_of log) (Record.Commit c)) m later c.txn (StandsDecided c) c.at c.reads c.writes
+    (record { txn = c.txn; held = locks_of c.reads c.writes; phase = IsDecided c.at c.parts }) sound next room refl refl refl fresh
+    (above_decision (facts_of log).installs later.last c (find_row later.rows c.txn)
+    (subst (λ s. Agrees (facts_of log).installs later.last s (find_row later.rows c.txn)) (status_same (facts_of log).entries c.txn (StandsDecided c)) (next.agrees c.txn)))
+
+-- the writes of what an outcome ends
+writes_are : (a : Bool) (c : Option Committed) (p : Option Prepared) (e : Option Ended) (s : ℕ) → allows (status_by a c p e) (Some s) ≡ true
+    → writes_standing (status_by a c p e) ≡ writes_by c p
+writes_are true c p e s k = absurd (false≢true k)
+writes_are false (Some c) p None s k = refl
+writes_are false (Some c) p (Some e) s k = absurd (false≢true k)
+writes_are false None (Some p) None s k = refl
+writes_are false None (Some p) (Some e) s k = absurd (false≢true k)
+writes_are false None None e s k = absurd (false≢true k)
+
+fits_outcome : (shard : ℕ) (log : List Record) (t : Id) (s : ℕ) → follows_facts shard (facts_of log) (Record.Outcome t (Some s)) ≡ true
+    → IsTrue (above_versions (facts_of log).installs s (writes_standing (recorded (facts_of log) t))) → fits_beside log (Record.Outcome t (Some s)) ≡ true
+unfolding fits_beside follows_facts facts_of status_of
+fits_outcome shard log t s follows above =
+    let allowed : allows (status_by (is_aborted log t) (committed_of log t) (prepared_of log t) (ended_of log t)) (Some s) ≡ true =
+    subst (λ q. allows q (Some s) ≡ true) (recorded_is log t) (and_parts _ _ follows).1 in
+    let same : writes_standing (recorded (facts_of log) t) ≡ writes_by (committed_of log t) (prepared_of log t) =
+    ap writes_standing (recorded_is log t) ∙ writes_are (is_aborted log t) (committed_of log t) (prepared_of log t) (ended_of log t) s allowed in
+    subst (λ ws. IsTrue (above_versions (installs_of log) s ws)) same above
+
+-- ---- a step
+
+-- the record is a ceiling
+abbrev is_ceiling : Record → Bool
+is_ceiling (Record.Ceiling at) = true
+is_ceiling _ = false
+
+-- the plan of an advance
+abbrev advanced : Bool → Bool → (ceiling last : ℕ) → Planned
+advanced late high n last =
+    cond late (Err Future) (Ok (record { wounded = []; change = Keeps; logged = cond high (Some (Record.Ceiling n)) None; last = last; outbox = [] }))
+
+advance_logs : (late high : Bool) (n last : ℕ) (p : Plan) (r : Record) → advanced late high n last ≡ Ok p → p.logged ≡ Some r → is_ceiling r ≡ true
+advance_logs true high n last p r e logged = cc
+advance_logs false true n last p r e logged =
+    let is : record { wounded = []; change = Keeps; logged = Some (Record.Ceiling n); last = last; outbox = [] } ≡ p = cc in
+    let same : Some (Record.Ceiling n) ≡ Some r = ap (λ (q : Plan). q.logged) is ∙ logged in
+    let it : Record.Ceiling n ≡ r = cc in
+    subst (λ q. is_ceiling q ≡ true) it refl
+advance_logs false false n last p r e logged =
+    let is : record { wounded = []; change = Keeps; logged = None; last = last; outbox = [] } ≡ p = cc in
+    let same : None ≡ Some r = ap (λ (q : Plan). q.logged) is ∙ logged in
+    cc
+
+-- an input by which a step logs anything else names no timestamp
+limit_of : (rows : ℕ) (setup : Setup) (f : Facts) (m : Memory) (now : Interval) (i : Input) (p : Plan) (r : Record) → plan_input setup (before rows setup f m) now i ≡ Ok p
+    → p.logged ≡ Some r → is_ceiling r ≡ false → IsInLimit i
+unfolding plan_input plan_advance
+limit_of rows setup f m now (Input.Advance at) p r e logged k = absurd (false≢true (sym k ∙ advance_logs (nat_lt now.latest at) (nat_lt f.floor at) _ _ p r e logged))
+limit_of rows setup f m now (Input.Deliver x) p r e logged k = tt
+limit_of rows setup f m now Input.Resume p r e logged k = tt
+limit_of rows setup f m now (Input.Settle t) p r e logged k = tt
+limit_of rows setup f m now (Input.Nudge t) p r e logged k = tt
+
+pub logged_fits_beside : LoggedFitsBeside
+unfolding fits_beside
+logged_fits_beside setup log memory now i p r sound few e logged = by_record r logged
+  where
+    room : length (carried p memory).rows ≤ 1024
+    room = stays_within 1024 setup (facts_of log) memory now i p (by_id-claims memory.rows sound.table.order) few e
+
+    next : (q : Record) → p.logged ≡ Some q → is_ceiling q ≡ false → IsSound setup.shard (learn (facts_of log) q) (carried p memory)
+    next q k c =
+        subst (λ o. IsSound setup.shard (facts_after (facts_of log) o) (carried p memory)) k
+        (step_keeps_sound 1024 setup (facts_of log) memory now i p (limit_of 1024 setup (facts_of log) memory now i p q e k c) sound e)
+
+    follows : (q : Record) → p.logged ≡ Some q → follows_facts setup.shard (facts_of log) q ≡ true
+    follows q k = logged_follows 1024 setup (facts_of log) memory now i p q sound e k
+
+    by_record : (q : Record) → p.logged ≡ Some q → fits_beside log q ≡ true
+    by_record (Record.Opened epoch) k = refl
+    by_record (Record.Ceiling at) k = refl
+    by_record (Record.Prepare x) k = fits_prepare setup.shard log memory (carried p memory) x sound (next (Record.Prepare x) k refl) room (follows (Record.Prepare x) k)
+    by_record (Record.Commit c) k = fits_commit setup.shard log memory (carried p memory) c sound (next (Record.Commit c) k refl) room (follows (Record.Commit c) k)
+    by_record (Record.Abort t) k = refl
+    by_record (Record.Outcome t None) k = refl
+    by_record (Record.Outcome t (Some s)) k =
+        fits_outcome setup.shard log t s (follows (Record.Outcome t (Some s)) k) (installs_above 1024 setup (facts_of log) memory now i p t s sound e k)
