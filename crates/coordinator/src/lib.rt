@@ -10,6 +10,3 @@ mod votes;
 pub use commits::{on_commit, resume_commit};
 pub use endings::{give_up, on_ask, settle};
 pub use votes::on_vote;
-
-#[cfg(test)]
-mod tests;

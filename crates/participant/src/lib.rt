@@ -9,6 +9,3 @@ mod reads;
 pub use outcomes::{end_reading, on_nudge, on_outcome};
 pub use prepares::{on_prepare, resume_prepare};
 pub use reads::{on_read, resume_read};
-
-#[cfg(test)]
-mod tests;
