@@ -1,6 +1,6 @@
 -- Runs with crashes, failing device calls and openings.
 use Rattle.std.proofs.Common.{refl}
-use Rattle.std.specs.Prelude.{ℕ, ◌≡◌, List, [], ◌∷◌, ◌++◌, map, Some, None}
+use Rattle.std.specs.Prelude.{ℕ, ◌≡◌, ◌-◌, ◌^◌, List, [], ◌∷◌, ◌++◌, map, Some, None}
 use Rattle.world.specs.World.{run, replies, logs_of}
 use Rattle.world.specs.Lawful.{first_unlawful_from}
 use Rattle.units.specs.declared.fault.Fault.TheVariants.{Early, Stopped, Device, NotYet, BadRequest}
@@ -192,6 +192,12 @@ a_time_that_falls = refl
 pub a_dishonest_reading : first_unlawful_from (start two_shards) (on 100 (Act.At 0 (Doing.Advance 1 (clock 101 110))) ∷ []) ≡ Some 0
 unfolding computing
 a_dishonest_reading = refl
+
+pub an_advance_beyond_the_limit :
+    first_unlawful_from (start two_shards)
+    (on 100 (Act.At 0 (Doing.Advance (2 ^ 62 - 1) (clock 0 (2 ^ 62)))) ∷ on 100 (Act.At 0 (Doing.Advance (2 ^ 62) (clock 0 (2 ^ 62)))) ∷ []) ≡ Some 1
+unfolding computing
+an_advance_beyond_the_limit = refl
 
 pub an_opening_of_a_shard_that_runs : first_unlawful_from (start two_shards) (on 100 (Act.At 0 Doing.Open) ∷ []) ≡ Some 0
 unfolding computing
