@@ -22,7 +22,7 @@ use Rattle.record.specs.declared.record.Record.{Record}
 use Rattle.message.specs.declared.message.Envelope.{Envelope}
 use Rattle.message.specs.declared.message.Input.{Input}
 use Rattle.message.specs.declared.message.Message.{Message}
-use Rattle.protocol.specs.OwnKeys.{LoggedBelongs, StepKeepsOwn, all_own, is_own}
+use Rattle.protocol.specs.OwnKeys.{LoggedBelongs, StepKeepsOwn, all_own, names_own}
 use Rattle.protocol.specs.Rows.{Memory, Row, Phase, Idle, WaitsRead, WaitsPrepare, WaitsCommit, Collecting, IsPrepared, IsDecided, Voted, Standing, IsUnknown, WasEnded, HasRow, WasAborted, WasSettled, WasClosed, claims, find_row, rebuilt, standing_row, without_row}
 use Rattle.protocol.specs.Draft.{other_parts}
 use Rattle.protocol.specs.Step.{is_for}
@@ -36,7 +36,7 @@ module _ (setup : Setup) where
 
   -- the row that is put speaks of own keys
   abbrev own_change : Change → Bool
-  own_change (Puts t needs phase) = is_own setup phase
+  own_change (Puts t needs phase) = names_own setup phase
   own_change _ = true
 
   -- and so does the record that is logged
@@ -184,10 +184,10 @@ module _ (setup : Setup) where
   own_tell b n t outcome None = owned _ refl refl
 
   -- the row of a standing speaks of own keys
-  own_at : (b : Before) (t : Id) (held : List Lock) (phase : Phase) → all_own setup b.memory.rows ≡ true → stands b t ≡ HasRow held phase → is_own setup phase ≡ true
+  own_at : (b : Before) (t : Id) (held : List Lock) (phase : Phase) → all_own setup b.memory.rows ≡ true → stands b t ≡ HasRow held phase → names_own setup phase ≡ true
   own_at b t held phase own e =
-      found_all (λ r. is_own setup r.phase ≡ true) (λ (r : Row). r.txn) b.memory.rows t (row_as t held phase)
-      (all_of_each (λ (r : Row). is_own setup r.phase) b.memory.rows own) (row_at b t held phase e)
+      found_all (λ r. names_own setup r.phase ≡ true) (λ (r : Row). r.txn) b.memory.rows t (row_as t held phase)
+      (all_of_each (λ (r : Row). names_own setup r.phase) b.memory.rows own) (row_at b t held phase e)
 
   own_vote : (b : Before) (n : ℕ) (t : Id) (vote : Option ℕ) (s : Standing) → all_own setup b.memory.rows ≡ true → stands b t ≡ s → Owned (plan_vote b n t vote s)
   unfolding plan_vote
@@ -243,7 +243,7 @@ module _ (setup : Setup) where
 
   -- ---- the chores of a shard
 
-  own_go_on : (b : Before) (earliest : ℕ) (t : Id) (phase : Phase) → is_own setup phase ≡ true → Owned (plan_go_on b earliest t phase)
+  own_go_on : (b : Before) (earliest : ℕ) (t : Id) (phase : Phase) → names_own setup phase ≡ true → Owned (plan_go_on b earliest t phase)
   unfolding plan_go_on
   own_go_on b earliest t (WaitsRead k) own = owned _ refl refl
   own_go_on b earliest t (WaitsPrepare c rs ws) own = own_promise b [] earliest t c rs ws own
@@ -255,7 +255,7 @@ module _ (setup : Setup) where
   own_resume_row b earliest t None own e = owned _ refl refl
   own_resume_row b earliest t (Some r) own e =
       own_go_on b earliest r.txn r.phase
-      (found_all (λ q. is_own setup q.phase ≡ true) (λ (q : Row). q.txn) b.memory.rows t r (all_of_each (λ (q : Row). is_own setup q.phase) b.memory.rows own) e)
+      (found_all (λ q. names_own setup q.phase ≡ true) (λ (q : Row). q.txn) b.memory.rows t r (all_of_each (λ (q : Row). names_own setup q.phase) b.memory.rows own) e)
 
   own_resume_id : (b : Before) (earliest : ℕ) (o : Option Id) → all_own setup b.memory.rows ≡ true → Owned (plan_resume_id b earliest o)
   own_resume_id b earliest None own = owned _ refl refl
@@ -312,10 +312,10 @@ module _ (setup : Setup) where
 
   -- each row speaks of own keys
   abbrev AllOwn : List Row → Type 0
-  AllOwn rows = AllByRecursion (λ (r : Row). is_own setup r.phase ≡ true) rows
+  AllOwn rows = AllByRecursion (λ (r : Row). names_own setup r.phase ≡ true) rows
 
   own-without_row : (rows : List Row) (t : Id) → AllOwn rows → AllOwn (without_row rows t)
-  own-without_row rows t own = all-keep (λ (r : Row). is_own setup r.phase ≡ true) (λ (r : Row). not (same_id r.txn t)) rows own
+  own-without_row rows t own = all-keep (λ (r : Row). names_own setup r.phase ≡ true) (λ (r : Row). not (same_id r.txn t)) rows own
 
   own-without_rows : (rows : List Row) (us : List Id) → AllOwn rows → AllOwn (without_rows rows us)
   own-without_rows rows [] own = own
@@ -327,13 +327,13 @@ module _ (setup : Setup) where
   own-changed (Ends t) rows e own = own-without_row rows t own
   own-changed (Drops t) rows e own = own-without_row rows t own
   own-changed (Puts t needs phase) rows e own =
-      subst AllOwn (sym (with_row-is rows _)) (all-with (λ (r : Row). is_own setup r.phase ≡ true) (λ (r : Row). r.txn) rows _ e own)
+      subst AllOwn (sym (with_row-is rows _)) (all-with (λ (r : Row). names_own setup r.phase ≡ true) (λ (r : Row). r.txn) rows _ e own)
 
   own-carried : (p : Plan) (m : Memory) → own_change p.change ≡ true → all_own setup m.rows ≡ true → all_own setup (carried p m).rows ≡ true
   unfolding carried
   own-carried p m e own =
-      each_of_all (λ (r : Row). is_own setup r.phase) _
-      (own-changed p.change (without_rows m.rows p.wounded) e (own-without_rows m.rows p.wounded (all_of_each (λ (r : Row). is_own setup r.phase) m.rows own)))
+      each_of_all (λ (r : Row). names_own setup r.phase) _
+      (own-changed p.change (without_rows m.rows p.wounded) e (own-without_rows m.rows p.wounded (all_of_each (λ (r : Row). names_own setup r.phase) m.rows own)))
 
   -- ---- an opening
 

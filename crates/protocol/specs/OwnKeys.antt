@@ -11,15 +11,15 @@ use Rattle.protocol.specs.Rows.{Memory, Row, Phase, WaitsPrepare, WaitsCommit, C
 use Rattle.protocol.specs.Plan.{Plan, before, plan_input, carried}
 
 -- the keys of the prepare or the commit that a row waits with or collects for are of this shard
-abbrev pub is_own : Setup → Phase → Bool
-is_own setup (WaitsPrepare c rs ws) = keys_belong setup rs ws
-is_own setup (WaitsCommit l ps rs ws) = keys_belong setup rs ws
-is_own setup (Collecting l ps rs ws votes) = keys_belong setup rs ws
-is_own setup _ = true
+abbrev pub names_own : Setup → Phase → Bool
+names_own setup (WaitsPrepare c rs ws) = keys_belong setup rs ws
+names_own setup (WaitsCommit l ps rs ws) = keys_belong setup rs ws
+names_own setup (Collecting l ps rs ws votes) = keys_belong setup rs ws
+names_own setup _ = true
 
 -- so of each row
 abbrev pub all_own : Setup → List Row → Bool
-all_own setup rows = each (λ r. is_own setup r.phase) rows
+all_own setup rows = each (λ r. names_own setup r.phase) rows
 
 -- a step keeps it
 abbrev pub StepKeepsOwn : Type 0
