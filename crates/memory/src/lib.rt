@@ -1,5 +1,5 @@
-//! What a shard keeps in memory beside the rows of its step: the facts of its log with the versions by key, and the ids
-//! that were ended. Beside them the law that joins the holds of the safe time to the rows.
+//! What a shard keeps in memory: the facts of its log with the versions by key, its rows with their locks, the ids that
+//! were ended, and its served time. Plans are made from it, and carried out in it.
 #![tactic(auto)]
 
 mod carry;
