@@ -54,6 +54,13 @@ impl Bag {
         self.envelopes.get(number as usize)
     }
 
+    /// The messages in order.
+    pub fn as_slice(&self) -> &[Envelope]
+        ensures { result.now ≡ self.now }
+    {
+        self.envelopes.as_slice()
+    }
+
     /// How many messages there are: the number of the next one.
     pub fn len(&self) -> u64
         ensures { result ≡ length self.now }

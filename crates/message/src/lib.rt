@@ -1,6 +1,7 @@
 //! What sessions and shards tell each other, and what a shard is given.
 #![tactic(auto)]
 
+mod copies;
 mod message;
 mod outbox;
 mod reads;

@@ -1,10 +1,10 @@
 //! What a transaction read at one shard.
-ghost use Rattle.std.specs.Prelude.{◌≡◌, ◌≢◌, [], MatchResult};
+ghost use Rattle.std.specs.Prelude.{◌≡◌, ◌≢◌, [], MatchResult, IfOk, IfErr};
 ghost use Rattle.message.specs.ReadSet.{ReadSet};
 
 use std::alloc::Global;
 use std::marker::Model;
-use units::{Epoch, Keys};
+use units::{Epoch, Fault, Keys};
 
 /// The keys that a transaction read at a shard, with the epoch of the shard in which it read them. The epoch is 0 exactly
 /// where there is no key.
@@ -47,6 +47,17 @@ impl Reads {
         Ok(Reads {
             epoch: epoch.number(),
             keys,
+        })
+    }
+
+    /// Equal reads with memory of their own.
+    pub fn copy(&self, alloc: Global) -> Result<Reads, Fault>
+        ensures same { IfOk result (λ reads. reads ≡ self.now) }
+        ensures memory { IfErr result (λ fault. fault ≡ Fault.Memory) }
+    {
+        Ok(Reads {
+            epoch: self.epoch,
+            keys: self.keys.copy(alloc)?,
         })
     }
 

@@ -205,8 +205,8 @@ impl<'s, S: Phase> Tx<'s, S> {
         }
     }
 
-    // It is over.
-    pub(crate) fn spend(self) {
+    /// Spends the transaction where nobody is told: its client has come to its end.
+    pub fn spend(self) {
         let Tx {
             splits: _,
             txn: _,

@@ -2,7 +2,7 @@
 ghost use Rattle.std.specs.Prelude.{◌≡◌, ◌⊎◌, ◌^◌, [], ◌∷◌, ◌++◌, length, true, false, not, ◌&&◌, nat_le, Option, MatchResult, IfOk, IfErr, OnOk};
 ghost use Rattle.units.specs.Ids.{same_id};
 ghost use Rattle.units.specs.Keys.{Bytes, has_key, writes_key};
-ghost use Rattle.session.specs.Sessions.{Stage, IsOpen, IsClosing, begun, reads, buffers, hears, asked_keys, was_answered, is_doomed, epochs_agree, Goes, Denies};
+ghost use Rattle.session.specs.Sessions.{Stage, IsOpen, IsClosing, begun, reads, buffers, hears, asked_keys, was_answered, was_taken, is_doomed, epochs_agree, Goes, Denies};
 ghost use Rattle.session.specs.Shown.{Session, IsRefused, is_closing, heard_as};
 
 use crate::lists::{drop_write, epochs_agree, has_key, insert_write, is_written, was_taken};
@@ -169,6 +169,13 @@ impl<'s> Tx<'s, Open> {
         drop_write(&mut self.writes, &key);
         insert_write(&mut self.writes, Write { key, value });
         Ok(())
+    }
+
+    /// No key that is awaited was taken before.
+    pub fn awaits_only_new(&self)
+        ensures { (key : Bytes) → has_key self.now.client.awaited key ≡ true → was_taken self.now.client key ≡ false }
+    {
+        let _awaited = &self.awaited;
     }
 
     // How many keys were asked for.

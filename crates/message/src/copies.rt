@@ -1,0 +1,86 @@
+//! Messages are delivered again and again, so each delivery is of a copy.
+ghost use Rattle.std.specs.Prelude.{◌≡◌, IfOk, IfErr};
+
+use crate::{Answer, Commit, Message, Prepare, ReadAnswer};
+use std::alloc::Global;
+use units::Fault;
+
+impl Prepare {
+    /// An equal one with memory of its own.
+    pub fn copy(&self, alloc: Global) -> Result<Prepare, Fault>
+        ensures same { IfOk result (λ copied. copied ≡ self.now) }
+        ensures memory { IfErr result (λ fault. fault ≡ Fault.Memory) }
+    {
+        Ok(Prepare {
+            txn: self.txn,
+            coordinator: self.coordinator,
+            reads: self.reads.copy(alloc)?,
+            writes: self.writes.copy(alloc)?,
+        })
+    }
+}
+
+impl Commit {
+    /// An equal one with memory of its own.
+    pub fn copy(&self, alloc: Global) -> Result<Commit, Fault>
+        ensures same { IfOk result (λ copied. copied ≡ self.now) }
+        ensures memory { IfErr result (λ fault. fault ≡ Fault.Memory) }
+    {
+        Ok(Commit {
+            txn: self.txn,
+            parts: self.parts,
+            reads: self.reads.copy(alloc)?,
+            writes: self.writes.copy(alloc)?,
+        })
+    }
+}
+
+impl Answer {
+    /// An equal one with memory of its own.
+    pub fn copy(&self, alloc: Global) -> Result<Answer, Fault>
+        ensures same { IfOk result (λ copied. copied ≡ self.now) }
+        ensures memory { IfErr result (λ fault. fault ≡ Fault.Memory) }
+    {
+        match self {
+            Answer::Holds(None) => Ok(Answer::Holds(None)),
+            Answer::Holds(Some(value)) => Ok(Answer::Holds(Some(value.copy(alloc)?))),
+            Answer::Refused => Ok(Answer::Refused),
+        }
+    }
+}
+
+impl ReadAnswer {
+    /// An equal one with memory of its own.
+    pub fn copy(&self, alloc: Global) -> Result<ReadAnswer, Fault>
+        ensures same { IfOk result (λ copied. copied ≡ self.now) }
+        ensures memory { IfErr result (λ fault. fault ≡ Fault.Memory) }
+    {
+        Ok(ReadAnswer {
+            from: self.from,
+            txn: self.txn,
+            key: self.key,
+            epoch: self.epoch,
+            answer: self.answer.copy(alloc)?,
+        })
+    }
+}
+
+impl Message {
+    /// An equal message with memory of its own.
+    pub fn copy(&self, alloc: Global) -> Result<Message, Fault>
+        ensures same { IfOk result (λ copied. copied ≡ self.now) }
+        ensures memory { IfErr result (λ fault. fault ≡ Fault.Memory) }
+    {
+        match self {
+            Message::Read(read) => Ok(Message::Read(*read)),
+            Message::Prepare(prepare) => Ok(Message::Prepare(prepare.copy(alloc)?)),
+            Message::Commit(commit) => Ok(Message::Commit(commit.copy(alloc)?)),
+            Message::GiveUp(given) => Ok(Message::GiveUp(*given)),
+            Message::Vote(vote) => Ok(Message::Vote(*vote)),
+            Message::Outcome(told) => Ok(Message::Outcome(*told)),
+            Message::Ask(ask) => Ok(Message::Ask(*ask)),
+            Message::ReadAnswer(answer) => Ok(Message::ReadAnswer(answer.copy(alloc)?)),
+            Message::Done(done) => Ok(Message::Done(*done)),
+        }
+    }
+}
