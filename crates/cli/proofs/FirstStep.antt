@@ -1,122 +1,109 @@
 -- The first commit of a new shard, and its settling.
-use Rattle.std.proofs.Common.{List, ◌≡◌, ◌∙◌, ◌+◌, ◌<◌, ◌≤◌, ◌^◌, ℕ, true, refl, sym, ap, [], ◌∷◌, Some, None, arith}
-use Rattle.std.specs.Prelude.{max, slice_get}
-use Rattle.units.specs.Keys.{Bytes, shard_of}
-use Rattle.units.specs.Lists.{gather}
+use Rattle.std.proofs.Common.{List, ◌≡◌, ◌∙◌, ◌+◌, ◌<◌, ◌≤◌, ◌^◌, ℕ, Bool, true, false, cond, refl, ap, [], ◌∷◌, ◌++◌, Some, arith}
+use Rattle.std.specs.Prelude.{max, nat_le, nat_lt}
+use Rattle.std.proofs.lemmas.Bool.Decides.{nat_tests}
+use Rattle.units.specs.Keys.{Bytes}
 use Rattle.units.specs.declared.fault.Fault.TheVariants.{Early, TimeSpent}
 use Rattle.truetime.specs.Interval.{Interval}
-use Rattle.record.specs.Facts.{Facts, learn}
-use Rattle.record.specs.declared.record.Committed.{Committed}
 use Rattle.record.specs.declared.record.Record.{Record}
 use Rattle.message.specs.declared.message.Envelope.{Envelope}
-use Rattle.protocol.specs.Rows.{Memory, IsUnknown, standing}
-use Rattle.protocol.specs.Draft.{Stepped, Does, Refuses, commit_stamp, done_to}
-use Rattle.protocol.specs.Step.{is_for}
-use Rattle.shard.specs.Decided.{decided_in, decided_row}
-use Rattle.shard.specs.Held.{decided_at, facts_by, IsStanding}
-use Rattle.shard.specs.Input.{commit_message}
+use Rattle.message.specs.declared.message.Input.{Input}
+use Rattle.protocol.specs.Computing.{computing}
+use Rattle.protocol.specs.Rows.{Memory, rebuilt}
+use Rattle.protocol.specs.Draft.{Stepped, Does, Refuses, commit_stamp, decision, done_to, in_time, time_limit}
+use Rattle.protocol.specs.Step.{step}
+use Rattle.rows.specs.RowTable.{nth_decided}
 use Rattle.shard.specs.Logs.{learned}
-use Rattle.shard.specs.Remembered.{remembered}
-use Rattle.shard.specs.Stepped.{step_from}
-use Rattle.shard.specs.declared.input.Input.{Input}
-use Rattle.shard.proofs.Commits.{late-refused, fresh-decided}
-use Rattle.shard.proofs.Learns.{learn-decision}
-use Rattle.shard.proofs.Settles.{settle-early, settle-passed}
-use Rattle.shard.proofs.Standings.{remembered-facts, found-unknown}
 use Rattle.cli.specs.Replies.{only_txn}
-use Rattle.cli.specs.Shards.{only_setup, only_write, new_log, decided_log, settled_log}
+use Rattle.cli.specs.Shards.{only_setup, only_write, only_commit, new_log, decided_log}
 
--- what the write asks, and what it is decided as
-abbrev pub asked : Bytes → Bytes → Input
-asked key value = Input.Commit only_txn 0 (only_write key value)
+-- what an opening of a log finds
+abbrev pub found : List Record → Memory
+found records = rebuilt (learned records)
 
-abbrev decision : Bytes → Bytes → ℕ → Committed
-decision key value s = decided_at only_txn s 0 (only_write key value)
+-- the decision is the first that stands
+pub decided-is : (key value : Bytes) (s : ℕ) → nth_decided (found (decided_log key value s)).rows 0 ≡ Some (only_txn, s)
+unfolding computing
+decided-is key value s = refl
 
--- no transaction has a record
-abbrev fresh_facts : Facts
-fresh_facts = facts_by 1 0 None [] []
+-- the step of the shard with a log, where an opening would find what is in memory
+abbrev pub step_at : List Record → Interval → Input → Stepped
+step_at records now i = step only_setup (learned records) (found records) now i
 
-new-facts : learned new_log ≡ fresh_facts
-unfolding learn
-new-facts = refl
+-- it logs a record, and an opening would find what is then in memory
+abbrev pub logs : List Record → Record → List Envelope → Stepped
+logs records r outbox = Does (Some r) (found (records ++ r ∷ [])) outbox
 
-not-less : (n : ℕ) → max 0 n ≡ n
-not-less n = omega arith
+-- ---- the limit of time
 
-stamp-is : (n : ℕ) → commit_stamp 0 n [] ≡ n + 1
-stamp-is n = omega arith
+in-time : (n : ℕ) (s : Stepped) → n < 2 ^ 62 → in_time n s ≡ s
+in-time n s early = ap (λ (b : Bool). cond b s (Refuses TimeSpent)) (is-within n early)
+  where
+    is-within : (n : ℕ) → n < 2 ^ 62 → nat_le n time_limit ≡ true
+    is-within n early = grind (arith, nat_tests)
 
--- the decision stands
-decided-facts : (key value : Bytes) (s : ℕ) → learned (decided_log key value s) ≡ facts_by 1 s (Some (decision key value s)) [] []
-decided-facts key value s =
-    ap (λ (f : Facts). learn f (Record.Commit (decision key value s))) new-facts
-    ∙ learn-decision 1 0 [] [] (decision key value s)
-    ∙ ap (λ (n : ℕ). facts_by 1 n (Some (decision key value s)) [] []) (not-less s)
-
--- it is the first that stands
-pub decided-is : (key value : Bytes) (s : ℕ) → decided_in (learned (decided_log key value s)) 0 ≡ Some (only_txn, s)
-decided-is key value s =
-    ap (λ (f : Facts). decided_in f 0) (decided-facts key value s)
-    ∙ ap (λ (m : Memory). slice_get (gather decided_row m.rows) 0) (remembered-facts 1 s s [] [] (Some (decision key value s)))
-
--- the step, where the greatest timestamp is that of the facts
-abbrev pub step_at : Facts → Interval → Input → Stepped
-step_at facts now i = step_from only_setup facts facts.floor now i
-
--- it logs a record, and remembers what the facts then give
-abbrev pub logs : Record → Facts → List Envelope → Stepped
-logs r facts outbox = Does (Some r) (remembered facts.floor facts) outbox
+too-late : (n : ℕ) (s : Stepped) → 2 ^ 62 ≤ n → in_time n s ≡ Refuses TimeSpent
+too-late n s late = ap (λ (b : Bool). cond b s (Refuses TimeSpent)) (is-over n late)
+  where
+    is-over : (n : ℕ) → 2 ^ 62 ≤ n → nat_le n time_limit ≡ false
+    is-over n late = grind (arith, nat_tests)
 
 module _ (now : Interval) (key value : Bytes) where
-  -- every key is the shard's
-  ours : is_for only_setup (commit_message only_txn 0 (only_write key value)) ≡ true
-  unfolding is_for shard_of
-  ours = refl
+  -- ---- the commit
 
-  unknown : standing fresh_facts (remembered 0 fresh_facts) only_txn ≡ IsUnknown
-  unknown = found-unknown 1 0 0 [] [] None only_txn refl refl
+  -- what is logged where it is decided at a timestamp
+  abbrev decides : ℕ → Stepped
+  decides s = logs new_log (decision only_txn s (0 ∷ []) [] (only_write key value)) []
 
-  from-fresh : step_at (learned new_log) now (asked key value) ≡ step_at fresh_facts now (asked key value)
-  from-fresh = ap (λ (f : Facts). step_at f now (asked key value)) new-facts
+  -- nobody is in the way, and no other shard takes part
+  commit-is : step_at new_log now (only_commit key value)
+      ≡ in_time (now.latest + 1) (in_time (commit_stamp 0 now.latest []) (decides (commit_stamp 0 now.latest [])))
+  unfolding computing
+  commit-is = refl
+
+  stamp-is : commit_stamp 0 now.latest [] ≡ now.latest + 1
+  stamp-is = omega arith
 
   -- the reading leaves no time
-  pub commit-late : 2 ^ 62 ≤ now.latest + 1 → step_at (learned new_log) now (asked key value) ≡ Refuses TimeSpent
-  commit-late late = from-fresh ∙ late-refused only_setup 1 0 0 [] [] now only_txn (only_write key value) ours None unknown late
+  pub commit-late : 2 ^ 62 ≤ now.latest + 1 → step_at new_log now (only_commit key value) ≡ Refuses TimeSpent
+  commit-late late = commit-is ∙ too-late (now.latest + 1) _ late
 
   -- it is decided one above the latest of the reading
-  pub commit-decided : now.latest + 1 < 2 ^ 62 → step_at (learned new_log) now (asked key value)
-      ≡ logs (Record.Commit (decision key value (now.latest + 1))) (learned (decided_log key value (now.latest + 1))) []
+  pub commit-decided : now.latest + 1 < 2 ^ 62 → step_at new_log now (only_commit key value) ≡ decides (now.latest + 1)
   commit-decided early =
-      from-fresh
-      ∙ fresh-decided only_setup 1 0 0 [] [] now only_txn (only_write key value) ours unknown early (omega arith) (decision key value (now.latest + 1))
-      (ap (λ (n : ℕ). decision key value n) (sym (stamp-is now.latest)))
-      ∙ ap (λ (n : ℕ). Does (Some (Record.Commit (decision key value (now.latest + 1)))) (remembered n (learn fresh_facts (Record.Commit (decision key value (now.latest + 1))))) [])
-      (not-less (now.latest + 1) ∙ sym (ap (λ (f : Facts). f.floor) (decided-facts key value (now.latest + 1))))
-      ∙ ap (λ (f : Facts). Does (Some (Record.Commit (decision key value (now.latest + 1)))) (remembered (learned (decided_log key value (now.latest + 1))).floor (learn f (Record.Commit (decision key value (now.latest + 1))))) []) (sym new-facts)
+      commit-is ∙ in-time (now.latest + 1) _ early
+      ∙ ap (λ (n : ℕ). in_time n (decides n)) stamp-is
+      ∙ in-time (now.latest + 1) _ early
+
+  -- ---- the settling
 
   module _ (s : ℕ) where
-    from-decided : step_at (learned (decided_log key value s)) now (Input.Settle only_txn)
-        ≡ step_at (facts_by 1 s (Some (decision key value s)) [] []) now (Input.Settle only_txn)
-    from-decided = ap (λ (f : Facts). step_at f now (Input.Settle only_txn)) (decided-facts key value s)
+    -- what is done once the timestamp has passed: the row goes, and the session is told
+    abbrev told : Stepped
+    told = Does (Some (Record.Outcome only_txn (Some s))) (record { last = max 0 s; rows = []; ended = [] }) (done_to only_txn (Some s) ∷ [])
 
-    stands : IsStanding 0 s [] (decision key value s)
-    stands = record { new = record { parts = refl; reads = refl; new = refl }; past = omega arith }
+    settle-is : step_at (decided_log key value s) now (Input.Settle only_txn) ≡ cond (nat_lt s now.earliest) told (Refuses Early)
+    unfolding computing
+    settle-is = refl
+
+    same-last : max 0 s ≡ max (max 0 s) s
+    same-last = omega arith
+
+    told-is : told ≡ logs (decided_log key value s) (Record.Outcome only_txn (Some s)) (done_to only_txn (Some s) ∷ [])
+    unfolding computing
+    told-is = ap (λ (n : ℕ). Does (Some (Record.Outcome only_txn (Some s))) (record { last = n; rows = []; ended = [] }) (done_to only_txn (Some s) ∷ [])) same-last
 
     -- the timestamp has not surely passed
-    pub settled-early : now.earliest ≤ s → step_at (learned (decided_log key value s)) now (Input.Settle only_txn) ≡ Refuses Early
-    settled-early early = from-decided ∙ settle-early only_setup 1 s s [] [] now only_txn (decision key value s) refl early
-
-    -- the outcome is at the timestamp of the decision
-    same-floor : (learn (facts_by 1 s (Some (decision key value s)) [] []) (Record.Outcome only_txn (Some s))).floor ≡ s
-    unfolding learn
-    same-floor = omega arith
+    pub settled-early : now.earliest ≤ s → step_at (decided_log key value s) now (Input.Settle only_txn) ≡ Refuses Early
+    settled-early early = settle-is ∙ ap (λ (b : Bool). cond b told (Refuses Early)) (is-not-passed s now.earliest early)
+      where
+        is-not-passed : (m n : ℕ) → n ≤ m → nat_lt m n ≡ false
+        is-not-passed m n h = grind (arith, nat_tests)
 
     -- it has
-    pub settled-passed : s < now.earliest → step_at (learned (decided_log key value s)) now (Input.Settle only_txn)
-        ≡ logs (Record.Outcome only_txn (Some s)) (learned (settled_log key value s)) (done_to only_txn (Some s) ∷ [])
-    settled-passed passed =
-        from-decided
-        ∙ settle-passed only_setup 1 s s [] [] now only_txn (decision key value s) refl passed stands
-        ∙ ap (λ (n : ℕ). Does (Some (Record.Outcome only_txn (Some s))) (remembered n (learn (facts_by 1 s (Some (decision key value s)) [] []) (Record.Outcome only_txn (Some s)))) (done_to only_txn (Some s) ∷ [])) (sym same-floor)
-        ∙ ap (λ (f : Facts). logs (Record.Outcome only_txn (Some s)) (learn f (Record.Outcome only_txn (Some s))) (done_to only_txn (Some s) ∷ [])) (sym (decided-facts key value s))
+    pub settled-passed : s < now.earliest → step_at (decided_log key value s) now (Input.Settle only_txn)
+        ≡ logs (decided_log key value s) (Record.Outcome only_txn (Some s)) (done_to only_txn (Some s) ∷ [])
+    settled-passed passed = settle-is ∙ ap (λ (b : Bool). cond b told (Refuses Early)) (is-passed s now.earliest passed) ∙ told-is
+      where
+        is-passed : (m n : ℕ) → m < n → nat_lt m n ≡ true
+        is-passed m n h = grind (arith, nat_tests)

@@ -12,41 +12,36 @@ use Rattle.truetime.specs.Reading.{after}
 use Rattle.record.specs.Facts.{Facts, learn}
 use Rattle.record.specs.declared.record.Record.{Record}
 use Rattle.message.specs.declared.message.Envelope.{Envelope}
-use Rattle.protocol.specs.Rows.{Memory as RowMemory}
+use Rattle.message.specs.declared.message.Input.{Input}
 use Rattle.protocol.specs.Draft.{Stepped, Refuses}
+use Rattle.protocol.specs.Step.{step}
 use Rattle.gatelog.specs.Frames.{IsFull}
 use Rattle.disk.specs.File.{File, surface}
 use Rattle.simdisk.specs.State.{disk_file, disk_plan, disk_clock, disk_failures, LeftSince}
 use Rattle.simdisk.specs.declared.simdisk.SimDisk.{SimDisk}
-use Rattle.shard.specs.Logs.{learned, nothing, and_logged, records_in, KeepsRecords}
-use Rattle.shard.specs.On.{CoreView, HasStepped, IsCause, IsLogFull, IsLogCause}
-use Rattle.shard.specs.Stepped.{step_from}
-use Rattle.shard.specs.declared.input.Input.{Input}
+use Rattle.shard.specs.Logs.{nothing, and_logged, records_in, KeepsRecords}
+use Rattle.shard.specs.On.{CoreView, HasStepped, IsCause, IsLogFull, IsLogCause, step_of}
 use Rattle.cli.specs.Replies.{commit_stamp, only_txn}
-use Rattle.cli.specs.Shards.{HasLog, new_log, decided_log, settled_log}
-use Rattle.cli.proofs.FirstStep.{asked, step_at, logs, commit-late, commit-decided, settled-early, settled-passed}
+use Rattle.cli.specs.Shards.{HasLog, only_commit, new_log, decided_log, settled_log}
+use Rattle.cli.proofs.FirstStep.{step_at, logs, commit-late, commit-decided, settled-early, settled-passed}
 
 -- an input was taken, or refused, on a disk in memory
 abbrev pub Steps : CoreView SimDisk → CoreView SimDisk → Stepped → Result (List Envelope) Fault → Type 0
 Steps old new step result = HasStepped (Unit {0}) (Unit {0}) disk_file disk_clock LeftSince disk_failures disk_plan old new step result
 
--- the step of the core
-abbrev pub step_of : CoreView SimDisk → Interval → Input → Stepped
-step_of core now i = step_from core.setup core.facts core.last now i
-
 module _ (records : List Record) (old new : CoreView SimDisk) (log : HasLog records old) where
-  step-is : (now : Interval) (i : Input) → step_of old now i ≡ step_at (learned records) now i
-  step-is now i = λ j. step_from (log.setup j) (log.facts j) (log.last j) now i
+  step-is : (now : Interval) (i : Input) → step_of old now i ≡ step_at records now i
+  step-is now i = λ j. step (log.setup j) (log.facts j) (log.memory j) now i
 
-  module _ (r : Record) (outbox : List Envelope) (step : Stepped) (is : step ≡ logs r (learned (records ++ r ∷ [])) outbox) where
+  module _ (r : Record) (outbox : List Envelope) (step : Stepped) (is : step ≡ logs records r outbox) where
     -- the log has one record more
     logged : (out : List Envelope) → Steps old new step (Ok out) → HasLog (records ++ r ∷ []) new
     logged out taken =
-        let has : Steps old new (logs r (learned (records ++ r ∷ [])) outbox) (Ok out) = subst (λ (s : Stepped). Steps old new s (Ok out)) is taken in
+        let has : Steps old new (logs records r outbox) (Ok out) = subst (λ (s : Stepped). Steps old new s (Ok out)) is taken in
         record {
           setup = has.written.setup ∙ log.setup;
           facts = has.done.2.0 ∙ ap (λ (f : Facts). learn f r) log.facts ∙ sym (fold-append learn nothing records (r ∷ []));
-          last = sym (ap (λ (m : RowMemory). m.last) has.done.2.1);
+          memory = has.done.2.1;
           gate = omega (arith, has.written.gate.1, log.gate, length-append records (r ∷ []));
           running = has.done.1;
           plan = (has.written.planned tt log.plan).0;
@@ -56,12 +51,12 @@ module _ (records : List Record) (old new : CoreView SimDisk) (log : HasLog reco
 
     -- else memory was wanting: the device does not fail, and the log is far from its limit
     only-memory : (fault : Fault) → length records ≤ 2 → Steps old new step (Err fault) → fault ≡ Memory
-    only-memory fault few taken = go (subst (λ (b : Bool). IsCause b (logs r (learned (records ++ r ∷ [])) outbox) fault (IsLogFull old.gate (Some r)) Failed) log.running has.cause)
+    only-memory fault few taken = go (subst (λ (b : Bool). IsCause b (logs records r outbox) fault (IsLogFull old.gate (Some r)) Failed) log.running has.cause)
       where
         Failed : Type 0
         Failed = (disk_failures old.disk < disk_failures new.disk) × IsTrue new.stopped
 
-        has : Steps old new (logs r (learned (records ++ r ∷ [])) outbox) (Err fault)
+        has : Steps old new (logs records r outbox) (Err fault)
         has = subst (λ (s : Stepped). Steps old new s (Err fault)) is taken
 
         go : IsLogCause fault (IsFull old.gate r) Failed → fault ≡ Memory
@@ -84,7 +79,7 @@ module _ (records : List Record) (old new : CoreView SimDisk) (log : HasLog reco
         record {
           setup = has.written.setup ∙ log.setup;
           facts = has.written.kept.0 ∙ log.facts;
-          last = has.written.kept.1 ∙ log.last;
+          memory = has.written.kept.1 ∙ log.memory;
           gate = omega (arith, stays.1, log.gate);
           running = stays.0 ∙ log.running;
           plan = (has.written.planned tt log.plan).0;
@@ -120,28 +115,28 @@ Settles now key value s new result = MatchResult result
     (λ fault. (fault ≡ Memory) ⊎ ((fault ≡ Early) × (after now s ≡ false) × HasLog (decided_log key value s) new))
 
 module _ (now : Interval) (key value : Bytes) (old new : CoreView SimDisk) where
-  pub commits : HasLog new_log old → (result : Result (List Envelope) Fault) → Steps old new (step_of old now (asked key value)) result → Commits now key value new result
+  pub commits : HasLog new_log old → (result : Result (List Envelope) Fault) → Steps old new (step_of old now (only_commit key value)) result → Commits now key value new result
   commits log result taken = by (nat_lt (now.latest + 1) (2 ^ 62)) refl result taken
     where
       by : (b : Bool) → nat_lt (now.latest + 1) (2 ^ 62) ≡ b → (result : Result (List Envelope) Fault)
-          → Steps old new (step_of old now (asked key value)) result → Commits now key value new result
+          → Steps old new (step_of old now (only_commit key value)) result → Commits now key value new result
       by true is (Ok out) has = (
         rw is refl,
-        logged new_log old new log _ _ _ (step-is new_log old new log now (asked key value) ∙ commit-decided now key value (is-less _ _ is)) out has,
+        logged new_log old new log _ _ _ (step-is new_log old new log now (only_commit key value) ∙ commit-decided now key value (is-less _ _ is)) out has,
       )
       by true is (Err fault) has =
-          inl (only-memory new_log old new log _ _ _ (step-is new_log old new log now (asked key value) ∙ commit-decided now key value (is-less _ _ is)) fault (omega arith) has)
+          inl (only-memory new_log old new log _ _ _ (step-is new_log old new log now (only_commit key value) ∙ commit-decided now key value (is-less _ _ is)) fault (omega arith) has)
       by false is (Ok out) has =
-          absurd (no-answer new_log old new log TimeSpent _ (step-is new_log old new log now (asked key value) ∙ commit-late now key value (is-not-less _ _ is)) out has)
+          absurd (no-answer new_log old new log TimeSpent _ (step-is new_log old new log now (only_commit key value) ∙ commit-late now key value (is-not-less _ _ is)) out has)
       by false is (Err fault) has =
-          let own : fault ≡ TimeSpent = only-refusal new_log old new log TimeSpent _ (step-is new_log old new log now (asked key value) ∙ commit-late now key value (is-not-less _ _ is)) fault has in
+          let own : fault ≡ TimeSpent = only-refusal new_log old new log TimeSpent _ (step-is new_log old new log now (only_commit key value) ∙ commit-late now key value (is-not-less _ _ is)) fault has in
           inr (rw (is, own) refl)
 
   pub settles : (s : ℕ) → HasLog (decided_log key value s) old → (result : Result (List Envelope) Fault)
       → Steps old new (step_of old now (Input.Settle only_txn)) result → Settles now key value s new result
   settles s log result taken = by (after now s) refl result taken
     where
-      step : step_of old now (Input.Settle only_txn) ≡ step_at (learned (decided_log key value s)) now (Input.Settle only_txn)
+      step : step_of old now (Input.Settle only_txn) ≡ step_at (decided_log key value s) now (Input.Settle only_txn)
       step = step-is (decided_log key value s) old new log now (Input.Settle only_txn)
 
       by : (b : Bool) → after now s ≡ b → (result : Result (List Envelope) Fault)

@@ -7,9 +7,12 @@ use Rattle.units.specs.declared.writes.Write.{Write}
 use Rattle.disk.specs.File.{surface}
 use Rattle.disk.specs.declared.plan.Plan.TheVariants.{Never}
 use Rattle.record.specs.declared.record.Record.{Record}
+use Rattle.message.specs.declared.message.Input.{Input}
+use Rattle.message.specs.declared.message.Message.{Message}
+use Rattle.protocol.specs.Draft.{decision}
+use Rattle.protocol.specs.Rows.{rebuilt}
 use Rattle.simdisk.specs.State.{disk_file, disk_plan}
 use Rattle.simdisk.specs.declared.simdisk.SimDisk.{SimDisk}
-use Rattle.shard.specs.Held.{decided_at}
 use Rattle.shard.specs.Logs.{learned, records_in, KeepsRecords}
 use Rattle.shard.specs.On.{CoreView}
 use Rattle.cli.specs.Replies.{only_txn}
@@ -22,13 +25,18 @@ only_setup = record { shard = 0; splits = []; stride = 0; book = Off }
 abbrev pub only_write : Bytes → Bytes → List Write
 only_write key value = record { key = key; value = Some value } ∷ []
 
+-- what asks for it: a commit that reads nothing
+abbrev pub only_commit : Bytes → Bytes → Input
+only_commit key value =
+    Input.Deliver (Message.Commit (record { txn = only_txn; parts = 0 ∷ []; reads = record { epoch = 0; keys = [] }; writes = only_write key value }))
+
 -- the log when the shard is new
 abbrev pub new_log : List Record
 new_log = Record.Opened 1 ∷ []
 
 -- the log when the write is decided at a timestamp
 abbrev pub decided_log : Bytes → Bytes → ℕ → List Record
-decided_log key value s = new_log ++ Record.Commit (decided_at only_txn s 0 (only_write key value)) ∷ []
+decided_log key value s = new_log ++ decision only_txn s (0 ∷ []) [] (only_write key value) ∷ []
 
 -- the log when it is settled
 abbrev pub settled_log : Bytes → Bytes → ℕ → List Record
@@ -40,11 +48,11 @@ log_after true = settled_log
 log_after false = decided_log
 
 -- the shard runs on a disk that does not fail; its log has these records, also after a crash, and ends far from its limit;
--- the greatest timestamp that it served or assigned is theirs
+-- what it keeps in memory is what an opening of that log would find
 pub record HasLog (records : List Record) (core : CoreView SimDisk) : Type 0 where
   pub setup : core.setup ≡ only_setup
   pub facts : core.facts ≡ learned records
-  pub last : core.last ≡ (learned records).floor
+  pub memory : core.memory ≡ rebuilt (learned records)
   pub gate : core.gate ≤ 2 ^ 21 * length records
   pub running : IsFalse core.stopped
   pub plan : disk_plan core.disk ≡ Never

@@ -3,14 +3,17 @@ ghost use Rattle.std.specs.Prelude.{◌≡◌, ◌⊎◌, ℕ, List, Ok, Err, If
 ghost use Rattle.truetime.specs.Reading.{after};
 ghost use Rattle.units.specs.declared.fault.Fault.TheVariants.{Memory};
 ghost use Rattle.cli.specs.Replies.{commit_stamp, only_txn};
-ghost use Rattle.cli.specs.Shards.{HasLog, only_setup, only_write, new_log, decided_log, log_after};
+ghost use Rattle.cli.specs.Shards.{HasLog, only_setup, only_write, only_commit, new_log, decided_log, log_after};
 ghost use Rattle.shard.specs.Core.{seen};
 
-use shard::{Core, Input};
+use message::{Commit, Input, Message, Reads};
+use shard::Core;
 use simdisk::SimDisk;
 use std::alloc::Global;
 use truetime::Reading;
-use units::{Book, Fault, Key, Setup, ShardNo, Splits, Stamp, Stride, TxnId, Value, Write, Writes};
+use units::{
+    Book, Fault, Key, Parts, Setup, ShardNo, Splits, Stamp, Stride, TxnId, Value, Write, Writes,
+};
 
 /// The shard with a new log.
 pub fn open_new(alloc: Global) -> Result<Core<SimDisk>, Fault>
@@ -36,11 +39,7 @@ pub fn commit(
     ensures { MatchResult result (λ stamp. (commit_stamp at.now ≡ Ok stamp) × HasLog (decided_log key value stamp) (seen core.new))
         (λ fault. (fault ≡ Memory) ⊎ (commit_stamp at.now ≡ Err fault)) }
 {
-    let asked = Input::Commit {
-        txn: only_txn(),
-        part: first_shard(),
-        writes: only_write(alloc, key, value)?,
-    };
+    let asked = only_commit(alloc, key, value)?;
     match core.on(alloc, at, &asked) {
         Ok(_) => {
             let (_, stamp) = core.decided(0).unwrap();
@@ -89,6 +88,19 @@ fn only_setup(alloc: Global) -> Result<Setup, Fault>
         stride: Stride::new(0).unwrap(),
         book: Book::Off,
     })
+}
+
+// Nothing is read, and no other shard takes part.
+fn only_commit(alloc: Global, key: Key, value: Value) -> Result<Input, Fault>
+    ensures commit { IfOk result (λ input. input ≡ only_commit key value) }
+    ensures memory { IfErr result (λ fault. fault ≡ Memory) }
+{
+    Ok(Input::Deliver(Message::Commit(Commit {
+        txn: only_txn(),
+        parts: Parts::only(first_shard()),
+        reads: Reads::none(alloc),
+        writes: only_write(alloc, key, value)?,
+    })))
 }
 
 fn only_write(alloc: Global, key: Key, value: Value) -> Result<Writes, Fault>

@@ -1,11 +1,12 @@
 -- One vote more: who has voted then, and the timestamp of the decision.
-use Rattle.std.proofs.Common.{◌≡◌, ◌∙◌, ℕ, zero, suc, ◌+◌, ◌-◌, ◌<◌, ◌≤◌, ◌^◌, ◌/◌, ◌%◌, max, Bool, true, false, not, cond, ◌&&◌, ◌||◌, nat_eq, List, [], ◌∷◌, ◌++◌, map, Some, None, Ok, Err, refl, sym, ap, arith}
+use Rattle.std.proofs.Common.{◌≡◌, ◌∙◌, ℕ, zero, suc, ◌+◌, ◌-◌, ◌<◌, ◌≤◌, ◌^◌, ◌/◌, ◌%◌, max, Bool, true, false, not, cond, ◌&&◌, ◌||◌, nat_eq, List, [], ◌∷◌, ◌++◌, map, Option, Some, None, Ok, Err, refl, sym, ap, arith}
 use Rattle.std.proofs.lemmas.Bool.Decides.{nat_tests}
 use Rattle.units.specs.Lists.{any, greatest}
 use Rattle.units.specs.Ids.{Id}
 use Rattle.units.specs.Keys.{Bytes}
 use Rattle.units.specs.Parts.{shards_from}
 use Rattle.units.specs.declared.fault.Fault.TheVariants.{TimeSpent}
+use Rattle.units.specs.declared.lock.Lock.{Lock}
 use Rattle.units.specs.declared.writes.Write.{Write}
 use Rattle.protocol.specs.Draft.{other_parts, all_voted, commit_stamp}
 use Rattle.protocol.specs.Rows.{Row, Voted, Collecting, find_row}
@@ -140,17 +141,15 @@ voted_last votes p q n e = sym (voted_more votes p q n ∙ ap (λ b. b || nat_eq
 
 -- ---- plans
 
--- the phase of a row that collects, with one vote more
-pub counted_row : (n p : ℕ) (rows : List Row) (t : Id) (r : Row) → find_row rows t ≡ Some r → counted n p (find_row rows t) ≡ counted n p (Some r)
-counted_row n p rows t r e = ap (counted n p) e
-
--- a yes that is not the last
-pub count_kept : (b : Before) (n : ℕ) (t : Id) (p latest : ℕ) (ps : List ℕ) (rs : List Bytes) (ws : List Write) (votes : List Voted)
+-- a yes that is not the last: the row keeps it
+pub count_kept : (b : Before) (n : ℕ) (t : Id) (p latest : ℕ) (ps : List ℕ) (rs : List Bytes) (ws : List Write) (votes : List Voted) (held : List Lock)
+    → find_row b.memory.rows t ≡ Some (record { txn = t; held = held; phase = Collecting latest ps rs ws votes })
     → all_voted (other_parts b.shard ps) (with_vote n p votes) ≡ false
-    → plan_count b n t (Some p) latest ps rs ws votes ≡ Ok (puts b [] t [] (Collecting latest ps rs ws (with_vote n p votes)) None b.memory.last [])
+    → plan_count b n t (Some p) latest ps rs ws votes ≡ Ok (puts b [] t [] (counted n p (find_row b.memory.rows t)) None b.memory.last [])
 unfolding plan_count
-count_kept b n t p latest ps rs ws votes e =
+count_kept b n t p latest ps rs ws votes held row e =
     ap (λ a. cond a (plan_decide b [] t latest ps rs ws [] (with_vote n p votes)) (Ok (puts b [] t [] (Collecting latest ps rs ws (with_vote n p votes)) None b.memory.last []))) e
+    ∙ ap (λ (o : Option Row). Ok (puts b [] t [] (counted n p o) None b.memory.last [])) (sym row)
 
 -- the last yes
 count_last : (b : Before) (n : ℕ) (t : Id) (p latest : ℕ) (ps : List ℕ) (rs : List Bytes) (ws : List Write) (votes : List Voted)

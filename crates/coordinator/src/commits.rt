@@ -3,15 +3,16 @@ ghost use Rattle.std.specs.Prelude.{◌≡◌, ℕ, true, false, not, nat_eq, �
 ghost use Rattle.std.specs.Option.{option_copied};
 ghost use Rattle.units.specs.Lists.{any};
 ghost use Rattle.units.specs.Locks.{exclusive};
-ghost use Rattle.protocol.specs.Draft.{commit_stamp, other_parts};
+ghost use Rattle.protocol.specs.Draft.{commit_stamp, decision, other_parts};
 ghost use Rattle.protocol.specs.Rows.{HasRow, find_row};
 ghost use Rattle.protocol.specs.Plan.{plan_commit, plan_commit_fresh, plan_commit_now, plan_commit_granted, timed, opens, in_way, stands, held_in};
 ghost use Rattle.rows.specs.CodeRows.{phase_of, phase_of_wait};
+ghost use Rattle.memory.specs.Carry.{Asks, IsFit, MayTurn, may_ask, may_drop, may_end};
 ghost use Rattle.memory.specs.Kept.{start_of, standing_of, IsPlanned};
 ghost use Rattle.memory.specs.Plans.{plan_of};
 ghost use Rattle.coordinator.specs.Granted.{decides, collects, waits};
 
-use memory::{Change, Past, Plan, State, done_to, exclusive, reads_stand};
+use memory::{Change, Past, Plan, Request, State, done_to, exclusive, reads_stand};
 use message::Commit;
 use record::{Committed, Record};
 use rows::{CommitRequest, Gathering, Row, Wait};
@@ -27,7 +28,8 @@ pub fn on_commit(
     now: &Reading,
     commit: &Commit,
 ) -> Result<Plan, Fault>
-    ensures { IsPlanned state.now (plan_commit (start_of state.now) now.now.latest commit.now.txn commit.now.parts commit.now.reads.epoch commit.now.reads.keys commit.now.writes (stands (start_of state.now) commit.now.txn)) result }
+    ensures planned { IsPlanned state.now (plan_commit (start_of state.now) now.now.latest commit.now.txn commit.now.parts commit.now.reads.epoch commit.now.reads.keys commit.now.writes (stands (start_of state.now) commit.now.txn)) result }
+    ensures fit { IfOk result (IsFit state.now) }
 {
     match state.row(commit.txn) {
         Some(row) => commit_with_row(state, alloc, now, commit, row),
@@ -44,7 +46,9 @@ fn commit_with_row(
     commit: &Commit,
     row: &Row,
 ) -> Result<Plan, Fault>
-    ensures { IsPlanned state.now (plan_commit (start_of state.now) now.now.latest commit.now.txn commit.now.parts commit.now.reads.epoch commit.now.reads.keys commit.now.writes (HasRow (held_in state.now.memory.rows commit.now.txn) (phase_of row.now))) result }
+    requires turn { MayTurn state.now.memory.rows commit.now.txn row.now }
+    ensures planned { IsPlanned state.now (plan_commit (start_of state.now) now.now.latest commit.now.txn commit.now.parts commit.now.reads.epoch commit.now.reads.keys commit.now.writes (HasRow (held_in state.now.memory.rows commit.now.txn) (phase_of row.now))) result }
+    ensures fit { IfOk result (IsFit state.now) }
 {
     match row {
         Row::Reading(reading) => commit_with_wait(state, alloc, now, commit, reading.wait()),
@@ -62,7 +66,10 @@ fn commit_with_wait(
     commit: &Commit,
     wait: Option<&Wait>,
 ) -> Result<Plan, Fault>
-    ensures { IsPlanned state.now (plan_commit (start_of state.now) now.now.latest commit.now.txn commit.now.parts commit.now.reads.epoch commit.now.reads.keys commit.now.writes (HasRow (held_in state.now.memory.rows commit.now.txn) (phase_of_wait (option_copied wait.entry)))) result }
+    requires ends { may_end state.now.memory.rows commit.now.txn ≡ true }
+    requires drops { may_drop state.now.memory.rows commit.now.txn ≡ true }
+    ensures planned { IsPlanned state.now (plan_commit (start_of state.now) now.now.latest commit.now.txn commit.now.parts commit.now.reads.epoch commit.now.reads.keys commit.now.writes (HasRow (held_in state.now.memory.rows commit.now.txn) (phase_of_wait (option_copied wait.entry)))) result }
+    ensures fit { IfOk result (IsFit state.now) }
 {
     match wait {
         Some(Wait::Prepare(_)) => Err(Fault::Stranger),
@@ -80,8 +87,11 @@ fn commit_without_row(
     commit: &Commit,
     past: Past,
 ) -> Result<Plan, Fault>
-    requires { find_row state.now.memory.rows commit.now.txn ≡ None }
-    ensures { IsPlanned state.now (plan_commit (start_of state.now) now.now.latest commit.now.txn commit.now.parts commit.now.reads.epoch commit.now.reads.keys commit.now.writes (standing_of past)) result }
+    requires none { find_row state.now.memory.rows commit.now.txn ≡ None }
+    requires ends { may_end state.now.memory.rows commit.now.txn ≡ true }
+    requires drops { may_drop state.now.memory.rows commit.now.txn ≡ true }
+    ensures planned { IsPlanned state.now (plan_commit (start_of state.now) now.now.latest commit.now.txn commit.now.parts commit.now.reads.epoch commit.now.reads.keys commit.now.writes (standing_of past)) result }
+    ensures fit { IfOk result (IsFit state.now) }
 {
     match past {
         Past::Unknown => commit_fresh(state, alloc, now, commit),
@@ -94,7 +104,10 @@ fn commit_without_row(
 
 // Where the reads do not stand any more, it is aborted.
 fn commit_fresh(state: &State, alloc: Global, now: &Reading, commit: &Commit) -> Result<Plan, Fault>
-    ensures { IsPlanned state.now (plan_commit_fresh (start_of state.now) now.now.latest commit.now.txn commit.now.parts commit.now.reads.epoch commit.now.reads.keys commit.now.writes (held_in state.now.memory.rows commit.now.txn)) result }
+    requires ends { may_end state.now.memory.rows commit.now.txn ≡ true }
+    requires drops { may_drop state.now.memory.rows commit.now.txn ≡ true }
+    ensures planned { IsPlanned state.now (plan_commit_fresh (start_of state.now) now.now.latest commit.now.txn commit.now.parts commit.now.reads.epoch commit.now.reads.keys commit.now.writes (held_in state.now.memory.rows commit.now.txn)) result }
+    ensures fit { IfOk result (IsFit state.now) }
 {
     if reads_stand(state, commit.txn, &commit.reads) {
         return commit_in_time(state, alloc, now, commit);
@@ -109,15 +122,19 @@ fn commit_in_time(
     now: &Reading,
     commit: &Commit,
 ) -> Result<Plan, Fault>
-    ensures { IsPlanned state.now (timed (now.now.latest + 1) (plan_commit_now (start_of state.now) commit.now.txn now.now.latest commit.now.parts commit.now.reads.keys commit.now.writes)) result }
+    requires ends { may_end state.now.memory.rows commit.now.txn ≡ true }
+    ensures planned { IsPlanned state.now (timed (now.now.latest + 1) (plan_commit_now (start_of state.now) commit.now.txn now.now.latest commit.now.parts commit.now.reads.keys commit.now.writes)) result }
+    ensures fit { IfOk result (IsFit state.now) }
 {
-    let _above = Stamp::above(now.latest())?;
+    Stamp::above(now.latest())?;
     commit_now(state, alloc, now, commit)
 }
 
 // Exclusive locks of what is written, and so on; or a wait.
 fn commit_now(state: &State, alloc: Global, now: &Reading, commit: &Commit) -> Result<Plan, Fault>
-    ensures { IsPlanned state.now (plan_commit_now (start_of state.now) commit.now.txn now.now.latest commit.now.parts commit.now.reads.keys commit.now.writes) result }
+    requires ends { may_end state.now.memory.rows commit.now.txn ≡ true }
+    ensures planned { IsPlanned state.now (plan_commit_now (start_of state.now) commit.now.txn now.now.latest commit.now.parts commit.now.reads.keys commit.now.writes) result }
+    ensures fit { IfOk result (IsFit state.now) }
 {
     if !state.opens_writes(commit.txn, &commit.writes) {
         return wait(state, alloc, now, commit);
@@ -133,7 +150,9 @@ fn commit_now(state: &State, alloc: Global, now: &Reading, commit: &Commit) -> R
 fn decide_now(state: &State, alloc: Global, now: &Reading, commit: &Commit) -> Result<Plan, Fault>
     requires opens { opens (start_of state.now) commit.now.txn (exclusive commit.now.writes) ≡ true }
     requires alone { any (λ n. not (nat_eq n state.now.setup.shard)) commit.now.parts ≡ false }
-    ensures { IsPlanned state.now (plan_commit_now (start_of state.now) commit.now.txn now.now.latest commit.now.parts commit.now.reads.keys commit.now.writes) result }
+    requires ends { may_end state.now.memory.rows commit.now.txn ≡ true }
+    ensures planned { IsPlanned state.now (plan_commit_now (start_of state.now) commit.now.txn now.now.latest commit.now.parts commit.now.reads.keys commit.now.writes) result }
+    ensures fit { IfOk result (IsFit state.now) }
 {
     let at = commit_time(state, now.latest())?;
     if state.is_crowded(commit.txn) {
@@ -150,8 +169,11 @@ fn decide_anew(
     commit: &Commit,
     at: Stamp,
 ) -> Result<Plan, Fault>
+    requires opens { opens (start_of state.now) commit.now.txn (exclusive commit.now.writes) ≡ true }
+    requires asks { may_ask state.now.memory.rows commit.now.txn ≡ true }
     ensures plan { IfOk result (λ plan. plan_of state.now.memory.rows plan ≡
         decides (start_of state.now) (in_way (start_of state.now) commit.now.txn (exclusive commit.now.writes)) commit.now.txn (exclusive commit.now.writes) at commit.now.parts commit.now.reads.keys commit.now.writes) }
+    ensures fit { IfOk result (IsFit state.now) }
     ensures memory { IfErr result (λ fault. fault ≡ Fault.Memory) }
 {
     let request = request_of(alloc, now, commit)?;
@@ -164,7 +186,9 @@ fn decide_anew(
 fn collect_now(state: &State, alloc: Global, now: &Reading, commit: &Commit) -> Result<Plan, Fault>
     requires opens { opens (start_of state.now) commit.now.txn (exclusive commit.now.writes) ≡ true }
     requires others { any (λ n. not (nat_eq n state.now.setup.shard)) commit.now.parts ≡ true }
-    ensures { IsPlanned state.now (plan_commit_now (start_of state.now) commit.now.txn now.now.latest commit.now.parts commit.now.reads.keys commit.now.writes) result }
+    requires ends { may_end state.now.memory.rows commit.now.txn ≡ true }
+    ensures planned { IsPlanned state.now (plan_commit_now (start_of state.now) commit.now.txn now.now.latest commit.now.parts commit.now.reads.keys commit.now.writes) result }
+    ensures fit { IfOk result (IsFit state.now) }
 {
     if state.is_crowded(commit.txn) {
         return Err(Fault::RowsFull);
@@ -174,8 +198,11 @@ fn collect_now(state: &State, alloc: Global, now: &Reading, commit: &Commit) -> 
 
 // Whoever is in the way is ended, and votes are collected.
 fn collect_anew(state: &State, alloc: Global, now: &Reading, commit: &Commit) -> Result<Plan, Fault>
+    requires opens { opens (start_of state.now) commit.now.txn (exclusive commit.now.writes) ≡ true }
+    requires asks { may_ask state.now.memory.rows commit.now.txn ≡ true }
     ensures plan { IfOk result (λ plan. plan_of state.now.memory.rows plan ≡
         collects (start_of state.now) (in_way (start_of state.now) commit.now.txn (exclusive commit.now.writes)) commit.now.txn now.now.latest commit.now.parts commit.now.reads.keys commit.now.writes) }
+    ensures fit { IfOk result (IsFit state.now) }
     ensures memory { IfErr result (λ fault. fault ≡ Fault.Memory) }
 {
     let request = request_of(alloc, now, commit)?;
@@ -186,8 +213,10 @@ fn collect_anew(state: &State, alloc: Global, now: &Reading, commit: &Commit) ->
 
 // The transaction waits with its commit.
 fn wait(state: &State, alloc: Global, now: &Reading, commit: &Commit) -> Result<Plan, Fault>
-    requires { opens (start_of state.now) commit.now.txn (exclusive commit.now.writes) ≡ false }
-    ensures { IsPlanned state.now (plan_commit_now (start_of state.now) commit.now.txn now.now.latest commit.now.parts commit.now.reads.keys commit.now.writes) result }
+    requires shut { opens (start_of state.now) commit.now.txn (exclusive commit.now.writes) ≡ false }
+    requires ends { may_end state.now.memory.rows commit.now.txn ≡ true }
+    ensures planned { IsPlanned state.now (plan_commit_now (start_of state.now) commit.now.txn now.now.latest commit.now.parts commit.now.reads.keys commit.now.writes) result }
+    ensures fit { IfOk result (IsFit state.now) }
 {
     if state.is_crowded(commit.txn) {
         return Err(Fault::RowsFull);
@@ -197,15 +226,22 @@ fn wait(state: &State, alloc: Global, now: &Reading, commit: &Commit) -> Result<
 
 // Whoever is in the way and may be ended is ended, and the row waits.
 fn wait_in_row(state: &State, alloc: Global, now: &Reading, commit: &Commit) -> Result<Plan, Fault>
+    requires shut { opens (start_of state.now) commit.now.txn (exclusive commit.now.writes) ≡ false }
+    requires asks { may_ask state.now.memory.rows commit.now.txn ≡ true }
     ensures plan { IfOk result (λ plan. plan_of state.now.memory.rows plan ≡
         waits (start_of state.now) commit.now.txn now.now.latest commit.now.parts commit.now.reads.keys commit.now.writes) }
+    ensures fit { IfOk result (IsFit state.now) }
     ensures memory { IfErr result (λ fault. fault ≡ Fault.Memory) }
 {
     let request = request_of(alloc, now, commit)?;
     let needs = exclusive(alloc, &request.writes)?;
     let wounded = state.in_way(alloc, commit.txn, &needs)?;
-    let asked = (needs, Change::Waits(commit.txn, Wait::Commit(request)));
-    state.puts(alloc, wounded, asked, None, state.last(), None)
+    let asked = Request {
+        wounded,
+        needs,
+        change: Change::Waits(commit.txn, Wait::Commit(request)),
+    };
+    state.puts(alloc, asked, None, state.last(), None)
 }
 
 /// The commit that a transaction waits with, once its locks are granted.
@@ -215,7 +251,9 @@ pub fn resume_commit(
     txn: TxnId,
     request: &CommitRequest,
 ) -> Result<Plan, Fault>
-    ensures { IsPlanned state.now (plan_commit_granted (start_of state.now) [] txn request.now.latest request.now.parts request.now.reads request.now.writes (other_parts state.now.setup.shard request.now.parts)) result }
+    requires { Asks state.now.memory.rows txn [] (exclusive request.now.writes) true }
+    ensures planned { IsPlanned state.now (plan_commit_granted (start_of state.now) [] txn request.now.latest request.now.parts request.now.reads request.now.writes (other_parts state.now.setup.shard request.now.parts)) result }
+    ensures fit { IfOk result (IsFit state.now) }
 {
     if request.parts.has_others(state.setup().shard) {
         return collect_alone(state, alloc, txn, request);
@@ -231,7 +269,9 @@ fn collect_alone(
     txn: TxnId,
     request: &CommitRequest,
 ) -> Result<Plan, Fault>
+    requires { Asks state.now.memory.rows txn [] (exclusive request.now.writes) true }
     ensures plan { IfOk result (λ plan. plan_of state.now.memory.rows plan ≡ collects (start_of state.now) [] txn request.now.latest request.now.parts request.now.reads request.now.writes) }
+    ensures fit { IfOk result (IsFit state.now) }
     ensures memory { IfErr result (λ fault. fault ≡ Fault.Memory) }
 {
     let copy = request.copy(alloc)?;
@@ -248,7 +288,9 @@ fn decide_alone(
     at: Stamp,
     request: &CommitRequest,
 ) -> Result<Plan, Fault>
+    requires { Asks state.now.memory.rows txn [] (exclusive request.now.writes) true }
     ensures plan { IfOk result (λ plan. plan_of state.now.memory.rows plan ≡ decides (start_of state.now) [] txn (exclusive request.now.writes) at request.now.parts request.now.reads request.now.writes) }
+    ensures fit { IfOk result (IsFit state.now) }
     ensures memory { IfErr result (λ fault. fault ≡ Fault.Memory) }
 {
     let copy = request.copy(alloc)?;
@@ -268,8 +310,8 @@ pub(crate) fn commit_time(state: &State, latest: Stamp) -> Result<Stamp, Fault>
     Ok(arrived.later(served))
 }
 
-// The decision is logged.
-pub(crate) fn decide(
+// The decision is logged, and its locks are put.
+fn decide(
     state: &State,
     alloc: Global,
     wounded: Ids,
@@ -278,19 +320,32 @@ pub(crate) fn decide(
     at: Stamp,
     request: CommitRequest,
 ) -> Result<Plan, Fault>
+    requires { Asks state.now.memory.rows txn wounded needs.items true }
     ensures plan { IfOk result (λ plan. plan_of state.now.memory.rows plan ≡ decides (start_of state.now) wounded txn needs.items at request.parts request.reads request.writes) }
+    ensures fit { IfOk result (IsFit state.now) }
     ensures memory { IfErr result (λ fault. fault ≡ Fault.Memory) }
 {
-    let decision = Record::Commit(Committed {
+    let asked = Request {
+        wounded,
+        needs,
+        change: Change::Stands(txn),
+    };
+    let last = state.last().later(at);
+    let decision = decision_of(txn, at, request);
+    state.puts(alloc, asked, Some(decision), last, None)
+}
+
+// The record of a decision.
+pub(crate) fn decision_of(txn: TxnId, at: Stamp, request: CommitRequest) -> Record
+    ensures { result ≡ decision txn at request.parts request.reads request.writes }
+{
+    Record::Commit(Committed {
         txn,
         at,
         parts: request.parts,
         reads: request.reads,
         writes: request.writes,
-    });
-    let asked = (needs, Change::Stands(txn));
-    let last = state.last().later(at);
-    state.puts(alloc, wounded, asked, Some(decision), last, None)
+    })
 }
 
 // It collects votes.
@@ -302,13 +357,19 @@ fn collect(
     txn: TxnId,
     request: CommitRequest,
 ) -> Result<Plan, Fault>
-    requires { needs.items ≡ exclusive request.writes }
+    requires locks { needs.items ≡ exclusive request.writes }
+    requires asks { Asks state.now.memory.rows txn wounded needs.items true }
     ensures plan { IfOk result (λ plan. plan_of state.now.memory.rows plan ≡ collects (start_of state.now) wounded txn request.latest request.parts request.reads request.writes) }
+    ensures fit { IfOk result (IsFit state.now) }
     ensures memory { IfErr result (λ fault. fault ≡ Fault.Memory) }
 {
     let gathering = Gathering::new(alloc, request)?;
-    let asked = (needs, Change::Collects(txn, gathering));
-    state.puts(alloc, wounded, asked, None, state.last(), None)
+    let asked = Request {
+        wounded,
+        needs,
+        change: Change::Collects(txn, gathering),
+    };
+    state.puts(alloc, asked, None, state.last(), None)
 }
 
 // The request of a commit, with memory of its own.

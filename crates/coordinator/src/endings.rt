@@ -1,10 +1,12 @@
 //! How a transaction that this shard decides ends: given up, asked for, or settled.
-ghost use Rattle.std.specs.Prelude.{◌≡◌, [], ◌∷◌, Some, None, Ok, IfOk, IfErr};
+ghost use Rattle.std.specs.Prelude.{◌≡◌, true, [], ◌∷◌, Some, None, Ok, IfOk, IfErr};
 ghost use Rattle.std.specs.Option.{option_copied};
 ghost use Rattle.protocol.specs.Rows.{HasRow, IsDecided};
 ghost use Rattle.protocol.specs.Draft.{outcome_to};
 ghost use Rattle.protocol.specs.Plan.{plan_give_up, plan_ask, plan_abort_for, plan_settle, replies, stands, held_in};
-ghost use Rattle.rows.specs.CodeRows.{phase_of, phase_of_wait};
+ghost use Rattle.rows.specs.CodeRows.{may_close, phase_of, phase_of_wait};
+ghost use Rattle.rows.specs.RowTable.{has_phase};
+ghost use Rattle.memory.specs.Carry.{IsFit, MayTurn, may_drop, may_end};
 ghost use Rattle.memory.specs.Kept.{start_of, standing_of, IsPlanned};
 ghost use Rattle.memory.specs.Plans.{plan_of};
 
@@ -21,7 +23,8 @@ use waiting::pass;
 
 /// A giving up: a transaction that reads is ended, and one that collects votes is aborted; any other goes on.
 pub fn give_up(state: &State, alloc: Global, given: &GiveUp) -> Result<Plan, Fault>
-    ensures { IsPlanned state.now (Ok (plan_give_up (start_of state.now) given.now.txn (stands (start_of state.now) given.now.txn))) result }
+    ensures planned { IsPlanned state.now (Ok (plan_give_up (start_of state.now) given.now.txn (stands (start_of state.now) given.now.txn))) result }
+    ensures fit { IfOk result (IsFit state.now) }
 {
     match state.row(given.txn) {
         Some(row) => give_up_with_row(state, alloc, given, row),
@@ -32,7 +35,9 @@ pub fn give_up(state: &State, alloc: Global, given: &GiveUp) -> Result<Plan, Fau
 // A giving up of a transaction that has a row.
 #[tactic(auto, unfolding(protocol::specs::Plan::plan_give_up))]
 fn give_up_with_row(state: &State, alloc: Global, given: &GiveUp, row: &Row) -> Result<Plan, Fault>
-    ensures { IsPlanned state.now (Ok (plan_give_up (start_of state.now) given.now.txn (HasRow (held_in state.now.memory.rows given.now.txn) (phase_of row.now)))) result }
+    requires { MayTurn state.now.memory.rows given.now.txn row.now }
+    ensures planned { IsPlanned state.now (Ok (plan_give_up (start_of state.now) given.now.txn (HasRow (held_in state.now.memory.rows given.now.txn) (phase_of row.now)))) result }
+    ensures fit { IfOk result (IsFit state.now) }
 {
     match row {
         Row::Reading(reading) => end_reading(state, alloc, given.txn, reading.wait()),
@@ -51,7 +56,9 @@ fn give_up_without_row(
     given: &GiveUp,
     past: Past,
 ) -> Result<Plan, Fault>
-    ensures { IsPlanned state.now (Ok (plan_give_up (start_of state.now) given.now.txn (standing_of past))) result }
+    requires { may_end state.now.memory.rows given.now.txn ≡ true }
+    ensures planned { IsPlanned state.now (Ok (plan_give_up (start_of state.now) given.now.txn (standing_of past))) result }
+    ensures fit { IfOk result (IsFit state.now) }
 {
     match past {
         Past::Unknown => end_reading(state, alloc, given.txn, None),
@@ -63,7 +70,8 @@ fn give_up_without_row(
 
 /// The question how a transaction ended. One that is not known, or only reads, is aborted before it is answered.
 pub fn on_ask(state: &State, alloc: Global, ask: &Ask) -> Result<Plan, Fault>
-    ensures { IsPlanned state.now (plan_ask (start_of state.now) ask.now.from ask.now.txn (stands (start_of state.now) ask.now.txn)) result }
+    ensures planned { IsPlanned state.now (plan_ask (start_of state.now) ask.now.from ask.now.txn (stands (start_of state.now) ask.now.txn)) result }
+    ensures fit { IfOk result (IsFit state.now) }
 {
     match state.row(ask.txn) {
         Some(row) => ask_with_row(state, alloc, ask, row),
@@ -74,7 +82,9 @@ pub fn on_ask(state: &State, alloc: Global, ask: &Ask) -> Result<Plan, Fault>
 // A question about a transaction that has a row.
 #[tactic(auto, unfolding(protocol::specs::Plan::plan_ask))]
 fn ask_with_row(state: &State, alloc: Global, ask: &Ask, row: &Row) -> Result<Plan, Fault>
-    ensures { IsPlanned state.now (plan_ask (start_of state.now) ask.now.from ask.now.txn (HasRow (held_in state.now.memory.rows ask.now.txn) (phase_of row.now))) result }
+    requires { MayTurn state.now.memory.rows ask.now.txn row.now }
+    ensures planned { IsPlanned state.now (plan_ask (start_of state.now) ask.now.from ask.now.txn (HasRow (held_in state.now.memory.rows ask.now.txn) (phase_of row.now))) result }
+    ensures fit { IfOk result (IsFit state.now) }
 {
     match row {
         Row::Reading(reading) => ask_with_wait(state, alloc, ask, reading.wait()),
@@ -91,7 +101,9 @@ fn ask_with_wait(
     ask: &Ask,
     wait: Option<&Wait>,
 ) -> Result<Plan, Fault>
-    ensures { IsPlanned state.now (plan_ask (start_of state.now) ask.now.from ask.now.txn (HasRow (held_in state.now.memory.rows ask.now.txn) (phase_of_wait (option_copied wait.entry)))) result }
+    requires { may_drop state.now.memory.rows ask.now.txn ≡ true }
+    ensures planned { IsPlanned state.now (plan_ask (start_of state.now) ask.now.from ask.now.txn (HasRow (held_in state.now.memory.rows ask.now.txn) (phase_of_wait (option_copied wait.entry)))) result }
+    ensures fit { IfOk result (IsFit state.now) }
 {
     match wait {
         Some(Wait::Prepare(_)) => Err(Fault::Stranger),
@@ -103,7 +115,9 @@ fn ask_with_wait(
 // A question about a transaction that has no row.
 #[tactic(auto, unfolding(protocol::specs::Plan::plan_ask))]
 fn ask_without_row(state: &State, alloc: Global, ask: &Ask, past: Past) -> Result<Plan, Fault>
-    ensures { IsPlanned state.now (plan_ask (start_of state.now) ask.now.from ask.now.txn (standing_of past)) result }
+    requires { may_drop state.now.memory.rows ask.now.txn ≡ true }
+    ensures planned { IsPlanned state.now (plan_ask (start_of state.now) ask.now.from ask.now.txn (standing_of past)) result }
+    ensures fit { IfOk result (IsFit state.now) }
 {
     match past {
         Past::Unknown | Past::Ended => abort_for(state, alloc, ask),
@@ -133,6 +147,7 @@ fn told(state: &State, ask: &Ask, outcome: Option<Stamp>) -> Envelope
 // The shard that asked is told the outcome.
 fn answer(state: &State, alloc: Global, ask: &Ask, outcome: Option<Stamp>) -> Result<Plan, Fault>
     ensures plan { IfOk result (λ plan. plan_of state.now.memory.rows plan ≡ replies (start_of state.now) (outcome_to state.now.setup.shard ask.now.txn outcome ask.now.from ∷ [])) }
+    ensures fit { IfOk result (IsFit state.now) }
     ensures memory { IfErr result (λ fault. fault ≡ Fault.Memory) }
 {
     state.reply(alloc, told(state, ask, outcome))
@@ -140,7 +155,9 @@ fn answer(state: &State, alloc: Global, ask: &Ask, outcome: Option<Stamp>) -> Re
 
 // The transaction is aborted, and the shard that asked is told.
 fn abort_for(state: &State, alloc: Global, ask: &Ask) -> Result<Plan, Fault>
+    requires { may_drop state.now.memory.rows ask.now.txn ≡ true }
     ensures plan { IfOk result (λ plan. plan_of state.now.memory.rows plan ≡ plan_abort_for (start_of state.now) ask.now.from ask.now.txn) }
+    ensures fit { IfOk result (IsFit state.now) }
     ensures memory { IfErr result (λ fault. fault ≡ Fault.Memory) }
 {
     let mut out = Vec::new(alloc);
@@ -151,7 +168,8 @@ fn abort_for(state: &State, alloc: Global, ask: &Ask) -> Result<Plan, Fault>
 
 /// A decided transaction is settled, once its timestamp has surely passed: its session and the other parts are told.
 pub fn settle(state: &State, alloc: Global, now: &Reading, txn: TxnId) -> Result<Plan, Fault>
-    ensures { IsPlanned state.now (plan_settle (start_of state.now) now.now.earliest txn (stands (start_of state.now) txn)) result }
+    ensures planned { IsPlanned state.now (plan_settle (start_of state.now) now.now.earliest txn (stands (start_of state.now) txn)) result }
+    ensures fit { IfOk result (IsFit state.now) }
 {
     match state.row(txn) {
         Some(row) => settle_with_row(state, alloc, now, txn, row),
@@ -168,7 +186,9 @@ fn settle_with_row(
     txn: TxnId,
     row: &Row,
 ) -> Result<Plan, Fault>
-    ensures { IsPlanned state.now (plan_settle (start_of state.now) now.now.earliest txn (HasRow (held_in state.now.memory.rows txn) (phase_of row.now))) result }
+    requires { MayTurn state.now.memory.rows txn row.now }
+    ensures planned { IsPlanned state.now (plan_settle (start_of state.now) now.now.earliest txn (HasRow (held_in state.now.memory.rows txn) (phase_of row.now))) result }
+    ensures fit { IfOk result (IsFit state.now) }
 {
     match row {
         Row::Decided(decided) => settle_decided(state, alloc, now, txn, decided),
@@ -185,7 +205,9 @@ fn settle_decided(
     txn: TxnId,
     decided: &Decided,
 ) -> Result<Plan, Fault>
-    ensures { IsPlanned state.now (plan_settle (start_of state.now) now.now.earliest txn (HasRow (held_in state.now.memory.rows txn) (IsDecided decided.now.at decided.now.parts))) result }
+    requires { has_phase may_close state.now.memory.rows txn ≡ true }
+    ensures planned { IsPlanned state.now (plan_settle (start_of state.now) now.now.earliest txn (HasRow (held_in state.now.memory.rows txn) (IsDecided decided.now.at decided.now.parts))) result }
+    ensures fit { IfOk result (IsFit state.now) }
 {
     let at = pass(decided.at(), now)?.spend();
     let end = done_to(txn, Some(at));

@@ -7,15 +7,17 @@ ghost use Rattle.protocol.specs.Rows.{Collecting as CollectsVotes, HasRow, find_
 ghost use Rattle.protocol.specs.Draft.{all_voted, commit_stamp, other_parts};
 ghost use Rattle.protocol.specs.Step.{with_vote};
 ghost use Rattle.protocol.specs.Plan.{plan_vote, plan_count, plan_tell, of_part, puts, stands, held_in};
-ghost use Rattle.rows.specs.CodeRows.{phase_of, phase_of_wait};
+ghost use Rattle.rows.specs.CodeRows.{is_collecting, phase_of, phase_of_wait};
+ghost use Rattle.rows.specs.RowTable.{has_phase};
 ghost use Rattle.rows.specs.States.{voted_of};
+ghost use Rattle.memory.specs.Carry.{IsFit, MayTurn, may_drop};
 ghost use Rattle.memory.specs.Kept.{start_of, standing_of, IsPlanned};
-ghost use Rattle.memory.specs.Plans.{plan_of};
+ghost use Rattle.memory.specs.Plans.{counted, plan_of};
 ghost use Rattle.coordinator.specs.Granted.{decides, more_votes};
 
-use crate::commits::{commit_time, decide};
+use crate::commits::{commit_time, decision_of};
 use crate::parts::is_of_part;
-use memory::{Change, Past, Plan, State, outcome_to};
+use memory::{Change, Past, Plan, Request, State, outcome_to};
 use message::{Outcome, Vote};
 use rows::{Collecting, Row, Voted, Wait};
 use std::alloc::Global;
@@ -23,7 +25,8 @@ use units::{Fault, Ids, ShardNo, Stamp, TxnId};
 
 /// A vote: a yes is kept, and the last one decides; a no aborts. Who votes for a transaction that ended here is told how.
 pub fn on_vote(state: &State, alloc: Global, vote: &Vote) -> Result<Plan, Fault>
-    ensures { IsPlanned state.now (plan_vote (start_of state.now) vote.now.from vote.now.txn vote.now.vote (stands (start_of state.now) vote.now.txn)) result }
+    ensures planned { IsPlanned state.now (plan_vote (start_of state.now) vote.now.from vote.now.txn vote.now.vote (stands (start_of state.now) vote.now.txn)) result }
+    ensures fit { IfOk result (IsFit state.now) }
 {
     match state.row(vote.txn) {
         Some(row) => vote_with_row(state, alloc, vote, row),
@@ -34,8 +37,10 @@ pub fn on_vote(state: &State, alloc: Global, vote: &Vote) -> Result<Plan, Fault>
 // A vote for a transaction that has a row.
 #[tactic(auto, unfolding(protocol::specs::Plan::plan_vote))]
 fn vote_with_row(state: &State, alloc: Global, vote: &Vote, row: &Row) -> Result<Plan, Fault>
-    requires { find_row state.now.memory.rows vote.now.txn ≡ Some (record { txn = vote.now.txn; held = held_in state.now.memory.rows vote.now.txn; phase = phase_of row.now }) }
-    ensures { IsPlanned state.now (plan_vote (start_of state.now) vote.now.from vote.now.txn vote.now.vote (HasRow (held_in state.now.memory.rows vote.now.txn) (phase_of row.now))) result }
+    requires row { find_row state.now.memory.rows vote.now.txn ≡ Some (record { txn = vote.now.txn; held = held_in state.now.memory.rows vote.now.txn; phase = phase_of row.now }) }
+    requires turn { MayTurn state.now.memory.rows vote.now.txn row.now }
+    ensures planned { IsPlanned state.now (plan_vote (start_of state.now) vote.now.from vote.now.txn vote.now.vote (HasRow (held_in state.now.memory.rows vote.now.txn) (phase_of row.now))) result }
+    ensures fit { IfOk result (IsFit state.now) }
 {
     match row {
         Row::Reading(reading) => vote_with_wait(state, alloc, vote, reading.wait()),
@@ -53,7 +58,8 @@ fn vote_with_wait(
     vote: &Vote,
     wait: Option<&Wait>,
 ) -> Result<Plan, Fault>
-    ensures { IsPlanned state.now (plan_vote (start_of state.now) vote.now.from vote.now.txn vote.now.vote (HasRow (held_in state.now.memory.rows vote.now.txn) (phase_of_wait (option_copied wait.entry)))) result }
+    ensures planned { IsPlanned state.now (plan_vote (start_of state.now) vote.now.from vote.now.txn vote.now.vote (HasRow (held_in state.now.memory.rows vote.now.txn) (phase_of_wait (option_copied wait.entry)))) result }
+    ensures fit { IfOk result (IsFit state.now) }
 {
     match wait {
         Some(Wait::Prepare(_)) => Err(Fault::Stranger),
@@ -64,7 +70,8 @@ fn vote_with_wait(
 // A vote for a transaction that has no row.
 #[tactic(auto, unfolding(protocol::specs::Plan::plan_vote))]
 fn vote_without_row(state: &State, alloc: Global, vote: &Vote, past: Past) -> Result<Plan, Fault>
-    ensures { IsPlanned state.now (plan_vote (start_of state.now) vote.now.from vote.now.txn vote.now.vote (standing_of past)) result }
+    ensures planned { IsPlanned state.now (plan_vote (start_of state.now) vote.now.from vote.now.txn vote.now.vote (standing_of past)) result }
+    ensures fit { IfOk result (IsFit state.now) }
 {
     match past {
         Past::Unknown | Past::Ended => Ok(state.idles(alloc)),
@@ -83,6 +90,7 @@ fn vote_without_row(state: &State, alloc: Global, vote: &Vote, past: Past) -> Re
 #[tactic(auto, unfolding(protocol::specs::Plan::plan_tell))]
 fn tell(state: &State, alloc: Global, vote: &Vote, outcome: Option<Stamp>) -> Result<Plan, Fault>
     ensures plan { IfOk result (λ plan. plan_of state.now.memory.rows plan ≡ plan_tell (start_of state.now) vote.now.from vote.now.txn outcome vote.now.vote) }
+    ensures fit { IfOk result (IsFit state.now) }
     ensures memory { IfErr result (λ fault. fault ≡ Fault.Memory) }
 {
     match vote.vote {
@@ -106,8 +114,11 @@ fn vote_collected(
     vote: &Vote,
     collecting: &Collecting,
 ) -> Result<Plan, Fault>
-    requires { find_row state.now.memory.rows vote.now.txn ≡ Some (record { txn = vote.now.txn; held = held_in state.now.memory.rows vote.now.txn; phase = CollectsVotes collecting.now.request.latest collecting.now.request.parts collecting.now.request.reads collecting.now.request.writes collecting.now.votes }) }
-    ensures { IsPlanned state.now (of_part (start_of state.now) vote.now.from collecting.now.request.parts (plan_count (start_of state.now) vote.now.from vote.now.txn vote.now.vote collecting.now.request.latest collecting.now.request.parts collecting.now.request.reads collecting.now.request.writes collecting.now.votes)) result }
+    requires row { find_row state.now.memory.rows vote.now.txn ≡ Some (record { txn = vote.now.txn; held = held_in state.now.memory.rows vote.now.txn; phase = CollectsVotes collecting.now.request.latest collecting.now.request.parts collecting.now.request.reads collecting.now.request.writes collecting.now.votes }) }
+    requires collects { has_phase is_collecting state.now.memory.rows vote.now.txn ≡ true }
+    requires drops { may_drop state.now.memory.rows vote.now.txn ≡ true }
+    ensures planned { IsPlanned state.now (of_part (start_of state.now) vote.now.from collecting.now.request.parts (plan_count (start_of state.now) vote.now.from vote.now.txn vote.now.vote collecting.now.request.latest collecting.now.request.parts collecting.now.request.reads collecting.now.request.writes collecting.now.votes)) result }
+    ensures fit { IfOk result (IsFit state.now) }
 {
     let parts = collecting.request().parts;
     if !is_of_part(state, parts, vote.from) {
@@ -133,13 +144,15 @@ fn count(
     txn: TxnId,
     last: &Voted,
 ) -> Result<Plan, Fault>
-    requires { find_row state.now.memory.rows txn ≡ Some (record { txn = txn; held = held_in state.now.memory.rows txn; phase = CollectsVotes collecting.now.request.latest collecting.now.request.parts collecting.now.request.reads collecting.now.request.writes collecting.now.votes }) }
-    ensures { IsPlanned state.now (plan_count (start_of state.now) last.now.shard txn (Some last.now.at) collecting.now.request.latest collecting.now.request.parts collecting.now.request.reads collecting.now.request.writes collecting.now.votes) result }
+    requires row { find_row state.now.memory.rows txn ≡ Some (record { txn = txn; held = held_in state.now.memory.rows txn; phase = CollectsVotes collecting.now.request.latest collecting.now.request.parts collecting.now.request.reads collecting.now.request.writes collecting.now.votes }) }
+    requires collects { has_phase is_collecting state.now.memory.rows txn ≡ true }
+    ensures planned { IsPlanned state.now (plan_count (start_of state.now) last.now.shard txn (Some last.now.at) collecting.now.request.latest collecting.now.request.parts collecting.now.request.reads collecting.now.request.writes collecting.now.votes) result }
+    ensures fit { IfOk result (IsFit state.now) }
 {
     if have_all_voted(state, collecting, last) {
         return decide_last(state, alloc, collecting, txn, last);
     }
-    keep_vote(state, alloc, collecting, txn, last)
+    keep_vote(state, alloc, txn, last)
 }
 
 // The last vote decides.
@@ -150,31 +163,29 @@ fn decide_last(
     txn: TxnId,
     last: &Voted,
 ) -> Result<Plan, Fault>
-    requires { all_voted (other_parts state.now.setup.shard collecting.now.request.parts) (with_vote last.now.shard last.now.at collecting.now.votes) ≡ true }
-    ensures { IsPlanned state.now (plan_count (start_of state.now) last.now.shard txn (Some last.now.at) collecting.now.request.latest collecting.now.request.parts collecting.now.request.reads collecting.now.request.writes collecting.now.votes) result }
+    requires all { all_voted (other_parts state.now.setup.shard collecting.now.request.parts) (with_vote last.now.shard last.now.at collecting.now.votes) ≡ true }
+    requires collects { has_phase is_collecting state.now.memory.rows txn ≡ true }
+    ensures planned { IsPlanned state.now (plan_count (start_of state.now) last.now.shard txn (Some last.now.at) collecting.now.request.latest collecting.now.request.parts collecting.now.request.reads collecting.now.request.writes collecting.now.votes) result }
+    ensures fit { IfOk result (IsFit state.now) }
 {
     let at = decision_time(state, collecting, last)?;
     decide_counted(state, alloc, txn, at, collecting)
 }
 
 // A yes is kept.
-#[tactic(auto, using(crate::proofs::Counting::counted_row))]
-fn keep_vote(
-    state: &State,
-    alloc: Global,
-    collecting: &Collecting,
-    txn: TxnId,
-    last: &Voted,
-) -> Result<Plan, Fault>
-    requires { find_row state.now.memory.rows txn ≡ Some (record { txn = txn; held = held_in state.now.memory.rows txn; phase = CollectsVotes collecting.now.request.latest collecting.now.request.parts collecting.now.request.reads collecting.now.request.writes collecting.now.votes }) }
+fn keep_vote(state: &State, alloc: Global, txn: TxnId, last: &Voted) -> Result<Plan, Fault>
+    requires { has_phase is_collecting state.now.memory.rows txn ≡ true }
     ensures plan { IfOk result (λ plan. plan_of state.now.memory.rows plan ≡
-        puts (start_of state.now) [] txn [] (CollectsVotes collecting.now.request.latest collecting.now.request.parts collecting.now.request.reads collecting.now.request.writes (with_vote last.now.shard last.now.at collecting.now.votes)) None state.now.memory.last []) }
+        puts (start_of state.now) [] txn [] (counted last.now.shard last.now.at (find_row state.now.memory.rows txn)) None state.now.memory.last []) }
+    ensures fit { IfOk result (IsFit state.now) }
     ensures memory { IfErr result (λ fault. fault ≡ Fault.Memory) }
 {
-    let _row = collecting;
-    let asked = (Vec::new(alloc), Change::Counts(txn, last.shard, last.at));
-    let nobody = Ids::from_vec(Vec::new(alloc));
-    state.puts(alloc, nobody, asked, None, state.last(), None)
+    let asked = Request {
+        wounded: Ids::from_vec(Vec::new(alloc)),
+        needs: Vec::new(alloc),
+        change: Change::Counts(txn, last.shard, last.at),
+    };
+    state.puts(alloc, asked, None, state.last(), None)
 }
 
 // The decision is logged, of a transaction that holds its locks.
@@ -185,12 +196,20 @@ fn decide_counted(
     at: Stamp,
     collecting: &Collecting,
 ) -> Result<Plan, Fault>
+    requires { has_phase is_collecting state.now.memory.rows txn ≡ true }
     ensures plan { IfOk result (λ plan. plan_of state.now.memory.rows plan ≡ decides (start_of state.now) [] txn [] at collecting.now.request.parts collecting.now.request.reads collecting.now.request.writes) }
+    ensures fit { IfOk result (IsFit state.now) }
     ensures memory { IfErr result (λ fault. fault ≡ Fault.Memory) }
 {
     let request = collecting.request().copy(alloc)?;
-    let nobody = Ids::from_vec(Vec::new(alloc));
-    decide(state, alloc, nobody, Vec::new(alloc), txn, at, request)
+    let asked = Request {
+        wounded: Ids::from_vec(Vec::new(alloc)),
+        needs: Vec::new(alloc),
+        change: Change::Decides(txn),
+    };
+    let last = state.last().later(at);
+    let decision = decision_of(txn, at, request);
+    state.puts(alloc, asked, Some(decision), last, None)
 }
 
 // Each of the other parts has voted, once this vote is counted too.

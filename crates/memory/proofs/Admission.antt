@@ -57,14 +57,11 @@ asks_over : (rows : List Row) (t : Id) (us : List Id) (needs : List Lock) (opens
 asks_over rows t us needs opens up asks =
     let entrant : Row = record { txn = t; held = []; phase = Idle } in
     let left : List Row = without_rows rows us in
-    let gone : AllOther t us = others_gone rows t needs us asks.ended in
-    record {
-      may = ap (λ (o : Option Row). elim o as (λ _. Bool) [ None ↦ nat_lt (length (put_row rows t [] Idle)) 1024 | Some r ↦ is_reading r.phase ]) (find-with_row rows entrant);
-      ended = asks.ended ∙ wounded-alike (claims rows) (claims (with_row rows entrant)) t needs (sym (others-with_row rows entrant));
-      free =
-          ap (λ (l : List Row). is_free (claims l) t needs) (without_rows-with rows entrant us up gone)
-          ∙ is_free-alike (claims (with_row left entrant)) (claims left) t needs (others-with_row left entrant) ∙ asks.free;
-    }
+    let gone : AllOther t us = others_gone rows t needs us asks.1 in
+    (ap (λ (o : Option Row). elim o as (λ _. Bool) [ None ↦ nat_lt (length (put_row rows t [] Idle)) 1024 | Some r ↦ is_reading r.phase ]) (find-with_row rows entrant),
+     asks.1 ∙ wounded-alike (claims rows) (claims (with_row rows entrant)) t needs (sym (others-with_row rows entrant)),
+     ap (λ (l : List Row). is_free (claims l) t needs) (without_rows-with rows entrant us up gone)
+     ∙ is_free-alike (claims (with_row left entrant)) (claims left) t needs (others-with_row left entrant) ∙ asks.2)
 
 pub asks_the_same : (rows : List Row) (t : Id) (us : List Id) (needs : List Lock) (opens : Bool) → Ascend rows → Asks rows t us needs opens
     → Asks (admitted rows (Some t)) t us needs opens
@@ -110,11 +107,11 @@ rows_the_same : (rows : List Row) (us : List Id) (needs : List Lock) (logged : O
 rows_the_same rows us needs logged Keeps up fits = refl
 rows_the_same rows us needs logged (Ends t) up fits = refl
 rows_the_same rows us needs logged (Drops t) up fits = refl
-rows_the_same rows us needs logged (Reads t) up fits = put_the_same rows t needs needs us Idle up fits.0.ended
-rows_the_same rows us needs logged (Waits t w) up fits = put_the_same rows t needs [] us (phase_of_wait (Some w)) up fits.0.ended
-rows_the_same rows us needs logged (Collects t c) up fits = put_the_same rows t needs needs us (collecting c []) up fits.0.ended
+rows_the_same rows us needs logged (Reads t) up fits = put_the_same rows t needs needs us Idle up fits.0.1
+rows_the_same rows us needs logged (Waits t w) up fits = put_the_same rows t needs [] us (phase_of_wait (Some w)) up fits.0.1
+rows_the_same rows us needs logged (Collects t c) up fits = put_the_same rows t needs needs us (collecting c []) up fits.0.1
 rows_the_same rows us needs logged (Counts t n p) up fits = refl
-rows_the_same rows us needs logged (Stands t) up fits = put_the_same rows t needs needs us (phase_logged logged) up fits.0.ended
+rows_the_same rows us needs logged (Stands t) up fits = put_the_same rows t needs needs us (phase_logged logged) up fits.0.1
 rows_the_same rows us needs logged (Decides t) up fits = refl
 
 -- whom a change ends is not told by the rows
@@ -143,11 +140,10 @@ ready_is_carriable old new p writes up fit ready follows installs =
     let rows : new.memory.rows ≡ admitted old.memory.rows (asker p.change) = ap (λ (m : Memory). m.rows) ready.memory in
     let last : new.memory.last ≡ old.memory.last = ap (λ (m : Memory). m.last) ready.memory in
     record {
-      fit = record {
-        rows = subst (λ (l : List Row). FitsRows l p.wounded p.needs.items p.logged p.change) (sym rows)
-            (fits_again old.memory.rows p.wounded p.needs.items p.logged p.change up fit.rows);
-        last = subst (λ (n : ℕ). n ≤ p.last) (sym last) fit.last;
-      };
+      fit =
+          (subst (λ (l : List Row). FitsRows l p.wounded p.needs.items p.logged p.change) (sym rows)
+           (fits_again old.memory.rows p.wounded p.needs.items p.logged p.change up fit.0),
+           subst (λ (n : ℕ). n ≤ p.last) (sym last) fit.1);
       there = subst (λ (l : List Row). admitted l (asker p.change) ≡ l) (sym rows) (admitted_again old.memory.rows (asker p.change));
       records = ready.records;
       ends = ready.ends;

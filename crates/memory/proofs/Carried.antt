@@ -338,9 +338,9 @@ pub fits_asks : (rows : List Row) (us : List Id) (needs : List Lock) (logged : O
 fits_asks rows us needs logged Change.Keeps fits = tt
 fits_asks rows us needs logged (Change.Ends t) fits = tt
 fits_asks rows us needs logged (Change.Drops t) fits = tt
-fits_asks rows us needs logged (Change.Reads t) fits = fits.0.may
-fits_asks rows us needs logged (Change.Waits t w) fits = fits.0.may
-fits_asks rows us needs logged (Change.Collects t c) fits = fits.0.may
+fits_asks rows us needs logged (Change.Reads t) fits = fits.0.0
+fits_asks rows us needs logged (Change.Waits t w) fits = fits.0.0
+fits_asks rows us needs logged (Change.Collects t c) fits = fits.0.0
 fits_asks rows us needs logged (Change.Counts t n p) fits = tt
-fits_asks rows us needs logged (Change.Stands t) fits = fits.0.may
+fits_asks rows us needs logged (Change.Stands t) fits = fits.0.0
 fits_asks rows us needs logged (Change.Decides t) fits = tt

@@ -78,7 +78,7 @@ planned-past k t plan past result e made = subst (λ s. IsPlanned k (plan s) res
 -- ---- whether there is room
 
 -- a transaction has a row where one is found
-any-first : (p : Row → Bool) (rows : List Row) → any p rows ≡ elim (first p rows) as (λ _. Bool) [ None ↦ false | Some r ↦ true ]
+pub any-first : (p : Row → Bool) (rows : List Row) → any p rows ≡ elim (first p rows) as (λ _. Bool) [ None ↦ false | Some r ↦ true ]
 any-first p [] = refl
 any-first p (q ∷ qs) = by_test (p q) (any-first p qs)
   where

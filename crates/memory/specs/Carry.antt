@@ -13,6 +13,7 @@ use Rattle.protocol.specs.Rows.{Row, Memory, Idle, claims, find_row, needs_of}
 use Rattle.protocol.specs.Plan.{held_in, without_rows, carried}
 use Rattle.rows.specs.CodeRows.{is_reading, is_collecting, is_idle, may_decide, may_abort, may_close, phase_of_wait}
 use Rattle.rows.specs.RowTable.{RowTable, put_row, has_phase, room}
+use Rattle.rows.specs.declared.row.Row.{Row as CodeRow}
 use Rattle.rows.specs.States.{is_prepare_of, is_commit_of, is_abort_of, is_outcome_of}
 use Rattle.memory.specs.Kept.{Kept}
 use Rattle.memory.specs.Ledger.{writes_standing, CanInstall}
@@ -33,10 +34,9 @@ abbrev pub may_drop : List Row → Id → Bool
 may_drop rows t = elim (find_row rows t) [ None ↦ true | Some r ↦ may_abort r.phase ]
 
 -- a request: it may be made, these are ended by it, and whether it is granted then
-pub record Asks (rows : List Row) (t : Id) (us : List Id) (needs : List Lock) (opens : Bool) : Type 0 where
-  pub may : may_ask rows t ≡ true
-  pub ended : us ≡ wounded (claims rows) t needs
-  pub free : is_free (claims (without_rows rows us)) t needs ≡ opens
+abbrev pub Asks : List Row → Id → List Id → List Lock → Bool → Type 0
+Asks rows t us needs opens =
+    (may_ask rows t ≡ true) × (us ≡ wounded (claims rows) t needs) × (is_free (claims (without_rows rows us)) t needs ≡ opens)
 
 -- nothing is logged but a ceiling
 abbrev pub IsServing : Option Record → Type 0
@@ -73,10 +73,16 @@ FitsRows rows ended needs logged (Change.Counts t n p) = (ended ≡ []) × (logg
 FitsRows rows ended needs logged (Change.Stands t) = Asks rows t ended needs true × MayStand t logged
 FitsRows rows ended needs logged (Change.Decides t) = (ended ≡ []) × IsDecision t logged × (has_phase is_collecting rows t ≡ true)
 
--- a plan that may be carried out
-pub record IsFit (k : Kept) (p : Plan) : Type 0 where
-  pub rows : FitsRows k.memory.rows p.wounded p.needs.items p.logged p.change
-  pub last : k.memory.last ≤ p.last
+-- a plan that may be carried out: its change may be made of the rows, and the greatest timestamp does not fall
+abbrev pub IsFit : Kept → Plan → Type 0
+IsFit k p = FitsRows k.memory.rows p.wounded p.needs.items p.logged p.change × (k.memory.last ≤ p.last)
+
+-- what may be done with the row that is found of a transaction
+abbrev pub MayTurn : List Row → Id → CodeRow → Type 0
+MayTurn rows t (CodeRow.Reading s) = (may_end rows t ≡ true) × (may_drop rows t ≡ true)
+MayTurn rows t (CodeRow.Collecting s) = (has_phase is_collecting rows t ≡ true) × (may_drop rows t ≡ true)
+MayTurn rows t (CodeRow.Prepared s) = has_phase may_close rows t ≡ true
+MayTurn rows t (CodeRow.Decided s) = has_phase may_close rows t ≡ true
 
 -- who asks for locks by a change
 abbrev pub asker : Change → Option Id

@@ -17,7 +17,7 @@ pub use ended::Ended;
 pub use envelopes::{answer_to, ask_to, done_to, outcome_to, vote_to};
 pub use laws::holds_follow_rows;
 pub use ledger::Ledger;
-pub use plan::{Change, Plan};
+pub use plan::{Change, Plan, Request};
 pub use planning::{exclusive, reads_stand};
 pub use state::{Past, State};
 

@@ -27,6 +27,15 @@ pub enum Change {
     Decides(TxnId),
 }
 
+/// What a transaction asks of the rows: whom it ends, the locks that it wants beside those that it holds, and what becomes of
+/// its row.
+#[derive(Debug, Drop)]
+pub struct Request {
+    pub wounded: Ids,
+    pub needs: Vec<Lock>,
+    pub change: Change,
+}
+
 /// What a step does: whom it ends first, the locks that its transaction asks for, the change of that transaction's row, the
 /// record that it logs, the greatest timestamp after it, and what it puts out.
 #[derive(Debug, Drop)]

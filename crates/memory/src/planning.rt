@@ -1,15 +1,16 @@
 //! The plans of which every step is one.
-ghost use Rattle.std.specs.Prelude.{◌≡◌, ◌++◌, ◌∷◌, [], Some, None, Ok, IfOk, IfErr, MatchResult};
+ghost use Rattle.std.specs.Prelude.{◌≡◌, ◌≤◌, ◌++◌, ◌∷◌, [], true, Some, None, Ok, IfOk, IfErr, MatchResult};
 ghost use Rattle.units.specs.Locks.{exclusive};
 ghost use Rattle.units.specs.Lists.{each, listed};
 ghost use Rattle.protocol.specs.Draft.{other_parts, refused_vote};
 ghost use Rattle.protocol.specs.Rows.{find_row};
-ghost use Rattle.protocol.specs.Plan.{replies, ends, drops, votes_of, answers, tells, plan_abort, still_stand, held_in};
+ghost use Rattle.protocol.specs.Plan.{Keeps, replies, ends, drops, votes_of, answers, tells, plan_abort, still_stand, held_in};
+ghost use Rattle.memory.specs.Carry.{FitsRows, IsFit, IsServing, MayDrop, may_drop, may_end};
 ghost use Rattle.memory.specs.Kept.{start_of};
 ghost use Rattle.memory.specs.Plans.{change_of, plan_of, refusal};
 
 use crate::envelopes::{answer_to, done_to, outcome_to, vote_to};
-use crate::plan::{Change, Plan};
+use crate::plan::{Change, Plan, Request};
 use crate::state::State;
 use message::{Answer, Envelope, Outbox, Outcome, Reads};
 use record::Record;
@@ -55,7 +56,8 @@ pub fn reads_stand(state: &State, txn: TxnId, reads: &Reads) -> bool
 impl State {
     /// Messages alone.
     pub fn replies(&self, alloc: Global, out: Vec<Envelope>) -> Plan
-        ensures { plan_of self.now.memory.rows result ≡ replies (start_of self.now) out.items }
+        ensures plan { plan_of self.now.memory.rows result ≡ replies (start_of self.now) out.items }
+        ensures fit { IsFit self.now result }
     {
         Plan {
             wounded: Ids::from_vec(Vec::new(alloc)),
@@ -69,7 +71,8 @@ impl State {
 
     /// Nothing at all.
     pub fn idles(&self, alloc: Global) -> Plan
-        ensures { plan_of self.now.memory.rows result ≡ replies (start_of self.now) [] }
+        ensures plan { plan_of self.now.memory.rows result ≡ replies (start_of self.now) [] }
+        ensures fit { IsFit self.now result }
     {
         self.replies(alloc, Vec::new(alloc))
     }
@@ -77,6 +80,7 @@ impl State {
     /// One message.
     pub fn reply(&self, alloc: Global, envelope: Envelope) -> Result<Plan, Fault>
         ensures plan { IfOk result (λ plan. plan_of self.now.memory.rows plan ≡ replies (start_of self.now) (envelope ∷ [])) }
+        ensures fit { IfOk result (IsFit self.now) }
         ensures memory { IfErr result (λ fault. fault ≡ Fault.Memory) }
     {
         Ok(self.replies(alloc, one(alloc, envelope)?))
@@ -84,7 +88,9 @@ impl State {
 
     /// The transaction is ended.
     pub fn ends(&self, alloc: Global, txn: TxnId, out: Vec<Envelope>) -> Plan
-        ensures { plan_of self.now.memory.rows result ≡ ends (start_of self.now) txn out.items }
+        requires { may_end self.now.memory.rows txn ≡ true }
+        ensures plan { plan_of self.now.memory.rows result ≡ ends (start_of self.now) txn out.items }
+        ensures fit { IsFit self.now result }
     {
         Plan {
             wounded: Ids::from_vec(Vec::new(alloc)),
@@ -105,7 +111,10 @@ impl State {
         last: Stamp,
         out: Vec<Envelope>,
     ) -> Plan
-        ensures { plan_of self.now.memory.rows result ≡ drops txn item last out.items }
+        requires drops { MayDrop self.now.memory.rows txn (Some item) }
+        requires last { self.now.memory.last ≤ last }
+        ensures plan { plan_of self.now.memory.rows result ≡ drops txn item last out.items }
+        ensures fit { IsFit self.now result }
     {
         Plan {
             wounded: Ids::from_vec(Vec::new(alloc)),
@@ -117,10 +126,29 @@ impl State {
         }
     }
 
+    /// The served time is raised, under a ceiling that is logged where it has to be.
+    pub fn serves(&self, alloc: Global, ceiling: Option<Record>, last: Stamp) -> Plan
+        requires ceiling { IsServing ceiling }
+        requires last { self.now.memory.last ≤ last }
+        ensures plan { plan_of self.now.memory.rows result ≡ record { wounded = []; change = Keeps; logged = ceiling; last = last; outbox = [] } }
+        ensures fit { IsFit self.now result }
+    {
+        Plan {
+            wounded: Ids::from_vec(Vec::new(alloc)),
+            needs: Vec::new(alloc),
+            change: Change::Keeps,
+            logged: ceiling,
+            last,
+            outbox: Outbox::from_vec(Vec::new(alloc)),
+        }
+    }
+
     /// The decision to abort: the session and the other parts are told.
     #[tactic(auto, unfolding(protocol::specs::Plan::plan_abort))]
     pub fn aborts(&self, alloc: Global, txn: TxnId, parts: Parts) -> Result<Plan, Fault>
+        requires { may_drop self.now.memory.rows txn ≡ true }
         ensures plan { IfOk result (λ plan. plan_of self.now.memory.rows plan ≡ plan_abort (start_of self.now) txn parts) }
+        ensures fit { IfOk result (IsFit self.now) }
         ensures memory { IfErr result (λ fault. fault ≡ Fault.Memory) }
     {
         let out = self.ending(alloc, done_to(txn, None), txn, None, parts)?;
@@ -153,26 +181,32 @@ impl State {
     pub fn puts(
         &self,
         alloc: Global,
-        wounded: Ids,
-        asked: (Vec<Lock>, Change),
+        request: Request,
         logged: Option<Record>,
         last: Stamp,
         reply: Option<Envelope>,
     ) -> Result<Plan, Fault>
+        requires fits { FitsRows self.now.memory.rows request.wounded request.needs.items logged request.change }
+        requires last { self.now.memory.last ≤ last }
         ensures plan { IfOk result (λ plan. plan_of self.now.memory.rows plan ≡ record {
-          wounded = wounded;
-          change = change_of self.now.memory.rows (asked.0).items logged (asked.1);
+          wounded = request.wounded;
+          change = change_of self.now.memory.rows request.needs.items logged request.change;
           logged = logged;
           last = last;
-          outbox = votes_of self.now.setup.shard self.now.memory.rows wounded ++ listed reply;
+          outbox = votes_of self.now.setup.shard self.now.memory.rows request.wounded ++ listed reply;
         }) }
+        ensures fit { IfOk result (IsFit self.now) }
         ensures memory { IfErr result (λ fault. fault ≡ Fault.Memory) }
     {
+        let Request {
+            wounded,
+            needs,
+            change,
+        } = request;
         let mut out = self.votes_of(alloc, &wounded)?;
         if let Some(reply) = reply {
             out.push(reply)?;
         }
-        let (needs, change) = asked;
         Ok(Plan {
             wounded,
             needs,

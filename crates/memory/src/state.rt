@@ -1,5 +1,5 @@
 //! What a shard keeps in memory.
-ghost use Rattle.std.specs.Prelude.{◌≡◌, ◌≤◌, ◌^◌, ◌<◌, Some, None, MatchOption, IfOk, IfErr};
+ghost use Rattle.std.specs.Prelude.{◌≡◌, ◌≤◌, ◌^◌, ◌<◌, [], true, false, Some, None, MatchOption, IfSome, IfOk, IfErr};
 ghost use Rattle.std.specs.Option.{option_copied};
 ghost use Rattle.units.specs.Lists.{each};
 ghost use Rattle.units.specs.Locks.{exclusive, holds, ready};
@@ -8,6 +8,8 @@ ghost use Rattle.facts.specs.Shown.{meant};
 ghost use Rattle.protocol.specs.Rows.{safe, claims, find_row, standing_by};
 ghost use Rattle.protocol.specs.Plan.{stands, in_way, opens, is_crowded, held_in};
 ghost use Rattle.rows.specs.CodeRows.{phase_of};
+ghost use Rattle.rows.specs.RowTable.{needs_in};
+ghost use Rattle.memory.specs.Carry.{Asks, MayTurn, may_ask, may_drop, may_end};
 ghost use Rattle.memory.specs.Kept.{start_of, IsPast};
 
 use crate::ended::Ended;
@@ -123,8 +125,9 @@ impl State {
 
     /// The row of a transaction.
     pub fn row(&self, txn: TxnId) -> Option<&Row>
-        ensures { MatchOption result (find_row self.now.memory.rows txn ≡ None)
+        ensures row { MatchOption result (find_row self.now.memory.rows txn ≡ None)
             (λ row. find_row self.now.memory.rows txn ≡ Some (record { txn = txn; held = held_in self.now.memory.rows txn; phase = phase_of row.now })) }
+        ensures turn { IfSome result (λ row. MayTurn self.now.memory.rows txn row.now) }
     {
         self.rows.find(txn)
     }
@@ -132,7 +135,9 @@ impl State {
     /// How a transaction stands that has no row.
     pub fn past(&self, txn: TxnId) -> Past
         requires { find_row self.now.memory.rows txn ≡ None }
-        ensures { IsPast (stands (start_of self.now) txn) result }
+        ensures past { IsPast (stands (start_of self.now) txn) result }
+        ensures ends { may_end self.now.memory.rows txn ≡ true }
+        ensures drops { may_drop self.now.memory.rows txn ≡ true }
     {
         past_by(self.ledger.status(txn), self.ended.has(txn))
     }
@@ -185,15 +190,18 @@ impl State {
 
     /// The transaction has no row, and there is no room for one.
     pub fn is_crowded(&self, txn: TxnId) -> bool
-        ensures { result ≡ is_crowded (start_of self.now) txn }
+        ensures crowded { result ≡ is_crowded (start_of self.now) txn }
+        ensures asks { result ≡ false → may_end self.now.memory.rows txn ≡ true → may_ask self.now.memory.rows txn ≡ true }
     {
         self.rows.is_full() && self.row(txn).is_none()
     }
 
     /// The oldest waiter that would be granted now.
     pub fn ready(&self) -> Option<TxnId>
-        ensures { result ≡ ready (claims self.now.memory.rows) }
+        ensures oldest { result ≡ ready (claims self.now.memory.rows) }
+        ensures asks { IfSome result (λ txn. Asks self.now.memory.rows txn [] (needs_in self.now.memory.rows txn) true) }
     {
+        self.rows.laws();
         self.rows.ready()
     }
 }

@@ -1,10 +1,12 @@
 //! Outcomes, and what a participant does until they come.
-ghost use Rattle.std.specs.Prelude.{◌≡◌, ◌∷◌, [], Some, None, Ok, IfOk, IfErr};
+ghost use Rattle.std.specs.Prelude.{◌≡◌, ◌∷◌, [], true, Some, None, Ok, IfOk, IfErr};
 ghost use Rattle.std.specs.Option.{option_copied};
 ghost use Rattle.protocol.specs.Rows.{HasRow};
 ghost use Rattle.protocol.specs.Step.{is_outcome_for};
 ghost use Rattle.protocol.specs.Plan.{plan_outcome, plan_nudge, drops, ends, raised, stands, held_in};
-ghost use Rattle.rows.specs.CodeRows.{phase_of, phase_of_wait};
+ghost use Rattle.rows.specs.CodeRows.{may_close, phase_of, phase_of_wait};
+ghost use Rattle.rows.specs.RowTable.{has_phase};
+ghost use Rattle.memory.specs.Carry.{IsFit, MayTurn, may_end};
 ghost use Rattle.memory.specs.Kept.{start_of, standing_of, IsPlanned};
 ghost use Rattle.memory.specs.Plans.{plan_of};
 ghost use Rattle.participant.specs.Votes.{refused_by};
@@ -19,7 +21,8 @@ use units::{Fault, TxnId};
 /// The outcome of a transaction. A promise is closed by it, where it comes from the coordinator and is not below the
 /// promise; a transaction that made none here may be aborted, and never committed.
 pub fn on_outcome(state: &State, alloc: Global, told: &Outcome) -> Result<Plan, Fault>
-    ensures { IsPlanned state.now (plan_outcome (start_of state.now) told.now.from told.now.txn told.now.outcome (stands (start_of state.now) told.now.txn)) result }
+    ensures planned { IsPlanned state.now (plan_outcome (start_of state.now) told.now.from told.now.txn told.now.outcome (stands (start_of state.now) told.now.txn)) result }
+    ensures fit { IfOk result (IsFit state.now) }
 {
     match state.row(told.txn) {
         Some(row) => outcome_with_row(state, alloc, told, row),
@@ -30,7 +33,9 @@ pub fn on_outcome(state: &State, alloc: Global, told: &Outcome) -> Result<Plan, 
 // The outcome of a transaction that has a row.
 #[tactic(auto, unfolding(protocol::specs::Plan::plan_outcome))]
 fn outcome_with_row(state: &State, alloc: Global, told: &Outcome, row: &Row) -> Result<Plan, Fault>
-    ensures { IsPlanned state.now (plan_outcome (start_of state.now) told.now.from told.now.txn told.now.outcome (HasRow (held_in state.now.memory.rows told.now.txn) (phase_of row.now))) result }
+    requires turn { MayTurn state.now.memory.rows told.now.txn row.now }
+    ensures planned { IsPlanned state.now (plan_outcome (start_of state.now) told.now.from told.now.txn told.now.outcome (HasRow (held_in state.now.memory.rows told.now.txn) (phase_of row.now))) result }
+    ensures fit { IfOk result (IsFit state.now) }
 {
     match row {
         Row::Reading(reading) => outcome_with_wait(state, alloc, told, reading.wait()),
@@ -52,7 +57,9 @@ fn outcome_with_wait(
     told: &Outcome,
     wait: Option<&Wait>,
 ) -> Result<Plan, Fault>
-    ensures { IsPlanned state.now (plan_outcome (start_of state.now) told.now.from told.now.txn told.now.outcome (HasRow (held_in state.now.memory.rows told.now.txn) (phase_of_wait (option_copied wait.entry)))) result }
+    requires { may_end state.now.memory.rows told.now.txn ≡ true }
+    ensures planned { IsPlanned state.now (plan_outcome (start_of state.now) told.now.from told.now.txn told.now.outcome (HasRow (held_in state.now.memory.rows told.now.txn) (phase_of_wait (option_copied wait.entry)))) result }
+    ensures fit { IfOk result (IsFit state.now) }
 {
     match (wait, told.outcome) {
         (Some(Wait::Commit(_)), _) => Err(Fault::Stranger),
@@ -69,7 +76,9 @@ fn outcome_without_row(
     told: &Outcome,
     past: Past,
 ) -> Result<Plan, Fault>
-    ensures { IsPlanned state.now (plan_outcome (start_of state.now) told.now.from told.now.txn told.now.outcome (standing_of past)) result }
+    requires { may_end state.now.memory.rows told.now.txn ≡ true }
+    ensures planned { IsPlanned state.now (plan_outcome (start_of state.now) told.now.from told.now.txn told.now.outcome (standing_of past)) result }
+    ensures fit { IfOk result (IsFit state.now) }
 {
     match past {
         Past::Unknown => match told.outcome {
@@ -96,7 +105,9 @@ fn is_outcome_for(prepared: &Prepared, told: &Outcome) -> bool
 
 // The promise is closed.
 fn close(state: &State, alloc: Global, told: &Outcome) -> Plan
-    ensures { plan_of state.now.memory.rows result ≡ drops told.now.txn (Record.Outcome told.now.txn told.now.outcome) (raised state.now.memory.last told.now.outcome) [] }
+    requires { has_phase may_close state.now.memory.rows told.now.txn ≡ true }
+    ensures plan { plan_of state.now.memory.rows result ≡ drops told.now.txn (Record.Outcome told.now.txn told.now.outcome) (raised state.now.memory.last told.now.outcome) [] }
+    ensures fit { IsFit state.now result }
 {
     let last = match told.outcome {
         Some(at) => state.last().later(at),
@@ -116,7 +127,9 @@ pub fn end_reading(
     txn: TxnId,
     wait: Option<&Wait>,
 ) -> Result<Plan, Fault>
+    requires { may_end state.now.memory.rows txn ≡ true }
     ensures plan { IfOk result (λ plan. plan_of state.now.memory.rows plan ≡ ends (start_of state.now) txn (refused_by state.now.setup.shard txn (option_copied wait.entry))) }
+    ensures fit { IfOk result (IsFit state.now) }
     ensures memory { IfErr result (λ fault. fault ≡ Fault.Memory) }
 {
     let mut out = Vec::new(alloc);
@@ -128,7 +141,8 @@ pub fn end_reading(
 
 /// A prepared transaction's coordinator is asked how it ended.
 pub fn on_nudge(state: &State, alloc: Global, txn: TxnId) -> Result<Plan, Fault>
-    ensures { IsPlanned state.now (plan_nudge (start_of state.now) txn (stands (start_of state.now) txn)) result }
+    ensures planned { IsPlanned state.now (plan_nudge (start_of state.now) txn (stands (start_of state.now) txn)) result }
+    ensures fit { IfOk result (IsFit state.now) }
 {
     match state.row(txn) {
         Some(row) => nudge_with_row(state, alloc, txn, row),
@@ -139,7 +153,8 @@ pub fn on_nudge(state: &State, alloc: Global, txn: TxnId) -> Result<Plan, Fault>
 // A nudge of a transaction that has a row.
 #[tactic(auto, unfolding(protocol::specs::Plan::plan_nudge))]
 fn nudge_with_row(state: &State, alloc: Global, txn: TxnId, row: &Row) -> Result<Plan, Fault>
-    ensures { IsPlanned state.now (plan_nudge (start_of state.now) txn (HasRow (held_in state.now.memory.rows txn) (phase_of row.now))) result }
+    ensures planned { IsPlanned state.now (plan_nudge (start_of state.now) txn (HasRow (held_in state.now.memory.rows txn) (phase_of row.now))) result }
+    ensures fit { IfOk result (IsFit state.now) }
 {
     match row {
         Row::Prepared(prepared) => {

@@ -6,11 +6,12 @@ ghost use Rattle.protocol.specs.Plan.{plan_prepare, plan_prepare_fresh, plan_pre
 ghost use Rattle.protocol.specs.Draft.{vote_to};
 ghost use Rattle.protocol.specs.Rows.{HasRow, WaitsPrepare, find_row};
 ghost use Rattle.rows.specs.CodeRows.{phase_of, phase_of_wait};
+ghost use Rattle.memory.specs.Carry.{Asks, IsFit, MayTurn, may_ask, may_end};
 ghost use Rattle.memory.specs.Kept.{start_of, standing_of, IsPlanned};
 ghost use Rattle.memory.specs.Plans.{plan_of};
 ghost use Rattle.participant.specs.Asks.{promises};
 
-use memory::{Change, Past, Plan, State, exclusive, reads_stand, vote_to};
+use memory::{Change, Past, Plan, Request, State, exclusive, reads_stand, vote_to};
 use message::Prepare;
 use record::{Prepared, Record};
 use rows::{PrepareRequest, Row, Wait};
@@ -26,7 +27,8 @@ pub fn on_prepare(
     now: &Reading,
     prepare: &Prepare,
 ) -> Result<Plan, Fault>
-    ensures { IsPlanned state.now (plan_prepare (start_of state.now) now.now.earliest prepare.now.txn prepare.now.coordinator prepare.now.reads.epoch prepare.now.reads.keys prepare.now.writes (stands (start_of state.now) prepare.now.txn)) result }
+    ensures planned { IsPlanned state.now (plan_prepare (start_of state.now) now.now.earliest prepare.now.txn prepare.now.coordinator prepare.now.reads.epoch prepare.now.reads.keys prepare.now.writes (stands (start_of state.now) prepare.now.txn)) result }
+    ensures fit { IfOk result (IsFit state.now) }
 {
     match state.row(prepare.txn) {
         Some(row) => prepare_with_row(state, alloc, now, prepare, row),
@@ -43,7 +45,9 @@ fn prepare_with_row(
     prepare: &Prepare,
     row: &Row,
 ) -> Result<Plan, Fault>
-    ensures { IsPlanned state.now (plan_prepare (start_of state.now) now.now.earliest prepare.now.txn prepare.now.coordinator prepare.now.reads.epoch prepare.now.reads.keys prepare.now.writes (HasRow (held_in state.now.memory.rows prepare.now.txn) (phase_of row.now))) result }
+    requires turn { MayTurn state.now.memory.rows prepare.now.txn row.now }
+    ensures planned { IsPlanned state.now (plan_prepare (start_of state.now) now.now.earliest prepare.now.txn prepare.now.coordinator prepare.now.reads.epoch prepare.now.reads.keys prepare.now.writes (HasRow (held_in state.now.memory.rows prepare.now.txn) (phase_of row.now))) result }
+    ensures fit { IfOk result (IsFit state.now) }
 {
     match row {
         Row::Reading(reading) => prepare_with_wait(state, alloc, now, prepare, reading.wait()),
@@ -61,7 +65,9 @@ fn prepare_with_wait(
     prepare: &Prepare,
     wait: Option<&Wait>,
 ) -> Result<Plan, Fault>
-    ensures { IsPlanned state.now (plan_prepare (start_of state.now) now.now.earliest prepare.now.txn prepare.now.coordinator prepare.now.reads.epoch prepare.now.reads.keys prepare.now.writes (HasRow (held_in state.now.memory.rows prepare.now.txn) (phase_of_wait (option_copied wait.entry)))) result }
+    requires { may_end state.now.memory.rows prepare.now.txn ≡ true }
+    ensures planned { IsPlanned state.now (plan_prepare (start_of state.now) now.now.earliest prepare.now.txn prepare.now.coordinator prepare.now.reads.epoch prepare.now.reads.keys prepare.now.writes (HasRow (held_in state.now.memory.rows prepare.now.txn) (phase_of_wait (option_copied wait.entry)))) result }
+    ensures fit { IfOk result (IsFit state.now) }
 {
     match wait {
         Some(Wait::Prepare(_)) => Ok(state.idles(alloc)),
@@ -79,8 +85,10 @@ fn prepare_without_row(
     prepare: &Prepare,
     past: Past,
 ) -> Result<Plan, Fault>
-    requires { find_row state.now.memory.rows prepare.now.txn ≡ None }
-    ensures { IsPlanned state.now (plan_prepare (start_of state.now) now.now.earliest prepare.now.txn prepare.now.coordinator prepare.now.reads.epoch prepare.now.reads.keys prepare.now.writes (standing_of past)) result }
+    requires row { find_row state.now.memory.rows prepare.now.txn ≡ None }
+    requires ends { may_end state.now.memory.rows prepare.now.txn ≡ true }
+    ensures planned { IsPlanned state.now (plan_prepare (start_of state.now) now.now.earliest prepare.now.txn prepare.now.coordinator prepare.now.reads.epoch prepare.now.reads.keys prepare.now.writes (standing_of past)) result }
+    ensures fit { IfOk result (IsFit state.now) }
 {
     match past {
         Past::Unknown => prepare_fresh(state, alloc, now, prepare),
@@ -94,6 +102,7 @@ fn prepare_without_row(
 // The vote, to the coordinator that the prepare names.
 fn vote(state: &State, alloc: Global, prepare: &Prepare, vote: Option<Stamp>) -> Result<Plan, Fault>
     ensures plan { IfOk result (λ plan. plan_of state.now.memory.rows plan ≡ replies (start_of state.now) (vote_to state.now.setup.shard prepare.now.coordinator prepare.now.txn vote ∷ [])) }
+    ensures fit { IfOk result (IsFit state.now) }
     ensures memory { IfErr result (λ fault. fault ≡ Fault.Memory) }
 {
     let envelope = vote_to(state.setup().shard, prepare.coordinator, prepare.txn, vote);
@@ -107,7 +116,9 @@ fn prepare_fresh(
     now: &Reading,
     prepare: &Prepare,
 ) -> Result<Plan, Fault>
-    ensures { IsPlanned state.now (plan_prepare_fresh (start_of state.now) now.now.earliest prepare.now.txn prepare.now.coordinator prepare.now.reads.epoch prepare.now.reads.keys prepare.now.writes (held_in state.now.memory.rows prepare.now.txn)) result }
+    requires { may_end state.now.memory.rows prepare.now.txn ≡ true }
+    ensures planned { IsPlanned state.now (plan_prepare_fresh (start_of state.now) now.now.earliest prepare.now.txn prepare.now.coordinator prepare.now.reads.epoch prepare.now.reads.keys prepare.now.writes (held_in state.now.memory.rows prepare.now.txn)) result }
+    ensures fit { IfOk result (IsFit state.now) }
 {
     if reads_stand(state, prepare.txn, &prepare.reads) {
         return prepare_now(state, alloc, now, prepare);
@@ -117,7 +128,9 @@ fn prepare_fresh(
 
 // The vote is refused, and the transaction ended.
 fn refuse(state: &State, alloc: Global, prepare: &Prepare) -> Result<Plan, Fault>
+    requires { may_end state.now.memory.rows prepare.now.txn ≡ true }
     ensures plan { IfOk result (λ plan. plan_of state.now.memory.rows plan ≡ ends (start_of state.now) prepare.now.txn (vote_to state.now.setup.shard prepare.now.coordinator prepare.now.txn None ∷ [])) }
+    ensures fit { IfOk result (IsFit state.now) }
     ensures memory { IfErr result (λ fault. fault ≡ Fault.Memory) }
 {
     let shard = state.setup().shard;
@@ -133,7 +146,9 @@ fn prepare_now(
     now: &Reading,
     prepare: &Prepare,
 ) -> Result<Plan, Fault>
-    ensures { IsPlanned state.now (plan_prepare_now (start_of state.now) now.now.earliest prepare.now.txn prepare.now.coordinator prepare.now.reads.keys prepare.now.writes) result }
+    requires { may_end state.now.memory.rows prepare.now.txn ≡ true }
+    ensures planned { IsPlanned state.now (plan_prepare_now (start_of state.now) now.now.earliest prepare.now.txn prepare.now.coordinator prepare.now.reads.keys prepare.now.writes) result }
+    ensures fit { IfOk result (IsFit state.now) }
 {
     if state.opens_writes(prepare.txn, &prepare.writes) {
         promise_now(state, alloc, now, prepare)
@@ -149,8 +164,10 @@ fn promise_now(
     now: &Reading,
     prepare: &Prepare,
 ) -> Result<Plan, Fault>
-    requires { opens (start_of state.now) prepare.now.txn (exclusive prepare.now.writes) ≡ true }
-    ensures { IsPlanned state.now (plan_prepare_now (start_of state.now) now.now.earliest prepare.now.txn prepare.now.coordinator prepare.now.reads.keys prepare.now.writes) result }
+    requires opens { opens (start_of state.now) prepare.now.txn (exclusive prepare.now.writes) ≡ true }
+    requires ends { may_end state.now.memory.rows prepare.now.txn ≡ true }
+    ensures planned { IsPlanned state.now (plan_prepare_now (start_of state.now) now.now.earliest prepare.now.txn prepare.now.coordinator prepare.now.reads.keys prepare.now.writes) result }
+    ensures fit { IfOk result (IsFit state.now) }
 {
     let at = promise_time(state, now)?;
     if state.is_crowded(prepare.txn) {
@@ -161,8 +178,11 @@ fn promise_now(
 
 // Whoever is in the way is ended, and the promise logged.
 fn promise_anew(state: &State, alloc: Global, prepare: &Prepare, at: Stamp) -> Result<Plan, Fault>
+    requires opens { opens (start_of state.now) prepare.now.txn (exclusive prepare.now.writes) ≡ true }
+    requires asks { may_ask state.now.memory.rows prepare.now.txn ≡ true }
     ensures plan { IfOk result (λ plan. plan_of state.now.memory.rows plan ≡
         promises (start_of state.now) (in_way (start_of state.now) prepare.now.txn (exclusive prepare.now.writes)) prepare.now.txn at prepare.now.coordinator prepare.now.reads.keys prepare.now.writes) }
+    ensures fit { IfOk result (IsFit state.now) }
     ensures memory { IfErr result (λ fault. fault ≡ Fault.Memory) }
 {
     let request = request_of(alloc, prepare)?;
@@ -173,8 +193,10 @@ fn promise_anew(state: &State, alloc: Global, prepare: &Prepare, at: Stamp) -> R
 
 // The transaction waits with its prepare.
 fn wait(state: &State, alloc: Global, prepare: &Prepare) -> Result<Plan, Fault>
-    requires { opens (start_of state.now) prepare.now.txn (exclusive prepare.now.writes) ≡ false }
-    ensures { (earliest : ℕ) → IsPlanned state.now (plan_prepare_now (start_of state.now) earliest prepare.now.txn prepare.now.coordinator prepare.now.reads.keys prepare.now.writes) result }
+    requires opens { opens (start_of state.now) prepare.now.txn (exclusive prepare.now.writes) ≡ false }
+    requires ends { may_end state.now.memory.rows prepare.now.txn ≡ true }
+    ensures planned { (earliest : ℕ) → IsPlanned state.now (plan_prepare_now (start_of state.now) earliest prepare.now.txn prepare.now.coordinator prepare.now.reads.keys prepare.now.writes) result }
+    ensures fit { IfOk result (IsFit state.now) }
 {
     if state.is_crowded(prepare.txn) {
         return Err(Fault::RowsFull);
@@ -184,15 +206,22 @@ fn wait(state: &State, alloc: Global, prepare: &Prepare) -> Result<Plan, Fault>
 
 // Whoever is in the way and may be ended is ended, and the row waits.
 fn wait_in_row(state: &State, alloc: Global, prepare: &Prepare) -> Result<Plan, Fault>
+    requires opens { opens (start_of state.now) prepare.now.txn (exclusive prepare.now.writes) ≡ false }
+    requires asks { may_ask state.now.memory.rows prepare.now.txn ≡ true }
     ensures plan { IfOk result (λ plan. plan_of state.now.memory.rows plan ≡
         puts (start_of state.now) (in_way (start_of state.now) prepare.now.txn (exclusive prepare.now.writes)) prepare.now.txn [] (WaitsPrepare prepare.now.coordinator prepare.now.reads.keys prepare.now.writes) None state.now.memory.last []) }
+    ensures fit { IfOk result (IsFit state.now) }
     ensures memory { IfErr result (λ fault. fault ≡ Fault.Memory) }
 {
     let request = request_of(alloc, prepare)?;
     let needs = exclusive(alloc, &request.writes)?;
     let wounded = state.in_way(alloc, prepare.txn, &needs)?;
-    let asked = (needs, Change::Waits(prepare.txn, Wait::Prepare(request)));
-    state.puts(alloc, wounded, asked, None, state.last(), None)
+    let waits = Request {
+        wounded,
+        needs,
+        change: Change::Waits(prepare.txn, Wait::Prepare(request)),
+    };
+    state.puts(alloc, waits, None, state.last(), None)
 }
 
 /// The prepare that a transaction waits with, once its locks are granted.
@@ -203,7 +232,9 @@ pub fn resume_prepare(
     txn: TxnId,
     request: &PrepareRequest,
 ) -> Result<Plan, Fault>
-    ensures { IsPlanned state.now (plan_promise (start_of state.now) [] now.now.earliest txn request.now.coordinator request.now.reads request.now.writes) result }
+    requires { Asks state.now.memory.rows txn [] (exclusive request.now.writes) true }
+    ensures planned { IsPlanned state.now (plan_promise (start_of state.now) [] now.now.earliest txn request.now.coordinator request.now.reads request.now.writes) result }
+    ensures fit { IfOk result (IsFit state.now) }
 {
     let at = promise_time(state, now)?;
     promise_alone(state, alloc, txn, at, request)
@@ -217,7 +248,9 @@ fn promise_alone(
     at: Stamp,
     request: &PrepareRequest,
 ) -> Result<Plan, Fault>
+    requires { Asks state.now.memory.rows txn [] (exclusive request.now.writes) true }
     ensures plan { IfOk result (λ plan. plan_of state.now.memory.rows plan ≡ promises (start_of state.now) [] txn at request.now.coordinator request.now.reads request.now.writes) }
+    ensures fit { IfOk result (IsFit state.now) }
     ensures memory { IfErr result (λ fault. fault ≡ Fault.Memory) }
 {
     let copy = request.copy(alloc)?;
@@ -246,8 +279,10 @@ fn promise_at(
     at: Stamp,
     request: PrepareRequest,
 ) -> Result<Plan, Fault>
-    requires { needs.items ≡ exclusive request.writes }
+    requires needs { needs.items ≡ exclusive request.writes }
+    requires asks { Asks state.now.memory.rows txn wounded (exclusive request.writes) true }
     ensures plan { IfOk result (λ plan. plan_of state.now.memory.rows plan ≡ promises (start_of state.now) wounded txn at request.coordinator request.reads request.writes) }
+    ensures fit { IfOk result (IsFit state.now) }
     ensures memory { IfErr result (λ fault. fault ≡ Fault.Memory) }
 {
     let yes = vote_to(state.setup().shard, request.coordinator, txn, Some(at));
@@ -258,9 +293,13 @@ fn promise_at(
         reads: request.reads,
         writes: request.writes,
     });
-    let asked = (needs, Change::Stands(txn));
+    let stands = Request {
+        wounded,
+        needs,
+        change: Change::Stands(txn),
+    };
     let last = state.last().later(at);
-    state.puts(alloc, wounded, asked, Some(promise), last, Some(yes))
+    state.puts(alloc, stands, Some(promise), last, Some(yes))
 }
 
 // The request of a prepare, with memory of its own.

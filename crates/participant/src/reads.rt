@@ -1,15 +1,16 @@
 //! Reads.
-ghost use Rattle.std.specs.Prelude.{◌≡◌, ℕ, IfOk, IfErr, [], ◌∷◌, None};
+ghost use Rattle.std.specs.Prelude.{◌≡◌, ℕ, true, IfOk, IfErr, [], ◌∷◌, None};
 ghost use Rattle.message.specs.declared.message.Answer.TheVariants.{Refused};
 ghost use Rattle.protocol.specs.Draft.{answer_to};
 ghost use Rattle.protocol.specs.Rows.{Idle, WaitsRead, HasRow};
 ghost use Rattle.protocol.specs.Plan.{plan_read, plan_read_row, plan_read_now, plan_go_on, puts, replies, answers, stands, held_in, to_read};
 ghost use Rattle.rows.specs.CodeRows.{phase_of};
+ghost use Rattle.memory.specs.Carry.{Asks, IsFit, MayTurn, may_ask, may_end};
 ghost use Rattle.memory.specs.Kept.{start_of, standing_of, IsPlanned};
 ghost use Rattle.memory.specs.Plans.{plan_of};
 ghost use Rattle.participant.specs.Asks.{read_asks};
 
-use memory::{Change, Past, Plan, State, answer_to};
+use memory::{Change, Past, Plan, Request, State, answer_to};
 use message::{Answer, Read};
 use rows::{Row, Wait};
 use std::alloc::Global;
@@ -17,7 +18,8 @@ use units::{Fault, Ids, Key, Lock, Mode, TxnId};
 
 /// A read: a key that is held is answered at once; else a shared lock is asked for, and the answer comes once it is held.
 pub fn on_read(state: &State, alloc: Global, read: &Read) -> Result<Plan, Fault>
-    ensures { IsPlanned state.now (plan_read (start_of state.now) read.now.txn read.now.key (stands (start_of state.now) read.now.txn)) result }
+    ensures planned { IsPlanned state.now (plan_read (start_of state.now) read.now.txn read.now.key (stands (start_of state.now) read.now.txn)) result }
+    ensures fit { IfOk result (IsFit state.now) }
 {
     match state.row(read.txn) {
         Some(row) => read_with_row(state, alloc, read, row),
@@ -28,7 +30,9 @@ pub fn on_read(state: &State, alloc: Global, read: &Read) -> Result<Plan, Fault>
 // A read of a transaction that has a row.
 #[tactic(auto, unfolding(protocol::specs::Plan::plan_read))]
 fn read_with_row(state: &State, alloc: Global, read: &Read, row: &Row) -> Result<Plan, Fault>
-    ensures { IsPlanned state.now (plan_read (start_of state.now) read.now.txn read.now.key (HasRow (held_in state.now.memory.rows read.now.txn) (phase_of row.now))) result }
+    requires turn { MayTurn state.now.memory.rows read.now.txn row.now }
+    ensures planned { IsPlanned state.now (plan_read (start_of state.now) read.now.txn read.now.key (HasRow (held_in state.now.memory.rows read.now.txn) (phase_of row.now))) result }
+    ensures fit { IfOk result (IsFit state.now) }
 {
     match row {
         Row::Reading(reading) => {
@@ -42,7 +46,9 @@ fn read_with_row(state: &State, alloc: Global, read: &Read, row: &Row) -> Result
 // A read of a transaction that has no row.
 #[tactic(auto, unfolding(protocol::specs::Plan::plan_read))]
 fn read_without_row(state: &State, alloc: Global, read: &Read, past: Past) -> Result<Plan, Fault>
-    ensures { IsPlanned state.now (plan_read (start_of state.now) read.now.txn read.now.key (standing_of past)) result }
+    requires { may_end state.now.memory.rows read.now.txn ≡ true }
+    ensures planned { IsPlanned state.now (plan_read (start_of state.now) read.now.txn read.now.key (standing_of past)) result }
+    ensures fit { IfOk result (IsFit state.now) }
 {
     match past {
         Past::Unknown => read_now(state, alloc, read.txn, &read.key),
@@ -54,7 +60,9 @@ fn read_without_row(state: &State, alloc: Global, read: &Read, past: Past) -> Re
 
 // A key that is held is answered at once; a row that waits stays as it is.
 fn read_row(state: &State, alloc: Global, txn: TxnId, key: &Key, waits: bool) -> Result<Plan, Fault>
-    ensures { IsPlanned state.now (plan_read_row (start_of state.now) txn key.now (held_in state.now.memory.rows txn) waits) result }
+    requires { may_end state.now.memory.rows txn ≡ true }
+    ensures planned { IsPlanned state.now (plan_read_row (start_of state.now) txn key.now (held_in state.now.memory.rows txn) waits) result }
+    ensures fit { IfOk result (IsFit state.now) }
 {
     if state.holds(txn, key) {
         return answer_held(state, alloc, txn, key);
@@ -68,6 +76,7 @@ fn read_row(state: &State, alloc: Global, txn: TxnId, key: &Key, waits: bool) ->
 // A key that is held is answered.
 fn answer_held(state: &State, alloc: Global, txn: TxnId, key: &Key) -> Result<Plan, Fault>
     ensures plan { IfOk result (λ plan. plan_of state.now.memory.rows plan ≡ replies (start_of state.now) (answers (start_of state.now) txn key.now ∷ [])) }
+    ensures fit { IfOk result (IsFit state.now) }
     ensures memory { IfErr result (λ fault. fault ≡ Fault.Memory) }
 {
     let answer = state.answer(alloc, txn, key)?;
@@ -76,7 +85,9 @@ fn answer_held(state: &State, alloc: Global, txn: TxnId, key: &Key) -> Result<Pl
 
 // A shared lock and the answer, or a wait, where there is room for the row.
 fn read_now(state: &State, alloc: Global, txn: TxnId, key: &Key) -> Result<Plan, Fault>
-    ensures { IsPlanned state.now (plan_read_now (start_of state.now) txn key.now) result }
+    requires { may_end state.now.memory.rows txn ≡ true }
+    ensures planned { IsPlanned state.now (plan_read_now (start_of state.now) txn key.now) result }
+    ensures fit { IfOk result (IsFit state.now) }
 {
     if state.is_crowded(txn) {
         return Err(Fault::RowsFull);
@@ -86,7 +97,9 @@ fn read_now(state: &State, alloc: Global, txn: TxnId, key: &Key) -> Result<Plan,
 
 // A shared lock and the answer, or a wait.
 fn ask_for_key(state: &State, alloc: Global, txn: TxnId, key: &Key) -> Result<Plan, Fault>
+    requires { may_ask state.now.memory.rows txn ≡ true }
     ensures plan { IfOk result (λ plan. plan_of state.now.memory.rows plan ≡ read_asks (start_of state.now) txn key.now) }
+    ensures fit { IfOk result (IsFit state.now) }
     ensures memory { IfErr result (λ fault. fault ≡ Fault.Memory) }
 {
     let needs = shared(alloc, key)?;
@@ -94,21 +107,29 @@ fn ask_for_key(state: &State, alloc: Global, txn: TxnId, key: &Key) -> Result<Pl
     if state.opens(txn, &needs) {
         grant(state, alloc, wounded, needs, txn, key)
     } else {
-        let asked = (needs, Change::Waits(txn, Wait::Read(*key)));
-        state.puts(alloc, wounded, asked, None, state.last(), None)
+        let request = Request {
+            wounded,
+            needs,
+            change: Change::Waits(txn, Wait::Read(*key)),
+        };
+        state.puts(alloc, request, None, state.last(), None)
     }
 }
 
 /// The read that a transaction waits with, once its lock is granted.
 pub fn resume_read(state: &State, alloc: Global, txn: TxnId, key: &Key) -> Result<Plan, Fault>
-    ensures { (earliest : ℕ) → IsPlanned state.now (plan_go_on (start_of state.now) earliest txn (WaitsRead key.now)) result }
+    requires { Asks state.now.memory.rows txn [] (to_read key.now) true }
+    ensures planned { (earliest : ℕ) → IsPlanned state.now (plan_go_on (start_of state.now) earliest txn (WaitsRead key.now)) result }
+    ensures fit { IfOk result (IsFit state.now) }
 {
     grant_alone(state, alloc, txn, key)
 }
 
 // The lock is granted with nobody ended, and the read answered.
 fn grant_alone(state: &State, alloc: Global, txn: TxnId, key: &Key) -> Result<Plan, Fault>
+    requires { Asks state.now.memory.rows txn [] (to_read key.now) true }
     ensures plan { IfOk result (λ plan. plan_of state.now.memory.rows plan ≡ puts (start_of state.now) [] txn (to_read key.now) Idle None state.now.memory.last (answers (start_of state.now) txn key.now ∷ [])) }
+    ensures fit { IfOk result (IsFit state.now) }
     ensures memory { IfErr result (λ fault. fault ≡ Fault.Memory) }
 {
     let needs = shared(alloc, key)?;
@@ -125,18 +146,25 @@ fn grant(
     txn: TxnId,
     key: &Key,
 ) -> Result<Plan, Fault>
-    requires { needs.items ≡ to_read key.now }
+    requires needs { needs.items ≡ to_read key.now }
+    requires asks { Asks state.now.memory.rows txn wounded (to_read key.now) true }
     ensures plan { IfOk result (λ plan. plan_of state.now.memory.rows plan ≡ puts (start_of state.now) wounded txn (to_read key.now) Idle None state.now.memory.last (answers (start_of state.now) txn key.now ∷ [])) }
+    ensures fit { IfOk result (IsFit state.now) }
     ensures memory { IfErr result (λ fault. fault ≡ Fault.Memory) }
 {
     let answer = state.answer(alloc, txn, key)?;
-    let asked = (needs, Change::Reads(txn));
-    state.puts(alloc, wounded, asked, None, state.last(), Some(answer))
+    let request = Request {
+        wounded,
+        needs,
+        change: Change::Reads(txn),
+    };
+    state.puts(alloc, request, None, state.last(), Some(answer))
 }
 
 // The read is refused.
 fn refuse(state: &State, alloc: Global, txn: TxnId, key: &Key) -> Result<Plan, Fault>
     ensures plan { IfOk result (λ plan. plan_of state.now.memory.rows plan ≡ replies (start_of state.now) (answer_to state.now.setup.shard txn key.now state.now.facts.epoch Refused ∷ [])) }
+    ensures fit { IfOk result (IsFit state.now) }
     ensures memory { IfErr result (λ fault. fault ≡ Fault.Memory) }
 {
     let answer = answer_to(

@@ -2,7 +2,7 @@
 use Rattle.std.proofs.Common.{◌≡◌, ◌⊎◌, inl, inr, ⊎_elim, ℕ, Bool, true, false, ◌&&◌, ◌||◌, nat_eq, List, [], ◌∷◌, ◌++◌, fold, Option, Some, None, Result, Ok, Err, refl, sym, ap, ◌∙◌, subst, arith}
 use Rattle.std.proofs.lemmas.Bool.Decides.{nat_tests}
 use Rattle.units.specs.Ids.{Id, same_id}
-use Rattle.units.specs.Lists.{any}
+use Rattle.units.specs.Lists.{any, first}
 use Rattle.units.specs.declared.fault.Fault.{Fault}
 use Rattle.units.proofs.IdLaws.{same_id-is}
 use Rattle.record.specs.declared.record.Committed.{Committed}
@@ -11,10 +11,14 @@ use Rattle.record.specs.Records.{Status, Unrecorded, StandsPrepared, StandsDecid
 use Rattle.record.specs.Facts.{Facts, Entry, learn, recorded, or_unrecorded, with_status, after_outcome}
 use Rattle.shard.specs.Logs.{and_logged, facts_logged, learned, nothing}
 use Rattle.shard.specs.Settled.{is_commit, HasCommit}
-use Rattle.units.specs.declared.writes.Install.{Install}
-use Rattle.shard.specs.declared.settled.Settled.{Settled}
-use Rattle.shard.specs.Held.{facts_by}
-use Rattle.shard.proofs.Entries.{entry, entries, entry_for, entry_for-same, entry_for-other}
+use Rattle.protocol.proofs.StatusChanges.{entry_same, entry_other}
+
+-- the entry of an id
+abbrev entry_for : List Entry → Id → Option Entry
+entry_for es t = first (λ e. same_id e.txn t) es
+
+abbrev entry : Id → Status → Entry
+entry t status = record { txn = t; status = status }
 
 -- the timestamp of a decision that stands
 abbrev decided_stamp : Status → ℕ
@@ -26,8 +30,8 @@ module _ (t : Id) (c : Committed) where
   given : (es : List Entry) (u : Id) (status : Status) (same : Bool) → same_id u t ≡ same → or_unrecorded (entry_for (with_status es u status) t) ≡ StandsDecided c
       → ((same ≡ true) × (status ≡ StandsDecided c)) ⊎ (or_unrecorded (entry_for es t) ≡ StandsDecided c)
   given es u status true is h =
-      inl (refl, sym (ap or_unrecorded (subst (λ v. entry_for (with_status es u status) v ≡ Some (entry u status)) (same_id-is u t is) (entry_for-same es u status))) ∙ h)
-  given es u status false is h = inr (sym (ap or_unrecorded (entry_for-other es u t status is)) ∙ h)
+      inl (refl, sym (ap or_unrecorded (subst (λ v. entry_for (with_status es u status) v ≡ Some (entry u status)) (same_id-is u t is) (entry_same es u status))) ∙ h)
+  given es u status false is h = inr (sym (ap or_unrecorded (entry_other es u t status is)) ∙ h)
 
   not-decided : (status : Status) (outcome : Option ℕ) → after_outcome status outcome ≡ StandsDecided c → ⊥
   not-decided Unrecorded outcome h = cc
@@ -90,10 +94,3 @@ module _ (t : Id) (c : Committed) where
       any-more (is_commit t c.at) rs (r ∷ [])
       (⊎_elim (λ before. absurd (cc)) (λ is. is) (learn-all nothing rs (ap (λ f. recorded f t) same ∙ stands)))
   has-commit (Err fault) facts r logged stands = absurd (cc)
-
--- the status of the decision that stands
-pub recorded-decided : (epoch floor : ℕ) (ss : List Settled) (installs : List Install) (d : Committed) (t : Id) → same_id d.txn t ≡ true
-    → recorded (facts_by epoch floor (Some d) ss installs) t ≡ StandsDecided d
-recorded-decided epoch floor ss installs d t same =
-    ap or_unrecorded (subst (λ v. entry_for (with_status (entries ss) d.txn (StandsDecided d)) v ≡ Some (entry d.txn (StandsDecided d))) (same_id-is d.txn t same)
-    (entry_for-same (entries ss) d.txn (StandsDecided d)))

@@ -1,13 +1,6 @@
-pub mod Clashes
-pub mod Entries
-pub mod Steps
-pub mod Results
-pub mod Settles
-pub mod Standings
-pub mod Keeps
-pub mod Learns
 pub mod Appends
+pub mod Carried
 pub mod Commitments
-pub mod Commits
-pub mod Decisions
-pub mod Advances
+pub mod Plans
+pub mod Results
+pub mod Settling

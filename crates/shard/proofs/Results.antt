@@ -1,39 +1,55 @@
 -- What an input that is refused, or that logs nothing, leaves of a core.
-use Rattle.std.proofs.Common.{◌∙◌, ◌≡◌, inl, inr, ℕ, ◌<◌, IsTrue, IsFalse, List, [], Option, Some, None, Result, Ok, Err, refl, sym, ap, subst, arith}
+use Rattle.std.proofs.Common.{◌∙◌, ◌≡◌, ◌⊎◌, inl, inr, ℕ, ◌+◌, ◌^◌, ◌≤◌, ◌<◌, true, IsTrue, IsFalse, List, [], Option, Some, None, Result, Ok, Err, IfOk, refl, sym, ap, subst, arith}
+use Rattle.std.proofs.lemmas.Bool.{false≢true}
 use Rattle.units.specs.declared.fault.Fault.{Fault}
-use Rattle.units.specs.declared.fault.Fault.TheVariants.{Device}
+use Rattle.units.specs.declared.fault.Fault.TheVariants.{Device, Memory as WantsMemory}
+use Rattle.units.specs.declared.setup.Setup.{Setup}
 use Rattle.disk.specs.declared.plan.Plan.{Plan}
+use Rattle.disk.specs.declared.plan.Plan.TheVariants.{Never}
+use Rattle.gatelog.specs.Frames.{next_gate}
 use Rattle.disk.specs.Image.{MayLeave}
 use Rattle.disk.specs.File.{File, surface}
 use Rattle.disk.specs.Moments.{LeavesOnly}
 use Rattle.message.specs.declared.message.Envelope.{Envelope}
 use Rattle.record.specs.declared.record.Record.{Record}
+use Rattle.record.specs.Facts.{Facts}
 use Rattle.protocol.specs.Draft.{Stepped, Refuses, Does}
+use Rattle.protocol.specs.Rows.{Memory}
 use Rattle.protocol.specs.Step.{facts_after}
+use Rattle.protocol.specs.Plan.{Planned, stepped, carried}
+use Rattle.protocol.specs.Refusals.{Owns, is_own}
+use Rattle.memory.specs.Kept.{IsRefusal}
 use Rattle.shard.specs.Logs.{records_in, and_logged, KeepsRecords, HoldsOldOrWith}
-use Rattle.shard.specs.On.{CoreView, IsCause, IsLogFull, HasWritten, HasLogged, HasStepped}
-use Rattle.shard.specs.Remembered.{remembered}
-use Rattle.shard.specs.Replies.{IsRefusedBy, WouldBeDone}
-
--- an answer, and a refusal of some answer
-abbrev answered : {T : Type 0} → T → Result T Fault
-answered x = Ok x
-
-abbrev refusal : (T : Type 0) → Fault → Result T Fault
-refusal T fault = Err fault
+use Rattle.shard.specs.On.{CoreView, IsCause, IsDone, IsLogFull, HasWritten, HasStepped}
 
 abbrev no_answer : Fault → Result (List Envelope) Fault
 no_answer fault = Err fault
 
 -- nothing is added
-and-none : (records : Result (List Record) Fault) → and_logged records None ≡ records
+pub and-none : (records : Result (List Record) Fault) → and_logged records None ≡ records
 and-none (Ok records) = refl
 and-none (Err fault) = refl
+
+-- a refusal of the step's own is no failing device, nor is want of memory
+pub refusal_is_no_device : (planned : Planned) (fault : Fault) → Owns planned → IsRefusal planned fault → fault ≡ Device → ⊥
+refusal_is_no_device (Ok p) fault own refusal device = cc
+refusal_is_no_device (Err why) fault own refusal device =
+    absurd (false≢true (subst (λ (f : Fault). is_own f ≡ true) (sym refusal ∙ device) own))
+
+-- what is put out
+pub outbox_of : {D : Type 0} (old new : CoreView D) (logged : Option Record) (after : Memory) (outbox : List Envelope) (result : Result (List Envelope) Fault)
+    → IfOk result (λ out. IsFalse old.stopped × IsFalse new.stopped × IsDone (Does logged after outbox) old new out) → IfOk result (λ out. out ≡ outbox)
+outbox_of old new logged after outbox (Ok out) h = h.2.2
+outbox_of old new logged after outbox (Err fault) h = tt
 
 module _ {D : Type 0} (keeps obeys : Type 0) (file : D → File) (clock : D → ℕ) (since : D → ℕ → List ℕ → Type 0) (failures : D → ℕ) (plan : D → Plan)
     (only_now : (d : D) (image : List ℕ) → since d (clock d) image → MayLeave (surface (file d)) image) where
   module _ (core : CoreView D) (running : IsFalse core.stopped) (stands : keeps → KeepsRecords (surface (file core.disk)) (records_in (surface (file core.disk)).seen)) where
-    -- nothing was done
+    -- the core with this told and known of it
+    abbrev with_known : Setup → Facts → Memory → CoreView D
+    with_known setup facts memory = record core { setup = setup; facts = facts; memory = memory }
+
+    -- nothing was done to the disk
     untouched : (logged : Option Record) → keeps → LeavesOnly clock since core.disk core.disk (HoldsOldOrWith (records_in (surface (file core.disk)).seen) logged)
     untouched logged keep = record {
       later = omega arith;
@@ -41,90 +57,100 @@ module _ {D : Type 0} (keeps obeys : Type 0) (file : D → File) (clock : D → 
       before = λ moment image le left. inl left;
     }
 
-    refused-written : (logged : Option Record) (fault : Fault) → (fault ≡ Device → ⊥) → HasWritten keeps obeys file clock since failures plan core core logged (no_answer fault)
-    refused-written logged fault other = record {
-      setup = refl;
-      failures_stay = omega arith;
-      any_moment = λ run keep. untouched logged keep;
-      durable = tt;
-      read = tt;
-      gate = tt;
-      kept = (refl, refl, inr (refl, refl, refl));
-      planned = λ obey never. (never, other);
-    }
+    module _ (setup : Setup) (facts : Facts) (memory : Memory) (is_setup : setup ≡ core.setup) (is_facts : facts ≡ core.facts) where
+      refused-written : memory ≡ core.memory → (logged : Option Record) (fault : Fault) → (fault ≡ Device → ⊥)
+          → HasWritten keeps obeys file clock since failures plan core (with_known setup facts memory) logged (no_answer fault)
+      refused-written is_memory logged fault other = record {
+        setup = is_setup;
+        failures_stay = omega arith;
+        any_moment = λ run keep. untouched logged keep;
+        durable = tt;
+        read = tt;
+        gate = tt;
+        kept = (is_facts, is_memory, inr (refl, refl, refl));
+        planned = λ obey never. (never, other);
+      }
 
-    -- a refusal of the step's own, or want of memory where it would be done
-    pub refused : (step : Stepped) (fault : Fault) → (fault ≡ Device → ⊥) → IsRefusedBy step fault → HasStepped keeps obeys file clock since failures plan core core step (Err fault)
-    refused step fault other (inl own) =
-        subst (λ s. HasStepped keeps obeys file clock since failures plan core core s (Err fault)) (sym own) (record {
-          written = refused-written None fault other;
-          done = tt;
-          cause = subst (λ b. IsCause b (Refuses fault) fault (IsLogFull core.gate None) ((failures core.disk < failures core.disk) × IsTrue core.stopped)) (sym running) refl;
-        })
-    refused (Does logged memory out) fault other (inr want) = record {
-      written = refused-written logged fault other;
-      done = tt;
-      cause = subst (λ b. IsCause b (Does logged memory out) fault (IsLogFull core.gate logged) ((failures core.disk < failures core.disk) × IsTrue core.stopped)) (sym running) (inl want.0);
-    }
-    refused (Refuses why) fault other (inr want) = absurd want.1
+      -- a refusal of a plan; or want of memory, where there is one
+      pub refused : memory ≡ core.memory → (planned : Planned) (fault : Fault) → (fault ≡ Device → ⊥) → IsRefusal planned fault
+          → HasStepped keeps obeys file clock since failures plan core (with_known setup facts memory) (stepped core.memory planned) (Err fault)
+      refused is_memory (Err why) fault other own = record {
+        written = refused-written is_memory None fault other;
+        done = tt;
+        cause = subst (λ b. IsCause b (Refuses why) fault (IsLogFull core.gate None) ((failures core.disk < failures core.disk) × IsTrue core.stopped)) (sym running) own;
+      }
+      refused is_memory (Ok p) fault other want = record {
+        written = refused-written is_memory p.logged fault other;
+        done = tt;
+        cause = subst (λ b. IsCause b (stepped core.memory (Ok p)) fault (IsLogFull core.gate p.logged) ((failures core.disk < failures core.disk) × IsTrue core.stopped)) (sym running) (inl want);
+      }
 
-    -- nothing is logged nor put out, and this is the greatest timestamp then
-    pub served : (new : CoreView D) (step : Stepped) (last : ℕ) (out : List Envelope) → new.disk ≡ core.disk → new.gate ≡ core.gate → new.stopped ≡ core.stopped → new.setup ≡ core.setup
-        → new.facts ≡ core.facts → new.last ≡ last → step ≡ Does None (remembered last core.facts) []
-        → out ≡ [] → HasStepped keeps obeys file clock since failures plan core new step (Ok out)
-    served new step last out disk gate stopped setup facts is_last is empty =
-        subst (λ o. HasStepped keeps obeys file clock since failures plan core new step (Ok o)) (sym empty)
-        (subst (λ s. HasStepped keeps obeys file clock since failures plan core new s (Ok [])) (sym is)
-        (subst (λ (d : D). HasStepped keeps obeys file clock since failures plan core (record new { disk = d }) (Does None (remembered last core.facts) []) (Ok [])) (sym disk) (record {
+      -- want of memory for what is to be done
+      pub wanting : memory ≡ core.memory → (logged : Option Record) (after : Memory) (out : List Envelope) (fault : Fault) → fault ≡ WantsMemory
+          → HasStepped keeps obeys file clock since failures plan core (with_known setup facts memory) (Does logged after out) (Err fault)
+      wanting is_memory logged after out fault want = record {
+        written = refused-written is_memory logged fault (λ device. cc);
+        done = tt;
+        cause = subst (λ b. IsCause b (Does logged after out) fault (IsLogFull core.gate logged) ((failures core.disk < failures core.disk) × IsTrue core.stopped)) (sym running) (inl want);
+      }
+
+      -- nothing is logged
+      pub served : (after : Memory) (out : List Envelope) → memory ≡ after
+          → HasStepped keeps obeys file clock since failures plan core (with_known setup facts memory) (Does None after out) (Ok out)
+      served after out is_memory = record {
+        written = record {
+          setup = is_setup;
+          failures_stay = omega arith;
+          any_moment = λ run keep. untouched None keep;
+          durable = λ keep. subst (λ records. KeepsRecords (surface (file core.disk)) records) (sym (and-none (records_in (surface (file core.disk)).seen))) (stands keep);
+          read = λ keep. sym (and-none (records_in (surface (file core.disk)).seen));
+          gate = (refl, omega arith);
+          kept = tt;
+          planned = λ obey never. (never, tt);
+        };
+        done = (running, running, (is_facts, is_memory, refl));
+        cause = tt;
+      }
+
+    -- the step and what is answered, by what they are
+    restated : (new : CoreView D) (logged step_logged : Option Record) (after : Memory) (out answer : List Envelope) → step_logged ≡ logged → answer ≡ out
+        → HasStepped keeps obeys file clock since failures plan core new (Does logged after out) (Ok out)
+        → HasStepped keeps obeys file clock since failures plan core new (Does step_logged after out) (Ok answer)
+    restated new logged step_logged after out answer is_logged is_out h =
+        subst (λ o. HasStepped keeps obeys file clock since failures plan core new (Does step_logged after out) (Ok o)) (sym is_out)
+        (subst (λ l. HasStepped keeps obeys file clock since failures plan core new (Does l after out) (Ok out)) (sym is_logged) h)
+
+    pub served_as : (setup : Setup) (facts : Facts) (memory : Memory) (step_logged : Option Record) (after : Memory) (out answer : List Envelope) → step_logged ≡ None
+        → answer ≡ out → setup ≡ core.setup → facts ≡ core.facts → memory ≡ after
+        → HasStepped keeps obeys file clock since failures plan core (with_known setup facts memory) (Does step_logged after out) (Ok answer)
+    served_as setup facts memory step_logged after out answer is_logged is_out is_setup is_facts is_memory =
+        restated (with_known setup facts memory) None step_logged after out answer is_logged is_out (served setup facts memory is_setup is_facts after out is_memory)
+
+    -- a record is logged
+    pub logged_as : (new : CoreView D) (r : Record) (step_logged : Option Record) (after : Memory) (out answer : List Envelope) → step_logged ≡ Some r → answer ≡ out → new.setup ≡ core.setup → new.facts ≡ facts_after core.facts (Some r)
+        → new.memory ≡ after → IsFalse new.stopped → failures core.disk ≤ failures new.disk
+        → (IsFalse core.stopped → keeps → LeavesOnly clock since core.disk new.disk (HoldsOldOrWith (records_in (surface (file core.disk)).seen) (Some r)))
+        → (keeps → KeepsRecords (surface (file new.disk)) (and_logged (records_in (surface (file core.disk)).seen) (Some r)))
+        → (keeps → records_in (surface (file new.disk)).seen ≡ and_logged (records_in (surface (file core.disk)).seen) (Some r))
+        → (new.gate ≡ next_gate core.gate r) × (new.gate ≤ core.gate + 2 ^ 20 + 5) → (obeys → plan core.disk ≡ Never → plan new.disk ≡ Never)
+        → HasStepped keeps obeys file clock since failures plan core new (Does step_logged after out) (Ok answer)
+    logged_as new r step_logged after out answer is_logged is_out setup facts memory runs stay moments durable read gate never =
+        restated new (Some r) step_logged after out answer is_logged is_out (record {
           written = record {
             setup = setup;
-            failures_stay = omega arith;
-            any_moment = λ run keep. untouched None keep;
-            durable = λ keep. subst (λ records. KeepsRecords (surface (file core.disk)) records) (sym (and-none (records_in (surface (file core.disk)).seen))) (stands keep);
-            read = λ keep. sym (and-none (records_in (surface (file core.disk)).seen));
-            gate = (gate, omega (arith, gate));
+            failures_stay = stay;
+            any_moment = moments;
+            durable = durable;
+            read = read;
+            gate = gate;
             kept = tt;
-            planned = λ obey never. (never, tt);
+            planned = λ obey armed. (never obey armed, tt);
           };
-          done = (running, stopped ∙ running, (facts, ap (remembered last) (sym facts) ∙ ap (λ (l : ℕ). remembered l new.facts) (sym is_last), refl));
-          cause = tt;
-        })))
-
-  -- a record that the step logs, with what it puts out
-  module _ (old new : CoreView D) (running : IsFalse old.stopped) (step : Stepped) (logged : Record) (last : ℕ) (out : List Envelope)
-      (is : step ≡ Does (Some logged) (remembered last (facts_after old.facts (Some logged))) out) where
-    pub logged-done : {T : Type 0} (x : T) → HasLogged keeps obeys file clock since failures plan old new logged last (answered x)
-        → HasStepped keeps obeys file clock since failures plan old new step (Ok out)
-    logged-done x has =
-        subst (λ s. HasStepped keeps obeys file clock since failures plan old new s (Ok out)) (sym is) (record {
-          written = record {
-            setup = has.written.setup;
-            failures_stay = has.written.failures_stay;
-            any_moment = has.written.any_moment;
-            durable = has.written.durable;
-            read = has.written.read;
-            gate = has.written.gate;
-            kept = tt;
-            planned = λ obey never. ((has.written.planned obey never).0, tt);
-          };
-          done = (running, has.done.0, (has.done.1, ap (remembered last) (sym has.done.1) ∙ ap (λ (l : ℕ). remembered l new.facts) (sym has.done.2), refl));
+          done = (running, runs, (facts, memory, refl));
           cause = tt;
         })
 
-    pub logged-refused : {T : Type 0} (fault : Fault) → HasLogged keeps obeys file clock since failures plan old new logged last (refusal T fault)
-        → HasStepped keeps obeys file clock since failures plan old new step (Err fault)
-    logged-refused fault has =
-        subst (λ s. HasStepped keeps obeys file clock since failures plan old new s (Err fault)) (sym is) (record {
-          written = record {
-            setup = has.written.setup;
-            failures_stay = has.written.failures_stay;
-            any_moment = has.written.any_moment;
-            durable = tt;
-            read = tt;
-            gate = tt;
-            kept = has.written.kept;
-            planned = has.written.planned;
-          };
-          done = tt;
-          cause = subst (λ b. IsCause b (Does (Some logged) (remembered last (facts_after old.facts (Some logged))) out) fault (IsLogFull old.gate (Some logged)) ((failures old.disk < failures new.disk) × IsTrue new.stopped)) (sym running) has.cause;
-        })
+  -- by what the step is
+  pub by_step : (old new : CoreView D) (s u : Stepped) (result : Result (List Envelope) Fault) → s ≡ u
+      → HasStepped keeps obeys file clock since failures plan old new u result → HasStepped keeps obeys file clock since failures plan old new s result
+  by_step old new s u result is h = subst (λ v. HasStepped keeps obeys file clock since failures plan old new v result) (sym is) h

@@ -1,14 +1,6 @@
-pub mod Found
-pub mod Held
-pub mod Input
-pub mod Known
 pub mod Logs
 pub mod On
-pub mod Remembered
-pub mod Replies
+pub mod Due
 pub mod Settled
-pub mod Stepped
-pub mod Untimely
 pub mod Core
-pub mod Decided
 pub mod Look

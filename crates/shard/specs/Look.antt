@@ -8,7 +8,6 @@ use Rattle.units.specs.declared.line.Seen.{Seen}
 use Rattle.units.specs.declared.line.Seen.TheVariants.{Absent, Value}
 use Rattle.protocol.specs.Rows.{safe}
 use Rattle.shard.specs.On.{CoreView}
-use Rattle.shard.specs.Remembered.{remembered}
 
 -- the key is of this shard
 abbrev pub is_here : {D : Type 0} → CoreView D → Bytes → Bool
@@ -16,7 +15,7 @@ is_here core key = nat_eq (shard_of core.setup.splits key) core.setup.shard
 
 -- the greatest timestamp at which it may be looked
 abbrev pub safe_at : {D : Type 0} → CoreView D → ℕ
-safe_at core = safe (remembered core.last core.facts)
+safe_at core = safe core.memory
 
 -- the bytes that a value puts in front of a buffer, and what is seen
 abbrev pub IsSeen : Option Bytes → List ℕ → List ℕ → Seen → Type 0

@@ -1,40 +1,46 @@
 -- What an input does to a core.
 use Rattle.std.specs.Prelude.{◌≡◌, ◌≢◌, ◌⊎◌, ℕ, ◌+◌, ◌<◌, ◌≤◌, ◌^◌, Bool, true, false, IsTrue, IsFalse, List, Option, Some, None, Result, IfOk, IfErr, OnOk}
 use Rattle.units.specs.declared.fault.Fault.{Fault}
-use Rattle.units.specs.declared.fault.Fault.TheVariants.{Memory, Device, Stopped, TimeSpent}
+use Rattle.units.specs.declared.fault.Fault.TheVariants.{Memory as WantsMemory, Device, Stopped, TimeSpent}
 use Rattle.units.specs.declared.setup.Setup.{Setup}
 use Rattle.disk.specs.declared.plan.Plan.{Plan}
 use Rattle.disk.specs.declared.plan.Plan.TheVariants.{Never}
 use Rattle.disk.specs.File.{File, surface}
 use Rattle.disk.specs.Moments.{LeavesOnly}
 use Rattle.record.specs.declared.record.Record.{Record}
-use Rattle.record.specs.Facts.{Facts, learn}
+use Rattle.record.specs.Facts.{Facts}
+use Rattle.truetime.specs.Interval.{Interval}
 use Rattle.message.specs.declared.message.Envelope.{Envelope}
+use Rattle.message.specs.declared.message.Input.{Input}
 use Rattle.protocol.specs.Draft.{Stepped, Refuses, Does}
-use Rattle.protocol.specs.Step.{facts_after}
+use Rattle.protocol.specs.Rows.{Memory}
+use Rattle.protocol.specs.Step.{step, facts_after}
 use Rattle.gatelog.specs.Frames.{next_gate, IsFull}
-use Rattle.shard.specs.Remembered.{remembered}
 use Rattle.shard.specs.Logs.{records_in, and_logged, KeepsRecords, HoldsOldOrWith}
 
 -- what a contract sees of a core: its disk, where its log ends there, whether its device failed, what it was told when it
--- was opened, the facts of its log, and the greatest timestamp assigned, applied or served
+-- was opened, the facts of its log, and what it keeps in memory beside them
 pub record CoreView (D : Type 0) : Type 0 where
   pub disk : D
   pub gate : ℕ
   pub stopped : Bool
   pub setup : Setup
   pub facts : Facts
-  pub last : ℕ
+  pub memory : Memory
 
 -- the record that a step logs
 abbrev pub record_of : Stepped → Option Record
 record_of (Refuses fault) = None
 record_of (Does logged memory outbox) = logged
 
--- the step is done: the facts are those before it with its record, this is what is remembered, and these messages are put out
-abbrev pub IsDone : Stepped → Facts → Facts → ℕ → List Envelope → Type 0
-IsDone (Refuses fault) old new last out = ⊥
-IsDone (Does logged memory outbox) old new last out = (new ≡ facts_after old logged) × (memory ≡ remembered last new) × (out ≡ outbox)
+-- the step is done: the facts are those before it with its record, the memory is its memory, and its messages are put out
+abbrev pub IsDone : {D : Type 0} → Stepped → CoreView D → CoreView D → List Envelope → Type 0
+IsDone (Refuses fault) old new out = ⊥
+IsDone (Does logged memory outbox) old new out = (new.facts ≡ facts_after old.facts logged) × (new.memory ≡ memory) × (out ≡ outbox)
+
+-- what the step of a core is
+abbrev pub step_of : {D : Type 0} → CoreView D → Interval → Input → Stepped
+step_of core now i = step core.setup core.facts core.memory now i
 
 -- the log has no room for the record
 abbrev pub IsLogFull : ℕ → Option Record → Type 0
@@ -48,7 +54,7 @@ gate_behind gate (Some r) = next_gate gate r
 
 -- why a record is not logged: a growth was refused, the log would pass its limit, or the device failed
 abbrev pub IsLogCause : Fault → Type 0 → Type 0 → Type 0
-IsLogCause fault full failed = (fault ≡ Memory) ⊎ (((fault ≡ TimeSpent) × full) ⊎ ((fault ≡ Device) × failed))
+IsLogCause fault full failed = (fault ≡ WantsMemory) ⊎ (((fault ≡ TimeSpent) × full) ⊎ ((fault ≡ Device) × failed))
 
 -- Why an input is refused. A stopped core refuses all. Else it is the step's own refusal; or, where the step would be
 -- done, why its record is not logged.
@@ -60,7 +66,7 @@ IsCause false (Does logged memory outbox) fault full failed = IsLogCause fault f
 -- what stands after a refusal: all as it was, but that a device's failure stops the core
 abbrev pub IsKept : {D : Type 0} → (D → File) → CoreView D → CoreView D → Fault → Type 0
 IsKept file old new fault =
-    (new.facts ≡ old.facts) × (new.last ≡ old.last) × ((fault ≡ Device) ⊎ ((new.stopped ≡ old.stopped) × (new.gate ≡ old.gate) × (file new.disk ≡ file old.disk)))
+    (new.facts ≡ old.facts) × (new.memory ≡ old.memory) × ((fault ≡ Device) ⊎ ((new.stopped ≡ old.stopped) × (new.gate ≡ old.gate) × (file new.disk ≡ file old.disk)))
 
 module _ {D : Type 0} (keeps obeys : Type 0) (file : D → File) (clock : D → ℕ) (since : D → ℕ → List ℕ → Type 0) (failures : D → ℕ) (plan : D → Plan) where
   -- what holds of a core's disk over a call that logs a record, or nothing, whatever it answers
@@ -78,14 +84,8 @@ module _ {D : Type 0} (keeps obeys : Type 0) (file : D → File) (clock : D → 
     -- with no call armed the device does not fail
     pub planned : obeys → plan old.disk ≡ Never → (plan new.disk ≡ Never) × IfErr result (λ fault. fault ≢ Device)
 
-  -- a record was logged and learnt, and this is the greatest timestamp then; or not
-  pub record HasLogged {T : Type 0} (old new : CoreView D) (logged : Record) (last : ℕ) (result : Result T Fault) : Type 0 where
-    pub written : HasWritten old new (Some logged) result
-    pub done : OnOk result (IsFalse new.stopped × (new.facts ≡ learn old.facts logged) × (new.last ≡ last))
-    pub cause : IfErr result (λ fault. IsLogCause fault (IsLogFull old.gate (Some logged)) ((failures old.disk < failures new.disk) × IsTrue new.stopped))
-
   -- an input was taken, or refused
   pub record HasStepped (old new : CoreView D) (step : Stepped) (result : Result (List Envelope) Fault) : Type 0 where
     pub written : HasWritten old new (record_of step) result
-    pub done : IfOk result (λ out. IsFalse old.stopped × IsFalse new.stopped × IsDone step old.facts new.facts new.last out)
+    pub done : IfOk result (λ out. IsFalse old.stopped × IsFalse new.stopped × IsDone step old new out)
     pub cause : IfErr result (λ fault. IsCause old.stopped step fault (IsLogFull old.gate (record_of step)) ((failures old.disk < failures new.disk) × IsTrue new.stopped))

@@ -7,7 +7,7 @@ use Rattle.disk.specs.Image.{Surface, MayLeave}
 use Rattle.message.specs.declared.message.Envelope.{Envelope}
 use Rattle.record.specs.declared.record.Record.{Record}
 use Rattle.protocol.specs.Draft.{done_to}
-use Rattle.shard.specs.declared.input.Input.{Input}
+use Rattle.message.specs.declared.message.Input.{Input}
 use Rattle.shard.specs.Logs.{records_in}
 
 -- the record is the commit decision of this transaction at this timestamp
@@ -20,10 +20,10 @@ abbrev pub HasCommit : Result (List Record) Fault → Id → ℕ → Type 0
 HasCommit (Ok records) t at = IsTrue (any (is_commit t at) records)
 HasCommit (Err fault) t at = ⊥
 
--- A settling that is taken puts out the transaction's end at a timestamp; from then on every image that a crash may leave
--- has its commit decision at that timestamp.
+-- A settling that is taken puts out the transaction's end at a timestamp, before all else; from then on every image that a
+-- crash may leave has its commit decision at that timestamp.
 abbrev pub IsDurablySettled : Type 0 → Surface → Input → Result (List Envelope) Fault → Type 0
 IsDurablySettled keeps disk (Input.Settle t) result =
-    IfOk result (λ out. (at : ℕ) × (out ≡ done_to t (Some at) ∷ []) × (keeps → (image : List ℕ) → MayLeave disk image → HasCommit (records_in image) t at))
-IsDurablySettled keeps disk (Input.Commit t part writes) result = Unit {0}
-IsDurablySettled keeps disk (Input.Advance at) result = Unit {0}
+    IfOk result (λ out. (at : ℕ) × (others : List Envelope) × (out ≡ done_to t (Some at) ∷ others)
+    × (keeps → (image : List ℕ) → MayLeave disk image → HasCommit (records_in image) t at))
+IsDurablySettled keeps disk _ result = Unit {0}

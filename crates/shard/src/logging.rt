@@ -1,5 +1,5 @@
 //! One record is staged and appended.
-ghost use Rattle.std.specs.Prelude.{◌≡◌, ◌≢◌, ◌⊎◌, ◌+◌, ◌<◌, ◌≤◌, ◌^◌, Some, IsTrue, IsFalse, IfErr, OnOk};
+ghost use Rattle.std.specs.Prelude.{◌≡◌, ◌≢◌, ◌⊎◌, ◌+◌, ◌<◌, ◌≤◌, ◌^◌, Some, IsTrue, IsFalse, IfOk, IfErr, OnOk};
 ghost use Rattle.disk.specs.File.{surface};
 ghost use Rattle.disk.specs.declared.plan.Plan.TheVariants.{Never};
 ghost use Rattle.disk.specs.Moments.{LeavesOnly};
@@ -8,7 +8,7 @@ ghost use Rattle.gatelog.specs.Shown.{disk_of, gate_at, is_stopped};
 ghost use Rattle.shard.specs.Logs.{records_in, and_logged, KeepsRecords, HoldsOldOrWith};
 
 use disk::Disk;
-use gatelog::GateLog;
+use gatelog::{GateLog, Logged};
 use record::Record;
 use std::alloc::Global;
 use units::Fault;
@@ -18,7 +18,8 @@ pub fn append_record<D: Disk>(
     gate_log: &mut GateLog<D>,
     alloc: Global,
     item: &Record,
-) -> Result<(), Fault>
+) -> Result<Logged, Fault>
+    ensures item { IfOk result (λ logged. logged ≡ item.now) }
     ensures failures_stay { D.failures (disk_of gate_log.old) ≤ D.failures (disk_of gate_log.new) }
     ensures running { OnOk result (IsFalse (is_stopped gate_log.old) × IsFalse (is_stopped gate_log.new)) }
     ensures gate { OnOk result ((gate_at gate_log.new ≡ next_gate (gate_at gate_log.old) item.now) × (gate_at gate_log.new ≤ gate_at gate_log.old + 2 ^ 20 + 5)) }
@@ -42,6 +43,5 @@ pub fn append_record<D: Disk>(
     }
     let staged = gate_log.stage(alloc, item)?;
     let logged = gate_log.append(staged)?;
-    let _ = logged.spend();
-    Ok(())
+    Ok(logged)
 }

@@ -1,40 +1,44 @@
 //! The core of a shard.
-ghost use Rattle.std.specs.Prelude.{◌≡◌, ◌⊎◌, ◌<◌, [], ◌∷◌, Some, Ok, IsFalse, IsSome, IfOk, IfErr, IfSome, max, length, ◌≤◌, ℕ, vec_len, vec_capacity};
+ghost use Rattle.std.specs.Prelude.{◌≡◌, ◌⊎◌, ◌<◌, [], ◌∷◌, Some, Ok, IsFalse, IfOk, IfErr, length, ◌≤◌, ℕ};
 ghost use Rattle.disk.specs.File.{surface};
 ghost use Rattle.disk.specs.declared.plan.Plan.TheVariants.{Never};
 ghost use Rattle.gatelog.specs.Frames.{next_gate};
 ghost use Rattle.gatelog.specs.Shown.{disk_of, gate_at, is_stopped};
-ghost use Rattle.protocol.specs.Draft.{done_to};
+ghost use Rattle.memory.specs.Plans.{plan_of};
+ghost use Rattle.protocol.specs.Draft.{Does};
+ghost use Rattle.protocol.specs.Plan.{carried};
+ghost use Rattle.protocol.specs.Sound.{IsSound};
 ghost use Rattle.record.specs.Facts.{facts_of};
-ghost use Rattle.shard.specs.Known.{facts_in};
+ghost use Rattle.rows.specs.RowTable.{nth_prepared, nth_decided};
+ghost use Rattle.shard.specs.Due.{IsDue};
 ghost use Rattle.shard.specs.Logs.{records_in, facts_logged, KeepsRecords};
-ghost use Rattle.shard.specs.On.{HasLogged, HasStepped};
-ghost use Rattle.shard.specs.Held.{IsNew};
+ghost use Rattle.shard.specs.On.{HasStepped, step_of};
 ghost use Rattle.shard.specs.Look.{IsLook, IsSeen, safe_at};
-ghost use Rattle.shard.specs.Decided.{decided_in};
 ghost use Rattle.shard.specs.Settled.{IsDurablySettled};
-ghost use Rattle.shard.specs.Stepped.{step_from};
+ghost use Rattle.units.specs.Locks.{ready};
+ghost use Rattle.protocol.specs.Rows.{claims};
 
-use crate::deciding::Reply;
-use crate::input::Input;
 use crate::logging::append_record;
-use crate::state::State;
-use ceiling::needed;
+use crate::planning::{names_in_limit, plan_input};
 use disk::Disk;
 use gatelog::GateLog;
-use message::{Address, Done, Envelope, Message, Outbox};
-use record::{Committed, Record};
+use memory::{Plan, State, ready_plans_can_be_carried};
+use message::{Input, Outbox};
+use protocol::{
+    fresh_is_sound, installs_above, logged_follows, own_refusals, step_is_planned, step_keeps_sound,
+};
+use record::Record;
 use std::alloc::Global;
 use truetime::Reading;
-use units::{Epoch, Fault, Install, Key, Seen, Setup, ShardNo, Stamp, TxnId, Writes};
-use waiting::{Waited, pass};
+use units::{Epoch, Fault, Install, Key, Seen, Setup, Stamp, TxnId};
 
-/// The core of a shard: its log, and what the log determines. Once a device call has failed in it, it is stopped, and
-/// each input is refused. It has to be spent, by `stop`.
+/// The core of a shard: its log, and what it keeps in memory. Once a device call has failed in it, it is stopped, and each
+/// input is refused. It has to be spent, by `stop`.
 pub struct Core<D: Disk> {
     gate_log: GateLog<D>,
     state: State,
-    ghost agrees: { IsFalse (is_stopped gate_log) → D.keeps_model → facts_logged (records_in (surface (D.file (disk_of gate_log))).seen) ≡ Some (facts_in state) },
+    ghost agrees: { IsFalse (is_stopped gate_log) → D.keeps_model → facts_logged (records_in (surface (D.file (disk_of gate_log))).seen) ≡ Some state.facts },
+    ghost sound: { ∥ IsSound state.setup.shard state.facts state.memory ∥₁ },
 }
 
 impl<D: Disk> Core<D> {
@@ -42,7 +46,8 @@ impl<D: Disk> Core<D> {
 
     /// Formats the disk, whatever was on it, and logs the first opening.
     pub fn fresh(alloc: Global, disk: D, setup: Setup) -> Result<Core<D>, (Fault, D)>
-        ensures made { IfOk result (λ core. ((seen core).setup ≡ setup) × ((seen core).facts ≡ facts_of (Record.Opened 1 ∷ [])) × ((seen core).last ≡ 0) × IsFalse (seen core).stopped) }
+        ensures made { IfOk result (λ core. ((seen core).setup ≡ setup) × ((seen core).facts ≡ facts_of (Record.Opened 1 ∷ [])) × IsFalse (seen core).stopped) }
+        ensures empty { IfOk result (λ core. (seen core).memory ≡ record { last = 0; rows = []; ended = [] }) }
         ensures gate { IfOk result (λ core. (seen core).gate ≡ next_gate 8 (Record.Opened 1)) }
         ensures durable { IfOk result (λ core. D.keeps_model → KeepsRecords (surface (D.file (seen core).disk)) (Ok (Record.Opened 1 ∷ []))) }
         ensures read { IfOk result (λ core. D.keeps_model → records_in (surface (D.file (seen core).disk)).seen ≡ Ok (Record.Opened 1 ∷ [])) }
@@ -50,17 +55,17 @@ impl<D: Disk> Core<D> {
         // With no call armed the device does not fail.
         ensures planned { D.obeys → D.plan disk ≡ Never → IfOk result (λ core. D.plan (seen core).disk ≡ Never) × IfErr result (λ refused. refused.0 ≡ Fault.Memory) }
     {
+        fresh_is_sound();
         let state = match State::fresh(alloc, setup) {
             Ok(state) => state,
             Err(fault) => return Err((fault, disk)),
         };
-        let mut gate_log = GateLog::format(disk)?;
-        let opened = Record::Opened {
-            epoch: Epoch::first(),
-        };
-        match append_record(&mut gate_log, alloc, &opened) {
-            Ok(()) => Ok(Core { gate_log, state }),
-            Err(fault) => Err((fault, gate_log.into_disk())),
+        match first_log(alloc, disk) {
+            Ok(gate_log) => Ok(Core { gate_log, state }),
+            Err(refused) => {
+                state.stop();
+                Err(refused)
+            }
         }
     }
 
@@ -68,157 +73,66 @@ impl<D: Disk> Core<D> {
     /// before, and a core that is stopped by its device refuses every input.
     pub fn on(&mut self, alloc: Global, now: &Reading, input: &Input) -> Result<Outbox, Fault>
         ensures stepped { HasStepped D.keeps_model D.obeys D.file D.clock D.since D.failures D.plan (seen self.old) (seen self.new)
-            (step_from (seen self.old).setup (seen self.old).facts (seen self.old).last now.now input.now) result }
+            (step_of (seen self.old) now.now input.now) result }
         ensures settled { IsDurablySettled D.keeps_model (surface (D.file (seen self.new).disk)) input.now result }
     {
+        step_is_planned();
+        step_keeps_sound();
+        logged_follows();
+        installs_above();
+        own_refusals();
+        names_in_limit(input);
         if self.gate_log.is_stopped() {
             return Err(Fault::Stopped);
         }
-        match input {
-            Input::Commit { txn, part, writes } => self.commit(alloc, now, *txn, *part, writes),
-            Input::Settle(txn) => self.settle(alloc, now, *txn),
-            Input::Advance(to) => self.advance(alloc, now, *to),
+        match plan_input(&self.state, alloc, now, input) {
+            Ok(plan) => self.carry_out(alloc, plan),
+            Err(fault) => Err(fault),
         }
     }
 
-    fn commit(
-        &mut self,
-        alloc: Global,
-        now: &Reading,
-        txn: TxnId,
-        part: ShardNo,
-        writes: &Writes,
-    ) -> Result<Outbox, Fault>
+    // Logs the record of a plan, where it has one, and carries the plan out. All memory is taken before.
+    fn carry_out(&mut self, alloc: Global, plan: Plan) -> Result<Outbox, Fault>
         requires running { IsFalse (seen self.old).stopped }
         requires stands { D.keeps_model → KeepsRecords (surface (D.file (seen self.old).disk)) (records_in (surface (D.file (seen self.old).disk)).seen) }
+        requires due { IsDue self.old.state plan }
         ensures { HasStepped D.keeps_model D.obeys D.file D.clock D.since D.failures D.plan (seen self.old) (seen self.new)
-            (step_from (seen self.old).setup (seen self.old).facts (seen self.old).last now.now (Input.Commit txn part writes.now)) result }
+            (Does plan.logged (carried (plan_of self.old.state.memory.rows plan) self.old.state.memory) plan.outbox) result }
     {
-        let reply = match self.state.on_commit(alloc, now, txn, part, writes) {
-            Ok(reply) => reply,
+        ready_plans_can_be_carried();
+        let ready = match self.state.make_ready(alloc, &plan) {
+            Ok(ready) => ready,
             Err(fault) => return Err(fault),
         };
-        match reply {
-            Reply::Nothing => Ok(Outbox::none(alloc)),
-            Reply::Told(at) => told(alloc, txn, at),
-            Reply::Decided(c) => match self.log_decision(alloc, c) {
-                Ok(()) => Ok(Outbox::none(alloc)),
-                Err(fault) => Err(fault),
-            },
-        }
-    }
-
-    fn settle(&mut self, alloc: Global, now: &Reading, txn: TxnId) -> Result<Outbox, Fault>
-        requires running { IsFalse (seen self.old).stopped }
-        requires stands { D.keeps_model → KeepsRecords (surface (D.file (seen self.old).disk)) (records_in (surface (D.file (seen self.old).disk)).seen) }
-        ensures stepped { HasStepped D.keeps_model D.obeys D.file D.clock D.since D.failures D.plan (seen self.old) (seen self.new)
-            (step_from (seen self.old).setup (seen self.old).facts (seen self.old).last now.now (Input.Settle txn)) result }
-        ensures settled { IsDurablySettled D.keeps_model (surface (D.file (seen self.new).disk)) (Input.Settle txn) result }
-    {
-        let at = match self.state.decided_of(txn) {
-            Some(c) => c.at,
-            None => return Err(Fault::Stranger),
+        let Some(item) = &plan.logged else {
+            return Ok(self.state.carry(plan, ready, None));
         };
-        let waited = match pass(at, now) {
-            Ok(waited) => waited,
-            Err(fault) => return Err(fault),
-        };
-        match self.log_outcome(alloc, txn, at) {
-            Ok(room) => Ok(done(room, txn, waited)),
+        match append_record(&mut self.gate_log, alloc, item) {
+            Ok(logged) => Ok(self.state.carry(plan, ready, Some(logged))),
             Err(fault) => {
-                let _ = waited.spend();
+                self.state.undo(&plan, ready);
                 Err(fault)
             }
         }
     }
 
-    // Serves up to a time. A ceiling is logged before, where the log's greatest timestamp is below that time.
-    fn advance(&mut self, alloc: Global, now: &Reading, to: Stamp) -> Result<Outbox, Fault>
-        requires running { IsFalse (seen self.old).stopped }
-        requires stands { D.keeps_model → KeepsRecords (surface (D.file (seen self.old).disk)) (records_in (surface (D.file (seen self.old).disk)).seen) }
-        ensures { HasStepped D.keeps_model D.obeys D.file D.clock D.since D.failures D.plan (seen self.old) (seen self.new)
-            (step_from (seen self.old).setup (seen self.old).facts (seen self.old).last now.now (Input.Advance to)) result }
+    /// The oldest transaction whose wait would be granted now.
+    pub fn ready(&self) -> Option<TxnId>
+        ensures { result ≡ ready (claims (seen self.now).memory.rows) }
     {
-        if now.before(to) {
-            return Err(Fault::Future);
-        }
-        match needed(self.state.floor, to, self.state.setup.stride) {
-            None => {
-                self.state.serve(to);
-                Ok(Outbox::none(alloc))
-            }
-            Some(ceiling) => match self.log_ceiling(alloc, ceiling, to) {
-                Ok(()) => Ok(Outbox::none(alloc)),
-                Err(fault) => Err(fault),
-            },
-        }
+        self.state.ready()
     }
 
-    // Logs a ceiling, and serves a time below it.
-    fn log_ceiling(&mut self, alloc: Global, ceiling: Record, to: Stamp) -> Result<(), Fault>
-        requires running { IsFalse (seen self.old).stopped }
-        requires under { (at : ℕ) × (ceiling ≡ Record.Ceiling at) × (to ≤ at) }
-        ensures { HasLogged D.keeps_model D.obeys D.file D.clock D.since D.failures D.plan (seen self.old) (seen self.new) ceiling (max (seen self.old).last to) result }
+    /// The n-th transaction, from 0 by ascending id, that is prepared, with the timestamp of its promise.
+    pub fn prepared(&self, n: usize) -> Option<(TxnId, Stamp)>
+        ensures { result ≡ nth_prepared (seen self.now).memory.rows n }
     {
-        match append_record(&mut self.gate_log, alloc, &ceiling) {
-            Ok(()) => {
-                if let Record::Ceiling { at } = ceiling {
-                    self.state.serve_under(at, to);
-                }
-                Ok(())
-            }
-            Err(fault) => Err(fault),
-        }
-    }
-
-    // Logs a decision, and learns it.
-    fn log_decision(&mut self, alloc: Global, c: Committed) -> Result<(), Fault>
-        requires running { IsFalse (seen self.old).stopped }
-        requires none { self.old.state.decided ≡ None }
-        requires new { IsNew self.old.state.setup.shard self.old.state.settled.items c }
-        requires above { (seen self.old).last < c.at }
-        ensures { HasLogged D.keeps_model D.obeys D.file D.clock D.since D.failures D.plan (seen self.old) (seen self.new) (Record.Commit c) (max (seen self.old).last c.at) result }
-    {
-        let decision = Record::Commit(c);
-        match append_record(&mut self.gate_log, alloc, &decision) {
-            Ok(()) => {
-                if let Some(c) = decision.into_commit() {
-                    self.state.decide(c);
-                }
-                Ok(())
-            }
-            Err(fault) => Err(fault),
-        }
-    }
-
-    // Logs the outcome of the decision that stands, and learns it. Gives a list with room for one message.
-    fn log_outcome(&mut self, alloc: Global, txn: TxnId, at: Stamp) -> Result<Vec<Envelope>, Fault>
-        requires running { IsFalse (seen self.old).stopped }
-        requires stands { D.keeps_model → KeepsRecords (surface (D.file (seen self.old).disk)) (records_in (surface (D.file (seen self.old).disk)).seen) }
-        requires some { IsSome self.old.state.decided }
-        requires decided { IfSome self.old.state.decided (λ c. (c.txn ≡ txn) × (c.at ≡ at)) }
-        ensures logged { HasLogged D.keeps_model D.obeys D.file D.clock D.since D.failures D.plan (seen self.old) (seen self.new) (Record.Outcome txn (Some at)) (seen self.old).last result }
-        ensures room { IfOk result (λ room. (room.items ≡ []) × (vec_len room < vec_capacity room)) }
-    {
-        let room = room_for_one(alloc)?;
-        let writes = self.state.decided_writes(alloc)?;
-        self.state.reserve()?;
-        let outcome = Record::Outcome {
-            txn,
-            outcome: Some(at),
-        };
-        match append_record(&mut self.gate_log, alloc, &outcome) {
-            Ok(()) => {
-                self.state.settle(writes);
-                Ok(room)
-            }
-            Err(fault) => Err(fault),
-        }
+        self.state.nth_prepared(n)
     }
 
     /// The n-th transaction, from 0 by ascending id, that is decided and not settled, with its timestamp.
     pub fn decided(&self, n: usize) -> Option<(TxnId, Stamp)>
-        ensures { result ≡ decided_in (seen self.now).facts n }
+        ensures { result ≡ nth_decided (seen self.now).memory.rows n }
     {
         self.state.nth_decided(n)
     }
@@ -227,7 +141,7 @@ impl<D: Disk> Core<D> {
     pub fn look(&self, key: &Key, at: Stamp, buffer: &mut [u8]) -> Result<Seen, Fault>
         ensures { IsLook (seen self.now) key.now at buffer.old buffer.new result }
     {
-        if !self.state.setup.owns(key) {
+        if !self.state.setup().owns(key) {
             return Err(Fault::Stranger);
         }
         if self.state.safe() < at {
@@ -248,76 +162,55 @@ impl<D: Disk> Core<D> {
 
     /// The greatest timestamp assigned, applied or served.
     pub fn last(&self) -> Stamp
-        ensures { result ≡ (seen self.now).last }
+        ensures { result ≡ (seen self.now).memory.last }
     {
-        self.state.times.last()
+        self.state.last()
     }
 
     /// How often the log was opened.
     pub fn epoch(&self) -> Epoch
         ensures { result ≡ (seen self.now).facts.epoch }
     {
-        self.state.epoch
+        self.state.epoch()
     }
 
     /// The versions, in the log's order.
     pub fn installs(&self) -> &[Install]
         ensures { result.now ≡ (seen self.now).facts.installs }
     {
-        self.state.installs.as_slice()
+        self.state.installs()
     }
 
     /// Ends the core, and gives its disk back as it is.
     pub fn stop(self) -> D
         ensures { result ≡ (seen self).disk }
     {
-        let Core { gate_log, state: _ } = self;
+        let Core { gate_log, state } = self;
+        state.stop();
         gate_log.into_disk()
     }
 }
 
-// The end of a transaction that committed, to its session.
-fn done_to(txn: TxnId, at: Stamp) -> Envelope
-    ensures { result ≡ done_to txn (Some at) }
+// A new log that has the first opening.
+fn first_log<D: Disk>(alloc: Global, disk: D) -> Result<GateLog<D>, (Fault, D)>
+    ensures running { IfOk result (λ made. IsFalse (is_stopped made)) }
+    ensures gate { IfOk result (λ made. gate_at made ≡ next_gate 8 (Record.Opened 1)) }
+    ensures durable { IfOk result (λ made. D.keeps_model → KeepsRecords (surface (D.file (disk_of made))) (Ok (Record.Opened 1 ∷ []))) }
+    ensures read { IfOk result (λ made. D.keeps_model → records_in (surface (D.file (disk_of made))).seen ≡ Ok (Record.Opened 1 ∷ [])) }
+    ensures cause { IfErr result (λ refused. (refused.0 ≡ Fault.Memory) ⊎ ((refused.0 ≡ Fault.Device) × (D.failures disk < D.failures refused.1))) }
+    ensures planned { D.obeys → D.plan disk ≡ Never → IfOk result (λ made. D.plan (disk_of made) ≡ Never) × IfErr result (λ refused. refused.0 ≡ Fault.Memory) }
 {
-    Envelope {
-        to: Address::Session(txn),
-        message: Message::Done(Done {
-            txn,
-            outcome: Some(at),
-        }),
+    let mut gate_log = GateLog::format(disk)?;
+    let opened = Record::Opened {
+        epoch: Epoch::first(),
+    };
+    match append_record(&mut gate_log, alloc, &opened) {
+        Ok(logged) => {
+            let _ = logged.spend();
+            Ok(gate_log)
+        }
+        Err(fault) => Err((fault, gate_log.into_disk())),
     }
-}
-
-// An empty list of messages, with room for one.
-fn room_for_one(alloc: Global) -> Result<Vec<Envelope>, Fault>
-    ensures room { IfOk result (λ room. (room.items ≡ []) × (vec_len room < vec_capacity room)) }
-    ensures memory { IfErr result (λ fault. fault ≡ Fault.Memory) }
-{
-    let mut room = Vec::new(alloc);
-    room.reserve(1)?;
-    Ok(room)
-}
-
-// Tells a session again what the log has as its transaction's outcome.
-fn told(alloc: Global, txn: TxnId, at: Stamp) -> Result<Outbox, Fault>
-    ensures told { IfOk result (λ out. out ≡ done_to txn (Some at) ∷ []) }
-    ensures memory { IfErr result (λ fault. fault ≡ Fault.Memory) }
-{
-    let mut room = room_for_one(alloc)?;
-    room.push_reserved(done_to(txn, at));
-    Ok(Outbox::from_vec(room))
-}
-
-// Tells a session that its transaction committed, once the timestamp has passed.
-fn done(room: Vec<Envelope>, txn: TxnId, waited: Waited) -> Outbox
-    requires empty { room.items ≡ [] }
-    requires room { vec_len room < vec_capacity room }
-    ensures { result ≡ done_to txn (Some waited) ∷ [] }
-{
-    let mut room = room;
-    room.push_reserved(done_to(txn, waited.spend()));
-    Outbox::from_vec(room)
 }
 
 // Puts some bytes at the front of a buffer, where they have room.

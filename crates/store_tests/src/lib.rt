@@ -2,8 +2,14 @@
 #![tactic(auto)]
 
 #[cfg(test)]
+mod coordinating;
+#[cfg(test)]
 mod fixtures;
 #[cfg(test)]
 mod one_commit;
+#[cfg(test)]
+mod promising;
+#[cfg(test)]
+mod runs;
 #[cfg(test)]
 mod serving;

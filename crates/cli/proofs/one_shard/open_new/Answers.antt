@@ -3,6 +3,7 @@ use Rattle.std.proofs.Common.{◌≡◌, ◌∙◌, refl, [], ◌∷◌, arith}
 use Rattle.record.specs.Facts.{facts_of, learn}
 use Rattle.record.specs.declared.record.Record.{Record}
 use Rattle.record.specs.Installs.{installs_of}
+use Rattle.protocol.specs.Rows.{rebuilt}
 use Rattle.shard.specs.Logs.{learned}
 use Rattle.cli.specs.Shards.{new_log}
 use Rattle.cli.proofs.one_shard.open_new.Goals as goal
@@ -12,18 +13,18 @@ first-facts : facts_of (Record.Opened 1 ∷ []) ≡ learned new_log
 unfolding facts_of installs_of learn
 first-facts = refl
 
--- it has no timestamp
-first-floor : 0 ≡ (learned new_log).floor
-unfolding learn
-first-floor = refl
+-- and an opening finds nothing more
+first-memory : record { last = 0; rows = []; ended = [] } ≡ rebuilt (learned new_log)
+unfolding rebuilt learn
+first-memory = refl
 
 pub returns-in-Ok-clause-log : goal.returns-in-Ok-clause-log
 returns-in-Ok-clause-log c = record {
   setup = c.in-Ok.ensures.made.0 ∙ c.in_ok-setup.ensures.setup;
   facts = c.in-Ok.ensures.made.1 ∙ first-facts;
-  last = c.in-Ok.ensures.made.2 ∙ first-floor;
+  memory = c.in-Ok.ensures.empty ∙ first-memory;
   gate = omega (arith, c.in-Ok.ensures.gate);
-  running = c.in-Ok.ensures.made.3;
+  running = c.in-Ok.ensures.made.2;
   plan = (c.in-Ok.ensures.planned tt c.new.ensures.plan).0;
   read = c.in-Ok.ensures.read tt;
   durable = c.in-Ok.ensures.durable tt;

@@ -2,9 +2,10 @@
 use Rattle.std.proofs.Common.{◌≡◌, Ok, Err, ⊎_elim, sym, subst}
 use Rattle.units.specs.declared.fault.Fault.{Fault}
 use Rattle.units.specs.declared.fault.Fault.TheVariants.{Memory, Early}
+use Rattle.message.specs.declared.message.Input.{Input}
 use Rattle.shard.specs.Core.{seen}
-use Rattle.shard.specs.declared.input.Input.{Input}
-use Rattle.cli.proofs.ShardLemmas.{Steps, step_of, settles}
+use Rattle.shard.specs.On.{step_of}
+use Rattle.cli.proofs.ShardLemmas.{Steps, settles}
 use Rattle.cli.proofs.one_shard.settle.Goals as goal
 
 -- what is early is no want of memory

@@ -5,16 +5,16 @@ use Rattle.memory.proofs.States.{planned-by}
 use Rattle.coordinator.proofs.Granting.{fresh_stands, fresh_gone}
 use Rattle.coordinator.proofs.commits.commit_fresh.Goals as goal
 
-pub returns-then-reads_stand : goal.returns-then-reads_stand
-returns-then-reads_stand c =
+pub returns-then-reads_stand-clause-planned : goal.returns-then-reads_stand-clause-planned
+returns-then-reads_stand-clause-planned c =
     let k = c.args.state.now in
     let m = c.args.commit.now in
     subst (λ q. IsPlanned k q c.commit_in_time.result)
     (sym (fresh_stands (start_of k) c.args.now.now.latest m.txn m.parts m.reads.epoch m.reads.keys m.writes (held_in k.memory.rows m.txn)
-    (sym c.reads_stand.ensures ∙ c.if-reads_stand.true))) c.commit_in_time.ensures
+    (sym c.reads_stand.ensures ∙ c.if-reads_stand.true))) c.commit_in_time.ensures.planned
 
-pub returns : goal.returns
-returns c =
+pub returns-clause-planned : goal.returns-clause-planned
+returns-clause-planned c =
     let k = c.args.state.now in
     let m = c.args.commit.now in
     planned-by k _ _ c.aborts.result

@@ -6,8 +6,8 @@ use Rattle.memory.proofs.States.{planned-by, planned-err}
 use Rattle.coordinator.proofs.Granting.{granted_others, resumed_late, resumed_decided}
 use Rattle.coordinator.proofs.commits.resume_commit.Goals as goal
 
-pub returns-then-has_others : goal.returns-then-has_others
-returns-then-has_others c =
+pub returns-then-has_others-clause-planned : goal.returns-then-has_others-clause-planned
+returns-then-has_others-clause-planned c =
     let k = c.args.state.now in
     let r = c.args.request.now in
     planned-by k _ _ c.collect_alone.result
@@ -15,8 +15,8 @@ returns-then-has_others c =
     (ap (λ (s : Setup). any (λ m. not (nat_eq m s.shard)) r.parts) (sym c.setup.ensures) ∙ sym c.has_others.ensures ∙ c.if-has_others.true))
     c.collect_alone.ensures.plan c.collect_alone.ensures.memory
 
-pub returns-in_err-at : goal.returns-in_err-at
-returns-in_err-at c =
+pub returns-in_err-at-clause-planned : goal.returns-in_err-at-clause-planned
+returns-in_err-at-clause-planned c =
     let k = c.args.state.now in
     let r = c.args.request.now in
     planned-err k _ c.from_residual.result c.in_err-at.field-0.0
@@ -24,8 +24,8 @@ returns-in_err-at c =
     (ap (λ (s : Setup). any (λ m. not (nat_eq m s.shard)) r.parts) (sym c.setup.ensures) ∙ sym c.has_others.ensures ∙ c.if-has_others.false)
     c.in_err-at.ensures.1 ∙ ap Err (sym c.in_err-at.ensures.0)) (search rules)
 
-pub returns : goal.returns
-returns c =
+pub returns-clause-planned : goal.returns-clause-planned
+returns-clause-planned c =
     let k = c.args.state.now in
     let r = c.args.request.now in
     planned-by k _ _ c.decide_alone.result

@@ -18,25 +18,25 @@ pub grant-requires-clause-reading : goal.grant-requires-clause-reading
 grant-requires-clause-reading c =
     let fits : FitsRows c.args.rows.now.rows c.args.wounded.now c.args.needs.now c.args.logged (Reads c.in-Reads.txn) = subst (FitsRows c.args.rows.now.rows c.args.wounded.now c.args.needs.now c.args.logged) c.in-Reads.is c.requires.fits in
     let here : admitted c.args.rows.now.rows (Some c.in-Reads.txn) ≡ c.args.rows.now.rows = subst (λ (h : Change). admitted c.args.rows.now.rows (asker h) ≡ c.args.rows.now.rows) c.in-Reads.is c.requires.there in
-    asker_reads c.args.rows.now.rows c.in-Reads.txn here fits.0.may
+    asker_reads c.args.rows.now.rows c.in-Reads.txn here fits.0.0
 
 pub wait-requires-clause-reading : goal.wait-requires-clause-reading
 wait-requires-clause-reading c =
     let fits : FitsRows c.args.rows.now.rows c.args.wounded.now c.args.needs.now c.args.logged (Waits c.in-Waits.txn c.in-Waits.wait) = subst (FitsRows c.args.rows.now.rows c.args.wounded.now c.args.needs.now c.args.logged) c.in-Waits.is c.requires.fits in
     let here : admitted c.args.rows.now.rows (Some c.in-Waits.txn) ≡ c.args.rows.now.rows = subst (λ (h : Change). admitted c.args.rows.now.rows (asker h) ≡ c.args.rows.now.rows) c.in-Waits.is c.requires.there in
-    asker_reads c.args.rows.now.rows c.in-Waits.txn here fits.0.may
+    asker_reads c.args.rows.now.rows c.in-Waits.txn here fits.0.0
 
 pub grant-requires-in-Collects-clause-reading : goal.grant-requires-in-Collects-clause-reading
 grant-requires-in-Collects-clause-reading c =
     let fits : FitsRows c.args.rows.now.rows c.args.wounded.now c.args.needs.now c.args.logged (Collects c.in-Collects.txn c.in-Collects.gathering) = subst (FitsRows c.args.rows.now.rows c.args.wounded.now c.args.needs.now c.args.logged) c.in-Collects.is c.requires.fits in
     let here : admitted c.args.rows.now.rows (Some c.in-Collects.txn) ≡ c.args.rows.now.rows = subst (λ (h : Change). admitted c.args.rows.now.rows (asker h) ≡ c.args.rows.now.rows) c.in-Collects.is c.requires.there in
-    asker_reads c.args.rows.now.rows c.in-Collects.txn here fits.0.may
+    asker_reads c.args.rows.now.rows c.in-Collects.txn here fits.0.0
 
 pub grant-requires-in-Stands-clause-reading : goal.grant-requires-in-Stands-clause-reading
 grant-requires-in-Stands-clause-reading c =
     let fits : FitsRows c.args.rows.now.rows c.args.wounded.now c.args.needs.now c.args.logged (Stands c.in-Stands.txn) = subst (FitsRows c.args.rows.now.rows c.args.wounded.now c.args.needs.now c.args.logged) c.in-Stands.is c.requires.fits in
     let here : admitted c.args.rows.now.rows (Some c.in-Stands.txn) ≡ c.args.rows.now.rows = subst (λ (h : Change). admitted c.args.rows.now.rows (asker h) ≡ c.args.rows.now.rows) c.in-Stands.is c.requires.there in
-    asker_reads c.args.rows.now.rows c.in-Stands.txn here fits.0.may
+    asker_reads c.args.rows.now.rows c.in-Stands.txn here fits.0.0
 
 pub collect-requires : goal.collect-requires
 collect-requires c =
@@ -46,9 +46,9 @@ pub stand-requires-clause-holding : goal.stand-requires-clause-holding
 stand-requires-clause-holding c =
     let fits : FitsRows c.args.rows.now.rows c.args.wounded.now c.args.needs.now c.args.logged (Stands c.in-Stands.txn) = subst (FitsRows c.args.rows.now.rows c.args.wounded.now c.args.needs.now c.args.logged) c.in-Stands.is c.requires.fits in
     let here : admitted c.args.rows.now.rows (Some c.in-Stands.txn) ≡ c.args.rows.now.rows = subst (λ (h : Change). admitted c.args.rows.now.rows (asker h) ≡ c.args.rows.now.rows) c.in-Stands.is c.requires.there in
-    let reads : has_phase is_reading c.args.rows.now.rows c.in-Stands.txn ≡ true = asker_reads c.args.rows.now.rows c.in-Stands.txn here fits.0.may in
+    let reads : has_phase is_reading c.args.rows.now.rows c.in-Stands.txn ≡ true = asker_reads c.args.rows.now.rows c.in-Stands.txn here fits.0.0 in
     subst (IsHolding c.args.times.now.holds) (sym (c.grant-in-Stands.ensures))
-    (holding_put c.args.times.now.holds c.args.rows.now.rows c.in-Stands.txn c.args.needs.now c.args.wounded.now (with_locks (held_in c.args.rows.now.rows c.in-Stands.txn) c.args.needs.now) (Idle) c.laws.ensures.order c.requires.holding fits.0.ended reads refl)
+    (holding_put c.args.times.now.holds c.args.rows.now.rows c.in-Stands.txn c.args.needs.now c.args.wounded.now (with_locks (held_in c.args.rows.now.rows c.in-Stands.txn) c.args.needs.now) (Idle) c.laws.ensures.order c.requires.holding fits.0.1 reads refl)
 
 pub stand-requires-clause-stands : goal.stand-requires-clause-stands
 stand-requires-clause-stands c =
@@ -106,15 +106,15 @@ pub returns-in-Reads-clause-holding : goal.returns-in-Reads-clause-holding
 returns-in-Reads-clause-holding c =
     let fits : FitsRows c.args.rows.now.rows c.args.wounded.now c.args.needs.now c.args.logged (Reads c.in-Reads.txn) = subst (FitsRows c.args.rows.now.rows c.args.wounded.now c.args.needs.now c.args.logged) c.in-Reads.is c.requires.fits in
     let here : admitted c.args.rows.now.rows (Some c.in-Reads.txn) ≡ c.args.rows.now.rows = subst (λ (h : Change). admitted c.args.rows.now.rows (asker h) ≡ c.args.rows.now.rows) c.in-Reads.is c.requires.there in
-    let reads : has_phase is_reading c.args.rows.now.rows c.in-Reads.txn ≡ true = asker_reads c.args.rows.now.rows c.in-Reads.txn here fits.0.may in
+    let reads : has_phase is_reading c.args.rows.now.rows c.in-Reads.txn ≡ true = asker_reads c.args.rows.now.rows c.in-Reads.txn here fits.0.0 in
     subst (IsHolding c.args.times.now.holds) (sym (c.grant.ensures))
-    (holding_put c.args.times.now.holds c.args.rows.now.rows c.in-Reads.txn c.args.needs.now c.args.wounded.now (with_locks (held_in c.args.rows.now.rows c.in-Reads.txn) c.args.needs.now) (Idle) c.laws.ensures.order c.requires.holding fits.0.ended reads refl)
+    (holding_put c.args.times.now.holds c.args.rows.now.rows c.in-Reads.txn c.args.needs.now c.args.wounded.now (with_locks (held_in c.args.rows.now.rows c.in-Reads.txn) c.args.needs.now) (Idle) c.laws.ensures.order c.requires.holding fits.0.1 reads refl)
 
 pub returns-in-Reads-clause-rows : goal.returns-in-Reads-clause-rows
 unfolding changed
 returns-in-Reads-clause-rows c =
     let fits : FitsRows c.args.rows.now.rows c.args.wounded.now c.args.needs.now c.args.logged (Reads c.in-Reads.txn) = subst (FitsRows c.args.rows.now.rows c.args.wounded.now c.args.needs.now c.args.logged) c.in-Reads.is c.requires.fits in
-    c.grant.ensures ∙ put_is_change c.args.rows.now.rows c.in-Reads.txn c.args.needs.now c.args.needs.now c.args.wounded.now Idle fits.0.ended
+    c.grant.ensures ∙ put_is_change c.args.rows.now.rows c.in-Reads.txn c.args.needs.now c.args.needs.now c.args.wounded.now Idle fits.0.1
     ∙ ap (λ (h : Change). changed (change_of c.args.rows.now.rows c.args.needs.now c.args.logged h) (without_rows c.args.rows.now.rows c.args.wounded.now)) (sym c.in-Reads.is)
 
 pub returns-in-Reads-clause-ended : goal.returns-in-Reads-clause-ended
@@ -127,15 +127,15 @@ pub returns-in-Waits-clause-holding : goal.returns-in-Waits-clause-holding
 returns-in-Waits-clause-holding c =
     let fits : FitsRows c.args.rows.now.rows c.args.wounded.now c.args.needs.now c.args.logged (Waits c.in-Waits.txn c.in-Waits.wait) = subst (FitsRows c.args.rows.now.rows c.args.wounded.now c.args.needs.now c.args.logged) c.in-Waits.is c.requires.fits in
     let here : admitted c.args.rows.now.rows (Some c.in-Waits.txn) ≡ c.args.rows.now.rows = subst (λ (h : Change). admitted c.args.rows.now.rows (asker h) ≡ c.args.rows.now.rows) c.in-Waits.is c.requires.there in
-    let reads : has_phase is_reading c.args.rows.now.rows c.in-Waits.txn ≡ true = asker_reads c.args.rows.now.rows c.in-Waits.txn here fits.0.may in
+    let reads : has_phase is_reading c.args.rows.now.rows c.in-Waits.txn ≡ true = asker_reads c.args.rows.now.rows c.in-Waits.txn here fits.0.0 in
     subst (IsHolding c.args.times.now.holds) (sym (c.wait.ensures))
-    (holding_put c.args.times.now.holds c.args.rows.now.rows c.in-Waits.txn c.args.needs.now c.args.wounded.now (held_in c.args.rows.now.rows c.in-Waits.txn) (phase_of_wait (Some c.in-Waits.wait)) c.laws.ensures.order c.requires.holding fits.0.ended reads (wait_holds_none c.in-Waits.wait))
+    (holding_put c.args.times.now.holds c.args.rows.now.rows c.in-Waits.txn c.args.needs.now c.args.wounded.now (held_in c.args.rows.now.rows c.in-Waits.txn) (phase_of_wait (Some c.in-Waits.wait)) c.laws.ensures.order c.requires.holding fits.0.1 reads (wait_holds_none c.in-Waits.wait))
 
 pub returns-in-Waits-clause-rows : goal.returns-in-Waits-clause-rows
 unfolding changed
 returns-in-Waits-clause-rows c =
     let fits : FitsRows c.args.rows.now.rows c.args.wounded.now c.args.needs.now c.args.logged (Waits c.in-Waits.txn c.in-Waits.wait) = subst (FitsRows c.args.rows.now.rows c.args.wounded.now c.args.needs.now c.args.logged) c.in-Waits.is c.requires.fits in
-    c.wait.ensures ∙ put_is_change c.args.rows.now.rows c.in-Waits.txn c.args.needs.now [] c.args.wounded.now (phase_of_wait (Some c.in-Waits.wait)) fits.0.ended
+    c.wait.ensures ∙ put_is_change c.args.rows.now.rows c.in-Waits.txn c.args.needs.now [] c.args.wounded.now (phase_of_wait (Some c.in-Waits.wait)) fits.0.1
     ∙ ap (λ (h : Change). changed (change_of c.args.rows.now.rows c.args.needs.now c.args.logged h) (without_rows c.args.rows.now.rows c.args.wounded.now)) (sym c.in-Waits.is)
 
 pub returns-in-Waits-clause-ended : goal.returns-in-Waits-clause-ended
@@ -148,16 +148,16 @@ pub returns-in-Collects-clause-holding : goal.returns-in-Collects-clause-holding
 returns-in-Collects-clause-holding c =
     let fits : FitsRows c.args.rows.now.rows c.args.wounded.now c.args.needs.now c.args.logged (Collects c.in-Collects.txn c.in-Collects.gathering) = subst (FitsRows c.args.rows.now.rows c.args.wounded.now c.args.needs.now c.args.logged) c.in-Collects.is c.requires.fits in
     let here : admitted c.args.rows.now.rows (Some c.in-Collects.txn) ≡ c.args.rows.now.rows = subst (λ (h : Change). admitted c.args.rows.now.rows (asker h) ≡ c.args.rows.now.rows) c.in-Collects.is c.requires.there in
-    let reads : has_phase is_reading c.args.rows.now.rows c.in-Collects.txn ≡ true = asker_reads c.args.rows.now.rows c.in-Collects.txn here fits.0.may in
+    let reads : has_phase is_reading c.args.rows.now.rows c.in-Collects.txn ≡ true = asker_reads c.args.rows.now.rows c.in-Collects.txn here fits.0.0 in
     subst (IsHolding c.args.times.now.holds) (sym (c.collect.ensures ∙ put_twice (without_rows c.args.rows.now.rows c.args.wounded.now) c.grant-in-Collects.new.self.rows c.in-Collects.txn (with_locks (held_in c.args.rows.now.rows c.in-Collects.txn) c.args.needs.now) (collecting c.in-Collects.gathering []) c.grant-in-Collects.ensures))
-    (holding_put c.args.times.now.holds c.args.rows.now.rows c.in-Collects.txn c.args.needs.now c.args.wounded.now (with_locks (held_in c.args.rows.now.rows c.in-Collects.txn) c.args.needs.now) (collecting c.in-Collects.gathering []) c.laws.ensures.order c.requires.holding fits.0.ended reads refl)
+    (holding_put c.args.times.now.holds c.args.rows.now.rows c.in-Collects.txn c.args.needs.now c.args.wounded.now (with_locks (held_in c.args.rows.now.rows c.in-Collects.txn) c.args.needs.now) (collecting c.in-Collects.gathering []) c.laws.ensures.order c.requires.holding fits.0.1 reads refl)
 
 pub returns-in-Collects-clause-rows : goal.returns-in-Collects-clause-rows
 unfolding changed
 returns-in-Collects-clause-rows c =
     let fits : FitsRows c.args.rows.now.rows c.args.wounded.now c.args.needs.now c.args.logged (Collects c.in-Collects.txn c.in-Collects.gathering) = subst (FitsRows c.args.rows.now.rows c.args.wounded.now c.args.needs.now c.args.logged) c.in-Collects.is c.requires.fits in
     c.collect.ensures ∙ put_twice (without_rows c.args.rows.now.rows c.args.wounded.now) c.grant-in-Collects.new.self.rows c.in-Collects.txn (with_locks (held_in c.args.rows.now.rows c.in-Collects.txn) c.args.needs.now) (collecting c.in-Collects.gathering []) c.grant-in-Collects.ensures
-    ∙ put_is_change c.args.rows.now.rows c.in-Collects.txn c.args.needs.now c.args.needs.now c.args.wounded.now (collecting c.in-Collects.gathering []) fits.0.ended
+    ∙ put_is_change c.args.rows.now.rows c.in-Collects.txn c.args.needs.now c.args.needs.now c.args.wounded.now (collecting c.in-Collects.gathering []) fits.0.1
     ∙ ap (λ (h : Change). changed (change_of c.args.rows.now.rows c.args.needs.now c.args.logged h) (without_rows c.args.rows.now.rows c.args.wounded.now)) (sym c.in-Collects.is)
 
 pub returns-in-Collects-clause-ended : goal.returns-in-Collects-clause-ended
@@ -189,7 +189,7 @@ unfolding changed
 returns-in-Stands-clause-rows c =
     let fits : FitsRows c.args.rows.now.rows c.args.wounded.now c.args.needs.now c.args.logged (Stands c.in-Stands.txn) = subst (FitsRows c.args.rows.now.rows c.args.wounded.now c.args.needs.now c.args.logged) c.in-Stands.is c.requires.fits in
     c.stand.ensures.rows ∙ put_twice (without_rows c.args.rows.now.rows c.args.wounded.now) c.grant-in-Stands.new.self.rows c.in-Stands.txn (with_locks (held_in c.args.rows.now.rows c.in-Stands.txn) c.args.needs.now) (phase_by c.there-in-Stands.result) c.grant-in-Stands.ensures
-    ∙ put_is_change c.args.rows.now.rows c.in-Stands.txn c.args.needs.now c.args.needs.now c.args.wounded.now (phase_by c.there-in-Stands.result) fits.0.ended
+    ∙ put_is_change c.args.rows.now.rows c.in-Stands.txn c.args.needs.now c.args.needs.now c.args.wounded.now (phase_by c.there-in-Stands.result) fits.0.1
     ∙ ap (λ (l : Option Record). changed (change_of c.args.rows.now.rows c.args.needs.now l (Stands c.in-Stands.txn)) (without_rows c.args.rows.now.rows c.args.wounded.now)) (sym c.there-in-Stands.ensures)
     ∙ ap (λ (h : Change). changed (change_of c.args.rows.now.rows c.args.needs.now c.args.logged h) (without_rows c.args.rows.now.rows c.args.wounded.now)) (sym c.in-Stands.is)
 

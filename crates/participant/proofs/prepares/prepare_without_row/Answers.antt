@@ -1,8 +1,8 @@
 use Rattle.participant.proofs.Planned.{prepare_unknown}
 use Rattle.participant.proofs.prepares.prepare_without_row.Goals as goal
 
-pub returns-in-Unknown : goal.returns-in-Unknown
-returns-in-Unknown c =
+pub returns-in-Unknown-clause-planned : goal.returns-in-Unknown-clause-planned
+returns-in-Unknown-clause-planned c =
     let p = c.args.prepare.now in
     prepare_unknown c.args.state.now c.args.now.now.earliest p.txn p.coordinator p.reads.epoch p.reads.keys p.writes c.args.past
-    c.prepare_fresh.result c.requires c.in-Unknown.is c.prepare_fresh.ensures
+    c.prepare_fresh.result c.requires.row c.in-Unknown.is c.prepare_fresh.ensures.planned

@@ -13,8 +13,8 @@ copied : (o : Option (Bor Wait)) → is_some (option_copied o) ≡ is_some o
 copied None = refl
 copied (Some w) = refl
 
-pub returns-in-Reading : goal.returns-in-Reading
-returns-in-Reading c =
+pub returns-in-Reading-clause-planned : goal.returns-in-Reading-clause-planned
+returns-in-Reading-clause-planned c =
     let k = c.args.state.now in
     let read = c.args.read.now in
     let held = held_in k.memory.rows read.txn in
@@ -22,4 +22,4 @@ returns-in-Reading c =
     (sym (ap (λ (r : Row). plan_read (start_of k) read.txn read.key (HasRow held (phase_of r))) c.in-Reading.is
     ∙ read_of_row (start_of k) read.txn read.key held c.in-Reading.reading.wait
     ∙ ap (plan_read_row (start_of k) read.txn read.key held)
-    (ap is_some (sym c.wait.ensures) ∙ copied c.wait.result ∙ sym c.is_some-waits.ensures))) c.read_row.ensures
+    (ap is_some (sym c.wait.ensures) ∙ copied c.wait.result ∙ sym c.is_some-waits.ensures))) c.read_row.ensures.planned

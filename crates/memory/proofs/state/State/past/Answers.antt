@@ -5,8 +5,8 @@ use Rattle.memory.specs.Kept.{Kept, start_of, IsPast}
 use Rattle.memory.proofs.States.{stands-past}
 use Rattle.memory.proofs.state.State.past.Goals as goal
 
-pub returns : goal.returns
-returns c =
+pub returns-clause-past : goal.returns-clause-past
+returns-clause-past c =
     let t = c.args.txn in
     subst (λ s. IsPast s c.past_by.result)
     (sym (stands-past (start_of c.args.self.now) t _ c.has.result c.requires

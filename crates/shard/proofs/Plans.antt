@@ -1,0 +1,74 @@
+-- The plan of an input may be logged and carried out.
+use Rattle.std.proofs.Common.{◌≡◌, ℕ, true, List, [], ◌∷◌, Option, Some, None, Ok, refl}
+use Rattle.std.proofs.Math.Logic.{∥∥₁_elim, ∥∥₁_map}
+use Rattle.std.proofs.Props.{props}
+use mathlib.Core.HLevel.{×_prop, Unit-prop}
+use Rattle.units.specs.Ids.{Id}
+use Rattle.units.specs.ById.{IsById}
+use Rattle.units.specs.Versions.{above_versions}
+use Rattle.truetime.specs.Interval.{Interval}
+use Rattle.record.specs.Facts.{Facts, recorded}
+use Rattle.record.specs.declared.record.Record.{Record}
+use Rattle.message.specs.declared.message.Input.{Input}
+use Rattle.facts.specs.Rules.{follows_facts}
+use Rattle.memory.specs.Ledger.{writes_standing}
+use Rattle.protocol.specs.Rows.{Memory, Row}
+use Rattle.protocol.proofs.RowChanges.{by_id-claims}
+use Rattle.protocol.specs.StepLaws.{IsInLimit}
+use Rattle.protocol.specs.Step.{step}
+use Rattle.protocol.specs.Plan.{StepIsPlanned, plan_input, stepped}
+use Rattle.protocol.specs.Sound.{IsSound, StepKeepsSound, LoggedFollows, InstallsAbove}
+use Rattle.memory.specs.Carry.{IsFit, MayFollow, MayInstall, installed_by}
+use Rattle.memory.specs.Kept.{Kept, start_of}
+use Rattle.memory.specs.Plans.{plan_of}
+use Rattle.memory.specs.declared.plan.Plan.{Plan as CodePlan}
+use Rattle.shard.specs.Due.{IsDue}
+
+may_follow : (shard : ℕ) (facts : Facts) (logged : Option Record) → ((r : Record) → logged ≡ Some r → MayFollow shard facts (Some r)) → MayFollow shard facts logged
+may_follow shard facts None follows = tt
+may_follow shard facts (Some r) follows = follows r refl
+
+may_install : (facts : Facts) (logged : Option Record)
+    → ((t : Id) (s : ℕ) → logged ≡ Some (Record.Outcome t (Some s)) → MayInstall facts (Some (Record.Outcome t (Some s))) (installed_by facts (Some (Record.Outcome t (Some s)))))
+    → MayInstall facts logged (installed_by facts logged)
+may_install facts None installs = tt
+may_install facts (Some (Record.Outcome t (Some s))) installs = installs t s refl
+may_install facts (Some (Record.Outcome t None)) installs = tt
+may_install facts (Some (Record.Opened epoch)) installs = tt
+may_install facts (Some (Record.Prepare p)) installs = tt
+may_install facts (Some (Record.Commit c)) installs = tt
+may_install facts (Some (Record.Abort t)) installs = tt
+may_install facts (Some (Record.Ceiling at)) installs = tt
+
+by_id-prop : {A : Type 0} (id : A → Id) (xs : List A) → IsProp (IsById id xs)
+by_id-prop id [] = Unit-prop
+by_id-prop id (x ∷ xs) = ×_prop (hlevel props) (by_id-prop id xs)
+
+-- the rows of a sound shard ascend by id
+pub ascending : (shard : ℕ) (facts : Facts) (memory : Memory) → ∥ IsSound shard facts memory ∥₁ → IsById (λ r. r.txn) memory.rows
+ascending shard facts memory sound = ∥∥₁_elim sound (by_id-prop (λ (r : Row). r.txn) memory.rows) (λ s. by_id-claims memory.rows s.table.order)
+
+module _ (k : Kept) (now : Interval) (i : Input) (p : CodePlan) (limit : IsInLimit i) (planned : plan_input k.setup (start_of k) now i ≡ Ok (plan_of k.memory.rows p)) where
+  follows_next : LoggedFollows → ∥ IsSound k.setup.shard k.facts k.memory ∥₁ → (r : Record) → p.logged ≡ Some r → follows_facts k.setup.shard k.facts r ≡ true
+  follows_next follows sound r e =
+      ∥∥₁_elim sound (hlevel props) (λ s. follows 1024 k.setup k.facts k.memory now i (plan_of k.memory.rows p) r s planned e)
+
+  installs_next : InstallsAbove → ∥ IsSound k.setup.shard k.facts k.memory ∥₁ → (t : Id) (s : ℕ) → p.logged ≡ Some (Record.Outcome t (Some s))
+      → above_versions k.facts.installs s (writes_standing (recorded k.facts t)) ≡ true
+  installs_next installs sound t s e =
+      ∥∥₁_elim sound (hlevel props) (λ o. installs 1024 k.setup k.facts k.memory now i (plan_of k.memory.rows p) t s o planned e)
+
+  -- a plan of an input that fits is due
+  pub is_due : StepKeepsSound → LoggedFollows → InstallsAbove → ∥ IsSound k.setup.shard k.facts k.memory ∥₁ → IsFit k p → IsDue k p
+  is_due keeps follows installs sound fit = record {
+    order = ascending k.setup.shard k.facts k.memory sound;
+    fit = fit;
+    follows = may_follow k.setup.shard k.facts p.logged (follows_next follows sound);
+    installs = may_install k.facts p.logged (λ t s e. (refl, installs_next installs sound t s e));
+    sound = ∥∥₁_map sound (λ s. keeps 1024 k.setup k.facts k.memory now i (plan_of k.memory.rows p) limit s planned);
+  }
+
+-- a step is that of its plan
+pub step_is : StepIsPlanned → (k : Kept) → ∥ IsSound k.setup.shard k.facts k.memory ∥₁ → (now : Interval) (i : Input)
+    → step k.setup k.facts k.memory now i ≡ stepped k.memory (plan_input k.setup (start_of k) now i)
+step_is law k sound now i = law 1024 k.setup k.facts k.memory now i (ascending k.setup.shard k.facts k.memory sound)

@@ -1,0 +1,18 @@
+-- What a plan needs so that it may be logged and carried out.
+use Rattle.units.specs.ById.{IsById}
+use Rattle.protocol.specs.Step.{facts_after}
+use Rattle.protocol.specs.Plan.{carried}
+use Rattle.protocol.specs.Sound.{IsSound}
+use Rattle.memory.specs.Carry.{IsFit, MayFollow, MayInstall, installed_by}
+use Rattle.memory.specs.Kept.{Kept}
+use Rattle.memory.specs.Plans.{plan_of}
+use Rattle.memory.specs.declared.plan.Plan.{Plan}
+
+-- the rows ascend by id; it may be carried out; its record may come next, and what that installs is above the versions of its keys; and the shard
+-- is sound then
+pub record IsDue (k : Kept) (p : Plan) : Type 0 where
+  pub order : IsById (λ r. r.txn) k.memory.rows
+  pub fit : IsFit k p
+  pub follows : MayFollow k.setup.shard k.facts p.logged
+  pub installs : MayInstall k.facts p.logged (installed_by k.facts p.logged)
+  pub sound : ∥ IsSound k.setup.shard (facts_after k.facts p.logged) (carried (plan_of k.memory.rows p) k.memory) ∥₁
