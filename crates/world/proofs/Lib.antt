@@ -1,5 +1,6 @@
 pub mod AllWhole
 pub mod Changes
+mod Carrying
 mod Clients
 pub mod Closings
 pub mod Consistent
@@ -9,6 +10,8 @@ mod Events
 pub mod Every
 pub mod EveryRun
 mod Faults
+mod HeldSteps
+mod Hosted
 pub mod Grows
 pub mod Lefts
 pub mod InHistory
@@ -18,10 +21,12 @@ pub mod Moves
 pub mod Table
 pub mod Homes
 mod OneShardRun
+mod Newest
 pub mod Openings
 pub mod Orderly
 pub mod Picked
 pub mod Resolved
+mod Puts
 pub mod Quiet
 mod RandomRuns
 pub mod Recorded

@@ -1,9 +1,17 @@
 pub mod ButForReads
 pub mod Computing
+pub mod Crashless
 pub mod Evidence
 pub mod Headline
+pub mod Held
+pub mod Hosts
+pub mod Inputs
 pub mod Lawful
 pub mod Left
+pub mod Newer
+pub mod Passed
+pub mod Runs
 pub mod Steady
 pub mod TimeLaws
+pub mod Told
 pub mod World

@@ -1,0 +1,141 @@
+-- What a running shard carries out is what its doing comes to.
+use Rattle.std.proofs.Common.{◌≡◌, ◌≢◌, ◌⊎◌, inl, inr, ℕ, ◌+◌, ◌*◌, ◌^◌, ◌<◌, ◌≤◌, Bool, true, false, IsTrue, IsFalse, List, [], ◌∷◌, ◌++◌, map, Option, Some, None, Result, Ok, Err, OnOk, IfOk, IfErr, refl, sym, ap, ◌∙◌, subst, arith}
+use Rattle.units.specs.Lists.{listed}
+use Rattle.units.specs.declared.fault.Fault.{Fault}
+use Rattle.units.specs.declared.fault.Fault.TheVariants.{Device, Memory as WantsMemory, Stopped, TimeSpent}
+use Rattle.units.specs.declared.setup.Setup.{Setup}
+use Rattle.units.proofs.Folds.{append_none}
+use Rattle.truetime.specs.Interval.{Interval}
+use Rattle.disk.specs.File.{surface}
+use Rattle.disk.specs.declared.plan.Plan.{Plan}
+use Rattle.record.specs.Accepted.{followed}
+use Rattle.record.specs.Facts.{Facts, facts_of}
+use Rattle.record.specs.declared.record.Record.{Record}
+use Rattle.record.proofs.LearnAgrees.{learn_agrees}
+use Rattle.message.specs.declared.message.Envelope.{Envelope}
+use Rattle.message.specs.declared.message.Input.{Input}
+use Rattle.protocol.specs.Rows.{Memory}
+use Rattle.protocol.specs.Draft.{Stepped, Refuses, Does}
+use Rattle.protocol.specs.Step.{step, facts_after}
+use Rattle.shard.specs.Core.{seen}
+use Rattle.shard.specs.Logs.{records_in, and_logged}
+use Rattle.shard.specs.On.{CoreView, HasStepped, IsCause, IsKept, IsLogFull, record_of, step_of}
+use Rattle.simdisk.specs.State.{disk_clock, disk_failures, disk_file, disk_plan, LeftSince}
+use Rattle.simdisk.specs.declared.simdisk.SimDisk.{SimDisk}
+use Rattle.world.specs.World.{ShardNow, State, Runs, effect, input_of, step_with}
+use Rattle.world.specs.Crashless.{goes_on}
+use Rattle.world.specs.Runs.{Carries, Follows, IsRunning, reach, shown_view, stepped}
+use Rattle.world.specs.declared.event.Doing.{Doing}
+use Rattle.world.specs.declared.running.Running.{Running}
+
+-- a doing with an input is a step of the shard that runs
+pub effect_steps : (setup : Setup) (bag : List Envelope) (s : ShardNow) (doing : Doing) (m : Memory) (now : Interval) (i : Input) → goes_on doing ≡ true
+    → s.state ≡ Runs m → input_of bag doing ≡ Some (now, i) → effect setup bag s doing ≡ step setup (facts_of s.log) m now i
+unfolding effect
+effect_steps setup bag s doing m now i goes runs is = by_doing doing goes is
+  where
+    by_state : (o : Option (Interval × Input)) → o ≡ Some (now, i)
+        → elim s.state as (λ x. Stepped) [ Runs k ↦ step_with setup (facts_of s.log) k o | _ ↦ Refuses Stopped ] ≡ step setup (facts_of s.log) m now i
+    by_state o e =
+        ap (λ st. elim st as (λ x. Stepped) [ Runs k ↦ step_with setup (facts_of s.log) k o | _ ↦ Refuses Stopped ]) runs ∙ ap (step_with setup (facts_of s.log) m) e
+
+    by_doing : (d : Doing) → goes_on d ≡ true → input_of bag d ≡ Some (now, i) → effect setup bag s d ≡ step setup (facts_of s.log) m now i
+    by_doing (Doing.Take n at) g e = by_state _ e
+    by_doing (Doing.Resume at) g e = by_state _ e
+    by_doing (Doing.Settle t at) g e = by_state _ e
+    by_doing (Doing.Advance to at) g e = by_state _ e
+    by_doing (Doing.Nudge t at) g e = by_state _ e
+    by_doing Doing.Open g e = absurd (cc)
+
+-- a doing with none is refused
+pub effect_refuses : (setup : Setup) (bag : List Envelope) (s : ShardNow) (doing : Doing) (m : Memory) → goes_on doing ≡ true
+    → s.state ≡ Runs m → input_of bag doing ≡ None → effect setup bag s doing ≡ Refuses Stopped
+unfolding effect
+effect_refuses setup bag s doing m goes runs is = by_doing doing goes is
+  where
+    by_state : (o : Option (Interval × Input)) → o ≡ None
+        → elim s.state as (λ x. Stepped) [ Runs k ↦ step_with setup (facts_of s.log) k o | _ ↦ Refuses Stopped ] ≡ Refuses Stopped
+    by_state o e =
+        ap (λ st. elim st as (λ x. Stepped) [ Runs k ↦ step_with setup (facts_of s.log) k o | _ ↦ Refuses Stopped ]) runs ∙ ap (step_with setup (facts_of s.log) m) e
+
+    by_doing : (d : Doing) → goes_on d ≡ true → input_of bag d ≡ None → effect setup bag s d ≡ Refuses Stopped
+    by_doing (Doing.Take n at) g e = by_state _ e
+    by_doing (Doing.Resume at) g e = by_state _ e
+    by_doing (Doing.Settle t at) g e = by_state _ e
+    by_doing (Doing.Advance to at) g e = by_state _ e
+    by_doing (Doing.Nudge t at) g e = by_state _ e
+    by_doing Doing.Open g e = absurd (cc)
+
+-- the records with the one that a step logs
+with_logged : (log : List Record) (logged : Option Record) → and_logged (Ok log) logged ≡ Ok (log ++ listed logged)
+with_logged log None = ap (λ l. Ok l) (sym (append_none log))
+with_logged log (Some r) = refl
+
+-- and their facts
+facts_with : (n : ℕ) (log : List Record) (logged : Option Record) → ((r : Record) → logged ≡ Some r → IsTrue (followed n (log ++ r ∷ []))) → facts_after (facts_of log) logged ≡ facts_of (log ++ listed logged)
+facts_with n log None h = ap facts_of (sym (append_none log))
+facts_with n log (Some r) h = sym (learn_agrees n log r (h r refl))
+
+module _ (setup : Setup) (used : ℕ) (bag : List Envelope) (s : ShardNow) (doing : Doing) (old new : Running) (views : new.views ≡ old.views) (h : IsRunning setup used old s) where
+  abbrev Full : Option Record → Type 0
+  Full logged = IsLogFull (seen old.core).gate logged
+
+  abbrev Failed : Type 0
+  Failed = (disk_failures (seen old.core).disk < disk_failures (seen new.core).disk) × IsTrue (seen new.core).stopped
+
+  stays : (fault : Fault) → IsKept disk_file (seen old.core) (seen new.core) fault → fault ≢ Device → disk_plan (seen new.core).disk ≡ Plan.Never
+      → (seen new.core).setup ≡ (seen old.core).setup → IsRunning setup used new s
+  stays fault (facts, memory, inl device) other never setup_same = absurd (other device)
+  stays fault (facts, memory, inr same) other never setup_same = record {
+    setup_is = setup_same ∙ h.setup_is;
+    up = same.0 ∙ h.up;
+    never = never;
+    read = ap (λ f. records_in (surface f).seen) same.2 ∙ h.read;
+    facts = facts ∙ h.facts;
+    sure = h.sure;
+    state = h.state ∙ ap (λ m. Runs m) (sym memory);
+    views = ap (λ v. map shown_view v.items) views ∙ h.views;
+    room = omega (arith, same.1, h.room);
+  }
+
+  pub carries : (st : Stepped) (r : Result (List Envelope) Fault) → effect setup bag s doing ≡ st
+      → HasStepped (Unit {0}) (Unit {0}) disk_file disk_clock LeftSince disk_failures disk_plan (seen old.core) (seen new.core) st r → Carries setup used bag s doing new r
+  carries (Refuses why) (Ok out) is k = λ follows. absurd (k.done.2)
+  carries (Does logged memory outbox) (Ok out) is k = λ follows. (
+    logged,
+    memory,
+    is ∙ ap (Does logged memory) (sym k.done.2.2),
+    record {
+      setup_is = k.written.setup ∙ h.setup_is;
+      up = k.done.1;
+      never = (k.written.planned tt h.never).0;
+      read = k.written.read tt ∙ ap (λ x. and_logged x logged) h.read ∙ with_logged s.log logged;
+      facts = k.done.2.0 ∙ ap (λ f. facts_after f logged) h.facts
+          ∙ facts_with setup.shard s.log logged (λ r e. follows r memory outbox (is ∙ ap (λ l. Does l memory outbox) e));
+      sure = refl;
+      state = ap (λ m. Runs m) (sym k.done.2.1);
+      views = ap (λ v. map shown_view v.items) views ∙ h.views;
+      room = omega (arith, k.written.gate.1, h.room);
+    },
+  )
+  carries (Refuses why) (Err fault) is k = λ room.
+      let because : fault ≡ why = subst (λ b. IsCause b (Refuses why) fault (Full None) Failed) h.up k.cause in
+      inr (is ∙ ap (λ f. Refuses f) (sym because), stays fault k.written.kept (k.written.planned tt h.never).1 (k.written.planned tt h.never).0 k.written.setup)
+  carries (Does logged memory outbox) (Err fault) is k = λ room. by_cause logged room (subst (λ b. IsCause b (Does logged memory outbox) fault (Full logged) Failed) h.up k.cause)
+    where
+      by_cause : (l : Option Record) → reach used + 2 ^ 20 + 5 < 2 ^ 40
+          → (fault ≡ WantsMemory) ⊎ (((fault ≡ TimeSpent) × Full l) ⊎ ((fault ≡ Device) × Failed))
+          → (fault ≡ WantsMemory) ⊎ ((effect setup bag s doing ≡ Refuses fault) × IsRunning setup used new s)
+      by_cause l room (inl wants) = inl wants
+      by_cause None room (inr (inl full)) = absurd full.1
+      by_cause (Some r) room (inr (inl full)) = absurd (omega (arith, room, h.room, full.1.1))
+      by_cause l room (inr (inr device)) = absurd ((k.written.planned tt h.never).1 device.0)
+
+-- taking the input of a doing carries it out
+pub takes_input : (setup : Setup) (used : ℕ) (bag : List Envelope) (s : ShardNow) (doing : Doing) (old new : Running) → new.views ≡ old.views → IsRunning setup used old s → goes_on doing ≡ true
+    → (now : Interval) (i : Input) (r : Result (List Envelope) Fault) → input_of bag doing ≡ Some (now, i)
+    → HasStepped (Unit {0}) (Unit {0}) disk_file disk_clock LeftSince disk_failures disk_plan (seen old.core) (seen new.core) (step_of (seen old.core) now i) r
+    → Carries setup used bag s doing new r
+takes_input setup used bag s doing old new views h goes now i r found stepped_so =
+    carries setup used bag s doing old new views h (step_of (seen old.core) now i) r
+    (effect_steps setup bag s doing (seen old.core).memory now i goes h.state found ∙ sym (λ j. step (h.setup_is j) (h.facts j) (seen old.core).memory now i)) stepped_so

@@ -1,0 +1,57 @@
+-- How a running shard in the code stands for one of the definitions.
+use Rattle.std.specs.Prelude.{◌≡◌, ◌⊎◌, ℕ, ◌+◌, ◌*◌, ◌^◌, ◌≤◌, ◌<◌, Bool, false, IsTrue, List, [], ◌∷◌, ◌++◌, map, Option, Some, None, Result, Ok, Err}
+use Rattle.units.specs.declared.fault.Fault.{Fault}
+use Rattle.units.specs.declared.fault.Fault.TheVariants.{Memory}
+use Rattle.units.specs.declared.setup.Setup.{Setup}
+use Rattle.units.specs.Lists.{listed}
+use Rattle.disk.specs.File.{surface}
+use Rattle.disk.specs.declared.plan.Plan.{Plan}
+use Rattle.record.specs.Accepted.{followed}
+use Rattle.record.specs.Facts.{facts_of}
+use Rattle.record.specs.declared.record.Record.{Record}
+use Rattle.message.specs.declared.message.Envelope.{Envelope}
+use Rattle.protocol.specs.Rows.{Memory as Kept}
+use Rattle.protocol.specs.Draft.{Stepped, Refuses, Does}
+use Rattle.shard.specs.Core.{seen}
+use Rattle.shard.specs.Logs.{records_in}
+use Rattle.simdisk.specs.State.{disk_file, disk_plan}
+use Rattle.world.specs.World.{ShardNow, View, Runs, Nothing, effect}
+use Rattle.world.specs.declared.event.Doing.{Doing}
+use Rattle.world.specs.declared.running.Running.{Running}
+use Rattle.world.specs.declared.view.View.{View as CodeView}
+
+-- a view
+abbrev pub shown_view : CodeView → View
+shown_view v = record { installs = v.installs.items; safe = v.safe }
+
+-- how far a log may reach after some events
+abbrev pub reach : ℕ → ℕ
+reach used = (used + 1) * (2 ^ 20 + 5) + 8
+
+-- the shard runs on a disk that holds its log and that is not to fail
+pub record IsRunning (setup : Setup) (used : ℕ) (r : Running) (s : ShardNow) : Type 0 where
+  pub setup_is : (seen r.core).setup ≡ setup
+  pub up : (seen r.core).stopped ≡ false
+  pub never : disk_plan (seen r.core).disk ≡ Plan.Never
+  pub read : records_in (surface (disk_file (seen r.core).disk)).seen ≡ Ok s.log
+  pub facts : (seen r.core).facts ≡ facts_of s.log
+  pub sure : s.unsure ≡ Nothing
+  pub state : s.state ≡ Runs (seen r.core).memory
+  pub views : map shown_view r.views.items ≡ s.views
+  pub room : (seen r.core).gate ≤ reach used
+
+-- a shard after a doing but for the view that it makes
+abbrev pub stepped : ShardNow → Option Record → Kept → ShardNow
+stepped s logged memory = record { log = s.log ++ listed logged; unsure = Nothing; state = Runs memory; views = s.views }
+
+-- each record that a doing logs follows those before it
+abbrev pub Follows : Setup → List Envelope → ShardNow → Doing → Type 0
+Follows setup bag s doing = (r : Record) (memory : Kept) (out : List Envelope) → effect setup bag s doing ≡ Does (Some r) memory out → IsTrue (followed setup.shard (s.log ++ r ∷ []))
+
+-- a doing is done, or it is refused for its own reason; or memory was refused. The log has room for some two hundred
+-- thousand records of the greatest size
+abbrev pub Carries : Setup → ℕ → List Envelope → ShardNow → Doing → Running → Result (List Envelope) Fault → Type 0
+Carries setup used bag s doing new (Ok out) =
+    Follows setup bag s doing → (logged : Option Record) × (memory : Kept) × (effect setup bag s doing ≡ Does logged memory out) × IsRunning setup (used + 1) new (stepped s logged memory)
+Carries setup used bag s doing new (Err fault) =
+    reach used + 2 ^ 20 + 5 < 2 ^ 40 → (fault ≡ Memory) ⊎ ((effect setup bag s doing ≡ Refuses fault) × IsRunning setup used new s)

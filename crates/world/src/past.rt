@@ -1,0 +1,116 @@
+//! What a run has put out: its messages, and the lines of its report.
+ghost use Rattle.std.specs.Prelude.{◌≡◌, ◌++◌, ◌∷◌, [], IfErr, OnOk, true};
+ghost use Rattle.units.specs.Lists.{join, listed, when};
+ghost use Rattle.message.specs.declared.message.Envelope.{Envelope};
+ghost use Rattle.world.specs.Told.{ack_in, was_told};
+ghost use Rattle.world.specs.World.{commit_told};
+
+use bag::Bag;
+use message::{Envelope, Message, Outbox};
+use units::{Fault, Line, TxnId};
+
+/// The messages and the lines so far, and the number of the event that is under way.
+#[derive(Drop)]
+pub struct Past {
+    pub bag: Bag,
+    pub lines: Vec<Line>,
+    pub event: u64,
+}
+
+impl Past {
+    ghost use Rattle.world.specs.World.{World, put_out, note};
+    ghost use Rattle.world.specs.Passed.{IsPast};
+
+    /// Messages are put out. Each that is the first to tell a session that it committed is a line.
+    pub fn put_out(&mut self, out: Outbox) -> Result<(), Fault>
+        ensures put { (w : World) → IsPast self.old w → OnOk result (IsPast self.new (put_out out w)) }
+        ensures memory { IfErr result (λ fault. fault ≡ Fault.Memory) }
+    {
+        push_acknowledged(
+            &mut self.lines,
+            self.bag.as_slice(),
+            self.event,
+            out.as_slice(),
+        )?;
+        put_all(&mut self.bag, out)
+    }
+
+    /// A line is written.
+    pub fn note(&mut self, line: Line) -> Result<(), Fault>
+        ensures noted { (w : World) → IsPast self.old w → OnOk result (IsPast self.new (note line w)) }
+        ensures memory { IfErr result (λ fault. fault ≡ Fault.Memory) }
+    {
+        self.lines.push(line)?;
+        Ok(())
+    }
+}
+
+// Each message goes behind the others.
+fn put_all(bag: &mut Bag, out: Outbox) -> Result<(), Fault>
+    ensures all { OnOk result (bag.new ≡ bag.old ++ out) }
+    ensures memory { IfErr result (λ fault. fault ≡ Fault.Memory) }
+{
+    for envelope in out.into_vec() {
+        bag.put(envelope)?;
+    }
+    Ok(())
+}
+
+// The acknowledgements among new messages.
+fn push_acknowledged(
+    lines: &mut Vec<Line>,
+    bag: &[Envelope],
+    event: u64,
+    out: &[Envelope],
+) -> Result<(), Fault>
+    ensures lines { OnOk result (lines.new.items ≡ lines.old.items ++ join (ack_in bag.now event) out.now) }
+    ensures memory { IfErr result (λ fault. fault ≡ Fault.Memory) }
+{
+    for envelope in out {
+        if let Some(line) = acknowledged(bag, event, envelope) {
+            lines.push(line)?;
+        }
+    }
+    Ok(())
+}
+
+// The acknowledgement that a message is: the first that tells a session that it committed.
+fn acknowledged(bag: &[Envelope], event: u64, envelope: &Envelope) -> Option<Line>
+    ensures { listed result ≡ ack_in bag.now event envelope.now }
+{
+    match &envelope.message {
+        Message::Done(done) => match done.outcome {
+            Some(at) => {
+                if was_told(bag, done.txn) {
+                    None
+                } else {
+                    Some(Line::Ack(done.txn, at, event))
+                }
+            }
+            None => None,
+        },
+        _ => None,
+    }
+}
+
+// A session was told that it committed.
+fn was_told(bag: &[Envelope], txn: TxnId) -> bool
+    ensures { result ≡ was_told bag.now txn }
+{
+    for envelope in bag {
+        if tells_commit(envelope, txn) {
+            return true;
+        }
+    }
+    false
+}
+
+// The message tells a session that it committed.
+fn tells_commit(envelope: &Envelope, txn: TxnId) -> bool
+    ensures { result ≡ when (λ x. true) (commit_told txn envelope.now) }
+{
+    match &envelope.message {
+        Message::Done(done) => done.txn.is(txn) && done.outcome.is_some(),
+        _ => false,
+    }
+}
