@@ -57,11 +57,12 @@ asks_over : (rows : List Row) (t : Id) (us : List Id) (needs : List Lock) (opens
 asks_over rows t us needs opens up asks =
     let entrant : Row = record { txn = t; held = []; phase = Idle } in
     let left : List Row = without_rows rows us in
-    let gone : AllOther t us = others_gone rows t needs us asks.1 in
-    (ap (λ (o : Option Row). elim o as (λ _. Bool) [ None ↦ nat_lt (length (put_row rows t [] Idle)) 1024 | Some r ↦ is_reading r.phase ]) (find-with_row rows entrant),
-     asks.1 ∙ wounded-alike (claims rows) (claims (with_row rows entrant)) t needs (sym (others-with_row rows entrant)),
-     ap (λ (l : List Row). is_free (claims l) t needs) (without_rows-with rows entrant us up gone)
-     ∙ is_free-alike (claims (with_row left entrant)) (claims left) t needs (others-with_row left entrant) ∙ asks.2)
+    let gone : AllOther t us = others_gone rows t needs us asks.1 in (
+      ap (λ (o : Option Row). elim o as (λ _. Bool) [ None ↦ nat_lt (length (put_row rows t [] Idle)) 1024 | Some r ↦ is_reading r.phase ]) (find-with_row rows entrant),
+      asks.1 ∙ wounded-alike (claims rows) (claims (with_row rows entrant)) t needs (sym (others-with_row rows entrant)),
+      ap (λ (l : List Row). is_free (claims l) t needs) (without_rows-with rows entrant us up gone)
+          ∙ is_free-alike (claims (with_row left entrant)) (claims left) t needs (others-with_row left entrant) ∙ asks.2,
+    )
 
 pub asks_the_same : (rows : List Row) (t : Id) (us : List Id) (needs : List Lock) (opens : Bool) → Ascend rows → Asks rows t us needs opens
     → Asks (admitted rows (Some t)) t us needs opens
@@ -140,10 +141,11 @@ ready_is_carriable old new p writes up fit ready follows installs =
     let rows : new.memory.rows ≡ admitted old.memory.rows (asker p.change) = ap (λ (m : Memory). m.rows) ready.memory in
     let last : new.memory.last ≡ old.memory.last = ap (λ (m : Memory). m.last) ready.memory in
     record {
-      fit =
-          (subst (λ (l : List Row). FitsRows l p.wounded p.needs.items p.logged p.change) (sym rows)
-           (fits_again old.memory.rows p.wounded p.needs.items p.logged p.change up fit.0),
-           subst (λ (n : ℕ). n ≤ p.last) (sym last) fit.1);
+      fit = (
+        subst (λ (l : List Row). FitsRows l p.wounded p.needs.items p.logged p.change) (sym rows)
+            (fits_again old.memory.rows p.wounded p.needs.items p.logged p.change up fit.0),
+        subst (λ (n : ℕ). n ≤ p.last) (sym last) fit.1,
+      );
       there = subst (λ (l : List Row). admitted l (asker p.change) ≡ l) (sym rows) (admitted_again old.memory.rows (asker p.change));
       records = ready.records;
       ends = ready.ends;

@@ -37,7 +37,7 @@ may_ask_roomy b t limit room may = by_row (find_row b.memory.rows t) refl may
         → elim o as (λ _. Bool) [ None ↦ nat_lt (length rows) 1024 | Some r ↦ is_reading r.phase ] ≡ true
     by_row None e m =
         let absent : any (λ r. same_id r.txn t) rows ≡ false =
-            any-first (λ r. same_id r.txn t) rows ∙ ap (λ (o : Option Row). elim o as (λ _. Bool) [ None ↦ false | Some r ↦ true ]) e in
+        any-first (λ r. same_id r.txn t) rows ∙ ap (λ (o : Option Row). elim o as (λ _. Bool) [ None ↦ false | Some r ↦ true ]) e in
         let counted : (nat_le b.capacity (length rows) && not false) ≡ false = ap (λ a. nat_le b.capacity (length rows) && not a) (sym absent) ∙ room in
         subst (λ n. nat_lt (length rows) n ≡ true) limit (roomy b.capacity (length rows) counted)
     by_row (Some r) e m = m
@@ -96,7 +96,8 @@ ready_asks rows (Some t) up e =
     let oldest : IsOldestReady (claims rows) (Some t) = subst (IsOldestReady (claims rows)) e (ready_is_oldest (claims rows) (claims-by_id rows up)) in
     let row = waiting_row rows t oldest.0 oldest.1 oldest.2.0 in
     let free : is_free (claims rows) t (needs_of (row.0).phase) ≡ true = free_when_ready rows t row.0 up e row.1 in
-    let needs : needs_in rows t ≡ needs_of (row.0).phase = rw row.1 refl in
-    (ap (λ (o : Option Row). elim o as (λ _. Bool) [ None ↦ nat_lt (length rows) 1024 | Some r ↦ is_reading r.phase ]) row.1 ∙ row.2,
-     sym (nobody_wounded (claims rows) t (needs_in rows t) (subst (λ ns. is_free (claims rows) t ns ≡ true) (sym needs) free)),
-     subst (λ ns. is_free (claims rows) t ns ≡ true) (sym needs) free)
+    let needs : needs_in rows t ≡ needs_of (row.0).phase = rw row.1 refl in (
+      ap (λ (o : Option Row). elim o as (λ _. Bool) [ None ↦ nat_lt (length rows) 1024 | Some r ↦ is_reading r.phase ]) row.1 ∙ row.2,
+      sym (nobody_wounded (claims rows) t (needs_in rows t) (subst (λ ns. is_free (claims rows) t ns ≡ true) (sym needs) free)),
+      subst (λ ns. is_free (claims rows) t ns ≡ true) (sym needs) free,
+    )
