@@ -1,5 +1,5 @@
 //! The keys that part the shards.
-ghost use Rattle.std.specs.Prelude.{◌≡◌, ◌≤◌, ◌<◌, ◌⊎◌, IsTrue, IsFalse, length, not, MatchResult};
+ghost use Rattle.std.specs.Prelude.{◌≡◌, ◌≤◌, ◌<◌, ◌⊎◌, IsTrue, IsFalse, length, not, IfOk, IfErr, MatchResult};
 ghost use Rattle.units.specs.Keys.{key_before, shard_of};
 ghost use Rattle.units.specs.Lists.{ascends, count};
 
@@ -50,6 +50,15 @@ impl Splits {
         ensures few { length result.now ≤ 15 }
     {
         self.keys.as_slice()
+    }
+
+    /// Equal splits with memory of their own.
+    pub fn copy(&self, alloc: Global) -> Result<Splits, Fault>
+        ensures same { IfOk result (λ splits. splits ≡ self.now) }
+        ensures memory { IfErr result (λ fault. fault ≡ Fault.Memory) }
+    {
+        let keys = self.keys.to_vec(alloc)?;
+        Ok(Splits { keys })
     }
 
     /// The shard that a key belongs to: the number of splits that are not greater than the key.

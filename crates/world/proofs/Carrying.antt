@@ -1,6 +1,6 @@
 -- What a running shard carries out is what its doing comes to.
-use Rattle.std.proofs.Common.{◌≡◌, ◌≢◌, ◌⊎◌, inl, inr, ℕ, ◌+◌, ◌*◌, ◌^◌, ◌<◌, ◌≤◌, Bool, true, false, IsTrue, IsFalse, List, [], ◌∷◌, ◌++◌, map, Option, Some, None, Result, Ok, Err, OnOk, IfOk, IfErr, refl, sym, ap, ◌∙◌, subst, arith}
-use Rattle.units.specs.Lists.{listed}
+use Rattle.std.proofs.Common.{◌≡◌, ◌≢◌, ◌⊎◌, inl, inr, ℕ, ◌+◌, ◌^◌, ◌<◌, true, IsTrue, List, [], ◌∷◌, ◌++◌, map, Option, Some, None, Result, Ok, Err, refl, sym, ap, ◌∙◌, subst, arith}
+use Rattle.units.specs.Lists.{each, listed}
 use Rattle.units.specs.declared.fault.Fault.{Fault}
 use Rattle.units.specs.declared.fault.Fault.TheVariants.{Device, Memory as WantsMemory, Stopped, TimeSpent}
 use Rattle.units.specs.declared.setup.Setup.{Setup}
@@ -9,7 +9,7 @@ use Rattle.truetime.specs.Interval.{Interval}
 use Rattle.disk.specs.File.{surface}
 use Rattle.disk.specs.declared.plan.Plan.{Plan}
 use Rattle.record.specs.Accepted.{followed}
-use Rattle.record.specs.Facts.{Facts, facts_of}
+use Rattle.record.specs.Facts.{facts_of}
 use Rattle.record.specs.declared.record.Record.{Record}
 use Rattle.record.proofs.LearnAgrees.{learn_agrees}
 use Rattle.message.specs.declared.message.Envelope.{Envelope}
@@ -19,14 +19,14 @@ use Rattle.protocol.specs.Draft.{Stepped, Refuses, Does}
 use Rattle.protocol.specs.Step.{step, facts_after}
 use Rattle.shard.specs.Core.{seen}
 use Rattle.shard.specs.Logs.{records_in, and_logged}
-use Rattle.shard.specs.On.{CoreView, HasStepped, IsCause, IsKept, IsLogFull, record_of, step_of}
+use Rattle.shard.specs.On.{HasStepped, IsCause, IsKept, IsLogFull, step_of}
 use Rattle.simdisk.specs.State.{disk_clock, disk_failures, disk_file, disk_plan, LeftSince}
-use Rattle.simdisk.specs.declared.simdisk.SimDisk.{SimDisk}
-use Rattle.world.specs.World.{ShardNow, State, Runs, effect, input_of, step_with}
+use Rattle.world.specs.World.{ShardNow, Runs, effect, input_of, step_with}
 use Rattle.world.specs.Crashless.{goes_on}
-use Rattle.world.specs.Runs.{Carries, Follows, IsRunning, reach, shown_view, stepped}
+use Rattle.world.specs.Runs.{Carries, IsRunning, is_within, reach, shown_view}
 use Rattle.world.specs.declared.event.Doing.{Doing}
 use Rattle.world.specs.declared.running.Running.{Running}
+use Rattle.world.proofs.Viewed.{shown_after, within_after}
 
 -- a doing with an input is a step of the shard that runs
 pub effect_steps : (setup : Setup) (bag : List Envelope) (s : ShardNow) (doing : Doing) (m : Memory) (now : Interval) (i : Input) → goes_on doing ≡ true
@@ -94,7 +94,8 @@ module _ (setup : Setup) (used : ℕ) (bag : List Envelope) (s : ShardNow) (doin
     facts = facts ∙ h.facts;
     sure = h.sure;
     state = h.state ∙ ap (λ m. Runs m) (sym memory);
-    views = ap (λ v. map shown_view v.items) views ∙ h.views;
+    views = (λ i. map (shown_view (facts i).installs) (views i).items) ∙ h.views;
+    within = (λ i. each (is_within (facts i).installs) (views i).items) ∙ h.within;
     room = omega (arith, same.1, h.room);
   }
 
@@ -114,7 +115,8 @@ module _ (setup : Setup) (used : ℕ) (bag : List Envelope) (s : ShardNow) (doin
           ∙ facts_with setup.shard s.log logged (λ r e. follows r memory outbox (is ∙ ap (λ l. Does l memory outbox) e));
       sure = refl;
       state = ap (λ m. Runs m) (sym k.done.2.1);
-      views = ap (λ v. map shown_view v.items) views ∙ h.views;
+      views = (λ i. map (shown_view (k.done.2.0 i).installs) (views i).items) ∙ shown_after (seen old.core).facts logged old.views.items h.within ∙ h.views;
+      within = (λ i. each (is_within (k.done.2.0 i).installs) (views i).items) ∙ within_after (seen old.core).facts logged old.views.items h.within;
       room = omega (arith, k.written.gate.1, h.room);
     },
   )

@@ -26,7 +26,7 @@ use Rattle.world.specs.declared.event.Config.{Config}
 use Rattle.world.specs.declared.event.Doing.{Doing}
 use Rattle.world.specs.declared.event.Event.{Event}
 use Rattle.world.proofs.Lefts.{ShardOf, left_get, within_get}
-use Rattle.world.proofs.Moments.{all_or_nothing, keeps_acknowledged, ordered_by_time, installed_in_the_past, looks_cover_acknowledged}
+use Rattle.world.proofs.Instants.{all_or_nothing, keeps_acknowledged, ordered_by_time, installed_in_the_past, looks_cover_acknowledged}
 use Rattle.world.proofs.Openings.{opening_taken}
 use Rattle.world.proofs.Sounds.{ActLimit, SoundWorld, always_sound, always_steady, left_good, logged_good}
 use Rattle.world.proofs.Untouched.{run_settings}

@@ -29,11 +29,12 @@ use Rattle.protocol.proofs.StepSound.{fresh_is_sound, step_keeps_sound}
 use Rattle.protocol.proofs.WithinLimit.{stays_within}
 use Rattle.world.specs.ButForReads.{ConsistentButForReads}
 use Rattle.world.specs.Lawful.{may_act, may_crash, may_do}
+use Rattle.world.specs.Steady.{AlwaysSteady}
 use Rattle.world.specs.TimeLaws.{InstalledInThePast, LooksCoverAcknowledged}
 use Rattle.world.specs.World.{World, fresh_log}
 use Rattle.world.specs.declared.event.Act.{Act}
 use Rattle.world.specs.declared.event.Doing.{Doing}
-use Rattle.world.proofs.Consistent.{but_for_reads, in_the_past as passed, looks_cover as covers}
+use Rattle.world.proofs.Consistent.{but_for_reads, steady, in_the_past as passed, looks_cover as covers}
 use Rattle.world.proofs.Openings.{taken_more}
 use Rattle.world.proofs.Orderly.{both}
 use Rattle.world.proofs.Sounds.{ActLimit, DoingLimit}
@@ -122,3 +123,6 @@ in_the_past = passed step_is_planned IsWell up keeps opens fresh logs limits
 
 pub looks_cover : LooksCoverAcknowledged
 looks_cover = covers step_is_planned IsWell up keeps opens fresh logs limits
+
+pub is_steady : AlwaysSteady
+is_steady = steady step_is_planned IsWell up keeps opens fresh logs limits

@@ -1,5 +1,5 @@
 -- A step of a transaction is the step of the session that it stands for.
-use Rattle.std.proofs.Common.{◌≡◌, ◌⊎◌, inl, inr, ℕ, Bool, true, false, not, ◌&&◌, cond, nat_le, ◌||◌, List, [], ◌∷◌, ◌++◌, length, Option, Some, None, Result, Ok, Err, OnOk, IfOk, IfErr, refl, sym, ap, ◌∙◌, subst}
+use Rattle.std.proofs.Common.{◌≡◌, inl, inr, ℕ, Bool, true, false, not, ◌&&◌, cond, nat_le, ◌||◌, List, [], ◌∷◌, ◌++◌, length, Option, Result, Ok, Err, OnOk, IfOk, IfErr, refl, sym, ap, ◌∙◌, subst}
 use Rattle.units.specs.Keys.{Bytes, same_key, has_key, shard_of, writes_key}
 use Rattle.units.specs.Ids.{Id}
 use Rattle.units.specs.Lists.{any, listed}
@@ -24,7 +24,6 @@ use Rattle.session.specs.declared.answered.Heard.{Heard}
 use Rattle.world.specs.World.{read_lines}
 use Rattle.world.specs.Held.{IsHeld, IsBegun, Steps, Moves, Hears, when_open, when_not_over, when_closing}
 use Rattle.world.specs.declared.begun.Begun.{Begun}
-use Rattle.world.specs.declared.begun.Held.{Held}
 use Rattle.world.specs.declared.begun.Held.TheVariants.{Open, Closing, Over}
 
 -- ---- what a step leaves of its session

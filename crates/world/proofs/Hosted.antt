@@ -1,11 +1,11 @@
 -- The session of an id, by its place in the code.
-use Rattle.std.proofs.Common.{◌≡◌, ◌⊎◌, inl, inr, ℕ, zero, suc, ◌<◌, ◌≤◌, Bool, true, false, not, ◌&&◌, ◌||◌, cond, nat_lt, List, [], ◌∷◌, ◌++◌, length, map, get_or, set, Option, Some, None, Result, Ok, Err, refl, sym, ap, ◌∙◌, subst, arith}
+use Rattle.std.proofs.Common.{◌≡◌, inl, inr, ℕ, zero, suc, ◌<◌, ◌≤◌, Bool, true, false, not, ◌&&◌, ◌||◌, cond, nat_lt, List, [], ◌∷◌, ◌++◌, length, get_or, set, Option, Some, None, Result, Ok, Err, refl, sym, ap, ◌∙◌, subst, arith}
 use Rattle.std.specs.List.{position_or_len}
 use Rattle.std.proofs.lemmas.Bool.Decides.{nat_tests}
 use Rattle.units.specs.Lists.{any, first, head, keep, when}
 use Rattle.units.specs.Ids.{Id, same_id}
 use Rattle.units.specs.Keys.{Bytes}
-use Rattle.units.proofs.IdLaws.{same_id-refl, same_id_comm, same_id-is, same_id-along}
+use Rattle.units.proofs.IdLaws.{same_id-refl, same_id_comm, same_id-is}
 use Rattle.units.proofs.Folds.{any_append}
 use Rattle.units.specs.declared.fault.Fault.{Fault}
 use Rattle.units.specs.declared.fault.Fault.TheVariants.{Stranger}

@@ -2,6 +2,7 @@ pub mod AllWhole
 pub mod Changes
 mod Carrying
 mod Clients
+mod Decides
 pub mod Closings
 pub mod Consistent
 pub mod Decisions
@@ -10,13 +11,14 @@ mod Events
 pub mod Every
 pub mod EveryRun
 mod Faults
+mod Fleets
 mod HeldSteps
 mod Hosted
 pub mod Grows
 pub mod Lefts
 pub mod InHistory
 pub mod Members
-pub mod Moments
+pub mod Instants
 pub mod Moves
 pub mod Table
 pub mod Homes
@@ -26,11 +28,13 @@ pub mod Openings
 pub mod Orderly
 pub mod Picked
 pub mod Resolved
+mod Playings
 mod Puts
 pub mod Quiet
 mod RandomRuns
 pub mod Recorded
 mod Recovery
+mod Replying
 pub mod Says
 pub mod Rising
 mod Served
@@ -40,3 +44,4 @@ pub mod Sounds
 pub mod Steps
 mod TwoShardRun
 pub mod Untouched
+mod Viewed

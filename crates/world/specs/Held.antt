@@ -1,7 +1,6 @@
 -- How a session in the code stands for one of the definitions, and how a step of it does for a step there.
-use Rattle.std.specs.Prelude.{◌≡◌, ◌⊎◌, ℕ, Bool, true, false, not, ◌&&◌, cond, List, [], ◌∷◌, map, Option, Some, None, Result, Ok, Err, IsTrue}
-use Rattle.units.specs.Lists.{any, first, listed}
-use Rattle.units.specs.Ids.{Id, same_id}
+use Rattle.std.specs.Prelude.{◌≡◌, ◌⊎◌, List, Option, Result, Ok, Err}
+use Rattle.units.specs.Lists.{listed}
 use Rattle.units.specs.Keys.{Bytes}
 use Rattle.units.specs.declared.fault.Fault.{Fault}
 use Rattle.units.specs.declared.fault.Fault.TheVariants.{Memory, Stranger}
@@ -9,7 +8,6 @@ use Rattle.units.specs.declared.line.Line.{Line}
 use Rattle.message.specs.declared.message.Envelope.{Envelope}
 use Rattle.message.specs.declared.message.ReadAnswer.{ReadAnswer}
 use Rattle.session.specs.Sessions.{Client, IsOpen, IsClosing, IsOver, Moved, Denies, Goes, finishes, hears}
-use Rattle.session.specs.Shown.{Session}
 use Rattle.world.specs.World.{read_lines}
 use Rattle.world.specs.declared.begun.Begun.{Begun}
 use Rattle.world.specs.declared.begun.Held.{Held}

@@ -1,9 +1,10 @@
 -- How a running shard in the code stands for one of the definitions.
-use Rattle.std.specs.Prelude.{◌≡◌, ◌⊎◌, ℕ, ◌+◌, ◌*◌, ◌^◌, ◌≤◌, ◌<◌, Bool, false, IsTrue, List, [], ◌∷◌, ◌++◌, map, Option, Some, None, Result, Ok, Err}
+use Rattle.std.specs.Prelude.{◌≡◌, ◌⊎◌, ℕ, ◌+◌, ◌*◌, ◌^◌, ◌≤◌, ◌<◌, Bool, true, false, IsTrue, nat_le, List, [], ◌∷◌, ◌++◌, length, map, take, Option, Some, Result, Ok, Err}
 use Rattle.units.specs.declared.fault.Fault.{Fault}
 use Rattle.units.specs.declared.fault.Fault.TheVariants.{Memory}
 use Rattle.units.specs.declared.setup.Setup.{Setup}
-use Rattle.units.specs.Lists.{listed}
+use Rattle.units.specs.Lists.{each, listed}
+use Rattle.units.specs.declared.writes.Install.{Install}
 use Rattle.disk.specs.File.{surface}
 use Rattle.disk.specs.declared.plan.Plan.{Plan}
 use Rattle.record.specs.Accepted.{followed}
@@ -11,18 +12,22 @@ use Rattle.record.specs.Facts.{facts_of}
 use Rattle.record.specs.declared.record.Record.{Record}
 use Rattle.message.specs.declared.message.Envelope.{Envelope}
 use Rattle.protocol.specs.Rows.{Memory as Kept}
-use Rattle.protocol.specs.Draft.{Stepped, Refuses, Does}
+use Rattle.protocol.specs.Draft.{Refuses, Does}
 use Rattle.shard.specs.Core.{seen}
 use Rattle.shard.specs.Logs.{records_in}
 use Rattle.simdisk.specs.State.{disk_file, disk_plan}
-use Rattle.world.specs.World.{ShardNow, View, Runs, Nothing, effect}
+use Rattle.world.specs.World.{ShardNow, View, Runs, Nothing, effect, finished}
 use Rattle.world.specs.declared.event.Doing.{Doing}
 use Rattle.world.specs.declared.running.Running.{Running}
 use Rattle.world.specs.declared.view.View.{View as CodeView}
 
--- a view
-abbrev pub shown_view : CodeView → View
-shown_view v = record { installs = v.installs.items; safe = v.safe }
+-- a view, by the versions that there are now
+abbrev pub shown_view : List Install → CodeView → View
+shown_view installs v = record { installs = take v.count installs; safe = v.safe }
+
+-- it has no more than these versions
+abbrev pub is_within : List Install → CodeView → Bool
+is_within installs v = nat_le v.count (length installs)
 
 -- how far a log may reach after some events
 abbrev pub reach : ℕ → ℕ
@@ -37,7 +42,8 @@ pub record IsRunning (setup : Setup) (used : ℕ) (r : Running) (s : ShardNow) :
   pub facts : (seen r.core).facts ≡ facts_of s.log
   pub sure : s.unsure ≡ Nothing
   pub state : s.state ≡ Runs (seen r.core).memory
-  pub views : map shown_view r.views.items ≡ s.views
+  pub views : map (shown_view (seen r.core).facts.installs) r.views.items ≡ s.views
+  pub within : each (is_within (seen r.core).facts.installs) r.views.items ≡ true
   pub room : (seen r.core).gate ≤ reach used
 
 -- a shard after a doing but for the view that it makes
@@ -54,4 +60,11 @@ abbrev pub Carries : Setup → ℕ → List Envelope → ShardNow → Doing → 
 Carries setup used bag s doing new (Ok out) =
     Follows setup bag s doing → (logged : Option Record) × (memory : Kept) × (effect setup bag s doing ≡ Does logged memory out) × IsRunning setup (used + 1) new (stepped s logged memory)
 Carries setup used bag s doing new (Err fault) =
+    reach used + 2 ^ 20 + 5 < 2 ^ 40 → (fault ≡ Memory) ⊎ ((effect setup bag s doing ≡ Refuses fault) × IsRunning setup used new s)
+
+-- so with the view that the doing makes
+abbrev pub Acts : Setup → ℕ → List Envelope → ShardNow → Doing → Running → Result (List Envelope) Fault → Type 0
+Acts setup used bag s doing new (Ok out) =
+    Follows setup bag s doing → (logged : Option Record) × (memory : Kept) × (effect setup bag s doing ≡ Does logged memory out) × IsRunning setup (used + 1) new (finished s doing logged memory)
+Acts setup used bag s doing new (Err fault) =
     reach used + 2 ^ 20 + 5 < 2 ^ 40 → (fault ≡ Memory) ⊎ ((effect setup bag s doing ≡ Refuses fault) × IsRunning setup used new s)

@@ -6,11 +6,12 @@ ghost use Rattle.units.specs.Keys.{Bytes};
 ghost use Rattle.units.specs.Lists.{first, when};
 ghost use Rattle.session.specs.Sessions.{Client, begun, reads, buffers, closes, gives_up};
 ghost use Rattle.world.specs.Hosts.{Hosts, HearsIn, MovesIn, step_of};
+ghost use Rattle.world.specs.Comes.{no_line};
 ghost use Rattle.world.specs.declared.begun.Held.{Held};
 ghost use Rattle.world.specs.Held.{when_open, when_not_over, when_closing};
 
 use crate::begun::Begun;
-use message::{Done, Outbox, ReadAnswer};
+use message::{Done, Message, Outbox, ReadAnswer};
 use std::alloc::Global;
 use std::mem::replace;
 use units::{Fault, Key, Line, Splits, TxnId, Value};
@@ -22,6 +23,9 @@ pub struct Sessions<'s> {
 }
 
 impl<'s> Sessions<'s> {
+    ghost use Rattle.world.specs.World.{World};
+    ghost use Rattle.world.specs.Comes.{TakesMessage};
+
     /// No session has begun.
     pub fn none(alloc: Global, splits: &'s Splits) -> Sessions<'s>
         ensures { Hosts splits.now result [] }
@@ -140,6 +144,17 @@ impl<'s> Sessions<'s> {
         result
     }
 
+    /// A message comes to the session that it names. A value that the session takes is a line.
+    pub fn take_message(&mut self, alloc: Global, message: &Message) -> Result<Option<Line>, Fault>
+        ensures { (w : World) → Hosts w.config.splits self.old w.clients → TakesMessage w message.now self.new result }
+    {
+        match message {
+            Message::ReadAnswer(answer) => self.hear(alloc, answer),
+            Message::Done(done) => no_line(self.finish(alloc, done)),
+            _ => Err(Fault::Stranger),
+        }
+    }
+
     /// Each session is spent, and nobody is told.
     pub fn spend(self) {
         let Sessions {
@@ -153,6 +168,16 @@ impl<'s> Sessions<'s> {
             }
         }
         begun.destroy_empty();
+    }
+}
+
+// An end is no line.
+fn no_line(answer: Result<Outbox, Fault>) -> Result<Option<Line>, Fault>
+    ensures { result ≡ no_line answer }
+{
+    match answer {
+        Ok(_) => Ok(None),
+        Err(fault) => Err(fault),
     }
 }
 

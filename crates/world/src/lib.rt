@@ -3,13 +3,18 @@
 #![tactic(auto)]
 
 mod begun;
+mod counting;
 mod event;
+mod fleet;
 mod hosting;
 mod lawfulness;
 mod laws;
 mod past;
+mod playing;
+mod run;
 mod running;
 mod view;
 
 pub use event::{Act, Config, Doing, Event, Reply};
-pub use laws::{every_run_is_whole_and_ordered, installed_in_the_past, looks_cover_acknowledged};
+pub use laws::moments;
+pub use playing::{Report, lawful, play};

@@ -1,13 +1,15 @@
 //! What a run has put out: its messages, and the lines of its report.
-ghost use Rattle.std.specs.Prelude.{◌≡◌, ◌++◌, ◌∷◌, [], IfErr, OnOk, true};
+ghost use Rattle.std.specs.Prelude.{◌≡◌, ◌++◌, ◌∷◌, [], IfOk, IfErr, OnOk, true};
 ghost use Rattle.units.specs.Lists.{join, listed, when};
 ghost use Rattle.message.specs.declared.message.Envelope.{Envelope};
 ghost use Rattle.world.specs.Told.{ack_in, was_told};
 ghost use Rattle.world.specs.World.{commit_told};
 
+use crate::Reply;
 use bag::Bag;
 use message::{Envelope, Message, Outbox};
-use units::{Fault, Line, TxnId};
+use std::alloc::Global;
+use units::{Fault, Key, Line, Stamp, TxnId, Value};
 
 /// The messages and the lines so far, and the number of the event that is under way.
 #[derive(Drop)]
@@ -20,6 +22,63 @@ pub struct Past {
 impl Past {
     ghost use Rattle.world.specs.World.{World, put_out, note};
     ghost use Rattle.world.specs.Passed.{IsPast};
+    ghost use Rattle.world.specs.Comes.{HasHeard, HasReplied, Notes};
+
+    /// Nothing was put out.
+    pub fn new(alloc: Global) -> Past
+        ensures { (result.bag ≡ []) × (result.lines.items ≡ []) × (result.event ≡ 0) }
+    {
+        Past {
+            bag: Bag::new(alloc),
+            lines: Vec::new(alloc),
+            event: 0,
+        }
+    }
+
+    /// Messages are put out, or a refusal is the reply.
+    pub fn reply(&mut self, answer: Result<Outbox, Fault>) -> Result<Reply, Fault>
+        ensures { (w : World) → IsPast self.old w → HasReplied w answer self.new result }
+    {
+        match answer {
+            Ok(out) => {
+                self.put_out(out)?;
+                Ok(Reply::Done)
+            }
+            Err(Fault::Memory) => Err(Fault::Memory),
+            Err(fault) => Ok(Reply::Refused(fault)),
+        }
+    }
+
+    /// A line is written where there is one, or a refusal is the reply.
+    pub fn reply_line(&mut self, answer: Result<Option<Line>, Fault>) -> Result<Reply, Fault>
+        ensures { (w : World) → IsPast self.old w → HasHeard w answer self.new result }
+    {
+        match answer {
+            Ok(Some(line)) => {
+                self.note(line)?;
+                Ok(Reply::Done)
+            }
+            Ok(None) => Ok(Reply::Done),
+            Err(Fault::Memory) => Err(Fault::Memory),
+            Err(fault) => Ok(Reply::Refused(fault)),
+        }
+    }
+
+    /// An answered look is a line.
+    pub fn note_look(
+        &mut self,
+        alloc: Global,
+        key: Key,
+        at: Stamp,
+        reply: Reply,
+    ) -> Result<Reply, Fault>
+        ensures { (w : World) → IsPast self.old w → Notes w key at reply self.new result }
+    {
+        if let Reply::Shows(value) = &reply {
+            self.note(Line::Look(key, at, copied(alloc, value)?))?;
+        }
+        Ok(reply)
+    }
 
     /// Messages are put out. Each that is the first to tell a session that it committed is a line.
     pub fn put_out(&mut self, out: Outbox) -> Result<(), Fault>
@@ -112,5 +171,16 @@ fn tells_commit(envelope: &Envelope, txn: TxnId) -> bool
     match &envelope.message {
         Message::Done(done) => done.txn.is(txn) && done.outcome.is_some(),
         _ => false,
+    }
+}
+
+/// An equal value with memory of its own.
+pub fn copied(alloc: Global, value: &Option<Value>) -> Result<Option<Value>, Fault>
+    ensures same { IfOk result (λ copied. copied ≡ value.now) }
+    ensures memory { IfErr result (λ fault. fault ≡ Fault.Memory) }
+{
+    match value {
+        None => Ok(None),
+        Some(value) => Ok(Some(value.copy(alloc)?)),
     }
 }

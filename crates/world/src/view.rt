@@ -1,17 +1,58 @@
 //! What a shard shows at one moment.
-ghost use Rattle.std.specs.Prelude.{◌≡◌, IfOk, IfErr};
+ghost use Rattle.std.specs.Prelude.{◌≡◌, IfOk, IfErr, length, take};
 ghost use Rattle.std.specs.Option.{option_copied};
 ghost use Rattle.units.specs.Versions.{at_time};
+ghost use Rattle.shard.specs.Core.{seen};
+ghost use Rattle.shard.specs.Look.{safe_at};
 ghost use Rattle.world.specs.Newer.{newer, newest_upto};
+ghost use Rattle.world.specs.Looks.{look_at};
 
+use crate::Reply;
+use shard::Core;
+use simdisk::SimDisk;
 use std::alloc::Global;
 use units::{Fault, Install, Key, Stamp, Value};
 
-/// The versions and the served time of one moment.
-#[derive(Drop)]
+/// A moment of a shard: how many versions there were, and the time that was served. No version is ever taken back, so those
+/// of the moment are the first of those that there are now.
+#[derive(Clone, Copy, Debug)]
 pub struct View {
-    pub installs: Vec<Install>,
+    pub count: usize,
     pub safe: Stamp,
+}
+
+impl View {
+    /// What a shard shows now.
+    pub fn of(core: &Core<SimDisk>) -> View
+        ensures { result ≡ record { count = length (seen core.now).facts.installs; safe = safe_at (seen core.now) } }
+    {
+        View {
+            count: core.installs().len(),
+            safe: core.safe(),
+        }
+    }
+
+    /// A look at it, by the shard's versions, where the key belongs to the shard or not.
+    pub fn look(
+        self,
+        alloc: Global,
+        installs: &[Install],
+        is_here: bool,
+        key: &Key,
+        at: Stamp,
+    ) -> Result<Reply, Fault>
+        ensures shown { IfOk result (λ reply. reply ≡ look_at is_here (take self.count installs.now) self.safe key.now at) }
+        ensures memory { IfErr result (λ fault. fault ≡ Fault.Memory) }
+    {
+        if !is_here {
+            return Ok(Reply::Refused(Fault::Stranger));
+        }
+        if at.micros() > self.safe.micros() {
+            return Ok(Reply::Refused(Fault::NotYet));
+        }
+        let count = self.count.min(installs.len());
+        Ok(Reply::Shows(value_at(alloc, &installs[..count], key, at)?))
+    }
 }
 
 // The newest version of a key up to a time.
@@ -45,9 +86,9 @@ fn newer<'a>(
     }
 }
 
-/// The value of a key at a time.
+// The value of a key at a time.
 #[tactic(auto, using(crate::proofs::Newest::value_of))]
-pub fn value_at(
+fn value_at(
     alloc: Global,
     installs: &[Install],
     key: &Key,

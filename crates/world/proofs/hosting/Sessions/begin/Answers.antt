@@ -1,4 +1,4 @@
-use Rattle.std.proofs.Common.{[], ◌∷◌, ◌++◌, ap, sym, ◌∙◌, subst}
+use Rattle.std.proofs.Common.{[], ◌∷◌, ◌++◌, ap, ◌∙◌, subst}
 use Rattle.session.specs.Sessions.{begun}
 use Rattle.world.specs.Held.{IsBegun}
 use Rattle.world.proofs.Hosted.{begins}

@@ -1,6 +1,4 @@
-use Rattle.std.proofs.Common.{slice_set, ◌<◌, ◌≤◌, length, refl, inr, ap, ◌∙◌, arith}
-use Rattle.session.specs.Sessions.{finishes}
-use Rattle.world.specs.Held.{when_open}
+use Rattle.std.proofs.Common.{slice_set, ◌<◌, ◌≤◌, length, ap, ◌∙◌, arith}
 use Rattle.world.proofs.Hosted.{hears_in, id_there, none_hears, place_of, set_again}
 use Rattle.world.proofs.hosting.Sessions.hear.Goals as goal
 

@@ -1,4 +1,4 @@
-use Rattle.std.proofs.Common.{◌++◌, refl, ap, ◌∙◌}
+use Rattle.std.proofs.Common.{◌++◌, refl, ◌∙◌}
 use Rattle.units.specs.Lists.{join}
 use Rattle.world.specs.Told.{ack_in}
 use Rattle.world.proofs.Puts.{on_ok, puts}

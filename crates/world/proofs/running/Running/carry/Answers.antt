@@ -5,14 +5,14 @@ use Rattle.world.specs.declared.running.Running.{Running}
 use Rattle.world.proofs.Carrying.{effect_refuses, takes_input}
 use Rattle.world.proofs.running.Running.carry.Goals as goal
 
-pub returns-in-Ok : goal.returns-in-Ok
-returns-in-Ok c setup used s h =
+pub returns-in-Ok-clause-carried : goal.returns-in-Ok-clause-carried
+returns-in-Ok-clause-carried c setup used s h =
     let old : Running = c.args.self.now in
     let new : Running = record { core = c.on.new.self; views = old.views } in
     takes_input setup used c.args.bag.now s c.args.doing.now old new refl h c.requires _ _ c.on.result c.in-Ok.ensures.found c.on.ensures.stepped
 
-pub returns-in-Err : goal.returns-in-Err
-returns-in-Err c setup used s h room = elim c.in-Err.ensures.cause [
+pub returns-in-Err-clause-carried : goal.returns-in-Err-clause-carried
+returns-in-Err-clause-carried c setup used s h room = elim c.in-Err.ensures.cause [
   | inl memory ↦ inl memory
   | inr gone ↦ inr (effect_refuses setup c.args.bag.now s c.args.doing.now (seen c.args.self.now.core).memory c.requires h.state gone.1 ∙ ap (λ f. Refuses f) (sym gone.0), h)
 ]

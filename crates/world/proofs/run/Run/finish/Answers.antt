@@ -1,0 +1,6 @@
+use Rattle.world.specs.World.{logs_of}
+use Rattle.world.proofs.run.Run.finish.Goals as goal
+
+pub returns-clause-done : goal.returns-clause-done
+unfolding logs_of
+returns-clause-done c used w h = (h.past.bag, c.in_ok-logs.ensures.logs w.config used w.shards h.shards, h.past.lines)

@@ -1,0 +1,11 @@
+-- A look at some versions and a served time.
+use Rattle.std.specs.Prelude.{ℕ, Bool, cond, not, nat_le, List}
+use Rattle.units.specs.Keys.{Bytes}
+use Rattle.units.specs.Versions.{at_time}
+use Rattle.units.specs.declared.fault.Fault.TheVariants.{NotYet, Stranger}
+use Rattle.units.specs.declared.writes.Install.{Install}
+use Rattle.world.specs.declared.event.Reply.{Reply}
+
+-- the key belongs to the shard or not, and the time is served or not
+abbrev pub look_at : Bool → List Install → ℕ → Bytes → ℕ → Reply
+look_at here installs safe k at = cond (not here) (Reply.Refused Stranger) (cond (nat_le at safe) (Reply.Shows (at_time installs k at)) (Reply.Refused NotYet))

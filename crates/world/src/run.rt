@@ -1,0 +1,197 @@
+//! A run of events.
+ghost use Rattle.std.specs.Prelude.{◌≡◌, ◌<◌, ◌+◌, ◌^◌, ℕ, None, true, map, slice_get, IfOk, IfErr};
+ghost use Rattle.world.specs.World.{World, acts, begin, client_of, deliver_to, do_at, logs_of, start};
+ghost use Rattle.world.specs.Lawful.{may_act, may_happen};
+ghost use Rattle.world.specs.Crashless.{goes_on, is_crashless};
+ghost use Rattle.world.specs.Steady.{IsSteady};
+ghost use Rattle.world.specs.Comes.{Comes, IsRun, Takes};
+
+use crate::fleet::Shards;
+use crate::hosting::Sessions;
+use crate::lawfulness::{may_deliver, may_do};
+use crate::past::{Past, copied};
+use crate::{Act, Config, Doing, Event, Reply};
+use bag::Bag;
+use message::Address;
+use record::Record;
+use std::alloc::Global;
+use truetime::Reading;
+use units::{Fault, Line, Reason, ShardNo, TxnId};
+
+/// A run so far: its sessions, its shards, what was put out, and the true time in microseconds. It has to be spent.
+pub struct Run<'s> {
+    pub sessions: Sessions<'s>,
+    pub shards: Shards<'s>,
+    pub past: Past,
+    pub time: u64,
+}
+
+impl<'s> Run<'s> {
+    /// A run before its first event.
+    pub fn start(alloc: Global, config: &'s Config) -> Result<Run<'s>, Fault>
+        ensures started { IfOk result (λ run. IsRun 0 run (start config.now)) }
+        ensures memory { IfErr result (λ fault. fault ≡ Fault.Memory) }
+    {
+        Ok(Run {
+            shards: Shards::start(alloc, config)?,
+            sessions: Sessions::none(alloc, &config.splits),
+            past: Past::new(alloc),
+            time: 0,
+        })
+    }
+
+    // The event may happen now.
+    fn may_happen(&self, event: &Event) -> bool
+        requires { is_crashless event.now.act ≡ true }
+        ensures { (used : ℕ) (w : World) → IsRun used self.now w → result ≡ may_happen w event.now }
+    {
+        self.time <= event.time && self.may_act(event.time, &event.act)
+    }
+
+    // So may the act, at a true time.
+    #[tactic(auto, unfolding(crate::specs::Lawful::may_act))]
+    fn may_act(&self, time: u64, act: &Act) -> bool
+        requires { is_crashless act.now ≡ true }
+        ensures { (used : ℕ) (w : World) → IsRun used self.now w → result ≡ may_act w time act.now }
+    {
+        match act {
+            Act::Begin(txn) => !self.sessions.has(*txn),
+            Act::Read(txn, _) => self.sessions.has(*txn),
+            Act::Write(txn, _, _) => self.sessions.has(*txn),
+            Act::Close(txn) => self.sessions.has(*txn),
+            Act::Quit(txn) => self.sessions.has(*txn),
+            Act::Deliver(number, now) => {
+                may_deliver(&self.sessions, &self.past, time, *number, now)
+            }
+            Act::At(shard, doing) => {
+                self.shards.has(*shard) && may_do(&self.past, time, *shard, doing)
+            }
+            Act::Look(shard, _, _) => self.shards.has(*shard),
+            Act::View(shard, number, _, _) => self.shards.has_view(*shard, *number),
+            _ => unreachable!(),
+        }
+    }
+
+    /// The event of a number, from 0, happens, where it may. The reply to it is answered.
+    pub fn take(&mut self, alloc: Global, number: u64, event: &Event) -> Result<Reply, Fault>
+        requires crashless { is_crashless event.now.act ≡ true }
+        requires few { number < 2 ^ 19 }
+        ensures { (w : World) → w.event ≡ number → IsRun number self.old w → IsSteady w → Takes w event.now self.new result }
+    {
+        if !self.may_happen(event) {
+            return Err(Fault::BadRequest(Reason::Unlawful(number)));
+        }
+        let reply = self.act(alloc, &event.act)?;
+        self.past.event = number + 1;
+        self.time = event.time;
+        Ok(reply)
+    }
+
+    // The act is done.
+    fn act(&mut self, alloc: Global, act: &Act) -> Result<Reply, Fault>
+        requires { is_crashless act.now ≡ true }
+        ensures { (used time : ℕ) (w : World) → used < 2 ^ 19 → IsRun used self.old w → IsSteady w → may_act w time act.now ≡ true → Comes (used + 1) (acts w act.now) self.new result }
+    {
+        match act {
+            Act::Begin(txn) => self.begin(alloc, *txn),
+            Act::Read(txn, key) => {
+                let moved = self.sessions.read(alloc, *txn, *key);
+                self.past.reply(moved)
+            }
+            Act::Write(txn, key, value) => {
+                let value = copied(alloc, value)?;
+                let moved = self.sessions.write(alloc, *txn, *key, value);
+                self.past.reply(moved)
+            }
+            Act::Close(txn) => {
+                let moved = self.sessions.close(alloc, *txn);
+                self.past.reply(moved)
+            }
+            Act::Quit(txn) => {
+                let moved = self.sessions.quit(alloc, *txn);
+                self.past.reply(moved)
+            }
+            Act::Deliver(number, now) => self.deliver(alloc, *number, *now),
+            Act::At(shard, doing) => self.act_at(alloc, *shard, doing),
+            Act::Look(shard, key, at) => {
+                let reply = self.shards.look(alloc, *shard, key, *at)?;
+                self.past.note_look(alloc, *key, *at, reply)
+            }
+            Act::View(shard, number, key, at) => {
+                let reply = self.shards.look_back(alloc, *shard, *number, key, *at)?;
+                self.past.note_look(alloc, *key, *at, reply)
+            }
+            _ => unreachable!(),
+        }
+    }
+
+    // A session begins.
+    fn begin(&mut self, alloc: Global, txn: TxnId) -> Result<Reply, Fault>
+        ensures { (used : ℕ) (w : World) → IsRun used self.old w → client_of w txn ≡ None → Comes (used + 1) (begin txn w, Reply.Done) self.new result }
+    {
+        let number = self.past.event;
+        self.sessions.begin(alloc, txn)?;
+        self.past.note(Line::Begin(txn, number))?;
+        Ok(Reply::Done)
+    }
+
+    // A message comes to the shard or to the session that it was put out for.
+    fn deliver(&mut self, alloc: Global, number: u64, now: Reading) -> Result<Reply, Fault>
+        ensures { (used : ℕ) (w : World) → used < 2 ^ 19 → IsRun used self.old w → IsSteady w → Comes (used + 1) (deliver_to w number now (slice_get w.bag number)) self.new result }
+    {
+        let Some(envelope) = self.past.bag.nth(number) else {
+            return Ok(Reply::Refused(Fault::Stranger));
+        };
+        match envelope.to {
+            Address::Shard(shard) => self.act_at(alloc, shard, &Doing::Take(number, now)),
+            Address::Session(_) => {
+                let heard = self.sessions.take_message(alloc, &envelope.message);
+                self.past.reply_line(heard)
+            }
+        }
+    }
+
+    // A shard does something.
+    fn act_at(&mut self, alloc: Global, shard: ShardNo, doing: &Doing) -> Result<Reply, Fault>
+        requires { goes_on doing.now ≡ true }
+        ensures { (used : ℕ) (w : World) → used < 2 ^ 19 → IsRun used self.old w → IsSteady w → Comes (used + 1) (do_at w shard doing.now) self.new result }
+    {
+        let done = self
+            .shards
+            .act(alloc, self.past.bag.as_slice(), shard, doing);
+        self.past.reply(done)
+    }
+
+    /// Ends the run: its messages, the logs as reads of the disks give them, and all lines.
+    pub fn finish(self, alloc: Global) -> Result<(Bag, Vec<Vec<Record>>, Vec<Line>), Fault>
+        ensures done { (used : ℕ) (w : World) → IsRun used self.entry w → IfOk result (λ r. (r.0 ≡ w.bag) × (map (λ log. log.items) r.1.items ≡ logs_of w) × (r.2.items ≡ w.lines)) }
+        ensures memory { (used : ℕ) (w : World) → IsRun used self.entry w → IfErr result (λ fault. fault ≡ Fault.Memory) }
+    {
+        let Run {
+            sessions,
+            shards,
+            past,
+            time: _,
+        } = self;
+        sessions.spend();
+        let logs = shards.logs(alloc)?;
+        let Past {
+            bag,
+            lines,
+            event: _,
+        } = past;
+        Ok((bag, logs, lines))
+    }
+
+    /// Ends the run.
+    pub fn spend(self) {
+        let Run {
+            sessions,
+            shards,
+            past: _,
+            time: _,
+        } = self;
+        sessions.spend();
+        shards.spend();
+    }
+}
