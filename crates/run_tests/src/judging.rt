@@ -1,0 +1,408 @@
+//! Checks of a report by itself: what the logs, the messages and the lines say of each transaction is one history.
+use message::Message;
+use record::{Committed, Prepared, Record};
+use std::alloc::Global;
+use units::{Fault, Key, Line, Stamp, TxnId, Value, Writes};
+use world::{Reply, Report};
+
+// A place in the history: a timestamp, then the number of the transaction.
+type Place = (u64, u64);
+
+fn is_before(one: Place, other: Place) -> bool {
+    one.0 < other.0 || (one.0 == other.0 && one.1 < other.1)
+}
+
+fn place_of(committed: &Committed) -> Place {
+    (committed.at.micros(), committed.txn.number())
+}
+
+// ---- decisions
+
+// The commit decision of a transaction that a log has.
+fn decision_in(log: &[Record], txn: TxnId) -> Option<&Committed> {
+    for item in log {
+        if let Record::Commit(committed) = item {
+            if committed.txn == txn {
+                return Some(committed);
+            }
+        }
+    }
+    None
+}
+
+// The commit decision of a transaction.
+fn decision(logs: &[Vec<Record>], txn: TxnId) -> Option<&Committed> {
+    for log in logs {
+        if let Some(committed) = decision_in(log, txn) {
+            return Some(committed);
+        }
+    }
+    None
+}
+
+fn decided_at(logs: &[Vec<Record>], txn: TxnId) -> Option<Stamp> {
+    match decision(logs, txn) {
+        Some(committed) => Some(committed.at),
+        None => None,
+    }
+}
+
+// ---- records
+
+// The promise is not above the decision, if there is one.
+fn is_kept(logs: &[Vec<Record>], promise: &Prepared) -> bool {
+    match decision(logs, promise.txn) {
+        Some(committed) => {
+            promise.at.micros() <= committed.at.micros()
+                && committed.parts.least() == promise.coordinator
+        }
+        None => true,
+    }
+}
+
+// A record of the log of a shard agrees with the decisions: there is one timestamp for a transaction, or none.
+fn agrees(logs: &[Vec<Record>], shard: usize, item: &Record) -> bool {
+    match item {
+        Record::Commit(committed) => {
+            committed.parts.least().number() as usize == shard
+                && decided_at(logs, committed.txn) == Some(committed.at)
+        }
+        Record::Outcome { txn, outcome } => decided_at(logs, *txn) == *outcome,
+        Record::Abort { txn } => decided_at(logs, *txn).is_none(),
+        Record::Prepare(promise) => is_kept(logs, promise),
+        _ => true,
+    }
+}
+
+fn all_agree(logs: &[Vec<Record>]) -> bool {
+    for (shard, log) in logs.iter().enumerate() {
+        for item in log {
+            if !agrees(logs, shard, item) {
+                return false;
+            }
+        }
+    }
+    true
+}
+
+// ---- acknowledgements
+
+fn is_promise_of(item: &Record, txn: TxnId) -> bool {
+    match item {
+        Record::Prepare(promise) => promise.txn == txn,
+        _ => false,
+    }
+}
+
+fn is_abort_of(item: &Record, txn: TxnId) -> bool {
+    match item {
+        Record::Outcome {
+            txn: other,
+            outcome,
+        } => *other == txn && outcome.is_none(),
+        _ => false,
+    }
+}
+
+// The log has a promise of the transaction, and not that it aborted.
+fn stands_by(log: &[Record], txn: TxnId) -> bool {
+    let mut is_promised = false;
+    for item in log {
+        is_promised = is_promised || is_promise_of(item, txn);
+        if is_abort_of(item, txn) {
+            return false;
+        }
+    }
+    is_promised
+}
+
+// The logs of the other parts stand by a decision.
+fn is_whole(alloc: Global, logs: &[Vec<Record>], committed: &Committed) -> Result<bool, Fault> {
+    for part in committed.parts.shards(alloc)?.as_slice() {
+        if *part == committed.parts.least() {
+            continue;
+        }
+        match logs.get(part.number() as usize) {
+            Some(log) if stands_by(log, committed.txn) => {}
+            _ => return Ok(false),
+        }
+    }
+    Ok(true)
+}
+
+// What was acknowledged at a timestamp stands there whole.
+fn is_durable(alloc: Global, logs: &[Vec<Record>], txn: TxnId, at: Stamp) -> Result<bool, Fault> {
+    match decision(logs, txn) {
+        Some(committed) if committed.at == at => is_whole(alloc, logs, committed),
+        _ => Ok(false),
+    }
+}
+
+// ---- values
+
+// The newest write so far, with its place.
+#[derive(Clone, Copy)]
+struct Newest<'a> {
+    place: Place,
+    value: Option<&'a Value>,
+}
+
+// A write of the key is newer, where it stands before the bound and not before the newest so far.
+fn newer<'a>(
+    newest: Newest<'a>,
+    bound: Place,
+    place: Place,
+    writes: &'a Writes,
+    key: &Key,
+) -> Newest<'a> {
+    if !is_before(place, bound) || is_before(place, newest.place) {
+        return newest;
+    }
+    for write in writes.as_slice() {
+        if write.key.as_bytes() == key.as_bytes() {
+            return Newest {
+                place,
+                value: write.value.as_ref(),
+            };
+        }
+    }
+    newest
+}
+
+// The newest write with that of a record, where its transaction committed.
+fn newer_of<'a>(
+    newest: Newest<'a>,
+    bound: Place,
+    logs: &[Vec<Record>],
+    item: &'a Record,
+    key: &Key,
+) -> Newest<'a> {
+    match item {
+        Record::Commit(committed) => {
+            newer(newest, bound, place_of(committed), &committed.writes, key)
+        }
+        Record::Prepare(promise) => match decision(logs, promise.txn) {
+            Some(committed) => newer(newest, bound, place_of(committed), &promise.writes, key),
+            None => newest,
+        },
+        _ => newest,
+    }
+}
+
+// The value that the transactions before a bound left, one after the other.
+fn value_before<'a>(logs: &'a [Vec<Record>], key: &Key, bound: Place) -> Option<&'a Value> {
+    let mut newest = Newest {
+        place: (0, 0),
+        value: None,
+    };
+    for log in logs {
+        for item in log {
+            newest = newer_of(newest, bound, logs, item, key);
+        }
+    }
+    newest.value
+}
+
+fn is_same(one: Option<&Value>, other: &Option<Value>) -> bool {
+    match (one, other) {
+        (None, None) => true,
+        (Some(one), Some(other)) => one.as_bytes() == other.as_bytes(),
+        _ => false,
+    }
+}
+
+// What a committed transaction read is what stood just before it.
+fn is_true_read(logs: &[Vec<Record>], txn: TxnId, key: &Key, value: &Option<Value>) -> bool {
+    match decision(logs, txn) {
+        Some(committed) => is_same(value_before(logs, key, place_of(committed)), value),
+        None => false,
+    }
+}
+
+// ---- lines
+
+fn is_true_line(alloc: Global, logs: &[Vec<Record>], line: &Line) -> Result<bool, Fault> {
+    match line {
+        Line::Begin(_, _) => Ok(true),
+        Line::Ack(txn, at, _) => is_durable(alloc, logs, *txn, *at),
+        Line::Read(txn, key, value) => Ok(is_true_read(logs, *txn, key, value)),
+        Line::Look(key, at, value) => {
+            let bound = (at.micros(), u64::MAX);
+            Ok(is_same(value_before(logs, key, bound), value))
+        }
+    }
+}
+
+// The transaction was acknowledged by one of the lines.
+fn was_acknowledged(lines: &[Line], txn: TxnId) -> bool {
+    for line in lines {
+        if let Line::Ack(other, _, _) = line {
+            if *other == txn {
+                return true;
+            }
+        }
+    }
+    false
+}
+
+// Each is acknowledged once.
+fn are_acknowledged_once(lines: &[Line]) -> bool {
+    for (number, line) in lines.iter().enumerate() {
+        if let Line::Ack(txn, _, _) = line {
+            if was_acknowledged(&lines[..number], *txn) {
+                return false;
+            }
+        }
+    }
+    true
+}
+
+// A transaction that has committed is above a timestamp.
+fn is_above(logs: &[Vec<Record>], txn: TxnId, micros: u64) -> bool {
+    match decision(logs, txn) {
+        Some(committed) => committed.at.micros() > micros,
+        None => true,
+    }
+}
+
+// What began after an acknowledgement has the larger timestamp.
+fn are_ordered(logs: &[Vec<Record>], lines: &[Line]) -> bool {
+    let mut acknowledged: u64 = 0;
+    for line in lines {
+        match line {
+            Line::Begin(txn, _) => {
+                if !is_above(logs, *txn, acknowledged) {
+                    return false;
+                }
+            }
+            Line::Ack(_, at, _) => acknowledged = acknowledged.max(at.micros()),
+            _ => {}
+        }
+    }
+    true
+}
+
+// ---- messages and replies
+
+// How a message says that a transaction ended is how it did.
+fn is_true_message(logs: &[Vec<Record>], message: &Message) -> bool {
+    match message {
+        Message::Done(done) => decided_at(logs, done.txn) == done.outcome,
+        Message::Outcome(told) => decided_at(logs, told.txn) == told.outcome,
+        _ => true,
+    }
+}
+
+fn are_true_messages(report: &Report) -> bool {
+    for envelope in report.bag.as_slice() {
+        if !is_true_message(&report.logs, &envelope.message) {
+            return false;
+        }
+    }
+    true
+}
+
+fn is_fair(reply: &Reply) -> bool {
+    match reply {
+        Reply::Refused(fault) => *fault != Fault::Memory && *fault != Fault::Device,
+        Reply::Crashed => false,
+        _ => true,
+    }
+}
+
+fn are_fair(replies: &[Reply], length: usize) -> bool {
+    for reply in replies {
+        if !is_fair(reply) {
+            return false;
+        }
+    }
+    replies.len() == length
+}
+
+fn are_true_lines(alloc: Global, report: &Report) -> Result<bool, Fault> {
+    for line in &report.lines {
+        if !is_true_line(alloc, &report.logs, line)? {
+            return Ok(false);
+        }
+    }
+    Ok(true)
+}
+
+// The first thing that is wrong with a report of so many events.
+pub fn judge(alloc: Global, report: &Report, length: usize) -> Result<&'static str, Fault> {
+    if !are_fair(&report.replies, length) {
+        return Ok("a reply");
+    }
+    if !all_agree(&report.logs) {
+        return Ok("a record");
+    }
+    if !are_true_messages(report) {
+        return Ok("a message");
+    }
+    if !are_true_lines(alloc, report)? {
+        return Ok("a line");
+    }
+    if !are_acknowledged_once(&report.lines) {
+        return Ok("an acknowledgement");
+    }
+    if !are_ordered(&report.logs, &report.lines) {
+        return Ok("an order");
+    }
+    Ok("")
+}
+
+// ---- counts
+
+// How many lines of each kind there are, and how many of those of reads and looks have a value.
+#[derive(Clone, Copy, Debug)]
+pub struct Counts {
+    pub begun: u64,
+    pub acknowledged: u64,
+    pub read: u64,
+    pub looked: u64,
+    pub valued: u64,
+}
+
+impl Counts {
+    pub const NONE: Counts = Counts {
+        begun: 0,
+        acknowledged: 0,
+        read: 0,
+        looked: 0,
+        valued: 0,
+    };
+
+    fn with_value(self, value: &Option<Value>) -> Counts {
+        let mut counts = self;
+        if value.is_some() {
+            counts.valued = counts.valued.saturating_add(1);
+        }
+        counts
+    }
+
+    fn with_line(self, line: &Line) -> Counts {
+        let mut counts = self;
+        match line {
+            Line::Begin(_, _) => counts.begun = counts.begun.saturating_add(1),
+            Line::Ack(_, _, _) => counts.acknowledged = counts.acknowledged.saturating_add(1),
+            Line::Read(_, _, value) => {
+                counts.read = counts.read.saturating_add(1);
+                counts = counts.with_value(value);
+            }
+            Line::Look(_, _, value) => {
+                counts.looked = counts.looked.saturating_add(1);
+                counts = counts.with_value(value);
+            }
+        }
+        counts
+    }
+
+    // With those of more lines.
+    pub fn with(self, lines: &[Line]) -> Counts {
+        let mut counts = self;
+        for line in lines {
+            counts = counts.with_line(line);
+        }
+        counts
+    }
+}

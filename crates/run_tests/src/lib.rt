@@ -1,0 +1,25 @@
+//! Tests of whole runs: lists of events are played over real shards, and what they come to is compared.
+#![tactic(auto)]
+
+#[cfg(test)]
+mod cases;
+#[cfg(test)]
+mod comparing;
+#[cfg(test)]
+mod drawing;
+#[cfg(test)]
+mod drawn;
+#[cfg(test)]
+mod judging;
+#[cfg(test)]
+mod long;
+#[cfg(test)]
+mod playing;
+#[cfg(test)]
+mod schedules;
+#[cfg(test)]
+mod steps;
+#[cfg(test)]
+mod texts;
+#[cfg(test)]
+mod unlawful;
