@@ -1,4 +1,5 @@
 pub mod Replay
+pub mod Fates
 pub mod Held
 pub mod Moments
 pub mod State

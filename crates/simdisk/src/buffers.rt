@@ -4,7 +4,7 @@ ghost use Rattle.disk.specs.File.{wrote, tried, cut, changed, synced, surface, c
 ghost use Rattle.simdisk.specs.Replay.{kept, settled, total, furthest, file_of};
 
 use crate::change::Change;
-use crate::tear::{put, tear};
+use crate::tear::{Fates, make_changes, put};
 use disk::Fate;
 use std::alloc::{AllocError, Global};
 
@@ -116,17 +116,13 @@ impl Buffers {
         Ok(())
     }
 
-    /// Nothing is unsynced any more.
+    /// Nothing is unsynced any more. Its time goes by the changes since the last sync, and not by the file's length.
     pub fn sync(&mut self) -> Result<(), AllocError>
         ensures ok { OnOk result (held_file self.new ≡ synced (held_file self.old)) }
         ensures err { OnErr result (held_file self.new ≡ held_file self.old) }
         ensures room { (calls more : ℕ) → HasRoom self.old (calls + 1) more → IsOk result × HasRoom self.new calls more }
     {
-        let len = self.seen.len();
-        self.durable
-            .reserve(len.saturating_sub(self.durable.len()))?;
-        self.durable.clear();
-        self.durable.extend_from_slice(&self.seen).unwrap();
+        make_changes(&mut self.durable, &self.changes, &self.store, Fates::AsSeen);
         forget(&mut self.changes, &mut self.store);
         Ok(())
     }
@@ -135,7 +131,12 @@ impl Buffers {
     pub fn crash(&mut self, fates: &[Fate])
         ensures { held_file self.new ≡ settled (crashed fates.now (held_file self.old)) }
     {
-        tear(&mut self.durable, &self.changes, &self.store, fates);
+        make_changes(
+            &mut self.durable,
+            &self.changes,
+            &self.store,
+            Fates::Given(fates),
+        );
         self.seen.clear();
         self.seen.extend_from_slice(&self.durable).unwrap();
         forget(&mut self.changes, &mut self.store);

@@ -1,6 +1,8 @@
 // A change that is not synced.
 ghost use Rattle.std.specs.Prelude.{◌≡◌};
 
+use disk::Fate;
+
 /// The bytes of writes are kept elsewhere, one behind another.
 #[derive(Clone, Copy, Debug, PartialEq, Eq)]
 pub enum Change {
@@ -12,6 +14,7 @@ pub enum Change {
 }
 
 impl Change {
+    ghost use Rattle.simdisk.specs.Fates.{fate_seen};
     ghost use Rattle.simdisk.specs.Replay.{size};
 
     /// How many bytes it has in the store.
@@ -21,6 +24,17 @@ impl Change {
         match *self {
             Change::Write { at: _, count } | Change::Tried { at: _, count } => count as usize,
             Change::Cut { len: _ } => 0,
+        }
+    }
+
+    /// The fate by which a read sees it.
+    pub fn fate_seen(&self) -> Fate
+        ensures { result ≡ fate_seen self.now }
+    {
+        match *self {
+            Change::Write { at: _, count: _ } => Fate::New,
+            Change::Tried { at: _, count: _ } => Fate::Old,
+            Change::Cut { len: _ } => Fate::New,
         }
     }
 }

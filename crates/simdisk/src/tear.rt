@@ -1,11 +1,21 @@
-// What a crash makes of the changes that are not synced, in memory that is there.
-ghost use Rattle.std.specs.Prelude.{◌≡◌, ◌+◌, ◌≤◌, max, length, get_or, replicate, vec_len, vec_capacity};
+// What a sync or a crash makes of the changes that are not synced, in memory that is there.
+ghost use Rattle.std.specs.Prelude.{◌≡◌, ◌+◌, ◌≤◌, max, length, replicate, vec_len, vec_capacity};
 ghost use Rattle.disk.specs.Image.{with_bytes};
-ghost use Rattle.disk.specs.File.{laid, by_fate, crashed, wrote, tried};
+ghost use Rattle.disk.specs.File.{laid, by_fate, wrote, tried};
+ghost use Rattle.simdisk.specs.Fates.{fate_at, made_by};
 ghost use Rattle.simdisk.specs.Replay.{kept, file_of, total, furthest, size, end_of, made};
 
 use crate::change::Change;
 use disk::Fate;
+
+/// The fate of each change that is not synced.
+#[derive(Clone, Copy)]
+pub enum Fates<'a> {
+    /// In a sync: a change is new where a read sees it.
+    AsSeen,
+    /// In a crash: these, the oldest first. A change without one is old.
+    Given(&'a [Fate]),
+}
 
 /// Writes over a list of bytes, and past its end.
 pub fn put(image: &mut Vec<u8>, at: usize, bytes: &[u8])
@@ -79,28 +89,33 @@ fn change_by_fate(image: &mut Vec<u8>, change: Change, bytes: &[u8], fate: Fate)
     }
 }
 
-fn fate_of(fates: &[Fate], place: usize) -> Fate
-    ensures { result ≡ get_or fates.now place Fate.Old }
+fn fate_of(fates: Fates<'_>, place: usize, change: Change) -> Fate
+    ensures { result ≡ fate_at fates.entry place change }
 {
-    if place < fates.len() {
-        fates[place]
-    } else {
-        Fate::Old
+    match fates {
+        Fates::AsSeen => change.fate_seen(),
+        Fates::Given(given) => {
+            if place < given.len() {
+                given[place]
+            } else {
+                Fate::Old
+            }
+        }
     }
 }
 
-/// Turns what the last sync left into what a crash leaves of it and the changes since.
-pub fn tear(image: &mut Vec<u8>, changes: &[Change], store: &[u8], fates: &[Fate])
+/// Makes each change, by its fate, of what the last sync left.
+pub fn make_changes(image: &mut Vec<u8>, changes: &[Change], store: &[u8], fates: Fates<'_>)
     requires stored { total changes.now ≡ length store.now }
     requires room { furthest changes.now ≤ vec_capacity image.old }
-    ensures image { image.new.items ≡ crashed fates.now (file_of (kept image.old.items changes.now store.now)) }
+    ensures image { image.new.items ≡ made_by fates.entry (file_of (kept image.old.items changes.now store.now)) }
     ensures len { vec_len image.new ≤ max (vec_len image.old) (furthest changes.now) }
     ensures capacity { vec_capacity image.old ≤ vec_capacity image.new }
 {
     let mut rest = store;
     for (made, change) in changes.iter().enumerate() {
         let (bytes, after) = rest.split_at(change.count());
-        let fate = fate_of(fates, made);
+        let fate = fate_of(fates, made, *change);
         change_by_fate(image, *change, bytes, fate);
         rest = after;
     }

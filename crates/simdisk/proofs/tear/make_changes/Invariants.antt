@@ -1,11 +1,11 @@
 use Rattle.std.proofs.Common.{◌≡◌, ◌≤◌, drop, take, max, vec_len, vec_capacity}
-use Rattle.disk.specs.File.{crashed}
+use Rattle.simdisk.specs.Fates.{made_by}
 use Rattle.simdisk.specs.Replay.{kept, file_at, total, furthest}
-use Rattle.simdisk.proofs.tear.tear.Given as goal
+use Rattle.simdisk.proofs.tear.make_changes.Given as goal
 
 abbrev pub invariant-loop-made : goal.invariant-loop-made
 invariant-loop-made l = record {
-  image : l.image.items ≡ crashed l.fates (file_at (kept l.initial.image.items l.changes l.store) l.made);
+  image : l.image.items ≡ made_by l.fates (file_at (kept l.initial.image.items l.changes l.store) l.made);
   rest : l.rest ≡ drop (total (take l.made l.changes)) l.store;
   len : vec_len l.image ≤ max (vec_len l.initial.image) (furthest l.changes);
   capacity : vec_capacity l.initial.image ≤ vec_capacity l.image;
