@@ -159,7 +159,7 @@ module _ (used : ℕ) (w : World) (old new : Run) (h : IsRun used old w) where
       sessions = hosts;
       shards = same_shards shards;
       past = subst (λ n. IsPast new.past (note (Line.Begin t n) (record w { clients = w.clients ++ begun t ∷ [] }))) is
-          (noted (record w { clients = w.clients ++ begun t ∷ [] }) (record { bag = h.past.bag; lines = h.past.lines; event = h.past.event }));
+          (noted (record w { clients = w.clients ++ begun t ∷ [] }) (record { bag = h.past.bag; told = h.past.told; lines = h.past.lines; event = h.past.event }));
       time = time ∙ h.time;
     },
   )
@@ -169,7 +169,7 @@ module _ (used : ℕ) (w : World) (old new : Run) (h : IsRun used old w) where
       → ((v : World) → IsPast old.past v → HasReplied v answer new.past result) → new.shards ≡ old.shards → new.time ≡ old.time → Comes (used + 1) (moved w m) new result
   unfolding put_out
   session_comes m (Ok out) (Ok reply) moves replies shards time =
-      let r = replies (set_client moves.0 w) (record { bag = h.past.bag; lines = h.past.lines; event = h.past.event }) in
+      let r = replies (set_client moves.0 w) (record { bag = h.past.bag; told = h.past.told; lines = h.past.lines; event = h.past.event }) in
       subst (λ n. Comes (used + 1) (moved w n) new (Ok reply)) (sym moves.1) (r.0, record { sessions = moves.2; shards = same_shards shards; past = r.1; time = time ∙ h.time })
   session_comes m (Ok out) (Err fault) moves replies shards time = replies w h.past
   session_comes m (Err why) (Ok reply) (inl memory) replies shards time = absurd ((replies w h.past).0 memory)
@@ -182,7 +182,7 @@ module _ (used : ℕ) (w : World) (old new : Run) (h : IsRun used old w) where
   pub message_comes : (m : Message) (answer : Result (Option Line) Fault) (result : Result Reply Fault) → TakesMessage w m new.sessions answer
       → ((v : World) → IsPast old.past v → HasHeard v answer new.past result) → new.shards ≡ old.shards → new.time ≡ old.time → Comes (used + 1) (to_session w m) new result
   message_comes m (Ok line) (Ok reply) takes heard shards time =
-      let r = heard (set_client takes.0 w) (record { bag = h.past.bag; lines = h.past.lines; event = h.past.event }) in
+      let r = heard (set_client takes.0 w) (record { bag = h.past.bag; told = h.past.told; lines = h.past.lines; event = h.past.event }) in
       subst (λ a. Comes (used + 1) a new (Ok reply)) (sym takes.1) (r.0, record { sessions = takes.2; shards = same_shards shards; past = r.1; time = time ∙ h.time })
   message_comes m (Ok line) (Err fault) takes heard shards time = heard w h.past
   message_comes m (Err why) (Ok reply) (inl memory) heard shards time = absurd ((heard w h.past).0 memory)
@@ -248,7 +248,7 @@ module _ (used : ℕ) (w : World) (old new : Run) (h : IsRun used old w) where
   unfolding put_out
   shard_comes n doing (Ok out) (Ok reply) goes few steady acts replies sessions time =
       let a = acts (follows_at n doing steady) in
-      let r = replies (record w { shards = a.0 }) (record { bag = h.past.bag; lines = h.past.lines; event = h.past.event }) in
+      let r = replies (record w { shards = a.0 }) (record { bag = h.past.bag; told = h.past.told; lines = h.past.lines; event = h.past.event }) in
       subst (λ x. Comes (used + 1) x new (Ok reply)) (sym (done_at n doing goes ∙ ap by_shards a.1))
       (r.0, record { sessions = subst (λ s. Hosts w.config.splits s w.clients) (sym sessions) h.sessions; shards = a.2; past = r.1; time = time ∙ h.time })
   shard_comes n doing (Ok out) (Err fault) goes few steady acts replies sessions time = replies w h.past

@@ -1,21 +1,24 @@
--- Acknowledgements, from the messages that were put out before and the number of the event.
-use Rattle.std.specs.Prelude.{ℕ, Bool, true, cond, List, [], ◌∷◌, Option, Some, None}
-use Rattle.units.specs.Lists.{any, when}
-use Rattle.units.specs.Ids.{Id}
+-- Acknowledgements, from the transactions whose commit was told before and the number of the event.
+use Rattle.std.specs.Prelude.{ℕ, Bool, cond, List, [], ◌∷◌, Option, Some, None}
+use Rattle.units.specs.Lists.{any, listed, mapped}
+use Rattle.units.specs.Ids.{Id, same_id}
 use Rattle.units.specs.declared.line.Line.{Line}
 use Rattle.message.specs.declared.message.Envelope.{Envelope}
 use Rattle.message.specs.declared.message.Message.{Message}
-use Rattle.world.specs.World.{commit_told}
+
+-- the transaction whose commit a message tells to its session
+abbrev pub told_in : Envelope → List Id
+told_in e = elim e.message [ Message.Done d ↦ listed (mapped (λ s. d.txn) d.outcome) | _ ↦ [] ]
 
 -- a session was told that it committed
-abbrev pub was_told : List Envelope → Id → Bool
-was_told bag t = any (λ e. when (λ x. true) (commit_told t e)) bag
+abbrev pub was_told : List Id → Id → Bool
+was_told told t = any (λ u. same_id u t) told
 
 -- the acknowledgement of an end
-abbrev pub ack_by : List Envelope → ℕ → Id → Option ℕ → List Line
-ack_by bag event t None = []
-ack_by bag event t (Some s) = cond (was_told bag t) [] (Line.Ack t s event ∷ [])
+abbrev pub ack_by : List Id → ℕ → Id → Option ℕ → List Line
+ack_by told event t None = []
+ack_by told event t (Some s) = cond (was_told told t) [] (Line.Ack t s event ∷ [])
 
 -- the acknowledgement that a message is
-abbrev pub ack_in : List Envelope → ℕ → Envelope → List Line
-ack_in bag event e = elim e.message [ Message.Done d ↦ ack_by bag event d.txn d.outcome | _ ↦ [] ]
+abbrev pub ack_in : List Id → ℕ → Envelope → List Line
+ack_in told event e = elim e.message [ Message.Done d ↦ ack_by told event d.txn d.outcome | _ ↦ [] ]

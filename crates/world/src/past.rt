@@ -1,9 +1,8 @@
 //! What a run has put out: its messages, and the lines of its report.
 ghost use Rattle.std.specs.Prelude.{◌≡◌, ◌++◌, ◌∷◌, [], IfOk, IfErr, OnOk, true};
-ghost use Rattle.units.specs.Lists.{join, listed, when};
+ghost use Rattle.units.specs.Lists.{join, listed};
 ghost use Rattle.message.specs.declared.message.Envelope.{Envelope};
-ghost use Rattle.world.specs.Told.{ack_in, was_told};
-ghost use Rattle.world.specs.World.{commit_told};
+ghost use Rattle.world.specs.Told.{ack_in, told_in, was_told};
 
 use crate::Reply;
 use bag::Bag;
@@ -11,10 +10,12 @@ use message::{Envelope, Message, Outbox};
 use std::alloc::Global;
 use units::{Fault, Key, Line, Stamp, TxnId, Value};
 
-/// The messages and the lines so far, and the number of the event that is under way.
+/// The messages and the lines so far, the transactions whose commit was told to their sessions, each as often as it was, and
+/// the number of the event that is under way.
 #[derive(Drop)]
 pub struct Past {
     pub bag: Bag,
+    pub told: Vec<TxnId>,
     pub lines: Vec<Line>,
     pub event: u64,
 }
@@ -26,10 +27,11 @@ impl Past {
 
     /// Nothing was put out.
     pub fn new(alloc: Global) -> Past
-        ensures { (result.bag ≡ []) × (result.lines.items ≡ []) × (result.event ≡ 0) }
+        ensures { (result.bag ≡ []) × (result.told.items ≡ []) × (result.lines.items ≡ []) × (result.event ≡ 0) }
     {
         Past {
             bag: Bag::new(alloc),
+            told: Vec::new(alloc),
             lines: Vec::new(alloc),
             event: 0,
         }
@@ -85,12 +87,8 @@ impl Past {
         ensures put { (w : World) → IsPast self.old w → OnOk result (IsPast self.new (put_out out w)) }
         ensures memory { IfErr result (λ fault. fault ≡ Fault.Memory) }
     {
-        push_acknowledged(
-            &mut self.lines,
-            self.bag.as_slice(),
-            self.event,
-            out.as_slice(),
-        )?;
+        push_acknowledged(&mut self.lines, &self.told, self.event, out.as_slice())?;
+        push_told(&mut self.told, out.as_slice())?;
         put_all(&mut self.bag, out)
     }
 
@@ -118,29 +116,42 @@ fn put_all(bag: &mut Bag, out: Outbox) -> Result<(), Fault>
 // The acknowledgements among new messages.
 fn push_acknowledged(
     lines: &mut Vec<Line>,
-    bag: &[Envelope],
+    told: &[TxnId],
     event: u64,
     out: &[Envelope],
 ) -> Result<(), Fault>
-    ensures lines { OnOk result (lines.new.items ≡ lines.old.items ++ join (ack_in bag.now event) out.now) }
+    ensures lines { OnOk result (lines.new.items ≡ lines.old.items ++ join (ack_in told.now event) out.now) }
     ensures memory { IfErr result (λ fault. fault ≡ Fault.Memory) }
 {
     for envelope in out {
-        if let Some(line) = acknowledged(bag, event, envelope) {
+        if let Some(line) = acknowledged(told, event, envelope) {
             lines.push(line)?;
         }
     }
     Ok(())
 }
 
+// The transactions whose commit new messages tell.
+fn push_told(told: &mut Vec<TxnId>, out: &[Envelope]) -> Result<(), Fault>
+    ensures told { OnOk result (told.new.items ≡ told.old.items ++ join told_in out.now) }
+    ensures memory { IfErr result (λ fault. fault ≡ Fault.Memory) }
+{
+    for envelope in out {
+        if let Some(txn) = told_in(envelope) {
+            told.push(txn)?;
+        }
+    }
+    Ok(())
+}
+
 // The acknowledgement that a message is: the first that tells a session that it committed.
-fn acknowledged(bag: &[Envelope], event: u64, envelope: &Envelope) -> Option<Line>
-    ensures { listed result ≡ ack_in bag.now event envelope.now }
+fn acknowledged(told: &[TxnId], event: u64, envelope: &Envelope) -> Option<Line>
+    ensures { listed result ≡ ack_in told.now event envelope.now }
 {
     match &envelope.message {
         Message::Done(done) => match done.outcome {
             Some(at) => {
-                if was_told(bag, done.txn) {
+                if was_told(told, done.txn) {
                     None
                 } else {
                     Some(Line::Ack(done.txn, at, event))
@@ -153,24 +164,27 @@ fn acknowledged(bag: &[Envelope], event: u64, envelope: &Envelope) -> Option<Lin
 }
 
 // A session was told that it committed.
-fn was_told(bag: &[Envelope], txn: TxnId) -> bool
-    ensures { result ≡ was_told bag.now txn }
+fn was_told(told: &[TxnId], txn: TxnId) -> bool
+    ensures { result ≡ was_told told.now txn }
 {
-    for envelope in bag {
-        if tells_commit(envelope, txn) {
+    for one in told {
+        if one.is(txn) {
             return true;
         }
     }
     false
 }
 
-// The message tells a session that it committed.
-fn tells_commit(envelope: &Envelope, txn: TxnId) -> bool
-    ensures { result ≡ when (λ x. true) (commit_told txn envelope.now) }
+// The transaction whose commit a message tells to its session.
+fn told_in(envelope: &Envelope) -> Option<TxnId>
+    ensures { listed result ≡ told_in envelope.now }
 {
     match &envelope.message {
-        Message::Done(done) => done.txn.is(txn) && done.outcome.is_some(),
-        _ => false,
+        Message::Done(done) => match done.outcome {
+            Some(_) => Some(done.txn),
+            None => None,
+        },
+        _ => None,
     }
 }
 

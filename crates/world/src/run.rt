@@ -177,6 +177,7 @@ impl<'s> Run<'s> {
         let logs = shards.logs(alloc)?;
         let Past {
             bag,
+            told: _,
             lines,
             event: _,
         } = past;
