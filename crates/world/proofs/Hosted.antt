@@ -14,7 +14,7 @@ use Rattle.message.specs.declared.message.Envelope.{Envelope}
 use Rattle.message.specs.declared.message.ReadAnswer.{ReadAnswer}
 use Rattle.session.specs.Sessions.{Client, Moved, begun, finishes}
 use Rattle.world.specs.Held.{IsBegun, Moves, Hears, when_open}
-use Rattle.world.specs.Hosts.{AreBegun, Hosts, HearsIn, MovesIn, are_once, step_of, with_client}
+use Rattle.world.specs.Hosts.{AreBegun, Hosts, HearsIn, MovesIn, are_apart, are_once, step_of, with_client}
 use Rattle.world.proofs.HeldSteps.{hears_keeps}
 use Rattle.world.specs.declared.begun.Begun.{Begun}
 use Rattle.world.specs.declared.hosting.Sessions.{Sessions}
@@ -54,6 +54,18 @@ absent splits (x ∷ bs) (c ∷ cs) t h none =
     let other : same_id x.txn t ≡ false = grind (arith, nat_tests) in
     ap (Tested c cs t) (same_txn splits x c t h.0 ∙ other) ∙ absent splits bs cs t h.1 (grind (arith, nat_tests))
 
+one_of : (bs : List Begun) (t : Id) (i : ℕ) (d : Begun) → i < length bs → same_id (get_or bs i d).txn t ≡ true → any (λ c. same_id c.txn t) bs ≡ true
+one_of [] t i d lt is = absurd (omega arith)
+one_of (x ∷ bs) t zero d lt is = ap (λ b. b || any (λ c. same_id c.txn t) bs) is
+one_of (x ∷ bs) t (suc i) d lt is = or_true (same_id x.txn t) (any (λ c. same_id c.txn t) bs) (one_of bs t i d (omega arith) is)
+  where
+    or_true : (a b : Bool) → b ≡ true → (a || b) ≡ true
+    or_true true b e = refl
+    or_true false b e = e
+
+differ : true ≡ false → ⊥
+differ e = cc
+
 -- another in its place leaves the rest
 both : (a b : Bool) → (a && b) ≡ true → (a ≡ true) × (b ≡ true)
 both true b e = (refl, e)
@@ -66,6 +78,15 @@ not_is false e = refl
 neither : (a b : Bool) → (a || b) ≡ false → (a ≡ false) × (b ≡ false)
 neither true b e = cc
 neither false b e = (refl, e)
+
+-- where nobody has it the place is behind all
+pub no_place : (bs : List Begun) (t : Id) → any (λ c. same_id c.txn t) bs ≡ false → length bs ≡ place_of bs t
+no_place [] t none = refl
+no_place (x ∷ bs) t none =
+    let p = neither (same_id x.txn t) (any (λ c. same_id c.txn t) bs) none in
+    let rest = no_place bs t p.1 in
+    let other = p.0 in
+    grind (arith, nat_tests)
 
 none_changed : (d : Client) (cs : List Client) → any (λ e. same_id e.txn d.txn) cs ≡ false → with_client d cs ≡ cs
 none_changed d [] h = refl
@@ -228,14 +249,40 @@ module _ (splits : List Bytes) (s new : Sessions) (cs : List Client) (t : Id) (a
       hears_from splits s new cs t at old b h place within taken same put p.0 p.1 p.2 (same_txn splits old p.0 t p.2 ∙ p.3)
 
 -- the id of the session that stands there
-pub id_there : (bs : List Begun) (t : Id) (i : ℕ) (b : Begun) → i ≡ place_of bs t → i < length bs → b ≡ get_or bs i b → same_id b.txn t ≡ true
-id_there [] t i b at lt is = absurd (omega arith)
-id_there (x ∷ bs) t zero b at lt is =
-    let same : same_id x.txn t ≡ true = grind (arith, nat_tests) in
-    ap (λ y. same_id y.txn t) is ∙ same
-id_there (x ∷ bs) t (suc i) b at lt is =
-    let other : same_id x.txn t ≡ false = grind (arith, nat_tests) in
-    id_there bs t i b (grind (arith, nat_tests)) (omega arith) is
+pub id_there : (bs xs : List Begun) (t : Id) (i : ℕ) (b : Begun) → xs ≡ bs → ((y : Begun) → i < length xs → y ≡ get_or xs i y → same_id y.txn t ≡ true) → i < length bs → b ≡ get_or bs i b → same_id b.txn t ≡ true
+id_there bs xs t i b same there lt is = there b (subst (λ ys. i < length ys) (sym same) lt) (is ∙ ap (λ ys. get_or ys i b) (sym same))
+
+-- ids in the code come once where they do in the definitions
+apart_as : (splits : List Bytes) (bs : List Begun) (cs : List Client) (t : Id) → AreBegun splits bs cs → any (λ b. same_id b.txn t) bs ≡ any (λ c. same_id c.txn t) cs
+apart_as splits [] [] t h = refl
+apart_as splits [] (c ∷ cs) t h = absurd h
+apart_as splits (b ∷ bs) [] t h = absurd h
+apart_as splits (b ∷ bs) (c ∷ cs) t h = (λ i. sym (same_txn splits b c t h.0) i || apart_as splits bs cs t h.1 i)
+
+apart : (splits : List Bytes) (bs : List Begun) (cs : List Client) → AreBegun splits bs cs → are_apart bs ≡ are_once cs
+apart splits [] [] h = refl
+apart splits [] (c ∷ cs) h = absurd h
+apart splits (b ∷ bs) [] h = absurd h
+apart splits (b ∷ bs) (c ∷ cs) h = (λ i. not ((apart_as splits bs cs b.txn h.1 ∙ ap (λ t. any (λ d. same_id d.txn t) cs) (sym h.0.txn)) i) && apart splits bs cs h.1 i)
+
+pub apart_in : (splits : List Bytes) (s : Sessions) (cs : List Client) (bs : List Begun) → Hosts splits s cs → bs ≡ s.begun.items → are_apart bs ≡ true
+apart_in splits s cs bs h same = ap are_apart same ∙ apart splits s.begun.items cs h.begun ∙ h.once
+
+-- the last place of an id is the first
+pub only_place : (bs : List Begun) (t : Id) (i : ℕ) (d : Begun) → are_apart bs ≡ true → i < length bs → same_id (get_or bs i d).txn t ≡ true → i ≡ place_of bs t
+only_place [] t i d once lt is = absurd (omega arith)
+only_place (x ∷ bs) t zero d once lt is = grind (arith, nat_tests)
+only_place (x ∷ bs) t (suc i) d once lt is =
+    let rest = only_place bs t i d (both _ _ once).1 (omega arith) is in
+    let among : any (λ c. same_id c.txn t) bs ≡ true = one_of bs t i d (omega arith) is in
+    by_head (same_id x.txn t) refl rest among
+  where
+    by_head : (b : Bool) → same_id x.txn t ≡ b → i ≡ place_of bs t → any (λ c. same_id c.txn t) bs ≡ true → suc i ≡ place_of (x ∷ bs) t
+    by_head true e rest among =
+        let none : any (λ c. same_id c.txn x.txn) bs ≡ false = not_is _ (both _ _ once).0 in
+        let same : x.txn ≡ t = same_id-is x.txn t e in
+        absurd (differ (sym among ∙ ap (λ u. any (λ c. same_id c.txn u) bs) (sym same) ∙ none))
+    by_head false e rest among = grind (arith, nat_tests)
 
 -- the last put in a place stands there
 pub set_again : (bs : List Begun) (i : ℕ) (x y : Begun) → set (set bs i x) i y ≡ set bs i y

@@ -5,7 +5,8 @@ ghost use Rattle.units.specs.Ids.{same_id};
 ghost use Rattle.units.specs.Keys.{Bytes};
 ghost use Rattle.units.specs.Lists.{first, when};
 ghost use Rattle.session.specs.Sessions.{Client, begun, reads, buffers, closes, gives_up};
-ghost use Rattle.world.specs.Hosts.{Hosts, HearsIn, MovesIn, step_of};
+ghost use Rattle.world.specs.Hosts.{Hosts, HearsIn, MovesIn, are_apart, step_of};
+ghost use Rattle.world.specs.declared.begun.Begun.{Begun as Began};
 ghost use Rattle.world.specs.Comes.{no_line};
 ghost use Rattle.world.specs.declared.begun.Held.{Held};
 ghost use Rattle.world.specs.Held.{when_open, when_not_over, when_closing};
@@ -181,14 +182,17 @@ fn no_line(answer: Result<Outbox, Fault>) -> Result<Option<Line>, Fault>
     }
 }
 
-// Where the session of an id stands.
+// Where the session of an id stands. The newest are looked at first, since most events are of these.
 fn place(begun: &[Begun<'_>], txn: TxnId) -> usize
     ensures within { result ≤ length begun.now }
-    ensures place { result ≡ position_or_len (λ b. same_id b.txn txn) begun.now }
+    ensures there { (b : Began) → result < length begun.now → b ≡ slice_index_or begun.now result b → same_id b.txn txn ≡ true }
+    ensures place { are_apart begun.now ≡ true → result ≡ position_or_len (λ b. same_id b.txn txn) begun.now }
 {
-    for (at, one) in begun.iter().enumerate() {
-        if one.txn.is(txn) {
-            return at;
+    let mut left = begun.len();
+    while left > 0 {
+        left -= 1;
+        if begun[left].txn.is(txn) {
+            return left;
         }
     }
     begun.len()

@@ -1,7 +1,10 @@
-use Rattle.std.proofs.Common.{◌≡◌, ◌+◌, drop}
-use Rattle.std.specs.List.{position_or_len}
+use Rattle.std.proofs.Common.{◌≡◌, ◌≤◌, false, length, drop}
 use Rattle.units.specs.Ids.{same_id}
+use Rattle.units.specs.Lists.{any}
 use Rattle.world.proofs.hosting.place.Given as goal
 
-abbrev pub invariant-loop-at : goal.invariant-loop-at
-invariant-loop-at l = l.at + position_or_len (λ b. same_id b.txn l.txn) (drop l.at l.begun) ≡ position_or_len (λ b. same_id b.txn l.txn) l.begun
+abbrev pub invariant-loop-left : goal.invariant-loop-left
+invariant-loop-left l = (l.left ≤ length l.begun) × (any (λ b. same_id b.txn l.txn) (drop l.left l.begun) ≡ false)
+
+abbrev pub decreases-loop-left : goal.decreases-loop-left
+decreases-loop-left l = l.left
