@@ -1,3 +1,4 @@
+pub mod Arranged
 pub mod Halves
 pub mod Newest
 pub mod Kept

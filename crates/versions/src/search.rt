@@ -1,8 +1,9 @@
-//! Searches by halves.
+//! Searches by halves among versions that are read in the order of their places.
 ghost use Rattle.std.specs.Prelude.{◌≡◌, ◌+◌, ◌<◌, ◌≤◌, ◌^◌, ℕ, length, vec_len, vec_capacity};
 ghost use Rattle.std.specs.Option.{option_copied};
 ghost use Rattle.units.specs.Lists.{keep};
 ghost use Rattle.units.specs.Versions.{newest, of_key};
+ghost use Rattle.versions.specs.Arranged.{arranged, AreWithin};
 ghost use Rattle.versions.specs.Halves.{Before, After};
 ghost use Rattle.versions.specs.Ordered.{is_by, is_not_after, count_not_after, installed, IsAscending, IsKept};
 
@@ -16,21 +17,23 @@ fn is_not_after(install: &Install, key: &Key, at: u64) -> bool
 }
 
 /// How many versions are not after the key and the timestamp, in microseconds, and how many were looked at to find that.
-pub fn find(installs: &[Install], key: &Key, at: u64) -> (usize, u32)
-    requires { IsAscending installs.now }
-    ensures count { result.0 ≡ count_not_after key.now at installs.now }
-    ensures before { Before key.now at installs.now result.0 }
-    ensures after { After key.now at installs.now result.0 }
-    ensures within { result.0 ≤ length installs.now }
-    ensures probes { (digits : ℕ) → length installs.now < 2 ^ digits → result.1 ≤ digits }
+pub fn find(installs: &[Install], places: &[usize], key: &Key, at: u64) -> (usize, u32)
+    requires within { AreWithin places.now (length installs.now) }
+    requires order { IsAscending (arranged installs.now places.now) }
+    ensures count { result.0 ≡ count_not_after key.now at (arranged installs.now places.now) }
+    ensures before { Before key.now at (arranged installs.now places.now) result.0 }
+    ensures after { After key.now at (arranged installs.now places.now) result.0 }
+    ensures bound { result.0 ≤ length places.now }
+    ensures probes { (digits : ℕ) → length places.now < 2 ^ digits → result.1 ≤ digits }
 {
     let mut low = 0;
-    let mut high = installs.len();
+    let mut high = places.len();
     let mut probes: u32 = 0;
     while low < high {
         let middle = low + (high - low) / 2;
+        let place = places[middle];
         probes += 1;
-        if is_not_after(&installs[middle], key, at) {
+        if is_not_after(&installs[place], key, at) {
             low = middle + 1;
         } else {
             high = middle;
@@ -40,39 +43,50 @@ pub fn find(installs: &[Install], key: &Key, at: u64) -> (usize, u32)
 }
 
 /// The newest version of the key at the timestamp, in microseconds, or before.
-pub fn newest_by<'a>(installs: &'a [Install], key: &Key, at: u64) -> Option<&'a Install>
-    requires { IsAscending installs.now }
-    ensures { option_copied result ≡ newest (keep (is_by key.now at) installs.now) }
+pub fn newest_by<'a>(
+    installs: &'a [Install],
+    places: &[usize],
+    key: &Key,
+    at: u64,
+) -> Option<&'a Install>
+    requires within { AreWithin places.now (length installs.now) }
+    requires order { IsAscending (arranged installs.now places.now) }
+    ensures { option_copied result ≡ newest (keep (is_by key.now at) (arranged installs.now places.now)) }
 {
-    let (count, _) = find(installs, key, at);
+    let (count, _) = find(installs, places, key, at);
     if count == 0 {
         return None;
     }
-    let last = &installs[count - 1];
+    let place = places[count - 1];
+    let last = &installs[place];
     if last.key.is(key) { Some(last) } else { None }
 }
 
 /// The newest version of the key.
 #[tactic(auto, using(crate::proofs::Newest::newest_is))]
-pub fn newest_of<'a>(installs: &'a [Install], key: &Key) -> Option<&'a Install>
-    requires { IsKept Stamp.MAX installs.now }
-    ensures { option_copied result ≡ newest (of_key installs.now key.now) }
+pub fn newest_of<'a>(installs: &'a [Install], places: &[usize], key: &Key) -> Option<&'a Install>
+    requires within { AreWithin places.now (length installs.now) }
+    requires kept { IsKept Stamp.MAX (arranged installs.now places.now) }
+    ensures { option_copied result ≡ newest (of_key (arranged installs.now places.now) key.now) }
 {
-    newest_by(installs, key, Stamp::MAX)
+    newest_by(installs, places, key, Stamp::MAX)
 }
 
-/// Puts in a version at its place. There is room.
-pub fn install(installs: &mut Vec<Install>, new: Install)
-    requires order { IsAscending installs.old.items }
-    requires room { vec_len installs.old < vec_capacity installs.old }
-    ensures items { installs.new.items ≡ installed installs.old.items new }
-    ensures len { vec_len installs.new ≡ vec_len installs.old + 1 }
+/// Adds a version, and puts in its place. There is room.
+pub fn install(installs: &mut Vec<Install>, places: &mut Vec<usize>, new: Install)
+    requires within { AreWithin places.old.items (length installs.old.items) }
+    requires order { IsAscending (arranged installs.old.items places.old.items) }
+    requires room { (vec_len installs.old < vec_capacity installs.old) × (vec_len places.old < vec_capacity places.old) }
+    ensures items { arranged installs.new.items places.new.items ≡ installed (arranged installs.old.items places.old.items) new }
+    ensures within { AreWithin places.new.items (length installs.new.items) }
+    ensures len { (vec_len installs.new ≡ vec_len installs.old + 1) × (vec_len places.new ≡ vec_len places.old + 1) }
     ensures in_time { new.at < 2 ^ 62 }
-    ensures capacity { vec_capacity installs.new ≡ vec_capacity installs.old }
+    ensures capacity { (vec_capacity installs.new ≡ vec_capacity installs.old) × (vec_capacity places.new ≡ vec_capacity places.old) }
 {
-    let (count, _) = find(installs, &new.key, new.at.micros());
-    match installs.insert(count, new) {
+    let (count, _) = find(installs, places, &new.key, new.at.micros());
+    match places.insert(count, installs.len()) {
         Ok(()) => {}
         Err(_) => unreachable!(),
     }
+    installs.push_reserved(new);
 }

@@ -4,7 +4,7 @@ ghost use Rattle.std.specs.Option.{option_copied};
 ghost use Rattle.units.specs.Versions.{latest, at_time, versions, above_versions};
 ghost use Rattle.units.specs.Keys.{write_before};
 ghost use Rattle.units.specs.Lists.{ascends};
-ghost use Rattle.versions.specs.Ordered.{installed, all_installed, count_not_after, is_above, IsAscending};
+ghost use Rattle.versions.specs.Ordered.{installed, all_installed, count_not_after, is_above};
 
 use crate::search::{find, install, newest_by, newest_of};
 use std::alloc::Global;
@@ -14,19 +14,25 @@ use units::{Fault, Install, Key, Stamp, Value, Write, Writes};
 /// The versions of keys. Contracts see them ascending by key and timestamp, beside the room for more.
 #[derive(Drop)]
 pub struct Versions {
+    // As they were installed.
     installs: Vec<Install>,
+    // Their places there, ascending by key and timestamp. One more moves places, not versions.
+    places: Vec<usize>,
+    // For how many more both have room.
+    room: usize,
 }
 
 impl Model for Versions {
-    ghost use Rattle.std.specs.Prelude.{◌-◌, ◌^◌, vec_capacity, vec_len};
+    ghost use Rattle.std.specs.Prelude.{◌-◌, vec_capacity, vec_len};
+    ghost use Rattle.versions.specs.Arranged.{arranged, IsPlaced};
     ghost use Rattle.versions.specs.Store.{Store};
-    ghost use Rattle.versions.specs.Ordered.{IsKept};
 
     ghost Value = { Store };
 
-    ghost view = { λ a. record { installs = a.installs.items; room = vec_capacity a.installs - vec_len a.installs } };
+    ghost view = { λ a. record { installs = arranged a.installs.items a.places.items; room = a.room } };
 
-    ghost invariant = { λ a. IsKept (2 ^ 62 - 1) a.installs.items };
+    ghost invariant = { λ a. IsPlaced a.installs.items a.places.items a.room
+        (vec_capacity a.installs - vec_len a.installs) (vec_capacity a.places - vec_len a.places) };
 }
 
 impl Versions {
@@ -36,6 +42,8 @@ impl Versions {
     {
         Versions {
             installs: Vec::new(alloc),
+            places: Vec::new(alloc),
+            room: 0,
         }
     }
 
@@ -48,6 +56,8 @@ impl Versions {
         ensures succeeds { more ≤ self.old.room → IsOk result }
     {
         self.installs.reserve(more)?;
+        self.places.reserve(more)?;
+        self.room = self.room.max(more);
         Ok(())
     }
 
@@ -56,7 +66,7 @@ impl Versions {
     pub fn takes(&self, key: &Key, at: Stamp) -> bool
         ensures { result ≡ is_above self.now.installs key.now at }
     {
-        match newest_of(&self.installs, key) {
+        match newest_of(&self.installs, &self.places, key) {
             Some(newest) => newest.at < at,
             None => true,
         }
@@ -69,7 +79,9 @@ impl Versions {
         ensures installs { self.new.installs ≡ installed self.old.installs (record { key = key; at = at; value = value }) }
         ensures room { self.new.room + 1 ≡ self.old.room }
     {
-        install(&mut self.installs, Install { key, at, value });
+        self.room -= 1;
+        let new = Install { key, at, value };
+        install(&mut self.installs, &mut self.places, new);
     }
 
     /// Installs some writes at a timestamp above their keys' others. It takes no memory.
@@ -91,7 +103,7 @@ impl Versions {
     pub fn latest(&self, key: &Key) -> Option<&Value>
         ensures { option_copied result ≡ latest self.now.installs key.now }
     {
-        newest_of(&self.installs, key)?.value.as_ref()
+        newest_of(&self.installs, &self.places, key)?.value.as_ref()
     }
 
     /// The value that a key has at a timestamp: none where there is none or it was erased.
@@ -99,7 +111,9 @@ impl Versions {
     pub fn at(&self, key: &Key, at: Stamp) -> Option<&Value>
         ensures { option_copied result ≡ at_time self.now.installs key.now at }
     {
-        newest_by(&self.installs, key, at.micros())?.value.as_ref()
+        newest_by(&self.installs, &self.places, key, at.micros())?
+            .value
+            .as_ref()
     }
 
     /// How many versions are not after a key and timestamp, and how many were looked at to find that: no more than their
@@ -108,14 +122,6 @@ impl Versions {
         ensures count { result.0 ≡ count_not_after key.now at self.now.installs }
         ensures probes { (digits : ℕ) → length self.now.installs < 2 ^ digits → result.1 ≤ digits }
     {
-        find(&self.installs, key, at.micros())
-    }
-
-    /// The versions, ascending by key and then by timestamp.
-    pub fn as_slice(&self) -> &[Install]
-        ensures same { result.now ≡ self.now.installs }
-        ensures ascending { IsAscending result.now }
-    {
-        self.installs.as_slice()
+        find(&self.installs, &self.places, key, at.micros())
     }
 }

@@ -1,4 +1,5 @@
 use Rattle.std.proofs.Common.{◌-◌, ◌<◌, ◌≤◌, ◌^◌, length}
+use Rattle.versions.specs.Arranged.{arranged}
 use Rattle.versions.specs.Halves.{Before, After}
 use Rattle.versions.proofs.Halves.{LeftFits}
 use Rattle.versions.proofs.search.find.Given as goal
@@ -6,11 +7,11 @@ use Rattle.versions.proofs.search.find.Given as goal
 abbrev pub invariant-loop-low : goal.invariant-loop-low
 invariant-loop-low l = record {
   within : l.low ≤ l.high;
-  end : l.high ≤ length l.installs;
-  before : Before l.key l.at l.installs l.low;
-  after : After l.key l.at l.installs l.high;
-  all : length l.installs < 2 ^ 64;
-  fits : LeftFits (length l.installs) (l.high - l.low) l.probes;
+  end : l.high ≤ length l.places;
+  before : Before l.key l.at (arranged l.installs l.places) l.low;
+  after : After l.key l.at (arranged l.installs l.places) l.high;
+  all : length l.places < 2 ^ 64;
+  fits : LeftFits (length l.places) (l.high - l.low) l.probes;
 }
 
 abbrev pub decreases-loop-low : goal.decreases-loop-low

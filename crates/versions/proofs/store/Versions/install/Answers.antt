@@ -1,4 +1,5 @@
 use Rattle.std.proofs.Common.{◌≡◌, true, sym, subst, arith}
+use Rattle.versions.specs.Arranged.{arranged}
 use Rattle.versions.specs.Ordered.{is_above, IsKept}
 use Rattle.versions.specs.Store.{Store}
 use Rattle.versions.proofs.Kept.{kept-installed}
@@ -7,5 +8,11 @@ use Rattle.versions.proofs.store.Versions.install.Goals as goal
 pub invariant_of-self : goal.invariant_of-self
 invariant_of-self c =
     let above = subst (λ (s : Store). is_above s.installs c.args.key c.args.at ≡ true) (sym c.self.view_is) c.requires.above in
-    subst (IsKept 4611686018427387903) (sym c.install.ensures.items)
-    (kept-installed _ (record { key = c.args.key; at = c.args.at; value = c.args.value }) c.self.inside.installs.items above (omega (arith, c.install.ensures.in_time)) c.self.invariant)
+    record {
+      within = c.install.ensures.within;
+      kept =
+          subst (IsKept 4611686018427387903) (sym c.install.ensures.items)
+          (kept-installed _ (record { key = c.args.key; at = c.args.at; value = c.args.value }) (arranged c.self.inside.installs.items c.self.inside.places.items) above (omega (arith, c.install.ensures.in_time)) c.self.invariant.kept);
+      installs_fit = omega (arith, c.install.ensures.len, c.install.ensures.capacity, c.self.invariant.installs_fit);
+      places_fit = omega (arith, c.install.ensures.len, c.install.ensures.capacity, c.self.invariant.places_fit);
+    }
