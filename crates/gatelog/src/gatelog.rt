@@ -95,6 +95,7 @@ impl<D: Disk> GateLog<D> {
     /// begin with the header, and `Damaged` at the gate where a frame is due and none is whole.
     pub fn open(alloc: Global, disk: D) -> Result<(GateLog<D>, Vec<Entry>), (Fault, D)>
         ensures entries { IfOk result (λ opened. D.keeps_model → log (surface (D.file disk)).seen ≡ Ok opened.1.items) }
+        ensures gate { IfOk result (λ opened. D.keeps_model → IsTrue (ends_at (surface (D.file disk)).seen (gate_at opened.0))) }
         ensures running { IfOk result (λ opened. IsFalse (is_stopped opened.0)) }
         ensures synced { IfOk result (λ opened. D.keeps_model → surface (D.file (disk_of opened.0)) ≡ after_sync (surface (D.file disk))) }
         // A crash at any moment of the call leaves no more than one before it.

@@ -1,8 +1,10 @@
 //! What a log hands out.
-ghost use Rattle.std.specs.Prelude.{◌≡◌};
+ghost use Rattle.std.specs.Prelude.{◌≡◌, IfOk, IfErr};
 
 use record::Record;
+use std::alloc::Global;
 use std::marker::Model;
+use units::Fault;
 
 /// A record that a log holds, and where.
 #[derive(Drop)]
@@ -41,6 +43,15 @@ impl Entry {
     {
         &self.item
     }
+
+    /// A copy of its record, which stands in the log: what an append gives for a record that it adds. It is refused for want
+    /// of memory alone.
+    pub fn logged(&self, alloc: Global) -> Result<Logged, Fault>
+        ensures same { IfOk result (λ logged. logged ≡ self.now.item) }
+        ensures memory { IfErr result (λ fault. fault ≡ Fault.Memory) }
+    {
+        Ok(Logged::new(self.item.copy(alloc)?))
+    }
 }
 
 /// A record that is ready to be appended at one place, with all the memory that this takes.
@@ -64,7 +75,7 @@ impl Model for Staged {
     ghost invariant = { λ s. (s.bytes.items ≡ staged_bytes s.item) × IsRecord s.item × (next_gate s.gate s.item + 1 ≤ 2 ^ 40) };
 }
 
-/// A record that stands in the log for good. Only an append makes it, and it has to be spent.
+/// A record that stands in the log for good. Only an append, or an entry that was read, makes it; it has to be spent.
 pub struct Logged {
     item: Record,
 }

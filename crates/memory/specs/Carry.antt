@@ -38,10 +38,11 @@ abbrev pub Asks : List Row → Id → List Id → List Lock → Bool → Type 0
 Asks rows t us needs opens =
     (may_ask rows t ≡ true) × (us ≡ wounded (claims rows) t needs) × (is_free (claims (without_rows rows us)) t needs ≡ opens)
 
--- nothing is logged but a ceiling
+-- nothing is logged but a ceiling or an opening
 abbrev pub IsServing : Option Record → Type 0
 IsServing None = Unit {0}
 IsServing (Some (Record.Ceiling at)) = Unit {0}
+IsServing (Some (Record.Opened epoch)) = Unit {0}
 IsServing (Some _) = ⊥
 
 -- a row goes by an abort, or by its outcome

@@ -111,6 +111,17 @@ impl Ledger {
         are_above(&self.versions, writes.as_slice(), at)
     }
 
+    /// The timestamp is above all versions of the keys that a promise or decision of the transaction writes, where one stands.
+    pub fn takes_standing(&self, txn: TxnId, at: Stamp) -> bool
+        ensures { result ≡ above_versions self.now.facts.installs at (writes_standing (recorded self.now.facts txn)) }
+    {
+        match self.status(txn) {
+            Some(Status::Prepared(prepared)) => self.takes(&prepared.writes, at),
+            Some(Status::Decided(committed)) => self.takes(&committed.writes, at),
+            _ => true,
+        }
+    }
+
     /// Takes the memory in which one more record is learnt.
     pub fn reserve(&mut self) -> Result<(), Fault>
         ensures room { OnOk result (1 ≤ self.new.room) }

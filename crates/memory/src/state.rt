@@ -2,19 +2,24 @@
 ghost use Rattle.std.specs.Prelude.{◌≡◌, ◌≤◌, ◌^◌, ◌<◌, [], true, false, Some, None, MatchOption, IfSome, IfOk, IfErr};
 ghost use Rattle.std.specs.Option.{option_copied};
 ghost use Rattle.units.specs.Lists.{each};
+ghost use Rattle.units.specs.LockLaws.{IsLawfulTable};
 ghost use Rattle.units.specs.Locks.{exclusive, holds, ready};
-ghost use Rattle.units.specs.Versions.{latest, at_time};
+ghost use Rattle.units.specs.Versions.{latest, at_time, above_versions};
+ghost use Rattle.facts.specs.Rules.{follows_facts};
 ghost use Rattle.facts.specs.Shown.{meant};
+ghost use Rattle.record.specs.Facts.{recorded};
 ghost use Rattle.protocol.specs.Rows.{safe, claims, find_row, standing_by};
 ghost use Rattle.protocol.specs.Plan.{stands, in_way, opens, is_crowded, held_in};
 ghost use Rattle.rows.specs.CodeRows.{phase_of};
 ghost use Rattle.rows.specs.RowTable.{needs_in};
 ghost use Rattle.memory.specs.Carry.{Asks, MayTurn, may_ask, may_drop, may_end};
 ghost use Rattle.memory.specs.Kept.{start_of, IsPast};
+ghost use Rattle.memory.specs.Ledger.{writes_standing};
 
 use crate::ended::Ended;
 use crate::ledger::Ledger;
 use facts::Status;
+use record::Record;
 use rows::{Row, Rows};
 use safetime::SafeTime;
 use std::alloc::Global;
@@ -121,6 +126,34 @@ impl State {
         ensures { option_copied result ≡ at_time self.now.facts.installs key.now at }
     {
         self.ledger.at(key, at)
+    }
+
+    /// The record may come next in the log, by the rules of one transaction and of openings.
+    pub fn follows(&self, item: &Record) -> bool
+        ensures { result ≡ follows_facts self.now.setup.shard self.now.facts item.now }
+    {
+        self.ledger.follows(item)
+    }
+
+    /// The timestamp is above all versions of the keys that are written.
+    pub fn takes(&self, writes: &Writes, at: Stamp) -> bool
+        ensures { result ≡ above_versions self.now.facts.installs at writes.now }
+    {
+        self.ledger.takes(writes, at)
+    }
+
+    /// The timestamp is above all versions of the keys that a promise or decision of the transaction writes, where one stands.
+    pub fn takes_standing(&self, txn: TxnId, at: Stamp) -> bool
+        ensures { result ≡ above_versions self.now.facts.installs at (writes_standing (recorded self.now.facts txn)) }
+    {
+        self.ledger.takes_standing(txn, at)
+    }
+
+    /// The rows are a lawful lock table at any time. It does nothing.
+    pub fn laws(&self)
+        ensures { IsLawfulTable (claims self.now.memory.rows) }
+    {
+        self.rows.laws();
     }
 
     /// The row of a transaction.

@@ -75,13 +75,13 @@ locks_of_rows (e ∷ es) = by_status e.status (locks_of_rows es)
     by_status (HasSettled at ps) k = k
     by_status (HasClosed c o) k = k
 
-standing_is : (log : List Record) → standing log ≡ map (λ r. r.held) (log_rows (facts_of log))
+pub standing_is : (log : List Record) → standing log ≡ map (λ r. r.held) (log_rows (facts_of log))
 unfolding facts_of
 standing_is log =
     gather-map (λ (e : Entry). standing_locks e.status) (λ t. record { txn = t; status = status_of log t }) (ids_of log)
     ∙ locks_of_rows (facts_of log).entries
 
-length-held : (rows : List Row) → length (map (λ (r : Row). r.held) rows) ≡ length rows
+pub length-held : (rows : List Row) → length (map (λ (r : Row). r.held) rows) ≡ length rows
 length-held [] = refl
 length-held (r ∷ rs) = ap suc (length-held rs)
 
@@ -169,7 +169,7 @@ not_false : (b : Bool) → b ≡ false → not b ≡ true
 not_false false e = refl
 not_false true e = cc
 
-installs_are : (log : List Record) → (facts_of log).installs ≡ installs_of log
+pub installs_are : (log : List Record) → (facts_of log).installs ≡ installs_of log
 unfolding facts_of
 installs_are log = refl
 
@@ -189,7 +189,7 @@ stands_beside shard log after m later t s at rs ws new sound next room put held 
 
 -- ---- the records
 
-unrecorded_is : (s : Status) → is_unrecorded s ≡ true → s ≡ Unrecorded
+pub unrecorded_is : (s : Status) → is_unrecorded s ≡ true → s ≡ Unrecorded
 unrecorded_is Unrecorded e = refl
 unrecorded_is (StandsPrepared p) e = absurd (false≢true e)
 unrecorded_is (StandsDecided c) e = absurd (false≢true e)
@@ -229,7 +229,7 @@ fits_commit shard log m later c sound next room follows =
     (subst (λ s. Agrees (facts_of log).installs later.last s (find_row later.rows c.txn)) (status_same (facts_of log).entries c.txn (StandsDecided c)) (next.agrees c.txn)))
 
 -- the writes of what an outcome ends
-writes_are : (a : Bool) (c : Option Committed) (p : Option Prepared) (e : Option Ended) (s : ℕ) → allows (status_by a c p e) (Some s) ≡ true
+pub writes_are : (a : Bool) (c : Option Committed) (p : Option Prepared) (e : Option Ended) (s : ℕ) → allows (status_by a c p e) (Some s) ≡ true
     → writes_standing (status_by a c p e) ≡ writes_by c p
 writes_are true c p e s k = absurd (false≢true k)
 writes_are false (Some c) p None s k = refl

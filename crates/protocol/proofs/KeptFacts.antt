@@ -49,7 +49,7 @@ pub covered_later : (last later : ℕ) (installs : List Install) → last ≤ la
 covered_later last later installs h e =
     each_gives (λ (i : Install). nat_le i.at last) (λ (i : Install). nat_le i.at later) (λ i k. not_above i.at last later h k) installs e
 
-covered_versions : (ws : List Write) (s last : ℕ) → s ≤ last → Covered last (versions ws s)
+pub covered_versions : (ws : List Write) (s last : ℕ) → s ≤ last → Covered last (versions ws s)
 covered_versions [] s last h = refl
 covered_versions (w ∷ ws) s last h = ap (λ b. b && each (λ (i : Install). nat_le i.at last) (versions ws s)) (le-leb s last h) ∙ covered_versions ws s last h
 

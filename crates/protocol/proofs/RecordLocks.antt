@@ -85,13 +85,13 @@ exclusive_free (l ∷ ls) ms k h free =
         weaker (lock k Exclusive) l q.0 (λ m. exclusive_less l.mode m q.1) ms first
     by_test false e g first rest = rest g
 
-reads_free : (rs : List Bytes) (held ms : List Lock) → each (holds held) rs ≡ true → clash held ms ≡ false → clash (shared rs) ms ≡ false
+pub reads_free : (rs : List Bytes) (held ms : List Lock) → each (holds held) rs ≡ true → clash held ms ≡ false → clash (shared rs) ms ≡ false
 reads_free [] held ms h free = refl
 reads_free (k ∷ ks) held ms h free =
     let p = and_parts (holds held k) (each (holds held) ks) h in
     ap (λ b. b || clash (shared ks) ms) (shared_free held ms k p.0 free) ∙ reads_free ks held ms p.1 free
 
-writes_free : (ws : List Write) (held ms : List Lock) → holds_writes held ws ≡ true → clash held ms ≡ false → clash (exclusive ws) ms ≡ false
+pub writes_free : (ws : List Write) (held ms : List Lock) → holds_writes held ws ≡ true → clash held ms ≡ false → clash (exclusive ws) ms ≡ false
 writes_free [] held ms h free = refl
 writes_free (w ∷ ws) held ms h free =
     let p = and_parts (holds_alone held w.key) (holds_writes held ws) h in

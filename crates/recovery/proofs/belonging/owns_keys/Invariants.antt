@@ -1,7 +1,7 @@
 use Rattle.std.proofs.Common.{◌≡◌, nat_eq, drop}
 use Rattle.units.specs.Keys.{shard_of}
 use Rattle.units.specs.Lists.{each}
-use Rattle.shard.proofs.addressing.owns_keys.Given as goal
+use Rattle.recovery.proofs.belonging.owns_keys.Given as goal
 
 abbrev pub invariant-loop-key : goal.invariant-loop-key
 invariant-loop-key l =

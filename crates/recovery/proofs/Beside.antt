@@ -1,0 +1,91 @@
+-- Whether a record has its place beside the rows that a log holds.
+use Rattle.std.proofs.Common.{◌≡◌, ℕ, Bool, true, false, not, ◌&&◌, nat_lt, nat_le, List, [], ◌∷◌, ◌++◌, map, length, Option, Some, None, refl, sym, ap, ◌∙◌, arith}
+use Rattle.std.specs.List.{AllByRecursion}
+use Rattle.std.proofs.lemmas.Bool.{and_parts}
+use Rattle.std.proofs.lemmas.Bool.Decides.{nat_tests}
+use Rattle.units.specs.Lists.{any}
+use Rattle.units.specs.Ids.{Id, same_id}
+use Rattle.units.specs.Keys.{Bytes}
+use Rattle.units.specs.Locks.{clash, exclusive, is_free, locks_of, shared, wounded}
+use Rattle.units.specs.Versions.{above_versions}
+use Rattle.units.specs.declared.writes.Write.{Write}
+use Rattle.units.proofs.ByIdLaws.{first_none}
+use Rattle.record.specs.Facts.{Entry, or_unrecorded, recorded}
+use Rattle.record.specs.Records.{Status, Unrecorded, StandsPrepared, StandsDecided, HasAborted, HasSettled, HasClosed}
+use Rattle.protocol.specs.Plan.{is_crowded, opens, without_rows}
+use Rattle.protocol.specs.Rows.{Row, claims, find_row, rebuilt, standing_row}
+use Rattle.memory.specs.Carry.{Asks}
+use Rattle.memory.specs.Kept.{Kept, start_of}
+use Rattle.rows.specs.CodeRows.{is_reading}
+use Rattle.recovery.specs.Recovered.{IsRecovered, stands_in, standing_rows}
+use Rattle.recovery.proofs.Locking.{all_still, locks_free, none_wounded}
+use Rattle.recovery.proofs.StandingRows.{no_row}
+
+pub rows_are : (k : Kept) → IsRecovered k → k.memory.rows ≡ standing_rows k.facts
+unfolding rebuilt
+rows_are k recovered = ap (λ m. m.rows) recovered.memory
+
+-- nothing of it stands where there is no promise, decision or abort
+pub none_standing : (e : Entry) → or_unrecorded (Some e) ≡ Unrecorded → standing_row e ≡ None
+none_standing e fresh = by_status e.status fresh
+  where
+    by_status : (s : Status) → s ≡ Unrecorded → standing_row (record { txn = e.txn; status = s }) ≡ None
+    by_status Unrecorded k = refl
+    by_status HasAborted k = refl
+    by_status (HasSettled at ps) k = refl
+    by_status (HasClosed c o) k = refl
+    by_status (StandsPrepared p) k = cc
+    by_status (StandsDecided c) k = cc
+
+-- an id of which nothing is recorded has no row
+pub fresh_absent : (k : Kept) (t : Id) → IsRecovered k → recorded k.facts t ≡ Unrecorded → find_row k.memory.rows t ≡ None
+fresh_absent k t recovered fresh =
+    ap (λ rows. find_row rows t) (rows_are k recovered)
+    ∙ no_row k.facts.entries t recovered.order recovered.own (λ e found. none_standing e (ap or_unrecorded (sym found) ∙ fresh))
+
+none_has : (rows : List Row) (t : Id) → AllByRecursion (λ r. same_id r.txn t ≡ false) rows → any (λ r. same_id r.txn t) rows ≡ false
+none_has [] t all = refl
+none_has (r ∷ rs) t all = rw (all.0) (none_has rs t all.1)
+
+-- there is room for its row
+roomy : (rows : List Row) (t : Id) → find_row rows t ≡ None → not (nat_le 1024 (length rows) && not (any (λ r. same_id r.txn t) rows)) ≡ nat_lt (length rows) 1024
+roomy rows t absent =
+    ap (λ b. not (nat_le 1024 (length rows) && not b)) (none_has rows t (first_none (λ (r : Row). same_id r.txn t) rows absent))
+    ∙ grind (arith, nat_tests)
+
+-- the request goes where nobody has its locks
+opens_are : (k : Kept) (t : Id) (rs : List Bytes) (ws : List Write) → IsRecovered k → find_row k.memory.rows t ≡ None
+    → opens (start_of k) t (shared rs ++ exclusive ws) ≡ not (any (clash (locks_of rs ws)) (map (λ r. r.held) (standing_rows k.facts)))
+opens_are k t rs ws recovered absent =
+    ap (λ rows. is_free (claims (without_rows rows (wounded (claims rows) t (shared rs ++ exclusive ws)))) t (shared rs ++ exclusive ws)) (rows_are k recovered)
+    ∙ ap (λ us. is_free (claims (without_rows (standing_rows k.facts) us)) t (shared rs ++ exclusive ws)) (none_wounded (standing_rows k.facts) t (shared rs ++ exclusive ws) (all_still k.facts))
+    ∙ locks_free k.facts t rs ws (ap (λ rows. find_row rows t) (sym (rows_are k recovered)) ∙ absent)
+
+-- so it stands beside them by the three tests
+pub stands_are : (k : Kept) (t : Id) (at : ℕ) (rs : List Bytes) (ws : List Write) (crowded free above : Bool) → IsRecovered k → find_row k.memory.rows t ≡ None
+    → crowded ≡ is_crowded (start_of k) t → free ≡ opens (start_of k) t (shared rs ++ exclusive ws) → above ≡ above_versions k.facts.installs at ws
+    → (not crowded && free && above) ≡ stands_in k.facts at rs ws
+stands_are k t at rs ws crowded free above recovered absent c f a =
+    let room : not crowded ≡ nat_lt (length (standing_rows k.facts)) 1024 =
+    ap not c ∙ roomy k.memory.rows t absent ∙ ap (λ rows. nat_lt (length rows) 1024) (rows_are k recovered) in
+    let open_ : free ≡ not (any (clash (locks_of rs ws)) (map (λ r. r.held) (standing_rows k.facts))) = f ∙ opens_are k t rs ws recovered absent in
+    ap (λ b. b && free && above) room ∙ ap (λ b. nat_lt (length (standing_rows k.facts)) 1024 && b && above) open_
+    ∙ ap (λ b. nat_lt (length (standing_rows k.facts)) 1024 && not (any (clash (locks_of rs ws)) (map (λ r. r.held) (standing_rows k.facts))) && b) a
+
+-- and then it may ask for its locks
+pub asks_are : (k : Kept) (t : Id) (at : ℕ) (rs : List Bytes) (ws : List Write) → IsRecovered k → find_row k.memory.rows t ≡ None → stands_in k.facts at rs ws ≡ true
+    → Asks k.memory.rows t [] (shared rs ++ exclusive ws) true
+asks_are k t at rs ws recovered absent stands =
+    let p = and_parts _ _ (and_parts _ _ stands).0 in
+    let room : nat_lt (length k.memory.rows) 1024 ≡ true = ap (λ rows. nat_lt (length rows) 1024) (rows_are k recovered) ∙ p.0 in
+    let nobody : wounded (claims k.memory.rows) t (shared rs ++ exclusive ws) ≡ [] =
+    ap (λ rows. wounded (claims rows) t (shared rs ++ exclusive ws)) (rows_are k recovered) ∙ none_wounded (standing_rows k.facts) t (shared rs ++ exclusive ws) (all_still k.facts) in
+    let free : is_free (claims k.memory.rows) t (shared rs ++ exclusive ws) ≡ true =
+    ap (λ rows. is_free (claims rows) t (shared rs ++ exclusive ws)) (rows_are k recovered)
+    ∙ locks_free k.facts t rs ws (ap (λ rows. find_row rows t) (sym (rows_are k recovered)) ∙ absent)
+    ∙ p.1 in
+    (by_row (find_row k.memory.rows t) absent room, sym nobody, free)
+  where
+    by_row : (o : Option Row) → o ≡ None → nat_lt (length k.memory.rows) 1024 ≡ true → (elim o [ None ↦ nat_lt (length k.memory.rows) 1024 | Some r ↦ is_reading r.phase ]) ≡ true
+    by_row None none room = room
+    by_row (Some r) none room = cc

@@ -1,0 +1,225 @@
+-- The verdict on a whole log, told record by record from the facts.
+use Rattle.std.proofs.Common.{◌≡◌, ℕ, suc, ◌+◌, ◌<◌, Bool, true, false, not, cond, ◌&&◌, nat_lt, List, [], ◌∷◌, ◌++◌, map, length, take, drop, get_or, Some, None, refl, sym, ap, subst, ◌∙◌, ◌⊎◌, inl, inr, arith}
+use Rattle.std.specs.Prelude.{slice_get}
+use Rattle.std.proofs.lemmas.Bool.{and_parts}
+use Rattle.std.proofs.lemmas.List.{append_assoc, drop_more, length-append, take_more}
+use Rattle.units.specs.Lists.{any, follow}
+use Rattle.units.specs.Ids.{Id}
+use Rattle.units.specs.Keys.{Bytes}
+use Rattle.units.specs.Locks.{clash, locks_of}
+use Rattle.units.specs.Versions.{above_versions}
+use Rattle.units.specs.declared.fault.Fault.{Fault}
+use Rattle.units.specs.declared.setup.Setup.{Setup}
+use Rattle.units.specs.declared.writes.Write.{Write}
+use Rattle.record.specs.Accepted.{Taken, Accepted, DamagedAt, StrangerAt, begins, belongs, fits_beside, followed, follows, standing, stands, taken, taken_from}
+use Rattle.record.specs.Facts.{Facts, facts_of, learn, recorded}
+use Rattle.record.specs.Installs.{installs_of, writes_by}
+use Rattle.record.specs.Records.{committed_of, ended_of, is_aborted, prepared_of, status_by, status_of}
+use Rattle.record.specs.declared.record.Record.{Record}
+use Rattle.record.proofs.LearnAgrees.{followed_more, learn_agrees}
+use Rattle.record.proofs.Statuses.{recorded_is}
+use Rattle.facts.specs.Rules.{allows, follows_facts}
+use Rattle.facts.proofs.Known.{follows_as_known}
+use Rattle.gatelog.specs.Placed.{Placed}
+use Rattle.memory.specs.Ledger.{writes_standing}
+use Rattle.protocol.proofs.FitsBeside.{installs_are, length-held, standing_is, writes_are}
+use Rattle.recovery.specs.Recovered.{fault_in, fault_next, fits_facts, items, standing_rows, stands_in}
+
+-- ---- a record has its place by the log where it has by the facts
+
+stands_is : (log : List Record) (at : ℕ) (rs : List Bytes) (ws : List Write) → stands log at rs ws ≡ stands_in (facts_of log) at rs ws
+stands_is log at rs ws =
+    ap (λ n. nat_lt n 1024 && not (any (clash (locks_of rs ws)) (standing log)) && above_versions (installs_of log) at ws)
+    (ap length (standing_is log) ∙ length-held (standing_rows (facts_of log)))
+    ∙ ap (λ hs. nat_lt (length (standing_rows (facts_of log))) 1024 && not (any (clash (locks_of rs ws)) hs) && above_versions (installs_of log) at ws) (standing_is log)
+    ∙ ap (λ is. nat_lt (length (standing_rows (facts_of log))) 1024 && not (any (clash (locks_of rs ws)) (map (λ r. r.held) (standing_rows (facts_of log)))) && above_versions is at ws)
+    (sym (installs_are log))
+
+installs_is : (shard : ℕ) (log : List Record) (t : Id) (s : ℕ) → follows_facts shard (facts_of log) (Record.Outcome t (Some s)) ≡ true
+    → above_versions (installs_of log) s (writes_by (committed_of log t) (prepared_of log t)) ≡ above_versions (facts_of log).installs s (writes_standing (recorded (facts_of log) t))
+unfolding follows_facts status_of
+installs_is shard log t s follows =
+    let allowed : allows (status_by (is_aborted log t) (committed_of log t) (prepared_of log t) (ended_of log t)) (Some s) ≡ true =
+    subst (λ q. allows q (Some s) ≡ true) (recorded_is log t) (and_parts _ _ follows).1 in
+    let same : writes_standing (recorded (facts_of log) t) ≡ writes_by (committed_of log t) (prepared_of log t) =
+    ap writes_standing (recorded_is log t) ∙ writes_are (is_aborted log t) (committed_of log t) (prepared_of log t) (ended_of log t) s allowed in
+    ap (λ is. above_versions is s (writes_by (committed_of log t) (prepared_of log t))) (sym (installs_are log))
+    ∙ ap (above_versions (facts_of log).installs s) (sym same)
+
+beside_is : (shard : ℕ) (log : List Record) (r : Record) → follows_facts shard (facts_of log) r ≡ true → fits_beside log r ≡ fits_facts (facts_of log) r
+unfolding fits_beside
+beside_is shard log (Record.Opened epoch) follows = refl
+beside_is shard log (Record.Ceiling at) follows = refl
+beside_is shard log (Record.Prepare p) follows = stands_is log p.at p.reads p.writes
+beside_is shard log (Record.Commit c) follows = stands_is log c.at c.reads c.writes
+beside_is shard log (Record.Abort t) follows = refl
+beside_is shard log (Record.Outcome t None) follows = refl
+beside_is shard log (Record.Outcome t (Some s)) follows = installs_is shard log t s follows
+
+-- and it follows by the log where it does by the facts
+follows_is : (shard : ℕ) (log : List Record) (r : Record) → followed shard log ≡ true → (begins log r && follows shard log r) ≡ follows_facts shard (facts_of log) r
+follows_is shard log r before =
+    sym (ap (λ b. b && (begins log r && follows shard log r)) before) ∙ sym (followed_more shard log r) ∙ follows_as_known shard log r before
+
+-- so both
+place_is : (shard : ℕ) (log : List Record) (r : Record) → followed shard log ≡ true
+    → (begins log r && follows shard log r && fits_beside log r) ≡ (follows_facts shard (facts_of log) r && fits_facts (facts_of log) r)
+place_is shard log r before = ap (λ b. b && fits_beside log r) (follows_is shard log r before) ∙ by_test (follows_facts shard (facts_of log) r) refl
+  where
+    by_test : (b : Bool) → follows_facts shard (facts_of log) r ≡ b → (b && fits_beside log r) ≡ (b && fits_facts (facts_of log) r)
+    by_test true k = beside_is shard log r k
+    by_test false k = refl
+
+-- ---- a log of which some records were taken
+
+-- these entries were taken, those are left, and this is known
+pub record Stands (setup : Setup) (entries done left : List Placed) (facts : Facts) : Type 0 where
+  pub whole : entries ≡ done ++ left
+  pub before : followed setup.shard (items done) ≡ true
+  pub known : facts ≡ facts_of (items done)
+  pub verdict : taken setup (items entries) ≡ taken_from setup (items done) (length done) (items left)
+
+pub at_start : (setup : Setup) (entries : List Placed) → Stands setup entries [] entries (facts_of [])
+unfolding taken followed
+at_start setup entries = record { whole = refl; before = refl; known = refl; verdict = refl }
+
+items-append : (a b : List Placed) → items (a ++ b) ≡ items a ++ items b
+items-append [] b = refl
+items-append (e ∷ es) b = ap (λ rs. e.item ∷ rs) (items-append es b)
+
+-- the verdict there, by the facts
+verdict_here : (setup : Setup) (entries done : List Placed) (e : Placed) (left : List Placed) (facts : Facts) → Stands setup entries done (e ∷ left) facts
+    → taken setup (items entries)
+    ≡ cond (not (belongs setup e.item)) (StrangerAt (length done))
+    (cond (follows_facts setup.shard facts e.item && fits_facts facts e.item) (taken_from setup (items done ++ e.item ∷ []) (length done + 1) (items left)) (DamagedAt (length done)))
+verdict_here setup entries done e left facts stands =
+    stands.verdict
+    ∙ ap (λ b. cond (not (belongs setup e.item)) (StrangerAt (length done))
+    (cond b (taken_from setup (items done ++ e.item ∷ []) (length done + 1) (items left)) (DamagedAt (length done))))
+    (place_is setup.shard (items done) e.item stands.before ∙ ap (λ f. follows_facts setup.shard f e.item && fits_facts f e.item) (sym stands.known))
+
+-- a record that is not refused belongs here, follows and has its place
+record Fits (setup : Setup) (facts : Facts) (e : Placed) : Type 0 where
+  own : belongs setup e.item ≡ true
+  follows : follows_facts setup.shard facts e.item ≡ true
+  fits : fits_facts facts e.item ≡ true
+
+not_refused : (setup : Setup) (facts : Facts) (e : Placed) → fault_next setup facts e ≡ None → Fits setup facts e
+not_refused setup facts e none = by_tests (belongs setup e.item) (follows_facts setup.shard facts e.item) (fits_facts facts e.item) refl refl refl none
+  where
+    by_tests : (a b c : Bool) → belongs setup e.item ≡ a → follows_facts setup.shard facts e.item ≡ b → fits_facts facts e.item ≡ c
+        → cond (not a) (Some Fault.Stranger) (cond (b && c) None (Some (Fault.Damaged e.offset))) ≡ None → Fits setup facts e
+    by_tests true true true i j k none = record { own = i; follows = j; fits = k }
+    by_tests true true false i j k none = cc
+    by_tests true false c i j k none = cc
+    by_tests false b c i j k none = cc
+
+-- one more
+pub at_next : (setup : Setup) (entries done : List Placed) (e : Placed) (left : List Placed) (facts : Facts) → Stands setup entries done (e ∷ left) facts
+    → fault_next setup facts e ≡ None → Stands setup entries (done ++ e ∷ []) left (learn facts e.item)
+at_next setup entries done e left facts stands none = record {
+  whole = stands.whole ∙ sym (append_assoc done (e ∷ []) left);
+  before = ap (followed setup.shard) (items-append done (e ∷ [])) ∙ more;
+  known =
+      ap (λ f. learn f e.item) stands.known ∙ sym (learn_agrees setup.shard (items done) e.item more)
+      ∙ ap facts_of (sym (items-append done (e ∷ [])));
+  verdict =
+      verdict_here setup entries done e left facts stands
+      ∙ ap (λ b. cond (not b) (StrangerAt (length done)) (cond (follows_facts setup.shard facts e.item && fits_facts facts e.item) rest (DamagedAt (length done)))) fit.own
+      ∙ ap (λ b. cond (b && fits_facts facts e.item) rest (DamagedAt (length done))) fit.follows
+      ∙ ap (λ b. cond b rest (DamagedAt (length done))) fit.fits
+      ∙ ap (λ rs. taken_from setup rs (length done + 1) (items left)) (sym (items-append done (e ∷ [])))
+      ∙ ap (λ n. taken_from setup (items (done ++ e ∷ [])) n (items left)) (sym (length-append done (e ∷ [])));
+}
+  where
+    fit : Fits setup facts e
+    fit = not_refused setup facts e none
+
+    rest : Taken
+    rest = taken_from setup (items done ++ e.item ∷ []) (length done + 1) (items left)
+
+    more : followed setup.shard (items done ++ e.item ∷ []) ≡ true
+    more = follows_as_known setup.shard (items done) e.item stands.before ∙ ap (λ f. follows_facts setup.shard f e.item) (sym stands.known) ∙ fit.follows
+
+get_there : (done : List Placed) (e : Placed) (left : List Placed) → slice_get (done ++ e ∷ left) (length done) ≡ Some e
+get_there [] e left = refl
+get_there (d ∷ ds) e left = get_there ds e left
+
+-- a refused one is the verdict
+pub at_fault : (setup : Setup) (entries done : List Placed) (e : Placed) (left : List Placed) (facts : Facts) (fault : Fault) → Stands setup entries done (e ∷ left) facts
+    → fault_next setup facts e ≡ Some fault → fault_in (taken setup (items entries)) entries ≡ Some fault
+at_fault setup entries done e left facts fault stands refused =
+    ap (λ v. fault_in v entries) (verdict_here setup entries done e left facts stands)
+    ∙ by_tests (belongs setup e.item) (follows_facts setup.shard facts e.item && fits_facts facts e.item) refused
+  where
+    by_tests : (a b : Bool) → cond (not a) (Some Fault.Stranger) (cond b None (Some (Fault.Damaged e.offset))) ≡ Some fault
+        → fault_in (cond (not a) (StrangerAt (length done)) (cond b (taken_from setup (items done ++ e.item ∷ []) (length done + 1) (items left)) (DamagedAt (length done)))) entries ≡ Some fault
+    by_tests false b k = k
+    by_tests true false k =
+        ap (λ es. follow (slice_get es (length done)) (λ q. Some (Fault.Damaged q.offset))) stands.whole
+        ∙ ap (λ o. follow o (λ q. Some (Fault.Damaged q.offset))) (get_there done e left) ∙ k
+    by_tests true true k = cc
+
+-- where none is left, all were taken
+pub at_end : (setup : Setup) (entries done : List Placed) (facts : Facts) → Stands setup entries done [] facts → taken setup (items entries) ≡ Accepted
+at_end setup entries done facts stands = stands.verdict
+
+pub all_known : (setup : Setup) (entries done : List Placed) (facts : Facts) → Stands setup entries done [] facts → facts ≡ facts_of (items entries)
+all_known setup entries done facts stands = stands.known ∙ ap (λ es. facts_of (items es)) (sym (all_done done) ∙ sym stands.whole)
+  where
+    all_done : (es : List Placed) → es ++ [] ≡ es
+    all_done [] = refl
+    all_done (e ∷ es) = ap (λ ds. e ∷ ds) (all_done es)
+
+-- ---- along the entries behind the first
+
+-- the first was taken
+pub after_first : (setup : Setup) (entries : List Placed) (first : Placed) (rest : List Placed) (facts : Facts) → entries ≡ first ∷ rest
+    → fault_next setup (facts_of []) first ≡ None → facts ≡ learn (facts_of []) first.item → Stands setup entries (take 1 entries) rest facts
+after_first setup entries first rest facts whole none learnt =
+    subst (λ f. Stands setup entries (take 1 entries) rest f) (sym learnt)
+    (subst (λ done. Stands setup entries done rest (learn (facts_of []) first.item)) (sym (ap (take 1) whole))
+    (at_next setup entries [] first rest (facts_of []) (subst (λ left. Stands setup entries [] left (facts_of [])) whole (at_start setup entries)) none))
+
+-- or it is refused
+pub fault_first : (setup : Setup) (entries : List Placed) (first : Placed) (rest : List Placed) (fault : Fault) → entries ≡ first ∷ rest
+    → fault_next setup (facts_of []) first ≡ Some fault → fault_in (taken setup (items entries)) entries ≡ Some fault
+fault_first setup entries first rest fault whole refused =
+    at_fault setup entries [] first rest (facts_of []) fault (subst (λ left. Stands setup entries [] left (facts_of [])) whole (at_start setup entries)) refused
+
+module _ (setup : Setup) (entries : List Placed) (first : Placed) (rest : List Placed) (i : ℕ) (e : Placed) (facts : Facts)
+    (whole : entries ≡ first ∷ rest) (lt : i < length rest) (is : e ≡ get_or rest i e) (stands : Stands setup entries (take (i + 1) entries) (drop i rest) facts) where
+  here : Stands setup entries (take (i + 1) entries) (e ∷ drop (i + 1) rest) facts
+  here = subst (λ left. Stands setup entries (take (i + 1) entries) left facts) (drop_more rest i e lt ∙ ap (λ q. q ∷ drop (i + 1) rest) (sym is)) stands
+
+  long : length entries ≡ suc (length rest)
+  long = ap length whole
+
+  there : get_or entries (i + 1) e ≡ e
+  there = ap (λ es. get_or es (i + 1) e) whole ∙ behind i ∙ sym is
+    where
+      behind : (n : ℕ) → get_or (first ∷ rest) (n + 1) e ≡ get_or rest n e
+      behind n = let on : n + 1 ≡ suc n = omega arith in ap (λ m. get_or (first ∷ rest) m e) on
+
+  -- the next one was taken
+  pub after_next : (later : Facts) → fault_next setup facts e ≡ None → later ≡ learn facts e.item → Stands setup entries (take (i + 1 + 1) entries) (drop (i + 1) rest) later
+  after_next later none learnt =
+      subst (λ f. Stands setup entries (take (i + 1 + 1) entries) (drop (i + 1) rest) f) (sym learnt)
+      (subst (λ done. Stands setup entries done (drop (i + 1) rest) (learn facts e.item)) (sym (take_more entries (i + 1) e (omega (arith, long, lt)) ∙ ap (λ q. take (i + 1) entries ++ q ∷ []) there))
+      (at_next setup entries (take (i + 1) entries) e (drop (i + 1) rest) facts here none))
+
+  -- or it is refused
+  pub fault_there : (fault : Fault) → fault_next setup facts e ≡ Some fault → fault_in (taken setup (items entries)) entries ≡ Some fault
+  fault_there fault refused = at_fault setup entries (take (i + 1) entries) e (drop (i + 1) rest) facts fault here refused
+
+-- ---- the ends
+
+-- no entry at all
+pub none_taken : (setup : Setup) (entries : List Placed) → length entries ≡ 0 → taken setup (items entries) ≡ Accepted
+none_taken setup [] none = at_end setup [] [] (facts_of []) (at_start setup [])
+none_taken setup (e ∷ es) none = absurd (omega (arith, none))
+
+-- for want of memory, or for the verdict
+pub or_fault : (P Q R : Type 0) → (Q → R) → P ⊎ Q → P ⊎ R
+or_fault P Q R h (inl p) = inl p
+or_fault P Q R h (inr q) = inr (h q)

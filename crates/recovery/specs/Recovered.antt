@@ -1,0 +1,103 @@
+-- What a log leaves of its shard, told record by record from the facts alone.
+use Rattle.std.specs.Prelude.{◌≡◌, ℕ, ◌<◌, ◌≤◌, IsTrue, nat_le, Bool, true, false, not, cond, ◌&&◌, nat_eq, nat_lt, List, [], map, length, Option, Some, None, slice_get}
+use Rattle.std.specs.List.{AllByRecursion}
+use Rattle.units.specs.Lists.{any, each, follow, gather}
+use Rattle.units.specs.ById.{IsById}
+use Rattle.units.specs.Keys.{Bytes}
+use Rattle.units.specs.Locks.{clash, locks_of}
+use Rattle.units.specs.Versions.{above_versions}
+use Rattle.units.specs.declared.fault.Fault.{Fault}
+use Rattle.units.specs.declared.setup.Setup.{Setup}
+use Rattle.units.specs.declared.writes.Write.{Write}
+use Rattle.record.specs.Accepted.{Taken, Accepted, DamagedAt, StrangerAt, belongs}
+use Rattle.record.specs.Facts.{Entry, Facts, facts_of, recorded}
+use Rattle.record.specs.Records.{Status, StandsPrepared, StandsDecided}
+use Rattle.record.specs.declared.record.Record.{Record}
+use Rattle.facts.specs.Rules.{follows_facts}
+use Rattle.gatelog.specs.Placed.{Placed}
+use Rattle.protocol.specs.Rows.{Row, rebuilt, standing_row}
+use Rattle.protocol.specs.Sound.{IsSound}
+use Rattle.memory.specs.Kept.{Kept}
+use Rattle.memory.specs.Ledger.{writes_standing}
+
+-- the records of some entries
+abbrev pub items : List Placed → List Record
+items entries = map (λ e. e.item) entries
+
+-- the rows that some facts hold
+abbrev pub standing_rows : Facts → List Row
+standing_rows facts = gather standing_row facts.entries
+
+-- a promise or a decision has its place: room for its row, its locks in nobody's way, and above the versions of what it writes
+abbrev pub stands_in : Facts → ℕ → List Bytes → List Write → Bool
+stands_in facts at reads writes =
+    nat_lt (length (standing_rows facts)) 1024
+    && not (any (clash (locks_of reads writes)) (map (λ r. r.held) (standing_rows facts)))
+    && above_versions facts.installs at writes
+
+-- a record has its place beside what stands
+abbrev pub fits_facts : Facts → Record → Bool
+fits_facts facts (Record.Prepare p) = stands_in facts p.at p.reads p.writes
+fits_facts facts (Record.Commit c) = stands_in facts c.at c.reads c.writes
+fits_facts facts (Record.Outcome t (Some at)) = above_versions facts.installs at (writes_standing (recorded facts t))
+fits_facts facts _ = true
+
+-- the first opening
+abbrev pub is_first : Record → Bool
+is_first (Record.Opened epoch) = nat_eq epoch 1
+is_first _ = false
+
+-- why the next record is refused, where it is: a strange key comes before damage
+abbrev pub fault_next : Setup → Facts → Placed → Option Fault
+fault_next setup facts e =
+    cond (not (belongs setup e.item)) (Some Fault.Stranger)
+    (cond (follows_facts setup.shard facts e.item && fits_facts facts e.item) None (Some (Fault.Damaged e.offset)))
+
+-- what a verdict on some entries says of them
+abbrev pub fault_in : Taken → List Placed → Option Fault
+fault_in Accepted entries = None
+fault_in (DamagedAt place) entries = follow (slice_get entries place) (λ e. Some (Fault.Damaged e.offset))
+fault_in (StrangerAt place) entries = Some Fault.Stranger
+
+-- a promise or a decision stands under its own id
+abbrev pub IsOwn : Entry → Type 0
+IsOwn e = elim e.status [ StandsPrepared p ↦ p.txn ≡ e.txn | StandsDecided c ↦ c.txn ≡ e.txn | _ ↦ Unit {0} ]
+
+-- what a promise or a decision that stands is about
+pub record Part : Type 0 where
+  pub at : ℕ
+  pub reads : List Bytes
+  pub writes : List Write
+
+abbrev pub part_of : Status → Option Part
+part_of (StandsPrepared p) = Some (record { at = p.at; reads = p.reads; writes = p.writes })
+part_of (StandsDecided c) = Some (record { at = c.at; reads = c.reads; writes = c.writes })
+part_of _ = None
+
+-- its timestamp is one of the log's, and above the versions of what it writes
+pub record IsDue (facts : Facts) (x : Part) : Type 0 where
+  pub above_zero : 0 < x.at
+  pub assigned : x.at ≤ facts.floor
+  pub above : IsTrue (above_versions facts.installs x.at x.writes)
+
+abbrev pub IsGoodPart : Facts → Option Part → Type 0
+IsGoodPart facts None = Unit {0}
+IsGoodPart facts (Some x) = IsDue facts x
+
+abbrev pub IsGood : Facts → Entry → Type 0
+IsGood facts e = IsGoodPart facts (part_of e.status)
+
+-- the memory is what the log's facts leave of it, and the facts are those of a log that was opened and taken
+pub record IsRecovered (k : Kept) : Type 0 where
+  pub memory : k.memory ≡ rebuilt k.facts
+  pub opened : 0 < k.facts.epoch
+  pub order : IsById (λ e. e.txn) k.facts.entries
+  pub own : AllByRecursion IsOwn k.facts.entries
+  pub good : AllByRecursion (IsGood k.facts) k.facts.entries
+  pub covered : IsTrue (each (λ i. nat_le i.at k.facts.floor) k.facts.installs)
+
+-- what was found in a log: nothing where no record stands, else what its facts leave, which is sound
+abbrev pub IsRebuilt : Setup → List Record → Option Kept → Type 0
+IsRebuilt setup log None = log ≡ []
+IsRebuilt setup log (Some k) =
+    (k.setup ≡ setup) × (k.facts ≡ facts_of log) × (k.memory ≡ rebuilt (facts_of log)) × IsSound setup.shard k.facts k.memory

@@ -1,0 +1,39 @@
+//! Whose keys a record names.
+ghost use Rattle.std.specs.Prelude.{◌≡◌, nat_eq};
+ghost use Rattle.record.specs.Accepted.{belongs, keys_belong};
+ghost use Rattle.units.specs.Keys.{shard_of};
+ghost use Rattle.units.specs.Lists.{each};
+
+use record::Record;
+use units::{Keys, Setup, Writes};
+
+/// The record names keys of this shard alone.
+#[tactic(auto, unfolding(record::specs::Accepted::belongs))]
+pub fn belongs(setup: &Setup, item: &Record) -> bool
+    ensures { result ≡ belongs setup.now item.now }
+{
+    match item {
+        Record::Prepare(prepared) => owns_all(setup, &prepared.reads, &prepared.writes),
+        Record::Commit(committed) => owns_all(setup, &committed.reads, &committed.writes),
+        _ => true,
+    }
+}
+
+/// Each key that is read or written is of this shard.
+pub fn owns_all(setup: &Setup, reads: &Keys, writes: &Writes) -> bool
+    ensures { result ≡ keys_belong setup.now reads.now writes.now }
+{
+    owns_keys(setup, reads) && setup.owns_writes(writes)
+}
+
+// Each of the keys is of this shard.
+fn owns_keys(setup: &Setup, keys: &Keys) -> bool
+    ensures { result ≡ each (λ k. nat_eq (shard_of setup.now.splits k) setup.now.shard) keys.now }
+{
+    for key in keys.as_slice() {
+        if !setup.owns(key) {
+            return false;
+        }
+    }
+    true
+}

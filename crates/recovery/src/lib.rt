@@ -1,0 +1,12 @@
+//! What a log leaves of its shard when it is opened again.
+#![tactic(auto)]
+
+mod belonging;
+mod rebuilding;
+mod replaying;
+
+pub use belonging::owns_all;
+pub use rebuilding::rebuild;
+
+#[cfg(test)]
+mod tests;
