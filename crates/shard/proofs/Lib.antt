@@ -4,3 +4,5 @@ pub mod Commitments
 pub mod Plans
 pub mod Results
 pub mod Settling
+pub mod Openings
+pub mod TakenUp

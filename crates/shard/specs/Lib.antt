@@ -4,3 +4,4 @@ pub mod Due
 pub mod Settled
 pub mod Core
 pub mod Look
+pub mod Opened

@@ -1,22 +1,23 @@
 //! The core of a shard.
-ghost use Rattle.std.specs.Prelude.{◌≡◌, ◌⊎◌, ◌<◌, [], ◌∷◌, Some, Ok, IsFalse, IfOk, IfErr, length, ◌≤◌, ℕ};
+ghost use Rattle.std.specs.Prelude.{◌≡◌, ◌⊎◌, ◌<◌, ◌+◌, ◌^◌, [], ◌∷◌, Some, Ok, IsFalse, IfOk, IfErr, length, ◌≤◌, ℕ};
 ghost use Rattle.disk.specs.File.{surface};
 ghost use Rattle.disk.specs.declared.plan.Plan.TheVariants.{Never};
-ghost use Rattle.gatelog.specs.Frames.{next_gate};
+ghost use Rattle.gatelog.specs.Frames.{next_gate, IsFull};
 ghost use Rattle.gatelog.specs.Shown.{disk_of, gate_at, is_stopped};
 ghost use Rattle.memory.specs.Plans.{plan_of};
 ghost use Rattle.protocol.specs.Draft.{Does};
 ghost use Rattle.protocol.specs.Plan.{carried};
 ghost use Rattle.protocol.specs.Sound.{IsSound};
-ghost use Rattle.record.specs.Facts.{facts_of};
+ghost use Rattle.record.specs.Facts.{facts_of, learn};
 ghost use Rattle.rows.specs.RowTable.{nth_prepared, nth_decided};
 ghost use Rattle.shard.specs.Due.{IsDue};
 ghost use Rattle.shard.specs.Logs.{records_in, facts_logged, KeepsRecords};
 ghost use Rattle.shard.specs.On.{HasStepped, step_of};
+ghost use Rattle.shard.specs.Opened.{HasOpened, HasNotOpened, HasAppended, HasNotAppended};
 ghost use Rattle.shard.specs.Look.{IsLook, IsSeen, safe_at};
 ghost use Rattle.shard.specs.Settled.{IsDurablySettled};
 ghost use Rattle.units.specs.Locks.{ready};
-ghost use Rattle.protocol.specs.Rows.{claims};
+ghost use Rattle.protocol.specs.Rows.{claims, rebuilt};
 
 use crate::logging::append_record;
 use crate::planning::{names_in_limit, plan_input};
@@ -25,9 +26,11 @@ use gatelog::GateLog;
 use memory::{Plan, State, ready_plans_can_be_carried};
 use message::{Input, Outbox};
 use protocol::{
-    fresh_is_sound, installs_above, logged_follows, own_refusals, step_is_planned, step_keeps_sound,
+    fresh_is_sound, installs_above, logged_follows, opening_keeps_sound, own_refusals,
+    step_is_planned, step_keeps_sound,
 };
-use record::Record;
+use record::{Record, accepted_follows, learn_agrees, learnt_agrees};
+use recovery::rebuild;
 use std::alloc::Global;
 use truetime::Reading;
 use units::{Epoch, Fault, Install, Key, Seen, Setup, Stamp, TxnId};
@@ -66,6 +69,24 @@ impl<D: Disk> Core<D> {
                 state.stop();
                 Err(refused)
             }
+        }
+    }
+
+    /// Takes up the log of a disk, and logs the next opening. What a log leaves is the rows of its promises and decisions that
+    /// stand, its versions, and its greatest timestamp. The disk is given back where it is refused: for want of memory, a failing
+    /// device, a file that holds no log of this shard's, or an opening that has no room.
+    pub fn open(alloc: Global, disk: D, setup: Setup) -> Result<Core<D>, (Fault, D)>
+        ensures opened { IfOk result (λ core. HasOpened D.keeps_model D.obeys D.file D.clock D.since D.failures D.plan disk setup (seen core)) }
+        ensures refused { IfErr result (λ refused. HasNotOpened D.keeps_model D.obeys D.file D.clock D.since D.failures D.plan disk setup refused.0 refused.1) }
+    {
+        learnt_agrees();
+        learn_agrees();
+        accepted_follows();
+        let (gate_log, entries) = GateLog::open(alloc, disk)?;
+        match rebuild(alloc, &entries, &setup) {
+            Ok(Some(state)) => Core::take_up(alloc, gate_log, state),
+            Ok(None) => Core::begin(alloc, gate_log, setup),
+            Err(fault) => Err((fault, gate_log.into_disk())),
         }
     }
 
@@ -114,6 +135,71 @@ impl<D: Disk> Core<D> {
                 Err(fault)
             }
         }
+    }
+
+    // A core of a log without records, to which the first opening is added.
+    fn begin(alloc: Global, gate_log: GateLog<D>, setup: Setup) -> Result<Core<D>, (Fault, D)>
+        requires running { IsFalse (is_stopped gate_log) }
+        requires empty { D.keeps_model → records_in (surface (D.file (disk_of gate_log))).seen ≡ Ok [] }
+        ensures setup { IfOk result (λ core. (seen core).setup ≡ setup) }
+        ensures facts { IfOk result (λ core. (seen core).facts ≡ facts_of (Record.Opened 1 ∷ [])) }
+        ensures memory { IfOk result (λ core. (seen core).memory ≡ record { last = 0; rows = []; ended = [] }) }
+        ensures appended { IfOk result (λ core. HasAppended D.keeps_model D.obeys D.file D.clock D.since D.failures D.plan (disk_of gate_log) (gate_at gate_log) (Record.Opened 1) (seen core)) }
+        ensures refused { IfErr result (λ refused. HasNotAppended D.keeps_model D.obeys D.file D.clock D.since D.failures D.plan (disk_of gate_log) (Record.Opened 1) (IsFull (gate_at gate_log) (Record.Opened 1)) refused.0 refused.1) }
+    {
+        fresh_is_sound();
+        let state = match State::fresh(alloc, setup) {
+            Ok(state) => state,
+            Err(fault) => return Err((fault, gate_log.into_disk())),
+        };
+        let mut gate_log = gate_log;
+        let first = Record::Opened {
+            epoch: Epoch::first(),
+        };
+        match append_record(&mut gate_log, alloc, &first) {
+            Ok(logged) => {
+                let _ = logged.spend();
+                Ok(Core { gate_log, state })
+            }
+            Err(fault) => {
+                state.stop();
+                Err((fault, gate_log.into_disk()))
+            }
+        }
+    }
+
+    // A core of a log and of what its records leave, to which the next opening is added.
+    fn take_up(alloc: Global, gate_log: GateLog<D>, state: State) -> Result<Core<D>, (Fault, D)>
+        requires running { IsFalse (is_stopped gate_log) }
+        requires stands { D.keeps_model → KeepsRecords (surface (D.file (disk_of gate_log))) (records_in (surface (D.file (disk_of gate_log))).seen) }
+        requires known { D.keeps_model → facts_logged (records_in (surface (D.file (disk_of gate_log))).seen) ≡ Some state.facts }
+        requires rebuilt { state.memory ≡ rebuilt state.facts }
+        requires sound { IsSound state.setup.shard state.facts state.memory }
+        ensures setup { IfOk result (λ core. (seen core).setup ≡ state.setup) }
+        ensures facts { IfOk result (λ core. (seen core).facts ≡ learn state.facts (Record.Opened (state.facts.epoch + 1))) }
+        ensures memory { IfOk result (λ core. (seen core).memory ≡ rebuilt (learn state.facts (Record.Opened (state.facts.epoch + 1)))) }
+        ensures appended { IfOk result (λ core. HasAppended D.keeps_model D.obeys D.file D.clock D.since D.failures D.plan (disk_of gate_log) (gate_at gate_log) (Record.Opened (state.facts.epoch + 1)) (seen core)) }
+        ensures refused { IfErr result (λ refused. HasNotAppended D.keeps_model D.obeys D.file D.clock D.since D.failures D.plan (disk_of gate_log) (Record.Opened (state.facts.epoch + 1))
+            ((2 ^ 62 ≤ state.facts.epoch + 1) ⊎ IsFull (gate_at gate_log) (Record.Opened (state.facts.epoch + 1))) refused.0 refused.1) }
+    {
+        opening_keeps_sound();
+        let epoch = match state.epoch().next() {
+            Ok(epoch) => epoch,
+            Err(fault) => {
+                state.stop();
+                return Err((fault, gate_log.into_disk()));
+            }
+        };
+        let mut core = Core { gate_log, state };
+        let last = core.state.last();
+        let plan = core
+            .state
+            .serves(alloc, Some(Record::Opened { epoch }), last);
+        match core.carry_out(alloc, plan) {
+            Ok(_) => {}
+            Err(fault) => return Err((fault, core.stop())),
+        }
+        Ok(core)
     }
 
     /// The oldest transaction whose wait would be granted now.

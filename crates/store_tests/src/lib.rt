@@ -10,6 +10,8 @@ mod one_commit;
 #[cfg(test)]
 mod promising;
 #[cfg(test)]
+mod reopening;
+#[cfg(test)]
 mod runs;
 #[cfg(test)]
 mod serving;

@@ -3,7 +3,7 @@ use crate::fixtures::{Shape, reading, says, setup};
 use disk::Disk;
 use message::Input;
 use shard::Core;
-use simdisk::SimDisk;
+use simdisk::{Choice, SimDisk};
 use std::alloc::Global;
 use truetime::Reading;
 use units::{Fault, Key, Seen, Setup, Stamp, TxnId};
@@ -164,4 +164,68 @@ pub fn look(
     look: (&[u8], u64, usize),
 ) -> Option<Glance> {
     look_on(alloc, SimDisk::new(alloc), shard, cases, look)
+}
+
+// A shard after these, once its disk has crashed with every change that was not synced lost, and was opened again.
+fn opened_again(
+    alloc: Global,
+    shard: u8,
+    stride: u64,
+    cases: &[Exchange],
+) -> Option<Core<SimDisk>> {
+    let mut core = fresh(alloc, SimDisk::new(alloc), setup(alloc, shard, stride))?;
+    let met = meets_all(&mut core, alloc, cases);
+    let disk = core.stop().crash(&Choice::none(alloc));
+    if met {
+        Core::open(alloc, disk, setup(alloc, shard, stride)?).ok()
+    } else {
+        None
+    }
+}
+
+// A core that is opened again behind the first inputs is given the others, and gives each answer; none where it does not.
+pub fn run_again(
+    alloc: Global,
+    shard: u8,
+    stride: u64,
+    before: &[Exchange],
+    after: &[Exchange],
+) -> Option<Shown> {
+    let mut core = opened_again(alloc, shard, stride, before)?;
+    let met = meets_all(&mut core, alloc, after);
+    let mut shown = show(&core);
+    shown.size = core.stop().len();
+    if met { Some(shown) } else { None }
+}
+
+// What a look sees there, once it is opened again.
+pub fn look_again(
+    alloc: Global,
+    shard: u8,
+    before: &[Exchange],
+    look: (&[u8], u64, usize),
+) -> Option<Glance> {
+    let core = opened_again(alloc, shard, 0, before)?;
+    let seen = glance(&core, look.0, look.1, look.2);
+    let _ = core.stop();
+    seen
+}
+
+// Why a disk is not opened as that of a shard.
+pub fn refusal(alloc: Global, disk: SimDisk, shard: u8) -> Option<Fault> {
+    match Core::open(alloc, disk, setup(alloc, shard, 0)?) {
+        Ok(core) => {
+            let _ = core.stop();
+            None
+        }
+        Err((fault, _)) => Some(fault),
+    }
+}
+
+// The disk that these inputs leave.
+pub fn disk_after(alloc: Global, shard: u8, cases: &[Exchange]) -> Option<SimDisk> {
+    let mut core = fresh(alloc, SimDisk::new(alloc), setup(alloc, shard, 0))?;
+    let met = meets_all(&mut core, alloc, cases);
+    let disk = core.stop();
+    if met { Some(disk) } else { None }
 }

@@ -8,19 +8,8 @@ use Rattle.units.specs.declared.setup.Setup.{Setup}
 use Rattle.protocol.specs.Rows.{Memory}
 use Rattle.protocol.specs.Sound.{IsSound, FreshIsSound}
 use Rattle.shard.specs.Logs.{items_of, and_logged, facts_logged}
+use Rattle.shard.proofs.Openings.{first-learnt, first-sound}
 use Rattle.shard.proofs.shard_core.Core.fresh.Goals as goal
-
--- one opening is learnt as an opening finds it
-first-learnt : facts_logged (and_logged (Ok []) (Some (Record.Opened 1))) ≡ Some (facts_of (Record.Opened 1 ∷ []))
-unfolding facts_of installs_of learn
-first-learnt = λ i. Some (facts_of (Record.Opened 1 ∷ []))
-
--- the shard is sound as it starts
-first-sound : (told setup : Setup) (facts : Facts) (memory : Memory) → FreshIsSound → setup ≡ told → facts ≡ facts_of (Record.Opened 1 ∷ [])
-    → memory ≡ record { last = 0; rows = []; ended = [] } → IsSound setup.shard facts memory
-first-sound told setup facts memory law is_setup is_facts is_memory =
-    subst (λ (f : Facts). IsSound setup.shard f memory) (sym is_facts)
-    (subst (IsSound setup.shard (facts_of (Record.Opened 1 ∷ []))) (sym is_memory) (law setup.shard))
 
 pub invariant_of-result : goal.invariant_of-result
 invariant_of-result g c = record {

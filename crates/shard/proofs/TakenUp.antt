@@ -1,0 +1,170 @@
+-- What an opening leaves, from what was read, the verdict on it, and what adding the opening's record did.
+use Rattle.std.proofs.Common.{◌≡◌, ◌≢◌, ◌∙◌, ◌⊎◌, inl, inr, ⊎_elim, ℕ, ◌+◌, ◌^◌, ◌<◌, ◌≤◌, true, IsTrue, IsFalse, List, [], ◌∷◌, ◌++◌, fold, Option, Some, None, Result, Ok, Err, refl, sym, ap, subst, arith}
+use Rattle.std.specs.Prelude.{IfOk, IfErr}
+use Rattle.units.specs.declared.fault.Fault.{Fault}
+use Rattle.units.specs.declared.fault.Fault.TheVariants.{Memory as WantsMemory, Device, TimeSpent}
+use Rattle.units.specs.declared.setup.Setup.{Setup}
+use Rattle.disk.specs.declared.plan.Plan.{Plan}
+use Rattle.disk.specs.declared.plan.Plan.TheVariants.{Never}
+use Rattle.disk.specs.File.{File, surface, synced}
+use Rattle.disk.specs.Image.{MayLeave, after_sync}
+use Rattle.disk.specs.Moments.{LeavesOnly}
+use Rattle.disk.proofs.Runs.{and_then, weaker}
+use Rattle.record.specs.Accepted.{Accepted, followed, taken}
+use Rattle.record.specs.FactLaws.{AcceptedFollows, LearnAgrees, LearntAgrees, learnt}
+use Rattle.record.specs.Facts.{Facts, facts_of, learn}
+use Rattle.record.specs.Installs.{installs_of}
+use Rattle.record.specs.Records.{epoch_of}
+use Rattle.record.specs.declared.record.Record.{Record}
+use Rattle.facts.specs.Rules.{follows_facts}
+use Rattle.facts.proofs.Known.{follows_as_known}
+use Rattle.gatelog.specs.Frames.{IsFull, next_gate}
+use Rattle.gatelog.specs.Log.{ends_at, log}
+use Rattle.gatelog.specs.Placed.{Placed}
+use Rattle.protocol.specs.Rows.{rebuilt}
+use Rattle.recovery.specs.Recovered.{items}
+use Rattle.shard.specs.Logs.{records_in, and_logged, facts_logged, items_of, learned, nothing, KeepsRecords, HoldsOldOrWith}
+use Rattle.shard.specs.On.{CoreView, gate_behind}
+use Rattle.shard.specs.Opened.{HasAppended, HasNotAppended, HasNotOpened, HasOpened, IsReason, IsTaken, LeavesOpening, fault_of, next_opening, opening_of}
+use Rattle.shard.proofs.Openings.{follows_next, next}
+
+-- ---- the facts of what was read
+
+fold_is : (f : Facts) (rs : List Record) → fold learn f rs ≡ learnt f rs
+fold_is f [] = refl
+fold_is f (r ∷ rs) = fold_is (learn f r) rs
+
+nothing_is : nothing ≡ facts_of []
+unfolding facts_of installs_of
+nothing_is = refl
+
+epoch_is : (rs : List Record) → (facts_of rs).epoch ≡ epoch_of rs
+unfolding facts_of
+epoch_is rs = refl
+
+pub facts_are : LearntAgrees → AcceptedFollows → (setup : Setup) (rs : List Record) (facts : Facts) → taken setup rs ≡ Accepted → facts ≡ facts_of rs → facts_logged (Ok rs) ≡ Some facts
+facts_are learns follows setup rs facts accepted known =
+    ap Some (fold_is nothing rs ∙ ap (λ f. learnt f rs) nothing_is ∙ learns setup.shard rs (follows setup rs accepted) ∙ sym known)
+
+-- and with the opening
+pub facts_then : LearnAgrees → AcceptedFollows → (setup : Setup) (rs : List Record) (facts : Facts) → taken setup rs ≡ Accepted → facts ≡ facts_of rs
+    → learn facts (Record.Opened (facts.epoch + 1)) ≡ facts_of (rs ++ next_opening rs ∷ [])
+facts_then learns follows setup rs facts accepted known =
+    ap (λ f. learn f (Record.Opened (f.epoch + 1))) known
+    ∙ ap (λ n. learn (facts_of rs) (Record.Opened (n + 1))) (epoch_is rs)
+    ∙ sym (learns setup.shard rs (next_opening rs) more)
+  where
+    more : followed setup.shard (rs ++ next_opening rs ∷ []) ≡ true
+    more =
+        follows_as_known setup.shard rs (next_opening rs) (follows setup rs accepted)
+        ∙ ap (λ n. follows_facts setup.shard (facts_of rs) (Record.Opened (n + 1))) (sym (epoch_is rs)) ∙ follows_next setup.shard (facts_of rs)
+
+pub epoch_of_facts : (rs : List Record) (facts : Facts) → facts ≡ facts_of rs → Record.Opened (facts.epoch + 1) ≡ next_opening rs
+epoch_of_facts rs facts known = ap (λ f. Record.Opened (f.epoch + 1)) known ∙ ap (λ n. Record.Opened (n + 1)) (epoch_is rs)
+
+-- where there was none before, it is the first
+pub first_is : (rs : List Record) → rs ≡ [] → Record.Opened 1 ≡ next_opening rs
+first_is rs none = ap (λ n. Record.Opened (n + 1)) (ap (λ (f : Facts). f.epoch) nothing_is ∙ epoch_is []) ∙ sym (ap next_opening none)
+
+pub first_records : (rs : List Record) → rs ≡ [] → Record.Opened 1 ∷ [] ≡ rs ++ next_opening rs ∷ []
+first_records rs none = ap (λ r. r ∷ []) (first_is rs none) ∙ ap (λ qs. qs ++ next_opening rs ∷ []) (sym none)
+
+pub first_memory : (f : Facts) → f ≡ facts_of (Record.Opened 1 ∷ []) → record { last = 0; rows = []; ended = [] } ≡ rebuilt f
+unfolding facts_of rebuilt
+first_memory f same = sym (ap rebuilt same)
+
+-- the opening has no room
+pub room_spent : (rs : List Record) (f : Facts) (gate : ℕ) → f ≡ facts_of rs → (2 ^ 62 ≤ f.epoch + 1) ⊎ IsFull gate (Record.Opened (f.epoch + 1))
+    → (2 ^ 62 ≤ epoch_of rs + 1) ⊎ IsFull gate (next_opening rs)
+room_spent rs f gate known =
+    ⊎_elim (λ spent. inl (subst (λ n. 2 ^ 62 ≤ n + 1) (ap (λ g. g.epoch) known ∙ epoch_is rs) spent)) (λ full. inr (subst (IsFull gate) (epoch_of_facts rs f known) full))
+
+-- what holds of a value in four ways
+pub from_four : {T E : Type 0} (r : Result T E) (A B C G Z : T → Type 0) → ((x : T) → A x → B x → C x → G x → Z x) → IfOk r A → IfOk r B → IfOk r C → IfOk r G → IfOk r Z
+from_four (Ok x) A B C G Z h a b c g = h x a b c g
+from_four (Err e) A B C G Z h a b c g = tt
+
+module _ {D : Type 0} (keeps obeys : Type 0) (file : D → File) (clock : D → ℕ) (since : D → ℕ → List ℕ → Type 0) (failures : D → ℕ) (plan : D → Plan) where
+  -- what was read, and what reading it did to the disk
+  pub record Found (disk mid : D) (gate : ℕ) (entries : List Placed) : Type 0 where
+    pub entries_are : keeps → log (surface (file disk)).seen ≡ Ok entries
+    pub ends : keeps → IsTrue (ends_at (surface (file disk)).seen gate)
+    pub clean : keeps → surface (file mid) ≡ after_sync (surface (file disk))
+    pub moment : keeps → LeavesOnly clock since disk mid (MayLeave (surface (file disk)))
+    pub failures_stay : failures disk ≤ failures mid
+    pub planned : obeys → plan disk ≡ Never → plan mid ≡ Never
+
+  module _ (disk mid : D) (gate : ℕ) (entries : List Placed) (found : Found disk mid gate entries) where
+    -- it reads as before
+    pub same_records : keeps → records_in (surface (file mid)).seen ≡ records_in (surface (file disk)).seen
+    same_records keep = ap (λ s. records_in s.seen) (found.clean keep)
+
+    pub records_are : keeps → records_in (surface (file disk)).seen ≡ Ok (items entries)
+    records_are keep = ap items_of (found.entries_are keep)
+
+    opening_is : keeps → opening_of (records_in (surface (file disk)).seen) ≡ Some (next_opening (items entries))
+    opening_is keep = ap opening_of (records_are keep)
+
+    -- with the opening
+    with_opening : keeps → and_logged (records_in (surface (file mid)).seen) (Some (next_opening (items entries)))
+        ≡ and_logged (records_in (surface (file disk)).seen) (opening_of (records_in (surface (file disk)).seen))
+    with_opening keep =
+        ap (λ rs. and_logged rs (Some (next_opening (items entries)))) (same_records keep)
+        ∙ ap (and_logged (records_in (surface (file disk)).seen)) (sym (opening_is keep))
+
+    -- what a crash leaves of it
+    leaves : keeps → (end : D) → LeavesOnly clock since mid end (HoldsOldOrWith (records_in (surface (file mid)).seen) (Some (next_opening (items entries))))
+        → LeavesOnly clock since disk end (LeavesOpening (surface (file disk)))
+    leaves keep end second =
+        and_then clock since disk mid end (MayLeave (surface (file disk))) (HoldsOldOrWith (records_in (surface (file mid)).seen) (Some (next_opening (items entries))))
+        (LeavesOpening (surface (file disk))) (found.moment keep) second (λ image left. inl left)
+        (λ image held. inr (⊎_elim (λ old. inl (old ∙ same_records keep)) (λ new. inr (new ∙ with_opening keep)) held))
+
+    pub opened : (told : Setup) (item : Record) (core : CoreView D) → item ≡ next_opening (items entries) → HasAppended keeps obeys file clock since failures plan mid gate item core
+        → core.setup ≡ told → core.memory ≡ rebuilt core.facts → taken told (items entries) ≡ Accepted → core.facts ≡ facts_of (items entries ++ next_opening (items entries) ∷ [])
+        → HasOpened keeps obeys file clock since failures plan disk told core
+    opened told item core same appended setup memory accepted facts =
+        let it = subst (λ r. HasAppended keeps obeys file clock since failures plan mid gate r core) same appended in
+        record {
+          setup = setup;
+          running = it.running;
+          taken = λ keep. subst (λ rs. IsTaken told rs core.facts) (sym (records_are keep)) (accepted, facts);
+          memory = memory;
+          any_moment = λ keep. leaves keep core.disk (it.any_moment keep);
+          durable = λ keep. subst (KeepsRecords (surface (file core.disk))) (with_opening keep) (it.durable keep);
+          read = λ keep. it.read keep ∙ with_opening keep;
+          gate = λ keep. (gate, found.ends keep, it.gate ∙ ap (gate_behind gate) (sym (opening_is keep)));
+          failures_stay = omega (arith, found.failures_stay, it.failures_stay);
+          planned = λ obey never. it.planned obey (found.planned obey never);
+        }
+
+    pub not_opened : (told : Setup) (item : Record) (full : Type 0) (fault : Fault) (back : D) → item ≡ next_opening (items entries)
+        → (full → (2 ^ 62 ≤ epoch_of (items entries) + 1) ⊎ IsFull gate (next_opening (items entries)))
+        → HasNotAppended keeps obeys file clock since failures plan mid item full fault back → HasNotOpened keeps obeys file clock since failures plan disk told fault back
+    not_opened told item full fault back same spent refused = record {
+      cause = ⊎_elim (λ memory. inl memory) (⊎_elim (λ device. inr (inl (device.0, omega (arith, found.failures_stay, device.1)))) (λ late. inr (inr (reason late)))) refused.cause;
+      any_moment = λ keep. leaves keep back (subst (λ r. LeavesOnly clock since mid back (HoldsOldOrWith (records_in (surface (file mid)).seen) (Some r))) same (refused.any_moment keep));
+      unchanged = ⊎_elim (λ device. inl device) (λ kept. inr (λ keep. ap (λ f. (surface f).seen) kept ∙ ap (λ s. s.seen) (found.clean keep))) refused.unchanged;
+      planned = λ obey never.
+          ⊎_elim (λ memory. inl memory) (⊎_elim (λ device. absurd (refused.planned obey (found.planned obey never) device.0)) (λ late. inr (reason late))) refused.cause;
+    }
+      where
+        reason : (fault ≡ TimeSpent) × full → keeps → IsReason told (surface (file disk)) fault
+        reason late keep = inr (late.0, (items entries, gate, records_are keep, found.ends keep, spent late.1))
+
+  -- a file that holds no log is not taken up
+  pub no_log : (told : Setup) (disk back : D) (fault : Fault)
+      → (fault ≡ WantsMemory) ⊎ (((fault ≡ Device) × (failures disk < failures back)) ⊎ (keeps → log (surface (file disk)).seen ≡ Err fault))
+      → (keeps → LeavesOnly clock since disk back (MayLeave (surface (file disk))))
+      → (fault ≡ Device) ⊎ (keeps → (surface (file back)).seen ≡ (surface (file disk)).seen)
+      → (obeys → plan disk ≡ Never → (fault ≡ WantsMemory) ⊎ (keeps → log (surface (file disk)).seen ≡ Err fault))
+      → HasNotOpened keeps obeys file clock since failures plan disk told fault back
+  no_log told disk back fault cause moment unchanged planned = record {
+    cause = ⊎_elim (λ memory. inl memory) (⊎_elim (λ device. inr (inl device)) (λ none. inr (inr (reason none)))) cause;
+    any_moment = λ keep. weaker clock since disk back (MayLeave (surface (file disk))) (LeavesOpening (surface (file disk))) (moment keep) (λ image left. inl left);
+    unchanged = unchanged;
+    planned = λ obey never. ⊎_elim (λ memory. inl memory) (λ none. inr (reason none)) (planned obey never);
+  }
+    where
+      reason : (keeps → log (surface (file disk)).seen ≡ Err fault) → keeps → IsReason told (surface (file disk)) fault
+      reason none keep = inl (ap (fault_of told) (none keep))

@@ -1,0 +1,95 @@
+-- What an opening finds on a disk, and what it leaves.
+use Rattle.std.specs.Prelude.{◌≡◌, ◌≢◌, ◌⊎◌, ℕ, ◌+◌, ◌<◌, ◌≤◌, ◌^◌, IsTrue, IsFalse, List, [], ◌∷◌, ◌++◌, map, Option, Some, None, Result, Ok, Err}
+use Rattle.units.specs.declared.fault.Fault.{Fault}
+use Rattle.units.specs.declared.fault.Fault.TheVariants.{Memory as WantsMemory, Device, TimeSpent}
+use Rattle.units.specs.declared.setup.Setup.{Setup}
+use Rattle.disk.specs.declared.plan.Plan.{Plan}
+use Rattle.disk.specs.declared.plan.Plan.TheVariants.{Never}
+use Rattle.disk.specs.File.{File, surface}
+use Rattle.disk.specs.Image.{Surface, MayLeave}
+use Rattle.disk.specs.Moments.{LeavesOnly}
+use Rattle.record.specs.Accepted.{Accepted, taken}
+use Rattle.record.specs.Records.{epoch_of}
+use Rattle.record.specs.Facts.{Facts, facts_of}
+use Rattle.record.specs.declared.record.Record.{Record}
+use Rattle.gatelog.specs.Frames.{IsFull, next_gate}
+use Rattle.gatelog.specs.Log.{ends_at, log}
+use Rattle.gatelog.specs.Placed.{Placed}
+use Rattle.protocol.specs.Rows.{rebuilt}
+use Rattle.recovery.specs.Recovered.{fault_in, items}
+use Rattle.shard.specs.Logs.{records_in, and_logged, KeepsRecords, HoldsOldOrWith}
+use Rattle.shard.specs.On.{CoreView, gate_behind}
+
+-- the opening that comes next behind some records
+abbrev pub next_opening : List Record → Record
+next_opening records = Record.Opened (epoch_of records + 1)
+
+abbrev pub opening_of : Result (List Record) Fault → Option Record
+opening_of (Ok records) = Some (next_opening records)
+opening_of (Err fault) = None
+
+-- the records are taken, and these are the facts once the opening is learnt
+abbrev pub IsTaken : Setup → Result (List Record) Fault → Facts → Type 0
+IsTaken setup (Ok records) facts = (taken setup records ≡ Accepted) × (facts ≡ facts_of (records ++ next_opening records ∷ []))
+IsTaken setup (Err fault) facts = ⊥
+
+-- why a log is not taken up: it is none, or its first record that has no place
+abbrev pub fault_of : Setup → Result (List Placed) Fault → Option Fault
+fault_of setup (Ok entries) = fault_in (taken setup (items entries)) entries
+fault_of setup (Err fault) = Some fault
+
+-- what a crash within an opening leaves: no more than one before it, or the records that were read, or these with the opening
+abbrev pub LeavesOpening : Surface → List ℕ → Type 0
+LeavesOpening disk image = MayLeave disk image ⊎ HoldsOldOrWith (records_in disk.seen) (opening_of (records_in disk.seen)) image
+
+-- the opening has no room: epochs are at their limit, or the log is full
+abbrev pub HasNoRoom : Surface → Type 0
+HasNoRoom disk = (records : List Record) × (gate : ℕ) × (records_in disk.seen ≡ Ok records) × IsTrue (ends_at disk.seen gate)
+    × ((2 ^ 62 ≤ epoch_of records + 1) ⊎ IsFull gate (next_opening records))
+
+-- why it is not taken up, where the device did not fail and memory was there
+abbrev pub IsReason : Setup → Surface → Fault → Type 0
+IsReason setup disk fault = (fault_of setup (log disk.seen) ≡ Some fault) ⊎ ((fault ≡ TimeSpent) × HasNoRoom disk)
+
+module _ {D : Type 0} (keeps obeys : Type 0) (file : D → File) (clock : D → ℕ) (since : D → ℕ → List ℕ → Type 0) (failures : D → ℕ) (plan : D → Plan) where
+  -- a record was added to a log that ended at this gate
+  pub record HasAppended (disk : D) (before : ℕ) (item : Record) (core : CoreView D) : Type 0 where
+    pub running : IsFalse core.stopped
+    pub any_moment : keeps → LeavesOnly clock since disk core.disk (HoldsOldOrWith (records_in (surface (file disk)).seen) (Some item))
+    pub durable : keeps → KeepsRecords (surface (file core.disk)) (and_logged (records_in (surface (file disk)).seen) (Some item))
+    pub read : keeps → records_in (surface (file core.disk)).seen ≡ and_logged (records_in (surface (file disk)).seen) (Some item)
+    pub gate : core.gate ≡ next_gate before item
+    pub failures_stay : failures disk ≤ failures core.disk
+    pub planned : obeys → plan disk ≡ Never → plan core.disk ≡ Never
+
+  -- it was not, and the disk is given back
+  pub record HasNotAppended (disk : D) (item : Record) (full : Type 0) (fault : Fault) (back : D) : Type 0 where
+    pub cause : (fault ≡ WantsMemory) ⊎ (((fault ≡ Device) × (failures disk < failures back)) ⊎ ((fault ≡ TimeSpent) × full))
+    pub any_moment : keeps → LeavesOnly clock since disk back (HoldsOldOrWith (records_in (surface (file disk)).seen) (Some item))
+    pub unchanged : (fault ≡ Device) ⊎ (file back ≡ file disk)
+    pub planned : obeys → plan disk ≡ Never → fault ≢ Device
+
+  -- the log of a disk was taken up, and the next opening is logged
+  pub record HasOpened (disk : D) (told : Setup) (core : CoreView D) : Type 0 where
+    pub setup : core.setup ≡ told
+    pub running : IsFalse core.stopped
+    pub taken : keeps → IsTaken told (records_in (surface (file disk)).seen) core.facts
+    -- the rows are those that the log holds, nothing is ended, and the greatest timestamp is the log's
+    pub memory : core.memory ≡ rebuilt core.facts
+    -- a crash at any moment since the start leaves no more than one before, or what was read, or that with the opening
+    pub any_moment : keeps → LeavesOnly clock since disk core.disk (LeavesOpening (surface (file disk)))
+    -- from then on every crash leaves what was read with the opening, and a read gives it
+    pub durable : keeps → KeepsRecords (surface (file core.disk)) (and_logged (records_in (surface (file disk)).seen) (opening_of (records_in (surface (file disk)).seen)))
+    pub read : keeps → records_in (surface (file core.disk)).seen ≡ and_logged (records_in (surface (file disk)).seen) (opening_of (records_in (surface (file disk)).seen))
+    pub gate : keeps → (gate : ℕ) × IsTrue (ends_at (surface (file disk)).seen gate) × (core.gate ≡ gate_behind gate (opening_of (records_in (surface (file disk)).seen)))
+    pub failures_stay : failures disk ≤ failures core.disk
+    pub planned : obeys → plan disk ≡ Never → plan core.disk ≡ Never
+
+  -- it was not, and the disk is given back
+  pub record HasNotOpened (disk : D) (told : Setup) (fault : Fault) (back : D) : Type 0 where
+    pub cause : (fault ≡ WantsMemory) ⊎ (((fault ≡ Device) × (failures disk < failures back)) ⊎ (keeps → IsReason told (surface (file disk)) fault))
+    pub any_moment : keeps → LeavesOnly clock since disk back (LeavesOpening (surface (file disk)))
+    -- but for a device that failed, the file reads as it did
+    pub unchanged : (fault ≡ Device) ⊎ (keeps → (surface (file back)).seen ≡ (surface (file disk)).seen)
+    -- with no call armed, it is for want of memory or for that reason
+    pub planned : obeys → plan disk ≡ Never → (fault ≡ WantsMemory) ⊎ (keeps → IsReason told (surface (file disk)) fault)
