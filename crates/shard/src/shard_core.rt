@@ -1,6 +1,9 @@
 //! The core of a shard.
 ghost use Rattle.std.specs.Prelude.{◌≡◌, ◌⊎◌, ◌<◌, ◌+◌, ◌^◌, [], ◌∷◌, Some, Ok, IsFalse, IfOk, IfErr, length, ◌≤◌, ℕ};
 ghost use Rattle.disk.specs.File.{surface};
+ghost use Rattle.disk.specs.Image.{MayLeave};
+ghost use Rattle.disk.specs.Moments.{LeavesOnly};
+ghost use Rattle.disk.specs.Planned.{armed};
 ghost use Rattle.disk.specs.declared.plan.Plan.TheVariants.{Never};
 ghost use Rattle.gatelog.specs.Frames.{next_gate, IsFull};
 ghost use Rattle.gatelog.specs.Shown.{disk_of, gate_at, is_stopped};
@@ -265,6 +268,18 @@ impl<D: Disk> Core<D> {
         ensures { result.now ≡ (seen self.now).facts.installs }
     {
         self.state.installs()
+    }
+
+    /// For tests: the device call that comes that many calls after the next append begins fails once, or none does. It is
+    /// handed to the disk and changes nothing else, also of a core that is stopped.
+    pub fn arm(&mut self, call: Option<u64>)
+        ensures plan { D.obeys → D.plan (seen self.new).disk ≡ armed call }
+        ensures log { ((seen self.new).gate ≡ (seen self.old).gate) × ((seen self.new).stopped ≡ (seen self.old).stopped) }
+        ensures state { ((seen self.new).setup ≡ (seen self.old).setup) × ((seen self.new).facts ≡ (seen self.old).facts) × ((seen self.new).memory ≡ (seen self.old).memory) }
+        ensures file { (D.file (seen self.new).disk ≡ D.file (seen self.old).disk) × (D.failures (seen self.new).disk ≡ D.failures (seen self.old).disk) }
+        ensures any_moment { LeavesOnly D.clock D.since (seen self.old).disk (seen self.new).disk (MayLeave (surface (D.file (seen self.old).disk))) }
+    {
+        self.gate_log.arm(call);
     }
 
     /// Ends the core, and gives its disk back as it is.

@@ -1,6 +1,6 @@
 //! Shards whose disks crash and are opened again.
 use crate::fixtures::{advance, commit, nudge, outcome, prepare, prepare_of_reader, read, settle};
-use crate::runs::{Told, case, disk_after, look_again, refusal, run_again};
+use crate::runs::{Told, case, disk_after, look_again, refusal, run_again, run_armed};
 use simdisk::SimDisk;
 use std::test::Fail;
 use units::{Fault, Seen};
@@ -86,5 +86,25 @@ fn disks_that_are_not_opened(rt: HostRuntime) -> Result<(), Fail> {
     assert_eq!(rt; refusal(alloc, disk, 0), Some(Fault::Stranger));
     let disk = disk_after(alloc, 0, &[]).ok_or("a run")?;
     assert_eq!(rt; refusal(alloc, disk, 1), None);
+    Ok(())
+}
+
+// A commit whose append meets a failing device call: before the last one the record is hidden, and behind it is there.
+#[test]
+fn a_failing_call_stops_the_core(rt: HostRuntime) -> Result<(), Fail> {
+    let alloc = rt.alloc();
+    let asked = commit(alloc, 1, 0, b"a", b"1");
+    let again = commit(alloc, 1, 0, b"a", b"1");
+    let fails = [
+        case(100, 110, asked, Told::Refused(Fault::Device)),
+        case(100, 110, again, Told::Refused(Fault::Stopped)),
+    ];
+    for call in 0..3 {
+        let found = run_armed(alloc, call, &fails).ok_or("an opening")?;
+        assert!(rt; found.decided == (0, 0) && found.epoch == 2 && found.last == 0);
+    }
+    let found = run_armed(alloc, 3, &fails).ok_or("an opening")?;
+    // Two openings, a commit of 42 bytes between them, and a closed gate.
+    assert!(rt; found.decided == (1, 111) && found.epoch == 2 && found.size == 79);
     Ok(())
 }

@@ -229,3 +229,20 @@ pub fn disk_after(alloc: Global, shard: u8, cases: &[Exchange]) -> Option<SimDis
     let disk = core.stop();
     if met { Some(disk) } else { None }
 }
+
+// Shard 0 is given these while a device call of the next append is to fail, and sees nothing at `a`; then its disk is opened
+// again.
+pub fn run_armed(alloc: Global, call: u64, cases: &[Exchange]) -> Option<Shown> {
+    let mut core = fresh(alloc, SimDisk::new(alloc), setup(alloc, 0, 0))?;
+    core.arm(Some(call));
+    let met = meets_all(&mut core, alloc, cases);
+    let seen = glance(&core, b"a", 0, 1);
+    let disk = core.stop();
+    if !met || !matches!(seen, Some((Ok(Seen::Absent), _))) {
+        return None;
+    }
+    let core = Core::open(alloc, disk, setup(alloc, 0, 0)?).ok()?;
+    let mut shown = show(&core);
+    shown.size = core.stop().len();
+    Some(shown)
+}
