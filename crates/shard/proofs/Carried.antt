@@ -15,7 +15,7 @@ use Rattle.memory.specs.Kept.{Kept}
 use Rattle.memory.specs.Plans.{plan_of}
 use Rattle.memory.specs.declared.plan.Plan.{Plan}
 use Rattle.shard.specs.Due.{IsDue}
-use Rattle.shard.specs.Logs.{and_logged, facts_logged, learned, nothing}
+use Rattle.shard.specs.Logs.{and_logged, facts_logged, nothing}
 
 -- ---- the facts of a log
 

@@ -1,9 +1,7 @@
 -- The next opening behind what a log leaves.
-use Rattle.std.proofs.Common.{◌≡◌, ◌∙◌, ℕ, ◌+◌, ◌^◌, ◌<◌, ◌≤◌, true, IsTrue, List, [], ◌∷◌, ◌++◌, fold, Option, Some, None, Result, Ok, Err, refl, sym, ap, subst, arith, ◌⊎◌, inl, inr}
+use Rattle.std.proofs.Common.{◌≡◌, ◌∙◌, ℕ, ◌+◌, true, [], ◌∷◌, Option, Some, Ok, sym, ap, subst, arith}
 use Rattle.std.proofs.lemmas.Bool.Decides.{nat_tests}
-use Rattle.units.specs.declared.fault.Fault.{Fault}
 use Rattle.record.specs.Facts.{Facts, facts_of, learn}
-use Rattle.record.specs.FactLaws.{LearnAgrees, LearntAgrees, AcceptedFollows, learnt}
 use Rattle.record.specs.Installs.{installs_of}
 use Rattle.record.specs.declared.record.Record.{Record}
 use Rattle.facts.specs.Rules.{follows_facts}
@@ -19,7 +17,7 @@ use Rattle.memory.specs.Plans.{plan_of}
 use Rattle.memory.specs.declared.plan.Plan.{Plan}
 use Rattle.shard.specs.Due.{IsDue}
 use Rattle.units.specs.declared.setup.Setup.{Setup}
-use Rattle.shard.specs.Logs.{and_logged, facts_logged, learned, nothing}
+use Rattle.shard.specs.Logs.{and_logged, facts_logged}
 
 -- one opening is learnt as an opening finds it
 pub first-learnt : facts_logged (and_logged (Ok []) (Some (Record.Opened 1))) ≡ Some (facts_of (Record.Opened 1 ∷ []))

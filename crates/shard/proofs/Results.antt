@@ -1,5 +1,5 @@
 -- What an input that is refused, or that logs nothing, leaves of a core.
-use Rattle.std.proofs.Common.{◌∙◌, ◌≡◌, ◌⊎◌, inl, inr, ℕ, ◌+◌, ◌^◌, ◌≤◌, ◌<◌, true, IsTrue, IsFalse, List, [], Option, Some, None, Result, Ok, Err, IfOk, refl, sym, ap, subst, arith}
+use Rattle.std.proofs.Common.{◌∙◌, ◌≡◌, inl, inr, ℕ, ◌+◌, ◌^◌, ◌≤◌, ◌<◌, true, IsTrue, IsFalse, List, Option, Some, None, Result, Ok, Err, IfOk, refl, sym, subst, arith}
 use Rattle.std.proofs.lemmas.Bool.{false≢true}
 use Rattle.units.specs.declared.fault.Fault.{Fault}
 use Rattle.units.specs.declared.fault.Fault.TheVariants.{Device, Memory as WantsMemory}
@@ -16,7 +16,7 @@ use Rattle.record.specs.Facts.{Facts}
 use Rattle.protocol.specs.Draft.{Stepped, Refuses, Does}
 use Rattle.protocol.specs.Rows.{Memory}
 use Rattle.protocol.specs.Step.{facts_after}
-use Rattle.protocol.specs.Plan.{Planned, stepped, carried}
+use Rattle.protocol.specs.Plan.{Planned, stepped}
 use Rattle.protocol.specs.Refusals.{Owns, is_own}
 use Rattle.memory.specs.Kept.{IsRefusal}
 use Rattle.shard.specs.Logs.{records_in, and_logged, KeepsRecords, HoldsOldOrWith}

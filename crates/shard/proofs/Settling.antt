@@ -1,5 +1,5 @@
 -- A settling that is taken: the decision that it settles is in the log.
-use Rattle.std.proofs.Common.{◌≡◌, ◌∙◌, ℕ, Bool, true, false, cond, ◌+◌, nat_lt, List, [], ◌∷◌, Option, Some, None, Result, Ok, Err, IfOk, OnOk, refl, sym, ap, subst}
+use Rattle.std.proofs.Common.{◌≡◌, ◌∙◌, ℕ, Bool, true, false, cond, nat_lt, List, ◌∷◌, Option, Some, Result, Ok, Err, IfOk, OnOk, refl, sym, ap, subst}
 use Rattle.std.proofs.Math.Logic.{∥∥₁_elim}
 use Rattle.std.proofs.Props.{props}
 use Rattle.std.proofs.lemmas.Bool.{false≢true}
@@ -7,7 +7,7 @@ use Rattle.units.specs.Ids.{Id}
 use Rattle.units.specs.declared.fault.Fault.{Fault}
 use Rattle.units.specs.declared.lock.Lock.{Lock}
 use Rattle.units.specs.declared.writes.Install.{Install}
-use Rattle.disk.specs.Image.{Surface, MayLeave}
+use Rattle.disk.specs.Image.{Surface}
 use Rattle.truetime.specs.Interval.{Interval}
 use Rattle.message.specs.declared.message.Envelope.{Envelope}
 use Rattle.message.specs.declared.message.Input.{Input}
@@ -25,7 +25,7 @@ use Rattle.protocol.proofs.RowChanges.{row_as}
 use Rattle.memory.specs.Kept.{Kept, start_of}
 use Rattle.memory.specs.Plans.{plan_of}
 use Rattle.memory.specs.declared.plan.Plan.{Plan as CodePlan}
-use Rattle.shard.specs.Logs.{records_in, and_logged, facts_logged, KeepsRecords}
+use Rattle.shard.specs.Logs.{and_logged, facts_logged, KeepsRecords}
 use Rattle.shard.specs.Settled.{HasCommit, IsDurablySettled}
 use Rattle.shard.proofs.Commitments.{has-commit}
 

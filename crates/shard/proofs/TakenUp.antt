@@ -1,12 +1,12 @@
 -- What an opening leaves, from what was read, the verdict on it, and what adding the opening's record did.
-use Rattle.std.proofs.Common.{◌≡◌, ◌≢◌, ◌∙◌, ◌⊎◌, inl, inr, ⊎_elim, ℕ, ◌+◌, ◌^◌, ◌<◌, ◌≤◌, true, IsTrue, IsFalse, List, [], ◌∷◌, ◌++◌, fold, Option, Some, None, Result, Ok, Err, refl, sym, ap, subst, arith}
-use Rattle.std.specs.Prelude.{IfOk, IfErr}
+use Rattle.std.proofs.Common.{◌≡◌, ◌∙◌, ◌⊎◌, inl, inr, ⊎_elim, ℕ, ◌+◌, ◌^◌, ◌<◌, ◌≤◌, true, IsTrue, List, [], ◌∷◌, ◌++◌, fold, Some, Result, Ok, Err, refl, sym, ap, subst, arith}
+use Rattle.std.specs.Prelude.{IfOk}
 use Rattle.units.specs.declared.fault.Fault.{Fault}
 use Rattle.units.specs.declared.fault.Fault.TheVariants.{Memory as WantsMemory, Device, TimeSpent}
 use Rattle.units.specs.declared.setup.Setup.{Setup}
 use Rattle.disk.specs.declared.plan.Plan.{Plan}
 use Rattle.disk.specs.declared.plan.Plan.TheVariants.{Never}
-use Rattle.disk.specs.File.{File, surface, synced}
+use Rattle.disk.specs.File.{File, surface}
 use Rattle.disk.specs.Image.{MayLeave, after_sync}
 use Rattle.disk.specs.Moments.{LeavesOnly}
 use Rattle.disk.proofs.Runs.{and_then, weaker}
@@ -18,15 +18,15 @@ use Rattle.record.specs.Records.{epoch_of}
 use Rattle.record.specs.declared.record.Record.{Record}
 use Rattle.facts.specs.Rules.{follows_facts}
 use Rattle.facts.proofs.Known.{follows_as_known}
-use Rattle.gatelog.specs.Frames.{IsFull, next_gate}
+use Rattle.gatelog.specs.Frames.{IsFull}
 use Rattle.gatelog.specs.Log.{ends_at, log}
 use Rattle.gatelog.specs.Placed.{Placed}
 use Rattle.protocol.specs.Rows.{rebuilt}
 use Rattle.recovery.specs.Recovered.{items}
-use Rattle.shard.specs.Logs.{records_in, and_logged, facts_logged, items_of, learned, nothing, KeepsRecords, HoldsOldOrWith}
+use Rattle.shard.specs.Logs.{records_in, and_logged, facts_logged, items_of, nothing, KeepsRecords, HoldsOldOrWith}
 use Rattle.shard.specs.On.{CoreView, gate_behind}
 use Rattle.shard.specs.Opened.{HasAppended, HasNotAppended, HasNotOpened, HasOpened, IsReason, IsTaken, LeavesOpening, fault_of, next_opening, opening_of}
-use Rattle.shard.proofs.Openings.{follows_next, next}
+use Rattle.shard.proofs.Openings.{follows_next}
 
 -- ---- the facts of what was read
 

@@ -1,5 +1,5 @@
 -- What a look at a core answers.
-use Rattle.std.specs.Prelude.{◌≡◌, ◌≤◌, ◌<◌, ℕ, Bool, true, false, IsTrue, IsFalse, nat_eq, List, ◌++◌, drop, length, Option, Some, None, Result, Ok, Err}
+use Rattle.std.specs.Prelude.{◌≡◌, ◌≤◌, ◌<◌, ℕ, Bool, IsTrue, IsFalse, nat_eq, List, ◌++◌, drop, length, Option, Some, None, Result, Ok, Err}
 use Rattle.units.specs.Keys.{Bytes, shard_of}
 use Rattle.units.specs.Versions.{at_time}
 use Rattle.units.specs.declared.fault.Fault.{Fault}

@@ -1,5 +1,5 @@
 -- What stands once a transaction is settled.
-use Rattle.std.specs.Prelude.{◌≡◌, ℕ, Bool, false, IsTrue, ◌&&◌, nat_eq, List, [], ◌∷◌, Some, Result, Ok, Err, IfOk}
+use Rattle.std.specs.Prelude.{◌≡◌, ℕ, Bool, false, IsTrue, ◌&&◌, nat_eq, List, ◌∷◌, Some, Result, Ok, Err, IfOk}
 use Rattle.units.specs.Ids.{Id, same_id}
 use Rattle.units.specs.Lists.{any}
 use Rattle.units.specs.declared.fault.Fault.{Fault}

@@ -1,5 +1,5 @@
-use Rattle.std.proofs.Common.{◌≡◌, ◌∙◌, List, [], ◌∷◌, Some, Ok, sym, ap, subst}
-use Rattle.record.specs.Facts.{Facts, facts_of}
+use Rattle.std.proofs.Common.{◌∙◌, [], Some, Ok, sym, ap}
+use Rattle.record.specs.Facts.{Facts}
 use Rattle.record.specs.declared.record.Record.{Record}
 use Rattle.shard.specs.Logs.{and_logged, facts_logged}
 use Rattle.shard.proofs.Openings.{first-learnt, first-sound}

@@ -1,14 +1,11 @@
-use Rattle.std.proofs.Common.{◌≡◌, ◌∙◌, List, Option, Some, None, Ok, refl, sym, ap, subst}
-use Rattle.message.specs.declared.message.Envelope.{Envelope}
+use Rattle.std.proofs.Common.{◌∙◌, Option, Some, sym, ap}
 use Rattle.record.specs.Facts.{Facts}
 use Rattle.record.specs.declared.record.Record.{Record}
-use Rattle.protocol.specs.Draft.{Does}
 use Rattle.protocol.specs.Step.{facts_after}
 use Rattle.protocol.specs.Plan.{carried}
 use Rattle.memory.specs.Plans.{plan_of}
 use Rattle.shard.specs.Core.{seen}
 use Rattle.shard.specs.Logs.{facts_logged}
-use Rattle.shard.specs.On.{HasStepped}
 use Rattle.shard.proofs.Carried.{can_carry, memory_after, facts_then, sound_then, facts-logged}
 use Rattle.shard.proofs.Results.{served_as, logged_as}
 use Rattle.shard.proofs.shard_core.Core.carry_out.Goals as goal

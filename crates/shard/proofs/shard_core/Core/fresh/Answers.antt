@@ -1,13 +1,6 @@
-use Rattle.std.proofs.Common.{◌≡◌, ℕ, List, [], ◌∷◌, Some, Ok, Result, sym, ap, subst, ◌∙◌}
-use Rattle.units.specs.declared.fault.Fault.{Fault}
-use Rattle.gatelog.specs.Placed.{Placed}
-use Rattle.record.specs.declared.record.Record.{Record}
-use Rattle.record.specs.Facts.{Facts, facts_of, learn}
-use Rattle.record.specs.Installs.{installs_of}
-use Rattle.units.specs.declared.setup.Setup.{Setup}
-use Rattle.protocol.specs.Rows.{Memory}
-use Rattle.protocol.specs.Sound.{IsSound, FreshIsSound}
-use Rattle.shard.specs.Logs.{items_of, and_logged, facts_logged}
+use Rattle.std.proofs.Common.{Some, sym, ap, ◌∙◌}
+use Rattle.record.specs.Facts.{Facts}
+use Rattle.shard.specs.Logs.{facts_logged}
 use Rattle.shard.proofs.Openings.{first-learnt, first-sound}
 use Rattle.shard.proofs.shard_core.Core.fresh.Goals as goal
 

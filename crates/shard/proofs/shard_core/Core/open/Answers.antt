@@ -1,10 +1,7 @@
-use Rattle.std.proofs.Common.{rules, ◌≡◌, ◌∙◌, ◌⊎◌, inl, inr, ℕ, ◌+◌, ◌^◌, ◌≤◌, List, [], ◌∷◌, ◌++◌, Some, Ok, Err, sym, ap, subst, refl}
-use Rattle.std.specs.Prelude.{Result, IfOk, IfErr}
+use Rattle.std.proofs.Common.{rules, ◌≡◌, ◌∙◌, inr, ◌+◌, [], Some, Ok, Err, sym, ap, subst}
+use Rattle.std.specs.Prelude.{IfErr}
 use Rattle.std.proofs.lemmas.Result.{IfErr-weaker}
-use Rattle.units.specs.declared.fault.Fault.{Fault}
-use Rattle.units.specs.declared.setup.Setup.{Setup}
-use Rattle.record.specs.Accepted.{Accepted, taken}
-use Rattle.record.specs.Facts.{Facts, facts_of, learn}
+use Rattle.record.specs.Facts.{facts_of}
 use Rattle.record.specs.declared.record.Record.{Record}
 use Rattle.gatelog.specs.Frames.{IsFull}
 use Rattle.gatelog.specs.Shown.{disk_of, gate_at}
@@ -12,7 +9,7 @@ use Rattle.protocol.specs.Rows.{rebuilt}
 use Rattle.recovery.specs.Recovered.{IsRebuilt, items}
 use Rattle.shard.specs.Core.{seen}
 use Rattle.shard.specs.Logs.{facts_logged}
-use Rattle.shard.specs.Opened.{HasNotOpened, HasOpened, next_opening}
+use Rattle.shard.specs.Opened.{HasNotOpened, next_opening}
 use Rattle.shard.proofs.TakenUp.{Found, epoch_of_facts, facts_are, facts_then, first_is, first_memory, first_records, from_four, room_spent, no_log, not_opened, opened, records_are, same_records}
 use Rattle.shard.proofs.shard_core.Core.open.Goals as goal
 

@@ -1,4 +1,4 @@
-use Rattle.std.proofs.Common.{◌≡◌, ◌∙◌, ◌+◌, [], Some, sym, ap, subst}
+use Rattle.std.proofs.Common.{◌≡◌, ◌∙◌, ◌+◌, [], Some, ap}
 use Rattle.protocol.specs.Plan as protocol
 use Rattle.memory.specs.Plans.{plan_of}
 use Rattle.record.specs.declared.record.Record.{Record}
