@@ -1,9 +1,7 @@
 -- A row that was taken in for a plan leaves no trace of itself, and the plan still fits.
 use Rattle.std.proofs.Common.{◌≡◌, ◌∙◌, ℕ, ◌≤◌, Bool, true, false, nat_lt, List, [], Option, Some, None, length, refl, sym, ap, subst}
-use Rattle.units.specs.Lists.{when}
 use Rattle.units.specs.Ids.{Id}
-use Rattle.units.specs.ById.{IsById}
-use Rattle.units.specs.Locks.{Claim, is_free, others, wounded, with_locks}
+use Rattle.units.specs.Locks.{is_free, wounded, with_locks}
 use Rattle.units.specs.declared.lock.Lock.{Lock}
 use Rattle.units.specs.declared.setup.Setup.{Setup}
 use Rattle.record.specs.Facts.{Facts}
@@ -15,9 +13,7 @@ use Rattle.protocol.proofs.PlanRows.{Ascend, AllOther, with_row-twice, find-with
 use Rattle.rows.specs.CodeRows.{is_reading, phase_of_wait}
 use Rattle.rows.specs.RowTable.{put_row}
 use Rattle.memory.specs.Carry.{AdmissionIsUnseen, ReadyIsCarriable, FitsRows, MayFollow, MayInstall, Asks, asker, admitted}
-use Rattle.memory.specs.Kept.{Kept}
 use Rattle.memory.specs.Plans.{change_of, phase_logged, collecting}
-use Rattle.memory.specs.declared.plan.Plan.{Plan}
 use Rattle.memory.specs.declared.plan.Change.{Change}
 use Rattle.memory.specs.declared.plan.Change.TheVariants.{Keeps, Ends, Drops, Reads, Waits, Collects, Counts, Stands, Decides}
 

@@ -1,15 +1,15 @@
 -- Who may ask for locks, and what the one that is ready may do.
-use Rattle.std.proofs.Common.{◌≡◌, ℕ, nat_le, nat_lt, Bool, true, false, ◌&&◌, not, List, [], ◌∷◌, length, Option, Some, None, IfSome, IsTrue, refl, sym, ap, subst, ◌∙◌, arith}
+use Rattle.std.proofs.Common.{◌≡◌, ℕ, nat_le, nat_lt, Bool, true, false, ◌&&◌, not, List, [], ◌∷◌, length, Option, Some, None, IfSome, refl, sym, ap, subst, ◌∙◌, arith}
 use Rattle.std.proofs.lemmas.Bool.{false≢true}
 use Rattle.std.proofs.lemmas.Bool.Decides.{nat_tests}
-use Rattle.units.specs.Lists.{any, keep, first, mapped}
+use Rattle.units.specs.Lists.{any, mapped}
 use Rattle.units.specs.Ids.{Id, same_id}
 use Rattle.units.specs.ById.{IsById, find_member}
-use Rattle.units.specs.Locks.{Claim, is_free, is_waiting, wounded, blockers, waits_before, may_wound, ready}
-use Rattle.units.specs.LockLaws.{IsReady, IsOldestReady}
+use Rattle.units.specs.Locks.{Claim, is_free, is_waiting, wounded, blockers, ready}
+use Rattle.units.specs.LockLaws.{IsOldestReady}
 use Rattle.units.specs.declared.lock.Lock.{Lock}
 use Rattle.locks.proofs.Oldest.{ready_is_oldest}
-use Rattle.protocol.specs.Rows.{Row, Phase, Idle, WaitsRead, WaitsPrepare, WaitsCommit, Collecting, IsPrepared, IsDecided, claim_of, claims, find_row, is_firm, needs_of}
+use Rattle.protocol.specs.Rows.{Row, Phase, Idle, WaitsRead, WaitsPrepare, WaitsCommit, Collecting, IsPrepared, IsDecided, claim_of, claims, find_row, needs_of}
 use Rattle.protocol.specs.Plan.{Before, is_crowded}
 use Rattle.protocol.proofs.RowTable.{claims-by_id, claims-find_row}
 use Rattle.protocol.proofs.InWay.{free_when_ready}

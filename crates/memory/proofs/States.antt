@@ -1,22 +1,21 @@
 -- What the readers of a state and its planners say of the rows.
-use Rattle.std.proofs.Common.{◌≡◌, ℕ, nat_le, Bool, true, false, ◌&&◌, ◌||◌, not, cond, List, [], ◌∷◌, ◌++◌, length, drop, get_or, ◌<◌, ◌+◌, Option, Some, None, Result, Ok, Err, IfOk, IfErr, refl, sym, ap, subst, ◌∙◌}
+use Rattle.std.proofs.Common.{◌≡◌, ℕ, nat_le, Bool, true, false, ◌&&◌, ◌||◌, not, cond, List, [], ◌∷◌, length, drop, get_or, ◌<◌, ◌+◌, Option, Some, None, Result, Ok, Err, IfOk, IfErr, refl, sym, ap, subst, ◌∙◌}
 use Rattle.std.specs.Option.{MatchOption, is_some}
 use Rattle.std.proofs.lemmas.Bool.{false≢true}
 use Rattle.std.proofs.lemmas.List.{at_drop_more}
 use Rattle.units.specs.Lists.{any, head, keep, first}
 use Rattle.units.specs.Ids.{Id, same_id, has_id}
 use Rattle.units.specs.ById.{IsById}
-use Rattle.units.specs.Locks.{Claim, is_free, wounded, exclusive}
+use Rattle.units.specs.Locks.{Claim, is_free, exclusive}
 use Rattle.units.specs.declared.lock.Lock.{Lock}
 use Rattle.units.specs.declared.writes.Write.{Write}
 use Rattle.units.specs.declared.lock.Mode.TheVariants.{Exclusive}
 use Rattle.units.specs.declared.fault.Fault.{Fault}
 use Rattle.record.specs.Records.{Status}
 use Rattle.record.specs.Facts.{recorded}
-use Rattle.protocol.specs.Rows.{Row, Standing, HasRow, standing, standing_by, claims, find_row, without_row}
-use Rattle.protocol.specs.Plan.{Before, Plan, Planned, stands, opens, is_crowded, in_way, without_rows}
+use Rattle.protocol.specs.Rows.{Row, Standing, HasRow, standing, standing_by, claims, find_row}
+use Rattle.protocol.specs.Plan.{Before, Plan, Planned, stands, opens, is_crowded, in_way}
 use Rattle.protocol.proofs.RowTable.{claims-by_id}
-use Rattle.locks.specs.Table.{without_claims}
 use Rattle.rows.proofs.Steps.{claims-without_rows}
 use Rattle.memory.specs.Kept.{Kept, start_of, IsPast, IsPlanned, IsRefusal, standing_of}
 use Rattle.memory.specs.Plans.{plan_of}

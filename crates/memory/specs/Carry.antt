@@ -1,5 +1,5 @@
 -- What a plan needs of the state that it is carried out in, and what is made ready for it.
-use Rattle.std.specs.Prelude.{◌≡◌, ◌≤◌, ◌<◌, ◌+◌, ℕ, Bool, true, false, nat_lt, List, [], ◌∷◌, Option, Some, None, length}
+use Rattle.std.specs.Prelude.{◌≡◌, ◌≤◌, ◌<◌, ◌+◌, ℕ, Bool, true, false, nat_lt, List, [], Option, Some, None, length}
 use Rattle.units.specs.ById.{IsById}
 use Rattle.units.specs.Ids.{Id}
 use Rattle.units.specs.Locks.{is_free, wounded}
@@ -8,13 +8,11 @@ use Rattle.units.specs.declared.writes.Write.{Write}
 use Rattle.record.specs.Facts.{Facts, recorded}
 use Rattle.record.specs.declared.record.Record.{Record}
 use Rattle.facts.specs.Rules.{follows_facts}
-use Rattle.locks.specs.Table.{Token}
 use Rattle.protocol.specs.Rows.{Row, Memory, Idle, claims, find_row, needs_of}
 use Rattle.protocol.specs.Plan.{held_in, without_rows, carried}
 use Rattle.rows.specs.CodeRows.{is_reading, is_collecting, is_idle, may_decide, may_abort, may_close, phase_of_wait}
 use Rattle.rows.specs.RowTable.{RowTable, put_row, has_phase, room}
 use Rattle.rows.specs.declared.row.Row.{Row as CodeRow}
-use Rattle.rows.specs.States.{is_prepare_of, is_commit_of, is_abort_of, is_outcome_of}
 use Rattle.memory.specs.Kept.{Kept}
 use Rattle.memory.specs.Ledger.{writes_standing, CanInstall}
 use Rattle.memory.specs.Plans.{plan_of}

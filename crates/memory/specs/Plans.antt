@@ -1,5 +1,5 @@
 -- A plan of the code as one of the protocol.
-use Rattle.std.specs.Prelude.{◌≡◌, ℕ, List, [], ◌∷◌, Option, Some, None}
+use Rattle.std.specs.Prelude.{ℕ, List, [], ◌∷◌, Option, Some, None}
 use Rattle.units.specs.Ids.{Id}
 use Rattle.units.specs.declared.lock.Lock.{Lock}
 use Rattle.record.specs.declared.record.Record.{Record}
@@ -7,7 +7,7 @@ use Rattle.message.specs.declared.message.Envelope.{Envelope}
 use Rattle.rows.specs.CodeRows.{phase_of_wait}
 use Rattle.rows.specs.RowTable.{phase_by}
 use Rattle.rows.specs.declared.wait.CommitRequest.{CommitRequest}
-use Rattle.protocol.specs.Rows.{Phase, Row, Voted, Idle, WaitsRead, WaitsPrepare, WaitsCommit, Collecting, IsPrepared, IsDecided, find_row}
+use Rattle.protocol.specs.Rows.{Phase, Row, Voted, Idle, Collecting, find_row}
 use Rattle.protocol.specs.Draft.{vote_to}
 use Rattle.protocol.specs.Step.{with_vote}
 use Rattle.protocol.specs.Plan as protocol

@@ -1,5 +1,5 @@
-use Rattle.std.proofs.Common.{◌≡◌, ◌∙◌, sym, ap, subst, None}
-use Rattle.protocol.specs.Rows.{find_row, without_row}
+use Rattle.std.proofs.Common.{◌≡◌, ◌∙◌, sym, subst, None}
+use Rattle.protocol.specs.Rows.{find_row}
 use Rattle.memory.specs.Served.{IsHolding}
 use Rattle.memory.proofs.Carried.{none_found, some_found, asks_reading, put_reads, put_and_gone, holding_admitted}
 use Rattle.memory.proofs.carry.admit.Goals as goal

@@ -1,4 +1,4 @@
-use Rattle.std.proofs.Common.{◌≡◌, ◌<◌, ◌∙◌, sym, ap, subst, Some}
+use Rattle.std.proofs.Common.{◌<◌, sym, subst, Some}
 use Rattle.record.specs.Facts.{Facts}
 use Rattle.memory.specs.Carry.{MayFollow}
 use Rattle.memory.proofs.Logged.{stays_opened}

@@ -1,4 +1,4 @@
-use Rattle.std.proofs.Common.{◌≡◌, ◌∙◌, ◌&&◌, ◌+◌, ap, sym, drop, true, false, arith, subst, [], ◌∷◌, List}
+use Rattle.std.proofs.Common.{◌∙◌, ◌&&◌, ◌+◌, ap, sym, drop, arith, subst, List}
 use Rattle.std.proofs.lemmas.List.{at_drop_all}
 use Rattle.units.specs.ById.{IsById}
 use Rattle.units.specs.Locks.{exclusive}

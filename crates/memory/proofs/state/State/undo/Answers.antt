@@ -1,4 +1,4 @@
-use Rattle.std.proofs.Common.{◌≡◌, ◌∙◌, sym, ap, subst, true, Some}
+use Rattle.std.proofs.Common.{◌≡◌, ◌∙◌, sym, ap, subst, true}
 use Rattle.protocol.specs.Rows.{Memory}
 use Rattle.rows.specs.CodeRows.{is_reading}
 use Rattle.rows.specs.RowTable.{has_phase}
