@@ -1,6 +1,6 @@
 -- Every transaction is whole over logs that a crash may leave.
 use Rattle.std.proofs.Common.{◌≡◌, ◌≢◌, inl, inr, ℕ, zero, suc, ◌<◌, ◌≤◌, Bool, true, false, not, cond, ◌&&◌, ◌||◌, nat_eq, nat_lt, nat_le, List, [], ◌∷◌, length, Option, Some, None, slice_get, refl, sym, ap, subst, ◌∙◌, arith}
-use Rattle.std.proofs.lemmas.Bool.{cases_eq}
+use Rattle.std.proofs.lemmas.Bool.{cases_eq, and_from}
 use Rattle.std.proofs.lemmas.Bool.Decides.{nat_tests}
 use Rattle.units.specs.Lists.{any, each, gather, has, head, when}
 use Rattle.units.specs.Ids.{Id, same_id}
@@ -18,10 +18,6 @@ use Rattle.world.proofs.Recorded.{among_keep, promise_among, outcome_among, is_a
 use Rattle.world.proofs.Homes.{log_in, decision_home, not_both, no_aborted, outcome_decided, outcome_stamp, promised, promise_of_part, is_orderly}
 use Rattle.world.proofs.Decisions.{decision_stands, stands_decided, one_decided, one_promise_in, log_of_number, log_in-is, there_in}
 use Rattle.world.proofs.Picked.{each_of, keep_among, kept_passes, gather_among, AtMostOne, is_none, is_single}
-
-and_true : (a b : Bool) → a ≡ true → b ≡ true → (a && b) ≡ true
-and_true true b e f = f
-and_true false b e f = cc
 
 place_within : {A : Type 0} (xs : List A) (n : ℕ) (x : A) → slice_get xs n ≡ Some x → n < length xs
 place_within [] n x e = cc
@@ -65,7 +61,7 @@ module _ (sc : Scene) (h : Holds sc) (logs : List (List Record)) (left : AreLeft
 
       each_place : (ls : List (List Record)) (test : List Record → Bool) → ((n : ℕ) (log : List Record) → slice_get ls n ≡ Some log → test log ≡ true) → each test ls ≡ true
       each_place [] test k = refl
-      each_place (l ∷ ls) test k = and_true (test l) (each test ls) (k 0 l refl) (each_place ls test (λ n log e. k (suc n) log e))
+      each_place (l ∷ ls) test k = and_from (test l) (each test ls) (k 0 l refl) (each_place ls test (λ n log e. k (suc n) log e))
 
       each_of_places : ((n : ℕ) (log : List Record) → slice_get logs n ≡ Some log → ends_at log t (λ s. false) ≡ true) → each (λ l. ends_at l t (λ s. false)) logs ≡ true
       each_of_places k = each_place logs (λ l. ends_at l t (λ s. false)) k
@@ -141,7 +137,7 @@ module _ (sc : Scene) (h : Holds sc) (logs : List (List Record)) (left : AreLeft
             cc
 
     fits_log : (m : ℕ) → fits_decision t d (m, log_in logs m) ≡ true
-    fits_log m = and_true _ _ (and_true _ _ (not_turned m) (ends_here m)) (by_place (nat_eq m d.shard) refl (has d.commit.parts m) refl)
+    fits_log m = and_from _ _ (and_from _ _ (not_turned m) (ends_here m)) (by_place (nat_eq m d.shard) refl (has d.commit.parts m) refl)
       where
         by_place : (b : Bool) → nat_eq m d.shard ≡ b → (c : Bool) → has d.commit.parts m ≡ c →
             cond b true (cond c (is_promise_for d (promises (log_in logs m) t)) (nat_eq (length (promises (log_in logs m) t)) 0)) ≡ true
@@ -153,7 +149,7 @@ module _ (sc : Scene) (h : Holds sc) (logs : List (List Record)) (left : AreLeft
         by_place false e false k = no_promise m k
 
     decided_whole : (when (nat_eq d.shard) (head d.commit.parts) && parts_exist logs d && each (fits_decision t d) (by_shard logs)) ≡ true
-    decided_whole = and_true _ _ (and_true _ _ (when_head d.commit.parts d.shard (decision_home sc h logs left d.shard d.commit stands).1) parts_are_there)
+    decided_whole = and_from _ _ (and_from _ _ (when_head d.commit.parts d.shard (decision_home sc h logs left d.shard d.commit stands).1) parts_are_there)
         (each_of (fits_decision t d) (by_shard logs) (λ p k. here p (log_in-is logs p.0 p.1 (log_of_number logs p k))))
       where
         here : (p : ℕ × List Record) → log_in logs p.0 ≡ p.1 → fits_decision t d p ≡ true

@@ -1,7 +1,7 @@
 -- What holds of a single shard meets the premises of the laws of whole runs.
 use Rattle.std.proofs.Common.{◌≡◌, ◌≤◌, ℕ, ◌+◌, Bool, true, ◌&&◌, nat_le, nat_lt, List, [], ◌∷◌, ◌++◌, length, Some, refl, sym, ◌∙◌, arith}
 use Rattle.std.specs.Prelude.{Ok}
-use Rattle.std.proofs.lemmas.Bool.{leb-true}
+use Rattle.std.proofs.lemmas.Bool.{leb-true, and_from}
 use Rattle.units.specs.ById.{IsById}
 use Rattle.units.specs.declared.setup.Setup.{Setup}
 use Rattle.truetime.specs.Interval.{Interval}
@@ -70,9 +70,6 @@ fresh : (setup : Setup) → IsWell setup (facts_of fresh_log) (rebuilt (facts_of
 unfolding rebuilt facts_of
 fresh setup = record { sound = fresh_is_sound setup.shard; own = refl; few = omega arith }
 
-and_true : (a b : Bool) → a ≡ true → b ≡ true → (a && b) ≡ true
-and_true a b e f = cc
-
 -- what it logs is taken
 logs : (setup : Setup) (log : List Record) (m : Memory) (now : Interval) (i : Input) (p : Plan) (r : Record) → taken setup log ≡ Accepted →
     IsWell setup (facts_of log) m → plan_input setup (before 1024 setup (facts_of log) m) now i ≡ Ok p → p.logged ≡ Some r → taken setup (log ++ r ∷ []) ≡ Accepted
@@ -83,7 +80,7 @@ logs setup log m now i p r h well e logged =
     let next = both (followed setup.shard log) (begins log r && follows setup.shard log r) (sym (followed_more setup.shard log r) ∙ with_it) in
     taken_more setup log r h (record {
       own = logged_belongs 1024 setup (facts_of log) m now i p r well.own e logged;
-      fits = and_true (begins log r && follows setup.shard log r) (fits_beside log r) next.1 (logged_fits_beside setup log m now i p r well.sound well.few e logged);
+      fits = and_from (begins log r && follows setup.shard log r) (fits_beside log r) next.1 (logged_fits_beside setup log m now i p r well.sound well.few e logged);
     })
 
 -- ---- the events

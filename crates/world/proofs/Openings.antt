@@ -1,5 +1,6 @@
 -- A log with one more record is taken, and an opening may always come next.
 use Rattle.std.proofs.Common.{◌≡◌, ℕ, ◌+◌, Bool, true, false, not, cond, ◌&&◌, nat_eq, List, [], ◌∷◌, ◌++◌, refl, sym, subst, ◌∙◌, arith, append_assoc}
+use Rattle.std.proofs.lemmas.Bool.{and_from}
 use Rattle.std.proofs.lemmas.Bool.Decides.{nat_tests}
 use Rattle.units.specs.declared.setup.Setup.{Setup}
 use Rattle.units.proofs.Folds.{append_none}
@@ -7,10 +8,6 @@ use Rattle.record.specs.Accepted.{Taken, Accepted, DamagedAt, StrangerAt, taken,
 use Rattle.record.specs.Facts.{facts_of}
 use Rattle.record.proofs.LearnAgrees.{followed_more}
 use Rattle.record.specs.declared.record.Record.{Record}
-
-and_true : (a b : Bool) → a ≡ true → b ≡ true → (a && b) ≡ true
-and_true true b e f = f
-and_true false b e f = cc
 
 same_number : (k : ℕ) → nat_eq k k ≡ true
 same_number k = grind (arith, nat_tests)
@@ -23,7 +20,7 @@ first_begins (r ∷ rs) epoch = refl
 pub opening_follows : (shard : ℕ) (log : List Record) → followed shard log ≡ true → followed shard (log ++ Record.Opened ((facts_of log).epoch + 1) ∷ []) ≡ true
 unfolding follows facts_of
 opening_follows shard log h =
-    followed_more shard log (Record.Opened ((facts_of log).epoch + 1)) ∙ and_true _ _ h (and_true _ _ (first_begins log ((facts_of log).epoch + 1)) (same_number ((facts_of log).epoch + 1)))
+    followed_more shard log (Record.Opened ((facts_of log).epoch + 1)) ∙ and_from _ _ h (and_from _ _ (first_begins log ((facts_of log).epoch + 1)) (same_number ((facts_of log).epoch + 1)))
 
 -- ---- what is taken
 
@@ -66,5 +63,5 @@ pub opening_taken : (setup : Setup) (log : List Record) → taken setup log ≡ 
 unfolding follows facts_of belongs fits_beside
 opening_taken setup log h = taken_more setup log (Record.Opened ((facts_of log).epoch + 1)) h (record {
   own = refl;
-  fits = and_true _ _ (and_true _ _ (first_begins log ((facts_of log).epoch + 1)) (same_number ((facts_of log).epoch + 1))) refl;
+  fits = and_from _ _ (and_from _ _ (first_begins log ((facts_of log).epoch + 1)) (same_number ((facts_of log).epoch + 1))) refl;
 })

@@ -1,7 +1,7 @@
 -- A run of some events and of one more.
 use Rattle.std.proofs.Common.{◌≡◌, ◌⊎◌, inl, inr, ℕ, suc, ◌+◌, ◌<◌, ◌≤◌, ◌^◌, Bool, true, false, ◌&&◌, cond, nat_le, List, [], ◌∷◌, ◌++◌, length, take, drop, get_or, Some, Result, Ok, Err, IfOk, refl, sym, ap, ◌∙◌, subst, arith}
 use Rattle.std.proofs.Math.Seq.{drop-cons}
-use Rattle.std.proofs.lemmas.List.{length-take-le, take-append-drop, take_more}
+use Rattle.std.proofs.lemmas.List.{length-take-le, take-append-drop, take_more, length_push}
 use Rattle.units.specs.declared.fault.Fault.{Fault}
 use Rattle.units.specs.declared.fault.Fault.TheVariants.{Memory, BadRequest}
 use Rattle.units.specs.declared.fault.Reason.TheVariants.{Many, Unlawful}
@@ -67,10 +67,6 @@ pub none_played : (config : Config) (r : Run) (answers : List Reply) → IsRun 0
 unfolding run lawful replies start
 none_played config r answers h none = record { fair = refl; event = refl; stands = h; told = none }
 
-length_more : {A : Type 0} (xs : List A) (x : A) → length (xs ++ x ∷ []) ≡ length xs + 1
-length_more [] x = refl
-length_more (y ∷ xs) x = let rest = length_more xs x in omega (arith, rest)
-
 module _ (config : Config) (es : List Event) (r new : Run) (answers : List Reply) (h : HasPlayed config es r answers) where
   pub steady : IsSteady (run config es)
   steady = is_steady config es h.fair
@@ -79,7 +75,7 @@ module _ (config : Config) (es : List Event) (r new : Run) (answers : List Reply
   unfolding run lawful replies
   one_played e reply t =
       let same = run_more (start config) es e in
-      let long = length_more es e in
+      let long = length_push es e in
       let event = h.event in
       let long_event : suc (run config es).event ≡ length (es ++ e ∷ []) = omega (arith, event, long) in
       record {
