@@ -66,15 +66,35 @@ fn outcome(number: u64, at: u64) -> Option<Record> {
     })
 }
 
+fn append(log: &mut GateLog<SimDisk>, alloc: Global, record: &Record) -> Option<()> {
+    let staged = log.stage(alloc, record).ok()?;
+    let _ = log.append(staged).ok()?.spend();
+    Some(())
+}
+
+fn read_back(alloc: Global, log: GateLog<SimDisk>) -> Option<Vec<Entry>> {
+    let (_, entries) = GateLog::open(alloc, log.into_disk()).ok()?;
+    Some(entries)
+}
+
 // The entries of a log of these records. There are none where a record is missing.
 fn entries(alloc: Global, records: &[Option<Record>]) -> Option<Vec<Entry>> {
     let mut log = GateLog::format(SimDisk::new(alloc)).ok()?;
     for record in records {
-        let staged = log.stage(alloc, record.as_ref()?).ok()?;
-        let _ = log.append(staged).ok()?.spend();
+        append(&mut log, alloc, record.as_ref()?)?;
     }
-    let (_, entries) = GateLog::open(alloc, log.into_disk()).ok()?;
-    Some(entries)
+    read_back(alloc, log)
+}
+
+// The entries of a log with so many promises, each of a key of its own of three bytes.
+fn crowd(alloc: Global, count: u64) -> Option<Vec<Entry>> {
+    let mut log = GateLog::format(SimDisk::new(alloc)).ok()?;
+    append(&mut log, alloc, &opened(1)?)?;
+    for number in 0..count {
+        let key = [b'z', (number / 256 % 256) as u8, (number % 256) as u8];
+        append(&mut log, alloc, &prepare(alloc, number, 200, &key)?)?;
+    }
+    read_back(alloc, log)
 }
 
 // What a log leaves: the first that is prepared and the first that is decided, each by its number and timestamp (0 where there
@@ -113,8 +133,16 @@ fn left(
     number: u8,
     records: &[Option<Record>],
 ) -> Option<Result<Option<Shown>, Fault>> {
-    let entries = entries(alloc, records)?;
-    match rebuild(alloc, &entries, &setup(alloc, number)?) {
+    outcome_of(alloc, number, &entries(alloc, records)?)
+}
+
+// What these entries leave, or why they are refused.
+fn outcome_of(
+    alloc: Global,
+    number: u8,
+    entries: &[Entry],
+) -> Option<Result<Option<Shown>, Fault>> {
+    match rebuild(alloc, entries, &setup(alloc, number)?) {
         Ok(Some(state)) => {
             let left = seen(&state);
             state.stop();
@@ -232,5 +260,27 @@ fn what_has_no_place_is_damage(rt: HostRuntime) -> Result<(), Fail> {
             Some(Err(Fault::Damaged { offset: 95 }))
         )
     );
+    Ok(())
+}
+
+// 1,024 rows may stand, and no more.
+#[test]
+fn a_full_table(rt: HostRuntime) -> Result<(), Fail> {
+    let alloc = rt.alloc();
+    let full = crowd(alloc, 1024).ok_or("a log")?;
+    let found = outcome_of(alloc, 1, &full).ok_or("a shard")?;
+    assert!(rt;
+        matches!(
+            found,
+            Ok(Some(Shown {
+                prepared: (0, 200),
+                ..
+            }))
+        )
+    );
+    let over = crowd(alloc, 1025).ok_or("a log")?;
+    // Each frame has 43 bytes; the first stands behind that of the opening, at 22.
+    let damaged = Some(Err(Fault::Damaged { offset: 44_054 }));
+    assert_eq!(rt; outcome_of(alloc, 1, &over), damaged);
     Ok(())
 }
