@@ -61,18 +61,8 @@ impl<D: Disk> Core<D> {
         // With no call armed the device does not fail.
         ensures planned { D.obeys → D.plan disk ≡ Never → IfOk result (λ core. D.plan (seen core).disk ≡ Never) × IfErr result (λ refused. refused.0 ≡ Fault.Memory) }
     {
-        fresh_is_sound();
-        let state = match State::fresh(alloc, setup) {
-            Ok(state) => state,
-            Err(fault) => return Err((fault, disk)),
-        };
-        match first_log(alloc, disk) {
-            Ok(gate_log) => Ok(Core { gate_log, state }),
-            Err(refused) => {
-                state.stop();
-                Err(refused)
-            }
-        }
+        let gate_log = GateLog::format(disk)?;
+        Core::begin(alloc, gate_log, setup)
     }
 
     /// Takes up the log of a disk, and logs the next opening. What a log leaves is the rows of its promises and decisions that
@@ -289,28 +279,6 @@ impl<D: Disk> Core<D> {
         let Core { gate_log, state } = self;
         state.stop();
         gate_log.into_disk()
-    }
-}
-
-// A new log that has the first opening.
-fn first_log<D: Disk>(alloc: Global, disk: D) -> Result<GateLog<D>, (Fault, D)>
-    ensures running { IfOk result (λ made. IsFalse (is_stopped made)) }
-    ensures gate { IfOk result (λ made. gate_at made ≡ next_gate 8 (Record.Opened 1)) }
-    ensures durable { IfOk result (λ made. D.keeps_model → KeepsRecords (surface (D.file (disk_of made))) (Ok (Record.Opened 1 ∷ []))) }
-    ensures read { IfOk result (λ made. D.keeps_model → records_in (surface (D.file (disk_of made))).seen ≡ Ok (Record.Opened 1 ∷ [])) }
-    ensures cause { IfErr result (λ refused. (refused.0 ≡ Fault.Memory) ⊎ ((refused.0 ≡ Fault.Device) × (D.failures disk < D.failures refused.1))) }
-    ensures planned { D.obeys → D.plan disk ≡ Never → IfOk result (λ made. D.plan (disk_of made) ≡ Never) × IfErr result (λ refused. refused.0 ≡ Fault.Memory) }
-{
-    let mut gate_log = GateLog::format(disk)?;
-    let opened = Record::Opened {
-        epoch: Epoch::first(),
-    };
-    match append_record(&mut gate_log, alloc, &opened) {
-        Ok(logged) => {
-            let _ = logged.spend();
-            Ok(gate_log)
-        }
-        Err(fault) => Err((fault, gate_log.into_disk())),
     }
 }
 
