@@ -13,8 +13,7 @@ use Rattle.record.specs.Facts.{Facts, learn}
 use Rattle.record.specs.declared.record.Record.{Record}
 use Rattle.message.specs.declared.message.Envelope.{Envelope}
 use Rattle.message.specs.declared.message.Input.{Input}
-use Rattle.protocol.specs.Draft.{Stepped, Refuses}
-use Rattle.protocol.specs.Step.{step}
+use Rattle.protocol.specs.Step.{Stepped, Refuses, step}
 use Rattle.gatelog.specs.Frames.{IsFull}
 use Rattle.disk.specs.File.{File, surface}
 use Rattle.simdisk.specs.State.{disk_file, disk_plan, disk_clock, disk_failures, LeftSince}

@@ -9,8 +9,8 @@ use Rattle.disk.specs.declared.plan.Plan.TheVariants.{Never}
 use Rattle.record.specs.declared.record.Record.{Record}
 use Rattle.message.specs.declared.message.Input.{Input}
 use Rattle.message.specs.declared.message.Message.{Message}
-use Rattle.protocol.specs.Draft.{decision}
 use Rattle.protocol.specs.Rows.{rebuilt}
+use Rattle.protocol.specs.Outputs.{decision}
 use Rattle.simdisk.specs.State.{disk_file, disk_plan}
 use Rattle.simdisk.specs.declared.simdisk.SimDisk.{SimDisk}
 use Rattle.shard.specs.Logs.{learned, records_in, KeepsRecords}

@@ -8,10 +8,9 @@ use Rattle.units.specs.Parts.{shards_from}
 use Rattle.units.specs.declared.fault.Fault.TheVariants.{TimeSpent}
 use Rattle.units.specs.declared.lock.Lock.{Lock}
 use Rattle.units.specs.declared.writes.Write.{Write}
-use Rattle.protocol.specs.Draft.{other_parts, all_voted, commit_stamp}
-use Rattle.protocol.specs.Rows.{Row, Voted, Collecting, find_row}
-use Rattle.protocol.specs.Step.{with_vote}
-use Rattle.protocol.specs.Plan.{Before, puts, plan_decide, plan_count}
+use Rattle.protocol.specs.Rows.{Row, Voted, Collecting, find_row, with_vote}
+use Rattle.protocol.specs.Plan.{Before, puts}
+use Rattle.protocol.specs.Cells.{other_parts, all_voted, commit_stamp, plan_decide, plan_count}
 use Rattle.rows.specs.States.{voted_of}
 use Rattle.rows.specs.declared.votes.Voted.{Voted as CastVote}
 use Rattle.memory.specs.Plans.{counted}

@@ -10,9 +10,10 @@ use Rattle.units.specs.declared.fault.Fault.{Fault}
 use Rattle.units.specs.declared.fault.Fault.TheVariants.{RowsFull, TimeSpent}
 use Rattle.units.specs.declared.lock.Lock.{Lock}
 use Rattle.units.specs.declared.writes.Write.{Write}
-use Rattle.protocol.specs.Rows.{Voted, find_row}
-use Rattle.protocol.specs.Draft.{time_limit, held_by, commit_stamp, other_parts}
-use Rattle.protocol.specs.Plan.{Before, Planned, opens, in_way, is_crowded, still_stand, roomed, timed, plan_abort, plan_decide, plan_commit, plan_commit_fresh, plan_commit_now, plan_commit_granted, held_in}
+use Rattle.message.specs.declared.message.Commit.{Commit}
+use Rattle.protocol.specs.Rows.{Voted, find_row, held_by, held_in}
+use Rattle.protocol.specs.Plan.{time_limit, Before, Planned, opens, in_way, is_crowded, roomed, timed}
+use Rattle.protocol.specs.Cells.{commit_stamp, other_parts, still_stand, plan_abort, plan_decide, plan_commit, plan_commit_fresh, plan_commit_now, plan_commit_granted}
 use Rattle.memory.specs.Kept.{Kept, start_of, standing_of, IsPlanned}
 use Rattle.memory.specs.declared.plan.Plan.{Plan}
 use Rattle.memory.specs.declared.state.Past.{Past}
@@ -94,100 +95,100 @@ resumed_decided b t latest ps rs ws at none is small =
 
 -- ---- the reads
 
-pub fresh_stands : (b : Before) (latest : ℕ) (t : Id) (ps : List ℕ) (epoch : ℕ) (rs : List Bytes) (ws : List Write) (held : List Lock) → still_stand b epoch rs held ≡ true
-    → plan_commit_fresh b latest t ps epoch rs ws held ≡ timed (latest + 1) (plan_commit_now b t latest ps rs ws)
+pub fresh_stands : (b : Before) (latest : ℕ) (m : Commit) (held : List Lock) → still_stand b m.reads.epoch m.reads.keys held ≡ true
+    → plan_commit_fresh b latest m held ≡ timed (latest + 1) (plan_commit_now b latest m)
 unfolding plan_commit_fresh
-fresh_stands b latest t ps epoch rs ws held e =
-    ap (λ a. cond a (timed (latest + 1) (plan_commit_now b t latest ps rs ws)) (Ok (plan_abort b t ps))) e
+fresh_stands b latest m held e =
+    ap (λ a. cond a (timed (latest + 1) (plan_commit_now b latest m)) (Ok (plan_abort b m.txn m.parts))) e
 
-pub fresh_gone : (b : Before) (latest : ℕ) (t : Id) (ps : List ℕ) (epoch : ℕ) (rs : List Bytes) (ws : List Write) (held : List Lock) → still_stand b epoch rs held ≡ false
-    → plan_commit_fresh b latest t ps epoch rs ws held ≡ Ok (plan_abort b t ps)
+pub fresh_gone : (b : Before) (latest : ℕ) (m : Commit) (held : List Lock) → still_stand b m.reads.epoch m.reads.keys held ≡ false
+    → plan_commit_fresh b latest m held ≡ Ok (plan_abort b m.txn m.parts)
 unfolding plan_commit_fresh
-fresh_gone b latest t ps epoch rs ws held e =
-    ap (λ a. cond a (timed (latest + 1) (plan_commit_now b t latest ps rs ws)) (Ok (plan_abort b t ps))) e
+fresh_gone b latest m held e =
+    ap (λ a. cond a (timed (latest + 1) (plan_commit_now b latest m)) (Ok (plan_abort b m.txn m.parts))) e
 
 -- a transaction that is not known holds nothing
-pub commit_unknown : (k : Kept) (latest : ℕ) (t : Id) (ps : List ℕ) (epoch : ℕ) (rs : List Bytes) (ws : List Write) (past : Past) (result : Result Plan Fault)
-    → find_row k.memory.rows t ≡ None → past ≡ Past.Unknown
-    → IsPlanned k (plan_commit_fresh (start_of k) latest t ps epoch rs ws (held_in k.memory.rows t)) result
-    → IsPlanned k (plan_commit (start_of k) latest t ps epoch rs ws (standing_of past)) result
+pub commit_unknown : (k : Kept) (latest : ℕ) (m : Commit) (past : Past) (result : Result Plan Fault)
+    → find_row k.memory.rows m.txn ≡ None → past ≡ Past.Unknown
+    → IsPlanned k (plan_commit_fresh (start_of k) latest m (held_in k.memory.rows m.txn)) result
+    → IsPlanned k (plan_commit (start_of k) latest m (standing_of past)) result
 unfolding plan_commit
-commit_unknown k latest t ps epoch rs ws past result none unknown made =
-    subst (λ p. IsPlanned k (plan_commit (start_of k) latest t ps epoch rs ws (standing_of p)) result) (sym unknown)
-    (subst (λ h. IsPlanned k (plan_commit_fresh (start_of k) latest t ps epoch rs ws h) result) (ap held_by none) made)
+commit_unknown k latest m past result none unknown made =
+    subst (λ p. IsPlanned k (plan_commit (start_of k) latest m (standing_of p)) result) (sym unknown)
+    (subst (λ h. IsPlanned k (plan_commit_fresh (start_of k) latest m h) result) (ap held_by none) made)
 
 -- ---- where the locks are granted
 
-abbrev granted_now : Before → Id → ℕ → List ℕ → List Bytes → List Write → Planned
-granted_now b t latest ps rs ws = plan_commit_granted b (in_way b t (exclusive ws)) t latest ps rs ws (other_parts b.shard ps)
+abbrev granted_now : Before → ℕ → Commit → Planned
+granted_now b latest m = plan_commit_granted b (in_way b m.txn (exclusive m.writes)) m.txn latest m.parts m.reads.keys m.writes (other_parts b.shard m.parts)
 
-opened : (b : Before) (t : Id) (latest : ℕ) (ps : List ℕ) (rs : List Bytes) (ws : List Write) → opens b t (exclusive ws) ≡ true
-    → plan_commit_now b t latest ps rs ws ≡ roomed (is_crowded b t) (granted_now b t latest ps rs ws)
+opened : (b : Before) (latest : ℕ) (m : Commit) → opens b m.txn (exclusive m.writes) ≡ true
+    → plan_commit_now b latest m ≡ roomed (is_crowded b m.txn) (granted_now b latest m)
 unfolding plan_commit_now
-opened b t latest ps rs ws e =
-    ap (λ a. roomed (is_crowded b t) (cond a (granted_now b t latest ps rs ws) (Ok (waits b t latest ps rs ws)))) e
+opened b latest m e =
+    ap (λ a. roomed (is_crowded b m.txn) (cond a (granted_now b latest m) (Ok (waits b latest m)))) e
 
 roomed_late : (crowded : Bool) (planned : Planned) → planned ≡ Err TimeSpent → roomed crowded planned ≡ Err TimeSpent
 roomed_late true planned e = ap (roomed true) e
 roomed_late false planned e = e
 
-pub decided_late : (b : Before) (t : Id) (latest : ℕ) (ps : List ℕ) (rs : List Bytes) (ws : List Write) → opens b t (exclusive ws) ≡ true
-    → any (λ m. not (nat_eq m b.shard)) ps ≡ false → 2 ^ 62 ≤ commit_stamp b.memory.last latest [] → plan_commit_now b t latest ps rs ws ≡ Err TimeSpent
-decided_late b t latest ps rs ws free none late =
-    opened b t latest ps rs ws free
-    ∙ roomed_late (is_crowded b t) (granted_now b t latest ps rs ws)
-    (granted_alone b (in_way b t (exclusive ws)) t latest ps rs ws b.shard none
-    ∙ decide_late b (in_way b t (exclusive ws)) t latest ps rs ws (exclusive ws) [] late)
+pub decided_late : (b : Before) (latest : ℕ) (m : Commit) → opens b m.txn (exclusive m.writes) ≡ true
+    → any (λ n. not (nat_eq n b.shard)) m.parts ≡ false → 2 ^ 62 ≤ commit_stamp b.memory.last latest [] → plan_commit_now b latest m ≡ Err TimeSpent
+decided_late b latest m free none late =
+    opened b latest m free
+    ∙ roomed_late (is_crowded b m.txn) (granted_now b latest m)
+    (granted_alone b (in_way b m.txn (exclusive m.writes)) m.txn latest m.parts m.reads.keys m.writes b.shard none
+    ∙ decide_late b (in_way b m.txn (exclusive m.writes)) m.txn latest m.parts m.reads.keys m.writes (exclusive m.writes) [] late)
 
-decided : (b : Before) (t : Id) (latest : ℕ) (ps : List ℕ) (rs : List Bytes) (ws : List Write) (at : ℕ) (crowded : Bool) → opens b t (exclusive ws) ≡ true
-    → any (λ m. not (nat_eq m b.shard)) ps ≡ false → at ≡ commit_stamp b.memory.last latest [] → at < 2 ^ 62 → is_crowded b t ≡ crowded
-    → plan_commit_now b t latest ps rs ws ≡ roomed crowded (Ok (decides b (in_way b t (exclusive ws)) t (exclusive ws) at ps rs ws))
-decided b t latest ps rs ws at crowded free none is small room =
-    opened b t latest ps rs ws free
-    ∙ ap (λ a. roomed a (granted_now b t latest ps rs ws)) room
-    ∙ ap (roomed crowded) (granted_alone b (in_way b t (exclusive ws)) t latest ps rs ws b.shard none
-    ∙ decide_made b (in_way b t (exclusive ws)) t latest ps rs ws (exclusive ws) [] at is small)
+decided : (b : Before) (latest : ℕ) (m : Commit) (at : ℕ) (crowded : Bool) → opens b m.txn (exclusive m.writes) ≡ true
+    → any (λ n. not (nat_eq n b.shard)) m.parts ≡ false → at ≡ commit_stamp b.memory.last latest [] → at < 2 ^ 62 → is_crowded b m.txn ≡ crowded
+    → plan_commit_now b latest m ≡ roomed crowded (Ok (decides b (in_way b m.txn (exclusive m.writes)) m.txn (exclusive m.writes) at m.parts m.reads.keys m.writes))
+decided b latest m at crowded free none is small room =
+    opened b latest m free
+    ∙ ap (λ a. roomed a (granted_now b latest m)) room
+    ∙ ap (roomed crowded) (granted_alone b (in_way b m.txn (exclusive m.writes)) m.txn latest m.parts m.reads.keys m.writes b.shard none
+    ∙ decide_made b (in_way b m.txn (exclusive m.writes)) m.txn latest m.parts m.reads.keys m.writes (exclusive m.writes) [] at is small)
 
-pub decided_crowded : (b : Before) (t : Id) (latest : ℕ) (ps : List ℕ) (rs : List Bytes) (ws : List Write) (at : ℕ) → opens b t (exclusive ws) ≡ true
-    → any (λ m. not (nat_eq m b.shard)) ps ≡ false → at ≡ commit_stamp b.memory.last latest [] → at < 2 ^ 62 → is_crowded b t ≡ true
-    → plan_commit_now b t latest ps rs ws ≡ Err RowsFull
-decided_crowded b t latest ps rs ws at free none is small full = decided b t latest ps rs ws at true free none is small full
+pub decided_crowded : (b : Before) (latest : ℕ) (m : Commit) (at : ℕ) → opens b m.txn (exclusive m.writes) ≡ true
+    → any (λ n. not (nat_eq n b.shard)) m.parts ≡ false → at ≡ commit_stamp b.memory.last latest [] → at < 2 ^ 62 → is_crowded b m.txn ≡ true
+    → plan_commit_now b latest m ≡ Err RowsFull
+decided_crowded b latest m at free none is small full = decided b latest m at true free none is small full
 
-pub decided_roomy : (b : Before) (t : Id) (latest : ℕ) (ps : List ℕ) (rs : List Bytes) (ws : List Write) (at : ℕ) → opens b t (exclusive ws) ≡ true
-    → any (λ m. not (nat_eq m b.shard)) ps ≡ false → at ≡ commit_stamp b.memory.last latest [] → at < 2 ^ 62 → is_crowded b t ≡ false
-    → plan_commit_now b t latest ps rs ws ≡ Ok (decides b (in_way b t (exclusive ws)) t (exclusive ws) at ps rs ws)
-decided_roomy b t latest ps rs ws at free none is small roomy = decided b t latest ps rs ws at false free none is small roomy
+pub decided_roomy : (b : Before) (latest : ℕ) (m : Commit) (at : ℕ) → opens b m.txn (exclusive m.writes) ≡ true
+    → any (λ n. not (nat_eq n b.shard)) m.parts ≡ false → at ≡ commit_stamp b.memory.last latest [] → at < 2 ^ 62 → is_crowded b m.txn ≡ false
+    → plan_commit_now b latest m ≡ Ok (decides b (in_way b m.txn (exclusive m.writes)) m.txn (exclusive m.writes) at m.parts m.reads.keys m.writes)
+decided_roomy b latest m at free none is small roomy = decided b latest m at false free none is small roomy
 
-collected : (b : Before) (t : Id) (latest : ℕ) (ps : List ℕ) (rs : List Bytes) (ws : List Write) (crowded : Bool) → opens b t (exclusive ws) ≡ true
-    → any (λ m. not (nat_eq m b.shard)) ps ≡ true → is_crowded b t ≡ crowded
-    → plan_commit_now b t latest ps rs ws ≡ roomed crowded (Ok (collects b (in_way b t (exclusive ws)) t latest ps rs ws))
-collected b t latest ps rs ws crowded free some room =
-    opened b t latest ps rs ws free
-    ∙ ap (λ a. roomed a (granted_now b t latest ps rs ws)) room
-    ∙ ap (roomed crowded) (granted_others b (in_way b t (exclusive ws)) t latest ps rs ws b.shard some)
+collected : (b : Before) (latest : ℕ) (m : Commit) (crowded : Bool) → opens b m.txn (exclusive m.writes) ≡ true
+    → any (λ n. not (nat_eq n b.shard)) m.parts ≡ true → is_crowded b m.txn ≡ crowded
+    → plan_commit_now b latest m ≡ roomed crowded (Ok (collects b (in_way b m.txn (exclusive m.writes)) m.txn latest m.parts m.reads.keys m.writes))
+collected b latest m crowded free some room =
+    opened b latest m free
+    ∙ ap (λ a. roomed a (granted_now b latest m)) room
+    ∙ ap (roomed crowded) (granted_others b (in_way b m.txn (exclusive m.writes)) m.txn latest m.parts m.reads.keys m.writes b.shard some)
 
-pub collected_crowded : (b : Before) (t : Id) (latest : ℕ) (ps : List ℕ) (rs : List Bytes) (ws : List Write) → opens b t (exclusive ws) ≡ true
-    → any (λ m. not (nat_eq m b.shard)) ps ≡ true → is_crowded b t ≡ true → plan_commit_now b t latest ps rs ws ≡ Err RowsFull
-collected_crowded b t latest ps rs ws free some full = collected b t latest ps rs ws true free some full
+pub collected_crowded : (b : Before) (latest : ℕ) (m : Commit) → opens b m.txn (exclusive m.writes) ≡ true
+    → any (λ n. not (nat_eq n b.shard)) m.parts ≡ true → is_crowded b m.txn ≡ true → plan_commit_now b latest m ≡ Err RowsFull
+collected_crowded b latest m free some full = collected b latest m true free some full
 
-pub collected_roomy : (b : Before) (t : Id) (latest : ℕ) (ps : List ℕ) (rs : List Bytes) (ws : List Write) → opens b t (exclusive ws) ≡ true
-    → any (λ m. not (nat_eq m b.shard)) ps ≡ true → is_crowded b t ≡ false
-    → plan_commit_now b t latest ps rs ws ≡ Ok (collects b (in_way b t (exclusive ws)) t latest ps rs ws)
-collected_roomy b t latest ps rs ws free some roomy = collected b t latest ps rs ws false free some roomy
+pub collected_roomy : (b : Before) (latest : ℕ) (m : Commit) → opens b m.txn (exclusive m.writes) ≡ true
+    → any (λ n. not (nat_eq n b.shard)) m.parts ≡ true → is_crowded b m.txn ≡ false
+    → plan_commit_now b latest m ≡ Ok (collects b (in_way b m.txn (exclusive m.writes)) m.txn latest m.parts m.reads.keys m.writes)
+collected_roomy b latest m free some roomy = collected b latest m false free some roomy
 
 -- ---- where they are not
 
-shut : (b : Before) (t : Id) (latest : ℕ) (ps : List ℕ) (rs : List Bytes) (ws : List Write) (crowded : Bool) → opens b t (exclusive ws) ≡ false → is_crowded b t ≡ crowded
-    → plan_commit_now b t latest ps rs ws ≡ roomed crowded (Ok (waits b t latest ps rs ws))
+shut : (b : Before) (latest : ℕ) (m : Commit) (crowded : Bool) → opens b m.txn (exclusive m.writes) ≡ false → is_crowded b m.txn ≡ crowded
+    → plan_commit_now b latest m ≡ roomed crowded (Ok (waits b latest m))
 unfolding plan_commit_now
-shut b t latest ps rs ws crowded e room =
-    ap (λ a. roomed (is_crowded b t) (cond a (granted_now b t latest ps rs ws) (Ok (waits b t latest ps rs ws)))) e
-    ∙ ap (λ a. roomed a (Ok (waits b t latest ps rs ws))) room
+shut b latest m crowded e room =
+    ap (λ a. roomed (is_crowded b m.txn) (cond a (granted_now b latest m) (Ok (waits b latest m)))) e
+    ∙ ap (λ a. roomed a (Ok (waits b latest m))) room
 
-pub wait_crowded : (b : Before) (t : Id) (latest : ℕ) (ps : List ℕ) (rs : List Bytes) (ws : List Write) → opens b t (exclusive ws) ≡ false → is_crowded b t ≡ true
-    → plan_commit_now b t latest ps rs ws ≡ Err RowsFull
-wait_crowded b t latest ps rs ws e full = shut b t latest ps rs ws true e full
+pub wait_crowded : (b : Before) (latest : ℕ) (m : Commit) → opens b m.txn (exclusive m.writes) ≡ false → is_crowded b m.txn ≡ true
+    → plan_commit_now b latest m ≡ Err RowsFull
+wait_crowded b latest m e full = shut b latest m true e full
 
-pub wait_roomy : (b : Before) (t : Id) (latest : ℕ) (ps : List ℕ) (rs : List Bytes) (ws : List Write) → opens b t (exclusive ws) ≡ false → is_crowded b t ≡ false
-    → plan_commit_now b t latest ps rs ws ≡ Ok (waits b t latest ps rs ws)
-wait_roomy b t latest ps rs ws e roomy = shut b t latest ps rs ws false e roomy
+pub wait_roomy : (b : Before) (latest : ℕ) (m : Commit) → opens b m.txn (exclusive m.writes) ≡ false → is_crowded b m.txn ≡ false
+    → plan_commit_now b latest m ≡ Ok (waits b latest m)
+wait_roomy b latest m e roomy = shut b latest m false e roomy

@@ -2,7 +2,7 @@
 use Rattle.std.proofs.Common.{◌≡◌, ℕ, Bool, true, false, not, cond, ◌&&◌, ◌||◌, nat_eq, List, [], ◌∷◌, refl, sym, ap, ◌∙◌, arith}
 use Rattle.std.proofs.lemmas.Bool.Decides.{nat_tests}
 use Rattle.units.specs.Lists.{any, has}
-use Rattle.protocol.specs.Draft.{other_parts}
+use Rattle.protocol.specs.Cells.{other_parts}
 
 -- a number that is one of two is the other, where they are the same
 same_as : (m n k : ℕ) → nat_eq m k ≡ true → nat_eq k n ≡ nat_eq m n

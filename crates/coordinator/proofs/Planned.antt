@@ -5,7 +5,8 @@ use Rattle.units.specs.declared.fault.Fault.TheVariants.{Stranger}
 use Rattle.record.specs.Records.{Status, HasAborted, HasSettled, HasClosed}
 use Rattle.record.specs.Facts.{recorded}
 use Rattle.protocol.specs.Rows.{find_row, standing_by}
-use Rattle.protocol.specs.Plan.{Before, stands, plan_settle}
+use Rattle.protocol.specs.Plan.{Before, stands}
+use Rattle.protocol.specs.Cells.{plan_settle}
 use Rattle.memory.proofs.States.{stands-past}
 
 -- a transaction that has no row is not settled

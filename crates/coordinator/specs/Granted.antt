@@ -5,12 +5,12 @@ use Rattle.units.specs.Keys.{Bytes}
 use Rattle.units.specs.Locks.{exclusive}
 use Rattle.units.specs.declared.lock.Lock.{Lock}
 use Rattle.units.specs.declared.writes.Write.{Write}
-use Rattle.protocol.specs.Rows.{Collecting, IsDecided, Voted, WaitsCommit}
-use Rattle.protocol.specs.Step.{with_vote}
+use Rattle.message.specs.declared.message.Commit.{Commit}
+use Rattle.protocol.specs.Rows.{Collecting, IsDecided, Voted, WaitsCommit, with_vote}
+use Rattle.protocol.specs.Outputs.{decision}
+use Rattle.protocol.specs.Plan.{Before, Plan, puts, in_way}
 use Rattle.rows.specs.States.{voted_of}
 use Rattle.rows.specs.declared.votes.Voted.{Voted as CastVote}
-use Rattle.protocol.specs.Draft.{decision}
-use Rattle.protocol.specs.Plan.{Before, Plan, puts, in_way}
 
 -- the decision at a timestamp
 abbrev pub decides : Before → List Id → Id → List Lock → ℕ → List ℕ → List Bytes → List Write → Plan
@@ -21,8 +21,8 @@ abbrev pub collects : Before → List Id → Id → ℕ → List ℕ → List By
 collects b ended t latest ps rs ws = puts b ended t (exclusive ws) (Collecting latest ps rs ws []) None b.memory.last []
 
 -- the transaction waits with its commit
-abbrev pub waits : Before → Id → ℕ → List ℕ → List Bytes → List Write → Plan
-waits b t latest ps rs ws = puts b (in_way b t (exclusive ws)) t [] (WaitsCommit latest ps rs ws) None b.memory.last []
+abbrev pub waits : Before → ℕ → Commit → Plan
+waits b latest m = puts b (in_way b m.txn (exclusive m.writes)) m.txn [] (WaitsCommit latest m.parts m.reads.keys m.writes) None b.memory.last []
 
 -- the votes that a row keeps with one more
 unfoldable pub more_votes : ℕ → ℕ → List CastVote → List Voted

@@ -3,9 +3,10 @@ ghost use Rattle.std.specs.Prelude.{◌≡◌, ℕ, true, false, not, nat_eq, �
 ghost use Rattle.std.specs.Option.{option_copied};
 ghost use Rattle.units.specs.Lists.{any};
 ghost use Rattle.units.specs.Locks.{exclusive};
-ghost use Rattle.protocol.specs.Draft.{commit_stamp, decision, other_parts};
-ghost use Rattle.protocol.specs.Rows.{HasRow, find_row};
-ghost use Rattle.protocol.specs.Plan.{plan_commit, plan_commit_fresh, plan_commit_now, plan_commit_granted, timed, opens, in_way, stands, held_in};
+ghost use Rattle.protocol.specs.Rows.{HasRow, find_row, held_in};
+ghost use Rattle.protocol.specs.Outputs.{decision};
+ghost use Rattle.protocol.specs.Plan.{timed, opens, in_way, stands};
+ghost use Rattle.protocol.specs.Cells.{commit_stamp, other_parts, plan_commit, plan_commit_fresh, plan_commit_now, plan_commit_granted};
 ghost use Rattle.rows.specs.CodeRows.{phase_of, phase_of_wait};
 ghost use Rattle.memory.specs.Carry.{Asks, IsFit, MayTurn, may_ask, may_drop, may_end};
 ghost use Rattle.memory.specs.Kept.{start_of, standing_of, IsPlanned};
@@ -28,7 +29,7 @@ pub fn on_commit(
     now: &Reading,
     commit: &Commit,
 ) -> Result<Plan, Fault>
-    ensures planned { IsPlanned state.now (plan_commit (start_of state.now) now.now.latest commit.now.txn commit.now.parts commit.now.reads.epoch commit.now.reads.keys commit.now.writes (stands (start_of state.now) commit.now.txn)) result }
+    ensures planned { IsPlanned state.now (plan_commit (start_of state.now) now.now.latest commit.now (stands (start_of state.now) commit.now.txn)) result }
     ensures fit { IfOk result (IsFit state.now) }
 {
     match state.row(commit.txn) {
@@ -38,7 +39,7 @@ pub fn on_commit(
 }
 
 // A commit of a transaction that has a row.
-#[tactic(auto, unfolding(protocol::specs::Plan::plan_commit))]
+#[tactic(auto, unfolding(protocol::specs::Cells::plan_commit))]
 fn commit_with_row(
     state: &State,
     alloc: Global,
@@ -47,7 +48,7 @@ fn commit_with_row(
     row: &Row,
 ) -> Result<Plan, Fault>
     requires turn { MayTurn state.now.memory.rows commit.now.txn row.now }
-    ensures planned { IsPlanned state.now (plan_commit (start_of state.now) now.now.latest commit.now.txn commit.now.parts commit.now.reads.epoch commit.now.reads.keys commit.now.writes (HasRow (held_in state.now.memory.rows commit.now.txn) (phase_of row.now))) result }
+    ensures planned { IsPlanned state.now (plan_commit (start_of state.now) now.now.latest commit.now (HasRow (held_in state.now.memory.rows commit.now.txn) (phase_of row.now))) result }
     ensures fit { IfOk result (IsFit state.now) }
 {
     match row {
@@ -58,7 +59,7 @@ fn commit_with_row(
 }
 
 // A commit of a transaction that reads, by what it waits with.
-#[tactic(auto, unfolding(protocol::specs::Plan::plan_commit))]
+#[tactic(auto, unfolding(protocol::specs::Cells::plan_commit))]
 fn commit_with_wait(
     state: &State,
     alloc: Global,
@@ -68,7 +69,7 @@ fn commit_with_wait(
 ) -> Result<Plan, Fault>
     requires ends { may_end state.now.memory.rows commit.now.txn ≡ true }
     requires drops { may_drop state.now.memory.rows commit.now.txn ≡ true }
-    ensures planned { IsPlanned state.now (plan_commit (start_of state.now) now.now.latest commit.now.txn commit.now.parts commit.now.reads.epoch commit.now.reads.keys commit.now.writes (HasRow (held_in state.now.memory.rows commit.now.txn) (phase_of_wait (option_copied wait.entry)))) result }
+    ensures planned { IsPlanned state.now (plan_commit (start_of state.now) now.now.latest commit.now (HasRow (held_in state.now.memory.rows commit.now.txn) (phase_of_wait (option_copied wait.entry)))) result }
     ensures fit { IfOk result (IsFit state.now) }
 {
     match wait {
@@ -79,7 +80,7 @@ fn commit_with_wait(
 }
 
 // A commit of a transaction that has no row.
-#[tactic(auto, unfolding(protocol::specs::Plan::plan_commit))]
+#[tactic(auto, unfolding(protocol::specs::Cells::plan_commit))]
 fn commit_without_row(
     state: &State,
     alloc: Global,
@@ -90,7 +91,7 @@ fn commit_without_row(
     requires none { find_row state.now.memory.rows commit.now.txn ≡ None }
     requires ends { may_end state.now.memory.rows commit.now.txn ≡ true }
     requires drops { may_drop state.now.memory.rows commit.now.txn ≡ true }
-    ensures planned { IsPlanned state.now (plan_commit (start_of state.now) now.now.latest commit.now.txn commit.now.parts commit.now.reads.epoch commit.now.reads.keys commit.now.writes (standing_of past)) result }
+    ensures planned { IsPlanned state.now (plan_commit (start_of state.now) now.now.latest commit.now (standing_of past)) result }
     ensures fit { IfOk result (IsFit state.now) }
 {
     match past {
@@ -106,7 +107,7 @@ fn commit_without_row(
 fn commit_fresh(state: &State, alloc: Global, now: &Reading, commit: &Commit) -> Result<Plan, Fault>
     requires ends { may_end state.now.memory.rows commit.now.txn ≡ true }
     requires drops { may_drop state.now.memory.rows commit.now.txn ≡ true }
-    ensures planned { IsPlanned state.now (plan_commit_fresh (start_of state.now) now.now.latest commit.now.txn commit.now.parts commit.now.reads.epoch commit.now.reads.keys commit.now.writes (held_in state.now.memory.rows commit.now.txn)) result }
+    ensures planned { IsPlanned state.now (plan_commit_fresh (start_of state.now) now.now.latest commit.now (held_in state.now.memory.rows commit.now.txn)) result }
     ensures fit { IfOk result (IsFit state.now) }
 {
     if reads_stand(state, commit.txn, &commit.reads) {
@@ -123,7 +124,7 @@ fn commit_in_time(
     commit: &Commit,
 ) -> Result<Plan, Fault>
     requires ends { may_end state.now.memory.rows commit.now.txn ≡ true }
-    ensures planned { IsPlanned state.now (timed (now.now.latest + 1) (plan_commit_now (start_of state.now) commit.now.txn now.now.latest commit.now.parts commit.now.reads.keys commit.now.writes)) result }
+    ensures planned { IsPlanned state.now (timed (now.now.latest + 1) (plan_commit_now (start_of state.now) now.now.latest commit.now)) result }
     ensures fit { IfOk result (IsFit state.now) }
 {
     Stamp::above(now.latest())?;
@@ -133,7 +134,7 @@ fn commit_in_time(
 // Exclusive locks of what is written, and so on; or a wait.
 fn commit_now(state: &State, alloc: Global, now: &Reading, commit: &Commit) -> Result<Plan, Fault>
     requires ends { may_end state.now.memory.rows commit.now.txn ≡ true }
-    ensures planned { IsPlanned state.now (plan_commit_now (start_of state.now) commit.now.txn now.now.latest commit.now.parts commit.now.reads.keys commit.now.writes) result }
+    ensures planned { IsPlanned state.now (plan_commit_now (start_of state.now) now.now.latest commit.now) result }
     ensures fit { IfOk result (IsFit state.now) }
 {
     if !state.opens_writes(commit.txn, &commit.writes) {
@@ -151,7 +152,7 @@ fn decide_now(state: &State, alloc: Global, now: &Reading, commit: &Commit) -> R
     requires opens { opens (start_of state.now) commit.now.txn (exclusive commit.now.writes) ≡ true }
     requires alone { any (λ n. not (nat_eq n state.now.setup.shard)) commit.now.parts ≡ false }
     requires ends { may_end state.now.memory.rows commit.now.txn ≡ true }
-    ensures planned { IsPlanned state.now (plan_commit_now (start_of state.now) commit.now.txn now.now.latest commit.now.parts commit.now.reads.keys commit.now.writes) result }
+    ensures planned { IsPlanned state.now (plan_commit_now (start_of state.now) now.now.latest commit.now) result }
     ensures fit { IfOk result (IsFit state.now) }
 {
     let at = commit_time(state, now.latest())?;
@@ -187,7 +188,7 @@ fn collect_now(state: &State, alloc: Global, now: &Reading, commit: &Commit) -> 
     requires opens { opens (start_of state.now) commit.now.txn (exclusive commit.now.writes) ≡ true }
     requires others { any (λ n. not (nat_eq n state.now.setup.shard)) commit.now.parts ≡ true }
     requires ends { may_end state.now.memory.rows commit.now.txn ≡ true }
-    ensures planned { IsPlanned state.now (plan_commit_now (start_of state.now) commit.now.txn now.now.latest commit.now.parts commit.now.reads.keys commit.now.writes) result }
+    ensures planned { IsPlanned state.now (plan_commit_now (start_of state.now) now.now.latest commit.now) result }
     ensures fit { IfOk result (IsFit state.now) }
 {
     if state.is_crowded(commit.txn) {
@@ -215,7 +216,7 @@ fn collect_anew(state: &State, alloc: Global, now: &Reading, commit: &Commit) ->
 fn wait(state: &State, alloc: Global, now: &Reading, commit: &Commit) -> Result<Plan, Fault>
     requires shut { opens (start_of state.now) commit.now.txn (exclusive commit.now.writes) ≡ false }
     requires ends { may_end state.now.memory.rows commit.now.txn ≡ true }
-    ensures planned { IsPlanned state.now (plan_commit_now (start_of state.now) commit.now.txn now.now.latest commit.now.parts commit.now.reads.keys commit.now.writes) result }
+    ensures planned { IsPlanned state.now (plan_commit_now (start_of state.now) now.now.latest commit.now) result }
     ensures fit { IfOk result (IsFit state.now) }
 {
     if state.is_crowded(commit.txn) {
@@ -229,7 +230,7 @@ fn wait_in_row(state: &State, alloc: Global, now: &Reading, commit: &Commit) -> 
     requires shut { opens (start_of state.now) commit.now.txn (exclusive commit.now.writes) ≡ false }
     requires asks { may_ask state.now.memory.rows commit.now.txn ≡ true }
     ensures plan { IfOk result (λ plan. plan_of state.now.memory.rows plan ≡
-        waits (start_of state.now) commit.now.txn now.now.latest commit.now.parts commit.now.reads.keys commit.now.writes) }
+        waits (start_of state.now) now.now.latest commit.now) }
     ensures fit { IfOk result (IsFit state.now) }
     ensures memory { IfErr result (λ fault. fault ≡ Fault.Memory) }
 {

@@ -1,9 +1,10 @@
 //! How a transaction that this shard decides ends: given up, asked for, or settled.
 ghost use Rattle.std.specs.Prelude.{◌≡◌, true, [], ◌∷◌, Some, None, Ok, IfOk, IfErr};
 ghost use Rattle.std.specs.Option.{option_copied};
-ghost use Rattle.protocol.specs.Rows.{HasRow, IsDecided};
-ghost use Rattle.protocol.specs.Draft.{outcome_to};
-ghost use Rattle.protocol.specs.Plan.{plan_give_up, plan_ask, plan_abort_for, plan_settle, replies, stands, held_in};
+ghost use Rattle.protocol.specs.Rows.{HasRow, IsDecided, held_in};
+ghost use Rattle.protocol.specs.Outputs.{outcome_to};
+ghost use Rattle.protocol.specs.Plan.{replies, stands};
+ghost use Rattle.protocol.specs.Cells.{plan_give_up, plan_ask, plan_abort_for, plan_settle};
 ghost use Rattle.rows.specs.CodeRows.{may_close, phase_of, phase_of_wait};
 ghost use Rattle.rows.specs.RowTable.{has_phase};
 ghost use Rattle.memory.specs.Carry.{IsFit, MayTurn, may_drop, may_end};
@@ -33,7 +34,7 @@ pub fn give_up(state: &State, alloc: Global, given: &GiveUp) -> Result<Plan, Fau
 }
 
 // A giving up of a transaction that has a row.
-#[tactic(auto, unfolding(protocol::specs::Plan::plan_give_up))]
+#[tactic(auto, unfolding(protocol::specs::Cells::plan_give_up))]
 fn give_up_with_row(state: &State, alloc: Global, given: &GiveUp, row: &Row) -> Result<Plan, Fault>
     requires { MayTurn state.now.memory.rows given.now.txn row.now }
     ensures planned { IsPlanned state.now (Ok (plan_give_up (start_of state.now) given.now.txn (HasRow (held_in state.now.memory.rows given.now.txn) (phase_of row.now)))) result }
@@ -49,7 +50,7 @@ fn give_up_with_row(state: &State, alloc: Global, given: &GiveUp, row: &Row) -> 
 }
 
 // A giving up of a transaction that has no row.
-#[tactic(auto, unfolding(protocol::specs::Plan::plan_give_up))]
+#[tactic(auto, unfolding(protocol::specs::Cells::plan_give_up))]
 fn give_up_without_row(
     state: &State,
     alloc: Global,
@@ -80,7 +81,7 @@ pub fn on_ask(state: &State, alloc: Global, ask: &Ask) -> Result<Plan, Fault>
 }
 
 // A question about a transaction that has a row.
-#[tactic(auto, unfolding(protocol::specs::Plan::plan_ask))]
+#[tactic(auto, unfolding(protocol::specs::Cells::plan_ask))]
 fn ask_with_row(state: &State, alloc: Global, ask: &Ask, row: &Row) -> Result<Plan, Fault>
     requires { MayTurn state.now.memory.rows ask.now.txn row.now }
     ensures planned { IsPlanned state.now (plan_ask (start_of state.now) ask.now.from ask.now.txn (HasRow (held_in state.now.memory.rows ask.now.txn) (phase_of row.now))) result }
@@ -94,7 +95,7 @@ fn ask_with_row(state: &State, alloc: Global, ask: &Ask, row: &Row) -> Result<Pl
 }
 
 // A question about a transaction that reads, by what it waits with.
-#[tactic(auto, unfolding(protocol::specs::Plan::plan_ask))]
+#[tactic(auto, unfolding(protocol::specs::Cells::plan_ask))]
 fn ask_with_wait(
     state: &State,
     alloc: Global,
@@ -113,7 +114,7 @@ fn ask_with_wait(
 }
 
 // A question about a transaction that has no row.
-#[tactic(auto, unfolding(protocol::specs::Plan::plan_ask))]
+#[tactic(auto, unfolding(protocol::specs::Cells::plan_ask))]
 fn ask_without_row(state: &State, alloc: Global, ask: &Ask, past: Past) -> Result<Plan, Fault>
     requires { may_drop state.now.memory.rows ask.now.txn ≡ true }
     ensures planned { IsPlanned state.now (plan_ask (start_of state.now) ask.now.from ask.now.txn (standing_of past)) result }
@@ -178,7 +179,7 @@ pub fn settle(state: &State, alloc: Global, now: &Reading, txn: TxnId) -> Result
 }
 
 // A settling of a transaction that has a row.
-#[tactic(auto, unfolding(protocol::specs::Plan::plan_settle))]
+#[tactic(auto, unfolding(protocol::specs::Cells::plan_settle))]
 fn settle_with_row(
     state: &State,
     alloc: Global,
@@ -197,7 +198,7 @@ fn settle_with_row(
 }
 
 // Nobody is told of a commit before its timestamp has passed (commit wait): the end is made of the word that it has.
-#[tactic(auto, unfolding(protocol::specs::Plan::plan_settle))]
+#[tactic(auto, unfolding(protocol::specs::Cells::plan_settle))]
 fn settle_decided(
     state: &State,
     alloc: Global,

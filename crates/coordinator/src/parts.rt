@@ -1,7 +1,7 @@
 //! The shards that take part in a transaction, beside the one that decides it.
 ghost use Rattle.std.specs.Prelude.{◌≡◌};
 ghost use Rattle.units.specs.Lists.{has};
-ghost use Rattle.protocol.specs.Draft.{other_parts};
+ghost use Rattle.protocol.specs.Cells.{other_parts};
 
 use memory::State;
 use units::{Parts, ShardNo};

@@ -3,10 +3,9 @@ ghost use Rattle.std.specs.Prelude.{◌≡◌, ◌+◌, ◌<◌, ◌≤◌, ◌^
 ghost use Rattle.std.specs.Option.{option_copied};
 ghost use Rattle.units.specs.Lists.{any, greatest};
 ghost use Rattle.units.specs.Parts.{shards_from};
-ghost use Rattle.protocol.specs.Rows.{Collecting as CollectsVotes, HasRow, find_row};
-ghost use Rattle.protocol.specs.Draft.{all_voted, commit_stamp, other_parts};
-ghost use Rattle.protocol.specs.Step.{with_vote};
-ghost use Rattle.protocol.specs.Plan.{plan_vote, plan_count, plan_tell, of_part, puts, stands, held_in};
+ghost use Rattle.protocol.specs.Rows.{Collecting as CollectsVotes, HasRow, find_row, with_vote, held_in};
+ghost use Rattle.protocol.specs.Plan.{puts, stands};
+ghost use Rattle.protocol.specs.Cells.{all_voted, commit_stamp, other_parts, plan_vote, plan_count, plan_tell, of_part};
 ghost use Rattle.rows.specs.CodeRows.{is_collecting, phase_of, phase_of_wait};
 ghost use Rattle.rows.specs.RowTable.{has_phase};
 ghost use Rattle.rows.specs.States.{voted_of};
@@ -35,7 +34,7 @@ pub fn on_vote(state: &State, alloc: Global, vote: &Vote) -> Result<Plan, Fault>
 }
 
 // A vote for a transaction that has a row.
-#[tactic(auto, unfolding(protocol::specs::Plan::plan_vote))]
+#[tactic(auto, unfolding(protocol::specs::Cells::plan_vote))]
 fn vote_with_row(state: &State, alloc: Global, vote: &Vote, row: &Row) -> Result<Plan, Fault>
     requires row { find_row state.now.memory.rows vote.now.txn ≡ Some (record { txn = vote.now.txn; held = held_in state.now.memory.rows vote.now.txn; phase = phase_of row.now }) }
     requires turn { MayTurn state.now.memory.rows vote.now.txn row.now }
@@ -51,7 +50,7 @@ fn vote_with_row(state: &State, alloc: Global, vote: &Vote, row: &Row) -> Result
 }
 
 // A vote for a transaction that reads, by what it waits with.
-#[tactic(auto, unfolding(protocol::specs::Plan::plan_vote))]
+#[tactic(auto, unfolding(protocol::specs::Cells::plan_vote))]
 fn vote_with_wait(
     state: &State,
     alloc: Global,
@@ -68,7 +67,7 @@ fn vote_with_wait(
 }
 
 // A vote for a transaction that has no row.
-#[tactic(auto, unfolding(protocol::specs::Plan::plan_vote))]
+#[tactic(auto, unfolding(protocol::specs::Cells::plan_vote))]
 fn vote_without_row(state: &State, alloc: Global, vote: &Vote, past: Past) -> Result<Plan, Fault>
     ensures planned { IsPlanned state.now (plan_vote (start_of state.now) vote.now.from vote.now.txn vote.now.vote (standing_of past)) result }
     ensures fit { IfOk result (IsFit state.now) }
@@ -87,7 +86,7 @@ fn vote_without_row(state: &State, alloc: Global, vote: &Vote, past: Past) -> Re
 }
 
 // Who voted yes is told the outcome.
-#[tactic(auto, unfolding(protocol::specs::Plan::plan_tell))]
+#[tactic(auto, unfolding(protocol::specs::Cells::plan_tell))]
 fn tell(state: &State, alloc: Global, vote: &Vote, outcome: Option<Stamp>) -> Result<Plan, Fault>
     ensures plan { IfOk result (λ plan. plan_of state.now.memory.rows plan ≡ plan_tell (start_of state.now) vote.now.from vote.now.txn outcome vote.now.vote) }
     ensures fit { IfOk result (IsFit state.now) }
@@ -107,7 +106,7 @@ fn tell(state: &State, alloc: Global, vote: &Vote, outcome: Option<Stamp>) -> Re
 }
 
 // A vote for a transaction that collects votes.
-#[tactic(auto, unfolding(protocol::specs::Plan::plan_count))]
+#[tactic(auto, unfolding(protocol::specs::Cells::plan_count))]
 fn vote_collected(
     state: &State,
     alloc: Global,

@@ -6,9 +6,8 @@ use Rattle.units.specs.declared.lock.Lock.{Lock}
 use Rattle.units.specs.declared.setup.Setup.{Setup}
 use Rattle.record.specs.Facts.{Facts}
 use Rattle.record.specs.declared.record.Record.{Record}
-use Rattle.protocol.specs.Rows.{Row, Phase, Memory, Idle, claims, find_row, with_row}
-use Rattle.protocol.specs.Draft.{held_by}
-use Rattle.protocol.specs.Plan.{Puts, carried, changed, ended_by, held_in, with_ids, without_rows}
+use Rattle.protocol.specs.Rows.{Row, Phase, Memory, Idle, claims, find_row, with_row, held_by, held_in, without_rows}
+use Rattle.protocol.specs.Plan.{Puts, carried, changed, ended_by, with_ids}
 use Rattle.protocol.proofs.PlanRows.{Ascend, AllOther, with_row-twice, find-with_row, without_rows-with, find-without_rows, wounded-differ, wounded-alike, is_free-alike, others-with_row}
 use Rattle.rows.specs.CodeRows.{is_reading, phase_of_wait}
 use Rattle.rows.specs.RowTable.{put_row}

@@ -10,10 +10,8 @@ use Rattle.units.proofs.ByIdLaws.{by_id-keep, first_none, without_none}
 use Rattle.record.specs.declared.record.Record.{Record}
 use Rattle.record.specs.declared.record.Record.TheVariants.{Opened, Ceiling, Prepare, Commit, Abort, Outcome}
 use Rattle.safetime.specs.Safe.{lifted}
-use Rattle.protocol.specs.Rows.{Row, Memory, Phase, Idle, WaitsRead, WaitsPrepare, WaitsCommit, Collecting, IsPrepared, IsDecided, claims, find_row, without_row, held_stamp}
-use Rattle.protocol.specs.Draft.{held_by}
-use Rattle.protocol.specs.Step.{with_vote}
-use Rattle.protocol.specs.Plan.{Puts, changed, held_in, without_rows}
+use Rattle.protocol.specs.Rows.{Row, Memory, Phase, Idle, WaitsRead, WaitsPrepare, WaitsCommit, Collecting, IsPrepared, IsDecided, claims, find_row, without_row, held_stamp, held_by, with_vote, held_in, without_rows}
+use Rattle.protocol.specs.Plan.{Puts, changed}
 use Rattle.protocol.proofs.PlanRows.{Ascend, put_again, find-with_row, without-with_row}
 use Rattle.protocol.proofs.RowChanges.{by_id-without_rows, short-without_row}
 use Rattle.rows.specs.CodeRows.{is_reading, is_collecting, is_idle, may_decide, phase_of_wait}

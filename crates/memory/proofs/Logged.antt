@@ -5,8 +5,8 @@ use Rattle.record.specs.Facts.{Facts, learn}
 use Rattle.record.specs.declared.record.Record.{Record}
 use Rattle.record.specs.declared.record.Record.TheVariants.{Opened, Ceiling, Prepare, Commit, Abort, Outcome}
 use Rattle.facts.specs.Rules.{follows_facts}
-use Rattle.protocol.specs.Rows.{Memory}
-use Rattle.protocol.specs.Plan.{carried, changed, ended_by, with_ids, without_rows}
+use Rattle.protocol.specs.Rows.{Memory, without_rows}
+use Rattle.protocol.specs.Plan.{carried, changed, ended_by, with_ids}
 use Rattle.memory.specs.Carry.{MayFollow, IsDated}
 use Rattle.memory.specs.Plans.{change_of, plan_of}
 use Rattle.memory.specs.declared.plan.Plan.{Plan}

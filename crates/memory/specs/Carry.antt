@@ -8,8 +8,8 @@ use Rattle.units.specs.declared.writes.Write.{Write}
 use Rattle.record.specs.Facts.{Facts, recorded}
 use Rattle.record.specs.declared.record.Record.{Record}
 use Rattle.facts.specs.Rules.{follows_facts}
-use Rattle.protocol.specs.Rows.{Row, Memory, Idle, claims, find_row, needs_of}
-use Rattle.protocol.specs.Plan.{held_in, without_rows, carried}
+use Rattle.protocol.specs.Rows.{Row, Memory, Idle, claims, find_row, needs_of, held_in, without_rows}
+use Rattle.protocol.specs.Plan.{carried}
 use Rattle.rows.specs.CodeRows.{is_reading, is_collecting, is_idle, may_decide, may_abort, may_close, phase_of_wait}
 use Rattle.rows.specs.RowTable.{RowTable, put_row, has_phase, room}
 use Rattle.rows.specs.declared.row.Row.{Row as CodeRow}

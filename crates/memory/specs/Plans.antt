@@ -7,9 +7,8 @@ use Rattle.message.specs.declared.message.Envelope.{Envelope}
 use Rattle.rows.specs.CodeRows.{phase_of_wait}
 use Rattle.rows.specs.RowTable.{phase_by}
 use Rattle.rows.specs.declared.wait.CommitRequest.{CommitRequest}
-use Rattle.protocol.specs.Rows.{Phase, Row, Voted, Idle, Collecting, find_row}
-use Rattle.protocol.specs.Draft.{vote_to}
-use Rattle.protocol.specs.Step.{with_vote}
+use Rattle.protocol.specs.Rows.{Phase, Row, Voted, Idle, Collecting, find_row, with_vote}
+use Rattle.protocol.specs.Outputs.{vote_to}
 use Rattle.protocol.specs.Plan as protocol
 use Rattle.memory.specs.declared.plan.Plan.{Plan}
 use Rattle.memory.specs.declared.plan.Change.{Change}

@@ -1,9 +1,9 @@
 //! Carrying out a plan: first all memory is taken; then, once its record is logged, nothing can fail.
 ghost use Rattle.std.specs.Prelude.{◌≡◌, ◌≤◌, ◌<◌, ◌+◌, Some, None, true, false, OnOk, OnErr, IfOk, IfErr, IsSome, length, List, ℕ};
 ghost use Rattle.units.specs.Locks.{with_locks};
-ghost use Rattle.protocol.specs.Rows.{Memory, Idle, find_row, without_row};
+ghost use Rattle.protocol.specs.Rows.{Memory, Idle, find_row, without_row, held_in, without_rows};
+ghost use Rattle.protocol.specs.Plan.{carried, changed, ended_by, with_ids};
 ghost use Rattle.protocol.specs.Step.{facts_after};
-ghost use Rattle.protocol.specs.Plan.{carried, changed, ended_by, held_in, with_ids, without_rows};
 ghost use Rattle.rows.specs.RowTable.{put_row, phase_by, room};
 ghost use Rattle.memory.specs.Carry.{AdmissionIsUnseen, ReadyIsCarriable, IsFit, MayAsk, IsReady, IsCarriable, IsDated, Admits, MayUndo, MayDrop, MayFollow, MayInstall, CanStand, FitsRows, Asks, HasRoom, asker, admitted, admitted_to, installed_by, may_ask, may_end};
 ghost use Rattle.memory.specs.Plans.{plan_of, change_of};

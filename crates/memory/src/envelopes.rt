@@ -1,6 +1,6 @@
 //! The messages that a shard puts out.
 ghost use Rattle.std.specs.Prelude.{◌≡◌};
-ghost use Rattle.protocol.specs.Draft.{vote_to, answer_to, done_to, outcome_to, ask_to};
+ghost use Rattle.protocol.specs.Outputs.{vote_to, answer_to, done_to, outcome_to, ask_to};
 
 use message::{Address, Answer, Ask, Done, Envelope, Message, Outcome, ReadAnswer, Vote};
 use units::{Epoch, Key, ShardNo, Stamp, TxnId};

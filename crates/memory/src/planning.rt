@@ -2,9 +2,10 @@
 ghost use Rattle.std.specs.Prelude.{◌≡◌, ◌≤◌, ◌++◌, ◌∷◌, [], true, Some, None, Ok, IfOk, IfErr, MatchResult};
 ghost use Rattle.units.specs.Locks.{exclusive};
 ghost use Rattle.units.specs.Lists.{each, listed};
-ghost use Rattle.protocol.specs.Draft.{other_parts, refused_vote};
-ghost use Rattle.protocol.specs.Rows.{find_row};
-ghost use Rattle.protocol.specs.Plan.{Keeps, replies, ends, drops, votes_of, answers, tells, plan_abort, still_stand, held_in};
+ghost use Rattle.protocol.specs.Rows.{find_row, held_in};
+ghost use Rattle.protocol.specs.Outputs.{refused_vote};
+ghost use Rattle.protocol.specs.Plan.{Keeps, replies, ends, drops, votes_of};
+ghost use Rattle.protocol.specs.Cells.{other_parts, answers, tells, plan_abort, still_stand};
 ghost use Rattle.memory.specs.Carry.{FitsRows, IsFit, IsServing, MayDrop, may_drop, may_end};
 ghost use Rattle.memory.specs.Kept.{start_of};
 ghost use Rattle.memory.specs.Plans.{change_of, plan_of, refusal};
@@ -144,7 +145,7 @@ impl State {
     }
 
     /// The decision to abort: the session and the other parts are told.
-    #[tactic(auto, unfolding(protocol::specs::Plan::plan_abort))]
+    #[tactic(auto, unfolding(protocol::specs::Cells::plan_abort))]
     pub fn aborts(&self, alloc: Global, txn: TxnId, parts: Parts) -> Result<Plan, Fault>
         requires { may_drop self.now.memory.rows txn ≡ true }
         ensures plan { IfOk result (λ plan. plan_of self.now.memory.rows plan ≡ plan_abort (start_of self.now) txn parts) }

@@ -11,9 +11,10 @@ use Rattle.units.specs.declared.lock.Lock.{Lock}
 use Rattle.units.specs.declared.writes.Write.{Write}
 use Rattle.record.specs.Records.{Status, HasAborted, HasSettled, HasClosed}
 use Rattle.record.specs.Facts.{recorded}
-use Rattle.protocol.specs.Rows.{HasRow, Idle, WaitsRead, WaitsPrepare, find_row, standing_by}
-use Rattle.protocol.specs.Draft.{time_limit, held_by}
-use Rattle.protocol.specs.Plan.{Before, Planned, stands, opens, in_way, is_crowded, still_stand, replies, idles, ends, puts, answers, refuses, roomed, to_read, plan_go_on, plan_nudge, plan_read, plan_read_row, plan_read_now, plan_prepare, plan_prepare_fresh, plan_prepare_now, plan_promise, held_in}
+use Rattle.message.specs.declared.message.Prepare.{Prepare}
+use Rattle.protocol.specs.Rows.{HasRow, Idle, WaitsRead, WaitsPrepare, find_row, standing_by, held_by, held_in}
+use Rattle.protocol.specs.Plan.{time_limit, Before, Planned, stands, opens, in_way, is_crowded, replies, idles, ends, puts, roomed}
+use Rattle.protocol.specs.Cells.{still_stand, answers, refuses, to_read, plan_go_on, plan_nudge, plan_read, plan_read_row, plan_read_now, plan_prepare, plan_prepare_fresh, plan_prepare_now, plan_promise}
 use Rattle.rows.specs.CodeRows.{phase_of_wait}
 use Rattle.rows.specs.declared.wait.Wait.{Wait}
 use Rattle.memory.specs.Kept.{Kept, start_of, standing_of, IsPlanned}
@@ -100,76 +101,76 @@ promise_made b ended earliest t c rs ws at is small =
 
 -- ---- prepares
 
-abbrev waits_with : Before → Id → ℕ → List Bytes → List Write → Planned
-waits_with b t c rs ws = Ok (puts b (in_way b t (exclusive ws)) t [] (WaitsPrepare c rs ws) None b.memory.last [])
+abbrev waits_with : Before → Prepare → Planned
+waits_with b m = Ok (puts b (in_way b m.txn (exclusive m.writes)) m.txn [] (WaitsPrepare m.coordinator m.reads.keys m.writes) None b.memory.last [])
 
-abbrev promises_now : Before → ℕ → Id → ℕ → List Bytes → List Write → Planned
-promises_now b earliest t c rs ws = plan_promise b (in_way b t (exclusive ws)) earliest t c rs ws
+abbrev promises_now : Before → ℕ → Prepare → Planned
+promises_now b earliest m = plan_promise b (in_way b m.txn (exclusive m.writes)) earliest m.txn m.coordinator m.reads.keys m.writes
 
-pub fresh_stands : (b : Before) (earliest : ℕ) (t : Id) (c epoch : ℕ) (rs : List Bytes) (ws : List Write) (held : List Lock) → still_stand b epoch rs held ≡ true
-    → plan_prepare_fresh b earliest t c epoch rs ws held ≡ plan_prepare_now b earliest t c rs ws
+pub fresh_stands : (b : Before) (earliest : ℕ) (m : Prepare) (held : List Lock) → still_stand b m.reads.epoch m.reads.keys held ≡ true
+    → plan_prepare_fresh b earliest m held ≡ plan_prepare_now b earliest m
 unfolding plan_prepare_fresh
-fresh_stands b earliest t c epoch rs ws held e = ap (λ a. cond a (plan_prepare_now b earliest t c rs ws) (Ok (ends b t (refuses b t c ∷ [])))) e
+fresh_stands b earliest m held e = ap (λ a. cond a (plan_prepare_now b earliest m) (Ok (ends b m.txn (refuses b m.txn m.coordinator ∷ [])))) e
 
-pub fresh_gone : (b : Before) (earliest : ℕ) (t : Id) (c epoch : ℕ) (rs : List Bytes) (ws : List Write) (held : List Lock) → still_stand b epoch rs held ≡ false
-    → plan_prepare_fresh b earliest t c epoch rs ws held ≡ Ok (ends b t (refuses b t c ∷ []))
+pub fresh_gone : (b : Before) (earliest : ℕ) (m : Prepare) (held : List Lock) → still_stand b m.reads.epoch m.reads.keys held ≡ false
+    → plan_prepare_fresh b earliest m held ≡ Ok (ends b m.txn (refuses b m.txn m.coordinator ∷ []))
 unfolding plan_prepare_fresh
-fresh_gone b earliest t c epoch rs ws held e = ap (λ a. cond a (plan_prepare_now b earliest t c rs ws) (Ok (ends b t (refuses b t c ∷ [])))) e
+fresh_gone b earliest m held e = ap (λ a. cond a (plan_prepare_now b earliest m) (Ok (ends b m.txn (refuses b m.txn m.coordinator ∷ [])))) e
 
 -- a transaction that is not known holds nothing
-pub prepare_unknown : (k : Kept) (earliest : ℕ) (t : Id) (c epoch : ℕ) (rs : List Bytes) (ws : List Write) (past : Past) (result : Result Plan Fault)
-    → find_row k.memory.rows t ≡ None → past ≡ Past.Unknown
-    → IsPlanned k (plan_prepare_fresh (start_of k) earliest t c epoch rs ws (held_in k.memory.rows t)) result
-    → IsPlanned k (plan_prepare (start_of k) earliest t c epoch rs ws (standing_of past)) result
+pub prepare_unknown : (k : Kept) (earliest : ℕ) (m : Prepare) (past : Past) (result : Result Plan Fault)
+    → find_row k.memory.rows m.txn ≡ None → past ≡ Past.Unknown
+    → IsPlanned k (plan_prepare_fresh (start_of k) earliest m (held_in k.memory.rows m.txn)) result
+    → IsPlanned k (plan_prepare (start_of k) earliest m (standing_of past)) result
 unfolding plan_prepare
-prepare_unknown k earliest t c epoch rs ws past result none unknown made =
-    subst (λ p. IsPlanned k (plan_prepare (start_of k) earliest t c epoch rs ws (standing_of p)) result) (sym unknown)
-    (subst (λ h. IsPlanned k (plan_prepare_fresh (start_of k) earliest t c epoch rs ws h) result) (ap held_by none) made)
+prepare_unknown k earliest m past result none unknown made =
+    subst (λ p. IsPlanned k (plan_prepare (start_of k) earliest m (standing_of p)) result) (sym unknown)
+    (subst (λ h. IsPlanned k (plan_prepare_fresh (start_of k) earliest m h) result) (ap held_by none) made)
 
 -- where the locks are granted
-opened : (b : Before) (earliest : ℕ) (t : Id) (c : ℕ) (rs : List Bytes) (ws : List Write) → opens b t (exclusive ws) ≡ true
-    → plan_prepare_now b earliest t c rs ws ≡ roomed (is_crowded b t) (promises_now b earliest t c rs ws)
+opened : (b : Before) (earliest : ℕ) (m : Prepare) → opens b m.txn (exclusive m.writes) ≡ true
+    → plan_prepare_now b earliest m ≡ roomed (is_crowded b m.txn) (promises_now b earliest m)
 unfolding plan_prepare_now
-opened b earliest t c rs ws e = ap (λ a. roomed (is_crowded b t) (cond a (promises_now b earliest t c rs ws) (waits_with b t c rs ws))) e
+opened b earliest m e = ap (λ a. roomed (is_crowded b m.txn) (cond a (promises_now b earliest m) (waits_with b m))) e
 
 roomed_late : (crowded : Bool) (planned : Planned) → planned ≡ Err TimeSpent → roomed crowded planned ≡ Err TimeSpent
 roomed_late true planned e = ap (roomed true) e
 roomed_late false planned e = e
 
-pub now_late : (b : Before) (earliest : ℕ) (t : Id) (c : ℕ) (rs : List Bytes) (ws : List Write) → opens b t (exclusive ws) ≡ true
-    → 2 ^ 62 ≤ promise_stamp b earliest → plan_prepare_now b earliest t c rs ws ≡ Err TimeSpent
-now_late b earliest t c rs ws free late =
-    opened b earliest t c rs ws free
-    ∙ roomed_late (is_crowded b t) (promises_now b earliest t c rs ws) (promise_late b (in_way b t (exclusive ws)) earliest t c rs ws late)
+pub now_late : (b : Before) (earliest : ℕ) (m : Prepare) → opens b m.txn (exclusive m.writes) ≡ true
+    → 2 ^ 62 ≤ promise_stamp b earliest → plan_prepare_now b earliest m ≡ Err TimeSpent
+now_late b earliest m free late =
+    opened b earliest m free
+    ∙ roomed_late (is_crowded b m.txn) (promises_now b earliest m) (promise_late b (in_way b m.txn (exclusive m.writes)) earliest m.txn m.coordinator m.reads.keys m.writes late)
 
-pub now_crowded : (b : Before) (earliest : ℕ) (t : Id) (c : ℕ) (rs : List Bytes) (ws : List Write) (at : ℕ) → opens b t (exclusive ws) ≡ true
-    → at ≡ promise_stamp b earliest → at < 2 ^ 62 → is_crowded b t ≡ true → plan_prepare_now b earliest t c rs ws ≡ Err RowsFull
-now_crowded b earliest t c rs ws at free is small full =
-    opened b earliest t c rs ws free
-    ∙ ap (λ a. roomed a (promises_now b earliest t c rs ws)) full
-    ∙ ap (roomed true) (promise_made b (in_way b t (exclusive ws)) earliest t c rs ws at is small)
+pub now_crowded : (b : Before) (earliest : ℕ) (m : Prepare) (at : ℕ) → opens b m.txn (exclusive m.writes) ≡ true
+    → at ≡ promise_stamp b earliest → at < 2 ^ 62 → is_crowded b m.txn ≡ true → plan_prepare_now b earliest m ≡ Err RowsFull
+now_crowded b earliest m at free is small full =
+    opened b earliest m free
+    ∙ ap (λ a. roomed a (promises_now b earliest m)) full
+    ∙ ap (roomed true) (promise_made b (in_way b m.txn (exclusive m.writes)) earliest m.txn m.coordinator m.reads.keys m.writes at is small)
 
-pub now_promised : (b : Before) (earliest : ℕ) (t : Id) (c : ℕ) (rs : List Bytes) (ws : List Write) (at : ℕ) → opens b t (exclusive ws) ≡ true
-    → at ≡ promise_stamp b earliest → at < 2 ^ 62 → is_crowded b t ≡ false
-    → plan_prepare_now b earliest t c rs ws ≡ Ok (promises b (in_way b t (exclusive ws)) t at c rs ws)
-now_promised b earliest t c rs ws at free is small roomy =
-    opened b earliest t c rs ws free
-    ∙ ap (λ a. roomed a (promises_now b earliest t c rs ws)) roomy
-    ∙ promise_made b (in_way b t (exclusive ws)) earliest t c rs ws at is small
+pub now_promised : (b : Before) (earliest : ℕ) (m : Prepare) (at : ℕ) → opens b m.txn (exclusive m.writes) ≡ true
+    → at ≡ promise_stamp b earliest → at < 2 ^ 62 → is_crowded b m.txn ≡ false
+    → plan_prepare_now b earliest m ≡ Ok (promises b (in_way b m.txn (exclusive m.writes)) m.txn at m.coordinator m.reads.keys m.writes)
+now_promised b earliest m at free is small roomy =
+    opened b earliest m free
+    ∙ ap (λ a. roomed a (promises_now b earliest m)) roomy
+    ∙ promise_made b (in_way b m.txn (exclusive m.writes)) earliest m.txn m.coordinator m.reads.keys m.writes at is small
 
 -- where they are not
-shut : (b : Before) (earliest : ℕ) (t : Id) (c : ℕ) (rs : List Bytes) (ws : List Write) → opens b t (exclusive ws) ≡ false
-    → plan_prepare_now b earliest t c rs ws ≡ roomed (is_crowded b t) (waits_with b t c rs ws)
+shut : (b : Before) (earliest : ℕ) (m : Prepare) → opens b m.txn (exclusive m.writes) ≡ false
+    → plan_prepare_now b earliest m ≡ roomed (is_crowded b m.txn) (waits_with b m)
 unfolding plan_prepare_now
-shut b earliest t c rs ws e = ap (λ a. roomed (is_crowded b t) (cond a (promises_now b earliest t c rs ws) (waits_with b t c rs ws))) e
+shut b earliest m e = ap (λ a. roomed (is_crowded b m.txn) (cond a (promises_now b earliest m) (waits_with b m))) e
 
-pub wait_crowded : (b : Before) (earliest : ℕ) (t : Id) (c : ℕ) (rs : List Bytes) (ws : List Write) → opens b t (exclusive ws) ≡ false → is_crowded b t ≡ true
-    → plan_prepare_now b earliest t c rs ws ≡ Err RowsFull
-wait_crowded b earliest t c rs ws e full = shut b earliest t c rs ws e ∙ ap (λ a. roomed a (waits_with b t c rs ws)) full
+pub wait_crowded : (b : Before) (earliest : ℕ) (m : Prepare) → opens b m.txn (exclusive m.writes) ≡ false → is_crowded b m.txn ≡ true
+    → plan_prepare_now b earliest m ≡ Err RowsFull
+wait_crowded b earliest m e full = shut b earliest m e ∙ ap (λ a. roomed a (waits_with b m)) full
 
-pub wait_roomy : (b : Before) (earliest : ℕ) (t : Id) (c : ℕ) (rs : List Bytes) (ws : List Write) → opens b t (exclusive ws) ≡ false → is_crowded b t ≡ false
-    → plan_prepare_now b earliest t c rs ws ≡ waits_with b t c rs ws
-wait_roomy b earliest t c rs ws e roomy = shut b earliest t c rs ws e ∙ ap (λ a. roomed a (waits_with b t c rs ws)) roomy
+pub wait_roomy : (b : Before) (earliest : ℕ) (m : Prepare) → opens b m.txn (exclusive m.writes) ≡ false → is_crowded b m.txn ≡ false
+    → plan_prepare_now b earliest m ≡ waits_with b m
+wait_roomy b earliest m e roomy = shut b earliest m e ∙ ap (λ a. roomed a (waits_with b m)) roomy
 
 -- ---- waits that are granted
 

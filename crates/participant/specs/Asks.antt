@@ -5,8 +5,9 @@ use Rattle.units.specs.Keys.{Bytes}
 use Rattle.units.specs.Locks.{exclusive}
 use Rattle.units.specs.declared.writes.Write.{Write}
 use Rattle.protocol.specs.Rows.{Idle, WaitsRead, IsPrepared}
-use Rattle.protocol.specs.Draft.{promise, vote_to}
-use Rattle.protocol.specs.Plan.{Before, Plan, puts, opens, in_way, to_read, answers}
+use Rattle.protocol.specs.Outputs.{promise, vote_to}
+use Rattle.protocol.specs.Plan.{Before, Plan, puts, opens, in_way}
+use Rattle.protocol.specs.Cells.{to_read, answers}
 
 -- a shared lock and the answer, or a wait
 abbrev pub read_asks : Before → Id → Bytes → Plan

@@ -3,7 +3,7 @@ use Rattle.std.specs.Prelude.{ℕ, List, [], ◌∷◌, Option, Some, None}
 use Rattle.units.specs.Ids.{Id}
 use Rattle.message.specs.declared.message.Envelope.{Envelope}
 use Rattle.rows.specs.declared.wait.Wait.{Wait}
-use Rattle.protocol.specs.Draft.{vote_to}
+use Rattle.protocol.specs.Outputs.{vote_to}
 
 -- it is refused
 abbrev pub refused_by : ℕ → Id → Option Wait → List Envelope

@@ -1,9 +1,9 @@
 //! Outcomes, and what a participant does until they come.
 ghost use Rattle.std.specs.Prelude.{◌≡◌, ◌∷◌, [], true, Some, None, Ok, IfOk, IfErr};
 ghost use Rattle.std.specs.Option.{option_copied};
-ghost use Rattle.protocol.specs.Rows.{HasRow};
-ghost use Rattle.protocol.specs.Step.{is_outcome_for};
-ghost use Rattle.protocol.specs.Plan.{plan_outcome, plan_nudge, drops, ends, raised, stands, held_in};
+ghost use Rattle.protocol.specs.Rows.{HasRow, held_in};
+ghost use Rattle.protocol.specs.Plan.{drops, ends, stands};
+ghost use Rattle.protocol.specs.Cells.{is_outcome_for, plan_outcome, plan_nudge, raised};
 ghost use Rattle.rows.specs.CodeRows.{may_close, phase_of, phase_of_wait};
 ghost use Rattle.rows.specs.RowTable.{has_phase};
 ghost use Rattle.memory.specs.Carry.{IsFit, MayTurn, may_end};
@@ -31,7 +31,7 @@ pub fn on_outcome(state: &State, alloc: Global, told: &Outcome) -> Result<Plan, 
 }
 
 // The outcome of a transaction that has a row.
-#[tactic(auto, unfolding(protocol::specs::Plan::plan_outcome))]
+#[tactic(auto, unfolding(protocol::specs::Cells::plan_outcome))]
 fn outcome_with_row(state: &State, alloc: Global, told: &Outcome, row: &Row) -> Result<Plan, Fault>
     requires turn { MayTurn state.now.memory.rows told.now.txn row.now }
     ensures planned { IsPlanned state.now (plan_outcome (start_of state.now) told.now.from told.now.txn told.now.outcome (HasRow (held_in state.now.memory.rows told.now.txn) (phase_of row.now))) result }
@@ -50,7 +50,7 @@ fn outcome_with_row(state: &State, alloc: Global, told: &Outcome, row: &Row) -> 
 }
 
 // The outcome of a transaction that reads, by what it waits with.
-#[tactic(auto, unfolding(protocol::specs::Plan::plan_outcome))]
+#[tactic(auto, unfolding(protocol::specs::Cells::plan_outcome))]
 fn outcome_with_wait(
     state: &State,
     alloc: Global,
@@ -69,7 +69,7 @@ fn outcome_with_wait(
 }
 
 // The outcome of a transaction that has no row.
-#[tactic(auto, unfolding(protocol::specs::Plan::plan_outcome))]
+#[tactic(auto, unfolding(protocol::specs::Cells::plan_outcome))]
 fn outcome_without_row(
     state: &State,
     alloc: Global,
@@ -151,7 +151,7 @@ pub fn on_nudge(state: &State, alloc: Global, txn: TxnId) -> Result<Plan, Fault>
 }
 
 // A nudge of a transaction that has a row.
-#[tactic(auto, unfolding(protocol::specs::Plan::plan_nudge))]
+#[tactic(auto, unfolding(protocol::specs::Cells::plan_nudge))]
 fn nudge_with_row(state: &State, alloc: Global, txn: TxnId, row: &Row) -> Result<Plan, Fault>
     ensures planned { IsPlanned state.now (plan_nudge (start_of state.now) txn (HasRow (held_in state.now.memory.rows txn) (phase_of row.now))) result }
     ensures fit { IfOk result (IsFit state.now) }

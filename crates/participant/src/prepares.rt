@@ -2,9 +2,10 @@
 ghost use Rattle.std.specs.Prelude.{◌≡◌, ℕ, true, false, ◌+◌, ◌<◌, ◌≤◌, ◌^◌, max, IfOk, IfErr, MatchResult, [], ◌∷◌, Some, None, Ok, Err};
 ghost use Rattle.std.specs.Option.{option_copied};
 ghost use Rattle.units.specs.Locks.{exclusive};
-ghost use Rattle.protocol.specs.Plan.{plan_prepare, plan_prepare_fresh, plan_prepare_now, plan_promise, opens, in_way, ends, puts, replies, stands, held_in};
-ghost use Rattle.protocol.specs.Draft.{vote_to};
-ghost use Rattle.protocol.specs.Rows.{HasRow, WaitsPrepare, find_row};
+ghost use Rattle.protocol.specs.Rows.{held_in, HasRow, WaitsPrepare, find_row};
+ghost use Rattle.protocol.specs.Outputs.{vote_to};
+ghost use Rattle.protocol.specs.Plan.{opens, in_way, ends, puts, replies, stands};
+ghost use Rattle.protocol.specs.Cells.{plan_prepare, plan_prepare_fresh, plan_prepare_now, plan_promise};
 ghost use Rattle.rows.specs.CodeRows.{phase_of, phase_of_wait};
 ghost use Rattle.memory.specs.Carry.{Asks, IsFit, MayTurn, may_ask, may_end};
 ghost use Rattle.memory.specs.Kept.{start_of, standing_of, IsPlanned};
@@ -27,7 +28,7 @@ pub fn on_prepare(
     now: &Reading,
     prepare: &Prepare,
 ) -> Result<Plan, Fault>
-    ensures planned { IsPlanned state.now (plan_prepare (start_of state.now) now.now.earliest prepare.now.txn prepare.now.coordinator prepare.now.reads.epoch prepare.now.reads.keys prepare.now.writes (stands (start_of state.now) prepare.now.txn)) result }
+    ensures planned { IsPlanned state.now (plan_prepare (start_of state.now) now.now.earliest prepare.now (stands (start_of state.now) prepare.now.txn)) result }
     ensures fit { IfOk result (IsFit state.now) }
 {
     match state.row(prepare.txn) {
@@ -37,7 +38,7 @@ pub fn on_prepare(
 }
 
 // A prepare of a transaction that has a row.
-#[tactic(auto, unfolding(protocol::specs::Plan::plan_prepare))]
+#[tactic(auto, unfolding(protocol::specs::Cells::plan_prepare))]
 fn prepare_with_row(
     state: &State,
     alloc: Global,
@@ -46,7 +47,7 @@ fn prepare_with_row(
     row: &Row,
 ) -> Result<Plan, Fault>
     requires turn { MayTurn state.now.memory.rows prepare.now.txn row.now }
-    ensures planned { IsPlanned state.now (plan_prepare (start_of state.now) now.now.earliest prepare.now.txn prepare.now.coordinator prepare.now.reads.epoch prepare.now.reads.keys prepare.now.writes (HasRow (held_in state.now.memory.rows prepare.now.txn) (phase_of row.now))) result }
+    ensures planned { IsPlanned state.now (plan_prepare (start_of state.now) now.now.earliest prepare.now (HasRow (held_in state.now.memory.rows prepare.now.txn) (phase_of row.now))) result }
     ensures fit { IfOk result (IsFit state.now) }
 {
     match row {
@@ -57,7 +58,7 @@ fn prepare_with_row(
 }
 
 // A prepare of a transaction that reads, by what it waits with.
-#[tactic(auto, unfolding(protocol::specs::Plan::plan_prepare))]
+#[tactic(auto, unfolding(protocol::specs::Cells::plan_prepare))]
 fn prepare_with_wait(
     state: &State,
     alloc: Global,
@@ -66,7 +67,7 @@ fn prepare_with_wait(
     wait: Option<&Wait>,
 ) -> Result<Plan, Fault>
     requires { may_end state.now.memory.rows prepare.now.txn ≡ true }
-    ensures planned { IsPlanned state.now (plan_prepare (start_of state.now) now.now.earliest prepare.now.txn prepare.now.coordinator prepare.now.reads.epoch prepare.now.reads.keys prepare.now.writes (HasRow (held_in state.now.memory.rows prepare.now.txn) (phase_of_wait (option_copied wait.entry)))) result }
+    ensures planned { IsPlanned state.now (plan_prepare (start_of state.now) now.now.earliest prepare.now (HasRow (held_in state.now.memory.rows prepare.now.txn) (phase_of_wait (option_copied wait.entry)))) result }
     ensures fit { IfOk result (IsFit state.now) }
 {
     match wait {
@@ -77,7 +78,7 @@ fn prepare_with_wait(
 }
 
 // A prepare of a transaction that has no row.
-#[tactic(auto, unfolding(protocol::specs::Plan::plan_prepare))]
+#[tactic(auto, unfolding(protocol::specs::Cells::plan_prepare))]
 fn prepare_without_row(
     state: &State,
     alloc: Global,
@@ -87,7 +88,7 @@ fn prepare_without_row(
 ) -> Result<Plan, Fault>
     requires row { find_row state.now.memory.rows prepare.now.txn ≡ None }
     requires ends { may_end state.now.memory.rows prepare.now.txn ≡ true }
-    ensures planned { IsPlanned state.now (plan_prepare (start_of state.now) now.now.earliest prepare.now.txn prepare.now.coordinator prepare.now.reads.epoch prepare.now.reads.keys prepare.now.writes (standing_of past)) result }
+    ensures planned { IsPlanned state.now (plan_prepare (start_of state.now) now.now.earliest prepare.now (standing_of past)) result }
     ensures fit { IfOk result (IsFit state.now) }
 {
     match past {
@@ -117,7 +118,7 @@ fn prepare_fresh(
     prepare: &Prepare,
 ) -> Result<Plan, Fault>
     requires { may_end state.now.memory.rows prepare.now.txn ≡ true }
-    ensures planned { IsPlanned state.now (plan_prepare_fresh (start_of state.now) now.now.earliest prepare.now.txn prepare.now.coordinator prepare.now.reads.epoch prepare.now.reads.keys prepare.now.writes (held_in state.now.memory.rows prepare.now.txn)) result }
+    ensures planned { IsPlanned state.now (plan_prepare_fresh (start_of state.now) now.now.earliest prepare.now (held_in state.now.memory.rows prepare.now.txn)) result }
     ensures fit { IfOk result (IsFit state.now) }
 {
     if reads_stand(state, prepare.txn, &prepare.reads) {
@@ -147,7 +148,7 @@ fn prepare_now(
     prepare: &Prepare,
 ) -> Result<Plan, Fault>
     requires { may_end state.now.memory.rows prepare.now.txn ≡ true }
-    ensures planned { IsPlanned state.now (plan_prepare_now (start_of state.now) now.now.earliest prepare.now.txn prepare.now.coordinator prepare.now.reads.keys prepare.now.writes) result }
+    ensures planned { IsPlanned state.now (plan_prepare_now (start_of state.now) now.now.earliest prepare.now) result }
     ensures fit { IfOk result (IsFit state.now) }
 {
     if state.opens_writes(prepare.txn, &prepare.writes) {
@@ -166,7 +167,7 @@ fn promise_now(
 ) -> Result<Plan, Fault>
     requires opens { opens (start_of state.now) prepare.now.txn (exclusive prepare.now.writes) ≡ true }
     requires ends { may_end state.now.memory.rows prepare.now.txn ≡ true }
-    ensures planned { IsPlanned state.now (plan_prepare_now (start_of state.now) now.now.earliest prepare.now.txn prepare.now.coordinator prepare.now.reads.keys prepare.now.writes) result }
+    ensures planned { IsPlanned state.now (plan_prepare_now (start_of state.now) now.now.earliest prepare.now) result }
     ensures fit { IfOk result (IsFit state.now) }
 {
     let at = promise_time(state, now)?;
@@ -195,7 +196,7 @@ fn promise_anew(state: &State, alloc: Global, prepare: &Prepare, at: Stamp) -> R
 fn wait(state: &State, alloc: Global, prepare: &Prepare) -> Result<Plan, Fault>
     requires opens { opens (start_of state.now) prepare.now.txn (exclusive prepare.now.writes) ≡ false }
     requires ends { may_end state.now.memory.rows prepare.now.txn ≡ true }
-    ensures planned { (earliest : ℕ) → IsPlanned state.now (plan_prepare_now (start_of state.now) earliest prepare.now.txn prepare.now.coordinator prepare.now.reads.keys prepare.now.writes) result }
+    ensures planned { (earliest : ℕ) → IsPlanned state.now (plan_prepare_now (start_of state.now) earliest prepare.now) result }
     ensures fit { IfOk result (IsFit state.now) }
 {
     if state.is_crowded(prepare.txn) {

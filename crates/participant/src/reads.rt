@@ -1,9 +1,10 @@
 //! Reads.
 ghost use Rattle.std.specs.Prelude.{◌≡◌, ℕ, true, IfOk, IfErr, [], ◌∷◌, None};
 ghost use Rattle.message.specs.declared.message.Answer.TheVariants.{Refused};
-ghost use Rattle.protocol.specs.Draft.{answer_to};
-ghost use Rattle.protocol.specs.Rows.{Idle, WaitsRead, HasRow};
-ghost use Rattle.protocol.specs.Plan.{plan_read, plan_read_row, plan_read_now, plan_go_on, puts, replies, answers, stands, held_in, to_read};
+ghost use Rattle.protocol.specs.Rows.{Idle, WaitsRead, HasRow, held_in};
+ghost use Rattle.protocol.specs.Outputs.{answer_to};
+ghost use Rattle.protocol.specs.Plan.{puts, replies, stands};
+ghost use Rattle.protocol.specs.Cells.{plan_read, plan_read_row, plan_read_now, plan_go_on, answers, to_read};
 ghost use Rattle.rows.specs.CodeRows.{phase_of};
 ghost use Rattle.memory.specs.Carry.{Asks, IsFit, MayTurn, may_ask, may_end};
 ghost use Rattle.memory.specs.Kept.{start_of, standing_of, IsPlanned};
@@ -28,7 +29,7 @@ pub fn on_read(state: &State, alloc: Global, read: &Read) -> Result<Plan, Fault>
 }
 
 // A read of a transaction that has a row.
-#[tactic(auto, unfolding(protocol::specs::Plan::plan_read))]
+#[tactic(auto, unfolding(protocol::specs::Cells::plan_read))]
 fn read_with_row(state: &State, alloc: Global, read: &Read, row: &Row) -> Result<Plan, Fault>
     requires turn { MayTurn state.now.memory.rows read.now.txn row.now }
     ensures planned { IsPlanned state.now (plan_read (start_of state.now) read.now.txn read.now.key (HasRow (held_in state.now.memory.rows read.now.txn) (phase_of row.now))) result }
@@ -44,7 +45,7 @@ fn read_with_row(state: &State, alloc: Global, read: &Read, row: &Row) -> Result
 }
 
 // A read of a transaction that has no row.
-#[tactic(auto, unfolding(protocol::specs::Plan::plan_read))]
+#[tactic(auto, unfolding(protocol::specs::Cells::plan_read))]
 fn read_without_row(state: &State, alloc: Global, read: &Read, past: Past) -> Result<Plan, Fault>
     requires { may_end state.now.memory.rows read.now.txn ≡ true }
     ensures planned { IsPlanned state.now (plan_read (start_of state.now) read.now.txn read.now.key (standing_of past)) result }

@@ -11,9 +11,9 @@ use Rattle.record.specs.Facts.{recorded}
 use Rattle.record.specs.declared.record.Committed.{Committed}
 use Rattle.record.specs.declared.record.Prepared.{Prepared}
 use Rattle.protocol.specs.Rows.{Row, IsPrepared, IsDecided, standing, standing_by, find_row}
-use Rattle.protocol.specs.Step.{is_outcome_for}
-use Rattle.protocol.specs.Sound.{Agrees, StandsBy, IsSound, is_open}
 use Rattle.protocol.specs.Plan.{Before, stands}
+use Rattle.protocol.specs.Cells.{is_outcome_for}
+use Rattle.protocol.specs.Sound.{Agrees, StandsBy, IsSound, is_open}
 use Rattle.protocol.proofs.RowChanges.{row_as}
 use Rattle.protocol.proofs.Shapes.{is_undecided}
 

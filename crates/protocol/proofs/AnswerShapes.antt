@@ -9,11 +9,11 @@ use Rattle.units.specs.Locks.{holds}
 use Rattle.units.specs.declared.lock.Lock.{Lock}
 use Rattle.units.specs.declared.writes.Write.{Write}
 use Rattle.message.specs.declared.message.Envelope.{Envelope}
-use Rattle.protocol.specs.Rows.{Idle, WaitsRead, WaitsPrepare, WaitsCommit, Collecting, IsPrepared, IsDecided, Voted, Standing, IsUnknown, WasEnded, HasRow, WasAborted, WasSettled, WasClosed, claims}
-use Rattle.protocol.specs.Draft.{outcome_to}
-use Rattle.protocol.specs.Step.{is_outcome_for, with_vote}
+use Rattle.protocol.specs.Rows.{Idle, WaitsRead, WaitsPrepare, WaitsCommit, Collecting, IsPrepared, IsDecided, Voted, Standing, IsUnknown, WasEnded, HasRow, WasAborted, WasSettled, WasClosed, claims, with_vote, held_in}
+use Rattle.protocol.specs.Outputs.{outcome_to}
+use Rattle.protocol.specs.Plan.{Before, stands, ends, is_crowded}
+use Rattle.protocol.specs.Cells.{is_outcome_for, plan_count, plan_tell, plan_vote, plan_unpromised, plan_outcome, plan_give_up, plan_abort_for, plan_ask}
 use Rattle.protocol.specs.Sound.{holds_writes}
-use Rattle.protocol.specs.Plan.{Before, held_in, stands, ends, is_crowded, plan_count, plan_tell, plan_vote, plan_unpromised, plan_outcome, plan_give_up, plan_abort_for, plan_ask}
 use Rattle.protocol.proofs.InWay.{row_at, room_at, free_of_nothing}
 use Rattle.protocol.proofs.Shapes.{Shaped, IsEnd, IsAbort, IsClose, IsLock, IsCleared, is_undecided, all_fit, granted_to, reads_held}
 use Rattle.protocol.proofs.Choices.{planned, refused, shaped_cond, shaped_err, shaped_idle, shaped_reply, fits_at, clear, held_at}

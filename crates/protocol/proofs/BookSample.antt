@@ -3,7 +3,7 @@ use Rattle.std.proofs.Common.{◌≡◌, List, [], ◌∷◌, Some, refl}
 use Rattle.record.specs.declared.record.Record.{Record}
 use Rattle.message.specs.declared.message.Input.{Input}
 use Rattle.protocol.specs.Computing.{computing}
-use Rattle.protocol.specs.Draft.{done_to}
+use Rattle.protocol.specs.Outputs.{done_to}
 use Rattle.protocol.specs.Replay.{Kept, IsReplay, opened_with, replayed}
 use Rattle.protocol.proofs.Samples.{a, one, txn, clock, sets, shard, commit_of}
 

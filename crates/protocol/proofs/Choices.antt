@@ -15,10 +15,10 @@ use Rattle.units.proofs.ByIdLaws.{found_all}
 use Rattle.units.proofs.ListLaws.{all_of_each, all_gives}
 use Rattle.record.specs.Facts.{recorded}
 use Rattle.message.specs.declared.message.Envelope.{Envelope}
-use Rattle.protocol.specs.Rows.{Row, Phase, Idle, WaitsRead, WaitsPrepare, WaitsCommit, Collecting, IsPrepared, IsDecided, Standing, IsUnknown, WasEnded, HasRow, WasAborted, WasSettled, WasClosed, claims, find_row, standing, standing_by}
-use Rattle.protocol.specs.Draft.{held_by}
+use Rattle.protocol.specs.Rows.{Row, Phase, Idle, WaitsRead, WaitsPrepare, WaitsCommit, Collecting, IsPrepared, IsDecided, Standing, IsUnknown, WasEnded, HasRow, WasAborted, WasSettled, WasClosed, claims, find_row, standing, standing_by, held_by, held_in, without_rows}
+use Rattle.protocol.specs.Plan.{Plan, Planned, Before, stands, replies, idles, roomed, in_way, opens}
+use Rattle.protocol.specs.Cells.{still_stand}
 use Rattle.protocol.specs.Sound.{fits}
-use Rattle.protocol.specs.Plan.{Plan, Planned, Before, stands, replies, idles, roomed, in_way, opens, held_in, still_stand, without_rows}
 use Rattle.protocol.proofs.RowChanges.{row_as, find-without_rows_other}
 use Rattle.protocol.proofs.AboveVersions.{each_gives}
 use Rattle.protocol.proofs.InWay.{row_at, in_way_gone}

@@ -16,8 +16,7 @@ use Rattle.locks.specs.Ways.{gives_way, stands_in_way}
 use Rattle.locks.proofs.Clashes.{clash_nil, clash_comm, clash-with_locks}
 use Rattle.locks.proofs.Pairs.{EachPair, LockPair, WaitPair, HoldsByKey, by_pairs, from_pairs}
 use Rattle.locks.proofs.TableLaws.{all_of_any, free_of, not_older_waiter, older_or_firm, true_or_false}
-use Rattle.protocol.specs.Rows.{Row, claim_of, claims, find_row, is_firm}
-use Rattle.protocol.specs.Draft.{held_by}
+use Rattle.protocol.specs.Rows.{Row, claim_of, claims, find_row, is_firm, held_by}
 use Rattle.protocol.proofs.RowTable.{claims-find_row}
 
 -- ---- a claim is put

@@ -31,10 +31,10 @@ use Rattle.facts.specs.Rules.{allows, follows_facts, is_unrecorded}
 use Rattle.message.specs.declared.message.Input.{Input}
 use Rattle.protocol.specs.FitsBeside.{LoggedFitsBeside}
 use Rattle.protocol.specs.Rows.{Memory, Row, IsPrepared, IsDecided, find_row, standing_row, without_row}
-use Rattle.protocol.specs.Plan.{Keeps, Plan, Planned, before, carried, plan_advance, plan_input}
+use Rattle.protocol.specs.Plan.{Keeps, Plan, Planned, before, carried}
+use Rattle.protocol.specs.Cells.{plan_advance}
+use Rattle.protocol.specs.Step.{plan_input, facts_after, IsInLimit}
 use Rattle.protocol.specs.Sound.{Agrees, IsSound, writes_standing}
-use Rattle.protocol.specs.Step.{facts_after}
-use Rattle.protocol.specs.StepLaws.{IsInLimit}
 use Rattle.protocol.proofs.AboveVersions.{rows_apart}
 use Rattle.protocol.proofs.Follows.{logged_follows}
 use Rattle.protocol.proofs.InstallsAbove.{installs_above}

@@ -10,9 +10,9 @@ use Rattle.record.specs.declared.record.Record.{Record}
 use Rattle.facts.specs.Rules.{allows, is_unrecorded, follows_facts}
 use Rattle.message.specs.declared.message.Input.{Input}
 use Rattle.protocol.specs.Rows.{IsPrepared, IsDecided, find_row}
-use Rattle.protocol.specs.Step.{is_outcome_for}
+use Rattle.protocol.specs.Plan.{Plan, Before, before, stands}
+use Rattle.protocol.specs.Cells.{is_outcome_for, ceiling_for}
 use Rattle.protocol.specs.Sound.{LoggedFollows}
-use Rattle.protocol.specs.Plan.{Plan, Before, before, stands, ceiling_for}
 use Rattle.protocol.proofs.RowChanges.{row_as, by_id-claims}
 use Rattle.protocol.proofs.PlanShapes.{shape_of}
 use Rattle.protocol.proofs.Shapes.{Shape, Answers, IsEnd, IsAbort, IsClose, IsSettle, IsLock, IsWait, IsPromise, IsDecision, ShapeOf, Acts, IsAdvance, is_undecided}

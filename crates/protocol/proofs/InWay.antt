@@ -23,8 +23,8 @@ use Rattle.locks.proofs.Clashes.{clash_nil}
 use Rattle.locks.proofs.Oldest.{ready_is_oldest}
 use Rattle.locks.proofs.WayLaws.{wounded-is}
 use Rattle.protocol.specs.Rows.{Row, Phase, HasRow, standing, standing_by, claim_of, claims, find_row, is_firm, needs_of}
-use Rattle.protocol.specs.Sound.{holds_alone, holds_writes, is_exclusive}
 use Rattle.protocol.specs.Plan.{Before, stands, in_way, is_crowded}
+use Rattle.protocol.specs.Sound.{holds_alone, holds_writes, is_exclusive}
 use Rattle.protocol.proofs.RowChanges.{row_as, find_each}
 use Rattle.protocol.proofs.RowTable.{claims-by_id, claims-find_row}
 use Rattle.protocol.proofs.Shapes.{IsLooseOther}

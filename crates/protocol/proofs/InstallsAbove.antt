@@ -8,9 +8,9 @@ use Rattle.record.specs.Facts.{recorded}
 use Rattle.record.specs.declared.record.Record.{Record}
 use Rattle.message.specs.declared.message.Input.{Input}
 use Rattle.protocol.specs.Rows.{IsPrepared, IsDecided, find_row}
-use Rattle.protocol.specs.Step.{is_outcome_for}
+use Rattle.protocol.specs.Plan.{Plan, Before, before}
+use Rattle.protocol.specs.Cells.{is_outcome_for, ceiling_for}
 use Rattle.protocol.specs.Sound.{writes_standing, InstallsAbove}
-use Rattle.protocol.specs.Plan.{Plan, Before, before, ceiling_for}
 use Rattle.protocol.proofs.Agreement.{Sound, PromiseOf, promise_of, DecisionOf, decision_of, not_below}
 use Rattle.protocol.proofs.PlanShapes.{shape_of}
 use Rattle.protocol.proofs.RowChanges.{row_as, by_id-claims}

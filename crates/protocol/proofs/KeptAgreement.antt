@@ -18,10 +18,10 @@ use Rattle.record.specs.Records.{Status, Unrecorded, StandsPrepared, StandsDecid
 use Rattle.record.specs.Facts.{Entry, learn, recorded, installs_at, with_status}
 use Rattle.record.specs.declared.record.Record.{Record}
 use Rattle.message.specs.declared.message.Input.{Input}
-use Rattle.protocol.specs.Rows.{Row, Phase, Idle, WaitsRead, WaitsPrepare, WaitsCommit, Collecting, IsPrepared, IsDecided, find_row, is_firm, with_row, without_row}
+use Rattle.protocol.specs.Rows.{Row, Phase, Idle, WaitsRead, WaitsPrepare, WaitsCommit, Collecting, IsPrepared, IsDecided, find_row, is_firm, with_row, without_row, without_rows}
+use Rattle.protocol.specs.Plan.{Plan, Before, carried, changed, stands, in_way}
 use Rattle.protocol.specs.Step.{facts_after}
 use Rattle.protocol.specs.Sound.{Agrees, StandsBy, is_open, holds_writes}
-use Rattle.protocol.specs.Plan.{Plan, Before, carried, changed, without_rows, stands, in_way}
 use Rattle.protocol.proofs.AboveVersions.{above_all, above_more, rows_apart, writes_apart}
 use Rattle.protocol.proofs.Agreement.{Sound, unrecorded}
 use Rattle.protocol.proofs.InWay.{holds_exclusive}

@@ -15,15 +15,16 @@ use Rattle.record.specs.Facts.{Facts, learn, installs_at, recorded}
 use Rattle.record.specs.declared.record.Record.{Record}
 use Rattle.message.specs.declared.message.Input.{Input}
 use Rattle.protocol.specs.Rows.{Memory}
-use Rattle.protocol.specs.Draft.{time_limit}
-use Rattle.protocol.specs.Step.{facts_after}
-use Rattle.protocol.specs.StepLaws.{IsInLimit}
-use Rattle.protocol.specs.Plan.{Plan, Before, carried, ended_by, raised, in_way}
+use Rattle.protocol.specs.Plan.{time_limit, Plan, Before, carried, ended_by, in_way}
+use Rattle.protocol.specs.Cells.{raised}
+use Rattle.protocol.specs.Step.{facts_after, IsInLimit}
 use Rattle.protocol.proofs.AboveVersions.{each_append, each_gives}
 use Rattle.protocol.proofs.Agreement.{Sound, decision_of, DecisionOf}
-use Rattle.protocol.proofs.LastUnderFloor.{under_ceiling}
 use Rattle.protocol.proofs.StatusChanges.{Closing, closing, settling, installs_by, by_id-status, ascends-with_id, ascends-with_ids}
 use Rattle.protocol.proofs.Shapes.{Shape, Answers, IsEnd, IsAbort, IsClose, IsSettle, IsLock, IsWait, IsPromise, IsDecision, ShapeOf, Acts, IsAdvance}
+
+under_ceiling : (last floor at stride : ℕ) → last ≤ floor → at ≤ 2 ^ 62 - 1 → max last at ≤ max floor (min (at + stride) (2 ^ 62 - 1))
+under_ceiling last floor at stride h fits = omega (arith, h, fits)
 
 -- no version is above a timestamp
 abbrev Covered : ℕ → List Install → Type 0

@@ -17,9 +17,9 @@ use Rattle.locks.proofs.Release.{release_makes_way}
 use Rattle.locks.proofs.TableLaws.{all_fail, lawful-without}
 use Rattle.locks.proofs.WayLaws.{is_free-is, none_wounded}
 use Rattle.message.specs.declared.message.Input.{Input}
-use Rattle.protocol.specs.Rows.{Row, Phase, IsPrepared, IsDecided, claim_of, claims, find_row, is_firm, needs_of, with_row, without_row}
+use Rattle.protocol.specs.Rows.{Row, Phase, IsPrepared, IsDecided, claim_of, claims, find_row, is_firm, needs_of, with_row, without_row, without_rows, held_in}
+use Rattle.protocol.specs.Plan.{Plan, Before, carried, changed, in_way, stands}
 use Rattle.protocol.specs.Sound.{fits}
-use Rattle.protocol.specs.Plan.{Plan, Before, carried, changed, without_rows, held_in, in_way, stands}
 use Rattle.protocol.proofs.Agreement.{Sound}
 use Rattle.protocol.proofs.ClaimsBeside.{IsBeside, OwnApart, Firms, all_both, lawful_put, own_of, keys_of, grant_beside, wait_beside}
 use Rattle.protocol.proofs.InWay.{stands_at}

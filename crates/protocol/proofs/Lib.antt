@@ -11,11 +11,8 @@ pub mod InstallsAbove
 pub mod KeptAgreement
 pub mod KeptFacts
 pub mod KeptRows
-pub mod LastUnderFloor
 mod LockTable
 pub mod PlanRows
-mod PlannedActs
-mod PlannedAgain
 pub mod PlanShapes
 pub mod Refusals
 pub mod OpenedRows
@@ -29,7 +26,6 @@ pub mod RowTable
 pub mod Samples
 pub mod Shapes
 mod ShardSteps
-pub mod StepIsPlanned
 pub mod StatusChanges
 pub mod StepSound
 pub mod WithinLimit

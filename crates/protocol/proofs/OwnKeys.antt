@@ -23,10 +23,12 @@ use Rattle.message.specs.declared.message.Envelope.{Envelope}
 use Rattle.message.specs.declared.message.Input.{Input}
 use Rattle.message.specs.declared.message.Message.{Message}
 use Rattle.protocol.specs.OwnKeys.{LoggedBelongs, StepKeepsOwn, all_own, names_own}
-use Rattle.protocol.specs.Rows.{Memory, Row, Phase, Idle, WaitsRead, WaitsPrepare, WaitsCommit, Collecting, IsPrepared, IsDecided, Voted, Standing, IsUnknown, WasEnded, HasRow, WasAborted, WasSettled, WasClosed, claims, find_row, rebuilt, standing_row, without_row}
-use Rattle.protocol.specs.Draft.{other_parts}
-use Rattle.protocol.specs.Step.{is_for}
-use Rattle.protocol.specs.Plan.{Before, Change, Keeps, Ends, Drops, Puts, Plan, Planned, before, carried, changed, is_crowded, opens, plan_abort, plan_advance, plan_ask, plan_commit, plan_commit_fresh, plan_commit_granted, plan_commit_now, plan_count, plan_decide, plan_give_up, plan_go_on, plan_input, plan_message, plan_nudge, plan_outcome, plan_prepare, plan_prepare_fresh, plan_prepare_now, plan_promise, plan_read, plan_read_now, plan_read_row, plan_resume, plan_resume_id, plan_resume_row, plan_settle, plan_tell, plan_unpromised, plan_vote, roomed, stands, to_read, without_rows}
+use Rattle.message.specs.declared.message.Prepare.{Prepare}
+use Rattle.message.specs.declared.message.Commit.{Commit}
+use Rattle.protocol.specs.Rows.{Memory, Row, Phase, Idle, WaitsRead, WaitsPrepare, WaitsCommit, Collecting, IsPrepared, IsDecided, Voted, Standing, IsUnknown, WasEnded, HasRow, WasAborted, WasSettled, WasClosed, claims, find_row, rebuilt, standing_row, without_row, without_rows}
+use Rattle.protocol.specs.Plan.{Before, Change, Keeps, Ends, Drops, Puts, Plan, Planned, before, carried, changed, is_crowded, opens, roomed, stands}
+use Rattle.protocol.specs.Cells.{other_parts, plan_abort, plan_advance, plan_ask, plan_commit, plan_commit_fresh, plan_commit_granted, plan_commit_now, plan_count, plan_decide, plan_give_up, plan_go_on, plan_nudge, plan_outcome, plan_prepare, plan_prepare_fresh, plan_prepare_now, plan_promise, plan_read, plan_read_now, plan_read_row, plan_resume, plan_resume_id, plan_resume_row, plan_settle, plan_tell, plan_unpromised, plan_vote, to_read}
+use Rattle.protocol.specs.Step.{is_for, plan_input, plan_message}
 use Rattle.protocol.proofs.InWay.{row_at}
 use Rattle.protocol.proofs.RowChanges.{row_as}
 use Rattle.protocol.proofs.RowTable.{with_row-is}
@@ -103,29 +105,29 @@ module _ (setup : Setup) where
   unfolding plan_promise belongs
   own_promise b ended earliest t c rs ws own = owned_cond _ _ _ (owned _ refl own) (refused _)
 
-  own_prepare_now : (b : Before) (earliest : ℕ) (t : Id) (c : ℕ) (rs : List Bytes) (ws : List Write) → keys_belong setup rs ws ≡ true
-      → Owned (plan_prepare_now b earliest t c rs ws)
+  own_prepare_now : (b : Before) (earliest : ℕ) (m : Prepare) → keys_belong setup m.reads.keys m.writes ≡ true
+      → Owned (plan_prepare_now b earliest m)
   unfolding plan_prepare_now
-  own_prepare_now b earliest t c rs ws own =
-      owned_roomed _ _ (owned_cond _ _ _ (own_promise b _ earliest t c rs ws own) (owned _ own refl))
+  own_prepare_now b earliest m own =
+      owned_roomed _ _ (owned_cond _ _ _ (own_promise b _ earliest m.txn m.coordinator m.reads.keys m.writes own) (owned _ own refl))
 
-  own_prepare_fresh : (b : Before) (earliest : ℕ) (t : Id) (c epoch : ℕ) (rs : List Bytes) (ws : List Write) (held : List Lock) → keys_belong setup rs ws ≡ true
-      → Owned (plan_prepare_fresh b earliest t c epoch rs ws held)
+  own_prepare_fresh : (b : Before) (earliest : ℕ) (m : Prepare) (held : List Lock) → keys_belong setup m.reads.keys m.writes ≡ true
+      → Owned (plan_prepare_fresh b earliest m held)
   unfolding plan_prepare_fresh
-  own_prepare_fresh b earliest t c epoch rs ws held own = owned_cond _ _ _ (own_prepare_now b earliest t c rs ws own) (owned _ refl refl)
+  own_prepare_fresh b earliest m held own = owned_cond _ _ _ (own_prepare_now b earliest m own) (owned _ refl refl)
 
-  own_prepare : (b : Before) (earliest : ℕ) (t : Id) (c epoch : ℕ) (rs : List Bytes) (ws : List Write) (s : Standing) → keys_belong setup rs ws ≡ true
-      → Owned (plan_prepare b earliest t c epoch rs ws s)
+  own_prepare : (b : Before) (earliest : ℕ) (m : Prepare) (s : Standing) → keys_belong setup m.reads.keys m.writes ≡ true
+      → Owned (plan_prepare b earliest m s)
   unfolding plan_prepare
-  own_prepare b earliest t c epoch rs ws IsUnknown own = own_prepare_fresh b earliest t c epoch rs ws [] own
-  own_prepare b earliest t c epoch rs ws (HasRow held Idle) own = own_prepare_fresh b earliest t c epoch rs ws held own
-  own_prepare b earliest t c epoch rs ws (HasRow held (WaitsRead k)) own = own_prepare_fresh b earliest t c epoch rs ws held own
-  own_prepare b earliest t c epoch rs ws (HasRow held (WaitsPrepare f qs vs)) own = owned _ refl refl
-  own_prepare b earliest t c epoch rs ws WasEnded own = owned _ refl refl
-  own_prepare b earliest t c epoch rs ws (HasRow held (IsPrepared f p)) own = owned _ refl refl
-  own_prepare b earliest t c epoch rs ws (WasClosed None) own = owned _ refl refl
-  own_prepare b earliest t c epoch rs ws (WasClosed (Some s)) own = owned _ refl refl
-  own_prepare b earliest t c epoch rs ws _ own = refused _
+  own_prepare b earliest m IsUnknown own = own_prepare_fresh b earliest m [] own
+  own_prepare b earliest m (HasRow held Idle) own = own_prepare_fresh b earliest m held own
+  own_prepare b earliest m (HasRow held (WaitsRead k)) own = own_prepare_fresh b earliest m held own
+  own_prepare b earliest m (HasRow held (WaitsPrepare f qs vs)) own = owned _ refl refl
+  own_prepare b earliest m WasEnded own = owned _ refl refl
+  own_prepare b earliest m (HasRow held (IsPrepared f p)) own = owned _ refl refl
+  own_prepare b earliest m (WasClosed None) own = owned _ refl refl
+  own_prepare b earliest m (WasClosed (Some s)) own = owned _ refl refl
+  own_prepare b earliest m _ own = refused _
 
   -- ---- commit
 
@@ -144,31 +146,31 @@ module _ (setup : Setup) where
   own_granted b ended t latest ps rs ws [] own = own_decide b ended t latest ps rs ws _ [] own
   own_granted b ended t latest ps rs ws (n ∷ ns) own = owned _ own refl
 
-  own_commit_now : (b : Before) (t : Id) (latest : ℕ) (ps : List ℕ) (rs : List Bytes) (ws : List Write) → keys_belong setup rs ws ≡ true
-      → Owned (plan_commit_now b t latest ps rs ws)
+  own_commit_now : (b : Before) (latest : ℕ) (m : Commit) → keys_belong setup m.reads.keys m.writes ≡ true
+      → Owned (plan_commit_now b latest m)
   unfolding plan_commit_now
-  own_commit_now b t latest ps rs ws own =
-      owned_roomed _ _ (owned_cond _ _ _ (own_granted b _ t latest ps rs ws (other_parts b.shard ps) own) (owned _ own refl))
+  own_commit_now b latest m own =
+      owned_roomed _ _ (owned_cond _ _ _ (own_granted b _ m.txn latest m.parts m.reads.keys m.writes (other_parts b.shard m.parts) own) (owned _ own refl))
 
-  own_commit_fresh : (b : Before) (latest : ℕ) (t : Id) (ps : List ℕ) (epoch : ℕ) (rs : List Bytes) (ws : List Write) (held : List Lock) → keys_belong setup rs ws ≡ true
-      → Owned (plan_commit_fresh b latest t ps epoch rs ws held)
+  own_commit_fresh : (b : Before) (latest : ℕ) (m : Commit) (held : List Lock) → keys_belong setup m.reads.keys m.writes ≡ true
+      → Owned (plan_commit_fresh b latest m held)
   unfolding plan_commit_fresh
-  own_commit_fresh b latest t ps epoch rs ws held own =
-      owned_cond _ _ _ (owned_cond _ _ _ (own_commit_now b t latest ps rs ws own) (refused _)) (own_abort b t ps)
+  own_commit_fresh b latest m held own =
+      owned_cond _ _ _ (owned_cond _ _ _ (own_commit_now b latest m own) (refused _)) (own_abort b m.txn m.parts)
 
-  own_commit : (b : Before) (latest : ℕ) (t : Id) (ps : List ℕ) (epoch : ℕ) (rs : List Bytes) (ws : List Write) (s : Standing) → keys_belong setup rs ws ≡ true
-      → Owned (plan_commit b latest t ps epoch rs ws s)
+  own_commit : (b : Before) (latest : ℕ) (m : Commit) (s : Standing) → keys_belong setup m.reads.keys m.writes ≡ true
+      → Owned (plan_commit b latest m s)
   unfolding plan_commit
-  own_commit b latest t ps epoch rs ws IsUnknown own = own_commit_fresh b latest t ps epoch rs ws [] own
-  own_commit b latest t ps epoch rs ws (HasRow held Idle) own = own_commit_fresh b latest t ps epoch rs ws held own
-  own_commit b latest t ps epoch rs ws (HasRow held (WaitsRead k)) own = own_commit_fresh b latest t ps epoch rs ws held own
-  own_commit b latest t ps epoch rs ws (HasRow held (WaitsCommit l qs ss vs)) own = owned _ refl refl
-  own_commit b latest t ps epoch rs ws (HasRow held (Collecting l qs ss vs us)) own = owned _ refl refl
-  own_commit b latest t ps epoch rs ws (HasRow held (IsDecided s qs)) own = owned _ refl refl
-  own_commit b latest t ps epoch rs ws WasEnded own = own_abort b t ps
-  own_commit b latest t ps epoch rs ws WasAborted own = owned _ refl refl
-  own_commit b latest t ps epoch rs ws (WasSettled s qs) own = owned _ refl refl
-  own_commit b latest t ps epoch rs ws _ own = refused _
+  own_commit b latest m IsUnknown own = own_commit_fresh b latest m [] own
+  own_commit b latest m (HasRow held Idle) own = own_commit_fresh b latest m held own
+  own_commit b latest m (HasRow held (WaitsRead k)) own = own_commit_fresh b latest m held own
+  own_commit b latest m (HasRow held (WaitsCommit l qs ss vs)) own = owned _ refl refl
+  own_commit b latest m (HasRow held (Collecting l qs ss vs us)) own = owned _ refl refl
+  own_commit b latest m (HasRow held (IsDecided s qs)) own = owned _ refl refl
+  own_commit b latest m WasEnded own = own_abort b m.txn m.parts
+  own_commit b latest m WasAborted own = owned _ refl refl
+  own_commit b latest m (WasSettled s qs) own = owned _ refl refl
+  own_commit b latest m _ own = refused _
 
   -- ---- vote, outcome, give up, ask
 
@@ -288,8 +290,8 @@ module _ (setup : Setup) where
   own_message : (b : Before) (now : Interval) (m : Message) → all_own setup b.memory.rows ≡ true → is_for setup m ≡ true → Owned (plan_message b now m)
   unfolding plan_message is_for
   own_message b now (Message.Read r) own e = own_read b r.txn r.key _
-  own_message b now (Message.Prepare p) own e = own_prepare b now.earliest p.txn p.coordinator p.reads.epoch p.reads.keys p.writes _ ((and_parts _ _ e).0)
-  own_message b now (Message.Commit c) own e = own_commit b now.latest c.txn c.parts c.reads.epoch c.reads.keys c.writes _ ((and_parts _ _ e).0)
+  own_message b now (Message.Prepare p) own e = own_prepare b now.earliest p _ ((and_parts _ _ e).0)
+  own_message b now (Message.Commit c) own e = own_commit b now.latest c _ ((and_parts _ _ e).0)
   own_message b now (Message.GiveUp g) own e = own_give_up b g.txn _
   own_message b now (Message.Vote v) own e = own_vote b v.from v.txn v.vote _ own refl
   own_message b now (Message.Outcome o) own e = own_outcome b o.from o.txn o.outcome _

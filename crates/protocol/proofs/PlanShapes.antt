@@ -16,9 +16,9 @@ use Rattle.record.specs.Facts.{Facts}
 use Rattle.message.specs.declared.message.Message.{Message}
 use Rattle.message.specs.declared.message.Input.{Input}
 use Rattle.protocol.specs.Rows.{Memory, Row, Phase, Idle, WaitsRead, WaitsPrepare, WaitsCommit, Collecting, IsPrepared, IsDecided, Standing, HasRow, claims, find_row, needs_of}
-use Rattle.protocol.specs.Draft.{other_parts}
-use Rattle.protocol.specs.Step.{is_for}
-use Rattle.protocol.specs.Plan.{Plan, Planned, Keeps, ceiling_for, Before, before, stands, to_read, plan_go_on, plan_resume_row, plan_resume_id, plan_resume, plan_settle, plan_advance, plan_nudge, plan_message, plan_input}
+use Rattle.protocol.specs.Plan.{Plan, Planned, Keeps, Before, before, stands}
+use Rattle.protocol.specs.Cells.{other_parts, ceiling_for, to_read, plan_go_on, plan_resume_row, plan_resume_id, plan_resume, plan_settle, plan_advance, plan_nudge}
+use Rattle.protocol.specs.Step.{is_for, plan_message, plan_input}
 use Rattle.protocol.proofs.InWay.{row_at, stands_at, room_at, free_when_ready}
 use Rattle.protocol.proofs.Shapes.{Shaped, IsSettle, IsLock, ShapeOf, Acts, IsAdvance, ShapedBy, is_undecided, is_loose, reads_held, all_fit}
 use Rattle.protocol.proofs.Choices.{Ascends, planned, refused, shaped_cond, shaped_err, shaped_idle, shaped_reply, fits_at, clear, held_at}
@@ -89,9 +89,9 @@ shaped_message : (rows : ℕ) (setup : Setup) (facts : Facts) (memory : Memory) 
 unfolding plan_message is_for
 shaped_message rows setup facts memory now (Message.Read r) up e = shaped_read (before rows setup facts memory) r.txn r.key _ up refl
 shaped_message rows setup facts memory now (Message.Prepare p) up e =
-    shaped_prepare (before rows setup facts memory) now.earliest p.txn p.coordinator p.reads.epoch p.reads.keys p.writes _ up ((and_parts _ _ e).1) refl
+    shaped_prepare (before rows setup facts memory) now.earliest p _ up ((and_parts _ _ e).1) refl
 shaped_message rows setup facts memory now (Message.Commit c) up e =
-    shaped_commit (before rows setup facts memory) now.latest c.txn c.parts c.reads.epoch c.reads.keys c.writes _ up ((and_parts _ _ e).1) refl
+    shaped_commit (before rows setup facts memory) now.latest c _ up ((and_parts _ _ e).1) refl
 shaped_message rows setup facts memory now (Message.GiveUp g) up e = shaped_give_up (before rows setup facts memory) g.txn _ refl
 shaped_message rows setup facts memory now (Message.Vote v) up e = shaped_vote (before rows setup facts memory) v.from v.txn v.vote _ refl
 shaped_message rows setup facts memory now (Message.Outcome o) up e = shaped_outcome (before rows setup facts memory) o.from o.txn o.outcome _ refl

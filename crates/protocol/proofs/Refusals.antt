@@ -10,10 +10,12 @@ use Rattle.units.specs.declared.writes.Write.{Write}
 use Rattle.truetime.specs.Interval.{Interval}
 use Rattle.message.specs.declared.message.Message.{Message}
 use Rattle.message.specs.declared.message.Input.{Input}
-use Rattle.protocol.specs.Rows.{Row, Phase, Idle, WaitsRead, WaitsPrepare, WaitsCommit, Collecting, IsPrepared, IsDecided, Voted, Standing, IsUnknown, WasEnded, HasRow, WasAborted, WasSettled, WasClosed, claims, find_row}
-use Rattle.protocol.specs.Draft.{time_limit, other_parts, all_voted}
-use Rattle.protocol.specs.Step.{is_for, is_outcome_for, with_vote}
-use Rattle.protocol.specs.Plan.{Planned, Before, plan_read_now, plan_read_row, plan_read, plan_promise, plan_prepare_now, plan_prepare_fresh, plan_prepare, plan_decide, plan_commit_granted, plan_commit_now, plan_commit_fresh, plan_commit, plan_count, plan_vote, plan_outcome, plan_ask, plan_go_on, plan_resume, plan_resume_id, plan_resume_row, plan_settle, plan_advance, plan_nudge, plan_message, plan_input, roomed, timed, still_stand, opens, of_part, stands}
+use Rattle.message.specs.declared.message.Prepare.{Prepare}
+use Rattle.message.specs.declared.message.Commit.{Commit}
+use Rattle.protocol.specs.Rows.{Row, Phase, Idle, WaitsRead, WaitsPrepare, WaitsCommit, Collecting, IsPrepared, IsDecided, Voted, Standing, IsUnknown, WasEnded, HasRow, WasAborted, WasSettled, WasClosed, claims, find_row, with_vote}
+use Rattle.protocol.specs.Plan.{time_limit, Planned, Before, roomed, timed, opens, stands}
+use Rattle.protocol.specs.Cells.{other_parts, all_voted, is_outcome_for, plan_read_now, plan_read_row, plan_read, plan_promise, plan_prepare_now, plan_prepare_fresh, plan_prepare, plan_decide, plan_commit_granted, plan_commit_now, plan_commit_fresh, plan_commit, plan_count, plan_vote, plan_outcome, plan_ask, plan_go_on, plan_resume, plan_resume_id, plan_resume_row, plan_settle, plan_advance, plan_nudge, still_stand, of_part}
+use Rattle.protocol.specs.Step.{is_for, plan_message, plan_input}
 use Rattle.protocol.specs.Refusals.{Owns, OwnRefusals}
 
 owns_cond : (test : Bool) (p q : Planned) → Owns p → Owns q → Owns (cond test p q)
@@ -63,27 +65,27 @@ owns_promise : (b : Before) (ids : List Id) (earliest : ℕ) (t : Id) (c : ℕ) 
 unfolding plan_promise
 owns_promise b ids earliest t c rs ws = owns_timed _ (Ok _) tt
 
-owns_prepare_fresh : (b : Before) (earliest : ℕ) (t : Id) (c epoch : ℕ) (rs : List Bytes) (ws : List Write) (held : List Lock) → Owns (plan_prepare_fresh b earliest t c epoch rs ws held)
+owns_prepare_fresh : (b : Before) (earliest : ℕ) (m : Prepare) (held : List Lock) → Owns (plan_prepare_fresh b earliest m held)
 unfolding plan_prepare_fresh plan_prepare_now
-owns_prepare_fresh b earliest t c epoch rs ws held =
-    owns_cond (still_stand b epoch rs held) _ (Ok _)
-    (owns_roomed _ _ (owns_cond (opens b t (exclusive ws)) _ (Ok _) (owns_promise b _ earliest t c rs ws) tt)) tt
+owns_prepare_fresh b earliest m held =
+    owns_cond (still_stand b m.reads.epoch m.reads.keys held) _ (Ok _)
+    (owns_roomed _ _ (owns_cond (opens b m.txn (exclusive m.writes)) _ (Ok _) (owns_promise b _ earliest m.txn m.coordinator m.reads.keys m.writes) tt)) tt
 
-owns_prepare : (b : Before) (earliest : ℕ) (t : Id) (c epoch : ℕ) (rs : List Bytes) (ws : List Write) (s : Standing) → Owns (plan_prepare b earliest t c epoch rs ws s)
+owns_prepare : (b : Before) (earliest : ℕ) (m : Prepare) (s : Standing) → Owns (plan_prepare b earliest m s)
 unfolding plan_prepare
-owns_prepare b earliest t c epoch rs ws IsUnknown = owns_prepare_fresh b earliest t c epoch rs ws []
-owns_prepare b earliest t c epoch rs ws (HasRow held Idle) = owns_prepare_fresh b earliest t c epoch rs ws held
-owns_prepare b earliest t c epoch rs ws (HasRow held (WaitsRead k)) = owns_prepare_fresh b earliest t c epoch rs ws held
-owns_prepare b earliest t c epoch rs ws (HasRow held (WaitsPrepare e qs vs)) = tt
-owns_prepare b earliest t c epoch rs ws (HasRow held (WaitsCommit l ps qs vs)) = refl
-owns_prepare b earliest t c epoch rs ws (HasRow held (Collecting l ps qs vs us)) = refl
-owns_prepare b earliest t c epoch rs ws (HasRow held (IsPrepared e p)) = tt
-owns_prepare b earliest t c epoch rs ws (HasRow held (IsDecided s ps)) = refl
-owns_prepare b earliest t c epoch rs ws WasEnded = tt
-owns_prepare b earliest t c epoch rs ws WasAborted = refl
-owns_prepare b earliest t c epoch rs ws (WasSettled s ps) = refl
-owns_prepare b earliest t c epoch rs ws (WasClosed None) = tt
-owns_prepare b earliest t c epoch rs ws (WasClosed (Some s)) = tt
+owns_prepare b earliest m IsUnknown = owns_prepare_fresh b earliest m []
+owns_prepare b earliest m (HasRow held Idle) = owns_prepare_fresh b earliest m held
+owns_prepare b earliest m (HasRow held (WaitsRead k)) = owns_prepare_fresh b earliest m held
+owns_prepare b earliest m (HasRow held (WaitsPrepare e qs vs)) = tt
+owns_prepare b earliest m (HasRow held (WaitsCommit l ps qs vs)) = refl
+owns_prepare b earliest m (HasRow held (Collecting l ps qs vs us)) = refl
+owns_prepare b earliest m (HasRow held (IsPrepared e p)) = tt
+owns_prepare b earliest m (HasRow held (IsDecided s ps)) = refl
+owns_prepare b earliest m WasEnded = tt
+owns_prepare b earliest m WasAborted = refl
+owns_prepare b earliest m (WasSettled s ps) = refl
+owns_prepare b earliest m (WasClosed None) = tt
+owns_prepare b earliest m (WasClosed (Some s)) = tt
 
 -- ---- commits
 
@@ -96,26 +98,26 @@ unfolding plan_commit_granted
 owns_granted b ids t latest ps rs ws [] = owns_decide b ids t latest ps rs ws (exclusive ws) []
 owns_granted b ids t latest ps rs ws (n ∷ ns) = tt
 
-owns_commit_fresh : (b : Before) (latest : ℕ) (t : Id) (ps : List ℕ) (epoch : ℕ) (rs : List Bytes) (ws : List Write) (held : List Lock) → Owns (plan_commit_fresh b latest t ps epoch rs ws held)
+owns_commit_fresh : (b : Before) (latest : ℕ) (m : Commit) (held : List Lock) → Owns (plan_commit_fresh b latest m held)
 unfolding plan_commit_fresh plan_commit_now
-owns_commit_fresh b latest t ps epoch rs ws held =
-    owns_cond (still_stand b epoch rs held) _ (Ok _)
-    (owns_timed (latest + 1) _ (owns_roomed _ _ (owns_cond (opens b t (exclusive ws)) _ (Ok _) (owns_granted b _ t latest ps rs ws (other_parts b.shard ps)) tt))) tt
+owns_commit_fresh b latest m held =
+    owns_cond (still_stand b m.reads.epoch m.reads.keys held) _ (Ok _)
+    (owns_timed (latest + 1) _ (owns_roomed _ _ (owns_cond (opens b m.txn (exclusive m.writes)) _ (Ok _) (owns_granted b _ m.txn latest m.parts m.reads.keys m.writes (other_parts b.shard m.parts)) tt))) tt
 
-owns_commit : (b : Before) (latest : ℕ) (t : Id) (ps : List ℕ) (epoch : ℕ) (rs : List Bytes) (ws : List Write) (s : Standing) → Owns (plan_commit b latest t ps epoch rs ws s)
+owns_commit : (b : Before) (latest : ℕ) (m : Commit) (s : Standing) → Owns (plan_commit b latest m s)
 unfolding plan_commit
-owns_commit b latest t ps epoch rs ws IsUnknown = owns_commit_fresh b latest t ps epoch rs ws []
-owns_commit b latest t ps epoch rs ws (HasRow held Idle) = owns_commit_fresh b latest t ps epoch rs ws held
-owns_commit b latest t ps epoch rs ws (HasRow held (WaitsRead k)) = owns_commit_fresh b latest t ps epoch rs ws held
-owns_commit b latest t ps epoch rs ws (HasRow held (WaitsPrepare e qs vs)) = refl
-owns_commit b latest t ps epoch rs ws (HasRow held (WaitsCommit l qs ss vs)) = tt
-owns_commit b latest t ps epoch rs ws (HasRow held (Collecting l qs ss vs us)) = tt
-owns_commit b latest t ps epoch rs ws (HasRow held (IsPrepared c p)) = refl
-owns_commit b latest t ps epoch rs ws (HasRow held (IsDecided s qs)) = tt
-owns_commit b latest t ps epoch rs ws WasEnded = tt
-owns_commit b latest t ps epoch rs ws WasAborted = tt
-owns_commit b latest t ps epoch rs ws (WasSettled s qs) = tt
-owns_commit b latest t ps epoch rs ws (WasClosed o) = refl
+owns_commit b latest m IsUnknown = owns_commit_fresh b latest m []
+owns_commit b latest m (HasRow held Idle) = owns_commit_fresh b latest m held
+owns_commit b latest m (HasRow held (WaitsRead k)) = owns_commit_fresh b latest m held
+owns_commit b latest m (HasRow held (WaitsPrepare e qs vs)) = refl
+owns_commit b latest m (HasRow held (WaitsCommit l qs ss vs)) = tt
+owns_commit b latest m (HasRow held (Collecting l qs ss vs us)) = tt
+owns_commit b latest m (HasRow held (IsPrepared c p)) = refl
+owns_commit b latest m (HasRow held (IsDecided s qs)) = tt
+owns_commit b latest m WasEnded = tt
+owns_commit b latest m WasAborted = tt
+owns_commit b latest m (WasSettled s qs) = tt
+owns_commit b latest m (WasClosed o) = refl
 
 -- ---- votes
 
@@ -231,8 +233,8 @@ owns_nudge b t (WasClosed o) = refl
 owns_message : (b : Before) (now : Interval) (m : Message) → Owns (plan_message b now m)
 unfolding plan_message
 owns_message b now (Message.Read r) = owns_read b r.txn r.key (stands b r.txn)
-owns_message b now (Message.Prepare p) = owns_prepare b now.earliest p.txn p.coordinator p.reads.epoch p.reads.keys p.writes (stands b p.txn)
-owns_message b now (Message.Commit c) = owns_commit b now.latest c.txn c.parts c.reads.epoch c.reads.keys c.writes (stands b c.txn)
+owns_message b now (Message.Prepare p) = owns_prepare b now.earliest p (stands b p.txn)
+owns_message b now (Message.Commit c) = owns_commit b now.latest c (stands b c.txn)
 owns_message b now (Message.GiveUp g) = tt
 owns_message b now (Message.Vote v) = owns_vote b v.from v.txn v.vote (stands b v.txn)
 owns_message b now (Message.Outcome o) = owns_outcome b o.from o.txn o.outcome (stands b o.txn)

@@ -8,10 +8,12 @@ use Rattle.units.specs.Keys.{Bytes}
 use Rattle.units.specs.Locks.{exclusive}
 use Rattle.units.specs.declared.lock.Lock.{Lock}
 use Rattle.units.specs.declared.writes.Write.{Write}
-use Rattle.protocol.specs.Rows.{Idle, WaitsRead, WaitsPrepare, WaitsCommit, Collecting, IsPrepared, IsDecided, Voted, Standing, IsUnknown, WasEnded, HasRow, WasAborted, WasSettled, WasClosed}
-use Rattle.protocol.specs.Draft.{commit_stamp, other_parts}
+use Rattle.message.specs.declared.message.Prepare.{Prepare}
+use Rattle.message.specs.declared.message.Commit.{Commit}
+use Rattle.protocol.specs.Rows.{Idle, WaitsRead, WaitsPrepare, WaitsCommit, Collecting, IsPrepared, IsDecided, Voted, Standing, IsUnknown, WasEnded, HasRow, WasAborted, WasSettled, WasClosed, held_in}
+use Rattle.protocol.specs.Plan.{Before, stands, is_crowded, in_way, opens}
+use Rattle.protocol.specs.Cells.{commit_stamp, other_parts, still_stand, answers, to_read, plan_read_now, plan_read_row, plan_read, plan_promise, plan_prepare_now, plan_prepare_fresh, plan_prepare, plan_abort, plan_decide, plan_commit_granted, plan_commit_now, plan_commit_fresh, plan_commit}
 use Rattle.protocol.specs.Sound.{holds_writes}
-use Rattle.protocol.specs.Plan.{Before, stands, held_in, still_stand, answers, to_read, is_crowded, in_way, opens, plan_read_now, plan_read_row, plan_read, plan_promise, plan_prepare_now, plan_prepare_fresh, plan_prepare, plan_abort, plan_decide, plan_commit_granted, plan_commit_now, plan_commit_fresh, plan_commit}
 use Rattle.protocol.proofs.InWay.{in_way_gone, holds_exclusive}
 use Rattle.protocol.proofs.Shapes.{Shaped, IsEnd, IsAbort, IsLock, IsWait, IsPromise, IsDecision, IsCleared, is_undecided, is_loose, all_fit, granted_to, reads_held}
 use Rattle.protocol.proofs.Choices.{Ascends, planned, refused, shaped_cond, shape_cond, shaped_err, shaped_roomed, shaped_idle, shaped_reply, undecided, cleared, clear, held_at, held_unknown, reads_still, reads_granted}
@@ -84,41 +86,41 @@ shaped_promise b ended earliest t c rs ws clear fresh lower read room =
       room = room;
     }) refl))
 
-shaped_prepare_now : (b : Before) (earliest : ℕ) (t : Id) (c : ℕ) (rs : List Bytes) (ws : List Write) → Ascends b → is_loose (stands b t) ≡ true
-    → nat_lt c b.shard ≡ true → reads_held b t rs → Shaped b (plan_prepare_now b earliest t c rs ws)
+shaped_prepare_now : (b : Before) (earliest : ℕ) (m : Prepare) → Ascends b → is_loose (stands b m.txn) ≡ true
+    → nat_lt m.coordinator b.shard ≡ true → reads_held b m.txn m.reads.keys → Shaped b (plan_prepare_now b earliest m)
 unfolding plan_prepare_now
-shaped_prepare_now b earliest t c rs ws up loose lower read = shaped_roomed b (is_crowded b t) _ (λ room.
-    shaped_cond b (opens b t (exclusive ws)) _ _
-    (λ free. shaped_promise b _ earliest t c rs ws (cleared b t (exclusive ws) up free) (undecided b t loose) (λ _. lower) (λ _. read) room)
-    (λ _. planned b _ (IsWait t (exclusive ws) (WaitsPrepare c rs ws) [] (record {
+shaped_prepare_now b earliest m up loose lower read = shaped_roomed b (is_crowded b m.txn) _ (λ room.
+    shaped_cond b (opens b m.txn (exclusive m.writes)) _ _
+    (λ free. shaped_promise b _ earliest m.txn m.coordinator m.reads.keys m.writes (cleared b m.txn (exclusive m.writes) up free) (undecided b m.txn loose) (λ _. lower) (λ _. read) room)
+    (λ _. planned b _ (IsWait m.txn (exclusive m.writes) (WaitsPrepare m.coordinator m.reads.keys m.writes) [] (record {
       loose = loose;
       slack = refl;
       wants = refl;
-      fit = and_from _ _ lower (reads_granted b t (in_way b t (exclusive ws)) [] rs (in_way_gone b t (exclusive ws) up) read);
-      gone = in_way_gone b t (exclusive ws) up;
+      fit = and_from _ _ lower (reads_granted b m.txn (in_way b m.txn (exclusive m.writes)) [] m.reads.keys (in_way_gone b m.txn (exclusive m.writes) up) read);
+      gone = in_way_gone b m.txn (exclusive m.writes) up;
       room = room;
     }) refl)))
 
-shaped_prepare_fresh : (b : Before) (earliest : ℕ) (t : Id) (c epoch : ℕ) (rs : List Bytes) (ws : List Write) (held : List Lock) → Ascends b
-    → is_loose (stands b t) ≡ true → nat_lt c b.shard ≡ true → held_in b.memory.rows t ≡ held → Shaped b (plan_prepare_fresh b earliest t c epoch rs ws held)
+shaped_prepare_fresh : (b : Before) (earliest : ℕ) (m : Prepare) (held : List Lock) → Ascends b
+    → is_loose (stands b m.txn) ≡ true → nat_lt m.coordinator b.shard ≡ true → held_in b.memory.rows m.txn ≡ held → Shaped b (plan_prepare_fresh b earliest m held)
 unfolding plan_prepare_fresh
-shaped_prepare_fresh b earliest t c epoch rs ws held up loose lower same =
-    shaped_cond b (still_stand b epoch rs held) _ _ (λ k. shaped_prepare_now b earliest t c rs ws up loose lower (reads_still b t epoch rs held same k)) (λ _. planned b _ (IsEnd t _ (undecided b t loose) refl))
+shaped_prepare_fresh b earliest m held up loose lower same =
+    shaped_cond b (still_stand b m.reads.epoch m.reads.keys held) _ _ (λ k. shaped_prepare_now b earliest m up loose lower (reads_still b m.txn m.reads.epoch m.reads.keys held same k)) (λ _. planned b _ (IsEnd m.txn _ (undecided b m.txn loose) refl))
 
-pub shaped_prepare : (b : Before) (earliest : ℕ) (t : Id) (c epoch : ℕ) (rs : List Bytes) (ws : List Write) (s : Standing) → Ascends b → nat_lt c b.shard ≡ true
-    → stands b t ≡ s → Shaped b (plan_prepare b earliest t c epoch rs ws s)
+pub shaped_prepare : (b : Before) (earliest : ℕ) (m : Prepare) (s : Standing) → Ascends b → nat_lt m.coordinator b.shard ≡ true
+    → stands b m.txn ≡ s → Shaped b (plan_prepare b earliest m s)
 unfolding plan_prepare
-shaped_prepare b earliest t c epoch rs ws IsUnknown up lower e = shaped_prepare_fresh b earliest t c epoch rs ws [] up (ap is_loose e) lower (held_unknown b t e)
-shaped_prepare b earliest t c epoch rs ws (HasRow held Idle) up lower e =
-    shaped_prepare_fresh b earliest t c epoch rs ws held up (ap is_loose e) lower (held_at b t held Idle e)
-shaped_prepare b earliest t c epoch rs ws (HasRow held (WaitsRead k)) up lower e =
-    shaped_prepare_fresh b earliest t c epoch rs ws held up (ap is_loose e) lower (held_at b t held (WaitsRead k) e)
-shaped_prepare b earliest t c epoch rs ws (HasRow held (WaitsPrepare f qs vs)) up lower e = shaped_idle b
-shaped_prepare b earliest t c epoch rs ws WasEnded up lower e = shaped_reply b _
-shaped_prepare b earliest t c epoch rs ws (HasRow held (IsPrepared f p)) up lower e = shaped_reply b _
-shaped_prepare b earliest t c epoch rs ws (WasClosed None) up lower e = shaped_reply b _
-shaped_prepare b earliest t c epoch rs ws (WasClosed (Some s)) up lower e = shaped_idle b
-shaped_prepare b earliest t c epoch rs ws _ up lower e = refused b _
+shaped_prepare b earliest m IsUnknown up lower e = shaped_prepare_fresh b earliest m [] up (ap is_loose e) lower (held_unknown b m.txn e)
+shaped_prepare b earliest m (HasRow held Idle) up lower e =
+    shaped_prepare_fresh b earliest m held up (ap is_loose e) lower (held_at b m.txn held Idle e)
+shaped_prepare b earliest m (HasRow held (WaitsRead k)) up lower e =
+    shaped_prepare_fresh b earliest m held up (ap is_loose e) lower (held_at b m.txn held (WaitsRead k) e)
+shaped_prepare b earliest m (HasRow held (WaitsPrepare f qs vs)) up lower e = shaped_idle b
+shaped_prepare b earliest m WasEnded up lower e = shaped_reply b _
+shaped_prepare b earliest m (HasRow held (IsPrepared f p)) up lower e = shaped_reply b _
+shaped_prepare b earliest m (WasClosed None) up lower e = shaped_reply b _
+shaped_prepare b earliest m (WasClosed (Some s)) up lower e = shaped_idle b
+shaped_prepare b earliest m _ up lower e = refused b _
 
 -- ---- commit
 
@@ -163,39 +165,39 @@ shaped_granted b ended t latest ps rs ws (n ∷ ns) clear fresh first read room 
       room = room;
     }) refl)
 
-shaped_commit_now : (b : Before) (t : Id) (latest : ℕ) (ps : List ℕ) (rs : List Bytes) (ws : List Write) → Ascends b → is_loose (stands b t) ≡ true
-    → when (nat_eq b.shard) (head ps) ≡ true → reads_held b t rs → Shaped b (plan_commit_now b t latest ps rs ws)
+shaped_commit_now : (b : Before) (latest : ℕ) (m : Commit) → Ascends b → is_loose (stands b m.txn) ≡ true
+    → when (nat_eq b.shard) (head m.parts) ≡ true → reads_held b m.txn m.reads.keys → Shaped b (plan_commit_now b latest m)
 unfolding plan_commit_now
-shaped_commit_now b t latest ps rs ws up loose first read = shaped_roomed b (is_crowded b t) _ (λ room.
-    shaped_cond b (opens b t (exclusive ws)) _ _
-    (λ free. shaped_granted b _ t latest ps rs ws (other_parts b.shard ps) (cleared b t (exclusive ws) up free) (undecided b t loose) (λ _. first) (λ _. read) room)
-    (λ _. planned b _ (IsWait t (exclusive ws) (WaitsCommit latest ps rs ws) [] (record {
+shaped_commit_now b latest m up loose first read = shaped_roomed b (is_crowded b m.txn) _ (λ room.
+    shaped_cond b (opens b m.txn (exclusive m.writes)) _ _
+    (λ free. shaped_granted b _ m.txn latest m.parts m.reads.keys m.writes (other_parts b.shard m.parts) (cleared b m.txn (exclusive m.writes) up free) (undecided b m.txn loose) (λ _. first) (λ _. read) room)
+    (λ _. planned b _ (IsWait m.txn (exclusive m.writes) (WaitsCommit latest m.parts m.reads.keys m.writes) [] (record {
       loose = loose;
       slack = refl;
       wants = refl;
-      fit = and_from _ _ first (reads_granted b t (in_way b t (exclusive ws)) [] rs (in_way_gone b t (exclusive ws) up) read);
-      gone = in_way_gone b t (exclusive ws) up;
+      fit = and_from _ _ first (reads_granted b m.txn (in_way b m.txn (exclusive m.writes)) [] m.reads.keys (in_way_gone b m.txn (exclusive m.writes) up) read);
+      gone = in_way_gone b m.txn (exclusive m.writes) up;
       room = room;
     }) refl)))
 
-shaped_commit_fresh : (b : Before) (latest : ℕ) (t : Id) (ps : List ℕ) (epoch : ℕ) (rs : List Bytes) (ws : List Write) (held : List Lock) → Ascends b
-    → is_loose (stands b t) ≡ true → when (nat_eq b.shard) (head ps) ≡ true → held_in b.memory.rows t ≡ held → Shaped b (plan_commit_fresh b latest t ps epoch rs ws held)
+shaped_commit_fresh : (b : Before) (latest : ℕ) (m : Commit) (held : List Lock) → Ascends b
+    → is_loose (stands b m.txn) ≡ true → when (nat_eq b.shard) (head m.parts) ≡ true → held_in b.memory.rows m.txn ≡ held → Shaped b (plan_commit_fresh b latest m held)
 unfolding plan_commit_fresh
-shaped_commit_fresh b latest t ps epoch rs ws held up loose first same =
-    shaped_cond b (still_stand b epoch rs held) _ _ (λ k. shaped_err b _ _ _ (shaped_commit_now b t latest ps rs ws up loose first (reads_still b t epoch rs held same k))) (λ _. shaped_abort b t ps (undecided b t loose))
+shaped_commit_fresh b latest m held up loose first same =
+    shaped_cond b (still_stand b m.reads.epoch m.reads.keys held) _ _ (λ k. shaped_err b _ _ _ (shaped_commit_now b latest m up loose first (reads_still b m.txn m.reads.epoch m.reads.keys held same k))) (λ _. shaped_abort b m.txn m.parts (undecided b m.txn loose))
 
-pub shaped_commit : (b : Before) (latest : ℕ) (t : Id) (ps : List ℕ) (epoch : ℕ) (rs : List Bytes) (ws : List Write) (s : Standing) → Ascends b
-    → when (nat_eq b.shard) (head ps) ≡ true → stands b t ≡ s → Shaped b (plan_commit b latest t ps epoch rs ws s)
+pub shaped_commit : (b : Before) (latest : ℕ) (m : Commit) (s : Standing) → Ascends b
+    → when (nat_eq b.shard) (head m.parts) ≡ true → stands b m.txn ≡ s → Shaped b (plan_commit b latest m s)
 unfolding plan_commit
-shaped_commit b latest t ps epoch rs ws IsUnknown up first e = shaped_commit_fresh b latest t ps epoch rs ws [] up (ap is_loose e) first (held_unknown b t e)
-shaped_commit b latest t ps epoch rs ws (HasRow held Idle) up first e =
-    shaped_commit_fresh b latest t ps epoch rs ws held up (ap is_loose e) first (held_at b t held Idle e)
-shaped_commit b latest t ps epoch rs ws (HasRow held (WaitsRead k)) up first e =
-    shaped_commit_fresh b latest t ps epoch rs ws held up (ap is_loose e) first (held_at b t held (WaitsRead k) e)
-shaped_commit b latest t ps epoch rs ws (HasRow held (WaitsCommit l qs ss vs)) up first e = shaped_idle b
-shaped_commit b latest t ps epoch rs ws (HasRow held (Collecting l qs ss vs us)) up first e = shaped_idle b
-shaped_commit b latest t ps epoch rs ws (HasRow held (IsDecided s qs)) up first e = shaped_idle b
-shaped_commit b latest t ps epoch rs ws WasEnded up first e = shaped_abort b t ps (ap is_undecided e)
-shaped_commit b latest t ps epoch rs ws WasAborted up first e = shaped_reply b _
-shaped_commit b latest t ps epoch rs ws (WasSettled s qs) up first e = shaped_reply b _
-shaped_commit b latest t ps epoch rs ws _ up first e = refused b _
+shaped_commit b latest m IsUnknown up first e = shaped_commit_fresh b latest m [] up (ap is_loose e) first (held_unknown b m.txn e)
+shaped_commit b latest m (HasRow held Idle) up first e =
+    shaped_commit_fresh b latest m held up (ap is_loose e) first (held_at b m.txn held Idle e)
+shaped_commit b latest m (HasRow held (WaitsRead k)) up first e =
+    shaped_commit_fresh b latest m held up (ap is_loose e) first (held_at b m.txn held (WaitsRead k) e)
+shaped_commit b latest m (HasRow held (WaitsCommit l qs ss vs)) up first e = shaped_idle b
+shaped_commit b latest m (HasRow held (Collecting l qs ss vs us)) up first e = shaped_idle b
+shaped_commit b latest m (HasRow held (IsDecided s qs)) up first e = shaped_idle b
+shaped_commit b latest m WasEnded up first e = shaped_abort b m.txn m.parts (ap is_undecided e)
+shaped_commit b latest m WasAborted up first e = shaped_reply b _
+shaped_commit b latest m (WasSettled s qs) up first e = shaped_reply b _
+shaped_commit b latest m _ up first e = refused b _

@@ -10,8 +10,7 @@ use Rattle.units.specs.Locks.{Claim}
 use Rattle.units.specs.declared.lock.Lock.{Lock}
 use Rattle.units.proofs.IdLaws.{same_id-is, same_id-refl, older_not_same}
 use Rattle.units.proofs.ByIdLaws.{find-with_same, find-with_other, find-without_other, has-without_other, all-without, by_id-keep, by_id-with, by_id-cons, later_are_younger}
-use Rattle.protocol.specs.Rows.{Row, Phase, claim_of, claims, find_row, without_row, with_row}
-use Rattle.protocol.specs.Plan.{without_rows}
+use Rattle.protocol.specs.Rows.{Row, Phase, claim_of, claims, find_row, without_row, with_row, without_rows}
 use Rattle.protocol.proofs.RowTable.{with_row-is}
 
 -- a row by its parts

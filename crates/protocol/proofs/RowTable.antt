@@ -1,4 +1,4 @@
--- The rows as a lock table: what an act does to the rows, the calls of a table do to its claims.
+-- The rows as a lock table: what a step does to the rows, the calls of a table do to its claims.
 use Rattle.std.proofs.Common.{◌≡◌, cond, List, [], ◌∷◌, Some, refl, sym, ap, ◌∙◌}
 use Rattle.units.specs.Lists.{mapped}
 use Rattle.units.specs.Ids.{Id, same_id, older}

@@ -3,8 +3,7 @@ use Rattle.std.specs.Prelude.{ℕ, List, [], ◌∷◌, ◌++◌, Option, Some, 
 use Rattle.units.specs.Lists.{listed}
 use Rattle.record.specs.Facts.{facts_of}
 use Rattle.protocol.specs.Rows.{Memory, rebuilt}
-use Rattle.protocol.specs.Draft.{Stepped}
-use Rattle.protocol.specs.Step.{step}
+use Rattle.protocol.specs.Step.{Stepped, step}
 use Rattle.units.specs.declared.fault.Fault.{Fault}
 use Rattle.record.specs.declared.record.Record.{Record}
 use Rattle.message.specs.declared.message.Message.{Message}

@@ -11,11 +11,11 @@ use Rattle.units.specs.declared.writes.Write.{Write}
 use Rattle.record.specs.declared.record.Record.{Record}
 use Rattle.message.specs.declared.message.Envelope.{Envelope}
 use Rattle.message.specs.declared.message.Input.{Input}
-use Rattle.protocol.specs.Rows.{Row, Phase, IsPrepared, IsDecided, Standing, IsUnknown, WasEnded, HasRow, claims, find_row, is_firm, needs_of}
-use Rattle.protocol.specs.Draft.{promise, decision}
-use Rattle.protocol.specs.Step.{is_outcome_for}
+use Rattle.protocol.specs.Rows.{Row, Phase, IsPrepared, IsDecided, Standing, IsUnknown, WasEnded, HasRow, claims, find_row, is_firm, needs_of, held_in, without_rows}
+use Rattle.protocol.specs.Outputs.{promise, decision}
+use Rattle.protocol.specs.Plan.{Plan, Planned, Before, Keeps, stands, replies, ends, drops, puts, in_way, is_crowded}
+use Rattle.protocol.specs.Cells.{is_outcome_for, raised, ceiling_for}
 use Rattle.protocol.specs.Sound.{is_open, fits, holds_writes}
-use Rattle.protocol.specs.Plan.{Plan, Planned, Before, Keeps, stands, replies, ends, drops, puts, raised, in_way, is_crowded, held_in, without_rows, ceiling_for}
 use Rattle.protocol.proofs.RowChanges.{row_as}
 
 -- no promise, decision or abort is recorded: the transaction is not known, was ended, or has a row without a record

@@ -2,13 +2,13 @@
 use Rattle.std.proofs.Common.{refl}
 use Rattle.std.specs.Prelude.{◌≡◌, List, [], ◌∷◌, Some, None}
 use Rattle.protocol.specs.Rows.{safe}
+use Rattle.protocol.specs.Outputs.{promise, decision}
 use Rattle.units.specs.declared.fault.Fault.TheVariants.{Early, TimeSpent, Future}
 use Rattle.units.specs.declared.writes.Write.{Write}
 use Rattle.truetime.specs.Interval.{Interval}
 use Rattle.record.specs.declared.record.Record.{Record}
 use Rattle.message.specs.declared.message.Input.{Input}
 use Rattle.message.specs.declared.message.Answer.TheVariants.{Holds}
-use Rattle.protocol.specs.Draft.{promise, decision}
 use Rattle.protocol.specs.Computing.{computing}
 use Rattle.protocol.proofs.Samples.{answer_of, ask_of, commit_of, done_of, give_up_of, outcome_of, prepare_of, read_of, vote_of, a, z, one, two, txn, clock, sets, shard, opened, fresh, Refuses, Does, fed, hears, nothing, comes, to_shard, to_session}
 

@@ -14,8 +14,8 @@ use Rattle.units.proofs.ByIdLaws.{find-with_same, find-with_other, by_id-with}
 use Rattle.record.specs.Records.{Status, StandsPrepared}
 use Rattle.record.specs.Facts.{Entry, or_unrecorded, recorded, with_status, after_outcome, installs_at}
 use Rattle.protocol.specs.Rows.{Row, IsPrepared, IsDecided, find_row}
-use Rattle.protocol.specs.Sound.{Agrees, holds_writes}
 use Rattle.protocol.specs.Plan.{Before, with_ids}
+use Rattle.protocol.specs.Sound.{Agrees, holds_writes}
 use Rattle.protocol.proofs.Agreement.{Sound, PromiseOf, promise_of, DecisionOf, decision_of}
 use Rattle.protocol.proofs.RowChanges.{row_as}
 

@@ -3,9 +3,8 @@ use Rattle.std.proofs.Common.{refl, arith}
 use Rattle.record.specs.Computing.{computing as computing_logs}
 use Rattle.message.specs.declared.message.Input.{Input}
 use Rattle.protocol.specs.Sound.{FreshIsSound, IsSound, StepKeepsSound}
-use Rattle.protocol.specs.Step.{facts_after}
-use Rattle.protocol.specs.StepLaws.{IsInLimit}
 use Rattle.protocol.specs.Plan.{Plan, Before, before, carried}
+use Rattle.protocol.specs.Step.{facts_after, IsInLimit}
 use Rattle.protocol.proofs.Agreement.{Sound}
 use Rattle.protocol.proofs.KeptAgreement.{KeepsAgreement, agreeing_of}
 use Rattle.protocol.proofs.KeptFacts.{KeepsFacts, kept_facts_of}

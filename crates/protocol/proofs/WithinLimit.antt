@@ -6,8 +6,8 @@ use Rattle.units.specs.Lists.{any}
 use Rattle.units.specs.Ids.{Id, same_id}
 use Rattle.units.specs.ById.{IsById}
 use Rattle.message.specs.declared.message.Input.{Input}
-use Rattle.protocol.specs.Rows.{Row, with_row}
-use Rattle.protocol.specs.Plan.{Plan, Before, before, changed, carried, without_rows}
+use Rattle.protocol.specs.Rows.{Row, with_row, without_rows}
+use Rattle.protocol.specs.Plan.{Plan, Before, before, changed, carried}
 use Rattle.protocol.specs.Sound.{StaysWithin}
 use Rattle.protocol.proofs.RowChanges.{short-without_row, short-without_rows, length-with_row, length-with_row_same, any-without_rows, by_id-without_rows}
 use Rattle.protocol.proofs.Shapes.{Shape, Answers, IsEnd, IsAbort, IsClose, IsSettle, IsLock, IsWait, IsPromise, IsDecision, ShapeOf, Acts, IsAdvance}

@@ -2,10 +2,11 @@
 -- all of them and through those below.
 use Rattle.record.specs.Computing.{computing as computing_logs}
 use Rattle.protocol.specs.Rows.{safe, standing, rebuilt}
-use Rattle.protocol.specs.Draft.{put_row, drop_row, raise, log, say, tell, end, end_all, abort, wound, take_locks, wait, answer_read, prepare_at, prepare, decide_at, decide, close, with_room}
-use Rattle.protocol.specs.Step.{read_now, read_row, on_read, prepare_now, prepare_fresh, on_prepare, abort_all, commit_granted, commit_now, commit_fresh, on_commit, count_vote, tell_voter, on_vote, outcome_unpromised, on_outcome, on_give_up, abort_for, on_ask, go_on, on_resume, settle_at, on_settle, ceiling, on_advance, on_nudge, is_for, on_message, on_input, step_within}
+use Rattle.protocol.specs.Plan.{changed, ended_by, carried}
+use Rattle.protocol.specs.Cells.{plan_read_now, plan_read_row, plan_read, plan_promise, plan_prepare_now, plan_prepare_fresh, plan_prepare, plan_abort, plan_decide, plan_commit_granted, plan_commit_now, plan_commit_fresh, plan_commit, plan_count, plan_tell, plan_vote, plan_outcome, plan_give_up, plan_ask, plan_go_on, plan_resume, plan_settle, plan_advance, plan_nudge}
+use Rattle.protocol.specs.Step.{is_for, plan_message, plan_input, step_within}
 
 -- the list of names
 unfoldable pub computing : Unit {0}
-unfolding computing_logs safe standing rebuilt put_row drop_row raise log say tell end end_all abort wound take_locks wait answer_read prepare_at prepare decide_at decide close with_room read_now read_row on_read prepare_now prepare_fresh on_prepare abort_all commit_granted commit_now commit_fresh on_commit count_vote tell_voter on_vote outcome_unpromised on_outcome on_give_up abort_for on_ask go_on on_resume settle_at on_settle ceiling on_advance on_nudge is_for on_message on_input step_within
+unfolding computing_logs safe standing rebuilt is_for changed ended_by carried plan_read_now plan_read_row plan_read plan_promise plan_prepare_now plan_prepare_fresh plan_prepare plan_abort plan_decide plan_commit_granted plan_commit_now plan_commit_fresh plan_commit plan_count plan_tell plan_vote plan_outcome plan_give_up plan_ask plan_go_on plan_resume plan_settle plan_advance plan_nudge plan_message plan_input step_within
 computing = tt

@@ -7,7 +7,8 @@ use Rattle.record.specs.Facts.{facts_of}
 use Rattle.record.specs.declared.record.Record.{Record}
 use Rattle.message.specs.declared.message.Input.{Input}
 use Rattle.protocol.specs.Rows.{Memory}
-use Rattle.protocol.specs.Plan.{Plan, before, plan_input}
+use Rattle.protocol.specs.Plan.{Plan, before}
+use Rattle.protocol.specs.Step.{plan_input}
 use Rattle.protocol.specs.Sound.{IsSound}
 
 -- there is room for the row of a promise or a decision, its locks are in nobody's way, and what it writes or installs is

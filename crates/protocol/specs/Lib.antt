@@ -1,11 +1,11 @@
+pub mod Cells
 pub mod Computing
-pub mod Draft
 pub mod FitsBeside
+pub mod Outputs
 pub mod OwnKeys
 pub mod Plan
 pub mod Refusals
-pub mod Rows
-pub mod Step
-pub mod StepLaws
-pub mod Sound
 pub mod Replay
+pub mod Rows
+pub mod Sound
+pub mod Step

@@ -8,7 +8,8 @@ use Rattle.record.specs.Facts.{Facts}
 use Rattle.record.specs.declared.record.Record.{Record}
 use Rattle.message.specs.declared.message.Input.{Input}
 use Rattle.protocol.specs.Rows.{Memory, Row, Phase, WaitsPrepare, WaitsCommit, Collecting}
-use Rattle.protocol.specs.Plan.{Plan, before, plan_input, carried}
+use Rattle.protocol.specs.Plan.{Plan, before, carried}
+use Rattle.protocol.specs.Step.{plan_input}
 
 -- the keys of the prepare or the commit that a row waits with or collects for are of this shard
 abbrev pub names_own : Setup → Phase → Bool

@@ -5,7 +5,8 @@ use Rattle.units.specs.declared.fault.Fault.TheVariants.{TimeSpent, RowsFull, Fu
 use Rattle.units.specs.declared.setup.Setup.{Setup}
 use Rattle.truetime.specs.Interval.{Interval}
 use Rattle.message.specs.declared.message.Input.{Input}
-use Rattle.protocol.specs.Plan.{Before, Planned, plan_input}
+use Rattle.protocol.specs.Plan.{Before, Planned}
+use Rattle.protocol.specs.Step.{plan_input}
 
 -- time or room is spent, it is too early, or somebody is a stranger
 abbrev pub is_own : Fault → Bool

@@ -7,8 +7,7 @@ use Rattle.record.specs.Facts.{Facts, facts_of}
 use Rattle.message.specs.declared.message.Envelope.{Envelope}
 use Rattle.message.specs.declared.message.Input.{Input}
 use Rattle.protocol.specs.Rows.{Memory, rebuilt}
-use Rattle.protocol.specs.Draft.{Stepped, Refuses, Does}
-use Rattle.protocol.specs.Step.{step, facts_after}
+use Rattle.protocol.specs.Step.{Stepped, Refuses, Does, facts_after, step}
 
 -- an accepted input, with the reading at which it came and the messages that were put out
 pub record Kept : Type 0 where

@@ -1,6 +1,6 @@
 -- The part of a shard's state that a crash loses: its rows, the greatest timestamp served, and the ids that were ended.
-use Rattle.std.specs.Prelude.{ℕ, ◌-◌, Bool, true, false, not, cond, List, [], ◌∷◌, map, Option, Some, None}
-use Rattle.units.specs.Lists.{keep, gather, first, least_with}
+use Rattle.std.specs.Prelude.{ℕ, ◌-◌, Bool, true, false, not, cond, List, [], ◌∷◌, ◌++◌, nat_eq, map, Option, Some, None}
+use Rattle.units.specs.Lists.{any, keep, gather, first, least_with}
 use Rattle.units.specs.Ids.{Id, same_id, older, has_id}
 use Rattle.units.specs.Keys.{Bytes}
 use Rattle.record.specs.Records.{Status, StandsPrepared, StandsDecided, HasAborted, HasSettled, HasClosed}
@@ -74,6 +74,24 @@ abbrev pub with_row : List Row → Row → List Row
 with_row [] r = r ∷ []
 with_row (q ∷ qs) r =
     cond (same_id q.txn r.txn) (r ∷ qs) (cond (older q.txn r.txn) (q ∷ with_row qs r) (r ∷ q ∷ qs))
+
+-- what a row holds, nothing where there is no row
+abbrev pub held_by : Option Row → List Lock
+held_by None = []
+held_by (Some r) = r.held
+
+-- what a transaction holds
+abbrev pub held_in : List Row → Id → List Lock
+held_in rows t = held_by (find_row rows t)
+
+-- the rows without those of several ids
+abbrev pub without_rows : List Row → List Id → List Row
+without_rows rows [] = rows
+without_rows rows (t ∷ ts) = without_rows (without_row rows t) ts
+
+-- the first vote of a shard is kept
+abbrev pub with_vote : ℕ → ℕ → List Voted → List Voted
+with_vote n p votes = cond (any (λ v. nat_eq v.shard n) votes) votes (votes ++ record { shard = n; at = p } ∷ [])
 
 -- the timestamp that a row holds the served time below
 abbrev pub held_stamp : Phase → Option ℕ

@@ -20,9 +20,8 @@ use Rattle.record.specs.declared.record.Record.{Record}
 use Rattle.facts.specs.Rules.{follows_facts}
 use Rattle.message.specs.declared.message.Input.{Input}
 use Rattle.protocol.specs.Rows.{Memory, Row, Phase, WaitsPrepare, WaitsCommit, Collecting, IsPrepared, IsDecided, claims, find_row, rebuilt}
-use Rattle.protocol.specs.Step.{facts_after}
-use Rattle.protocol.specs.StepLaws.{IsInLimit}
-use Rattle.protocol.specs.Plan.{Plan, before, plan_input, carried}
+use Rattle.protocol.specs.Plan.{Plan, before, carried}
+use Rattle.protocol.specs.Step.{facts_after, IsInLimit, plan_input}
 
 -- the mode allows writing
 abbrev pub is_exclusive : Mode → Bool

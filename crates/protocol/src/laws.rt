@@ -1,20 +1,8 @@
 //! Laws of the step. Each is the contract of a function that does nothing.
 ghost use Rattle.protocol.specs.FitsBeside.{LoggedFitsBeside};
 ghost use Rattle.protocol.specs.OwnKeys.{LoggedBelongs, StepKeepsOwn};
-ghost use Rattle.protocol.specs.Plan.{StepIsPlanned};
 ghost use Rattle.protocol.specs.Refusals.{OwnRefusals};
 ghost use Rattle.protocol.specs.Sound.{FreshIsSound, InstallsAbove, LoggedFollows, OpeningKeepsSound, StaysWithin, StepKeepsSound};
-ghost use Rattle.protocol.specs.StepLaws.{LastStaysUnderFloor};
-
-/// No step lets the greatest timestamp served pass that of the log.
-pub fn last_stays_under_floor()
-    ensures { LastStaysUnderFloor }
-{}
-
-/// What a step does is what its plan says from the state before it.
-pub fn step_is_planned()
-    ensures { StepIsPlanned }
-{}
 
 /// A shard whose log has one opening alone is sound: its lock table, its facts and its rows agree.
 pub fn fresh_is_sound()

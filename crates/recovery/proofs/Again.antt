@@ -15,10 +15,9 @@ use Rattle.record.specs.declared.record.Prepared.{Prepared}
 use Rattle.record.specs.declared.record.Record.{Record}
 use Rattle.message.specs.declared.message.Envelope.{Envelope}
 use Rattle.facts.specs.Rules.{allows, follows_facts, id_follows}
-use Rattle.protocol.specs.Draft.{held_by}
+use Rattle.protocol.specs.Rows.{held_by, held_in, Phase, Row, IsPrepared, IsDecided, find_row, rebuilt, standing_row, with_row, without_row}
+use Rattle.protocol.specs.Plan.{carried, changed, ended_by}
 use Rattle.protocol.specs.Plan as protocol
-use Rattle.protocol.specs.Plan.{carried, changed, ended_by, held_in}
-use Rattle.protocol.specs.Rows.{Phase, Row, IsPrepared, IsDecided, find_row, rebuilt, standing_row, with_row, without_row}
 use Rattle.protocol.proofs.FitsBeside.{unrecorded_is}
 use Rattle.protocol.proofs.StatusChanges.{by_id-status}
 use Rattle.memory.specs.Carry.{MayDrop}

@@ -12,8 +12,8 @@ use Rattle.units.specs.declared.writes.Write.{Write}
 use Rattle.units.proofs.ByIdLaws.{first_none}
 use Rattle.record.specs.Facts.{Entry, or_unrecorded, recorded}
 use Rattle.record.specs.Records.{Status, Unrecorded, StandsPrepared, StandsDecided, HasAborted, HasSettled, HasClosed}
-use Rattle.protocol.specs.Plan.{is_crowded, opens, without_rows}
-use Rattle.protocol.specs.Rows.{Row, claims, find_row, rebuilt, standing_row}
+use Rattle.protocol.specs.Rows.{without_rows, Row, claims, find_row, rebuilt, standing_row}
+use Rattle.protocol.specs.Plan.{is_crowded, opens}
 use Rattle.memory.specs.Carry.{Asks}
 use Rattle.memory.specs.Kept.{Kept, start_of}
 use Rattle.rows.specs.CodeRows.{is_reading}

@@ -10,8 +10,8 @@ use Rattle.units.specs.declared.writes.Write.{Write}
 use Rattle.record.specs.Facts.{Entry, Facts, learn}
 use Rattle.record.specs.declared.record.Record.{Record}
 use Rattle.facts.specs.Rules.{follows_facts}
-use Rattle.protocol.specs.Plan.{carried}
 use Rattle.protocol.specs.Rows.{Memory, Row, claims, rebuilt}
+use Rattle.protocol.specs.Plan.{carried}
 use Rattle.protocol.specs.Step.{facts_after}
 use Rattle.protocol.proofs.OpenedRows.{by_id-gather}
 use Rattle.memory.specs.Carry.{AdmissionIsUnseen, IsCarriable, IsFit, IsReady, MayFollow, MayInstall, ReadyIsCarriable, installed_by}

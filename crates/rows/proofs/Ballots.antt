@@ -4,7 +4,7 @@ use Rattle.std.proofs.lemmas.Bool.Decides.{nat_tests}
 use Rattle.units.specs.Lists.{any, each, has, once, insert, sorted}
 use Rattle.units.specs.Parts.{marked}
 use Rattle.units.proofs.Marked.{sorted_once}
-use Rattle.protocol.specs.Step.{with_vote}
+use Rattle.protocol.specs.Rows.{with_vote}
 use Rattle.rows.specs.States.{voted_of, has_voted, AreVotes, most_votes}
 use Rattle.rows.specs.declared.votes.Voted.{Voted as CastVote}
 

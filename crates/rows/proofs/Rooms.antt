@@ -5,13 +5,12 @@ use Rattle.units.specs.Ids.{Id}
 use Rattle.units.specs.Locks.{Claim}
 use Rattle.units.specs.declared.lock.Lock.{Lock}
 use Rattle.units.proofs.ByIdLaws.{find-map, find-with_same}
-use Rattle.protocol.specs.Rows.{Row, claim_of, claims, find_row}
+use Rattle.protocol.specs.Rows.{Row, claim_of, claims, find_row, held_in}
 use Rattle.protocol.proofs.RowTable.{claims-find_row}
 use Rattle.locks.specs.Table.{Token, held_in as held_in_table, needs_in as needs_in_table, needs_by as needs_by_claim, most_held}
 use Rattle.rows.specs.States.{ReadingState}
 use Rattle.rows.specs.CodeRows.{token_of, txn_of, row_of, put_in}
 use Rattle.rows.specs.RowTable.{RowTable, paired, table_of, room, room_by, needs_in, needs_by}
-use Rattle.protocol.specs.Plan.{held_in}
 use Rattle.rows.specs.declared.row.Row.{Row as CodeRow}
 use Rattle.rows.specs.declared.row.Row.TheVariants.{Reading}
 use Rattle.rows.proofs.Ties.{held_is, found_txn}

@@ -12,13 +12,12 @@ use Rattle.units.proofs.ByIdLaws.{all-without, found_has, without-map}
 use Rattle.units.proofs.ListLaws.{find-is}
 use Rattle.units.proofs.Folds.{there_first}
 use Rattle.record.specs.declared.record.Record.{Record}
-use Rattle.protocol.specs.Rows.{Row, Phase, Idle, WaitsRead, WaitsPrepare, WaitsCommit, Collecting as CollectsVotes, IsPrepared, IsDecided, claim_of, claims, find_row, without_row, needs_of, is_firm}
+use Rattle.protocol.specs.Rows.{Row, Phase, Idle, WaitsRead, WaitsPrepare, WaitsCommit, Collecting as CollectsVotes, IsPrepared, IsDecided, claim_of, claims, find_row, without_row, needs_of, is_firm, held_in, without_rows}
 use Rattle.protocol.proofs.RowTable.{claims-find_row, claims-without_row}
 use Rattle.locks.specs.Table.{Token, has_claim, without_claim, without_claims, change_claim, made_firm}
 use Rattle.rows.specs.States.{is_prepare_of, is_commit_of, prepared_by, decided_by}
 use Rattle.rows.specs.CodeRows.{token_of, txn_of, phase_of, row_of, has_txn, passes, put_in, without_txn, is_reading, is_idle, most_rows, IsRowList}
 use Rattle.rows.specs.RowTable.{paired, has_phase, put_row, without_token, phase_by}
-use Rattle.protocol.specs.Plan.{held_in, without_rows}
 use Rattle.rows.specs.declared.row.Row.{Row as CodeRow}
 use Rattle.rows.specs.declared.row.Row.TheVariants.{Prepared, Decided}
 use Rattle.rows.proofs.Lists.{length-keep}

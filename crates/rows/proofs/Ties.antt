@@ -8,13 +8,11 @@ use Rattle.units.specs.declared.lock.Lock.{Lock}
 use Rattle.units.proofs.IdLaws.{same_id-is, same_id_comm, older_not_same, older_not_younger, older_total, older-trans, older-along}
 use Rattle.units.proofs.ByIdLaws.{AllYounger, later_are_younger, by_id-cons, by_id-map, found_is, found_has, found_none, without-map, with-map, without_none, later_differ}
 use Rattle.units.proofs.ListLaws.{all_gives}
-use Rattle.protocol.specs.Rows.{Row, Phase, Idle, claim_of, claims, find_row, with_row, without_row}
+use Rattle.protocol.specs.Rows.{Row, Phase, Idle, claim_of, claims, find_row, with_row, without_row, held_by, held_in}
 use Rattle.protocol.proofs.RowTable.{with_row-is, claims-find_row, claims-without_row, claims-with_row, claims-changed_row}
-use Rattle.protocol.specs.Draft.{held_by}
 use Rattle.locks.specs.Table.{has_claim, with_claim, without_claim, change_claim, entrant, held_in as held_in_table, held_by as held_by_claim}
 use Rattle.rows.specs.CodeRows.{txn_of, phase_of, row_of, has_txn, passes, put_in, without_txn}
 use Rattle.rows.specs.RowTable.{paired, held_first, put_row, has_phase}
-use Rattle.protocol.specs.Plan.{held_in}
 use Rattle.rows.specs.declared.row.Row.{Row as CodeRow}
 
 -- what a row of the code says without its claim, and the same of a row that a contract sees

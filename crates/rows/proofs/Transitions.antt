@@ -7,13 +7,12 @@ use Rattle.units.specs.Locks.{Claim, with_locks}
 use Rattle.units.specs.declared.lock.Lock.{Lock}
 use Rattle.units.proofs.ByIdLaws.{change_is_with}
 use Rattle.record.specs.declared.record.Record.{Record}
-use Rattle.protocol.specs.Rows.{Row, Idle, claim_of, claims, find_row, with_row, needs_of, is_firm}
+use Rattle.protocol.specs.Rows.{Row, Idle, claim_of, claims, find_row, with_row, needs_of, is_firm, held_in}
 use Rattle.protocol.proofs.RowTable.{with_row-is}
 use Rattle.locks.specs.Table.{Token, change_claim, granted, waiting, resumed, made_firm}
 use Rattle.rows.specs.States.{ReadingState, CollectingState, PreparedState, DecidedState, is_prepare_of, is_commit_of, prepared_by, decided_by, collecting_of, with_yes as with_yes_state}
 use Rattle.rows.specs.CodeRows.{phase_of, phase_of_wait, row_of, passes, put_in, without_txn, is_idle, is_collecting, may_decide, may_abort, may_close, IsRowList}
 use Rattle.rows.specs.RowTable.{paired, needs_in, needs_by, put_row, phase_by, phase_in, phase_of_row, with_yes}
-use Rattle.protocol.specs.Plan.{held_in}
 use Rattle.rows.specs.declared.row.Row.{Row as CodeRow}
 use Rattle.rows.specs.declared.row.Row.TheVariants.{Reading, Collecting, Prepared, Decided}
 use Rattle.rows.specs.declared.wait.Wait.{Wait}

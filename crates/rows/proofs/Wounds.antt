@@ -11,7 +11,7 @@ use Rattle.units.specs.declared.lock.Lock.{Lock}
 use Rattle.units.proofs.IdLaws.{same_id-refl, older_not_same}
 use Rattle.units.proofs.ListLaws.{filter-is}
 use Rattle.units.proofs.ByIdLaws.{AllYounger, later_are_younger, later_differ, without_none, find-without_other}
-use Rattle.protocol.specs.Rows.{Row, Phase, Idle, WaitsRead, WaitsPrepare, WaitsCommit, Collecting, IsPrepared, IsDecided, claim_of, claims, find_row, without_row, needs_of}
+use Rattle.protocol.specs.Rows.{Row, Phase, Idle, WaitsRead, WaitsPrepare, WaitsCommit, Collecting, IsPrepared, IsDecided, claim_of, claims, find_row, without_row, needs_of, without_rows}
 use Rattle.protocol.proofs.RowTable.{claims-find_row, claims-by_id}
 use Rattle.locks.specs.Table.{Token, without_claims}
 use Rattle.locks.specs.Ways.{gives_way}
@@ -20,7 +20,6 @@ use Rattle.locks.proofs.Release.{wounded_differ, release_makes_way}
 use Rattle.locks.proofs.Oldest.{ready_is_oldest}
 use Rattle.rows.specs.CodeRows.{txn_of, phase_of_wait, passes, is_reading}
 use Rattle.rows.specs.RowTable.{paired, has_phase, without_token, without_tokens, MayEnd}
-use Rattle.protocol.specs.Plan.{without_rows}
 use Rattle.rows.specs.declared.row.Row.{Row as CodeRow}
 use Rattle.rows.specs.declared.wait.Wait.{Wait}
 use Rattle.rows.proofs.Ties.{by_id-paired, has_phase-is}

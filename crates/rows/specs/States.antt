@@ -3,8 +3,7 @@ use Rattle.std.specs.Prelude.{◌≡◌, ℕ, Bool, true, false, nat_eq, nat_lt,
 use Rattle.units.specs.Lists.{any}
 use Rattle.units.specs.Ids.{Id, same_id}
 use Rattle.record.specs.declared.record.Record.{Record}
-use Rattle.protocol.specs.Rows.{Voted}
-use Rattle.protocol.specs.Step.{with_vote}
+use Rattle.protocol.specs.Rows.{Voted, with_vote}
 use Rattle.locks.specs.Table.{Token}
 use Rattle.rows.specs.declared.votes.Voted.{Voted as CastVote}
 use Rattle.rows.specs.declared.wait.Wait.{Wait}

@@ -1,10 +1,9 @@
 //! What is promised and decided: transitions that spend a logged record.
 ghost use Rattle.std.specs.Prelude.{◌≡◌, [], true};
-ghost use Rattle.protocol.specs.Rows.{Collecting, without_row};
+ghost use Rattle.protocol.specs.Rows.{Collecting, without_row, held_in};
 ghost use Rattle.rows.specs.States.{is_prepare_of, is_commit_of, is_abort_of, is_outcome_of};
 ghost use Rattle.rows.specs.CodeRows.{is_idle, is_collecting, may_decide, may_abort, may_close};
 ghost use Rattle.rows.specs.RowTable.{has_phase, put_row, phase_by, phase_in, with_yes};
-ghost use Rattle.protocol.specs.Plan.{held_in};
 
 use crate::row::Row;
 use crate::rows::Rows;

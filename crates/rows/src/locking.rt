@@ -1,10 +1,9 @@
 //! How the transactions of a shard take locks, wait for them and go on.
 ghost use Rattle.std.specs.Prelude.{◌≡◌, ◌+◌, ◌≤◌, [], true, false, Some, length, OnOk, IfErr};
 ghost use Rattle.units.specs.Locks.{is_free, ready, with_locks, wounded};
-ghost use Rattle.protocol.specs.Rows.{Idle, claims, find_row, needs_of};
+ghost use Rattle.protocol.specs.Rows.{Idle, claims, find_row, needs_of, held_in, without_rows};
 ghost use Rattle.rows.specs.CodeRows.{phase_of_wait, is_reading};
 ghost use Rattle.rows.specs.RowTable.{room, needs_in, has_phase, put_row, without_tokens, MayEnd};
-ghost use Rattle.protocol.specs.Plan.{held_in, without_rows};
 
 use crate::row::Row;
 use crate::rows::Rows;

@@ -4,10 +4,9 @@ ghost use Rattle.units.specs.ById.{IsById};
 ghost use Rattle.units.specs.Lists.{each};
 ghost use Rattle.units.specs.LockLaws.{IsLawfulTable};
 ghost use Rattle.units.specs.Locks.{holds, is_free, ready, wounded};
-ghost use Rattle.protocol.specs.Rows.{Idle, claims, find_row, without_row};
+ghost use Rattle.protocol.specs.Rows.{Idle, claims, find_row, without_row, held_in, without_rows};
 ghost use Rattle.rows.specs.CodeRows.{phase_of, is_reading};
 ghost use Rattle.rows.specs.RowTable.{needs_in, has_phase, put_row, nth_prepared, nth_decided, without_token};
-ghost use Rattle.protocol.specs.Plan.{held_in, without_rows};
 
 use crate::list::RowList;
 use crate::row::Row;

@@ -1,6 +1,6 @@
 //! The votes of a commit that is collected.
 ghost use Rattle.std.specs.Prelude.{◌≡◌, [], IfOk, IfErr, map};
-ghost use Rattle.protocol.specs.Step.{with_vote};
+ghost use Rattle.protocol.specs.Rows.{with_vote};
 ghost use Rattle.rows.specs.States.{has_voted, voted_of};
 
 use crate::wait::CommitRequest;

@@ -7,8 +7,8 @@ use Rattle.units.specs.declared.writes.Write.{Write}
 use Rattle.record.specs.Facts.{Facts, learn}
 use Rattle.record.specs.declared.record.Record.{Record}
 use Rattle.protocol.specs.Rows.{Memory}
-use Rattle.protocol.specs.Step.{facts_after}
 use Rattle.protocol.specs.Plan.{carried}
+use Rattle.protocol.specs.Step.{facts_after}
 use Rattle.protocol.specs.Sound.{IsSound}
 use Rattle.memory.specs.Carry.{AdmissionIsUnseen, ReadyIsCarriable, IsReady, IsCarriable, MayInstall, installed_by}
 use Rattle.memory.specs.Kept.{Kept}

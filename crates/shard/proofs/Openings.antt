@@ -6,10 +6,10 @@ use Rattle.record.specs.Installs.{installs_of}
 use Rattle.record.specs.declared.record.Record.{Record}
 use Rattle.facts.specs.Rules.{follows_facts}
 use Rattle.protocol.specs.Plan as protocol
-use Rattle.protocol.specs.Plan.{carried, ended_by, changed}
 use Rattle.protocol.specs.Rows.{Memory, rebuilt}
-use Rattle.protocol.specs.Sound.{FreshIsSound, IsSound, OpeningKeepsSound}
+use Rattle.protocol.specs.Plan.{carried, ended_by, changed}
 use Rattle.protocol.specs.Step.{facts_after}
+use Rattle.protocol.specs.Sound.{FreshIsSound, IsSound, OpeningKeepsSound}
 use Rattle.protocol.proofs.RowChanges.{by_id-claims}
 use Rattle.memory.specs.Carry.{IsFit, MayFollow, MayInstall, installed_by}
 use Rattle.memory.specs.Kept.{Kept}

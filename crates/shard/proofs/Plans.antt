@@ -13,10 +13,8 @@ use Rattle.message.specs.declared.message.Input.{Input}
 use Rattle.facts.specs.Rules.{follows_facts}
 use Rattle.memory.specs.Ledger.{writes_standing}
 use Rattle.protocol.specs.Rows.{Memory, Row}
+use Rattle.protocol.specs.Step.{IsInLimit, plan_input}
 use Rattle.protocol.proofs.RowChanges.{by_id-claims}
-use Rattle.protocol.specs.StepLaws.{IsInLimit}
-use Rattle.protocol.specs.Step.{step}
-use Rattle.protocol.specs.Plan.{StepIsPlanned, plan_input, stepped}
 use Rattle.protocol.specs.Sound.{IsSound, StepKeepsSound, LoggedFollows, InstallsAbove}
 use Rattle.memory.specs.Carry.{IsFit, MayFollow, MayInstall, installed_by}
 use Rattle.memory.specs.Kept.{Kept, start_of}
@@ -67,8 +65,3 @@ module _ (k : Kept) (now : Interval) (i : Input) (p : CodePlan) (limit : IsInLim
     installs = may_install k.facts p.logged (λ t s e. (refl, installs_next installs sound t s e));
     sound = ∥∥₁_map sound (λ s. keeps 1024 k.setup k.facts k.memory now i (plan_of k.memory.rows p) limit s planned);
   }
-
--- a step is that of its plan
-pub step_is : StepIsPlanned → (k : Kept) → ∥ IsSound k.setup.shard k.facts k.memory ∥₁ → (now : Interval) (i : Input)
-    → step k.setup k.facts k.memory now i ≡ stepped k.memory (plan_input k.setup (start_of k) now i)
-step_is law k sound now i = law 1024 k.setup k.facts k.memory now i (ascending k.setup.shard k.facts k.memory sound)

@@ -13,10 +13,9 @@ use Rattle.disk.specs.Moments.{LeavesOnly}
 use Rattle.message.specs.declared.message.Envelope.{Envelope}
 use Rattle.record.specs.declared.record.Record.{Record}
 use Rattle.record.specs.Facts.{Facts}
-use Rattle.protocol.specs.Draft.{Stepped, Refuses, Does}
 use Rattle.protocol.specs.Rows.{Memory}
-use Rattle.protocol.specs.Step.{facts_after}
-use Rattle.protocol.specs.Plan.{Planned, stepped}
+use Rattle.protocol.specs.Plan.{Planned}
+use Rattle.protocol.specs.Step.{Stepped, Refuses, Does, facts_after, stepped}
 use Rattle.protocol.specs.Refusals.{Owns, is_own}
 use Rattle.memory.specs.Kept.{IsRefusal}
 use Rattle.shard.specs.Logs.{records_in, and_logged, KeepsRecords, HoldsOldOrWith}

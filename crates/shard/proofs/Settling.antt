@@ -17,9 +17,11 @@ use Rattle.record.specs.Records.{Status, Unrecorded, StandsPrepared, StandsDecid
 use Rattle.record.specs.Facts.{recorded}
 use Rattle.record.specs.declared.record.Prepared.{Prepared}
 use Rattle.protocol.specs.Rows.{Row, Idle, WaitsRead, WaitsPrepare, WaitsCommit, Collecting, IsPrepared, IsDecided, Standing, IsUnknown, WasEnded, HasRow, WasAborted, WasSettled, WasClosed, find_row}
-use Rattle.protocol.specs.Draft.{done_to}
+use Rattle.protocol.specs.Outputs.{done_to}
+use Rattle.protocol.specs.Plan.{Before, Plan, stands}
+use Rattle.protocol.specs.Cells.{plan_settle}
+use Rattle.protocol.specs.Step.{plan_input}
 use Rattle.protocol.specs.Sound.{IsSound, Agrees}
-use Rattle.protocol.specs.Plan.{Before, Plan, plan_input, plan_settle, stands}
 use Rattle.protocol.proofs.InWay.{row_at}
 use Rattle.protocol.proofs.RowChanges.{row_as}
 use Rattle.memory.specs.Kept.{Kept, start_of}

@@ -1,7 +1,7 @@
 -- What a plan needs so that it may be logged and carried out.
 use Rattle.units.specs.ById.{IsById}
-use Rattle.protocol.specs.Step.{facts_after}
 use Rattle.protocol.specs.Plan.{carried}
+use Rattle.protocol.specs.Step.{facts_after}
 use Rattle.protocol.specs.Sound.{IsSound}
 use Rattle.memory.specs.Carry.{IsFit, MayFollow, MayInstall, installed_by}
 use Rattle.memory.specs.Kept.{Kept}

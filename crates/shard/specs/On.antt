@@ -12,9 +12,8 @@ use Rattle.record.specs.Facts.{Facts}
 use Rattle.truetime.specs.Interval.{Interval}
 use Rattle.message.specs.declared.message.Envelope.{Envelope}
 use Rattle.message.specs.declared.message.Input.{Input}
-use Rattle.protocol.specs.Draft.{Stepped, Refuses, Does}
 use Rattle.protocol.specs.Rows.{Memory}
-use Rattle.protocol.specs.Step.{step, facts_after}
+use Rattle.protocol.specs.Step.{Stepped, Refuses, Does, step, facts_after}
 use Rattle.gatelog.specs.Frames.{next_gate, IsFull}
 use Rattle.shard.specs.Logs.{records_in, and_logged, KeepsRecords, HoldsOldOrWith}
 

@@ -6,7 +6,7 @@ use Rattle.units.specs.declared.fault.Fault.{Fault}
 use Rattle.disk.specs.Image.{Surface, MayLeave}
 use Rattle.message.specs.declared.message.Envelope.{Envelope}
 use Rattle.record.specs.declared.record.Record.{Record}
-use Rattle.protocol.specs.Draft.{done_to}
+use Rattle.protocol.specs.Outputs.{done_to}
 use Rattle.message.specs.declared.message.Input.{Input}
 use Rattle.shard.specs.Logs.{records_in}
 

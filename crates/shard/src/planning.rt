@@ -1,10 +1,9 @@
 //! The plan of each input.
 ghost use Rattle.std.specs.Prelude.{◌≡◌, [], true, Some, Ok, IfOk};
 ghost use Rattle.std.specs.Option.{option_copied};
-ghost use Rattle.protocol.specs.Step.{is_for};
-ghost use Rattle.protocol.specs.StepLaws.{IsInLimit};
-ghost use Rattle.protocol.specs.Plan.{plan_input, plan_message, plan_advance, plan_resume, plan_resume_id, plan_resume_row, plan_go_on, held_in, to_read};
-ghost use Rattle.protocol.specs.Rows.{WaitsRead, find_row, needs_of};
+ghost use Rattle.protocol.specs.Rows.{held_in, WaitsRead, find_row, needs_of};
+ghost use Rattle.protocol.specs.Cells.{plan_advance, plan_resume, plan_resume_id, plan_resume_row, plan_go_on, to_read};
+ghost use Rattle.protocol.specs.Step.{is_for, IsInLimit, plan_input, plan_message};
 ghost use Rattle.rows.specs.CodeRows.{phase_of, phase_of_wait};
 ghost use Rattle.rows.specs.RowTable.{needs_in};
 ghost use Rattle.memory.specs.Carry.{Asks, IsFit};
@@ -31,7 +30,7 @@ pub fn names_in_limit(input: &Input)
 }
 
 /// What an input comes to. Nothing is changed by it.
-#[tactic(auto, unfolding(protocol::specs::Plan::plan_input))]
+#[tactic(auto, unfolding(protocol::specs::Step::plan_input))]
 pub fn plan_input(state: &State, alloc: Global, now: &Reading, input: &Input) -> Result<Plan, Fault>
     ensures planned { IsPlanned state.now (plan_input state.now.setup (start_of state.now) now.now input.now) result }
     ensures fit { IfOk result (IsFit state.now) }
@@ -51,7 +50,7 @@ pub fn plan_input(state: &State, alloc: Global, now: &Reading, input: &Input) ->
 }
 
 // The plan of a message that is for this shard.
-#[tactic(auto, unfolding(protocol::specs::Plan::plan_message))]
+#[tactic(auto, unfolding(protocol::specs::Step::plan_message))]
 fn plan_message(
     state: &State,
     alloc: Global,
@@ -74,7 +73,7 @@ fn plan_message(
 }
 
 // The oldest wait that would be granted now goes on.
-#[tactic(auto, unfolding(protocol::specs::Plan::plan_resume))]
+#[tactic(auto, unfolding(protocol::specs::Cells::plan_resume))]
 fn plan_resume(state: &State, alloc: Global, now: &Reading) -> Result<Plan, Fault>
     ensures planned { IsPlanned state.now (plan_resume (start_of state.now) now.now.earliest) result }
     ensures fit { IfOk result (IsFit state.now) }
@@ -98,7 +97,7 @@ fn resume_of(state: &State, alloc: Global, now: &Reading, txn: TxnId) -> Result<
 }
 
 // The row of a transaction goes on.
-#[tactic(auto, unfolding(protocol::specs::Plan::plan_go_on))]
+#[tactic(auto, unfolding(protocol::specs::Cells::plan_go_on))]
 fn resume_row(
     state: &State,
     alloc: Global,
@@ -117,7 +116,7 @@ fn resume_row(
 }
 
 // What a row waits with goes on: a prepare takes this reading, a commit the one at its arrival.
-#[tactic(auto, unfolding(protocol::specs::Plan::plan_go_on))]
+#[tactic(auto, unfolding(protocol::specs::Cells::plan_go_on))]
 fn resume_wait(
     state: &State,
     alloc: Global,
@@ -153,7 +152,7 @@ fn resume_key(
 }
 
 // Reads are served up to a time that has come. A ceiling is logged before, where the log's greatest timestamp is below it.
-#[tactic(auto, unfolding(protocol::specs::Plan::plan_advance))]
+#[tactic(auto, unfolding(protocol::specs::Cells::plan_advance))]
 fn plan_advance(state: &State, alloc: Global, now: &Reading, to: Stamp) -> Result<Plan, Fault>
     ensures planned { IsPlanned state.now (plan_advance (start_of state.now) now.now.latest state.now.setup.stride to) result }
     ensures fit { IfOk result (IsFit state.now) }

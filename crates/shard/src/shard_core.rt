@@ -8,8 +8,9 @@ ghost use Rattle.disk.specs.declared.plan.Plan.TheVariants.{Never};
 ghost use Rattle.gatelog.specs.Frames.{next_gate, IsFull};
 ghost use Rattle.gatelog.specs.Shown.{disk_of, gate_at, is_stopped};
 ghost use Rattle.memory.specs.Plans.{plan_of};
-ghost use Rattle.protocol.specs.Draft.{Does};
+ghost use Rattle.protocol.specs.Rows.{claims, rebuilt};
 ghost use Rattle.protocol.specs.Plan.{carried};
+ghost use Rattle.protocol.specs.Step.{Does};
 ghost use Rattle.protocol.specs.Sound.{IsSound};
 ghost use Rattle.record.specs.Facts.{facts_of, learn};
 ghost use Rattle.rows.specs.RowTable.{nth_prepared, nth_decided};
@@ -20,7 +21,6 @@ ghost use Rattle.shard.specs.Opened.{HasOpened, HasNotOpened, HasAppended, HasNo
 ghost use Rattle.shard.specs.Look.{IsLook, IsSeen, safe_at};
 ghost use Rattle.shard.specs.Settled.{IsDurablySettled};
 ghost use Rattle.units.specs.Locks.{ready};
-ghost use Rattle.protocol.specs.Rows.{claims, rebuilt};
 
 use crate::logging::append_record;
 use crate::planning::{names_in_limit, plan_input};
@@ -30,7 +30,7 @@ use memory::{Plan, State, ready_plans_can_be_carried};
 use message::{Input, Outbox};
 use protocol::{
     fresh_is_sound, installs_above, logged_follows, opening_keeps_sound, own_refusals,
-    step_is_planned, step_keeps_sound,
+    step_keeps_sound,
 };
 use record::{Record, accepted_follows, learn_agrees, learnt_agrees};
 use recovery::rebuild;
@@ -90,7 +90,6 @@ impl<D: Disk> Core<D> {
             (step_of (seen self.old) now.now input.now) result }
         ensures settled { IsDurablySettled D.keeps_model (surface (D.file (seen self.new).disk)) input.now result }
     {
-        step_is_planned();
         step_keeps_sound();
         logged_follows();
         installs_above();

@@ -15,8 +15,7 @@ use Rattle.record.proofs.LearnAgrees.{learn_agrees}
 use Rattle.message.specs.declared.message.Envelope.{Envelope}
 use Rattle.message.specs.declared.message.Input.{Input}
 use Rattle.protocol.specs.Rows.{Memory}
-use Rattle.protocol.specs.Draft.{Stepped, Refuses, Does}
-use Rattle.protocol.specs.Step.{step, facts_after}
+use Rattle.protocol.specs.Step.{Stepped, Refuses, Does, step, facts_after}
 use Rattle.shard.specs.Core.{seen}
 use Rattle.shard.specs.Logs.{records_in, and_logged}
 use Rattle.shard.specs.On.{HasStepped, IsCause, IsKept, IsLogFull, step_of}

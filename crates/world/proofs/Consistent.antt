@@ -2,7 +2,6 @@
 -- are read.
 use Rattle.std.proofs.Common.{◌≡◌, ◌⊎◌, inl, inr, ℕ, ◌+◌, true, List, [], ◌∷◌, ◌++◌, Some, slice_get, refl, sym, subst}
 use Rattle.std.specs.Prelude.{Ok}
-use Rattle.units.specs.ById.{IsById}
 use Rattle.units.specs.declared.setup.Setup.{Setup}
 use Rattle.truetime.specs.Interval.{Interval}
 use Rattle.record.specs.Accepted.{Accepted, taken, follows, belongs, fits_beside}
@@ -12,9 +11,8 @@ use Rattle.record.specs.Serially.{LooksSerially, ReadsSerially}
 use Rattle.record.specs.declared.record.Record.{Record}
 use Rattle.message.specs.declared.message.Input.{Input}
 use Rattle.protocol.specs.Rows.{Memory, rebuilt}
-use Rattle.protocol.specs.Step.{facts_after}
-use Rattle.protocol.specs.StepLaws.{IsInLimit}
-use Rattle.protocol.specs.Plan.{Plan, StepIsPlanned, before, plan_input, carried}
+use Rattle.protocol.specs.Plan.{Plan, before, carried}
+use Rattle.protocol.specs.Step.{facts_after, IsInLimit, plan_input}
 use Rattle.world.specs.World.{World, ShardNow, setup_of, run, fresh_log}
 use Rattle.world.specs.Lawful.{lawful, may_act}
 use Rattle.world.specs.ButForReads.{ConsistentButForReads}
@@ -40,10 +38,9 @@ fresh_taken : (setup : Setup) → IsTaken setup fresh_log
 unfolding taken follows belongs fits_beside
 fresh_taken setup = refl
 
-module _ (planned : StepIsPlanned)
-    -- what holds of a running shard, by its settings, its facts and its memory: its rows ascend by id
+module _
+    -- what holds of a running shard, by its settings, its facts and its memory
     (Sound : Setup → Facts → Memory → Type 0)
-    (ascends : (setup : Setup) (f : Facts) (m : Memory) → Sound setup f m → IsById (λ r. r.txn) m.rows)
     -- a step keeps it, an opening brings it back, and it holds at the beginning
     (keeps : (setup : Setup) (f : Facts) (m : Memory) (now : Interval) (i : Input) (p : Plan) → IsInLimit i → Sound setup f m →
     plan_input setup (before 1024 setup f m) now i ≡ Ok p → Sound setup (facts_after f p.logged) (carried p m))
@@ -56,27 +53,27 @@ module _ (planned : StepIsPlanned)
     -- the timestamps that events name are within the limit
     (limits : (w : World) (time : ℕ) (a : Act) → may_act w time a ≡ true → ActLimit a) where
   pub steady : AlwaysSteady
-  steady = always_steady planned Sound IsTaken ascends keeps opens accepted_follows logs opening_taken limits fresh fresh_taken
+  steady = always_steady Sound IsTaken keeps opens accepted_follows logs opening_taken limits fresh fresh_taken
 
-  sound : (config : Config) (es : List Event) → lawful config es ≡ true → SoundWorld planned Sound IsTaken ascends keeps opens accepted_follows logs opening_taken (run config es)
-  sound = always_sound planned Sound IsTaken ascends keeps opens accepted_follows logs opening_taken limits fresh fresh_taken
+  sound : (config : Config) (es : List Event) → lawful config es ≡ true → SoundWorld Sound IsTaken keeps opens accepted_follows logs opening_taken (run config es)
+  sound = always_sound Sound IsTaken keeps opens accepted_follows logs opening_taken limits fresh fresh_taken
 
   -- an opening of each shard takes its log
   accepted : (config : Config) (es : List Event) (ls : List (List Record)) → lawful config es ≡ true → MayBeLeft config es ls → AllAccepted (run config es).config ls
   accepted config es ls fair (inl may) n log e =
       let s = left_get (run config es).shards ls n log may e in
-      left_good planned Sound IsTaken ascends keeps opens accepted_follows logs opening_taken (run config es) (sound config es fair) n s.shard log s.there s.fits
+      left_good Sound IsTaken keeps opens accepted_follows logs opening_taken (run config es) (sound config es fair) n s.shard log s.there s.fits
   accepted config es ls fair (inr within) n log e =
       by_place (within_get (run config es) within.1 within.2 within.1 (run config es).shards ls n log within.5 e)
     where
       stepped : (k : ℕ) (s : ShardNow) (doing : Doing) → slice_get (run config es).shards k ≡ Some s → MayHaveLogged (run config es) s k doing log → IsTaken (setup_of (run config es).config k) log
       stepped k s doing there h =
           subst (IsTaken (setup_of (run config es).config k)) (sym h.1.1)
-          (logged_good planned Sound IsTaken ascends keeps opens accepted_follows logs opening_taken (run config es) (sound config es fair) k s doing h.0 h.1.0.0 h.1.0.1 there h.1.0.2)
+          (logged_good Sound IsTaken keeps opens accepted_follows logs opening_taken (run config es) (sound config es fair) k s doing h.0 h.1.0.0 h.1.0.1 there h.1.0.2)
 
       by_place : ShardOf (run config es).shards n (λ s. MayLeaveLog s log ⊎ ((n ≡ within.1) × MayHaveLogged (run config es) s within.1 within.2 log)) → IsTaken (setup_of (run config es).config n) log
       by_place p = elim p.fits [
-        | inl plain ↦ left_good planned Sound IsTaken ascends keeps opens accepted_follows logs opening_taken (run config es) (sound config es fair) n p.shard log p.there plain
+        | inl plain ↦ left_good Sound IsTaken keeps opens accepted_follows logs opening_taken (run config es) (sound config es fair) n p.shard log p.there plain
         | inr here ↦ subst (λ k. IsTaken (setup_of (run config es).config k) log) (sym here.0)
             (stepped within.1 p.shard within.2 (subst (λ k. slice_get (run config es).shards k ≡ Some p.shard) here.0 p.there) here.1)
       ]
@@ -87,9 +84,9 @@ module _ (planned : StepIsPlanned)
   pub but_for_reads : ConsistentButForReads
   but_for_reads config es ls fair may = record {
     recovered = recovered config es ls fair may;
-    acknowledged = keeps_acknowledged planned steady config es ls fair may;
-    all_or_nothing = all_or_nothing planned steady config es ls fair may;
-    order = ordered_by_time planned steady config es ls fair may;
+    acknowledged = keeps_acknowledged steady config es ls fair may;
+    all_or_nothing = all_or_nothing steady config es ls fair may;
+    order = ordered_by_time steady config es ls fair may;
   }
 
   -- with the values that are read, all of it
@@ -106,7 +103,7 @@ module _ (planned : StepIsPlanned)
       }
 
   pub in_the_past : InstalledInThePast
-  in_the_past = installed_in_the_past planned steady
+  in_the_past = installed_in_the_past steady
 
   pub looks_cover : LooksCoverAcknowledged
-  looks_cover = looks_cover_acknowledged planned steady
+  looks_cover = looks_cover_acknowledged steady

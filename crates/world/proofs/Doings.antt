@@ -4,7 +4,6 @@ use Rattle.std.specs.Prelude.{Ok, Err}
 use Rattle.std.specs.List.{AllByRecursion}
 use Rattle.std.proofs.lemmas.Bool.{leb-true, eqb-true}
 use Rattle.units.specs.Lists.{mapped, when}
-use Rattle.units.specs.ById.{IsById}
 use Rattle.units.specs.Ids.{Id}
 use Rattle.units.specs.Keys.{Bytes}
 use Rattle.units.specs.declared.fault.Fault.TheVariants.{TimeSpent}
@@ -19,9 +18,9 @@ use Rattle.message.specs.declared.message.Address.TheVariants.{Shard, Session}
 use Rattle.message.specs.declared.message.Envelope.{Envelope}
 use Rattle.message.specs.declared.message.Input.{Input}
 use Rattle.message.specs.declared.message.Message.{Message}
-use Rattle.protocol.specs.Rows.{Memory, Row, rebuilt, without_row}
-use Rattle.protocol.specs.Draft.{Stepped, Refuses, Does, time_limit}
-use Rattle.protocol.specs.Plan.{before, Plan, Planned, Change, Keeps, Ends, Drops, Puts, StepIsPlanned, plan_input, stepped, carried, changed, without_rows}
+use Rattle.protocol.specs.Rows.{Memory, Row, rebuilt, without_row, without_rows}
+use Rattle.protocol.specs.Plan.{time_limit, before, Plan, Planned, Change, Keeps, Ends, Drops, Puts, carried, changed}
+use Rattle.protocol.specs.Step.{step_within, Stepped, Refuses, Does, plan_input, stepped}
 use Rattle.protocol.proofs.RowTable.{with_row-is}
 use Rattle.world.specs.World.{ShardNow, Runs, read_log, setup_of, opening, input_of, step_with}
 use Rattle.world.specs.Lawful.{goes_to, may_do}
@@ -127,7 +126,7 @@ given sc n Doing.Open h = tt
 
 -- ---- a doing of a shard
 
-module _ (law : StepIsPlanned) (sc : Scene) (h : Holds sc) (n : ℕ) (s : ShardNow) (there : slice_get sc.world.shards n ≡ Some s) where
+module _ (sc : Scene) (h : Holds sc) (n : ℕ) (s : ShardNow) (there : slice_get sc.world.shards n ≡ Some s) where
   began_by : (latest : ℕ) → sc.now ≤ latest → (t : Id) (ps : List ℕ) (rs : List Bytes) (ws : List Write) → CommitAsked sc.world n t ps rs ws → BeganBy sc t latest
   began_by latest later t ps rs ws asked =
       let closing = h.messages _ asked.sent in
@@ -139,10 +138,11 @@ module _ (law : StepIsPlanned) (sc : Scene) (h : Holds sc) (n : ℕ) (s : ShardN
   passed_by from t at sent = (h.messages _ sent).told.1.passed
 
   -- the step of a running shard
-  pub step_evidence : (m : Memory) → s.state ≡ Runs m → IsById (λ r. r.txn) m.rows → IsOrderly s.log → (o : Option (Interval × Input)) → Given sc n o →
+  pub step_evidence : (m : Memory) → s.state ≡ Runs m → IsOrderly s.log → (o : Option (Interval × Input)) → Given sc n o →
       SteppedEvidence sc n s.log (step_with (setup_of sc.world.config n) (facts_of s.log) m o)
-  step_evidence m runs up orderly None given_none = tt
-  step_evidence m runs up orderly (Some p) heard =
+  unfolding step_within
+  step_evidence m runs orderly None given_none = tt
+  step_evidence m runs orderly (Some p) heard =
       let setup = setup_of sc.world.config n in
       let start = before 1024 setup (facts_of s.log) m in
       let evidence = h.shards n s there in
@@ -154,8 +154,7 @@ module _ (law : StepIsPlanned) (sc : Scene) (h : Holds sc) (n : ℕ) (s : ShardN
         began = began_by p.0.latest heard.2;
         passed = passed_by;
       } in
-      subst (SteppedEvidence sc n s.log) (sym (law 1024 setup (facts_of s.log) m p.0 p.1 up))
-      (stepped_evidence sc s.log n m state.0 (plan_input setup start p.0 p.1) (planned sc s.log start p.0 knows setup p.1 heard.0))
+      stepped_evidence sc s.log n m state.0 (plan_input setup start p.0 p.1) (planned sc s.log start p.0 knows setup p.1 heard.0)
 
   -- an opening
   pub opening_evidence : SteppedEvidence sc n (read_log s) (opening (facts_of (read_log s)))

@@ -12,7 +12,6 @@ use Rattle.message.specs.declared.message.Address.{Address}
 use Rattle.message.specs.declared.message.Address.TheVariants.{Shard, Session}
 use Rattle.message.specs.declared.message.Envelope.{Envelope}
 use Rattle.message.specs.declared.message.Input.{Input}
-use Rattle.protocol.specs.Plan.{StepIsPlanned}
 use Rattle.session.specs.Sessions.{Client}
 use Rattle.world.specs.World.{World, After, ShardNow, client_of, input_of, at_shard, do_at, deliver_to, acts, happens, ticked, start, run, run_from, setup_of, did, effect, did_with_failure, crashed, crashed_in, set_shard, to_session, refused, noted, look_shard, look_at_view, fresh_shard, fresh_log}
 use Rattle.world.specs.Lawful.{has_begun, may_act, may_happen, can_come, lawful_from, lawful}
@@ -34,7 +33,7 @@ use Rattle.world.proofs.Shards.{doing_holds, plain_crash_holds, crash_within_hol
 
 -- ---- one event
 
-module _ (law : StepIsPlanned) (sc : Scene) (h : Holds sc) (steady : IsSteady sc.world) (present : slice_get sc.times sc.world.event ≡ Some sc.now) where
+module _ (sc : Scene) (h : Holds sc) (steady : IsSteady sc.world) (present : slice_get sc.times sc.world.event ≡ Some sc.now) where
   -- an event at a shard, where there is one
   at_shard_holds : (n : ℕ) (f : Setup → ShardNow → After) → ((s : ShardNow) → slice_get sc.world.shards n ≡ Some s → AfterHolds sc (f (setup_of sc.world.config n) s)) →
       AfterHolds sc (at_shard sc.world n f)
@@ -45,7 +44,7 @@ module _ (law : StepIsPlanned) (sc : Scene) (h : Holds sc) (steady : IsSteady sc
       by_value (Some s) e = each s e
 
   do_at_holds : (n : ℕ) (doing : Doing) → Given sc n (input_of sc.world.bag doing) → AfterHolds sc (do_at sc.world n doing)
-  do_at_holds n doing heard = at_shard_holds n (λ setup s. did sc.world n s doing (effect setup sc.world.bag s doing)) (λ s there. doing_holds law sc h steady present n s there doing heard)
+  do_at_holds n doing heard = at_shard_holds n (λ setup s. did sc.world n s doing (effect setup sc.world.bag s doing)) (λ s there. doing_holds sc h steady present n s there doing heard)
 
   begins : (t : Id) → not (has_begun sc.world t) ≡ true → AfterHolds sc (acts sc.world (Act.Begin t))
   unfolding acts
@@ -88,11 +87,11 @@ module _ (law : StepIsPlanned) (sc : Scene) (h : Holds sc) (steady : IsSteady sc
   acts_hold (Act.At n doing) may = do_at_holds n doing (given sc n doing (both _ _ may).1)
   acts_hold (Act.Look n k at) may = at_shard_holds n (λ setup s. noted sc.world k at (look_shard setup s k at)) (λ s there. look_holds sc k at (look_shard (setup_of sc.world.config n) s k at) h)
   acts_hold (Act.View n v k at) may = at_shard_holds n (λ setup s. noted sc.world k at (look_at_view setup (slice_get s.views v) k at)) (λ s there. look_holds sc k at (look_at_view (setup_of sc.world.config n) (slice_get s.views v) k at) h)
-  acts_hold (Act.Crash n) may = at_shard_holds n (λ setup s. (set_shard n (crashed s s.log) sc.world, Reply.Crashed)) (λ s there. plain_crash_holds law sc h steady present n s there)
+  acts_hold (Act.Crash n) may = at_shard_holds n (λ setup s. (set_shard n (crashed s s.log) sc.world, Reply.Crashed)) (λ s there. plain_crash_holds sc h steady present n s there)
   acts_hold (Act.CrashIn n call fate doing) may =
-      at_shard_holds n (λ setup s. (set_shard n (crashed_in s call fate doing (effect setup sc.world.bag s doing)) sc.world, Reply.Crashed)) (λ s there. crash_within_holds law sc h steady present n s there call fate doing (given sc n doing (both _ _ (both _ _ may).0).1))
+      at_shard_holds n (λ setup s. (set_shard n (crashed_in s call fate doing (effect setup sc.world.bag s doing)) sc.world, Reply.Crashed)) (λ s there. crash_within_holds sc h steady present n s there call fate doing (given sc n doing (both _ _ (both _ _ may).0).1))
   acts_hold (Act.FailIn n call doing) may =
-      at_shard_holds n (λ setup s. did_with_failure sc.world n s call doing (effect setup sc.world.bag s doing)) (λ s there. failure_holds law sc h steady present n s there call doing (given sc n doing (both _ _ may).1))
+      at_shard_holds n (λ setup s. did_with_failure sc.world n s call doing (effect setup sc.world.bag s doing)) (λ s there. failure_holds sc h steady present n s there call doing (given sc n doing (both _ _ may).1))
 
 -- ---- time
 
@@ -210,33 +209,32 @@ abbrev pub next : Scene → Event → Scene
 next sc e =
     record { world = ticked ((acts sc.world e.act).0) e.time; times = sc.times ++ e.time ∷ []; event = suc sc.event; now = e.time }
 
-module _ (law : StepIsPlanned) where
-  next_holds : (sc : Scene) (e : Event) → Holds sc → Clock sc → IsSteady sc.world → may_happen sc.world e ≡ true → Holds (next sc e) × Clock (next sc e)
-  next_holds sc e h c steady may =
-      let p = both (nat_le sc.world.time e.time) (may_act sc.world e.time e.act) may in
-      let from : sc.world.time ≤ e.time = leb-true _ _ p.0 in
-      let same = c.time in
-      let later : sc.now ≤ e.time = omega (arith, from, same) in
-      let begun = tick_holds sc e.time h c later in
-      let after = acts_hold law (record { world = sc.world; times = sc.times ++ e.time ∷ []; event = sc.event; now = e.time }) begun steady (present_now sc e.time h c later) e.act p.1 in (
-        over_holds (with_world (record { world = sc.world; times = sc.times ++ e.time ∷ []; event = sc.event; now = e.time }) (acts sc.world e.act).0) e.time after,
-        record {
-          count = length_push sc.times e.time ∙ ap suc c.count;
-          time = refl;
-          below = below_now sc e.time h c later;
-          rises = rises_now sc e.time h c later;
-        },
-      )
+next_holds : (sc : Scene) (e : Event) → Holds sc → Clock sc → IsSteady sc.world → may_happen sc.world e ≡ true → Holds (next sc e) × Clock (next sc e)
+next_holds sc e h c steady may =
+    let p = both (nat_le sc.world.time e.time) (may_act sc.world e.time e.act) may in
+    let from : sc.world.time ≤ e.time = leb-true _ _ p.0 in
+    let same = c.time in
+    let later : sc.now ≤ e.time = omega (arith, from, same) in
+    let begun = tick_holds sc e.time h c later in
+    let after = acts_hold (record { world = sc.world; times = sc.times ++ e.time ∷ []; event = sc.event; now = e.time }) begun steady (present_now sc e.time h c later) e.act p.1 in (
+      over_holds (with_world (record { world = sc.world; times = sc.times ++ e.time ∷ []; event = sc.event; now = e.time }) (acts sc.world e.act).0) e.time after,
+      record {
+        count = length_push sc.times e.time ∙ ap suc c.count;
+        time = refl;
+        below = below_now sc e.time h c later;
+        rises = rises_now sc e.time h c later;
+      },
+    )
 
-  holds_from : (sc : Scene) → Holds sc → Clock sc → (es : List Event) → lawful_from sc.world es ≡ true →
-      ((ds : List Event) → lawful_from sc.world ds ≡ true → IsSteady (run_from sc.world ds)) → RunEvidence (run_from sc.world es)
-  unfolding happens
-  holds_from sc h c [] e steady = record { scene = sc; same = refl; holds = h; clock = c }
-  holds_from sc h c (x ∷ xs) e steady =
-      let p = both (may_happen sc.world x) (lawful_from ((happens sc.world x).0) xs) e in
-      let after = next_holds sc x h c (steady [] refl) p.0 in
-      holds_from (next sc x) after.0 after.1 xs p.1
-      (λ ds l. steady (x ∷ ds) (ap (λ b. b && lawful_from ((happens sc.world x).0) ds) p.0 ∙ l))
+holds_from : (sc : Scene) → Holds sc → Clock sc → (es : List Event) → lawful_from sc.world es ≡ true →
+    ((ds : List Event) → lawful_from sc.world ds ≡ true → IsSteady (run_from sc.world ds)) → RunEvidence (run_from sc.world es)
+unfolding happens
+holds_from sc h c [] e steady = record { scene = sc; same = refl; holds = h; clock = c }
+holds_from sc h c (x ∷ xs) e steady =
+    let p = both (may_happen sc.world x) (lawful_from ((happens sc.world x).0) xs) e in
+    let after = next_holds sc x h c (steady [] refl) p.0 in
+    holds_from (next sc x) after.0 after.1 xs p.1
+    (λ ds l. steady (x ∷ ds) (ap (λ b. b && lawful_from ((happens sc.world x).0) ds) p.0 ∙ l))
 
 -- ---- the beginning
 
@@ -275,7 +273,7 @@ unfolding start
 start_clock config = record { count = refl; time = refl; below = λ i time e. cc; rises = λ i j a b up e k. cc }
 
 -- every lawful run
-pub every_run_holds : StepIsPlanned → AlwaysSteady → (config : Config) (es : List Event) → lawful config es ≡ true → RunEvidence (run config es)
+pub every_run_holds : AlwaysSteady → (config : Config) (es : List Event) → lawful config es ≡ true → RunEvidence (run config es)
 unfolding run lawful
-every_run_holds law steady config es e =
-    holds_from law (first_scene config) (start_holds config) (start_clock config) es e (λ ds l. steady config ds l)
+every_run_holds steady config es e =
+    holds_from (first_scene config) (start_holds config) (start_clock config) es e (λ ds l. steady config ds l)

@@ -12,19 +12,16 @@ use Rattle.record.specs.declared.record.Record.{Record}
 use Rattle.record.proofs.LearnAgrees.{accepted_follows, followed_more}
 use Rattle.facts.proofs.Known.{follows_as_known}
 use Rattle.message.specs.declared.message.Input.{Input}
-use Rattle.protocol.specs.Draft.{time_limit}
-use Rattle.protocol.specs.OwnKeys.{all_own}
-use Rattle.protocol.specs.Plan.{Plan, before, plan_input, carried}
 use Rattle.protocol.specs.Rows.{Memory, rebuilt}
+use Rattle.protocol.specs.Plan.{time_limit, Plan, before, carried}
+use Rattle.protocol.specs.Step.{plan_input, facts_after, IsInLimit}
+use Rattle.protocol.specs.OwnKeys.{all_own}
 use Rattle.protocol.specs.Sound.{IsSound}
-use Rattle.protocol.specs.Step.{facts_after}
-use Rattle.protocol.specs.StepLaws.{IsInLimit}
 use Rattle.protocol.proofs.FitsBeside.{few_opened, logged_fits_beside}
 use Rattle.protocol.proofs.Follows.{logged_follows}
 use Rattle.protocol.proofs.OpeningSound.{opening_keeps_sound}
 use Rattle.protocol.proofs.OwnKeys.{logged_belongs, own-rebuilt, step_keeps_own}
 use Rattle.protocol.proofs.RowChanges.{by_id-claims}
-use Rattle.protocol.proofs.StepIsPlanned.{step_is_planned}
 use Rattle.protocol.proofs.StepSound.{fresh_is_sound, step_keeps_sound}
 use Rattle.protocol.proofs.WithinLimit.{stays_within}
 use Rattle.world.specs.ButForReads.{ConsistentButForReads}
@@ -113,13 +110,13 @@ limits w time (Act.Crash n) may = tt
 -- ---- whole runs
 
 pub whole_and_ordered : ConsistentButForReads
-whole_and_ordered = but_for_reads step_is_planned IsWell up keeps opens fresh logs limits
+whole_and_ordered = but_for_reads IsWell keeps opens fresh logs limits
 
 pub in_the_past : InstalledInThePast
-in_the_past = passed step_is_planned IsWell up keeps opens fresh logs limits
+in_the_past = passed IsWell keeps opens fresh logs limits
 
 pub looks_cover : LooksCoverAcknowledged
-looks_cover = covers step_is_planned IsWell up keeps opens fresh logs limits
+looks_cover = covers IsWell keeps opens fresh logs limits
 
 pub is_steady : AlwaysSteady
-is_steady = steady step_is_planned IsWell up keeps opens fresh logs limits
+is_steady = steady IsWell keeps opens fresh logs limits

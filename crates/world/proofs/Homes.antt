@@ -11,7 +11,7 @@ use Rattle.record.specs.declared.record.Record.{Record}
 use Rattle.message.specs.declared.message.Address.TheVariants.{Shard, Session}
 use Rattle.message.specs.declared.message.Envelope.{Envelope}
 use Rattle.message.specs.declared.message.Message.{Message}
-use Rattle.protocol.specs.Draft.{other_parts}
+use Rattle.protocol.specs.Cells.{other_parts}
 use Rattle.session.specs.Sessions.{Client, closing_messages, messages_for, prepare_for, parts_of}
 use Rattle.world.specs.World.{World, ShardNow, client_of}
 use Rattle.world.specs.Evidence.{Scene, IsAmong, log_at, IsOfClosing, CommitAsked, PrepareAsked, HasDecision, WasTold, WasAsked, WasQuestioned, RecordEvidence, Holds}

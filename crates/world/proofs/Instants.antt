@@ -13,7 +13,6 @@ use Rattle.record.specs.Records.{as_ended, committed_of, prepared_of}
 use Rattle.record.specs.Serially.{OrderedByTime}
 use Rattle.record.specs.Verdict.{IsLine}
 use Rattle.record.specs.declared.record.Record.{Record}
-use Rattle.protocol.specs.Plan.{StepIsPlanned}
 use Rattle.world.specs.World.{World, ShardNow, run, run_from, start, happens}
 use Rattle.world.specs.Lawful.{lawful, lawful_from, may_happen, may_act}
 use Rattle.world.specs.Headline.{AllOrNothing, KeepsAcknowledged, MayBeLeft, MayLeaveLogs, MayLeaveWithin, doing_of}
@@ -46,11 +45,11 @@ last_may : (w : World) (es : List Event) (e : Event) → lawful_from w (es ++ e 
 last_may w [] e h = (both (may_happen w e) true h).0
 last_may w (x ∷ xs) e h = last_may ((happens w x).0) xs e (both (may_happen w x) (lawful_from ((happens w x).0) (xs ++ e ∷ [])) h).1
 
-module _ (law : StepIsPlanned) (always : AlwaysSteady) where
+module _ (always : AlwaysSteady) where
   pub moment : (config : Config) (es : List Event) (logs : List (List Record)) → lawful config es ≡ true → MayBeLeft config es logs → Moment (run config es) logs
   unfolding run lawful
   moment config es logs fair (inl may) =
-      let r = every_run_holds law always config es fair in
+      let r = every_run_holds always config es fair in
       let steady = subst IsSteady (sym r.same) (always config es fair) in
       record {
         scene = r.scene;
@@ -60,7 +59,7 @@ module _ (law : StepIsPlanned) (always : AlwaysSteady) where
         left = left_between r.scene r.holds steady logs (subst (λ (w : World). MayLeaveLogs w.shards logs) (sym r.same) may);
       }
   moment config es logs fair (inr within) =
-      let r = every_run_holds law always config es fair in
+      let r = every_run_holds always config es fair in
       let steady = subst IsSteady (sym r.same) (always config es fair) in
       let e = within.0 in
       let n = within.1 in
@@ -77,7 +76,7 @@ module _ (law : StepIsPlanned) (always : AlwaysSteady) where
         same = r.same;
         holds = begun;
         rises = rises_now r.scene e.time r.holds r.clock later;
-        left = left_within sc begun steady law (present_now r.scene e.time r.holds r.clock later) e.act n doing logs p.1
+        left = left_within sc begun steady (present_now r.scene e.time r.holds r.clock later) e.act n doing logs p.1
             (subst (λ (w : World). doing_of w e.act ≡ Some (n, doing)) (sym r.same) within.4)
             (subst (λ (w : World). MayLeaveWithin w n doing n w.shards logs) (sym r.same) within.5);
       }
@@ -107,7 +106,7 @@ module _ (law : StepIsPlanned) (always : AlwaysSteady) where
   pub installed_in_the_past : InstalledInThePast
   unfolding installs_of
   installed_in_the_past config es fair =
-      let r = every_run_holds law always config es fair in
+      let r = every_run_holds always config es fair in
       subst (λ (w : World). each (installed_before w.time) w.shards ≡ true) r.same (each_place r.scene.world.time r.scene.world.shards (λ n s there. by_shard r n s there))
     where
       each_place : (time : ℕ) (ss : List ShardNow) → ((n : ℕ) (s : ShardNow) → slice_get ss n ≡ Some s → installed_before time s ≡ true) → each (installed_before time) ss ≡ true
@@ -141,7 +140,7 @@ module _ (law : StepIsPlanned) (always : AlwaysSteady) where
   unfolding run lawful
   looks_cover_acknowledged config es time n k at t s m fair late line =
       let earlier = first_lawful (start config) es _ fair in
-      let r = every_run_holds law always config es earlier in
+      let r = every_run_holds always config es earlier in
       let ack : AckEvidence r.scene t s m = r.holds.lines (Line.Ack t s m) (get_among r.scene.world.lines (there r).0 (Line.Ack t s m) (there r).1) in
       let may = last_may (start config) es _ fair in
       let from : (run config es).time ≤ time = leb-true _ _ (both (nat_le (run config es).time time) _ may).0 in

@@ -8,7 +8,6 @@ use Rattle.message.specs.declared.message.Address.{Address}
 use Rattle.message.specs.declared.message.Address.TheVariants.{Shard, Session}
 use Rattle.message.specs.declared.message.Envelope.{Envelope}
 use Rattle.message.specs.declared.message.Input.{Input}
-use Rattle.protocol.specs.Plan.{StepIsPlanned}
 use Rattle.world.specs.World.{World, ShardNow, read_log, input_of}
 use Rattle.world.specs.Lawful.{may_act, can_come}
 use Rattle.world.specs.Headline.{MayLeaveLog, MayLeaveLogs, MayHaveLogged, MayLeaveWithin, doing_of}
@@ -149,16 +148,16 @@ module _ (sc : Scene) (h : Holds sc) (steady : IsSteady sc.world) where
   given_by (Act.View m v k at) n doing may e = cc
   given_by (Act.Crash m) n doing may e = cc
 
-  module _ (law : StepIsPlanned) (present : slice_get sc.times sc.world.event ≡ Some sc.now) where
+  module _ (present : slice_get sc.times sc.world.event ≡ Some sc.now) where
     step_left : (n : ℕ) (s : ShardNow) (doing : Doing) (log : List Record) → slice_get sc.world.shards n ≡ Some s → Given sc n (input_of sc.world.bag doing) →
         MayHaveLogged sc.world s n doing log → IsLeftLog sc n log
     step_left n s doing log there heard may =
-        let e = subst (SteppedEvidence sc n (read_log s)) may.1.0.2 (effect_evidence law sc h steady present n s there doing heard) in
+        let e = subst (SteppedEvidence sc n (read_log s)) may.1.0.2 (effect_evidence sc h steady present n s there doing heard) in
         subst (IsLeftLog sc n) (sym may.1.1) (record {
           shard = s;
           there = there;
-          whole = within_listed law sc h steady present n s there (Some may.0);
-          records = logged_known law sc h steady present n s there (Some may.0) e.rests;
+          whole = within_listed sc h steady present n s there (Some may.0);
+          records = logged_known sc h steady present n s there (Some may.0) e.rests;
           follows = steady.logged n s doing may.0 may.1.0.0 may.1.0.1 there may.1.0.2;
         })
 

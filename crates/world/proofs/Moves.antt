@@ -7,7 +7,7 @@ use Rattle.units.specs.declared.lock.Lock.{Lock}
 use Rattle.record.specs.declared.record.Record.{Record}
 use Rattle.message.specs.declared.message.Envelope.{Envelope}
 use Rattle.protocol.specs.Rows.{Row, Phase, Idle, WaitsRead, WaitsPrepare, WaitsCommit, Collecting, IsPrepared, IsDecided, Standing, HasRow, WasAborted, WasSettled, find_row}
-use Rattle.protocol.specs.Draft.{refused_vote}
+use Rattle.protocol.specs.Outputs.{refused_vote}
 use Rattle.protocol.specs.Plan.{Change, Puts, Plan, Planned, Before, votes_of, replies, ends, drops, puts, roomed}
 use Rattle.world.specs.Evidence.{Scene, IsAmong, RecordEvidence, PhaseEvidence, Told, AllTold, HasOutcome}
 use Rattle.world.proofs.Members.{all_append}

@@ -12,7 +12,7 @@ use Rattle.world.specs.declared.event.Act.{Act}
 use Rattle.world.specs.declared.event.Doing.{Doing}
 use Rattle.world.specs.declared.event.Event.{Event}
 use Rattle.world.specs.declared.event.Reply.{Reply}
-use Rattle.protocol.specs.Draft.{decision}
+use Rattle.protocol.specs.Outputs.{decision}
 use Rattle.world.specs.Computing.{computing}
 use Rattle.protocol.proofs.Samples.{a, one, txn, clock, sets, commit_of, done_of, to_shard, to_session}
 use Rattle.world.proofs.Events.{two_shards, on}

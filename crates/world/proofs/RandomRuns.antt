@@ -6,9 +6,9 @@ use Rattle.units.specs.Lists.{count, each}
 use Rattle.units.specs.LockLaws.{keeps_lock_law, keeps_wait_law}
 use Rattle.record.specs.Records.{floor_of}
 use Rattle.protocol.specs.Rows.{claims}
+use Rattle.protocol.specs.Step.{Stepped, Does}
 use Rattle.units.specs.Ids.{Id}
 use Rattle.units.specs.Keys.{Bytes}
-use Rattle.protocol.specs.Draft.{Stepped, Does}
 use Rattle.world.specs.Headline.{doing_of}
 use Rattle.world.specs.TimeLaws.{installed_before}
 use Rattle.record.specs.Verdict.{verdict}

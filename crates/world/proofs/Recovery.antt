@@ -13,7 +13,7 @@ use Rattle.world.specs.declared.event.Config.{Config}
 use Rattle.world.specs.declared.event.Doing.{Doing}
 use Rattle.world.specs.declared.event.Event.{Event}
 use Rattle.world.specs.declared.event.Reply.{Reply}
-use Rattle.protocol.specs.Draft.{promise, decision}
+use Rattle.protocol.specs.Outputs.{promise, decision}
 use Rattle.world.specs.Computing.{computing}
 use Rattle.protocol.proofs.Samples.{a, m, z, one, two, txn, clock, sets}
 use Rattle.world.proofs.Served.{served}

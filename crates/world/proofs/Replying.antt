@@ -14,7 +14,7 @@ use Rattle.message.specs.declared.message.Done.{Done}
 use Rattle.message.specs.declared.message.Envelope.{Envelope}
 use Rattle.message.specs.declared.message.Message.{Message}
 use Rattle.message.specs.declared.message.ReadAnswer.{ReadAnswer}
-use Rattle.protocol.specs.Draft.{Stepped, Refuses, Does}
+use Rattle.protocol.specs.Step.{Stepped, Refuses, Does}
 use Rattle.session.specs.Sessions.{Client, Stage, IsOpen, IsClosing, IsOver, Moved, Denies, Goes, begun, finishes, hears}
 use Rattle.world.specs.World.{World, After, ShardNow, Nothing, answered, begin, client_of, deliver_to, did, do_at, effect, if_closing, if_hearing, if_not_over, if_open, look_at_view, look_shard, moved, note, noted, put_out, read_lines, refused, set_client, setup_of, shown, to_session, at_shard}
 use Rattle.world.specs.Crashless.{goes_on}

@@ -14,10 +14,13 @@ use Rattle.record.specs.declared.record.Record.{Record}
 use Rattle.message.specs.declared.message.Envelope.{Envelope}
 use Rattle.message.specs.declared.message.Input.{Input}
 use Rattle.message.specs.declared.message.Message.{Message}
-use Rattle.protocol.specs.Rows.{Row, Phase, Idle, WaitsRead, WaitsPrepare, WaitsCommit, Collecting, IsPrepared, IsDecided, Voted, Standing, IsUnknown, WasEnded, HasRow, WasAborted, WasSettled, WasClosed, claims, find_row}
-use Rattle.protocol.specs.Draft.{done_to, vote_to, promise, decision, commit_stamp, other_parts, time_limit}
-use Rattle.protocol.specs.Step.{is_for, with_vote}
-use Rattle.protocol.specs.Plan.{Plan, Planned, Before, Keeps, replies, ends, drops, puts, roomed, plan_read, plan_read_now, plan_read_row, plan_prepare, plan_prepare_fresh, plan_prepare_now, plan_promise, plan_commit, plan_commit_fresh, plan_commit_now, plan_commit_granted, plan_decide, plan_abort, plan_vote, plan_count, plan_tell, plan_outcome, plan_abort_for, plan_give_up, plan_ask, plan_go_on, plan_resume, plan_resume_id, plan_resume_row, plan_settle, plan_advance, plan_nudge, plan_message, plan_input, in_way, to_read, opens, is_crowded, answers, tells, stands}
+use Rattle.message.specs.declared.message.Prepare.{Prepare}
+use Rattle.message.specs.declared.message.Commit.{Commit}
+use Rattle.protocol.specs.Rows.{Row, Phase, Idle, WaitsRead, WaitsPrepare, WaitsCommit, Collecting, IsPrepared, IsDecided, Voted, Standing, IsUnknown, WasEnded, HasRow, WasAborted, WasSettled, WasClosed, claims, find_row, with_vote}
+use Rattle.protocol.specs.Outputs.{done_to, vote_to, promise, decision}
+use Rattle.protocol.specs.Plan.{time_limit, Plan, Planned, Before, Keeps, replies, ends, drops, puts, roomed, in_way, opens, is_crowded, stands}
+use Rattle.protocol.specs.Cells.{commit_stamp, other_parts, plan_read, plan_read_now, plan_read_row, plan_prepare, plan_prepare_fresh, plan_prepare_now, plan_promise, plan_commit, plan_commit_fresh, plan_commit_now, plan_commit_granted, plan_decide, plan_abort, plan_vote, plan_count, plan_tell, plan_outcome, plan_abort_for, plan_give_up, plan_ask, plan_go_on, plan_resume, plan_resume_id, plan_resume_row, plan_settle, plan_advance, plan_nudge, to_read, answers, tells}
+use Rattle.protocol.specs.Step.{is_for, plan_message, plan_input}
 use Rattle.world.proofs.Quiet.{IsAbove}
 
 -- what is logged is above a time
@@ -118,54 +121,54 @@ module _ (at : ℕ) (b : Before) (low : at ≤ b.memory.last) where
   reading t k (HasRow held _) = replying []
   reading t k _ = search replying
 
-  preparing_now : (earliest : ℕ) (t : Id) (c : ℕ) (rs : List Bytes) (ws : List Write) → Rises at (plan_prepare_now b earliest t c rs ws)
+  preparing_now : (earliest : ℕ) (m : Prepare) → Rises at (plan_prepare_now b earliest m)
   unfolding plan_prepare_now
-  preparing_now earliest t c rs ws =
-      rooming (is_crowded b t) _ (choosing _ _ _ (promising (in_way b t (exclusive ws)) earliest t c rs ws) (putting (in_way b t (exclusive ws)) t [] (WaitsPrepare c rs ws) []))
+  preparing_now earliest m =
+      rooming (is_crowded b m.txn) _ (choosing _ _ _ (promising (in_way b m.txn (exclusive m.writes)) earliest m.txn m.coordinator m.reads.keys m.writes) (putting (in_way b m.txn (exclusive m.writes)) m.txn [] (WaitsPrepare m.coordinator m.reads.keys m.writes) []))
 
-  preparing_fresh : (earliest : ℕ) (t : Id) (c epoch : ℕ) (rs : List Bytes) (ws : List Write) (held : List Lock) → Rises at (plan_prepare_fresh b earliest t c epoch rs ws held)
+  preparing_fresh : (earliest : ℕ) (m : Prepare) (held : List Lock) → Rises at (plan_prepare_fresh b earliest m held)
   unfolding plan_prepare_fresh
-  preparing_fresh earliest t c epoch rs ws held = search (choosing, preparing_now, ending)
+  preparing_fresh earliest m held = search (choosing, preparing_now, ending)
 
-  preparing : (earliest : ℕ) (t : Id) (c epoch : ℕ) (rs : List Bytes) (ws : List Write) (st : Standing) → Rises at (plan_prepare b earliest t c epoch rs ws st)
+  preparing : (earliest : ℕ) (m : Prepare) (st : Standing) → Rises at (plan_prepare b earliest m st)
   unfolding plan_prepare
-  preparing earliest t c epoch rs ws (WasClosed None) = search replying
-  preparing earliest t c epoch rs ws (WasClosed (Some s)) = search replying
-  preparing earliest t c epoch rs ws IsUnknown = search (preparing_fresh, replying, refusing)
-  preparing earliest t c epoch rs ws WasEnded = search (preparing_fresh, replying, refusing)
-  preparing earliest t c epoch rs ws WasAborted = search (preparing_fresh, replying, refusing)
-  preparing earliest t c epoch rs ws (WasSettled s1 qs) = search (preparing_fresh, replying, refusing)
-  preparing earliest t c epoch rs ws (HasRow held Idle) = search (preparing_fresh, replying, refusing)
-  preparing earliest t c epoch rs ws (HasRow held (WaitsRead j)) = search (preparing_fresh, replying, refusing)
-  preparing earliest t c epoch rs ws (HasRow held (WaitsPrepare d ss vs)) = search (preparing_fresh, replying, refusing)
-  preparing earliest t c epoch rs ws (HasRow held (WaitsCommit m qs ss vs)) = search (preparing_fresh, replying, refusing)
-  preparing earliest t c epoch rs ws (HasRow held (Collecting m qs ss vs us)) = search (preparing_fresh, replying, refusing)
-  preparing earliest t c epoch rs ws (HasRow held (IsPrepared d q)) = search (preparing_fresh, replying, refusing)
-  preparing earliest t c epoch rs ws (HasRow held (IsDecided q qs)) = search (preparing_fresh, replying, refusing)
+  preparing earliest m (WasClosed None) = search replying
+  preparing earliest m (WasClosed (Some s)) = search replying
+  preparing earliest m IsUnknown = search (preparing_fresh, replying, refusing)
+  preparing earliest m WasEnded = search (preparing_fresh, replying, refusing)
+  preparing earliest m WasAborted = search (preparing_fresh, replying, refusing)
+  preparing earliest m (WasSettled s1 qs) = search (preparing_fresh, replying, refusing)
+  preparing earliest m (HasRow held Idle) = search (preparing_fresh, replying, refusing)
+  preparing earliest m (HasRow held (WaitsRead j)) = search (preparing_fresh, replying, refusing)
+  preparing earliest m (HasRow held (WaitsPrepare d ss vs)) = search (preparing_fresh, replying, refusing)
+  preparing earliest m (HasRow held (WaitsCommit k qs ss vs)) = search (preparing_fresh, replying, refusing)
+  preparing earliest m (HasRow held (Collecting k qs ss vs us)) = search (preparing_fresh, replying, refusing)
+  preparing earliest m (HasRow held (IsPrepared d q)) = search (preparing_fresh, replying, refusing)
+  preparing earliest m (HasRow held (IsDecided q qs)) = search (preparing_fresh, replying, refusing)
 
-  committing_now : (t : Id) (l : ℕ) (ps : List ℕ) (rs : List Bytes) (ws : List Write) → Rises at (plan_commit_now b t l ps rs ws)
+  committing_now : (l : ℕ) (m : Commit) → Rises at (plan_commit_now b l m)
   unfolding plan_commit_now
-  committing_now t l ps rs ws =
-      rooming (is_crowded b t) _ (choosing _ _ _ (granting (in_way b t (exclusive ws)) t l ps rs ws (other_parts b.shard ps)) (putting (in_way b t (exclusive ws)) t [] (WaitsCommit l ps rs ws) []))
+  committing_now l m =
+      rooming (is_crowded b m.txn) _ (choosing _ _ _ (granting (in_way b m.txn (exclusive m.writes)) m.txn l m.parts m.reads.keys m.writes (other_parts b.shard m.parts)) (putting (in_way b m.txn (exclusive m.writes)) m.txn [] (WaitsCommit l m.parts m.reads.keys m.writes) []))
 
-  committing_fresh : (l : ℕ) (t : Id) (ps : List ℕ) (epoch : ℕ) (rs : List Bytes) (ws : List Write) (held : List Lock) → Rises at (plan_commit_fresh b l t ps epoch rs ws held)
+  committing_fresh : (l : ℕ) (m : Commit) (held : List Lock) → Rises at (plan_commit_fresh b l m held)
   unfolding plan_commit_fresh
-  committing_fresh l t ps epoch rs ws held = search (choosing, committing_now, refusing, aborting)
+  committing_fresh l m held = search (choosing, committing_now, refusing, aborting)
 
-  committing : (l : ℕ) (t : Id) (ps : List ℕ) (epoch : ℕ) (rs : List Bytes) (ws : List Write) (st : Standing) → Rises at (plan_commit b l t ps epoch rs ws st)
+  committing : (l : ℕ) (m : Commit) (st : Standing) → Rises at (plan_commit b l m st)
   unfolding plan_commit
-  committing l t ps epoch rs ws IsUnknown = search (committing_fresh, aborting, replying, refusing)
-  committing l t ps epoch rs ws WasEnded = search (committing_fresh, aborting, replying, refusing)
-  committing l t ps epoch rs ws WasAborted = search (committing_fresh, aborting, replying, refusing)
-  committing l t ps epoch rs ws (WasSettled s1 qs) = search (committing_fresh, aborting, replying, refusing)
-  committing l t ps epoch rs ws (WasClosed o) = search (committing_fresh, aborting, replying, refusing)
-  committing l t ps epoch rs ws (HasRow held Idle) = search (committing_fresh, aborting, replying, refusing)
-  committing l t ps epoch rs ws (HasRow held (WaitsRead j)) = search (committing_fresh, aborting, replying, refusing)
-  committing l t ps epoch rs ws (HasRow held (WaitsPrepare d ss vs)) = search (committing_fresh, aborting, replying, refusing)
-  committing l t ps epoch rs ws (HasRow held (WaitsCommit m qs ss vs)) = search (committing_fresh, aborting, replying, refusing)
-  committing l t ps epoch rs ws (HasRow held (Collecting m qs ss vs us)) = search (committing_fresh, aborting, replying, refusing)
-  committing l t ps epoch rs ws (HasRow held (IsPrepared d q)) = search (committing_fresh, aborting, replying, refusing)
-  committing l t ps epoch rs ws (HasRow held (IsDecided q qs)) = search (committing_fresh, aborting, replying, refusing)
+  committing l m IsUnknown = search (committing_fresh, aborting, replying, refusing)
+  committing l m WasEnded = search (committing_fresh, aborting, replying, refusing)
+  committing l m WasAborted = search (committing_fresh, aborting, replying, refusing)
+  committing l m (WasSettled s1 qs) = search (committing_fresh, aborting, replying, refusing)
+  committing l m (WasClosed o) = search (committing_fresh, aborting, replying, refusing)
+  committing l m (HasRow held Idle) = search (committing_fresh, aborting, replying, refusing)
+  committing l m (HasRow held (WaitsRead j)) = search (committing_fresh, aborting, replying, refusing)
+  committing l m (HasRow held (WaitsPrepare d ss vs)) = search (committing_fresh, aborting, replying, refusing)
+  committing l m (HasRow held (WaitsCommit k qs ss vs)) = search (committing_fresh, aborting, replying, refusing)
+  committing l m (HasRow held (Collecting k qs ss vs us)) = search (committing_fresh, aborting, replying, refusing)
+  committing l m (HasRow held (IsPrepared d q)) = search (committing_fresh, aborting, replying, refusing)
+  committing l m (HasRow held (IsDecided q qs)) = search (committing_fresh, aborting, replying, refusing)
 
   counting : (n : ℕ) (t : Id) (vote : Option ℕ) (l : ℕ) (ps : List ℕ) (rs : List Bytes) (ws : List Write) (votes : List Voted) → Rises at (plan_count b n t vote l ps rs ws votes)
   unfolding plan_count
@@ -273,8 +276,8 @@ module _ (at : ℕ) (b : Before) (low : at ≤ b.memory.last) where
   hearing : (now : Interval) (m : Message) → Rises at (plan_message b now m)
   unfolding plan_message
   hearing now (Message.Read r) = reading r.txn r.key (stands b r.txn)
-  hearing now (Message.Prepare p) = preparing now.earliest p.txn p.coordinator p.reads.epoch p.reads.keys p.writes (stands b p.txn)
-  hearing now (Message.Commit c) = committing now.latest c.txn c.parts c.reads.epoch c.reads.keys c.writes (stands b c.txn)
+  hearing now (Message.Prepare p) = preparing now.earliest p (stands b p.txn)
+  hearing now (Message.Commit c) = committing now.latest c (stands b c.txn)
   hearing now (Message.GiveUp g) = giving_up g.txn (stands b g.txn)
   hearing now (Message.Vote v) = voting v.from v.txn v.vote (stands b v.txn)
   hearing now (Message.Outcome o) = ending_by o.from o.txn o.outcome (stands b o.txn)

@@ -6,7 +6,7 @@ use Rattle.units.specs.declared.fault.Fault.TheVariants.{NotYet, Stranger}
 use Rattle.units.specs.declared.line.Line.{Line}
 use Rattle.record.specs.declared.record.Record.{Record}
 use Rattle.protocol.specs.Rows.{safe}
-use Rattle.protocol.specs.Draft.{decision, promise}
+use Rattle.protocol.specs.Outputs.{decision, promise}
 use Rattle.protocol.proofs.Samples.{read_of, a, m, z, one, two, txn, clock, sets, commit_of, prepare_of, vote_of, outcome_of, answer_of, done_of, to_shard, to_session}
 use Rattle.message.specs.declared.message.Answer.TheVariants.{Holds}
 use Rattle.world.specs.Computing.{computing}

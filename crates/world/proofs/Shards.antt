@@ -14,8 +14,7 @@ use Rattle.message.specs.declared.message.Envelope.{Envelope}
 use Rattle.message.specs.declared.message.Input.{Input}
 use Rattle.message.specs.declared.message.Message.{Message}
 use Rattle.protocol.specs.Rows.{Memory}
-use Rattle.protocol.specs.Draft.{Stepped, Refuses, Does}
-use Rattle.protocol.specs.Plan.{StepIsPlanned}
+use Rattle.protocol.specs.Step.{Stepped, Refuses, Does}
 use Rattle.world.specs.World.{After, ShardNow, State, Runs, IsStopped, IsDown, Unsure, Nothing, Shown, Hidden, shown, read_log, setup_of, opening, input_of, step_with, effect, finished, crashed, crashed_in, failed_in, left_of, left_unsure, left_by_refused, is_left, opens_gate, stopped, set_shard, did, did_with_failure, refused_doing, refused}
 use Rattle.world.specs.declared.event.Doing.{Doing}
 use Rattle.world.specs.declared.event.Reply.{Reply}
@@ -43,7 +42,7 @@ told_backed sc n to (Message.Ask a) h = record { shard = n; told = h }
 told_backed sc n to (Message.ReadAnswer a) h = record { shard = n; told = h }
 told_backed sc n to (Message.Done d) h = record { shard = n; told = h }
 
-module _ (law : StepIsPlanned) (sc : Scene) (h : Holds sc) (steady : IsSteady sc.world) (present : slice_get sc.times sc.world.event ≡ Some sc.now)
+module _ (sc : Scene) (h : Holds sc) (steady : IsSteady sc.world) (present : slice_get sc.times sc.world.event ≡ Some sc.now)
     (n : ℕ) (s : ShardNow) (there : slice_get sc.world.shards n ≡ Some s) where
   -- ---- what a read of the disk gives
 
@@ -94,7 +93,7 @@ module _ (law : StepIsPlanned) (sc : Scene) (h : Holds sc) (steady : IsSteady sc
   running o heard (Runs m) is =
       let state : StateEvidence sc s n (Runs m) = subst (λ x. StateEvidence sc s n x) is (h.shards n s there).state in
       subst (λ l. SteppedEvidence sc n l (step_with (setup_of sc.world.config n) (facts_of s.log) m o)) (sym (no_more state.1))
-      (step_evidence law sc h n s there m is (steady.ascends n s m there is) (orderly n s.log (steady.follows n s s.log there (inl refl))) o heard)
+      (step_evidence sc h n s there m is (orderly n s.log (steady.follows n s s.log there (inl refl))) o heard)
   running o heard (IsStopped m) is = tt
   running o heard IsDown is = tt
 
@@ -104,8 +103,8 @@ module _ (law : StepIsPlanned) (sc : Scene) (h : Holds sc) (steady : IsSteady sc
     where
       by_state : (st : State) → SteppedEvidence sc n (read_log s) (elim st as (λ x. Stepped) [ Runs m ↦ Refuses Stopped | _ ↦ opening (facts_of (read_log s)) ])
       by_state (Runs m) = tt
-      by_state (IsStopped m) = opening_evidence law sc h n s there
-      by_state IsDown = opening_evidence law sc h n s there
+      by_state (IsStopped m) = opening_evidence sc h n s there
+      by_state IsDown = opening_evidence sc h n s there
   effect_evidence (Doing.Take m now) heard = running (input_of sc.world.bag (Doing.Take m now)) heard s.state refl
   effect_evidence (Doing.Resume now) heard = running (input_of sc.world.bag (Doing.Resume now)) heard s.state refl
   effect_evidence (Doing.Settle t now) heard = running (input_of sc.world.bag (Doing.Settle t now)) heard s.state refl

@@ -3,7 +3,6 @@ use Rattle.std.proofs.Common.{◌≡◌, ◌≤◌, ◌^◌, ◌-◌, nat_le, in
 use Rattle.std.specs.Prelude.{Ok, Err}
 use Rattle.std.proofs.lemmas.Bool.{cases_eq}
 use Rattle.units.specs.Lists.{listed, mapped, replaced}
-use Rattle.units.specs.ById.{IsById}
 use Rattle.units.specs.declared.fault.Fault.{Fault}
 use Rattle.units.specs.declared.fault.Fault.TheVariants.{Stopped, Stranger, Device, TimeSpent}
 use Rattle.units.specs.declared.setup.Setup.{Setup}
@@ -19,12 +18,10 @@ use Rattle.message.specs.declared.message.Address.TheVariants.{Shard, Session}
 use Rattle.message.specs.declared.message.Envelope.{Envelope}
 use Rattle.message.specs.declared.message.Input.{Input}
 use Rattle.protocol.specs.Rows.{Memory, rebuilt}
-use Rattle.protocol.specs.Draft.{Stepped, Refuses, Does, time_limit}
-use Rattle.protocol.specs.Step.{facts_after}
-use Rattle.protocol.specs.StepLaws.{IsInLimit}
+use Rattle.protocol.specs.Plan.{time_limit, Plan, Planned, before, carried}
+use Rattle.protocol.specs.Step.{step_within, Stepped, Refuses, Does, facts_after, IsInLimit, plan_input, stepped}
 use Rattle.world.specs.Lawful.{lawful, lawful_from, may_happen, may_act}
 use Rattle.world.proofs.Orderly.{both}
-use Rattle.protocol.specs.Plan.{Plan, Planned, StepIsPlanned, before, plan_input, stepped, carried}
 use Rattle.session.specs.Sessions.{reads, buffers, closes, gives_up}
 use Rattle.world.specs.World.{World, ShardNow, State, Runs, IsStopped, IsDown, Unsure, Nothing, Shown, Hidden, shown, read_log, setup_of, opening, input_of, step_with, effect, finished, crashed, crashed_in, failed_in, left_of, left_by_refused, is_left, opens_gate, stopped, set_shard, fresh_log, fresh_shard, After, client_of, put_out, refused, if_open, if_not_over, to_session, refused_doing, did, did_with_failure, at_shard, do_at, deliver_to, noted, look_shard, look_at_view, acts, happens, start, run, run_from}
 use Rattle.world.specs.Headline.{IsUnsure, MayLeaveLog}
@@ -51,8 +48,7 @@ ActLimit (Act.CrashIn n call fate doing) = DoingLimit doing
 ActLimit (Act.FailIn n call doing) = DoingLimit doing
 ActLimit _ = Unit {0}
 
-module _ (law : StepIsPlanned) (Sound : Setup → Facts → Memory → Type 0) (Good : Setup → List Record → Type 0)
-    (ascends : (setup : Setup) (f : Facts) (m : Memory) → Sound setup f m → IsById (λ r. r.txn) m.rows)
+module _ (Sound : Setup → Facts → Memory → Type 0) (Good : Setup → List Record → Type 0)
     (keeps : (setup : Setup) (f : Facts) (m : Memory) (now : Interval) (i : Input) (p : Plan) → IsInLimit i → Sound setup f m →
     plan_input setup (before 1024 setup f m) now i ≡ Ok p → Sound setup (facts_after f p.logged) (carried p m))
     (opens : (setup : Setup) (f : Facts) (m : Memory) → Sound setup f m → Sound setup (learn f (Record.Opened (f.epoch + 1))) (rebuilt f))
@@ -116,6 +112,7 @@ module _ (law : StepIsPlanned) (Sound : Setup → Facts → Memory → Type 0) (
 
     running : (L : Type 0) (o : Option (Interval × Input)) → ((p : Interval × Input) → o ≡ Some p → L → IsInLimit p.1) → (st : State) → s.state ≡ st →
         SteppedSound L (setup_of config n) (read_log s) (elim st as (λ x. Stepped) [ Runs m ↦ step_with (setup_of config n) (facts_of s.log) m o | _ ↦ Refuses Stopped ])
+    unfolding step_within
     running L o limit (IsStopped m) is = tt
     running L o limit IsDown is = tt
     running L None limit (Runs m) is = tt
@@ -123,8 +120,7 @@ module _ (law : StepIsPlanned) (Sound : Setup → Facts → Memory → Type 0) (
         let state : SoundState (setup_of config n) s (Runs m) = subst (SoundState (setup_of config n) s) is sound.state in
         let read_is : read_log s ≡ s.log = ap (λ u. s.log ++ shown u) state.1 ∙ append_none s.log in
         subst (λ l. SteppedSound L (setup_of config n) l (step_with (setup_of config n) (facts_of s.log) m (Some p))) (sym read_is)
-        (subst (SteppedSound L (setup_of config n) s.log) (sym (law 1024 (setup_of config n) (facts_of s.log) m p.0 p.1 (ascends (setup_of config n) (facts_of s.log) m state.0)))
-        (of_plan L (setup_of config n) s.log m p.0 p.1 (limit p refl) plain.good state.0 (plan_input (setup_of config n) (before 1024 (setup_of config n) (facts_of s.log) m) p.0 p.1) refl))
+        (of_plan L (setup_of config n) s.log m p.0 p.1 (limit p refl) plain.good state.0 (plan_input (setup_of config n) (before 1024 (setup_of config n) (facts_of s.log) m) p.0 p.1) refl)
 
     opened : SteppedSound (Unit {0}) (setup_of config n) (read_log s) (opening (facts_of (read_log s)))
     unfolding opening
@@ -349,7 +345,6 @@ module _ (law : StepIsPlanned) (Sound : Setup → Facts → Memory → Type 0) (
     steady = record {
       follows = λ n s log there may. follows (setup_of w.config n) log ((sound n s there).left log may).good;
       logged = λ n s doing r memory out there e. follows (setup_of w.config n) (read_log s ++ r ∷ []) (subst (SteppedSound (DoingLimit doing) (setup_of w.config n) (read_log s)) e (effect_is_sound n s there doing)).good;
-      ascends = λ n s m there runs. ascends (setup_of w.config n) (facts_of s.log) m (subst (SoundState (setup_of w.config n) s) runs (sound n s there).state).0;
     }
 
   module _ (limits : (w : World) (time : ℕ) (a : Act) → may_act w time a ≡ true → ActLimit a)

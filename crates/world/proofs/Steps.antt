@@ -15,8 +15,9 @@ use Rattle.record.specs.declared.record.Record.{Record}
 use Rattle.message.specs.declared.message.Input.{Input}
 use Rattle.message.specs.declared.message.Message.{Message}
 use Rattle.protocol.specs.Rows.{Row, standing, standing_by, find_row, claims}
-use Rattle.protocol.specs.Step.{is_for}
-use Rattle.protocol.specs.Plan.{Before, plan_resume, plan_resume_id, plan_resume_row, plan_message, plan_input, stands}
+use Rattle.protocol.specs.Plan.{Before, stands}
+use Rattle.protocol.specs.Cells.{plan_resume, plan_resume_id, plan_resume_row}
+use Rattle.protocol.specs.Step.{is_for, plan_message, plan_input}
 use Rattle.world.specs.Evidence.{Scene, Sent, CommitAsked, BeganBy, PhaseEvidence, RowsEvidence, StatusEvidence}
 use Rattle.world.proofs.Moves.{PlannedEvidence, StandingEvidence, replying, refusing, choosing}
 use Rattle.world.proofs.Table.{reading, preparing, committing, voting, ending_by, giving_up, questioned, going_on, settling, advancing, nudging}
@@ -80,10 +81,10 @@ module _ (sc : Scene) (log : List Record) (b : Before) (now : Interval) (knows :
   unfolding plan_message
   hearing (Message.Read r) sent = reading sc log b r.txn r.key (stands b r.txn)
   hearing (Message.Prepare p) sent =
-      preparing sc log b now.earliest p.txn p.coordinator p.reads.epoch p.reads.keys p.writes (record { epoch = p.reads.epoch; sent = sent }) (stands b p.txn) (stands_by_evidence p.txn)
+      preparing sc log b now.earliest p (record { epoch = p.reads.epoch; sent = sent }) (stands b p.txn) (stands_by_evidence p.txn)
   hearing (Message.Commit c) sent =
       let asked : CommitAsked sc.world b.shard c.txn c.parts c.reads.keys c.writes = record { epoch = c.reads.epoch; sent = sent } in
-      committing sc log b now.latest c.txn c.parts c.reads.epoch c.reads.keys c.writes (record { asked = asked; began = knows.began c.txn c.parts c.reads.keys c.writes asked })
+      committing sc log b now.latest c (record { asked = asked; began = knows.began c.txn c.parts c.reads.keys c.writes asked })
       (stands b c.txn) (stands_by_evidence c.txn)
   hearing (Message.GiveUp g) sent = giving_up sc log b g.txn (stands b g.txn) (stands_by_evidence g.txn)
   hearing (Message.Vote v) sent = voting sc log b v.from v.txn v.vote sent (stands b v.txn) (stands_by_evidence v.txn)

@@ -12,10 +12,12 @@ use Rattle.units.specs.declared.lock.Lock.{Lock}
 use Rattle.units.specs.declared.writes.Write.{Write}
 use Rattle.record.specs.declared.record.Record.{Record}
 use Rattle.message.specs.declared.message.Message.{Message}
-use Rattle.protocol.specs.Rows.{Phase, Idle, WaitsRead, WaitsPrepare, WaitsCommit, Collecting, IsPrepared, IsDecided, Voted, Standing, IsUnknown, WasEnded, HasRow, WasAborted, WasSettled, WasClosed}
-use Rattle.protocol.specs.Draft.{promise, decision, done_to, outcome_to, ask_to, time_limit, commit_stamp, other_parts, all_voted}
-use Rattle.protocol.specs.Step.{is_outcome_for, with_vote}
-use Rattle.protocol.specs.Plan.{Before, plan_read, plan_read_now, plan_read_row, plan_prepare, plan_prepare_fresh, plan_prepare_now, plan_promise, plan_commit, plan_commit_fresh, plan_commit_now, plan_commit_granted, plan_decide, plan_abort, plan_vote, plan_count, plan_tell, plan_outcome, plan_give_up, plan_ask, plan_go_on, plan_settle, plan_advance, plan_nudge, tells, answers, puts, in_way, to_read, opens, is_crowded, refuses, raised, plan_abort_for, Keeps}
+use Rattle.message.specs.declared.message.Prepare.{Prepare}
+use Rattle.message.specs.declared.message.Commit.{Commit}
+use Rattle.protocol.specs.Rows.{Phase, Idle, WaitsRead, WaitsPrepare, WaitsCommit, Collecting, IsPrepared, IsDecided, Voted, Standing, IsUnknown, WasEnded, HasRow, WasAborted, WasSettled, WasClosed, with_vote}
+use Rattle.protocol.specs.Outputs.{promise, decision, done_to, outcome_to, ask_to}
+use Rattle.protocol.specs.Plan.{time_limit, Before, puts, in_way, opens, is_crowded, Keeps}
+use Rattle.protocol.specs.Cells.{commit_stamp, other_parts, all_voted, is_outcome_for, plan_read, plan_read_now, plan_read_row, plan_prepare, plan_prepare_fresh, plan_prepare_now, plan_promise, plan_commit, plan_commit_fresh, plan_commit_now, plan_commit_granted, plan_decide, plan_abort, plan_vote, plan_count, plan_tell, plan_outcome, plan_give_up, plan_ask, plan_go_on, plan_settle, plan_advance, plan_nudge, tells, answers, to_read, refuses, raised, plan_abort_for}
 use Rattle.world.specs.Evidence.{Scene, IsAmong, Sent, PrepareAsked, CommitAsked, VotedYes, VoteBelow, HasPromise, HasDecision, HasOutcome, WasTold, WasAsked, WasQuestioned, RecordEvidence, Remembers, PhaseEvidence, Told, AllTold}
 use Rattle.world.proofs.Members.{among_left, among_last, all_append, all_at, some_passes}
 use Rattle.world.proofs.Moves.{PlannedEvidence, StandingEvidence, replying, ending, dropping, putting, standing_by_record, refusing, choosing, choosing_plan, tested, rooming, cells}
@@ -130,31 +132,31 @@ module _ (sc : Scene) (log : List Record) (b : Before) where
       ((refl, record { coordinator = c; promised = promised t c p rs ws }), tt))
       (refusing sc log b TimeSpent)
 
-  preparing_now : (earliest : ℕ) (t : Id) (c : ℕ) (rs : List Bytes) (ws : List Write) → PrepareAsked sc.world b.shard t c rs ws →
-      PlannedEvidence sc log b.shard (plan_prepare_now b earliest t c rs ws)
+  preparing_now : (earliest : ℕ) (m : Prepare) → PrepareAsked sc.world b.shard m.txn m.coordinator m.reads.keys m.writes →
+      PlannedEvidence sc log b.shard (plan_prepare_now b earliest m)
   unfolding plan_prepare_now
-  preparing_now earliest t c rs ws asked =
+  preparing_now earliest m asked =
       rooming sc log b _ _
-      (choosing sc log b _ _ _ (promising _ earliest t c rs ws asked) (putting sc log b _ t _ (WaitsPrepare c rs ws) _ _ asked tt))
+      (choosing sc log b _ _ _ (promising _ earliest m.txn m.coordinator m.reads.keys m.writes asked) (putting sc log b _ m.txn _ (WaitsPrepare m.coordinator m.reads.keys m.writes) _ _ asked tt))
 
-  preparing_fresh : (earliest : ℕ) (t : Id) (c epoch : ℕ) (rs : List Bytes) (ws : List Write) (held : List Lock) → PrepareAsked sc.world b.shard t c rs ws →
-      PlannedEvidence sc log b.shard (plan_prepare_fresh b earliest t c epoch rs ws held)
+  preparing_fresh : (earliest : ℕ) (m : Prepare) (held : List Lock) → PrepareAsked sc.world b.shard m.txn m.coordinator m.reads.keys m.writes →
+      PlannedEvidence sc log b.shard (plan_prepare_fresh b earliest m held)
   unfolding plan_prepare_fresh
-  preparing_fresh earliest t c epoch rs ws held asked =
-      choosing sc log b _ _ _ (preparing_now earliest t c rs ws asked) (ending sc log b t _ (tt, tt))
+  preparing_fresh earliest m held asked =
+      choosing sc log b _ _ _ (preparing_now earliest m asked) (ending sc log b m.txn _ (tt, tt))
 
-  pub preparing : (earliest : ℕ) (t : Id) (c epoch : ℕ) (rs : List Bytes) (ws : List Write) → PrepareAsked sc.world b.shard t c rs ws →
-      (st : Standing) → StandingEvidence sc log b.shard t st → PlannedEvidence sc log b.shard (plan_prepare b earliest t c epoch rs ws st)
+  pub preparing : (earliest : ℕ) (m : Prepare) → PrepareAsked sc.world b.shard m.txn m.coordinator m.reads.keys m.writes →
+      (st : Standing) → StandingEvidence sc log b.shard m.txn st → PlannedEvidence sc log b.shard (plan_prepare b earliest m st)
   unfolding plan_prepare
-  preparing earliest t c epoch rs ws asked IsUnknown e = preparing_fresh earliest t c epoch rs ws [] asked
-  preparing earliest t c epoch rs ws asked (HasRow held Idle) e = preparing_fresh earliest t c epoch rs ws held asked
-  preparing earliest t c epoch rs ws asked (HasRow held (WaitsRead k)) e = preparing_fresh earliest t c epoch rs ws held asked
-  preparing earliest t c epoch rs ws asked (HasRow held (WaitsPrepare d qs vs)) e = replying sc log b _ tt
-  preparing earliest t c epoch rs ws asked WasEnded e = replying sc log b _ (tt, tt)
-  preparing earliest t c epoch rs ws asked (HasRow held (IsPrepared d p)) e = replying sc log b _ ((refl, record { coordinator = d; promised = e }), tt)
-  preparing earliest t c epoch rs ws asked (WasClosed None) e = replying sc log b _ (tt, tt)
-  preparing earliest t c epoch rs ws asked (WasClosed (Some s)) e = replying sc log b _ tt
-  preparing earliest t c epoch rs ws asked _ e = refusing sc log b Stranger
+  preparing earliest m asked IsUnknown e = preparing_fresh earliest m [] asked
+  preparing earliest m asked (HasRow held Idle) e = preparing_fresh earliest m held asked
+  preparing earliest m asked (HasRow held (WaitsRead k)) e = preparing_fresh earliest m held asked
+  preparing earliest m asked (HasRow held (WaitsPrepare d qs vs)) e = replying sc log b _ tt
+  preparing earliest m asked WasEnded e = replying sc log b _ (tt, tt)
+  preparing earliest m asked (HasRow held (IsPrepared d p)) e = replying sc log b _ ((refl, record { coordinator = d; promised = e }), tt)
+  preparing earliest m asked (WasClosed None) e = replying sc log b _ (tt, tt)
+  preparing earliest m asked (WasClosed (Some s)) e = replying sc log b _ tt
+  preparing earliest m asked _ e = refusing sc log b Stranger
 
   -- ---- commit
 
@@ -181,36 +183,36 @@ module _ (sc : Scene) (log : List Record) (b : Before) where
   granting ended t latest ps rs ws remembers (n ∷ ns) e =
       putting sc log b ended t (exclusive ws) (Collecting latest ps rs ws []) b.memory.last [] (remembers, tt) tt
 
-  committing_now : (t : Id) (latest : ℕ) (ps : List ℕ) (rs : List Bytes) (ws : List Write) → Remembers sc b.shard t latest ps rs ws →
-      PlannedEvidence sc log b.shard (plan_commit_now b t latest ps rs ws)
+  committing_now : (latest : ℕ) (m : Commit) → Remembers sc b.shard m.txn latest m.parts m.reads.keys m.writes →
+      PlannedEvidence sc log b.shard (plan_commit_now b latest m)
   unfolding plan_commit_now
-  committing_now t latest ps rs ws remembers =
-      rooming sc log b (is_crowded b t) _
+  committing_now latest m remembers =
+      rooming sc log b (is_crowded b m.txn) _
       (choosing sc log b _ _ _
-      (granting (in_way b t (exclusive ws)) t latest ps rs ws remembers (other_parts b.shard ps) refl)
-      (putting sc log b (in_way b t (exclusive ws)) t [] (WaitsCommit latest ps rs ws) b.memory.last [] remembers tt))
+      (granting (in_way b m.txn (exclusive m.writes)) m.txn latest m.parts m.reads.keys m.writes remembers (other_parts b.shard m.parts) refl)
+      (putting sc log b (in_way b m.txn (exclusive m.writes)) m.txn [] (WaitsCommit latest m.parts m.reads.keys m.writes) b.memory.last [] remembers tt))
 
-  committing_fresh : (latest : ℕ) (t : Id) (ps : List ℕ) (epoch : ℕ) (rs : List Bytes) (ws : List Write) (held : List Lock) →
-      Remembers sc b.shard t latest ps rs ws → PlannedEvidence sc log b.shard (plan_commit_fresh b latest t ps epoch rs ws held)
+  committing_fresh : (latest : ℕ) (m : Commit) (held : List Lock) →
+      Remembers sc b.shard m.txn latest m.parts m.reads.keys m.writes → PlannedEvidence sc log b.shard (plan_commit_fresh b latest m held)
   unfolding plan_commit_fresh
-  committing_fresh latest t ps epoch rs ws held remembers =
+  committing_fresh latest m held remembers =
       choosing sc log b _ _ _
-      (choosing sc log b _ _ _ (committing_now t latest ps rs ws remembers) (refusing sc log b TimeSpent))
-      (aborting t ps (was_asked t ps rs ws remembers.asked))
+      (choosing sc log b _ _ _ (committing_now latest m remembers) (refusing sc log b TimeSpent))
+      (aborting m.txn m.parts (was_asked m.txn m.parts m.reads.keys m.writes remembers.asked))
 
-  pub committing : (latest : ℕ) (t : Id) (ps : List ℕ) (epoch : ℕ) (rs : List Bytes) (ws : List Write) → Remembers sc b.shard t latest ps rs ws →
-      (st : Standing) → StandingEvidence sc log b.shard t st → PlannedEvidence sc log b.shard (plan_commit b latest t ps epoch rs ws st)
+  pub committing : (latest : ℕ) (m : Commit) → Remembers sc b.shard m.txn latest m.parts m.reads.keys m.writes →
+      (st : Standing) → StandingEvidence sc log b.shard m.txn st → PlannedEvidence sc log b.shard (plan_commit b latest m st)
   unfolding plan_commit
-  committing latest t ps epoch rs ws remembers IsUnknown e = committing_fresh latest t ps epoch rs ws [] remembers
-  committing latest t ps epoch rs ws remembers (HasRow held Idle) e = committing_fresh latest t ps epoch rs ws held remembers
-  committing latest t ps epoch rs ws remembers (HasRow held (WaitsRead k)) e = committing_fresh latest t ps epoch rs ws held remembers
-  committing latest t ps epoch rs ws remembers (HasRow held (WaitsCommit l qs ss vs)) e = replying sc log b [] tt
-  committing latest t ps epoch rs ws remembers (HasRow held (Collecting l qs ss vs us)) e = replying sc log b [] tt
-  committing latest t ps epoch rs ws remembers (HasRow held (IsDecided s qs)) e = replying sc log b [] tt
-  committing latest t ps epoch rs ws remembers WasEnded e = aborting t ps (was_asked t ps rs ws remembers.asked)
-  committing latest t ps epoch rs ws remembers WasAborted e = replying sc log b (done_to t None ∷ []) (e, tt)
-  committing latest t ps epoch rs ws remembers (WasSettled s qs) e = replying sc log b (done_to t (Some s) ∷ []) (e, tt)
-  committing latest t ps epoch rs ws remembers _ e = refusing sc log b Stranger
+  committing latest m remembers IsUnknown e = committing_fresh latest m [] remembers
+  committing latest m remembers (HasRow held Idle) e = committing_fresh latest m held remembers
+  committing latest m remembers (HasRow held (WaitsRead k)) e = committing_fresh latest m held remembers
+  committing latest m remembers (HasRow held (WaitsCommit l qs ss vs)) e = replying sc log b [] tt
+  committing latest m remembers (HasRow held (Collecting l qs ss vs us)) e = replying sc log b [] tt
+  committing latest m remembers (HasRow held (IsDecided s qs)) e = replying sc log b [] tt
+  committing latest m remembers WasEnded e = aborting m.txn m.parts (was_asked m.txn m.parts m.reads.keys m.writes remembers.asked)
+  committing latest m remembers WasAborted e = replying sc log b (done_to m.txn None ∷ []) (e, tt)
+  committing latest m remembers (WasSettled s qs) e = replying sc log b (done_to m.txn (Some s) ∷ []) (e, tt)
+  committing latest m remembers _ e = refusing sc log b Stranger
 
   -- ---- vote
 

@@ -14,7 +14,7 @@ use Rattle.world.specs.declared.event.Act.{Act}
 use Rattle.world.specs.declared.event.Doing.{Doing}
 use Rattle.world.specs.declared.event.Event.{Event}
 use Rattle.world.specs.declared.event.Reply.{Reply}
-use Rattle.protocol.specs.Draft.{promise, decision}
+use Rattle.protocol.specs.Outputs.{promise, decision}
 use Rattle.world.specs.Computing.{computing}
 use Rattle.protocol.proofs.Samples.{commit_of, done_of, outcome_of, prepare_of, vote_of, a, z, one, two, txn, clock, sets, shard, to_shard, to_session}
 use Rattle.world.proofs.Events.{two_shards, on}

@@ -11,7 +11,7 @@ use Rattle.message.specs.declared.message.Envelope.{Envelope}
 use Rattle.message.specs.declared.message.Message.{Message}
 use Rattle.message.specs.declared.message.ReadAnswer.{ReadAnswer}
 use Rattle.session.specs.Sessions.{Client, Stage, IsOpen, IsClosing, IsOver, Moved, Denies, Goes, reads, buffers, closes, gives_up, finishes}
-use Rattle.protocol.specs.Draft.{Stepped, Refuses, Does}
+use Rattle.protocol.specs.Step.{Stepped, Refuses, Does}
 use Rattle.world.specs.World.{World, After, client_of, put_out, moved, refused, if_open, if_not_over, if_closing, if_hearing, answered, to_session, noted, ShardNow, State, Runs, IsStopped, IsDown, setup_of, read_log, effect, crashed, crashed_in, failed_in, set_shard, refused_doing, did, did_with_failure, at_shard, do_at, deliver_to, look_shard, look_at_view, acts, happens, start, run, run_from}
 use Rattle.world.specs.declared.event.Act.{Act}
 use Rattle.world.specs.declared.event.Config.{Config}

@@ -15,7 +15,8 @@ use Rattle.message.specs.declared.message.Address.TheVariants.{Shard}
 use Rattle.message.specs.declared.message.Envelope.{Envelope}
 use Rattle.message.specs.declared.message.Message.{Message}
 use Rattle.protocol.specs.Rows.{Row, Phase, WaitsPrepare, WaitsCommit, Collecting, IsPrepared, IsDecided, Voted}
-use Rattle.protocol.specs.Draft.{promise, decision, other_parts}
+use Rattle.protocol.specs.Outputs.{promise, decision}
+use Rattle.protocol.specs.Cells.{other_parts}
 use Rattle.session.specs.Sessions.{Client, Stage, IsOpen, closing_messages}
 use Rattle.world.specs.World.{World, ShardNow, State, Runs, Nothing, client_of}
 use Rattle.world.specs.Headline.{IsUnsure}

@@ -5,7 +5,7 @@ use Rattle.units.specs.Lists.{replaced}
 use Rattle.units.specs.declared.fault.Fault.{Fault}
 use Rattle.units.specs.declared.fault.Fault.TheVariants.{Memory, Stranger}
 use Rattle.message.specs.declared.message.Envelope.{Envelope}
-use Rattle.protocol.specs.Draft.{Stepped, Refuses, Does}
+use Rattle.protocol.specs.Step.{Stepped, Refuses, Does}
 use Rattle.world.specs.World.{ShardNow, effect, finished, fresh_shard, look_at_view, look_shard, setup_of}
 use Rattle.world.specs.Runs.{Follows, IsRunning, reach}
 use Rattle.world.specs.declared.event.Config.{Config}

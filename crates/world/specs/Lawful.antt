@@ -5,7 +5,7 @@ use Rattle.units.specs.Ids.{Id}
 use Rattle.world.specs.World.{World, State, Runs, IsDown, start, happens, client_of}
 use Rattle.truetime.specs.Reading.{is_honest}
 use Rattle.message.specs.declared.message.Envelope.{Envelope}
-use Rattle.protocol.specs.Draft.{time_limit}
+use Rattle.protocol.specs.Plan.{time_limit}
 use Rattle.message.specs.declared.message.Address.TheVariants.{Shard, Session}
 use Rattle.world.specs.declared.event.Act.{Act}
 use Rattle.world.specs.declared.event.Config.{Config}

@@ -12,7 +12,7 @@ use Rattle.record.specs.Facts.{facts_of}
 use Rattle.record.specs.declared.record.Record.{Record}
 use Rattle.message.specs.declared.message.Envelope.{Envelope}
 use Rattle.protocol.specs.Rows.{Memory as Kept}
-use Rattle.protocol.specs.Draft.{Refuses, Does}
+use Rattle.protocol.specs.Step.{Refuses, Does}
 use Rattle.shard.specs.Core.{seen}
 use Rattle.shard.specs.Logs.{records_in}
 use Rattle.simdisk.specs.State.{disk_file, disk_plan}

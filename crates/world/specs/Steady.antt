@@ -1,25 +1,22 @@
 -- What is known of the shards of a world one by one.
 use Rattle.std.specs.Prelude.{ℕ, ◌≡◌, IsTrue, List, [], ◌∷◌, ◌++◌, slice_get, Some}
-use Rattle.units.specs.ById.{IsById}
 use Rattle.record.specs.Accepted.{followed}
 use Rattle.record.specs.declared.record.Record.{Record}
 use Rattle.message.specs.declared.message.Envelope.{Envelope}
 use Rattle.protocol.specs.Rows.{Memory}
-use Rattle.protocol.specs.Draft.{Does}
-use Rattle.world.specs.World.{World, ShardNow, Runs, setup_of, effect, read_log, run}
+use Rattle.protocol.specs.Step.{Does}
+use Rattle.world.specs.World.{World, ShardNow, setup_of, effect, read_log, run}
 use Rattle.world.specs.Lawful.{lawful}
 use Rattle.world.specs.Headline.{MayLeaveLog}
 use Rattle.world.specs.declared.event.Config.{Config}
 use Rattle.world.specs.declared.event.Doing.{Doing}
 use Rattle.world.specs.declared.event.Event.{Event}
 
--- in each log that a crash may leave each record follows those before it, so does the record of a step under way, and the
--- rows of a running shard ascend by id
+-- in each log that a crash may leave each record follows those before it, and so does the record of a step under way
 pub record IsSteady (w : World) : Type 0 where
   pub follows : (n : ℕ) (s : ShardNow) (log : List Record) → slice_get w.shards n ≡ Some s → MayLeaveLog s log → IsTrue (followed n log)
   pub logged : (n : ℕ) (s : ShardNow) (doing : Doing) (r : Record) (memory : Memory) (out : List Envelope) → slice_get w.shards n ≡ Some s →
       effect (setup_of w.config n) w.bag s doing ≡ Does (Some r) memory out → IsTrue (followed n (read_log s ++ r ∷ []))
-  pub ascends : (n : ℕ) (s : ShardNow) (m : Memory) → slice_get w.shards n ≡ Some s → s.state ≡ Runs m → IsById (λ r. r.txn) m.rows
 
 -- so at every moment of a lawful run
 abbrev pub AlwaysSteady : Type 0

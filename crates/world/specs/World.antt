@@ -8,8 +8,8 @@ use Rattle.units.specs.Versions.{at_time}
 use Rattle.units.specs.declared.writes.Install.{Install}
 use Rattle.record.specs.Facts.{Facts, facts_of}
 use Rattle.protocol.specs.Rows.{Memory, safe, rebuilt}
-use Rattle.protocol.specs.Draft.{Stepped, Refuses, Does, time_limit}
-use Rattle.protocol.specs.Step.{step}
+use Rattle.protocol.specs.Plan.{time_limit}
+use Rattle.protocol.specs.Step.{Stepped, Refuses, Does, step}
 use Rattle.session.specs.Sessions.{Client, IsOpen, IsClosing, IsOver, begun, Moved, Denies, Goes, reads, buffers, hears, closes, gives_up, finishes, was_taken}
 use Rattle.record.specs.History.{history, find_txn, Txn}
 use Rattle.units.specs.declared.fault.Fault.{Fault}

@@ -7,7 +7,7 @@ use Rattle.coordinator.proofs.commits.collect_now.Goals as goal
 pub returns-then-is_crowded-clause-planned : goal.returns-then-is_crowded-clause-planned
 returns-then-is_crowded-clause-planned c =
     let m = c.args.commit.now in
-    refused-by _ _ (collected_crowded (start_of c.args.state.now) m.txn c.args.now.now.latest m.parts m.reads.keys m.writes c.requires.opens c.requires.others
+    refused-by _ _ (collected_crowded (start_of c.args.state.now) c.args.now.now.latest m c.requires.opens c.requires.others
     (sym c.is_crowded.ensures.crowded ∙ c.if-is_crowded.true))
 
 pub returns-clause-planned : goal.returns-clause-planned
@@ -15,5 +15,5 @@ returns-clause-planned c =
     let k = c.args.state.now in
     let m = c.args.commit.now in
     planned-by k _ _ c.collect_anew.result
-    (collected_roomy (start_of k) m.txn c.args.now.now.latest m.parts m.reads.keys m.writes c.requires.opens c.requires.others
+    (collected_roomy (start_of k) c.args.now.now.latest m c.requires.opens c.requires.others
     (sym c.is_crowded.ensures.crowded ∙ c.if-is_crowded.false)) c.collect_anew.ensures.plan c.collect_anew.ensures.memory

@@ -1,5 +1,5 @@
 use Rattle.std.proofs.Common.{Ok}
-use Rattle.protocol.specs.Plan.{plan_give_up}
+use Rattle.protocol.specs.Cells.{plan_give_up}
 use Rattle.memory.specs.Kept.{start_of}
 use Rattle.memory.proofs.States.{planned-row}
 use Rattle.coordinator.proofs.endings.give_up.Goals as goal

@@ -1,4 +1,4 @@
-use Rattle.protocol.specs.Plan.{plan_ask}
+use Rattle.protocol.specs.Cells.{plan_ask}
 use Rattle.memory.specs.Kept.{start_of}
 use Rattle.memory.proofs.States.{planned-row}
 use Rattle.coordinator.proofs.endings.on_ask.Goals as goal

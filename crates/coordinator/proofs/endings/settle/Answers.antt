@@ -1,4 +1,4 @@
-use Rattle.protocol.specs.Plan.{plan_settle}
+use Rattle.protocol.specs.Cells.{plan_settle}
 use Rattle.memory.specs.Kept.{start_of}
 use Rattle.memory.proofs.States.{planned-row, refused-by}
 use Rattle.coordinator.proofs.Planned.{settle_none}

@@ -1,4 +1,4 @@
-use Rattle.protocol.specs.Plan.{plan_vote}
+use Rattle.protocol.specs.Cells.{plan_vote}
 use Rattle.memory.specs.Kept.{start_of}
 use Rattle.memory.proofs.States.{planned-row, planned-past}
 use Rattle.coordinator.proofs.votes.on_vote.Goals as goal

@@ -2,8 +2,8 @@ use Rattle.std.proofs.Common.{◌≡◌, ◌∙◌, sym, ap, subst, refl, List, 
 use Rattle.units.specs.Ids.{Id, with_id}
 use Rattle.units.specs.Locks.{with_locks}
 use Rattle.record.specs.declared.record.Record.{Record}
-use Rattle.protocol.specs.Rows.{Idle, find_row, without_row}
-use Rattle.protocol.specs.Plan.{changed, ended_by, held_in, with_ids, without_rows}
+use Rattle.protocol.specs.Rows.{Idle, find_row, without_row, held_in, without_rows}
+use Rattle.protocol.specs.Plan.{changed, ended_by, with_ids}
 use Rattle.rows.specs.CodeRows.{is_reading, phase_of_wait}
 use Rattle.rows.specs.RowTable.{has_phase, put_row, phase_by}
 use Rattle.memory.specs.Carry.{FitsRows, asker, admitted, MayStand, IsDated}

@@ -1,7 +1,7 @@
 use Rattle.std.proofs.Common.{◌∙◌, not, nat_eq, ap, rules}
 use Rattle.std.proofs.lemmas.Fn.{filter_same}
 use Rattle.units.proofs.ListLaws.{filter-is}
-use Rattle.protocol.specs.Draft.{other_parts}
+use Rattle.protocol.specs.Cells.{other_parts}
 use Rattle.memory.proofs.planning.other_parts.Goals as goal
 
 pub returns-clause-others : goal.returns-clause-others

@@ -1,4 +1,4 @@
-use Rattle.protocol.specs.Plan.{plan_nudge}
+use Rattle.protocol.specs.Cells.{plan_nudge}
 use Rattle.memory.specs.Kept.{start_of}
 use Rattle.memory.proofs.States.{planned-row, refused-by}
 use Rattle.participant.proofs.Planned.{nudge_none}

@@ -1,4 +1,4 @@
-use Rattle.protocol.specs.Plan.{plan_outcome}
+use Rattle.protocol.specs.Cells.{plan_outcome}
 use Rattle.memory.specs.Kept.{start_of}
 use Rattle.memory.proofs.States.{planned-row, planned-past}
 use Rattle.participant.proofs.outcomes.on_outcome.Goals as goal

@@ -1,4 +1,4 @@
-use Rattle.protocol.specs.Plan.{plan_read}
+use Rattle.protocol.specs.Cells.{plan_read}
 use Rattle.memory.specs.Kept.{start_of}
 use Rattle.memory.proofs.States.{planned-row, planned-past}
 use Rattle.participant.proofs.reads.on_read.Goals as goal

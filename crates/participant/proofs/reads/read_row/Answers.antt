@@ -1,5 +1,5 @@
 use Rattle.std.proofs.Common.{◌∙◌, Ok, ap, sym, subst}
-use Rattle.protocol.specs.Plan.{held_in}
+use Rattle.protocol.specs.Rows.{held_in}
 use Rattle.memory.specs.Kept.{start_of, IsPlanned}
 use Rattle.memory.proofs.States.{planned-by}
 use Rattle.participant.proofs.Planned.{read_held, read_waits, read_asked}

@@ -1,7 +1,7 @@
 use Rattle.std.proofs.Common.{◌≡◌, ◌∙◌, Option, Some, None, Bor, ap, sym, refl, subst}
 use Rattle.std.specs.Option.{option_copied, is_some}
-use Rattle.protocol.specs.Rows.{HasRow}
-use Rattle.protocol.specs.Plan.{plan_read, plan_read_row, held_in}
+use Rattle.protocol.specs.Rows.{HasRow, held_in}
+use Rattle.protocol.specs.Cells.{plan_read, plan_read_row}
 use Rattle.rows.specs.CodeRows.{phase_of}
 use Rattle.rows.specs.declared.row.Row.{Row}
 use Rattle.rows.specs.declared.wait.Wait.{Wait}

@@ -4,8 +4,8 @@ use Rattle.units.specs.declared.lock.Lock.{Lock}
 use Rattle.record.specs.declared.record.Record.{Record}
 use Rattle.record.specs.Facts.{learn, or_floor}
 use Rattle.facts.specs.Rules.{follows_facts}
-use Rattle.protocol.specs.Plan.{Puts, carried}
 use Rattle.protocol.specs.Rows.{rebuilt}
+use Rattle.protocol.specs.Plan.{Puts, carried}
 use Rattle.memory.specs.Carry.{Asks, MayDrop}
 use Rattle.memory.specs.Plans.{plan_of}
 use Rattle.rows.specs.RowTable.{phase_by}

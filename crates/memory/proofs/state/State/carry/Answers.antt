@@ -3,8 +3,8 @@ use Rattle.units.specs.Ids.{Id}
 use Rattle.units.specs.declared.lock.Lock.{Lock}
 use Rattle.record.specs.declared.record.Record.{Record}
 use Rattle.safetime.specs.Safe.{Times}
-use Rattle.protocol.specs.Rows.{Memory}
-use Rattle.protocol.specs.Plan.{carried, changed, ended_by, with_ids, without_rows}
+use Rattle.protocol.specs.Rows.{Memory, without_rows}
+use Rattle.protocol.specs.Plan.{carried, changed, ended_by, with_ids}
 use Rattle.memory.specs.Carry.{IsDated}
 use Rattle.memory.specs.Kept.{Kept}
 use Rattle.memory.specs.Plans.{change_of, plan_of}

@@ -1,5 +1,5 @@
 use Rattle.std.proofs.Common.{◌≡◌, ◌∷◌, take, map}
-use Rattle.protocol.specs.Draft.{outcome_to}
+use Rattle.protocol.specs.Outputs.{outcome_to}
 use Rattle.memory.proofs.state.State.ending.Given as goal
 
 abbrev pub invariant-loop-other : goal.invariant-loop-other

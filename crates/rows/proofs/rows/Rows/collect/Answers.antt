@@ -1,9 +1,8 @@
 use Rattle.std.proofs.Common.{◌∙◌, sym, ap, []}
-use Rattle.protocol.specs.Rows.{Row, Idle, claims, find_row, without_row, needs_of}
+use Rattle.protocol.specs.Rows.{Row, Idle, claims, find_row, without_row, needs_of, held_in}
 use Rattle.rows.specs.States.{CollectingState}
 use Rattle.rows.specs.CodeRows.{has_txn, is_idle}
 use Rattle.rows.specs.RowTable.{RowTable, has_phase, put_row}
-use Rattle.protocol.specs.Plan.{held_in}
 use Rattle.rows.specs.declared.row.Row.TheVariants.{Reading}
 use Rattle.rows.proofs.Ties.{has_phase-is, found_txn}
 use Rattle.rows.proofs.Steps.{taken, has_its_claim, idle_reads}

@@ -4,7 +4,7 @@ use Rattle.locks.specs.Table.{Token}
 use Rattle.rows.specs.States.{DecidedState, is_commit_of}
 use Rattle.rows.specs.CodeRows.{has_txn, may_decide}
 use Rattle.rows.specs.RowTable.{RowTable, has_phase, put_row, phase_by}
-use Rattle.protocol.specs.Plan.{held_in}
+use Rattle.protocol.specs.Rows.{held_in}
 use Rattle.rows.specs.declared.row.Row.TheVariants.{Reading, Collecting}
 use Rattle.rows.proofs.Ties.{has_phase-is, found_txn, found_passes, passes_there}
 use Rattle.rows.proofs.Steps.{taken, has_its_claim, decided_token}

@@ -1,6 +1,6 @@
 use Rattle.std.proofs.Common.{◌≡◌, drop}
 use Rattle.rows.specs.RowTable.{MayEnd, without_tokens}
-use Rattle.protocol.specs.Plan.{without_rows}
+use Rattle.protocol.specs.Rows.{without_rows}
 use Rattle.rows.proofs.rows.Rows.end_each.Given as goal
 
 abbrev pub invariant-loop-txn : goal.invariant-loop-txn

@@ -1,9 +1,8 @@
 use Rattle.std.proofs.Common.{◌≡◌, subst, Some, None}
 use Rattle.std.specs.Option.{MatchOption}
-use Rattle.protocol.specs.Rows.{find_row}
+use Rattle.protocol.specs.Rows.{find_row, held_in}
 use Rattle.rows.specs.CodeRows.{phase_of}
 use Rattle.rows.specs.RowTable.{RowTable}
-use Rattle.protocol.specs.Plan.{held_in}
 use Rattle.rows.proofs.Steps.{matched}
 use Rattle.rows.proofs.rows.Rows.find.Goals as goal
 

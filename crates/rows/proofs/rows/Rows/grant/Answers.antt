@@ -1,12 +1,10 @@
 use Rattle.std.proofs.Common.{◌≡◌, ◌∙◌, ap, length, List, Option, arith}
 use Rattle.units.specs.ById.{find_member}
 use Rattle.units.specs.Locks.{with_locks}
-use Rattle.protocol.specs.Rows.{Row, Idle, find_row}
-use Rattle.protocol.specs.Draft.{held_by}
+use Rattle.protocol.specs.Rows.{Row, Idle, find_row, held_by, held_in}
 use Rattle.locks.specs.Table.{Token}
 use Rattle.rows.specs.CodeRows.{is_reading}
 use Rattle.rows.specs.RowTable.{room, room_by, put_row}
-use Rattle.protocol.specs.Plan.{held_in}
 use Rattle.units.specs.Lists.{when}
 use Rattle.rows.proofs.Wounds.{may_end_wounded, others_end, row_stays, token_stays}
 use Rattle.rows.proofs.rows.Rows.grant.Goals as goal

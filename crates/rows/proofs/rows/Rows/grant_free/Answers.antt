@@ -1,10 +1,9 @@
 use Rattle.std.proofs.Common.{◌∙◌, sym, ap, List}
 use Rattle.units.specs.Ids.{Id}
 use Rattle.units.specs.Locks.{Claim, is_free, with_locks}
-use Rattle.protocol.specs.Rows.{Idle, claims}
+use Rattle.protocol.specs.Rows.{Idle, claims, held_in}
 use Rattle.rows.specs.CodeRows.{has_txn, is_reading}
 use Rattle.rows.specs.RowTable.{RowTable, has_phase, put_row}
-use Rattle.protocol.specs.Plan.{held_in}
 use Rattle.rows.specs.declared.row.Row.TheVariants.{Reading}
 use Rattle.rows.proofs.Ties.{has_phase-is, found_txn}
 use Rattle.rows.proofs.Steps.{taken, has_its_claim}

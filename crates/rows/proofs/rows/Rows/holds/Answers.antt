@@ -1,7 +1,7 @@
 use Rattle.std.proofs.Common.{◌∙◌, ap}
 use Rattle.units.specs.Locks.{holds}
 use Rattle.rows.specs.RowTable.{RowTable}
-use Rattle.protocol.specs.Plan.{held_in}
+use Rattle.protocol.specs.Rows.{held_in}
 use Rattle.rows.proofs.Ties.{held_is}
 use Rattle.rows.proofs.rows.Rows.holds.Goals as goal
 

@@ -1,7 +1,7 @@
 use Rattle.std.proofs.Common.{◌≡◌, drop}
 use Rattle.units.specs.Lists.{each}
 use Rattle.units.specs.Locks.{holds}
-use Rattle.protocol.specs.Plan.{held_in}
+use Rattle.protocol.specs.Rows.{held_in}
 use Rattle.rows.proofs.rows.Rows.holds_all.Given as goal
 
 abbrev pub invariant-loop-key : goal.invariant-loop-key

@@ -3,7 +3,7 @@ use Rattle.units.specs.Ids.{Id}
 use Rattle.locks.specs.Table.{held_in as held_in_table}
 use Rattle.rows.specs.CodeRows.{has_txn, is_reading}
 use Rattle.rows.specs.RowTable.{RowTable, has_phase}
-use Rattle.protocol.specs.Plan.{held_in}
+use Rattle.protocol.specs.Rows.{held_in}
 use Rattle.rows.specs.declared.row.Row.TheVariants.{Reading}
 use Rattle.rows.proofs.Ties.{has_phase-is, held_is, found_txn}
 use Rattle.rows.proofs.Steps.{taken, has_its_claim}

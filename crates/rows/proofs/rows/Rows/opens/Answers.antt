@@ -1,9 +1,8 @@
 use Rattle.std.proofs.Common.{◌∙◌, sym, ap, List}
 use Rattle.units.specs.Locks.{Claim, is_free, wounded}
-use Rattle.protocol.specs.Rows.{claims}
+use Rattle.protocol.specs.Rows.{claims, without_rows}
 use Rattle.locks.specs.Table.{without_claims}
 use Rattle.rows.specs.RowTable.{RowTable, paired}
-use Rattle.protocol.specs.Plan.{without_rows}
 use Rattle.rows.proofs.Steps.{claims-without_rows}
 use Rattle.rows.proofs.rows.Rows.opens.Goals as goal
 

@@ -1,10 +1,9 @@
 use Rattle.std.proofs.Common.{◌≡◌, ◌∙◌, sym, ap, subst, Some, Option}
 use Rattle.units.specs.Ids.{Id}
 use Rattle.units.specs.Locks.{with_locks, ready}
-use Rattle.protocol.specs.Rows.{Idle, claims, find_row}
+use Rattle.protocol.specs.Rows.{Idle, claims, find_row, held_in}
 use Rattle.rows.specs.CodeRows.{has_txn, phase_of_wait}
 use Rattle.rows.specs.RowTable.{RowTable, paired, needs_in, put_row}
-use Rattle.protocol.specs.Plan.{held_in}
 use Rattle.rows.specs.declared.row.Row.TheVariants.{Reading}
 use Rattle.rows.specs.declared.wait.Wait.{Wait}
 use Rattle.rows.proofs.Ties.{found_row, found_txn, found_passes}

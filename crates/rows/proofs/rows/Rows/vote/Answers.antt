@@ -2,7 +2,7 @@ use Rattle.std.proofs.Common.{◌∙◌, sym, ap}
 use Rattle.rows.specs.States.{CollectingState}
 use Rattle.rows.specs.CodeRows.{has_txn, is_collecting}
 use Rattle.rows.specs.RowTable.{RowTable, has_phase, put_row, phase_in, with_yes}
-use Rattle.protocol.specs.Plan.{held_in}
+use Rattle.protocol.specs.Rows.{held_in}
 use Rattle.rows.specs.declared.row.Row.TheVariants.{Collecting}
 use Rattle.rows.proofs.Ties.{has_phase-is, found_txn, found_passes, passes_there}
 use Rattle.rows.proofs.Steps.{taken}

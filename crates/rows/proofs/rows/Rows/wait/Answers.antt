@@ -1,12 +1,10 @@
 use Rattle.std.proofs.Common.{◌≡◌, ◌∙◌, ap, length, List, Option, Some, arith}
 use Rattle.units.specs.ById.{find_member}
 use Rattle.units.specs.Locks.{wounded}
-use Rattle.protocol.specs.Rows.{Row, claims, find_row}
-use Rattle.protocol.specs.Draft.{held_by}
+use Rattle.protocol.specs.Rows.{Row, claims, find_row, held_by, held_in}
 use Rattle.locks.specs.Table.{Token}
 use Rattle.rows.specs.CodeRows.{phase_of_wait, is_reading}
 use Rattle.rows.specs.RowTable.{room, room_by, put_row}
-use Rattle.protocol.specs.Plan.{held_in}
 use Rattle.units.specs.Lists.{when}
 use Rattle.rows.proofs.Wounds.{may_end_wounded, others_end, row_stays, token_stays, then_quiet}
 use Rattle.rows.proofs.rows.Rows.wait.Goals as goal

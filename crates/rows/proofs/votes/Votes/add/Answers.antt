@@ -1,5 +1,5 @@
 use Rattle.std.proofs.Common.{◌≡◌, ◌<◌, ◌∙◌, ℕ, sym, ap, subst, arith, true, false, map, length}
-use Rattle.protocol.specs.Step.{with_vote}
+use Rattle.protocol.specs.Rows.{with_vote}
 use Rattle.rows.specs.States.{voted_of, has_voted, AreVotes, most_votes}
 use Rattle.rows.proofs.Ballots.{space_for_vote, votes-append, vote_again, vote_added}
 use Rattle.rows.proofs.votes.Votes.add.Goals as goal

@@ -1,8 +1,8 @@
 use Rattle.std.proofs.Common.{◌∙◌, Option, Some, sym, ap}
 use Rattle.record.specs.Facts.{Facts}
 use Rattle.record.specs.declared.record.Record.{Record}
-use Rattle.protocol.specs.Step.{facts_after}
 use Rattle.protocol.specs.Plan.{carried}
+use Rattle.protocol.specs.Step.{facts_after}
 use Rattle.memory.specs.Plans.{plan_of}
 use Rattle.shard.specs.Core.{seen}
 use Rattle.shard.specs.Logs.{facts_logged}

@@ -1,5 +1,5 @@
 use Rattle.std.proofs.Common.{inl, inr, refl, ap, sym, ◌∙◌}
-use Rattle.protocol.specs.Draft.{Refuses}
+use Rattle.protocol.specs.Step.{Refuses}
 use Rattle.shard.specs.Core.{seen}
 use Rattle.world.specs.declared.running.Running.{Running}
 use Rattle.world.proofs.Carrying.{effect_refuses, takes_input}
