@@ -1,6 +1,7 @@
 -- A board: a list of entries that only grows. What it shows is the fold of its list.
+use Rattle.std.specs.List.{list_all}
 use Rattle.std.specs.Prelude.{ℕ, Bool, true, ◌&&◌, nat_lt, nat_le, List, [], ◌∷◌, ◌++◌, map, Option, Some, None}
-use Rattle.units.specs.Lists.{each, gather}
+use Rattle.units.specs.Lists.{gather}
 use Rattle.units.specs.Keys.{Bytes}
 use Rattle.units.specs.Versions.{of_key, at_time}
 use Rattle.units.specs.declared.writes.Install.{Install}
@@ -47,7 +48,7 @@ is_rising (Some safe) t = nat_le safe t
 unfoldable pub may_follow : List Install → Option ℕ → List Entry → Bool
 may_follow installs safe [] = true
 may_follow installs safe (Installed i ∷ es) =
-    is_past safe i.at && each (λ j. nat_lt j.at i.at) (of_key installs i.key) && may_follow (i ∷ installs) safe es
+    is_past safe i.at && list_all (λ j. nat_lt j.at i.at) (of_key installs i.key) && may_follow (i ∷ installs) safe es
 may_follow installs safe (Safe t ∷ es) = is_rising safe t && may_follow installs (Some t) es
 
 -- the rule of every board

@@ -1,7 +1,8 @@
 -- One vote more: who has voted then, and the timestamp of the decision.
+use Rattle.std.specs.List.{list_any}
 use Rattle.std.proofs.Common.{◌≡◌, ◌∙◌, ℕ, zero, suc, ◌+◌, ◌-◌, ◌<◌, ◌≤◌, ◌^◌, ◌/◌, ◌%◌, max, Bool, true, false, not, cond, ◌&&◌, ◌||◌, nat_eq, List, [], ◌∷◌, ◌++◌, map, Option, Some, None, Ok, Err, refl, sym, ap, arith}
 use Rattle.std.proofs.lemmas.Bool.Decides.{nat_tests}
-use Rattle.units.specs.Lists.{any, greatest}
+use Rattle.units.specs.Lists.{greatest}
 use Rattle.units.specs.Ids.{Id}
 use Rattle.units.specs.Keys.{Bytes}
 use Rattle.units.specs.Parts.{shards_from}
@@ -19,7 +20,7 @@ use Rattle.coordinator.proofs.Granting.{decide_late, decide_made}
 
 -- ---- votes as the rows keep them
 
-any_cast : (votes : List CastVote) (m : ℕ) → any (λ v. nat_eq v.shard m) (map voted_of votes) ≡ any (λ v. nat_eq v.shard m) votes
+any_cast : (votes : List CastVote) (m : ℕ) → list_any (λ v. nat_eq v.shard m) (map voted_of votes) ≡ list_any (λ v. nat_eq v.shard m) votes
 any_cast [] m = refl
 any_cast (v ∷ vs) m = ap (λ b. nat_eq v.shard m || b) (any_cast vs m)
 
@@ -30,28 +31,28 @@ greatest_cast (v ∷ vs) = ap (max v.at) (greatest_cast vs)
 -- ---- one vote more
 
 -- a test of the last member, or of those before it
-any_last : (test : Voted → Bool) (votes : List Voted) (v : Voted) → any test (votes ++ v ∷ []) ≡ (any test votes || test v)
+any_last : (test : Voted → Bool) (votes : List Voted) (v : Voted) → list_any test (votes ++ v ∷ []) ≡ (list_any test votes || test v)
 any_last test [] v = elim (test v) as (λ b. (b || false) ≡ b) [ true ↦ refl | false ↦ refl ]
 any_last test (u ∷ us) v =
-    elim (test u) as (λ b. (b || any test (us ++ v ∷ [])) ≡ ((b || any test us) || test v)) [ true ↦ refl | false ↦ any_last test us v ]
+    elim (test u) as (λ b. (b || list_any test (us ++ v ∷ [])) ≡ ((b || list_any test us) || test v)) [ true ↦ refl | false ↦ any_last test us v ]
 
 -- where a shard is one that has voted, so is the shard of its number
-same_shard : (votes : List Voted) (n m : ℕ) → any (λ v. nat_eq v.shard n) votes ≡ true → nat_eq n m ≡ true → any (λ v. nat_eq v.shard m) votes ≡ true
+same_shard : (votes : List Voted) (n m : ℕ) → list_any (λ v. nat_eq v.shard n) votes ≡ true → nat_eq n m ≡ true → list_any (λ v. nat_eq v.shard m) votes ≡ true
 same_shard votes n m there e =
-    let same : n ≡ m = grind (arith, nat_tests) in ap (λ k. any (λ v. nat_eq v.shard k) votes) (sym same) ∙ there
+    let same : n ≡ m = grind (arith, nat_tests) in ap (λ k. list_any (λ v. nat_eq v.shard k) votes) (sym same) ∙ there
 
-voted-with : (votes : List Voted) (vote : Voted) (m : ℕ) → any (λ v. nat_eq v.shard m) (with_vote vote.shard vote.at votes)
-    ≡ (any (λ v. nat_eq v.shard m) votes || nat_eq vote.shard m)
-voted-with votes vote m = by_test (any (λ v. nat_eq v.shard vote.shard) votes) refl
+voted-with : (votes : List Voted) (vote : Voted) (m : ℕ) → list_any (λ v. nat_eq v.shard m) (with_vote vote.shard vote.at votes)
+    ≡ (list_any (λ v. nat_eq v.shard m) votes || nat_eq vote.shard m)
+voted-with votes vote m = by_test (list_any (λ v. nat_eq v.shard vote.shard) votes) refl
   where
     or_none : (a b : Bool) → (b ≡ true → a ≡ true) → a ≡ (a || b)
     or_none true b h = refl
     or_none false true h = h refl
     or_none false false h = refl
 
-    by_test : (b : Bool) → any (λ v. nat_eq v.shard vote.shard) votes ≡ b
-        → any (λ v. nat_eq v.shard m) (cond b votes (votes ++ vote ∷ [])) ≡ (any (λ v. nat_eq v.shard m) votes || nat_eq vote.shard m)
-    by_test true e = or_none (any (λ v. nat_eq v.shard m) votes) (nat_eq vote.shard m) (same_shard votes vote.shard m e)
+    by_test : (b : Bool) → list_any (λ v. nat_eq v.shard vote.shard) votes ≡ b
+        → list_any (λ v. nat_eq v.shard m) (cond b votes (votes ++ vote ∷ [])) ≡ (list_any (λ v. nat_eq v.shard m) votes || nat_eq vote.shard m)
+    by_test true e = or_none (list_any (λ v. nat_eq v.shard m) votes) (nat_eq vote.shard m) (same_shard votes vote.shard m e)
     by_test false e = any_last (λ v. nat_eq v.shard m) votes vote
 
 -- the greatest of some votes and of one more
@@ -75,7 +76,7 @@ stamp_late last latest votes late = more (greatest (map (λ v. v.at) votes)) (ma
     more g n h = omega (arith, h)
 
 -- the vote of a shard that has voted changes nothing
-pub stamp_again : (last latest : ℕ) (votes : List CastVote) (n p : ℕ) → any (λ v. nat_eq v.shard n) votes ≡ true
+pub stamp_again : (last latest : ℕ) (votes : List CastVote) (n p : ℕ) → list_any (λ v. nat_eq v.shard n) votes ≡ true
     → max (commit_stamp last latest []) (greatest (map (λ v. v.at) votes)) ≡ commit_stamp last latest (with_vote n p (map voted_of votes))
 stamp_again last latest votes n p e =
     ap (λ g. max (commit_stamp last latest []) g) (sym (greatest_cast votes))
@@ -86,7 +87,7 @@ stamp_again last latest votes n p e =
     turned g m = omega arith
 
 -- another vote may raise the timestamp
-pub stamp_with : (last latest : ℕ) (votes : List CastVote) (n p : ℕ) → any (λ v. nat_eq v.shard n) votes ≡ false
+pub stamp_with : (last latest : ℕ) (votes : List CastVote) (n p : ℕ) → list_any (λ v. nat_eq v.shard n) votes ≡ false
     → max (max (commit_stamp last latest []) (greatest (map (λ v. v.at) votes))) p ≡ commit_stamp last latest (with_vote n p (map voted_of votes))
 stamp_with last latest votes n p e =
     ap (λ g. max (max (commit_stamp last latest []) g) p) (sym (greatest_cast votes))
@@ -113,29 +114,29 @@ first_bit (suc bits) n mask h =
 -- each of them has voted
 pub marked_each : (votes : List Voted) (except bits n mask : ℕ) → 0 < bits
     → all_voted (other_parts except (shards_from bits n mask)) votes
-    ≡ ((not (nat_eq (mask % 2) 1 && not (nat_eq n except)) || any (λ v. nat_eq v.shard n) votes)
+    ≡ ((not (nat_eq (mask % 2) 1 && not (nat_eq n except)) || list_any (λ v. nat_eq v.shard n) votes)
     && all_voted (other_parts except (shards_from (bits - 1) (n + 1) (mask / 2))) votes)
 marked_each votes except bits n mask h =
     ap (λ ns. all_voted (other_parts except ns) votes) (first_bit bits n mask h)
     ∙ by_test (nat_eq (mask % 2) 1) (shards_from (bits - 1) (n + 1) (mask / 2))
   where
     by_test : (a : Bool) (ns : List ℕ) → all_voted (other_parts except (cond a (n ∷ ns) ns)) votes
-        ≡ ((not (a && not (nat_eq n except)) || any (λ v. nat_eq v.shard n) votes) && all_voted (other_parts except ns) votes)
+        ≡ ((not (a && not (nat_eq n except)) || list_any (λ v. nat_eq v.shard n) votes) && all_voted (other_parts except ns) votes)
     by_test true ns =
         elim (nat_eq n except) as (λ c. all_voted (cond (not c) (n ∷ other_parts except ns) (other_parts except ns)) votes
-        ≡ ((not (not c) || any (λ (v : Voted). nat_eq v.shard n) votes) && all_voted (other_parts except ns) votes)) [ true ↦ refl | false ↦ refl ]
+        ≡ ((not (not c) || list_any (λ (v : Voted). nat_eq v.shard n) votes) && all_voted (other_parts except ns) votes)) [ true ↦ refl | false ↦ refl ]
     by_test false ns = refl
 
 -- with one vote more
-voted_more : (votes : List CastVote) (p q n : ℕ) → any (λ v. nat_eq v.shard n) (more_votes p q votes) ≡ (any (λ v. nat_eq v.shard n) votes || nat_eq p n)
+voted_more : (votes : List CastVote) (p q n : ℕ) → list_any (λ v. nat_eq v.shard n) (more_votes p q votes) ≡ (list_any (λ v. nat_eq v.shard n) votes || nat_eq p n)
 unfolding more_votes
 voted_more votes p q n = voted-with (map voted_of votes) (record { shard = p; at = q }) n ∙ ap (λ b. b || nat_eq p n) (any_cast votes n)
 
 -- of a shard that voted before, and of one that did not
-pub voted_before : (votes : List CastVote) (p q n : ℕ) → any (λ v. nat_eq v.shard n) votes ≡ true → true ≡ any (λ v. nat_eq v.shard n) (more_votes p q votes)
+pub voted_before : (votes : List CastVote) (p q n : ℕ) → list_any (λ v. nat_eq v.shard n) votes ≡ true → true ≡ list_any (λ v. nat_eq v.shard n) (more_votes p q votes)
 voted_before votes p q n e = sym (voted_more votes p q n ∙ ap (λ b. b || nat_eq p n) e)
 
-pub voted_last : (votes : List CastVote) (p q n : ℕ) → any (λ v. nat_eq v.shard n) votes ≡ false → nat_eq p n ≡ any (λ v. nat_eq v.shard n) (more_votes p q votes)
+pub voted_last : (votes : List CastVote) (p q n : ℕ) → list_any (λ v. nat_eq v.shard n) votes ≡ false → nat_eq p n ≡ list_any (λ v. nat_eq v.shard n) (more_votes p q votes)
 voted_last votes p q n e = sym (voted_more votes p q n ∙ ap (λ b. b || nat_eq p n) e)
 
 -- ---- plans

@@ -1,9 +1,9 @@
 -- The plans of commits by the tests that the code makes.
+use Rattle.std.specs.List.{list_any}
 use Rattle.std.proofs.Common.{◌≡◌, ℕ, ◌+◌, ◌<◌, ◌≤◌, ◌^◌, nat_eq, nat_le, cond, not, Bool, true, false, ◌||◌, List, [], ◌∷◌, None, Ok, Err, Result, refl, sym, ap, subst, ◌∙◌, arith}
 use Rattle.std.proofs.lemmas.Bool.{false≢true}
 use Rattle.std.proofs.lemmas.Bool.Decides.{nat_tests}
 use Rattle.units.specs.Ids.{Id}
-use Rattle.units.specs.Lists.{any}
 use Rattle.units.specs.Keys.{Bytes}
 use Rattle.units.specs.Locks.{exclusive}
 use Rattle.units.specs.declared.fault.Fault.{Fault}
@@ -51,27 +51,27 @@ decide_made b ended t latest ps rs ws needs votes at is small =
 -- ---- with other parts, and without
 
 -- no other shard takes part
-alone : (n : ℕ) (ps : List ℕ) → any (λ m. not (nat_eq m n)) ps ≡ false → other_parts n ps ≡ []
+alone : (n : ℕ) (ps : List ℕ) → list_any (λ m. not (nat_eq m n)) ps ≡ false → other_parts n ps ≡ []
 alone n [] e = refl
-alone n (k ∷ ks) e = by_test (not (nat_eq k n)) (any (λ m. not (nat_eq m n)) ks) (other_parts n ks) (alone n ks) e
+alone n (k ∷ ks) e = by_test (not (nat_eq k n)) (list_any (λ m. not (nat_eq m n)) ks) (other_parts n ks) (alone n ks) e
   where
     by_test : (a h : Bool) (ms : List ℕ) → (h ≡ false → ms ≡ []) → (a || h) ≡ false → cond a (k ∷ ms) ms ≡ []
     by_test true h ms rest e = absurd (false≢true (sym e))
     by_test false h ms rest e = rest e
 
 pub granted_alone : (b : Before) (ended : List Id) (t : Id) (latest : ℕ) (ps : List ℕ) (rs : List Bytes) (ws : List Write) (n : ℕ)
-    → any (λ m. not (nat_eq m n)) ps ≡ false
+    → list_any (λ m. not (nat_eq m n)) ps ≡ false
     → plan_commit_granted b ended t latest ps rs ws (other_parts n ps) ≡ plan_decide b ended t latest ps rs ws (exclusive ws) []
 unfolding plan_commit_granted
 granted_alone b ended t latest ps rs ws n e = ap (plan_commit_granted b ended t latest ps rs ws) (alone n ps e)
 
 -- another does
 granted_some : (b : Before) (ended : List Id) (t : Id) (latest : ℕ) (ps : List ℕ) (rs : List Bytes) (ws : List Write) (n : ℕ) (qs : List ℕ)
-    → any (λ m. not (nat_eq m n)) qs ≡ true → plan_commit_granted b ended t latest ps rs ws (other_parts n qs) ≡ Ok (collects b ended t latest ps rs ws)
+    → list_any (λ m. not (nat_eq m n)) qs ≡ true → plan_commit_granted b ended t latest ps rs ws (other_parts n qs) ≡ Ok (collects b ended t latest ps rs ws)
 unfolding plan_commit_granted
 granted_some b ended t latest ps rs ws n [] e = absurd (false≢true e)
 granted_some b ended t latest ps rs ws n (k ∷ ks) e =
-    by_test (not (nat_eq k n)) (any (λ m. not (nat_eq m n)) ks) (other_parts n ks) (granted_some b ended t latest ps rs ws n ks) e
+    by_test (not (nat_eq k n)) (list_any (λ m. not (nat_eq m n)) ks) (other_parts n ks) (granted_some b ended t latest ps rs ws n ks) e
   where
     by_test : (a h : Bool) (ms : List ℕ) → (h ≡ true → plan_commit_granted b ended t latest ps rs ws ms ≡ Ok (collects b ended t latest ps rs ws))
         → (a || h) ≡ true → plan_commit_granted b ended t latest ps rs ws (cond a (k ∷ ms) ms) ≡ Ok (collects b ended t latest ps rs ws)
@@ -79,15 +79,15 @@ granted_some b ended t latest ps rs ws n (k ∷ ks) e =
     by_test false h ms rest e = rest e
 
 pub granted_others : (b : Before) (ended : List Id) (t : Id) (latest : ℕ) (ps : List ℕ) (rs : List Bytes) (ws : List Write) (n : ℕ)
-    → any (λ m. not (nat_eq m n)) ps ≡ true → plan_commit_granted b ended t latest ps rs ws (other_parts n ps) ≡ Ok (collects b ended t latest ps rs ws)
+    → list_any (λ m. not (nat_eq m n)) ps ≡ true → plan_commit_granted b ended t latest ps rs ws (other_parts n ps) ≡ Ok (collects b ended t latest ps rs ws)
 granted_others b ended t latest ps rs ws n e = granted_some b ended t latest ps rs ws n ps e
 
-pub resumed_late : (b : Before) (t : Id) (latest : ℕ) (ps : List ℕ) (rs : List Bytes) (ws : List Write) → any (λ m. not (nat_eq m b.shard)) ps ≡ false
+pub resumed_late : (b : Before) (t : Id) (latest : ℕ) (ps : List ℕ) (rs : List Bytes) (ws : List Write) → list_any (λ m. not (nat_eq m b.shard)) ps ≡ false
     → 2 ^ 62 ≤ commit_stamp b.memory.last latest [] → plan_commit_granted b [] t latest ps rs ws (other_parts b.shard ps) ≡ Err TimeSpent
 resumed_late b t latest ps rs ws none late =
     granted_alone b [] t latest ps rs ws b.shard none ∙ decide_late b [] t latest ps rs ws (exclusive ws) [] late
 
-pub resumed_decided : (b : Before) (t : Id) (latest : ℕ) (ps : List ℕ) (rs : List Bytes) (ws : List Write) (at : ℕ) → any (λ m. not (nat_eq m b.shard)) ps ≡ false
+pub resumed_decided : (b : Before) (t : Id) (latest : ℕ) (ps : List ℕ) (rs : List Bytes) (ws : List Write) (at : ℕ) → list_any (λ m. not (nat_eq m b.shard)) ps ≡ false
     → at ≡ commit_stamp b.memory.last latest [] → at < 2 ^ 62
     → plan_commit_granted b [] t latest ps rs ws (other_parts b.shard ps) ≡ Ok (decides b [] t (exclusive ws) at ps rs ws)
 resumed_decided b t latest ps rs ws at none is small =
@@ -133,7 +133,7 @@ roomed_late true planned e = ap (roomed true) e
 roomed_late false planned e = e
 
 pub decided_late : (b : Before) (latest : ℕ) (m : Commit) → opens b m.txn (exclusive m.writes) ≡ true
-    → any (λ n. not (nat_eq n b.shard)) m.parts ≡ false → 2 ^ 62 ≤ commit_stamp b.memory.last latest [] → plan_commit_now b latest m ≡ Err TimeSpent
+    → list_any (λ n. not (nat_eq n b.shard)) m.parts ≡ false → 2 ^ 62 ≤ commit_stamp b.memory.last latest [] → plan_commit_now b latest m ≡ Err TimeSpent
 decided_late b latest m free none late =
     opened b latest m free
     ∙ roomed_late (is_crowded b m.txn) (granted_now b latest m)
@@ -141,7 +141,7 @@ decided_late b latest m free none late =
     ∙ decide_late b (in_way b m.txn (exclusive m.writes)) m.txn latest m.parts m.reads.keys m.writes (exclusive m.writes) [] late)
 
 decided : (b : Before) (latest : ℕ) (m : Commit) (at : ℕ) (crowded : Bool) → opens b m.txn (exclusive m.writes) ≡ true
-    → any (λ n. not (nat_eq n b.shard)) m.parts ≡ false → at ≡ commit_stamp b.memory.last latest [] → at < 2 ^ 62 → is_crowded b m.txn ≡ crowded
+    → list_any (λ n. not (nat_eq n b.shard)) m.parts ≡ false → at ≡ commit_stamp b.memory.last latest [] → at < 2 ^ 62 → is_crowded b m.txn ≡ crowded
     → plan_commit_now b latest m ≡ roomed crowded (Ok (decides b (in_way b m.txn (exclusive m.writes)) m.txn (exclusive m.writes) at m.parts m.reads.keys m.writes))
 decided b latest m at crowded free none is small room =
     opened b latest m free
@@ -150,17 +150,17 @@ decided b latest m at crowded free none is small room =
     ∙ decide_made b (in_way b m.txn (exclusive m.writes)) m.txn latest m.parts m.reads.keys m.writes (exclusive m.writes) [] at is small)
 
 pub decided_crowded : (b : Before) (latest : ℕ) (m : Commit) (at : ℕ) → opens b m.txn (exclusive m.writes) ≡ true
-    → any (λ n. not (nat_eq n b.shard)) m.parts ≡ false → at ≡ commit_stamp b.memory.last latest [] → at < 2 ^ 62 → is_crowded b m.txn ≡ true
+    → list_any (λ n. not (nat_eq n b.shard)) m.parts ≡ false → at ≡ commit_stamp b.memory.last latest [] → at < 2 ^ 62 → is_crowded b m.txn ≡ true
     → plan_commit_now b latest m ≡ Err RowsFull
 decided_crowded b latest m at free none is small full = decided b latest m at true free none is small full
 
 pub decided_roomy : (b : Before) (latest : ℕ) (m : Commit) (at : ℕ) → opens b m.txn (exclusive m.writes) ≡ true
-    → any (λ n. not (nat_eq n b.shard)) m.parts ≡ false → at ≡ commit_stamp b.memory.last latest [] → at < 2 ^ 62 → is_crowded b m.txn ≡ false
+    → list_any (λ n. not (nat_eq n b.shard)) m.parts ≡ false → at ≡ commit_stamp b.memory.last latest [] → at < 2 ^ 62 → is_crowded b m.txn ≡ false
     → plan_commit_now b latest m ≡ Ok (decides b (in_way b m.txn (exclusive m.writes)) m.txn (exclusive m.writes) at m.parts m.reads.keys m.writes)
 decided_roomy b latest m at free none is small roomy = decided b latest m at false free none is small roomy
 
 collected : (b : Before) (latest : ℕ) (m : Commit) (crowded : Bool) → opens b m.txn (exclusive m.writes) ≡ true
-    → any (λ n. not (nat_eq n b.shard)) m.parts ≡ true → is_crowded b m.txn ≡ crowded
+    → list_any (λ n. not (nat_eq n b.shard)) m.parts ≡ true → is_crowded b m.txn ≡ crowded
     → plan_commit_now b latest m ≡ roomed crowded (Ok (collects b (in_way b m.txn (exclusive m.writes)) m.txn latest m.parts m.reads.keys m.writes))
 collected b latest m crowded free some room =
     opened b latest m free
@@ -168,11 +168,11 @@ collected b latest m crowded free some room =
     ∙ ap (roomed crowded) (granted_others b (in_way b m.txn (exclusive m.writes)) m.txn latest m.parts m.reads.keys m.writes b.shard some)
 
 pub collected_crowded : (b : Before) (latest : ℕ) (m : Commit) → opens b m.txn (exclusive m.writes) ≡ true
-    → any (λ n. not (nat_eq n b.shard)) m.parts ≡ true → is_crowded b m.txn ≡ true → plan_commit_now b latest m ≡ Err RowsFull
+    → list_any (λ n. not (nat_eq n b.shard)) m.parts ≡ true → is_crowded b m.txn ≡ true → plan_commit_now b latest m ≡ Err RowsFull
 collected_crowded b latest m free some full = collected b latest m true free some full
 
 pub collected_roomy : (b : Before) (latest : ℕ) (m : Commit) → opens b m.txn (exclusive m.writes) ≡ true
-    → any (λ n. not (nat_eq n b.shard)) m.parts ≡ true → is_crowded b m.txn ≡ false
+    → list_any (λ n. not (nat_eq n b.shard)) m.parts ≡ true → is_crowded b m.txn ≡ false
     → plan_commit_now b latest m ≡ Ok (collects b (in_way b m.txn (exclusive m.writes)) m.txn latest m.parts m.reads.keys m.writes)
 collected_roomy b latest m free some roomy = collected b latest m false free some roomy
 

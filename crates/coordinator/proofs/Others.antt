@@ -1,7 +1,8 @@
 -- The shards of a transaction other than one.
+use Rattle.std.specs.List.{list_any}
 use Rattle.std.proofs.Common.{◌≡◌, ℕ, Bool, true, false, not, cond, ◌&&◌, ◌||◌, nat_eq, List, [], ◌∷◌, refl, sym, ap, ◌∙◌, arith}
 use Rattle.std.proofs.lemmas.Bool.Decides.{nat_tests}
-use Rattle.units.specs.Lists.{any, has}
+use Rattle.units.specs.Lists.{has}
 use Rattle.protocol.specs.Cells.{other_parts}
 
 -- a number that is one of two is the other, where they are the same
@@ -10,9 +11,9 @@ same_as m n k e = let same : m ≡ k = grind (arith, nat_tests) in ap (λ a. nat
 
 -- some of the others pass a test
 any_other : (test : ℕ → Bool) (n k : ℕ) (ks : List ℕ)
-    → any test (other_parts n (k ∷ ks)) ≡ ((not (nat_eq k n) && test k) || any test (other_parts n ks))
+    → list_any test (other_parts n (k ∷ ks)) ≡ ((not (nat_eq k n) && test k) || list_any test (other_parts n ks))
 any_other test n k ks =
-    elim (nat_eq k n) as (λ a. any test (cond (not a) (k ∷ other_parts n ks) (other_parts n ks)) ≡ ((not a && test k) || any test (other_parts n ks))) [
+    elim (nat_eq k n) as (λ a. list_any test (cond (not a) (k ∷ other_parts n ks) (other_parts n ks)) ≡ ((not a && test k) || list_any test (other_parts n ks))) [
       | true ↦ refl
       | false ↦ refl
     ]

@@ -1,7 +1,7 @@
 //! Commits.
+ghost use Rattle.std.specs.List.{list_any};
 ghost use Rattle.std.specs.Prelude.{◌≡◌, ℕ, true, false, not, nat_eq, ◌+◌, ◌<◌, ◌≤◌, ◌^◌, IfOk, IfErr, MatchResult, [], ◌∷◌, Some, None, Ok, Err};
 ghost use Rattle.std.specs.Option.{option_copied};
-ghost use Rattle.units.specs.Lists.{any};
 ghost use Rattle.units.specs.Locks.{exclusive};
 ghost use Rattle.protocol.specs.Rows.{HasRow, find_row, held_in};
 ghost use Rattle.protocol.specs.Outputs.{decision};
@@ -150,7 +150,7 @@ fn commit_now(state: &State, alloc: Global, now: &Reading, commit: &Commit) -> R
 // The locks are granted, and no other shard takes part.
 fn decide_now(state: &State, alloc: Global, now: &Reading, commit: &Commit) -> Result<Plan, Fault>
     requires opens { opens (start_of state.now) commit.now.txn (exclusive commit.now.writes) ≡ true }
-    requires alone { any (λ n. not (nat_eq n state.now.setup.shard)) commit.now.parts ≡ false }
+    requires alone { list_any (λ n. not (nat_eq n state.now.setup.shard)) commit.now.parts ≡ false }
     requires ends { may_end state.now.memory.rows commit.now.txn ≡ true }
     ensures planned { IsPlanned state.now (plan_commit_now (start_of state.now) now.now.latest commit.now) result }
     ensures fit { IfOk result (IsFit state.now) }
@@ -186,7 +186,7 @@ fn decide_anew(
 // The locks are granted, and other shards take part.
 fn collect_now(state: &State, alloc: Global, now: &Reading, commit: &Commit) -> Result<Plan, Fault>
     requires opens { opens (start_of state.now) commit.now.txn (exclusive commit.now.writes) ≡ true }
-    requires others { any (λ n. not (nat_eq n state.now.setup.shard)) commit.now.parts ≡ true }
+    requires others { list_any (λ n. not (nat_eq n state.now.setup.shard)) commit.now.parts ≡ true }
     requires ends { may_end state.now.memory.rows commit.now.txn ≡ true }
     ensures planned { IsPlanned state.now (plan_commit_now (start_of state.now) now.now.latest commit.now) result }
     ensures fit { IfOk result (IsFit state.now) }

@@ -1,7 +1,8 @@
 //! Votes.
+ghost use Rattle.std.specs.List.{list_any};
 ghost use Rattle.std.specs.Prelude.{◌≡◌, ◌+◌, ◌<◌, ◌≤◌, ◌^◌, nat_eq, not, map, max, true, false, [], ◌∷◌, Some, None, Ok, IfOk, IfErr, MatchResult};
 ghost use Rattle.std.specs.Option.{option_copied};
-ghost use Rattle.units.specs.Lists.{any, greatest};
+ghost use Rattle.units.specs.Lists.{greatest};
 ghost use Rattle.units.specs.Parts.{shards_from};
 ghost use Rattle.protocol.specs.Rows.{Collecting as CollectsVotes, HasRow, find_row, with_vote, held_in};
 ghost use Rattle.protocol.specs.Plan.{puts, stands};
@@ -244,7 +245,7 @@ fn have_marked_voted(
 
 // The shard of a number has voted.
 fn has_voted(votes: &[Voted], number: u8) -> bool
-    ensures { result ≡ any (λ v. nat_eq v.shard number) votes.now }
+    ensures { result ≡ list_any (λ v. nat_eq v.shard number) votes.now }
 {
     for vote in votes {
         if vote.shard.number() == number {
@@ -256,7 +257,7 @@ fn has_voted(votes: &[Voted], number: u8) -> bool
 
 // The shard of a number has voted, once this vote is counted too.
 fn has_voted_with(votes: &[Voted], number: u8, last: &Voted) -> bool
-    ensures { result ≡ any (λ v. nat_eq v.shard number) (more_votes last.now.shard last.now.at votes.now) }
+    ensures { result ≡ list_any (λ v. nat_eq v.shard number) (more_votes last.now.shard last.now.at votes.now) }
 {
     has_voted(votes, number) || last.shard.number() == number
 }

@@ -1,7 +1,6 @@
 -- The entries of the code, looked up and set anew.
-use Rattle.std.proofs.Common.{◌≡◌, cond, List, [], ◌∷◌, Option, Some, None, refl, sym, ap, ◌∙◌}
+use Rattle.std.proofs.Common.{◌≡◌, cond, List, [], ◌∷◌, Option, Some, None, refl, sym, ap, ◌∙◌, option_map}
 use Rattle.std.specs.Map.{lookup}
-use Rattle.units.specs.Lists.{mapped}
 use Rattle.units.specs.Ids.{Id, same_id, older}
 use Rattle.units.specs.ById.{with_member}
 use Rattle.units.proofs.ByAge.{find_lookup}
@@ -21,9 +20,9 @@ pub looked_up : (es : List (Id × Status)) (t : Id) → meant (lookup (same_id t
 unfolding shown_one
 looked_up es t =
     by_found (lookup (same_id t) es)
-    ∙ sym (ap or_unrecorded (find-map (λ e. e.0) (λ (e : facts.Entry). e.txn) shown_one (λ e. refl) es t ∙ ap (mapped shown_one) (find_lookup es t)))
+    ∙ sym (ap or_unrecorded (find-map (λ e. e.0) (λ (e : facts.Entry). e.txn) shown_one (λ e. refl) es t ∙ ap (option_map shown_one) (find_lookup es t)))
   where
-    by_found : (o : Option Status) → meant o ≡ or_unrecorded (mapped shown_one (mapped (λ s. (t, s)) o))
+    by_found : (o : Option Status) → meant o ≡ or_unrecorded (option_map shown_one (option_map (λ s. (t, s)) o))
     by_found None = refl
     by_found (Some s) = refl
 

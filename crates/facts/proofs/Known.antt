@@ -1,7 +1,7 @@
 -- What the facts alone tell of a log.
 use Rattle.std.proofs.Common.{refl, sym, ◌∙◌, ap}
-use Rattle.std.specs.Prelude.{ℕ, ◌+◌, ◌≡◌, Bool, true, false, not, cond, ◌&&◌, ◌||◌, nat_eq, nat_lt, List, [], ◌∷◌, ◌++◌, Option, Some, None}
-use Rattle.units.specs.Lists.{head, when, mapped}
+use Rattle.std.specs.Prelude.{ℕ, ◌+◌, ◌≡◌, Bool, true, false, not, cond, ◌&&◌, ◌||◌, nat_eq, nat_lt, List, [], ◌∷◌, ◌++◌, Option, Some, None, option_map}
+use Rattle.units.specs.Lists.{head, when}
 use Rattle.units.specs.Ids.{Id}
 use Rattle.units.proofs.Folds.{is_there, append_none}
 use Rattle.record.specs.Accepted.{begins, is_new, outcome_fits, follows, followed, followed_from}
@@ -165,7 +165,7 @@ abort_by false None (Some p) None = refl
 abort_by false None None e = refl
 
 outcome_by : (a : Bool) (c : Option Committed) (p : Option Prepared) (e : Option Ended) → (a ≡ true → (is_there p || is_there c) ≡ false)
-    → (is_there e ≡ true → (is_there p || is_there c) ≡ true) → Settles c e → outcome_in (status_by a c p e) ≡ mapped (λ x. x.outcome) e
+    → (is_there e ≡ true → (is_there p || is_there c) ≡ true) → Settles c e → outcome_in (status_by a c p e) ≡ option_map (λ x. x.outcome) e
 outcome_by true c p (Some e) apart closed settles = absurd (not_true (sym (closed refl) ∙ apart refl))
 outcome_by true c p None apart closed settles = refl
 outcome_by false (Some c) p (Some e) apart closed settles = ap (λ o. Some o) (sym settles)

@@ -1,7 +1,6 @@
 -- What the facts alone tell of a log.
-use Rattle.std.specs.Prelude.{◌≡◌, ℕ, IsTrue, cond, List, [], ◌∷◌, ◌++◌, Option, Some, None}
+use Rattle.std.specs.Prelude.{◌≡◌, ℕ, IsTrue, cond, List, [], ◌∷◌, ◌++◌, Option, Some, None, option_map}
 use Rattle.units.specs.Ids.{Id}
-use Rattle.units.specs.Lists.{mapped}
 use Rattle.record.specs.Accepted.{followed}
 use Rattle.record.specs.Facts.{Facts, facts_of, learn, recorded}
 use Rattle.record.specs.Records.{prepared_of, committed_of, is_aborted, ended_of}
@@ -31,7 +30,7 @@ pub record SaysOf (log : List Record) (t : Id) : Type 0 where
   pub promise : ended_of log t ≡ None → standing_promise (recorded (facts_of log) t) ≡ prepared_of log t
   pub decision : ended_of log t ≡ None → standing_decision (recorded (facts_of log) t) ≡ committed_of log t
   pub abort : has_abort (recorded (facts_of log) t) ≡ is_aborted log t
-  pub outcome : outcome_in (recorded (facts_of log) t) ≡ mapped (λ e. e.outcome) (ended_of log t)
+  pub outcome : outcome_in (recorded (facts_of log) t) ≡ option_map (λ e. e.outcome) (ended_of log t)
 
 -- so of each id, in a list whose records each follow those before it
 abbrev pub SaysOfRecords : Type 0

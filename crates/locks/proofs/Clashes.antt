@@ -1,7 +1,8 @@
 -- When two lists of locks clash.
+use Rattle.std.specs.List.{list_any}
 use Rattle.std.proofs.Common.{◌≡◌, Bool, true, false, ◌&&◌, ◌||◌, List, [], ◌∷◌, refl, sym, ap, ◌∙◌, arith, ◌⊎◌, inl, inr}
 use Rattle.std.proofs.lemmas.Bool.Decides.{nat_tests}
-use Rattle.units.specs.Lists.{any, ascends}
+use Rattle.units.specs.Lists.{ascends}
 use Rattle.units.specs.Keys.{same_key}
 use Rattle.units.specs.Locks.{modes_clash, locks_clash, clash, stronger, with_lock, with_locks, lock_before}
 use Rattle.units.specs.declared.lock.Lock.{Lock}
@@ -27,8 +28,8 @@ pub clash_comm : (a b : List Lock) → clash a b ≡ clash b a
 clash_comm [] b = sym (clash_nil b)
 clash_comm (x ∷ xs) b =
     ap (λ t. t || clash xs b) (any-alike (locks_clash x) (λ y. locks_clash y x) (locks_clash_comm x) b)
-    ∙ ap (λ t. any (λ y. locks_clash y x) b || t) (clash_comm xs b)
-    ∙ sym (any_or (λ y. locks_clash y x) (λ y. any (locks_clash y) xs) b)
+    ∙ ap (λ t. list_any (λ y. locks_clash y x) b || t) (clash_comm xs b)
+    ∙ sym (any_or (λ y. locks_clash y x) (λ y. list_any (locks_clash y) xs) b)
 
 -- the stronger of two modes is one of them
 stronger_is : (a b : Mode) → (stronger a b ≡ a) ⊎ (stronger a b ≡ b)
@@ -36,11 +37,11 @@ stronger_is Shared b = inr refl
 stronger_is Exclusive b = inl refl
 
 -- what clashes with neither of two locks of one key clashes with neither's stronger
-stronger_free : (h l : Lock) (others : List Lock) → same_key h.key l.key ≡ true → any (locks_clash l) others ≡ false → any (locks_clash h) others ≡ false
-    → any (locks_clash (record { key = h.key; mode = stronger h.mode l.mode })) others ≡ false
+stronger_free : (h l : Lock) (others : List Lock) → same_key h.key l.key ≡ true → list_any (locks_clash l) others ≡ false → list_any (locks_clash h) others ≡ false
+    → list_any (locks_clash (record { key = h.key; mode = stronger h.mode l.mode })) others ≡ false
 stronger_free h l others same a b = elim (stronger_is h.mode l.mode) [
-  | inl e ↦ ap (λ m. any (locks_clash (record { key = h.key; mode = m })) others) e ∙ b
-  | inr e ↦ ap (λ m. any (locks_clash (record { key = h.key; mode = m })) others) e ∙ ap (λ k. any (locks_clash (record { key = k; mode = l.mode })) others) (same_key-is h.key l.key same) ∙ a
+  | inl e ↦ ap (λ m. list_any (locks_clash (record { key = h.key; mode = m })) others) e ∙ b
+  | inr e ↦ ap (λ m. list_any (locks_clash (record { key = h.key; mode = m })) others) e ∙ ap (λ k. list_any (locks_clash (record { key = k; mode = l.mode })) others) (same_key-is h.key l.key same) ∙ a
 ]
 
 or_false_left : (a b : Bool) → (a || b) ≡ false → a ≡ false
@@ -49,17 +50,17 @@ or_false_left a b h = grind (arith, nat_tests)
 or_false_right : (a b : Bool) → (a || b) ≡ false → b ≡ false
 or_false_right a b h = grind (arith, nat_tests)
 
-clash-with_lock : (held : List Lock) (l : Lock) (others : List Lock) → any (locks_clash l) others ≡ false → clash held others ≡ false → clash (with_lock held l) others ≡ false
+clash-with_lock : (held : List Lock) (l : Lock) (others : List Lock) → list_any (locks_clash l) others ≡ false → clash held others ≡ false → clash (with_lock held l) others ≡ false
 clash-with_lock [] l others a b = grind (arith, nat_tests)
 clash-with_lock (h ∷ hs) l others a b =
-    grind (arith, nat_tests, stronger_free h l others, clash-with_lock hs l others a (or_false_right (any (locks_clash h) others) (clash hs others) b))
+    grind (arith, nat_tests, stronger_free h l others, clash-with_lock hs l others a (or_false_right (list_any (locks_clash h) others) (clash hs others) b))
 
 -- locks that were granted clash with nothing that neither they nor the needs clashed with
 pub clash-with_locks : (held needs others : List Lock) → clash needs others ≡ false → clash held others ≡ false → clash (with_locks held needs) others ≡ false
 clash-with_locks held [] others a b = b
 clash-with_locks held (l ∷ ls) others a b =
-    clash-with_locks (with_lock held l) ls others (or_false_right (any (locks_clash l) others) (clash ls others) a)
-    (clash-with_lock held l others (or_false_left (any (locks_clash l) others) (clash ls others) a) b)
+    clash-with_locks (with_lock held l) ls others (or_false_right (list_any (locks_clash l) others) (clash ls others) a)
+    (clash-with_lock held l others (or_false_left (list_any (locks_clash l) others) (clash ls others) a) b)
 
 -- a lock given anew in another mode stands where it stood
 ascends-stronger : (h : Lock) (m : Mode) (hs : List Lock) → ascends lock_before (h ∷ hs) ≡ true → ascends lock_before (record { key = h.key; mode = m } ∷ hs) ≡ true

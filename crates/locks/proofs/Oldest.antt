@@ -1,7 +1,8 @@
 -- The one that is ready is the oldest waiter that nobody is in the way of.
-use Rattle.std.proofs.Common.{◌≡◌, Bool, true, false, ◌&&◌, not, List, [], ◌∷◌, Option, Some, None, refl, sym, ap, ◌∙◌}
+use Rattle.std.specs.List.{list_any}
+use Rattle.std.proofs.Common.{◌≡◌, Bool, true, false, ◌&&◌, not, List, [], ◌∷◌, Option, Some, None, refl, sym, ap, ◌∙◌, option_map}
 use Rattle.std.proofs.lemmas.Bool.{false≢true}
-use Rattle.units.specs.Lists.{any, first, mapped}
+use Rattle.units.specs.Lists.{first}
 use Rattle.units.specs.Ids.{older}
 use Rattle.units.specs.ById.{IsById}
 use Rattle.units.specs.Locks.{Claim, is_free, is_waiting, blockers, waits_before, ready}
@@ -10,7 +11,7 @@ use Rattle.units.proofs.ListLaws.{all_gives}
 use Rattle.units.proofs.ByIdLaws.{first_none, first_passes, find-first, first_oldest}
 
 -- a list without a member is empty
-empty : (cs : List Claim) → any (λ c. true) cs ≡ false → cs ≡ []
+empty : (cs : List Claim) → list_any (λ c. true) cs ≡ false → cs ≡ []
 empty [] h = refl
 empty (c ∷ cs) h = absurd (false≢true (sym h))
 
@@ -32,7 +33,7 @@ passes_is : (table : List Claim) (c : Claim) → passes table c ≡ true → IsR
 unfolding is_free
 passes_is table c h =
     let both = and_both (is_waiting c) (is_free table c.txn c.needs) h in
-    let free = neither_of (any (λ d. true) (blockers table c.txn c.needs)) (any (λ d. true) (waits_before table c.txn c.needs)) both.1 in
+    let free = neither_of (list_any (λ d. true) (blockers table c.txn c.needs)) (list_any (λ d. true) (waits_before table c.txn c.needs)) both.1 in
     (both.0, empty (blockers table c.txn c.needs) free.0, empty (waits_before table c.txn c.needs) free.1)
 
 -- and one that is ready passes
@@ -40,10 +41,10 @@ is_passed : (table : List Claim) (c : Claim) → IsReady table c → passes tabl
 unfolding is_free
 is_passed table c r =
     ap (λ b. b && is_free table c.txn c.needs) r.0
-    ∙ ap (λ cs. not (any (λ d. true) cs) && not (any (λ d. true) (waits_before table c.txn c.needs))) r.1
-    ∙ ap (λ cs. not (any (λ d. true) cs)) r.2
+    ∙ ap (λ cs. not (list_any (λ d. true) cs) && not (list_any (λ d. true) (waits_before table c.txn c.needs))) r.1
+    ∙ ap (λ cs. not (list_any (λ d. true) cs)) r.2
 
-oldest_of : (table : List Claim) → IsById (λ c. c.txn) table → (o : Option Claim) → first (passes table) table ≡ o → IsOldestReady table (mapped (λ c. c.txn) o)
+oldest_of : (table : List Claim) → IsById (λ c. c.txn) table → (o : Option Claim) → first (passes table) table ≡ o → IsOldestReady table (option_map (λ c. c.txn) o)
 oldest_of table up None e =
     all_gives (λ d. passes table d ≡ false) (λ d. IsReady table d → ⊥) (λ d k r. false≢true (sym k ∙ is_passed table d r)) table (first_none (passes table) table e)
 oldest_of table up (Some c) e = (

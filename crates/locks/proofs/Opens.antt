@@ -1,7 +1,6 @@
 -- What is left of a table without those that a request wounds.
-use Rattle.std.proofs.Common.{◌≡◌, Bool, true, false, ◌&&◌, not, cond, List, [], ◌∷◌, map, refl, sym, ap, ◌∙◌}
+use Rattle.std.proofs.Common.{◌≡◌, Bool, true, false, ◌&&◌, not, cond, List, [], ◌∷◌, map, refl, sym, ap, ◌∙◌, filter}
 use Rattle.std.specs.List.{AllByRecursion}
-use Rattle.units.specs.Lists.{keep}
 use Rattle.units.specs.Ids.{Id, same_id}
 use Rattle.units.specs.ById.{IsById}
 use Rattle.units.specs.Locks.{Claim, wounded, is_free}
@@ -21,17 +20,17 @@ without_claims-others c (id ∷ ids) t differ = rw differ.0 (without_claims-othe
 
 -- the ids of younger claims are others
 ids_differ : (p : Claim → Bool) (c : Claim) (t : List Claim) → AllYounger (λ (d : Claim). d.txn) c.txn t
-    → AllByRecursion (λ id. same_id c.txn id ≡ false) (map (λ d. d.txn) (keep p t))
+    → AllByRecursion (λ id. same_id c.txn id ≡ false) (map (λ d. d.txn) (filter p t))
 ids_differ p c [] young = tt
 ids_differ p c (d ∷ t) young = by_test (p d) (ids_differ p c t young.1)
   where
-    by_test : (b : Bool) → AllByRecursion (λ id. same_id c.txn id ≡ false) (map (λ e. e.txn) (keep p t))
-        → AllByRecursion (λ id. same_id c.txn id ≡ false) (map (λ e. e.txn) (cond b (d ∷ keep p t) (keep p t)))
+    by_test : (b : Bool) → AllByRecursion (λ id. same_id c.txn id ≡ false) (map (λ e. e.txn) (filter p t))
+        → AllByRecursion (λ id. same_id c.txn id ≡ false) (map (λ e. e.txn) (cond b (d ∷ filter p t) (filter p t)))
     by_test true rest = (older_not_same c.txn d.txn young.0, rest)
     by_test false rest = rest
 
 -- without the ids of those that pass a test, those are left that fail it
-left_by_test : (p : Claim → Bool) (t : List Claim) → IsById (λ c. c.txn) t → without_claims t (map (λ c. c.txn) (keep p t)) ≡ keep (λ c. not (p c)) t
+left_by_test : (p : Claim → Bool) (t : List Claim) → IsById (λ c. c.txn) t → without_claims t (map (λ c. c.txn) (filter p t)) ≡ filter (λ c. not (p c)) t
 left_by_test p [] up = refl
 left_by_test p (c ∷ t) up = by_test (p c) (left_by_test p t up.1)
   where
@@ -41,10 +40,10 @@ left_by_test p (c ∷ t) up = by_test (p c) (left_by_test p t up.1)
     gone : without_claim (c ∷ t) c.txn ≡ t
     gone = rw (same_id-refl c.txn) (without_none (λ (d : Claim). d.txn) t c.txn (later_differ (λ (d : Claim). d.txn) c.txn c t (same_id-refl c.txn) young))
 
-    by_test : (b : Bool) → without_claims t (map (λ d. d.txn) (keep p t)) ≡ keep (λ d. not (p d)) t
-        → without_claims (c ∷ t) (map (λ d. d.txn) (cond b (c ∷ keep p t) (keep p t))) ≡ cond (not b) (c ∷ keep (λ d. not (p d)) t) (keep (λ d. not (p d)) t)
-    by_test true e = ap (λ s. without_claims s (map (λ d. d.txn) (keep p t))) gone ∙ e
-    by_test false e = without_claims-others c (map (λ d. d.txn) (keep p t)) t (ids_differ p c t young) ∙ ap (λ s. c ∷ s) e
+    by_test : (b : Bool) → without_claims t (map (λ d. d.txn) (filter p t)) ≡ filter (λ d. not (p d)) t
+        → without_claims (c ∷ t) (map (λ d. d.txn) (cond b (c ∷ filter p t) (filter p t))) ≡ cond (not b) (c ∷ filter (λ d. not (p d)) t) (filter (λ d. not (p d)) t)
+    by_test true e = ap (λ s. without_claims s (map (λ d. d.txn) (filter p t))) gone ∙ e
+    by_test false e = without_claims-others c (map (λ d. d.txn) (filter p t)) t (ids_differ p c t young) ∙ ap (λ s. c ∷ s) e
 
 turned : (a b : Bool) → (a && b) ≡ (b && a)
 turned true true = refl
@@ -55,11 +54,11 @@ turned false false = refl
 -- a request is granted once those that it wounds are gone where nobody else is in its way
 pub opens-is : (t : List Claim) (id : Id) (needs : List Lock) → IsById (λ c. c.txn) t → not (is_kept_out id needs t) ≡ is_free (without_claims t (wounded t id needs)) id needs
 opens-is t id needs up =
-    let left : without_claims t (wounded t id needs) ≡ keep (λ c. not (gives_way id needs c)) t =
+    let left : without_claims t (wounded t id needs) ≡ filter (λ c. not (gives_way id needs c)) t =
     ap (without_claims t) (wounded-is t id needs ∙ ap (map (λ c. c.txn)) (filter-is (gives_way id needs) t)) ∙ left_by_test (gives_way id needs) t up in
     ap not (list_any-is (keeps_out id needs) t
     ∙ any-alike (keeps_out id needs) (λ c. not (gives_way id needs c) && stands_in_way id needs c) (λ c. turned (stands_in_way id needs c) (not (gives_way id needs c))) t
     ∙ sym (any-keep (stands_in_way id needs) (λ c. not (gives_way id needs c)) t)
-    ∙ sym (list_any-is (stands_in_way id needs) (keep (λ c. not (gives_way id needs c)) t)))
-    ∙ sym (is_free-is (keep (λ c. not (gives_way id needs c)) t) id needs)
+    ∙ sym (list_any-is (stands_in_way id needs) (filter (λ c. not (gives_way id needs c)) t)))
+    ∙ sym (is_free-is (filter (λ c. not (gives_way id needs c)) t) id needs)
     ∙ ap (λ s. is_free s id needs) (sym left)

@@ -3,7 +3,6 @@ use Rattle.std.proofs.Common.{◌≡◌, Bool, true, false, ◌&&◌, ◌||◌, 
 use Rattle.std.specs.List.{list_any}
 use Rattle.std.proofs.lemmas.Bool.{false≢true}
 use Rattle.std.proofs.lemmas.Bool.Decides.{nat_tests}
-use Rattle.units.specs.Lists.{any}
 use Rattle.units.specs.Ids.{Id, older}
 use Rattle.units.specs.ById.{IsById}
 use Rattle.units.specs.Locks.{Claim, locks_clash, clash, wounded, is_free}
@@ -26,9 +25,9 @@ one_more false b = refl
 -- what clashes with some locks clashes with the first or with the others
 clash_more : (held : List Lock) (l : Lock) (ls : List Lock) → clash held (l ∷ ls) ≡ (clash held (l ∷ []) || clash held ls)
 clash_more held l ls =
-    any-alike (λ h. any (locks_clash h) (l ∷ ls)) (λ h. any (locks_clash h) (l ∷ []) || any (locks_clash h) ls)
-    (λ h. one_more (locks_clash h l) (any (locks_clash h) ls)) held
-    ∙ any_or (λ h. any (locks_clash h) (l ∷ [])) (λ h. any (locks_clash h) ls) held
+    any-alike (λ h. list_any (locks_clash h) (l ∷ ls)) (λ h. list_any (locks_clash h) (l ∷ []) || list_any (locks_clash h) ls)
+    (λ h. one_more (locks_clash h l) (list_any (locks_clash h) ls)) held
+    ∙ any_or (λ h. list_any (locks_clash h) (l ∷ [])) (λ h. list_any (locks_clash h) ls) held
 
 -- of the same: s, an older one: o, a younger one: y, a firm one: f; it holds (k) or waits (n) in conflict with the one or the others
 keeps_more : (s o y f k l m n : Bool) → (y ≡ true → o ≡ false)
@@ -67,7 +66,7 @@ kept_none true o y f = refl
 kept_none false true y f = refl
 kept_none false false y f = refl
 
-none_passes : (table : List Claim) → any (λ c. false) table ≡ false
+none_passes : (table : List Claim) → list_any (λ c. false) table ≡ false
 none_passes [] = refl
 none_passes (c ∷ cs) = none_passes cs
 
@@ -94,8 +93,8 @@ opens-more table t l ls up =
     ∙ ap not (list_any-is (keeps_out t (l ∷ ls)) table
     ∙ any-alike (keeps_out t (l ∷ ls)) (λ c. keeps_out t (l ∷ []) c || keeps_out t ls c) (kept_more t l ls) table
     ∙ any_or (keeps_out t (l ∷ [])) (keeps_out t ls) table)
-    ∙ neither (any (keeps_out t (l ∷ [])) table) (any (keeps_out t ls) table)
-    ∙ ap (λ b. not b && not (any (keeps_out t ls) table)) (sym (list_any-is (keeps_out t (l ∷ [])) table))
+    ∙ neither (list_any (keeps_out t (l ∷ [])) table) (list_any (keeps_out t ls) table)
+    ∙ ap (λ b. not b && not (list_any (keeps_out t ls) table)) (sym (list_any-is (keeps_out t (l ∷ [])) table))
     ∙ ap (λ b. not (is_kept_out t (l ∷ []) table) && not b) (sym (list_any-is (keeps_out t ls) table))
     ∙ ap (λ b. b && not (is_kept_out t ls table)) (opens-is table t (l ∷ []) up)
     ∙ ap (λ b. opens_in table t (l ∷ []) && b) (opens-is table t ls up)

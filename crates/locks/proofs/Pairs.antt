@@ -1,8 +1,8 @@
 -- The laws of a table, said of each pair of its claims.
 use Rattle.std.proofs.Common.{◌≡◌, Bool, true, false, ◌&&◌, ◌||◌, not, List, refl, sym, ap, ◌∙◌}
-use Rattle.std.specs.List.{AllByRecursion}
+use Rattle.std.specs.List.{AllByRecursion, list_any, list_all}
 use Rattle.std.proofs.lemmas.Bool.{false≢true}
-use Rattle.units.specs.Lists.{any, each, ascends}
+use Rattle.units.specs.Lists.{ascends}
 use Rattle.units.specs.Ids.{same_id, older}
 use Rattle.units.specs.ById.{IsById}
 use Rattle.units.specs.Locks.{Claim, clash, others, blockers, lock_before}
@@ -33,15 +33,15 @@ pub record IsLawfulByPairs (table : List Claim) : Type 0 where
   pub waits : EachPair WaitPair table
 
 -- a test of each pair, as a fact of each pair
-pairs_of_each : (p : Claim → Claim → Bool) (table : List Claim) → each (λ a. each (p a) table) table ≡ true → EachPair (λ a b. p a b ≡ true) table
+pairs_of_each : (p : Claim → Claim → Bool) (table : List Claim) → list_all (λ a. list_all (p a) table) table ≡ true → EachPair (λ a b. p a b ≡ true) table
 pairs_of_each p table h =
-    all_gives (λ a. each (p a) table ≡ true) (λ a. AllByRecursion (λ b. p a b ≡ true) table) (λ a k. all_of_each (p a) table k) table
-    (all_of_each (λ a. each (p a) table) table h)
+    all_gives (λ a. list_all (p a) table ≡ true) (λ a. AllByRecursion (λ b. p a b ≡ true) table) (λ a k. all_of_each (p a) table k) table
+    (all_of_each (λ a. list_all (p a) table) table h)
 
-each_of_pairs : (p : Claim → Claim → Bool) (table : List Claim) → EachPair (λ a b. p a b ≡ true) table → each (λ a. each (p a) table) table ≡ true
+each_of_pairs : (p : Claim → Claim → Bool) (table : List Claim) → EachPair (λ a b. p a b ≡ true) table → list_all (λ a. list_all (p a) table) table ≡ true
 each_of_pairs p table h =
-    each_of_all (λ a. each (p a) table) table
-    (all_gives (λ a. AllByRecursion (λ b. p a b ≡ true) table) (λ a. each (p a) table ≡ true) (λ a k. each_of_all (p a) table k) table h)
+    each_of_all (λ a. list_all (p a) table) table
+    (all_gives (λ a. AllByRecursion (λ b. p a b ≡ true) table) (λ a. list_all (p a) table ≡ true) (λ a k. each_of_all (p a) table k) table h)
 
 pair_gives : (P Q : Claim → Claim → Type 0) → ((a b : Claim) → P a b → Q a b) → (table : List Claim) → EachPair P table → EachPair Q table
 pair_gives P Q h table pairs =
@@ -51,9 +51,9 @@ pair_gives P Q h table pairs =
 abbrev lock_pair : Claim → Claim → Bool
 lock_pair a b = not (not (same_id b.txn a.txn)) || not (clash a.held b.held)
 
-lock_law_by_pairs : (table : List Claim) → keeps_lock_law table ≡ each (λ a. each (lock_pair a) table) table
+lock_law_by_pairs : (table : List Claim) → keeps_lock_law table ≡ list_all (λ a. list_all (lock_pair a) table) table
 lock_law_by_pairs table =
-    each-alike (λ a. not (any (λ b. clash a.held b.held) (others table a.txn))) (λ a. each (lock_pair a) table)
+    each-alike (λ a. not (list_any (λ b. clash a.held b.held) (others table a.txn))) (λ a. list_all (lock_pair a) table)
     (λ a. not_any (λ b. clash a.held b.held) (others table a.txn) ∙ each-keep (λ b. not (clash a.held b.held)) (λ b. not (same_id b.txn a.txn)) table) table
 
 lock_pair-is : (s k : Bool) → (not (not s) || not k) ≡ true → s ≡ false → k ≡ false
@@ -70,10 +70,10 @@ lock_pair-from false true h = sym (h refl)
 abbrev wait_pair : Claim → Claim → Bool
 wait_pair w c = not (not (same_id c.txn w.txn) && clash c.held w.needs) || (older c.txn w.txn || c.firm)
 
-wait_law_by_pairs : (table : List Claim) → keeps_wait_law table ≡ each (λ w. each (wait_pair w) table) table
+wait_law_by_pairs : (table : List Claim) → keeps_wait_law table ≡ list_all (λ w. list_all (wait_pair w) table) table
 wait_law_by_pairs table =
-    each-alike (λ w. each (λ c. older c.txn w.txn || c.firm) (blockers table w.txn w.needs)) (λ w. each (wait_pair w) table)
-    (λ w. ap (each (λ c. older c.txn w.txn || c.firm)) (keep-keep (λ (c : Claim). clash c.held w.needs) (λ c. not (same_id c.txn w.txn)) table)
+    each-alike (λ w. list_all (λ c. older c.txn w.txn || c.firm) (blockers table w.txn w.needs)) (λ w. list_all (wait_pair w) table)
+    (λ w. ap (list_all (λ c. older c.txn w.txn || c.firm)) (keep-keep (λ (c : Claim). clash c.held w.needs) (λ c. not (same_id c.txn w.txn)) table)
     ∙ each-keep (λ c. older c.txn w.txn || c.firm) (λ c. not (same_id c.txn w.txn) && clash c.held w.needs) table) table
 
 wait_pair-is : (s k o : Bool) → (not (not s && k) || o) ≡ true → s ≡ false → k ≡ true → o ≡ true

@@ -1,10 +1,9 @@
 -- The laws of a table hold after each change.
-use Rattle.std.proofs.Common.{◌≡◌, Bool, true, false, ◌||◌, not, cond, List, [], ◌∷◌, map, Option, Some, None, refl, sym, ap, subst, ◌∙◌, arith, ◌⊎◌, inl, inr}
+use Rattle.std.proofs.Common.{◌≡◌, Bool, true, false, ◌||◌, not, cond, List, [], ◌∷◌, map, Option, Some, None, refl, sym, ap, subst, ◌∙◌, arith, ◌⊎◌, inl, inr, filter}
 use Rattle.std.specs.List.{list_any, find, AllByRecursion}
 use Rattle.std.specs.Option.{option_map}
 use Rattle.std.proofs.lemmas.Bool.{false≢true}
 use Rattle.std.proofs.lemmas.Bool.Decides.{nat_tests}
-use Rattle.units.specs.Lists.{keep}
 use Rattle.units.specs.Ids.{Id, same_id, older}
 use Rattle.units.specs.ById.{IsById}
 use Rattle.units.specs.Locks.{Claim, clash, with_locks, ready}
@@ -31,10 +30,10 @@ each_pair-map P Q F g h t pairs fs =
     (λ a row fa. all-map (P a) F (Q (g a)) g (λ b p fb. h a b p fa fb) t row fs) t pairs fs
 
 -- and where claims are taken out
-each_pair-keep : (P : Claim → Claim → Type 0) (keeps : Claim → Bool) (t : List Claim) → EachPair P t → EachPair P (keep keeps t)
+each_pair-keep : (P : Claim → Claim → Type 0) (keeps : Claim → Bool) (t : List Claim) → EachPair P t → EachPair P (filter keeps t)
 each_pair-keep P keeps t pairs =
-    all-keep (λ a. AllByRecursion (P a) (keep keeps t)) keeps t
-    (all_gives (λ a. AllByRecursion (P a) t) (λ a. AllByRecursion (P a) (keep keeps t)) (λ a row. all-keep (P a) keeps t row) t pairs)
+    all-keep (λ a. AllByRecursion (P a) (filter keeps t)) keeps t
+    (all_gives (λ a. AllByRecursion (P a) t) (λ a. AllByRecursion (P a) (filter keeps t)) (λ a row. all-keep (P a) keeps t row) t pairs)
 
 pub all_of_any : (P : Claim → Type 0) → ((x : Claim) → P x) → (t : List Claim) → AllByRecursion P t
 all_of_any P h [] = tt

@@ -5,7 +5,7 @@ use Rattle.std.specs.List.{list_any, filter, find}
 use Rattle.std.specs.Option.{option_map}
 use Rattle.std.proofs.lemmas.Bool.{false≢true}
 use Rattle.std.proofs.lemmas.Bool.Decides.{nat_tests}
-use Rattle.units.specs.Lists.{any, keep, head, mapped}
+use Rattle.units.specs.Lists.{head}
 use Rattle.units.specs.Ids.{Id, same_id, older}
 use Rattle.units.specs.Locks.{Claim, clash, others, may_wound, wounded, is_free, asked, asked_by, is_waiting, ready}
 use Rattle.units.specs.declared.lock.Asked.TheVariants.{Granted, Waits, Wounds}
@@ -30,7 +30,7 @@ wounds_alike true k true f h = absurd (false≢true (sym (h refl)))
 pub wounded-is : (table : List Claim) (t : Id) (needs : List Lock) → wounded table t needs ≡ ids_in_way t needs table
 unfolding wounded
 wounded-is table t needs = ap (map (λ c. c.txn)) (
-    ap (keep (may_wound t)) (keep-keep (λ (c : Claim). clash c.held needs) (λ c. not (same_id c.txn t)) table)
+    ap (filter (may_wound t)) (keep-keep (λ (c : Claim). clash c.held needs) (λ c. not (same_id c.txn t)) table)
     ∙ keep-keep (may_wound t) (λ c. not (same_id c.txn t) && clash c.held needs) table
     ∙ keep-alike (λ c. (not (same_id c.txn t) && clash c.held needs) && may_wound t c) (gives_way t needs)
     (λ c. wounds_alike (same_id c.txn t) (clash c.held needs) (older t c.txn) c.firm (λ o. same_id_comm c.txn t ∙ older_not_same t c.txn o)) table
@@ -54,13 +54,13 @@ is_free-is table t needs =
     let holds : Claim → Bool = λ c. clash c.held needs in
     let waits : Claim → Bool = λ c. older c.txn t && clash c.needs needs in
     let other : Claim → Bool = λ c. not (same_id c.txn t) in
-    let left : any (λ c. true) (keep holds (others table t)) ≡ any (λ c. other c && (holds c && true)) table =
+    let left : list_any (λ c. true) (filter holds (others table t)) ≡ list_any (λ c. other c && (holds c && true)) table =
     any-keep (λ c. true) holds (others table t) ∙ any-keep (λ c. holds c && true) other table in
-    let right : any (λ c. true) (keep waits (others table t)) ≡ any (λ c. other c && (waits c && true)) table =
+    let right : list_any (λ c. true) (filter waits (others table t)) ≡ list_any (λ c. other c && (waits c && true)) table =
     any-keep (λ c. true) waits (others table t) ∙ any-keep (λ c. waits c && true) other table in
-    ap (λ b. not b && not (any (λ c. true) (keep waits (others table t)))) left
-    ∙ ap (λ b. not (any (λ c. other c && (holds c && true)) table) && not b) right
-    ∙ neither (any (λ c. other c && (holds c && true)) table) (any (λ c. other c && (waits c && true)) table)
+    ap (λ b. not b && not (list_any (λ c. true) (filter waits (others table t)))) left
+    ∙ ap (λ b. not (list_any (λ c. other c && (holds c && true)) table) && not b) right
+    ∙ neither (list_any (λ c. other c && (holds c && true)) table) (list_any (λ c. other c && (waits c && true)) table)
     ∙ ap not (sym (any_or (λ c. other c && (holds c && true)) (λ c. other c && (waits c && true)) table)
     ∙ any-alike (λ c. (other c && (holds c && true)) || (other c && (waits c && true))) (stands_in_way t needs)
     (λ c. stands_alike (same_id c.txn t) (clash c.held needs) (older c.txn t) (clash c.needs needs)) table
@@ -127,19 +127,19 @@ unfolding asked
 asked-granted table t needs h k =
     ap (λ ids. asked_by ids (is_free table t needs)) (wounds_none table t needs h) ∙ ap (asked_by []) (is_free-is table t needs ∙ ap not k)
 
-option_map-is : (o : Option Claim) → option_map (λ c. c.txn) o ≡ mapped (λ c. c.txn) o
+option_map-is : (o : Option Claim) → option_map (λ c. c.txn) o ≡ option_map (λ c. c.txn) o
 option_map-is None = refl
 option_map-is (Some c) = refl
 
 pub ready-is : (table : List Claim) → ready table ≡ first_to_go table
 unfolding ready
 ready-is table =
-    ap (λ cs. mapped (λ c. c.txn) (head cs)) (keep-alike (λ c. is_waiting c && is_free table c.txn c.needs) (can_go table)
+    ap (λ cs. option_map (λ c. c.txn) (head cs)) (keep-alike (λ c. is_waiting c && is_free table c.txn c.needs) (can_go table)
     (λ c. ap (λ b. is_waiting c && b) (is_free-is table c.txn c.needs)) table)
-    ∙ ap (mapped (λ c. c.txn)) (sym (find-is (can_go table) table))
+    ∙ ap (option_map (λ c. c.txn)) (sym (find-is (can_go table) table))
     ∙ sym (option_map-is (find (can_go table) table))
 
 -- a list that is not empty has some member
-pub waits_by_length : (needs : List Lock) (n : ℕ) → n ≡ length needs → not (n == 0) ≡ any (λ l. true) needs
+pub waits_by_length : (needs : List Lock) (n : ℕ) → n ≡ length needs → not (n == 0) ≡ list_any (λ l. true) needs
 waits_by_length [] n e = ap (λ m. not (m == 0)) e
 waits_by_length (l ∷ ls) n e = grind (arith, nat_tests)

@@ -1,6 +1,6 @@
 //! Locks that cannot both be held.
+ghost use Rattle.std.specs.List.{list_any};
 ghost use Rattle.std.specs.Prelude.{◌≡◌};
-ghost use Rattle.units.specs.Lists.{any};
 ghost use Rattle.units.specs.Locks.{modes_clash, locks_clash, clash, stronger};
 
 use units::{Lock, Mode};
@@ -30,7 +30,7 @@ fn locks_clash(a: &Lock, b: &Lock) -> bool
 }
 
 fn clashes_with(lock: &Lock, others: &[Lock]) -> bool
-    ensures { result ≡ any (locks_clash lock.now) others.now }
+    ensures { result ≡ list_any (locks_clash lock.now) others.now }
 {
     for other in others {
         if locks_clash(lock, other) {

@@ -1,8 +1,8 @@
 -- The rows and the holds of the served time as a change is made.
-use Rattle.std.proofs.Common.{◌≡◌, ◌∙◌, ℕ, ◌<◌, ◌≤◌, Bool, true, false, not, nat_lt, cond, List, [], ◌∷◌, ◌++◌, length, Option, Some, None, refl, sym, ap, subst, arith}
+use Rattle.std.proofs.Common.{◌≡◌, ◌∙◌, ℕ, ◌<◌, ◌≤◌, Bool, true, false, not, nat_lt, cond, List, [], ◌∷◌, ◌++◌, length, Option, Some, None, refl, sym, ap, subst, arith, filter}
 use Rattle.std.specs.Option.{MatchOption, is_some}
 use Rattle.std.proofs.lemmas.Bool.{false≢true}
-use Rattle.units.specs.Lists.{follow, head, keep, when}
+use Rattle.units.specs.Lists.{follow, head, when}
 use Rattle.units.specs.Ids.{Id, same_id}
 use Rattle.units.specs.Locks.{wounded, with_locks}
 use Rattle.units.specs.declared.lock.Lock.{Lock}
@@ -165,7 +165,7 @@ shorter [] t e = absurd (false≢true e)
 shorter (q ∷ qs) t e = by_test (same_id q.txn t) (short-without_row qs t) (λ k. shorter qs t k) e
   where
     by_test : (b : Bool) → length (without_row qs t) ≤ length qs → (has_phase (λ p. true) qs t ≡ true → length (without_row qs t) < length qs)
-        → when (λ (r : Row). true) (head (cond b (q ∷ keep (λ x. same_id x.txn t) qs) (keep (λ x. same_id x.txn t) qs))) ≡ true
+        → when (λ (r : Row). true) (head (cond b (q ∷ filter (λ x. same_id x.txn t) qs) (filter (λ x. same_id x.txn t) qs))) ≡ true
         → length (cond (not b) (q ∷ without_row qs t) (without_row qs t)) < length (q ∷ qs)
     by_test true short rest k = omega (arith, short)
     by_test false short rest k = omega (arith, rest k)

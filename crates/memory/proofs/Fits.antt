@@ -1,8 +1,8 @@
 -- Who may ask for locks, and what the one that is ready may do.
-use Rattle.std.proofs.Common.{◌≡◌, ℕ, nat_le, nat_lt, Bool, true, false, ◌&&◌, not, List, [], ◌∷◌, length, Option, Some, None, IfSome, refl, sym, ap, subst, ◌∙◌, arith}
+use Rattle.std.specs.List.{list_any}
+use Rattle.std.proofs.Common.{◌≡◌, ℕ, nat_le, nat_lt, Bool, true, false, ◌&&◌, not, List, [], ◌∷◌, length, Option, Some, None, IfSome, refl, sym, ap, subst, ◌∙◌, arith, option_map}
 use Rattle.std.proofs.lemmas.Bool.{false≢true}
 use Rattle.std.proofs.lemmas.Bool.Decides.{nat_tests}
-use Rattle.units.specs.Lists.{any, mapped}
 use Rattle.units.specs.Ids.{Id, same_id}
 use Rattle.units.specs.ById.{IsById, find_member}
 use Rattle.units.specs.Locks.{Claim, is_free, is_waiting, wounded, blockers, ready}
@@ -36,7 +36,7 @@ may_ask_roomy b t limit room may = by_row (find_row b.memory.rows t) refl may
     by_row : (o : Option Row) → find_row rows t ≡ o → elim o as (λ _. Bool) [ None ↦ true | Some r ↦ is_reading r.phase ] ≡ true
         → elim o as (λ _. Bool) [ None ↦ nat_lt (length rows) 1024 | Some r ↦ is_reading r.phase ] ≡ true
     by_row None e m =
-        let absent : any (λ r. same_id r.txn t) rows ≡ false =
+        let absent : list_any (λ r. same_id r.txn t) rows ≡ false =
         any-first (λ r. same_id r.txn t) rows ∙ ap (λ (o : Option Row). elim o as (λ _. Bool) [ None ↦ false | Some r ↦ true ]) e in
         let counted : (nat_le b.capacity (length rows) && not false) ≡ false = ap (λ a. nat_le b.capacity (length rows) && not a) (sym absent) ∙ room in
         subst (λ n. nat_lt (length rows) n ≡ true) limit (roomy b.capacity (length rows) counted)
@@ -54,7 +54,7 @@ may_ask_below rows t few may = by_row (find_row rows t) may
 -- ---- the one that is ready
 
 -- nobody is in the way of a request that is free
-none_there : (cs : List Claim) (more : Bool) → (not (any (λ (c : Claim). true) cs) && more) ≡ true → cs ≡ []
+none_there : (cs : List Claim) (more : Bool) → (not (list_any (λ (c : Claim). true) cs) && more) ≡ true → cs ≡ []
 none_there [] more e = refl
 none_there (c ∷ cs) more e = absurd (false≢true e)
 
@@ -63,7 +63,7 @@ unfolding is_free wounded
 nobody_wounded table t needs e = rw (none_there (blockers table t needs) _ e) refl
 
 -- who waits reads
-waits_reading : (phase : Phase) → any (λ (l : Lock). true) (needs_of phase) ≡ true → is_reading phase ≡ true
+waits_reading : (phase : Phase) → list_any (λ (l : Lock). true) (needs_of phase) ≡ true → is_reading phase ≡ true
 waits_reading Idle e = refl
 waits_reading (WaitsRead k) e = refl
 waits_reading (WaitsPrepare c rs ws) e = refl
@@ -82,10 +82,10 @@ waiting_row rows t c there waits = by_row (find_row rows t) refl
 
     by_row : (o : Option Row) → find_row rows t ≡ o → (r : Row) × (o ≡ Some r) × (is_reading r.phase ≡ true)
     by_row None e =
-        let gone : Some c ≡ None = sym there ∙ claims-find_row rows t ∙ ap (mapped claim_of) e in
+        let gone : Some c ≡ None = sym there ∙ claims-find_row rows t ∙ ap (option_map claim_of) e in
         cc
     by_row (Some r) e =
-        let same : c ≡ claim_of r = some_is (claim_of r) (sym there ∙ claims-find_row rows t ∙ ap (mapped claim_of) e) in
+        let same : c ≡ claim_of r = some_is (claim_of r) (sym there ∙ claims-find_row rows t ∙ ap (option_map claim_of) e) in
         (r, refl, waits_reading r.phase (subst (λ (d : Claim). is_waiting d ≡ true) same waits))
 
 -- it may go on, and nobody is ended for it

@@ -1,8 +1,8 @@
 -- The holds of the safe time beside the rows, as a row is put in or taken out.
-use Rattle.std.proofs.Common.{◌≡◌, ℕ, suc, ◌+◌, ◌<◌, ◌≤◌, Bool, true, false, cond, nat_eq, not, List, [], ◌∷◌, ◌++◌, length, Option, Some, None, refl, sym, ap, ◌∙◌, arith}
+use Rattle.std.proofs.Common.{◌≡◌, ℕ, suc, ◌+◌, ◌<◌, ◌≤◌, Bool, true, false, cond, nat_eq, not, List, [], ◌∷◌, ◌++◌, length, Option, Some, None, refl, sym, ap, ◌∙◌, arith, filter, option_to_list}
 use Rattle.std.proofs.lemmas.Bool.Decides.{nat_tests}
 use Rattle.std.specs.List.{AllByRecursion}
-use Rattle.units.specs.Lists.{count, follow, head, keep, listed}
+use Rattle.units.specs.Lists.{count, follow, head}
 use Rattle.units.specs.Ids.{Id, same_id, older}
 use Rattle.units.specs.ById.{IsById}
 use Rattle.units.proofs.IdLaws.{older_total, older-trans, older_not_same, same_id_comm}
@@ -22,7 +22,7 @@ holding_safe last holds rows ended same = order_does_not_matter last holds (stam
 -- ---- how often rows hold a timestamp
 
 abbrev held_by : (ℕ → Bool) → Option ℕ → ℕ
-held_by p o = count p (listed o)
+held_by p o = count p (option_to_list o)
 
 abbrev held_in : (ℕ → Bool) → List Row → ℕ
 held_in p rows = count p (stamps_held rows)
@@ -56,7 +56,7 @@ counted_with p (q ∷ qs) r up = by_tests (same_id q.txn r.txn) (older q.txn r.t
     by_tests : (a b : Bool) → same_id q.txn r.txn ≡ a → older q.txn r.txn ≡ b
         → held_in p (with_row qs r) + held_by p (stamp_held qs r.txn) ≡ held_in p qs + held_by p (held_stamp r.phase)
         → held_in p (cond a (r ∷ qs) (cond b (q ∷ with_row qs r) (r ∷ q ∷ qs)))
-        + held_by p (follow (head (cond a (q ∷ keep (λ x. same_id x.txn r.txn) qs) (keep (λ x. same_id x.txn r.txn) qs))) (λ x. held_stamp x.phase))
+        + held_by p (follow (head (cond a (q ∷ filter (λ x. same_id x.txn r.txn) qs) (filter (λ x. same_id x.txn r.txn) qs))) (λ x. held_stamp x.phase))
         ≡ held_in p (q ∷ qs) + held_by p (held_stamp r.phase)
     by_tests true b same before rest = omega (arith, counted_row p r qs, counted_row p q qs)
     by_tests false true same before rest = omega (arith, counted_row p q (with_row qs r), counted_row p q qs, rest)
@@ -76,7 +76,7 @@ counted_without p (q ∷ qs) t up = by_test (same_id q.txn t) refl (counted_with
   where
     by_test : (a : Bool) → same_id q.txn t ≡ a → held_in p (without_row qs t) + held_by p (stamp_held qs t) ≡ held_in p qs
         → held_in p (cond (not a) (q ∷ without_row qs t) (without_row qs t))
-        + held_by p (follow (head (cond a (q ∷ keep (λ x. same_id x.txn t) qs) (keep (λ x. same_id x.txn t) qs))) (λ x. held_stamp x.phase))
+        + held_by p (follow (head (cond a (q ∷ filter (λ x. same_id x.txn t) qs) (filter (λ x. same_id x.txn t) qs))) (λ x. held_stamp x.phase))
         ≡ held_in p (q ∷ qs)
     by_test true same rest =
         let none : find_row qs t ≡ None = none_of qs t (later_differ (λ (x : Row). x.txn) t q qs same (later_are_younger (λ (x : Row). x.txn) q qs up)) in

@@ -1,9 +1,10 @@
 -- What the readers of a state and its planners say of the rows.
-use Rattle.std.proofs.Common.{◌≡◌, ℕ, nat_le, Bool, true, false, ◌&&◌, ◌||◌, not, cond, List, [], ◌∷◌, length, drop, get_or, ◌<◌, ◌+◌, Option, Some, None, Result, Ok, Err, IfOk, IfErr, refl, sym, ap, subst, ◌∙◌}
+use Rattle.std.specs.List.{list_any}
+use Rattle.std.proofs.Common.{◌≡◌, ℕ, nat_le, Bool, true, false, ◌&&◌, ◌||◌, not, cond, List, [], ◌∷◌, length, drop, get_or, ◌<◌, ◌+◌, Option, Some, None, Result, Ok, Err, IfOk, IfErr, refl, sym, ap, subst, ◌∙◌, filter}
 use Rattle.std.specs.Option.{MatchOption, is_some}
 use Rattle.std.proofs.lemmas.Bool.{false≢true}
 use Rattle.std.proofs.lemmas.List.{at_drop_more}
-use Rattle.units.specs.Lists.{any, head, keep, first}
+use Rattle.units.specs.Lists.{head, first}
 use Rattle.units.specs.Ids.{Id, same_id, has_id}
 use Rattle.units.specs.ById.{IsById}
 use Rattle.units.specs.Locks.{Claim, is_free, exclusive}
@@ -77,12 +78,12 @@ planned-past k t plan past result e made = subst (λ s. IsPlanned k (plan s) res
 -- ---- whether there is room
 
 -- a transaction has a row where one is found
-pub any-first : (p : Row → Bool) (rows : List Row) → any p rows ≡ elim (first p rows) as (λ _. Bool) [ None ↦ false | Some r ↦ true ]
+pub any-first : (p : Row → Bool) (rows : List Row) → list_any p rows ≡ elim (first p rows) as (λ _. Bool) [ None ↦ false | Some r ↦ true ]
 any-first p [] = refl
 any-first p (q ∷ qs) = by_test (p q) (any-first p qs)
   where
-    by_test : (b : Bool) → any p qs ≡ elim (first p qs) as (λ _. Bool) [ None ↦ false | Some r ↦ true ]
-        → (b || any p qs) ≡ elim (head (cond b (q ∷ keep p qs) (keep p qs))) as (λ _. Bool) [ None ↦ false | Some r ↦ true ]
+    by_test : (b : Bool) → list_any p qs ≡ elim (first p qs) as (λ _. Bool) [ None ↦ false | Some r ↦ true ]
+        → (b || list_any p qs) ≡ elim (head (cond b (q ∷ filter p qs) (filter p qs))) as (λ _. Bool) [ None ↦ false | Some r ↦ true ]
     by_test true e = refl
     by_test false e = e
 
@@ -91,7 +92,7 @@ crowded_by : (b : Before) (t : Id) (o : Option Row) → find_row b.memory.rows t
 crowded_by b t o e full =
     ap (λ (p : Option Row). not (elim p as (λ _. Bool) [ None ↦ false | Some r ↦ true ])) (sym e)
     ∙ ap not (sym (any-first (λ r. same_id r.txn t) b.memory.rows))
-    ∙ ap (λ a. a && not (any (λ r. same_id r.txn t) b.memory.rows)) full
+    ∙ ap (λ a. a && not (list_any (λ r. same_id r.txn t) b.memory.rows)) full
 
 -- in a full table, by what the search for its row finds
 pub crowded-search : {X : Type 0} (b : Before) (t : Id) (o : Option X) (is_none : Bool) (seen : X → Row)

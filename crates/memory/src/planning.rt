@@ -1,7 +1,7 @@
 //! The plans of which every step is one.
-ghost use Rattle.std.specs.Prelude.{◌≡◌, ◌≤◌, ◌++◌, ◌∷◌, [], true, Some, None, Ok, IfOk, IfErr, MatchResult};
+ghost use Rattle.std.specs.List.{list_all};
+ghost use Rattle.std.specs.Prelude.{◌≡◌, ◌≤◌, ◌++◌, ◌∷◌, [], true, Some, None, Ok, IfOk, IfErr, MatchResult, option_to_list};
 ghost use Rattle.units.specs.Locks.{exclusive};
-ghost use Rattle.units.specs.Lists.{each, listed};
 ghost use Rattle.protocol.specs.Rows.{find_row, held_in};
 ghost use Rattle.protocol.specs.Outputs.{refused_vote};
 ghost use Rattle.protocol.specs.Plan.{Keeps, replies, ends, drops, votes_of};
@@ -194,7 +194,7 @@ impl State {
           change = change_of self.now.memory.rows request.needs.items logged request.change;
           logged = logged;
           last = last;
-          outbox = votes_of self.now.setup.shard self.now.memory.rows request.wounded ++ listed reply;
+          outbox = votes_of self.now.setup.shard self.now.memory.rows request.wounded ++ option_to_list reply;
         }) }
         ensures fit { IfOk result (IsFit self.now) }
         ensures memory { IfErr result (λ fault. fault ≡ Fault.Memory) }

@@ -1,7 +1,7 @@
 //! What a shard keeps in memory.
+ghost use Rattle.std.specs.List.{list_all};
 ghost use Rattle.std.specs.Prelude.{◌≡◌, ◌≤◌, ◌^◌, ◌<◌, [], true, false, Some, None, MatchOption, IfSome, IfOk, IfErr};
 ghost use Rattle.std.specs.Option.{option_copied};
-ghost use Rattle.units.specs.Lists.{each};
 ghost use Rattle.units.specs.LockLaws.{IsLawfulTable};
 ghost use Rattle.units.specs.Locks.{exclusive, holds, ready};
 ghost use Rattle.units.specs.Versions.{latest, at_time, above_versions};
@@ -184,7 +184,7 @@ impl State {
 
     /// The transaction holds each of the keys.
     pub fn holds_all(&self, txn: TxnId, keys: &Keys) -> bool
-        ensures { result ≡ each (holds (held_in self.now.memory.rows txn)) keys.now }
+        ensures { result ≡ list_all (holds (held_in self.now.memory.rows txn)) keys.now }
     {
         self.rows.holds_all(txn, keys)
     }

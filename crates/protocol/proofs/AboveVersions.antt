@@ -1,11 +1,10 @@
 -- A timestamp above the versions of what is written: it is so where all versions are lower, and stays so where versions of
 -- other keys come. What two rows hold alone are different keys.
 use Rattle.std.proofs.Common.{◌≡◌, ℕ, ◌<◌, ◌≤◌, Bool, true, false, not, ◌&&◌, ◌||◌, nat_lt, nat_le, List, [], ◌∷◌, ◌++◌, Some, refl, sym, ap, ◌∙◌, arith}
-use Rattle.std.specs.Prelude.{IsTrue}
-use Rattle.std.specs.List.{AllByRecursion}
+use Rattle.std.specs.Prelude.{IsTrue, option_map}
+use Rattle.std.specs.List.{AllByRecursion, list_any, list_all}
 use Rattle.std.proofs.lemmas.Bool.{false≢true, and_parts, or_left, or_right, or_parts}
 use Rattle.std.proofs.lemmas.Bool.Decides.{nat_tests}
-use Rattle.units.specs.Lists.{any, each, mapped}
 use Rattle.units.specs.Ids.{Id, same_id}
 use Rattle.units.specs.ById.{find_member}
 use Rattle.units.specs.Keys.{Bytes, same_key}
@@ -27,7 +26,7 @@ use Rattle.protocol.specs.Sound.{holds_alone, holds_writes, is_exclusive}
 use Rattle.protocol.proofs.RowTable.{claims-find_row}
 
 -- a test that gives another
-pub each_gives : {A : Type 0} (p q : A → Bool) → ((x : A) → p x ≡ true → q x ≡ true) → (xs : List A) → each p xs ≡ true → each q xs ≡ true
+pub each_gives : {A : Type 0} (p q : A → Bool) → ((x : A) → p x ≡ true → q x ≡ true) → (xs : List A) → list_all p xs ≡ true → list_all q xs ≡ true
 each_gives p q h xs e = each_of_all q xs (all_gives (λ x. p x ≡ true) (λ x. q x ≡ true) h xs (all_of_each p xs e))
 
 -- ---- timestamps and versions
@@ -36,7 +35,7 @@ each_gives p q h xs e = each_of_all q xs (all_gives (λ x. p x ≡ true) (λ x. 
 abbrev lower : ℕ → Bytes → Install → Bool
 lower at k i = not (same_key i.key k) || nat_lt i.at at
 
-above_key : (installs : List Install) (at : ℕ) (k : Bytes) → each (λ i. nat_lt i.at at) (of_key installs k) ≡ each (lower at k) installs
+above_key : (installs : List Install) (at : ℕ) (k : Bytes) → list_all (λ i. nat_lt i.at at) (of_key installs k) ≡ list_all (lower at k) installs
 above_key installs at k = each-keep (λ (i : Install). nat_lt i.at at) (λ (i : Install). same_key i.key k) installs
 
 lower_later : (at s : ℕ) (i : Install) → at ≤ s → nat_lt i.at at ≡ true → nat_lt i.at s ≡ true
@@ -45,46 +44,46 @@ lower_later at s i h e = grind (arith, nat_tests)
 -- a later timestamp is above too
 pub above_later : (installs : List Install) (at s : ℕ) (ws : List Write) → at ≤ s → IsTrue (above_versions installs at ws) → IsTrue (above_versions installs s ws)
 above_later installs at s ws h e =
-    each_gives (λ (w : Write). each (λ i. nat_lt i.at at) (of_key installs w.key)) (λ (w : Write). each (λ i. nat_lt i.at s) (of_key installs w.key))
+    each_gives (λ (w : Write). list_all (λ i. nat_lt i.at at) (of_key installs w.key)) (λ (w : Write). list_all (λ i. nat_lt i.at s) (of_key installs w.key))
     (λ w. each_gives (λ (i : Install). nat_lt i.at at) (λ (i : Install). nat_lt i.at s) (λ i. lower_later at s i h) (of_key installs w.key)) ws e
 
 below_last : (last at n : ℕ) → last < at → nat_le n last ≡ true → nat_lt n at ≡ true
 below_last last at n h e = grind (arith, nat_tests)
 
-each_of_any : {A : Type 0} (p : A → Bool) → ((x : A) → p x ≡ true) → (xs : List A) → each p xs ≡ true
+each_of_any : {A : Type 0} (p : A → Bool) → ((x : A) → p x ≡ true) → (xs : List A) → list_all p xs ≡ true
 each_of_any p h [] = refl
-each_of_any p h (x ∷ xs) = ap (λ b. b && each p xs) (h x) ∙ each_of_any p h xs
+each_of_any p h (x ∷ xs) = ap (λ b. b && list_all p xs) (h x) ∙ each_of_any p h xs
 
 -- a timestamp above all versions is above those of each key
-pub above_all : (installs : List Install) (last at : ℕ) (ws : List Write) → last < at → IsTrue (each (λ i. nat_le i.at last) installs)
+pub above_all : (installs : List Install) (last at : ℕ) (ws : List Write) → last < at → IsTrue (list_all (λ i. nat_le i.at last) installs)
     → IsTrue (above_versions installs at ws)
 above_all installs last at ws h e =
-    each_of_any (λ (w : Write). each (λ i. nat_lt i.at at) (of_key installs w.key))
+    each_of_any (λ (w : Write). list_all (λ i. nat_lt i.at at) (of_key installs w.key))
     (λ w. above_key installs at w.key
     ∙ each_gives (λ (i : Install). nat_le i.at last) (lower at w.key) (λ i k. or_right (not (same_key i.key w.key)) (nat_lt i.at at) (below_last last at i.at h k)) installs e) ws
 
 -- no write is of the key
 abbrev none_of_key : List Write → Bytes → Bool
-none_of_key ws k = each (λ w. not (same_key w.key k)) ws
+none_of_key ws k = list_all (λ w. not (same_key w.key k)) ws
 
-pub each_append : {A : Type 0} (p : A → Bool) (xs ys : List A) → each p xs ≡ true → each p ys ≡ true → each p (xs ++ ys) ≡ true
+pub each_append : {A : Type 0} (p : A → Bool) (xs ys : List A) → list_all p xs ≡ true → list_all p ys ≡ true → list_all p (xs ++ ys) ≡ true
 each_append p [] ys e f = f
 each_append p (x ∷ xs) ys e f = grind (arith, nat_tests, each_append p xs ys)
 
-others_lower : (ws : List Write) (s at : ℕ) (k : Bytes) → none_of_key ws k ≡ true → each (lower at k) (versions ws s) ≡ true
+others_lower : (ws : List Write) (s at : ℕ) (k : Bytes) → none_of_key ws k ≡ true → list_all (lower at k) (versions ws s) ≡ true
 others_lower [] s at k e = refl
 others_lower (w ∷ ws) s at k e =
     let p = and_parts (not (same_key w.key k)) (none_of_key ws k) e in
-    ap (λ b. b && each (lower at k) (versions ws s)) (or_left (not (same_key w.key k)) (nat_lt s at) p.0) ∙ others_lower ws s at k p.1
+    ap (λ b. b && list_all (lower at k) (versions ws s)) (or_left (not (same_key w.key k)) (nat_lt s at) p.0) ∙ others_lower ws s at k p.1
 
 -- versions of other keys leave it above
-pub above_more : (installs : List Install) (at s : ℕ) (ws others : List Write) → each (λ w. none_of_key others w.key) ws ≡ true
+pub above_more : (installs : List Install) (at s : ℕ) (ws others : List Write) → list_all (λ w. none_of_key others w.key) ws ≡ true
     → IsTrue (above_versions installs at ws) → IsTrue (above_versions (installs ++ versions others s) at ws)
 above_more installs at s [] others differ e = refl
 above_more installs at s (w ∷ ws) others differ e =
-    let d = and_parts (none_of_key others w.key) (each (λ w. none_of_key others w.key) ws) differ in
-    let p = and_parts (each (λ i. nat_lt i.at at) (of_key installs w.key)) (above_versions installs at ws) e in
-    let now : each (λ i. nat_lt i.at at) (of_key (installs ++ versions others s) w.key) ≡ true =
+    let d = and_parts (none_of_key others w.key) (list_all (λ w. none_of_key others w.key) ws) differ in
+    let p = and_parts (list_all (λ i. nat_lt i.at at) (of_key installs w.key)) (above_versions installs at ws) e in
+    let now : list_all (λ i. nat_lt i.at at) (of_key (installs ++ versions others s) w.key) ≡ true =
     above_key (installs ++ versions others s) at w.key
     ∙ each_append (lower at w.key) installs (versions others s) (sym (above_key installs at w.key) ∙ p.0) (others_lower others s at w.key d.0) in
     ap (λ b. b && above_versions (installs ++ versions others s) at ws) now ∙ above_more installs at s ws others d.1 p.1
@@ -93,7 +92,7 @@ above_more installs at s (w ∷ ws) others differ e =
 
 -- a lock of a key held alone is in conflict with each of that key
 alone_clashes : (l : Lock) (held : List Lock) (k : Bytes) → same_key l.key k ≡ true → is_exclusive l.mode ≡ true → holds_alone held k ≡ true
-    → any (locks_clash l) held ≡ true
+    → list_any (locks_clash l) held ≡ true
 alone_clashes l [] k e x h = absurd (false≢true h)
 alone_clashes l (m ∷ ms) k e x h = by_test (same_key m.key k) refl h (λ g. alone_clashes l ms k e x g)
   where
@@ -105,8 +104,8 @@ alone_clashes l (m ∷ ms) k e x h = by_test (same_key m.key k) refl h (λ g. al
     one_key f = ap (λ z. same_key z m.key) (same_key-is l.key k e) ∙ ap (same_key k) (same_key-is m.key k f) ∙ same_key-refl k
 
     by_test : (b : Bool) → same_key m.key k ≡ b → ((b && is_exclusive m.mode) || holds_alone ms k) ≡ true
-        → (holds_alone ms k ≡ true → any (locks_clash l) ms ≡ true) → any (locks_clash l) (m ∷ ms) ≡ true
-    by_test true f g rest = ap (λ b. (b && modes_clash l.mode m.mode) || any (locks_clash l) ms) (one_key f) ∙ or_left _ _ (conflict l.mode x)
+        → (holds_alone ms k ≡ true → list_any (locks_clash l) ms ≡ true) → list_any (locks_clash l) (m ∷ ms) ≡ true
+    by_test true f g rest = ap (λ b. (b && modes_clash l.mode m.mode) || list_any (locks_clash l) ms) (one_key f) ∙ or_left _ _ (conflict l.mode x)
     by_test false f g rest = or_right (locks_clash l m) _ (rest g)
 
 -- what two hold alone without conflict are different keys
@@ -119,8 +118,8 @@ alone_differs (l ∷ ls) others k free h o =
         → (clash ls others ≡ false → holds_alone ls k ≡ true → false ≡ true) → false ≡ true
     by_test true f g rest =
         let p = and_parts (same_key l.key k) (is_exclusive l.mode) f in
-        sym ((or_parts (any (locks_clash l) others) (clash ls others) free).0) ∙ alone_clashes l others k p.0 p.1 o
-    by_test false f g rest = rest ((or_parts (any (locks_clash l) others) (clash ls others) free).1) g
+        sym ((or_parts (list_any (locks_clash l) others) (clash ls others) free).0) ∙ alone_clashes l others k p.0 p.1 o
+    by_test false f g rest = rest ((or_parts (list_any (locks_clash l) others) (clash ls others) free).1) g
 
 one_apart : (held others : List Lock) (ws : List Write) (k : Bytes) → clash held others ≡ false → holds_alone held k ≡ true → holds_writes others ws ≡ true
     → none_of_key ws k ≡ true
@@ -137,7 +136,7 @@ one_apart held others (w ∷ ws) k free h o =
 
 -- what two write without conflict are different keys
 pub writes_apart : (held others : List Lock) (ws vs : List Write) → clash held others ≡ false → holds_writes held ws ≡ true → holds_writes others vs ≡ true
-    → each (λ w. none_of_key vs w.key) ws ≡ true
+    → list_all (λ w. none_of_key vs w.key) ws ≡ true
 writes_apart held others ws vs free h o =
     each_gives (λ (w : Write). holds_alone held w.key) (λ (w : Write). none_of_key vs w.key) (λ w a. one_apart held others vs w.key free a o) ws h
 
@@ -145,8 +144,8 @@ writes_apart held others ws vs free h o =
 pub rows_apart : (rows : List Row) (t u : Id) (r q : Row) → IsLawfulTable (claims rows) → find_row rows t ≡ Some r → find_row rows u ≡ Some q → same_id u t ≡ false
     → clash r.held q.held ≡ false
 rows_apart rows t u r q lawful found other differ =
-    let there : find_member (λ (c : Claim). c.txn) (claims rows) t ≡ Some (claim_of r) = claims-find_row rows t ∙ ap (mapped claim_of) found in
-    let others : find_member (λ (c : Claim). c.txn) (claims rows) u ≡ Some (claim_of q) = claims-find_row rows u ∙ ap (mapped claim_of) other in
+    let there : find_member (λ (c : Claim). c.txn) (claims rows) t ≡ Some (claim_of r) = claims-find_row rows t ∙ ap (option_map claim_of) found in
+    let others : find_member (λ (c : Claim). c.txn) (claims rows) u ≡ Some (claim_of q) = claims-find_row rows u ∙ ap (option_map claim_of) other in
     let row : AllByRecursion (LockPair (claim_of r)) (claims rows) =
     found_all (λ a. AllByRecursion (LockPair a) (claims rows)) (λ (c : Claim). c.txn) (claims rows) t (claim_of r) ((by_pairs (claims rows) lawful).locks) there in
     let pair : LockPair (claim_of r) (claim_of q) = found_all (LockPair (claim_of r)) (λ (c : Claim). c.txn) (claims rows) u (claim_of q) row others in

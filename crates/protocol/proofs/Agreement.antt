@@ -1,8 +1,8 @@
 -- What the record of a transaction is where its row stands by one, and where it has none.
+use Rattle.std.specs.List.{list_any}
 use Rattle.std.proofs.Common.{◌≡◌, ℕ, ◌≤◌, Bool, true, List, Option, Some, None, refl, sym, ap, subst, ◌∙◌, arith}
 use Rattle.std.proofs.lemmas.Bool.{false≢true}
 use Rattle.std.proofs.lemmas.Bool.Decides.{nat_tests}
-use Rattle.units.specs.Lists.{any}
 use Rattle.units.specs.Ids.{Id, same_id}
 use Rattle.units.specs.declared.lock.Lock.{Lock}
 use Rattle.units.specs.declared.writes.Install.{Install}
@@ -39,7 +39,7 @@ by_parts installs last (HasClosed c o) None ended a e = absurd (false≢true e)
 pub unrecorded : (b : Before) (t : Id) → Sound b → is_undecided (stands b t) ≡ true → recorded b.facts t ≡ Unrecorded
 unfolding standing
 unrecorded b t sound e =
-    by_parts b.facts.installs b.memory.last (recorded b.facts t) (find_row b.memory.rows t) (any (same_id t) b.memory.ended) (sound.agrees t) e
+    by_parts b.facts.installs b.memory.last (recorded b.facts t) (find_row b.memory.rows t) (list_any (same_id t) b.memory.ended) (sound.agrees t) e
 
 -- the promise by which a row stands
 pub record PromiseOf (b : Before) (t : Id) (held : List Lock) (c at : ℕ) : Type 0 where

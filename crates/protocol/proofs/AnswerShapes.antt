@@ -1,8 +1,9 @@
 -- The plans of votes, outcomes, givings up and questions have a shape.
+use Rattle.std.specs.List.{list_all}
 use Rattle.std.proofs.Common.{refl, ap, ◌∙◌}
 use Rattle.std.specs.Prelude.{ℕ, ◌≡◌, true, false, ◌&&◌, nat_eq, List, [], ◌∷◌, Option, Some, None, Ok}
 use Rattle.std.proofs.lemmas.Bool.{and_parts, and_from}
-use Rattle.units.specs.Lists.{each, head, when}
+use Rattle.units.specs.Lists.{head, when}
 use Rattle.units.specs.Ids.{Id}
 use Rattle.units.specs.Keys.{Bytes}
 use Rattle.units.specs.Locks.{holds}
@@ -27,10 +28,10 @@ unfolding plan_count
 shaped_count b n t None latest ps rs ws votes held e = shaped_abort b t ps (ap is_undecided e)
 shaped_count b n t (Some p) latest ps rs ws votes held e =
     let same : held_in b.memory.rows t ≡ held = held_at b t held (Collecting latest ps rs ws votes) e in
-    let fitting : all_fit b → (when (nat_eq b.shard) (head ps) && (each (holds held) rs && holds_writes held ws)) ≡ true =
+    let fitting : all_fit b → (when (nat_eq b.shard) (head ps) && (list_all (holds held) rs && holds_writes held ws)) ≡ true =
     fits_at b t held (Collecting latest ps rs ws votes) e in
     let first : all_fit b → when (nat_eq b.shard) (head ps) ≡ true = λ f. (and_parts _ _ (fitting f)).0 in
-    let read : all_fit b → reads_held b t rs = λ f. ap (λ ls. each (holds ls) rs) same ∙ (and_parts _ _ (and_parts _ _ (fitting f)).1).0 in
+    let read : all_fit b → reads_held b t rs = λ f. ap (λ ls. list_all (holds ls) rs) same ∙ (and_parts _ _ (and_parts _ _ (fitting f)).1).0 in
     let alone : all_fit b → holds_writes (granted_to b t [] []) ws ≡ true =
     λ f. ap (λ ls. holds_writes ls ws) same ∙ (and_parts _ _ (and_parts _ _ (fitting f)).1).1 in
     let room : is_crowded b t ≡ false = room_at b t _ (row_at b t held (Collecting latest ps rs ws votes) e) in

@@ -1,10 +1,9 @@
 -- The shape of a plan that is chosen by tests, and what the standing of a transaction says of its row.
 use Rattle.std.proofs.Common.{refl, ap, ◌∙◌, arith}
 use Rattle.std.specs.Prelude.{ℕ, ◌≡◌, Bool, true, false, nat_eq, cond, List, [], ◌∷◌, Option, Some, None, Ok, Err}
-use Rattle.std.specs.List.{AllByRecursion}
+use Rattle.std.specs.List.{AllByRecursion, list_any, list_all}
 use Rattle.std.proofs.lemmas.Bool.Decides.{nat_tests}
 use Rattle.std.proofs.lemmas.Bool.{false≢true, and_parts}
-use Rattle.units.specs.Lists.{any, each}
 use Rattle.units.specs.Ids.{Id, same_id}
 use Rattle.units.specs.ById.{IsById}
 use Rattle.units.specs.Keys.{Bytes}
@@ -109,7 +108,7 @@ pub held_unknown : (b : Before) (t : Id) → stands b t ≡ IsUnknown → held_i
 unfolding standing
 held_unknown b t e = by_row (find_row b.memory.rows t) e
   where
-    by_row : (o : Option Row) → standing_by o (recorded b.facts t) (any (same_id t) b.memory.ended) ≡ IsUnknown → held_by o ≡ []
+    by_row : (o : Option Row) → standing_by o (recorded b.facts t) (list_any (same_id t) b.memory.ended) ≡ IsUnknown → held_by o ≡ []
     by_row None e = refl
     by_row (Some r) e = cc
 
@@ -117,7 +116,7 @@ held_unknown b t e = by_row (find_row b.memory.rows t) e
 pub reads_still : (b : Before) (t : Id) (epoch : ℕ) (rs : List Bytes) (held : List Lock) → held_in b.memory.rows t ≡ held → still_stand b epoch rs held ≡ true
     → reads_held b t rs
 reads_still b t epoch [] held same e = refl
-reads_still b t epoch (k ∷ ks) held same e = ap (λ ls. each (holds ls) (k ∷ ks)) same ∙ (and_parts (nat_eq epoch b.facts.epoch) (each (holds held) (k ∷ ks)) e).1
+reads_still b t epoch (k ∷ ks) held same e = ap (λ ls. list_all (holds ls) (k ∷ ks)) same ∙ (and_parts (nat_eq epoch b.facts.epoch) (list_all (holds held) (k ∷ ks)) e).1
 
 -- a key that is held stays so with one lock more
 holds_still : (held : List Lock) (l : Lock) (k : Bytes) → holds held k ≡ true → holds (with_lock held l) k ≡ true
@@ -130,7 +129,7 @@ holds_later (l ∷ ls) held k e = holds_later ls (with_lock held l) k (holds_sti
 
 -- and once those in the way are gone and some needs are granted
 pub reads_granted : (b : Before) (t : Id) (ended : List Id) (needs : List Lock) (rs : List Bytes) → AllByRecursion (IsLooseOther b.memory.rows t) ended → reads_held b t rs
-    → each (holds (granted_to b t ended needs)) rs ≡ true
+    → list_all (holds (granted_to b t ended needs)) rs ≡ true
 reads_granted b t ended needs rs gone e =
     let same : find_row (without_rows b.memory.rows ended) t ≡ find_row b.memory.rows t =
     find-without_rows_other b.memory.rows ended t (others_gone b.memory.rows t ended gone) in

@@ -1,8 +1,8 @@
 -- A claim that is put beside the others of a table keeps its laws: where its locks are granted, and where it waits.
-use Rattle.std.proofs.Common.{◌≡◌, Bool, true, false, not, ◌||◌, List, [], ◌∷◌, Option, Some, None, refl, sym, ap, ◌∙◌, inl, inr}
+use Rattle.std.proofs.Common.{◌≡◌, Bool, true, false, not, ◌||◌, List, [], ◌∷◌, Option, Some, None, refl, sym, ap, ◌∙◌, inl, inr, option_map}
 use Rattle.std.specs.List.{AllByRecursion}
 use Rattle.std.proofs.lemmas.Bool.{false≢true}
-use Rattle.units.specs.Lists.{ascends, mapped}
+use Rattle.units.specs.Lists.{ascends}
 use Rattle.units.specs.Ids.{Id, same_id, older}
 use Rattle.units.specs.ById.{find_member}
 use Rattle.units.specs.Locks.{Claim, clash, lock_before, with_locks}
@@ -81,7 +81,7 @@ own_of rows t firm None lawful found firms =
     all_of_any (OwnApart t [] firm) (λ a. record { apart = λ d. refl; for_it = λ d c. absurd (false≢true c) }) (claims rows)
 own_of rows t firm (Some r) lawful found firms =
     let laws = by_pairs (claims rows) lawful in
-    let there : find_member (λ (c : Claim). c.txn) (claims rows) t ≡ Some (claim_of r) = claims-find_row rows t ∙ ap (mapped claim_of) found in
+    let there : find_member (λ (c : Claim). c.txn) (claims rows) t ≡ Some (claim_of r) = claims-find_row rows t ∙ ap (option_map claim_of) found in
     let own : r.txn ≡ t = same_id-is r.txn t (found_is (λ (q : Row). q.txn) rows t r found) in
     let locks : AllByRecursion (LockPair (claim_of r)) (claims rows) =
     found_all (λ a. AllByRecursion (LockPair a) (claims rows)) (λ (c : Claim). c.txn) (claims rows) t (claim_of r) laws.locks there in
@@ -99,7 +99,7 @@ own_of rows t firm (Some r) lawful found firms =
 pub keys_of : (rows : List Row) (t : Id) (o : Option Row) → IsLawfulTable (claims rows) → find_row rows t ≡ o → ascends lock_before (held_by o) ≡ true
 keys_of rows t None lawful found = refl
 keys_of rows t (Some r) lawful found =
-    found_all HoldsByKey (λ (c : Claim). c.txn) (claims rows) t (claim_of r) ((by_pairs (claims rows) lawful).keys) (claims-find_row rows t ∙ ap (mapped claim_of) found)
+    found_all HoldsByKey (λ (c : Claim). c.txn) (claims rows) t (claim_of r) ((by_pairs (claims rows) lawful).keys) (claims-find_row rows t ∙ ap (option_map claim_of) found)
 
 -- ---- a grant and a wait
 

@@ -2,9 +2,9 @@
 -- rows in memory.
 use Rattle.std.proofs.Common.{◌≡◌, ℕ, suc, ◌<◌, ◌≤◌, Bool, true, false, not, nat_lt, List, [], ◌∷◌, map, length, Option, Some, None, refl, sym, ap, subst, ◌∙◌, arith}
 use Rattle.std.specs.Prelude.{IsTrue, Ok, Err, cond}
-use Rattle.std.specs.List.{AllByRecursion}
+use Rattle.std.specs.List.{AllByRecursion, list_any}
 use Rattle.std.proofs.lemmas.Bool.{false≢true, and_from, and_parts, lt-ltb}
-use Rattle.units.specs.Lists.{any, follow, gather}
+use Rattle.units.specs.Lists.{follow, gather}
 use Rattle.units.specs.Ids.{Id, same_id}
 use Rattle.units.specs.ById.{find_member}
 use Rattle.units.specs.Keys.{Bytes}
@@ -85,7 +85,7 @@ pub length-held : (rows : List Row) → length (map (λ (r : Row). r.held) rows)
 length-held [] = refl
 length-held (r ∷ rs) = ap suc (length-held rs)
 
-none_clashes : (ls : List Lock) (rows : List Row) → AllByRecursion (λ r. clash ls r.held ≡ false) rows → any (clash ls) (map (λ r. r.held) rows) ≡ false
+none_clashes : (ls : List Lock) (rows : List Row) → AllByRecursion (λ r. clash ls r.held ≡ false) rows → list_any (clash ls) (map (λ r. r.held) rows) ≡ false
 none_clashes ls [] free = refl
 none_clashes ls (r ∷ rs) free = rw free.0 (none_clashes ls rs free.1)
 
@@ -181,8 +181,8 @@ stands_beside : (shard : ℕ) (log : List Record) (after : Facts) (m later : Mem
 stands_beside shard log after m later t s at rs ws new sound next room put held locks fresh above =
     let small : length (log_rows (facts_of log)) < 1024 = few shard (facts_of log) after m later t s new sound next put held fresh room in
     let count : length (standing log) ≡ length (log_rows (facts_of log)) = ap length (standing_is log) ∙ length-held (log_rows (facts_of log)) in
-    let free : any (clash (locks_of rs ws)) (standing log) ≡ false =
-    ap (any (clash (locks_of rs ws))) (standing_is log)
+    let free : list_any (clash (locks_of rs ws)) (standing log) ≡ false =
+    ap (list_any (clash (locks_of rs ws))) (standing_is log)
     ∙ none_clashes (locks_of rs ws) (log_rows (facts_of log))
     (subst (λ ls. AllByRecursion (λ (r : Row). clash ls r.held ≡ false) (log_rows (facts_of log))) locks (clear shard (facts_of log) after m later t s new sound next put held fresh)) in
     and_from _ _ (and_from _ _ (ap (λ n. nat_lt n 1024) count ∙ lt-ltb _ _ small) (not_false _ free)) (subst (λ is. IsTrue (above_versions is at ws)) (installs_are log) above)

@@ -1,9 +1,8 @@
 -- The row of a standing, those in the way of a request, and the locks that a grant gives.
-use Rattle.std.proofs.Common.{◌≡◌, Bool, true, false, ◌&&◌, not, cond, nat_le, List, [], ◌∷◌, map, filter, length, Option, Some, None, refl, sym, ap, subst, ◌∙◌, arith}
-use Rattle.std.specs.List.{AllByRecursion}
+use Rattle.std.proofs.Common.{◌≡◌, Bool, true, false, ◌&&◌, not, cond, nat_le, List, [], ◌∷◌, map, filter, length, Option, Some, None, refl, sym, ap, subst, ◌∙◌, arith, option_map}
+use Rattle.std.specs.List.{AllByRecursion, list_any}
 use Rattle.std.proofs.lemmas.Bool.{false≢true}
 use Rattle.std.proofs.lemmas.Bool.Decides.{nat_tests}
-use Rattle.units.specs.Lists.{any, keep, mapped}
 use Rattle.units.specs.Ids.{Id, same_id, older}
 use Rattle.units.specs.ById.{IsById, find_member}
 use Rattle.units.specs.Keys.{Bytes}
@@ -60,7 +59,7 @@ row_at b t held phase e =
 -- and who has a row stands by it
 pub stands_at : (b : Before) (t : Id) (r : Row) → find_row b.memory.rows t ≡ Some r → stands b t ≡ HasRow r.held r.phase
 unfolding standing
-stands_at b t r found = ap (λ o. standing_by o (recorded b.facts t) (any (same_id t) b.memory.ended)) found
+stands_at b t r found = ap (λ o. standing_by o (recorded b.facts t) (list_any (same_id t) b.memory.ended)) found
 
 -- there is room for who has a row
 pub room_at : (b : Before) (t : Id) (r : Row) → find_row b.memory.rows t ≡ Some r → is_crowded b t ≡ false
@@ -109,15 +108,15 @@ in_way_gone b t needs up =
 
 -- ---- requests that nobody is in the way of
 
-keep_none : (p : Claim → Bool) (cs : List Claim) → ((c : Claim) → p c ≡ false) → keep p cs ≡ []
+keep_none : (p : Claim → Bool) (cs : List Claim) → ((c : Claim) → p c ≡ false) → filter p cs ≡ []
 keep_none p [] none = refl
 keep_none p (c ∷ cs) none = rw (none c) (keep_none p cs none)
 
 free_by : (table : List Claim) (t : Id) (needs : List Lock) → blockers table t needs ≡ [] → waits_before table t needs ≡ [] → is_free table t needs ≡ true
 unfolding is_free
 free_by table t needs e f =
-    ap (λ cs. not (any (λ (c : Claim). true) cs) && not (any (λ (c : Claim). true) (waits_before table t needs))) e
-    ∙ ap (λ cs. not (any (λ (c : Claim). true) cs)) f
+    ap (λ cs. not (list_any (λ (c : Claim). true) cs) && not (list_any (λ (c : Claim). true) (waits_before table t needs))) e
+    ∙ ap (λ cs. not (list_any (λ (c : Claim). true) cs)) f
 
 -- nobody is in the way of who needs nothing
 pub free_of_nothing : (table : List Claim) (t : Id) → is_free table t [] ≡ true
@@ -135,7 +134,7 @@ pub free_when_ready : (rows : List Row) (t : Id) (r : Row) → IsById (λ q. q.t
 free_when_ready rows t r up is_ready found =
     let oldest : IsOldestReady (claims rows) (Some t) = subst (IsOldestReady (claims rows)) is_ready (ready_is_oldest (claims rows) (claims-by_id rows up)) in
     let c : Claim = oldest.0 in
-    let there : find_member (λ (d : Claim). d.txn) (claims rows) t ≡ Some (claim_of r) = claims-find_row rows t ∙ ap (mapped claim_of) found in
+    let there : find_member (λ (d : Claim). d.txn) (claims rows) t ≡ Some (claim_of r) = claims-find_row rows t ∙ ap (option_map claim_of) found in
     let is : c ≡ claim_of r = some_is c (claim_of r) (sym oldest.1 ∙ there) in
     let able : IsReady (claims rows) (claim_of r) = subst (IsReady (claims rows)) is oldest.2 in
     let own : r.txn ≡ t = same_id-is r.txn t (found_is (λ (q : Row). q.txn) rows t r found) in

@@ -2,9 +2,8 @@
 use Rattle.std.proofs.Common.{◌≡◌, ℕ, ◌<◌, ◌≤◌, max, Bool, true, false, cond, nat_lt, List, [], ◌++◌, Option, Some, None, refl, sym, ap, subst, ◌∙◌, arith, ◌⊎◌, inl, inr}
 use Rattle.std.proofs.Math.Nat.{le-max_left, le-max_right}
 use Rattle.std.specs.Prelude.{IsTrue}
-use Rattle.std.specs.List.{AllByRecursion}
+use Rattle.std.specs.List.{AllByRecursion, list_all}
 use Rattle.std.proofs.lemmas.Bool.{false≢true}
-use Rattle.units.specs.Lists.{each}
 use Rattle.units.specs.Ids.{Id, same_id}
 use Rattle.units.specs.Keys.{Bytes}
 use Rattle.units.specs.Locks.{holds, exclusive}
@@ -183,7 +182,7 @@ open_agrees b t ended held phase sound gone fresh opened =
 
 -- a row that is put with its record stands by it
 stands_now : (b : Before) (t : Id) (held : List Lock) (phase : Phase) (at : ℕ) (rs : List Bytes) (ws : List Write) → Sound b → b.memory.last < at
-    → each (holds held) rs ≡ true → holds_writes held ws ≡ true
+    → list_all (holds held) rs ≡ true → holds_writes held ws ≡ true
     → StandsBy b.facts.installs (max b.memory.last at) (row_as t held phase) phase t at rs ws
 stands_now b t held phase at rs ws sound above read alone = record {
   phase = refl;

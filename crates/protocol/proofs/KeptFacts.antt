@@ -1,11 +1,12 @@
 -- What a step keeps of the facts and of the greatest timestamp: the epoch, the order of the entries and of the ended ids, the
 -- floor above what was served, and no version above it.
+use Rattle.std.specs.List.{list_all}
 use Rattle.std.proofs.Common.{◌≡◌, ℕ, ◌+◌, ◌-◌, ◌^◌, ◌<◌, ◌≤◌, max, min, Bool, true, false, cond, ◌&&◌, nat_lt, nat_le, List, [], ◌∷◌, ◌++◌, Option, Some, None, refl, sym, ap, subst, ◌∙◌, arith, ltb-false}
 use Rattle.std.proofs.Math.Nat.{le-max_left}
 use Rattle.std.proofs.lemmas.Bool.{le-leb}
 use Rattle.std.specs.Prelude.{IsTrue}
 use Rattle.std.proofs.lemmas.Bool.Decides.{nat_tests}
-use Rattle.units.specs.Lists.{each, ascends}
+use Rattle.units.specs.Lists.{ascends}
 use Rattle.units.specs.Ids.{Id, older}
 use Rattle.units.specs.ById.{IsById}
 use Rattle.units.specs.Versions.{versions}
@@ -28,7 +29,7 @@ under_ceiling last floor at stride h fits = omega (arith, h, fits)
 
 -- no version is above a timestamp
 abbrev Covered : ℕ → List Install → Type 0
-Covered last installs = IsTrue (each (λ i. nat_le i.at last) installs)
+Covered last installs = IsTrue (list_all (λ i. nat_le i.at last) installs)
 
 -- what is kept by the facts and the memory that a plan leaves
 pub record KeptFacts (facts : Facts) (memory : Memory) : Type 0 where
@@ -52,7 +53,7 @@ covered_later last later installs h e =
 
 pub covered_versions : (ws : List Write) (s last : ℕ) → s ≤ last → Covered last (versions ws s)
 covered_versions [] s last h = refl
-covered_versions (w ∷ ws) s last h = ap (λ b. b && each (λ (i : Install). nat_le i.at last) (versions ws s)) (le-leb s last h) ∙ covered_versions ws s last h
+covered_versions (w ∷ ws) s last h = ap (λ b. b && list_all (λ (i : Install). nat_le i.at last) (versions ws s)) (le-leb s last h) ∙ covered_versions ws s last h
 
 -- the versions after an outcome
 covered_after : (b : Before) (t : Id) (outcome : Option ℕ) (last : ℕ) → Closing b t outcome → b.memory.last ≤ last → ((s : ℕ) → outcome ≡ Some s → s ≤ last)

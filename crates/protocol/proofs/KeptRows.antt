@@ -1,9 +1,8 @@
 -- The rows stay a lawful lock table after a step, and each still fits the shard.
 use Rattle.std.proofs.Common.{◌≡◌, Bool, true, false, not, ◌||◌, List, [], ◌∷◌, Some, refl, sym, ap, subst, ◌∙◌}
 use Rattle.std.specs.Prelude.{IsTrue}
-use Rattle.std.specs.List.{AllByRecursion}
+use Rattle.std.specs.List.{AllByRecursion, list_all}
 use Rattle.std.proofs.lemmas.Bool.{false≢true, not-true, or_right}
-use Rattle.units.specs.Lists.{each}
 use Rattle.units.specs.Ids.{Id, same_id}
 use Rattle.units.specs.Locks.{Claim, exclusive, is_free, with_locks, wounded}
 use Rattle.units.specs.LockLaws.{IsLawfulTable}
@@ -121,7 +120,7 @@ kept_table_of b i p sound (IsAdvance stride at k e) = subst (KeepsTable b) (sym 
 
 -- each row fits
 abbrev AllFit : Before → List Row → Type 0
-AllFit b rows = IsTrue (each (fits b.shard) rows)
+AllFit b rows = IsTrue (list_all (fits b.shard) rows)
 
 unfoldable pub KeepsFit : Before → Plan → Type 0
 KeepsFit b p = AllFit b (carried p b.memory).rows

@@ -1,7 +1,7 @@
 -- The rows that an opening finds: one for each promise and decision that stands, by ascending id.
-use Rattle.std.proofs.Common.{◌≡◌, Bool, true, false, cond, List, [], ◌∷◌, Option, Some, None, refl, sym, ap, subst, ◌∙◌}
+use Rattle.std.proofs.Common.{◌≡◌, Bool, true, false, cond, List, [], ◌∷◌, Option, Some, None, refl, sym, ap, subst, ◌∙◌, filter}
 use Rattle.std.specs.List.{AllByRecursion}
-use Rattle.units.specs.Lists.{follow, gather, head, keep}
+use Rattle.units.specs.Lists.{follow, gather, head}
 use Rattle.units.specs.Ids.{Id, same_id, older}
 use Rattle.units.specs.ById.{IsById, find_member}
 use Rattle.units.proofs.IdLaws.{same_id-is, same_id_comm, older_not_same}
@@ -72,7 +72,7 @@ find-gather (e ∷ es) t up own =
 
     by_row : (o : Option Row) (b : Bool) → standing_row e ≡ o → same_id e.txn t ≡ b → find_row rest t ≡ follow (find_member (λ (f : Entry). f.txn) es t) standing_row
         → find_row (elim o as (λ x. List Row) [ None ↦ rest | Some r ↦ r ∷ rest ]) t
-        ≡ follow (head (cond b (e ∷ keep (λ (f : Entry). same_id f.txn t) es) (keep (λ (f : Entry). same_id f.txn t) es))) standing_row
+        ≡ follow (head (cond b (e ∷ filter (λ (f : Entry). same_id f.txn t) es) (filter (λ (f : Entry). same_id f.txn t) es))) standing_row
     by_row None true k s ih = none_behind s ∙ sym k
     by_row None false k s ih = ih
     by_row (Some r) true k s ih = rw (ap (λ u. same_id u t) (own.0 r k) ∙ s) (sym k)

@@ -1,9 +1,9 @@
 -- An opening keeps a shard sound: the rows that the log holds are a lawful table, and agree with the records.
 use Rattle.std.proofs.Common.{◌≡◌, ℕ, ◌+◌, ◌<◌, ◌≤◌, true, false, List, [], ◌∷◌, Option, Some, None, refl, sym, ap, subst, ◌∙◌, arith}
-use Rattle.std.specs.List.{AllByRecursion}
+use Rattle.std.specs.List.{AllByRecursion, list_all}
 use Rattle.std.specs.Prelude.{IsTrue}
 use Rattle.std.proofs.lemmas.Bool.{false≢true}
-use Rattle.units.specs.Lists.{each, follow, gather}
+use Rattle.units.specs.Lists.{follow, gather}
 use Rattle.units.specs.Ids.{Id}
 use Rattle.units.specs.ById.{IsById, find_member}
 use Rattle.units.specs.Keys.{Bytes}
@@ -80,7 +80,7 @@ stands_again installs last later q r phase u at rs ws h a phased own locks =
       own = own;
       above_zero = a.above_zero;
       assigned = omega (arith, low, h);
-      read = ap (λ ls. each (holds ls) rs) locks ∙ holds_reads rs ws;
+      read = ap (λ ls. list_all (holds ls) rs) locks ∙ holds_reads rs ws;
       held = ap (λ ls. holds_writes ls ws) locks ∙ holds_exclusive ws (with_locks [] (shared rs));
       above = a.above;
     }
@@ -181,7 +181,7 @@ module _ (shard : ℕ) (facts : Facts) (memory : Memory) (sound : IsSound shard 
   pub opened_lawful : IsLawfulTable (claims (gather standing_row facts.entries))
   opened_lawful = lawful_again memory (gather standing_row facts.entries) sound.table opened_up opened_backed
 
-  opened_fit : IsTrue (each (fits shard) (gather standing_row facts.entries))
+  opened_fit : IsTrue (list_all (fits shard) (gather standing_row facts.entries))
   opened_fit =
       each_of_all (fits shard) (gather standing_row facts.entries)
       (all-gather (Known facts memory) (λ r. fits shard r ≡ true) (λ e r k a. (left_of facts memory e r k a).fit shard) facts.entries known)

@@ -1,7 +1,6 @@
 -- The rows under a plan: several ended at once, a row put twice, a row that is there.
-use Rattle.std.proofs.Common.{◌≡◌, ◌∙◌, true, false, not, ◌&&◌, List, [], ◌∷◌, map, Some, refl, sym, ap}
-use Rattle.std.specs.List.{AllByRecursion}
-use Rattle.units.specs.Lists.{any, keep}
+use Rattle.std.proofs.Common.{◌≡◌, ◌∙◌, true, false, not, ◌&&◌, List, [], ◌∷◌, map, Some, refl, sym, ap, filter}
+use Rattle.std.specs.List.{AllByRecursion, list_any}
 use Rattle.units.specs.Ids.{Id, same_id, older}
 use Rattle.units.specs.ById.{IsById, with_member}
 use Rattle.units.specs.Locks.{Claim, wounded, is_free, others, blockers, may_wound, clash}
@@ -77,7 +76,7 @@ pub wounded-differ : (table : List Claim) (t : Id) (needs : List Lock) → AllOt
 unfolding wounded
 wounded-differ table t needs =
     let Differs : Claim → Type 0 = λ c. same_id c.txn t ≡ false in
-    ids_differ t (keep (may_wound t) (blockers table t needs))
+    ids_differ t (filter (may_wound t) (blockers table t needs))
     (all-keep Differs (may_wound t) (blockers table t needs)
     (all-keep Differs (λ c. clash c.held needs) (others table t) (all-without (λ (c : Claim). c.txn) table t)))
 
@@ -85,14 +84,14 @@ wounded-differ table t needs =
 pub wounded-alike : (one other : List Claim) (t : Id) (needs : List Lock) → others one t ≡ others other t → wounded one t needs ≡ wounded other t needs
 unfolding wounded
 wounded-alike one other t needs e =
-    ap (λ (cs : List Claim). map (λ (c : Claim). c.txn) (keep (may_wound t) (keep (λ (c : Claim). clash c.held needs) cs))) e
+    ap (λ (cs : List Claim). map (λ (c : Claim). c.txn) (filter (may_wound t) (filter (λ (c : Claim). clash c.held needs) cs))) e
 
 pub is_free-alike : (one other : List Claim) (t : Id) (needs : List Lock) → others one t ≡ others other t → is_free one t needs ≡ is_free other t needs
 unfolding is_free
 is_free-alike one other t needs e =
     ap (λ (cs : List Claim).
-    not (any (λ (c : Claim). true) (keep (λ (c : Claim). clash c.held needs) cs))
-    && not (any (λ (c : Claim). true) (keep (λ (c : Claim). older c.txn t && clash c.needs needs) cs))) e
+    not (list_any (λ (c : Claim). true) (filter (λ (c : Claim). clash c.held needs) cs))
+    && not (list_any (λ (c : Claim). true) (filter (λ (c : Claim). older c.txn t && clash c.needs needs) cs))) e
 
 -- a row's own claim is none of them
 pub others-with_row : (rows : List Row) (r : Row) → others (claims (with_row rows r)) r.txn ≡ others (claims rows) r.txn

@@ -1,8 +1,9 @@
 -- Each plan of a step has one of the shapes.
+use Rattle.std.specs.List.{list_all}
 use Rattle.std.proofs.Common.{refl, sym, subst, ap, ◌∙◌}
 use Rattle.std.specs.Prelude.{ℕ, ◌≡◌, max, Bool, true, false, cond, ◌&&◌, nat_eq, nat_lt, List, [], Option, Some, None, Ok, Err}
 use Rattle.std.proofs.lemmas.Bool.{and_parts}
-use Rattle.units.specs.Lists.{each, head, when}
+use Rattle.units.specs.Lists.{head, when}
 use Rattle.units.specs.Ids.{Id}
 use Rattle.units.specs.ById.{IsById}
 use Rattle.units.specs.Locks.{exclusive, holds, ready, is_free}
@@ -41,13 +42,13 @@ shaped_go_on b earliest t held (WaitsRead k) e free =
       room = room_at b t _ (row_at b t held (WaitsRead k) e);
     }) refl)
 shaped_go_on b earliest t held (WaitsPrepare c rs ws) e free =
-    let fitting : all_fit b → (nat_lt c b.shard && each (holds held) rs) ≡ true = fits_at b t held (WaitsPrepare c rs ws) e in
-    let read : all_fit b → reads_held b t rs = λ f. ap (λ ls. each (holds ls) rs) (held_at b t held (WaitsPrepare c rs ws) e) ∙ (and_parts _ _ (fitting f)).1 in
+    let fitting : all_fit b → (nat_lt c b.shard && list_all (holds held) rs) ≡ true = fits_at b t held (WaitsPrepare c rs ws) e in
+    let read : all_fit b → reads_held b t rs = λ f. ap (λ ls. list_all (holds ls) rs) (held_at b t held (WaitsPrepare c rs ws) e) ∙ (and_parts _ _ (fitting f)).1 in
     shaped_promise b [] earliest t c rs ws (clear b t (exclusive ws) free) (ap is_undecided e) (λ f. (and_parts _ _ (fitting f)).0) read
     (room_at b t _ (row_at b t held (WaitsPrepare c rs ws) e))
 shaped_go_on b earliest t held (WaitsCommit l ps rs ws) e free =
-    let fitting : all_fit b → (when (nat_eq b.shard) (head ps) && each (holds held) rs) ≡ true = fits_at b t held (WaitsCommit l ps rs ws) e in
-    let read : all_fit b → reads_held b t rs = λ f. ap (λ ls. each (holds ls) rs) (held_at b t held (WaitsCommit l ps rs ws) e) ∙ (and_parts _ _ (fitting f)).1 in
+    let fitting : all_fit b → (when (nat_eq b.shard) (head ps) && list_all (holds held) rs) ≡ true = fits_at b t held (WaitsCommit l ps rs ws) e in
+    let read : all_fit b → reads_held b t rs = λ f. ap (λ ls. list_all (holds ls) rs) (held_at b t held (WaitsCommit l ps rs ws) e) ∙ (and_parts _ _ (fitting f)).1 in
     shaped_granted b [] t l ps rs ws (other_parts b.shard ps) (clear b t (exclusive ws) free) (ap is_undecided e) (λ f. (and_parts _ _ (fitting f)).0) read
     (room_at b t _ (row_at b t held (WaitsCommit l ps rs ws) e))
 shaped_go_on b earliest t held Idle e free = shaped_idle b

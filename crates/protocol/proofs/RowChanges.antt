@@ -1,9 +1,8 @@
 -- The rows after a change: which row an id has, how many there are, and that they ascend by id.
 use Rattle.std.proofs.Common.{◌≡◌, suc, ◌≤◌, Bool, true, false, ◌||◌, not, cond, List, [], ◌∷◌, length, Some, None, refl, sym, ap, subst, ◌∙◌, arith, ◌⊎◌, inl, inr}
-use Rattle.std.specs.List.{AllByRecursion}
+use Rattle.std.specs.List.{AllByRecursion, list_any}
 use Rattle.std.proofs.lemmas.Bool.{false≢true}
 use Rattle.std.proofs.lemmas.Bool.Decides.{nat_tests}
-use Rattle.units.specs.Lists.{any}
 use Rattle.units.specs.Ids.{Id, same_id, older}
 use Rattle.units.specs.ById.{IsById, find_member}
 use Rattle.units.specs.Locks.{Claim}
@@ -128,7 +127,7 @@ length-with_row (q ∷ qs) r = by_tests (same_id q.txn r.txn) (older q.txn r.txn
     by_tests false false h = omega arith
 
 -- and as many where the id has a row
-pub length-with_row_same : (rows : List Row) (r : Row) → IsById (λ q. q.txn) rows → any (λ q. same_id q.txn r.txn) rows ≡ true
+pub length-with_row_same : (rows : List Row) (r : Row) → IsById (λ q. q.txn) rows → list_any (λ q. same_id q.txn r.txn) rows ≡ true
     → length (with_row rows r) ≡ length rows
 length-with_row_same [] r up there = cc
 length-with_row_same (q ∷ qs) r up there =
@@ -136,24 +135,24 @@ length-with_row_same (q ∷ qs) r up there =
   where
     -- no row behind an id that comes first is its
     none_behind : (rs : List Row) → AllByRecursion (λ (z : Row). older q.txn z.txn ≡ true) rs → same_id q.txn r.txn ≡ false → older q.txn r.txn ≡ false
-        → any (λ z. same_id z.txn r.txn) rs ≡ false
+        → list_any (λ z. same_id z.txn r.txn) rs ≡ false
     none_behind [] young s o = refl
     none_behind (z ∷ zs) young s o =
-        let rest : any (λ z. same_id z.txn r.txn) zs ≡ false = none_behind zs young.1 s o in
+        let rest : list_any (λ z. same_id z.txn r.txn) zs ≡ false = none_behind zs young.1 s o in
         let first : older q.txn z.txn ≡ true = young.0 in
         grind (arith, nat_tests)
 
-    by_tests : (a b : Bool) → same_id q.txn r.txn ≡ a → older q.txn r.txn ≡ b → any (λ z. same_id z.txn r.txn) (q ∷ qs) ≡ true
-        → (any (λ z. same_id z.txn r.txn) qs ≡ true → length (with_row qs r) ≡ length qs)
+    by_tests : (a b : Bool) → same_id q.txn r.txn ≡ a → older q.txn r.txn ≡ b → list_any (λ z. same_id z.txn r.txn) (q ∷ qs) ≡ true
+        → (list_any (λ z. same_id z.txn r.txn) qs ≡ true → length (with_row qs r) ≡ length qs)
         → length (cond a (r ∷ qs) (cond b (q ∷ with_row qs r) (r ∷ q ∷ qs))) ≡ length (q ∷ qs)
     by_tests true b s o k rest = refl
-    by_tests false true s o k rest = ap suc (rest (sym (ap (λ c. c || any (λ z. same_id z.txn r.txn) qs) s) ∙ k))
+    by_tests false true s o k rest = ap suc (rest (sym (ap (λ c. c || list_any (λ z. same_id z.txn r.txn) qs) s) ∙ k))
     by_tests false false s o k rest =
-        let none : any (λ z. same_id z.txn r.txn) qs ≡ false = none_behind qs (later_are_younger (λ (z : Row). z.txn) q qs up) s o in
-        absurd (false≢true (sym none ∙ sym (ap (λ c. c || any (λ z. same_id z.txn r.txn) qs) s) ∙ k))
+        let none : list_any (λ z. same_id z.txn r.txn) qs ≡ false = none_behind qs (later_are_younger (λ (z : Row). z.txn) q qs up) s o in
+        absurd (false≢true (sym none ∙ sym (ap (λ c. c || list_any (λ z. same_id z.txn r.txn) qs) s) ∙ k))
 
 pub any-without_rows : (rows : List Row) (us : List Id) (t : Id) → AllByRecursion (λ u. same_id u t ≡ false) us
-    → any (λ q. same_id q.txn t) (without_rows rows us) ≡ any (λ q. same_id q.txn t) rows
+    → list_any (λ q. same_id q.txn t) (without_rows rows us) ≡ list_any (λ q. same_id q.txn t) rows
 any-without_rows rows [] t differ = refl
 any-without_rows rows (u ∷ us) t differ =
     any-without_rows (without_row rows u) us t differ.1 ∙ has-without_other (λ (q : Row). q.txn) rows t u differ.0

@@ -1,7 +1,6 @@
 -- Rows of different ids that are all found among others are no more than these.
 use Rattle.std.proofs.Common.{◌≡◌, ◌<◌, ◌≤◌, Bool, true, false, not, cond, ◌||◌, List, [], ◌∷◌, length, ◌∙◌, arith}
-use Rattle.std.specs.List.{AllByRecursion}
-use Rattle.units.specs.Lists.{any}
+use Rattle.std.specs.List.{AllByRecursion, list_any}
 use Rattle.units.specs.Ids.{Id, same_id, older}
 use Rattle.units.specs.ById.{IsById}
 use Rattle.units.proofs.ByIdLaws.{has-without_other, later_are_younger}
@@ -11,7 +10,7 @@ use Rattle.protocol.proofs.RowChanges.{short-without_row}
 
 -- some row has the id
 abbrev pub has_row : List Row → Id → Bool
-has_row rows t = any (λ q. same_id q.txn t) rows
+has_row rows t = list_any (λ q. same_id q.txn t) rows
 
 -- without the row of an id there are fewer
 pub shorter-without_row : (rows : List Row) (t : Id) → has_row rows t ≡ true → length (without_row rows t) < length rows

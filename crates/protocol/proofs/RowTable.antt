@@ -1,6 +1,5 @@
 -- The rows as a lock table: what a step does to the rows, the calls of a table do to its claims.
-use Rattle.std.proofs.Common.{◌≡◌, cond, List, [], ◌∷◌, Some, refl, sym, ap, ◌∙◌}
-use Rattle.units.specs.Lists.{mapped}
+use Rattle.std.proofs.Common.{◌≡◌, cond, List, [], ◌∷◌, Some, refl, sym, ap, ◌∙◌, option_map}
 use Rattle.units.specs.Ids.{Id, same_id, older}
 use Rattle.units.specs.ById.{IsById, find_member, without_member, with_member, change_member}
 use Rattle.units.specs.Locks.{Claim}
@@ -18,7 +17,7 @@ pub claims-by_id : (rows : List Row) → IsById (λ q. q.txn) rows → IsById (�
 claims-by_id rows up = by_id-map (λ (q : Row). q.txn) (λ (c : Claim). c.txn) claim_of (λ q. refl) rows up
 
 -- the claim of an id is that of its row
-pub claims-find_row : (rows : List Row) (t : Id) → find_member (λ c. c.txn) (claims rows) t ≡ mapped claim_of (find_row rows t)
+pub claims-find_row : (rows : List Row) (t : Id) → find_member (λ c. c.txn) (claims rows) t ≡ option_map claim_of (find_row rows t)
 claims-find_row rows t = find-map (λ (q : Row). q.txn) (λ (c : Claim). c.txn) claim_of (λ q. refl) rows t
 
 -- a row is dropped with its claim
@@ -34,7 +33,7 @@ claims-with_row rows r =
 pub claims-changed_row : (rows : List Row) (q r : Row) (f : Claim → Claim) → IsById (λ q. q.txn) rows → find_row rows r.txn ≡ Some q → q.txn ≡ r.txn
     → claim_of r ≡ f (claim_of q) → claims (with_row rows r) ≡ change_member (λ c. c.txn) (claims rows) r.txn f
 claims-changed_row rows q r f up found same changed =
-    let there : find_member (λ c. c.txn) (claims rows) r.txn ≡ Some (claim_of q) = claims-find_row rows r.txn ∙ ap (mapped claim_of) found in
+    let there : find_member (λ c. c.txn) (claims rows) r.txn ≡ Some (claim_of q) = claims-find_row rows r.txn ∙ ap (option_map claim_of) found in
     let kept : (f (claim_of q)).txn ≡ (claim_of q).txn = ap (λ (c : Claim). c.txn) (sym changed) ∙ sym same in
     claims-with_row rows r
     ∙ ap (with_member (λ (c : Claim). c.txn) (claims rows)) changed

@@ -1,6 +1,5 @@
 -- What the examples share: two shards split at `m`, short names of ids, keys, values and events.
-use Rattle.std.specs.Prelude.{ℕ, List, [], ◌∷◌, ◌++◌, Option, Some, None}
-use Rattle.units.specs.Lists.{listed}
+use Rattle.std.specs.Prelude.{ℕ, List, [], ◌∷◌, ◌++◌, Option, Some, None, option_to_list}
 use Rattle.record.specs.Facts.{facts_of}
 use Rattle.protocol.specs.Rows.{Memory, rebuilt}
 use Rattle.protocol.specs.Step.{Stepped, step}
@@ -75,7 +74,7 @@ heard (Stepped.Does logged memory out) = Does logged out
 
 abbrev pub after : Core → Stepped → Core
 after core (Stepped.Refuses f) = core
-after core (Stepped.Does logged memory out) = record { log = core.log ++ listed logged; memory = memory }
+after core (Stepped.Does logged memory out) = record { log = core.log ++ option_to_list logged; memory = memory }
 
 abbrev pub stepped : Setup → Core → Interval × Input → Stepped
 stepped setup core i = step setup (facts_of core.log) core.memory i.0 i.1

@@ -1,7 +1,7 @@
 -- The few shapes that the plan of a step can have, with what each of them promises of the state that it is made from.
 use Rattle.std.specs.Prelude.{ℕ, ◌≡◌, ◌<◌, Bool, true, false, not, ◌||◌, max, List, [], Option, Some, None, Ok, Err}
-use Rattle.std.specs.List.{AllByRecursion}
-use Rattle.units.specs.Lists.{each, head, when}
+use Rattle.std.specs.List.{AllByRecursion, list_all}
+use Rattle.units.specs.Lists.{head, when}
 use Rattle.std.specs.Prelude.{nat_eq, nat_lt}
 use Rattle.units.specs.Ids.{Id, same_id}
 use Rattle.units.specs.Keys.{Bytes}
@@ -47,11 +47,11 @@ granted_to b t ended needs = with_locks (held_in (without_rows b.memory.rows end
 
 -- a transaction holds these keys
 abbrev pub reads_held : Before → Id → List Bytes → Type 0
-reads_held b t rs = each (holds (held_in b.memory.rows t)) rs ≡ true
+reads_held b t rs = list_all (holds (held_in b.memory.rows t)) rs ≡ true
 
 -- each row fits the shard
 abbrev pub all_fit : Before → Type 0
-all_fit b = each (fits b.shard) b.memory.rows ≡ true
+all_fit b = list_all (fits b.shard) b.memory.rows ≡ true
 
 -- a row that is put without a record: it reads on, or it collects votes
 pub record IsLocked (b : Before) (t : Id) (ended : List Id) (needs : List Lock) (phase : Phase) : Type 0 where
@@ -78,7 +78,7 @@ pub record IsPromised (b : Before) (t : Id) (ended : List Id) (c at : ℕ) (rs :
   pub undecided : is_undecided (stands b t) ≡ true
   pub above : b.memory.last < at
   pub lower : all_fit b → nat_lt c b.shard ≡ true
-  pub read : all_fit b → each (holds (granted_to b t ended (exclusive ws))) rs ≡ true
+  pub read : all_fit b → list_all (holds (granted_to b t ended (exclusive ws))) rs ≡ true
   pub room : is_crowded b t ≡ false
 
 -- a decision
@@ -87,7 +87,7 @@ pub record IsResolved (b : Before) (t : Id) (ended : List Id) (needs : List Lock
   pub undecided : is_undecided (stands b t) ≡ true
   pub above : b.memory.last < at
   pub first : all_fit b → when (nat_eq b.shard) (head ps) ≡ true
-  pub read : all_fit b → each (holds (granted_to b t ended needs)) rs ≡ true
+  pub read : all_fit b → list_all (holds (granted_to b t ended needs)) rs ≡ true
   pub alone : all_fit b → holds_writes (granted_to b t ended needs) ws ≡ true
   pub room : is_crowded b t ≡ false
 

@@ -1,8 +1,7 @@
 -- A step keeps the rows within the limit of the table.
 use Rattle.std.proofs.Common.{◌≡◌, ℕ, suc, ◌<◌, ◌≤◌, Bool, true, false, ◌&&◌, not, nat_le, List, length, refl, sym, ap, subst, ◌∙◌, arith}
-use Rattle.std.specs.List.{AllByRecursion}
+use Rattle.std.specs.List.{AllByRecursion, list_any}
 use Rattle.std.proofs.lemmas.Bool.Decides.{nat_tests}
-use Rattle.units.specs.Lists.{any}
 use Rattle.units.specs.Ids.{Id, same_id}
 use Rattle.units.specs.ById.{IsById}
 use Rattle.message.specs.declared.message.Input.{Input}
@@ -19,14 +18,14 @@ below : (capacity count : ℕ) → (nat_le capacity count && not false) ≡ fals
 below capacity count e = grind (arith, nat_tests)
 
 put_within : (capacity : ℕ) (rows : List Row) (us : List Id) (r : Row) → IsById (λ q. q.txn) rows → length rows ≤ capacity
-    → (nat_le capacity (length rows) && not (any (λ q. same_id q.txn r.txn) rows)) ≡ false → AllByRecursion (λ u. same_id u r.txn ≡ false) us
+    → (nat_le capacity (length rows) && not (list_any (λ q. same_id q.txn r.txn) rows)) ≡ false → AllByRecursion (λ u. same_id u r.txn ≡ false) us
     → length (with_row (without_rows rows us) r) ≤ capacity
-put_within capacity rows us r up fits room others = by_test (any (λ q. same_id q.txn r.txn) rows) refl
+put_within capacity rows us r up fits room others = by_test (list_any (λ q. same_id q.txn r.txn) rows) refl
   where
     left : List Row
     left = without_rows rows us
 
-    by_test : (there : Bool) → any (λ q. same_id q.txn r.txn) rows ≡ there → length (with_row left r) ≤ capacity
+    by_test : (there : Bool) → list_any (λ q. same_id q.txn r.txn) rows ≡ there → length (with_row left r) ≤ capacity
     by_test true e =
         let same : length (with_row left r) ≡ length left =
         length-with_row_same left r (by_id-without_rows rows us up) (any-without_rows rows us r.txn others ∙ e) in

@@ -1,7 +1,8 @@
 -- The step as a table: a function for each input, and in it a clause for each standing of its transaction. The last
 -- clause, `_`, is for all other standings.
-use Rattle.std.specs.Prelude.{ℕ, ◌+◌, Bool, true, false, not, cond, ◌&&◌, nat_lt, nat_le, nat_eq, min, max, List, [], ◌∷◌, map, Option, Some, None, Ok, Err}
-use Rattle.units.specs.Lists.{any, each, has, keep, greatest}
+use Rattle.std.specs.List.{list_any, list_all}
+use Rattle.std.specs.Prelude.{ℕ, ◌+◌, Bool, true, false, not, cond, ◌&&◌, nat_lt, nat_le, nat_eq, min, max, List, [], ◌∷◌, map, Option, Some, None, Ok, Err, filter}
+use Rattle.units.specs.Lists.{has, greatest}
 use Rattle.units.specs.Ids.{Id}
 use Rattle.units.specs.Keys.{Bytes}
 use Rattle.units.specs.Locks.{holds, ready, exclusive}
@@ -57,7 +58,7 @@ plan_read b t k _ = Ok (replies b (answer_to b.shard t k b.facts.epoch Refused �
 -- the reads still stand: there are none, or their epoch is the present one and each of their keys is held
 abbrev pub still_stand : Before → ℕ → List Bytes → List Lock → Bool
 still_stand b epoch [] held = true
-still_stand b epoch (k ∷ ks) held = nat_eq epoch b.facts.epoch && each (holds held) (k ∷ ks)
+still_stand b epoch (k ∷ ks) held = nat_eq epoch b.facts.epoch && list_all (holds held) (k ∷ ks)
 
 -- a vote refused
 abbrev pub refuses : Before → Id → ℕ → Envelope
@@ -100,7 +101,7 @@ plan_prepare b earliest m _ = Err Stranger
 
 -- the parts of a transaction other than this shard
 abbrev pub other_parts : ℕ → List ℕ → List ℕ
-other_parts n ps = keep (λ m. not (nat_eq m n)) ps
+other_parts n ps = filter (λ m. not (nat_eq m n)) ps
 
 -- the outcome, to some shards
 abbrev pub tells : Before → Id → Option ℕ → List ℕ → List Envelope
@@ -158,7 +159,7 @@ plan_commit b latest m _ = Err Stranger
 
 -- each of the others has voted
 abbrev pub all_voted : List ℕ → List Voted → Bool
-all_voted ns votes = each (λ n. any (λ v. nat_eq v.shard n) votes) ns
+all_voted ns votes = list_all (λ n. list_any (λ v. nat_eq v.shard n) votes) ns
 
 -- a yes is kept, and the last one decides; a no aborts
 unfoldable pub plan_count : Before → ℕ → Id → Option ℕ → ℕ → List ℕ → List Bytes → List Write → List Voted → Planned

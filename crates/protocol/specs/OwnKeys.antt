@@ -1,6 +1,6 @@
 -- The rows of a shard speak of its own keys alone, and so does what it logs.
+use Rattle.std.specs.List.{list_all}
 use Rattle.std.specs.Prelude.{ℕ, ◌≡◌, Bool, true, IsTrue, List, Some, Ok}
-use Rattle.units.specs.Lists.{each}
 use Rattle.units.specs.declared.setup.Setup.{Setup}
 use Rattle.truetime.specs.Interval.{Interval}
 use Rattle.record.specs.Accepted.{belongs, keys_belong}
@@ -20,7 +20,7 @@ names_own setup _ = true
 
 -- so of each row
 abbrev pub all_own : Setup → List Row → Bool
-all_own setup rows = each (λ r. names_own setup r.phase) rows
+all_own setup rows = list_all (λ r. names_own setup r.phase) rows
 
 -- a step keeps it
 abbrev pub StepKeepsOwn : Type 0

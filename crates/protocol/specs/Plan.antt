@@ -1,8 +1,8 @@
 -- A plan: what a step does to its shard. It names whom the step ends, what becomes of the row of its transaction, which
 -- record it logs and which messages it puts out. All of it is told from the state before the step, so that nothing is
 -- changed until the record is logged.
-use Rattle.std.specs.Prelude.{ℕ, ◌-◌, ◌^◌, Bool, true, not, cond, ◌&&◌, nat_le, List, [], ◌∷◌, ◌++◌, length, Option, Some, None, Result, Ok, Err}
-use Rattle.units.specs.Lists.{any, join}
+use Rattle.std.specs.List.{list_any}
+use Rattle.std.specs.Prelude.{ℕ, ◌-◌, ◌^◌, Bool, true, not, cond, ◌&&◌, nat_le, List, [], ◌∷◌, ◌++◌, length, Option, Some, None, Result, Ok, Err, flat_map}
 use Rattle.units.specs.Ids.{Id, same_id, with_id}
 use Rattle.units.specs.Locks.{wounded, is_free, with_locks}
 use Rattle.record.specs.Facts.{Facts}
@@ -94,11 +94,11 @@ opens b t needs = is_free (claims (without_rows b.memory.rows (in_way b t needs)
 
 -- there is no room for a row that a transaction lacks
 abbrev pub is_crowded : Before → Id → Bool
-is_crowded b t = nat_le b.capacity (length b.memory.rows) && not (any (λ r. same_id r.txn t) b.memory.rows)
+is_crowded b t = nat_le b.capacity (length b.memory.rows) && not (list_any (λ r. same_id r.txn t) b.memory.rows)
 
 -- the refused votes of rows that are ended while they wait with a prepare
 abbrev pub votes_of : ℕ → List Row → List Id → List Envelope
-votes_of n rows ts = join (λ t. refused_vote n (find_row rows t)) ts
+votes_of n rows ts = flat_map (λ t. refused_vote n (find_row rows t)) ts
 
 -- ---- the plans of which the cells are made
 

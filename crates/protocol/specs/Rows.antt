@@ -1,6 +1,7 @@
 -- The part of a shard's state that a crash loses: its rows, the greatest timestamp served, and the ids that were ended.
-use Rattle.std.specs.Prelude.{ℕ, ◌-◌, Bool, true, false, not, cond, List, [], ◌∷◌, ◌++◌, nat_eq, map, Option, Some, None}
-use Rattle.units.specs.Lists.{any, keep, gather, first, least_with}
+use Rattle.std.specs.List.{list_any}
+use Rattle.std.specs.Prelude.{ℕ, ◌-◌, Bool, true, false, not, cond, List, [], ◌∷◌, ◌++◌, nat_eq, map, Option, Some, None, filter}
+use Rattle.units.specs.Lists.{gather, first, least_with}
 use Rattle.units.specs.Ids.{Id, same_id, older, has_id}
 use Rattle.units.specs.Keys.{Bytes}
 use Rattle.record.specs.Records.{Status, StandsPrepared, StandsDecided, HasAborted, HasSettled, HasClosed}
@@ -67,7 +68,7 @@ find_row rows t = first (λ r. same_id r.txn t) rows
 
 -- the rows without that of an id
 abbrev pub without_row : List Row → Id → List Row
-without_row rows t = keep (λ r. not (same_id r.txn t)) rows
+without_row rows t = filter (λ r. not (same_id r.txn t)) rows
 
 -- the rows with one given anew, by ascending id
 abbrev pub with_row : List Row → Row → List Row
@@ -91,7 +92,7 @@ without_rows rows (t ∷ ts) = without_rows (without_row rows t) ts
 
 -- the first vote of a shard is kept
 abbrev pub with_vote : ℕ → ℕ → List Voted → List Voted
-with_vote n p votes = cond (any (λ v. nat_eq v.shard n) votes) votes (votes ++ record { shard = n; at = p } ∷ [])
+with_vote n p votes = cond (list_any (λ v. nat_eq v.shard n) votes) votes (votes ++ record { shard = n; at = p } ∷ [])
 
 -- the timestamp that a row holds the served time below
 abbrev pub held_stamp : Phase → Option ℕ

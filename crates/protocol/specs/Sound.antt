@@ -1,6 +1,7 @@
 -- What holds of a shard's facts and memory at every moment, and that a step keeps it.
+use Rattle.std.specs.List.{list_any, list_all}
 use Rattle.std.specs.Prelude.{ℕ, ◌+◌, ◌≡◌, ◌≤◌, ◌<◌, Bool, true, false, ◌&&◌, IsTrue, nat_le, nat_lt, nat_eq, List, [], ◌∷◌, Option, Some, None, Ok, length}
-use Rattle.units.specs.Lists.{any, each, ascends, head, when}
+use Rattle.units.specs.Lists.{ascends, head, when}
 use Rattle.units.specs.Ids.{Id, older}
 use Rattle.units.specs.ById.{IsById}
 use Rattle.units.specs.Keys.{Bytes, same_key}
@@ -30,11 +31,11 @@ is_exclusive Shared = false
 
 -- the key is held alone
 abbrev pub holds_alone : List Lock → Bytes → Bool
-holds_alone held k = any (λ h. same_key h.key k && is_exclusive h.mode) held
+holds_alone held k = list_any (λ h. same_key h.key k && is_exclusive h.mode) held
 
 -- each key that is written is held alone
 abbrev pub holds_writes : List Lock → List Write → Bool
-holds_writes held ws = each (λ w. holds_alone held w.key) ws
+holds_writes held ws = list_all (λ w. holds_alone held w.key) ws
 
 -- a row without a record
 abbrev pub is_open : Phase → Bool
@@ -49,7 +50,7 @@ pub record StandsBy (installs : List Install) (last : ℕ) (r : Row) (standing :
   pub own : r.txn ≡ txn
   pub above_zero : 0 < at
   pub assigned : at ≤ last
-  pub read : IsTrue (each (holds r.held) reads)
+  pub read : IsTrue (list_all (holds r.held) reads)
   pub held : IsTrue (holds_writes r.held writes)
   pub above : IsTrue (above_versions installs at writes)
 
@@ -68,9 +69,9 @@ Agrees installs last _ None = Unit {0}
 abbrev pub fits : ℕ → Row → Bool
 fits shard r =
     elim r.phase [
-      | WaitsPrepare c rs ws ↦ nat_lt c shard && each (holds r.held) rs
-      | WaitsCommit l ps rs ws ↦ when (nat_eq shard) (head ps) && each (holds r.held) rs
-      | Collecting l ps rs ws votes ↦ when (nat_eq shard) (head ps) && (each (holds r.held) rs && holds_writes r.held ws)
+      | WaitsPrepare c rs ws ↦ nat_lt c shard && list_all (holds r.held) rs
+      | WaitsCommit l ps rs ws ↦ when (nat_eq shard) (head ps) && list_all (holds r.held) rs
+      | Collecting l ps rs ws votes ↦ when (nat_eq shard) (head ps) && (list_all (holds r.held) rs && holds_writes r.held ws)
       | _ ↦ true
     ]
 
@@ -84,8 +85,8 @@ pub record IsSound (shard : ℕ) (facts : Facts) (memory : Memory) : Type 0 wher
   pub ended : IsTrue (ascends older memory.ended)
   pub under : memory.last ≤ facts.floor
   -- no version is above what was assigned, applied or served
-  pub installed : IsTrue (each (λ i. nat_le i.at memory.last) facts.installs)
-  pub fit : IsTrue (each (fits shard) memory.rows)
+  pub installed : IsTrue (list_all (λ i. nat_le i.at memory.last) facts.installs)
+  pub fit : IsTrue (list_all (fits shard) memory.rows)
   pub agrees : (t : Id) → Agrees facts.installs memory.last (recorded facts t) (find_row memory.rows t)
 
 -- a shard that starts with one opening in its log and nothing in memory

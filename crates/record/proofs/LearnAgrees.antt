@@ -1,8 +1,9 @@
 -- The facts that are learnt record by record are those that are read from the set of all records.
+use Rattle.std.specs.List.{list_any, list_all}
 use Rattle.std.proofs.Common.{refl, sym, ◌∙◌, ap, subst, arith}
 use Rattle.std.proofs.lemmas.Bool.{eqb-true}
-use Rattle.std.specs.Prelude.{ℕ, ◌+◌, ◌≡◌, max, Bool, true, false, not, cond, ◌&&◌, ◌||◌, List, [], ◌∷◌, ◌++◌, Option, Some, None}
-use Rattle.units.specs.Lists.{any, each, gather, join, first, greatest}
+use Rattle.std.specs.Prelude.{ℕ, ◌+◌, ◌≡◌, max, Bool, true, false, not, cond, ◌&&◌, ◌||◌, List, [], ◌∷◌, ◌++◌, Option, Some, None, flat_map}
+use Rattle.units.specs.Lists.{gather, first, greatest}
 use Rattle.units.specs.Ids.{Id, same_id, with_id, ids_once}
 use Rattle.units.specs.Versions.{versions}
 use Rattle.units.specs.declared.setup.Setup.{Setup}
@@ -69,7 +70,7 @@ unfolding entries
 entries_stay log r none =
     let ids : gather id_in (log ++ r ∷ []) ≡ gather id_in log =
     gather_append id_in log (r ∷ []) ∙ ap (λ l. gather id_in log ++ l) none ∙ append_none (gather id_in log) in
-    let same : (t : Id) → status_of (log ++ r ∷ []) t ≡ status_of log t = λ t. status_same log r t (ap (λ l. any (same_id t) l) none) in
+    let same : (t : Id) → status_of (log ++ r ∷ []) t ≡ status_of log t = λ t. status_same log r t (ap (λ l. list_any (same_id t) l) none) in
     ap (λ l. entries_by (λ t. status_of (log ++ r ∷ []) t) (ids_once l)) ids
     ∙ ap (λ (f : Id → Status). entries_by f (ids_of log)) (λ i t. same t i)
 
@@ -81,7 +82,7 @@ entries_change log r t s one new =
     let ids : ids_of (log ++ r ∷ []) ≡ with_id (ids_of log) t =
     ap ids_once (gather_append id_in log (r ∷ []) ∙ ap (λ l. gather id_in log ++ l) one) ∙ once_more (gather id_in log) t in
     let same : (u : Id) → same_id u t ≡ false → status_of (log ++ r ∷ []) u ≡ status_of log u =
-    λ u e. status_same log r u (ap (λ l. any (same_id u) l) one ∙ ap (λ b. b || false) e) in
+    λ u e. status_same log r u (ap (λ l. list_any (same_id u) l) one ∙ ap (λ b. b || false) e) in
     ap (λ l. entries_by (λ u. status_of (log ++ r ∷ []) u) l) ids
     ∙ entries_with (λ u. status_of log u) (λ u. status_of (log ++ r ∷ []) u) t same (ids_of log) (rises_once (gather id_in log))
     ∙ ap (λ x. with_status (entries log) t x) new
@@ -182,17 +183,17 @@ ended_status log t o none =
 -- ---- the versions
 
 -- an outcome was promised or decided
-all_made : (log : List Record) → Sound log → each (λ e. made log e.txn) (gather as_ended log) ≡ true
+all_made : (log : List Record) → Sound log → list_all (λ e. made log e.txn) (gather as_ended log) ≡ true
 all_made log s = weaker _ _ (λ e there. s.closed e.txn (there_first (λ d. same_id d.txn e.txn) (gather as_ended log) ∙ there)) (gather as_ended log) (each_found (gather as_ended log))
   where
-    weaker : (P Q : Ended → Bool) → ((e : Ended) → P e ≡ true → Q e ≡ true) → (es : List Ended) → each P es ≡ true → each Q es ≡ true
+    weaker : (P Q : Ended → Bool) → ((e : Ended) → P e ≡ true → Q e ≡ true) → (es : List Ended) → list_all P es ≡ true → list_all Q es ≡ true
     weaker P Q more [] h = refl
-    weaker P Q more (e ∷ es) h = ap (λ b. b && each Q es) (more e ((both _ _ h).0)) ∙ weaker P Q more es ((both _ _ h).1)
+    weaker P Q more (e ∷ es) h = ap (λ b. b && list_all Q es) (more e ((both _ _ h).0)) ∙ weaker P Q more es ((both _ _ h).1)
 
-    each_found : (es : List Ended) → each (λ e. any (λ d. same_id d.txn e.txn) es) es ≡ true
+    each_found : (es : List Ended) → list_all (λ e. list_any (λ d. same_id d.txn e.txn) es) es ≡ true
     each_found [] = refl
     each_found (e ∷ es) =
-        ap (λ b. (b || any (λ d. same_id d.txn e.txn) es) && each (λ x. same_id e.txn x.txn || any (λ d. same_id d.txn x.txn) es) es) (same_id-refl e.txn)
+        ap (λ b. (b || list_any (λ d. same_id d.txn e.txn) es) && list_all (λ x. same_id e.txn x.txn || list_any (λ d. same_id d.txn x.txn) es) es) (same_id-refl e.txn)
         ∙ weaker _ _ (λ x h. or_true (same_id e.txn x.txn) _ h) es (each_found es)
 
 no_single : {A : Type 0} (b : Bool) (x : A) → (b ≡ true → false ≡ true) → first (λ y. b) (x ∷ []) ≡ None
@@ -227,7 +228,7 @@ installed_same shard log r h e m =
     λ i. installs_with (c i) (q i) e.outcome
 
 installed_all : (shard : ℕ) (log : List Record) (r : Record) → Sound log → follows shard log r ≡ true →
-    join (installed_by (log ++ r ∷ [])) (gather as_ended log) ≡ join (installed_by log) (gather as_ended log)
+    flat_map (installed_by (log ++ r ∷ [])) (gather as_ended log) ≡ flat_map (installed_by log) (gather as_ended log)
 installed_all shard log r s h =
     join_same (installed_by (log ++ r ∷ [])) (installed_by log) (λ e. made log e.txn) (installed_same shard log r h) (gather as_ended log) (all_made log s)
 
@@ -236,7 +237,7 @@ installs_stay : (shard : ℕ) (log : List Record) (r : Record) → Sound log →
     installs_of (log ++ r ∷ []) ≡ installs_of log
 unfolding installs_of
 installs_stay shard log r s h none =
-    ap (λ l. join (installed_by (log ++ r ∷ [])) l) (gather_append as_ended log (r ∷ []) ∙ ap (λ l. gather as_ended log ++ l) none ∙ append_none (gather as_ended log))
+    ap (λ l. flat_map (installed_by (log ++ r ∷ [])) l) (gather_append as_ended log (r ∷ []) ∙ ap (λ l. gather as_ended log ++ l) none ∙ append_none (gather as_ended log))
     ∙ installed_all shard log r s h
 
 none_installed : (s : Status) → installs_at s None ≡ []
@@ -267,10 +268,10 @@ installs_change : (shard : ℕ) (log : List Record) (t : Id) (o : Option ℕ) �
     installs_of (log ++ Outcome t o ∷ []) ≡ installs_of log ++ installs_at (status_of log t) o
 unfolding installs_of
 installs_change shard log t o s h none m =
-    ap (λ l. join (installed_by (log ++ Outcome t o ∷ [])) l) (gather_append as_ended log (Outcome t o ∷ []))
+    ap (λ l. flat_map (installed_by (log ++ Outcome t o ∷ [])) l) (gather_append as_ended log (Outcome t o ∷ []))
     ∙ join_append (installed_by (log ++ Outcome t o ∷ [])) (gather as_ended log) (record { txn = t; outcome = o } ∷ [])
     ∙ ap (λ l. l ++ (installed_by (log ++ Outcome t o ∷ []) (record { txn = t; outcome = o }) ++ [])) (installed_all shard log (Outcome t o) s h)
-    ∙ ap (λ l. join (installed_by log) (gather as_ended log) ++ l)
+    ∙ ap (λ l. flat_map (installed_by log) (gather as_ended log) ++ l)
     (append_none _ ∙ installed_same shard log (Outcome t o) h (record { txn = t; outcome = o }) m ∙ outcome_installs log t o s none m)
 
 -- ---- all facts

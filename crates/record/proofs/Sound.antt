@@ -1,8 +1,9 @@
 -- What holds of a log whose records each follow those before it: who ended was promised or decided, and who was aborted was
 -- neither.
+use Rattle.std.specs.List.{list_any}
 use Rattle.std.proofs.Common.{refl, sym, ◌∙◌, ap, subst}
 use Rattle.std.specs.Prelude.{ℕ, ◌+◌, ◌≡◌, Bool, true, false, not, cond, ◌&&◌, ◌||◌, nat_eq, List, [], ◌∷◌, ◌++◌, Option, Some, None}
-use Rattle.units.specs.Lists.{any, gather, first, head}
+use Rattle.units.specs.Lists.{gather, first, head}
 use Rattle.units.specs.Ids.{Id, same_id}
 use Rattle.units.proofs.Folds.{or_else, is_there, there_or_else, gather_append, first_append, any_append}
 use Rattle.units.proofs.IdLaws.{same_id-is}
@@ -21,7 +22,7 @@ both false b e = cc
 
 pub aborted_more : (log : List Record) (r : Record) (t : Id) → is_aborted (log ++ r ∷ []) t ≡ (is_aborted log t || is_aborted (r ∷ []) t)
 aborted_more log r t =
-    ap (λ l. any (same_id t) l) (gather_append as_aborted log (r ∷ []))
+    ap (λ l. list_any (same_id t) l) (gather_append as_aborted log (r ∷ []))
     ∙ any_append (same_id t) (gather as_aborted log) (gather as_aborted (r ∷ []))
 
 pub prepared_more : (log : List Record) (r : Record) (t : Id) → prepared_of (log ++ r ∷ []) t ≡ or_else (prepared_of log t) (prepared_of (r ∷ []) t)

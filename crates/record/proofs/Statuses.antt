@@ -1,7 +1,8 @@
 -- The status of an id after one more record: that of the record's own id changes, those of all others stay.
+use Rattle.std.specs.List.{list_any, list_all}
 use Rattle.std.proofs.Common.{refl, sym, ◌∙◌, ap, subst}
-use Rattle.std.specs.Prelude.{◌≡◌, Bool, true, false, cond, ◌||◌, List, [], ◌∷◌, ◌++◌, map, Option, Some, None}
-use Rattle.units.specs.Lists.{any, each, gather, first, head, keep}
+use Rattle.std.specs.Prelude.{◌≡◌, Bool, true, false, cond, ◌||◌, List, [], ◌∷◌, ◌++◌, map, Option, Some, None, filter}
+use Rattle.units.specs.Lists.{gather, first, head}
 use Rattle.units.specs.Ids.{Id, same_id, older, with_id}
 use Rattle.units.proofs.Folds.{or_else}
 use Rattle.units.proofs.IdLaws.{same_id-is, same_id_comm, older_not_same, older_total}
@@ -55,11 +56,11 @@ apart_single : (t u : Id) → (same_id t u || false) ≡ false → same_id u t �
 apart_single t u e = same_id_comm u t ∙ (sym (or_false (same_id t u)) ∙ e)
 
 -- the status of an id that the record is not about
-pub status_same : (log : List Record) (r : Record) (t : Id) → any (same_id t) (gather id_in (r ∷ [])) ≡ false → status_of (log ++ r ∷ []) t ≡ status_of log t
+pub status_same : (log : List Record) (r : Record) (t : Id) → list_any (same_id t) (gather id_in (r ∷ [])) ≡ false → status_of (log ++ r ∷ []) t ≡ status_of log t
 unfolding status_of
 status_same log r t apart = status_more log r t ∙ by_kind r apart
   where
-    by_kind : (q : Record) → any (same_id t) (gather id_in (q ∷ [])) ≡ false →
+    by_kind : (q : Record) → list_any (same_id t) (gather id_in (q ∷ [])) ≡ false →
         status_by (is_aborted log t || is_aborted (q ∷ []) t) (or_else (committed_of log t) (committed_of (q ∷ []) t))
         (or_else (prepared_of log t) (prepared_of (q ∷ []) t)) (or_else (ended_of log t) (ended_of (q ∷ []) t))
         ≡ status_by (is_aborted log t) (committed_of log t) (prepared_of log t) (ended_of log t)
@@ -80,7 +81,7 @@ not_first : {A : Type 0} (b : Bool) (x : A) (rest : List A) → b ≡ false → 
 not_first true x rest e f = cc
 not_first false x rest e f = f
 
-none_aborted : (t : Id) (log : List Record) → any (same_id t) (gather id_in log) ≡ false → is_aborted log t ≡ false
+none_aborted : (t : Id) (log : List Record) → list_any (same_id t) (gather id_in log) ≡ false → is_aborted log t ≡ false
 none_aborted t [] e = refl
 none_aborted t (Opened epoch ∷ rs) e = none_aborted t rs e
 none_aborted t (Ceiling at ∷ rs) e = none_aborted t rs e
@@ -89,7 +90,7 @@ none_aborted t (Commit c ∷ rs) e = none_aborted t rs ((neither _ _ e).1)
 none_aborted t (Abort u ∷ rs) e = ap (λ b. b || is_aborted rs t) ((neither _ _ e).0) ∙ none_aborted t rs ((neither _ _ e).1)
 none_aborted t (Outcome u o ∷ rs) e = none_aborted t rs ((neither _ _ e).1)
 
-none_prepared : (t : Id) (log : List Record) → any (same_id t) (gather id_in log) ≡ false → prepared_of log t ≡ None
+none_prepared : (t : Id) (log : List Record) → list_any (same_id t) (gather id_in log) ≡ false → prepared_of log t ≡ None
 none_prepared t [] e = refl
 none_prepared t (Opened epoch ∷ rs) e = none_prepared t rs e
 none_prepared t (Ceiling at ∷ rs) e = none_prepared t rs e
@@ -99,7 +100,7 @@ none_prepared t (Commit c ∷ rs) e = none_prepared t rs ((neither _ _ e).1)
 none_prepared t (Abort u ∷ rs) e = none_prepared t rs ((neither _ _ e).1)
 none_prepared t (Outcome u o ∷ rs) e = none_prepared t rs ((neither _ _ e).1)
 
-none_committed : (t : Id) (log : List Record) → any (same_id t) (gather id_in log) ≡ false → committed_of log t ≡ None
+none_committed : (t : Id) (log : List Record) → list_any (same_id t) (gather id_in log) ≡ false → committed_of log t ≡ None
 none_committed t [] e = refl
 none_committed t (Opened epoch ∷ rs) e = none_committed t rs e
 none_committed t (Ceiling at ∷ rs) e = none_committed t rs e
@@ -109,7 +110,7 @@ none_committed t (Commit c ∷ rs) e =
 none_committed t (Abort u ∷ rs) e = none_committed t rs ((neither _ _ e).1)
 none_committed t (Outcome u o ∷ rs) e = none_committed t rs ((neither _ _ e).1)
 
-none_recorded : (t : Id) (log : List Record) → any (same_id t) (gather id_in log) ≡ false → status_of log t ≡ Unrecorded
+none_recorded : (t : Id) (log : List Record) → list_any (same_id t) (gather id_in log) ≡ false → status_of log t ≡ Unrecorded
 unfolding status_of
 none_recorded t log e =
     ap (λ a. status_by a (committed_of log t) (prepared_of log t) (ended_of log t)) (none_aborted t log e)
@@ -123,35 +124,35 @@ unfoldable pub entries_by : (Id → Status) → List Id → List Entry
 entries_by f ids = map (λ t. record { txn = t; status = f t }) ids
 
 found : (f : Id → Status) (t : Id) (ids : List Id) →
-    or_unrecorded (first (λ e. same_id e.txn t) (entries_by f ids)) ≡ cond (any (same_id t) ids) (f t) Unrecorded
+    or_unrecorded (first (λ e. same_id e.txn t) (entries_by f ids)) ≡ cond (list_any (same_id t) ids) (f t) Unrecorded
 unfolding entries_by
 found f t [] = refl
 found f t (u ∷ us) = by_test (same_id u t) refl (found f t us)
   where
     by_test : (b : Bool) → same_id u t ≡ b →
-        or_unrecorded (head (keep (λ e. same_id e.txn t) (entries_by f us))) ≡ cond (any (same_id t) us) (f t) Unrecorded →
-        or_unrecorded (head (cond b (record { txn = u; status = f u } ∷ keep (λ e. same_id e.txn t) (entries_by f us)) (keep (λ e. same_id e.txn t) (entries_by f us))))
-        ≡ cond (same_id t u || any (same_id t) us) (f t) Unrecorded
-    by_test true e rest = ap f (same_id-is u t e) ∙ sym (ap (λ b. cond (b || any (same_id t) us) (f t) Unrecorded) (same_id_comm t u ∙ e))
-    by_test false e rest = rest ∙ sym (ap (λ b. cond (b || any (same_id t) us) (f t) Unrecorded) (same_id_comm t u ∙ e))
+        or_unrecorded (head (filter (λ e. same_id e.txn t) (entries_by f us))) ≡ cond (list_any (same_id t) us) (f t) Unrecorded →
+        or_unrecorded (head (cond b (record { txn = u; status = f u } ∷ filter (λ e. same_id e.txn t) (entries_by f us)) (filter (λ e. same_id e.txn t) (entries_by f us))))
+        ≡ cond (same_id t u || list_any (same_id t) us) (f t) Unrecorded
+    by_test true e rest = ap f (same_id-is u t e) ∙ sym (ap (λ b. cond (b || list_any (same_id t) us) (f t) Unrecorded) (same_id_comm t u ∙ e))
+    by_test false e rest = rest ∙ sym (ap (λ b. cond (b || list_any (same_id t) us) (f t) Unrecorded) (same_id_comm t u ∙ e))
 
-recorded_by : (b : Bool) (log : List Record) (t : Id) → any (same_id t) (ids_of log) ≡ b → cond b (status_of log t) Unrecorded ≡ status_of log t
+recorded_by : (b : Bool) (log : List Record) (t : Id) → list_any (same_id t) (ids_of log) ≡ b → cond b (status_of log t) Unrecorded ≡ status_of log t
 recorded_by true log t e = refl
 recorded_by false log t e = sym (none_recorded t log (sym (any_once t (gather id_in log)) ∙ e))
 
 -- the facts of a log give the status of each id
 pub recorded_is : (log : List Record) (t : Id) → recorded (facts_of log) t ≡ status_of log t
 unfolding facts_of entries_by
-recorded_is log t = found (λ u. status_of log u) t (ids_of log) ∙ recorded_by (any (same_id t) (ids_of log)) log t refl
+recorded_is log t = found (λ u. status_of log u) t (ids_of log) ∙ recorded_by (list_any (same_id t) (ids_of log)) log t refl
 
 -- ---- one status given anew
 
-entries_same : (f g : Id → Status) (t : Id) → ((u : Id) → same_id u t ≡ false → g u ≡ f u) → (us : List Id) → each (older t) us ≡ true →
+entries_same : (f g : Id → Status) (t : Id) → ((u : Id) → same_id u t ≡ false → g u ≡ f u) → (us : List Id) → list_all (older t) us ≡ true →
     entries_by g us ≡ entries_by f us
 unfolding entries_by
 entries_same f g t same [] h = refl
 entries_same f g t same (u ∷ us) h =
-    let p : (older t u ≡ true) × (each (older t) us ≡ true) = both _ _ h in
+    let p : (older t u ≡ true) × (list_all (older t) us ≡ true) = both _ _ h in
     let apart : same_id u t ≡ false = same_id_comm u t ∙ older_not_same t u p.0 in
     ap (λ s. let e : Entry = record { txn = u; status = s } in e ∷ entries_by g us) (same u apart)
     ∙ ap (λ l. let e : Entry = record { txn = u; status = f u } in e ∷ l) (entries_same f g t same us p.1)
@@ -164,7 +165,7 @@ entries_with f g t same [] h = refl
 entries_with f g t same (u ∷ us) h =
     placed (same_id u t) (older u t) refl refl (both _ _ h) (entries_with f g t same us ((both _ _ h).1))
   where
-    placed : (a b : Bool) → same_id u t ≡ a → older u t ≡ b → (each (older u) us ≡ true) × (rises us ≡ true) →
+    placed : (a b : Bool) → same_id u t ≡ a → older u t ≡ b → (list_all (older u) us ≡ true) × (rises us ≡ true) →
         entries_by g (with_id us t) ≡ with_status (entries_by f us) t (g t) →
         entries_by g (cond a (u ∷ us) (cond b (u ∷ with_id us t) (t ∷ u ∷ us)))
         ≡ cond a (record { txn = t; status = g t } ∷ entries_by f us)
@@ -172,7 +173,7 @@ entries_with f g t same (u ∷ us) h =
     placed true b e k p rest =
         ap (λ v. let x : Entry = record { txn = v; status = g v } in x ∷ entries_by g us) (same_id-is u t e)
         ∙ ap (λ l. let x : Entry = record { txn = t; status = g t } in x ∷ l)
-        (entries_same f g t same us (subst (λ v. each (older v) us ≡ true) (same_id-is u t e) p.0))
+        (entries_same f g t same us (subst (λ v. list_all (older v) us ≡ true) (same_id-is u t e) p.0))
     placed false true e k p rest =
         ap (λ s. let x : Entry = record { txn = u; status = s } in x ∷ entries_by g (with_id us t)) (same u e)
         ∙ ap (λ l. let x : Entry = record { txn = u; status = f u } in x ∷ l) rest

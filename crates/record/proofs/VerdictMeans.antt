@@ -2,8 +2,8 @@
 -- run, and who began after an acknowledgement has the larger timestamp.
 use Rattle.std.proofs.Common.{refl, sym, ◌∙◌, ap, subst}
 use Rattle.std.proofs.lemmas.Bool.{eqb-true, leb-false, lt-ltb}
-use Rattle.std.specs.Prelude.{ℕ, zero, suc, ◌≡◌, Bool, true, false, not, cond, ◌&&◌, nat_eq, nat_lt, nat_le, IsTrue, List, [], ◌∷◌, slice_get, Option, Some, None}
-use Rattle.units.specs.Lists.{keep, gather, head, mapped, follow, numbered, when, same_numbers}
+use Rattle.std.specs.Prelude.{ℕ, zero, suc, ◌≡◌, Bool, true, false, not, cond, ◌&&◌, nat_eq, nat_lt, nat_le, IsTrue, List, [], ◌∷◌, slice_get, Option, Some, None, filter, option_map}
+use Rattle.units.specs.Lists.{gather, head, follow, numbered, when, same_numbers}
 use Rattle.units.specs.Ids.{Id, same_id, older, with_id, ids_once}
 use Rattle.units.specs.Keys.{Bytes}
 use Rattle.record.specs.History.{Txn, history, before}
@@ -36,7 +36,7 @@ pub head_none : {A : Type 0} (xs : List A) → head xs ≡ None → xs ≡ []
 head_none [] e = refl
 head_none (x ∷ xs) e = cc
 
-mapped_none : {A B : Type 0} (f : A → B) (o : Option A) → mapped f o ≡ None → o ≡ None
+mapped_none : {A B : Type 0} (f : A → B) (o : Option A) → option_map f o ≡ None → o ≡ None
 mapped_none f None e = refl
 mapped_none f (Some x) e = cc
 
@@ -46,13 +46,13 @@ pub kept_step : {A : Type 0} (b : Bool) (x : A) (rest : List A) → cond b (x �
 kept_step true x rest e = cc
 kept_step false x rest e = (refl, e)
 
-each_fails : {A : Type 0} (test : A → Bool) (n : ℕ) (xs : List A) (i : ℕ) (x : A) → keep (λ l. test l.1) (numbered n xs) ≡ [] →
+each_fails : {A : Type 0} (test : A → Bool) (n : ℕ) (xs : List A) (i : ℕ) (x : A) → filter (λ l. test l.1) (numbered n xs) ≡ [] →
     slice_get xs i ≡ Some x → test x ≡ false
 each_fails test n [] i x e at = absurd (not_some x at)
 each_fails test n (y ∷ ys) zero x e at =
-    sym (ap (λ o. when test o) at) ∙ (kept_step (test y) (n, y) (keep (λ l. test l.1) (numbered (suc n) ys)) e).0
+    sym (ap (λ o. when test o) at) ∙ (kept_step (test y) (n, y) (filter (λ l. test l.1) (numbered (suc n) ys)) e).0
 each_fails test n (y ∷ ys) (suc i) x e at =
-    each_fails test (suc n) ys i x ((kept_step (test y) (n, y) (keep (λ l. test l.1) (numbered (suc n) ys)) e).1) at
+    each_fails test (suc n) ys i x ((kept_step (test y) (n, y) (filter (λ l. test l.1) (numbered (suc n) ys)) e).1) at
 
 gathered_step : {B : Type 0} (o : Option B) (rest : List B) → (elim o as (λ x. List B) [ None ↦ rest | Some y ↦ y ∷ rest ]) ≡ [] → (o ≡ None) × (rest ≡ [])
 gathered_step None rest e = (refl, e)
@@ -67,7 +67,7 @@ none_given f (y ∷ ys) (suc i) x e at = none_given f ys i x ((gathered_step (f 
 -- a member of a list has a place in the numbered list
 has_place : {A : Type 0} (n : ℕ) (xs : List A) (i : ℕ) (x : A) → slice_get xs i ≡ Some x → (m : ℕ) × (slice_get (numbered n xs) i ≡ Some (m, x))
 has_place n [] i x at = absurd (not_some x at)
-has_place n (y ∷ ys) zero x at = (n, ap (λ o. mapped (λ z. (n, z)) o) at)
+has_place n (y ∷ ys) zero x at = (n, ap (λ o. option_map (λ z. (n, z)) o) at)
 has_place n (y ∷ ys) (suc i) x at = has_place (suc n) ys i x at
 
 -- ---- the four clauses
@@ -144,8 +144,8 @@ order logs lines told t u at m n x acked begun before found =
     let begin_place : (q : ℕ) × (slice_get (numbered 0 lines) begun.0 ≡ Some (q, Line.Begin u n)) = has_place 0 lines begun.0 (Line.Begin u n) begun.1 in
     let ack_place : (q : ℕ) × (slice_get (numbered 0 lines) acked.0 ≡ Some (q, Line.Ack t at m)) = has_place 0 lines acked.0 (Line.Ack t at m) acked.1 in
     let none : first_wrong_order h lines ≡ None = (no_fault _ _ _ _ told).3 in
-    let no_pair : mapped (λ j. (begin_place.0, j)) (head (late_acks h (numbered 0 lines) (Line.Begin u n))) ≡ None =
-    none_given (λ l. mapped (λ j. (l.0, j)) (head (late_acks h (numbered 0 lines) l.1))) (numbered 0 lines) begun.0 (begin_place.0, Line.Begin u n) (head_none _ none) begin_place.1 in
+    let no_pair : option_map (λ j. (begin_place.0, j)) (head (late_acks h (numbered 0 lines) (Line.Begin u n))) ≡ None =
+    none_given (λ l. option_map (λ j. (l.0, j)) (head (late_acks h (numbered 0 lines) l.1))) (numbered 0 lines) begun.0 (begin_place.0, Line.Begin u n) (head_none _ none) begin_place.1 in
     let no_ack : late_acks h (numbered 0 lines) (Line.Begin u n) ≡ [] = head_none _ (mapped_none _ _ no_pair) in
     let no_ack_of : gather (λ l. cond (is_late_ack n x.at l.1) (Some (l.0)) None) (numbered 0 lines) ≡ [] =
     subst (λ o. (elim o as (λ v. List ℕ) [ None ↦ [] | Some v ↦ gather (λ l. cond (is_late_ack n v.at l.1) (Some (l.0)) None) (numbered 0 lines) ]) ≡ []) found no_ack in

@@ -1,7 +1,8 @@
 -- Where the inspector finds no torn id, every id is whole: those that no log is about as well.
+use Rattle.std.specs.List.{list_any, list_all}
 use Rattle.std.proofs.Common.{refl, sym, ◌∙◌, ap, subst, inl, inr}
-use Rattle.std.specs.Prelude.{ℕ, suc, ◌≡◌, Bool, true, false, not, cond, ◌&&◌, ◌||◌, ◌⊎◌, List, [], ◌∷◌, ◌++◌, map, None}
-use Rattle.units.specs.Lists.{any, each, keep, gather, join, numbered}
+use Rattle.std.specs.Prelude.{ℕ, suc, ◌≡◌, Bool, true, false, not, cond, ◌&&◌, ◌||◌, ◌⊎◌, List, [], ◌∷◌, ◌++◌, map, None, filter, flat_map}
+use Rattle.units.specs.Lists.{gather, numbered}
 use Rattle.units.specs.Ids.{Id, same_id}
 use Rattle.units.proofs.Folds.{any_append}
 use Rattle.units.proofs.IdLaws.{same_id-is}
@@ -34,7 +35,7 @@ passes : (b c d : Bool) → b ≡ false → d ≡ true → ((not b || c) && d) �
 passes true c d e f = cc
 passes false c d e f = f
 
-no_commit : (t : Id) (log : List Record) → any (same_id t) (gather id_in log) ≡ false → keep (λ c. same_id t c.txn) (gather as_committed log) ≡ []
+no_commit : (t : Id) (log : List Record) → list_any (same_id t) (gather id_in log) ≡ false → filter (λ c. same_id t c.txn) (gather as_committed log) ≡ []
 no_commit t [] e = refl
 no_commit t (Opened epoch ∷ rs) e = no_commit t rs e
 no_commit t (Ceiling at ∷ rs) e = no_commit t rs e
@@ -43,7 +44,7 @@ no_commit t (Commit c ∷ rs) e = kept_if (same_id t c.txn) c _ ((neither _ _ e)
 no_commit t (Abort u ∷ rs) e = no_commit t rs ((neither _ _ e).1)
 no_commit t (Outcome u o ∷ rs) e = no_commit t rs ((neither _ _ e).1)
 
-no_end : (t : Id) (fits : ℕ → Bool) (log : List Record) → any (same_id t) (gather id_in log) ≡ false → ends_at log t fits ≡ true
+no_end : (t : Id) (fits : ℕ → Bool) (log : List Record) → list_any (same_id t) (gather id_in log) ≡ false → ends_at log t fits ≡ true
 no_end t fits [] e = refl
 no_end t fits (Opened epoch ∷ rs) e = no_end t fits rs e
 no_end t fits (Ceiling at ∷ rs) e = no_end t fits rs e
@@ -53,49 +54,49 @@ no_end t fits (Abort u ∷ rs) e = no_end t fits rs ((neither _ _ e).1)
 no_end t fits (Outcome u o ∷ rs) e = passes (same_id t u) _ _ ((neither _ _ e).0) (no_end t fits rs ((neither _ _ e).1))
 
 -- its place in a log among others
-apart : (t : Id) (log : List Record) (logs : List (List Record)) → any (same_id t) (join (gather id_in) (log ∷ logs)) ≡ false →
-    (any (same_id t) (gather id_in log) ≡ false) × (any (same_id t) (join (gather id_in) logs) ≡ false)
-apart t log logs e = neither _ _ (sym (any_append (same_id t) (gather id_in log) (join (gather id_in) logs)) ∙ e)
+apart : (t : Id) (log : List Record) (logs : List (List Record)) → list_any (same_id t) (flat_map (gather id_in) (log ∷ logs)) ≡ false →
+    (list_any (same_id t) (gather id_in log) ≡ false) × (list_any (same_id t) (flat_map (gather id_in) logs) ≡ false)
+apart t log logs e = neither _ _ (sym (any_append (same_id t) (gather id_in log) (flat_map (gather id_in) logs)) ∙ e)
 
 decisions_of : Id → ℕ × List Record → List Decision
-decisions_of t l = map (λ c. record { shard = l.0; commit = c }) (keep (λ c. same_id t c.txn) (gather as_committed l.1))
+decisions_of t l = map (λ c. record { shard = l.0; commit = c }) (filter (λ c. same_id t c.txn) (gather as_committed l.1))
 
-no_decision : (t : Id) (n : ℕ) (logs : List (List Record)) → any (same_id t) (join (gather id_in) logs) ≡ false → join (decisions_of t) (numbered n logs) ≡ []
+no_decision : (t : Id) (n : ℕ) (logs : List (List Record)) → list_any (same_id t) (flat_map (gather id_in) logs) ≡ false → flat_map (decisions_of t) (numbered n logs) ≡ []
 unfolding decisions_of
 no_decision t n [] e = refl
 no_decision t n (log ∷ logs) e =
-    let p : (any (same_id t) (gather id_in log) ≡ false) × (any (same_id t) (join (gather id_in) logs) ≡ false) = apart t log logs e in
-    ap (λ cs. map (λ c. let d : Decision = record { shard = n; commit = c } in d) cs ++ join (decisions_of t) (numbered (suc n) logs)) (no_commit t log p.0)
+    let p : (list_any (same_id t) (gather id_in log) ≡ false) × (list_any (same_id t) (flat_map (gather id_in) logs) ≡ false) = apart t log logs e in
+    ap (λ cs. map (λ c. let d : Decision = record { shard = n; commit = c } in d) cs ++ flat_map (decisions_of t) (numbered (suc n) logs)) (no_commit t log p.0)
     ∙ no_decision t (suc n) logs p.1
 
-no_ends : (t : Id) (logs : List (List Record)) → any (same_id t) (join (gather id_in) logs) ≡ false → each (λ l. ends_at l t (λ s. false)) logs ≡ true
+no_ends : (t : Id) (logs : List (List Record)) → list_any (same_id t) (flat_map (gather id_in) logs) ≡ false → list_all (λ l. ends_at l t (λ s. false)) logs ≡ true
 no_ends t [] e = refl
 no_ends t (log ∷ logs) e =
-    let p : (any (same_id t) (gather id_in log) ≡ false) × (any (same_id t) (join (gather id_in) logs) ≡ false) = apart t log logs e in
-    ap (λ b. b && each (λ l. ends_at l t (λ s. false)) logs) (no_end t (λ s. false) log p.0) ∙ no_ends t logs p.1
+    let p : (list_any (same_id t) (gather id_in log) ≡ false) × (list_any (same_id t) (flat_map (gather id_in) logs) ≡ false) = apart t log logs e in
+    ap (λ b. b && list_all (λ l. ends_at l t (λ s. false)) logs) (no_end t (λ s. false) log p.0) ∙ no_ends t logs p.1
 
-unmentioned : (t : Id) (logs : List (List Record)) → any (same_id t) (join (gather id_in) logs) ≡ false → is_whole t logs ≡ true
+unmentioned : (t : Id) (logs : List (List Record)) → list_any (same_id t) (flat_map (gather id_in) logs) ≡ false → is_whole t logs ≡ true
 unfolding is_whole decisions_of
 unmentioned t logs e = ap (λ ds. is_whole_by logs t ds) (no_decision t 0 logs e) ∙ no_ends t logs e
 
 -- ---- all ids
 
-mentioned : (t : Id) (logs : List (List Record)) (ids : List Id) → keep (λ u. not (is_whole u logs)) ids ≡ [] → any (same_id t) ids ≡ true → is_whole t logs ≡ true
+mentioned : (t : Id) (logs : List (List Record)) (ids : List Id) → filter (λ u. not (is_whole u logs)) ids ≡ [] → list_any (same_id t) ids ≡ true → is_whole t logs ≡ true
 mentioned t logs [] e there = cc
 mentioned t logs (u ∷ us) e there =
-    let p : (not (is_whole u logs) ≡ false) × (keep (λ v. not (is_whole v logs)) us ≡ []) = kept_step (not (is_whole u logs)) u (keep (λ v. not (is_whole v logs)) us) e in
-    here_or_later (one_of (same_id t u) (any (same_id t) us) there) p.0 (λ later. mentioned t logs us p.1 later)
+    let p : (not (is_whole u logs) ≡ false) × (filter (λ v. not (is_whole v logs)) us ≡ []) = kept_step (not (is_whole u logs)) u (filter (λ v. not (is_whole v logs)) us) e in
+    here_or_later (one_of (same_id t u) (list_any (same_id t) us) there) p.0 (λ later. mentioned t logs us p.1 later)
   where
-    here_or_later : (same_id t u ≡ true) ⊎ (any (same_id t) us ≡ true) → not (is_whole u logs) ≡ false → (any (same_id t) us ≡ true → is_whole t logs ≡ true) → is_whole t logs ≡ true
+    here_or_later : (same_id t u ≡ true) ⊎ (list_any (same_id t) us ≡ true) → not (is_whole u logs) ≡ false → (list_any (same_id t) us ≡ true → is_whole t logs ≡ true) → is_whole t logs ≡ true
     here_or_later (inl same) good later = subst (λ v. is_whole v logs ≡ true) (sym (same_id-is t u same)) (not_false _ good)
     here_or_later (inr more) good later = later more
 
-by_mention : (b : Bool) (t : Id) (logs : List (List Record)) → any (same_id t) (all_ids logs) ≡ b → first_torn logs ≡ None → is_whole t logs ≡ true
+by_mention : (b : Bool) (t : Id) (logs : List (List Record)) → list_any (same_id t) (all_ids logs) ≡ b → first_torn logs ≡ None → is_whole t logs ≡ true
 by_mention true t logs e none = mentioned t logs (all_ids logs) (head_none _ none) e
-by_mention false t logs e none = unmentioned t logs (sym (any_once t (join (gather id_in) logs)) ∙ e)
+by_mention false t logs e none = unmentioned t logs (sym (any_once t (flat_map (gather id_in) logs)) ∙ e)
 
 pub whole_for_all : (logs : List (List Record)) → first_torn logs ≡ None → (t : Id) → is_whole t logs ≡ true
-whole_for_all logs none t = by_mention (any (same_id t) (all_ids logs)) t logs refl none
+whole_for_all logs none t = by_mention (list_any (same_id t) (all_ids logs)) t logs refl none
 
 -- ---- what a yes means
 

@@ -1,7 +1,8 @@
 -- Which lists of records a shard takes for its log. The others are damaged, at the first record that is refused, or
 -- speak of a key of another shard.
+use Rattle.std.specs.List.{list_any, list_all}
 use Rattle.std.specs.Prelude.{ℕ, ◌+◌, Bool, true, false, not, cond, ◌&&◌, ◌||◌, nat_eq, nat_lt, nat_le, List, [], ◌∷◌, ◌++◌, length, Option, Some, None}
-use Rattle.units.specs.Lists.{any, each, gather, head, when}
+use Rattle.units.specs.Lists.{gather, head, when}
 use Rattle.units.specs.Ids.{Id}
 use Rattle.units.specs.Keys.{Bytes, shard_of}
 use Rattle.record.specs.Records.{Status, Unrecorded, StandsPrepared, StandsDecided, status_of, prepared_of, committed_of, ended_of, epoch_of, ids_of}
@@ -49,7 +50,7 @@ standing log = gather (λ t. standing_locks (status_of log t)) (ids_of log)
 abbrev pub stands : List Record → ℕ → List Bytes → List Write → Bool
 stands before at reads writes =
     nat_lt (length (standing before)) 1024
-    && not (any (clash (locks_of reads writes)) (standing before))
+    && not (list_any (clash (locks_of reads writes)) (standing before))
     && above_versions (installs_of before) at writes
 
 -- the rules of rows, locks and versions
@@ -78,8 +79,8 @@ followed shard log = followed_from shard [] log
 -- each key is of this shard
 abbrev pub keys_belong : Setup → List Bytes → List Write → Bool
 keys_belong setup reads writes =
-    each (λ k. nat_eq (shard_of setup.splits k) setup.shard) reads
-    && each (λ w. nat_eq (shard_of setup.splits w.key) setup.shard) writes
+    list_all (λ k. nat_eq (shard_of setup.splits k) setup.shard) reads
+    && list_all (λ w. nat_eq (shard_of setup.splits w.key) setup.shard) writes
 
 -- a record names keys of this shard alone
 unfoldable pub belongs : Setup → Record → Bool

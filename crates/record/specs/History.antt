@@ -1,6 +1,6 @@
 -- The serial meaning: transactions read off the logs and applied whole, one by one, to one plain map.
-use Rattle.std.specs.Prelude.{ℕ, Bool, ◌&&◌, ◌||◌, not, cond, nat_eq, nat_lt, nat_le, List, [], ◌∷◌, ◌++◌, Option, Some, None}
-use Rattle.units.specs.Lists.{keep, gather, join, head, when, numbered, sorted, first}
+use Rattle.std.specs.Prelude.{ℕ, Bool, ◌&&◌, ◌||◌, not, cond, nat_eq, nat_lt, nat_le, List, [], ◌∷◌, ◌++◌, Option, Some, None, filter, flat_map}
+use Rattle.units.specs.Lists.{gather, head, when, numbered, sorted, first}
 use Rattle.units.specs.Ids.{Id, same_id, older}
 use Rattle.units.specs.Keys.{Bytes, same_key}
 use Rattle.record.specs.Records.{as_committed, as_prepared}
@@ -16,7 +16,7 @@ by_shard logs = numbered 0 logs
 -- what an id promised at the shards other than one, by ascending shard
 abbrev pub promised_elsewhere : List (List Record) → Id → ℕ → List Prepared
 promised_elsewhere logs t shard =
-    join (λ l. keep (λ p. same_id p.txn t && not (nat_eq l.0 shard)) (gather as_prepared l.1)) (by_shard logs)
+    flat_map (λ l. filter (λ p. same_id p.txn t && not (nat_eq l.0 shard)) (gather as_prepared l.1)) (by_shard logs)
 
 -- a transaction of the history: its id, its timestamp and its writes in the order in which they are applied
 pub record Txn : Type 0 where
@@ -27,12 +27,12 @@ pub record Txn : Type 0 where
 -- a commit decision at a shard as a transaction: its own writes, then those promised elsewhere
 abbrev pub whole_txn : List (List Record) → ℕ → Committed → Txn
 whole_txn logs shard c =
-    record { txn = c.txn; at = c.at; writes = c.writes ++ join (λ p. p.writes) (promised_elsewhere logs c.txn shard) }
+    record { txn = c.txn; at = c.at; writes = c.writes ++ flat_map (λ p. p.writes) (promised_elsewhere logs c.txn shard) }
 
 -- each commit decision in the log of its least part
 unfoldable pub history : List (List Record) → List Txn
 history logs =
-    join (λ l. gather (λ c. cond (when (nat_eq l.0) (head c.parts)) (Some (whole_txn logs l.0 c)) None) (gather as_committed l.1)) (by_shard logs)
+    flat_map (λ l. gather (λ c. cond (when (nat_eq l.0) (head c.parts)) (Some (whole_txn logs l.0 c)) None) (gather as_committed l.1)) (by_shard logs)
 
 -- the serial order: by timestamp, then by id
 abbrev pub comes_before : Txn → Txn → Bool
@@ -66,11 +66,11 @@ serial h = sorted comes_before h
 
 -- the map of the transactions that come before one
 unfoldable pub before : List Txn → Txn → Map
-before h t = applied (keep (λ u. comes_before u t) (serial h)) empty
+before h t = applied (filter (λ u. comes_before u t) (serial h)) empty
 
 -- the map of the transactions up to a timestamp
 unfoldable pub upto : List Txn → ℕ → Map
-upto h at = applied (keep (λ u. nat_le u.at at) (serial h)) empty
+upto h at = applied (filter (λ u. nat_le u.at at) (serial h)) empty
 
 -- the transaction of an id
 abbrev pub find_txn : List Txn → Id → Option Txn

@@ -1,6 +1,6 @@
 -- What a log installs: each outcome at a timestamp makes versions of what was promised or decided.
-use Rattle.std.specs.Prelude.{List, [], Option, Some, None}
-use Rattle.units.specs.Lists.{gather, join}
+use Rattle.std.specs.Prelude.{List, [], Option, Some, None, flat_map}
+use Rattle.units.specs.Lists.{gather}
 use Rattle.units.specs.Versions.{versions}
 use Rattle.units.specs.declared.writes.Install.{Install}
 use Rattle.units.specs.declared.writes.Write.{Write}
@@ -22,4 +22,4 @@ installed_by log e =
 
 -- the versions of a log, in its order: an outcome at a timestamp installs what was promised or decided
 unfoldable pub installs_of : List Record → List Install
-installs_of log = join (installed_by log) (gather as_ended log)
+installs_of log = flat_map (installed_by log) (gather as_ended log)

@@ -1,6 +1,7 @@
 -- What a log says, each fact read from the set of its records.
+use Rattle.std.specs.List.{list_any}
 use Rattle.std.specs.Prelude.{ℕ, Bool, true, false, List, Option, Some, None}
-use Rattle.units.specs.Lists.{gather, first, any, greatest}
+use Rattle.units.specs.Lists.{gather, first, greatest}
 use Rattle.units.specs.Ids.{Id, same_id, ids_once}
 use Rattle.record.specs.declared.record.Committed.{Committed}
 use Rattle.record.specs.declared.record.Prepared.{Prepared}
@@ -73,7 +74,7 @@ committed_of log t = first (λ c. same_id c.txn t) (gather as_committed log)
 
 -- the log has an abort decision of an id
 abbrev pub is_aborted : List Record → Id → Bool
-is_aborted log t = any (same_id t) (gather as_aborted log)
+is_aborted log t = list_any (same_id t) (gather as_aborted log)
 
 -- the log's outcome of an id
 abbrev pub ended_of : List Record → Id → Option Ended

@@ -1,6 +1,7 @@
 -- The inspector's verdict on logs and report lines. `VerdictLaws` says what a yes means.
-use Rattle.std.specs.Prelude.{ℕ, ◌≡◌, Bool, true, false, not, cond, ◌&&◌, nat_eq, nat_lt, nat_le, List, [], slice_get, Option, Some, None}
-use Rattle.units.specs.Lists.{any, gather, first, head, mapped, when, numbered, same_numbers}
+use Rattle.std.specs.List.{list_any}
+use Rattle.std.specs.Prelude.{ℕ, ◌≡◌, Bool, true, false, not, cond, ◌&&◌, nat_eq, nat_lt, nat_le, List, [], slice_get, Option, Some, None, option_map}
+use Rattle.units.specs.Lists.{gather, first, head, when, numbered, same_numbers}
 use Rattle.units.specs.Ids.{Id, same_id, ids_once}
 use Rattle.units.specs.Keys.{Bytes}
 use Rattle.record.specs.History.{Txn, history, before, upto, find_txn}
@@ -23,7 +24,7 @@ first_torn logs = first (λ t. not (is_whole t logs)) (all_ids logs)
 
 -- the id is in the history at this timestamp
 abbrev pub is_in_at : List Txn → Id → ℕ → Bool
-is_in_at h t at = any (λ u. same_id u.txn t && nat_eq u.at at) h
+is_in_at h t at = list_any (λ u. same_id u.txn t && nat_eq u.at at) h
 
 -- the id of an acknowledgement that the history lacks
 abbrev pub lost_by : List Txn → Line → Option Id
@@ -42,7 +43,7 @@ line_reads_right h _ = true
 
 -- the place of the first line with a wrong value
 abbrev pub first_wrong_read : List Txn → List Line → Option ℕ
-first_wrong_read h lines = mapped (λ l. l.0) (first (λ l. not (line_reads_right h l.1)) (numbered 0 lines))
+first_wrong_read h lines = option_map (λ l. l.0) (first (λ l. not (line_reads_right h l.1)) (numbered 0 lines))
 
 -- the line acknowledges a transaction before this moment, at a timestamp that is not below this one
 abbrev pub is_late_ack : ℕ → ℕ → Line → Bool
@@ -58,7 +59,7 @@ late_acks h lines _ = []
 -- the first begin line with such a line, and the first of those
 abbrev pub first_wrong_order : List Txn → List Line → Option (ℕ × ℕ)
 first_wrong_order h lines =
-    head (gather (λ l. mapped (λ j. (l.0, j)) (head (late_acks h (numbered 0 lines) l.1))) (numbered 0 lines))
+    head (gather (λ l. option_map (λ j. (l.0, j)) (head (late_acks h (numbered 0 lines) l.1))) (numbered 0 lines))
 
 -- the first fault that there is
 abbrev pub first_fault : Option Id → Option Id → Option ℕ → Option (ℕ × ℕ) → Verdict

@@ -1,9 +1,8 @@
 -- Whether a record has its place beside the rows that a log holds.
 use Rattle.std.proofs.Common.{◌≡◌, ℕ, Bool, true, false, not, ◌&&◌, nat_lt, nat_le, List, [], ◌∷◌, ◌++◌, map, length, Option, Some, None, refl, sym, ap, ◌∙◌, arith}
-use Rattle.std.specs.List.{AllByRecursion}
+use Rattle.std.specs.List.{AllByRecursion, list_any}
 use Rattle.std.proofs.lemmas.Bool.{and_parts}
 use Rattle.std.proofs.lemmas.Bool.Decides.{nat_tests}
-use Rattle.units.specs.Lists.{any}
 use Rattle.units.specs.Ids.{Id, same_id}
 use Rattle.units.specs.Keys.{Bytes}
 use Rattle.units.specs.Locks.{clash, exclusive, is_free, locks_of, shared, wounded}
@@ -43,19 +42,19 @@ fresh_absent k t recovered fresh =
     ap (λ rows. find_row rows t) (rows_are k recovered)
     ∙ no_row k.facts.entries t recovered.order recovered.own (λ e found. none_standing e (ap or_unrecorded (sym found) ∙ fresh))
 
-none_has : (rows : List Row) (t : Id) → AllByRecursion (λ r. same_id r.txn t ≡ false) rows → any (λ r. same_id r.txn t) rows ≡ false
+none_has : (rows : List Row) (t : Id) → AllByRecursion (λ r. same_id r.txn t ≡ false) rows → list_any (λ r. same_id r.txn t) rows ≡ false
 none_has [] t all = refl
 none_has (r ∷ rs) t all = rw (all.0) (none_has rs t all.1)
 
 -- there is room for its row
-roomy : (rows : List Row) (t : Id) → find_row rows t ≡ None → not (nat_le 1024 (length rows) && not (any (λ r. same_id r.txn t) rows)) ≡ nat_lt (length rows) 1024
+roomy : (rows : List Row) (t : Id) → find_row rows t ≡ None → not (nat_le 1024 (length rows) && not (list_any (λ r. same_id r.txn t) rows)) ≡ nat_lt (length rows) 1024
 roomy rows t absent =
     ap (λ b. not (nat_le 1024 (length rows) && not b)) (none_has rows t (first_none (λ (r : Row). same_id r.txn t) rows absent))
     ∙ grind (arith, nat_tests)
 
 -- the request goes where nobody has its locks
 opens_are : (k : Kept) (t : Id) (rs : List Bytes) (ws : List Write) → IsRecovered k → find_row k.memory.rows t ≡ None
-    → opens (start_of k) t (shared rs ++ exclusive ws) ≡ not (any (clash (locks_of rs ws)) (map (λ r. r.held) (standing_rows k.facts)))
+    → opens (start_of k) t (shared rs ++ exclusive ws) ≡ not (list_any (clash (locks_of rs ws)) (map (λ r. r.held) (standing_rows k.facts)))
 opens_are k t rs ws recovered absent =
     ap (λ rows. is_free (claims (without_rows rows (wounded (claims rows) t (shared rs ++ exclusive ws)))) t (shared rs ++ exclusive ws)) (rows_are k recovered)
     ∙ ap (λ us. is_free (claims (without_rows (standing_rows k.facts) us)) t (shared rs ++ exclusive ws)) (none_wounded (standing_rows k.facts) t (shared rs ++ exclusive ws) (all_still k.facts))
@@ -68,9 +67,9 @@ pub stands_are : (k : Kept) (t : Id) (at : ℕ) (rs : List Bytes) (ws : List Wri
 stands_are k t at rs ws crowded free above recovered absent c f a =
     let room : not crowded ≡ nat_lt (length (standing_rows k.facts)) 1024 =
     ap not c ∙ roomy k.memory.rows t absent ∙ ap (λ rows. nat_lt (length rows) 1024) (rows_are k recovered) in
-    let open_ : free ≡ not (any (clash (locks_of rs ws)) (map (λ r. r.held) (standing_rows k.facts))) = f ∙ opens_are k t rs ws recovered absent in
+    let open_ : free ≡ not (list_any (clash (locks_of rs ws)) (map (λ r. r.held) (standing_rows k.facts))) = f ∙ opens_are k t rs ws recovered absent in
     ap (λ b. b && free && above) room ∙ ap (λ b. nat_lt (length (standing_rows k.facts)) 1024 && b && above) open_
-    ∙ ap (λ b. nat_lt (length (standing_rows k.facts)) 1024 && not (any (clash (locks_of rs ws)) (map (λ r. r.held) (standing_rows k.facts))) && b) a
+    ∙ ap (λ b. nat_lt (length (standing_rows k.facts)) 1024 && not (list_any (clash (locks_of rs ws)) (map (λ r. r.held) (standing_rows k.facts))) && b) a
 
 -- and then it may ask for its locks
 pub asks_are : (k : Kept) (t : Id) (at : ℕ) (rs : List Bytes) (ws : List Write) → IsRecovered k → find_row k.memory.rows t ≡ None → stands_in k.facts at rs ws ≡ true

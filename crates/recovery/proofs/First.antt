@@ -3,8 +3,7 @@ use Rattle.std.proofs.Common.{◌≡◌, ℕ, true, false, not, cond, ◌&&◌, 
 use Rattle.std.proofs.lemmas.Bool.{false≢true}
 use Rattle.std.proofs.lemmas.Bool.Decides.{nat_tests}
 use Rattle.std.specs.Prelude.{IsTrue}
-use Rattle.units.specs.Lists.{each}
-use Rattle.std.specs.List.{AllByRecursion}
+use Rattle.std.specs.List.{AllByRecursion, list_all}
 use Rattle.units.specs.ById.{IsById}
 use Rattle.units.specs.declared.fault.Fault.{Fault}
 use Rattle.units.specs.declared.setup.Setup.{Setup}
@@ -77,7 +76,7 @@ pub first_refused : (setup : Setup) (e : Placed) → belongs setup e.item ≡ tr
 first_refused setup e own other = unfollowing_next setup (facts_of []) e own (first_follows setup.shard e.item ∙ other)
 
 -- it installs nothing
-no_installs : IsTrue (each (λ i. nat_le i.at (facts_of (Record.Opened 1 ∷ [])).floor) (facts_of (Record.Opened 1 ∷ [])).installs)
+no_installs : IsTrue (list_all (λ i. nat_le i.at (facts_of (Record.Opened 1 ∷ [])).floor) (facts_of (Record.Opened 1 ∷ [])).installs)
 unfolding facts_of
 no_installs = (fresh_is_sound 0).installed
 
@@ -88,7 +87,7 @@ first_recovered k facts memory = record {
   memory = memory ∙ ap rebuilt (sym facts);
   opened = subst (λ (f : Facts). 0 < f.epoch) (sym facts) (omega arith);
   good = subst (λ (f : Facts). AllByRecursion (IsGood f) f.entries) (sym facts) tt;
-  covered = subst (λ (f : Facts). IsTrue (each (λ i. nat_le i.at f.floor) f.installs)) (sym facts) no_installs;
+  covered = subst (λ (f : Facts). IsTrue (list_all (λ i. nat_le i.at f.floor) f.installs)) (sym facts) no_installs;
   order = subst (λ (f : Facts). IsById (λ (e : Entry). e.txn) f.entries) (sym facts) tt;
   own = subst (λ (f : Facts). AllByRecursion IsOwn f.entries) (sym facts) tt;
 }

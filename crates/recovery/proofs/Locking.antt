@@ -1,9 +1,8 @@
 -- A promise or a decision beside rows that all stand firm: nobody is ended, and it goes where nobody has its locks.
-use Rattle.std.proofs.Common.{◌≡◌, Bool, true, false, not, cond, ◌&&◌, ◌||◌, List, [], ◌∷◌, ◌++◌, map, Some, None, refl, sym, ap, subst, ◌∙◌, arith}
-use Rattle.std.specs.List.{AllByRecursion}
+use Rattle.std.proofs.Common.{◌≡◌, Bool, true, false, not, cond, ◌&&◌, ◌||◌, List, [], ◌∷◌, ◌++◌, map, Some, None, refl, sym, ap, subst, ◌∙◌, arith, filter}
+use Rattle.std.specs.List.{AllByRecursion, list_any}
 use Rattle.std.proofs.lemmas.Bool.{false≢true, or_parts}
 use Rattle.std.proofs.lemmas.Bool.Decides.{nat_tests}
-use Rattle.units.specs.Lists.{any, keep}
 use Rattle.units.specs.Ids.{Id, same_id, older}
 use Rattle.units.specs.Keys.{Bytes}
 use Rattle.units.specs.Locks.{Claim, blockers, clash, exclusive, is_free, locks_of, may_wound, others, shared, waits_before, with_lock, with_locks, wounded}
@@ -82,7 +81,7 @@ all_still facts = all-gather (λ e. Unit {0}) IsStill still_row facts.entries (a
 
 -- ---- a request beside them
 
-none_kept : {A : Type 0} (p : A → Bool) (xs : List A) → AllByRecursion (λ x. p x ≡ false) xs → keep p xs ≡ []
+none_kept : {A : Type 0} (p : A → Bool) (xs : List A) → AllByRecursion (λ x. p x ≡ false) xs → filter p xs ≡ []
 none_kept p [] all = refl
 none_kept p (x ∷ xs) all = rw (all.0) (none_kept p xs all.1)
 
@@ -107,25 +106,25 @@ none_wounded rows t needs still =
 
 -- beside rows of others that wait for nothing, a request goes where it clashes with nothing that is held
 pub free_is : (rows : List Row) (t : Id) (needs : List Lock) → AllByRecursion IsStill rows → AllByRecursion (λ r. same_id r.txn t ≡ false) rows
-    → is_free (claims rows) t needs ≡ not (any (clash needs) (map (λ r. r.held) rows))
+    → is_free (claims rows) t needs ≡ not (list_any (clash needs) (map (λ r. r.held) rows))
 unfolding is_free
 free_is rows t needs still apart =
-    ap (λ b. not b && not (any (λ c. true) (waits_before (claims rows) t needs))) (held_in_way rows apart)
-    ∙ ap (λ cs. not (any (clash needs) (map (λ (r : Row). r.held) rows)) && not (any (λ c. true) cs)) (none_wait rows still apart)
-    ∙ and_not (any (clash needs) (map (λ (r : Row). r.held) rows))
+    ap (λ b. not b && not (list_any (λ c. true) (waits_before (claims rows) t needs))) (held_in_way rows apart)
+    ∙ ap (λ cs. not (list_any (clash needs) (map (λ (r : Row). r.held) rows)) && not (list_any (λ c. true) cs)) (none_wait rows still apart)
+    ∙ and_not (list_any (clash needs) (map (λ (r : Row). r.held) rows))
   where
     and_not : (b : Bool) → (not b && true) ≡ not b
     and_not true = refl
     and_not false = refl
 
-    held_in_way : (rs : List Row) → AllByRecursion (λ r. same_id r.txn t ≡ false) rs → any (λ c. true) (blockers (claims rs) t needs) ≡ any (clash needs) (map (λ r. r.held) rs)
+    held_in_way : (rs : List Row) → AllByRecursion (λ r. same_id r.txn t ≡ false) rs → list_any (λ c. true) (blockers (claims rs) t needs) ≡ list_any (clash needs) (map (λ r. r.held) rs)
     held_in_way [] all = refl
     held_in_way (r ∷ rs) all = rw (all.0) (by_test (clash r.held needs) refl (held_in_way rs all.1))
       where
-        by_test : (b : Bool) → clash r.held needs ≡ b → any (λ c. true) (blockers (claims rs) t needs) ≡ any (clash needs) (map (λ r. r.held) rs)
-            → any (λ c. true) (cond b (claim_of r ∷ blockers (claims rs) t needs) (blockers (claims rs) t needs)) ≡ (clash needs r.held || any (clash needs) (map (λ r. r.held) rs))
-        by_test true k rest = sym (ap (λ b. b || any (clash needs) (map (λ (r : Row). r.held) rs)) (clash_comm needs r.held ∙ k))
-        by_test false k rest = rest ∙ sym (ap (λ b. b || any (clash needs) (map (λ (r : Row). r.held) rs)) (clash_comm needs r.held ∙ k))
+        by_test : (b : Bool) → clash r.held needs ≡ b → list_any (λ c. true) (blockers (claims rs) t needs) ≡ list_any (clash needs) (map (λ r. r.held) rs)
+            → list_any (λ c. true) (cond b (claim_of r ∷ blockers (claims rs) t needs) (blockers (claims rs) t needs)) ≡ (clash needs r.held || list_any (clash needs) (map (λ r. r.held) rs))
+        by_test true k rest = sym (ap (λ b. b || list_any (clash needs) (map (λ (r : Row). r.held) rs)) (clash_comm needs r.held ∙ k))
+        by_test false k rest = rest ∙ sym (ap (λ b. b || list_any (clash needs) (map (λ (r : Row). r.held) rs)) (clash_comm needs r.held ∙ k))
 
     none_wait : (rs : List Row) → AllByRecursion IsStill rs → AllByRecursion (λ r. same_id r.txn t ≡ false) rs → waits_before (claims rs) t needs ≡ []
     none_wait [] still all = refl
@@ -135,13 +134,13 @@ free_is rows t needs still apart =
         quiet true ls k = ap (λ ls. clash ls needs) k
         quiet false ls k = refl
 
-any-alike_in : (p q : List Lock → Bool) → ((ms : List Lock) → p ms ≡ q ms) → (xs : List (List Lock)) → any p xs ≡ any q xs
+any-alike_in : (p q : List Lock → Bool) → ((ms : List Lock) → p ms ≡ q ms) → (xs : List (List Lock)) → list_any p xs ≡ list_any q xs
 any-alike_in p q same [] = refl
-any-alike_in p q same (x ∷ xs) = ap (λ b. b || any p xs) (same x) ∙ ap (λ b. q x || b) (any-alike_in p q same xs)
+any-alike_in p q same (x ∷ xs) = ap (λ b. b || list_any p xs) (same x) ∙ ap (λ b. q x || b) (any-alike_in p q same xs)
 
 -- so a record's locks are asked for
 pub locks_free : (facts : Facts) (t : Id) (rs : List Bytes) (ws : List Write) → find_row (standing_rows facts) t ≡ None
-    → is_free (claims (standing_rows facts)) t (shared rs ++ exclusive ws) ≡ not (any (clash (locks_of rs ws)) (map (λ r. r.held) (standing_rows facts)))
+    → is_free (claims (standing_rows facts)) t (shared rs ++ exclusive ws) ≡ not (list_any (clash (locks_of rs ws)) (map (λ r. r.held) (standing_rows facts)))
 locks_free facts t rs ws absent =
     free_is (standing_rows facts) t (shared rs ++ exclusive ws) (all_still facts) (first_none (λ (r : Row). same_id r.txn t) (standing_rows facts) absent)
     ∙ ap not (any-alike_in (clash (shared rs ++ exclusive ws)) (clash (locks_of rs ws)) (needs_clash rs ws) (map (λ (r : Row). r.held) (standing_rows facts)))

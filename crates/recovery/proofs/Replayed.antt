@@ -1,9 +1,8 @@
 -- A record that has its place can be made once more, and leaves what the log with it leaves.
 use Rattle.std.proofs.Common.{◌≡◌, ◌<◌, nat_le, true, List, Some, None, sym, ap, subst, ◌∙◌}
 use Rattle.std.specs.Prelude.{IsTrue}
-use Rattle.units.specs.Lists.{each}
 use Rattle.units.specs.LockLaws.{IsLawfulTable}
-use Rattle.std.specs.List.{AllByRecursion}
+use Rattle.std.specs.List.{AllByRecursion, list_all}
 use Rattle.units.specs.ById.{IsById}
 use Rattle.units.specs.Versions.{above_versions}
 use Rattle.units.specs.declared.writes.Write.{Write}
@@ -68,6 +67,6 @@ recovered_again old new later p item recovered lawful follows fits logged fit re
         order = subst (λ (f : Facts). IsById (λ (e : Entry). e.txn) f.entries) (sym then) (learn_order old.facts item recovered.order);
         own = subst (λ (f : Facts). AllByRecursion IsOwn f.entries) (sym then) (learn_own old.setup.shard old.facts item follows recovered.own);
         good = subst (λ (f : Facts). AllByRecursion (IsGood f) f.entries) (sym then) taken.good;
-        covered = subst (λ (f : Facts). IsTrue (each (λ i. nat_le i.at f.floor) f.installs)) (sym then) taken.covered;
+        covered = subst (λ (f : Facts). IsTrue (list_all (λ i. nat_le i.at f.floor) f.installs)) (sym then) taken.covered;
       },
     )

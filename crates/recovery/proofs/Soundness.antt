@@ -2,10 +2,10 @@
 -- what it writes.
 use Rattle.std.proofs.Common.{◌≡◌, ℕ, ◌+◌, ◌<◌, ◌≤◌, Bool, true, false, not, nat_le, nat_lt, max, List, [], ◌∷◌, ◌++◌, Option, Some, None, refl, sym, ap, subst, ◌∙◌, arith}
 use Rattle.std.specs.Prelude.{IsTrue}
-use Rattle.std.specs.List.{AllByRecursion}
+use Rattle.std.specs.List.{AllByRecursion, list_all}
 use Rattle.std.proofs.lemmas.Bool.{false≢true, and_parts}
 use Rattle.std.proofs.lemmas.Bool.Decides.{nat_tests}
-use Rattle.units.specs.Lists.{ascends, each, follow}
+use Rattle.units.specs.Lists.{ascends, follow}
 use Rattle.units.specs.Ids.{Id, older, same_id}
 use Rattle.units.specs.ById.{IsById, find_member}
 use Rattle.units.specs.Keys.{same_key}
@@ -84,7 +84,7 @@ has_row e x k = by_status e.status k
 parts_apart : (f : Facts) (e d : Entry) (x y : Part) → IsById (λ e. e.txn) f.entries → AllByRecursion IsOwn f.entries → IsLawfulTable (claims (standing_rows f))
     → find_member (λ e. e.txn) f.entries e.txn ≡ Some e → find_member (λ e. e.txn) f.entries d.txn ≡ Some d → same_id d.txn e.txn ≡ false
     → part_of e.status ≡ Some x → part_of d.status ≡ Some y
-    → each (λ w. each (λ v. not (same_key v.key w.key)) y.writes) x.writes ≡ true
+    → list_all (λ w. list_all (λ v. not (same_key v.key w.key)) y.writes) x.writes ≡ true
 parts_apart f e d x y up own lawful here there differ k j =
     let r = has_row e x k in
     let q = has_row d y j in
@@ -172,7 +172,7 @@ installed_good f g t s y at d up own lawful there part put gone installs low goo
 pub record IsTaken (f : Facts) : Type 0 where
   pub opened : 0 < f.epoch
   pub good : AllByRecursion (IsGood f) f.entries
-  pub covered : IsTrue (each (λ i. nat_le i.at f.floor) f.installs)
+  pub covered : IsTrue (list_all (λ i. nat_le i.at f.floor) f.installs)
 
 fresh_due : (f g : Facts) (x : Part) → 0 < x.at → f.installs ≡ g.installs → g.floor ≡ max f.floor x.at → above_versions f.installs x.at x.writes ≡ true → IsDue g x
 fresh_due f g x some same floor above = record {
@@ -269,7 +269,7 @@ taken_more shard f (Record.Outcome t None) up own lawful follows fit taken =
     record {
       opened = taken.opened;
       good = noted_good f (learn f (Record.Outcome t None)) t (after_outcome (recorded f t) None) up refl same (omega arith) (subst (IsGoodPart (learn f (Record.Outcome t None))) (sym (x.gone None)) tt) taken.good;
-      covered = subst (λ is. IsTrue (each (λ i. nat_le i.at f.floor) is)) same taken.covered;
+      covered = subst (λ is. IsTrue (list_all (λ i. nat_le i.at f.floor) is)) same taken.covered;
     }
 taken_more shard f (Record.Outcome t (Some s)) up own lawful follows fit taken =
     let x = standing_entry f t (Some s) (id_rules shard f (Record.Outcome t (Some s)) follows) in
@@ -280,7 +280,7 @@ taken_more shard f (Record.Outcome t (Some s)) up own lawful follows fit taken =
       covered =
           each_append (λ (i : Install). nat_le i.at (max f.floor s)) f.installs (installs_at (recorded f t) (Some s))
           (covered_later f.floor (max f.floor s) f.installs (up_left f.floor s) taken.covered)
-          (subst (λ is. each (λ (i : Install). nat_le i.at (max f.floor s)) is ≡ true) (sym (x.installs s)) (covered_versions x.part.writes s (max f.floor s) (up_right f.floor s)));
+          (subst (λ is. list_all (λ (i : Install). nat_le i.at (max f.floor s)) is ≡ true) (sym (x.installs s)) (covered_versions x.part.writes s (max f.floor s) (up_right f.floor s)));
     }
 
 -- ---- so it is sound
@@ -352,8 +352,8 @@ recovered_sound shard k recovered lawful = record {
   entries = recovered.order;
   ended = ap (ascends older) (ended_is k recovered);
   under = omega (arith, last_is k recovered);
-  installed = ap (λ n. each (λ (i : Install). nat_le i.at n) k.facts.installs) (last_is k recovered) ∙ recovered.covered;
-  fit = ap (each (fits shard)) (rows_is k recovered)
+  installed = ap (λ n. list_all (λ (i : Install). nat_le i.at n) k.facts.installs) (last_is k recovered) ∙ recovered.covered;
+  fit = ap (list_all (fits shard)) (rows_is k recovered)
       ∙ each_of_all (fits shard) (standing_rows k.facts) (all-gather (λ e. Unit {0}) (λ r. fits shard r ≡ true) (row_fits shard) k.facts.entries (all_unit k.facts.entries));
   agrees = λ t.
       subst (λ rows. Agrees k.facts.installs k.memory.last (recorded k.facts t) (find_row rows t)) (sym (rows_is k recovered))

@@ -1,7 +1,7 @@
 -- What a log leaves of its shard, told record by record from the facts alone.
 use Rattle.std.specs.Prelude.{◌≡◌, ℕ, ◌<◌, ◌≤◌, IsTrue, nat_le, Bool, true, false, not, cond, ◌&&◌, nat_eq, nat_lt, List, [], map, length, Option, Some, None, slice_get}
-use Rattle.std.specs.List.{AllByRecursion}
-use Rattle.units.specs.Lists.{any, each, follow, gather}
+use Rattle.std.specs.List.{AllByRecursion, list_any, list_all}
+use Rattle.units.specs.Lists.{follow, gather}
 use Rattle.units.specs.ById.{IsById}
 use Rattle.units.specs.Keys.{Bytes}
 use Rattle.units.specs.Locks.{clash, locks_of}
@@ -32,7 +32,7 @@ standing_rows facts = gather standing_row facts.entries
 abbrev pub stands_in : Facts → ℕ → List Bytes → List Write → Bool
 stands_in facts at reads writes =
     nat_lt (length (standing_rows facts)) 1024
-    && not (any (clash (locks_of reads writes)) (map (λ r. r.held) (standing_rows facts)))
+    && not (list_any (clash (locks_of reads writes)) (map (λ r. r.held) (standing_rows facts)))
     && above_versions facts.installs at writes
 
 -- a record has its place beside what stands
@@ -94,7 +94,7 @@ pub record IsRecovered (k : Kept) : Type 0 where
   pub order : IsById (λ e. e.txn) k.facts.entries
   pub own : AllByRecursion IsOwn k.facts.entries
   pub good : AllByRecursion (IsGood k.facts) k.facts.entries
-  pub covered : IsTrue (each (λ i. nat_le i.at k.facts.floor) k.facts.installs)
+  pub covered : IsTrue (list_all (λ i. nat_le i.at k.facts.floor) k.facts.installs)
 
 -- what was found in a log: nothing where no record stands, else what its facts leave, which is sound
 abbrev pub IsRebuilt : Setup → List Record → Option Kept → Type 0

@@ -1,8 +1,8 @@
 //! Whose keys a record names.
+ghost use Rattle.std.specs.List.{list_all};
 ghost use Rattle.std.specs.Prelude.{◌≡◌, nat_eq};
 ghost use Rattle.record.specs.Accepted.{belongs, keys_belong};
 ghost use Rattle.units.specs.Keys.{shard_of};
-ghost use Rattle.units.specs.Lists.{each};
 
 use record::Record;
 use units::{Keys, Setup, Writes};
@@ -28,7 +28,7 @@ pub fn owns_all(setup: &Setup, reads: &Keys, writes: &Writes) -> bool
 
 // Each of the keys is of this shard.
 fn owns_keys(setup: &Setup, keys: &Keys) -> bool
-    ensures { result ≡ each (λ k. nat_eq (shard_of setup.now.splits k) setup.now.shard) keys.now }
+    ensures { result ≡ list_all (λ k. nat_eq (shard_of setup.now.splits k) setup.now.shard) keys.now }
 {
     for key in keys.as_slice() {
         if !setup.owns(key) {

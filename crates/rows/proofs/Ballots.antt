@@ -1,7 +1,8 @@
 -- Votes of each shard once are sixteen at most.
+use Rattle.std.specs.List.{list_any, list_all}
 use Rattle.std.proofs.Common.{◌≡◌, ℕ, zero, suc, ◌<◌, ◌≤◌, Bool, true, false, cond, ◌&&◌, ◌||◌, nat_eq, nat_lt, List, [], ◌∷◌, ◌++◌, map, length, refl, sym, ap, ◌∙◌, arith}
 use Rattle.std.proofs.lemmas.Bool.Decides.{nat_tests}
-use Rattle.units.specs.Lists.{any, each, has, once, insert, sorted}
+use Rattle.units.specs.Lists.{has, once, insert, sorted}
 use Rattle.units.specs.Parts.{marked}
 use Rattle.units.proofs.Marked.{sorted_once}
 use Rattle.protocol.specs.Rows.{with_vote}
@@ -48,9 +49,9 @@ once-shards [] are = refl
 once-shards (v ∷ vs) are =
     ap (λ b. cond b (once (shards vs)) (v.shard ∷ once (shards vs))) (has-shards v.shard vs ∙ are.1) ∙ ap (λ l. v.shard ∷ l) (once-shards vs are.2)
 
-small-shards : (vs : List CastVote) → AreVotes vs → each (λ n. nat_lt n 16) (shards vs) ≡ true
+small-shards : (vs : List CastVote) → AreVotes vs → list_all (λ n. nat_lt n 16) (shards vs) ≡ true
 small-shards [] are = refl
-small-shards (v ∷ vs) are = ap (λ b. b && each (λ n. nat_lt n 16) (shards vs)) are.0 ∙ small-shards vs are.2
+small-shards (v ∷ vs) are = ap (λ b. b && list_all (λ n. nat_lt n 16) (shards vs)) are.0 ∙ small-shards vs are.2
 
 length-shards : (vs : List CastVote) → length (shards vs) ≡ length vs
 length-shards [] = refl
@@ -90,7 +91,7 @@ votes-append (w ∷ vs) v small new are =
 
 -- ---- as the protocol sees it
 
-voted-map : (n : ℕ) (vs : List CastVote) → any (λ v. nat_eq v.shard n) (map voted_of vs) ≡ has_voted n vs
+voted-map : (n : ℕ) (vs : List CastVote) → list_any (λ v. nat_eq v.shard n) (map voted_of vs) ≡ has_voted n vs
 voted-map n [] = refl
 voted-map n (v ∷ vs) = ap (λ b. nat_eq v.shard n || b) (voted-map n vs)
 

@@ -1,6 +1,5 @@
 -- The list of rows stays in order and within its limit.
-use Rattle.std.proofs.Common.{◌+◌, ◌<◌, ◌≤◌, Bool, true, false, not, cond, List, [], ◌∷◌, length, arith}
-use Rattle.units.specs.Lists.{keep}
+use Rattle.std.proofs.Common.{◌+◌, ◌<◌, ◌≤◌, Bool, true, false, not, cond, List, [], ◌∷◌, length, arith, filter}
 use Rattle.units.specs.Ids.{Id, same_id, older}
 use Rattle.units.specs.ById.{with_member}
 use Rattle.units.proofs.ByIdLaws.{by_id-keep, by_id-with}
@@ -8,11 +7,11 @@ use Rattle.rows.specs.declared.row.Row.{Row}
 use Rattle.rows.specs.CodeRows.{IsRowList, txn_of, without_txn, put_in, most_rows}
 
 -- fewer members, or as many
-pub length-keep : {A : Type 0} (p : A → Bool) (xs : List A) → length (keep p xs) ≤ length xs
+pub length-keep : {A : Type 0} (p : A → Bool) (xs : List A) → length (filter p xs) ≤ length xs
 length-keep p [] = omega arith
 length-keep p (x ∷ xs) = by_test (p x) (length-keep p xs)
   where
-    by_test : (b : Bool) → length (keep p xs) ≤ length xs → length (cond b (x ∷ keep p xs) (keep p xs)) ≤ length (x ∷ xs)
+    by_test : (b : Bool) → length (filter p xs) ≤ length xs → length (cond b (x ∷ filter p xs) (filter p xs)) ≤ length (x ∷ xs)
     by_test true e = omega (arith, e)
     by_test false e = omega (arith, e)
 

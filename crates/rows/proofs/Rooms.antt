@@ -1,6 +1,5 @@
 -- The room of a transaction is that of the token in its row.
-use Rattle.std.proofs.Common.{◌≡◌, ◌+◌, ◌≤◌, List, length, Option, Some, None, refl, sym, ap, ◌∙◌, arith}
-use Rattle.units.specs.Lists.{mapped}
+use Rattle.std.proofs.Common.{◌≡◌, ◌+◌, ◌≤◌, List, length, Option, Some, None, refl, sym, ap, ◌∙◌, arith, option_map}
 use Rattle.units.specs.Ids.{Id}
 use Rattle.units.specs.Locks.{Claim}
 use Rattle.units.specs.declared.lock.Lock.{Lock}
@@ -16,11 +15,11 @@ use Rattle.rows.specs.declared.row.Row.TheVariants.{Reading}
 use Rattle.rows.proofs.Ties.{held_is, found_txn}
 
 -- the token of a transaction is in its row
-token_found : (rows : List CodeRow) (table : List Claim) (t : Id) → room (table_of rows table) t ≡ room_by (mapped token_of (row_of rows t))
+token_found : (rows : List CodeRow) (table : List Claim) (t : Id) → room (table_of rows table) t ≡ room_by (option_map token_of (row_of rows t))
 token_found rows table t = ap room_by (find-map txn_of (λ (k : Token). k.txn) token_of (λ r. refl) rows t)
 
 pub room_found : (rows : List CodeRow) (table : List Claim) (t : Id) (y : CodeRow) → row_of rows t ≡ Some y → room (table_of rows table) t ≡ (token_of y).room
-room_found rows table t y found = token_found rows table t ∙ ap (λ (o : Option CodeRow). room_by (mapped token_of o)) found
+room_found rows table t y found = token_found rows table t ∙ ap (λ (o : Option CodeRow). room_by (option_map token_of o)) found
 
 -- and of one that was put in
 pub room_put : (mid new : List CodeRow) (table : List Claim) (t : Id) (z : CodeRow) → new ≡ put_in mid z → txn_of z ≡ t → room (table_of new table) t ≡ (token_of z).room
@@ -32,7 +31,7 @@ pub needs_is : (rows : List CodeRow) (table : List Claim) (t : Id) → claims (p
 needs_is rows table t tied =
     ap (λ s. needs_in_table s t) (sym tied) ∙ ap needs_by_claim (claims-find_row (paired rows table) t) ∙ by_row (find_row (paired rows table) t)
   where
-    by_row : (o : Option Row) → needs_by_claim (mapped claim_of o) ≡ needs_by o
+    by_row : (o : Option Row) → needs_by_claim (option_map claim_of o) ≡ needs_by o
     by_row None = refl
     by_row (Some q) = refl
 

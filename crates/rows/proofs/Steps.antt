@@ -1,9 +1,9 @@
 -- What each step does to the rows: one row is taken out, and another put in its place or none.
-use Rattle.std.proofs.Common.{◌≡◌, suc, ◌<◌, Bool, true, false, ◌||◌, not, cond, List, [], ◌∷◌, length, map, Option, Some, None, Bor, refl, sym, ap, subst, ◌∙◌, arith}
+use Rattle.std.proofs.Common.{◌≡◌, suc, ◌<◌, Bool, true, false, ◌||◌, not, cond, List, [], ◌∷◌, length, map, Option, Some, None, Bor, refl, sym, ap, subst, ◌∙◌, arith, option_map}
 use Rattle.std.proofs.lemmas.Bool.{false≢true}
 use Rattle.std.specs.List.{AllByRecursion, find}
 use Rattle.std.specs.Option.{option_copied, MatchOption}
-use Rattle.units.specs.Lists.{mapped, tail, when}
+use Rattle.units.specs.Lists.{tail, when}
 use Rattle.units.specs.Ids.{Id, same_id}
 use Rattle.units.specs.ById.{has_member, without_member}
 use Rattle.units.specs.Locks.{Claim}
@@ -179,7 +179,7 @@ pub absent_claim : (rows : List CodeRow) (table : List Claim) (t : Id) → claim
 absent_claim rows table t tied none =
     ap (λ (s : List Claim). has_claim s t) (sym tied)
     ∙ sym (there_first (λ (c : Claim). same_id c.txn t) (claims (paired rows table)))
-    ∙ ap (when (λ (c : Claim). true)) (claims-find_row (paired rows table) t ∙ ap (mapped claim_of) none)
+    ∙ ap (when (λ (c : Claim). true)) (claims-find_row (paired rows table) t ∙ ap (option_map claim_of) none)
 
 -- what a lock table says of a request, once the rows are gone that it wounds
 pub claims-without_rows : (rows : List Row) (ts : List Id) → claims (without_rows rows ts) ≡ without_claims (claims rows) ts

@@ -1,6 +1,6 @@
 -- The rows of the code and the claims of their lock table, place by place, make the rows that a contract sees.
-use Rattle.std.proofs.Common.{◌≡◌, Bool, true, false, not, cond, List, [], ◌∷◌, map, Option, Some, None, refl, sym, ap, subst, ◌∙◌}
-use Rattle.units.specs.Lists.{keep, head, mapped, tail, when}
+use Rattle.std.proofs.Common.{◌≡◌, Bool, true, false, not, cond, List, [], ◌∷◌, map, Option, Some, None, refl, sym, ap, subst, ◌∙◌, filter, option_map}
+use Rattle.units.specs.Lists.{head, tail, when}
 use Rattle.units.specs.Ids.{Id, same_id, older}
 use Rattle.units.specs.ById.{IsById, without_member, with_member}
 use Rattle.units.specs.Locks.{Claim}
@@ -67,7 +67,7 @@ found_row (r ∷ rs) table t y e = by_test (same_id (txn_of r) t) refl (λ k. fo
 
     by_test : (b : Bool) → same_id (txn_of r) t ≡ b
         → (row_of rs t ≡ Some y → find_row rest t ≡ Some (record { txn = t; held = held_in rest t; phase = phase_of y }))
-        → head (cond b (r ∷ keep (λ x. same_id (txn_of x) t) rs) (keep (λ x. same_id (txn_of x) t) rs)) ≡ Some y
+        → head (cond b (r ∷ filter (λ x. same_id (txn_of x) t) rs) (filter (λ x. same_id (txn_of x) t) rs)) ≡ Some y
         → find_row (first ∷ rest) t ≡ Some (record { txn = t; held = held_in (first ∷ rest) t; phase = phase_of y })
     by_test true s further k =
         let is : r ≡ y = cc in
@@ -81,7 +81,7 @@ found_no_row [] table t e = refl
 found_no_row (r ∷ rs) table t e = by_test (same_id (txn_of r) t) refl (λ k. found_no_row rs (tail table) t k) e
   where
     by_test : (b : Bool) → same_id (txn_of r) t ≡ b → (row_of rs t ≡ None → find_row (paired rs (tail table)) t ≡ None)
-        → head (cond b (r ∷ keep (λ x. same_id (txn_of x) t) rs) (keep (λ x. same_id (txn_of x) t) rs)) ≡ None
+        → head (cond b (r ∷ filter (λ x. same_id (txn_of x) t) rs) (filter (λ x. same_id (txn_of x) t) rs)) ≡ None
         → find_row (paired (r ∷ rs) table) t ≡ None
     by_test true s further k = cc
     by_test false s further k = rw s (further k)
@@ -114,7 +114,7 @@ pub held_is : (rows : List CodeRow) (table : List Claim) (t : Id) → claims (pa
 held_is rows table t tied =
     ap (λ s. held_in_table s t) (sym tied) ∙ ap held_by_claim (claims-find_row (paired rows table) t) ∙ by_row (find_row (paired rows table) t)
   where
-    by_row : (o : Option Row) → held_by_claim (mapped claim_of o) ≡ held_by o
+    by_row : (o : Option Row) → held_by_claim (option_map claim_of o) ≡ held_by o
     by_row None = refl
     by_row (Some q) = refl
 
@@ -122,7 +122,7 @@ held_is rows table t tied =
 pub claim_there : (rows : List CodeRow) (table : List Claim) (t : Id) (y : CodeRow) → claims (paired rows table) ≡ table → row_of rows t ≡ Some y → has_claim table t ≡ true
 claim_there rows table t y tied e =
     subst (λ s. has_claim s t ≡ true) tied
-    (found_has (λ (c : Claim). c.txn) (claims (paired rows table)) t _ (claims-find_row (paired rows table) t ∙ ap (mapped claim_of) (found_row rows table t y e)))
+    (found_has (λ (c : Claim). c.txn) (claims (paired rows table)) t _ (claims-find_row (paired rows table) t ∙ ap (option_map claim_of) (found_row rows table t y e)))
 
 -- the row that is found is of the id
 pub found_txn : (rows : List CodeRow) (t : Id) (y : CodeRow) → row_of rows t ≡ Some y → txn_of y ≡ t

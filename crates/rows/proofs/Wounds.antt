@@ -1,8 +1,8 @@
 -- Those whom a request ends may be ended one by one, and the requester stays as it is.
-use Rattle.std.proofs.Common.{◌≡◌, Bool, true, false, ◌&&◌, cond, List, [], ◌∷◌, map, Option, Some, None, refl, sym, ap, subst, ◌∙◌}
+use Rattle.std.proofs.Common.{◌≡◌, Bool, true, false, ◌&&◌, cond, List, [], ◌∷◌, map, Option, Some, None, refl, sym, ap, subst, ◌∙◌, filter, option_map}
 use Rattle.std.proofs.lemmas.Bool.{false≢true}
-use Rattle.std.specs.List.{AllByRecursion}
-use Rattle.units.specs.Lists.{any, keep, mapped, when}
+use Rattle.std.specs.List.{AllByRecursion, list_any}
+use Rattle.units.specs.Lists.{when}
 use Rattle.units.specs.Ids.{Id, same_id}
 use Rattle.units.specs.ById.{IsById, find_member}
 use Rattle.units.specs.LockLaws.{IsOldestReady}
@@ -32,18 +32,18 @@ may_end_behind q (t ∷ ts) rows differ may = rw differ.0 (may.0, may_end_behind
 
 -- the ids of younger rows are others
 ids_differ : (p : Row → Bool) (q : Row) (rows : List Row) → AllYounger (λ (r : Row). r.txn) q.txn rows
-    → AllByRecursion (λ t. same_id q.txn t ≡ false) (map (λ r. r.txn) (keep p rows))
+    → AllByRecursion (λ t. same_id q.txn t ≡ false) (map (λ r. r.txn) (filter p rows))
 ids_differ p q [] young = tt
 ids_differ p q (r ∷ rows) young = by_test (p r) (ids_differ p q rows young.1)
   where
-    by_test : (b : Bool) → AllByRecursion (λ t. same_id q.txn t ≡ false) (map (λ r. r.txn) (keep p rows))
-        → AllByRecursion (λ t. same_id q.txn t ≡ false) (map (λ r. r.txn) (cond b (r ∷ keep p rows) (keep p rows)))
+    by_test : (b : Bool) → AllByRecursion (λ t. same_id q.txn t ≡ false) (map (λ r. r.txn) (filter p rows))
+        → AllByRecursion (λ t. same_id q.txn t ≡ false) (map (λ r. r.txn) (cond b (r ∷ filter p rows) (filter p rows)))
     by_test true rest = (older_not_same q.txn r.txn young.0, rest)
     by_test false rest = rest
 
 -- rows that pass a test may be ended one by one, where those that pass it read
 may_end_kept : (p : Row → Bool) → ((q : Row) → p q ≡ true → is_reading q.phase ≡ true) → (rows : List Row) → IsById (λ q. q.txn) rows
-    → MayEnd rows (map (λ q. q.txn) (keep p rows))
+    → MayEnd rows (map (λ q. q.txn) (filter p rows))
 may_end_kept p reads [] up = tt
 may_end_kept p reads (q ∷ rows) up = by_test (p q) refl (may_end_kept p reads rows up.1)
   where
@@ -56,22 +56,22 @@ may_end_kept p reads (q ∷ rows) up = by_test (p q) refl (may_end_kept p reads 
     there : p q ≡ true → has_phase is_reading (q ∷ rows) q.txn ≡ true
     there e = rw (same_id-refl q.txn) (reads q e)
 
-    by_test : (b : Bool) → p q ≡ b → MayEnd rows (map (λ r. r.txn) (keep p rows))
-        → MayEnd (q ∷ rows) (map (λ r. r.txn) (cond b (q ∷ keep p rows) (keep p rows)))
-    by_test true e rest = (there e, subst (λ l. MayEnd l (map (λ r. r.txn) (keep p rows))) (sym left) rest)
-    by_test false e rest = may_end_behind q (map (λ r. r.txn) (keep p rows)) rows (ids_differ p q rows young) rest
+    by_test : (b : Bool) → p q ≡ b → MayEnd rows (map (λ r. r.txn) (filter p rows))
+        → MayEnd (q ∷ rows) (map (λ r. r.txn) (cond b (q ∷ filter p rows) (filter p rows)))
+    by_test true e rest = (there e, subst (λ l. MayEnd l (map (λ r. r.txn) (filter p rows))) (sym left) rest)
+    by_test false e rest = may_end_behind q (map (λ r. r.txn) (filter p rows)) rows (ids_differ p q rows young) rest
 
 -- the ids of claims that pass a test
-ids-map : (p : Claim → Bool) (rows : List Row) → map (λ c. c.txn) (keep p (claims rows)) ≡ map (λ q. q.txn) (keep (λ q. p (claim_of q)) rows)
+ids-map : (p : Claim → Bool) (rows : List Row) → map (λ c. c.txn) (filter p (claims rows)) ≡ map (λ q. q.txn) (filter (λ q. p (claim_of q)) rows)
 ids-map p [] = refl
 ids-map p (q ∷ rows) = by_test (p (claim_of q)) (ids-map p rows)
   where
-    by_test : (b : Bool) → map (λ c. c.txn) (keep p (claims rows)) ≡ map (λ q. q.txn) (keep (λ q. p (claim_of q)) rows)
-        → map (λ c. c.txn) (cond b (claim_of q ∷ keep p (claims rows)) (keep p (claims rows))) ≡ map (λ r. r.txn) (cond b (q ∷ keep (λ r. p (claim_of r)) rows) (keep (λ r. p (claim_of r)) rows))
+    by_test : (b : Bool) → map (λ c. c.txn) (filter p (claims rows)) ≡ map (λ q. q.txn) (filter (λ q. p (claim_of q)) rows)
+        → map (λ c. c.txn) (cond b (claim_of q ∷ filter p (claims rows)) (filter p (claims rows))) ≡ map (λ r. r.txn) (cond b (q ∷ filter (λ r. p (claim_of r)) rows) (filter (λ r. p (claim_of r)) rows))
     by_test true e = ap (λ l. q.txn ∷ l) e
     by_test false e = e
 
-wounded-rows : (rows : List Row) (t : Id) (needs : List Lock) → wounded (claims rows) t needs ≡ map (λ q. q.txn) (keep (λ q. gives_way t needs (claim_of q)) rows)
+wounded-rows : (rows : List Row) (t : Id) (needs : List Lock) → wounded (claims rows) t needs ≡ map (λ q. q.txn) (filter (λ q. gives_way t needs (claim_of q)) rows)
 wounded-rows rows t needs = wounded-is (claims rows) t needs ∙ ap (map (λ c. c.txn)) (filter-is (gives_way t needs) (claims rows)) ∙ ids-map (gives_way t needs) rows
 
 middle_of : (a b c : Bool) → (a && (b && c)) ≡ true → b ≡ true
@@ -106,7 +106,7 @@ then_quiet rows t needs ts is =
 
 -- a phase that waits for locks
 abbrev pub waits : Phase → Bool
-waits p = any (λ l. true) (needs_of p)
+waits p = list_any (λ l. true) (needs_of p)
 
 -- who is ready waits
 pub ready_waits : (rows : List CodeRow) (table : List Claim) (t : Id) → IsById txn_of rows → claims (paired rows table) ≡ table → ready table ≡ Some t → passes waits rows t ≡ true
@@ -119,7 +119,7 @@ ready_waits rows table t up tied is =
     ∙ ap (when is_waiting) (sym (claims-find_row seen t) ∙ ap (λ s. find_member (λ (c : Claim). c.txn) s t) tied ∙ oldest.1)
     ∙ oldest.2.0
   where
-    by_row : (o : Option Row) → when is_waiting (mapped claim_of o) ≡ when (λ (r : Row). waits r.phase) o
+    by_row : (o : Option Row) → when is_waiting (option_map claim_of o) ≡ when (λ (r : Row). waits r.phase) o
     by_row None = refl
     by_row (Some q) = refl
 

@@ -1,6 +1,6 @@
 -- What the states of a transaction are seen as, and the records that lead from one to the next.
+use Rattle.std.specs.List.{list_any}
 use Rattle.std.specs.Prelude.{◌≡◌, ℕ, Bool, true, false, nat_eq, nat_lt, List, [], ◌∷◌, Option}
-use Rattle.units.specs.Lists.{any}
 use Rattle.units.specs.Ids.{Id, same_id}
 use Rattle.record.specs.declared.record.Record.{Record}
 use Rattle.protocol.specs.Rows.{Voted, with_vote}
@@ -15,7 +15,7 @@ voted_of v = record { shard = v.shard; at = v.at }
 
 -- a shard has voted
 abbrev pub has_voted : ℕ → List CastVote → Bool
-has_voted n votes = any (λ v. nat_eq v.shard n) votes
+has_voted n votes = list_any (λ v. nat_eq v.shard n) votes
 
 -- votes of shards below 16, each shard once
 abbrev pub AreVotes : List CastVote → Type 0

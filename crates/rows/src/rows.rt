@@ -1,7 +1,7 @@
 //! The rows of a shard beside its lock table.
+ghost use Rattle.std.specs.List.{list_all};
 ghost use Rattle.std.specs.Prelude.{◌≡◌, ◌<◌, ◌≤◌, [], true, Some, None, nat_le, length, MatchOption, IfOk, IfErr, OnOk, OnErr};
 ghost use Rattle.units.specs.ById.{IsById};
-ghost use Rattle.units.specs.Lists.{each};
 ghost use Rattle.units.specs.LockLaws.{IsLawfulTable};
 ghost use Rattle.units.specs.Locks.{holds, is_free, ready, wounded};
 ghost use Rattle.protocol.specs.Rows.{Idle, claims, find_row, without_row, held_in, without_rows};
@@ -101,7 +101,7 @@ impl Rows {
 
     /// Whether a transaction holds each of some keys.
     pub fn holds_all(&self, txn: TxnId, keys: &Keys) -> bool
-        ensures { result ≡ each (holds (held_in self.now.rows txn)) keys.now }
+        ensures { result ≡ list_all (holds (held_in self.now.rows txn)) keys.now }
     {
         for key in keys.as_slice() {
             if !self.holds(txn, key) {

@@ -1,8 +1,9 @@
 -- What a transaction keeps over its steps.
-use Rattle.std.proofs.Common.{◌≡◌, ℕ, ◌+◌, ◌≤◌, ◌<◌, Bool, true, false, cond, not, ◌&&◌, ◌||◌, nat_le, List, [], ◌∷◌, ◌++◌, length, map, refl, sym, ap, ◌∙◌, subst, length-append, arith}
+use Rattle.std.specs.List.{list_any, list_all}
+use Rattle.std.proofs.Common.{◌≡◌, ℕ, ◌+◌, ◌≤◌, ◌<◌, Bool, true, false, cond, not, ◌&&◌, ◌||◌, nat_le, List, [], ◌∷◌, ◌++◌, length, map, refl, sym, ap, ◌∙◌, subst, length-append, arith, filter, option_to_list}
 use Rattle.std.proofs.lemmas.List.{length-map}
 use Rattle.std.proofs.lemmas.Bool.Decides.{nat_tests}
-use Rattle.units.specs.Lists.{any, each, keep, insert, ascends, listed}
+use Rattle.units.specs.Lists.{insert, ascends}
 use Rattle.units.specs.Keys.{Bytes, same_key, key_before, has_key, write_before, writes_key}
 use Rattle.units.specs.declared.writes.Write.{Write}
 use Rattle.units.proofs.Folds.{any_append}
@@ -41,23 +42,23 @@ pub second : (a b : Bool) → a ≡ false → (a || b) ≡ true → b ≡ true
 second true b e f = cc
 second false b e f = f
 
-pub each_append : {A : Type 0} (test : A → Bool) (xs ys : List A) → each test xs ≡ true → each test ys ≡ true → each test (xs ++ ys) ≡ true
+pub each_append : {A : Type 0} (test : A → Bool) (xs ys : List A) → list_all test xs ≡ true → list_all test ys ≡ true → list_all test (xs ++ ys) ≡ true
 each_append test [] ys h k = k
 each_append test (x ∷ xs) ys h k = and_true _ _ ((both _ _ h).0) (each_append test xs ys ((both _ _ h).1) k)
 
-pub each_keep : {A : Type 0} (test q : A → Bool) (xs : List A) → each test xs ≡ true → each test (keep q xs) ≡ true
+pub each_keep : {A : Type 0} (test q : A → Bool) (xs : List A) → list_all test xs ≡ true → list_all test (filter q xs) ≡ true
 each_keep test q [] h = refl
 each_keep {A} test q (x ∷ xs) h = by_test (q x) (each_keep test q xs ((both _ _ h).1))
   where
-    by_test : (b : Bool) → each test (keep q xs) ≡ true → each test (cond b (x ∷ keep q xs) (keep q xs)) ≡ true
+    by_test : (b : Bool) → list_all test (filter q xs) ≡ true → list_all test (cond b (x ∷ filter q xs) (filter q xs)) ≡ true
     by_test true e = and_true _ _ ((both _ _ h).0) e
     by_test false e = e
 
-pub length_keep : {A : Type 0} (q : A → Bool) (xs : List A) → length (keep q xs) ≤ length xs
+pub length_keep : {A : Type 0} (q : A → Bool) (xs : List A) → length (filter q xs) ≤ length xs
 length_keep q [] = omega arith
 length_keep {A} q (x ∷ xs) = by_test (q x) (length_keep q xs)
   where
-    by_test : (b : Bool) → length (keep q xs) ≤ length xs → length (cond b (x ∷ keep q xs) (keep q xs)) ≤ length (x ∷ xs)
+    by_test : (b : Bool) → length (filter q xs) ≤ length xs → length (cond b (x ∷ filter q xs) (filter q xs)) ≤ length (x ∷ xs)
     by_test true e = omega (arith, e)
     by_test false e = omega (arith, e)
 
@@ -73,11 +74,11 @@ length_insert {A} less x (y ∷ ys) = by_test (less y x) (length_insert less x y
 
 -- a member has the key
 abbrev pub keyed : {A : Type 0} → (A → Bytes) → List A → Bytes → Bool
-keyed key xs k = any (λ x. same_key (key x) k) xs
+keyed key xs k = list_any (λ x. same_key (key x) k) xs
 
 -- the members without the key
 abbrev pub others : {A : Type 0} → (A → Bytes) → List A → Bytes → List A
-others key xs k = keep (λ x. not (same_key (key x) k)) xs
+others key xs k = filter (λ x. not (same_key (key x) k)) xs
 
 -- the order of keys
 abbrev pub before : {A : Type 0} → (A → Bytes) → A → A → Bool
@@ -106,7 +107,7 @@ fewer_others {A} key (x ∷ xs) k h = by_test (same_key (key x) k) refl (fewer_o
 -- ---- ascending members
 
 -- one that comes before each of an ascending list makes a longer one
-ascends_front : {A : Type 0} (less : A → A → Bool) (x : A) (xs : List A) → each (less x) xs ≡ true → ascends less xs ≡ true → ascends less (x ∷ xs) ≡ true
+ascends_front : {A : Type 0} (less : A → A → Bool) (x : A) (xs : List A) → list_all (less x) xs ≡ true → ascends less xs ≡ true → ascends less (x ∷ xs) ≡ true
 ascends_front less x [] h up = refl
 ascends_front less x (y ∷ ys) h up = and_true _ _ ((both _ _ h).0) up
 
@@ -116,24 +117,24 @@ ascends_rest less x [] up = refl
 ascends_rest less x (y ∷ ys) up = (both _ _ up).1
 
 -- the first comes before each other
-ascends_first : {A : Type 0} (key : A → Bytes) (x : A) (xs : List A) → ascends (before key) (x ∷ xs) ≡ true → each (before key x) xs ≡ true
+ascends_first : {A : Type 0} (key : A → Bytes) (x : A) (xs : List A) → ascends (before key) (x ∷ xs) ≡ true → list_all (before key x) xs ≡ true
 ascends_first key x [] up = refl
 ascends_first {A = A} key x (y ∷ ys) up =
     let p = both _ _ up in
     and_true _ _ p.0 (wider ys (ascends_first key y ys p.1))
   where
-    wider : (zs : List A) → each (before key y) zs ≡ true → each (before key x) zs ≡ true
+    wider : (zs : List A) → list_all (before key y) zs ≡ true → list_all (before key x) zs ≡ true
     wider [] h = refl
     wider (z ∷ zs) h =
         and_true _ _ (key_before-trans (key x) (key y) (key z) ((both _ _ up).0) ((both _ _ h).0)) (wider zs ((both _ _ h).1))
 
 -- some of an ascending list ascend
-pub ascends_keep : {A : Type 0} (key : A → Bytes) (q : A → Bool) (xs : List A) → ascends (before key) xs ≡ true → ascends (before key) (keep q xs) ≡ true
+pub ascends_keep : {A : Type 0} (key : A → Bytes) (q : A → Bool) (xs : List A) → ascends (before key) xs ≡ true → ascends (before key) (filter q xs) ≡ true
 ascends_keep key q [] up = refl
 ascends_keep {A} key q (x ∷ xs) up = by_test (q x) (ascends_keep key q xs (ascends_rest (before key) x xs up))
   where
-    by_test : (b : Bool) → ascends (before key) (keep q xs) ≡ true → ascends (before key) (cond b (x ∷ keep q xs) (keep q xs)) ≡ true
-    by_test true e = ascends_front (before key) x (keep q xs) (each_keep (before key x) q xs (ascends_first key x xs up)) e
+    by_test : (b : Bool) → ascends (before key) (filter q xs) ≡ true → ascends (before key) (cond b (x ∷ filter q xs) (filter q xs)) ≡ true
+    by_test true e = ascends_front (before key) x (filter q xs) (each_keep (before key x) q xs (ascends_first key x xs up)) e
     by_test false e = e
 
 -- one more in its place, where its key is not there
@@ -174,19 +175,19 @@ taken_more [] a = refl
 taken_more (b ∷ bs) a = ap (λ l. b.key ∷ l) (taken_more bs a)
 
 -- keys that were not among some are not among these with one more, once that one is taken out
-apart_more : (ks aw : List Bytes) (k : Bytes) → each (λ j. not (has_key ks j)) aw ≡ true
-    → each (λ j. not (has_key (ks ++ k ∷ []) j)) (without_key aw k) ≡ true
+apart_more : (ks aw : List Bytes) (k : Bytes) → list_all (λ j. not (has_key ks j)) aw ≡ true
+    → list_all (λ j. not (has_key (ks ++ k ∷ []) j)) (without_key aw k) ≡ true
 apart_more ks [] k h = refl
 apart_more ks (j ∷ js) k h = by_test (same_key j k) refl (apart_more ks js k ((both _ _ h).1))
   where
-    by_test : (b : Bool) → same_key j k ≡ b → each (λ i. not (has_key (ks ++ k ∷ []) i)) (without_key js k) ≡ true →
-        each (λ i. not (has_key (ks ++ k ∷ []) i)) (cond (not b) (j ∷ without_key js k) (without_key js k)) ≡ true
+    by_test : (b : Bool) → same_key j k ≡ b → list_all (λ i. not (has_key (ks ++ k ∷ []) i)) (without_key js k) ≡ true →
+        list_all (λ i. not (has_key (ks ++ k ∷ []) i)) (cond (not b) (j ∷ without_key js k) (without_key js k)) ≡ true
     by_test true is e = e
     by_test false is e =
         and_true _ _ (not_true _ (any_append (same_key j) ks (k ∷ []) ∙ or_false _ _ (not_false _ ((both _ _ h).0)) (or_false _ _ is refl))) e
 
 -- an awaited key is not taken
-pub awaited_apart : (ks aw : List Bytes) (k : Bytes) → each (λ j. not (has_key ks j)) aw ≡ true → has_key aw k ≡ true → has_key ks k ≡ false
+pub awaited_apart : (ks aw : List Bytes) (k : Bytes) → list_all (λ j. not (has_key ks j)) aw ≡ true → has_key aw k ≡ true → has_key ks k ≡ false
 awaited_apart ks [] k h is = cc
 awaited_apart ks (j ∷ js) k h is = by_test (same_key k j) refl (awaited_apart ks js k ((both _ _ h).1))
   where
@@ -219,7 +220,7 @@ pub kept_taken : (taken : List Answered) (aw : List Bytes) (ws : List Write) (a 
 kept_taken taken aw ws a is awaited = record {
   few_keys = omega (arith, is.few_keys, length-append taken (a ∷ []), fewer_others (λ (j : Bytes). j) aw a.key (keyed_self aw a.key ∙ awaited));
   once = subst (λ ks. distinct ks ≡ true) (sym (taken_more taken a)) (distinct_more (taken_keys taken) a.key is.once (awaited_apart (taken_keys taken) aw a.key is.apart awaited));
-  apart = subst (λ ks. each (λ j. not (has_key ks j)) (without_key aw a.key) ≡ true) (sym (taken_more taken a)) (apart_more (taken_keys taken) aw a.key is.apart);
+  apart = subst (λ ks. list_all (λ j. not (has_key ks j)) (without_key aw a.key) ≡ true) (sym (taken_more taken a)) (apart_more (taken_keys taken) aw a.key is.apart);
   few_writes = is.few_writes;
   ascending = is.ascending;
 }
@@ -255,7 +256,7 @@ kept_written taken aw ws w is may = record {
 -- the keys that were asked for are below 128
 pub few_asked : (c : Client) → nat_le 128 (length (asked_keys c)) ≡ false → length c.taken + length c.awaited < 128
 few_asked c h =
-    omega (arith, under (length (asked_keys c)) h, length-append (map key_of c.taken ++ listed c.doom) c.awaited, length-append (map key_of c.taken) (listed c.doom), length-map c.taken key_of)
+    omega (arith, under (length (asked_keys c)) h, length-append (map key_of c.taken ++ option_to_list c.doom) c.awaited, length-append (map key_of c.taken) (option_to_list c.doom), length-map c.taken key_of)
   where
     key_of : Answered → Bytes
     key_of = λ a. a.key
@@ -264,7 +265,7 @@ few_asked c h =
     under n e = grind (arith, nat_tests)
 
 -- the key is not among those that were taken
-pub not_taken : (taken : List Answered) (k : Bytes) → any (λ a. same_key a.key k) taken ≡ false → has_key (taken_keys taken) k ≡ false
+pub not_taken : (taken : List Answered) (k : Bytes) → list_any (λ a. same_key a.key k) taken ≡ false → has_key (taken_keys taken) k ≡ false
 not_taken [] k h = refl
 not_taken (a ∷ rest) k h =
     let n = neither _ _ h in

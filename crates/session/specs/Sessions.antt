@@ -1,6 +1,7 @@
 -- A client's session: it reads, buffers writes, closes into one set of messages, and hears the end of its transaction.
-use Rattle.std.specs.Prelude.{ℕ, Bool, true, false, not, cond, ◌&&◌, ◌||◌, nat_eq, nat_lt, nat_le, List, [], ◌∷◌, ◌++◌, length, map, Option, Some, None}
-use Rattle.units.specs.Lists.{any, each, keep, first, sorted, once, insert, listed, when}
+use Rattle.std.specs.List.{list_any, list_all}
+use Rattle.std.specs.Prelude.{ℕ, Bool, true, false, not, cond, ◌&&◌, ◌||◌, nat_eq, nat_lt, nat_le, List, [], ◌∷◌, ◌++◌, length, map, Option, Some, None, filter, option_to_list}
+use Rattle.units.specs.Lists.{first, sorted, once, insert, when}
 use Rattle.units.specs.Ids.{Id}
 use Rattle.units.specs.Keys.{Bytes, same_key, key_before, write_before, shard_of, has_key, writes_key}
 use Rattle.units.specs.declared.fault.Fault.{Fault}
@@ -48,7 +49,7 @@ unless (r ∷ rs) m = cond (r.0) (Denies (BadRequest r.1)) (unless rs m)
 
 -- a value of the key was taken
 abbrev pub was_taken : Client → Bytes → Bool
-was_taken c k = any (λ a. same_key a.key k) c.taken
+was_taken c k = list_any (λ a. same_key a.key k) c.taken
 
 -- the session is doomed
 abbrev pub is_doomed : Client → Bool
@@ -60,7 +61,7 @@ was_answered c k = was_taken c k || when (same_key k) c.doom
 
 -- the keys that were asked for: those answered, the one that doomed the session, and those awaited
 abbrev pub asked_keys : Client → List Bytes
-asked_keys c = map (λ a. a.key) c.taken ++ listed c.doom ++ c.awaited
+asked_keys c = map (λ a. a.key) c.taken ++ option_to_list c.doom ++ c.awaited
 
 -- to read a key: its shard is asked
 unfoldable pub reads : List Bytes → Bytes → Client → Moved
@@ -71,7 +72,7 @@ reads splits k c =
 
 -- the writes with one given anew, by ascending key
 abbrev pub with_write : List Write → Write → List Write
-with_write ws w = insert write_before w (keep (λ v. not (same_key v.key w.key)) ws)
+with_write ws w = insert write_before w (filter (λ v. not (same_key v.key w.key)) ws)
 
 -- to buffer a write: a later write of a key replaces the earlier
 unfoldable pub buffers : Write → Client → Moved
@@ -81,11 +82,11 @@ buffers w c =
 
 -- the answers of a shard are all of one epoch
 abbrev pub epochs_agree : List Answered → ℕ → ℕ → Bool
-epochs_agree taken n epoch = each (λ a. not (nat_eq a.shard n) || nat_eq a.epoch epoch) taken
+epochs_agree taken n epoch = list_all (λ a. not (nat_eq a.shard n) || nat_eq a.epoch epoch) taken
 
 -- the keys without one
 abbrev pub without_key : List Bytes → Bytes → List Bytes
-without_key ks k = keep (λ j. not (same_key j k)) ks
+without_key ks k = filter (λ j. not (same_key j k)) ks
 
 -- the session after the answer that doomed it
 abbrev pub doomed_by : Bytes → Client → Client
@@ -118,7 +119,7 @@ epoch_at c n = epoch_or_none (first (λ a. nat_eq a.shard n) c.taken)
 
 -- the keys read at a shard, ascending
 abbrev pub reads_at : Client → ℕ → List Bytes
-reads_at c n = sorted key_before (map (λ a. a.key) (keep (λ a. nat_eq a.shard n) c.taken))
+reads_at c n = sorted key_before (map (λ a. a.key) (filter (λ a. nat_eq a.shard n) c.taken))
 
 -- what was read at a shard: the keys and their epoch
 abbrev pub read_set : Client → ℕ → ReadSet
@@ -126,7 +127,7 @@ read_set c n = record { epoch = epoch_at c n; keys = reads_at c n }
 
 -- the writes of a shard
 abbrev pub writes_at : List Bytes → Client → ℕ → List Write
-writes_at splits c n = keep (λ w. nat_eq (shard_of splits w.key) n) c.writes
+writes_at splits c n = filter (λ w. nat_eq (shard_of splits w.key) n) c.writes
 
 -- the message to a part that does not decide
 abbrev pub prepare_for : List Bytes → Client → ℕ → ℕ → Envelope
@@ -156,7 +157,7 @@ closes splits c =
 
 -- the shards that were asked, ascending
 abbrev pub asked_shards : List Bytes → Client → List ℕ
-asked_shards splits c = sorted nat_lt (once (map (λ a. a.shard) c.taken ++ map (shard_of splits) (listed c.doom ++ c.awaited)))
+asked_shards splits c = sorted nat_lt (once (map (λ a. a.shard) c.taken ++ map (shard_of splits) (option_to_list c.doom ++ c.awaited)))
 
 -- the shards that a giving up tells: each that was asked, or when closing each that takes part
 abbrev pub shards_told : List Bytes → Client → List ℕ

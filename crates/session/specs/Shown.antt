@@ -1,6 +1,7 @@
 -- What contracts see of a transaction, and how a step's answer stands to the definition's.
+use Rattle.std.specs.List.{list_all}
 use Rattle.std.specs.Prelude.{◌≡◌, ◌⊎◌, ◌≤◌, ◌+◌, ℕ, Bool, true, false, not, ◌&&◌, cond, List, [], ◌∷◌, length, map, Option, Some, None, IsTrue}
-use Rattle.units.specs.Lists.{each, ascends}
+use Rattle.units.specs.Lists.{ascends}
 use Rattle.units.specs.Ids.{Id}
 use Rattle.units.specs.Keys.{Bytes, has_key, write_before}
 use Rattle.units.specs.declared.fault.Fault.{Fault}
@@ -35,7 +36,7 @@ taken_keys taken = map (λ a. a.key) taken
 pub record IsKept (taken : List Answered) (awaited : List Bytes) (writes : List Write) : Type 0 where
   pub few_keys : length taken + length awaited ≤ 128
   pub once : IsTrue (distinct (taken_keys taken))
-  pub apart : IsTrue (each (λ k. not (has_key (taken_keys taken) k)) awaited)
+  pub apart : IsTrue (list_all (λ k. not (has_key (taken_keys taken) k)) awaited)
   pub few_writes : length writes ≤ 128
   pub ascending : IsTrue (ascends write_before writes)
 

@@ -1,8 +1,8 @@
 //! A transaction closes, gives up, and hears its end.
-ghost use Rattle.std.specs.Prelude.{◌≡◌, [], ◌++◌, map, true, false, not, ◌&&◌, MatchResult, IfOk, IfErr, IfNone, IfSome};
+ghost use Rattle.std.specs.Prelude.{◌≡◌, [], ◌++◌, map, true, false, not, ◌&&◌, MatchResult, IfOk, IfErr, IfNone, IfSome, option_to_list};
 ghost use Rattle.units.specs.Ids.{same_id};
 ghost use Rattle.units.specs.Keys.{shard_of};
-ghost use Rattle.units.specs.Lists.{listed, once, sorted};
+ghost use Rattle.units.specs.Lists.{once, sorted};
 ghost use Rattle.session.specs.Sessions.{asked_keys, is_none, IsClosing, IsOver, Goes, Denies, closes, closing_messages, gives_up, shards_told, asked_shards};
 ghost use Rattle.session.specs.Shown.{IsRefused, finished_as, give_up_to, is_closing};
 

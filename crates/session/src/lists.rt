@@ -1,6 +1,7 @@
 //! Words on lists of keys, answers and writes.
+ghost use Rattle.std.specs.List.{list_any, list_all};
 ghost use Rattle.std.specs.Prelude.{◌≡◌, ◌≤◌, ◌<◌, ◌+◌, ◌&&◌, not, length, vec_len, vec_capacity, filter, IfOk, IfErr};
-ghost use Rattle.units.specs.Lists.{any, each, keep, insert};
+ghost use Rattle.units.specs.Lists.{insert};
 ghost use Rattle.units.specs.Keys.{same_key, has_key, key_before, write_before, writes_key};
 ghost use Rattle.session.specs.Places.{place_among, write_place};
 ghost use Rattle.session.specs.Sessions.{epochs_agree, without_key};
@@ -22,7 +23,7 @@ pub fn has_key(keys: &[Key], key: &Key) -> bool
 
 /// A value of the key was taken.
 pub fn was_taken(taken: &[Answered], key: &Key) -> bool
-    ensures { result ≡ any (λ a. same_key a.key key.now) taken.now }
+    ensures { result ≡ list_any (λ a. same_key a.key key.now) taken.now }
 {
     for answered in taken {
         if answered.key.is(key) {
@@ -65,7 +66,7 @@ pub fn drop_key(keys: &mut Vec<Key>, key: &Key)
 
 /// Takes a key's write out of a list.
 pub fn drop_write(writes: &mut Vec<Write>, key: &Key)
-    ensures same { writes.new.items ≡ keep (λ w. not (same_key w.key key.now)) writes.old.items }
+    ensures same { writes.new.items ≡ filter (λ w. not (same_key w.key key.now)) writes.old.items }
     ensures shorter { vec_len writes.new ≤ vec_len writes.old }
     ensures capacity { vec_capacity writes.new ≡ vec_capacity writes.old }
 {

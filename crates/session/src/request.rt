@@ -1,7 +1,7 @@
 //! The messages that close a transaction.
-ghost use Rattle.std.specs.Prelude.{◌≡◌, ◌≤◌, [], ◌∷◌, ◌++◌, length, map, IfOk, IfErr, IfNone, IfSome, nat_eq, nat_lt};
+ghost use Rattle.std.specs.Prelude.{◌≡◌, ◌≤◌, [], ◌∷◌, ◌++◌, length, map, IfOk, IfErr, IfNone, IfSome, nat_eq, nat_lt, filter};
 ghost use Rattle.units.specs.Keys.{key_before, shard_of};
-ghost use Rattle.units.specs.Lists.{first, keep, once, sorted};
+ghost use Rattle.units.specs.Lists.{first, once, sorted};
 ghost use Rattle.session.specs.Sessions.{closing_messages, epoch_or_none, messages_for, parts_of, prepare_for, reads_at, read_set, writes_at};
 ghost use Rattle.session.specs.Shown.{IsKept, closing_client};
 
@@ -171,7 +171,7 @@ fn push_written(shards: &mut Vec<ShardNo>, splits: &Splits, writes: &[Write]) ->
 
 // The first answer of a shard.
 fn first_read_at(taken: &[Answered], shard: ShardNo) -> Option<&Answered>
-    ensures none { IfNone result (keep (λ a. nat_eq a.shard shard) taken.now ≡ []) }
+    ensures none { IfNone result (filter (λ a. nat_eq a.shard shard) taken.now ≡ []) }
     ensures some { IfSome result (λ a. first (λ b. nat_eq b.shard shard) taken.now ≡ Some a.now) }
 {
     match taken.split_first() {
@@ -188,7 +188,7 @@ fn first_read_at(taken: &[Answered], shard: ShardNo) -> Option<&Answered>
 
 // The keys that were read at a shard, ascending.
 fn keys_read_at(alloc: Global, taken: &[Answered], shard: ShardNo) -> Result<Vec<Key>, Fault>
-    ensures same { IfOk result (λ keys. keys.items ≡ sorted key_before (map (λ a. a.key) (keep (λ a. nat_eq a.shard shard) taken.now))) }
+    ensures same { IfOk result (λ keys. keys.items ≡ sorted key_before (map (λ a. a.key) (filter (λ a. nat_eq a.shard shard) taken.now))) }
     ensures memory { IfErr result (λ fault. fault ≡ Fault.Memory) }
 {
     match taken.split_first() {
@@ -210,7 +210,7 @@ fn writes_of(
     writes: &[Write],
     shard: ShardNo,
 ) -> Result<Vec<Write>, Fault>
-    ensures same { IfOk result (λ part. part.items ≡ keep (λ w. nat_eq (shard_of splits.now w.key) shard) writes.now) }
+    ensures same { IfOk result (λ part. part.items ≡ filter (λ w. nat_eq (shard_of splits.now w.key) shard) writes.now) }
     ensures memory { IfErr result (λ fault. fault ≡ Fault.Memory) }
 {
     let mut part = Vec::new(alloc);

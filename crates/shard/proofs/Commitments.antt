@@ -1,8 +1,9 @@
 -- A decision that stands was logged.
+use Rattle.std.specs.List.{list_any}
 use Rattle.std.proofs.Common.{◌≡◌, ◌⊎◌, inl, inr, ⊎_elim, ℕ, Bool, true, false, ◌&&◌, ◌||◌, nat_eq, List, [], ◌∷◌, ◌++◌, fold, Option, Some, None, Result, Ok, Err, refl, sym, ap, ◌∙◌, subst, arith}
 use Rattle.std.proofs.lemmas.Bool.Decides.{nat_tests}
 use Rattle.units.specs.Ids.{Id, same_id}
-use Rattle.units.specs.Lists.{any, first}
+use Rattle.units.specs.Lists.{first}
 use Rattle.units.specs.declared.fault.Fault.{Fault}
 use Rattle.units.proofs.IdLaws.{same_id-is}
 use Rattle.record.specs.declared.record.Committed.{Committed}
@@ -67,17 +68,17 @@ module _ (t : Id) (c : Committed) where
   or-left a b h = ap (λ x. x || b) h
 
   -- a list of records
-  learn-all : (f : Facts) (rs : List Record) → recorded (fold learn f rs) t ≡ StandsDecided c → (recorded f t ≡ StandsDecided c) ⊎ (any (is_commit t c.at) rs ≡ true)
+  learn-all : (f : Facts) (rs : List Record) → recorded (fold learn f rs) t ≡ StandsDecided c → (recorded f t ≡ StandsDecided c) ⊎ (list_any (is_commit t c.at) rs ≡ true)
   learn-all f [] h = inl h
   learn-all f (r ∷ rs) h =
-      ⊎_elim (λ here. ⊎_elim (λ before. inl before) (λ is. inr (or-left (is_commit t c.at r) (any (is_commit t c.at) rs) is)) (learn-one f r here))
-      (λ later. inr (or-right (is_commit t c.at r) (any (is_commit t c.at) rs) later))
+      ⊎_elim (λ here. ⊎_elim (λ before. inl before) (λ is. inr (or-left (is_commit t c.at r) (list_any (is_commit t c.at) rs) is)) (learn-one f r here))
+      (λ later. inr (or-right (is_commit t c.at r) (list_any (is_commit t c.at) rs) later))
       (learn-all (learn f r) rs h)
 
-  any-more : (test : Record → Bool) (rs more : List Record) → any test rs ≡ true → any test (rs ++ more) ≡ true
+  any-more : (test : Record → Bool) (rs more : List Record) → list_any test rs ≡ true → list_any test (rs ++ more) ≡ true
   any-more test (r ∷ rs) more h = step (test r) h (any-more test rs more)
     where
-      step : (b : Bool) → (b || any test rs) ≡ true → (any test rs ≡ true → any test (rs ++ more) ≡ true) → (b || any test (rs ++ more)) ≡ true
+      step : (b : Bool) → (b || list_any test rs) ≡ true → (list_any test rs ≡ true → list_any test (rs ++ more) ≡ true) → (b || list_any test (rs ++ more)) ≡ true
       step true e ih = refl
       step false e ih = ih e
   any-more test [] more h = cc

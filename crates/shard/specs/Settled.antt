@@ -1,7 +1,7 @@
 -- What stands once a transaction is settled.
+use Rattle.std.specs.List.{list_any}
 use Rattle.std.specs.Prelude.{◌≡◌, ℕ, Bool, false, IsTrue, ◌&&◌, nat_eq, List, ◌∷◌, Some, Result, Ok, Err, IfOk}
 use Rattle.units.specs.Ids.{Id, same_id}
-use Rattle.units.specs.Lists.{any}
 use Rattle.units.specs.declared.fault.Fault.{Fault}
 use Rattle.disk.specs.Image.{Surface, MayLeave}
 use Rattle.message.specs.declared.message.Envelope.{Envelope}
@@ -17,7 +17,7 @@ is_commit t at _ = false
 
 -- the records have it
 abbrev pub HasCommit : Result (List Record) Fault → Id → ℕ → Type 0
-HasCommit (Ok records) t at = IsTrue (any (is_commit t at) records)
+HasCommit (Ok records) t at = IsTrue (list_any (is_commit t at) records)
 HasCommit (Err fault) t at = ⊥
 
 -- A settling that is taken puts out the transaction's end at a timestamp, before all else; from then on every image that a

@@ -1,12 +1,12 @@
 -- Members by id are in the order that a sort or a search by the ids' comparison has them, and a map by id that is kept so.
-use Rattle.std.proofs.Common.{◌≡◌, ℕ, zero, suc, ◌+◌, Bool, true, false, ◌&&◌, ◌||◌, cond, List, [], ◌∷◌, map, get_or, Option, Some, refl, sym, ap, subst, ◌∙◌, arith}
+use Rattle.std.proofs.Common.{◌≡◌, ℕ, zero, suc, ◌+◌, Bool, true, false, ◌&&◌, ◌||◌, cond, List, [], ◌∷◌, map, get_or, Option, Some, refl, sym, ap, subst, ◌∙◌, arith, option_map, filter}
 use Rattle.std.specs.List.{IsDistinct}
 use Rattle.std.specs.List.Sorted.{IsSorted}
 use Rattle.std.specs.Map.{lookup}
 use Rattle.std.specs.Ordering.{is_lt, nat_cmp, ordering_then}
 use Rattle.std.specs.declared.cmp.Ordering.{Ordering}
 use Rattle.std.specs.declared.cmp.Ordering.TheVariants.{Less, Equal, Greater}
-use Rattle.units.specs.Lists.{mapped, head, keep}
+use Rattle.units.specs.Lists.{head}
 use Rattle.units.specs.Ids.{Id, same_id, older}
 use Rattle.units.specs.ById.{IsById, find_member, with_member}
 use Rattle.units.proofs.IdLaws.{same_id-is, same_id_comm, older_not_younger, older_total, older-trans}
@@ -64,12 +64,12 @@ sorted_by_id id (x ∷ y ∷ xs) sorted differ =
 -- ---- maps by id
 
 -- an entry of an id is that id with the value that is looked up
-pub find_lookup : {V : Type 0} (es : List (Id × V)) (t : Id) → find_member (λ e. e.0) es t ≡ mapped (λ v. (t, v)) (lookup (same_id t) es)
+pub find_lookup : {V : Type 0} (es : List (Id × V)) (t : Id) → find_member (λ e. e.0) es t ≡ option_map (λ v. (t, v)) (lookup (same_id t) es)
 find_lookup [] t = refl
 find_lookup {V = V} (e ∷ es) t = rw (same_id_comm t e.0) (by_test (same_id e.0 t) refl (find_lookup es t))
   where
-    by_test : (b : Bool) → same_id e.0 t ≡ b → find_member (λ e. e.0) es t ≡ mapped (λ v. (t, v)) (lookup (same_id t) es)
-        → head (cond b (e ∷ keep (λ x. same_id x.0 t) es) (keep (λ x. same_id x.0 t) es)) ≡ mapped (λ v. (t, v)) (cond b (Some e.1) (lookup (same_id t) es))
+    by_test : (b : Bool) → same_id e.0 t ≡ b → find_member (λ e. e.0) es t ≡ option_map (λ v. (t, v)) (lookup (same_id t) es)
+        → head (cond b (e ∷ filter (λ x. same_id x.0 t) es) (filter (λ x. same_id x.0 t) es)) ≡ option_map (λ v. (t, v)) (cond b (Some e.1) (lookup (same_id t) es))
     by_test true is rest = ap (λ u. let x : Id × V = (u, e.1) in Some x) (same_id-is e.0 t is)
     by_test false is rest = rest
 
@@ -78,10 +78,10 @@ pub put_is_with : {V : Type 0} (es new : List (Id × V)) (t : Id) (v : V) → Is
     → ((q : Id) → lookup (same_id q) new ≡ cond (same_id t q) (Some v) (lookup (same_id q) es)) → new ≡ with_member (λ e. e.0) es (t, v)
 put_is_with {V = V} es new t v up new_up says =
     same_members (λ e. e.0) new (with_member (λ e. e.0) es (t, v)) new_up (by_id-with (λ e. e.0) es (t, v) up)
-    (λ q. find_lookup new q ∙ ap (mapped (λ w. (q, w))) (says q) ∙ by_test q (same_id t q) refl)
+    (λ q. find_lookup new q ∙ ap (option_map (λ w. (q, w))) (says q) ∙ by_test q (same_id t q) refl)
   where
     by_test : (q : Id) (b : Bool) → same_id t q ≡ b
-        → mapped (λ w. (q, w)) (cond b (Some v) (lookup (same_id q) es)) ≡ find_member (λ e. e.0) (with_member (λ e. e.0) es (t, v)) q
+        → option_map (λ w. (q, w)) (cond b (Some v) (lookup (same_id q) es)) ≡ find_member (λ e. e.0) (with_member (λ e. e.0) es (t, v)) q
     by_test q true is =
         let same : t ≡ q = same_id-is t q is in
         subst (λ u. ◌≡◌ {A = Option (Id × V)} (Some (u, v)) (find_member (λ e. e.0) (with_member (λ e. e.0) es (t, v)) u)) same

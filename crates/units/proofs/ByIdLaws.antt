@@ -1,9 +1,9 @@
 -- A member of a list that ascends by id is looked up, put in, taken out or changed.
-use Rattle.std.proofs.Common.{◌≡◌, ℕ, zero, suc, ◌<◌, Bool, true, false, ◌||◌, not, cond, List, [], ◌∷◌, map, length, get_or, set, Option, Some, None, refl, sym, ap, subst, ◌∙◌, arith}
+use Rattle.std.proofs.Common.{◌≡◌, ℕ, zero, suc, ◌<◌, Bool, true, false, ◌||◌, not, cond, List, [], ◌∷◌, map, length, get_or, set, Option, Some, None, refl, sym, ap, subst, ◌∙◌, arith, filter, option_map}
 use Rattle.std.specs.List.{insert, remove, position_or_len, AllByRecursion}
 use Rattle.std.proofs.lemmas.Bool.{false≢true}
 use Rattle.std.proofs.lemmas.Bool.Decides.{nat_tests}
-use Rattle.units.specs.Lists.{keep, head, first, mapped}
+use Rattle.units.specs.Lists.{head, first}
 use Rattle.units.specs.Ids.{Id, same_id, older}
 use Rattle.units.specs.ById.{IsById, has_member, find_member, without_member, with_member, change_member}
 use Rattle.units.proofs.IdLaws.{same_id-is, same_id-refl, same_id_comm, same_id-along, older_not_same, older_not_younger, older_total, older-trans, older-along}
@@ -29,10 +29,10 @@ later_differ id t x xs same young =
     (λ y o. same_id_comm (id y) t ∙ sym (same_id-along (id x) t (id y) same) ∙ older_not_same (id x) (id y) o) xs young
 
 -- the order is kept where members are taken out
-pub by_id-keep : {A : Type 0} (id : A → Id) (keeps : A → Bool) (xs : List A) → IsById id xs → IsById id (keep keeps xs)
+pub by_id-keep : {A : Type 0} (id : A → Id) (keeps : A → Bool) (xs : List A) → IsById id xs → IsById id (filter keeps xs)
 by_id-keep id keeps [] up = tt
-by_id-keep id keeps (x ∷ xs) up = elim (keeps x) as (λ b. IsById id (cond b (x ∷ keep keeps xs) (keep keeps xs))) [
-  | true ↦ by_id-cons id x (keep keeps xs) (all-keep (λ y. older (id x) (id y) ≡ true) keeps xs (later_are_younger id x xs up)) (by_id-keep id keeps xs up.1)
+by_id-keep id keeps (x ∷ xs) up = elim (keeps x) as (λ b. IsById id (cond b (x ∷ filter keeps xs) (filter keeps xs))) [
+  | true ↦ by_id-cons id x (filter keeps xs) (all-keep (λ y. older (id x) (id y) ≡ true) keeps xs (later_are_younger id x xs up)) (by_id-keep id keeps xs up.1)
   | false ↦ by_id-keep id keeps xs up.1
 ]
 
@@ -151,7 +151,7 @@ pub found_is : {A : Type 0} (id : A → Id) (xs : List A) (t : Id) (y : A) → f
 found_is id [] t y e = cc
 found_is id (x ∷ xs) t y e = by_test (same_id (id x) t) refl (λ k. found_is id xs t y k) e
   where
-    by_test : (b : Bool) → same_id (id x) t ≡ b → (find_member id xs t ≡ Some y → same_id (id y) t ≡ true) → head (cond b (x ∷ keep (λ x. same_id (id x) t) xs) (keep (λ x. same_id (id x) t) xs)) ≡ Some y → same_id (id y) t ≡ true
+    by_test : (b : Bool) → same_id (id x) t ≡ b → (find_member id xs t ≡ Some y → same_id (id y) t ≡ true) → head (cond b (x ∷ filter (λ x. same_id (id x) t) xs) (filter (λ x. same_id (id x) t) xs)) ≡ Some y → same_id (id y) t ≡ true
     by_test true s rest k = let is : x ≡ y = cc in ap (λ z. same_id (id z) t) (sym is) ∙ s
     by_test false s rest k = rest k
 
@@ -160,7 +160,7 @@ pub found_has : {A : Type 0} (id : A → Id) (xs : List A) (t : Id) (y : A) → 
 found_has id [] t y e = cc
 found_has id (x ∷ xs) t y e = by_test (same_id (id x) t) (λ k. found_has id xs t y k) e
   where
-    by_test : (b : Bool) → (find_member id xs t ≡ Some y → has_member id xs t ≡ true) → head (cond b (x ∷ keep (λ x. same_id (id x) t) xs) (keep (λ x. same_id (id x) t) xs)) ≡ Some y → (b || has_member id xs t) ≡ true
+    by_test : (b : Bool) → (find_member id xs t ≡ Some y → has_member id xs t ≡ true) → head (cond b (x ∷ filter (λ x. same_id (id x) t) xs) (filter (λ x. same_id (id x) t) xs)) ≡ Some y → (b || has_member id xs t) ≡ true
     by_test true rest k = refl
     by_test false rest k = rest k
 
@@ -175,7 +175,7 @@ pub found_all : {A : Type 0} (P : A → Type 0) (id : A → Id) (xs : List A) (t
 found_all P id [] t y all e = cc
 found_all P id (x ∷ xs) t y all e = by_test (same_id (id x) t) (λ k. found_all P id xs t y all.1 k) e
   where
-    by_test : (b : Bool) → (find_member id xs t ≡ Some y → P y) → head (cond b (x ∷ keep (λ x. same_id (id x) t) xs) (keep (λ x. same_id (id x) t) xs)) ≡ Some y → P y
+    by_test : (b : Bool) → (find_member id xs t ≡ Some y → P y) → head (cond b (x ∷ filter (λ x. same_id (id x) t) xs) (filter (λ x. same_id (id x) t) xs)) ≡ Some y → P y
     by_test true rest k = let is : x ≡ y = cc in subst P is all.0
     by_test false rest k = rest k
 
@@ -184,7 +184,7 @@ pub first_none : {A : Type 0} (p : A → Bool) (xs : List A) → first p xs ≡ 
 first_none p [] e = tt
 first_none p (x ∷ xs) e = by_test (p x) refl (λ k. first_none p xs k) e
   where
-    by_test : (b : Bool) → p x ≡ b → (first p xs ≡ None → AllByRecursion (λ x. p x ≡ false) xs) → head (cond b (x ∷ keep p xs) (keep p xs)) ≡ None
+    by_test : (b : Bool) → p x ≡ b → (first p xs ≡ None → AllByRecursion (λ x. p x ≡ false) xs) → head (cond b (x ∷ filter p xs) (filter p xs)) ≡ None
         → AllByRecursion (λ x. p x ≡ false) (x ∷ xs)
     by_test true s rest k = cc
     by_test false s rest k = (s, rest k)
@@ -194,7 +194,7 @@ pub first_passes : {A : Type 0} (p : A → Bool) (xs : List A) (y : A) → first
 first_passes p [] y e = cc
 first_passes p (x ∷ xs) y e = by_test (p x) refl (λ k. first_passes p xs y k) e
   where
-    by_test : (b : Bool) → p x ≡ b → (first p xs ≡ Some y → p y ≡ true) → head (cond b (x ∷ keep p xs) (keep p xs)) ≡ Some y → p y ≡ true
+    by_test : (b : Bool) → p x ≡ b → (first p xs ≡ Some y → p y ≡ true) → head (cond b (x ∷ filter p xs) (filter p xs)) ≡ Some y → p y ≡ true
     by_test true s rest k = let is : x ≡ y = cc in ap p (sym is) ∙ s
     by_test false s rest k = rest k
 
@@ -203,7 +203,7 @@ pub first_all : {A : Type 0} (P : A → Type 0) (p : A → Bool) (xs : List A) (
 first_all P p [] y all e = cc
 first_all P p (x ∷ xs) y all e = by_test (p x) (λ k. first_all P p xs y all.1 k) e
   where
-    by_test : (b : Bool) → (first p xs ≡ Some y → P y) → head (cond b (x ∷ keep p xs) (keep p xs)) ≡ Some y → P y
+    by_test : (b : Bool) → (first p xs ≡ Some y → P y) → head (cond b (x ∷ filter p xs) (filter p xs)) ≡ Some y → P y
     by_test true rest k = let is : x ≡ y = cc in subst P is all.0
     by_test false rest k = rest k
 
@@ -212,8 +212,8 @@ pub find-first : {A : Type 0} (id : A → Id) (p : A → Bool) (xs : List A) (y 
 find-first id p [] y up e = cc
 find-first id p (x ∷ xs) y up e = by_test (p x) (λ k. find-first id p xs y up.1 k) e
   where
-    by_test : (b : Bool) → (first p xs ≡ Some y → find_member id xs (id y) ≡ Some y) → head (cond b (x ∷ keep p xs) (keep p xs)) ≡ Some y
-        → head (cond (same_id (id x) (id y)) (x ∷ keep (λ z. same_id (id z) (id y)) xs) (keep (λ z. same_id (id z) (id y)) xs)) ≡ Some y
+    by_test : (b : Bool) → (first p xs ≡ Some y → find_member id xs (id y) ≡ Some y) → head (cond b (x ∷ filter p xs) (filter p xs)) ≡ Some y
+        → head (cond (same_id (id x) (id y)) (x ∷ filter (λ z. same_id (id z) (id y)) xs) (filter (λ z. same_id (id z) (id y)) xs)) ≡ Some y
     by_test true rest k =
         let is : x ≡ y = cc in
         let same : same_id (id x) (id y) ≡ true = ap (λ z. same_id (id x) (id z)) (sym is) ∙ same_id-refl (id x) in
@@ -229,7 +229,7 @@ first_oldest id p [] y up e = tt
 first_oldest id p (x ∷ xs) y up e = by_test (p x) refl (λ k. first_oldest id p xs y up.1 k) e
   where
     by_test : (b : Bool) → p x ≡ b → (first p xs ≡ Some y → AllByRecursion (λ z. older (id z) (id y) ≡ true → p z ≡ false) xs)
-        → head (cond b (x ∷ keep p xs) (keep p xs)) ≡ Some y → AllByRecursion (λ z. older (id z) (id y) ≡ true → p z ≡ false) (x ∷ xs)
+        → head (cond b (x ∷ filter p xs) (filter p xs)) ≡ Some y → AllByRecursion (λ z. older (id z) (id y) ≡ true → p z ≡ false) (x ∷ xs)
     by_test true s rest k =
         let is : x ≡ y = cc in (
           λ o. absurd (false≢true (sym (older_not_same (id x) (id y) o) ∙ ap (λ z. same_id (id x) (id z)) (sym is) ∙ same_id-refl (id x))),
@@ -245,7 +245,7 @@ change_is_with id [] t f y up e same = cc
 change_is_with id (x ∷ xs) t f y up e same = by_test (same_id (id x) t) refl (λ k. change_is_with id xs t f y up.1 k same) e
   where
     by_test : (b : Bool) → same_id (id x) t ≡ b → (find_member id xs t ≡ Some y → change_member id xs t f ≡ with_member id xs (f y))
-        → head (cond b (x ∷ keep (λ x. same_id (id x) t) xs) (keep (λ x. same_id (id x) t) xs)) ≡ Some y
+        → head (cond b (x ∷ filter (λ x. same_id (id x) t) xs) (filter (λ x. same_id (id x) t) xs)) ≡ Some y
         → cond b (f x) x ∷ change_member id xs t f ≡ with_member id (x ∷ xs) (f y)
     by_test true s rest k =
         let is : x ≡ y = cc in
@@ -265,7 +265,7 @@ find-without_other id (x ∷ xs) t u differ = by_tests (same_id (id x) t) (same_
   where
     by_tests : (a b : Bool) → same_id (id x) t ≡ a → same_id (id x) u ≡ b → find_member id (without_member id xs u) t ≡ find_member id xs t
         → find_member id (cond (not b) (x ∷ without_member id xs u) (without_member id xs u)) t
-        ≡ head (cond a (x ∷ keep (λ x. same_id (id x) t) xs) (keep (λ x. same_id (id x) t) xs))
+        ≡ head (cond a (x ∷ filter (λ x. same_id (id x) t) xs) (filter (λ x. same_id (id x) t) xs))
     by_tests true true s v rest = absurd (false≢true (sym differ ∙ sym (same_id-along (id x) u t v) ∙ s))
     by_tests true false s v rest = rw s refl
     by_tests false true s v rest = rest
@@ -313,18 +313,18 @@ find-with_other id (x ∷ xs) y t differ = by_tests (same_id (id x) (id y)) (old
         → find_member id (cond a (y ∷ xs) (cond b (x ∷ with_member id xs y) (y ∷ x ∷ xs))) t ≡ find_member id (x ∷ xs) t
     by_tests true b s rest =
         let other : same_id (id x) t ≡ false = same_id-along (id x) (id y) t s ∙ differ in rw (differ, other) refl
-    by_tests false true s rest = elim (same_id (id x) t) as (λ c. head (cond c (x ∷ keep (λ z. same_id (id z) t) (with_member id xs y)) (keep (λ z. same_id (id z) t) (with_member id xs y)))
-        ≡ head (cond c (x ∷ keep (λ z. same_id (id z) t) xs) (keep (λ z. same_id (id z) t) xs))) [ true ↦ refl | false ↦ rest ]
+    by_tests false true s rest = elim (same_id (id x) t) as (λ c. head (cond c (x ∷ filter (λ z. same_id (id z) t) (with_member id xs y)) (filter (λ z. same_id (id z) t) (with_member id xs y)))
+        ≡ head (cond c (x ∷ filter (λ z. same_id (id z) t) xs) (filter (λ z. same_id (id z) t) xs))) [ true ↦ refl | false ↦ rest ]
     by_tests false false s rest = rw differ refl
 
 -- a view of each member that has the member's id
-pub find-map : {A B : Type 0} (id : A → Id) (of : B → Id) (g : A → B) → ((x : A) → of (g x) ≡ id x) → (xs : List A) (t : Id) → find_member of (map g xs) t ≡ mapped g (find_member id xs t)
+pub find-map : {A B : Type 0} (id : A → Id) (of : B → Id) (g : A → B) → ((x : A) → of (g x) ≡ id x) → (xs : List A) (t : Id) → find_member of (map g xs) t ≡ option_map g (find_member id xs t)
 find-map id of g same [] t = refl
 find-map id of g same (x ∷ xs) t = rw (same x) (by_test (same_id (id x) t) (find-map id of g same xs t))
   where
-    by_test : (b : Bool) → find_member of (map g xs) t ≡ mapped g (find_member id xs t)
-        → head (cond b (g x ∷ keep (λ z. same_id (of z) t) (map g xs)) (keep (λ z. same_id (of z) t) (map g xs)))
-        ≡ mapped g (head (cond b (x ∷ keep (λ z. same_id (id z) t) xs) (keep (λ z. same_id (id z) t) xs)))
+    by_test : (b : Bool) → find_member of (map g xs) t ≡ option_map g (find_member id xs t)
+        → head (cond b (g x ∷ filter (λ z. same_id (of z) t) (map g xs)) (filter (λ z. same_id (of z) t) (map g xs)))
+        ≡ option_map g (head (cond b (x ∷ filter (λ z. same_id (id z) t) xs) (filter (λ z. same_id (id z) t) xs)))
     by_test true rest = refl
     by_test false rest = rest
 
@@ -378,8 +378,8 @@ same_behind : {A : Type 0} (id : A → Id) (x : A) (xs ys : List A) → IsById i
 same_behind id x xs ys up vp same t = by_test (same_id (id x) t) refl (same t)
   where
     by_test : (b : Bool) → same_id (id x) t ≡ b
-        → head (cond b (x ∷ keep (λ z. same_id (id z) t) xs) (keep (λ z. same_id (id z) t) xs))
-        ≡ head (cond b (x ∷ keep (λ z. same_id (id z) t) ys) (keep (λ z. same_id (id z) t) ys))
+        → head (cond b (x ∷ filter (λ z. same_id (id z) t) xs) (filter (λ z. same_id (id z) t) xs))
+        ≡ head (cond b (x ∷ filter (λ z. same_id (id z) t) ys) (filter (λ z. same_id (id z) t) ys))
         → find_member id xs t ≡ find_member id ys t
     by_test true s k =
         subst (λ u. find_member id xs u ≡ find_member id ys u) (same_id-is (id x) t s)

@@ -1,7 +1,8 @@
 -- The words on lists over one list after another.
+use Rattle.std.specs.List.{list_any, list_all}
 use Rattle.std.proofs.Common.{refl, sym, ◌∙◌, ap, arith}
-use Rattle.std.specs.Prelude.{ℕ, ◌≡◌, Bool, true, false, cond, ◌&&◌, ◌||◌, max, List, [], ◌∷◌, ◌++◌, Option, Some, None}
-use Rattle.units.specs.Lists.{any, each, keep, gather, join, head, first, greatest, when}
+use Rattle.std.specs.Prelude.{ℕ, ◌≡◌, Bool, true, false, cond, ◌&&◌, ◌||◌, max, List, [], ◌∷◌, ◌++◌, Option, Some, None, filter, flat_map}
+use Rattle.units.specs.Lists.{gather, head, first, greatest, when}
 
 -- the first value that is there
 abbrev pub or_else : {A : Type 0} → Option A → Option A → Option A
@@ -34,9 +35,9 @@ gather_append {B = B} f (x ∷ xs) ys = by_value (f x) (gather_append f xs ys)
     by_value None e = e
     by_value (Some y) e = ap (λ l. y ∷ l) e
 
-pub join_append : {A B : Type 0} (f : A → List B) (xs ys : List A) → join f (xs ++ ys) ≡ join f xs ++ join f ys
+pub join_append : {A B : Type 0} (f : A → List B) (xs ys : List A) → flat_map f (xs ++ ys) ≡ flat_map f xs ++ flat_map f ys
 join_append f [] ys = refl
-join_append f (x ∷ xs) ys = ap (λ l. f x ++ l) (join_append f xs ys) ∙ sym (append_again (f x) (join f xs) (join f ys))
+join_append f (x ∷ xs) ys = ap (λ l. f x ++ l) (join_append f xs ys) ∙ sym (append_again (f x) (flat_map f xs) (flat_map f ys))
 
 pub greatest_append : (xs ys : List ℕ) → greatest (xs ++ ys) ≡ max (greatest xs) (greatest ys)
 greatest_append [] ys = from_none (greatest ys)
@@ -52,34 +53,34 @@ pub first_append : {A : Type 0} (test : A → Bool) (xs ys : List A) → first t
 first_append test [] ys = refl
 first_append {A} test (x ∷ xs) ys = by_test (test x) (first_append test xs ys)
   where
-    by_test : (b : Bool) → head (keep test (xs ++ ys)) ≡ or_else (head (keep test xs)) (head (keep test ys)) →
-        head (cond b (x ∷ keep test (xs ++ ys)) (keep test (xs ++ ys))) ≡ or_else (head (cond b (x ∷ keep test xs) (keep test xs))) (head (keep test ys))
+    by_test : (b : Bool) → head (filter test (xs ++ ys)) ≡ or_else (head (filter test xs)) (head (filter test ys)) →
+        head (cond b (x ∷ filter test (xs ++ ys)) (filter test (xs ++ ys))) ≡ or_else (head (cond b (x ∷ filter test xs) (filter test xs))) (head (filter test ys))
     by_test true e = refl
     by_test false e = e
 
-pub any_append : {A : Type 0} (test : A → Bool) (xs ys : List A) → any test (xs ++ ys) ≡ (any test xs || any test ys)
+pub any_append : {A : Type 0} (test : A → Bool) (xs ys : List A) → list_any test (xs ++ ys) ≡ (list_any test xs || list_any test ys)
 any_append test [] ys = refl
-any_append test (x ∷ xs) ys = ap (λ b. test x || b) (any_append test xs ys) ∙ sym (turned (test x) (any test xs) (any test ys))
+any_append test (x ∷ xs) ys = ap (λ b. test x || b) (any_append test xs ys) ∙ sym (turned (test x) (list_any test xs) (list_any test ys))
   where
     turned : (a b c : Bool) → ((a || b) || c) ≡ (a || (b || c))
     turned true b c = refl
     turned false b c = refl
 
 -- a first one is there where some member passes
-pub there_first : {A : Type 0} (test : A → Bool) (xs : List A) → is_there (first test xs) ≡ any test xs
+pub there_first : {A : Type 0} (test : A → Bool) (xs : List A) → is_there (first test xs) ≡ list_any test xs
 there_first test [] = refl
 there_first test (x ∷ xs) = by_test (test x) (there_first test xs)
   where
-    by_test : (b : Bool) → is_there (head (keep test xs)) ≡ any test xs → is_there (head (cond b (x ∷ keep test xs) (keep test xs))) ≡ (b || any test xs)
+    by_test : (b : Bool) → is_there (head (filter test xs)) ≡ list_any test xs → is_there (head (cond b (x ∷ filter test xs) (filter test xs))) ≡ (b || list_any test xs)
     by_test true e = refl
     by_test false e = e
 
 -- a list of results goes by its members alone
 pub join_same : {A B : Type 0} (f g : A → List B) (test : A → Bool) → ((x : A) → test x ≡ true → f x ≡ g x) →
-    (xs : List A) → each test xs ≡ true → join f xs ≡ join g xs
+    (xs : List A) → list_all test xs ≡ true → flat_map f xs ≡ flat_map g xs
 join_same f g test same [] h = refl
 join_same f g test same (x ∷ xs) h =
-    ap (λ l. l ++ join f xs) (same x ((both _ _ h).0)) ∙ ap (λ l. g x ++ l) (join_same f g test same xs ((both _ _ h).1))
+    ap (λ l. l ++ flat_map f xs) (same x ((both _ _ h).0)) ∙ ap (λ l. g x ++ l) (join_same f g test same xs ((both _ _ h).1))
   where
     both : (a b : Bool) → (a && b) ≡ true → (a ≡ true) × (b ≡ true)
     both true b e = (refl, e)

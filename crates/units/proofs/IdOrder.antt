@@ -1,8 +1,8 @@
 -- Ids that are put in their places one by one stand in one list, whatever the turn.
+use Rattle.std.specs.List.{list_any, list_all}
 use Rattle.std.proofs.Common.{refl, sym, ◌∙◌, ap, subst}
 use Rattle.std.specs.Prelude.{◌≡◌, Bool, true, false, cond, ◌&&◌, ◌||◌, List, [], ◌∷◌, ◌++◌}
 use Rattle.units.proofs.IdLaws.{same_id-is, same_id-refl, same_id_comm, older_total, older_not_younger, older_not_same, older-trans}
-use Rattle.units.specs.Lists.{any, each}
 use Rattle.units.specs.Ids.{Id, same_id, older, with_id, ids_once}
 
 both : (a b : Bool) → (a && b) ≡ true → (a ≡ true) × (b ≡ true)
@@ -87,7 +87,7 @@ once_more (u ∷ us) t = ap (λ l. with_id l u) (once_more us t) ∙ any_turn (i
 -- ---- an id is among the ids that stand once exactly where it is among them
 
 -- an id in its place among others is there, and so are they
-any_with : (t u : Id) (us : List Id) → any (same_id t) (with_id us u) ≡ (same_id t u || any (same_id t) us)
+any_with : (t u : Id) (us : List Id) → list_any (same_id t) (with_id us u) ≡ (same_id t u || list_any (same_id t) us)
 any_with t u [] = refl
 any_with t u (v ∷ vs) = placed (same_id v u) (older v u) refl (any_with t u vs)
   where
@@ -101,14 +101,14 @@ any_with t u (v ∷ vs) = placed (same_id v u) (older v u) refl (any_with t u vs
     twice true b = refl
     twice false b = refl
 
-    placed : (a b : Bool) → same_id v u ≡ a → any (same_id t) (with_id vs u) ≡ (same_id t u || any (same_id t) vs) →
-        any (same_id t) (cond a (v ∷ vs) (cond b (v ∷ with_id vs u) (u ∷ v ∷ vs))) ≡ (same_id t u || (same_id t v || any (same_id t) vs))
+    placed : (a b : Bool) → same_id v u ≡ a → list_any (same_id t) (with_id vs u) ≡ (same_id t u || list_any (same_id t) vs) →
+        list_any (same_id t) (cond a (v ∷ vs) (cond b (v ∷ with_id vs u) (u ∷ v ∷ vs))) ≡ (same_id t u || (same_id t v || list_any (same_id t) vs))
     placed true b e rest =
-        subst (λ w. (same_id t v || any (same_id t) vs) ≡ (same_id t w || (same_id t v || any (same_id t) vs))) (same_id-is v u e) (twice (same_id t v) _)
+        subst (λ w. (same_id t v || list_any (same_id t) vs) ≡ (same_id t w || (same_id t v || list_any (same_id t) vs))) (same_id-is v u e) (twice (same_id t v) _)
     placed false true e rest = ap (λ b. same_id t v || b) rest ∙ swap (same_id t v) (same_id t u) _
     placed false false e rest = refl
 
-pub any_once : (t : Id) (ts : List Id) → any (same_id t) (ids_once ts) ≡ any (same_id t) ts
+pub any_once : (t : Id) (ts : List Id) → list_any (same_id t) (ids_once ts) ≡ list_any (same_id t) ts
 any_once t [] = refl
 any_once t (u ∷ us) = any_with t u (ids_once us) ∙ ap (λ b. same_id t u || b) (any_once t us)
 
@@ -117,24 +117,24 @@ any_once t (u ∷ us) = any_with t u (ids_once us) ∙ ap (λ b. same_id t u || 
 -- each id is older than all behind it
 abbrev pub rises : List Id → Bool
 rises [] = true
-rises (t ∷ ts) = each (older t) ts && rises ts
+rises (t ∷ ts) = list_all (older t) ts && rises ts
 
 pub and_true : (a b : Bool) → a ≡ true → b ≡ true → (a && b) ≡ true
 and_true true b e f = f
 and_true false b e f = cc
 
-pub above_more : (t u : Id) (us : List Id) → older t u ≡ true → each (older u) us ≡ true → each (older t) us ≡ true
+pub above_more : (t u : Id) (us : List Id) → older t u ≡ true → list_all (older u) us ≡ true → list_all (older t) us ≡ true
 above_more t u [] e h = refl
 above_more t u (v ∷ vs) e h =
-    let p : (older u v ≡ true) × (each (older u) vs ≡ true) = both _ _ h in
+    let p : (older u v ≡ true) × (list_all (older u) vs ≡ true) = both _ _ h in
     and_true _ _ (older-trans t u v e p.0) (above_more t u vs e p.1)
 
-above_with : (y t : Id) (us : List Id) → older y t ≡ true → each (older y) us ≡ true → each (older y) (with_id us t) ≡ true
+above_with : (y t : Id) (us : List Id) → older y t ≡ true → list_all (older y) us ≡ true → list_all (older y) (with_id us t) ≡ true
 above_with y t [] e h = and_true _ _ e refl
 above_with y t (u ∷ us) e h = placed (same_id u t) (older u t) (both _ _ h) (above_with y t us e ((both _ _ h).1))
   where
-    placed : (a b : Bool) → (older y u ≡ true) × (each (older y) us ≡ true) → each (older y) (with_id us t) ≡ true →
-        each (older y) (cond a (u ∷ us) (cond b (u ∷ with_id us t) (t ∷ u ∷ us))) ≡ true
+    placed : (a b : Bool) → (older y u ≡ true) × (list_all (older y) us ≡ true) → list_all (older y) (with_id us t) ≡ true →
+        list_all (older y) (cond a (u ∷ us) (cond b (u ∷ with_id us t) (t ∷ u ∷ us))) ≡ true
     placed true b p rest = and_true _ _ p.0 p.1
     placed false true p rest = and_true _ _ p.0 rest
     placed false false p rest = and_true _ _ e (and_true _ _ p.0 p.1)
@@ -143,7 +143,7 @@ pub rises_with : (us : List Id) (t : Id) → rises us ≡ true → rises (with_i
 rises_with [] t h = refl
 rises_with (u ∷ us) t h = by_way (way u t) (both _ _ h) (rises_with us t ((both _ _ h).1))
   where
-    by_way : Way u t → (each (older u) us ≡ true) × (rises us ≡ true) → rises (with_id us t) ≡ true → rises (with_id (u ∷ us) t) ≡ true
+    by_way : Way u t → (list_all (older u) us ≡ true) × (rises us ≡ true) → rises (with_id us t) ≡ true → rises (with_id (u ∷ us) t) ≡ true
     by_way (IsOne e) p rest =
         let same : with_id (u ∷ us) t ≡ u ∷ us = subst (λ v. with_id (u ∷ us) v ≡ u ∷ us) e (with_same us u) in
         ap rises same ∙ h

@@ -1,9 +1,10 @@
 -- The numbers below 16 that are in a list, ascending.
+use Rattle.std.specs.List.{list_all}
 use Rattle.std.proofs.Common.{◌≡◌, ◌≢◌, ℕ, zero, suc, ◌+◌, ◌-◌, ◌*◌, ◌/◌, ◌%◌, ◌<◌, ◌≤◌, ◌^◌, Bool, true, false, cond, ◌&&◌, ◌||◌, nat_eq, nat_lt, List, [], ◌∷◌, ◌++◌, Option, Some, None, if◌then◌else◌, refl, sym, ap, ◌∙◌, subst, arith, append_assoc}
 use Rattle.std.specs.Prelude.{IfSome, IfNone}
 use Rattle.std.proofs.lemmas.Bool.Decides.{nat_tests}
 use Rattle.std.proofs.Math.Nat.{pow-suc}
-use Rattle.units.specs.Lists.{each, has, once, insert, sorted}
+use Rattle.units.specs.Lists.{has, once, insert, sorted}
 use Rattle.units.specs.Parts.{marked, shards_from, shards_of_mask}
 
 -- tests that agree from n on mark the same
@@ -67,7 +68,7 @@ insert_marked f (suc bits) n x low high new =
         by_test false h = h
 
 -- numbers below 16, each once and in order, are those that are marked
-pub sorted_once : (ns : List ℕ) → each (λ n. nat_lt n 16) ns ≡ true → sorted nat_lt (once ns) ≡ marked (has ns) 16 0
+pub sorted_once : (ns : List ℕ) → list_all (λ n. nat_lt n 16) ns ≡ true → sorted nat_lt (once ns) ≡ marked (has ns) 16 0
 sorted_once [] h = refl
 sorted_once (x ∷ xs) h = by_test (has xs x) refl (sorted_once xs ((both _ _ h).1))
   where

@@ -1,6 +1,6 @@
 -- Ids of transactions and their order: the age of a transaction, smaller is older.
+use Rattle.std.specs.List.{list_any}
 use Rattle.std.specs.Prelude.{ℕ, Bool, ◌&&◌, ◌||◌, nat_eq, nat_lt, List, [], ◌∷◌, cond}
-use Rattle.units.specs.Lists.{any}
 
 -- the run that made it, and its number in that run
 pub record Id : Type 0 where
@@ -17,7 +17,7 @@ older a b = nat_lt a.run b.run || (nat_eq a.run b.run && nat_lt a.number b.numbe
 
 -- the id is in the list
 abbrev pub has_id : List Id → Id → Bool
-has_id ids t = any (same_id t) ids
+has_id ids t = list_any (same_id t) ids
 
 -- the ids with one more in its place, where it is not there; they ascend
 abbrev pub with_id : List Id → Id → List Id

@@ -1,6 +1,7 @@
 -- Keys, their order by bytes, and the shard that a key belongs to.
+use Rattle.std.specs.List.{list_any}
 use Rattle.std.specs.Prelude.{ℕ, Bool, true, false, ◌&&◌, ◌||◌, not, nat_eq, nat_lt, List, [], ◌∷◌}
-use Rattle.units.specs.Lists.{any, count, same_numbers}
+use Rattle.units.specs.Lists.{count, same_numbers}
 use Rattle.units.specs.declared.writes.Write.{Write}
 
 -- the bytes of a key or of a value
@@ -24,11 +25,11 @@ shard_of splits k = count (λ split. not (key_before k split)) splits
 
 -- the key is in the list
 abbrev pub has_key : List Bytes → Bytes → Bool
-has_key ks k = any (same_key k) ks
+has_key ks k = list_any (same_key k) ks
 
 -- the key is written
 abbrev pub writes_key : List Write → Bytes → Bool
-writes_key ws k = any (λ w. same_key w.key k) ws
+writes_key ws k = list_any (λ w. same_key w.key k) ws
 
 -- the first write's key is before the second's
 abbrev pub write_before : Write → Write → Bool

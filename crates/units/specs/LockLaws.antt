@@ -1,22 +1,22 @@
 -- The laws that a lock table keeps.
 use Rattle.std.specs.Prelude.{◌≡◌, IsTrue, Bool, true, ◌||◌, not, List, [], Option, None, Some}
-use Rattle.std.specs.List.{AllByRecursion}
-use Rattle.units.specs.Lists.{any, each, ascends}
+use Rattle.std.specs.List.{AllByRecursion, list_any, list_all}
+use Rattle.units.specs.Lists.{ascends}
 use Rattle.units.specs.Ids.{Id, older}
 use Rattle.units.specs.ById.{IsById, find_member}
 use Rattle.units.specs.Locks.{Claim, clash, others, is_waiting, waits_before, blockers, lock_before}
 
 -- two transactions that hold one key both share it
 abbrev pub keeps_lock_law : List Claim → Bool
-keeps_lock_law table = each (λ c. not (any (λ d. clash c.held d.held) (others table c.txn))) table
+keeps_lock_law table = list_all (λ c. not (list_any (λ d. clash c.held d.held) (others table c.txn))) table
 
 -- each holder in the way of a waiter is older than it, or firm
 abbrev pub keeps_wait_law : List Claim → Bool
-keeps_wait_law table = each (λ w. each (λ c. older c.txn w.txn || c.firm) (blockers table w.txn w.needs)) table
+keeps_wait_law table = list_all (λ w. list_all (λ c. older c.txn w.txn || c.firm) (blockers table w.txn w.needs)) table
 
 -- each transaction holds its locks by ascending key, each key once
 abbrev pub holds_by_key : List Claim → Bool
-holds_by_key table = each (λ c. ascends lock_before c.held) table
+holds_by_key table = list_all (λ c. ascends lock_before c.held) table
 
 -- what a table keeps: its claims stand by ascending id, each id once
 pub record IsLawfulTable (table : List Claim) : Type 0 where

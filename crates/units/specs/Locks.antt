@@ -1,6 +1,7 @@
 -- Two-phase locks under wound-wait: who conflicts, who waits, who is wounded. Smaller ids are older.
-use Rattle.std.specs.Prelude.{Bool, true, false, not, cond, ◌&&◌, List, [], ◌∷◌, map, Option}
-use Rattle.units.specs.Lists.{any, keep, first, mapped}
+use Rattle.std.specs.List.{list_any}
+use Rattle.std.specs.Prelude.{Bool, true, false, not, cond, ◌&&◌, List, [], ◌∷◌, map, Option, filter, option_map}
+use Rattle.units.specs.Lists.{first}
 use Rattle.units.specs.Ids.{Id, same_id, older}
 use Rattle.units.specs.Keys.{Bytes, same_key, key_before}
 use Rattle.units.specs.declared.lock.Asked.{Asked}
@@ -29,19 +30,19 @@ locks_clash a b = same_key a.key b.key && modes_clash a.mode b.mode
 
 -- some lock of the one list clashes with some lock of the other
 abbrev pub clash : List Lock → List Lock → Bool
-clash ls ms = any (λ l. any (locks_clash l) ms) ls
+clash ls ms = list_any (λ l. list_any (locks_clash l) ms) ls
 
 -- the others in the table
 abbrev pub others : List Claim → Id → List Claim
-others table t = keep (λ c. not (same_id c.txn t)) table
+others table t = filter (λ c. not (same_id c.txn t)) table
 
 -- holders that stand in the way of some needs
 abbrev pub blockers : List Claim → Id → List Lock → List Claim
-blockers table t needs = keep (λ c. clash c.held needs) (others table t)
+blockers table t needs = filter (λ c. clash c.held needs) (others table t)
 
 -- older waiters whose needs stand in the way
 abbrev pub waits_before : List Claim → Id → List Lock → List Claim
-waits_before table t needs = keep (λ c. older c.txn t && clash c.needs needs) (others table t)
+waits_before table t needs = filter (λ c. older c.txn t && clash c.needs needs) (others table t)
 
 -- a younger holder that is not firm may be ended
 abbrev pub may_wound : Id → Claim → Bool
@@ -49,11 +50,11 @@ may_wound t c = older t c.txn && not c.firm
 
 -- the younger holders in the way that may be ended, by ascending id
 unfoldable pub wounded : List Claim → Id → List Lock → List Id
-wounded table t needs = map (λ c. c.txn) (keep (may_wound t) (blockers table t needs))
+wounded table t needs = map (λ c. c.txn) (filter (may_wound t) (blockers table t needs))
 
 -- nobody stands in the way
 unfoldable pub is_free : List Claim → Id → List Lock → Bool
-is_free table t needs = not (any (λ c. true) (blockers table t needs)) && not (any (λ c. true) (waits_before table t needs))
+is_free table t needs = not (list_any (λ c. true) (blockers table t needs)) && not (list_any (λ c. true) (waits_before table t needs))
 
 -- wound first; else wait where somebody stands in the way; else it is granted
 abbrev pub asked_by : List Id → Bool → Asked
@@ -67,11 +68,11 @@ asked table t needs = asked_by (wounded table t needs) (is_free table t needs)
 
 -- a waiter waits for at least one lock
 abbrev pub is_waiting : Claim → Bool
-is_waiting c = any (λ l. true) c.needs
+is_waiting c = list_any (λ l. true) c.needs
 
 -- the oldest waiter that would be granted now; the table ascends by id
 unfoldable pub ready : List Claim → Option Id
-ready table = mapped (λ c. c.txn) (first (λ c. is_waiting c && is_free table c.txn c.needs) table)
+ready table = option_map (λ c. c.txn) (first (λ c. is_waiting c && is_free table c.txn c.needs) table)
 
 -- the first lock's key is before the second's
 abbrev pub lock_before : Lock → Lock → Bool
@@ -96,7 +97,7 @@ with_locks hs (l ∷ ls) = with_locks (with_lock hs l) ls
 
 -- the key is held
 abbrev pub holds : List Lock → Bytes → Bool
-holds hs k = any (λ h. same_key h.key k) hs
+holds hs k = list_any (λ h. same_key h.key k) hs
 
 -- a shared lock of each key that is read
 abbrev pub shared : List Bytes → List Lock

@@ -1,6 +1,7 @@
 //! The shards that take part in a transaction.
+ghost use Rattle.std.specs.List.{list_any, list_all};
 ghost use Rattle.std.specs.Prelude.{◌≡◌, ◌+◌, ◌<◌, ◌^◌, [], ◌∷◌, Some, None, IfSome, IfNone, IfOk, IfErr, if◌then◌else◌, nat_eq, nat_lt, not, true};
-ghost use Rattle.units.specs.Lists.{any, each, has, head, once, sorted};
+ghost use Rattle.units.specs.Lists.{has, head, once, sorted};
 ghost use Rattle.units.specs.Parts.{shards_of_mask, shards_from, mask_of, marked};
 
 use crate::{Fault, ShardNo};
@@ -96,7 +97,7 @@ impl Parts {
 
     /// Another shard is one of them.
     pub fn has_others(self, shard: ShardNo) -> bool
-        ensures { result ≡ any (λ n. not (nat_eq n shard)) self }
+        ensures { result ≡ list_any (λ n. not (nat_eq n shard)) self }
     {
         has_others_from(self.mask, 16, 0, shard.number())
     }
@@ -125,7 +126,7 @@ fn has_from(mask: u16, bits: u32, n: u8, shard: u8) -> bool
 // Another shard is among those of some bits, from number n on.
 fn has_others_from(mask: u16, bits: u32, n: u8, shard: u8) -> bool
     requires { bits + n ≡ 16 }
-    ensures { result ≡ any (λ k. not (nat_eq k shard)) (shards_from bits n mask) }
+    ensures { result ≡ list_any (λ k. not (nat_eq k shard)) (shards_from bits n mask) }
 {
     if bits == 0 {
         return false;
@@ -138,7 +139,7 @@ fn mask_from(shards: &[ShardNo], bits: u32, n: u8) -> u16
     requires { bits + n ≡ 16 }
     ensures limit { result < 2 ^ bits }
     ensures shards { shards_from bits n result ≡ marked (has shards.now) bits n }
-    ensures small { 0 < bits → each (λ k. nat_lt k 16) shards.now ≡ true }
+    ensures small { 0 < bits → list_all (λ k. nat_lt k 16) shards.now ≡ true }
 {
     if bits == 0 {
         return 0;
@@ -151,7 +152,7 @@ fn mask_from(shards: &[ShardNo], bits: u32, n: u8) -> u16
 // The list has the shard of this number.
 fn is_among(shards: &[ShardNo], n: u8) -> bool
     ensures among { result ≡ has shards.now n }
-    ensures small { each (λ k. nat_lt k 16) shards.now ≡ true }
+    ensures small { list_all (λ k. nat_lt k 16) shards.now ≡ true }
 {
     let mut found = false;
     for shard in shards {

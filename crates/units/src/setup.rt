@@ -1,4 +1,5 @@
 //! What a shard is told when it is opened.
+ghost use Rattle.std.specs.List.{list_all};
 ghost use Rattle.std.specs.Prelude.{◌≡◌, ◌≤◌, ◌↔◌, IsSome, IfSome, nat_eq};
 
 use crate::{Key, ShardNo, Splits, Writes};
@@ -64,8 +65,6 @@ pub struct Setup {
 
 impl Setup {
     ghost use Rattle.units.specs.Keys.{shard_of};
-    ghost use Rattle.units.specs.Lists.{each};
-
     /// The key belongs to this shard.
     pub fn owns(&self, key: &Key) -> bool
         ensures { result ≡ nat_eq (shard_of self.now.splits key.now) self.now.shard }
@@ -75,7 +74,7 @@ impl Setup {
 
     /// Each key that is written belongs to this shard.
     pub fn owns_writes(&self, writes: &Writes) -> bool
-        ensures { result ≡ each (λ w. nat_eq (shard_of self.now.splits w.key) self.now.shard) writes.now }
+        ensures { result ≡ list_all (λ w. nat_eq (shard_of self.now.splits w.key) self.now.shard) writes.now }
     {
         for write in writes.as_slice() {
             if !self.owns(&write.key) {

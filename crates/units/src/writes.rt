@@ -1,7 +1,8 @@
 //! Writes of keys, and the versions that they become.
+ghost use Rattle.std.specs.List.{list_any};
 ghost use Rattle.std.specs.Prelude.{◌≡◌, ◌≤◌, ◌<◌, ◌⊎◌, IsTrue, IsFalse, [], length, MatchResult, IfOk, IfErr, vec_len};
 ghost use Rattle.units.specs.Keys.{write_before, writes_key};
-ghost use Rattle.units.specs.Lists.{any, ascends};
+ghost use Rattle.units.specs.Lists.{ascends};
 
 use crate::{Fault, Key, Stamp, Value};
 use std::alloc::Global;
@@ -100,7 +101,7 @@ impl Writes {
 
     /// Some key is written by both.
     pub fn share_a_key(&self, other: &Writes) -> bool
-        ensures { result ≡ any (λ w. writes_key other.now w.key) self.now }
+        ensures { result ≡ list_any (λ w. writes_key other.now w.key) self.now }
     {
         for write in &self.writes {
             if other.writes_key(&write.key) {

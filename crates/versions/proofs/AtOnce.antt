@@ -1,8 +1,9 @@
 -- The writes of a transaction are versions of different keys, so each is above its key's others when its turn comes.
+use Rattle.std.specs.List.{list_all}
 use Rattle.std.proofs.Common.{◌≡◌, ℕ, Bool, true, false, ◌&&◌, nat_lt, List, [], ◌∷◌, ◌++◌, refl, sym, ap, subst, ◌∙◌}
 use Rattle.std.proofs.lemmas.Bool.{false≢true}
 use Rattle.std.proofs.lemmas.List.{append_assoc}
-use Rattle.units.specs.Lists.{each, ascends}
+use Rattle.units.specs.Lists.{ascends}
 use Rattle.units.specs.Keys.{same_key, key_before, write_before}
 use Rattle.units.specs.Versions.{versions, above_versions}
 use Rattle.units.proofs.KeyLaws.{same_key-is, key_before-trans, key_before-irreflexive}
@@ -49,7 +50,7 @@ still_above : (w : Write) (at : ℕ) (log : List Install) (ws : List Write) → 
     → above_versions (log ++ version w at ∷ []) at ws ≡ true
 still_above w at log [] up above = refl
 still_above w at log (v ∷ ws) up above =
-    both _ _ (ap (λ r. each (λ i. nat_lt i.at at) r) (keep-last (λ i. same_key i.key v.key) (version w at) log (differs w.key v.key (left _ _ up))) ∙ left _ _ above)
+    both _ _ (ap (λ r. list_all (λ i. nat_lt i.at at) r) (keep-last (λ i. same_key i.key v.key) (version w at) log (differs w.key v.key (left _ _ up))) ∙ left _ _ above)
     (still_above w at log ws (skipped w v ws up) (right _ _ above))
 
 -- and in order
@@ -57,7 +58,7 @@ above_in_order : (w : Write) (at : ℕ) (ordered : List Install) (ws : List Writ
     → above_versions (installed ordered (version w at)) at ws ≡ true
 above_in_order w at ordered [] up above = refl
 above_in_order w at ordered (v ∷ ws) up above =
-    both _ _ (ap (λ r. each (λ i. nat_lt i.at at) r) (keep-installed (λ i. same_key i.key v.key) (version w at) ordered (differs w.key v.key (left _ _ up))) ∙ left _ _ above)
+    both _ _ (ap (λ r. list_all (λ i. nat_lt i.at at) r) (keep-installed (λ i. same_key i.key v.key) (version w at) ordered (differs w.key v.key (left _ _ up))) ∙ left _ _ above)
     (above_in_order w at ordered ws (skipped w v ws up) (right _ _ above))
 
 -- when its turn comes, each write is above its key's versions

@@ -1,12 +1,11 @@
 -- Installs stay in order.
 use Rattle.std.proofs.Common.{◌≡◌, ℕ, ◌<◌, ◌≤◌, Bool, true, false, cond, nat_lt, nat_le, List, [], ◌∷◌, refl, ap, arith}
-use Rattle.std.specs.List.{AllByRecursion}
+use Rattle.std.specs.List.{AllByRecursion, list_all}
 use Rattle.std.proofs.lemmas.Bool.{false≢true}
 use Rattle.std.proofs.lemmas.Bool.Decides.{nat_tests}
 use Rattle.units.specs.Keys.{same_key, key_before}
 use Rattle.units.proofs.KeyLaws.{same_key-is, same_key_comm, key_before-trans, key_before-total}
 use Rattle.units.specs.declared.writes.Install.{Install}
-use Rattle.units.specs.Lists.{each}
 use Rattle.units.specs.Versions.{of_key}
 use Rattle.versions.specs.Ordered.{is_not_after, comes_before, installed, is_above, IsAscending, IsKept}
 
@@ -50,14 +49,14 @@ each_gives P Q h (x ∷ t) all = (h x all.0, each_gives P Q h t all.1)
 above_first : (key : List ℕ) (n : ℕ) (x : Install) (t : List Install) → is_above (x ∷ t) key n ≡ true → same_key x.key key ≡ true → x.at < n
 above_first key n x t above k = by_test (same_key x.key key) k above
   where
-    by_test : (b : Bool) → b ≡ true → each (λ i. nat_lt i.at n) (cond b (x ∷ of_key t key) (of_key t key)) ≡ true → x.at < n
+    by_test : (b : Bool) → b ≡ true → list_all (λ i. nat_lt i.at n) (cond b (x ∷ of_key t key) (of_key t key)) ≡ true → x.at < n
     by_test true k all = grind (arith, nat_tests)
     by_test false k all = absurd (false≢true k)
 
 above_rest : (key : List ℕ) (n : ℕ) (x : Install) (t : List Install) → is_above (x ∷ t) key n ≡ true → is_above t key n ≡ true
 above_rest key n x t above = by_test (same_key x.key key) above
   where
-    by_test : (b : Bool) → each (λ i. nat_lt i.at n) (cond b (x ∷ of_key t key) (of_key t key)) ≡ true → is_above t key n ≡ true
+    by_test : (b : Bool) → list_all (λ i. nat_lt i.at n) (cond b (x ∷ of_key t key) (of_key t key)) ≡ true → is_above t key n ≡ true
     by_test true all = grind (arith, nat_tests)
     by_test false all = all
 

@@ -1,12 +1,12 @@
 -- The newest version of a key, among installs in order.
-use Rattle.std.proofs.Common.{◌≡◌, ℕ, zero, suc, ◌+◌, ◌<◌, Bool, ◌&&◌, true, false, cond, List, [], ◌∷◌, length, get_or, nat_lt, nat_le, Option, Some, None, refl, sym, ap, ◌∙◌, arith}
-use Rattle.std.specs.List.{AllByRecursion}
+use Rattle.std.proofs.Common.{◌≡◌, ℕ, zero, suc, ◌+◌, ◌<◌, Bool, ◌&&◌, true, false, cond, List, [], ◌∷◌, length, get_or, nat_lt, nat_le, Option, Some, None, refl, sym, ap, ◌∙◌, arith, filter}
+use Rattle.std.specs.List.{AllByRecursion, list_all}
 use Rattle.std.proofs.lemmas.Bool.{false≢true}
 use Rattle.std.proofs.lemmas.Bool.Decides.{nat_tests}
 use Rattle.units.specs.Keys.{same_key, key_before}
 use Rattle.units.proofs.KeyLaws.{same_key-is, same_key_comm, key_before-trans, key_before-irreflexive}
 use Rattle.units.specs.declared.writes.Install.{Install}
-use Rattle.units.specs.Lists.{each, keep, follow}
+use Rattle.units.specs.Lists.{follow}
 use Rattle.units.specs.Versions.{of_key, newest, latest, at_time}
 use Rattle.versions.specs.Ordered.{is_by, is_not_after, comes_before, IsAscending, IsKept}
 use Rattle.versions.specs.Halves.{Before, After}
@@ -62,23 +62,23 @@ higher key at x y k m before =
     grind (arith, nat_tests)
 
 -- the versions of one key rise, in order
-rises : (key : List ℕ) (at : ℕ) (t : List Install) → IsAscending t → IsRising (keep (is_by key at) t)
+rises : (key : List ℕ) (at : ℕ) (t : List Install) → IsAscending t → IsRising (filter (is_by key at) t)
 rises key at [] up = tt
 rises key at (x ∷ t) up = by_test (is_by key at x) refl (rises key at t up.1)
   where
-    above : (s : List Install) → is_by key at x ≡ true → AllByRecursion (λ next. comes_before x next ≡ true) s → AllByRecursion (λ y. x.at < y.at) (keep (is_by key at) s)
+    above : (s : List Install) → is_by key at x ≡ true → AllByRecursion (λ next. comes_before x next ≡ true) s → AllByRecursion (λ y. x.at < y.at) (filter (is_by key at) s)
     above [] k all = tt
     above (y ∷ s) k all = by (is_by key at y) refl (above s k all.1)
       where
-        by : (b : Bool) → is_by key at y ≡ b → AllByRecursion (λ z. x.at < z.at) (keep (is_by key at) s) → AllByRecursion (λ z. x.at < z.at) (cond b (y ∷ keep (is_by key at) s) (keep (is_by key at) s))
+        by : (b : Bool) → is_by key at y ≡ b → AllByRecursion (λ z. x.at < z.at) (filter (is_by key at) s) → AllByRecursion (λ z. x.at < z.at) (cond b (y ∷ filter (is_by key at) s) (filter (is_by key at) s))
         by true m rest = (higher key at x y k m all.0, rest)
         by false m rest = rest
 
-    by_test : (b : Bool) → is_by key at x ≡ b → IsRising (keep (is_by key at) t) → IsRising (cond b (x ∷ keep (is_by key at) t) (keep (is_by key at) t))
+    by_test : (b : Bool) → is_by key at x ≡ b → IsRising (filter (is_by key at) t) → IsRising (cond b (x ∷ filter (is_by key at) t) (filter (is_by key at) t))
     by_test true k rest = (above t k up.0, rest)
     by_test false k rest = rest
 
-none_by : (key : List ℕ) (at : ℕ) (t : List Install) → After key at t 0 → keep (is_by key at) t ≡ []
+none_by : (key : List ℕ) (at : ℕ) (t : List Install) → After key at t 0 → filter (is_by key at) t ≡ []
 none_by key at [] after = refl
 none_by key at (x ∷ t) after =
     let none : is_by key at x ≡ false = grind (arith, nat_tests, after 0 x (omega arith) (omega arith)) in
@@ -110,14 +110,14 @@ smaller_before key at x y before passes differ = by_test (same_key x.key key) re
 
 -- The last version by key and stamp is the last that is not after them, where that is of the key.
 last_by : (key : List ℕ) (at : ℕ) (t : List Install) (q : ℕ) (y : Install) (found : Option Install) → IsAscending t → q < length t → y ≡ get_or t q y
-    → Before key at t (q + 1) → After key at t (q + 1) → last_from found (keep (is_by key at) t) ≡ cond (same_key y.key key) (Some y) found
+    → Before key at t (q + 1) → After key at t (q + 1) → last_from found (filter (is_by key at) t) ≡ cond (same_key y.key key) (Some y) found
 last_by key at [] q y found up lt is before after = absurd (omega arith)
 last_by key at (x ∷ t) zero y found up lt is before after =
     let none = none_by key at t (λ k d le less. after (suc k) d (omega arith) (omega arith)) in
     let here : is_by key at x ≡ same_key y.key key = by_is_same key at x (before 0 x (omega arith)) ∙ ap (λ z. same_key z.key key) (sym is) in
     by_test (is_by key at x) refl (same_key y.key key) here none
   where
-    by_test : (a : Bool) → is_by key at x ≡ a → (b : Bool) → is_by key at x ≡ b → keep (is_by key at) t ≡ [] → last_from found (cond a (x ∷ keep (is_by key at) t) (keep (is_by key at) t)) ≡ cond b (Some y) found
+    by_test : (a : Bool) → is_by key at x ≡ a → (b : Bool) → is_by key at x ≡ b → filter (is_by key at) t ≡ [] → last_from found (cond a (x ∷ filter (is_by key at) t) (filter (is_by key at) t)) ≡ cond b (Some y) found
     by_test true k true m none = ap (last_from (Some x)) none ∙ ap Some (sym is)
     by_test true k false m none = absurd (false≢true (sym m ∙ k))
     by_test false k true m none = absurd (false≢true (sym k ∙ m))
@@ -131,44 +131,44 @@ last_by key at (x ∷ t) (suc q) y found up lt is before after =
     behind : comes_before x y ≡ true
     behind = ap (comes_before x) is ∙ each_at (λ next. comes_before x next ≡ true) t q y up.0 (omega arith)
 
-    by_test : (a : Bool) → is_by key at x ≡ a → (b : Bool) → same_key y.key key ≡ b → ((f : Option Install) → last_from f (keep (is_by key at) t) ≡ cond (same_key y.key key) (Some y) f)
-        → last_from found (cond a (x ∷ keep (is_by key at) t) (keep (is_by key at) t)) ≡ cond b (Some y) found
+    by_test : (a : Bool) → is_by key at x ≡ a → (b : Bool) → same_key y.key key ≡ b → ((f : Option Install) → last_from f (filter (is_by key at) t) ≡ cond (same_key y.key key) (Some y) f)
+        → last_from found (cond a (x ∷ filter (is_by key at) t) (filter (is_by key at) t)) ≡ cond b (Some y) found
     by_test true k true m rest = rest (Some x) ∙ ap (λ z. cond z (Some y) (Some x)) m
     by_test true k false m rest = absurd (false≢true (sym (smaller_before key at x y behind passes m) ∙ k))
     by_test false k b m rest = rest found ∙ ap (λ z. cond z (Some y) found) m
 
 -- the newest version by key and stamp, where something is not after them
 pub newest_at : (key : List ℕ) (at : ℕ) (t : List Install) (q : ℕ) (y : Install) → IsAscending t → q < length t → y ≡ get_or t q y
-    → Before key at t (q + 1) → After key at t (q + 1) → newest (keep (is_by key at) t) ≡ cond (same_key y.key key) (Some y) None
-newest_at key at t q y up lt is before after = newest_is_last (keep (is_by key at) t) (rises key at t up) ∙ last_by key at t q y None up lt is before after
+    → Before key at t (q + 1) → After key at t (q + 1) → newest (filter (is_by key at) t) ≡ cond (same_key y.key key) (Some y) None
+newest_at key at t q y up lt is before after = newest_is_last (filter (is_by key at) t) (rises key at t up) ∙ last_by key at t q y None up lt is before after
 
 -- and where everything is after them
-pub newest_none : (key : List ℕ) (at : ℕ) (t : List Install) → After key at t 0 → newest (keep (is_by key at) t) ≡ None
+pub newest_none : (key : List ℕ) (at : ℕ) (t : List Install) → After key at t 0 → newest (filter (is_by key at) t) ≡ None
 newest_none key at t after = ap newest (none_by key at t after)
 
 -- the versions of the key among those that are no later
-pub of_key_by : (key : List ℕ) (at : ℕ) (t : List Install) → of_key (keep (λ i. nat_le i.at at) t) key ≡ keep (is_by key at) t
+pub of_key_by : (key : List ℕ) (at : ℕ) (t : List Install) → of_key (filter (λ i. nat_le i.at at) t) key ≡ filter (is_by key at) t
 of_key_by key at [] = refl
 of_key_by key at (x ∷ t) = by_tests (nat_le x.at at) (same_key x.key key) refl (of_key_by key at t)
   where
-    by_tests : (a b : Bool) → same_key x.key key ≡ b → of_key (keep (λ i. nat_le i.at at) t) key ≡ keep (is_by key at) t
-        → of_key (cond a (x ∷ keep (λ i. nat_le i.at at) t) (keep (λ i. nat_le i.at at) t)) key ≡ cond (b && a) (x ∷ keep (is_by key at) t) (keep (is_by key at) t)
+    by_tests : (a b : Bool) → same_key x.key key ≡ b → of_key (filter (λ i. nat_le i.at at) t) key ≡ filter (is_by key at) t
+        → of_key (cond a (x ∷ filter (λ i. nat_le i.at at) t) (filter (λ i. nat_le i.at at) t)) key ≡ cond (b && a) (x ∷ filter (is_by key at) t) (filter (is_by key at) t)
     by_tests true true k rest = rw k (ap (λ r. x ∷ r) rest)
     by_tests true false k rest = rw k rest
     by_tests false true k rest = rest
     by_tests false false k rest = rest
 
 -- the value at a time, by the newest version of the key that is no later
-pub at_time_is : (key : List ℕ) (at : ℕ) (t : List Install) → at_time t key at ≡ follow (newest (keep (is_by key at) t)) (λ i. i.value)
+pub at_time_is : (key : List ℕ) (at : ℕ) (t : List Install) → at_time t key at ≡ follow (newest (filter (is_by key at) t)) (λ i. i.value)
 unfolding at_time latest
 at_time_is key at t = ap (λ r. follow (newest r) (λ i. i.value)) (of_key_by key at t)
 
-all_in_time : (greatest : ℕ) (t : List Install) → AllByRecursion (λ i. nat_le i.at greatest ≡ true) t → keep (λ i. nat_le i.at greatest) t ≡ t
+all_in_time : (greatest : ℕ) (t : List Install) → AllByRecursion (λ i. nat_le i.at greatest ≡ true) t → filter (λ i. nat_le i.at greatest) t ≡ t
 all_in_time greatest [] all = refl
 all_in_time greatest (x ∷ t) all = rw (all.0) (ap (λ r. x ∷ r) (all_in_time greatest t all.1))
 
 -- the newest version of the key is that at the greatest timestamp
-pub newest_is : (key : List ℕ) (greatest : ℕ) (t : List Install) → IsKept greatest t → newest (keep (is_by key greatest) t) ≡ newest (of_key t key)
+pub newest_is : (key : List ℕ) (greatest : ℕ) (t : List Install) → IsKept greatest t → newest (filter (is_by key greatest) t) ≡ newest (of_key t key)
 newest_is key greatest t kept = sym (ap newest (of_key_by key greatest t)) ∙ ap (λ r. newest (of_key r key)) (all_in_time greatest t kept.in_time)
 
 -- the latest value, by the newest version of the key
@@ -182,11 +182,11 @@ was_before n None = true
 was_before n (Some i) = nat_lt i.at n
 
 -- a timestamp is above all where it is above the newest
-pub above_newest : (n : ℕ) (t : List Install) → each (λ i. nat_lt i.at n) t ≡ was_before n (newest t)
+pub above_newest : (n : ℕ) (t : List Install) → list_all (λ i. nat_lt i.at n) t ≡ was_before n (newest t)
 above_newest n [] = refl
 above_newest n (x ∷ t) = by_found (newest t) (above_newest n t)
   where
-    by_found : (found : Option Install) → each (λ i. nat_lt i.at n) t ≡ was_before n found → (nat_lt x.at n && each (λ i. nat_lt i.at n) t) ≡ was_before n (newer x found)
+    by_found : (found : Option Install) → list_all (λ i. nat_lt i.at n) t ≡ was_before n found → (nat_lt x.at n && list_all (λ i. nat_lt i.at n) t) ≡ was_before n (newer x found)
     by_found None h = rw h (and_true (nat_lt x.at n))
       where
         and_true : (b : Bool) → (b && true) ≡ b

@@ -1,7 +1,8 @@
 -- One more version, above its key's others, is the newest wherever it stands.
-use Rattle.std.proofs.Common.{◌≡◌, ℕ, ◌<◌, Bool, true, false, ◌&&◌, cond, nat_lt, nat_le, List, [], ◌∷◌, ◌++◌, Option, Some, None, refl, sym, ap, subst, ◌∙◌, arith}
+use Rattle.std.specs.List.{list_all}
+use Rattle.std.proofs.Common.{◌≡◌, ℕ, ◌<◌, Bool, true, false, ◌&&◌, cond, nat_lt, nat_le, List, [], ◌∷◌, ◌++◌, Option, Some, None, refl, sym, ap, subst, ◌∙◌, arith, filter}
 use Rattle.std.proofs.lemmas.Bool.Decides.{nat_tests}
-use Rattle.units.specs.Lists.{keep, each, follow}
+use Rattle.units.specs.Lists.{follow}
 use Rattle.units.specs.Keys.{same_key}
 use Rattle.units.specs.Versions.{of_key, newest, latest}
 use Rattle.units.proofs.KeyLaws.{same_key-is}
@@ -12,7 +13,7 @@ use Rattle.versions.proofs.Newest.{newer, at_time_is}
 
 -- each is below the timestamp
 abbrev below : ℕ → List Install → Bool
-below n t = each (λ x. nat_lt x.at n) t
+below n t = list_all (λ x. nat_lt x.at n) t
 
 -- what was found is below the timestamp
 abbrev IsFoundBelow : ℕ → Option Install → Type 0
@@ -52,43 +53,43 @@ newer-below x i lt = by_test (nat_lt x.at i.at) refl
     by_test false k = absurd (grind (arith, nat_tests))
 
 -- put in at its place, a version that passes the test is the newest of those that pass
-pub newest-installed : (test : Install → Bool) (i : Install) (t : List Install) → test i ≡ true → below i.at (keep test t) ≡ true → newest (keep test (installed t i)) ≡ Some i
+pub newest-installed : (test : Install → Bool) (i : Install) (t : List Install) → test i ≡ true → below i.at (filter test t) ≡ true → newest (filter test (installed t i)) ≡ Some i
 newest-installed test i [] is h = rw is refl
 newest-installed test i (x ∷ t) is h = by_tests (is_not_after i.key i.at x) (test x) refl h (newest-installed test i t is)
   where
-    by_tests : (p q : Bool) → test x ≡ q → below i.at (cond q (x ∷ keep test t) (keep test t)) ≡ true → (below i.at (keep test t) ≡ true → newest (keep test (installed t i)) ≡ Some i)
-        → newest (keep test (cond p (x ∷ installed t i) (i ∷ x ∷ t))) ≡ Some i
+    by_tests : (p q : Bool) → test x ≡ q → below i.at (cond q (x ∷ filter test t) (filter test t)) ≡ true → (below i.at (filter test t) ≡ true → newest (filter test (installed t i)) ≡ Some i)
+        → newest (filter test (cond p (x ∷ installed t i) (i ∷ x ∷ t))) ≡ Some i
     by_tests true true k h rest = rw k (ap (newer x) (rest (grind (arith, nat_tests))) ∙ newer-below x i (grind (arith, nat_tests)))
     by_tests true false k h rest = rw k (rest h)
-    by_tests false true k h rest = rw (is, k) (newest-first i (x ∷ keep test t) h)
-    by_tests false false k h rest = rw (is, k) (newest-first i (keep test t) h)
+    by_tests false true k h rest = rw (is, k) (newest-first i (x ∷ filter test t) h)
+    by_tests false false k h rest = rw (is, k) (newest-first i (filter test t) h)
 
 -- and so it is at the end of the log
-pub newest-last : (test : Install → Bool) (i : Install) (t : List Install) → test i ≡ true → below i.at (keep test t) ≡ true → newest (keep test (t ++ i ∷ [])) ≡ Some i
+pub newest-last : (test : Install → Bool) (i : Install) (t : List Install) → test i ≡ true → below i.at (filter test t) ≡ true → newest (filter test (t ++ i ∷ [])) ≡ Some i
 newest-last test i [] is h = rw is refl
 newest-last test i (x ∷ t) is h = by_test (test x) refl h (newest-last test i t is)
   where
-    by_test : (q : Bool) → test x ≡ q → below i.at (cond q (x ∷ keep test t) (keep test t)) ≡ true → (below i.at (keep test t) ≡ true → newest (keep test (t ++ i ∷ [])) ≡ Some i)
-        → newest (cond q (x ∷ keep test (t ++ i ∷ [])) (keep test (t ++ i ∷ []))) ≡ Some i
+    by_test : (q : Bool) → test x ≡ q → below i.at (cond q (x ∷ filter test t) (filter test t)) ≡ true → (below i.at (filter test t) ≡ true → newest (filter test (t ++ i ∷ [])) ≡ Some i)
+        → newest (cond q (x ∷ filter test (t ++ i ∷ [])) (filter test (t ++ i ∷ []))) ≡ Some i
     by_test true k h rest = ap (newer x) (rest (grind (arith, nat_tests))) ∙ newer-below x i (grind (arith, nat_tests))
     by_test false k h rest = rest h
 
 -- a version that does not pass changes nothing
-pub keep-installed : (test : Install → Bool) (i : Install) (t : List Install) → test i ≡ false → keep test (installed t i) ≡ keep test t
+pub keep-installed : (test : Install → Bool) (i : Install) (t : List Install) → test i ≡ false → filter test (installed t i) ≡ filter test t
 keep-installed test i [] other = rw other refl
 keep-installed test i (x ∷ t) other = by_place (is_not_after i.key i.at x) (keep-installed test i t other)
   where
-    by_place : (p : Bool) → keep test (installed t i) ≡ keep test t → keep test (cond p (x ∷ installed t i) (i ∷ x ∷ t)) ≡ keep test (x ∷ t)
+    by_place : (p : Bool) → filter test (installed t i) ≡ filter test t → filter test (cond p (x ∷ installed t i) (i ∷ x ∷ t)) ≡ filter test (x ∷ t)
     by_place true rest = ap (λ r. cond (test x) (x ∷ r) r) rest
     by_place false rest = rw other refl
 
-pub keep-last : (test : Install → Bool) (i : Install) (t : List Install) → test i ≡ false → keep test (t ++ i ∷ []) ≡ keep test t
+pub keep-last : (test : Install → Bool) (i : Install) (t : List Install) → test i ≡ false → filter test (t ++ i ∷ []) ≡ filter test t
 keep-last test i [] other = rw other refl
 keep-last test i (x ∷ t) other = ap (λ r. cond (test x) (x ∷ r) r) (keep-last test i t other)
 
 -- of those that pass one test each passes another: so it is, with one more version, in either order
-each-kept : (test pass : Install → Bool) (i : Install) (ordered log : List Install) → each test (keep pass ordered) ≡ each test (keep pass log)
-    → each test (keep pass (installed ordered i)) ≡ each test (keep pass (log ++ i ∷ []))
+each-kept : (test pass : Install → Bool) (i : Install) (ordered log : List Install) → list_all test (filter pass ordered) ≡ list_all test (filter pass log)
+    → list_all test (filter pass (installed ordered i)) ≡ list_all test (filter pass (log ++ i ∷ []))
 each-kept test pass i ordered log same =
     each_as-installed ordered ∙ ap (λ r. cond (pass i) (test i && r) r) same ∙ sym (each_as-last log)
   where
@@ -98,51 +99,51 @@ each-kept test pass i ordered log same =
     swap false true c = refl
     swap false false c = refl
 
-    with_first : (q b : Bool) (x : Install) (r : List Install) (s : Bool) → each test r ≡ cond q (test i && s) s
-        → each test (cond b (x ∷ r) r) ≡ cond q (test i && cond b (test x && s) s) (cond b (test x && s) s)
+    with_first : (q b : Bool) (x : Install) (r : List Install) (s : Bool) → list_all test r ≡ cond q (test i && s) s
+        → list_all test (cond b (x ∷ r) r) ≡ cond q (test i && cond b (test x && s) s) (cond b (test x && s) s)
     with_first true true x r s h = ap (λ z. test x && z) h ∙ swap (test x) (test i) s
     with_first false true x r s h = ap (λ z. test x && z) h
     with_first q false x r s h = h
 
-    as_cond : (b : Bool) (x : Install) (r : List Install) → each test (cond b (x ∷ r) r) ≡ cond b (test x && each test r) (each test r)
+    as_cond : (b : Bool) (x : Install) (r : List Install) → list_all test (cond b (x ∷ r) r) ≡ cond b (test x && list_all test r) (list_all test r)
     as_cond true x r = refl
     as_cond false x r = refl
 
-    next : (x : Install) (t : List Install) (r : List Install) → each test r ≡ cond (pass i) (test i && each test (keep pass t)) (each test (keep pass t))
-        → each test (cond (pass x) (x ∷ r) r) ≡ cond (pass i) (test i && each test (keep pass (x ∷ t))) (each test (keep pass (x ∷ t)))
+    next : (x : Install) (t : List Install) (r : List Install) → list_all test r ≡ cond (pass i) (test i && list_all test (filter pass t)) (list_all test (filter pass t))
+        → list_all test (cond (pass x) (x ∷ r) r) ≡ cond (pass i) (test i && list_all test (filter pass (x ∷ t))) (list_all test (filter pass (x ∷ t)))
     next x t r h =
-        with_first (pass i) (pass x) x r (each test (keep pass t)) h ∙ ap (λ z. cond (pass i) (test i && z) z) (sym (as_cond (pass x) x (keep pass t)))
+        with_first (pass i) (pass x) x r (list_all test (filter pass t)) h ∙ ap (λ z. cond (pass i) (test i && z) z) (sym (as_cond (pass x) x (filter pass t)))
 
-    each_as-installed : (t : List Install) → each test (keep pass (installed t i)) ≡ cond (pass i) (test i && each test (keep pass t)) (each test (keep pass t))
+    each_as-installed : (t : List Install) → list_all test (filter pass (installed t i)) ≡ cond (pass i) (test i && list_all test (filter pass t)) (list_all test (filter pass t))
     each_as-installed [] = as_cond (pass i) i []
     each_as-installed (x ∷ t) = by_place (is_not_after i.key i.at x) (each_as-installed t)
       where
-        by_place : (p : Bool) → each test (keep pass (installed t i)) ≡ cond (pass i) (test i && each test (keep pass t)) (each test (keep pass t))
-            → each test (keep pass (cond p (x ∷ installed t i) (i ∷ x ∷ t))) ≡ cond (pass i) (test i && each test (keep pass (x ∷ t))) (each test (keep pass (x ∷ t)))
-        by_place true h = next x t (keep pass (installed t i)) h
-        by_place false h = as_cond (pass i) i (keep pass (x ∷ t))
+        by_place : (p : Bool) → list_all test (filter pass (installed t i)) ≡ cond (pass i) (test i && list_all test (filter pass t)) (list_all test (filter pass t))
+            → list_all test (filter pass (cond p (x ∷ installed t i) (i ∷ x ∷ t))) ≡ cond (pass i) (test i && list_all test (filter pass (x ∷ t))) (list_all test (filter pass (x ∷ t)))
+        by_place true h = next x t (filter pass (installed t i)) h
+        by_place false h = as_cond (pass i) i (filter pass (x ∷ t))
 
-    each_as-last : (t : List Install) → each test (keep pass (t ++ i ∷ [])) ≡ cond (pass i) (test i && each test (keep pass t)) (each test (keep pass t))
+    each_as-last : (t : List Install) → list_all test (filter pass (t ++ i ∷ [])) ≡ cond (pass i) (test i && list_all test (filter pass t)) (list_all test (filter pass t))
     each_as-last [] = as_cond (pass i) i []
-    each_as-last (x ∷ t) = next x t (keep pass (t ++ i ∷ [])) (each_as-last t)
+    each_as-last (x ∷ t) = next x t (filter pass (t ++ i ∷ [])) (each_as-last t)
 
 -- those of the key that are below the timestamp are so at each time
-below_by : (key : List ℕ) (at n : ℕ) (t : List Install) → below n (of_key t key) ≡ true → below n (keep (is_by key at) t) ≡ true
+below_by : (key : List ℕ) (at n : ℕ) (t : List Install) → below n (of_key t key) ≡ true → below n (filter (is_by key at) t) ≡ true
 below_by key at n [] h = refl
 below_by key at n (x ∷ t) h = by_tests (same_key x.key key) (nat_le x.at at) h (below_by key at n t)
   where
-    by_tests : (a b : Bool) → below n (cond a (x ∷ of_key t key) (of_key t key)) ≡ true → (below n (of_key t key) ≡ true → below n (keep (is_by key at) t) ≡ true)
-        → below n (cond (a && b) (x ∷ keep (is_by key at) t) (keep (is_by key at) t)) ≡ true
-    by_tests true true h rest = let r : below n (keep (is_by key at) t) ≡ true = rest (grind (arith, nat_tests)) in grind (arith, nat_tests)
+    by_tests : (a b : Bool) → below n (cond a (x ∷ of_key t key) (of_key t key)) ≡ true → (below n (of_key t key) ≡ true → below n (filter (is_by key at) t) ≡ true)
+        → below n (cond (a && b) (x ∷ filter (is_by key at) t) (filter (is_by key at) t)) ≡ true
+    by_tests true true h rest = let r : below n (filter (is_by key at) t) ≡ true = rest (grind (arith, nat_tests)) in grind (arith, nat_tests)
     by_tests true false h rest = rest (grind (arith, nat_tests))
     by_tests false b h rest = rest h
 
 -- a test that a version of the key passes gives the same values of both lists
 abbrev value_by : (Install → Bool) → List Install → Option (List ℕ)
-value_by test t = follow (newest (keep test t)) (λ i. i.value)
+value_by test t = follow (newest (filter test t)) (λ i. i.value)
 
 same_by : (test : Install → Bool) (i : Install) (ordered log : List Install)
-    → (test i ≡ true → (below i.at (keep test ordered) ≡ true) × (below i.at (keep test log) ≡ true))
+    → (test i ≡ true → (below i.at (filter test ordered) ≡ true) × (below i.at (filter test log) ≡ true))
     → value_by test ordered ≡ value_by test log → value_by test (installed ordered i) ≡ value_by test (log ++ i ∷ [])
 same_by test i ordered log h same = by_test (test i) refl
   where

@@ -1,7 +1,6 @@
 -- Versions in order: by key, and then by timestamp.
-use Rattle.std.specs.Prelude.{ℕ, IsTrue, Bool, ◌&&◌, ◌||◌, nat_lt, nat_le, List, [], ◌∷◌, length, cond}
-use Rattle.std.specs.List.{AllByRecursion}
-use Rattle.units.specs.Lists.{keep, each}
+use Rattle.std.specs.Prelude.{ℕ, IsTrue, Bool, ◌&&◌, ◌||◌, nat_lt, nat_le, List, [], ◌∷◌, length, cond, filter}
+use Rattle.std.specs.List.{AllByRecursion, list_all}
 use Rattle.units.specs.Keys.{Bytes, same_key, key_before}
 use Rattle.units.specs.Versions.{of_key}
 use Rattle.units.specs.declared.writes.Install.{Install}
@@ -16,7 +15,7 @@ is_by key at install = same_key install.key key && nat_le install.at at
 
 -- how many are not after the key and timestamp
 abbrev pub count_not_after : Bytes → ℕ → List Install → ℕ
-count_not_after key at installs = length (keep (is_not_after key at) installs)
+count_not_after key at installs = length (filter (is_not_after key at) installs)
 
 -- the versions with one more, at its place
 abbrev pub installed : List Install → Install → List Install
@@ -40,7 +39,7 @@ IsAscending (install ∷ rest) = AllByRecursion (λ next. IsTrue (comes_before i
 
 -- the timestamp is above all versions of the key
 abbrev pub is_above : List Install → Bytes → ℕ → Bool
-is_above installs key at = each (λ i. nat_lt i.at at) (of_key installs key)
+is_above installs key at = list_all (λ i. nat_lt i.at at) (of_key installs key)
 
 -- what is kept of the versions: their order, and that no timestamp passes the greatest
 pub record IsKept (greatest : ℕ) (installs : List Install) : Type 0 where

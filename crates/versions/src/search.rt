@@ -1,7 +1,6 @@
 //! Searches by halves among versions that are read in the order of their places.
-ghost use Rattle.std.specs.Prelude.{◌≡◌, ◌+◌, ◌<◌, ◌≤◌, ◌^◌, ℕ, length, vec_len, vec_capacity};
+ghost use Rattle.std.specs.Prelude.{◌≡◌, ◌+◌, ◌<◌, ◌≤◌, ◌^◌, ℕ, length, vec_len, vec_capacity, filter};
 ghost use Rattle.std.specs.Option.{option_copied};
-ghost use Rattle.units.specs.Lists.{keep};
 ghost use Rattle.units.specs.Versions.{newest, of_key};
 ghost use Rattle.versions.specs.Arranged.{arranged, AreWithin};
 ghost use Rattle.versions.specs.Halves.{Before, After};
@@ -51,7 +50,7 @@ pub fn newest_by<'a>(
 ) -> Option<&'a Install>
     requires within { AreWithin places.now (length installs.now) }
     requires order { IsAscending (arranged installs.now places.now) }
-    ensures { option_copied result ≡ newest (keep (is_by key.now at) (arranged installs.now places.now)) }
+    ensures { option_copied result ≡ newest (filter (is_by key.now at) (arranged installs.now places.now)) }
 {
     let (count, _) = find(installs, places, key, at);
     if count == 0 {

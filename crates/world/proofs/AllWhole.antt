@@ -1,8 +1,9 @@
 -- Every transaction is whole over logs that a crash may leave.
+use Rattle.std.specs.List.{list_any, list_all}
 use Rattle.std.proofs.Common.{◌≡◌, ◌≢◌, inl, inr, ℕ, zero, suc, ◌<◌, ◌≤◌, Bool, true, false, not, cond, ◌&&◌, ◌||◌, nat_eq, nat_lt, nat_le, List, [], ◌∷◌, length, Option, Some, None, slice_get, refl, sym, ap, subst, ◌∙◌, arith}
 use Rattle.std.proofs.lemmas.Bool.{cases_eq, and_from}
 use Rattle.std.proofs.lemmas.Bool.Decides.{nat_tests}
-use Rattle.units.specs.Lists.{any, each, gather, has, head, when}
+use Rattle.units.specs.Lists.{gather, has, head, when}
 use Rattle.units.specs.Ids.{Id, same_id}
 use Rattle.units.proofs.IdLaws.{same_id-is, same_id-refl}
 use Rattle.record.specs.History.{by_shard}
@@ -50,7 +51,7 @@ module _ (sc : Scene) (h : Holds sc) (logs : List (List Record)) (left : AreLeft
 
   -- ---- no decision
 
-  undecided : decisions logs t ≡ [] → each (λ l. ends_at l t (λ s. false)) logs ≡ true
+  undecided : decisions logs t ≡ [] → list_all (λ l. ends_at l t (λ s. false)) logs ≡ true
   undecided none = each_of_places (λ n log there. ends log (λ s. false) (λ s k. absurd (no_decision n s (subst (λ l. IsAmong l (Record.Outcome t (Some s))) (sym (log_in-is logs n log there)) k))))
     where
       no_decision : (n s : ℕ) → IsAmong (log_in logs n) (Record.Outcome t (Some s)) → ⊥
@@ -59,11 +60,11 @@ module _ (sc : Scene) (h : Holds sc) (logs : List (List Record)) (left : AreLeft
           subst (λ ds. IsAmong ds (record { shard = d.shard; commit = d.commit })) none
           (subst (λ u. IsAmong (decisions logs u) (record { shard = d.shard; commit = d.commit })) d.named (stands_decided logs d.shard d.commit d.among))
 
-      each_place : (ls : List (List Record)) (test : List Record → Bool) → ((n : ℕ) (log : List Record) → slice_get ls n ≡ Some log → test log ≡ true) → each test ls ≡ true
+      each_place : (ls : List (List Record)) (test : List Record → Bool) → ((n : ℕ) (log : List Record) → slice_get ls n ≡ Some log → test log ≡ true) → list_all test ls ≡ true
       each_place [] test k = refl
-      each_place (l ∷ ls) test k = and_from (test l) (each test ls) (k 0 l refl) (each_place ls test (λ n log e. k (suc n) log e))
+      each_place (l ∷ ls) test k = and_from (test l) (list_all test ls) (k 0 l refl) (each_place ls test (λ n log e. k (suc n) log e))
 
-      each_of_places : ((n : ℕ) (log : List Record) → slice_get logs n ≡ Some log → ends_at log t (λ s. false) ≡ true) → each (λ l. ends_at l t (λ s. false)) logs ≡ true
+      each_of_places : ((n : ℕ) (log : List Record) → slice_get logs n ≡ Some log → ends_at log t (λ s. false) ≡ true) → list_all (λ l. ends_at l t (λ s. false)) logs ≡ true
       each_of_places k = each_place logs (λ l. ends_at l t (λ s. false)) k
 
   -- ---- one decision
@@ -90,7 +91,7 @@ module _ (sc : Scene) (h : Holds sc) (logs : List (List Record)) (left : AreLeft
     of_this m o k = subst (λ u. IsAmong (log_in logs m) (Record.Outcome u o)) (sym named) k
 
     not_turned : (m : ℕ) → not (turns_down (log_in logs m) t) ≡ true
-    not_turned m = by_parts (is_aborted (log_in logs m) t) refl (any _ (gather as_ended (log_in logs m))) refl
+    not_turned m = by_parts (is_aborted (log_in logs m) t) refl (list_any _ (gather as_ended (log_in logs m))) refl
       where
         aborted_outcome : (e : Ended) → IsAmong (log_in logs m) (Record.Outcome e.txn e.outcome) → (same_id e.txn t && not (when (λ s. true) e.outcome)) ≡ true → ⊥
         aborted_outcome e k passes = by_outcome e.outcome (subst (λ u. IsAmong (log_in logs m) (Record.Outcome u e.outcome)) (same_id-is e.txn t (both (same_id e.txn t) (not (when (λ s. true) e.outcome)) passes).0) k) (both (same_id e.txn t) (not (when (λ s. true) e.outcome)) passes).1
@@ -99,7 +100,7 @@ module _ (sc : Scene) (h : Holds sc) (logs : List (List Record)) (left : AreLeft
             by_outcome None j e2 = no_aborted sc h logs left d.shard m d.commit stands (of_this m None j)
             by_outcome (Some s) j e2 = cc
 
-        by_parts : (a : Bool) → is_aborted (log_in logs m) t ≡ a → (b : Bool) → any (λ (e : Ended). same_id e.txn t && not (when (λ s. true) e.outcome)) (gather as_ended (log_in logs m)) ≡ b → not (a || b) ≡ true
+        by_parts : (a : Bool) → is_aborted (log_in logs m) t ≡ a → (b : Bool) → list_any (λ (e : Ended). same_id e.txn t && not (when (λ s. true) e.outcome)) (gather as_ended (log_in logs m)) ≡ b → not (a || b) ≡ true
         by_parts true e b k = absurd (not_both sc h logs left d.shard m d.commit stands (subst (λ u. IsAmong (log_in logs m) (Record.Abort u)) (sym named) (is_aborted_among (log_in logs m) t e)))
         by_parts false e true k =
             let p = some_passes (gather as_ended (log_in logs m)) (λ (x : Ended). same_id x.txn t && not (when (λ s. true) x.outcome)) k in
@@ -148,7 +149,7 @@ module _ (sc : Scene) (h : Holds sc) (logs : List (List Record)) (left : AreLeft
             apart same not_same = grind (arith, nat_tests)
         by_place false e false k = no_promise m k
 
-    decided_whole : (when (nat_eq d.shard) (head d.commit.parts) && parts_exist logs d && each (fits_decision t d) (by_shard logs)) ≡ true
+    decided_whole : (when (nat_eq d.shard) (head d.commit.parts) && parts_exist logs d && list_all (fits_decision t d) (by_shard logs)) ≡ true
     decided_whole = and_from _ _ (and_from _ _ (when_head d.commit.parts d.shard (decision_home sc h logs left d.shard d.commit stands).1) parts_are_there)
         (each_of (fits_decision t d) (by_shard logs) (λ p k. here p (log_in-is logs p.0 p.1 (log_of_number logs p k))))
       where

@@ -1,6 +1,6 @@
 -- What a running shard carries out is what its doing comes to.
-use Rattle.std.proofs.Common.{◌≡◌, ◌≢◌, ◌⊎◌, inl, inr, ℕ, ◌+◌, ◌^◌, ◌<◌, true, IsTrue, List, [], ◌∷◌, ◌++◌, map, Option, Some, None, Result, Ok, Err, refl, sym, ap, ◌∙◌, subst, arith}
-use Rattle.units.specs.Lists.{each, listed}
+use Rattle.std.specs.List.{list_all}
+use Rattle.std.proofs.Common.{◌≡◌, ◌≢◌, ◌⊎◌, inl, inr, ℕ, ◌+◌, ◌^◌, ◌<◌, true, IsTrue, List, [], ◌∷◌, ◌++◌, map, Option, Some, None, Result, Ok, Err, refl, sym, ap, ◌∙◌, subst, arith, option_to_list}
 use Rattle.units.specs.declared.fault.Fault.{Fault}
 use Rattle.units.specs.declared.fault.Fault.TheVariants.{Device, Memory as WantsMemory, Stopped, TimeSpent}
 use Rattle.units.specs.declared.setup.Setup.{Setup}
@@ -66,12 +66,12 @@ effect_refuses setup bag s doing m goes runs is = by_doing doing goes is
     by_doing Doing.Open g e = absurd (cc)
 
 -- the records with the one that a step logs
-with_logged : (log : List Record) (logged : Option Record) → and_logged (Ok log) logged ≡ Ok (log ++ listed logged)
+with_logged : (log : List Record) (logged : Option Record) → and_logged (Ok log) logged ≡ Ok (log ++ option_to_list logged)
 with_logged log None = ap (λ l. Ok l) (sym (append_none log))
 with_logged log (Some r) = refl
 
 -- and their facts
-facts_with : (n : ℕ) (log : List Record) (logged : Option Record) → ((r : Record) → logged ≡ Some r → IsTrue (followed n (log ++ r ∷ []))) → facts_after (facts_of log) logged ≡ facts_of (log ++ listed logged)
+facts_with : (n : ℕ) (log : List Record) (logged : Option Record) → ((r : Record) → logged ≡ Some r → IsTrue (followed n (log ++ r ∷ []))) → facts_after (facts_of log) logged ≡ facts_of (log ++ option_to_list logged)
 facts_with n log None h = ap facts_of (sym (append_none log))
 facts_with n log (Some r) h = sym (learn_agrees n log r (h r refl))
 
@@ -94,7 +94,7 @@ module _ (setup : Setup) (used : ℕ) (bag : List Envelope) (s : ShardNow) (doin
     sure = h.sure;
     state = h.state ∙ ap (λ m. Runs m) (sym memory);
     views = (λ i. map (shown_view (facts i).installs) (views i).items) ∙ h.views;
-    within = (λ i. each (is_within (facts i).installs) (views i).items) ∙ h.within;
+    within = (λ i. list_all (is_within (facts i).installs) (views i).items) ∙ h.within;
     room = omega (arith, same.1, h.room);
   }
 
@@ -115,7 +115,7 @@ module _ (setup : Setup) (used : ℕ) (bag : List Envelope) (s : ShardNow) (doin
       sure = refl;
       state = ap (λ m. Runs m) (sym k.done.2.1);
       views = (λ i. map (shown_view (k.done.2.0 i).installs) (views i).items) ∙ shown_after (seen old.core).facts logged old.views.items h.within ∙ h.views;
-      within = (λ i. each (is_within (k.done.2.0 i).installs) (views i).items) ∙ within_after (seen old.core).facts logged old.views.items h.within;
+      within = (λ i. list_all (is_within (k.done.2.0 i).installs) (views i).items) ∙ within_after (seen old.core).facts logged old.views.items h.within;
       room = omega (arith, k.written.gate.1, h.room);
     },
   )

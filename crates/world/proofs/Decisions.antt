@@ -1,6 +1,6 @@
 -- The decisions of an id over all logs: at most one.
-use Rattle.std.proofs.Common.{◌≡◌, ℕ, Bool, true, false, cond, List, [], ◌∷◌, Option, Some, None, slice_get, refl, sym, ap, subst, ◌∙◌, map, zero-add}
-use Rattle.units.specs.Lists.{keep, gather}
+use Rattle.std.proofs.Common.{◌≡◌, ℕ, Bool, true, false, cond, List, [], ◌∷◌, Option, Some, None, slice_get, refl, sym, ap, subst, ◌∙◌, map, zero-add, filter}
+use Rattle.units.specs.Lists.{gather}
 use Rattle.units.specs.Ids.{Id, same_id}
 use Rattle.units.proofs.IdLaws.{same_id-is, same_id_comm, same_id-refl}
 use Rattle.record.specs.History.{by_shard}
@@ -23,17 +23,17 @@ skipped {B} f true r rest e = ap (λ o. elim o as (λ q. List B) [ None ↦ gath
 skipped f false r rest e = refl
 
 -- its decisions of an id are among the claims of that id
-commits_claimed : (t : Id) (log : List Record) → keep (λ c. same_id t c.txn) (gather as_committed log) ≡ gather as_committed (claims_of log t)
+commits_claimed : (t : Id) (log : List Record) → filter (λ c. same_id t c.txn) (gather as_committed log) ≡ gather as_committed (claims_of log t)
 commits_claimed t [] = refl
 commits_claimed t (Opened epoch ∷ rs) = commits_claimed t rs
 commits_claimed t (Ceiling at ∷ rs) = commits_claimed t rs
 commits_claimed t (Outcome u o ∷ rs) = commits_claimed t rs
 commits_claimed t (Prepare p ∷ rs) = commits_claimed t rs ∙ sym (skipped as_committed (same_id p.txn t) (Prepare p) (claims_of rs t) refl)
 commits_claimed t (Abort u ∷ rs) = commits_claimed t rs ∙ sym (skipped as_committed (same_id t u) (Abort u) (claims_of rs t) refl)
-commits_claimed t (Commit c ∷ rs) = ap (λ b. cond b (c ∷ keep (λ d. same_id t d.txn) (gather as_committed rs)) (keep (λ d. same_id t d.txn) (gather as_committed rs))) (same_id_comm t c.txn) ∙ by_test (same_id c.txn t) (commits_claimed t rs)
+commits_claimed t (Commit c ∷ rs) = ap (λ b. cond b (c ∷ filter (λ d. same_id t d.txn) (gather as_committed rs)) (filter (λ d. same_id t d.txn) (gather as_committed rs))) (same_id_comm t c.txn) ∙ by_test (same_id c.txn t) (commits_claimed t rs)
   where
-    by_test : (b : Bool) → keep (λ d. same_id t d.txn) (gather as_committed rs) ≡ gather as_committed (claims_of rs t) →
-        cond b (c ∷ keep (λ d. same_id t d.txn) (gather as_committed rs)) (keep (λ d. same_id t d.txn) (gather as_committed rs)) ≡ gather as_committed (cond b (Commit c ∷ claims_of rs t) (claims_of rs t))
+    by_test : (b : Bool) → filter (λ d. same_id t d.txn) (gather as_committed rs) ≡ gather as_committed (claims_of rs t) →
+        cond b (c ∷ filter (λ d. same_id t d.txn) (gather as_committed rs)) (filter (λ d. same_id t d.txn) (gather as_committed rs)) ≡ gather as_committed (cond b (Commit c ∷ claims_of rs t) (claims_of rs t))
     by_test true e = ap (λ l. c ∷ l) e
     by_test false e = e
 
@@ -62,7 +62,7 @@ one_gathered f (x ∷ y ∷ rest) one = absurd one
 pub one_promise_in : (log : List Record) (t : Id) → IsOrderly log → AtMostOne (promises log t)
 one_promise_in log t o = subst AtMostOne (sym (promises_claimed t log)) (one_gathered as_prepared (claims_of log t) (o t))
 
-one_commit_in : (log : List Record) (t : Id) → IsOrderly log → AtMostOne (keep (λ c. same_id t c.txn) (gather as_committed log))
+one_commit_in : (log : List Record) (t : Id) → IsOrderly log → AtMostOne (filter (λ c. same_id t c.txn) (gather as_committed log))
 one_commit_in log t o = subst AtMostOne (sym (commits_claimed t log)) (one_gathered as_committed (claims_of log t) (o t))
 
 one_mapped : {A B : Type 0} (f : A → B) (xs : List A) → AtMostOne xs → AtMostOne (map f xs)
@@ -74,7 +74,7 @@ one_mapped f (x ∷ y ∷ rest) one = absurd one
 
 -- the decisions of an id in one log
 abbrev pub decided_in : Id → ℕ × List Record → List Decision
-decided_in t l = map (λ c. record { shard = l.0; commit = c }) (keep (λ c. same_id t c.txn) (gather as_committed l.1))
+decided_in t l = map (λ c. record { shard = l.0; commit = c }) (filter (λ c. same_id t c.txn) (gather as_committed l.1))
 
 -- a member of the numbered logs is the log of its number
 pub log_of_number : (logs : List (List Record)) (p : ℕ × List Record) → IsAmong (by_shard logs) p → slice_get logs p.0 ≡ Some p.1
@@ -105,7 +105,7 @@ pub record Decided (logs : List (List Record)) (t : Id) (d : Decision) : Type 0 
 pub decision_stands : (logs : List (List Record)) (t : Id) (d : Decision) → IsAmong (decisions logs t) d → Decided logs t d
 decision_stands logs t d h =
     let j = among_join (decided_in t) (by_shard logs) d h in
-    let m = among_map (λ c. record { shard = j.from.0; commit = c }) (keep (λ c. same_id t c.txn) (gather as_committed j.from.1)) d j.within in
+    let m = among_map (λ c. record { shard = j.from.0; commit = c }) (filter (λ c. same_id t c.txn) (gather as_committed j.from.1)) d j.within in
     let here : IsAmong j.from.1 (Commit m.from) = decision_among j.from.1 m.from (among_keep (λ c. same_id t c.txn) (gather as_committed j.from.1) m.from m.among) in
     let named : t ≡ m.from.txn = same_id-is t m.from.txn (kept_passes (λ c. same_id t c.txn) (gather as_committed j.from.1) m.from m.among) in
     let stands : Decided logs t (record { shard = j.from.0; commit = m.from }) = record {
@@ -117,19 +117,19 @@ decision_stands logs t d h =
 pub stands_decided : (logs : List (List Record)) (n : ℕ) (c : Committed) → IsAmong (log_in logs n) (Commit c) → IsAmong (decisions logs c.txn) (record { shard = n; commit = c })
 stands_decided logs n c h =
     join_among (decided_in c.txn) (by_shard logs) (n, log_in logs n) (record { shard = n; commit = c }) (number_there logs n (Commit c) h)
-    (map_among (λ x. record { shard = n; commit = x }) (keep (λ x. same_id c.txn x.txn) (gather as_committed (log_in logs n))) c
+    (map_among (λ x. record { shard = n; commit = x }) (filter (λ x. same_id c.txn x.txn) (gather as_committed (log_in logs n))) c
     (keep_among (λ x. same_id c.txn x.txn) (gather as_committed (log_in logs n)) c (gather_among as_committed (log_in logs n) (Commit c) c h refl) (same_id-refl c.txn)))
 
 module _ (sc : Scene) (h : Holds sc) (logs : List (List Record)) (left : AreLeft sc logs) where
   pub one_decided : (t : Id) → AtMostOne (decisions logs t)
   one_decided t = one_of_numbered (decided_in t) 0 logs
-      (λ p k. one_mapped (λ c. record { shard = p.0; commit = c }) (keep (λ c. same_id t c.txn) (gather as_committed p.1))
+      (λ p k. one_mapped (λ c. record { shard = p.0; commit = c }) (filter (λ c. same_id t c.txn) (gather as_committed p.1))
       (one_commit_in p.1 t (orderly p.0 p.1 (left.each p.0 p.1 (log_of_number logs p k)).follows)))
       same_number
     where
       by : (p : ℕ × List Record) (d : Decision) → IsAmong (by_shard logs) p → IsAmong (decided_in t p) d → Decided logs t d × (d.shard ≡ p.0)
       by p d k l =
-          let m = among_map (λ c. record { shard = p.0; commit = c }) (keep (λ c. same_id t c.txn) (gather as_committed p.1)) d l in
+          let m = among_map (λ c. record { shard = p.0; commit = c }) (filter (λ c. same_id t c.txn) (gather as_committed p.1)) d l in
           (decision_stands logs t d (join_among (decided_in t) (by_shard logs) p d k l), sym (ap (λ (x : Decision). x.shard) m.is))
 
       same_number : (p q : ℕ × List Record) (x y : Decision) → IsAmong (by_shard logs) p → IsAmong (by_shard logs) q → IsAmong (decided_in t p) x → IsAmong (decided_in t q) y → p.0 ≡ q.0

@@ -1,9 +1,9 @@
 -- What a shard does rests on something.
 use Rattle.std.proofs.Common.{◌≡◌, inl, inr, ℕ, zero, suc, nat_le, ◌+◌, ◌<◌, ◌≤◌, Bool, true, false, cond, ◌&&◌, nat_eq, nat_lt, List, [], ◌∷◌, Option, Some, None, slice_get, refl, sym, ap, subst, ◌∙◌, arith}
-use Rattle.std.specs.Prelude.{Ok, Err}
+use Rattle.std.specs.Prelude.{Ok, Err, option_map}
 use Rattle.std.specs.List.{AllByRecursion}
 use Rattle.std.proofs.lemmas.Bool.{leb-true, eqb-true}
-use Rattle.units.specs.Lists.{mapped, when}
+use Rattle.units.specs.Lists.{when}
 use Rattle.units.specs.Ids.{Id}
 use Rattle.units.specs.Keys.{Bytes}
 use Rattle.units.specs.declared.fault.Fault.TheVariants.{TimeSpent}
@@ -115,7 +115,7 @@ given sc n (Doing.Take m now) h =
     by_message (slice_get sc.world.bag m) refl (honest_given sc now (both _ _ h).0) (both _ _ h).1
   where
     by_message : (o : Option Envelope) → slice_get sc.world.bag m ≡ o → (now.earliest ≤ sc.now) × (sc.now ≤ now.latest) → when (goes_to n) o ≡ true →
-        Given sc n (mapped (λ e. (now, Input.Deliver e.message)) o)
+        Given sc n (option_map (λ e. (now, Input.Deliver e.message)) o)
     by_message None is honest goes = tt
     by_message (Some e) is honest goes = (sent_to sc n m e is goes, honest.0, honest.1)
 given sc n (Doing.Resume now) h = let p = honest_given sc now h in (tt, p.0, p.1)

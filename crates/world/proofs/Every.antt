@@ -1,8 +1,8 @@
 -- Something stands behind all that there is, at every moment of every lawful run.
 use Rattle.std.proofs.Common.{◌≡◌, ◌⊎◌, inl, inr, ℕ, zero, suc, ◌<◌, ◌≤◌, true, not, ◌&&◌, nat_le, List, [], ◌∷◌, ◌++◌, length, Option, Some, None, slice_get, refl, sym, ap, subst, ◌∙◌, arith}
-use Rattle.std.specs.Prelude.{replicate}
+use Rattle.std.specs.Prelude.{replicate, option_map}
 use Rattle.std.proofs.lemmas.Bool.{leb-true}
-use Rattle.units.specs.Lists.{when, mapped}
+use Rattle.units.specs.Lists.{when}
 use Rattle.units.specs.Ids.{Id}
 use Rattle.units.specs.declared.fault.Fault.TheVariants.{Stranger}
 use Rattle.units.specs.declared.setup.Setup.{Setup}
@@ -63,7 +63,7 @@ module _ (sc : Scene) (h : Holds sc) (steady : IsSteady sc.world) (present : sli
 
       to_shard : (e : Envelope) (n : ℕ) → slice_get sc.world.bag m ≡ Some e → e.to ≡ Shard n → Given sc n (input_of sc.world.bag (Doing.Take m now))
       to_shard e n is goes =
-          subst (λ o. Given sc n (mapped (λ x. (now, Input.Deliver x.message)) o)) (sym is)
+          subst (λ o. Given sc n (option_map (λ x. (now, Input.Deliver x.message)) o)) (sym is)
           (subst (λ (x : Address). IsAmong sc.world.bag (record { to = x; message = e.message })) goes (get_among sc.world.bag m e is), times.0, times.1)
 
       by_address : (e : Envelope) → slice_get sc.world.bag m ≡ Some e → (a : Address) → e.to ≡ a →

@@ -1,4 +1,5 @@
 -- A transaction over three shards, stopped at each device call of each step that logs: it always ends committed, at this timestamp.
+use Rattle.std.specs.List.{list_all}
 use Rattle.std.proofs.Common.{refl}
 use Rattle.std.specs.Prelude.{ℕ, ◌≡◌, Bool, true, false, List, [], ◌∷◌, ◌++◌, length, map, Option, Some}
 use Rattle.units.specs.Keys.{Bytes}
@@ -16,7 +17,7 @@ use Rattle.world.specs.Computing.{computing}
 use Rattle.protocol.proofs.Samples.{a, m, one, two, txn, clock}
 use Rattle.world.proofs.Events.{on}
 use Rattle.std.specs.Prelude.{zero, suc, ◌+◌, take, nat_lt, nat_eq, ◌&&◌, cond}
-use Rattle.units.specs.Lists.{each, when, follow}
+use Rattle.units.specs.Lists.{when, follow}
 use Rattle.record.specs.Records.{ended_of}
 use Rattle.world.specs.World.{happens}
 
@@ -81,7 +82,7 @@ abbrev pub outcomes : List (List Record) → List (Option ℕ)
 outcomes logs = map (λ l. follow (ended_of l (txn 1)) (λ e. e.outcome)) logs
 
 abbrev pub all_at : ℕ → List (Option ℕ) → Bool
-all_at s os = each (λ o. when (nat_eq s) o) os
+all_at s os = list_all (λ o. when (nat_eq s) o) os
 
 abbrev pub is_yes : Verdict → Bool
 is_yes Yes = true
@@ -106,7 +107,7 @@ abbrev pub calls : List ℕ
 calls = 0 ∷ 1 ∷ 2 ∷ 3 ∷ []
 
 abbrev pub all_end : Place → ℕ → ℕ → Bool
-all_end p kept lost = each (crash_ends p kept lost) calls && each (failure_ends p kept lost) calls
+all_end p kept lost = list_all (crash_ends p kept lost) calls && list_all (failure_ends p kept lost) calls
 
 pub without_a_fault : ends_at 210 (run three_shards all_events) ≡ true
 unfolding computing ends_at

@@ -1,8 +1,8 @@
 -- A step of a transaction is the step of the session that it stands for.
-use Rattle.std.proofs.Common.{◌≡◌, inl, inr, ℕ, Bool, true, false, not, ◌&&◌, cond, nat_le, ◌||◌, List, [], ◌∷◌, ◌++◌, length, Option, Result, Ok, Err, OnOk, IfOk, IfErr, refl, sym, ap, ◌∙◌, subst}
+use Rattle.std.specs.List.{list_any}
+use Rattle.std.proofs.Common.{◌≡◌, inl, inr, ℕ, Bool, true, false, not, ◌&&◌, cond, nat_le, ◌||◌, List, [], ◌∷◌, ◌++◌, length, Option, Result, Ok, Err, OnOk, IfOk, IfErr, refl, sym, ap, ◌∙◌, subst, option_to_list}
 use Rattle.units.specs.Keys.{Bytes, same_key, has_key, shard_of, writes_key}
 use Rattle.units.specs.Ids.{Id}
-use Rattle.units.specs.Lists.{any, listed}
 use Rattle.units.proofs.Folds.{any_append}
 use Rattle.units.proofs.KeyLaws.{same_key-refl}
 use Rattle.units.specs.declared.fault.Fault.{Fault}
@@ -168,7 +168,7 @@ finish_moves b gone tx out is none ends splits c begun =
 
 pub open_hears : (b : Begun) (tx new : Session) (a : ReadAnswer) (r : Result (Option Line) Fault) → b.held ≡ Open tx → new.splits ≡ tx.splits
     → OnOk r (new.client ≡ hears a.from a.key a.epoch a.answer tx.client)
-    → (tx.client.txn ≡ b.txn → IfOk r (λ line. listed line ≡ read_lines tx.client new.client a.key a.answer)) → IfErr r (λ fault. fault ≡ Memory)
+    → (tx.client.txn ≡ b.txn → IfOk r (λ line. option_to_list line ≡ read_lines tx.client new.client a.key a.answer)) → IfErr r (λ fault. fault ≡ Memory)
     → (splits : List Bytes) (c : Client) → IsBegun splits b c → Hears splits a (record { txn = b.txn; held = Open new }) c r
 open_hears b tx new a r is same heard line memory splits c begun = by_result r heard line memory
   where
@@ -179,7 +179,7 @@ open_hears b tx new a r is same heard line memory splits c begun = by_result r h
     client = ap (λ (t : Session). t.client) h.0
 
     by_result : (r : Result (Option Line) Fault) → OnOk r (new.client ≡ hears a.from a.key a.epoch a.answer tx.client)
-        → (tx.client.txn ≡ b.txn → IfOk r (λ l. listed l ≡ read_lines tx.client new.client a.key a.answer)) → IfErr r (λ fault. fault ≡ Memory)
+        → (tx.client.txn ≡ b.txn → IfOk r (λ l. option_to_list l ≡ read_lines tx.client new.client a.key a.answer)) → IfErr r (λ fault. fault ≡ Memory)
         → Hears splits a (record { txn = b.txn; held = Open new }) c r
     by_result (Ok l) is_heard is_line spent =
         let made : new.client ≡ hears a.from a.key a.epoch a.answer c = is_heard ∙ ap (hears a.from a.key a.epoch a.answer) client in
@@ -210,13 +210,13 @@ no_line : (c d : Client) (k : Bytes) (a : Answer) → d.taken ≡ c.taken → []
 no_line c d k Refused e = refl
 no_line c d k (Holds x) e =
     none_twice (was_taken c k) (Line.Read c.txn k x ∷ [])
-    ∙ ap (λ (taken : List Answered). cond (any (λ a. same_key a.key k) taken && not (was_taken c k)) (Line.Read c.txn k x ∷ []) []) (sym e)
+    ∙ ap (λ (taken : List Answered). cond (list_any (λ a. same_key a.key k) taken && not (was_taken c k)) (Line.Read c.txn k x ∷ []) []) (sym e)
 
 -- a value was taken
 one_line : (c : Client) (r : Answered) (aw : List Bytes) (k : Bytes) (x : Option Bytes) → r.key ≡ k → was_taken c k ≡ false
     → (Line.Read c.txn k x ∷ []) ≡ read_lines c (record c { taken = c.taken ++ r ∷ []; awaited = aw }) k (Holds x)
 one_line c r aw k x own new =
-    let there : any (λ (a : Answered). same_key a.key k) (c.taken ++ r ∷ []) ≡ true =
+    let there : list_any (λ (a : Answered). same_key a.key k) (c.taken ++ r ∷ []) ≡ true =
     any_append (λ (a : Answered). same_key a.key k) c.taken (r ∷ []) ∙ ap (λ b. b || (same_key r.key k || false)) new ∙ ap (λ j. same_key j k || false) own ∙ ap (λ b. b || false) (same_key-refl k) in
     (λ i. cond (sym there i && not (sym new i)) (Line.Read c.txn k x ∷ []) [])
 

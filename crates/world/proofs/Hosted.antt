@@ -1,8 +1,8 @@
 -- The session of an id, by its place in the code.
-use Rattle.std.proofs.Common.{◌≡◌, inl, inr, ℕ, zero, suc, ◌<◌, ◌≤◌, Bool, true, false, not, ◌&&◌, ◌||◌, cond, nat_lt, List, [], ◌∷◌, ◌++◌, length, get_or, set, Option, Some, None, Result, Ok, Err, refl, sym, ap, ◌∙◌, subst, arith}
-use Rattle.std.specs.List.{position_or_len}
+use Rattle.std.proofs.Common.{◌≡◌, inl, inr, ℕ, zero, suc, ◌<◌, ◌≤◌, Bool, true, false, not, ◌&&◌, ◌||◌, cond, nat_lt, List, [], ◌∷◌, ◌++◌, length, get_or, set, Option, Some, None, Result, Ok, Err, refl, sym, ap, ◌∙◌, subst, arith, filter}
+use Rattle.std.specs.List.{position_or_len, list_any}
 use Rattle.std.proofs.lemmas.Bool.Decides.{nat_tests}
-use Rattle.units.specs.Lists.{any, first, head, keep, when}
+use Rattle.units.specs.Lists.{first, head, when}
 use Rattle.units.specs.Ids.{Id, same_id}
 use Rattle.units.specs.Keys.{Bytes}
 use Rattle.units.proofs.IdLaws.{same_id-refl, same_id_comm, same_id-is}
@@ -26,7 +26,7 @@ abbrev pub client_at : List Client → Id → Option Client
 client_at cs t = first (λ c. same_id c.txn t) cs
 
 abbrev Tested : Client → List Client → Id → Bool → Option Client
-Tested c cs t b = head (cond b (c ∷ keep (λ d. same_id d.txn t) cs) (keep (λ d. same_id d.txn t) cs))
+Tested c cs t b = head (cond b (c ∷ filter (λ d. same_id d.txn t) cs) (filter (λ d. same_id d.txn t) cs))
 
 same_txn : (splits : List Bytes) (b : Begun) (c : Client) (t : Id) → IsBegun splits b c → same_id c.txn t ≡ same_id b.txn t
 same_txn splits b c t h = ap (λ i. same_id i t) h.txn
@@ -54,10 +54,10 @@ absent splits (x ∷ bs) (c ∷ cs) t h none =
     let other : same_id x.txn t ≡ false = grind (arith, nat_tests) in
     ap (Tested c cs t) (same_txn splits x c t h.0 ∙ other) ∙ absent splits bs cs t h.1 (grind (arith, nat_tests))
 
-one_of : (bs : List Begun) (t : Id) (i : ℕ) (d : Begun) → i < length bs → same_id (get_or bs i d).txn t ≡ true → any (λ c. same_id c.txn t) bs ≡ true
+one_of : (bs : List Begun) (t : Id) (i : ℕ) (d : Begun) → i < length bs → same_id (get_or bs i d).txn t ≡ true → list_any (λ c. same_id c.txn t) bs ≡ true
 one_of [] t i d lt is = absurd (omega arith)
-one_of (x ∷ bs) t zero d lt is = ap (λ b. b || any (λ c. same_id c.txn t) bs) is
-one_of (x ∷ bs) t (suc i) d lt is = or_true (same_id x.txn t) (any (λ c. same_id c.txn t) bs) (one_of bs t i d (omega arith) is)
+one_of (x ∷ bs) t zero d lt is = ap (λ b. b || list_any (λ c. same_id c.txn t) bs) is
+one_of (x ∷ bs) t (suc i) d lt is = or_true (same_id x.txn t) (list_any (λ c. same_id c.txn t) bs) (one_of bs t i d (omega arith) is)
   where
     or_true : (a b : Bool) → b ≡ true → (a || b) ≡ true
     or_true true b e = refl
@@ -80,18 +80,18 @@ neither true b e = cc
 neither false b e = (refl, e)
 
 -- where nobody has it the place is behind all
-pub no_place : (bs : List Begun) (t : Id) → any (λ c. same_id c.txn t) bs ≡ false → length bs ≡ place_of bs t
+pub no_place : (bs : List Begun) (t : Id) → list_any (λ c. same_id c.txn t) bs ≡ false → length bs ≡ place_of bs t
 no_place [] t none = refl
 no_place (x ∷ bs) t none =
-    let p = neither (same_id x.txn t) (any (λ c. same_id c.txn t) bs) none in
+    let p = neither (same_id x.txn t) (list_any (λ c. same_id c.txn t) bs) none in
     let rest = no_place bs t p.1 in
     let other = p.0 in
     grind (arith, nat_tests)
 
-none_changed : (d : Client) (cs : List Client) → any (λ e. same_id e.txn d.txn) cs ≡ false → with_client d cs ≡ cs
+none_changed : (d : Client) (cs : List Client) → list_any (λ e. same_id e.txn d.txn) cs ≡ false → with_client d cs ≡ cs
 none_changed d [] h = refl
 none_changed d (c ∷ cs) h =
-    let p = neither (same_id c.txn d.txn) (any (λ e. same_id e.txn d.txn) cs) h in
+    let p = neither (same_id c.txn d.txn) (list_any (λ e. same_id e.txn d.txn) cs) h in
     (λ i. cond (p.0 i) d c ∷ none_changed d cs p.1 i)
 
 pub placed : (splits : List Bytes) (bs : List Begun) (cs : List Client) (t : Id) (i : ℕ) (b : Begun) (d : Client) → AreBegun splits bs cs → are_once cs ≡ true
@@ -103,7 +103,7 @@ placed splits (x ∷ bs) (c ∷ cs) t zero b d h once at lt is same =
     let here : same_id x.txn t ≡ true = grind (arith, nat_tests) in
     let id : c.txn ≡ d.txn = same_id-is c.txn t (same_txn splits x c t h.0 ∙ here) ∙ sym (same_id-is d.txn t same) in
     let first_is : d ≡ cond (same_id c.txn d.txn) d c = sym (ap (λ u. cond (same_id c.txn u) d c) (sym id) ∙ ap (λ v. cond v d c) (same_id-refl c.txn)) in
-    let others : with_client d cs ≡ cs = none_changed d cs (ap (λ u. any (λ e. same_id e.txn u) cs) (sym id) ∙ not_is _ ((both _ _ once).0)) in
+    let others : with_client d cs ≡ cs = none_changed d cs (ap (λ u. list_any (λ e. same_id e.txn u) cs) (sym id) ∙ not_is _ ((both _ _ once).0)) in
     (subst (IsBegun splits b) first_is is, subst (AreBegun splits bs) (sym others) h.1)
 placed splits (x ∷ bs) (c ∷ cs) t (suc i) b d h once at lt is same =
     let other : same_id x.txn t ≡ false = grind (arith, nat_tests) in
@@ -135,19 +135,19 @@ chosen_txn d c = by_test (same_id c.txn d.txn) refl
     by_test true e = sym (same_id-is c.txn d.txn e)
     by_test false e = refl
 
-any_with : (d : Client) (cs : List Client) (t : Id) → any (λ e. same_id e.txn t) (with_client d cs) ≡ any (λ e. same_id e.txn t) cs
+any_with : (d : Client) (cs : List Client) (t : Id) → list_any (λ e. same_id e.txn t) (with_client d cs) ≡ list_any (λ e. same_id e.txn t) cs
 any_with d [] t = refl
 any_with d (c ∷ cs) t = (λ i. same_id (chosen_txn d c i) t || any_with d cs t i)
 
 pub once_with : (d : Client) (cs : List Client) → are_once (with_client d cs) ≡ are_once cs
 once_with d [] = refl
-once_with d (c ∷ cs) = (λ i. not ((ap (λ u. any (λ e. same_id e.txn u) (with_client d cs)) (chosen_txn d c) ∙ any_with d cs c.txn) i) && once_with d cs i)
+once_with d (c ∷ cs) = (λ i. not ((ap (λ u. list_any (λ e. same_id e.txn u) (with_client d cs)) (chosen_txn d c) ∙ any_with d cs c.txn) i) && once_with d cs i)
 
-none_has : (cs : List Client) (t : Id) → client_at cs t ≡ None → any (λ c. same_id c.txn t) cs ≡ false
+none_has : (cs : List Client) (t : Id) → client_at cs t ≡ None → list_any (λ c. same_id c.txn t) cs ≡ false
 none_has [] t e = refl
 none_has (c ∷ cs) t e = by_test (same_id c.txn t) e (none_has cs t)
   where
-    by_test : (b : Bool) → Tested c cs t b ≡ None → (client_at cs t ≡ None → any (λ d. same_id d.txn t) cs ≡ false) → (b || any (λ d. same_id d.txn t) cs) ≡ false
+    by_test : (b : Bool) → Tested c cs t b ≡ None → (client_at cs t ≡ None → list_any (λ d. same_id d.txn t) cs ≡ false) → (b || list_any (λ d. same_id d.txn t) cs) ≡ false
     by_test true k rest = absurd (cc)
     by_test false k rest = rest k
 
@@ -155,12 +155,12 @@ and_is : (a b : Bool) → a ≡ true → b ≡ true → (a && b) ≡ true
 and_is true b e f = f
 and_is false b e f = cc
 
-pub once_more : (cs : List Client) (c : Client) → are_once cs ≡ true → any (λ d. same_id d.txn c.txn) cs ≡ false → are_once (cs ++ c ∷ []) ≡ true
+pub once_more : (cs : List Client) (c : Client) → are_once cs ≡ true → list_any (λ d. same_id d.txn c.txn) cs ≡ false → are_once (cs ++ c ∷ []) ≡ true
 once_more [] c h new = refl
 once_more (x ∷ cs) c h new =
     let p = both _ _ h in
     let n = neither _ _ new in
-    let apart : any (λ d. same_id d.txn x.txn) (cs ++ c ∷ []) ≡ false =
+    let apart : list_any (λ d. same_id d.txn x.txn) (cs ++ c ∷ []) ≡ false =
     any_append (λ d. same_id d.txn x.txn) cs (c ∷ []) ∙ (λ i. not_is _ p.0 i || ((same_id_comm c.txn x.txn ∙ n.0) i || false)) in
     and_is _ _ (ap not apart) (once_more cs c p.1 n.1)
 
@@ -253,7 +253,7 @@ pub id_there : (bs xs : List Begun) (t : Id) (i : ℕ) (b : Begun) → xs ≡ bs
 id_there bs xs t i b same there lt is = there b (subst (λ ys. i < length ys) (sym same) lt) (is ∙ ap (λ ys. get_or ys i b) (sym same))
 
 -- ids in the code come once where they do in the definitions
-apart_as : (splits : List Bytes) (bs : List Begun) (cs : List Client) (t : Id) → AreBegun splits bs cs → any (λ b. same_id b.txn t) bs ≡ any (λ c. same_id c.txn t) cs
+apart_as : (splits : List Bytes) (bs : List Begun) (cs : List Client) (t : Id) → AreBegun splits bs cs → list_any (λ b. same_id b.txn t) bs ≡ list_any (λ c. same_id c.txn t) cs
 apart_as splits [] [] t h = refl
 apart_as splits [] (c ∷ cs) t h = absurd h
 apart_as splits (b ∷ bs) [] t h = absurd h
@@ -263,7 +263,7 @@ apart : (splits : List Bytes) (bs : List Begun) (cs : List Client) → AreBegun 
 apart splits [] [] h = refl
 apart splits [] (c ∷ cs) h = absurd h
 apart splits (b ∷ bs) [] h = absurd h
-apart splits (b ∷ bs) (c ∷ cs) h = (λ i. not ((apart_as splits bs cs b.txn h.1 ∙ ap (λ t. any (λ d. same_id d.txn t) cs) (sym h.0.txn)) i) && apart splits bs cs h.1 i)
+apart splits (b ∷ bs) (c ∷ cs) h = (λ i. not ((apart_as splits bs cs b.txn h.1 ∙ ap (λ t. list_any (λ d. same_id d.txn t) cs) (sym h.0.txn)) i) && apart splits bs cs h.1 i)
 
 pub apart_in : (splits : List Bytes) (s : Sessions) (cs : List Client) (bs : List Begun) → Hosts splits s cs → bs ≡ s.begun.items → are_apart bs ≡ true
 apart_in splits s cs bs h same = ap are_apart same ∙ apart splits s.begun.items cs h.begun ∙ h.once
@@ -274,14 +274,14 @@ only_place [] t i d once lt is = absurd (omega arith)
 only_place (x ∷ bs) t zero d once lt is = grind (arith, nat_tests)
 only_place (x ∷ bs) t (suc i) d once lt is =
     let rest = only_place bs t i d (both _ _ once).1 (omega arith) is in
-    let among : any (λ c. same_id c.txn t) bs ≡ true = one_of bs t i d (omega arith) is in
+    let among : list_any (λ c. same_id c.txn t) bs ≡ true = one_of bs t i d (omega arith) is in
     by_head (same_id x.txn t) refl rest among
   where
-    by_head : (b : Bool) → same_id x.txn t ≡ b → i ≡ place_of bs t → any (λ c. same_id c.txn t) bs ≡ true → suc i ≡ place_of (x ∷ bs) t
+    by_head : (b : Bool) → same_id x.txn t ≡ b → i ≡ place_of bs t → list_any (λ c. same_id c.txn t) bs ≡ true → suc i ≡ place_of (x ∷ bs) t
     by_head true e rest among =
-        let none : any (λ c. same_id c.txn x.txn) bs ≡ false = not_is _ (both _ _ once).0 in
+        let none : list_any (λ c. same_id c.txn x.txn) bs ≡ false = not_is _ (both _ _ once).0 in
         let same : x.txn ≡ t = same_id-is x.txn t e in
-        absurd (differ (sym among ∙ ap (λ u. any (λ c. same_id c.txn u) bs) (sym same) ∙ none))
+        absurd (differ (sym among ∙ ap (λ u. list_any (λ c. same_id c.txn u) bs) (sym same) ∙ none))
     by_head false e rest among = grind (arith, nat_tests)
 
 -- the last put in a place stands there

@@ -1,8 +1,9 @@
 -- What holds of a lawful run at each moment: of its world, and of the logs that a crash may leave there.
+use Rattle.std.specs.List.{list_all}
 use Rattle.std.proofs.Common.{◌≡◌, inl, inr, ℕ, suc, ◌<◌, ◌≤◌, true, ◌&&◌, nat_lt, nat_le, List, [], ◌∷◌, ◌++◌, Option, Some, None, slice_get, refl, sym, ap, subst, ◌∙◌, arith}
 use Rattle.std.proofs.lemmas.Bool.{leb-true}
 use Rattle.std.proofs.lemmas.Bool.Decides.{nat_tests}
-use Rattle.units.specs.Lists.{each, gather}
+use Rattle.units.specs.Lists.{gather}
 use Rattle.units.specs.Ids.{Id}
 use Rattle.units.specs.declared.line.Line.{Line}
 use Rattle.units.specs.declared.writes.Install.{Install}
@@ -107,11 +108,11 @@ module _ (always : AlwaysSteady) where
   unfolding installs_of
   installed_in_the_past config es fair =
       let r = every_run_holds always config es fair in
-      subst (λ (w : World). each (installed_before w.time) w.shards ≡ true) r.same (each_place r.scene.world.time r.scene.world.shards (λ n s there. by_shard r n s there))
+      subst (λ (w : World). list_all (installed_before w.time) w.shards ≡ true) r.same (each_place r.scene.world.time r.scene.world.shards (λ n s there. by_shard r n s there))
     where
-      each_place : (time : ℕ) (ss : List ShardNow) → ((n : ℕ) (s : ShardNow) → slice_get ss n ≡ Some s → installed_before time s ≡ true) → each (installed_before time) ss ≡ true
+      each_place : (time : ℕ) (ss : List ShardNow) → ((n : ℕ) (s : ShardNow) → slice_get ss n ≡ Some s → installed_before time s ≡ true) → list_all (installed_before time) ss ≡ true
       each_place time [] k = refl
-      each_place time (s ∷ ss) k = ap (λ b. b && each (installed_before time) ss) (k 0 s refl) ∙ each_place time ss (λ n x e. k (suc n) x e)
+      each_place time (s ∷ ss) k = ap (λ b. b && list_all (installed_before time) ss) (k 0 s refl) ∙ each_place time ss (λ n x e. k (suc n) x e)
 
       version_stamp : (ws : List Write) (s : ℕ) (i : Install) → IsAmong (versions ws s) i → i.at ≡ s
       version_stamp [] s i h = absurd h

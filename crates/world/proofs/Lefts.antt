@@ -1,7 +1,7 @@
 -- Something stands behind each record of logs that a crash may leave, between events and within one.
-use Rattle.std.proofs.Common.{◌≡◌, ◌⊎◌, inl, inr, ℕ, zero, suc, ◌≤◌, true, nat_le, List, [], ◌∷◌, ◌++◌, Option, Some, None, slice_get, refl, sym, ap, subst}
+use Rattle.std.proofs.Common.{◌≡◌, ◌⊎◌, inl, inr, ℕ, zero, suc, ◌≤◌, true, nat_le, List, [], ◌∷◌, ◌++◌, Option, Some, None, slice_get, refl, sym, ap, subst, option_map}
 use Rattle.std.proofs.lemmas.Bool.{leb-true}
-use Rattle.units.specs.Lists.{mapped, when}
+use Rattle.units.specs.Lists.{when}
 use Rattle.truetime.specs.Reading.{is_honest}
 use Rattle.record.specs.declared.record.Record.{Record}
 use Rattle.message.specs.declared.message.Address.{Address}
@@ -126,7 +126,7 @@ module _ (sc : Scene) (h : Holds sc) (steady : IsSteady sc.world) where
 
       to_shard : (x : Envelope) (k : ℕ) → slice_get sc.world.bag m ≡ Some x → x.to ≡ Shard k → Given sc k (input_of sc.world.bag (Doing.Take m now))
       to_shard x k is goes =
-          subst (λ o. Given sc k (mapped (λ y. (now, Input.Deliver y.message)) o)) (sym is)
+          subst (λ o. Given sc k (option_map (λ y. (now, Input.Deliver y.message)) o)) (sym is)
           (subst (λ (a : Address). IsAmong sc.world.bag (record { to = a; message = x.message })) goes (get_among sc.world.bag m x is), times.0, times.1)
 
       by_address : (x : Envelope) → slice_get sc.world.bag m ≡ Some x → (a : Address) → x.to ≡ a →

@@ -1,7 +1,6 @@
 -- Members of a list.
 use Rattle.std.proofs.Common.{◌≡◌, ◌⊎◌, inl, inr, Bool, true, false, ◌||◌, List, [], ◌∷◌, ◌++◌, refl, subst}
-use Rattle.std.specs.List.{AllByRecursion}
-use Rattle.units.specs.Lists.{any}
+use Rattle.std.specs.List.{AllByRecursion, list_any}
 use Rattle.world.specs.Evidence.{IsAmong}
 
 pub among_left : {A : Type 0} (xs ys : List A) (x : A) → IsAmong xs x → IsAmong (xs ++ ys) x
@@ -41,13 +40,13 @@ pub record Passes {A : Type 0} (xs : List A) (test : A → Bool) : Type 0 where
   pub among : IsAmong xs member
   pub passes : test member ≡ true
 
-pub some_passes : {A : Type 0} (xs : List A) (test : A → Bool) → any test xs ≡ true → Passes xs test
+pub some_passes : {A : Type 0} (xs : List A) (test : A → Bool) → list_any test xs ≡ true → Passes xs test
 some_passes [] test e = cc
 some_passes {A} (x ∷ xs) test e = by_test (test x) refl e (λ k. some_passes xs test k)
   where
     later : Passes xs test → Passes (x ∷ xs) test
     later p = record { member = p.member; among = inr p.among; passes = p.passes }
 
-    by_test : (b : Bool) → test x ≡ b → (b || any test xs) ≡ true → (any test xs ≡ true → Passes xs test) → Passes (x ∷ xs) test
+    by_test : (b : Bool) → test x ≡ b → (b || list_any test xs) ≡ true → (list_any test xs ≡ true → Passes xs test) → Passes (x ∷ xs) test
     by_test true h k rest = record { member = x; among = inl refl; passes = h }
     by_test false h k rest = later (rest k)

@@ -1,6 +1,7 @@
 -- A log whose records follow one another has of each id one promise, decision or abort at most.
-use Rattle.std.proofs.Common.{◌≡◌, ◌⊎◌, inl, inr, ℕ, Bool, true, false, cond, ◌&&◌, ◌||◌, List, [], ◌∷◌, ◌++◌, Option, Some, None, refl, sym, ap, subst, ◌∙◌, append_assoc}
-use Rattle.units.specs.Lists.{any, keep, gather}
+use Rattle.std.specs.List.{list_any}
+use Rattle.std.proofs.Common.{◌≡◌, ◌⊎◌, inl, inr, ℕ, Bool, true, false, cond, ◌&&◌, ◌||◌, List, [], ◌∷◌, ◌++◌, Option, Some, None, refl, sym, ap, subst, ◌∙◌, append_assoc, filter}
+use Rattle.units.specs.Lists.{gather}
 use Rattle.units.specs.Ids.{Id, same_id}
 use Rattle.units.proofs.IdLaws.{same_id-is, same_id-refl}
 use Rattle.units.proofs.Folds.{append_none, is_there, there_first}
@@ -21,7 +22,7 @@ is_claim t _ = false
 
 -- those of an id
 abbrev pub claims_of : List Record → Id → List Record
-claims_of log t = keep (is_claim t) log
+claims_of log t = filter (is_claim t) log
 
 -- at most one
 abbrev pub IsOne : List Record → Type 0
@@ -46,8 +47,8 @@ dropped : (b : Bool) (r : Record) (rest : List Record) → b ≡ false → rest 
 dropped true r rest e f = cc
 dropped false r rest e f = f
 
-none_of : (t : Id) (log : List Record) → is_aborted log t ≡ false → any (λ c. same_id c.txn t) (gather as_committed log) ≡ false →
-    any (λ p. same_id p.txn t) (gather as_prepared log) ≡ false → claims_of log t ≡ []
+none_of : (t : Id) (log : List Record) → is_aborted log t ≡ false → list_any (λ c. same_id c.txn t) (gather as_committed log) ≡ false →
+    list_any (λ p. same_id p.txn t) (gather as_prepared log) ≡ false → claims_of log t ≡ []
 none_of t [] a c p = refl
 none_of t (Opened epoch ∷ rs) a c p = none_of t rs a c p
 none_of t (Ceiling at ∷ rs) a c p = none_of t rs a c p

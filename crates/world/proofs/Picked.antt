@@ -1,6 +1,7 @@
 -- Members of lists that are made from others.
-use Rattle.std.proofs.Common.{◌≡◌, ◌⊎◌, inl, inr, ℕ, zero, suc, ◌+◌, Bool, true, false, cond, ◌&&◌, ◌||◌, List, [], ◌∷◌, ◌++◌, Option, Some, None, slice_get, refl, sym, ap, subst, ◌∙◌, map, arith}
-use Rattle.units.specs.Lists.{any, each, keep, gather, join, numbered}
+use Rattle.std.specs.List.{list_any, list_all}
+use Rattle.std.proofs.Common.{◌≡◌, ◌⊎◌, inl, inr, ℕ, zero, suc, ◌+◌, Bool, true, false, cond, ◌&&◌, ◌||◌, List, [], ◌∷◌, ◌++◌, Option, Some, None, slice_get, refl, sym, ap, subst, ◌∙◌, map, arith, filter, flat_map}
+use Rattle.units.specs.Lists.{gather, numbered}
 use Rattle.world.specs.Evidence.{IsAmong}
 use Rattle.world.proofs.Members.{among_left, among_right, among_cases}
 
@@ -9,21 +10,21 @@ some_same a b e = cc
 
 -- ---- filters
 
-pub keep_among : {A : Type 0} (test : A → Bool) (xs : List A) (x : A) → IsAmong xs x → test x ≡ true → IsAmong (keep test xs) x
+pub keep_among : {A : Type 0} (test : A → Bool) (xs : List A) (x : A) → IsAmong xs x → test x ≡ true → IsAmong (filter test xs) x
 keep_among test [] x h k = absurd h
 keep_among test (y ∷ ys) x h k = by_test (test y) refl h (λ l. keep_among test ys x l k)
   where
-    by_test : (b : Bool) → test y ≡ b → (y ≡ x) ⊎ IsAmong ys x → (IsAmong ys x → IsAmong (keep test ys) x) → IsAmong (cond b (y ∷ keep test ys) (keep test ys)) x
+    by_test : (b : Bool) → test y ≡ b → (y ≡ x) ⊎ IsAmong ys x → (IsAmong ys x → IsAmong (filter test ys) x) → IsAmong (cond b (y ∷ filter test ys) (filter test ys)) x
     by_test true e (inl same) rest = inl same
     by_test true e (inr later) rest = inr (rest later)
     by_test false e (inl same) rest = let f : test x ≡ false = sym (ap test same) ∙ e in cc
     by_test false e (inr later) rest = rest later
 
-pub kept_passes : {A : Type 0} (test : A → Bool) (xs : List A) (x : A) → IsAmong (keep test xs) x → test x ≡ true
+pub kept_passes : {A : Type 0} (test : A → Bool) (xs : List A) (x : A) → IsAmong (filter test xs) x → test x ≡ true
 kept_passes test [] x h = absurd h
 kept_passes test (y ∷ ys) x h = by_test (test y) refl h (λ k. kept_passes test ys x k)
   where
-    by_test : (b : Bool) → test y ≡ b → IsAmong (cond b (y ∷ keep test ys) (keep test ys)) x → (IsAmong (keep test ys) x → test x ≡ true) → test x ≡ true
+    by_test : (b : Bool) → test y ≡ b → IsAmong (cond b (y ∷ filter test ys) (filter test ys)) x → (IsAmong (filter test ys) x → test x ≡ true) → test x ≡ true
     by_test true e (inl same) rest = sym (ap test same) ∙ e
     by_test true e (inr later) rest = rest later
     by_test false e k rest = rest k
@@ -55,10 +56,10 @@ among_map f [] y h = absurd h
 among_map f (x ∷ xs) y (inl same) = record { from = x; among = inl refl; is = same }
 among_map f (x ∷ xs) y (inr later) = let m = among_map f xs y later in record { from = m.from; among = inr m.among; is = m.is }
 
-pub join_among : {A B : Type 0} (f : A → List B) (xs : List A) (x : A) (y : B) → IsAmong xs x → IsAmong (f x) y → IsAmong (join f xs) y
+pub join_among : {A B : Type 0} (f : A → List B) (xs : List A) (x : A) (y : B) → IsAmong xs x → IsAmong (f x) y → IsAmong (flat_map f xs) y
 join_among f [] x y h k = absurd h
-join_among f (z ∷ zs) x y (inl same) k = among_left (f z) (join f zs) y (subst (λ w. IsAmong (f w) y) (sym same) k)
-join_among f (z ∷ zs) x y (inr later) k = among_right (f z) (join f zs) y (join_among f zs x y later k)
+join_among f (z ∷ zs) x y (inl same) k = among_left (f z) (flat_map f zs) y (subst (λ w. IsAmong (f w) y) (sym same) k)
+join_among f (z ∷ zs) x y (inr later) k = among_right (f z) (flat_map f zs) y (join_among f zs x y later k)
 
 -- where a member of a joined list comes from
 pub record Joined {A B : Type 0} (f : A → List B) (xs : List A) (y : B) : Type 0 where
@@ -66,23 +67,23 @@ pub record Joined {A B : Type 0} (f : A → List B) (xs : List A) (y : B) : Type
   pub among : IsAmong xs from
   pub within : IsAmong (f from) y
 
-pub among_join : {A B : Type 0} (f : A → List B) (xs : List A) (y : B) → IsAmong (join f xs) y → Joined f xs y
+pub among_join : {A B : Type 0} (f : A → List B) (xs : List A) (y : B) → IsAmong (flat_map f xs) y → Joined f xs y
 among_join f [] y h = absurd h
-among_join f (x ∷ xs) y h = elim (among_cases (f x) (join f xs) y h) [
+among_join f (x ∷ xs) y h = elim (among_cases (f x) (flat_map f xs) y h) [
   | inl here ↦ record { from = x; among = inl refl; within = here }
   | inr later ↦ let j = among_join f xs y later in record { from = j.from; among = inr j.among; within = j.within }
 ]
 
 -- ---- tests of all and of some
 
-pub each_of : {A : Type 0} (test : A → Bool) (xs : List A) → ((x : A) → IsAmong xs x → test x ≡ true) → each test xs ≡ true
+pub each_of : {A : Type 0} (test : A → Bool) (xs : List A) → ((x : A) → IsAmong xs x → test x ≡ true) → list_all test xs ≡ true
 each_of test [] h = refl
-each_of test (x ∷ xs) h = ap (λ b. b && each test xs) (h x (inl refl)) ∙ each_of test xs (λ y k. h y (inr k))
+each_of test (x ∷ xs) h = ap (λ b. b && list_all test xs) (h x (inl refl)) ∙ each_of test xs (λ y k. h y (inr k))
 
-pub any_of : {A : Type 0} (test : A → Bool) (xs : List A) (x : A) → IsAmong xs x → test x ≡ true → any test xs ≡ true
+pub any_of : {A : Type 0} (test : A → Bool) (xs : List A) (x : A) → IsAmong xs x → test x ≡ true → list_any test xs ≡ true
 any_of test [] x h k = absurd h
-any_of test (y ∷ ys) x (inl same) k = ap (λ b. b || any test ys) (ap test same ∙ k)
-any_of test (y ∷ ys) x (inr later) k = turned (test y) (any test ys) (any_of test ys x later k)
+any_of test (y ∷ ys) x (inl same) k = ap (λ b. b || list_any test ys) (ap test same ∙ k)
+any_of test (y ∷ ys) x (inr later) k = turned (test y) (list_any test ys) (any_of test ys x later k)
   where
     turned : (a b : Bool) → b ≡ true → (a || b) ≡ true
     turned true b e = refl
@@ -139,13 +140,13 @@ place_numbered {A} n (y ∷ ys) (suc i) x e = inr (subst (λ m. IsAmong (numbere
 
 -- lists of which one alone has a member, and no second one
 pub one_of_numbered : {A B : Type 0} (f : ℕ × A → List B) (n : ℕ) (xs : List A) → ((p : ℕ × A) → IsAmong (numbered n xs) p → AtMostOne (f p)) →
-    ((p q : ℕ × A) (x y : B) → IsAmong (numbered n xs) p → IsAmong (numbered n xs) q → IsAmong (f p) x → IsAmong (f q) y → p.0 ≡ q.0) → AtMostOne (join f (numbered n xs))
+    ((p q : ℕ × A) (x y : B) → IsAmong (numbered n xs) p → IsAmong (numbered n xs) q → IsAmong (f p) x → IsAmong (f q) y → p.0 ≡ q.0) → AtMostOne (flat_map f (numbered n xs))
 one_of_numbered f n [] one same = tt
 one_of_numbered {A} {B} f n (x ∷ xs) one same =
     by_first (f (n, x)) refl (one (n, x) (inl refl)) (one_of_numbered f (suc n) xs (λ p h. one p (inr h)) (λ p q a b h k. same p q a b (inr h) (inr k)))
   where
-    none_later : (y : B) → IsAmong (f (n, x)) y → join f (numbered (suc n) xs) ≡ []
-    none_later y h = is_none (join f (numbered (suc n) xs)) (λ z k. apart z (among_join f (numbered (suc n) xs) z k))
+    none_later : (y : B) → IsAmong (f (n, x)) y → flat_map f (numbered (suc n) xs) ≡ []
+    none_later y h = is_none (flat_map f (numbered (suc n) xs)) (λ z k. apart z (among_join f (numbered (suc n) xs) z k))
       where
         apart : (z : B) → Joined f (numbered (suc n) xs) z → ⊥
         apart z j =
@@ -154,9 +155,9 @@ one_of_numbered {A} {B} f n (x ∷ xs) one same =
             let further = place.number in
             omega (arith, number, further)
 
-    by_first : (ys : List B) → f (n, x) ≡ ys → AtMostOne (f (n, x)) → AtMostOne (join f (numbered (suc n) xs)) → AtMostOne (f (n, x) ++ join f (numbered (suc n) xs))
-    by_first [] e first rest = subst (λ l. AtMostOne (l ++ join f (numbered (suc n) xs))) (sym e) rest
+    by_first : (ys : List B) → f (n, x) ≡ ys → AtMostOne (f (n, x)) → AtMostOne (flat_map f (numbered (suc n) xs)) → AtMostOne (f (n, x) ++ flat_map f (numbered (suc n) xs))
+    by_first [] e first rest = subst (λ l. AtMostOne (l ++ flat_map f (numbered (suc n) xs))) (sym e) rest
     by_first (y ∷ []) e first rest =
-        subst (λ l. AtMostOne (l ++ join f (numbered (suc n) xs))) (sym e)
+        subst (λ l. AtMostOne (l ++ flat_map f (numbered (suc n) xs))) (sym e)
         (subst (λ l. AtMostOne (y ∷ l)) (sym (none_later y (subst (λ l. IsAmong l y) (sym e) (inl refl)))) tt)
     by_first (y ∷ z ∷ more) e first rest = absurd (subst AtMostOne e first)

@@ -1,6 +1,7 @@
 -- What is put out in the code is put out in the definitions.
-use Rattle.std.proofs.Common.{◌≡◌, ◌||◌, ℕ, Bool, true, false, cond, List, [], ◌∷◌, ◌++◌, Option, Some, None, Result, Ok, Err, OnOk, refl, sym, ap, ◌∙◌}
-use Rattle.units.specs.Lists.{any, join, listed, mapped, when}
+use Rattle.std.specs.List.{list_any}
+use Rattle.std.proofs.Common.{◌≡◌, ◌||◌, ℕ, Bool, true, false, cond, List, [], ◌∷◌, ◌++◌, Option, Some, None, Result, Ok, Err, OnOk, refl, sym, ap, ◌∙◌, flat_map, option_to_list, option_map}
+use Rattle.units.specs.Lists.{when}
 use Rattle.units.specs.Ids.{Id, same_id}
 use Rattle.units.proofs.Folds.{any_append, join_append}
 use Rattle.units.specs.declared.line.Line.{Line}
@@ -28,11 +29,11 @@ told_alike t e = by_message e.message
     by_none true = refl
     by_none false = refl
 
-    by_value : (d : Done) (o : Option ℕ) → was_told (listed (mapped (λ s. d.txn) o)) t ≡ when (λ x. true) (cond (same_id d.txn t) o None)
+    by_value : (d : Done) (o : Option ℕ) → was_told (option_to_list (option_map (λ s. d.txn) o)) t ≡ when (λ x. true) (cond (same_id d.txn t) o None)
     by_value d None = by_none (same_id d.txn t)
     by_value d (Some s) = by_test s (same_id d.txn t)
 
-    by_message : (m : Message) → was_told (elim m as (λ x. List Id) [ Message.Done d ↦ listed (mapped (λ s. d.txn) d.outcome) | _ ↦ [] ]) t
+    by_message : (m : Message) → was_told (elim m as (λ x. List Id) [ Message.Done d ↦ option_to_list (option_map (λ s. d.txn) d.outcome) | _ ↦ [] ]) t
         ≡ when (λ x. true) (elim m as (λ x. Option ℕ) [ Message.Done d ↦ cond (same_id d.txn t) d.outcome None | _ ↦ None ])
     by_message (Message.Done d) = by_value d d.outcome
     by_message (Message.Read x) = refl
@@ -44,11 +45,11 @@ told_alike t e = by_message e.message
     by_message (Message.Ask x) = refl
     by_message (Message.ReadAnswer x) = refl
 
-told_by_bag : (t : Id) (bag : List Envelope) → was_told (join told_in bag) t ≡ any (λ e. when (λ x. true) (commit_told t e)) bag
+told_by_bag : (t : Id) (bag : List Envelope) → was_told (flat_map told_in bag) t ≡ list_any (λ e. when (λ x. true) (commit_told t e)) bag
 told_by_bag t [] = refl
-told_by_bag t (e ∷ es) = any_append (λ u. same_id u t) (told_in e) (join told_in es) ∙ (λ i. told_alike t e i || told_by_bag t es i)
+told_by_bag t (e ∷ es) = any_append (λ u. same_id u t) (told_in e) (flat_map told_in es) ∙ (λ i. told_alike t e i || told_by_bag t es i)
 
-by_outcome : (w : World) (t : Id) (o : Option ℕ) → ack_by (join told_in w.bag) w.event t o ≡ ack_of w t o
+by_outcome : (w : World) (t : Id) (o : Option ℕ) → ack_by (flat_map told_in w.bag) w.event t o ≡ ack_of w t o
 by_outcome w t None = refl
 by_outcome w t (Some s) = ap (λ b. cond b [] (Line.Ack t s w.event ∷ [])) (told_by_bag t w.bag)
 
@@ -56,7 +57,7 @@ abbrev acks_by : World → Message → List Line
 acks_by w m = elim m [ Message.Done d ↦ ack_of w d.txn d.outcome | _ ↦ [] ]
 
 abbrev acks_with : World → Message → List Line
-acks_with w m = elim m [ Message.Done d ↦ ack_by (join told_in w.bag) w.event d.txn d.outcome | _ ↦ [] ]
+acks_with w m = elim m [ Message.Done d ↦ ack_by (flat_map told_in w.bag) w.event d.txn d.outcome | _ ↦ [] ]
 
 by_message : (w : World) (m : Message) → acks_with w m ≡ acks_by w m
 by_message w (Message.Done d) = by_outcome w d.txn d.outcome
@@ -69,17 +70,17 @@ by_message w (Message.Outcome x) = refl
 by_message w (Message.Ask x) = refl
 by_message w (Message.ReadAnswer x) = refl
 
-acks_same : (w : World) (es : List Envelope) → join (ack_in (join told_in w.bag) w.event) es ≡ join (acks_of w) es
+acks_same : (w : World) (es : List Envelope) → flat_map (ack_in (flat_map told_in w.bag) w.event) es ≡ flat_map (acks_of w) es
 acks_same w [] = refl
 acks_same w (e ∷ es) = (λ i. by_message w e.message i ++ acks_same w es i)
 
-pub puts : (p : Past) (w : World) (new : Past) (out : List Envelope) → IsPast p w → new.bag ≡ p.bag ++ out → new.told.items ≡ p.told.items ++ join told_in out
-    → new.lines.items ≡ p.lines.items ++ join (ack_in p.told.items p.event) out
+pub puts : (p : Past) (w : World) (new : Past) (out : List Envelope) → IsPast p w → new.bag ≡ p.bag ++ out → new.told.items ≡ p.told.items ++ flat_map told_in out
+    → new.lines.items ≡ p.lines.items ++ flat_map (ack_in p.told.items p.event) out
     → new.event ≡ p.event → IsPast new (put_out out w)
 unfolding put_out
 puts p w new out h bag told lines event = record {
   bag = bag ∙ ap (λ b. b ++ out) h.bag;
-  told = told ∙ ap (λ ts. ts ++ join told_in out) h.told ∙ sym (join_append told_in w.bag out);
-  lines = lines ∙ (λ i. h.lines i ++ join (ack_in (h.told i) (h.event i)) out) ∙ ap (λ ls. w.lines ++ ls) (acks_same w out);
+  told = told ∙ ap (λ ts. ts ++ flat_map told_in out) h.told ∙ sym (join_append told_in w.bag out);
+  lines = lines ∙ (λ i. h.lines i ++ flat_map (ack_in (h.told i) (h.event i)) out) ∙ ap (λ ls. w.lines ++ ls) (acks_same w out);
   event = event ∙ h.event;
 }

@@ -1,10 +1,10 @@
 -- What a log answers up to a time stays, once no promise and no decision up to it stands and all later ones are above it.
-use Rattle.std.proofs.Common.{◌≡◌, ◌⊎◌, inl, inr, ℕ, ◌<◌, ◌≤◌, Bool, true, false, not, cond, ◌||◌, nat_eq, nat_le, List, [], ◌∷◌, ◌++◌, Option, Some, None, refl, sym, ap, subst, ◌∙◌, arith}
+use Rattle.std.proofs.Common.{◌≡◌, ◌⊎◌, inl, inr, ℕ, ◌<◌, ◌≤◌, Bool, true, false, not, cond, ◌||◌, nat_eq, nat_le, List, [], ◌∷◌, ◌++◌, Option, Some, None, refl, sym, ap, subst, ◌∙◌, arith, filter}
 use Rattle.std.proofs.lemmas.Bool.{leb-true, eqb-true, cases_lt}
 use Rattle.std.proofs.lemmas.Bool.Decides.{nat_tests}
 use Rattle.units.specs.Ids.{Id, same_id}
 use Rattle.units.specs.Keys.{Bytes}
-use Rattle.units.specs.Lists.{gather, keep, when}
+use Rattle.units.specs.Lists.{gather, when}
 use Rattle.units.specs.Versions.{versions, at_time, latest}
 use Rattle.units.specs.declared.writes.Install.{Install}
 use Rattle.units.specs.declared.writes.Write.{Write}
@@ -101,14 +101,14 @@ outcome_above log at t s q fresh p hp c hc fits = elim (cases_lt at s) [
 
 -- ---- what it installs is not seen up to the time
 
-unseen : (ws : List Write) (at s : ℕ) → at < s → keep (λ (i : Install). nat_le i.at at) (versions ws s) ≡ []
+unseen : (ws : List Write) (at s : ℕ) → at < s → filter (λ (i : Install). nat_le i.at at) (versions ws s) ≡ []
 unseen [] at s h = refl
-unseen (w ∷ ws) at s h = ap (λ b. cond b (record { key = w.key; at = s; value = w.value } ∷ keep (λ (i : Install). nat_le i.at at) (versions ws s)) (keep (λ (i : Install). nat_le i.at at) (versions ws s))) (later at s h) ∙ unseen ws at s h
+unseen (w ∷ ws) at s h = ap (λ b. cond b (record { key = w.key; at = s; value = w.value } ∷ filter (λ (i : Install). nat_le i.at at) (versions ws s)) (filter (λ (i : Install). nat_le i.at at) (versions ws s))) (later at s h) ∙ unseen ws at s h
   where
     later : (a b : ℕ) → a < b → nat_le b a ≡ false
     later a b k = grind (arith, nat_tests)
 
-installed_unseen : (st : Status) (at s : ℕ) → at < s → keep (λ (i : Install). nat_le i.at at) (installs_at st (Some s)) ≡ []
+installed_unseen : (st : Status) (at s : ℕ) → at < s → filter (λ (i : Install). nat_le i.at at) (installs_at st (Some s)) ≡ []
 installed_unseen (StandsPrepared p) at s h = unseen p.writes at s h
 installed_unseen (StandsDecided c) at s h = unseen c.writes at s h
 installed_unseen Unrecorded at s h = refl
@@ -116,18 +116,18 @@ installed_unseen HasAborted at s h = refl
 installed_unseen (HasSettled x ps) at s h = refl
 installed_unseen (HasClosed c o) at s h = refl
 
-keep_append : {A : Type 0} (test : A → Bool) (xs ys : List A) → keep test (xs ++ ys) ≡ keep test xs ++ keep test ys
+keep_append : {A : Type 0} (test : A → Bool) (xs ys : List A) → filter test (xs ++ ys) ≡ filter test xs ++ filter test ys
 keep_append test [] ys = refl
 keep_append test (x ∷ xs) ys = by_test (test x) (keep_append test xs ys)
   where
-    by_test : (b : Bool) → keep test (xs ++ ys) ≡ keep test xs ++ keep test ys → cond b (x ∷ keep test (xs ++ ys)) (keep test (xs ++ ys)) ≡ cond b (x ∷ keep test xs) (keep test xs) ++ keep test ys
+    by_test : (b : Bool) → filter test (xs ++ ys) ≡ filter test xs ++ filter test ys → cond b (x ∷ filter test (xs ++ ys)) (filter test (xs ++ ys)) ≡ cond b (x ∷ filter test xs) (filter test xs) ++ filter test ys
     by_test true e = ap (λ l. x ∷ l) e
     by_test false e = e
 
-same_answer : (is more : List Install) (k : Bytes) (at : ℕ) → keep (λ (i : Install). nat_le i.at at) more ≡ [] → at_time (is ++ more) k at ≡ at_time is k at
+same_answer : (is more : List Install) (k : Bytes) (at : ℕ) → filter (λ (i : Install). nat_le i.at at) more ≡ [] → at_time (is ++ more) k at ≡ at_time is k at
 unfolding at_time
 same_answer is more k at none =
-    ap (λ l. latest l k) (keep_append (λ (i : Install). nat_le i.at at) is more ∙ ap (λ l. keep (λ (i : Install). nat_le i.at at) is ++ l) none ∙ append_none (keep (λ (i : Install). nat_le i.at at) is))
+    ap (λ l. latest l k) (keep_append (λ (i : Install). nat_le i.at at) is more ∙ ap (λ l. filter (λ (i : Install). nat_le i.at at) is ++ l) none ∙ append_none (filter (λ (i : Install). nat_le i.at at) is))
 
 -- the answer of a log at a time, after one more record that follows
 pub answer_stays : (shard : ℕ) (log : List Record) (r : Record) (k : Bytes) (at : ℕ) → followed shard (log ++ r ∷ []) ≡ true → IsQuiet log at →
@@ -144,7 +144,7 @@ answer_stays shard log r k at h q =
     by_kind (Abort t) e = refl
     by_kind (Outcome t None) e = same_answer (installs_of log) (installs_at (recorded (facts_of log) t) None) k at (none_installed (recorded (facts_of log) t))
       where
-        none_installed : (st : Status) → keep (λ (i : Install). nat_le i.at at) (installs_at st None) ≡ []
+        none_installed : (st : Status) → filter (λ (i : Install). nat_le i.at at) (installs_at st None) ≡ []
         none_installed (StandsPrepared p) = refl
         none_installed (StandsDecided c) = refl
         none_installed Unrecorded = refl

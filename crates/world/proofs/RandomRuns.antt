@@ -1,8 +1,9 @@
 -- Long runs whose events are drawn by a plain generator of numbers: reads, writes, deliveries in any order and again, chores,
 -- looks, crashes between and within events, failing calls and openings. The verdict on each is yes.
+use Rattle.std.specs.List.{list_all}
 use Rattle.std.proofs.Common.{refl}
 use Rattle.std.specs.Prelude.{ℕ, Bool, ◌&&◌, ◌||◌, ◌++◌, not, nat_le, zero, suc, ◌+◌, ◌-◌, ◌*◌, ◌/◌, ◌%◌, ◌≡◌, true, false, cond, nat_eq, nat_lt, List, [], ◌∷◌, length, map, slice_get, Some, None}
-use Rattle.units.specs.Lists.{count, each}
+use Rattle.units.specs.Lists.{count}
 use Rattle.units.specs.LockLaws.{keeps_lock_law, keeps_wait_law}
 use Rattle.record.specs.Records.{floor_of}
 use Rattle.protocol.specs.Rows.{claims}
@@ -240,12 +241,12 @@ shard_keeps s =
 
 -- at each moment of a run
 abbrev pub always_kept : ℕ → ℕ → World → Bool
-always_kept zero r w = each shard_keeps w.shards
+always_kept zero r w = list_all shard_keeps w.shards
 always_kept (suc n) r w =
     let r1 : ℕ = next r in
     let r2 : ℕ = next r1 in
     let t : ℕ = w.time + pick r2 9 in
-    each shard_keeps w.shards && always_kept n (next r2) (try_event w (record { time = t; act = act (pick r1 200) (next (next r2)) t w }))
+    list_all shard_keeps w.shards && always_kept n (next r2) (try_event w (record { time = t; act = act (pick r1 200) (next (next r2)) t w }))
 
 pub the_first_tables : always_kept 1000 7919 (try_event (start three) (record { time = 100; act = Act.Begin (txn 0) })) ≡ true
 unfolding computing
@@ -265,7 +266,7 @@ is_accepted _ = false
 -- openings take the logs, and the verdict on them and the lines so far is yes
 abbrev pub is_consistent : List (List Record) → List Line → Bool
 is_consistent logs lines =
-    each is_accepted (taken_by 0 logs) && elim (verdict logs (counted_lines logs lines)) [ Yes ↦ true | _ ↦ false ]
+    list_all is_accepted (taken_by 0 logs) && elim (verdict logs (counted_lines logs lines)) [ Yes ↦ true | _ ↦ false ]
 
 -- the logs with one more record at a shard
 abbrev pub with_record : List (List Record) → ℕ → Record → List (List Record)
@@ -289,7 +290,7 @@ consistent_within w e =
 -- within the next event
 abbrev pub consistent_now : World → Bool
 consistent_now w =
-    is_consistent (logs_of w) w.lines && is_consistent (map (λ s. s.log) w.shards) w.lines && each (installed_before w.time) w.shards
+    is_consistent (logs_of w) w.lines && is_consistent (map (λ s. s.log) w.shards) w.lines && list_all (installed_before w.time) w.shards
 
 abbrev pub always_consistent : ℕ → ℕ → World → Bool
 always_consistent zero r w = consistent_now w

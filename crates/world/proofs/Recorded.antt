@@ -1,6 +1,6 @@
 -- What the facts of a log say of an id rests on its records, and so do the rows that an opening finds.
-use Rattle.std.proofs.Common.{◌≡◌, ◌⊎◌, inl, inr, ℕ, ◌<◌, Bool, true, false, cond, List, [], ◌∷◌, Option, Some, None, refl, sym, ap, subst, ◌∙◌, map}
-use Rattle.units.specs.Lists.{keep, gather, first, head}
+use Rattle.std.proofs.Common.{◌≡◌, ◌⊎◌, inl, inr, ℕ, ◌<◌, Bool, true, false, cond, List, [], ◌∷◌, Option, Some, None, refl, sym, ap, subst, ◌∙◌, map, filter}
+use Rattle.units.specs.Lists.{gather, first, head}
 use Rattle.units.specs.Ids.{Id, same_id}
 use Rattle.units.proofs.IdLaws.{same_id-is}
 use Rattle.units.proofs.ByIdLaws.{first_passes}
@@ -18,17 +18,17 @@ use Rattle.world.proofs.Orderly.{IsOrderly, one_decision, decided_not_promised}
 
 -- ---- members of filters
 
-pub among_keep : {A : Type 0} (test : A → Bool) (xs : List A) (x : A) → IsAmong (keep test xs) x → IsAmong xs x
+pub among_keep : {A : Type 0} (test : A → Bool) (xs : List A) (x : A) → IsAmong (filter test xs) x → IsAmong xs x
 among_keep test [] x h = absurd h
 among_keep test (y ∷ ys) x h = by_test (test y) h (λ k. among_keep test ys x k)
   where
-    by_test : (b : Bool) → IsAmong (cond b (y ∷ keep test ys) (keep test ys)) x → (IsAmong (keep test ys) x → IsAmong ys x) → (y ≡ x) ⊎ IsAmong ys x
+    by_test : (b : Bool) → IsAmong (cond b (y ∷ filter test ys) (filter test ys)) x → (IsAmong (filter test ys) x → IsAmong ys x) → (y ≡ x) ⊎ IsAmong ys x
     by_test true (inl same) rest = inl same
     by_test true (inr later) rest = inr (rest later)
     by_test false k rest = inr (rest k)
 
 pub among_first : {A : Type 0} (test : A → Bool) (xs : List A) (x : A) → first test xs ≡ Some x → IsAmong xs x
-among_first {A} test xs x e = among_keep test xs x (by_list (keep test xs) e)
+among_first {A} test xs x e = among_keep test xs x (by_list (filter test xs) e)
   where
     by_list : (ys : List A) → head ys ≡ Some x → IsAmong ys x
     by_list [] k = cc

@@ -1,8 +1,9 @@
 -- Every transaction stands at one timestamp on all its shards, or on none.
-use Rattle.std.proofs.Common.{◌≡◌, inl, inr, ℕ, suc, Bool, true, false, not, cond, ◌&&◌, nat_eq, List, [], ◌∷◌, Option, Some, None, slice_get, refl, sym, ap, subst, ◌∙◌, map, arith}
+use Rattle.std.specs.List.{list_all}
+use Rattle.std.proofs.Common.{◌≡◌, inl, inr, ℕ, suc, Bool, true, false, not, cond, ◌&&◌, nat_eq, List, [], ◌∷◌, Option, Some, None, slice_get, refl, sym, ap, subst, ◌∙◌, map, arith, filter}
 use Rattle.std.proofs.lemmas.Bool.{cases_eq}
 use Rattle.std.proofs.lemmas.Bool.Decides.{nat_tests}
-use Rattle.units.specs.Lists.{each, keep, gather, has, head, when}
+use Rattle.units.specs.Lists.{gather, has, head, when}
 use Rattle.units.specs.Ids.{Id, same_id}
 use Rattle.units.proofs.IdLaws.{same_id-is, same_id-refl}
 use Rattle.units.proofs.ByIdLaws.{first_passes}
@@ -79,7 +80,7 @@ module _ (sc : Scene) (h : Holds sc) (logs : List (List Record)) (left : AreLeft
             by_outcome (Some s) k = let d = outcome_decided sc h logs left n t s k in absurd (no_commit d.shard d.commit d.among d.named)
         by_parts None hc None he (Some p) hp =
             let k = prepared_is (log_in logs n) t p hp in
-            subst (λ (ds : List Decision). not (when (λ s. true) (head (map (λ (d : Decision). d.commit.at) (keep (λ (d : Decision). nat_eq d.shard p.coordinator) ds)))) ≡ true)
+            subst (λ (ds : List Decision). not (when (λ s. true) (head (map (λ (d : Decision). d.commit.at) (filter (λ (d : Decision). nat_eq d.shard p.coordinator) ds)))) ≡ true)
             (sym (ap (decisions logs) k.1 ∙ none)) refl
         by_parts None hc None he None hp = refl
 
@@ -99,7 +100,7 @@ module _ (sc : Scene) (h : Holds sc) (logs : List (List Record)) (left : AreLeft
         let a = decision_home sc h logs left d.shard d.commit stands in
         let same : d.shard ≡ p.coordinator = one_home sc h logs left t d.shard p.coordinator d.commit.parts home.parts
         (subst (λ u. ClosesOver sc.world u d.commit.parts) named a.0) a.1 (subst (λ u. ClosesOver sc.world u home.parts) mine home.over) home.least in
-        subst (λ (ds : List Decision). head (map (λ (x : Decision). x.commit.at) (keep (λ (x : Decision). nat_eq x.shard p.coordinator) ds)) ≡ Some d.commit.at)
+        subst (λ (ds : List Decision). head (map (λ (x : Decision). x.commit.at) (filter (λ (x : Decision). nat_eq x.shard p.coordinator) ds)) ≡ Some d.commit.at)
         (sym (ap (decisions logs) mine ∙ only))
         (ap (λ b. head (map (λ (x : Decision). x.commit.at) (cond b (d ∷ []) []))) (same_number d.shard p.coordinator same))
 
@@ -165,9 +166,9 @@ module _ (sc : Scene) (h : Holds sc) (logs : List (List Record)) (left : AreLeft
 
   -- ---- both
 
-  each_place : (ls : List (List Record)) (test : List Record → Bool) → ((n : ℕ) (log : List Record) → slice_get ls n ≡ Some log → test log ≡ true) → each test ls ≡ true
+  each_place : (ls : List (List Record)) (test : List Record → Bool) → ((n : ℕ) (log : List Record) → slice_get ls n ≡ Some log → test log ≡ true) → list_all test ls ≡ true
   each_place [] test k = refl
-  each_place (l ∷ ls) test k = ap (λ b. b && each test ls) (k 0 l refl) ∙ each_place ls test (λ n log e. k (suc n) log e)
+  each_place (l ∷ ls) test k = ap (λ b. b && list_all test ls) (k 0 l refl) ∙ each_place ls test (λ n log e. k (suc n) log e)
 
   by_decisions : (ds : List Decision) → decisions logs t ≡ ds → resolves_by logs t ds
   by_decisions [] e = each_place logs (λ l. not (when (λ s. true) (stands_at logs l t))) (λ n log there. subst (λ l. not (when (λ s. true) (stands_at logs l t)) ≡ true) (log_in-is logs n log there) (nowhere e n))

@@ -1,7 +1,7 @@
 -- Messages that are put out and lines that are written keep something behind all that there is.
-use Rattle.std.proofs.Common.{◌≡◌, inl, inr, ℕ, Bool, true, false, cond, List, [], ◌∷◌, ◌++◌, Option, Some, None, slice_get, refl, arith}
-use Rattle.std.specs.List.{AllByRecursion}
-use Rattle.units.specs.Lists.{any, join, when}
+use Rattle.std.proofs.Common.{◌≡◌, inl, inr, ℕ, Bool, true, false, cond, List, [], ◌∷◌, ◌++◌, Option, Some, None, slice_get, refl, arith, flat_map}
+use Rattle.std.specs.List.{AllByRecursion, list_any}
+use Rattle.units.specs.Lists.{when}
 use Rattle.units.specs.Ids.{Id}
 use Rattle.units.specs.declared.line.Line.{Line}
 use Rattle.message.specs.declared.message.Address.{Address}
@@ -70,7 +70,7 @@ module _ (sc : Scene) (out : List Envelope) (ls : List Line) (present : slice_ge
       AllByRecursion (λ l. IsNoBegin l × LineEvidence (with_world sc (lined ls (bagged out sc.world))) l) (ack_of sc.world t o)
   ack_written to t None there told = tt
   ack_written to t (Some s) there told =
-      by_test (any (λ e. when (λ x. true) (commit_told t e)) sc.world.bag) (record {
+      by_test (list_any (λ e. when (λ x. true) (commit_told t e)) sc.world.bag) (record {
         to = to;
         sent = among_right sc.world.bag out _ there;
         time = sc.now;
@@ -96,10 +96,10 @@ module _ (sc : Scene) (out : List Envelope) (ls : List Line) (present : slice_ge
   of_message to (Message.ReadAnswer a) there told = tt
 
   pub acks_written : (some : List Envelope) → ((e : Envelope) → IsAmong some e → IsAmong out e) → AllByRecursion (λ (e : Envelope). MessageEvidence sc e.to e.message) some →
-      AllByRecursion (λ l. IsNoBegin l × LineEvidence (with_world sc (lined ls (bagged out sc.world))) l) (join (acks_of sc.world) some)
+      AllByRecursion (λ l. IsNoBegin l × LineEvidence (with_world sc (lined ls (bagged out sc.world))) l) (flat_map (acks_of sc.world) some)
   acks_written [] among told = tt
   acks_written (e ∷ es) among told =
-      all_append (λ l. IsNoBegin l × LineEvidence (with_world sc (lined ls (bagged out sc.world))) l) (acks_of sc.world e) (join (acks_of sc.world) es)
+      all_append (λ l. IsNoBegin l × LineEvidence (with_world sc (lined ls (bagged out sc.world))) l) (acks_of sc.world e) (flat_map (acks_of sc.world) es)
       (of_message e.to e.message (among e (inl refl)) told.0) (acks_written es (λ x k. among x (inr k)) told.1)
 
 -- messages are put out
@@ -107,4 +107,4 @@ pub put_out_holds : (sc : Scene) (out : List Envelope) → slice_get sc.times sc
     AllByRecursion (λ (e : Envelope). MessageEvidence sc e.to e.message) out → Holds sc → Holds (with_world sc (put_out out sc.world))
 unfolding put_out
 put_out_holds sc out present told h =
-    said_holds sc out (join (acks_of sc.world) out) told (acks_written sc out (join (acks_of sc.world) out) present out (λ e k. k) told) h
+    said_holds sc out (flat_map (acks_of sc.world) out) told (acks_written sc out (flat_map (acks_of sc.world) out) present out (λ e k. k) told) h

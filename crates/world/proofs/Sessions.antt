@@ -1,6 +1,6 @@
 -- What sessions do keeps something behind all that there is: each transaction has one set of closing messages.
-use Rattle.std.proofs.Common.{◌≡◌, ◌⊎◌, inl, inr, ℕ, Bool, true, false, cond, List, [], ◌∷◌, ◌++◌, Option, Some, None, slice_get, refl, sym, ap, subst, ◌∙◌, arith}
-use Rattle.units.specs.Lists.{first, mapped, head}
+use Rattle.std.proofs.Common.{◌≡◌, ◌⊎◌, inl, inr, ℕ, Bool, true, false, cond, List, [], ◌∷◌, ◌++◌, Option, Some, None, slice_get, refl, sym, ap, subst, ◌∙◌, arith, option_map}
+use Rattle.units.specs.Lists.{first, head}
 use Rattle.units.specs.Ids.{Id, same_id}
 use Rattle.units.specs.Keys.{Bytes}
 use Rattle.units.specs.declared.line.Line.{Line}
@@ -27,7 +27,7 @@ chosen_txn c d = by_test (same_id d.txn c.txn) refl
     by_test true e = sym (same_id-is d.txn c.txn e)
     by_test false e = refl
 
-pub client_set : (w : World) (c : Client) (t : Id) → client_of (set_client c w) t ≡ mapped (λ d. cond (same_id d.txn c.txn) c d) (client_of w t)
+pub client_set : (w : World) (c : Client) (t : Id) → client_of (set_client c w) t ≡ option_map (λ d. cond (same_id d.txn c.txn) c d) (client_of w t)
 client_set w c t = find-map (λ (d : Client). d.txn) (λ (d : Client). d.txn) (λ d. cond (same_id d.txn c.txn) c d) (chosen_txn c) w.clients t
 
 -- a session that is not open keeps its closing
@@ -37,7 +37,7 @@ pub record KeepsClosing (splits : List Bytes) (old new : Client) : Type 0 where
 
 module _ (sc : Scene) (old new : Client) (there : client_of sc.world new.txn ≡ Some old) (keeps : is_past_open old.stage ≡ true → KeepsClosing sc.world.config.splits old new) where
   closed_stays : (t : Id) (messages : List Envelope) → ClosedOver sc.world t messages → ClosedOver (set_client new sc.world) t messages
-  closed_stays t messages h = by_test (same_id h.client.txn new.txn) refl (client_set sc.world new t ∙ ap (mapped (λ d. cond (same_id d.txn new.txn) new d)) h.there)
+  closed_stays t messages h = by_test (same_id h.client.txn new.txn) refl (client_set sc.world new t ∙ ap (option_map (λ d. cond (same_id d.txn new.txn) new d)) h.there)
     where
       by_test : (b : Bool) → same_id h.client.txn new.txn ≡ b → client_of (set_client new sc.world) t ≡ Some (cond b new h.client) → ClosedOver (set_client new sc.world) t messages
       by_test false e now_there = record { client = h.client; there = now_there; closed = h.closed; same = h.same }
@@ -65,12 +65,12 @@ module _ (sc : Scene) (old new : Client) (there : client_of sc.world new.txn ≡
   was_there : (t : Id) (c : Client) → client_of (set_client new sc.world) t ≡ Some c → (d : Client) × (client_of sc.world t ≡ Some d)
   was_there t c e = by_value (client_of sc.world t) refl (sym (client_set sc.world new t) ∙ e)
     where
-      by_value : (o : Option Client) → client_of sc.world t ≡ o → mapped (λ d. cond (same_id d.txn new.txn) new d) o ≡ Some c → (d : Client) × (client_of sc.world t ≡ Some d)
+      by_value : (o : Option Client) → client_of sc.world t ≡ o → option_map (λ d. cond (same_id d.txn new.txn) new d) o ≡ Some c → (d : Client) × (client_of sc.world t ≡ Some d)
       by_value None is k = absurd (cc)
       by_value (Some d) is k = (d, is)
 
   still_there : (t : Id) (d : Client) → client_of sc.world t ≡ Some d → (c : Client) × (client_of (set_client new sc.world) t ≡ Some c)
-  still_there t d e = (cond (same_id d.txn new.txn) new d, client_set sc.world new t ∙ ap (mapped (λ x. cond (same_id x.txn new.txn) new x)) e)
+  still_there t d e = (cond (same_id d.txn new.txn) new d, client_set sc.world new t ∙ ap (option_map (λ x. cond (same_id x.txn new.txn) new x)) e)
 
   pub client_holds : Holds sc → Holds (with_world sc (set_client new sc.world))
   client_holds h = record {
@@ -87,7 +87,7 @@ module _ (sc : Scene) (old new : Client) (there : client_of sc.world new.txn ≡
   pub set_there : client_of (set_client new sc.world) new.txn ≡ Some new
   set_there =
       let same : same_id old.txn new.txn ≡ true = found_is (λ (d : Client). d.txn) sc.world.clients new.txn old there in
-      client_set sc.world new new.txn ∙ ap (mapped (λ d. cond (same_id d.txn new.txn) new d)) there ∙ ap (λ b. Some (cond b new old)) same
+      client_set sc.world new new.txn ∙ ap (option_map (λ d. cond (same_id d.txn new.txn) new d)) there ∙ ap (λ b. Some (cond b new old)) same
 
 -- ---- a session begins
 

@@ -1,6 +1,5 @@
 -- What happens at a shard, crashes and failures with it, keeps something behind all that there is.
-use Rattle.std.proofs.Common.{◌≡◌, inl, inr, ℕ, Bool, true, false, cond, nat_eq, nat_lt, List, [], ◌∷◌, ◌++◌, Option, Some, None, slice_get, refl, sym, ap, subst, ◌∙◌, arith}
-use Rattle.units.specs.Lists.{listed}
+use Rattle.std.proofs.Common.{◌≡◌, inl, inr, ℕ, Bool, true, false, cond, nat_eq, nat_lt, List, [], ◌∷◌, ◌++◌, Option, Some, None, slice_get, refl, sym, ap, subst, ◌∙◌, arith, option_to_list}
 use Rattle.units.specs.declared.fault.Fault.{Fault}
 use Rattle.units.specs.declared.fault.Fault.TheVariants.{Stopped, Device}
 use Rattle.units.proofs.Folds.{append_none}
@@ -114,25 +113,25 @@ module _ (sc : Scene) (h : Holds sc) (steady : IsSteady sc.world) (present : sli
   -- ---- the shard after it
 
   -- a log that is read, with what was logged
-  pub logged_known : (logged : Option Record) → LoggedEvidence sc (read_log s) n logged → (r : Record) → IsAmong (read_log s ++ listed logged) r →
-      RecordEvidence sc (read_log s ++ listed logged) n r
-  logged_known logged rests r k = elim (among_cases (read_log s) (listed logged) r k) [
-    | inl old ↦ in_log (read_log s ++ listed logged) (λ q j. among_left (read_log s) (listed logged) q (read_within q j)) r (read_known r old)
+  pub logged_known : (logged : Option Record) → LoggedEvidence sc (read_log s) n logged → (r : Record) → IsAmong (read_log s ++ option_to_list logged) r →
+      RecordEvidence sc (read_log s ++ option_to_list logged) n r
+  logged_known logged rests r k = elim (among_cases (read_log s) (option_to_list logged) r k) [
+    | inl old ↦ in_log (read_log s ++ option_to_list logged) (λ q j. among_left (read_log s) (option_to_list logged) q (read_within q j)) r (read_known r old)
     | inr new ↦ by_record logged rests new
   ]
     where
-      by_record : (o : Option Record) → LoggedEvidence sc (read_log s) n o → IsAmong (listed o) r → RecordEvidence sc (read_log s ++ listed o) n r
+      by_record : (o : Option Record) → LoggedEvidence sc (read_log s) n o → IsAmong (option_to_list o) r → RecordEvidence sc (read_log s ++ option_to_list o) n r
       by_record None e j = absurd j
       by_record (Some q) e (inl same) = subst (λ x. RecordEvidence sc (read_log s ++ q ∷ []) n x) same
           (record_stays sc sc (grows_same sc) (read_log s) (read_log s ++ q ∷ []) (λ x i. among_left (read_log s) (q ∷ []) x i) n q e)
       by_record (Some q) e (inr none) = absurd none
 
-  with_listed : (logged : Option Record) → Within (with_record (read_log s) logged) (read_log s ++ listed logged)
+  with_listed : (logged : Option Record) → Within (with_record (read_log s) logged) (read_log s ++ option_to_list logged)
   with_listed None r k = among_left (read_log s) [] r k
   with_listed (Some q) r k = k
 
-  pub within_listed : (logged : Option Record) → Within s.log (read_log s ++ listed logged)
-  within_listed logged r k = among_left (read_log s) (listed logged) r (read_within r k)
+  pub within_listed : (logged : Option Record) → Within s.log (read_log s ++ option_to_list logged)
+  within_listed logged r k = among_left (read_log s) (option_to_list logged) r (read_within r k)
 
   finished_evidence : (doing : Doing) (logged : Option Record) (memory : Memory) (out : List Envelope) → DoesEvidence sc n (read_log s) logged memory out →
       ShardEvidence sc n (finished s doing logged memory)
@@ -140,7 +139,7 @@ module _ (sc : Scene) (h : Holds sc) (steady : IsSteady sc.world) (present : sli
   finished_evidence doing logged memory out e = record {
     records = logged_known logged e.rests;
     unsure = λ r none. absurd none;
-    state = (rows_stay sc sc (grows_same sc) (with_record (read_log s) logged) (read_log s ++ listed logged) (with_listed logged) n memory.rows e.rows, refl);
+    state = (rows_stay sc sc (grows_same sc) (with_record (read_log s) logged) (read_log s ++ option_to_list logged) (with_listed logged) n memory.rows e.rows, refl);
   }
 
   crashed_evidence : (log : List Record) → ((r : Record) → IsAmong log r → RecordEvidence sc log n r) → ShardEvidence sc n (crashed s log)
@@ -169,11 +168,11 @@ module _ (sc : Scene) (h : Holds sc) (steady : IsSteady sc.world) (present : sli
   finish_holds doing logged memory out e =
       let new : ShardNow = finished s doing logged memory in
       let sc2 = with_world sc (set_shard n new sc.world) in
-      let log_is : log_at sc2.world n ≡ read_log s ++ listed logged = log_after sc n s new there (within_listed logged) in
+      let log_is : log_at sc2.world n ≡ read_log s ++ option_to_list logged = log_after sc n s new there (within_listed logged) in
       put_out_holds sc2 out present
       (all_gives (λ (x : Envelope). Told (with_record (read_log s) logged) sc.now n x.to x.message) (λ (x : Envelope). MessageEvidence sc2 x.to x.message)
       (λ x told. told_backed sc2 n x.to x.message (subst (λ l. Told l sc.now n x.to x.message) (sym log_is)
-      (told_stays (with_record (read_log s) logged) (read_log s ++ listed logged) (with_listed logged) sc.now sc.now n (omega arith) x.to x.message told)))
+      (told_stays (with_record (read_log s) logged) (read_log s ++ option_to_list logged) (with_listed logged) sc.now sc.now n (omega arith) x.to x.message told)))
       out e.told)
       (set_holds sc n s new there (within_listed logged) (finished_evidence doing logged memory out e) h)
 

@@ -1,8 +1,8 @@
 -- What each step of a shard keeps and each opening brings back holds at every moment of a run, and so each log follows.
 use Rattle.std.proofs.Common.{◌≡◌, ◌≤◌, ◌^◌, ◌-◌, nat_le, inl, inr, ℕ, suc, ◌+◌, Bool, true, false, cond, nat_eq, nat_lt, List, [], ◌∷◌, ◌++◌, length, Option, Some, None, slice_get, refl, sym, ap, subst, ◌∙◌}
-use Rattle.std.specs.Prelude.{Ok, Err}
+use Rattle.std.specs.Prelude.{Ok, Err, option_to_list, option_map}
 use Rattle.std.proofs.lemmas.Bool.{cases_eq}
-use Rattle.units.specs.Lists.{listed, mapped, replaced}
+use Rattle.units.specs.Lists.{replaced}
 use Rattle.units.specs.declared.fault.Fault.{Fault}
 use Rattle.units.specs.declared.fault.Fault.TheVariants.{Stopped, Stranger, Device, TimeSpent}
 use Rattle.units.specs.declared.setup.Setup.{Setup}
@@ -140,7 +140,7 @@ module _ (Sound : Setup → Facts → Memory → Type 0) (Good : Setup → List 
         some_is : (a b : Interval × Input) → ◌≡◌ {A = Option (Interval × Input)} (Some a) (Some b) → a ≡ b
         some_is a b k = cc
 
-    take_limit : (now : Interval) (o : Option Envelope) (p : Interval × Input) → mapped (λ (e : Envelope). (now, Input.Deliver e.message)) o ≡ Some p → Unit {0} → IsInLimit p.1
+    take_limit : (now : Interval) (o : Option Envelope) (p : Interval × Input) → option_map (λ (e : Envelope). (now, Input.Deliver e.message)) o ≡ Some p → Unit {0} → IsInLimit p.1
     take_limit now None p same u = cc
     take_limit now (Some e) p same u = limit_is (Input.Deliver e.message) now (Unit {0}) (λ v. tt) p same u
 
@@ -183,7 +183,7 @@ module _ (Sound : Setup → Facts → Memory → Type 0) (Good : Setup → List 
         by_unsure (Shown r) is = by_gate r (subst (λ u. IsUnsure u r) (sym is) refl) (opens_gate fate)
         by_unsure (Hidden r) is = by_gate r (subst (λ u. IsUnsure u r) (sym is) refl) (opens_gate fate)
 
-    with_listed : (o : Option Record) → with_record (read_log s) o ≡ read_log s ++ listed o
+    with_listed : (o : Option Record) → with_record (read_log s) o ≡ read_log s ++ option_to_list o
     with_listed None = sym (append_none (read_log s))
     with_listed (Some r) = refl
 

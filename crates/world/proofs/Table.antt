@@ -1,9 +1,9 @@
 -- Each input in each standing is planned with evidence. The table is gone through once, here.
 use Rattle.std.proofs.Common.{◌≡◌, ◌⊎◌, inl, inr, ℕ, ◌+◌, ◌<◌, ◌≤◌, max, min, nat_eq, nat_lt, Bool, true, false, cond, ◌&&◌, ◌||◌, List, [], ◌∷◌, ◌++◌, Option, Some, None, refl, sym, ap, subst, map, arith}
 use Rattle.std.specs.Prelude.{Ok, Err}
-use Rattle.std.specs.List.{AllByRecursion}
+use Rattle.std.specs.List.{AllByRecursion, list_any}
 use Rattle.std.proofs.lemmas.Bool.{eqb-true, ltb-true}
-use Rattle.units.specs.Lists.{any, has, greatest}
+use Rattle.units.specs.Lists.{has, greatest}
 use Rattle.units.specs.Ids.{Id}
 use Rattle.units.specs.Keys.{Bytes}
 use Rattle.units.specs.Locks.{exclusive}
@@ -29,14 +29,14 @@ both true b e = (refl, e)
 both false b e = cc
 
 -- one of the shards that each voted
-voted_among : (ns : List ℕ) (votes : List Voted) (m : ℕ) → all_voted ns votes ≡ true → has ns m ≡ true → any (λ v. nat_eq v.shard m) votes ≡ true
+voted_among : (ns : List ℕ) (votes : List Voted) (m : ℕ) → all_voted ns votes ≡ true → has ns m ≡ true → list_any (λ v. nat_eq v.shard m) votes ≡ true
 voted_among [] votes m e h = cc
 voted_among (n ∷ ns) votes m e h = by_test (nat_eq m n) refl h (λ k. voted_among ns votes m (both _ _ e).1 k)
   where
-    here : nat_eq m n ≡ true → any (λ v. nat_eq v.shard m) votes ≡ true
-    here k = subst (λ j. any (λ v. nat_eq v.shard j) votes ≡ true) (sym (eqb-true m n k)) (both _ _ e).0
+    here : nat_eq m n ≡ true → list_any (λ v. nat_eq v.shard m) votes ≡ true
+    here k = subst (λ j. list_any (λ v. nat_eq v.shard j) votes ≡ true) (sym (eqb-true m n k)) (both _ _ e).0
 
-    by_test : (b : Bool) → nat_eq m n ≡ b → (b || has ns m) ≡ true → (has ns m ≡ true → any (λ v. nat_eq v.shard m) votes ≡ true) → any (λ v. nat_eq v.shard m) votes ≡ true
+    by_test : (b : Bool) → nat_eq m n ≡ b → (b || has ns m) ≡ true → (has ns m ≡ true → list_any (λ v. nat_eq v.shard m) votes ≡ true) → list_any (λ v. nat_eq v.shard m) votes ≡ true
     by_test true k l rest = here k
     by_test false k l rest = rest l
 
@@ -218,7 +218,7 @@ module _ (sc : Scene) (log : List Record) (b : Before) where
 
   one_more : (t : Id) (n p : ℕ) (votes : List Voted) → VotedYes sc.world b.shard t (record { shard = n; at = p }) → AllByRecursion (VotedYes sc.world b.shard t) votes →
       AllByRecursion (VotedYes sc.world b.shard t) (with_vote n p votes)
-  one_more t n p votes new old = by_test (any (λ v. nat_eq v.shard n) votes)
+  one_more t n p votes new old = by_test (list_any (λ v. nat_eq v.shard n) votes)
     where
       by_test : (c : Bool) → AllByRecursion (VotedYes sc.world b.shard t) (cond c votes (votes ++ record { shard = n; at = p } ∷ []))
       by_test true = old

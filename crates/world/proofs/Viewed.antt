@@ -1,11 +1,11 @@
 -- The views of a running shard stay what they are, since no version is ever taken back.
-use Rattle.std.proofs.Common.{◌≡◌, ◌≤◌, ◌+◌, ℕ, Bool, true, false, cond, ◌&&◌, nat_eq, List, [], ◌∷◌, ◌++◌, length, map, take, slice_get, option_map, Option, Some, None, Result, Ok, Err, refl, sym, ap, ◌∙◌, subst, arith}
+use Rattle.std.specs.List.{list_all}
+use Rattle.std.proofs.Common.{◌≡◌, ◌≤◌, ◌+◌, ℕ, Bool, true, false, cond, ◌&&◌, nat_eq, List, [], ◌∷◌, ◌++◌, length, map, take, slice_get, option_map, Option, Some, None, Result, Ok, Err, refl, sym, ap, ◌∙◌, subst, arith, option_to_list}
 use Rattle.std.proofs.lemmas.Bool.Decides.{nat_tests}
 use Rattle.std.proofs.lemmas.List.{length-append, take-append-le, take_all, map-append}
 use Rattle.std.proofs.lemmas.Option.{slice_get-map}
 use Rattle.units.specs.Keys.{Bytes, shard_of}
 use Rattle.units.specs.declared.fault.Fault.TheVariants.{Stranger}
-use Rattle.units.specs.Lists.{each, listed}
 use Rattle.units.specs.declared.fault.Fault.{Fault}
 use Rattle.units.specs.declared.setup.Setup.{Setup}
 use Rattle.units.specs.declared.writes.Install.{Install}
@@ -37,17 +37,17 @@ counted is v h = grind (arith, nat_tests)
 is_counted : (is : List Install) (v : CodeView) → v.count ≤ length is → is_within is v ≡ true
 is_counted is v h = grind (arith, nat_tests)
 
-still_within : (is more : List Install) (vs : List CodeView) → each (is_within is) vs ≡ true → each (is_within (is ++ more)) vs ≡ true
+still_within : (is more : List Install) (vs : List CodeView) → list_all (is_within is) vs ≡ true → list_all (is_within (is ++ more)) vs ≡ true
 still_within is more [] h = refl
 still_within is more (v ∷ vs) h =
-    let p : (is_within is v ≡ true) × (each (is_within is) vs ≡ true) = both _ _ h in
+    let p : (is_within is v ≡ true) × (list_all (is_within is) vs ≡ true) = both _ _ h in
     let here : is_within (is ++ more) v ≡ true = is_counted (is ++ more) v (omega (arith, counted is v p.0, length-append is more)) in
-    ap (λ b. b && each (is_within (is ++ more)) vs) here ∙ still_within is more vs p.1
+    ap (λ b. b && list_all (is_within (is ++ more)) vs) here ∙ still_within is more vs p.1
 
-still_shown : (is more : List Install) (vs : List CodeView) → each (is_within is) vs ≡ true → map (shown_view (is ++ more)) vs ≡ map (shown_view is) vs
+still_shown : (is more : List Install) (vs : List CodeView) → list_all (is_within is) vs ≡ true → map (shown_view (is ++ more)) vs ≡ map (shown_view is) vs
 still_shown is more [] h = refl
 still_shown is more (v ∷ vs) h =
-    let p : (is_within is v ≡ true) × (each (is_within is) vs ≡ true) = both _ _ h in
+    let p : (is_within is v ≡ true) × (list_all (is_within is) vs ≡ true) = both _ _ h in
     let front : take v.count (is ++ more) ≡ take v.count is = take-append-le v.count is more (counted is v p.0) in
     let rest : map (shown_view (is ++ more)) vs ≡ map (shown_view is) vs = still_shown is more vs p.1 in
     λ i. record { installs = front i; safe = v.safe } ∷ rest i
@@ -63,17 +63,17 @@ added facts (Some (Record.Commit c)) = ([], sym (append_none facts.installs))
 added facts (Some (Record.Abort t)) = ([], sym (append_none facts.installs))
 added facts (Some (Record.Outcome t outcome)) = (installs_at (recorded facts t) outcome, refl)
 
-pub shown_after : (facts : Facts) (logged : Option Record) (vs : List CodeView) → each (is_within facts.installs) vs ≡ true
+pub shown_after : (facts : Facts) (logged : Option Record) (vs : List CodeView) → list_all (is_within facts.installs) vs ≡ true
     → map (shown_view (facts_after facts logged).installs) vs ≡ map (shown_view facts.installs) vs
 shown_after facts logged vs h =
     let p = added facts logged in
     ap (λ is. map (shown_view is) vs) p.1 ∙ still_shown facts.installs p.0 vs h
 
-pub within_after : (facts : Facts) (logged : Option Record) (vs : List CodeView) → each (is_within facts.installs) vs ≡ true
-    → each (is_within (facts_after facts logged).installs) vs ≡ true
+pub within_after : (facts : Facts) (logged : Option Record) (vs : List CodeView) → list_all (is_within facts.installs) vs ≡ true
+    → list_all (is_within (facts_after facts logged).installs) vs ≡ true
 within_after facts logged vs h =
     let p = added facts logged in
-    ap (λ is. each (is_within is) vs) p.1 ∙ still_within facts.installs p.0 vs h
+    ap (λ is. list_all (is_within is) vs) p.1 ∙ still_within facts.installs p.0 vs h
 
 -- ---- a view that is made
 
@@ -90,18 +90,18 @@ shown_now is n at same =
     let all : take (length is) is ≡ is = take_all (length is) is (omega arith) in
     λ i. record { installs = all i; safe = same i }
 
-within_more : (is : List Install) (vs ws : List CodeView) → each (is_within is) vs ≡ true → each (is_within is) ws ≡ true → each (is_within is) (vs ++ ws) ≡ true
+within_more : (is : List Install) (vs ws : List CodeView) → list_all (is_within is) vs ≡ true → list_all (is_within is) ws ≡ true → list_all (is_within is) (vs ++ ws) ≡ true
 within_more is [] ws h k = k
 within_more is (v ∷ vs) ws h k =
-    let p : (is_within is v ≡ true) × (each (is_within is) vs ≡ true) = both _ _ h in
-    ap (λ b. b && each (is_within is) (vs ++ ws)) p.0 ∙ within_more is vs ws p.1 k
+    let p : (is_within is v ≡ true) × (list_all (is_within is) vs ≡ true) = both _ _ h in
+    ap (λ b. b && list_all (is_within is) (vs ++ ws)) p.0 ∙ within_more is vs ws p.1 k
 
 same_memory : (m n : Memory) → Runs m ≡ Runs n → m ≡ n
 same_memory m n e = ap (λ st. elim st as (λ x. Memory) [ Runs k ↦ k | _ ↦ m ]) e
 
 -- the same shard with the view that a doing makes
 module _ (setup : Setup) (used : ℕ) (bag : List Envelope) (s : ShardNow) (doing : Doing) (mid : Running) where
-  made_within : (made : Bool) → each (is_within (seen mid.core).facts.installs) (views_made made mid) ≡ true
+  made_within : (made : Bool) → list_all (is_within (seen mid.core).facts.installs) (views_made made mid) ≡ true
   made_within true = ap (λ b. b && true) (is_counted (seen mid.core).facts.installs (view_now mid) (omega arith))
   made_within false = refl
 
@@ -117,21 +117,21 @@ module _ (setup : Setup) (used : ℕ) (bag : List Envelope) (s : ShardNow) (doin
   unfolding finished
   runs new same put sure logged memory k =
       let log : read_log s ≡ s.log = ap (λ u. s.log ++ shown u) sure ∙ append_none s.log in
-      let facts : (seen mid.core).facts ≡ facts_of (read_log s ++ listed logged) = k.facts ∙ ap (λ l. facts_of (l ++ listed logged)) (sym log) in
+      let facts : (seen mid.core).facts ≡ facts_of (read_log s ++ option_to_list logged) = k.facts ∙ ap (λ l. facts_of (l ++ option_to_list logged)) (sym log) in
       let memory_is : (seen mid.core).memory ≡ memory = sym (same_memory memory (seen mid.core).memory k.state) in
       let gate : (seen new.core).gate ≡ (seen mid.core).gate = λ i. (seen (same i)).gate in
       record {
         setup_is = (λ i. (seen (same i)).setup) ∙ k.setup_is;
         up = (λ i. (seen (same i)).stopped) ∙ k.up;
         never = (λ i. disk_plan (seen (same i)).disk) ∙ k.never;
-        read = (λ i. records_in (surface (disk_file (seen (same i)).disk)).seen) ∙ k.read ∙ ap (λ l. Ok (l ++ listed logged)) (sym log);
+        read = (λ i. records_in (surface (disk_file (seen (same i)).disk)).seen) ∙ k.read ∙ ap (λ l. Ok (l ++ option_to_list logged)) (sym log);
         facts = (λ i. (seen (same i)).facts) ∙ facts;
         sure = refl;
         state = k.state ∙ (λ i. Runs (seen (sym same i)).memory);
         views = (λ i. map (shown_view (seen (same i)).facts.installs) (put i))
             ∙ map-append (shown_view (seen mid.core).facts.installs) mid.views.items (views_made (makes_view doing) mid)
-            ∙ (λ i. k.views i ++ made_shown (read_log s ++ listed logged) memory facts memory_is (makes_view doing) i);
-        within = (λ i. each (is_within (seen (same i)).facts.installs) (put i))
+            ∙ (λ i. k.views i ++ made_shown (read_log s ++ option_to_list logged) memory facts memory_is (makes_view doing) i);
+        within = (λ i. list_all (is_within (seen (same i)).facts.installs) (put i))
             ∙ within_more (seen mid.core).facts.installs mid.views.items (views_made (makes_view doing) mid) k.within (made_within (makes_view doing));
         room = omega (arith, gate, k.room);
       }
@@ -155,7 +155,7 @@ same_running setup used s old new same views h =
       sure = h.sure;
       state = h.state ∙ (λ i. Runs (seen (sym same i)).memory);
       views = (λ i. map (shown_view (seen (same i)).facts.installs) (views i)) ∙ h.views;
-      within = (λ i. each (is_within (seen (same i)).facts.installs) (views i)) ∙ h.within;
+      within = (λ i. list_all (is_within (seen (same i)).facts.installs) (views i)) ∙ h.within;
       room = omega (arith, gate, h.room);
     }
 
@@ -188,7 +188,7 @@ one_shown r log memory facts same views =
     let now = shown_now (seen r.core).facts.installs (safe_at (seen r.core)) (safe memory) (ap safe same) in
     ap (map (shown_view (seen r.core).facts.installs)) views ∙ ap (λ v. v ∷ []) (now ∙ (λ i. record { installs = (facts i).installs; safe = safe memory }))
 
-pub one_within : (r : Running) → r.views.items ≡ view_now r ∷ [] → each (is_within (seen r.core).facts.installs) r.views.items ≡ true
+pub one_within : (r : Running) → r.views.items ≡ view_now r ∷ [] → list_all (is_within (seen r.core).facts.installs) r.views.items ≡ true
 one_within r views =
-    ap (each (is_within (seen r.core).facts.installs)) views
+    ap (list_all (is_within (seen r.core).facts.installs)) views
     ∙ ap (λ b. b && true) (is_counted (seen r.core).facts.installs (view_now r) (omega arith))

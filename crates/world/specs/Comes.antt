@@ -1,7 +1,6 @@
 -- How a run in the code stands for a world of the definitions, and what its parts answer.
-use Rattle.std.specs.Prelude.{ℕ, ◌≡◌, ◌≢◌, ◌⊎◌, ◌+◌, true, false, List, ◌++◌, Option, None, Result, Ok, Err}
+use Rattle.std.specs.Prelude.{ℕ, ◌≡◌, ◌≢◌, ◌⊎◌, ◌+◌, true, false, List, ◌++◌, Option, None, Result, Ok, Err, option_to_list}
 use Rattle.units.specs.Keys.{Bytes}
-use Rattle.units.specs.Lists.{listed}
 use Rattle.units.specs.declared.fault.Fault.{Fault}
 use Rattle.units.specs.declared.fault.Fault.TheVariants.{Memory, BadRequest}
 use Rattle.units.specs.declared.fault.Reason.TheVariants.{Unlawful}
@@ -40,7 +39,7 @@ HasReplied w answer new (Err fault) = fault ≡ Memory
 
 -- with a line more, where there is one
 abbrev pub with_line : Option Line → World → World
-with_line line w = record w { lines = w.lines ++ listed line }
+with_line line w = record w { lines = w.lines ++ option_to_list line }
 
 -- a line is written, or a refusal is the reply
 abbrev pub HasHeard : World → Result (Option Line) Fault → Past → Result Reply Fault → Type 0

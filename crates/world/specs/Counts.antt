@@ -1,7 +1,8 @@
 -- Whether a transaction is in the history of some logs, log by log.
+use Rattle.std.specs.List.{list_any}
 use Rattle.std.specs.Prelude.{ℕ, suc, Bool, false, ◌&&◌, ◌||◌, nat_eq, List, [], ◌∷◌}
 use Rattle.units.specs.Ids.{Id, same_id}
-use Rattle.units.specs.Lists.{any, head, when}
+use Rattle.units.specs.Lists.{head, when}
 use Rattle.record.specs.Records.{as_committed}
 use Rattle.record.specs.declared.record.Record.{Record}
 
@@ -11,7 +12,7 @@ commits_at t n r = when (λ c. same_id c.txn t && when (nat_eq n) (head c.parts)
 
 -- a record of the log of a shard is
 abbrev pub commits_here : Id → ℕ → List Record → Bool
-commits_here t n log = any (commits_at t n) log
+commits_here t n log = list_any (commits_at t n) log
 
 -- a log does, from the shard of one number on
 abbrev pub is_decided : Id → ℕ → List (List Record) → Bool

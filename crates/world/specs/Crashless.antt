@@ -1,6 +1,6 @@
 -- Events without a crash, a call that fails or an opening.
+use Rattle.std.specs.List.{list_all}
 use Rattle.std.specs.Prelude.{Bool, true, false, List}
-use Rattle.units.specs.Lists.{each}
 use Rattle.world.specs.declared.event.Act.{Act}
 use Rattle.world.specs.declared.event.Doing.{Doing}
 use Rattle.world.specs.declared.event.Event.{Event}
@@ -20,4 +20,4 @@ is_crashless _ = true
 
 -- so is each event
 abbrev pub are_crashless : List Event → Bool
-are_crashless events = each (λ e. is_crashless e.act) events
+are_crashless events = list_all (λ e. is_crashless e.act) events

@@ -1,6 +1,5 @@
 -- How a session in the code stands for one of the definitions, and how a step of it does for a step there.
-use Rattle.std.specs.Prelude.{◌≡◌, ◌⊎◌, List, Option, Result, Ok, Err}
-use Rattle.units.specs.Lists.{listed}
+use Rattle.std.specs.Prelude.{◌≡◌, ◌⊎◌, List, Option, Result, Ok, Err, option_to_list}
 use Rattle.units.specs.Keys.{Bytes}
 use Rattle.units.specs.declared.fault.Fault.{Fault}
 use Rattle.units.specs.declared.fault.Fault.TheVariants.{Memory, Stranger}
@@ -49,5 +48,5 @@ Moves splits m new c (Err fault) = (fault ≡ Memory) ⊎ ((m ≡ Denies fault) 
 -- an answer is heard by an open session, and refused by any other; or memory was refused
 abbrev pub Hears : List Bytes → ReadAnswer → Begun → Client → Result (Option Line) Fault → Type 0
 Hears splits a new c (Ok line) =
-    (d : Client) × (c.stage ≡ IsOpen) × (d ≡ hears a.from a.key a.epoch a.answer c) × (listed line ≡ read_lines c d a.key a.answer) × IsBegun splits new d
+    (d : Client) × (c.stage ≡ IsOpen) × (d ≡ hears a.from a.key a.epoch a.answer c) × (option_to_list line ≡ read_lines c d a.key a.answer) × IsBegun splits new d
 Hears splits a new c (Err fault) = (fault ≡ Memory) ⊎ ((fault ≡ Stranger) × (when_open finishes c ≡ Denies Stranger) × IsBegun splits new c)

@@ -1,6 +1,6 @@
 -- How the sessions of a run in the code stand for those of the definitions.
-use Rattle.std.specs.Prelude.{◌≡◌, ◌⊎◌, Bool, true, not, ◌&&◌, cond, List, [], ◌∷◌, map, Option, Some, None, Result, Ok, Err}
-use Rattle.units.specs.Lists.{any, listed}
+use Rattle.std.specs.List.{list_any}
+use Rattle.std.specs.Prelude.{◌≡◌, ◌⊎◌, Bool, true, not, ◌&&◌, cond, List, [], ◌∷◌, map, Option, Some, None, Result, Ok, Err, option_to_list}
 use Rattle.units.specs.Ids.{same_id}
 use Rattle.units.specs.Keys.{Bytes}
 use Rattle.units.specs.declared.fault.Fault.{Fault}
@@ -23,12 +23,12 @@ AreBegun splits _ _ = ⊥
 -- no id has two sessions
 abbrev pub are_once : List Client → Bool
 are_once [] = true
-are_once (c ∷ cs) = not (any (λ d. same_id d.txn c.txn) cs) && are_once cs
+are_once (c ∷ cs) = not (list_any (λ d. same_id d.txn c.txn) cs) && are_once cs
 
 -- nor has one in the code
 abbrev pub are_apart : List Begun → Bool
 are_apart [] = true
-are_apart (b ∷ bs) = not (any (λ d. same_id d.txn b.txn) bs) && are_apart bs
+are_apart (b ∷ bs) = not (list_any (λ d. same_id d.txn b.txn) bs) && are_apart bs
 
 -- the sessions of a run
 pub record Hosts (splits : List Bytes) (s : Sessions) (cs : List Client) : Type 0 where
@@ -54,5 +54,5 @@ MovesIn splits m new cs (Err fault) = (fault ≡ Memory) ⊎ ((m ≡ Denies faul
 abbrev pub HearsIn : List Bytes → ReadAnswer → Sessions → List Client → Option Client → Result (Option Line) Fault → Type 0
 HearsIn splits a new cs o (Ok line) =
     (c : Client) × (o ≡ Some c) × (c.stage ≡ IsOpen)
-    × ((d : Client) × (d ≡ hears a.from a.key a.epoch a.answer c) × (listed line ≡ read_lines c d a.key a.answer) × Hosts splits new (with_client d cs))
+    × ((d : Client) × (d ≡ hears a.from a.key a.epoch a.answer c) × (option_to_list line ≡ read_lines c d a.key a.answer) × Hosts splits new (with_client d cs))
 HearsIn splits a new cs o (Err fault) = (fault ≡ Memory) ⊎ ((fault ≡ Stranger) × (step_of (when_open finishes) o ≡ Denies Stranger) × Hosts splits new cs)

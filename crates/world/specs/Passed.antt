@@ -1,6 +1,5 @@
 -- How what a run in the code has put out stands for that of the definitions.
-use Rattle.std.specs.Prelude.{◌≡◌}
-use Rattle.units.specs.Lists.{join}
+use Rattle.std.specs.Prelude.{◌≡◌, flat_map}
 use Rattle.world.specs.Told.{told_in}
 use Rattle.world.specs.World.{World}
 use Rattle.world.specs.declared.past.Past.{Past}
@@ -8,6 +7,6 @@ use Rattle.world.specs.declared.past.Past.{Past}
 -- the same messages, lines and number; what was told is read off the messages
 pub record IsPast (p : Past) (w : World) : Type 0 where
   pub bag : p.bag ≡ w.bag
-  pub told : p.told.items ≡ join told_in w.bag
+  pub told : p.told.items ≡ flat_map told_in w.bag
   pub lines : p.lines.items ≡ w.lines
   pub event : p.event ≡ w.event

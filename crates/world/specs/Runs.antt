@@ -1,9 +1,9 @@
 -- How a running shard in the code stands for one of the definitions.
-use Rattle.std.specs.Prelude.{◌≡◌, ◌⊎◌, ℕ, ◌+◌, ◌*◌, ◌^◌, ◌≤◌, ◌<◌, Bool, true, false, IsTrue, nat_le, List, [], ◌∷◌, ◌++◌, length, map, take, Option, Some, Result, Ok, Err}
+use Rattle.std.specs.List.{list_all}
+use Rattle.std.specs.Prelude.{◌≡◌, ◌⊎◌, ℕ, ◌+◌, ◌*◌, ◌^◌, ◌≤◌, ◌<◌, Bool, true, false, IsTrue, nat_le, List, [], ◌∷◌, ◌++◌, length, map, take, Option, Some, Result, Ok, Err, option_to_list}
 use Rattle.units.specs.declared.fault.Fault.{Fault}
 use Rattle.units.specs.declared.fault.Fault.TheVariants.{Memory}
 use Rattle.units.specs.declared.setup.Setup.{Setup}
-use Rattle.units.specs.Lists.{each, listed}
 use Rattle.units.specs.declared.writes.Install.{Install}
 use Rattle.disk.specs.File.{surface}
 use Rattle.disk.specs.declared.plan.Plan.{Plan}
@@ -43,12 +43,12 @@ pub record IsRunning (setup : Setup) (used : ℕ) (r : Running) (s : ShardNow) :
   pub sure : s.unsure ≡ Nothing
   pub state : s.state ≡ Runs (seen r.core).memory
   pub views : map (shown_view (seen r.core).facts.installs) r.views.items ≡ s.views
-  pub within : each (is_within (seen r.core).facts.installs) r.views.items ≡ true
+  pub within : list_all (is_within (seen r.core).facts.installs) r.views.items ≡ true
   pub room : (seen r.core).gate ≤ reach used
 
 -- a shard after a doing but for the view that it makes
 abbrev pub stepped : ShardNow → Option Record → Kept → ShardNow
-stepped s logged memory = record { log = s.log ++ listed logged; unsure = Nothing; state = Runs memory; views = s.views }
+stepped s logged memory = record { log = s.log ++ option_to_list logged; unsure = Nothing; state = Runs memory; views = s.views }
 
 -- each record that a doing logs follows those before it
 abbrev pub Follows : Setup → List Envelope → ShardNow → Doing → Type 0

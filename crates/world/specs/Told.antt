@@ -1,6 +1,6 @@
 -- Acknowledgements, from the transactions whose commit was told before and the number of the event.
-use Rattle.std.specs.Prelude.{ℕ, Bool, cond, List, [], ◌∷◌, Option, Some, None}
-use Rattle.units.specs.Lists.{any, listed, mapped}
+use Rattle.std.specs.List.{list_any}
+use Rattle.std.specs.Prelude.{ℕ, Bool, cond, List, [], ◌∷◌, Option, Some, None, option_to_list, option_map}
 use Rattle.units.specs.Ids.{Id, same_id}
 use Rattle.units.specs.declared.line.Line.{Line}
 use Rattle.message.specs.declared.message.Envelope.{Envelope}
@@ -8,11 +8,11 @@ use Rattle.message.specs.declared.message.Message.{Message}
 
 -- the transaction whose commit a message tells to its session
 abbrev pub told_in : Envelope → List Id
-told_in e = elim e.message [ Message.Done d ↦ listed (mapped (λ s. d.txn) d.outcome) | _ ↦ [] ]
+told_in e = elim e.message [ Message.Done d ↦ option_to_list (option_map (λ s. d.txn) d.outcome) | _ ↦ [] ]
 
 -- a session was told that it committed
 abbrev pub was_told : List Id → Id → Bool
-was_told told t = any (λ u. same_id u t) told
+was_told told t = list_any (λ u. same_id u t) told
 
 -- the acknowledgement of an end
 abbrev pub ack_by : List Id → ℕ → Id → Option ℕ → List Line

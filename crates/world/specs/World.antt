@@ -1,7 +1,8 @@
 -- The world: sessions, shards, every message ever put out, and the lines of the report. An event changes it by a step of a
 -- session, by a step of a shard, by a crash or by an opening.
-use Rattle.std.specs.Prelude.{ℕ, suc, ◌+◌, Bool, true, false, not, cond, ◌&&◌, ◌||◌, nat_eq, nat_lt, nat_le, List, [], ◌∷◌, ◌++◌, length, map, replicate, slice_get, Option, Some, None}
-use Rattle.units.specs.Lists.{any, keep, first, join, mapped, listed, replaced, when}
+use Rattle.std.specs.List.{list_any}
+use Rattle.std.specs.Prelude.{ℕ, suc, ◌+◌, Bool, true, false, not, cond, ◌&&◌, ◌||◌, nat_eq, nat_lt, nat_le, List, [], ◌∷◌, ◌++◌, length, map, replicate, slice_get, Option, Some, None, filter, flat_map, option_map, option_to_list}
+use Rattle.units.specs.Lists.{first, replaced, when}
 use Rattle.units.specs.Ids.{Id, same_id}
 use Rattle.units.specs.Keys.{Bytes, shard_of}
 use Rattle.units.specs.Versions.{at_time}
@@ -94,7 +95,7 @@ opening facts =
 
 -- the input of a doing, with its reading; the message is the one of that number
 abbrev pub input_of : List Envelope → Doing → Option (Interval × Input)
-input_of bag (Doing.Take m now) = mapped (λ e. (now, Input.Deliver e.message)) (slice_get bag m)
+input_of bag (Doing.Take m now) = option_map (λ e. (now, Input.Deliver e.message)) (slice_get bag m)
 input_of bag (Doing.Resume now) = Some (now, Input.Resume)
 input_of bag (Doing.Settle t now) = Some (now, Input.Settle t)
 input_of bag (Doing.Advance at now) = Some (now, Input.Advance at)
@@ -125,7 +126,7 @@ new_view doing log memory = cond (makes_view doing) (view_of (facts_of log) memo
 -- a doing that is done: its record is on the disk. An opening keeps what a read gave it
 unfoldable pub finished : ShardNow → Doing → Option Record → Memory → ShardNow
 finished s doing logged memory =
-    let log : List Record = read_log s ++ listed logged in
+    let log : List Record = read_log s ++ option_to_list logged in
     record { log = log; unsure = Nothing; state = Runs memory; views = s.views ++ new_view doing log memory }
 
 -- an append makes four device calls: it writes the frame behind the closed gate, syncs, opens the gate, syncs. A change
@@ -197,7 +198,7 @@ commit_told t e = elim e.message [ Message.Done d ↦ cond (same_id d.txn t) d.o
 -- the acknowledgement that a commit told to a session is: the first that tells it so
 abbrev pub ack_of : World → Id → Option ℕ → List Line
 ack_of w t None = []
-ack_of w t (Some s) = cond (any (λ e. when (λ x. true) (commit_told t e)) w.bag) [] (Line.Ack t s w.event ∷ [])
+ack_of w t (Some s) = cond (list_any (λ e. when (λ x. true) (commit_told t e)) w.bag) [] (Line.Ack t s w.event ∷ [])
 
 -- the acknowledgements among new messages
 abbrev pub acks_of : World → Envelope → List Line
@@ -205,7 +206,7 @@ acks_of w e = elim e.message [ Message.Done d ↦ ack_of w d.txn d.outcome | _ �
 
 -- messages are put out
 unfoldable pub put_out : List Envelope → World → World
-put_out out w = record w { bag = w.bag ++ out; lines = w.lines ++ join (acks_of w) out }
+put_out out w = record w { bag = w.bag ++ out; lines = w.lines ++ flat_map (acks_of w) out }
 
 -- a line is written
 abbrev pub note : Line → World → World
@@ -389,4 +390,4 @@ line_counts h _ = true
 
 -- the lines that count
 unfoldable pub counted_lines : List (List Record) → List Line → List Line
-counted_lines logs lines = keep (line_counts (history logs)) lines
+counted_lines logs lines = filter (line_counts (history logs)) lines

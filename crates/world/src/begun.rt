@@ -1,9 +1,8 @@
 //! A session that has begun.
-ghost use Rattle.std.specs.Prelude.{◌≡◌, [], ◌∷◌, List, true, IfOk, IfErr, OnOk};
+ghost use Rattle.std.specs.Prelude.{◌≡◌, [], ◌∷◌, List, true, IfOk, IfErr, OnOk, option_to_list};
 ghost use Rattle.units.specs.Ids.{same_id};
 ghost use Rattle.units.specs.Keys.{Bytes};
 ghost use Rattle.session.specs.Sessions.{Client, begun, reads, buffers, closes, gives_up, hears};
-ghost use Rattle.units.specs.Lists.{listed};
 ghost use Rattle.world.specs.World.{read_lines};
 ghost use Rattle.world.specs.Held.{IsBegun, Moves, Hears, Steps, when_open, when_not_over, when_closing};
 
@@ -241,7 +240,7 @@ fn take_answer(
     requires { same_id txn answer.now.txn ≡ true }
     ensures splits { tx.new.splits ≡ tx.old.splits }
     ensures client { OnOk result (tx.new.client ≡ hears answer.now.from answer.now.key answer.now.epoch answer.now.answer tx.old.client) }
-    ensures line { tx.old.client.txn ≡ txn → IfOk result (λ line. listed line ≡ read_lines tx.old.client tx.new.client answer.now.key answer.now.answer) }
+    ensures line { tx.old.client.txn ≡ txn → IfOk result (λ line. option_to_list line ≡ read_lines tx.old.client tx.new.client answer.now.key answer.now.answer) }
     ensures memory { IfErr result (λ fault. fault ≡ Fault.Memory) }
 {
     tx.awaits_only_new();

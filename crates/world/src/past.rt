@@ -1,6 +1,5 @@
 //! What a run has put out: its messages, and the lines of its report.
-ghost use Rattle.std.specs.Prelude.{◌≡◌, ◌++◌, ◌∷◌, [], IfOk, IfErr, OnOk, true};
-ghost use Rattle.units.specs.Lists.{join, listed};
+ghost use Rattle.std.specs.Prelude.{◌≡◌, ◌++◌, ◌∷◌, [], IfOk, IfErr, OnOk, true, flat_map, option_to_list};
 ghost use Rattle.message.specs.declared.message.Envelope.{Envelope};
 ghost use Rattle.world.specs.Told.{ack_in, told_in, was_told};
 
@@ -120,7 +119,7 @@ fn push_acknowledged(
     event: u64,
     out: &[Envelope],
 ) -> Result<(), Fault>
-    ensures lines { OnOk result (lines.new.items ≡ lines.old.items ++ join (ack_in told.now event) out.now) }
+    ensures lines { OnOk result (lines.new.items ≡ lines.old.items ++ flat_map (ack_in told.now event) out.now) }
     ensures memory { IfErr result (λ fault. fault ≡ Fault.Memory) }
 {
     for envelope in out {
@@ -133,7 +132,7 @@ fn push_acknowledged(
 
 // The transactions whose commit new messages tell.
 fn push_told(told: &mut Vec<TxnId>, out: &[Envelope]) -> Result<(), Fault>
-    ensures told { OnOk result (told.new.items ≡ told.old.items ++ join told_in out.now) }
+    ensures told { OnOk result (told.new.items ≡ told.old.items ++ flat_map told_in out.now) }
     ensures memory { IfErr result (λ fault. fault ≡ Fault.Memory) }
 {
     for envelope in out {
@@ -146,7 +145,7 @@ fn push_told(told: &mut Vec<TxnId>, out: &[Envelope]) -> Result<(), Fault>
 
 // The acknowledgement that a message is: the first that tells a session that it committed.
 fn acknowledged(told: &[TxnId], event: u64, envelope: &Envelope) -> Option<Line>
-    ensures { listed result ≡ ack_in told.now event envelope.now }
+    ensures { option_to_list result ≡ ack_in told.now event envelope.now }
 {
     match &envelope.message {
         Message::Done(done) => match done.outcome {
@@ -177,7 +176,7 @@ fn was_told(told: &[TxnId], txn: TxnId) -> bool
 
 // The transaction whose commit a message tells to its session.
 fn told_in(envelope: &Envelope) -> Option<TxnId>
-    ensures { listed result ≡ told_in envelope.now }
+    ensures { option_to_list result ≡ told_in envelope.now }
 {
     match &envelope.message {
         Message::Done(done) => match done.outcome {

@@ -1,5 +1,5 @@
+use Rattle.std.specs.List.{list_any}
 use Rattle.std.proofs.Common.{◌∙◌, not, nat_eq, [], Err, ap, sym, rules}
-use Rattle.units.specs.Lists.{any}
 use Rattle.units.specs.declared.setup.Setup.{Setup}
 use Rattle.memory.specs.Kept.{start_of}
 use Rattle.memory.proofs.States.{planned-by, planned-err}
@@ -12,7 +12,7 @@ returns-then-has_others-clause-planned c =
     let r = c.args.request.now in
     planned-by k _ _ c.collect_alone.result
     (granted_others (start_of k) [] c.args.txn r.latest r.parts r.reads r.writes k.setup.shard
-    (ap (λ (s : Setup). any (λ m. not (nat_eq m s.shard)) r.parts) (sym c.setup.ensures) ∙ sym c.has_others.ensures ∙ c.if-has_others.true))
+    (ap (λ (s : Setup). list_any (λ m. not (nat_eq m s.shard)) r.parts) (sym c.setup.ensures) ∙ sym c.has_others.ensures ∙ c.if-has_others.true))
     c.collect_alone.ensures.plan c.collect_alone.ensures.memory
 
 pub returns-in_err-at-clause-planned : goal.returns-in_err-at-clause-planned
@@ -21,7 +21,7 @@ returns-in_err-at-clause-planned c =
     let r = c.args.request.now in
     planned-err k _ c.from_residual.result c.in_err-at.field-0.0
     (resumed_late (start_of k) c.args.txn r.latest r.parts r.reads r.writes
-    (ap (λ (s : Setup). any (λ m. not (nat_eq m s.shard)) r.parts) (sym c.setup.ensures) ∙ sym c.has_others.ensures ∙ c.if-has_others.false)
+    (ap (λ (s : Setup). list_any (λ m. not (nat_eq m s.shard)) r.parts) (sym c.setup.ensures) ∙ sym c.has_others.ensures ∙ c.if-has_others.false)
     c.in_err-at.ensures.1 ∙ ap Err (sym c.in_err-at.ensures.0)) (search rules)
 
 pub returns-clause-planned : goal.returns-clause-planned
@@ -30,5 +30,5 @@ returns-clause-planned c =
     let r = c.args.request.now in
     planned-by k _ _ c.decide_alone.result
     (resumed_decided (start_of k) c.args.txn r.latest r.parts r.reads r.writes c.in_ok-at.at
-    (ap (λ (s : Setup). any (λ m. not (nat_eq m s.shard)) r.parts) (sym c.setup.ensures) ∙ sym c.has_others.ensures ∙ c.if-has_others.false)
+    (ap (λ (s : Setup). list_any (λ m. not (nat_eq m s.shard)) r.parts) (sym c.setup.ensures) ∙ sym c.has_others.ensures ∙ c.if-has_others.false)
     c.in_ok-at.ensures.0 c.in_ok-at.ensures.1) c.decide_alone.ensures.plan c.decide_alone.ensures.memory
