@@ -1,20 +1,23 @@
--- What holds of a single shard meets the premises of the laws of whole runs.
-use Rattle.std.proofs.Common.{◌≡◌, ◌≤◌, ℕ, ◌+◌, Bool, true, ◌&&◌, nat_le, nat_lt, List, [], ◌∷◌, ◌++◌, length, Some, refl, sym, ◌∙◌, arith}
-use Rattle.std.specs.Prelude.{Ok}
-use Rattle.std.proofs.lemmas.Bool.{leb-true, and_from}
+-- What holds of a single running shard is kept by its steps and its openings, so it holds at every moment of a run.
+use Rattle.std.proofs.Common.{◌≡◌, ◌≤◌, inl, ℕ, ◌+◌, Bool, true, false, cond, ◌&&◌, nat_le, nat_lt, List, [], ◌∷◌, ◌++◌, length, Option, Some, None, slice_get, refl, sym, ap, subst, ◌∙◌, arith}
+use Rattle.std.specs.Prelude.{Ok, Err, option_map}
+use Rattle.std.proofs.lemmas.Bool.{leb-true, and_from, and_parts}
 use Rattle.units.specs.ById.{IsById}
+use Rattle.units.specs.declared.fault.Fault.TheVariants.{Stopped, TimeSpent}
 use Rattle.units.specs.declared.setup.Setup.{Setup}
+use Rattle.units.proofs.Folds.{append_none}
 use Rattle.truetime.specs.Interval.{Interval}
 use Rattle.truetime.specs.Reading.{is_honest}
-use Rattle.record.specs.Accepted.{Accepted, taken, followed, begins, follows, fits_beside}
+use Rattle.record.specs.Accepted.{Accepted, taken, followed, begins, follows, belongs, fits_beside}
 use Rattle.record.specs.Facts.{Facts, facts_of, learn}
 use Rattle.record.specs.declared.record.Record.{Record}
 use Rattle.record.proofs.LearnAgrees.{accepted_follows, followed_more}
 use Rattle.facts.proofs.Known.{follows_as_known}
+use Rattle.message.specs.declared.message.Envelope.{Envelope}
 use Rattle.message.specs.declared.message.Input.{Input}
 use Rattle.protocol.specs.Rows.{Memory, rebuilt}
-use Rattle.protocol.specs.Plan.{time_limit, Plan, before, carried}
-use Rattle.protocol.specs.Step.{plan_input, facts_after, IsInLimit}
+use Rattle.protocol.specs.Plan.{time_limit, Plan, Planned, before, carried}
+use Rattle.protocol.specs.Step.{Stepped, Refuses, Does, plan_input, stepped, step_within, facts_after, IsInLimit}
 use Rattle.protocol.specs.OwnKeys.{all_own}
 use Rattle.protocol.specs.Sound.{IsSound}
 use Rattle.protocol.proofs.FitsBeside.{few_opened, logged_fits_beside}
@@ -24,30 +27,28 @@ use Rattle.protocol.proofs.OwnKeys.{logged_belongs, own-rebuilt, step_keeps_own}
 use Rattle.protocol.proofs.RowChanges.{by_id-claims}
 use Rattle.protocol.proofs.StepSound.{fresh_is_sound, step_keeps_sound}
 use Rattle.protocol.proofs.WithinLimit.{stays_within}
-use Rattle.world.specs.ButForReads.{ConsistentButForReads}
-use Rattle.world.specs.Lawful.{may_act, may_crash, may_do}
+use Rattle.world.specs.Lawful.{lawful, may_act, may_crash, may_do, may_happen}
 use Rattle.world.specs.Steady.{AlwaysSteady}
-use Rattle.world.specs.TimeLaws.{InstalledInThePast, LooksCoverAcknowledged}
-use Rattle.world.specs.World.{World, fresh_log}
+use Rattle.world.specs.World.{World, ShardNow, State, Runs, IsStopped, IsDown, Unsure, View, shown, read_log, setup_of, opening, input_of, step_with, effect, fresh_log, run}
 use Rattle.world.specs.declared.event.Act.{Act}
+use Rattle.world.specs.declared.event.Config.{Config}
 use Rattle.world.specs.declared.event.Doing.{Doing}
-use Rattle.world.proofs.Consistent.{but_for_reads, steady, in_the_past as passed, looks_cover as covers}
-use Rattle.world.proofs.Openings.{taken_more}
-use Rattle.world.proofs.Orderly.{both}
-use Rattle.world.proofs.Sounds.{ActLimit, DoingLimit}
+use Rattle.world.specs.declared.event.Event.{Event}
+use Rattle.world.proofs.Openings.{opening_taken, taken_more}
+use Rattle.world.proofs.Sounds.{ActAllowed, DoingAllowed, SoundShard, SoundWorld, always_sound, read_left}
 
 -- ---- one shard
 
 -- its lock table, its facts and its rows agree, its rows speak of its own keys alone, and they are not too many
-record IsWell (setup : Setup) (f : Facts) (m : Memory) : Type 0 where
-  sound : IsSound setup.shard f m
-  own : all_own setup m.rows ≡ true
-  few : length m.rows ≤ 1024
+pub record IsWell (setup : Setup) (f : Facts) (m : Memory) : Type 0 where
+  pub sound : IsSound setup.shard f m
+  pub own : all_own setup m.rows ≡ true
+  pub few : length m.rows ≤ 1024
 
-up : (setup : Setup) (f : Facts) (m : Memory) → IsWell setup f m → IsById (λ r. r.txn) m.rows
+pub up : (setup : Setup) (f : Facts) (m : Memory) → IsWell setup f m → IsById (λ r. r.txn) m.rows
 up setup f m well = by_id-claims m.rows well.sound.table.order
 
-keeps : (setup : Setup) (f : Facts) (m : Memory) (now : Interval) (i : Input) (p : Plan) → IsInLimit i → IsWell setup f m →
+pub keeps : (setup : Setup) (f : Facts) (m : Memory) (now : Interval) (i : Input) (p : Plan) → IsInLimit i → IsWell setup f m →
     plan_input setup (before 1024 setup f m) now i ≡ Ok p → IsWell setup (facts_after f p.logged) (carried p m)
 keeps setup f m now i p limit well e = record {
   sound = step_keeps_sound 1024 setup f m now i p limit well.sound e;
@@ -55,7 +56,7 @@ keeps setup f m now i p limit well e = record {
   few = stays_within 1024 setup f m now i p (up setup f m well) well.few e;
 }
 
-opens : (setup : Setup) (f : Facts) (m : Memory) → IsWell setup f m → IsWell setup (learn f (Record.Opened (f.epoch + 1))) (rebuilt f)
+pub opens : (setup : Setup) (f : Facts) (m : Memory) → IsWell setup f m → IsWell setup (learn f (Record.Opened (f.epoch + 1))) (rebuilt f)
 unfolding learn rebuilt
 opens setup f m well = record {
   sound = opening_keeps_sound setup.shard f m well.sound;
@@ -63,60 +64,171 @@ opens setup f m well = record {
   few = let less = few_opened setup.shard f m well.sound in let few = well.few in omega (arith, less, few);
 }
 
-fresh : (setup : Setup) → IsWell setup (facts_of fresh_log) (rebuilt (facts_of fresh_log))
+pub fresh : (setup : Setup) → IsWell setup (facts_of fresh_log) (rebuilt (facts_of fresh_log))
 unfolding rebuilt facts_of
 fresh setup = record { sound = fresh_is_sound setup.shard; own = refl; few = omega arith }
 
--- what it logs is taken
-logs : (setup : Setup) (log : List Record) (m : Memory) (now : Interval) (i : Input) (p : Plan) (r : Record) → taken setup log ≡ Accepted →
-    IsWell setup (facts_of log) m → plan_input setup (before 1024 setup (facts_of log) m) now i ≡ Ok p → p.logged ≡ Some r → taken setup (log ++ r ∷ []) ≡ Accepted
-logs setup log m now i p r h well e logged =
+-- the log is taken by an opening
+abbrev pub IsTaken : Setup → List Record → Type 0
+IsTaken setup log = taken setup log ≡ Accepted
+
+-- what a step logs is taken
+takes : (setup : Setup) (log : List Record) (m : Memory) (now : Interval) (i : Input) (p : Plan) (r : Record) → IsTaken setup log →
+    IsWell setup (facts_of log) m → plan_input setup (before 1024 setup (facts_of log) m) now i ≡ Ok p → p.logged ≡ Some r → IsTaken setup (log ++ r ∷ [])
+takes setup log m now i p r h well e logged =
     let so_far : followed setup.shard log ≡ true = accepted_follows setup log h in
     let with_it : followed setup.shard (log ++ r ∷ []) ≡ true =
     follows_as_known setup.shard log r so_far ∙ logged_follows 1024 setup (facts_of log) m now i p r well.sound e logged in
-    let next = both (followed setup.shard log) (begins log r && follows setup.shard log r) (sym (followed_more setup.shard log r) ∙ with_it) in
+    let next = and_parts (followed setup.shard log) (begins log r && follows setup.shard log r) (sym (followed_more setup.shard log r) ∙ with_it) in
     taken_more setup log r h (record {
       own = logged_belongs 1024 setup (facts_of log) m now i p r well.own e logged;
       fits = and_from (begins log r && follows setup.shard log r) (fits_beside log r) next.1 (logged_fits_beside setup log m now i p r well.sound well.few e logged);
     })
 
+pub logs : (setup : Setup) (log : List Record) (m : Memory) (now : Interval) (i : Input) (p : Plan) (r : Record) → IsInLimit i → IsTaken setup log →
+    IsWell setup (facts_of log) m → plan_input setup (before 1024 setup (facts_of log) m) now i ≡ Ok p → p.logged ≡ Some r → IsTaken setup (log ++ r ∷ [])
+logs setup log m now i p r limit h well e logged = takes setup log m now i p r h well e logged
+
+-- the first opening is taken
+pub fresh_taken : (setup : Setup) → IsTaken setup fresh_log
+unfolding taken follows belongs fits_beside
+fresh_taken setup = refl
+
 -- ---- the events
 
-doing_limit : (w : World) (time n : ℕ) (doing : Doing) → may_do w time n doing ≡ true → DoingLimit doing
-doing_limit w time n (Doing.Advance at now) may = leb-true at time_limit (both (is_honest time now) (nat_le at time_limit) may).1
-doing_limit w time n (Doing.Take m now) may = tt
-doing_limit w time n (Doing.Resume now) may = tt
-doing_limit w time n (Doing.Settle t now) may = tt
-doing_limit w time n (Doing.Nudge t now) may = tt
-doing_limit w time n Doing.Open may = tt
+-- what a shard is given names no timestamp above the limit
+abbrev pub InLimit : Setup → Input → Type 0
+InLimit setup i = IsInLimit i
 
-limits : (w : World) (time : ℕ) (a : Act) → may_act w time a ≡ true → ActLimit a
+given : (now : Interval) (i : Input) (p : Interval × Input) → IsInLimit i → ◌≡◌ {A = Option (Interval × Input)} (Some (now, i)) (Some p) → IsInLimit p.1
+given now i p h e = subst (λ (q : Interval × Input). IsInLimit q.1) (some_input (now, i) p e) h
+  where
+    some_input : (a b : Interval × Input) → ◌≡◌ {A = Option (Interval × Input)} (Some a) (Some b) → a ≡ b
+    some_input a b k = cc
+
+message_limit : (setup : Setup) (bag : List Envelope) (m : ℕ) (now : Interval) → DoingAllowed InLimit setup bag (Doing.Take m now)
+message_limit setup bag m now p same = by_value (slice_get bag m) same
+  where
+    by_value : (o : Option Envelope) → option_map (λ (e : Envelope). (now, Input.Deliver e.message)) o ≡ Some p → IsInLimit p.1
+    by_value None k = cc
+    by_value (Some e) k = given now (Input.Deliver e.message) p tt k
+
+pub doing_limit : (setup : Setup) (w : World) (time n : ℕ) (doing : Doing) → may_do w time n doing ≡ true → DoingAllowed InLimit setup w.bag doing
+doing_limit setup w time n (Doing.Take m now) may = message_limit setup w.bag m now
+doing_limit setup w time n (Doing.Resume now) may p same = given now Input.Resume p tt same
+doing_limit setup w time n (Doing.Settle t now) may p same = given now (Input.Settle t) p tt same
+doing_limit setup w time n (Doing.Advance at now) may p same =
+    given now (Input.Advance at) p (leb-true at time_limit (and_parts (is_honest time now) (nat_le at time_limit) may).1) same
+doing_limit setup w time n (Doing.Nudge t now) may p same = given now (Input.Nudge t) p tt same
+doing_limit setup w time n Doing.Open may p same = cc
+
+pub limits : (w : World) (time : ℕ) (a : Act) → may_act w time a ≡ true → ActAllowed InLimit w a
 unfolding may_act
-limits w time (Act.At n doing) may = doing_limit w time n doing (both (nat_lt n (length w.shards)) (may_do w time n doing) may).1
+limits w time (Act.At n doing) may = doing_limit (setup_of w.config n) w time n doing (and_parts (nat_lt n (length w.shards)) (may_do w time n doing) may).1
 limits w time (Act.CrashIn n call fate doing) may =
-    let p = both (nat_lt n (length w.shards) && may_do w time n doing) (may_crash w n doing) may in
-    doing_limit w time n doing (both (nat_lt n (length w.shards)) (may_do w time n doing) p.0).1
-limits w time (Act.FailIn n call doing) may = doing_limit w time n doing (both (nat_lt n (length w.shards)) (may_do w time n doing) may).1
+    let p = and_parts (nat_lt n (length w.shards) && may_do w time n doing) (may_crash w n doing) may in
+    doing_limit (setup_of w.config n) w time n doing (and_parts (nat_lt n (length w.shards)) (may_do w time n doing) p.0).1
+limits w time (Act.FailIn n call doing) may = doing_limit (setup_of w.config n) w time n doing (and_parts (nat_lt n (length w.shards)) (may_do w time n doing) may).1
+limits w time (Act.Deliver m now) may = λ e n is goes. message_limit (setup_of w.config n) w.bag m now
 limits w time (Act.Begin t) may = tt
 limits w time (Act.Read t k) may = tt
 limits w time (Act.Write t k x) may = tt
 limits w time (Act.Close t) may = tt
 limits w time (Act.Quit t) may = tt
-limits w time (Act.Deliver m now) may = tt
 limits w time (Act.Look n k at) may = tt
 limits w time (Act.View n v k at) may = tt
 limits w time (Act.Crash n) may = tt
 
+-- so is what each event gives
+pub in_limit : (w : World) (e : Event) → may_happen w e ≡ true → ActAllowed InLimit w e.act
+in_limit w e may = limits w e.time e.act (and_parts (nat_le w.time e.time) (may_act w e.time e.act) may).1
+
 -- ---- whole runs
 
-pub whole_and_ordered : ConsistentButForReads
-whole_and_ordered = but_for_reads IsWell keeps opens fresh logs limits
+-- all is well with a shard, and its log is taken
+abbrev pub WellShard : Setup → ShardNow → Type 0
+WellShard setup s = SoundShard InLimit IsWell IsTaken keeps opens accepted_follows logs opening_taken setup s
 
-pub in_the_past : InstalledInThePast
-in_the_past = passed IsWell keeps opens fresh logs limits
+-- so with each shard of a world
+abbrev pub WellWorld : World → Type 0
+WellWorld w = SoundWorld InLimit IsWell IsTaken keeps opens accepted_follows logs opening_taken w
 
-pub looks_cover : LooksCoverAcknowledged
-looks_cover = covers IsWell keeps opens fresh logs limits
+pub always_well : (config : Config) (es : List Event) → lawful config es ≡ true → WellWorld (run config es)
+always_well = always_sound InLimit IsWell IsTaken keeps opens accepted_follows logs opening_taken limits fresh fresh_taken
 
+-- ---- what is logged follows, whatever timestamp an input names
+
+-- a shard by its fields
+abbrev pub shard_with : List Record → Unsure → State → List View → ShardNow
+shard_with log unsure state views = record { log = log; unsure = unsure; state = state; views = views }
+
+logged_is : (a b : Option Record) (m q : Memory) (out more : List Envelope) → Does a m out ≡ Does b q more → a ≡ b
+logged_is a b m q out more e = cc
+
+some_record : (a b : Record) → Some a ≡ Some b → a ≡ b
+some_record a b e = cc
+
+step_logs : (setup : Setup) (log : List Record) (unsure : Unsure) (st : State) (views : List View) (o : Option (Interval × Input)) (r : Record) (memory : Memory) (out : List Envelope) →
+    WellShard setup (shard_with log unsure st views) →
+    (elim st as (λ x. Stepped) [ Runs m ↦ step_with setup (facts_of log) m o | _ ↦ Refuses Stopped ]) ≡ Does (Some r) memory out →
+    IsTaken setup ((log ++ shown unsure) ++ r ∷ [])
+unfolding step_within
+step_logs setup log unsure (IsStopped m) views o r memory out well e = cc
+step_logs setup log unsure IsDown views o r memory out well e = cc
+step_logs setup log unsure (Runs m) views None r memory out well e = cc
+step_logs setup log unsure (Runs m) views (Some q) r memory out well e =
+    by_plan (plan_input setup (before 1024 setup (facts_of log) m) q.0 q.1) refl e
+  where
+    log_is : log ++ shown unsure ≡ log
+    log_is = ap (λ u. log ++ shown u) well.state.1 ∙ append_none log
+
+    by_plan : (p : Planned) → plan_input setup (before 1024 setup (facts_of log) m) q.0 q.1 ≡ p → stepped m p ≡ Does (Some r) memory out →
+        IsTaken setup ((log ++ shown unsure) ++ r ∷ [])
+    by_plan (Err f) is k = cc
+    by_plan (Ok p) is k =
+        subst (λ l. IsTaken setup (l ++ r ∷ [])) (sym log_is)
+        (takes setup log m q.0 q.1 p r (well.left log (inl refl)).good well.state.0 is (logged_is p.logged (Some r) (carried p m) memory p.outbox out k))
+
+module _ (config : Config) (bag : List Envelope) (n : ℕ) (s : ShardNow) (well : WellShard (setup_of config n) s) where
+  opening_logs : (r : Record) (memory : Memory) (out : List Envelope) → opening (facts_of (read_log s)) ≡ Does (Some r) memory out → IsTaken (setup_of config n) (read_log s ++ r ∷ [])
+  unfolding opening
+  opening_logs r memory out e = by_test (nat_lt (facts_of (read_log s)).epoch time_limit) e
+    where
+      good : IsTaken (setup_of config n) (read_log s)
+      good = (well.left (read_log s) (read_left InLimit IsWell IsTaken keeps opens accepted_follows logs opening_taken config bag n s well)).good
+
+      by_test : (b : Bool) → cond b (Does (Some (Record.Opened ((facts_of (read_log s)).epoch + 1))) (rebuilt (facts_of (read_log s))) []) (Refuses TimeSpent) ≡ Does (Some r) memory out →
+          IsTaken (setup_of config n) (read_log s ++ r ∷ [])
+      by_test false k = cc
+      by_test true k =
+          subst (λ q. IsTaken (setup_of config n) (read_log s ++ q ∷ []))
+          (some_record (Record.Opened ((facts_of (read_log s)).epoch + 1)) r
+          (logged_is (Some (Record.Opened ((facts_of (read_log s)).epoch + 1))) (Some r) (rebuilt (facts_of (read_log s))) memory [] out k))
+          (opening_taken (setup_of config n) (read_log s) good)
+
+  doing_logs : (doing : Doing) (r : Record) (memory : Memory) (out : List Envelope) → effect (setup_of config n) bag s doing ≡ Does (Some r) memory out →
+      IsTaken (setup_of config n) (read_log s ++ r ∷ [])
+  unfolding effect
+  doing_logs Doing.Open r memory out e = by_state s.state e
+    where
+      by_state : (st : State) → (elim st as (λ x. Stepped) [ Runs m ↦ Refuses Stopped | _ ↦ opening (facts_of (read_log s)) ]) ≡ Does (Some r) memory out →
+          IsTaken (setup_of config n) (read_log s ++ r ∷ [])
+      by_state (Runs m) k = cc
+      by_state (IsStopped m) k = opening_logs r memory out k
+      by_state IsDown k = opening_logs r memory out k
+  doing_logs (Doing.Take m now) r memory out e = step_logs (setup_of config n) s.log s.unsure s.state s.views (input_of bag (Doing.Take m now)) r memory out well e
+  doing_logs (Doing.Resume now) r memory out e = step_logs (setup_of config n) s.log s.unsure s.state s.views (input_of bag (Doing.Resume now)) r memory out well e
+  doing_logs (Doing.Settle t now) r memory out e = step_logs (setup_of config n) s.log s.unsure s.state s.views (input_of bag (Doing.Settle t now)) r memory out well e
+  doing_logs (Doing.Advance at now) r memory out e = step_logs (setup_of config n) s.log s.unsure s.state s.views (input_of bag (Doing.Advance at now)) r memory out well e
+  doing_logs (Doing.Nudge t now) r memory out e = step_logs (setup_of config n) s.log s.unsure s.state s.views (input_of bag (Doing.Nudge t now)) r memory out well e
+
+-- every lawful run is steady
 pub is_steady : AlwaysSteady
-is_steady = steady IsWell keeps opens fresh logs limits
+is_steady config es fair =
+    let well = always_well config es fair in
+    let v : World = run config es in
+    record {
+      follows = λ n s log there may. accepted_follows (setup_of v.config n) log ((well n s there).left log may).good;
+      logged = λ n s doing r memory out there e.
+          accepted_follows (setup_of v.config n) (read_log s ++ r ∷ []) (doing_logs v.config v.bag n s (well n s there) doing r memory out e);
+    }

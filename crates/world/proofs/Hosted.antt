@@ -1,5 +1,6 @@
 -- The session of an id, by its place in the code.
 use Rattle.std.proofs.Common.{◌≡◌, inl, inr, ℕ, zero, suc, ◌<◌, ◌≤◌, Bool, true, false, not, ◌&&◌, ◌||◌, cond, nat_lt, List, [], ◌∷◌, ◌++◌, length, get_or, set, Option, Some, None, Result, Ok, Err, refl, sym, ap, ◌∙◌, subst, arith, filter}
+use Rattle.std.proofs.lemmas.Bool.{and_parts}
 use Rattle.std.specs.List.{position_or_len, list_any}
 use Rattle.std.proofs.lemmas.Bool.Decides.{nat_tests}
 use Rattle.units.specs.Lists.{first, head, when}
@@ -67,10 +68,6 @@ differ : true ≡ false → ⊥
 differ e = cc
 
 -- another in its place leaves the rest
-both : (a b : Bool) → (a && b) ≡ true → (a ≡ true) × (b ≡ true)
-both true b e = (refl, e)
-both false b e = cc
-
 not_is : (a : Bool) → not a ≡ true → a ≡ false
 not_is true e = cc
 not_is false e = refl
@@ -103,13 +100,13 @@ placed splits (x ∷ bs) (c ∷ cs) t zero b d h once at lt is same =
     let here : same_id x.txn t ≡ true = grind (arith, nat_tests) in
     let id : c.txn ≡ d.txn = same_id-is c.txn t (same_txn splits x c t h.0 ∙ here) ∙ sym (same_id-is d.txn t same) in
     let first_is : d ≡ cond (same_id c.txn d.txn) d c = sym (ap (λ u. cond (same_id c.txn u) d c) (sym id) ∙ ap (λ v. cond v d c) (same_id-refl c.txn)) in
-    let others : with_client d cs ≡ cs = none_changed d cs (ap (λ u. list_any (λ e. same_id e.txn u) cs) (sym id) ∙ not_is _ ((both _ _ once).0)) in
+    let others : with_client d cs ≡ cs = none_changed d cs (ap (λ u. list_any (λ e. same_id e.txn u) cs) (sym id) ∙ not_is _ ((and_parts _ _ once).0)) in
     (subst (IsBegun splits b) first_is is, subst (AreBegun splits bs) (sym others) h.1)
 placed splits (x ∷ bs) (c ∷ cs) t (suc i) b d h once at lt is same =
     let other : same_id x.txn t ≡ false = grind (arith, nat_tests) in
     let differs : same_id c.txn d.txn ≡ false = ap (same_id c.txn) (same_id-is d.txn t same) ∙ same_txn splits x c t h.0 ∙ other in (
       subst (IsBegun splits x) (sym (ap (λ v. cond v d c) differs)) h.0,
-      placed splits bs cs t i b d h.1 ((both _ _ once).1) (grind (arith, nat_tests)) (omega arith) is same,
+      placed splits bs cs t i b d h.1 ((and_parts _ _ once).1) (grind (arith, nat_tests)) (omega arith) is same,
     )
 
 -- the same one put back leaves all
@@ -158,7 +155,7 @@ and_is false b e f = cc
 pub once_more : (cs : List Client) (c : Client) → are_once cs ≡ true → list_any (λ d. same_id d.txn c.txn) cs ≡ false → are_once (cs ++ c ∷ []) ≡ true
 once_more [] c h new = refl
 once_more (x ∷ cs) c h new =
-    let p = both _ _ h in
+    let p = and_parts _ _ h in
     let n = neither _ _ new in
     let apart : list_any (λ d. same_id d.txn x.txn) (cs ++ c ∷ []) ≡ false =
     any_append (λ d. same_id d.txn x.txn) cs (c ∷ []) ∙ (λ i. not_is _ p.0 i || ((same_id_comm c.txn x.txn ∙ n.0) i || false)) in
@@ -273,13 +270,13 @@ pub only_place : (bs : List Begun) (t : Id) (i : ℕ) (d : Begun) → are_apart 
 only_place [] t i d once lt is = absurd (omega arith)
 only_place (x ∷ bs) t zero d once lt is = grind (arith, nat_tests)
 only_place (x ∷ bs) t (suc i) d once lt is =
-    let rest = only_place bs t i d (both _ _ once).1 (omega arith) is in
+    let rest = only_place bs t i d (and_parts _ _ once).1 (omega arith) is in
     let among : list_any (λ c. same_id c.txn t) bs ≡ true = one_of bs t i d (omega arith) is in
     by_head (same_id x.txn t) refl rest among
   where
     by_head : (b : Bool) → same_id x.txn t ≡ b → i ≡ place_of bs t → list_any (λ c. same_id c.txn t) bs ≡ true → suc i ≡ place_of (x ∷ bs) t
     by_head true e rest among =
-        let none : list_any (λ c. same_id c.txn x.txn) bs ≡ false = not_is _ (both _ _ once).0 in
+        let none : list_any (λ c. same_id c.txn x.txn) bs ≡ false = not_is _ (and_parts _ _ once).0 in
         let same : x.txn ≡ t = same_id-is x.txn t e in
         absurd (differ (sym among ∙ ap (λ u. list_any (λ c. same_id c.txn u) bs) (sym same) ∙ none))
     by_head false e rest among = grind (arith, nat_tests)

@@ -1,5 +1,6 @@
 -- A run of some events and of one more.
 use Rattle.std.proofs.Common.{◌≡◌, ◌⊎◌, inl, inr, ℕ, suc, ◌+◌, ◌<◌, ◌≤◌, ◌^◌, Bool, true, false, ◌&&◌, cond, nat_le, List, [], ◌∷◌, ◌++◌, length, take, drop, get_or, Some, Result, Ok, Err, IfOk, refl, sym, ap, ◌∙◌, subst, arith}
+use Rattle.std.proofs.lemmas.Bool.{and_parts}
 use Rattle.std.proofs.Math.Seq.{drop-cons}
 use Rattle.std.proofs.lemmas.List.{length-take-le, take-append-drop, take_more, length_push}
 use Rattle.units.specs.declared.fault.Fault.{Fault}
@@ -13,7 +14,6 @@ use Rattle.world.specs.Fleet.{AreShards}
 use Rattle.world.specs.Hosts.{Hosts}
 use Rattle.world.specs.Reports.{IsNoReport, IsReport, IsUnlawful, Plays, Reports}
 use Rattle.world.proofs.EveryRun.{is_steady}
-use Rattle.world.proofs.Orderly.{both}
 use Rattle.world.proofs.Untouched.{counts_one, same_event}
 use Rattle.world.specs.declared.event.Config.{Config}
 use Rattle.world.specs.declared.event.Event.{Event}
@@ -32,14 +32,14 @@ replies_more w (x ∷ xs) e = ap (λ rs. (happens w x).1 ∷ rs) (replies_more (
 lawful_more : (w : World) (es : List Event) (e : Event) → lawful_from w es ≡ true → may_happen (run_from w es) e ≡ true → lawful_from w (es ++ e ∷ []) ≡ true
 lawful_more w [] e fair may = ap (λ b. b && true) may
 lawful_more w (x ∷ xs) e fair may =
-    let p = both (may_happen w x) (lawful_from ((happens w x).0) xs) fair in
+    let p = and_parts (may_happen w x) (lawful_from ((happens w x).0) xs) fair in
     ap (λ b. b && lawful_from ((happens w x).0) (xs ++ e ∷ [])) p.0 ∙ lawful_more ((happens w x).0) xs e p.1 may
 
 unlawful_at : (w : World) (es : List Event) (e : Event) (rest : List Event) → lawful_from w es ≡ true → may_happen (run_from w es) e ≡ false
     → first_unlawful_from w (es ++ e ∷ rest) ≡ Some (run_from w es).event
 unlawful_at w [] e rest fair may = ap (λ b. cond b (first_unlawful_from ((happens w e).0) rest) (Some w.event)) may
 unlawful_at w (x ∷ xs) e rest fair may =
-    let p = both (may_happen w x) (lawful_from ((happens w x).0) xs) fair in
+    let p = and_parts (may_happen w x) (lawful_from ((happens w x).0) xs) fair in
     ap (λ b. cond b (first_unlawful_from ((happens w x).0) (xs ++ e ∷ rest)) (Some w.event)) p.0 ∙ unlawful_at ((happens w x).0) xs e rest p.1 may
 
 -- where an event may not happen the list is not lawful
@@ -115,7 +115,7 @@ module _ (w : World) (e : Event) (number : ℕ) (at : w.event ≡ number) where
   refused_here new may = inr (ap (λ n. BadRequest (Unlawful n)) (sym at), may)
 
   pub acts_may : may_happen w e ≡ true → may_act w e.time e.act ≡ true
-  acts_may may = (both (nat_le w.time e.time) (may_act w e.time e.act) may).1
+  acts_may may = (and_parts (nat_le w.time e.time) (may_act w e.time e.act) may).1
 
 -- ---- the events before a place, and the one there
 

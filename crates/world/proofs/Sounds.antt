@@ -1,7 +1,8 @@
--- What each step of a shard keeps and each opening brings back holds at every moment of a run, and so each log follows.
-use Rattle.std.proofs.Common.{◌≡◌, ◌≤◌, ◌^◌, ◌-◌, nat_le, inl, inr, ℕ, suc, ◌+◌, Bool, true, false, cond, nat_eq, nat_lt, List, [], ◌∷◌, ◌++◌, length, Option, Some, None, slice_get, refl, sym, ap, subst, ◌∙◌}
-use Rattle.std.specs.Prelude.{Ok, Err, option_to_list, option_map}
-use Rattle.std.proofs.lemmas.Bool.{cases_eq}
+-- What each step of a shard keeps and each opening brings back holds at every moment of a run. A step may rest on what is
+-- given to its shard: `Allowed` says what that is.
+use Rattle.std.proofs.Common.{◌≡◌, nat_le, inl, inr, ℕ, suc, ◌+◌, Bool, true, false, cond, nat_eq, nat_lt, List, [], ◌∷◌, ◌++◌, length, Option, Some, None, slice_get, refl, sym, ap, subst, ◌∙◌}
+use Rattle.std.specs.Prelude.{Ok, Err, option_to_list}
+use Rattle.std.proofs.lemmas.Bool.{cases_eq, and_parts}
 use Rattle.units.specs.Lists.{replaced}
 use Rattle.units.specs.declared.fault.Fault.{Fault}
 use Rattle.units.specs.declared.fault.Fault.TheVariants.{Stopped, Stranger, Device, TimeSpent}
@@ -19,9 +20,8 @@ use Rattle.message.specs.declared.message.Envelope.{Envelope}
 use Rattle.message.specs.declared.message.Input.{Input}
 use Rattle.protocol.specs.Rows.{Memory, rebuilt}
 use Rattle.protocol.specs.Plan.{time_limit, Plan, Planned, before, carried}
-use Rattle.protocol.specs.Step.{step_within, Stepped, Refuses, Does, facts_after, IsInLimit, plan_input, stepped}
+use Rattle.protocol.specs.Step.{step_within, Stepped, Refuses, Does, facts_after, plan_input, stepped}
 use Rattle.world.specs.Lawful.{lawful, lawful_from, may_happen, may_act}
-use Rattle.world.proofs.Orderly.{both}
 use Rattle.session.specs.Sessions.{reads, buffers, closes, gives_up}
 use Rattle.world.specs.World.{World, ShardNow, State, Runs, IsStopped, IsDown, Unsure, Nothing, Shown, Hidden, shown, read_log, setup_of, opening, input_of, step_with, effect, finished, crashed, crashed_in, failed_in, left_of, left_by_refused, is_left, opens_gate, stopped, set_shard, fresh_log, fresh_shard, After, client_of, put_out, refused, if_open, if_not_over, to_session, refused_doing, did, did_with_failure, at_shard, do_at, deliver_to, noted, look_shard, look_at_view, acts, happens, start, run, run_from}
 use Rattle.world.specs.Headline.{IsUnsure, MayLeaveLog}
@@ -30,30 +30,27 @@ use Rattle.world.specs.declared.event.Config.{Config}
 use Rattle.world.specs.declared.event.Doing.{Doing}
 use Rattle.world.specs.declared.event.Event.{Event}
 use Rattle.world.specs.declared.event.Reply.{Reply}
-use Rattle.world.specs.Steady.{IsSteady, AlwaysSteady}
-use Rattle.world.proofs.Changes.{get-replaced_same, get-replaced_other}
-use Rattle.world.proofs.Every.{replicated}
 use Rattle.world.proofs.Untouched.{Kept, if_open_keeps, if_not_over_keeps, to_session_keeps, noted_keeps}
-use Rattle.world.proofs.Moves.{with_record}
+use Rattle.world.proofs.Places.{get-replaced_same, get-replaced_other, replicated, with_record}
 
--- the timestamp that a doing names is within the limit
-abbrev pub DoingLimit : Doing → Type 0
-DoingLimit (Doing.Advance at now) = at ≤ 2 ^ 62 - 1
-DoingLimit _ = Unit {0}
+-- what a doing gives to a shard is allowed
+abbrev pub DoingAllowed : (Setup → Input → Type 0) → Setup → List Envelope → Doing → Type 0
+DoingAllowed Allowed setup bag doing = (p : Interval × Input) → input_of bag doing ≡ Some p → Allowed setup p.1
 
--- so of an act
-abbrev pub ActLimit : Act → Type 0
-ActLimit (Act.At n doing) = DoingLimit doing
-ActLimit (Act.CrashIn n call fate doing) = DoingLimit doing
-ActLimit (Act.FailIn n call doing) = DoingLimit doing
-ActLimit _ = Unit {0}
+-- so what an act gives
+abbrev pub ActAllowed : (Setup → Input → Type 0) → World → Act → Type 0
+ActAllowed Allowed w (Act.At n doing) = DoingAllowed Allowed (setup_of w.config n) w.bag doing
+ActAllowed Allowed w (Act.CrashIn n call fate doing) = DoingAllowed Allowed (setup_of w.config n) w.bag doing
+ActAllowed Allowed w (Act.FailIn n call doing) = DoingAllowed Allowed (setup_of w.config n) w.bag doing
+ActAllowed Allowed w (Act.Deliver m now) = (e : Envelope) (n : ℕ) → slice_get w.bag m ≡ Some e → e.to ≡ Shard n → DoingAllowed Allowed (setup_of w.config n) w.bag (Doing.Take m now)
+ActAllowed Allowed w _ = Unit {0}
 
-module _ (Sound : Setup → Facts → Memory → Type 0) (Good : Setup → List Record → Type 0)
-    (keeps : (setup : Setup) (f : Facts) (m : Memory) (now : Interval) (i : Input) (p : Plan) → IsInLimit i → Sound setup f m →
+module _ (Allowed : Setup → Input → Type 0) (Sound : Setup → Facts → Memory → Type 0) (Good : Setup → List Record → Type 0)
+    (keeps : (setup : Setup) (f : Facts) (m : Memory) (now : Interval) (i : Input) (p : Plan) → Allowed setup i → Sound setup f m →
     plan_input setup (before 1024 setup f m) now i ≡ Ok p → Sound setup (facts_after f p.logged) (carried p m))
     (opens : (setup : Setup) (f : Facts) (m : Memory) → Sound setup f m → Sound setup (learn f (Record.Opened (f.epoch + 1))) (rebuilt f))
     (follows : (setup : Setup) (log : List Record) → Good setup log → followed setup.shard log ≡ true)
-    (logs : (setup : Setup) (log : List Record) (m : Memory) (now : Interval) (i : Input) (p : Plan) (r : Record) → Good setup log →
+    (logs : (setup : Setup) (log : List Record) (m : Memory) (now : Interval) (i : Input) (p : Plan) (r : Record) → Allowed setup i → Good setup log →
     Sound setup (facts_of log) m → plan_input setup (before 1024 setup (facts_of log) m) now i ≡ Ok p → p.logged ≡ Some r → Good setup (log ++ r ∷ []))
     (good_opens : (setup : Setup) (log : List Record) → Good setup log → Good setup (log ++ Record.Opened ((facts_of log).epoch + 1) ∷ [])) where
   -- ---- one shard
@@ -73,29 +70,29 @@ module _ (Sound : Setup → Facts → Memory → Type 0) (Good : Setup → List 
     pub left : (log : List Record) → MayLeaveLog s log → SoundLog setup log
     pub state : SoundState setup s s.state
 
-  -- a step that is done leaves a good log, and a sound memory where its input was within the limit
+  -- a step that is done leaves a good log and a sound memory, where its input was allowed
   pub record SoundStep (L : Type 0) (setup : Setup) (log : List Record) (memory : Memory) : Type 0 where
     pub sound : L → Sound setup (facts_of log) memory
-    pub good : Good setup log
+    pub good : L → Good setup log
 
   abbrev SteppedSound : Type 0 → Setup → List Record → Stepped → Type 0
   SteppedSound L setup log (Refuses f) = Unit {0}
   SteppedSound L setup log (Does logged memory out) = SoundStep L setup (with_record log logged) memory
 
   -- one more record
-  more : (L : Type 0) (setup : Setup) (log : List Record) (r : Record) (m : Memory) → Good setup (log ++ r ∷ []) → (L → Sound setup (learn (facts_of log) r) m) →
+  more : (L : Type 0) (setup : Setup) (log : List Record) (r : Record) (m : Memory) → (L → Good setup (log ++ r ∷ [])) → (L → Sound setup (learn (facts_of log) r) m) →
       SoundStep L setup (log ++ r ∷ []) m
-  more L setup log r m next sound = record { sound = λ l. subst (λ x. Sound setup x m) (sym (learn_agrees setup.shard log r (follows setup (log ++ r ∷ []) next))) (sound l); good = next }
+  more L setup log r m next sound = record { sound = λ l. subst (λ x. Sound setup x m) (sym (learn_agrees setup.shard log r (follows setup (log ++ r ∷ []) (next l)))) (sound l); good = next }
 
   -- a step of a running shard
-  of_plan : (L : Type 0) (setup : Setup) (log : List Record) (m : Memory) (now : Interval) (i : Input) → (L → IsInLimit i) → Good setup log → Sound setup (facts_of log) m →
+  of_plan : (L : Type 0) (setup : Setup) (log : List Record) (m : Memory) (now : Interval) (i : Input) → (L → Allowed setup i) → Good setup log → Sound setup (facts_of log) m →
       (p : Planned) → plan_input setup (before 1024 setup (facts_of log) m) now i ≡ p → SteppedSound L setup log (stepped m p)
-  of_plan L setup log m now i limit good sound (Err f) e = tt
-  of_plan L setup log m now i limit good sound (Ok p) e = by_record p.logged refl (λ l. keeps setup (facts_of log) m now i p (limit l) sound e)
+  of_plan L setup log m now i allowed good sound (Err f) e = tt
+  of_plan L setup log m now i allowed good sound (Ok p) e = by_record p.logged refl (λ l. keeps setup (facts_of log) m now i p (allowed l) sound e)
     where
       by_record : (o : Option Record) → p.logged ≡ o → (L → Sound setup (facts_after (facts_of log) o) (carried p m)) → SoundStep L setup (with_record log o) (carried p m)
-      by_record None is kept = record { sound = kept; good = good }
-      by_record (Some r) is kept = more L setup log r (carried p m) (logs setup log m now i p r good sound e is) kept
+      by_record None is kept = record { sound = kept; good = λ l. good }
+      by_record (Some r) is kept = more L setup log r (carried p m) (λ l. logs setup log m now i p r (allowed l) good sound e is) kept
 
   module _ (config : Config) (bag : List Envelope) (n : ℕ) (s : ShardNow) (sound : SoundShard (setup_of config n) s) where
     plain : SoundLog (setup_of config n) s.log
@@ -110,17 +107,17 @@ module _ (Sound : Setup → Facts → Memory → Type 0) (Good : Setup → List 
         by_unsure (Shown r) is = inr (r, subst (λ u. IsUnsure u r) (sym is) refl, refl)
         by_unsure (Hidden r) is = inl (append_none s.log)
 
-    running : (L : Type 0) (o : Option (Interval × Input)) → ((p : Interval × Input) → o ≡ Some p → L → IsInLimit p.1) → (st : State) → s.state ≡ st →
+    running : (L : Type 0) (o : Option (Interval × Input)) → ((p : Interval × Input) → o ≡ Some p → L → Allowed (setup_of config n) p.1) → (st : State) → s.state ≡ st →
         SteppedSound L (setup_of config n) (read_log s) (elim st as (λ x. Stepped) [ Runs m ↦ step_with (setup_of config n) (facts_of s.log) m o | _ ↦ Refuses Stopped ])
     unfolding step_within
-    running L o limit (IsStopped m) is = tt
-    running L o limit IsDown is = tt
-    running L None limit (Runs m) is = tt
-    running L (Some p) limit (Runs m) is =
+    running L o allowed (IsStopped m) is = tt
+    running L o allowed IsDown is = tt
+    running L None allowed (Runs m) is = tt
+    running L (Some p) allowed (Runs m) is =
         let state : SoundState (setup_of config n) s (Runs m) = subst (SoundState (setup_of config n) s) is sound.state in
         let read_is : read_log s ≡ s.log = ap (λ u. s.log ++ shown u) state.1 ∙ append_none s.log in
         subst (λ l. SteppedSound L (setup_of config n) l (step_with (setup_of config n) (facts_of s.log) m (Some p))) (sym read_is)
-        (of_plan L (setup_of config n) s.log m p.0 p.1 (limit p refl) plain.good state.0 (plan_input (setup_of config n) (before 1024 (setup_of config n) (facts_of s.log) m) p.0 p.1) refl)
+        (of_plan L (setup_of config n) s.log m p.0 p.1 (allowed p refl) plain.good state.0 (plan_input (setup_of config n) (before 1024 (setup_of config n) (facts_of s.log) m) p.0 p.1) refl)
 
     opened : SteppedSound (Unit {0}) (setup_of config n) (read_log s) (opening (facts_of (read_log s)))
     unfolding opening
@@ -130,33 +127,26 @@ module _ (Sound : Setup → Facts → Memory → Type 0) (Good : Setup → List 
         by_test false = tt
         by_test true =
             let l = sound.left (read_log s) read_left in
-            more (Unit {0}) (setup_of config n) (read_log s) (Record.Opened ((facts_of (read_log s)).epoch + 1)) (rebuilt (facts_of (read_log s))) (good_opens (setup_of config n) (read_log s) l.good)
+            more (Unit {0}) (setup_of config n) (read_log s) (Record.Opened ((facts_of (read_log s)).epoch + 1)) (rebuilt (facts_of (read_log s))) (λ u. good_opens (setup_of config n) (read_log s) l.good)
             (λ u. opens (setup_of config n) (facts_of (read_log s)) l.memory l.sound)
 
-    -- the input of a doing is within the limit where the doing is
-    limit_is : (i : Input) (now : Interval) (L : Type 0) → (L → IsInLimit i) → (p : Interval × Input) → ◌≡◌ {A = Option (Interval × Input)} (Some (now, i)) (Some p) → L → IsInLimit p.1
-    limit_is i now L limit p same l = subst (λ (q : Interval × Input). IsInLimit q.1) (some_is (now, i) p same) (limit l)
-      where
-        some_is : (a b : Interval × Input) → ◌≡◌ {A = Option (Interval × Input)} (Some a) (Some b) → a ≡ b
-        some_is a b k = cc
-
-    take_limit : (now : Interval) (o : Option Envelope) (p : Interval × Input) → option_map (λ (e : Envelope). (now, Input.Deliver e.message)) o ≡ Some p → Unit {0} → IsInLimit p.1
-    take_limit now None p same u = cc
-    take_limit now (Some e) p same u = limit_is (Input.Deliver e.message) now (Unit {0}) (λ v. tt) p same u
-
-    pub effect_sound : (doing : Doing) → SteppedSound (DoingLimit doing) (setup_of config n) (read_log s) (effect (setup_of config n) bag s doing)
+    pub effect_sound : (doing : Doing) → SteppedSound (DoingAllowed Allowed (setup_of config n) bag doing) (setup_of config n) (read_log s) (effect (setup_of config n) bag s doing)
     unfolding effect
     effect_sound Doing.Open = by_state s.state
       where
-        by_state : (st : State) → SteppedSound (Unit {0}) (setup_of config n) (read_log s) (elim st as (λ x. Stepped) [ Runs m ↦ Refuses Stopped | _ ↦ opening (facts_of (read_log s)) ])
+        opened_so : (st : Stepped) → SteppedSound (Unit {0}) (setup_of config n) (read_log s) st → SteppedSound (DoingAllowed Allowed (setup_of config n) bag Doing.Open) (setup_of config n) (read_log s) st
+        opened_so (Refuses f) e = tt
+        opened_so (Does logged memory out) e = record { sound = λ l. e.sound tt; good = λ l. e.good tt }
+
+        by_state : (st : State) → SteppedSound (DoingAllowed Allowed (setup_of config n) bag Doing.Open) (setup_of config n) (read_log s) (elim st as (λ x. Stepped) [ Runs m ↦ Refuses Stopped | _ ↦ opening (facts_of (read_log s)) ])
         by_state (Runs m) = tt
-        by_state (IsStopped m) = opened
-        by_state IsDown = opened
-    effect_sound (Doing.Take m now) = running (Unit {0}) (input_of bag (Doing.Take m now)) (take_limit now (slice_get bag m)) s.state refl
-    effect_sound (Doing.Resume now) = running (Unit {0}) (input_of bag (Doing.Resume now)) (limit_is Input.Resume now (Unit {0}) (λ u. tt)) s.state refl
-    effect_sound (Doing.Settle t now) = running (Unit {0}) (input_of bag (Doing.Settle t now)) (limit_is (Input.Settle t) now (Unit {0}) (λ u. tt)) s.state refl
-    effect_sound (Doing.Advance at now) = running (at ≤ 2 ^ 62 - 1) (input_of bag (Doing.Advance at now)) (limit_is (Input.Advance at) now (at ≤ 2 ^ 62 - 1) (λ l. l)) s.state refl
-    effect_sound (Doing.Nudge t now) = running (Unit {0}) (input_of bag (Doing.Nudge t now)) (limit_is (Input.Nudge t) now (Unit {0}) (λ u. tt)) s.state refl
+        by_state (IsStopped m) = opened_so (opening (facts_of (read_log s))) opened
+        by_state IsDown = opened_so (opening (facts_of (read_log s))) opened
+    effect_sound (Doing.Take m now) = running (DoingAllowed Allowed (setup_of config n) bag (Doing.Take m now)) (input_of bag (Doing.Take m now)) (λ p e l. l p e) s.state refl
+    effect_sound (Doing.Resume now) = running (DoingAllowed Allowed (setup_of config n) bag (Doing.Resume now)) (input_of bag (Doing.Resume now)) (λ p e l. l p e) s.state refl
+    effect_sound (Doing.Settle t now) = running (DoingAllowed Allowed (setup_of config n) bag (Doing.Settle t now)) (input_of bag (Doing.Settle t now)) (λ p e l. l p e) s.state refl
+    effect_sound (Doing.Advance at now) = running (DoingAllowed Allowed (setup_of config n) bag (Doing.Advance at now)) (input_of bag (Doing.Advance at now)) (λ p e l. l p e) s.state refl
+    effect_sound (Doing.Nudge t now) = running (DoingAllowed Allowed (setup_of config n) bag (Doing.Nudge t now)) (input_of bag (Doing.Nudge t now)) (λ p e l. l p e) s.state refl
 
     -- ---- the shard after it
 
@@ -189,9 +179,9 @@ module _ (Sound : Setup → Facts → Memory → Type 0) (Good : Setup → List 
 
     pub finished_sound : (L : Type 0) → L → (doing : Doing) (logged : Option Record) (memory : Memory) → SoundStep L (setup_of config n) (with_record (read_log s) logged) memory → SoundShard (setup_of config n) (finished s doing logged memory)
     unfolding finished
-    finished_sound L limit doing logged memory e =
+    finished_sound L allowed doing logged memory e =
         let k = subst (λ l. SoundStep L (setup_of config n) l memory) (with_listed logged) e in
-        sure (finished s doing logged memory) refl (record { memory = memory; sound = k.sound limit; good = k.good }) (k.sound limit, refl)
+        sure (finished s doing logged memory) refl (record { memory = memory; sound = k.sound allowed; good = k.good allowed }) (k.sound allowed, refl)
 
     pub refused_left_sound : (fate : Fate) (doing : Doing) → SoundShard (setup_of config n) (crashed s (left_by_refused s fate doing))
     refused_left_sound fate Doing.Open = crashed_sound (read_log s) (sound.left (read_log s) read_left)
@@ -203,17 +193,17 @@ module _ (Sound : Setup → Facts → Memory → Type 0) (Good : Setup → List 
 
     pub crashed_in_sound : (L : Type 0) → L → (call : ℕ) (fate : Fate) (doing : Doing) (st : Stepped) → SteppedSound L (setup_of config n) (read_log s) st → SoundShard (setup_of config n) (crashed_in s call fate doing st)
     unfolding crashed_in
-    crashed_in_sound L limit call fate doing (Refuses f) e = refused_left_sound fate doing
-    crashed_in_sound L limit call fate doing (Does None memory out) e = crashed_sound (read_log s) (sound.left (read_log s) read_left)
-    crashed_in_sound L limit call fate doing (Does (Some r) memory out) e = by_test (is_left call fate)
+    crashed_in_sound L allowed call fate doing (Refuses f) e = refused_left_sound fate doing
+    crashed_in_sound L allowed call fate doing (Does None memory out) e = crashed_sound (read_log s) (sound.left (read_log s) read_left)
+    crashed_in_sound L allowed call fate doing (Does (Some r) memory out) e = by_test (is_left call fate)
       where
         by_test : (b : Bool) → SoundShard (setup_of config n) (crashed s (read_log s ++ cond b (r ∷ []) []))
-        by_test true = crashed_sound (read_log s ++ r ∷ []) (record { memory = memory; sound = e.sound limit; good = e.good })
+        by_test true = crashed_sound (read_log s ++ r ∷ []) (record { memory = memory; sound = e.sound allowed; good = e.good allowed })
         by_test false = crashed_sound (read_log s ++ []) (subst (SoundLog (setup_of config n)) (sym (append_none (read_log s))) (sound.left (read_log s) read_left))
 
     pub failed_sound : (L : Type 0) → L → (call : ℕ) (r : Record) (memory : Memory) → SoundStep L (setup_of config n) (read_log s ++ r ∷ []) memory → SoundShard (setup_of config n) (failed_in s call r)
     unfolding failed_in
-    failed_sound L limit call r memory e = record { left = by_left; state = by_state s.state }
+    failed_sound L allowed call r memory e = record { left = by_left; state = by_state s.state }
       where
         by_state : (st : State) → SoundState (setup_of config n) (failed_in s call r) (stopped st)
         by_state (Runs m) = tt
@@ -229,7 +219,7 @@ module _ (Sound : Setup → Facts → Memory → Type 0) (Good : Setup → List 
         by_left log (inl same) = subst (SoundLog (setup_of config n)) (sym same) (sound.left (read_log s) read_left)
         by_left log (inr x) =
             let is : r ≡ x.0 = unsure_is (nat_eq call 2) (nat_eq call 3) x.0 x.1 in
-            subst (SoundLog (setup_of config n)) (sym x.2) (subst (λ q. SoundLog (setup_of config n) (read_log s ++ q ∷ [])) is (record { memory = memory; sound = e.sound limit; good = e.good }))
+            subst (SoundLog (setup_of config n)) (sym x.2) (subst (λ q. SoundLog (setup_of config n) (read_log s ++ q ∷ [])) is (record { memory = memory; sound = e.sound allowed; good = e.good allowed }))
 
   -- ---- a world
 
@@ -274,22 +264,22 @@ module _ (Sound : Setup → Facts → Memory → Type 0) (Good : Setup → List 
       refused_sound (Doing.Advance at now) f = sound
       refused_sound (Doing.Nudge t now) f = sound
 
-      did_sound : (doing : Doing) → DoingLimit doing → (st : Stepped) → SteppedSound (DoingLimit doing) (setup_of w.config n) (read_log s) st → SoundWorld ((did w n s doing st).0)
+      did_sound : (doing : Doing) → DoingAllowed Allowed (setup_of w.config n) w.bag doing → (st : Stepped) → SteppedSound (DoingAllowed Allowed (setup_of w.config n) w.bag doing) (setup_of w.config n) (read_log s) st → SoundWorld ((did w n s doing st).0)
       unfolding did put_out
-      did_sound doing limit (Refuses f) e = refused_sound doing f
-      did_sound doing limit (Does logged memory out) e = set_sound n s (finished s doing logged memory) there (finished_sound w.config w.bag n s (sound n s there) (DoingLimit doing) limit doing logged memory e)
+      did_sound doing allowed (Refuses f) e = refused_sound doing f
+      did_sound doing allowed (Does logged memory out) e = set_sound n s (finished s doing logged memory) there (finished_sound w.config w.bag n s (sound n s there) (DoingAllowed Allowed (setup_of w.config n) w.bag doing) allowed doing logged memory e)
 
-      failing_sound : (call : ℕ) (doing : Doing) → DoingLimit doing → (st : Stepped) → SteppedSound (DoingLimit doing) (setup_of w.config n) (read_log s) st → SoundWorld ((did_with_failure w n s call doing st).0)
+      failing_sound : (call : ℕ) (doing : Doing) → DoingAllowed Allowed (setup_of w.config n) w.bag doing → (st : Stepped) → SteppedSound (DoingAllowed Allowed (setup_of w.config n) w.bag doing) (setup_of w.config n) (read_log s) st → SoundWorld ((did_with_failure w n s call doing st).0)
       unfolding did_with_failure
-      failing_sound call doing limit (Refuses f) e = did_sound doing limit (Refuses f) e
-      failing_sound call doing limit (Does None memory out) e = did_sound doing limit (Does None memory out) e
-      failing_sound call doing limit (Does (Some r) memory out) e = by_test (nat_lt call 4)
+      failing_sound call doing allowed (Refuses f) e = did_sound doing allowed (Refuses f) e
+      failing_sound call doing allowed (Does None memory out) e = did_sound doing allowed (Does None memory out) e
+      failing_sound call doing allowed (Does (Some r) memory out) e = by_test (nat_lt call 4)
         where
           by_test : (b : Bool) → SoundWorld ((cond {A = After} b (set_shard n (failed_in s call r) w, Reply.Refused Device) (did w n s doing (Does (Some r) memory out))).0)
-          by_test true = set_sound n s (failed_in s call r) there (failed_sound w.config w.bag n s (sound n s there) (DoingLimit doing) limit call r memory e)
-          by_test false = did_sound doing limit (Does (Some r) memory out) e
+          by_test true = set_sound n s (failed_in s call r) there (failed_sound w.config w.bag n s (sound n s there) (DoingAllowed Allowed (setup_of w.config n) w.bag doing) allowed call r memory e)
+          by_test false = did_sound doing allowed (Does (Some r) memory out) e
 
-      effect_is_sound : (doing : Doing) → SteppedSound (DoingLimit doing) (setup_of w.config n) (read_log s) (effect (setup_of w.config n) w.bag s doing)
+      effect_is_sound : (doing : Doing) → SteppedSound (DoingAllowed Allowed (setup_of w.config n) w.bag doing) (setup_of w.config n) (read_log s) (effect (setup_of w.config n) w.bag s doing)
       effect_is_sound doing = effect_sound w.config w.bag n s (sound n s there) doing
 
     at_shard_sound : (n : ℕ) (f : Setup → ShardNow → After) → ((s : ShardNow) → slice_get w.shards n ≡ Some s → SoundWorld ((f (setup_of w.config n) s).0)) → SoundWorld ((at_shard w n f).0)
@@ -299,62 +289,55 @@ module _ (Sound : Setup → Facts → Memory → Type 0) (Good : Setup → List 
         by_value None e = sound
         by_value (Some s) e = each s e
 
-    do_at_sound : (n : ℕ) (doing : Doing) → DoingLimit doing → SoundWorld ((do_at w n doing).0)
-    do_at_sound n doing limit = at_shard_sound n (λ setup s. did w n s doing (effect setup w.bag s doing)) (λ s there. did_sound n s there doing limit _ (effect_is_sound n s there doing))
+    do_at_sound : (n : ℕ) (doing : Doing) → DoingAllowed Allowed (setup_of w.config n) w.bag doing → SoundWorld ((do_at w n doing).0)
+    do_at_sound n doing allowed = at_shard_sound n (λ setup s. did w n s doing (effect setup w.bag s doing)) (λ s there. did_sound n s there doing allowed _ (effect_is_sound n s there doing))
 
-    deliver_sound : (m : ℕ) (now : Interval) (o : Option Envelope) → SoundWorld ((deliver_to w m now o).0)
+    deliver_sound : (m : ℕ) (now : Interval) (o : Option Envelope) → ((e : Envelope) (n : ℕ) → o ≡ Some e → e.to ≡ Shard n → DoingAllowed Allowed (setup_of w.config n) w.bag (Doing.Take m now)) → SoundWorld ((deliver_to w m now o).0)
     unfolding deliver_to
-    deliver_sound m now None = sound
-    deliver_sound m now (Some e) = by_address e.to
+    deliver_sound m now None allowed = sound
+    deliver_sound m now (Some e) allowed = by_address e.to refl
       where
-        by_address : (a : Address) → SoundWorld ((elim a as (λ x. After) [ Shard n ↦ do_at w n (Doing.Take m now) | Session t ↦ to_session w e.message ]).0)
-        by_address (Shard n) = do_at_sound n (Doing.Take m now) tt
-        by_address (Session t) = untouched ((to_session w e.message).0) (to_session_keeps w e.message)
+        by_address : (a : Address) → e.to ≡ a → SoundWorld ((elim a as (λ x. After) [ Shard n ↦ do_at w n (Doing.Take m now) | Session t ↦ to_session w e.message ]).0)
+        by_address (Shard n) goes = do_at_sound n (Doing.Take m now) (allowed e n refl goes)
+        by_address (Session t) goes = untouched ((to_session w e.message).0) (to_session_keeps w e.message)
 
-    pub acts_sound : (a : Act) → ActLimit a → SoundWorld ((acts w a).0)
+    pub acts_sound : (a : Act) → ActAllowed Allowed w a → SoundWorld ((acts w a).0)
     unfolding acts
-    acts_sound (Act.Begin t) limit = sound
-    acts_sound (Act.Read t k) limit = untouched ((if_open w (client_of w t) (reads w.config.splits k)).0) (if_open_keeps w (client_of w t) (reads w.config.splits k))
-    acts_sound (Act.Write t k x) limit = untouched ((if_open w (client_of w t) (buffers (record { key = k; value = x }))).0) (if_open_keeps w (client_of w t) (buffers (record { key = k; value = x })))
-    acts_sound (Act.Close t) limit = untouched ((if_open w (client_of w t) (closes w.config.splits)).0) (if_open_keeps w (client_of w t) (closes w.config.splits))
-    acts_sound (Act.Quit t) limit = untouched ((if_not_over w (client_of w t) (gives_up w.config.splits)).0) (if_not_over_keeps w (client_of w t) (gives_up w.config.splits))
-    acts_sound (Act.Deliver m now) limit = deliver_sound m now (slice_get w.bag m)
-    acts_sound (Act.At n doing) limit = do_at_sound n doing limit
-    acts_sound (Act.Look n k at) limit = at_shard_sound n (λ setup s. noted w k at (look_shard setup s k at)) (λ s there. untouched ((noted w k at (look_shard (setup_of w.config n) s k at)).0) (noted_keeps w k at (look_shard (setup_of w.config n) s k at)))
-    acts_sound (Act.View n v k at) limit =
+    acts_sound (Act.Begin t) allowed = sound
+    acts_sound (Act.Read t k) allowed = untouched ((if_open w (client_of w t) (reads w.config.splits k)).0) (if_open_keeps w (client_of w t) (reads w.config.splits k))
+    acts_sound (Act.Write t k x) allowed = untouched ((if_open w (client_of w t) (buffers (record { key = k; value = x }))).0) (if_open_keeps w (client_of w t) (buffers (record { key = k; value = x })))
+    acts_sound (Act.Close t) allowed = untouched ((if_open w (client_of w t) (closes w.config.splits)).0) (if_open_keeps w (client_of w t) (closes w.config.splits))
+    acts_sound (Act.Quit t) allowed = untouched ((if_not_over w (client_of w t) (gives_up w.config.splits)).0) (if_not_over_keeps w (client_of w t) (gives_up w.config.splits))
+    acts_sound (Act.Deliver m now) allowed = deliver_sound m now (slice_get w.bag m) allowed
+    acts_sound (Act.At n doing) allowed = do_at_sound n doing allowed
+    acts_sound (Act.Look n k at) allowed = at_shard_sound n (λ setup s. noted w k at (look_shard setup s k at)) (λ s there. untouched ((noted w k at (look_shard (setup_of w.config n) s k at)).0) (noted_keeps w k at (look_shard (setup_of w.config n) s k at)))
+    acts_sound (Act.View n v k at) allowed =
         at_shard_sound n (λ setup s. noted w k at (look_at_view setup (slice_get s.views v) k at)) (λ s there. untouched ((noted w k at (look_at_view (setup_of w.config n) (slice_get s.views v) k at)).0) (noted_keeps w k at (look_at_view (setup_of w.config n) (slice_get s.views v) k at)))
-    acts_sound (Act.Crash n) limit = at_shard_sound n (λ setup s. (set_shard n (crashed s s.log) w, Reply.Crashed))
+    acts_sound (Act.Crash n) allowed = at_shard_sound n (λ setup s. (set_shard n (crashed s s.log) w, Reply.Crashed))
         (λ s there. set_sound n s (crashed s s.log) there (crashed_sound w.config w.bag n s (sound n s there) s.log ((sound n s there).left s.log (inl refl))))
-    acts_sound (Act.CrashIn n call fate doing) limit =
+    acts_sound (Act.CrashIn n call fate doing) allowed =
         at_shard_sound n (λ setup s. (set_shard n (crashed_in s call fate doing (effect setup w.bag s doing)) w, Reply.Crashed))
         (λ s there. set_sound n s (crashed_in s call fate doing (effect (setup_of w.config n) w.bag s doing)) there
-        (crashed_in_sound w.config w.bag n s (sound n s there) (DoingLimit doing) limit call fate doing (effect (setup_of w.config n) w.bag s doing) (effect_is_sound n s there doing)))
-    acts_sound (Act.FailIn n call doing) limit = at_shard_sound n (λ setup s. did_with_failure w n s call doing (effect setup w.bag s doing))
-        (λ s there. failing_sound n s there call doing limit _ (effect_is_sound n s there doing))
+        (crashed_in_sound w.config w.bag n s (sound n s there) (DoingAllowed Allowed (setup_of w.config n) w.bag doing) allowed call fate doing (effect (setup_of w.config n) w.bag s doing) (effect_is_sound n s there doing)))
+    acts_sound (Act.FailIn n call doing) allowed = at_shard_sound n (λ setup s. did_with_failure w n s call doing (effect setup w.bag s doing))
+        (λ s there. failing_sound n s there call doing allowed _ (effect_is_sound n s there doing))
 
     -- each log that a crash may leave is good, between steps and within one
     pub left_good : (n : ℕ) (s : ShardNow) (log : List Record) → slice_get w.shards n ≡ Some s → MayLeaveLog s log → Good (setup_of w.config n) log
     left_good n s log there may = ((sound n s there).left log may).good
 
-    pub logged_good : (n : ℕ) (s : ShardNow) (doing : Doing) (r : Record) (memory : Memory) (out : List Envelope) → slice_get w.shards n ≡ Some s →
+    pub logged_good : (n : ℕ) (s : ShardNow) (doing : Doing) (r : Record) (memory : Memory) (out : List Envelope) → slice_get w.shards n ≡ Some s → DoingAllowed Allowed (setup_of w.config n) w.bag doing →
         effect (setup_of w.config n) w.bag s doing ≡ Does (Some r) memory out → Good (setup_of w.config n) (read_log s ++ r ∷ [])
-    logged_good n s doing r memory out there e = (subst (SteppedSound (DoingLimit doing) (setup_of w.config n) (read_log s)) e (effect_is_sound n s there doing)).good
+    logged_good n s doing r memory out there allowed e = (subst (SteppedSound (DoingAllowed Allowed (setup_of w.config n) w.bag doing) (setup_of w.config n) (read_log s)) e (effect_is_sound n s there doing)).good allowed
 
-    -- so the world is steady
-    pub steady : IsSteady w
-    steady = record {
-      follows = λ n s log there may. follows (setup_of w.config n) log ((sound n s there).left log may).good;
-      logged = λ n s doing r memory out there e. follows (setup_of w.config n) (read_log s ++ r ∷ []) (subst (SteppedSound (DoingLimit doing) (setup_of w.config n) (read_log s)) e (effect_is_sound n s there doing)).good;
-    }
-
-  module _ (limits : (w : World) (time : ℕ) (a : Act) → may_act w time a ≡ true → ActLimit a)
+  module _ (limits : (w : World) (time : ℕ) (a : Act) → may_act w time a ≡ true → ActAllowed Allowed w a)
       (fresh : (setup : Setup) → Sound setup (facts_of fresh_log) (rebuilt (facts_of fresh_log))) (good_fresh : (setup : Setup) → Good setup fresh_log) where
     run_sound : (w : World) (es : List Event) → lawful_from w es ≡ true → SoundWorld w → SoundWorld (run_from w es)
     unfolding happens
     run_sound w [] fair sound = sound
     run_sound w (e ∷ es) fair sound =
-        let p = both (may_happen w e) (lawful_from ((happens w e).0) es) fair in
-        run_sound ((happens w e).0) es p.1 (acts_sound w sound e.act (limits w e.time e.act (both (nat_le w.time e.time) (may_act w e.time e.act) p.0).1))
+        let p = and_parts (may_happen w e) (lawful_from ((happens w e).0) es) fair in
+        run_sound ((happens w e).0) es p.1 (acts_sound w sound e.act (limits w e.time e.act (and_parts (nat_le w.time e.time) (may_act w e.time e.act) p.0).1))
 
     fresh_sound : (setup : Setup) → SoundShard setup fresh_shard
     fresh_sound setup = record {
@@ -373,7 +356,3 @@ module _ (Sound : Setup → Facts → Memory → Type 0) (Good : Setup → List 
     pub always_sound : (config : Config) (es : List Event) → lawful config es ≡ true → SoundWorld (run config es)
     unfolding run lawful
     always_sound config es fair = run_sound (start config) es fair (start_sound config)
-
-    -- every lawful run is steady
-    pub always_steady : AlwaysSteady
-    always_steady config es fair = steady (run config es) (always_sound config es fair)

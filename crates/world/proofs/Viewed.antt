@@ -1,6 +1,7 @@
 -- The views of a running shard stay what they are, since no version is ever taken back.
 use Rattle.std.specs.List.{list_all}
 use Rattle.std.proofs.Common.{◌≡◌, ◌≤◌, ◌+◌, ℕ, Bool, true, false, cond, ◌&&◌, nat_eq, List, [], ◌∷◌, ◌++◌, length, map, take, slice_get, option_map, Option, Some, None, Result, Ok, Err, refl, sym, ap, ◌∙◌, subst, arith, option_to_list}
+use Rattle.std.proofs.lemmas.Bool.{and_parts}
 use Rattle.std.proofs.lemmas.Bool.Decides.{nat_tests}
 use Rattle.std.proofs.lemmas.List.{length-append, take-append-le, take_all, map-append}
 use Rattle.std.proofs.lemmas.Option.{slice_get-map}
@@ -27,7 +28,6 @@ use Rattle.world.specs.declared.event.Doing.{Doing}
 use Rattle.world.specs.declared.event.Reply.{Reply}
 use Rattle.world.specs.declared.running.Running.{Running}
 use Rattle.world.specs.declared.view.View.{View as CodeView}
-use Rattle.world.proofs.Orderly.{both}
 
 -- ---- versions that come later
 
@@ -40,14 +40,14 @@ is_counted is v h = grind (arith, nat_tests)
 still_within : (is more : List Install) (vs : List CodeView) → list_all (is_within is) vs ≡ true → list_all (is_within (is ++ more)) vs ≡ true
 still_within is more [] h = refl
 still_within is more (v ∷ vs) h =
-    let p : (is_within is v ≡ true) × (list_all (is_within is) vs ≡ true) = both _ _ h in
+    let p : (is_within is v ≡ true) × (list_all (is_within is) vs ≡ true) = and_parts _ _ h in
     let here : is_within (is ++ more) v ≡ true = is_counted (is ++ more) v (omega (arith, counted is v p.0, length-append is more)) in
     ap (λ b. b && list_all (is_within (is ++ more)) vs) here ∙ still_within is more vs p.1
 
 still_shown : (is more : List Install) (vs : List CodeView) → list_all (is_within is) vs ≡ true → map (shown_view (is ++ more)) vs ≡ map (shown_view is) vs
 still_shown is more [] h = refl
 still_shown is more (v ∷ vs) h =
-    let p : (is_within is v ≡ true) × (list_all (is_within is) vs ≡ true) = both _ _ h in
+    let p : (is_within is v ≡ true) × (list_all (is_within is) vs ≡ true) = and_parts _ _ h in
     let front : take v.count (is ++ more) ≡ take v.count is = take-append-le v.count is more (counted is v p.0) in
     let rest : map (shown_view (is ++ more)) vs ≡ map (shown_view is) vs = still_shown is more vs p.1 in
     λ i. record { installs = front i; safe = v.safe } ∷ rest i
@@ -93,7 +93,7 @@ shown_now is n at same =
 within_more : (is : List Install) (vs ws : List CodeView) → list_all (is_within is) vs ≡ true → list_all (is_within is) ws ≡ true → list_all (is_within is) (vs ++ ws) ≡ true
 within_more is [] ws h k = k
 within_more is (v ∷ vs) ws h k =
-    let p : (is_within is v ≡ true) × (list_all (is_within is) vs ≡ true) = both _ _ h in
+    let p : (is_within is v ≡ true) × (list_all (is_within is) vs ≡ true) = and_parts _ _ h in
     ap (λ b. b && list_all (is_within is) (vs ++ ws)) p.0 ∙ within_more is vs ws p.1 k
 
 same_memory : (m n : Memory) → Runs m ≡ Runs n → m ≡ n

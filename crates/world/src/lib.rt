@@ -8,7 +8,6 @@ mod event;
 mod fleet;
 mod hosting;
 mod lawfulness;
-mod laws;
 mod past;
 mod playing;
 mod run;
@@ -16,5 +15,4 @@ mod running;
 mod view;
 
 pub use event::{Act, Config, Doing, Event, Reply};
-pub use laws::moments;
 pub use playing::{Report, lawful, play};

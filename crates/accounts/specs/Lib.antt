@@ -1,0 +1,4 @@
+pub mod Bank
+pub mod Keeping
+pub mod Sessions
+pub mod Transfers

@@ -1,0 +1,602 @@
+-- What one act changes of what shards show and of the lines of looks; and that each session writes a key once.
+use Rattle.std.specs.List.{list_any}
+use Rattle.std.proofs.Common.{◌≡◌, ◌⊎◌, inl, inr, ℕ, ◌≤◌, Bool, true, false, not, cond, ◌&&◌, nat_eq, nat_lt, nat_le, List, [], ◌∷◌, ◌++◌, length, Option, Some, None, slice_get, refl, sym, ap, subst, ◌∙◌, flat_map, filter, option_to_list}
+use Rattle.std.proofs.lemmas.Bool.{cases_eq, eqb-true, leb-true}
+use Rattle.units.specs.Ids.{Id, same_id}
+use Rattle.protocol.specs.Step.{Stepped, Refuses, Does}
+use Rattle.world.proofs.Places.{get-replaced_same, get-replaced_other}
+use Rattle.world.proofs.EveryRun.{WellShard, WellWorld, shard_with}
+use Rattle.units.specs.Keys.{Bytes, same_key, shard_of, has_key, writes_key, write_before}
+use Rattle.units.specs.Lists.{insert, replaced, when}
+use Rattle.units.specs.Versions.{at_time}
+use Rattle.units.specs.declared.fault.Fault.{Fault}
+use Rattle.units.specs.declared.fault.Fault.TheVariants.{Device, NotYet, Stopped, Stranger}
+use Rattle.units.specs.declared.fault.Reason.{Reason}
+use Rattle.units.specs.declared.fault.Reason.TheVariants.{Many, Nothing, Again, Awaited, Doomed}
+use Rattle.units.specs.declared.line.Line.{Line}
+use Rattle.units.specs.declared.setup.Setup.{Setup}
+use Rattle.units.specs.declared.writes.Write.{Write}
+use Rattle.units.proofs.Folds.{append_none}
+use Rattle.units.proofs.IdLaws.{same_id-is}
+use Rattle.units.proofs.KeyLaws.{same_key-refl}
+use Rattle.truetime.specs.Interval.{Interval}
+use Rattle.disk.specs.declared.plan.Fate.{Fate}
+use Rattle.record.specs.Facts.{facts_of}
+use Rattle.record.specs.declared.record.Record.{Record}
+use Rattle.message.specs.declared.message.Address.{Address}
+use Rattle.message.specs.declared.message.Address.TheVariants.{Shard, Session}
+use Rattle.message.specs.declared.message.Answer.{Answer}
+use Rattle.message.specs.declared.message.Answer.TheVariants.{Holds, Refused}
+use Rattle.message.specs.declared.message.Envelope.{Envelope}
+use Rattle.message.specs.declared.message.Message.{Message}
+use Rattle.message.specs.declared.message.ReadAnswer.{ReadAnswer}
+use Rattle.protocol.specs.Rows.{Memory}
+use Rattle.session.specs.Sessions.{Client, Stage, IsOpen, IsClosing, IsOver, Moved, Denies, Goes, unless, reads, buffers, hears, take_answer, epochs_agree, closes, gives_up, finishes, with_write, was_taken, was_answered, asked_keys, is_doomed, is_none, closing_messages, begun}
+use Rattle.law.specs.Acknowledged.{committed_to}
+use Rattle.law.specs.Evidence.{IsAmong}
+use Rattle.world.specs.World.{World, After, ShardNow, View, State, Runs, IsStopped, IsDown, Unsure, shown, read_log, view_of, setup_of, effect, finished, new_view, makes_view, crashed, crashed_in, left_by_refused, failed_in, set_shard, client_of, set_client, put_out, acks_of, ack_of, commit_told, refused, moved, if_open, if_not_over, if_closing, if_hearing, answered, read_lines, to_session, refused_doing, did, did_with_failure, at_shard, do_at, deliver_to, noted, look_view, look_shard, look_at_view, begin, acts}
+use Rattle.world.specs.declared.event.Act.{Act}
+use Rattle.world.specs.declared.event.Doing.{Doing}
+use Rattle.world.specs.declared.event.Reply.{Reply}
+use Rattle.law.proofs.Doings.{get_among}
+use Rattle.law.proofs.Members.{among_cases, among_left, among_right, some_passes}
+use Rattle.law.proofs.Picked.{among_map, join_among, kept_passes}
+use Rattle.law.proofs.Recorded.{among_first, among_keep}
+use Rattle.law.proofs.Accepts.{WritesOnce}
+use Rattle.law.proofs.Kept.{IsPresent}
+
+-- ---- what a shard shows
+
+-- the view of a shard that can be looked at
+abbrev pub view_in : State → List Record → Option View
+view_in (Runs m) log = Some (view_of (facts_of log) m)
+view_in (IsStopped m) log = Some (view_of (facts_of log) m)
+view_in IsDown log = None
+
+-- one of its views, or what it shows now
+abbrev pub ShowsView : ShardNow → View → Type 0
+ShowsView s v = IsAmong s.views v ⊎ (view_in s.state s.log ≡ Some v)
+
+-- what it shows while it runs
+pub record RunsWith (s : ShardNow) (v : View) : Type 0 where
+  pub memory : Memory
+  pub runs : s.state ≡ Runs memory
+  pub is : view_of (facts_of s.log) memory ≡ v
+
+pub record Offers (w : World) (n : ℕ) (v : View) : Type 0 where
+  pub shard : ShardNow
+  pub there : slice_get w.shards n ≡ Some shard
+  pub shows : ShowsView shard v
+
+pub record HasShard (w : World) (n : ℕ) : Type 0 where
+  pub shard : ShardNow
+  pub there : slice_get w.shards n ≡ Some shard
+
+-- a look that is answered
+pub record Looked (w : World) (k : Bytes) (at : ℕ) (x : Option Bytes) : Type 0 where
+  pub shard : ℕ
+  pub view : View
+  pub offers : Offers w shard view
+  pub own : shard_of w.config.splits k ≡ shard
+  pub served : at ≤ view.safe
+  pub value : at_time view.installs k at ≡ x
+
+-- each session writes a key once
+abbrev pub AllOnce : World → Type 0
+AllOnce w = (c : Client) → IsAmong w.clients c → WritesOnce c.writes
+
+-- a line of acknowledgement of an id
+pub record HasAck (lines : List Line) (t : Id) : Type 0 where
+  pub stamp : ℕ
+  pub event : ℕ
+  pub among : IsAmong lines (Line.Ack t stamp event)
+
+-- each commit that a session was told has a line
+abbrev pub AcksAreLines : List Envelope → List Line → Type 0
+AcksAreLines bag lines = (to : Address) (t : Id) (s : ℕ) → IsAmong bag (committed_to to t s) → HasAck lines t
+
+-- what a change of the world leaves
+pub record Changes (w v : World) : Type 0 where
+  pub config : v.config ≡ w.config
+  pub lines : (l : Line) → IsAmong w.lines l → IsAmong v.lines l
+  pub acked : AcksAreLines w.bag w.lines → AcksAreLines v.bag v.lines
+  pub has : (n : ℕ) → HasShard w n → HasShard v n
+  pub offered : (n : ℕ) (view : View) → Offers v n view → Offers w n view ⊎ IsPresent v n view
+  pub looked : (k : Bytes) (at : ℕ) (x : Option Bytes) → IsAmong v.lines (Line.Look k at x) → IsAmong w.lines (Line.Look k at x) ⊎ Looked w k at x
+  pub once : AllOnce w → AllOnce v
+
+unchanged : (w : World) → Changes w w
+unchanged w = record { config = refl; lines = λ l h. h; acked = λ h. h; has = λ n h. h; offered = λ n view o. inl o; looked = λ k at x h. inl h; once = λ h. h }
+
+-- ---- messages
+
+no_look : (b : Bool) (t : Id) (s event : ℕ) (k : Bytes) (at : ℕ) (x : Option Bytes) → IsAmong (cond b [] (Line.Ack t s event ∷ [])) (Line.Look k at x) → ⊥
+no_look true t s event k at x h = h
+no_look false t s event k at x (inl same) = cc
+no_look false t s event k at x (inr none) = none
+
+ack_no_look : (w : World) (t : Id) (o : Option ℕ) (k : Bytes) (at : ℕ) (x : Option Bytes) → IsAmong (ack_of w t o) (Line.Look k at x) → ⊥
+ack_no_look w t None k at x h = h
+ack_no_look w t (Some s) k at x h = no_look (list_any (λ e. when (λ y. true) (commit_told t e)) w.bag) t s w.event k at x h
+
+message_no_look : (w : World) (to : Address) (m : Message) (k : Bytes) (at : ℕ) (x : Option Bytes) → IsAmong (acks_of w (record { to = to; message = m })) (Line.Look k at x) → ⊥
+message_no_look w to (Message.Done d) k at x h = ack_no_look w d.txn d.outcome k at x h
+message_no_look w to (Message.Read r) k at x h = h
+message_no_look w to (Message.Prepare p) k at x h = h
+message_no_look w to (Message.Commit c) k at x h = h
+message_no_look w to (Message.GiveUp g) k at x h = h
+message_no_look w to (Message.Vote v) k at x h = h
+message_no_look w to (Message.Outcome o) k at x h = h
+message_no_look w to (Message.Ask a) k at x h = h
+message_no_look w to (Message.ReadAnswer a) k at x h = h
+
+acks_no_look : (w : World) (es : List Envelope) (k : Bytes) (at : ℕ) (x : Option Bytes) → IsAmong (flat_map (acks_of w) es) (Line.Look k at x) → ⊥
+acks_no_look w [] k at x h = h
+acks_no_look w (e ∷ es) k at x h = elim (among_cases (acks_of w e) (flat_map (acks_of w) es) (Line.Look k at x) h) [
+  | inl here ↦ message_no_look w e.to e.message k at x here
+  | inr later ↦ acks_no_look w es k at x later
+]
+
+has_ack_more : (lines more : List Line) (t : Id) → HasAck lines t → HasAck (lines ++ more) t
+has_ack_more lines more t h = record { stamp = h.stamp; event = h.event; among = among_left lines more (Line.Ack t h.stamp h.event) h.among }
+
+module _ (v : World) (acked : AcksAreLines v.bag v.lines) (t : Id) where
+  told_end : (to : Address) (u : Id) (o : Option ℕ) (b : Bool) → same_id u t ≡ b → IsAmong v.bag (record { to = to; message = Message.Done (record { txn = u; outcome = o }) }) → when (λ s. true) (cond b o None) ≡ true → HasAck v.lines t
+  told_end to u (Some s) true same k e = subst (HasAck v.lines) (same_id-is u t same) (acked to u s k)
+  told_end to u None true same k e = cc
+  told_end to u o false same k e = cc
+
+  told_before : (to : Address) (m : Message) → IsAmong v.bag (record { to = to; message = m }) → when (λ s. true) (commit_told t (record { to = to; message = m })) ≡ true → HasAck v.lines t
+  told_before to (Message.Done d) k e = told_end to d.txn d.outcome (same_id d.txn t) refl k e
+  told_before to (Message.Read r) k e = cc
+  told_before to (Message.Prepare p) k e = cc
+  told_before to (Message.Commit c) k e = cc
+  told_before to (Message.GiveUp g) k e = cc
+  told_before to (Message.Vote u) k e = cc
+  told_before to (Message.Outcome o) k e = cc
+  told_before to (Message.Ask a) k e = cc
+  told_before to (Message.ReadAnswer a) k e = cc
+
+  -- who is told now has a line, or had one
+  told_now : (to : Address) (s : ℕ) (out : List Envelope) → IsAmong out (committed_to to t s) → HasAck (v.lines ++ flat_map (acks_of v) out) t
+  told_now to s out there = by_test (list_any (λ e. when (λ x. true) (commit_told t e)) v.bag) refl
+    where
+      by_test : (b : Bool) → list_any (λ e. when (λ x. true) (commit_told t e)) v.bag ≡ b → HasAck (v.lines ++ flat_map (acks_of v) out) t
+      by_test true is =
+          let p = some_passes v.bag (λ e. when (λ x. true) (commit_told t e)) is in
+          has_ack_more v.lines (flat_map (acks_of v) out) t (told_before p.member.to p.member.message p.among p.passes)
+      by_test false is = record {
+        stamp = s;
+        event = v.event;
+        among = among_right v.lines (flat_map (acks_of v) out) (Line.Ack t s v.event)
+            (join_among (acks_of v) out (committed_to to t s) (Line.Ack t s v.event) there
+            (subst (λ b. IsAmong (cond b [] (Line.Ack t s v.event ∷ [])) (Line.Ack t s v.event)) (sym is) (inl refl)));
+      }
+
+put_acked : (v : World) (out : List Envelope) → AcksAreLines v.bag v.lines → AcksAreLines (v.bag ++ out) (v.lines ++ flat_map (acks_of v) out)
+put_acked v out acked to t s h = elim (among_cases v.bag out (committed_to to t s) h) [
+  | inl old ↦ has_ack_more v.lines (flat_map (acks_of v) out) t (acked to t s old)
+  | inr new ↦ told_now v acked t to s out new
+]
+
+put_changes : (w v : World) (out : List Envelope) → Changes w v → Changes w (put_out out v)
+unfolding put_out
+put_changes w v out c = record {
+  config = c.config;
+  lines = λ l h. among_left v.lines (flat_map (acks_of v) out) l (c.lines l h);
+  acked = λ h. put_acked v out (c.acked h);
+  has = λ n h. let s = c.has n h in record { shard = s.shard; there = s.there };
+  offered = λ n view o. elim (c.offered n view (record { shard = o.shard; there = o.there; shows = o.shows })) [
+    | inl old ↦ inl old
+    | inr p ↦ inr (record { shard = p.shard; there = p.there; memory = p.memory; runs = p.runs; is = p.is })
+  ];
+  looked = λ k at x h. elim (among_cases v.lines (flat_map (acks_of v) out) (Line.Look k at x) h) [
+    | inl old ↦ c.looked k at x old
+    | inr new ↦ absurd (acks_no_look v out k at x new)
+  ];
+  once = λ h. c.once h;
+}
+
+-- ---- sessions
+
+-- a step of a session leaves one that writes a key once
+abbrev OnceMoved : Moved → Type 0
+OnceMoved (Denies f) = Unit {0}
+OnceMoved (Goes c out) = WritesOnce c.writes
+
+unless_once : (rs : List (Bool × Reason)) (m : Moved) → OnceMoved m → OnceMoved (unless rs m)
+unless_once [] m h = h
+unless_once (r ∷ rs) m h = by_test r.0 (unless_once rs m h)
+  where
+    by_test : (b : Bool) → OnceMoved (unless rs m) → OnceMoved (cond b (Denies (Fault.BadRequest r.1)) (unless rs m))
+    by_test true k = tt
+    by_test false k = k
+
+set_client_changes : (w : World) (c : Client) → (AllOnce w → WritesOnce c.writes) → Changes w (set_client c w)
+set_client_changes w c new = record {
+  config = refl;
+  lines = λ l h. h;
+  acked = λ h. h;
+  has = λ n h. record { shard = h.shard; there = h.there };
+  offered = λ n view o. inl (record { shard = o.shard; there = o.there; shows = o.shows });
+  looked = λ k at x h. inl h;
+  once = λ all d h.
+      let m = among_map (λ (e : Client). cond (same_id e.txn c.txn) c e) w.clients d h in
+      subst (λ (z : Client). WritesOnce z.writes) m.is (by_test (same_id m.from.txn c.txn) m.from (all m.from m.among) (new all));
+}
+  where
+    by_test : (b : Bool) (d : Client) → WritesOnce d.writes → WritesOnce c.writes → WritesOnce (cond {A = Client} b c d).writes
+    by_test true d h k = k
+    by_test false d h k = h
+
+moved_changes : (w : World) (m : Moved) → (AllOnce w → OnceMoved m) → Changes w (moved w m).0
+moved_changes w (Denies f) h = unchanged w
+moved_changes w (Goes c out) h = put_changes w (set_client c w) out (set_client_changes w c h)
+
+open_changes : (w : World) (o : Option Client) (f : Client → Moved) → ((c : Client) → o ≡ Some c → IsAmong w.clients c) → ((c : Client) → WritesOnce c.writes → OnceMoved (f c)) → Changes w (if_open w o f).0
+open_changes w None f there once = unchanged w
+open_changes w (Some c) f there once = by_stage c.stage
+  where
+    by_stage : (s : Stage) → Changes w ((elim s as (λ x. After) [ IsOpen ↦ moved w (f c) | _ ↦ refused w Stranger ]).0)
+    by_stage IsOpen = moved_changes w (f c) (λ all. once c (all c (there c refl)))
+    by_stage IsClosing = unchanged w
+    by_stage IsOver = unchanged w
+
+not_over_changes : (w : World) (o : Option Client) (f : Client → Moved) → ((c : Client) → o ≡ Some c → IsAmong w.clients c) → ((c : Client) → WritesOnce c.writes → OnceMoved (f c)) → Changes w (if_not_over w o f).0
+not_over_changes w None f there once = unchanged w
+not_over_changes w (Some c) f there once = by_stage c.stage
+  where
+    by_stage : (s : Stage) → Changes w ((elim s as (λ x. After) [ IsOver ↦ refused w Stranger | _ ↦ moved w (f c) ]).0)
+    by_stage IsOpen = moved_changes w (f c) (λ all. once c (all c (there c refl)))
+    by_stage IsClosing = moved_changes w (f c) (λ all. once c (all c (there c refl)))
+    by_stage IsOver = unchanged w
+
+closing_changes : (w : World) (o : Option Client) → ((c : Client) → o ≡ Some c → IsAmong w.clients c) → Changes w (if_closing w o).0
+closing_changes w None there = unchanged w
+closing_changes w (Some c) there = by_stage c.stage
+  where
+    by_stage : (s : Stage) → Changes w ((elim s as (λ x. After) [ IsClosing ↦ moved w (finishes c) | _ ↦ refused w Stranger ]).0)
+    by_stage IsOpen = unchanged w
+    by_stage IsClosing = moved_changes w (finishes c) (λ all. all c (there c refl))
+    by_stage IsOver = unchanged w
+
+heard_writes : (n : ℕ) (k : Bytes) (epoch : ℕ) (a : Answer) (c : Client) → (hears n k epoch a c).writes ≡ c.writes
+unfolding hears
+heard_writes n k epoch a c = by_test (has_key c.awaited k && not (is_doomed c))
+  where
+    by_epochs : (b : Bool) (x y : Client) → x.writes ≡ c.writes → y.writes ≡ c.writes → (cond {A = Client} b x y).writes ≡ c.writes
+    by_epochs true x y e f = e
+    by_epochs false x y e f = f
+
+    by_answer : (z : Answer) → (take_answer c n k epoch z).writes ≡ c.writes
+    by_answer Refused = refl
+    by_answer (Holds x) = by_epochs (epochs_agree c.taken n epoch) _ _ refl refl
+
+    by_test : (b : Bool) → (cond {A = Client} b (take_answer c n k epoch a) c).writes ≡ c.writes
+    by_test true = by_answer a
+    by_test false = refl
+
+read_no_look : (c d : Client) (j : Bytes) (a : Answer) (k : Bytes) (at : ℕ) (x : Option Bytes) → IsAmong (read_lines c d j a) (Line.Look k at x) → ⊥
+read_no_look c d j Refused k at x h = h
+read_no_look c d j (Holds y) k at x h = by_test (was_taken d j && not (was_taken c j)) h
+  where
+    by_test : (b : Bool) → IsAmong (cond b (Line.Read c.txn j y ∷ []) []) (Line.Look k at x) → ⊥
+    by_test true (inl same) = cc
+    by_test true (inr none) = none
+    by_test false none = none
+
+answered_changes : (w : World) (c : Client) (a : ReadAnswer) → IsAmong w.clients c → Changes w (answered w c a).0
+answered_changes w c a there =
+    let d : Client = hears a.from a.key a.epoch a.answer c in
+    let k = set_client_changes w d (λ all. subst WritesOnce (sym (heard_writes a.from a.key a.epoch a.answer c)) (all c there)) in
+    record {
+      config = k.config;
+      lines = λ l h. among_left w.lines (read_lines c d a.key a.answer) l h;
+      acked = λ h to t s j. has_ack_more w.lines (read_lines c d a.key a.answer) t (h to t s j);
+      has = λ n h. let s = k.has n h in record { shard = s.shard; there = s.there };
+      offered = λ n view o. inl (record { shard = o.shard; there = o.there; shows = o.shows });
+      looked = λ j at x h. elim (among_cases w.lines (read_lines c d a.key a.answer) (Line.Look j at x) h) [ inl old ↦ inl old | inr new ↦ absurd (read_no_look c d a.key a.answer j at x new) ];
+      once = λ h. k.once h;
+    }
+
+hearing_changes : (w : World) (o : Option Client) (a : ReadAnswer) → ((c : Client) → o ≡ Some c → IsAmong w.clients c) → Changes w (if_hearing w o a).0
+hearing_changes w None a there = unchanged w
+hearing_changes w (Some c) a there = by_stage c.stage
+  where
+    by_stage : (s : Stage) → Changes w ((elim s as (λ x. After) [ IsOpen ↦ answered w c a | _ ↦ refused w Stranger ]).0)
+    by_stage IsOpen = answered_changes w c a (there c refl)
+    by_stage IsClosing = unchanged w
+    by_stage IsOver = unchanged w
+
+client_there : (w : World) (t : Id) (c : Client) → client_of w t ≡ Some c → IsAmong w.clients c
+client_there w t c e = among_first (λ (d : Client). same_id d.txn t) w.clients c e
+
+session_changes : (w : World) (m : Message) → Changes w (to_session w m).0
+unfolding to_session
+session_changes w (Message.ReadAnswer a) = hearing_changes w (client_of w a.txn) a (client_there w a.txn)
+session_changes w (Message.Done d) = closing_changes w (client_of w d.txn) (client_there w d.txn)
+session_changes w (Message.Read r) = unchanged w
+session_changes w (Message.Prepare p) = unchanged w
+session_changes w (Message.Commit c) = unchanged w
+session_changes w (Message.GiveUp g) = unchanged w
+session_changes w (Message.Vote v) = unchanged w
+session_changes w (Message.Outcome o) = unchanged w
+session_changes w (Message.Ask a) = unchanged w
+
+-- a later write of a key replaces the earlier
+inserted : (w : Write) (ws : List Write) (v : Write) → IsAmong (insert write_before w ws) v → (w ≡ v) ⊎ IsAmong ws v
+inserted w [] v (inl same) = inl same
+inserted w [] v (inr none) = absurd none
+inserted w (u ∷ us) v h = by_test (write_before u w) h (λ k. inserted w us v k)
+  where
+    by_test : (b : Bool) → IsAmong (cond b (u ∷ insert write_before w us) (w ∷ u ∷ us)) v → (IsAmong (insert write_before w us) v → (w ≡ v) ⊎ IsAmong us v) → (w ≡ v) ⊎ IsAmong (u ∷ us) v
+    by_test true (inl same) rest = inr (inl same)
+    by_test true (inr later) rest = elim (rest later) [ inl same ↦ inl same | inr old ↦ inr (inr old) ]
+    by_test false (inl same) rest = inl same
+    by_test false (inr later) rest = inr later
+
+with_write_once : (ws : List Write) (w : Write) → WritesOnce ws → WritesOnce (with_write ws w)
+with_write_once ws w once a b ha hb key =
+    elim (cases a ha) [
+      | inl x ↦ elim (cases b hb) [
+        | inl y ↦ ap (λ (z : Write). z.value) (sym x ∙ y)
+        | inr y ↦ absurd (differ b y.1 (ap (λ (z : Write). z.key) x ∙ key))
+      ]
+      | inr x ↦ elim (cases b hb) [
+        | inl y ↦ absurd (differ a x.1 (ap (λ (z : Write). z.key) y ∙ sym key))
+        | inr y ↦ once a b x.0 y.0 key
+      ]
+    ]
+  where
+    others : List Write
+    others = filter (λ v. not (same_key v.key w.key)) ws
+
+    cases : (v : Write) → IsAmong (with_write ws w) v → (w ≡ v) ⊎ (IsAmong ws v × (not (same_key v.key w.key) ≡ true))
+    cases v h = elim (inserted w (filter (λ u. not (same_key u.key w.key)) ws) v h) [
+      | inl same ↦ inl same
+      | inr old ↦ inr (among_keep (λ (u : Write). not (same_key u.key w.key)) ws v old, kept_passes (λ (u : Write). not (same_key u.key w.key)) ws v old)
+    ]
+
+    differ : (v : Write) → not (same_key v.key w.key) ≡ true → w.key ≡ v.key → ⊥
+    differ v e same = not_itself (same_key v.key w.key) (subst (λ k. same_key v.key k ≡ true) (sym same) (same_key-refl v.key)) e
+      where
+        not_itself : (b : Bool) → b ≡ true → not b ≡ true → ⊥
+        not_itself true x y = cc
+        not_itself false x y = cc
+
+reads_once : (splits : List Bytes) (k : Bytes) (c : Client) → WritesOnce c.writes → OnceMoved (reads splits k c)
+unfolding reads
+reads_once splits k c h =
+    unless_once ((nat_le 128 (length (asked_keys c)), Many) ∷ (was_answered c k, Again) ∷ (has_key c.awaited k, Awaited) ∷ (is_doomed c, Doomed) ∷ [])
+    (Goes (record c { awaited = c.awaited ++ k ∷ [] }) (record { to = Shard (shard_of splits k); message = Message.Read (record { txn = c.txn; key = k }) } ∷ [])) h
+
+buffers_once : (v : Write) (c : Client) → WritesOnce c.writes → OnceMoved (buffers v c)
+unfolding buffers
+buffers_once v c h = unless_once ((nat_le 128 (length c.writes) && not (writes_key c.writes v.key), Many) ∷ (is_doomed c, Doomed) ∷ []) (Goes (record c { writes = with_write c.writes v }) []) (with_write_once c.writes v h)
+
+closes_once : (splits : List Bytes) (c : Client) → WritesOnce c.writes → OnceMoved (closes splits c)
+unfolding closes
+closes_once splits c h =
+    unless_once ((is_none (asked_keys c) && is_none c.writes, Nothing) ∷ (not (is_none c.awaited), Awaited) ∷ (is_doomed c, Doomed) ∷ [])
+    (Goes (record c { stage = IsClosing }) (closing_messages splits c)) h
+
+gives_up_once : (splits : List Bytes) (c : Client) → WritesOnce c.writes → OnceMoved (gives_up splits c)
+unfolding gives_up
+gives_up_once splits c h = h
+
+begin_changes : (w : World) (t : Id) → Changes w (begin t w)
+begin_changes w t = record {
+  config = refl;
+  lines = λ l h. among_left w.lines (Line.Begin t w.event ∷ []) l h;
+  acked = λ h to u s j. has_ack_more w.lines (Line.Begin t w.event ∷ []) u (h to u s j);
+  has = λ n h. record { shard = h.shard; there = h.there };
+  offered = λ n view o. inl (record { shard = o.shard; there = o.there; shows = o.shows });
+  looked = λ k at x h. elim (among_cases w.lines (Line.Begin t w.event ∷ []) (Line.Look k at x) h) [ inl old ↦ inl old | inr new ↦ absurd (apart k at x new) ];
+  once = λ all c h. elim (among_cases w.clients (begun t ∷ []) c h) [
+    | inl old ↦ all c old
+    | inr new ↦ elim new [ inl same ↦ subst (λ (z : Client). WritesOnce z.writes) same (λ a b ha hb key. absurd ha) | inr none ↦ absurd none ]
+  ];
+}
+  where
+    apart : (k : Bytes) (at : ℕ) (x : Option Bytes) → IsAmong (Line.Begin t w.event ∷ []) (Line.Look k at x) → ⊥
+    apart k at x (inl same) = cc
+    apart k at x (inr none) = none
+
+-- ---- shards
+
+some_shard : (a b : ShardNow) → Some a ≡ Some b → a ≡ b
+some_shard a b e = cc
+
+set_changes : (w : World) (n : ℕ) (old new : ShardNow) → slice_get w.shards n ≡ Some old → ((v : View) → ShowsView new v → ShowsView old v ⊎ RunsWith new v) → Changes w (set_shard n new w)
+set_changes w n old new there shows = record {
+  config = refl;
+  lines = λ l h. h;
+  acked = λ h. h;
+  has = λ m h. elim (cases_eq n m) [
+    | inl same ↦ record { shard = new; there = subst (λ j. slice_get (replaced w.shards n new) j ≡ Some new) same (get-replaced_same w.shards n old new there) }
+    | inr other ↦ record { shard = h.shard; there = get-replaced_other w.shards n m new other ∙ h.there }
+  ];
+  offered = λ m view o. elim (cases_eq n m) [
+    | inl same ↦ here m view same o
+    | inr other ↦ inl (record { shard = o.shard; there = sym (get-replaced_other w.shards n m new other) ∙ o.there; shows = o.shows })
+  ];
+  looked = λ k at x h. inl h;
+  once = λ h. h;
+}
+  where
+    here : (m : ℕ) (view : View) → n ≡ m → Offers (set_shard n new w) m view → Offers w m view ⊎ IsPresent (set_shard n new w) m view
+    here m view same o =
+        let there_now : slice_get (replaced w.shards n new) m ≡ Some new = subst (λ j. slice_get (replaced w.shards n new) j ≡ Some new) same (get-replaced_same w.shards n old new there) in
+        let is : o.shard ≡ new = some_shard o.shard new (sym o.there ∙ there_now) in
+        elim (shows view (subst (λ (s : ShardNow). ShowsView s view) is o.shows)) [
+          | inl before ↦ inl (record { shard = old; there = subst (λ j. slice_get w.shards j ≡ Some old) same there; shows = before })
+          | inr now ↦ inr (record { shard = new; there = there_now; memory = now.memory; runs = now.runs; is = now.is })
+        ]
+
+some_view : (a b : View) → Some a ≡ Some b → a ≡ b
+some_view a b e = cc
+
+crashed_shows : (s : ShardNow) (log : List Record) (v : View) → ShowsView (crashed s log) v → ShowsView s v ⊎ RunsWith (crashed s log) v
+crashed_shows s log v (inl h) = inl (inl h)
+crashed_shows s log v (inr e) = cc
+
+finished_shows : (s : ShardNow) (doing : Doing) (logged : Option Record) (m : Memory) (v : View) → ShowsView (finished s doing logged m) v → ShowsView s v ⊎ RunsWith (finished s doing logged m) v
+unfolding finished
+finished_shows s doing logged m v (inr e) = inr (record { memory = m; runs = refl; is = some_view _ v e })
+finished_shows s doing logged m v (inl h) = elim (among_cases s.views (new_view doing (read_log s ++ option_to_list logged) m) v h) [
+  | inl old ↦ inl (inl old)
+  | inr new ↦ by_test (makes_view doing) new
+]
+  where
+    by_test : (b : Bool) → IsAmong (cond b (view_of (facts_of (read_log s ++ option_to_list logged)) m ∷ []) []) v → ShowsView s v ⊎ RunsWith (finished s doing logged m) v
+    by_test true (inl same) = inr (record { memory = m; runs = refl; is = same })
+    by_test true (inr none) = absurd none
+    by_test false none = absurd none
+
+-- a shard that its device stops shows what it showed
+failed_shows : (setup : Setup) (log : List Record) (unsure : Unsure) (st : State) (views : List View) (call : ℕ) (r : Record) (v : View) → WellShard setup (shard_with log unsure st views) →
+    ShowsView (failed_in (shard_with log unsure st views) call r) v → ShowsView (shard_with log unsure st views) v ⊎ RunsWith (failed_in (shard_with log unsure st views) call r) v
+unfolding failed_in
+failed_shows setup log unsure st views call r v well (inl h) = inl (inl h)
+failed_shows setup log unsure (Runs m) views call r v well (inr e) =
+    inl (inr (subst (λ l. Some (view_of (facts_of l) m) ≡ Some v) (ap (λ u. log ++ shown u) well.state.1 ∙ append_none log) e))
+failed_shows setup log unsure (IsStopped m) views call r v well (inr e) = cc
+failed_shows setup log unsure IsDown views call r v well (inr e) = cc
+
+module _ (w : World) (well : WellWorld w) (n : ℕ) (s : ShardNow) (there : slice_get w.shards n ≡ Some s) where
+  crash_changes : (log : List Record) → Changes w (set_shard n (crashed s log) w)
+  crash_changes log = set_changes w n s (crashed s log) there (crashed_shows s log)
+
+  refused_changes : (doing : Doing) (f : Fault) → Changes w (refused_doing w n s doing f).0
+  refused_changes Doing.Open f = by_state s.state
+    where
+      by_state : (st : State) → Changes w ((elim st as (λ x. After) [ Runs m ↦ refused w f | _ ↦ (set_shard n (crashed s (read_log s)) w, Reply.Refused f) ]).0)
+      by_state (Runs m) = unchanged w
+      by_state (IsStopped m) = crash_changes (read_log s)
+      by_state IsDown = crash_changes (read_log s)
+  refused_changes (Doing.Take m now) f = unchanged w
+  refused_changes (Doing.Resume now) f = unchanged w
+  refused_changes (Doing.Settle t now) f = unchanged w
+  refused_changes (Doing.Advance at now) f = unchanged w
+  refused_changes (Doing.Nudge t now) f = unchanged w
+
+  did_changes : (doing : Doing) (st : Stepped) → Changes w (did w n s doing st).0
+  unfolding did
+  did_changes doing (Refuses f) = refused_changes doing f
+  did_changes doing (Does logged memory out) = put_changes w (set_shard n (finished s doing logged memory) w) out (set_changes w n s (finished s doing logged memory) there (finished_shows s doing logged memory))
+
+  failing_changes : (call : ℕ) (doing : Doing) (st : Stepped) → Changes w (did_with_failure w n s call doing st).0
+  unfolding did_with_failure
+  failing_changes call doing (Refuses f) = did_changes doing (Refuses f)
+  failing_changes call doing (Does None memory out) = did_changes doing (Does None memory out)
+  failing_changes call doing (Does (Some r) memory out) = by_test (nat_lt call 4)
+    where
+      by_test : (b : Bool) → Changes w ((cond {A = After} b (set_shard n (failed_in s call r) w, Reply.Refused Device) (did w n s doing (Does (Some r) memory out))).0)
+      by_test true = set_changes w n s (failed_in s call r) there (λ v h. failed_shows (setup_of w.config n) s.log s.unsure s.state s.views call r v (well n s there) h)
+      by_test false = did_changes doing (Does (Some r) memory out)
+
+  crash_in_changes : (call : ℕ) (fate : Fate) (doing : Doing) (st : Stepped) → Changes w (set_shard n (crashed_in s call fate doing st) w)
+  unfolding crashed_in
+  crash_in_changes call fate doing (Refuses f) = crash_changes (left_by_refused s fate doing)
+  crash_in_changes call fate doing (Does None memory out) = crash_changes (read_log s)
+  crash_in_changes call fate doing (Does (Some r) memory out) = crash_changes _
+
+  -- ---- looks
+
+  noted_changes : (k : Bytes) (at : ℕ) (r : Reply) → ((x : Option Bytes) → r ≡ Reply.Shows x → Looked w k at x) → Changes w (noted w k at r).0
+  noted_changes k at (Reply.Shows y) answer = record {
+    config = refl;
+    lines = λ l h. among_left w.lines (Line.Look k at y ∷ []) l h;
+    acked = λ h to t s j. has_ack_more w.lines (Line.Look k at y ∷ []) t (h to t s j);
+    has = λ m h. record { shard = h.shard; there = h.there };
+    offered = λ m view o. inl (record { shard = o.shard; there = o.there; shows = o.shows });
+    looked = λ j t x h. elim (among_cases w.lines (Line.Look k at y ∷ []) (Line.Look j t x) h) [ inl old ↦ inl old | inr new ↦ inr (by_line j t x new) ];
+    once = λ h. h;
+  }
+    where
+      by_line : (j : Bytes) (t : ℕ) (x : Option Bytes) → IsAmong (Line.Look k at y ∷ []) (Line.Look j t x) → Looked w j t x
+      by_line j t x (inr none) = absurd none
+      by_line j t x (inl same) =
+          let p = parts k j at t y x same in
+          subst (λ z. Looked w z t x) p.0 (subst (λ z. Looked w k z x) p.1 (subst (λ z. Looked w k at z) p.2 (answer y refl)))
+        where
+          parts : (a b : Bytes) (c d : ℕ) (e f : Option Bytes) → Line.Look a c e ≡ Line.Look b d f → (a ≡ b) × (c ≡ d) × (e ≡ f)
+          parts a b c d e f g = (cc, cc, cc)
+  noted_changes k at Reply.Done answer = unchanged w
+  noted_changes k at (Reply.Refused f) answer = unchanged w
+  noted_changes k at Reply.Crashed answer = unchanged w
+
+  look_answers : (v : View) (k : Bytes) (at : ℕ) (x : Option Bytes) → ShowsView s v → look_view (setup_of w.config n) v k at ≡ Reply.Shows x → Looked w k at x
+  look_answers v k at x shows e = by_tests (nat_eq (shard_of w.config.splits k) n) refl (nat_le at v.safe) refl e
+    where
+      shows_is : (a b : Option Bytes) → Reply.Shows a ≡ Reply.Shows b → a ≡ b
+      shows_is a b f = cc
+
+      by_tests : (b : Bool) → nat_eq (shard_of w.config.splits k) n ≡ b → (c : Bool) → nat_le at v.safe ≡ c →
+          cond (not b) (Reply.Refused Stranger) (cond c (Reply.Shows (at_time v.installs k at)) (Reply.Refused NotYet)) ≡ Reply.Shows x → Looked w k at x
+      by_tests false own c low f = cc
+      by_tests true own false low f = cc
+      by_tests true own true low f = record {
+        shard = n;
+        view = v;
+        offers = record { shard = s; there = there; shows = shows };
+        own = eqb-true (shard_of w.config.splits k) n own;
+        served = leb-true at v.safe low;
+        value = shows_is (at_time v.installs k at) x f;
+      }
+
+  look_changes : (k : Bytes) (at : ℕ) → Changes w (noted w k at (look_shard (setup_of w.config n) s k at)).0
+  look_changes k at = noted_changes k at (look_shard (setup_of w.config n) s k at) (λ x e. by_state s.state refl x e)
+    where
+      by_state : (st : State) → s.state ≡ st → (x : Option Bytes) →
+          (elim st as (λ y. Reply) [ Runs m ↦ look_view (setup_of w.config n) (view_of (facts_of s.log) m) k at | IsStopped m ↦ look_view (setup_of w.config n) (view_of (facts_of s.log) m) k at | IsDown ↦ Reply.Refused Stopped ]) ≡ Reply.Shows x →
+          Looked w k at x
+      by_state (Runs m) is x e = look_answers (view_of (facts_of s.log) m) k at x (inr (ap (λ z. view_in z s.log) is)) e
+      by_state (IsStopped m) is x e = look_answers (view_of (facts_of s.log) m) k at x (inr (ap (λ z. view_in z s.log) is)) e
+      by_state IsDown is x e = cc
+
+  view_changes : (i : ℕ) (k : Bytes) (at : ℕ) → Changes w (noted w k at (look_at_view (setup_of w.config n) (slice_get s.views i) k at)).0
+  view_changes i k at = noted_changes k at (look_at_view (setup_of w.config n) (slice_get s.views i) k at) (λ x e. by_view (slice_get s.views i) refl x e)
+    where
+      by_view : (o : Option View) → slice_get s.views i ≡ o → (x : Option Bytes) → look_at_view (setup_of w.config n) o k at ≡ Reply.Shows x → Looked w k at x
+      by_view None is x e = cc
+      by_view (Some v) is x e = look_answers v k at x (inl (get_among s.views i v is)) e
+
+-- ---- all acts
+
+module _ (w : World) (well : WellWorld w) where
+  at_shard_changes : (n : ℕ) (f : Setup → ShardNow → After) → ((s : ShardNow) → slice_get w.shards n ≡ Some s → Changes w (f (setup_of w.config n) s).0) → Changes w (at_shard w n f).0
+  at_shard_changes n f each = by_value (slice_get w.shards n) refl
+    where
+      by_value : (o : Option ShardNow) → slice_get w.shards n ≡ o → Changes w ((elim o as (λ x. After) [ None ↦ refused w Stranger | Some s ↦ f (setup_of w.config n) s ]).0)
+      by_value None e = unchanged w
+      by_value (Some s) e = each s e
+
+  do_at_changes : (n : ℕ) (doing : Doing) → Changes w (do_at w n doing).0
+  do_at_changes n doing = at_shard_changes n (λ setup s. did w n s doing (effect setup w.bag s doing)) (λ s there. did_changes w well n s there doing (effect (setup_of w.config n) w.bag s doing))
+
+  deliver_changes : (m : ℕ) (now : Interval) (o : Option Envelope) → Changes w (deliver_to w m now o).0
+  unfolding deliver_to
+  deliver_changes m now None = unchanged w
+  deliver_changes m now (Some e) = by_address e.to
+    where
+      by_address : (a : Address) → Changes w ((elim a as (λ x. After) [ Shard n ↦ do_at w n (Doing.Take m now) | Session t ↦ to_session w e.message ]).0)
+      by_address (Shard n) = do_at_changes n (Doing.Take m now)
+      by_address (Session t) = session_changes w e.message
+
+  pub acts_change : (a : Act) → Changes w (acts w a).0
+  unfolding acts
+  acts_change (Act.Begin t) = begin_changes w t
+  acts_change (Act.Read t k) = open_changes w (client_of w t) (reads w.config.splits k) (client_there w t) (reads_once w.config.splits k)
+  acts_change (Act.Write t k x) = open_changes w (client_of w t) (buffers (record { key = k; value = x })) (client_there w t) (buffers_once (record { key = k; value = x }))
+  acts_change (Act.Close t) = open_changes w (client_of w t) (closes w.config.splits) (client_there w t) (closes_once w.config.splits)
+  acts_change (Act.Quit t) = not_over_changes w (client_of w t) (gives_up w.config.splits) (client_there w t) (gives_up_once w.config.splits)
+  acts_change (Act.Deliver m now) = deliver_changes m now (slice_get w.bag m)
+  acts_change (Act.At n doing) = do_at_changes n doing
+  acts_change (Act.Look n k at) = at_shard_changes n (λ setup s. noted w k at (look_shard setup s k at)) (λ s there. look_changes w well n s there k at)
+  acts_change (Act.View n v k at) = at_shard_changes n (λ setup s. noted w k at (look_at_view setup (slice_get s.views v) k at)) (λ s there. view_changes w well n s there v k at)
+  acts_change (Act.Crash n) = at_shard_changes n (λ setup s. (set_shard n (crashed s s.log) w, Reply.Crashed)) (λ s there. crash_changes w well n s there s.log)
+  acts_change (Act.CrashIn n call fate doing) =
+      at_shard_changes n (λ setup s. (set_shard n (crashed_in s call fate doing (effect setup w.bag s doing)) w, Reply.Crashed)) (λ s there. crash_in_changes w well n s there call fate doing (effect (setup_of w.config n) w.bag s doing))
+  acts_change (Act.FailIn n call doing) =
+      at_shard_changes n (λ setup s. did_with_failure w n s call doing (effect setup w.bag s doing)) (λ s there. failing_changes w well n s there call doing (effect (setup_of w.config n) w.bag s doing))

@@ -1,0 +1,128 @@
+-- The few kinds of plan, each with what it rests on.
+use Rattle.std.proofs.Common.{◌≡◌, ℕ, Bool, true, false, cond, List, [], ◌∷◌, ◌++◌, Option, Some, None, refl}
+use Rattle.std.specs.Prelude.{Ok, Err}
+use Rattle.units.specs.Ids.{Id}
+use Rattle.units.specs.declared.fault.Fault.{Fault}
+use Rattle.units.specs.declared.lock.Lock.{Lock}
+use Rattle.record.specs.declared.record.Record.{Record}
+use Rattle.message.specs.declared.message.Envelope.{Envelope}
+use Rattle.protocol.specs.Rows.{Row, Phase, Idle, WaitsRead, WaitsPrepare, WaitsCommit, Collecting, IsPrepared, IsDecided, Standing, HasRow, WasAborted, WasSettled, find_row}
+use Rattle.protocol.specs.Outputs.{refused_vote}
+use Rattle.protocol.specs.Plan.{Change, Puts, Plan, Planned, Before, votes_of, replies, ends, drops, puts, roomed}
+use Rattle.law.specs.Evidence.{Scene, IsAmong, RecordEvidence, PhaseEvidence, Told, AllTold, HasOutcome}
+use Rattle.law.proofs.Members.{all_append}
+
+-- what is logged rests on something
+abbrev pub LoggedEvidence : Scene → List Record → ℕ → Option Record → Type 0
+LoggedEvidence sc log n None = Unit {0}
+LoggedEvidence sc log n (Some r) = RecordEvidence sc log n r
+
+-- a row that is put rests on something
+abbrev pub ChangeEvidence : Scene → List Record → ℕ → Change → Type 0
+ChangeEvidence sc log n (Puts t needs phase) = PhaseEvidence sc log n t phase
+ChangeEvidence sc log n _ = Unit {0}
+
+-- a plan does only what something stands behind
+pub record PlanEvidence (sc : Scene) (log : List Record) (n : ℕ) (p : Plan) : Type 0 where
+  pub logged : LoggedEvidence sc log n p.logged
+  pub change : ChangeEvidence sc (with_record log p.logged) n p.change
+  pub told : AllTold (with_record log p.logged) sc.now n p.outbox
+
+-- a refusal rests on nothing
+unfoldable pub PlannedEvidence : Scene → List Record → ℕ → Planned → Type 0
+PlannedEvidence sc log n (Err fault) = Unit {0}
+PlannedEvidence sc log n (Ok p) = PlanEvidence sc log n p
+
+-- what a standing rests on
+abbrev pub StandingEvidence : Scene → List Record → ℕ → Id → Standing → Type 0
+StandingEvidence sc log n t (HasRow held phase) = PhaseEvidence sc log n t phase
+StandingEvidence sc log n t WasAborted = IsAmong log (Record.Abort t)
+StandingEvidence sc log n t (WasSettled s ps) = HasOutcome log sc.now t s
+StandingEvidence sc log n t _ = Unit {0}
+
+-- a refused vote rests on nothing
+refused_told : (log : List Record) (now n : ℕ) (o : Option Row) → AllTold log now n (refused_vote n o)
+refused_told log now n None = tt
+refused_told log now n (Some r) = by_phase r.phase
+  where
+    by_phase : (phase : Phase) → AllTold log now n (refused_vote n (Some (record r { phase = phase })))
+    by_phase Idle = tt
+    by_phase (WaitsRead k) = tt
+    by_phase (WaitsPrepare c rs ws) = (tt, tt)
+    by_phase (WaitsCommit l ps rs ws) = tt
+    by_phase (Collecting l ps rs ws votes) = tt
+    by_phase (IsPrepared c p) = tt
+    by_phase (IsDecided s ps) = tt
+
+votes_told : (log : List Record) (now n : ℕ) (rows : List Row) (ts : List Id) → AllTold log now n (votes_of n rows ts)
+votes_told log now n rows [] = tt
+votes_told log now n rows (t ∷ ts) =
+    all_append (λ (e : Envelope). Told log now n e.to e.message) (refused_vote n (find_row rows t)) (votes_of n rows ts)
+    (refused_told log now n (find_row rows t)) (votes_told log now n rows ts)
+
+module _ (sc : Scene) (log : List Record) (b : Before) where
+  -- messages alone
+  pub replying : (out : List Envelope) → AllTold log sc.now b.shard out → PlannedEvidence sc log b.shard (Ok (replies b out))
+  unfolding PlannedEvidence
+  replying out told = record { logged = tt; change = tt; told = told }
+
+  pub ending : (t : Id) (out : List Envelope) → AllTold log sc.now b.shard out → PlannedEvidence sc log b.shard (Ok (ends b t out))
+  unfolding PlannedEvidence
+  ending t out told = record { logged = tt; change = tt; told = told }
+
+  pub dropping : (t : Id) (r : Record) (last : ℕ) (out : List Envelope) → RecordEvidence sc log b.shard r → AllTold (log ++ r ∷ []) sc.now b.shard out →
+      PlannedEvidence sc log b.shard (Ok (drops t r last out))
+  unfolding PlannedEvidence
+  dropping t r last out logged told = record { logged = logged; change = tt; told = told }
+
+  -- a row without a record
+  pub putting : (ended : List Id) (t : Id) (needs : List Lock) (phase : Phase) (last : ℕ) (out : List Envelope) →
+      PhaseEvidence sc log b.shard t phase → AllTold log sc.now b.shard out →
+      PlannedEvidence sc log b.shard (Ok (puts b ended t needs phase None last out))
+  unfolding PlannedEvidence
+  putting ended t needs phase last out evidence told = record {
+    logged = tt;
+    change = evidence;
+    told = all_append (λ (e : Envelope). Told log sc.now b.shard e.to e.message) (votes_of b.shard b.memory.rows ended) out
+        (votes_told log sc.now b.shard b.memory.rows ended) told;
+  }
+
+  -- a row with its record
+  pub standing_by_record : (ended : List Id) (t : Id) (needs : List Lock) (phase : Phase) (r : Record) (last : ℕ) (out : List Envelope) →
+      RecordEvidence sc log b.shard r → PhaseEvidence sc (log ++ r ∷ []) b.shard t phase → AllTold (log ++ r ∷ []) sc.now b.shard out →
+      PlannedEvidence sc log b.shard (Ok (puts b ended t needs phase (Some r) last out))
+  unfolding PlannedEvidence
+  standing_by_record ended t needs phase r last out logged evidence told = record {
+    logged = logged;
+    change = evidence;
+    told = all_append (λ (e : Envelope). Told (log ++ r ∷ []) sc.now b.shard e.to e.message) (votes_of b.shard b.memory.rows ended) out
+        (votes_told (log ++ r ∷ []) sc.now b.shard b.memory.rows ended) told;
+  }
+
+  pub refusing : (fault : Fault) → PlannedEvidence sc log b.shard (Err fault)
+  unfolding PlannedEvidence
+  refusing fault = tt
+
+  -- either branch, where the test does not matter
+  pub choosing : (c : Bool) (x y : Planned) → PlannedEvidence sc log b.shard x → PlannedEvidence sc log b.shard y → PlannedEvidence sc log b.shard (cond c x y)
+  choosing true x y h k = h
+  choosing false x y h k = k
+
+  -- by a test that matters
+  pub tested : (c : Bool) (x y : Planned) → (c ≡ true → PlannedEvidence sc log b.shard x) → PlannedEvidence sc log b.shard y → PlannedEvidence sc log b.shard (cond c x y)
+  tested true x y h k = h refl
+  tested false x y h k = k
+
+  pub rooming : (c : Bool) (x : Planned) → PlannedEvidence sc log b.shard x → PlannedEvidence sc log b.shard (roomed c x)
+  unfolding PlannedEvidence
+  rooming true (Ok p) h = tt
+  rooming true (Err f) h = tt
+  rooming false (Ok p) h = h
+  rooming false (Err f) h = h
+
+  pub choosing_plan : (c : Bool) (x y : Plan) → PlannedEvidence sc log b.shard (Ok x) → PlannedEvidence sc log b.shard (Ok y) → PlannedEvidence sc log b.shard (Ok (cond c x y))
+  choosing_plan true x y h k = h
+  choosing_plan false x y h k = k
+
+-- for `search`: what closes a cell of the table that has no arithmetic of its own
+pub ruleset cells = (replying, ending, dropping, putting, standing_by_record, refusing, choosing, rooming)

@@ -1,0 +1,6 @@
+pub mod Acknowledged
+pub mod Evidence
+pub mod InOrder
+pub mod Left
+pub mod TimeLaws
+pub mod Written

@@ -1,0 +1,9 @@
+pub mod Clients
+pub mod DrawnTests
+pub mod Events
+pub mod Faults
+pub mod OneShardRun
+pub mod RandomRuns
+pub mod Recovery
+pub mod Served
+pub mod TwoShardRun
