@@ -1,4 +1,4 @@
--- Accounts, transfers between them, and audits.
+-- Accounts, transfers between them, and audits: laws of the transactions that stand in the logs.
 use Rattle.std.specs.Prelude.{ℕ, ◌+◌, ◌≡◌, ◌⊎◌, ◌<◌, ◌≤◌, IsTrue, List, [], ◌∷◌, Option, filter}
 use Rattle.units.specs.Keys.{Bytes, writes_key}
 use Rattle.units.specs.Ids.{Id}
@@ -40,8 +40,8 @@ pub record IsTransfer (b : Bank) (lines : List Line) (t : Id) (ws : List Write) 
 
 -- each transaction of the logs that is above one timestamp and up to another is a transfer
 abbrev pub AllTransfers : Bank → List (List Record) → List Line → ℕ → ℕ → Type 0
-AllTransfers b logs lines from at = (u : Txn) → IsAmong (history logs) u → from < u.at → u.at ≤ at →
-IsTransfer b lines u.txn u.writes
+AllTransfers b logs lines from at =
+    (u : Txn) → IsAmong (history logs) u → from < u.at → u.at ≤ at → IsTransfer b lines u.txn u.writes
 
 -- conservation: between two timestamps with transfers alone between them the accounts hold as much together, and where all
 -- are transfers as much as at the start
@@ -62,9 +62,10 @@ IsAudit b lines at seen = (k : Bytes) → IsAmong b.accounts k → IsLine lines 
 -- two audits find as much, if there are transfers alone between their timestamps
 abbrev pub AuditsAgree : Type 0
 AuditsAgree =
-    (b : Bank) (config : Config) (es : List Event) (logs : List (List Record)) (from at : ℕ) (first second : Map) → IsTrue (lawful config es) → MayBeLeft config es logs →
-    from ≤ at → AllTransfers b logs (run config es).lines from at → IsAudit b (run config es).lines from first →
-    IsAudit b (run config es).lines at second →
+    (b : Bank) (config : Config) (es : List Event) (logs : List (List Record)) (from at : ℕ) (first second : Map) →
+    IsTrue (lawful config es) → MayBeLeft config es logs →
+    from ≤ at → AllTransfers b logs (run config es).lines from at →
+    IsAudit b (run config es).lines from first → IsAudit b (run config es).lines at second →
     total b second ≡ total b first
 
 -- a transaction leaves enough in an account: at least the least amount, or no less than it read there
@@ -79,5 +80,6 @@ NeverBelow =
     (b : Bank) (least : ℕ) (config : Config) (es : List Event) (logs : List (List Record)) (at : ℕ) →
     IsTrue (lawful config es) → MayBeLeft config es logs →
     ((k : Bytes) → IsAmong b.accounts k → least ≤ b.amount (empty k)) →
-    ((u : Txn) (k : Bytes) → IsAmong (history logs) u → u.at ≤ at → IsAmong (accounts_of b u.writes) k → LeavesEnough b least (run config es).lines u.txn u.writes k) →
+    ((u : Txn) (k : Bytes) → IsAmong (history logs) u → u.at ≤ at → IsAmong (accounts_of b u.writes) k →
+    LeavesEnough b least (run config es).lines u.txn u.writes k) →
     (k : Bytes) → IsAmong b.accounts k → least ≤ b.amount (upto (history logs) at k)

@@ -38,4 +38,5 @@ KeptBetween =
     (test : Map → Bool) (config : Config) (es : List Event) (logs : List (List Record)) (from at : ℕ) →
     IsTrue (lawful config es) → MayBeLeft config es logs →
     from ≤ at → IsTrue (test (upto (history logs) from)) →
-    ((u : Txn) → IsAmong (history logs) u → from < u.at → u.at ≤ at → Keeps test (run config es).lines u.txn u.writes) → IsTrue (test (upto (history logs) at))
+    ((u : Txn) → IsAmong (history logs) u → from < u.at → u.at ≤ at → Keeps test (run config es).lines u.txn u.writes) →
+    IsTrue (test (upto (history logs) at))

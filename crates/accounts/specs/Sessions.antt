@@ -47,7 +47,8 @@ ServicesKeep =
     (test : Map → Bool) (config : Config) (es : List Event) (logs : List (List Record)) (at : ℕ) →
     IsTrue (lawful config es) → MayBeLeft config es logs →
     IsTrue (test empty) →
-    AllClosed (run config es) (λ c. (f : Map → List Write) × IsKeeping test f × Follows f (run config es).lines c.txn c.writes) → IsTrue (test (upto (history logs) at))
+    AllClosed (run config es) (λ c. (f : Map → List Write) × IsKeeping test f × Follows f (run config es).lines c.txn c.writes) →
+    IsTrue (test (upto (history logs) at))
 
 -- each closed session is a transfer
 abbrev pub AllTransfer : Bank → World → Type 0
@@ -68,5 +69,6 @@ SessionsLeaveEnough =
     (b : Bank) (least : ℕ) (config : Config) (es : List Event) (k : Bytes) (at : ℕ) (x : Option Bytes) →
     IsTrue (lawful config es) →
     ((j : Bytes) → IsAmong b.accounts j → least ≤ b.amount (empty j)) →
-    AllClosed (run config es) (λ c. (j : Bytes) → IsAmong (accounts_of b c.writes) j → LeavesEnough b least (run config es).lines c.txn c.writes j) →
+    AllClosed (run config es)
+    (λ c. (j : Bytes) → IsAmong (accounts_of b c.writes) j → LeavesEnough b least (run config es).lines c.txn c.writes j) →
     IsAmong b.accounts k → IsLine (run config es).lines (Line.Look k at x) → least ≤ b.amount x

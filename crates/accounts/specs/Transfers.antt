@@ -26,7 +26,8 @@ pub record IsSpelt (b : Bank) (spell : ℕ → Bytes) : Type 0 where
 abbrev pub transfer : Bank → (ℕ → Bytes) → Bytes → Bytes → ℕ → Map → List Write
 transfer b spell from to n m =
     cond (nat_le n (b.amount (m from)))
-    (record { key = from; value = Some (spell (b.amount (m from) - n)) } ∷ record { key = to; value = Some (spell (b.amount (m to) + n)) } ∷ [])
+    (record { key = from; value = Some (spell (b.amount (m from) - n)) }
+    ∷ record { key = to; value = Some (spell (b.amount (m to) + n)) } ∷ [])
     []
 
 -- a session is a transfer between two accounts

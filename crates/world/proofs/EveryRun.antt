@@ -114,7 +114,7 @@ message_limit setup bag m now p same = by_value (slice_get bag m) same
     by_value (Some e) k = given now (Input.Deliver e.message) p tt k
 
 pub doing_limit : (setup : Setup) (w : World) (time n : ℕ) (doing : Doing) → may_do w time n doing ≡ true → DoingAllowed InLimit setup w.bag doing
-doing_limit setup w time n (Doing.Take m now) may = message_limit setup w.bag m now
+doing_limit setup w time n (Doing.Take m now) may p same = message_limit setup w.bag m now p same
 doing_limit setup w time n (Doing.Resume now) may p same = given now Input.Resume p tt same
 doing_limit setup w time n (Doing.Settle t now) may p same = given now (Input.Settle t) p tt same
 doing_limit setup w time n (Doing.Advance at now) may p same =
