@@ -4,6 +4,7 @@ use Rattle.std.proofs.lemmas.Bool.{cases_eq}
 use Rattle.units.specs.Lists.{replaced}
 use Rattle.record.specs.declared.record.Record.{Record}
 use Rattle.world.specs.World.{World, ShardNow, State, Runs, IsStopped, IsDown, set_shard}
+use Rattle.world.proofs.Places.{get-replaced_same, get-replaced_other}
 use Rattle.law.specs.Evidence.{Scene, IsAmong, log_at, StateEvidence, ShardEvidence, Holds}
 use Rattle.law.proofs.Grows.{Within, Grows, message_stays, line_stays, began_stays, record_stays, rows_stay}
 

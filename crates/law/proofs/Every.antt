@@ -22,6 +22,7 @@ use Rattle.world.specs.declared.event.Event.{Event}
 use Rattle.world.specs.declared.event.Reply.{Reply}
 use Rattle.law.specs.Evidence.{Scene, IsAmong, RecordEvidence, Holds, ShardEvidence}
 use Rattle.world.specs.Steady.{IsSteady, AlwaysSteady}
+use Rattle.world.proofs.Places.{replicated}
 use Rattle.law.proofs.Grows.{Grows, message_stays, line_stays, began_stays}
 use Rattle.law.proofs.Changes.{with_world, shard_stays}
 use Rattle.law.proofs.Sessions.{begin_holds}

@@ -11,6 +11,7 @@ use Rattle.protocol.specs.Outputs.{refused_vote}
 use Rattle.protocol.specs.Plan.{Change, Puts, Plan, Planned, Before, votes_of, replies, ends, drops, puts, roomed}
 use Rattle.law.specs.Evidence.{Scene, IsAmong, RecordEvidence, PhaseEvidence, Told, AllTold, HasOutcome}
 use Rattle.law.proofs.Members.{all_append}
+use Rattle.world.proofs.Places.{with_record}
 
 -- what is logged rests on something
 abbrev pub LoggedEvidence : Scene → List Record → ℕ → Option Record → Type 0

@@ -1,5 +1,5 @@
 -- Each promise and each decision is above the versions and the ends before it.
-use Rattle.std.proofs.Common.{◌≡◌, ◌⊎◌, inl, inr, ℕ, ◌+◌, ◌<◌, ◌≤◌, max, min, Bool, true, false, cond, nat_le, nat_lt, List, [], ◌∷◌, ◌++◌, Option, Some, None, refl, sym, ap, subst, ◌∙◌, arith}
+use Rattle.std.proofs.Common.{◌≡◌, ◌⊎◌, inl, inr, ℕ, ◌+◌, ◌<◌, ◌≤◌, max, min, Bool, true, false, cond, nat_le, nat_lt, List, [], ◌∷◌, ◌++◌, Option, Some, None, refl, sym, ap, subst, ◌∙◌, arith, slice_get}
 use Rattle.std.specs.Prelude.{Ok}
 use Rattle.std.proofs.lemmas.Bool.{leb-true}
 use Rattle.protocol.specs.Outputs.{promise, decision}
@@ -35,6 +35,11 @@ use Rattle.law.proofs.Accepts.{each_at}
 use Rattle.law.proofs.ReadBefore.{Claims, IsAboveAll, IsStamped, end_stamp}
 use Rattle.world.proofs.EveryRun.{InLimit, IsWell, keeps, opens, fresh, fresh_taken, in_limit, limits, logs}
 use Rattle.world.proofs.Sounds.{always_sound}
+use Rattle.world.specs.World.{fresh_log, run}
+use Rattle.world.specs.declared.event.Config.{Config}
+use Rattle.world.specs.declared.event.Event.{Event}
+use Rattle.world.specs.Headline.{MayBeLeft}
+use Rattle.world.specs.Lawful.{lawful}
 use Rattle.law.proofs.LeftGood.{left_is_good}
 
 -- a record at the end of a list, or before it
