@@ -99,7 +99,10 @@ fn answers_of_help(rt: HostRuntime) -> Result<(), Fail> {
         let mut out: Vec<u8> = Vec::new(alloc);
         let mut err: Vec<u8> = Vec::new(alloc);
         assert_eq!(rt; answer(alloc, words, &mut out, &mut err), 0, "at {words:?}");
-        assert!(rt; out.as_slice().starts_with(b"usage: shards COMMAND"), "at {words:?}");
+        assert!(rt;
+            out.as_slice().starts_with(b"usage: shards COMMAND"),
+            "at {words:?}"
+        );
         assert!(rt; err.is_empty(), "at {words:?}");
     }
     let plain = ["once", "--", "-h", "--help", "100", "110", "112", "121"];

@@ -2,8 +2,8 @@
 ghost use Rattle.std.specs.Prelude.{◌≡◌, ◌⊎◌, Ok, Err, MatchResult, map, true};
 ghost use Rattle.units.specs.declared.fault.Fault.TheVariants.{Memory};
 ghost use Rattle.cli.specs.declared.commands.Command.TheVariants.{Help};
-ghost use Rattle.cli.specs.Lines.{are_covered, asks_help};
-ghost use Rattle.cli.specs.Commands.{command_of, key_of, value_of};
+ghost use Rattle.cli.specs.Lines.{are_covered, are_plain, asks_help, line_of};
+ghost use Rattle.cli.specs.Commands.{command_of, command_or_refusal, key_of, value_of};
 
 use crate::Command;
 use crate::command_line::{Line, read_line};
@@ -24,6 +24,14 @@ pub fn command<'a>(alloc: Global, words: &'a [&'a str]) -> Result<Command, Fault
     if asks_help(words) {
         return Ok(Command::Help);
     }
+    read_command(alloc, words)
+}
+
+fn read_command<'a>(alloc: Global, words: &'a [&'a str]) -> Result<Command, Fault>
+    ensures { are_plain (map (λ w. w.now) words.entry.now) ≡ true → MatchResult result
+        (λ c. command_or_refusal (line_of (map (λ w. w.now) words.entry.now)) ≡ Ok c)
+        (λ f. (f ≡ Memory) ⊎ (command_or_refusal (line_of (map (λ w. w.now) words.entry.now)) ≡ Err f)) }
+{
     let Line::Once {
         key,
         value,
