@@ -1,5 +1,6 @@
 pub mod FirstStep
 pub mod FoundLemmas
+pub mod HelpLemmas
 pub mod LineLemmas
 pub mod NumberLemmas
 pub mod ReplyLemmas

@@ -3,7 +3,7 @@ use Rattle.std.specs.Prelude.{◌&&◌, List, Option, Some, None, Result, Ok, Er
 use Rattle.units.specs.declared.fault.Fault.{Fault}
 use Rattle.units.specs.declared.fault.Fault.TheVariants.{BadRequest}
 use Rattle.units.specs.declared.fault.Reason.TheVariants as reason
-use Rattle.cli.specs.Lines.{CommandLine, Word, once, line_of}
+use Rattle.cli.specs.Lines.{CommandLine, Word, asks_help, once, line_of}
 use Rattle.cli.specs.Numbers.{and_then, reading_of}
 use Rattle.cli.specs.declared.commands.Command.{Command}
 use Rattle.cli.specs.declared.commands.Command.TheVariants as code
@@ -33,4 +33,4 @@ command_or_refusal (Some line) = command_of_line line
 
 -- the command that the words ask for
 abbrev pub command_of : List Word → Result Command Fault
-command_of words = command_or_refusal (line_of words)
+command_of words = if asks_help words then Ok code.Help else command_or_refusal (line_of words)

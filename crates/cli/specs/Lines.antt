@@ -1,7 +1,7 @@
 -- The command lines of the program, as lists of words.
-use Rattle.std.specs.Prelude.{ℕ, Bool, true, not, ◌==◌, List, [], ◌∷◌, Option, Some, None}
+use Rattle.std.specs.Prelude.{ℕ, Bool, true, not, ◌==◌, ◌||◌, List, [], ◌∷◌, Option, Some, None}
 use Rattle.std.specs.Prelude.{codes, if◌then◌else◌}
-use Rattle.std.specs.List.{list_all}
+use Rattle.std.specs.List.{list_all, list_any, take_while}
 use Rattle.std.specs.Str.{bytes_eq}
 
 -- the bytes of a word
@@ -20,6 +20,22 @@ is_plain (c ∷ cs) = not (c == 45)
 -- no word begins with `-`
 abbrev pub are_plain : List Word → Bool
 are_plain = list_all is_plain
+
+-- `-h` or `--help`
+abbrev pub is_help : Word → Bool
+is_help word = bytes_eq word (codes "-h") || bytes_eq word (codes "--help")
+
+-- it is not the word that ends the flags
+abbrev pub is_ahead : Word → Bool
+is_ahead word = not (bytes_eq word (codes "--"))
+
+-- one of the words, before any `--`, is `-h` or `--help`
+abbrev pub asks_help : List Word → Bool
+asks_help words = list_any is_help (take_while is_ahead words)
+
+-- the words of which it is said what they are: no word begins with `-`, or they ask for help
+abbrev pub are_covered : List Word → Bool
+are_covered words = are_plain words || asks_help words
 
 -- KEY VALUE E1 L1 E2 L2
 abbrev pub once_of : List Word → Option CommandLine

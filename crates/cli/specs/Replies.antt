@@ -10,6 +10,7 @@ use Rattle.units.specs.declared.fault.Fault.TheVariants.{TimeSpent}
 use Rattle.cli.specs.Commands.{command_of}
 use Rattle.cli.specs.Lines.{Word}
 use Rattle.cli.specs.Numbers.{and_then}
+use Rattle.cli.specs.declared.usage.TheConstants.{USAGE}
 use Rattle.cli.specs.declared.commands.Command.{Command}
 use Rattle.cli.specs.declared.commands.Command.TheVariants as code
 
@@ -47,6 +48,7 @@ once_reply first second = and_then (commit_stamp first) (λ s. Ok (settled_reply
 
 -- what a command prints
 abbrev pub reply_of : Command → Result Reply Fault
+reply_of code.Help = Ok (USAGE.now, 0)
 reply_of (code.Once key value first second) = once_reply first second
 
 -- what a command line is answered

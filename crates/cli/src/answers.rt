@@ -2,14 +2,16 @@
 ghost use Rattle.std.specs.Prelude.{◌≡◌, ◌≢◌, ◌⊎◌, Ok, Err, IfOk, IfErr, map, true, List, ℕ};
 ghost use Rattle.std.specs.Io.KnownBytes.{Appends};
 ghost use Rattle.units.specs.declared.fault.Fault.{Fault};
+ghost use Rattle.cli.specs.declared.usage.TheConstants.{USAGE};
 ghost use Rattle.cli.specs.Failures.{FailsFor};
-ghost use Rattle.cli.specs.Lines.{are_plain};
+ghost use Rattle.cli.specs.Lines.{are_plain, asks_help};
 ghost use Rattle.cli.specs.Replies.{reply_to};
 
 use crate::command;
 use crate::commands::Command;
 use crate::failure::Failure;
 use crate::once::once;
+use crate::usage::help;
 use std::alloc::Global;
 use std::io::Write;
 
@@ -28,6 +30,8 @@ pub fn answer<'a, O: Write, E: Write>(
         × Appends (O.contents out.old) (O.contents out.new) text }
     ensures refused { are_plain (map (λ w. w.now) words.entry.now) ≡ true → (fault : Fault)
         → reply_to (map (λ w. w.now) words.entry.now) ≡ Err fault → (result ≡ 2) × (out.new ≡ out.old) }
+    ensures helped { asks_help (map (λ w. w.now) words.entry.now) ≡ true → result ≢ 2
+        → (result ≡ 0) × Appends (O.contents out.old) (O.contents out.new) USAGE.now }
     ensures quiet { result ≢ 2 → err.new ≡ err.old }
 {
     match carry_out(alloc, words, out) {
@@ -47,10 +51,13 @@ fn carry_out<'a, O: Write>(alloc: Global, words: &'a [&'a str], out: &mut O) -> 
         × Appends (O.contents out.old) (O.contents out.new) text) }
     ensures refused { are_plain (map (λ w. w.now) words.entry.now) ≡ true → (fault : Fault)
         → reply_to (map (λ w. w.now) words.entry.now) ≡ Err fault → out.new ≡ out.old }
+    ensures helped { asks_help (map (λ w. w.now) words.entry.now) ≡ true → IfOk result (λ status. (status ≡ 0)
+        × Appends (O.contents out.old) (O.contents out.new) USAGE.now) }
     ensures failures { are_plain (map (λ w. w.now) words.entry.now) ≡ true
         → IfErr result (λ failure. FailsFor failure (reply_to (map (λ w. w.now) words.entry.now))) }
 {
     match command(alloc, words)? {
+        Command::Help => help(out),
         Command::Once {
             key,
             value,

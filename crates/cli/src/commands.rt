@@ -5,6 +5,8 @@ use units::{Key, Value};
 /// A command.
 #[derive(Debug, Drop)]
 pub enum Command {
+    /// The usage is printed.
+    Help,
     /// One shard commits the write of a value at the first reading, and settles it at the second.
     Once {
         key: Key,

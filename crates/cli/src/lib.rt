@@ -8,6 +8,7 @@ mod failure;
 mod numbers;
 mod once;
 mod one_shard;
+mod usage;
 mod words;
 
 pub use answers::answer;

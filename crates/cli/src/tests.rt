@@ -84,6 +84,36 @@ fn answers_of_once(rt: HostRuntime) -> Result<(), Fail> {
     Ok(())
 }
 
+// Help is printed before anything else is looked at, but not for words behind `--`.
+#[test]
+fn answers_of_help(rt: HostRuntime) -> Result<(), Fail> {
+    let alloc = rt.alloc();
+    let asking: [&[&str]; 5] = [
+        &["--help"],
+        &["-h"],
+        &["once", "--help"],
+        &["once", "a", "-h", "--", "1"],
+        &["-x", "--help"],
+    ];
+    for words in asking {
+        let mut out: Vec<u8> = Vec::new(alloc);
+        let mut err: Vec<u8> = Vec::new(alloc);
+        assert_eq!(rt; answer(alloc, words, &mut out, &mut err), 0, "at {words:?}");
+        assert!(rt;
+            out.as_slice().starts_with(b"usage: shards COMMAND"),
+            "at {words:?}"
+        );
+        assert!(rt; err.is_empty(), "at {words:?}");
+    }
+    let plain = ["once", "--", "-h", "--help", "100", "110", "112", "121"];
+    let mut out: Vec<u8> = Vec::new(alloc);
+    let mut err: Vec<u8> = Vec::new(alloc);
+    assert_eq!(rt; answer(alloc, plain.as_slice(), &mut out, &mut err), 0);
+    assert!(rt; out.as_slice() == b"commit 1.1 at 111\ndone 1.1 committed 111\n".as_slice());
+    assert!(rt; err.is_empty());
+    Ok(())
+}
+
 // Where there is memory, want of it is not the answer.
 #[test]
 fn always_memory(rt: HostRuntime) -> Result<(), Fail> {
@@ -95,7 +125,10 @@ fn always_memory(rt: HostRuntime) -> Result<(), Fail> {
         value,
         first,
         second,
-    } = asked;
+    } = asked
+    else {
+        unreachable!();
+    };
     assert!(rt; key.as_bytes() == b"a".as_slice() && value.as_bytes() == b"1".as_slice());
     assert_eq!(rt; first.earliest().micros(), 100);
     assert_eq!(rt; first.latest().micros(), 110);
@@ -119,7 +152,7 @@ fn words_that_are_no_command(rt: HostRuntime) {
     assert!(rt; is_refused(alloc, &["once", "a", "1", "", "110", "112", "121"]));
     assert!(rt; is_refused(alloc, &["once", "a", "1", "+100", "110", "112", "121"]));
     assert!(rt; is_refused(alloc, &["help"]));
-    assert!(rt; is_refused(alloc, &["--help"]));
+    assert!(rt; is_refused(alloc, &["once", "--helpful"]));
 }
 
 fn is_refused<'a>(alloc: Global, words: &'a [&'a str]) -> bool {
