@@ -1,7 +1,8 @@
+//! Transactions at their clients.
 ghost use Rattle.std.specs.Prelude.{◌≡◌};
 
-use crate::{Closing, Finished, Heard, Open, Phase, Tx};
 use message::{Address, Answer, Done, Message, Outbox, ReadAnswer};
+use session::{Closing, Finished, Heard, Open, Phase, Tx};
 use std::alloc::Global;
 use std::test::Fail;
 use tickets::{Drawer, Tickets};
@@ -202,7 +203,8 @@ fn an_end_is_heard(rt: HostRuntime) -> Result<(), Fail> {
     Ok(())
 }
 
-fn begin_and_spend(
+// The id that a new transaction asks for a key with.
+fn begin_and_ask(
     alloc: Global,
     run: Run,
     splits: &Splits,
@@ -212,10 +214,17 @@ fn begin_and_spend(
     requires { drawer.old.source ≡ tickets.now }
     ensures { drawer.new.source ≡ drawer.old.source }
 {
-    let tx = Tx::begin_drawn(alloc, run, splits, tickets, drawer)?;
-    let txn = tx.txn;
+    let mut tx = Tx::begin_drawn(alloc, run, splits, tickets, drawer)?;
+    let asked = match Key::new(b"a") {
+        Ok(key) => tx.read(key),
+        Err(fault) => Err(fault),
+    };
     tx.spend();
-    Ok(txn)
+    let asked = asked?;
+    match &asked.message {
+        Message::Read(read) => Ok(read.txn),
+        _ => Err(Fault::Stranger),
+    }
 }
 
 #[test]
@@ -225,8 +234,8 @@ fn numbers_are_drawn(rt: HostRuntime) -> Result<(), Fail> {
     let run = Run::new(7).ok_or("a run")?;
     let (tickets, mut drawers) = Tickets::new(alloc, 1)?;
     let mut drawer = drawers.pop().ok_or("a drawer")?;
-    let first = begin_and_spend(alloc, run, &splits, &tickets, &mut drawer)?;
-    let second = begin_and_spend(alloc, run, &splits, &tickets, &mut drawer)?;
+    let first = begin_and_ask(alloc, run, &splits, &tickets, &mut drawer)?;
+    let second = begin_and_ask(alloc, run, &splits, &tickets, &mut drawer)?;
     assert!(rt; first.is(TxnId::new(7, 0).ok_or("an id")?));
     assert!(rt; second.is(TxnId::new(7, 1).ok_or("an id")?));
     Ok(())
