@@ -13,6 +13,3 @@ mod words;
 pub use answers::answer;
 pub use commands::Command;
 pub use words::command;
-
-#[cfg(test)]
-mod tests;

@@ -1,5 +1,5 @@
 //! What both speak of.
-ghost use Rattle.std.specs.Prelude.{◌≡◌, ◌<◌, ◌^◌};
+ghost use Rattle.std.specs.Prelude.{◌≡◌, ◌<◌, ◌^◌, [], ◌∷◌};
 
 use units::{Key, Lock, Mode, TxnId};
 
@@ -15,6 +15,8 @@ pub fn id(number: u64) -> TxnId
 }
 
 /// A need of one key.
-pub fn needs(key: Key, mode: Mode) -> [Lock; 1] {
+pub fn needs(key: Key, mode: Mode) -> [Lock; 1]
+    ensures { result ≡ record { key = key; mode = mode } ∷ [] }
+{
     [Lock { key, mode }]
 }
