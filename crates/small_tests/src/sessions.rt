@@ -1,8 +1,8 @@
-//! Transactions at their clients.
+//! Transactions at their clients. Shard 0 has the keys below `m`, and shard 1 all others.
 ghost use Rattle.std.specs.Prelude.{◌≡◌};
 
-use message::{Address, Answer, Done, Message, Outbox, ReadAnswer};
-use session::{Closing, Finished, Heard, Open, Phase, Tx};
+use message::{Address, Answer, Done, Envelope, Message, Outbox, ReadAnswer};
+use session::{Closing, Finished, Heard, Open, Tx};
 use std::alloc::Global;
 use std::test::Fail;
 use tickets::{Drawer, Tickets};
@@ -16,190 +16,288 @@ fn split_at_m(alloc: Global) -> Result<Splits, Fault> {
     Splits::new(alloc, &[Key::new(b"m")?])
 }
 
-// What a message is, with the epoch of its reads and the number of its writes.
-fn shape(message: &Message) -> (u8, u64, usize) {
-    match message {
-        Message::Read(_) => (b'r', 0, 0),
-        Message::Commit(commit) => (b'c', commit.reads.epoch(), commit.writes.as_slice().len()),
-        Message::Prepare(prepare) => (b'p', prepare.reads.epoch(), prepare.writes.as_slice().len()),
-        Message::GiveUp(_) => (b'g', 0, 0),
-        _ => (b'?', 0, 0),
+// What transaction 1.2 does while it is open, with keys and values of one letter.
+#[derive(Clone, Copy, Debug)]
+enum Does {
+    Read(u8),
+    Write(u8, u8),
+    Erase(u8),
+    // It hears the answer of shard 1 for a key, in an epoch.
+    Hears(u8, u64, u8),
+}
+
+// What comes of it.
+#[derive(Clone, Copy, PartialEq, Eq)]
+enum Gets {
+    Done,
+    Refused(Reason),
+    Value(u8),
+    Again,
+    Doomed,
+    Other,
+}
+
+// A message by its shard, its kind, the epoch of its reads, and the number of its writes.
+type Shape = (u8, u8, u64, usize);
+
+// How it ends.
+#[derive(Clone, Copy)]
+enum Ends {
+    NotClosed(Reason),
+    // It is closed and says this, once more too. Then it is given up, and says that.
+    Closes(&'static [Shape], &'static [Shape]),
+    GivesUp(&'static [Shape]),
+}
+
+#[derive(Clone, Copy)]
+struct Story {
+    name: &'static str,
+    does: &'static [(Does, Gets)],
+    ends: Ends,
+}
+
+const STORIES: [Story; 5] = [
+    Story {
+        name: "nothing is not closed",
+        does: &[],
+        ends: Ends::NotClosed(Reason::Nothing),
+    },
+    Story {
+        name: "nothing is given up",
+        does: &[],
+        ends: Ends::GivesUp(&[]),
+    },
+    Story {
+        name: "two shards are written",
+        does: &[
+            (Does::Write(b'z', b'2'), Gets::Done),
+            (Does::Erase(b'a'), Gets::Done),
+            (Does::Write(b'a', b'1'), Gets::Done),
+        ],
+        ends: Ends::Closes(
+            &[(0, b'c', 0, 1), (1, b'p', 0, 1)],
+            &[(0, b'g', 0, 0), (1, b'g', 0, 0)],
+        ),
+    },
+    Story {
+        name: "a read is answered once",
+        does: &[
+            (Does::Read(b'z'), Gets::Done),
+            (Does::Read(b'z'), Gets::Refused(Reason::Awaited)),
+            (Does::Hears(b'z', 1, b'2'), Gets::Value(b'2')),
+            (Does::Hears(b'z', 1, b'2'), Gets::Again),
+            (Does::Read(b'z'), Gets::Refused(Reason::Again)),
+        ],
+        ends: Ends::Closes(&[(1, b'c', 1, 0)], &[(1, b'g', 0, 0)]),
+    },
+    Story {
+        name: "a second epoch dooms",
+        does: &[
+            (Does::Read(b'z'), Gets::Done),
+            (Does::Read(b'n'), Gets::Done),
+            (Does::Hears(b'z', 1, b'2'), Gets::Value(b'2')),
+            (Does::Hears(b'n', 2, b'3'), Gets::Doomed),
+            (Does::Erase(b'z'), Gets::Refused(Reason::Doomed)),
+        ],
+        ends: Ends::GivesUp(&[(1, b'g', 0, 0)]),
+    },
+];
+
+fn shape(envelope: &Envelope) -> Shape {
+    let to = match envelope.to {
+        Address::Shard(shard) => shard.number(),
+        Address::Session(_) => 99,
+    };
+    match &envelope.message {
+        Message::Read(_) => (to, b'r', 0, 0),
+        Message::Commit(told) => (to, b'c', told.reads.epoch(), told.writes.as_slice().len()),
+        Message::Prepare(told) => (to, b'p', told.reads.epoch(), told.writes.as_slice().len()),
+        Message::GiveUp(_) => (to, b'g', 0, 0),
+        _ => (to, b'?', 0, 0),
     }
 }
 
-// Each message with its shard.
-fn shapes(alloc: Global, out: &Outbox) -> Result<Vec<(u8, u8, u64, usize)>, Fault> {
-    let mut shapes = Vec::new(alloc);
-    for envelope in out.as_slice() {
-        if let Address::Shard(shard) = envelope.to {
-            let (kind, epoch, writes) = shape(&envelope.message);
-            shapes.push((shard.number(), kind, epoch, writes))?;
+fn says(out: &Outbox, shapes: &[Shape]) -> bool {
+    let envelopes = out.as_slice();
+    if envelopes.len() != shapes.len() {
+        return false;
+    }
+    for (envelope, wanted) in envelopes.iter().zip(shapes.iter()) {
+        if shape(envelope) != *wanted {
+            return false;
         }
     }
-    Ok(shapes)
+    true
 }
 
-fn close<'s>(tx: Tx<'s, Open>, alloc: Global) -> Result<(Tx<'s, Closing>, Outbox), Fault> {
-    match tx.close(alloc) {
-        Ok(closed) => Ok(closed),
-        Err((fault, tx)) => {
-            tx.spend();
-            Err(fault)
-        }
+fn refused(fault: Fault) -> Gets {
+    match fault {
+        Fault::BadRequest(reason) => Gets::Refused(reason),
+        _ => Gets::Other,
     }
 }
 
-fn give_up<S: Phase>(tx: Tx<'_, S>, alloc: Global) -> Result<Outbox, Fault> {
-    match tx.give_up(alloc) {
-        Ok(out) => Ok(out),
-        Err((fault, tx)) => {
-            tx.spend();
-            Err(fault)
-        }
+// It asks shard 1.
+fn asked(tx: &mut Tx<'_, Open>, key: Key) -> Gets {
+    match tx.read(key) {
+        Ok(envelope) if shape(&envelope) == (1, b'r', 0, 0) => Gets::Done,
+        Ok(_) => Gets::Other,
+        Err(fault) => refused(fault),
     }
 }
 
-fn close_fault(tx: Tx<'_, Open>, alloc: Global) -> Option<Fault> {
-    match close(tx, alloc) {
-        Ok((tx, _)) => {
-            tx.spend();
-            None
-        }
-        Err(fault) => Some(fault),
+fn buffered(tx: &mut Tx<'_, Open>, key: Key, value: Option<Value>) -> Gets {
+    match tx.buffer(key, value) {
+        Ok(()) => Gets::Done,
+        Err(fault) => refused(fault),
     }
 }
 
-// The answer of shard 1 to 1.2, in an epoch.
-fn answer_of_z(alloc: Global, epoch: u64, value: &[u8]) -> Result<ReadAnswer, Fault> {
+fn heard(tx: &mut Tx<'_, Open>, alloc: Global, answer: &ReadAnswer) -> Gets {
+    match tx.answered(alloc, answer) {
+        Ok(Heard::Value(Some(value))) => match value.as_bytes() {
+            [byte] => Gets::Value(*byte),
+            _ => Gets::Other,
+        },
+        Ok(Heard::Again) => Gets::Again,
+        Ok(Heard::Doomed) => Gets::Doomed,
+        Ok(_) => Gets::Other,
+        Err(fault) => refused(fault),
+    }
+}
+
+fn answer_of(alloc: Global, key: Key, epoch: u64, value: u8) -> Result<ReadAnswer, Fault> {
     Ok(ReadAnswer {
         from: ShardNo::new(1).ok_or(Fault::Stranger)?,
         txn: id(2)?,
-        key: Key::new(b"z")?,
+        key,
         epoch: Epoch::new(epoch).ok_or(Fault::Stranger)?,
-        answer: Answer::Holds(Some(Value::new(alloc, value)?)),
+        answer: Answer::Holds(Some(Value::new(alloc, &[value])?)),
     })
 }
 
+fn got(tx: &mut Tx<'_, Open>, alloc: Global, does: Does) -> Result<Gets, Fault> {
+    Ok(match does {
+        Does::Read(key) => asked(tx, Key::new(&[key])?),
+        Does::Write(key, value) => {
+            buffered(tx, Key::new(&[key])?, Some(Value::new(alloc, &[value])?))
+        }
+        Does::Erase(key) => buffered(tx, Key::new(&[key])?, None),
+        Does::Hears(key, epoch, value) => {
+            heard(
+                tx,
+                alloc,
+                &answer_of(alloc, Key::new(&[key])?, epoch, value)?,
+            )
+        }
+    })
+}
+
+fn gets_all(tx: &mut Tx<'_, Open>, alloc: Global, does: &[(Does, Gets)]) -> Result<bool, Fault> {
+    for (does, wanted) in does {
+        if got(tx, alloc, *does)? != *wanted {
+            return Ok(false);
+        }
+    }
+    Ok(true)
+}
+
+fn gives_up(tx: Tx<'_, Open>, alloc: Global, shapes: &[Shape]) -> Result<bool, Fault> {
+    match tx.give_up(alloc) {
+        Ok(out) => Ok(says(&out, shapes)),
+        Err((fault, tx)) => {
+            tx.spend();
+            Err(fault)
+        }
+    }
+}
+
+// A closed one says this once more, and that when it is given up.
+fn goes_on(
+    tx: Tx<'_, Closing>,
+    alloc: Global,
+    closing: &[Shape],
+    farewells: &[Shape],
+) -> Result<bool, Fault> {
+    let again = tx.again(alloc);
+    match tx.give_up(alloc) {
+        Ok(out) => Ok(says(&again?, closing) && says(&out, farewells)),
+        Err((fault, tx)) => {
+            tx.spend();
+            Err(fault)
+        }
+    }
+}
+
+fn ended_as(tx: Tx<'_, Open>, alloc: Global, ends: Ends) -> Result<bool, Fault> {
+    if let Ends::GivesUp(shapes) = ends {
+        return gives_up(tx, alloc, shapes);
+    }
+    match (tx.close(alloc), ends) {
+        (Ok((tx, out)), Ends::Closes(closing, farewells)) => {
+            Ok(goes_on(tx, alloc, closing, farewells)? && says(&out, closing))
+        }
+        (Err((fault, tx)), Ends::NotClosed(reason)) => {
+            tx.spend();
+            Ok(fault == Fault::BadRequest(reason))
+        }
+        (Ok((tx, _)), _) => {
+            tx.spend();
+            Ok(false)
+        }
+        (Err((fault, tx)), _) => {
+            tx.spend();
+            Err(fault)
+        }
+    }
+}
+
 #[test]
-fn nothing_is_not_closed(rt: HostRuntime) -> Result<(), Fail> {
+fn sessions(rt: HostRuntime) -> Result<(), Fail> {
     let alloc = rt.alloc();
     let splits = split_at_m(alloc)?;
     let txn = id(2)?;
-    let fault = close_fault(Tx::begin(alloc, txn, &splits), alloc);
-    assert_eq!(rt; fault, Some(Fault::BadRequest(Reason::Nothing)));
-    let told = give_up(Tx::begin(alloc, txn, &splits), alloc)?;
-    assert_eq!(rt; told.as_slice().len(), 0);
+    for story in STORIES {
+        let mut tx = Tx::begin(alloc, txn, &splits);
+        let met = gets_all(&mut tx, alloc, story.does);
+        let ended = ended_as(tx, alloc, story.ends);
+        assert!(rt; met? && ended?, "{}", story.name);
+    }
     Ok(())
 }
 
-#[test]
-fn two_shards_are_written(rt: HostRuntime) -> Result<(), Fail> {
-    let alloc = rt.alloc();
-    let splits = split_at_m(alloc)?;
-    let (txn, a, z) = (id(2)?, Key::new(b"a")?, Key::new(b"z")?);
-    let (one, two) = (Value::new(alloc, b"1")?, Value::new(alloc, b"2")?);
-    let mut tx = Tx::begin(alloc, txn, &splits);
-    let wrote_z = tx.buffer(z, Some(two));
-    let wrote_a = tx.buffer(a, None);
-    let wrote_again = tx.buffer(a, Some(one));
-    let (tx, out) = close(tx, alloc)?;
-    let again = tx.again(alloc);
-    let told = give_up(tx, alloc)?;
-    assert!(rt; wrote_z.is_ok() && wrote_a.is_ok() && wrote_again.is_ok());
-    let closing = [(0, b'c', 0, 1), (1, b'p', 0, 1)];
-    assert_eq!(rt; shapes(alloc, &out)?.as_slice(), closing.as_slice());
-    assert_eq!(rt; shapes(alloc, &again?)?.as_slice(), closing.as_slice());
-    let farewells = [(0, b'g', 0, 0), (1, b'g', 0, 0)];
-    assert_eq!(rt; shapes(alloc, &told)?.as_slice(), farewells.as_slice());
-    Ok(())
+// A closed transaction takes its own end, and no other.
+fn end_of(tx: Tx<'_, Closing>, txn: TxnId, outcome: Option<Stamp>) -> Result<Finished, Fault> {
+    match tx.take(&Done { txn, outcome }) {
+        Ok(finished) => Ok(finished),
+        Err((fault, tx)) => {
+            tx.spend();
+            Err(fault)
+        }
+    }
 }
 
-#[test]
-fn a_read_is_answered_once(rt: HostRuntime) -> Result<(), Fail> {
-    let alloc = rt.alloc();
-    let splits = split_at_m(alloc)?;
-    let (txn, z) = (id(2)?, Key::new(b"z")?);
-    let answer = answer_of_z(alloc, 1, b"2")?;
-    let mut tx = Tx::begin(alloc, txn, &splits);
-    let asked = tx.read(z);
-    let asked_twice = tx.read(z);
-    let heard = tx.answered(alloc, &answer);
-    let heard_twice = tx.answered(alloc, &answer);
-    let asked_late = tx.read(z);
-    let (tx, out) = close(tx, alloc)?;
-    tx.spend();
-    assert_eq!(rt; shape(&asked?.message), (b'r', 0, 0));
-    assert_eq!(rt; asked_twice.err(), Some(Fault::BadRequest(Reason::Awaited)));
-    let Heard::Value(Some(value)) = heard? else {
-        return Err("the value is heard")?;
-    };
-    assert_eq!(rt; value.as_bytes(), b"2".as_slice());
-    assert!(rt; matches!(heard_twice, Ok(Heard::Again)));
-    assert_eq!(rt; asked_late.err(), Some(Fault::BadRequest(Reason::Again)));
-    assert_eq!(rt;
-        shapes(alloc, &out)?.as_slice(),
-        [(1, b'c', 1, 0)].as_slice()
-    );
-    Ok(())
-}
-
-#[test]
-fn a_second_epoch_dooms(rt: HostRuntime) -> Result<(), Fail> {
-    let alloc = rt.alloc();
-    let splits = split_at_m(alloc)?;
-    let (txn, n, z) = (id(2)?, Key::new(b"n")?, Key::new(b"z")?);
-    let answer = answer_of_z(alloc, 1, b"2")?;
-    let later = ReadAnswer {
-        key: n,
-        ..answer_of_z(alloc, 2, b"3")?
-    };
-    let mut tx = Tx::begin(alloc, txn, &splits);
-    let asked = (tx.read(z).is_ok(), tx.read(n).is_ok());
-    let heard = tx.answered(alloc, &answer);
-    let doomed = tx.answered(alloc, &later);
-    let wrote = tx.buffer(z, None);
-    let told = give_up(tx, alloc)?;
-    assert_eq!(rt; asked, (true, true));
-    assert!(rt; matches!(heard, Ok(Heard::Value(_))));
-    assert!(rt; matches!(doomed, Ok(Heard::Doomed)));
-    assert_eq!(rt; wrote, Err(Fault::BadRequest(Reason::Doomed)));
-    assert_eq!(rt;
-        shapes(alloc, &told)?.as_slice(),
-        [(1, b'g', 0, 0)].as_slice()
-    );
-    Ok(())
+fn closed<'s>(alloc: Global, splits: &'s Splits) -> Result<Tx<'s, Closing>, Fault> {
+    let key = Key::new(b"a")?;
+    let mut tx = Tx::begin(alloc, id(2)?, splits);
+    let _ = tx.buffer(key, None);
+    match tx.close(alloc) {
+        Ok((tx, _)) => Ok(tx),
+        Err((fault, tx)) => {
+            tx.spend();
+            Err(fault)
+        }
+    }
 }
 
 #[test]
 fn an_end_is_heard(rt: HostRuntime) -> Result<(), Fail> {
     let alloc = rt.alloc();
-    let splits = split_at_m(alloc)?;
-    let (txn, a, at) = (id(2)?, Key::new(b"a")?, Stamp::new(200)?);
-    let other = Done {
-        txn: id(3)?,
-        outcome: None,
-    };
-    let own = Done {
-        txn,
-        outcome: Some(at),
-    };
-    let mut tx = Tx::begin(alloc, txn, &splits);
-    let wrote = tx.buffer(a, None);
-    let (tx, _) = close(tx, alloc)?;
-    let (stranger, tx) = match tx.take(&other) {
-        Ok(_) => return Err("the end of another")?,
-        Err(refused) => refused,
-    };
-    let finished = match tx.take(&own) {
-        Ok(finished) => Some(finished),
-        Err((_, tx)) => {
-            tx.spend();
-            None
-        }
-    };
-    assert_eq!(rt; wrote, Ok(()));
-    assert_eq!(rt; stranger, Fault::Stranger);
-    assert_eq!(rt; finished, Some(Finished::Committed(at)));
+    let (splits, own, other, at) = (split_at_m(alloc)?, id(2)?, id(3)?, Stamp::new(200)?);
+    let stranger = end_of(closed(alloc, &splits)?, other, None).err();
+    assert_eq!(rt; stranger, Some(Fault::Stranger));
+    let finished = end_of(closed(alloc, &splits)?, own, Some(at))?;
+    assert!(rt; finished == Finished::Committed(at));
     Ok(())
 }
 
