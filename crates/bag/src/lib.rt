@@ -68,6 +68,3 @@ impl Bag {
         self.envelopes.len() as u64
     }
 }
-
-#[cfg(test)]
-mod tests;

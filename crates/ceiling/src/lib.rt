@@ -20,6 +20,3 @@ pub fn needed(floor: Stamp, to: Stamp, stride: Stride) -> Option<Record>
         Err(_) => unreachable!(),
     }
 }
-
-#[cfg(test)]
-mod tests;

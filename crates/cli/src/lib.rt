@@ -14,6 +14,3 @@ mod words;
 pub use answers::answer;
 pub use commands::Command;
 pub use words::command;
-
-#[cfg(test)]
-mod tests;

@@ -125,6 +125,3 @@ pub trait Disk {
     /// Since this moment there is no other.
     ghost only_now: { (disk : Self) (image : List ℕ) → since disk (clock disk) image → MayLeave (surface (file disk)) image };
 }
-
-#[cfg(test)]
-mod tests;

@@ -10,6 +10,3 @@ mod table;
 pub use entry::Status;
 pub use facts::Facts;
 pub use laws::{follows_as_known, learnt_as_followed, says_of_records};
-
-#[cfg(test)]
-mod tests;

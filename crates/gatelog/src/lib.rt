@@ -8,6 +8,3 @@ mod token;
 
 pub use gatelog::GateLog;
 pub use token::{Entry, Logged, Staged};
-
-#[cfg(test)]
-mod tests;

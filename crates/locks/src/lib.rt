@@ -10,6 +10,3 @@ mod table;
 
 pub use held::Held;
 pub use table::Table;
-
-#[cfg(test)]
-mod tests;

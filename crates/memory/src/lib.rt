@@ -20,6 +20,3 @@ pub use ledger::Ledger;
 pub use plan::{Change, Plan, Request};
 pub use planning::{exclusive, reads_stand};
 pub use state::{Past, State};
-
-#[cfg(test)]
-mod tests;

@@ -12,6 +12,3 @@ pub use message::{
 };
 pub use outbox::Outbox;
 pub use reads::Reads;
-
-#[cfg(test)]
-mod tests;

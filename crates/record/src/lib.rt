@@ -13,6 +13,3 @@ pub use length::encoded_len;
 pub use reading::decode;
 pub use record::{Committed, Prepared, Record};
 pub use writing::{encode, none_begins_another};
-
-#[cfg(test)]
-mod tests;

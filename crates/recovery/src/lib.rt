@@ -7,6 +7,3 @@ mod replaying;
 
 pub use belonging::owns_all;
 pub use rebuilding::rebuild;
-
-#[cfg(test)]
-mod tests;

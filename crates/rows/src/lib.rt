@@ -15,6 +15,3 @@ pub use rows::Rows;
 pub use states::{Collecting, Decided, Prepared, Reading};
 pub use votes::{Gathering, Voted, Votes};
 pub use wait::{CommitRequest, PrepareRequest, Wait};
-
-#[cfg(test)]
-mod tests;

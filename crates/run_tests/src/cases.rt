@@ -1,5 +1,5 @@
 //! Runs of which a part counts most: a promise, an outcome that comes twice, a question, a vote that comes first.
-use crate::comparing::{Wanted, compare, compare_over};
+use crate::comparing::{Case, Wanted, compare};
 use crate::steps::{Step, Timed};
 use std::test::Fail;
 
@@ -326,49 +326,83 @@ const VIEWED_WANTED: Wanted<'static> = Wanted {
     ],
 };
 
-#[test]
-fn a_promise_holds_the_served_time(rt: HostRuntime) -> Result<(), Fail> {
-    compare(&rt, rt.alloc(), &PROMISED, &PROMISED_WANTED)
-}
+const CASES: [Case<'static>; 10] = [
+    Case {
+        name: "a promise holds the served time",
+        splits: b"m",
+        steps: &PROMISED,
+        taken: 9,
+        wanted: &PROMISED_WANTED,
+    },
+    Case {
+        name: "an outcome comes twice",
+        splits: b"m",
+        steps: &TOLD_TWICE,
+        taken: 11,
+        wanted: &TOLD_TWICE_WANTED,
+    },
+    Case {
+        name: "a question before the commit",
+        splits: b"m",
+        steps: &ASKED,
+        taken: 8,
+        wanted: &ASKED_WANTED,
+    },
+    Case {
+        name: "two shards decide apart",
+        splits: b"m",
+        steps: &APART,
+        taken: 8,
+        wanted: &APART_WANTED,
+    },
+    Case {
+        name: "a vote before the commit",
+        splits: b"m",
+        steps: &VOTE_FIRST,
+        taken: 8,
+        wanted: &VOTE_IGNORED_WANTED,
+    },
+    Case {
+        name: "the vote once more",
+        splits: b"m",
+        steps: &VOTE_FIRST,
+        taken: 9,
+        wanted: &VOTE_COUNTED_WANTED,
+    },
+    Case {
+        name: "the first vote is the greatest",
+        splits: b"ms",
+        steps: &THREE_PARTS,
+        taken: 13,
+        wanted: &THREE_PARTS_WANTED,
+    },
+    Case {
+        name: "a closed session gives up",
+        splits: b"m",
+        steps: &GIVEN_UP,
+        taken: 7,
+        wanted: &GIVEN_UP_WANTED,
+    },
+    Case {
+        name: "what was read elsewhere",
+        splits: b"m",
+        steps: &READ,
+        taken: 13,
+        wanted: &READ_WANTED,
+    },
+    Case {
+        name: "views of moments",
+        splits: b"m",
+        steps: &VIEWED,
+        taken: 11,
+        wanted: &VIEWED_WANTED,
+    },
+];
 
 #[test]
-fn an_outcome_comes_twice(rt: HostRuntime) -> Result<(), Fail> {
-    compare(&rt, rt.alloc(), &TOLD_TWICE, &TOLD_TWICE_WANTED)
-}
-
-#[test]
-fn a_question_before_the_commit(rt: HostRuntime) -> Result<(), Fail> {
-    compare(&rt, rt.alloc(), &ASKED, &ASKED_WANTED)
-}
-
-#[test]
-fn two_shards_decide_apart(rt: HostRuntime) -> Result<(), Fail> {
-    compare(&rt, rt.alloc(), &APART, &APART_WANTED)
-}
-
-#[test]
-fn a_vote_before_the_commit(rt: HostRuntime) -> Result<(), Fail> {
-    let alloc = rt.alloc();
-    compare(&rt, alloc, &VOTE_FIRST[..8], &VOTE_IGNORED_WANTED)?;
-    compare(&rt, alloc, &VOTE_FIRST, &VOTE_COUNTED_WANTED)
-}
-
-#[test]
-fn the_first_vote_is_the_greatest(rt: HostRuntime) -> Result<(), Fail> {
-    compare_over(&rt, rt.alloc(), b"ms", &THREE_PARTS, &THREE_PARTS_WANTED)
-}
-
-#[test]
-fn a_closed_session_gives_up(rt: HostRuntime) -> Result<(), Fail> {
-    compare(&rt, rt.alloc(), &GIVEN_UP, &GIVEN_UP_WANTED)
-}
-
-#[test]
-fn what_was_read_elsewhere(rt: HostRuntime) -> Result<(), Fail> {
-    compare(&rt, rt.alloc(), &READ, &READ_WANTED)
-}
-
-#[test]
-fn views_of_moments(rt: HostRuntime) -> Result<(), Fail> {
-    compare(&rt, rt.alloc(), &VIEWED, &VIEWED_WANTED)
+fn cases(rt: HostRuntime) -> Result<(), Fail> {
+    for case in CASES {
+        compare(&rt, rt.alloc(), &case)?;
+    }
+    Ok(())
 }

@@ -15,46 +15,51 @@ pub struct Wanted<'a> {
     pub lines: &'a [&'a str],
 }
 
+// Steps over shards that are split at some letters, of which so many are taken, and what they are to come to.
+#[derive(Clone, Copy)]
+pub struct Case<'a> {
+    pub name: &'a str,
+    pub splits: &'a [u8],
+    pub steps: &'a [Timed],
+    pub taken: usize,
+    pub wanted: &'a Wanted<'a>,
+}
+
 fn compare_logs(
     rt: &impl Abort,
     alloc: Global,
     report: &Report,
-    wanted: &Wanted<'_>,
+    case: &Case<'_>,
 ) -> Result<(), Fail> {
-    assert_eq!(rt; report.logs.len(), wanted.logs.len());
-    for (shard, log) in wanted.logs.iter().enumerate() {
+    let logs = case.wanted.logs;
+    assert_eq!(rt; report.logs.len(), logs.len(), "{}", case.name);
+    for (shard, log) in logs.iter().enumerate() {
         let found = log_texts(alloc, report, shard)?;
-        assert_eq!(rt; found, joined(alloc, log)?, "shard {shard}");
+        assert_eq!(rt; found, joined(alloc, log)?, "{}: shard {shard}", case.name);
     }
     Ok(())
 }
 
-// The steps come to what is wanted, over shards that are split at some letters.
-pub fn compare_over(
-    rt: &impl Abort,
-    alloc: Global,
-    splits: &[u8],
-    steps: &[Timed],
-    wanted: &Wanted<'_>,
-) -> Result<(), Fail> {
-    let report = run(alloc, splits, steps).ok_or("a report")?;
-    assert_eq!(rt; report.replies.len(), steps.len());
-    let replies = reply_texts(alloc, &report)?;
-    assert_eq!(rt; replies, joined(alloc, wanted.replies)?);
-    let messages = message_texts(alloc, &report)?;
-    assert_eq!(rt; messages, joined(alloc, wanted.messages)?);
-    compare_logs(rt, alloc, &report, wanted)?;
-    let lines = line_texts(alloc, &report)?;
-    assert_eq!(rt; lines, joined(alloc, wanted.lines)?);
-    Ok(())
-}
-
-// The same over two shards that are split at `m`.
-pub fn compare(
-    rt: &impl Abort,
-    alloc: Global,
-    steps: &[Timed],
-    wanted: &Wanted<'_>,
-) -> Result<(), Fail> {
-    compare_over(rt, alloc, b"m", steps, wanted)
+// The steps come to what is wanted.
+pub fn compare(rt: &impl Abort, alloc: Global, case: &Case<'_>) -> Result<(), Fail> {
+    let steps = case.steps.get(..case.taken).ok_or("so many steps")?;
+    let (wanted, name) = (case.wanted, case.name);
+    let report = run(alloc, case.splits, steps).ok_or("a report")?;
+    assert_eq!(rt; report.replies.len(), steps.len(), "{name}");
+    assert_eq!(rt;
+        reply_texts(alloc, &report)?,
+        joined(alloc, wanted.replies)?,
+        "{name}"
+    );
+    assert_eq!(rt;
+        message_texts(alloc, &report)?,
+        joined(alloc, wanted.messages)?,
+        "{name}"
+    );
+    assert_eq!(rt;
+        line_texts(alloc, &report)?,
+        joined(alloc, wanted.lines)?,
+        "{name}"
+    );
+    compare_logs(rt, alloc, &report, case)
 }

@@ -1,5 +1,5 @@
 //! Whole schedules.
-use crate::comparing::{Wanted, compare};
+use crate::comparing::{Case, Wanted, compare};
 use crate::steps::{Step, Timed};
 use std::test::Fail;
 
@@ -70,12 +70,27 @@ const TWO_SHARDS_WANTED: Wanted<'static> = Wanted {
     lines: &["begin 1.2 0", "ack 1.2 200 7", "look z 200 2"],
 };
 
-#[test]
-fn a_commit_at_one_shard(rt: HostRuntime) -> Result<(), Fail> {
-    compare(&rt, rt.alloc(), &ONE_SHARD, &ONE_SHARD_WANTED)
-}
+const SCHEDULES: [Case<'static>; 2] = [
+    Case {
+        name: "a commit at one shard",
+        splits: b"m",
+        steps: &ONE_SHARD,
+        taken: 6,
+        wanted: &ONE_SHARD_WANTED,
+    },
+    Case {
+        name: "a commit at two shards",
+        splits: b"m",
+        steps: &TWO_SHARDS,
+        taken: 10,
+        wanted: &TWO_SHARDS_WANTED,
+    },
+];
 
 #[test]
-fn a_commit_at_two_shards(rt: HostRuntime) -> Result<(), Fail> {
-    compare(&rt, rt.alloc(), &TWO_SHARDS, &TWO_SHARDS_WANTED)
+fn schedules(rt: HostRuntime) -> Result<(), Fail> {
+    for case in SCHEDULES {
+        compare(&rt, rt.alloc(), &case)?;
+    }
+    Ok(())
 }

@@ -132,6 +132,3 @@ fn place(holds: &[Stamp], at: Stamp) -> usize
     }
     holds.len()
 }
-
-#[cfg(test)]
-mod tests;

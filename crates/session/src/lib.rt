@@ -10,6 +10,3 @@ mod tx;
 
 pub use answered::{Answered, Finished, Heard};
 pub use tx::{Closing, Open, Phase, Tx};
-
-#[cfg(test)]
-mod tests;

@@ -9,6 +9,3 @@ mod tear;
 
 pub use choice::Choice;
 pub use simdisk::SimDisk;
-
-#[cfg(test)]
-mod tests;

@@ -1,17 +1,21 @@
-//! Tests that cross crates: shards on disks in memory.
+//! Tests that cross crates: shards on disks in memory, and what the program prints.
 #![tactic(auto)]
 
 #[cfg(test)]
+mod answers;
+#[cfg(test)]
 mod coordinating;
 #[cfg(test)]
-mod fixtures;
+mod given;
 #[cfg(test)]
 mod one_commit;
+#[cfg(test)]
+mod printed;
 #[cfg(test)]
 mod promising;
 #[cfg(test)]
 mod reopening;
 #[cfg(test)]
-mod runs;
-#[cfg(test)]
 mod serving;
+#[cfg(test)]
+mod stories;

@@ -1,91 +1,135 @@
-use crate::fixtures::{give_up, nudge, outcome, prepare, prepare_of_read, prepare_of_reader, read};
-use crate::runs::{Told, case, look, run};
-use message::Input;
+//! Shards that take part in transactions which another decides.
+use crate::answers::Told;
+use crate::given::Given;
+use crate::stories::{Moment, Past, Shows, Story, tell};
 use std::test::Fail;
 use units::{Fault, Seen};
 
-const RESUME: Option<Input> = Some(Input::Resume);
+const PROMISING: [Story; 5] = [
+    Story {
+        name: "a promise holds the served time",
+        shard: 1,
+        stride: 0,
+        past: Past::New,
+        exchanges: &[(
+            200,
+            210,
+            Given::Prepare(2, b"z", b"7"),
+            Told::One((b'v', 0, 2, 200)),
+        )],
+        moments: &[Moment {
+            after: 1,
+            shows: &[
+                Shows::Prepared(2, 200),
+                Shows::Last(200),
+                Shows::Safe(199),
+                Shows::Look(b"z", 199, 1, Ok(Seen::Absent), [9; 4]),
+                Shows::Look(b"z", 200, 1, Err(Fault::NotYet), [9; 4]),
+            ],
+        }],
+    },
+    // The coordinator may be asked until the outcome comes.
+    Story {
+        name: "an outcome is logged once",
+        shard: 1,
+        stride: 0,
+        past: Past::New,
+        exchanges: &[
+            (
+                200,
+                210,
+                Given::Prepare(2, b"z", b"7"),
+                Told::One((b'v', 0, 2, 200)),
+            ),
+            (201, 230, Given::Nudge(2), Told::One((b'a', 0, 2, 0))),
+            (201, 230, Given::Outcome(2, 200), Told::Nothing),
+            (201, 230, Given::Outcome(2, 200), Told::Nothing),
+        ],
+        // The opening, the promise, one outcome and a closed gate.
+        moments: &[Moment {
+            after: 4,
+            shows: &[
+                Shows::Prepared(0, 0),
+                Shows::Installs(1),
+                Shows::Safe(200),
+                Shows::Size(95),
+                Shows::Look(b"z", 200, 1, Ok(Seen::Value(1)), [0x37, 9, 9, 9]),
+            ],
+        }],
+    },
+    Story {
+        name: "an older prepare ends a younger reader",
+        shard: 1,
+        stride: 0,
+        past: Past::New,
+        exchanges: &[
+            (200, 210, Given::Read(2, b"z"), Told::One((b'r', 9, 2, 1))),
+            (
+                200,
+                210,
+                Given::Prepare(1, b"z", b"1"),
+                Told::One((b'v', 0, 1, 200)),
+            ),
+            (
+                200,
+                210,
+                Given::PrepareOfReader(2, b"z", b"2"),
+                Told::One((b'v', 0, 2, 0)),
+            ),
+        ],
+        // The opening, one promise and a closed gate.
+        moments: &[Moment {
+            after: 3,
+            shows: &[Shows::Prepared(1, 200), Shows::Size(64)],
+        }],
+    },
+    Story {
+        name: "a younger prepare waits for an older reader",
+        shard: 1,
+        stride: 0,
+        past: Past::New,
+        exchanges: &[
+            (200, 210, Given::Read(1, b"z"), Told::One((b'r', 9, 1, 1))),
+            (200, 210, Given::Prepare(2, b"z", b"2"), Told::Nothing),
+            (202, 212, Given::Resume, Told::Nothing),
+            (205, 215, Given::GiveUp(1), Told::Nothing),
+            (220, 230, Given::Resume, Told::One((b'v', 0, 2, 220))),
+        ],
+        moments: &[
+            Moment {
+                after: 4,
+                shows: &[Shows::Ready(2), Shows::Prepared(0, 0)],
+            },
+            Moment {
+                after: 5,
+                shows: &[Shows::Ready(0), Shows::Prepared(2, 220)],
+            },
+        ],
+    },
+    // What is read at one shard and written at another: here it was read.
+    Story {
+        name: "a promise of what was read closes without a version",
+        shard: 1,
+        stride: 0,
+        past: Past::New,
+        exchanges: &[
+            (90, 95, Given::Read(3, b"z"), Told::One((b'r', 9, 3, 1))),
+            (
+                90,
+                95,
+                Given::PrepareOfRead(3, b"z"),
+                Told::One((b'v', 0, 3, 90)),
+            ),
+            (112, 121, Given::Outcome(3, 111), Told::Nothing),
+        ],
+        moments: &[Moment {
+            after: 3,
+            shows: &[Shows::Installs(0), Shows::Last(111), Shows::Safe(111)],
+        }],
+    },
+];
 
 #[test]
-fn a_promise_holds_the_served_time(rt: HostRuntime) -> Result<(), Fail> {
-    let alloc = rt.alloc();
-    let asked = prepare(alloc, 2, b"z", b"7");
-    let cases = [case(200, 210, asked, Told::One((b'v', 0, 2, 200)))];
-    let shown = run(alloc, 1, &cases).ok_or("a run")?;
-    assert!(rt; shown.prepared == (2, 200) && shown.last == 200 && shown.safe == 199);
-    let below = look(alloc, 1, &cases, (b"z", 199, 1)).ok_or("a look")?;
-    assert!(rt; below.0 == Ok(Seen::Absent));
-    let at = look(alloc, 1, &cases, (b"z", 200, 1)).ok_or("a look")?;
-    assert!(rt; at.0 == Err(Fault::NotYet));
-    Ok(())
-}
-
-// The coordinator may be asked until the outcome comes; the outcome is logged once.
-#[test]
-fn an_outcome_is_logged_once(rt: HostRuntime) -> Result<(), Fail> {
-    let alloc = rt.alloc();
-    let asked = prepare(alloc, 2, b"z", b"7");
-    let cases = [
-        case(200, 210, asked, Told::One((b'v', 0, 2, 200))),
-        case(201, 230, nudge(2), Told::One((b'a', 0, 2, 0))),
-        case(201, 230, outcome(2, 200), Told::Nothing),
-        case(201, 230, outcome(2, 200), Told::Nothing),
-    ];
-    let shown = run(alloc, 1, &cases).ok_or("a run")?;
-    assert!(rt; shown.prepared == (0, 0) && shown.installs == 1 && shown.safe == 200);
-    // The opening, the promise, one outcome and a closed gate.
-    assert_eq!(rt; shown.size, 95);
-    let seen = look(alloc, 1, &cases, (b"z", 200, 1)).ok_or("a look")?;
-    assert!(rt; seen.0 == Ok(Seen::Value(1)) && seen.1 == [0x37, 9, 9, 9]);
-    Ok(())
-}
-
-#[test]
-fn an_older_prepare_ends_a_younger_reader(rt: HostRuntime) -> Result<(), Fail> {
-    let alloc = rt.alloc();
-    let older = prepare(alloc, 1, b"z", b"1");
-    let younger = prepare_of_reader(alloc, 2, b"z", b"2");
-    let cases = [
-        case(200, 210, read(2, b"z"), Told::One((b'r', 9, 2, 1))),
-        case(200, 210, older, Told::One((b'v', 0, 1, 200))),
-        case(200, 210, younger, Told::One((b'v', 0, 2, 0))),
-    ];
-    let shown = run(alloc, 1, &cases).ok_or("a run")?;
-    assert!(rt; shown.prepared == (1, 200));
-    // The opening, one promise and a closed gate.
-    assert_eq!(rt; shown.size, 64);
-    Ok(())
-}
-
-#[test]
-fn a_younger_prepare_waits_for_an_older_reader(rt: HostRuntime) -> Result<(), Fail> {
-    let alloc = rt.alloc();
-    let younger = prepare(alloc, 2, b"z", b"2");
-    let cases = [
-        case(200, 210, read(1, b"z"), Told::One((b'r', 9, 1, 1))),
-        case(200, 210, younger, Told::Nothing),
-        case(202, 212, RESUME, Told::Nothing),
-        case(205, 215, give_up(1), Told::Nothing),
-        case(220, 230, RESUME, Told::One((b'v', 0, 2, 220))),
-    ];
-    let waiting = run(alloc, 1, &cases[..4]).ok_or("a run")?;
-    assert!(rt; waiting.ready == 2 && waiting.prepared == (0, 0));
-    let shown = run(alloc, 1, &cases).ok_or("a run")?;
-    assert!(rt; shown.ready == 0 && shown.prepared == (2, 220));
-    Ok(())
-}
-
-// What is read at one shard and written at another: here it was read, and the promise closes without a version.
-#[test]
-fn a_promise_of_what_was_read(rt: HostRuntime) -> Result<(), Fail> {
-    let alloc = rt.alloc();
-    let asked = prepare_of_read(alloc, 3, b"z");
-    let cases = [
-        case(90, 95, read(3, b"z"), Told::One((b'r', 9, 3, 1))),
-        case(90, 95, asked, Told::One((b'v', 0, 3, 90))),
-        case(112, 121, outcome(3, 111), Told::Nothing),
-    ];
-    let shown = run(alloc, 1, &cases).ok_or("a run")?;
-    assert!(rt; shown.installs == 0 && shown.last == 111 && shown.safe == 111);
-    Ok(())
+fn promising(rt: HostRuntime) -> Result<(), Fail> {
+    tell(&rt, rt.alloc(), &PROMISING)
 }

@@ -1,110 +1,236 @@
 //! Shards whose disks crash and are opened again.
-use crate::fixtures::{advance, commit, nudge, outcome, prepare, prepare_of_reader, read, settle};
-use crate::runs::{Told, case, disk_after, look_again, refusal, run_again, run_armed};
+use crate::answers::Told;
+use crate::given::Given;
+use crate::stories::{Exchange, Moment, Past, Shows, Story, disk_behind, fresh, setup, tell};
+use shard::Core;
 use simdisk::SimDisk;
+use std::alloc::Global;
 use std::test::Fail;
-use units::{Fault, Seen};
+use units::{Fault, Seen, Setup};
 
-// The greatest timestamp is the log's, and promises go on above it.
-#[test]
-fn a_ceiling_outlives_a_crash(rt: HostRuntime) -> Result<(), Fail> {
-    let alloc = rt.alloc();
-    let served = [case(150, 160, advance(150), Told::Nothing)];
-    let found = run_again(alloc, 1, 50, &served, &[]).ok_or("an opening")?;
-    assert!(rt; found.last == 200 && found.safe == 200 && found.epoch == 2);
-    let asked = prepare(alloc, 2, b"z", b"7");
-    let vote = [case(160, 170, asked, Told::One((b'v', 0, 2, 201)))];
-    let shown = run_again(alloc, 1, 50, &served, &vote).ok_or("a run")?;
-    assert!(rt; shown.prepared == (2, 201) && shown.last == 201 && shown.safe == 200);
-    Ok(())
-}
+const SERVED: &[Exchange] = &[(150, 160, Given::Advance(150), Told::Nothing)];
 
-// What was read in an epoch does not stand in the next.
-#[test]
-fn a_read_does_not_outlive_a_crash(rt: HostRuntime) -> Result<(), Fail> {
-    let alloc = rt.alloc();
-    let seen = [case(100, 110, read(1, b"z"), Told::One((b'r', 9, 1, 1)))];
-    let asked = prepare_of_reader(alloc, 1, b"z", b"2");
-    let vote = [case(200, 210, asked, Told::One((b'v', 0, 1, 0)))];
-    let shown = run_again(alloc, 1, 0, &seen, &vote).ok_or("a run")?;
-    // Two openings and a closed gate.
-    assert!(rt; shown.prepared == (0, 0) && shown.epoch == 2 && shown.size == 37);
-    Ok(())
-}
+const HAS_READ: &[Exchange] = &[(100, 110, Given::Read(1, b"z"), Told::One((b'r', 9, 1, 1)))];
 
-// A decision that is logged and not settled is settled after the opening.
-#[test]
-fn a_decision_outlives_a_crash(rt: HostRuntime) -> Result<(), Fail> {
-    let alloc = rt.alloc();
-    let asked = commit(alloc, 1, 0, b"a", b"1");
-    let decided = [case(100, 110, asked, Told::Nothing)];
-    let found = run_again(alloc, 0, 0, &decided, &[]).ok_or("an opening")?;
-    assert!(rt; found.epoch == 2 && found.decided == (1, 111));
-    assert!(rt; found.last == 111 && found.safe == 110 && found.installs == 0);
-    let at = look_again(alloc, 0, &decided, (b"a", 111, 1)).ok_or("a look")?;
-    assert!(rt; at.0 == Err(Fault::NotYet));
-    let below = look_again(alloc, 0, &decided, (b"a", 110, 1)).ok_or("a look")?;
-    assert!(rt; below.0 == Ok(Seen::Absent));
-    let settled = [
-        case(105, 112, settle(1), Told::Refused(Fault::Early)),
-        case(112, 121, settle(1), Told::One((b'd', 9, 1, 111))),
-    ];
-    let shown = run_again(alloc, 0, 0, &decided, &settled).ok_or("a run")?;
-    assert!(rt; shown.decided == (0, 0) && shown.installs == 1 && shown.safe == 111);
-    Ok(())
-}
+const DECIDED: &[Exchange] = &[(100, 110, Given::Commit(1, 0, b"a", b"1"), Told::Nothing)];
 
-// A promise whose outcome was lost asks for it after the opening, and holds its lock until it comes.
-#[test]
-fn a_promise_outlives_a_crash(rt: HostRuntime) -> Result<(), Fail> {
-    let alloc = rt.alloc();
-    let asked = prepare(alloc, 2, b"z", b"7");
-    let promised = [case(200, 210, asked, Told::One((b'v', 0, 2, 200)))];
-    let ends = [
-        case(210, 220, read(3, b"z"), Told::Nothing),
-        case(210, 220, nudge(2), Told::One((b'a', 0, 2, 0))),
-    ];
-    let found = run_again(alloc, 1, 0, &promised, &ends).ok_or("a run")?;
-    assert!(rt; found.prepared == (2, 200) && found.safe == 199 && found.ready == 0);
-    let told = [case(210, 220, outcome(2, 200), Told::Nothing)];
-    let shown = run_again(alloc, 1, 0, &promised, &told).ok_or("a run")?;
-    assert!(rt; shown.prepared == (0, 0) && shown.installs == 1 && shown.safe == 200);
-    Ok(())
-}
+const PROMISED: &[Exchange] = &[(
+    200,
+    210,
+    Given::Prepare(2, b"z", b"7"),
+    Told::One((b'v', 0, 2, 200)),
+)];
 
-// A file without a log, and the log of another shard.
+const FAILS: &[Exchange] = &[
+    (
+        100,
+        110,
+        Given::Commit(1, 0, b"a", b"1"),
+        Told::Refused(Fault::Device),
+    ),
+    (
+        100,
+        110,
+        Given::Commit(1, 0, b"a", b"1"),
+        Told::Refused(Fault::Stopped),
+    ),
+];
+
+const REOPENED: [Story; 5] = [
+    // The greatest timestamp is the log's, and promises go on above it.
+    Story {
+        name: "a ceiling outlives a crash",
+        shard: 1,
+        stride: 50,
+        past: Past::Crashed(SERVED),
+        exchanges: &[(
+            160,
+            170,
+            Given::Prepare(2, b"z", b"7"),
+            Told::One((b'v', 0, 2, 201)),
+        )],
+        moments: &[
+            Moment {
+                after: 0,
+                shows: &[Shows::Last(200), Shows::Safe(200), Shows::Epoch(2)],
+            },
+            Moment {
+                after: 1,
+                shows: &[Shows::Prepared(2, 201), Shows::Last(201), Shows::Safe(200)],
+            },
+        ],
+    },
+    // What was read in an epoch does not stand in the next.
+    Story {
+        name: "a read does not outlive a crash",
+        shard: 1,
+        stride: 0,
+        past: Past::Crashed(HAS_READ),
+        exchanges: &[(
+            200,
+            210,
+            Given::PrepareOfReader(1, b"z", b"2"),
+            Told::One((b'v', 0, 1, 0)),
+        )],
+        // Two openings and a closed gate.
+        moments: &[Moment {
+            after: 1,
+            shows: &[Shows::Prepared(0, 0), Shows::Epoch(2), Shows::Size(37)],
+        }],
+    },
+    Story {
+        name: "a decision that is logged and not settled is settled after the opening",
+        shard: 0,
+        stride: 0,
+        past: Past::Crashed(DECIDED),
+        exchanges: &[
+            (105, 112, Given::Settle(1), Told::Refused(Fault::Early)),
+            (112, 121, Given::Settle(1), Told::One((b'd', 9, 1, 111))),
+        ],
+        moments: &[
+            Moment {
+                after: 0,
+                shows: &[
+                    Shows::Epoch(2),
+                    Shows::Decided(1, 111),
+                    Shows::Last(111),
+                    Shows::Safe(110),
+                    Shows::Installs(0),
+                    Shows::Look(b"a", 111, 1, Err(Fault::NotYet), [9; 4]),
+                    Shows::Look(b"a", 110, 1, Ok(Seen::Absent), [9; 4]),
+                ],
+            },
+            Moment {
+                after: 2,
+                shows: &[Shows::Decided(0, 0), Shows::Installs(1), Shows::Safe(111)],
+            },
+        ],
+    },
+    // A promise whose outcome was lost asks for it after the opening, and holds its lock until it comes.
+    Story {
+        name: "a promise outlives a crash",
+        shard: 1,
+        stride: 0,
+        past: Past::Crashed(PROMISED),
+        exchanges: &[
+            (210, 220, Given::Read(3, b"z"), Told::Nothing),
+            (210, 220, Given::Nudge(2), Told::One((b'a', 0, 2, 0))),
+        ],
+        moments: &[Moment {
+            after: 2,
+            shows: &[Shows::Prepared(2, 200), Shows::Safe(199), Shows::Ready(0)],
+        }],
+    },
+    Story {
+        name: "a promise is closed after the opening",
+        shard: 1,
+        stride: 0,
+        past: Past::Crashed(PROMISED),
+        exchanges: &[(210, 220, Given::Outcome(2, 200), Told::Nothing)],
+        moments: &[Moment {
+            after: 1,
+            shows: &[Shows::Prepared(0, 0), Shows::Installs(1), Shows::Safe(200)],
+        }],
+    },
+];
+
 #[test]
-fn disks_that_are_not_opened(rt: HostRuntime) -> Result<(), Fail> {
-    let alloc = rt.alloc();
-    assert_eq!(rt;
-        refusal(alloc, SimDisk::new(alloc), 0),
-        Some(Fault::NotALog)
-    );
-    let asked = prepare(alloc, 2, b"z", b"7");
-    let promised = [case(200, 210, asked, Told::One((b'v', 0, 2, 200)))];
-    let disk = disk_after(alloc, 1, &promised).ok_or("a run")?;
-    assert_eq!(rt; refusal(alloc, disk, 0), Some(Fault::Stranger));
-    let disk = disk_after(alloc, 0, &[]).ok_or("a run")?;
-    assert_eq!(rt; refusal(alloc, disk, 1), None);
-    Ok(())
+fn reopened(rt: HostRuntime) -> Result<(), Fail> {
+    tell(&rt, rt.alloc(), &REOPENED)
 }
 
 // A commit whose append meets a failing device call: before the last one the record is hidden, and behind it is there.
+const HIDDEN: Story = Story {
+    name: "a failing call stops the core",
+    shard: 0,
+    stride: 0,
+    past: Past::Armed(0, FAILS),
+    exchanges: &[],
+    moments: &[Moment {
+        after: 0,
+        shows: &[Shows::Decided(0, 0), Shows::Epoch(2), Shows::Last(0)],
+    }],
+};
+
+const ARMED: [Story; 4] = [
+    HIDDEN,
+    Story {
+        past: Past::Armed(1, FAILS),
+        ..HIDDEN
+    },
+    Story {
+        past: Past::Armed(2, FAILS),
+        ..HIDDEN
+    },
+    Story {
+        past: Past::Armed(3, FAILS),
+        // Two openings, a commit of 42 bytes between them, and a closed gate.
+        moments: &[Moment {
+            after: 0,
+            shows: &[Shows::Decided(1, 111), Shows::Epoch(2), Shows::Size(79)],
+        }],
+        ..HIDDEN
+    },
+];
+
 #[test]
 fn a_failing_call_stops_the_core(rt: HostRuntime) -> Result<(), Fail> {
-    let alloc = rt.alloc();
-    let asked = commit(alloc, 1, 0, b"a", b"1");
-    let again = commit(alloc, 1, 0, b"a", b"1");
-    let fails = [
-        case(100, 110, asked, Told::Refused(Fault::Device)),
-        case(100, 110, again, Told::Refused(Fault::Stopped)),
-    ];
-    for call in 0..3 {
-        let found = run_armed(alloc, call, &fails).ok_or("an opening")?;
-        assert!(rt; found.decided == (0, 0) && found.epoch == 2 && found.last == 0);
+    tell(&rt, rt.alloc(), &ARMED)
+}
+
+// A disk, as these leave it of a shard, or without a log; and why it is not opened as that of another.
+#[derive(Clone, Copy)]
+struct Refused {
+    left: Option<(u8, &'static [Exchange])>,
+    shard: u8,
+    fault: Option<Fault>,
+}
+
+const REFUSED: [Refused; 3] = [
+    Refused {
+        left: None,
+        shard: 0,
+        fault: Some(Fault::NotALog),
+    },
+    Refused {
+        left: Some((1, PROMISED)),
+        shard: 0,
+        fault: Some(Fault::Stranger),
+    },
+    Refused {
+        left: Some((0, &[])),
+        shard: 1,
+        fault: None,
+    },
+];
+
+fn disk_of(alloc: Global, row: Refused) -> Option<SimDisk> {
+    let Some((shard, exchanges)) = row.left else {
+        return Some(SimDisk::new(alloc));
+    };
+    disk_behind(
+        fresh(alloc, SimDisk::new(alloc), shard, 0)?,
+        alloc,
+        exchanges,
+    )
+}
+
+fn refusal(alloc: Global, disk: SimDisk, setup: Setup) -> Option<Fault> {
+    match Core::open(alloc, disk, setup) {
+        Ok(core) => {
+            let _ = core.stop();
+            None
+        }
+        Err((fault, _)) => Some(fault),
     }
-    let found = run_armed(alloc, 3, &fails).ok_or("an opening")?;
-    // Two openings, a commit of 42 bytes between them, and a closed gate.
-    assert!(rt; found.decided == (1, 111) && found.epoch == 2 && found.size == 79);
+}
+
+#[test]
+fn disks_that_are_not_opened(rt: HostRuntime) -> Result<(), Fail> {
+    for row in REFUSED {
+        let disk = disk_of(rt.alloc(), row).ok_or("a disk")?;
+        let setup = setup(rt.alloc(), row.shard, 0).ok_or("a setup")?;
+        assert_eq!(rt; refusal(rt.alloc(), disk, setup), row.fault);
+    }
     Ok(())
 }

@@ -5,6 +5,3 @@ mod rule;
 mod source;
 
 pub use source::{Drawer, Tickets, each_once};
-
-#[cfg(test)]
-mod tests;

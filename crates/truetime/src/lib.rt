@@ -4,6 +4,3 @@
 mod reading;
 
 pub use reading::{Clock, Reading};
-
-#[cfg(test)]
-mod tests;

@@ -29,6 +29,3 @@ pub use stamp::{Epoch, Stamp};
 pub use txn::{Run, TxnId};
 pub use value::Value;
 pub use writes::{Install, Write, Writes};
-
-#[cfg(test)]
-mod tests;

@@ -7,6 +7,3 @@ mod store;
 
 pub use laws::place_does_not_matter;
 pub use store::Versions;
-
-#[cfg(test)]
-mod tests;

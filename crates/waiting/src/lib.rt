@@ -4,6 +4,3 @@
 mod waited;
 
 pub use waited::{Waited, pass};
-
-#[cfg(test)]
-mod tests;

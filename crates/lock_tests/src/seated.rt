@@ -1,23 +1,15 @@
-ghost use Rattle.std.specs.Prelude.{◌≡◌, ◌<◌, ◌^◌, [], ◌∷◌, IfSome, IfOk};
+//! Transactions in their typed states: promises and decisions that are kept, aborts, locks that are asked for.
+ghost use Rattle.std.specs.Prelude.{◌≡◌, ◌<◌, [], ◌∷◌, IfSome, IfOk};
 ghost use Rattle.rows.specs.RowTable.{idle_row};
 
-use crate::{CommitRequest, Gathering, Row, Rows, Wait};
+use crate::ids::{id, needs};
 use gatelog::{GateLog, Logged};
 use record::{Committed, Prepared, Record};
+use rows::{CommitRequest, Gathering, Row, Rows, Wait};
 use simdisk::SimDisk;
 use std::alloc::Global;
 use std::test::Fail;
-use units::{Fault, Key, Keys, Lock, Mode, Parts, ShardNo, Stamp, TxnId, Writes};
-
-fn id(number: u64) -> TxnId
-    requires { number < 2 ^ 62 }
-    ensures { result ≡ record { run = 1; number = number } }
-{
-    match TxnId::new(1, number) {
-        Some(id) => id,
-        None => unreachable!(),
-    }
-}
+use units::{Fault, Key, Keys, Mode, Parts, ShardNo, Stamp, TxnId, Writes};
 
 fn shard(number: u8) -> ShardNo
     requires { number < 16 }
@@ -98,17 +90,6 @@ fn promise_kept(rows: &mut Rows, alloc: Global) -> Result<bool, Fault>
     Ok(prepared && rows.find(id(1)).is_none())
 }
 
-#[test]
-fn a_promise_is_kept(rt: HostRuntime) -> Result<(), Fail> {
-    let Some(mut rows) = one(rt.alloc()) else {
-        return Err(Fail::from("no memory"));
-    };
-    let kept = promise_kept(&mut rows, rt.alloc());
-    rows.stop();
-    assert!(rt; kept? == true);
-    Ok(())
-}
-
 fn gathering(alloc: Global) -> Result<Gathering, Fault> {
     let request = CommitRequest {
         latest: Stamp::new(105)?,
@@ -148,17 +129,6 @@ fn decision_kept(rows: &mut Rows, alloc: Global) -> Result<bool, Fault>
     Ok(collects && decided && rows.find(id(1)).is_none())
 }
 
-#[test]
-fn a_decision_is_kept(rt: HostRuntime) -> Result<(), Fail> {
-    let Some(mut rows) = one(rt.alloc()) else {
-        return Err(Fail::from("no memory"));
-    };
-    let kept = decision_kept(&mut rows, rt.alloc());
-    rows.stop();
-    assert!(rt; kept? == true);
-    Ok(())
-}
-
 // 1.1 collects votes and is aborted; taken in once more, it is aborted while it is idle.
 fn aborts(rows: &mut Rows, alloc: Global) -> Result<bool, Fault>
     requires { rows.old.rows ≡ idle_row (record { run = 1; number = 1 }) ∷ [] }
@@ -171,26 +141,12 @@ fn aborts(rows: &mut Rows, alloc: Global) -> Result<bool, Fault>
     Ok(gone && matches!(spent, Record::Abort { .. }) && rows.find(id(1)).is_none())
 }
 
-#[test]
-fn an_abort_ends(rt: HostRuntime) -> Result<(), Fail> {
-    let Some(mut rows) = one(rt.alloc()) else {
-        return Err(Fail::from("no memory"));
-    };
-    let done = aborts(&mut rows, rt.alloc());
-    rows.stop();
-    assert!(rt; done? == true);
-    Ok(())
-}
-
 // Asks for a key exclusive, and says whether it was granted.
 fn own(rows: &mut Rows, alloc: Global, txn: TxnId, key: Key) -> Result<bool, Fault> {
     if !rows.is_reading(txn) {
         return Ok(false);
     }
-    let needs = [Lock {
-        key,
-        mode: Mode::Exclusive,
-    }];
+    let needs = needs(key, Mode::Exclusive);
     rows.make_room(txn, 1)?;
     let ended = rows.wounded(alloc, txn, &needs)?;
     let opens = rows.opens(txn, &needs);
@@ -205,10 +161,7 @@ fn read(rows: &mut Rows, alloc: Global, txn: TxnId, key: Key) -> Result<bool, Fa
     if !rows.is_reading(txn) {
         return Ok(false);
     }
-    let needs = [Lock {
-        key,
-        mode: Mode::Shared,
-    }];
+    let needs = needs(key, Mode::Shared);
     rows.make_room(txn, 1)?;
     let ended = rows.wounded(alloc, txn, &needs)?;
     if rows.opens(txn, &needs) {
@@ -246,20 +199,6 @@ fn wounds(rows: &mut Rows, alloc: Global, a: Key) -> Result<bool, Fault>
     )
 }
 
-#[test]
-fn an_older_one_wounds(rt: HostRuntime) -> Result<(), Fail> {
-    let Some(mut rows) = one(rt.alloc()) else {
-        return Err(Fail::from("no memory"));
-    };
-    let done = match Key::new(b"a") {
-        Ok(a) => wounds(&mut rows, rt.alloc(), a),
-        Err(fault) => Err(fault),
-    };
-    rows.stop();
-    assert!(rt; done? == true);
-    Ok(())
-}
-
 // 1.2 is the ready one. What it waits with is granted, and is a read of the key.
 fn go_on(rows: &mut Rows, key: &Key) -> Result<bool, Fault> {
     let Some(txn) = rows.ready() else {
@@ -292,45 +231,60 @@ fn waits(rows: &mut Rows, alloc: Global, a: Key) -> Result<bool, Fault>
     Ok(older && !younger && blocked && resumed && rows.holds(id(2), &a))
 }
 
-#[test]
-fn a_younger_one_waits(rt: HostRuntime) -> Result<(), Fail> {
-    let Some(mut rows) = one(rt.alloc()) else {
-        return Err(Fail::from("no memory"));
-    };
-    let done = match Key::new(b"a") {
-        Ok(a) => waits(&mut rows, rt.alloc(), a),
-        Err(fault) => Err(fault),
-    };
-    rows.stop();
-    assert!(rt; done? == true);
-    Ok(())
-}
-
 // Those whom a request would end are ended, and nothing is asked for.
 fn ends(rows: &mut Rows, alloc: Global, a: Key) -> Result<bool, Fault>
     requires { rows.old.rows ≡ idle_row (record { run = 1; number = 1 }) ∷ [] }
 {
     rows.admit(alloc, id(2))?;
     let younger = own(rows, alloc, id(2), a)?;
-    let needs = [Lock {
-        key: a,
-        mode: Mode::Shared,
-    }];
+    let needs = needs(a, Mode::Shared);
     let ended = rows.wounded(alloc, id(1), &needs)?;
     rows.end_all(id(1), &needs, ended.as_slice());
     Ok(younger && rows.find(id(2)).is_none() && rows.find(id(1)).is_some())
 }
 
+#[derive(Clone, Copy, Debug)]
+enum Story {
+    PromiseKept,
+    DecisionKept,
+    Aborts,
+    Wounds,
+    Waits,
+    Ends,
+}
+
+const STORIES: [Story; 6] = [
+    Story::PromiseKept,
+    Story::DecisionKept,
+    Story::Aborts,
+    Story::Wounds,
+    Story::Waits,
+    Story::Ends,
+];
+
+fn told(rows: &mut Rows, alloc: Global, story: Story) -> Result<bool, Fault>
+    requires { rows.old.rows ≡ idle_row (record { run = 1; number = 1 }) ∷ [] }
+{
+    let a = Key::new(b"a")?;
+    match story {
+        Story::PromiseKept => promise_kept(rows, alloc),
+        Story::DecisionKept => decision_kept(rows, alloc),
+        Story::Aborts => aborts(rows, alloc),
+        Story::Wounds => wounds(rows, alloc, a),
+        Story::Waits => waits(rows, alloc, a),
+        Story::Ends => ends(rows, alloc, a),
+    }
+}
+
 #[test]
-fn the_wounded_are_ended(rt: HostRuntime) -> Result<(), Fail> {
-    let Some(mut rows) = one(rt.alloc()) else {
-        return Err(Fail::from("no memory"));
-    };
-    let done = match Key::new(b"a") {
-        Ok(a) => ends(&mut rows, rt.alloc(), a),
-        Err(fault) => Err(fault),
-    };
-    rows.stop();
-    assert!(rt; done? == true);
+fn stories(rt: HostRuntime) -> Result<(), Fail> {
+    for story in STORIES {
+        let Some(mut rows) = one(rt.alloc()) else {
+            return Err(Fail::from("no memory"));
+        };
+        let told = told(&mut rows, rt.alloc(), story);
+        rows.stop();
+        assert!(rt; told?, "{story:?}");
+    }
     Ok(())
 }

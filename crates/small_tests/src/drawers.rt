@@ -1,10 +1,11 @@
+//! Numbers that threads draw.
 ghost use Rattle.std.specs.Prelude.{◌≡◌, All};
 
-use crate::{Drawer, Tickets};
 use std::alloc::{AllocError, Global};
 use std::test::Fail;
 use std::thread;
 use std::thread::Threads;
+use tickets::{Drawer, Tickets};
 use units::{Fault, Reason};
 
 #[test]
@@ -18,14 +19,10 @@ fn the_first_draws_are_zero_and_one(rt: HostRuntime) -> Result<(), Fail> {
 
 #[test]
 fn a_source_has_one_drawer_or_more(rt: HostRuntime) {
-    assert_eq!(rt;
-        Tickets::new(rt.alloc(), 0).err(),
-        Some(Fault::BadRequest(Reason::Many))
-    );
-    assert_eq!(rt;
-        Tickets::new(rt.alloc(), 257).err(),
-        Some(Fault::BadRequest(Reason::Many))
-    );
+    for drawers in [0, 257] {
+        let refused = Tickets::new(rt.alloc(), drawers).err();
+        assert_eq!(rt; refused, Some(Fault::BadRequest(Reason::Many)));
+    }
 }
 
 fn draw_many(tickets: &Tickets, alloc: Global, mut drawer: Drawer) -> Result<Vec<u64>, AllocError>

@@ -1,33 +1,19 @@
-ghost use Rattle.std.specs.Prelude.{◌≡◌, ◌<◌, ◌^◌, [], ◌∷◌, IfSome};
+//! The lock table: who is granted, who waits, who is ended, and who is ready.
+ghost use Rattle.std.specs.Prelude.{◌≡◌, [], ◌∷◌, IfSome};
 ghost use Rattle.locks.specs.Table.{entrant};
 
-use crate::{Held, Table};
+use crate::ids::{id, needs};
+use locks::{Held, Table};
 use std::alloc::Global;
 use std::test::Fail;
 use units::{Asked, Fault, Key, Lock, Mode, TxnId};
 
-fn id(number: u64) -> TxnId
-    requires { number < 2 ^ 62 }
-    ensures { result ≡ record { run = 1; number = number } }
-{
-    match TxnId::new(1, number) {
-        Some(id) => id,
-        None => unreachable!(),
-    }
-}
-
 fn shares(key: Key) -> [Lock; 1] {
-    [Lock {
-        key,
-        mode: Mode::Shared,
-    }]
+    needs(key, Mode::Shared)
 }
 
 fn owns(key: Key) -> [Lock; 1] {
-    [Lock {
-        key,
-        mode: Mode::Exclusive,
-    }]
+    needs(key, Mode::Exclusive)
 }
 
 fn is_granted(answer: &Result<Asked, Fault>) -> bool {
@@ -79,12 +65,6 @@ fn wait_for_sharers(alloc: Global, key: Key) -> Option<bool> {
     )
 }
 
-#[test]
-fn a_younger_writer_waits_for_sharers(rt: HostRuntime) -> Result<(), Fail> {
-    assert!(rt; wait_for_sharers(rt.alloc(), Key::new(b"a")?) == Some(true));
-    Ok(())
-}
-
 // The tokens of 1.1 and 1.2, in a table of their own.
 fn enter_two(alloc: Global) -> Option<(Table, Held, Held)>
     ensures claims { IfSome result (λ both. both.0 ≡ entrant (record { run = 1; number = 1 }) ∷ entrant (record { run = 1; number = 2 }) ∷ []) }
@@ -124,12 +104,6 @@ fn wound_a_sharer(alloc: Global, key: Key) -> Option<bool> {
     )
 }
 
-#[test]
-fn an_older_writer_wounds_a_sharer(rt: HostRuntime) -> Result<(), Fail> {
-    assert!(rt; wound_a_sharer(rt.alloc(), Key::new(b"a")?) == Some(true));
-    Ok(())
-}
-
 // 1.2 holds a shared, and 1.1 wounds it. When 1.2 is released the same request is granted.
 fn ask_once_more(alloc: Global, key: Key) -> Option<bool> {
     let (mut table, mut first, mut second) = enter_two(alloc)?;
@@ -139,12 +113,6 @@ fn ask_once_more(alloc: Global, key: Key) -> Option<bool> {
     let alone = table.request(alloc, &mut first, &owns(key));
     table.release(first);
     Some(is_granted(&younger) && wounds(&wounding, id(2)) && is_granted(&alone))
-}
-
-#[test]
-fn the_same_request_after_the_release(rt: HostRuntime) -> Result<(), Fail> {
-    assert!(rt; ask_once_more(rt.alloc(), Key::new(b"a")?) == Some(true));
-    Ok(())
 }
 
 // 1.2 is firm and holds a exclusive. 1.1 asks for it shared and waits. When 1.2 is released 1.1 is ready, goes on, and
@@ -172,12 +140,6 @@ fn wait_for_a_firm_one(alloc: Global, key: Key) -> Option<bool> {
     Some(is_granted(&younger) && waits(&older) && went_on && nobody && waits(&behind))
 }
 
-#[test]
-fn an_older_reader_waits_for_a_firm_writer(rt: HostRuntime) -> Result<(), Fail> {
-    assert!(rt; wait_for_a_firm_one(rt.alloc(), Key::new(b"a")?) == Some(true));
-    Ok(())
-}
-
 // 1.1 holds a exclusive, 1.2 waits for it and gives the wait up, so that nobody is ready when 1.1 is released.
 fn give_a_wait_up(alloc: Global, key: Key) -> Option<bool> {
     let (mut table, mut first, mut second) = enter_two(alloc)?;
@@ -190,8 +152,35 @@ fn give_a_wait_up(alloc: Global, key: Key) -> Option<bool> {
     Some(is_granted(&older) && waits(&younger) && nobody)
 }
 
+#[derive(Clone, Copy, Debug)]
+enum Story {
+    WaitForSharers,
+    WoundASharer,
+    AskOnceMore,
+    WaitForAFirmOne,
+    GiveAWaitUp,
+}
+
+const STORIES: [Story; 5] = [
+    Story::WaitForSharers,
+    Story::WoundASharer,
+    Story::AskOnceMore,
+    Story::WaitForAFirmOne,
+    Story::GiveAWaitUp,
+];
+
 #[test]
-fn a_wait_is_given_up(rt: HostRuntime) -> Result<(), Fail> {
-    assert!(rt; give_a_wait_up(rt.alloc(), Key::new(b"a")?) == Some(true));
+fn stories_of_one_key(rt: HostRuntime) -> Result<(), Fail> {
+    let (alloc, key) = (rt.alloc(), Key::new(b"a")?);
+    for story in STORIES {
+        let told = match story {
+            Story::WaitForSharers => wait_for_sharers(alloc, key),
+            Story::WoundASharer => wound_a_sharer(alloc, key),
+            Story::AskOnceMore => ask_once_more(alloc, key),
+            Story::WaitForAFirmOne => wait_for_a_firm_one(alloc, key),
+            Story::GiveAWaitUp => give_a_wait_up(alloc, key),
+        };
+        assert_eq!(rt; told, Some(true), "{story:?}");
+    }
     Ok(())
 }

@@ -1,47 +1,16 @@
-//! Records are learnt, and ids are added.
-ghost use Rattle.std.specs.Prelude.{◌≡◌, None, IfOk};
+//! The ledger of a shard, and the ids that ended there.
+ghost use Rattle.std.specs.Prelude.{◌≡◌, None};
 ghost use Rattle.memory.specs.Ledger.{outcome_stamp};
 
-use crate::{Ended, Ledger};
-use record::{Prepared, Record};
+use crate::lines::{Line, id, record_of, shard};
+use memory::{Ended, Ledger};
+use record::Record;
 use std::alloc::Global;
 use std::test::Fail;
-use units::{Epoch, Key, Keys, ShardNo, Stamp, TxnId, Value, Write, Writes};
-
-fn id(number: u64) -> Result<TxnId, Fail> {
-    Ok(TxnId::new(1, number).ok_or("an id")?)
-}
-
-fn shard(number: u8) -> Result<ShardNo, Fail> {
-    Ok(ShardNo::new(number).ok_or("a shard")?)
-}
-
-// One write, of `1` to the key `a`.
-fn writes(alloc: Global) -> Result<Writes, Fail> {
-    let write = Write {
-        key: Key::new(b"a")?,
-        value: Some(Value::new(alloc, b"1")?),
-    };
-    let mut list = Vec::new(alloc);
-    list.push(write)?;
-    Ok(Writes::from_vec(list).ok().ok_or("one write ascends")?)
-}
-
-// A promise of shard 1 at 111, whose coordinator is shard 0.
-fn promise(alloc: Global) -> Result<Record, Fail>
-    ensures { IfOk result (λ item. outcome_stamp item ≡ None) }
-{
-    Ok(Record::Prepare(Prepared {
-        txn: id(1)?,
-        coordinator: shard(0)?,
-        at: Stamp::new(111)?,
-        reads: Keys::none(alloc),
-        writes: writes(alloc)?,
-    }))
-}
+use units::{Key, Stamp, TxnId, Writes};
 
 // Learns a record that installs nothing.
-#[tactic(auto, using(crate::proofs::Learns::installs_nothing))]
+#[tactic(auto, using(memory::proofs::Learns::installs_nothing))]
 fn learn(alloc: Global, ledger: &mut Ledger, item: Record) -> Result<(), Fail>
     requires { outcome_stamp item ≡ None }
 {
@@ -69,14 +38,19 @@ fn settle(alloc: Global, ledger: &mut Ledger) -> Result<(), Fail> {
     Ok(())
 }
 
+// Learns a record that is no outcome.
+fn learn_line(alloc: Global, ledger: &mut Ledger, line: Line) -> Result<(), Fail> {
+    match record_of(alloc, line)? {
+        Record::Outcome { .. } => Err("no outcome".into()),
+        item => learn(alloc, ledger, item),
+    }
+}
+
 // The ledger of shard 1, opened once, with one promise that was installed.
 fn settled(alloc: Global) -> Result<Ledger, Fail> {
     let mut ledger = Ledger::new(alloc, shard(1)?);
-    let opened = Record::Opened {
-        epoch: Epoch::first(),
-    };
-    learn(alloc, &mut ledger, opened)?;
-    learn(alloc, &mut ledger, promise(alloc)?)?;
+    learn_line(alloc, &mut ledger, Line::Opened(1))?;
+    learn_line(alloc, &mut ledger, Line::Prepare(1, 111, b'a', 0))?;
     settle(alloc, &mut ledger)?;
     Ok(ledger)
 }

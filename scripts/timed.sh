@@ -1,0 +1,48 @@
+#!/bin/sh
+# Runs the gate, `rt ci`, and says above its last line how long each part took, by the times at which its lines came:
+#     proofs    until the last crate was proved
+#     tests     until the tests of the last crate were proved
+#     edits     from the first crate whose wrong bodies were tried, until the last of them was refused
+#     runs      of the programs and the tests, once nothing is left to prove
+# The first three go beside one another. What the gate prints passes through, and its exit status is passed on.
+set -u
+room=$(mktemp -d)
+trap 'rm -rf "$room"' EXIT
+mkfifo "$room/lines"
+began=$(date +%s)
+rt ci >"$room/lines" &
+gate=$!
+trap 'kill "$gate"' HUP INT TERM
+
+# The seconds since the beginning, as minutes and seconds.
+now() {
+    echo $(($(date +%s) - began))
+}
+minutes() {
+    printf '%d:%02d' $(($1 / 60)) $(($1 % 60))
+}
+
+proofs=0 tests=0 first=0 edits=0 runs=0
+while IFS= read -r line || [ -n "$line" ]; do
+    case $line in
+        'rt: '*': its tests are proved') tests=$(now) ;;
+        'rt: '*' proved') proofs=$(now) ;;
+        'rt: '*': trying its must-fail edits'*) [ "$first" -gt 0 ] || first=$(now) ;;
+        'rt: must-fail '*) [ "$edits" -gt 0 ] || edits=$(now) ;;
+        'rt: '*': its tests passed' | 'rt: '*' ran, and wrote'*) runs=$(now) ;;
+    esac
+    # The last line is kept back.
+    [ -z "${last+is there}" ] || printf '%s\n' "$last"
+    last=$line
+done <"$room/lines"
+wait "$gate"
+status=$?
+
+whole=$(now)
+times >"$room/times"
+parts="proofs until $(minutes "$proofs"), tests until $(minutes "$tests")"
+parts="$parts, edits from $(minutes "$first") until $(minutes "$edits"), runs until $(minutes "$runs")"
+echo "time: $parts"
+echo "time: $(minutes "$whole") on $(nproc) processors, of which (user, system) $(sed -n 2p "$room/times")"
+printf '%s\n' "${last-}"
+exit "$status"
