@@ -137,7 +137,7 @@ pub looks_show_acknowledged : LooksShowAcknowledged
 looks_show_acknowledged config es later e logs fair may k at look late t s m line = record {
   logged =
       let ack = line_of (run config (es ++ e ∷ later)).lines (Line.Ack t s m)
-          (old_line config es later e fair (Line.Ack t s m) (get_among (run config es).lines line.0 (Line.Ack t s m) line.1)) in
+      (old_line config es later e fair (Line.Ack t s m) (get_among (run config es).lines line.0 (Line.Ack t s m) line.1)) in
       (keeps_acknowledged config (es ++ e ∷ later) logs fair may t s m ack).0;
   within = let before = acknowledged_before config es e t s m (with_it config es later e fair) line in omega (arith, before, late);
   shown = λ x shows. looks_serially config (es ++ e ∷ later) logs fair may k at x

@@ -72,11 +72,11 @@ abbrev pub is_held : Told → ShardNow → Bool
 is_held a s =
     elim s.state [
       | Runs memory ↦
-        not (nat_eq (epoch_of s.log) a.epoch)
-        || elim (find_row memory.rows a.txn) [
-          | None ↦ has_id memory.ended a.txn || not (is_new s.log a.txn)
-          | Some r ↦ not (is_open r.phase) || (holds r.held a.key && same_value (latest (installs_of s.log) a.key) a.value)
-        ]
+          not (nat_eq (epoch_of s.log) a.epoch)
+          || elim (find_row memory.rows a.txn) [
+            | None ↦ has_id memory.ended a.txn || not (is_new s.log a.txn)
+            | Some r ↦ not (is_open r.phase) || (holds r.held a.key && same_value (latest (installs_of s.log) a.key) a.value)
+          ]
       | _ ↦ true
     ]
 
