@@ -1,4 +1,5 @@
--- What one act changes of what shards show and of the lines of looks; and that each session writes a key once.
+-- What one act changes of what shards show and of the lines of looks and of acknowledgements; and that each session writes a
+-- key once.
 use Rattle.std.specs.List.{list_any}
 use Rattle.std.proofs.Common.{◌≡◌, ◌⊎◌, inl, inr, ℕ, ◌≤◌, Bool, true, false, not, cond, ◌&&◌, nat_eq, nat_le, List, [], ◌∷◌, ◌++◌, length, Option, Some, None, slice_get, refl, sym, ap, subst, ◌∙◌, flat_map, filter, option_to_list}
 use Rattle.std.proofs.lemmas.Bool.{cases_eq, eqb-true, leb-true}
