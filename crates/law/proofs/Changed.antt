@@ -1,16 +1,16 @@
--- What one act changes of what shards show and of the lines of looks; and that each session writes a key once.
+-- What one act changes of what shards show and of the lines of looks and of acknowledgements; and that each session writes a
+-- key once.
 use Rattle.std.specs.List.{list_any}
-use Rattle.std.proofs.Common.{◌≡◌, ◌⊎◌, inl, inr, ℕ, ◌≤◌, Bool, true, false, not, cond, ◌&&◌, nat_eq, nat_lt, nat_le, List, [], ◌∷◌, ◌++◌, length, Option, Some, None, slice_get, refl, sym, ap, subst, ◌∙◌, flat_map, filter, option_to_list}
+use Rattle.std.proofs.Common.{◌≡◌, ◌⊎◌, inl, inr, ℕ, ◌≤◌, Bool, true, false, not, cond, ◌&&◌, nat_eq, nat_le, List, [], ◌∷◌, ◌++◌, length, Option, Some, None, slice_get, refl, sym, ap, subst, ◌∙◌, flat_map, filter, option_to_list}
 use Rattle.std.proofs.lemmas.Bool.{cases_eq, eqb-true, leb-true}
 use Rattle.units.specs.Ids.{Id, same_id}
-use Rattle.protocol.specs.Step.{Stepped, Refuses, Does}
 use Rattle.world.proofs.Places.{get-replaced_same, get-replaced_other}
 use Rattle.world.proofs.EveryRun.{WellShard, WellWorld, shard_with}
 use Rattle.units.specs.Keys.{Bytes, same_key, shard_of, has_key, writes_key, write_before}
 use Rattle.units.specs.Lists.{insert, replaced, when}
 use Rattle.units.specs.Versions.{at_time}
 use Rattle.units.specs.declared.fault.Fault.{Fault}
-use Rattle.units.specs.declared.fault.Fault.TheVariants.{Device, NotYet, Stopped, Stranger}
+use Rattle.units.specs.declared.fault.Fault.TheVariants.{NotYet, Stopped, Stranger}
 use Rattle.units.specs.declared.fault.Reason.{Reason}
 use Rattle.units.specs.declared.fault.Reason.TheVariants.{Many, Nothing, Again, Awaited, Doomed}
 use Rattle.units.specs.declared.line.Line.{Line}
@@ -19,30 +19,30 @@ use Rattle.units.specs.declared.writes.Write.{Write}
 use Rattle.units.proofs.Folds.{append_none}
 use Rattle.units.proofs.IdLaws.{same_id-is}
 use Rattle.units.proofs.KeyLaws.{same_key-refl}
-use Rattle.truetime.specs.Interval.{Interval}
-use Rattle.disk.specs.declared.plan.Fate.{Fate}
 use Rattle.record.specs.Facts.{facts_of}
 use Rattle.record.specs.declared.record.Record.{Record}
 use Rattle.message.specs.declared.message.Address.{Address}
-use Rattle.message.specs.declared.message.Address.TheVariants.{Shard, Session}
+use Rattle.message.specs.declared.message.Address.TheVariants.{Shard}
 use Rattle.message.specs.declared.message.Answer.{Answer}
 use Rattle.message.specs.declared.message.Answer.TheVariants.{Holds, Refused}
 use Rattle.message.specs.declared.message.Envelope.{Envelope}
 use Rattle.message.specs.declared.message.Message.{Message}
 use Rattle.message.specs.declared.message.ReadAnswer.{ReadAnswer}
 use Rattle.protocol.specs.Rows.{Memory}
-use Rattle.session.specs.Sessions.{Client, Stage, IsOpen, IsClosing, IsOver, Moved, Denies, Goes, unless, reads, buffers, hears, take_answer, epochs_agree, closes, gives_up, finishes, with_write, was_taken, was_answered, asked_keys, is_doomed, is_none, closing_messages, begun}
+use Rattle.session.specs.Sessions.{Client, IsClosing, Moved, Denies, Goes, unless, reads, buffers, hears, take_answer, epochs_agree, closes, gives_up, with_write, was_taken, was_answered, asked_keys, is_doomed, is_none, closing_messages, begun}
 use Rattle.law.specs.Acknowledged.{committed_to}
 use Rattle.law.specs.Evidence.{IsAmong}
-use Rattle.world.specs.World.{World, After, ShardNow, View, State, Runs, IsStopped, IsDown, Unsure, shown, read_log, view_of, setup_of, effect, finished, new_view, makes_view, crashed, crashed_in, left_by_refused, failed_in, set_shard, client_of, set_client, put_out, acks_of, ack_of, commit_told, refused, moved, if_open, if_not_over, if_closing, if_hearing, answered, read_lines, to_session, refused_doing, did, did_with_failure, at_shard, do_at, deliver_to, noted, look_view, look_shard, look_at_view, begin, acts}
+use Rattle.world.specs.Lawful.{may_act}
+use Rattle.world.specs.World.{World, ShardNow, View, State, Runs, IsStopped, IsDown, Unsure, shown, read_log, view_of, setup_of, finished, new_view, makes_view, crashed, failed_in, set_shard, set_client, put_out, acks_of, ack_of, commit_told, moved, answered, read_lines, noted, look_view, look_shard, look_at_view, begin, acts}
 use Rattle.world.specs.declared.event.Act.{Act}
 use Rattle.world.specs.declared.event.Doing.{Doing}
 use Rattle.world.specs.declared.event.Reply.{Reply}
 use Rattle.law.proofs.Doings.{get_among}
 use Rattle.law.proofs.Members.{among_cases, among_left, among_right, some_passes}
 use Rattle.law.proofs.Picked.{among_map, join_among, kept_passes}
-use Rattle.law.proofs.Recorded.{among_first, among_keep}
+use Rattle.law.proofs.Recorded.{among_keep}
 use Rattle.law.proofs.Accepts.{WritesOnce}
+use Rattle.law.proofs.Acts.{Step, Reads, Buffers, Closes, GivesUp, Finishes, acts_go, step_of}
 use Rattle.law.proofs.Kept.{IsPresent}
 
 -- ---- what a shard shows
@@ -233,33 +233,6 @@ moved_changes : (w : World) (m : Moved) → (AllOnce w → OnceMoved m) → Chan
 moved_changes w (Denies f) h = unchanged w
 moved_changes w (Goes c out) h = put_changes w (set_client c w) out (set_client_changes w c h)
 
-open_changes : (w : World) (o : Option Client) (f : Client → Moved) → ((c : Client) → o ≡ Some c → IsAmong w.clients c) → ((c : Client) → WritesOnce c.writes → OnceMoved (f c)) → Changes w (if_open w o f).0
-open_changes w None f there once = unchanged w
-open_changes w (Some c) f there once = by_stage c.stage
-  where
-    by_stage : (s : Stage) → Changes w ((elim s as (λ x. After) [ IsOpen ↦ moved w (f c) | _ ↦ refused w Stranger ]).0)
-    by_stage IsOpen = moved_changes w (f c) (λ all. once c (all c (there c refl)))
-    by_stage IsClosing = unchanged w
-    by_stage IsOver = unchanged w
-
-not_over_changes : (w : World) (o : Option Client) (f : Client → Moved) → ((c : Client) → o ≡ Some c → IsAmong w.clients c) → ((c : Client) → WritesOnce c.writes → OnceMoved (f c)) → Changes w (if_not_over w o f).0
-not_over_changes w None f there once = unchanged w
-not_over_changes w (Some c) f there once = by_stage c.stage
-  where
-    by_stage : (s : Stage) → Changes w ((elim s as (λ x. After) [ IsOver ↦ refused w Stranger | _ ↦ moved w (f c) ]).0)
-    by_stage IsOpen = moved_changes w (f c) (λ all. once c (all c (there c refl)))
-    by_stage IsClosing = moved_changes w (f c) (λ all. once c (all c (there c refl)))
-    by_stage IsOver = unchanged w
-
-closing_changes : (w : World) (o : Option Client) → ((c : Client) → o ≡ Some c → IsAmong w.clients c) → Changes w (if_closing w o).0
-closing_changes w None there = unchanged w
-closing_changes w (Some c) there = by_stage c.stage
-  where
-    by_stage : (s : Stage) → Changes w ((elim s as (λ x. After) [ IsClosing ↦ moved w (finishes c) | _ ↦ refused w Stranger ]).0)
-    by_stage IsOpen = unchanged w
-    by_stage IsClosing = moved_changes w (finishes c) (λ all. all c (there c refl))
-    by_stage IsOver = unchanged w
-
 heard_writes : (n : ℕ) (k : Bytes) (epoch : ℕ) (a : Answer) (c : Client) → (hears n k epoch a c).writes ≡ c.writes
 unfolding hears
 heard_writes n k epoch a c = by_test (has_key c.awaited k && not (is_doomed c))
@@ -298,30 +271,6 @@ answered_changes w c a there =
       looked = λ j at x h. elim (among_cases w.lines (read_lines c d a.key a.answer) (Line.Look j at x) h) [ inl old ↦ inl old | inr new ↦ absurd (read_no_look c d a.key a.answer j at x new) ];
       once = λ h. k.once h;
     }
-
-hearing_changes : (w : World) (o : Option Client) (a : ReadAnswer) → ((c : Client) → o ≡ Some c → IsAmong w.clients c) → Changes w (if_hearing w o a).0
-hearing_changes w None a there = unchanged w
-hearing_changes w (Some c) a there = by_stage c.stage
-  where
-    by_stage : (s : Stage) → Changes w ((elim s as (λ x. After) [ IsOpen ↦ answered w c a | _ ↦ refused w Stranger ]).0)
-    by_stage IsOpen = answered_changes w c a (there c refl)
-    by_stage IsClosing = unchanged w
-    by_stage IsOver = unchanged w
-
-client_there : (w : World) (t : Id) (c : Client) → client_of w t ≡ Some c → IsAmong w.clients c
-client_there w t c e = among_first (λ (d : Client). same_id d.txn t) w.clients c e
-
-session_changes : (w : World) (m : Message) → Changes w (to_session w m).0
-unfolding to_session
-session_changes w (Message.ReadAnswer a) = hearing_changes w (client_of w a.txn) a (client_there w a.txn)
-session_changes w (Message.Done d) = closing_changes w (client_of w d.txn) (client_there w d.txn)
-session_changes w (Message.Read r) = unchanged w
-session_changes w (Message.Prepare p) = unchanged w
-session_changes w (Message.Commit c) = unchanged w
-session_changes w (Message.GiveUp g) = unchanged w
-session_changes w (Message.Vote v) = unchanged w
-session_changes w (Message.Outcome o) = unchanged w
-session_changes w (Message.Ask a) = unchanged w
 
 -- a later write of a key replaces the earlier
 inserted : (w : Write) (ws : List Write) (v : Write) → IsAmong (insert write_before w ws) v → (w ≡ v) ⊎ IsAmong ws v
@@ -383,6 +332,13 @@ closes_once splits c h =
 gives_up_once : (splits : List Bytes) (c : Client) → WritesOnce c.writes → OnceMoved (gives_up splits c)
 unfolding gives_up
 gives_up_once splits c h = h
+
+stepped_once : (splits : List Bytes) (s : Step) (c : Client) → WritesOnce c.writes → OnceMoved (step_of splits s c)
+stepped_once splits (Reads k) c h = reads_once splits k c h
+stepped_once splits (Buffers v) c h = buffers_once v c h
+stepped_once splits Closes c h = closes_once splits c h
+stepped_once splits GivesUp c h = gives_up_once splits c h
+stepped_once splits Finishes c h = h
 
 begin_changes : (w : World) (t : Id) → Changes w (begin t w)
 begin_changes w t = record {
@@ -467,40 +423,6 @@ module _ (w : World) (well : WellWorld w) (n : ℕ) (s : ShardNow) (there : slic
   crash_changes : (log : List Record) → Changes w (set_shard n (crashed s log) w)
   crash_changes log = set_changes w n s (crashed s log) there (crashed_shows s log)
 
-  refused_changes : (doing : Doing) (f : Fault) → Changes w (refused_doing w n s doing f).0
-  refused_changes Doing.Open f = by_state s.state
-    where
-      by_state : (st : State) → Changes w ((elim st as (λ x. After) [ Runs m ↦ refused w f | _ ↦ (set_shard n (crashed s (read_log s)) w, Reply.Refused f) ]).0)
-      by_state (Runs m) = unchanged w
-      by_state (IsStopped m) = crash_changes (read_log s)
-      by_state IsDown = crash_changes (read_log s)
-  refused_changes (Doing.Take m now) f = unchanged w
-  refused_changes (Doing.Resume now) f = unchanged w
-  refused_changes (Doing.Settle t now) f = unchanged w
-  refused_changes (Doing.Advance at now) f = unchanged w
-  refused_changes (Doing.Nudge t now) f = unchanged w
-
-  did_changes : (doing : Doing) (st : Stepped) → Changes w (did w n s doing st).0
-  unfolding did
-  did_changes doing (Refuses f) = refused_changes doing f
-  did_changes doing (Does logged memory out) = put_changes w (set_shard n (finished s doing logged memory) w) out (set_changes w n s (finished s doing logged memory) there (finished_shows s doing logged memory))
-
-  failing_changes : (call : ℕ) (doing : Doing) (st : Stepped) → Changes w (did_with_failure w n s call doing st).0
-  unfolding did_with_failure
-  failing_changes call doing (Refuses f) = did_changes doing (Refuses f)
-  failing_changes call doing (Does None memory out) = did_changes doing (Does None memory out)
-  failing_changes call doing (Does (Some r) memory out) = by_test (nat_lt call 4)
-    where
-      by_test : (b : Bool) → Changes w ((cond {A = After} b (set_shard n (failed_in s call r) w, Reply.Refused Device) (did w n s doing (Does (Some r) memory out))).0)
-      by_test true = set_changes w n s (failed_in s call r) there (λ v h. failed_shows (setup_of w.config n) s.log s.unsure s.state s.views call r v (well n s there) h)
-      by_test false = did_changes doing (Does (Some r) memory out)
-
-  crash_in_changes : (call : ℕ) (fate : Fate) (doing : Doing) (st : Stepped) → Changes w (set_shard n (crashed_in s call fate doing st) w)
-  unfolding crashed_in
-  crash_in_changes call fate doing (Refuses f) = crash_changes (left_by_refused s fate doing)
-  crash_in_changes call fate doing (Does None memory out) = crash_changes (read_log s)
-  crash_in_changes call fate doing (Does (Some r) memory out) = crash_changes _
-
   -- ---- looks
 
   noted_changes : (k : Bytes) (at : ℕ) (r : Reply) → ((x : Option Bytes) → r ≡ Reply.Shows x → Looked w k at x) → Changes w (noted w k at r).0
@@ -564,39 +486,13 @@ module _ (w : World) (well : WellWorld w) (n : ℕ) (s : ShardNow) (there : slic
 
 -- ---- all acts
 
-module _ (w : World) (well : WellWorld w) where
-  at_shard_changes : (n : ℕ) (f : Setup → ShardNow → After) → ((s : ShardNow) → slice_get w.shards n ≡ Some s → Changes w (f (setup_of w.config n) s).0) → Changes w (at_shard w n f).0
-  at_shard_changes n f each = by_value (slice_get w.shards n) refl
-    where
-      by_value : (o : Option ShardNow) → slice_get w.shards n ≡ o → Changes w ((elim o as (λ x. After) [ None ↦ refused w Stranger | Some s ↦ f (setup_of w.config n) s ]).0)
-      by_value None e = unchanged w
-      by_value (Some s) e = each s e
-
-  do_at_changes : (n : ℕ) (doing : Doing) → Changes w (do_at w n doing).0
-  do_at_changes n doing = at_shard_changes n (λ setup s. did w n s doing (effect setup w.bag s doing)) (λ s there. did_changes w well n s there doing (effect (setup_of w.config n) w.bag s doing))
-
-  deliver_changes : (m : ℕ) (now : Interval) (o : Option Envelope) → Changes w (deliver_to w m now o).0
-  unfolding deliver_to
-  deliver_changes m now None = unchanged w
-  deliver_changes m now (Some e) = by_address e.to
-    where
-      by_address : (a : Address) → Changes w ((elim a as (λ x. After) [ Shard n ↦ do_at w n (Doing.Take m now) | Session t ↦ to_session w e.message ]).0)
-      by_address (Shard n) = do_at_changes n (Doing.Take m now)
-      by_address (Session t) = session_changes w e.message
-
-  pub acts_change : (a : Act) → Changes w (acts w a).0
-  unfolding acts
-  acts_change (Act.Begin t) = begin_changes w t
-  acts_change (Act.Read t k) = open_changes w (client_of w t) (reads w.config.splits k) (client_there w t) (reads_once w.config.splits k)
-  acts_change (Act.Write t k x) = open_changes w (client_of w t) (buffers (record { key = k; value = x })) (client_there w t) (buffers_once (record { key = k; value = x }))
-  acts_change (Act.Close t) = open_changes w (client_of w t) (closes w.config.splits) (client_there w t) (closes_once w.config.splits)
-  acts_change (Act.Quit t) = not_over_changes w (client_of w t) (gives_up w.config.splits) (client_there w t) (gives_up_once w.config.splits)
-  acts_change (Act.Deliver m now) = deliver_changes m now (slice_get w.bag m)
-  acts_change (Act.At n doing) = do_at_changes n doing
-  acts_change (Act.Look n k at) = at_shard_changes n (λ setup s. noted w k at (look_shard setup s k at)) (λ s there. look_changes w well n s there k at)
-  acts_change (Act.View n v k at) = at_shard_changes n (λ setup s. noted w k at (look_at_view setup (slice_get s.views v) k at)) (λ s there. view_changes w well n s there v k at)
-  acts_change (Act.Crash n) = at_shard_changes n (λ setup s. (set_shard n (crashed s s.log) w, Reply.Crashed)) (λ s there. crash_changes w well n s there s.log)
-  acts_change (Act.CrashIn n call fate doing) =
-      at_shard_changes n (λ setup s. (set_shard n (crashed_in s call fate doing (effect setup w.bag s doing)) w, Reply.Crashed)) (λ s there. crash_in_changes w well n s there call fate doing (effect (setup_of w.config n) w.bag s doing))
-  acts_change (Act.FailIn n call doing) =
-      at_shard_changes n (λ setup s. did_with_failure w n s call doing (effect setup w.bag s doing)) (λ s there. failing_changes w well n s there call doing (effect (setup_of w.config n) w.bag s doing))
+pub acts_change : (w : World) → WellWorld w → (time : ℕ) (a : Act) → may_act w time a ≡ true → Changes w (acts w a).0
+acts_change w well =
+    acts_go w (Changes w) (unchanged w) (λ t new. begin_changes w t)
+    (λ c s there. moved_changes w (step_of w.config.splits s c) (λ all. stepped_once w.config.splits s c (all c there)))
+    (λ c to a there named told. answered_changes w c a there)
+    (λ n s there log. set_changes w n s (crashed s log) there (crashed_shows s log))
+    (λ n s there doing logged memory out is. put_changes w (set_shard n (finished s doing logged memory) w) out
+    (set_changes w n s (finished s doing logged memory) there (finished_shows s doing logged memory)))
+    (λ n s there call r. set_changes w n s (failed_in s call r) there (λ v h. failed_shows (setup_of w.config n) s.log s.unsure s.state s.views call r v (well n s there) h))
+    (look_changes w well) (λ n s there i k at. view_changes w well n s there i k at)

@@ -1,4 +1,5 @@
 pub mod Accepts
+pub mod Acts
 pub mod AllWhole
 pub mod Answering
 pub mod Changed

@@ -1,5 +1,5 @@
 -- Every answered look equals the serial run up to its time, in each log that a crash may leave, then and later.
-use Rattle.std.proofs.Common.{◌≡◌, inl, inr, ℕ, suc, ◌≤◌, Bool, true, List, [], ◌∷◌, length, map, Option, Some, slice_get, refl, sym, subst, ◌∙◌, filter}
+use Rattle.std.proofs.Common.{◌≡◌, inl, inr, ℕ, suc, ◌≤◌, Bool, true, List, [], ◌∷◌, length, map, Option, Some, slice_get, refl, sym, subst, ◌∙◌, filter, nat_le}
 use Rattle.std.proofs.lemmas.Bool.{and_parts}
 use Rattle.units.specs.Ids.{Id, same_id}
 use Rattle.units.specs.Keys.{Bytes, shard_of}
@@ -20,7 +20,7 @@ use Rattle.world.proofs.Places.{replicated}
 use Rattle.session.specs.Sessions.{Client, closing_messages, messages_for, prepare_for, parts_of}
 use Rattle.law.specs.Evidence.{Scene, IsAmong, Holds, IsOfClosing}
 use Rattle.world.specs.Headline.{AllAccepted, MayBeLeft}
-use Rattle.world.specs.Lawful.{lawful, lawful_from, may_happen}
+use Rattle.world.specs.Lawful.{lawful, lawful_from, may_happen, may_act}
 use Rattle.law.specs.Left.{AreLeft}
 use Rattle.world.specs.World.{World, ShardNow, View, setup_of, view_of, fresh_log, fresh_shard, start, run, run_from, happens}
 use Rattle.world.specs.declared.event.Config.{Config}
@@ -70,10 +70,10 @@ unfolding happens
 well_on w e limit well = acts_sound InLimit IsWell IsTaken keeps opens accepted_follows logs opening_taken w well e.act limit
 
 -- the clock changes none of it
-changes : (w : World) (e : Event) → WellWorld w → Changes w (happens w e).0
+changes : (w : World) (e : Event) → WellWorld w → may_happen w e ≡ true → Changes w (happens w e).0
 unfolding happens
-changes w e well =
-    let c = acts_change w well e.act in
+changes w e well may =
+    let c = acts_change w well e.time e.act (and_parts (nat_le w.time e.time) (may_act w e.time e.act) may).1 in
     record {
       config = c.config;
       lines = λ l h. c.lines l h;
@@ -91,7 +91,7 @@ pub event_keeps : (config : Config) (w : World) (e : Event) → may_happen w e �
 event_keeps config w e may k =
     let limit = in_limit w e may in
     let well = well_on w e limit k.well in
-    let c = changes w e k.well in
+    let c = changes w e k.well may in
     record {
       settings = c.config ∙ k.settings;
       well = well;
@@ -124,7 +124,7 @@ pub lines_stay : (config : Config) (w : World) (es : List Event) → lawful_from
 lines_stay config w [] fair k l h = h
 lines_stay config w (e ∷ es) fair k l h =
     let p = and_parts (may_happen w e) (lawful_from ((happens w e).0) es) fair in
-    lines_stay config ((happens w e).0) es p.1 (event_keeps config w e p.0 k) l ((changes w e k.well).lines l h)
+    lines_stay config ((happens w e).0) es p.1 (event_keeps config w e p.0 k) l ((changes w e k.well p.0).lines l h)
 
 -- ---- the beginning
 

@@ -1,44 +1,41 @@
 -- What one act adds to the answers of reads, to what sessions took and to the lines of reads.
 use Rattle.std.specs.List.{list_any}
-use Rattle.std.proofs.Common.{◌≡◌, ◌⊎◌, inl, inr, ℕ, Bool, true, false, not, cond, ◌&&◌, ◌||◌, nat_eq, nat_lt, nat_le, List, [], ◌∷◌, ◌++◌, length, map, Option, Some, None, slice_get, refl, sym, ap, subst, ◌∙◌, arith, flat_map}
+use Rattle.std.proofs.Common.{◌≡◌, ◌⊎◌, inl, inr, ℕ, Bool, true, false, not, cond, ◌&&◌, ◌||◌, nat_eq, nat_le, List, [], ◌∷◌, ◌++◌, length, map, Option, Some, None, slice_get, refl, sym, ap, subst, ◌∙◌, arith, flat_map}
 use Rattle.std.proofs.lemmas.Bool.Decides.{nat_tests}
 use Rattle.units.specs.Ids.{Id, same_id}
-use Rattle.protocol.specs.Step.{Stepped, Refuses, Does}
+use Rattle.protocol.specs.Step.{Does}
 use Rattle.world.proofs.Places.{get-replaced_same}
 use Rattle.world.proofs.EveryRun.{WellWorld}
 use Rattle.units.specs.Keys.{Bytes, same_key, has_key, writes_key, shard_of}
 use Rattle.units.specs.Lists.{first, replaced, when}
-use Rattle.units.specs.declared.fault.Fault.{Fault}
-use Rattle.units.specs.declared.fault.Fault.TheVariants.{BadRequest, Device, Stranger}
+use Rattle.units.specs.declared.fault.Fault.TheVariants.{BadRequest}
 use Rattle.units.specs.declared.fault.Reason.{Reason}
 use Rattle.units.specs.declared.fault.Reason.TheVariants.{Many, Nothing, Again, Awaited, Doomed}
 use Rattle.units.specs.declared.line.Line.{Line}
-use Rattle.units.specs.declared.setup.Setup.{Setup}
 use Rattle.units.specs.declared.writes.Write.{Write}
 use Rattle.units.proofs.IdLaws.{same_id-is, same_id-refl}
-use Rattle.units.proofs.ByIdLaws.{first_passes}
-use Rattle.truetime.specs.Interval.{Interval}
+use Rattle.record.specs.declared.record.Record.{Record}
 use Rattle.message.specs.declared.message.Address.{Address}
-use Rattle.message.specs.declared.message.Address.TheVariants.{Shard, Session}
+use Rattle.message.specs.declared.message.Address.TheVariants.{Shard}
 use Rattle.message.specs.declared.message.Answer.{Answer}
 use Rattle.message.specs.declared.message.Answer.TheVariants.{Holds, Refused}
 use Rattle.message.specs.declared.message.Envelope.{Envelope}
 use Rattle.message.specs.declared.message.Message.{Message}
 use Rattle.message.specs.declared.message.ReadAnswer.{ReadAnswer}
-use Rattle.session.specs.Sessions.{Client, Stage, IsOpen, IsClosing, IsOver, Moved, Denies, Goes, unless, reads, buffers, hears, take_answer, doomed_by, without_key, epochs_agree, closes, gives_up, finishes, with_write, was_taken, was_answered, asked_keys, is_doomed, is_none, closing_messages, messages_for, prepare_for, parts_of, shards_told, begun}
+use Rattle.protocol.specs.Rows.{Memory}
+use Rattle.session.specs.Sessions.{Client, IsClosing, Moved, Denies, Goes, unless, reads, buffers, hears, take_answer, doomed_by, without_key, epochs_agree, closes, gives_up, with_write, was_taken, was_answered, asked_keys, is_doomed, is_none, closing_messages, messages_for, prepare_for, parts_of, shards_told, begun}
 use Rattle.session.specs.declared.answered.Answered.{Answered as Taken}
 use Rattle.law.specs.Evidence.{IsAmong}
-use Rattle.world.specs.World.{World, After, ShardNow, State, Runs, IsStopped, IsDown, read_log, setup_of, effect, finished, crashed, crashed_in, failed_in, set_shard, client_of, set_client, put_out, acks_of, ack_of, commit_told, refused, moved, if_open, if_not_over, if_closing, if_hearing, answered, read_lines, to_session, refused_doing, did, did_with_failure, at_shard, do_at, deliver_to, noted, look_shard, look_at_view, begin, acts}
+use Rattle.world.specs.World.{World, ShardNow, setup_of, effect, finished, crashed, failed_in, set_shard, client_of, set_client, put_out, acks_of, ack_of, commit_told, moved, answered, read_lines, noted, look_shard, look_at_view, begin, acts}
 use Rattle.world.specs.declared.event.Act.{Act}
 use Rattle.world.specs.declared.event.Doing.{Doing}
 use Rattle.world.specs.declared.event.Reply.{Reply}
-use Rattle.law.proofs.Doings.{get_among}
 use Rattle.law.proofs.Members.{among_left, among_cases, among_last}
 use Rattle.units.proofs.Folds.{there_first}
 use Rattle.world.specs.Lawful.{may_act}
 use Rattle.law.proofs.Picked.{among_map, any_of, map_among}
-use Rattle.law.proofs.Recorded.{among_first}
 use Rattle.law.proofs.Accepts.{each_at}
+use Rattle.law.proofs.Acts.{Step, Reads, Buffers, Closes, GivesUp, Finishes, acts_go, step_of}
 use Rattle.law.proofs.Spoken.{HoldsRead, doing_holds}
 
 abbrev pub answer_env : Address → ReadAnswer → Envelope
@@ -219,33 +216,6 @@ unless_says c (r ∷ rs) m h = by_test r.0 (unless_says c rs m h)
     by_test true k = tt
     by_test false k = k
 
-open_says : (w : World) (o : Option Client) (f : Client → Moved) → ((c : Client) → o ≡ Some c → IsAmong w.clients c) → ((c : Client) → MovedSays c (f c)) → Says w (if_open w o f).0
-open_says w None f there says = silent w
-open_says w (Some c) f there says = by_stage c.stage
-  where
-    by_stage : (s : Stage) → Says w ((elim s as (λ x. After) [ IsOpen ↦ moved w (f c) | _ ↦ refused w Stranger ]).0)
-    by_stage IsOpen = moved_says w c (f c) (there c refl) (says c)
-    by_stage IsClosing = silent w
-    by_stage IsOver = silent w
-
-not_over_says : (w : World) (o : Option Client) (f : Client → Moved) → ((c : Client) → o ≡ Some c → IsAmong w.clients c) → ((c : Client) → MovedSays c (f c)) → Says w (if_not_over w o f).0
-not_over_says w None f there says = silent w
-not_over_says w (Some c) f there says = by_stage c.stage
-  where
-    by_stage : (s : Stage) → Says w ((elim s as (λ x. After) [ IsOver ↦ refused w Stranger | _ ↦ moved w (f c) ]).0)
-    by_stage IsOpen = moved_says w c (f c) (there c refl) (says c)
-    by_stage IsClosing = moved_says w c (f c) (there c refl) (says c)
-    by_stage IsOver = silent w
-
-closing_says : (w : World) (o : Option Client) → ((c : Client) → o ≡ Some c → IsAmong w.clients c) → Says w (if_closing w o).0
-closing_says w None there = silent w
-closing_says w (Some c) there = by_stage c.stage
-  where
-    by_stage : (s : Stage) → Says w ((elim s as (λ x. After) [ IsClosing ↦ moved w (finishes c) | _ ↦ refused w Stranger ]).0)
-    by_stage IsOpen = silent w
-    by_stage IsClosing = moved_says w c (finishes c) (there c refl) (record { txn = refl; taken = refl; mute = λ to a h. h })
-    by_stage IsOver = silent w
-
 reads_say : (splits : List Bytes) (k : Bytes) (c : Client) → MovedSays c (reads splits k c)
 unfolding reads
 reads_say splits k c =
@@ -291,6 +261,13 @@ gives_up_say splits c = record { txn = refl; taken = refl; mute = mute (shards_t
     mute [] to a h = h
     mute (n ∷ ns) to a (inl same) = let m : Message.GiveUp (record { txn = c.txn }) ≡ Message.ReadAnswer a = ap (λ (e : Envelope). e.message) same in cc
     mute (n ∷ ns) to a (inr later) = mute ns to a later
+
+stepped_says : (splits : List Bytes) (s : Step) (c : Client) → MovedSays c (step_of splits s c)
+stepped_says splits (Reads k) c = reads_say splits k c
+stepped_says splits (Buffers v) c = buffers_say v c
+stepped_says splits Closes c = closes_say splits c
+stepped_says splits GivesUp c = gives_up_say splits c
+stepped_says splits Finishes c = record { txn = refl; taken = refl; mute = λ to a h. h }
 
 -- ---- answers that come
 
@@ -415,30 +392,6 @@ answered_says w c to a there named told = record {
     by_answer t k x Refused is none = absurd none
     by_answer t k x (Holds y) is new = by_line t k x y is (was_taken (hears a.from a.key a.epoch a.answer c) a.key && not (was_taken c a.key)) refl new
 
-hearing_says : (w : World) (o : Option Client) (to : Address) (a : ReadAnswer) → client_of w a.txn ≡ o → IsAmong w.bag (answer_env to a) → Says w (if_hearing w o a).0
-hearing_says w None to a is told = silent w
-hearing_says w (Some c) to a is told = by_stage c.stage
-  where
-    by_stage : (s : Stage) → Says w ((elim s as (λ x. After) [ IsOpen ↦ answered w c a | _ ↦ refused w Stranger ]).0)
-    by_stage IsOpen = answered_says w c to a (among_first (λ (d : Client). same_id d.txn a.txn) w.clients c is) (same_id-is c.txn a.txn (first_passes (λ (d : Client). same_id d.txn a.txn) w.clients c is)) told
-    by_stage IsClosing = silent w
-    by_stage IsOver = silent w
-
-client_there : (w : World) (t : Id) (c : Client) → client_of w t ≡ Some c → IsAmong w.clients c
-client_there w t c e = among_first (λ (d : Client). same_id d.txn t) w.clients c e
-
-session_says : (w : World) (to : Address) (m : Message) → IsAmong w.bag (record { to = to; message = m }) → Says w (to_session w m).0
-unfolding to_session
-session_says w to (Message.ReadAnswer a) told = hearing_says w (client_of w a.txn) to a refl told
-session_says w to (Message.Done d) told = closing_says w (client_of w d.txn) (client_there w d.txn)
-session_says w to (Message.Read r) told = silent w
-session_says w to (Message.Prepare p) told = silent w
-session_says w to (Message.Commit c) told = silent w
-session_says w to (Message.GiveUp g) told = silent w
-session_says w to (Message.Vote v) told = silent w
-session_says w to (Message.Outcome o) told = silent w
-session_says w to (Message.Ask a) told = silent w
-
 -- ---- shards
 
 set_says : (w : World) (n : ℕ) (s : ShardNow) → Says w (set_shard n s w)
@@ -451,43 +404,18 @@ set_says w n s = record {
   own = λ h. h;
 }
 
-module _ (w : World) (well : WellWorld w) (n : ℕ) (s : ShardNow) (there : slice_get w.shards n ≡ Some s) where
-  refused_says : (doing : Doing) (f : Fault) → Says w (refused_doing w n s doing f).0
-  refused_says Doing.Open f = by_state s.state
-    where
-      by_state : (st : State) → Says w ((elim st as (λ x. After) [ Runs m ↦ refused w f | _ ↦ (set_shard n (crashed s (read_log s)) w, Reply.Refused f) ]).0)
-      by_state (Runs m) = silent w
-      by_state (IsStopped m) = set_says w n (crashed s (read_log s))
-      by_state IsDown = set_says w n (crashed s (read_log s))
-  refused_says (Doing.Take m now) f = silent w
-  refused_says (Doing.Resume now) f = silent w
-  refused_says (Doing.Settle t now) f = silent w
-  refused_says (Doing.Advance at now) f = silent w
-  refused_says (Doing.Nudge t now) f = silent w
-
-  did_says : (doing : Doing) (st : Stepped) → effect (setup_of w.config n) w.bag s doing ≡ st → Says w (did w n s doing st).0
-  unfolding did
-  did_says doing (Refuses f) is = refused_says doing f
-  did_says doing (Does logged memory out) is = put_says w (set_shard n (finished s doing logged memory) w) out (set_says w n (finished s doing logged memory)) tells
-    where
-      tells : TellsHeld (set_shard n (finished s doing logged memory) w) out
-      tells to a x holds h =
-          let k = doing_holds (setup_of w.config n) w.bag s doing logged memory out to a x (well n s there) is h holds in
-          record {
-            shard = finished s doing logged memory;
-            there = subst (λ j. slice_get (replaced w.shards n (finished s doing logged memory)) j ≡ Some (finished s doing logged memory)) (sym k.0) (get-replaced_same w.shards n s (finished s doing logged memory) there);
-            holds = k.1;
-          }
-
-  failing_says : (call : ℕ) (doing : Doing) (st : Stepped) → effect (setup_of w.config n) w.bag s doing ≡ st → Says w (did_with_failure w n s call doing st).0
-  unfolding did_with_failure
-  failing_says call doing (Refuses f) is = did_says doing (Refuses f) is
-  failing_says call doing (Does None memory out) is = did_says doing (Does None memory out) is
-  failing_says call doing (Does (Some r) memory out) is = by_test (nat_lt call 4)
-    where
-      by_test : (b : Bool) → Says w ((cond {A = After} b (set_shard n (failed_in s call r) w, Reply.Refused Device) (did w n s doing (Does (Some r) memory out))).0)
-      by_test true = set_says w n (failed_in s call r)
-      by_test false = did_says doing (Does (Some r) memory out) is
+does_says : (w : World) → WellWorld w → (n : ℕ) (s : ShardNow) → slice_get w.shards n ≡ Some s → (doing : Doing) (logged : Option Record) (memory : Memory) (out : List Envelope) →
+    effect (setup_of w.config n) w.bag s doing ≡ Does logged memory out → Says w (put_out out (set_shard n (finished s doing logged memory) w))
+does_says w well n s there doing logged memory out is = put_says w (set_shard n (finished s doing logged memory) w) out (set_says w n (finished s doing logged memory)) tells
+  where
+    tells : TellsHeld (set_shard n (finished s doing logged memory) w) out
+    tells to a x holds h =
+        let k = doing_holds (setup_of w.config n) w.bag s doing logged memory out to a x (well n s there) is h holds in
+        record {
+          shard = finished s doing logged memory;
+          there = subst (λ j. slice_get (replaced w.shards n (finished s doing logged memory)) j ≡ Some (finished s doing logged memory)) (sym k.0) (get-replaced_same w.shards n s (finished s doing logged memory) there);
+          holds = k.1;
+        }
 
 -- ---- all acts
 
@@ -548,39 +476,11 @@ noted_says w k at Reply.Done = silent w
 noted_says w k at (Reply.Refused f) = silent w
 noted_says w k at Reply.Crashed = silent w
 
-module _ (w : World) (well : WellWorld w) where
-  at_shard_says : (n : ℕ) (f : Setup → ShardNow → After) → ((s : ShardNow) → slice_get w.shards n ≡ Some s → Says w (f (setup_of w.config n) s).0) → Says w (at_shard w n f).0
-  at_shard_says n f each = by_value (slice_get w.shards n) refl
-    where
-      by_value : (o : Option ShardNow) → slice_get w.shards n ≡ o → Says w ((elim o as (λ x. After) [ None ↦ refused w Stranger | Some s ↦ f (setup_of w.config n) s ]).0)
-      by_value None e = silent w
-      by_value (Some s) e = each s e
-
-  do_at_says : (n : ℕ) (doing : Doing) → Says w (do_at w n doing).0
-  do_at_says n doing = at_shard_says n (λ setup s. did w n s doing (effect setup w.bag s doing)) (λ s there. did_says w well n s there doing (effect (setup_of w.config n) w.bag s doing) refl)
-
-  deliver_says : (m : ℕ) (now : Interval) (o : Option Envelope) → slice_get w.bag m ≡ o → Says w (deliver_to w m now o).0
-  unfolding deliver_to
-  deliver_says m now None is = silent w
-  deliver_says m now (Some e) is = by_address e.to refl
-    where
-      by_address : (a : Address) → e.to ≡ a → Says w ((elim a as (λ x. After) [ Shard n ↦ do_at w n (Doing.Take m now) | Session t ↦ to_session w e.message ]).0)
-      by_address (Shard n) goes = do_at_says n (Doing.Take m now)
-      by_address (Session t) goes = session_says w e.to e.message (get_among w.bag m e is)
-
-  pub acts_say : (time : ℕ) (a : Act) → may_act w time a ≡ true → Says w (acts w a).0
-  unfolding acts may_act
-  acts_say time (Act.Begin t) may = begin_says w t may
-  acts_say time (Act.Read t k) may = open_says w (client_of w t) (reads w.config.splits k) (client_there w t) (reads_say w.config.splits k)
-  acts_say time (Act.Write t k x) may = open_says w (client_of w t) (buffers (record { key = k; value = x })) (client_there w t) (buffers_say (record { key = k; value = x }))
-  acts_say time (Act.Close t) may = open_says w (client_of w t) (closes w.config.splits) (client_there w t) (closes_say w.config.splits)
-  acts_say time (Act.Quit t) may = not_over_says w (client_of w t) (gives_up w.config.splits) (client_there w t) (gives_up_say w.config.splits)
-  acts_say time (Act.Deliver m now) may = deliver_says m now (slice_get w.bag m) refl
-  acts_say time (Act.At n doing) may = do_at_says n doing
-  acts_say time (Act.Look n k at) may = at_shard_says n (λ setup s. noted w k at (look_shard setup s k at)) (λ s there. noted_says w k at (look_shard (setup_of w.config n) s k at))
-  acts_say time (Act.View n v k at) may = at_shard_says n (λ setup s. noted w k at (look_at_view setup (slice_get s.views v) k at)) (λ s there. noted_says w k at (look_at_view (setup_of w.config n) (slice_get s.views v) k at))
-  acts_say time (Act.Crash n) may = at_shard_says n (λ setup s. (set_shard n (crashed s s.log) w, Reply.Crashed)) (λ s there. set_says w n (crashed s s.log))
-  acts_say time (Act.CrashIn n call fate doing) may =
-      at_shard_says n (λ setup s. (set_shard n (crashed_in s call fate doing (effect setup w.bag s doing)) w, Reply.Crashed)) (λ s there. set_says w n (crashed_in s call fate doing (effect (setup_of w.config n) w.bag s doing)))
-  acts_say time (Act.FailIn n call doing) may =
-      at_shard_says n (λ setup s. did_with_failure w n s call doing (effect setup w.bag s doing)) (λ s there. failing_says w well n s there call doing (effect (setup_of w.config n) w.bag s doing) refl)
+pub acts_say : (w : World) → WellWorld w → (time : ℕ) (a : Act) → may_act w time a ≡ true → Says w (acts w a).0
+acts_say w well =
+    acts_go w (Says w) (silent w) (begin_says w)
+    (λ c s there. moved_says w c (step_of w.config.splits s c) there (stepped_says w.config.splits s c))
+    (answered_says w)
+    (λ n s there log. set_says w n (crashed s log)) (does_says w well) (λ n s there call r. set_says w n (failed_in s call r))
+    (λ n s there k at. noted_says w k at (look_shard (setup_of w.config n) s k at))
+    (λ n s there i k at. noted_says w k at (look_at_view (setup_of w.config n) (slice_get s.views i) k at))

@@ -2,7 +2,7 @@
 -- that ended before them, answers are the latest values while they are held, views show what their logs show.
 use Rattle.std.specs.List.{list_any, list_all}
 use Rattle.std.proofs.Common.{refl}
-use Rattle.std.specs.Prelude.{ℕ, Bool, ◌&&◌, ◌||◌, ◌++◌, not, nat_le, zero, suc, ◌+◌, ◌-◌, ◌%◌, ◌≡◌, true, false, nat_eq, nat_lt, List, [], ◌∷◌, length, slice_get, Option, Some, None, filter}
+use Rattle.std.specs.Prelude.{ℕ, Bool, ◌&&◌, ◌||◌, ◌++◌, not, nat_le, zero, suc, ◌+◌, ◌%◌, ◌≡◌, true, false, nat_eq, nat_lt, List, [], ◌∷◌, length, slice_get, Option, Some, None, filter}
 use Rattle.units.specs.Lists.{count, gather, numbered}
 use Rattle.units.specs.Ids.{Id, same_id, has_id}
 use Rattle.units.specs.Keys.{Bytes, same_key, has_key, shard_of}

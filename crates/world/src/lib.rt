@@ -1,5 +1,5 @@
-//! Whole runs of the store: sessions, shards, a network that loses nothing, crashes. The events, the definitions and
-//! their laws, and code for the parts of a run.
+//! Whole runs of the store: sessions, shards, a network that loses nothing, crashes. The events, the definitions, and code
+//! for the parts of a run. The laws of whole runs stand in the crate above.
 #![tactic(auto)]
 
 mod begun;
