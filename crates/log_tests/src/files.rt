@@ -9,7 +9,7 @@ use std::test::Fail;
 use units::Fault;
 
 // The header; Opened 1; Commit 1.1 at 111, parts 0, no reads, a=1; Outcome 1.1 committed 111; a closed gate.
-const WHOLE: [u8; 96] = [
+static WHOLE: [u8; 96] = [
     0x53, 0x50, 0x4e, 0x4c, 0x4f, 0x47, 0x30, 0x31, 0xa5, 0, 0, 0, 9, 1, 0, 0, 0, 0, 0, 0, 0, 1,
     0xa5, 0, 0, 0, 37, 4, 0, 0, 0, 0, 0, 0, 0, 1, 0, 0, 0, 0, 0, 0, 0, 1, 0, 0, 0, 0, 0, 0, 0,
     0x6f, 0, 1, 0, 0, 0, 1, 1, 0x61, 1, 0, 1, 0x31, 0xa5, 0, 0, 0, 26, 6, 0, 0, 0, 0, 0, 0, 0, 1,
@@ -98,7 +98,7 @@ struct Refused {
 
 const DAMAGED: Option<Fault> = Some(Fault::Damaged { offset: 8 });
 
-const REFUSED: [Refused; 7] = [
+static REFUSED: [Refused; 7] = [
     Refused {
         what: "past the end",
         bytes: b"SPNLOG01\xa5\0\0\0\x09",
@@ -138,7 +138,7 @@ const REFUSED: [Refused; 7] = [
 
 #[test]
 fn damaged_files(rt: HostRuntime) -> Result<(), Fail> {
-    for row in REFUSED {
+    for row in &REFUSED {
         let mut disk = SimDisk::new(rt.alloc());
         disk.write_at(0, row.bytes)?;
         assert_eq!(rt; open(rt.alloc(), disk).err(), row.fault, "{}", row.what);
@@ -166,7 +166,7 @@ struct Crashed {
     entries: usize,
 }
 
-const CRASHED: [Crashed; 7] = [
+static CRASHED: [Crashed; 7] = [
     Crashed {
         call: 0,
         fate: Fate::New,
@@ -206,7 +206,7 @@ const CRASHED: [Crashed; 7] = [
 
 #[test]
 fn crashes_in_an_append(rt: HostRuntime) -> Result<(), Fail> {
-    for row in CRASHED {
+    for row in &CRASHED {
         let disk = cut_short(rt.alloc(), row.call, row.fate)?;
         assert_eq!(rt; open(rt.alloc(), disk)?.1.len(), row.entries);
     }

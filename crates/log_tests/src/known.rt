@@ -1,9 +1,10 @@
 //! What a log determines, and which records may come next.
 use crate::lines::{Line, id, record_of, shard};
 use facts::{Facts, Status};
+use record::{Committed, Prepared};
 use std::alloc::Global;
 use std::test::Fail;
-use units::{Fault, Key, Stamp};
+use units::{Fault, Stamp};
 
 // What a shard knows after some records.
 fn after(alloc: Global, number: u8, lines: &[Line]) -> Result<Facts, Fail> {
@@ -15,102 +16,248 @@ fn after(alloc: Global, number: u8, lines: &[Line]) -> Result<Facts, Fail> {
     Ok(facts)
 }
 
-const DECIDED: &[Line] = &[Line::Opened(1), Line::Commit(1, 111, b'a', 1)];
-
-#[test]
-fn a_decision_stands(rt: HostRuntime) -> Result<(), Fail> {
-    let facts = after(rt.alloc(), 0, DECIDED)?;
-    let txn = id(1)?;
-    assert_eq!(rt; facts.shard().number(), 0);
-    assert_eq!(rt; facts.epoch(), 1);
-    assert_eq!(rt; facts.floor().micros(), 111);
-    assert!(rt; matches!(facts.committed(txn), Some(c) if c.at.micros() == 111));
-    assert!(rt; facts.prepared(txn).is_none());
-    assert_eq!(rt; facts.outcome(txn), None);
-    assert_eq!(rt; facts.installs().len(), 0);
-    Ok(())
+// How it stands with a transaction: the timestamps of its promise and of its decision, whether it was aborted, its outcome, and
+// whether it was settled where it was decided.
+#[derive(Clone, Copy, PartialEq, Eq)]
+struct Known {
+    number: u64,
+    prepared: Option<u64>,
+    decided: Option<u64>,
+    aborted: bool,
+    outcome: Option<Option<u64>>,
+    settled: bool,
 }
 
-#[test]
-fn a_decision_is_settled(rt: HostRuntime) -> Result<(), Fail> {
-    let mut facts = after(rt.alloc(), 0, DECIDED)?;
-    let settled = record_of(rt.alloc(), Line::Committed(1, 111))?;
-    facts.learn_copy(rt.alloc(), 8, &settled)?;
-    let (txn, at, key) = (id(1)?, Stamp::new(111)?, Key::new(b"a")?);
-    assert!(rt; facts.committed(txn).is_none());
-    assert_eq!(rt; facts.outcome(txn), Some(Some(at)));
-    assert!(rt; matches!(facts.status(txn), Some(Status::Settled { at: _, parts: _ })));
-    assert!(rt; matches!(facts.installs(), [install] if install.at == at && install.key.is(&key)));
-    Ok(())
+const UNKNOWN: Known = Known {
+    number: 0,
+    prepared: None,
+    decided: None,
+    aborted: false,
+    outcome: None,
+    settled: false,
+};
+
+// What the log of a shard determines. An install is its timestamp and the letter of its key; the ids ascend, whatever the
+// turn in which the records come.
+#[derive(Clone, Copy)]
+struct Determined {
+    shard: u8,
+    lines: &'static [Line],
+    epoch: u64,
+    floor: u64,
+    installs: &'static [(u64, u8)],
+    ids: &'static [u64],
+    known: &'static [Known],
 }
 
-// An outcome aborted follows a promise, and is no abort decision.
-#[test]
-fn promises_end(rt: HostRuntime) -> Result<(), Fail> {
-    let lines = [
-        Line::Opened(1),
-        Line::Prepare(3, 200, b'a', 0),
-        Line::Prepare(2, 300, b'a', 0),
-        Line::Committed(3, 250),
-        Line::Ceiling(280),
-        Line::Aborted(2),
-        Line::Opened(2),
-    ];
-    let facts = after(rt.alloc(), 1, &lines)?;
-    let (older, younger, at) = (id(2)?, id(3)?, Stamp::new(250)?);
-    assert!(rt; facts.epoch() == 2 && facts.floor().micros() == 300);
-    assert!(rt; facts.prepared(older).is_none() && !facts.aborted(older));
-    assert_eq!(rt; facts.outcome(older), Some(None));
-    assert_eq!(rt; facts.outcome(younger), Some(Some(at)));
-    assert!(rt; facts.installs().len() == 1 && facts.entries().len() == 2);
-    Ok(())
+static DETERMINED: [Determined; 5] = [
+    Determined {
+        shard: 0,
+        lines: &[Line::Opened(1), Line::Commit(1, 111, b'a', 1)],
+        epoch: 1,
+        floor: 111,
+        installs: &[],
+        ids: &[1],
+        known: &[Known {
+            number: 1,
+            decided: Some(111),
+            ..UNKNOWN
+        }],
+    },
+    Determined {
+        shard: 0,
+        lines: &[
+            Line::Opened(1),
+            Line::Commit(1, 111, b'a', 1),
+            Line::Committed(1, 111),
+        ],
+        epoch: 1,
+        floor: 111,
+        installs: &[(111, b'a')],
+        ids: &[1],
+        known: &[Known {
+            number: 1,
+            outcome: Some(Some(111)),
+            settled: true,
+            ..UNKNOWN
+        }],
+    },
+    // An outcome aborted follows a promise, and is no abort decision.
+    Determined {
+        shard: 1,
+        lines: &[
+            Line::Opened(1),
+            Line::Prepare(3, 200, b'a', 0),
+            Line::Prepare(2, 300, b'a', 0),
+            Line::Committed(3, 250),
+            Line::Ceiling(280),
+            Line::Aborted(2),
+            Line::Opened(2),
+        ],
+        epoch: 2,
+        floor: 300,
+        installs: &[(250, b'a')],
+        ids: &[2, 3],
+        known: &[
+            Known {
+                number: 2,
+                outcome: Some(None),
+                ..UNKNOWN
+            },
+            Known {
+                number: 3,
+                outcome: Some(Some(250)),
+                ..UNKNOWN
+            },
+        ],
+    },
+    Determined {
+        shard: 1,
+        lines: &[
+            Line::Opened(1),
+            Line::Abort(5),
+            Line::Prepare(3, 200, b'a', 0),
+            Line::Abort(9),
+            Line::Prepare(1, 300, b'a', 0),
+            Line::Aborted(3),
+            Line::Abort(7),
+        ],
+        epoch: 1,
+        floor: 300,
+        installs: &[],
+        ids: &[1, 3, 5, 7, 9],
+        known: &[
+            Known {
+                number: 3,
+                outcome: Some(None),
+                ..UNKNOWN
+            },
+            Known {
+                number: 1,
+                prepared: Some(300),
+                ..UNKNOWN
+            },
+            Known {
+                number: 4,
+                ..UNKNOWN
+            },
+        ],
+    },
+    Determined {
+        shard: 1,
+        lines: &[
+            Line::Opened(1),
+            Line::Prepare(2, 200, b'a', 0),
+            Line::Abort(9),
+        ],
+        epoch: 1,
+        floor: 200,
+        installs: &[],
+        ids: &[2, 9],
+        known: &[
+            Known {
+                number: 2,
+                prepared: Some(200),
+                ..UNKNOWN
+            },
+            Known {
+                number: 9,
+                aborted: true,
+                ..UNKNOWN
+            },
+        ],
+    },
+];
+
+fn promised_at(prepared: Option<&Prepared>) -> Option<u64> {
+    Some(prepared?.at.micros())
 }
 
-// Whatever the turn in which the records come.
-#[test]
-fn ids_ascend(rt: HostRuntime) -> Result<(), Fail> {
-    let alloc = rt.alloc();
-    let lines = [
-        Line::Opened(1),
-        Line::Abort(5),
-        Line::Prepare(3, 200, b'a', 0),
-        Line::Abort(9),
-        Line::Prepare(1, 300, b'a', 0),
-        Line::Aborted(3),
-        Line::Abort(7),
-    ];
-    let facts = after(alloc, 1, &lines)?;
-    let mut numbers = Vec::new(alloc);
-    for (txn, _) in facts.entries() {
-        numbers.push(txn.number())?;
+fn decided_at(committed: Option<&Committed>) -> Option<u64> {
+    Some(committed?.at.micros())
+}
+
+fn ended_at(outcome: Option<Option<Stamp>>) -> Option<Option<u64>> {
+    match outcome? {
+        Some(at) => Some(Some(at.micros())),
+        None => Some(None),
     }
-    assert_eq!(rt; numbers.as_slice(), [1, 3, 5, 7, 9].as_slice());
-    assert!(rt;
-        matches!(facts.entries().get_index(1), Some((txn, status)) if txn.number() == 3 && status.outcome() == Some(None))
-    );
-    assert_eq!(rt; facts.outcome(id(3)?), Some(None));
-    assert!(rt; facts.prepared(id(1)?).is_some());
-    assert!(rt; facts.status(id(4)?).is_none());
-    Ok(())
+}
+
+// By the readers of the facts.
+fn known_of(facts: &Facts, number: u64) -> Result<Known, Fail> {
+    let txn = id(number)?;
+    Ok(Known {
+        number,
+        prepared: promised_at(facts.prepared(txn)),
+        decided: decided_at(facts.committed(txn)),
+        aborted: facts.aborted(txn),
+        outcome: ended_at(facts.outcome(txn)),
+        settled: matches!(facts.status(txn), Some(Status::Settled { .. })),
+    })
+}
+
+// By the readers of its status.
+fn known_by_status(facts: &Facts, number: u64) -> Result<Known, Fail> {
+    let Some(status) = facts.status(id(number)?) else {
+        return Ok(Known { number, ..UNKNOWN });
+    };
+    Ok(Known {
+        number,
+        prepared: promised_at(status.prepared()),
+        decided: decided_at(status.committed()),
+        aborted: status.is_aborted(),
+        outcome: ended_at(status.outcome()),
+        settled: matches!(status, Status::Settled { .. }),
+    })
+}
+
+fn are_known(facts: &Facts, rows: &[Known]) -> Result<bool, Fail> {
+    for row in rows {
+        if known_of(facts, row.number)? != *row || known_by_status(facts, row.number)? != *row {
+            return Ok(false);
+        }
+    }
+    Ok(true)
+}
+
+fn has_ids(facts: &Facts, ids: &[u64]) -> bool {
+    let entries = facts.entries();
+    for (place, number) in ids.iter().enumerate() {
+        match entries.get_index(place) {
+            Some((txn, _)) if txn.number() == *number => {}
+            _ => return false,
+        }
+    }
+    entries.len() == ids.len()
+}
+
+fn has_installs(facts: &Facts, rows: &[(u64, u8)]) -> bool {
+    for (install, row) in facts.installs().iter().zip(rows.iter()) {
+        if install.at.micros() != row.0 || install.key.as_bytes() != [row.1].as_slice() {
+            return false;
+        }
+    }
+    facts.installs().len() == rows.len()
 }
 
 #[test]
-fn a_promise_and_an_abort(rt: HostRuntime) -> Result<(), Fail> {
-    let lines = [
-        Line::Opened(1),
-        Line::Prepare(2, 200, b'a', 0),
-        Line::Abort(9),
-    ];
-    let facts = after(rt.alloc(), 1, &lines)?;
-    let (promised, aborted) = (id(2)?, id(9)?);
-    assert!(rt; matches!(facts.prepared(promised), Some(p) if p.at.micros() == 200));
-    assert!(rt; facts.aborted(aborted) && !facts.aborted(promised));
-    assert!(rt;
-        matches!(facts.status(promised), Some(status) if status.prepared().is_some() && status.committed().is_none())
-    );
-    assert!(rt;
-        matches!(facts.status(aborted), Some(status) if status.is_aborted() && status.outcome().is_none())
-    );
+fn what_logs_determine(rt: HostRuntime) -> Result<(), Fail> {
+    for row in &DETERMINED {
+        let facts = after(rt.alloc(), row.shard, row.lines)?;
+        let ends = (
+            facts.shard().number(),
+            facts.epoch(),
+            facts.floor().micros(),
+        );
+        assert_eq!(rt; ends, (row.shard, row.epoch, row.floor));
+        let has_lists = has_ids(&facts, row.ids) && has_installs(&facts, row.installs);
+        assert!(rt;
+            has_lists && are_known(&facts, row.known)?,
+            "{:?}",
+            row.lines
+        );
+    }
     Ok(())
 }
 
@@ -126,7 +273,7 @@ const PROMISE: Line = Line::Prepare(1, 5, b'a', 0);
 
 const DECISION: Line = Line::Commit(1, 5, b'a', 2);
 
-const DAMAGED: [Damaged; 9] = [
+static DAMAGED: [Damaged; 9] = [
     Damaged {
         shard: 0,
         lines: &[],
@@ -209,7 +356,7 @@ fn is_damaged(alloc: Global, number: u8, lines: &[Line], last: Line) -> Result<b
 
 #[test]
 fn records_that_may_not_come(rt: HostRuntime) -> Result<(), Fail> {
-    for row in DAMAGED {
+    for row in &DAMAGED {
         for last in row.last {
             let refused = is_damaged(rt.alloc(), row.shard, row.lines, *last)?;
             assert!(rt; refused, "{last:?} behind {:?}", row.lines);

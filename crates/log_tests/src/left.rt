@@ -83,7 +83,7 @@ struct Reopened {
     left: Rebuilt,
 }
 
-const REOPENED: [Reopened; 11] = [
+static REOPENED: [Reopened; 11] = [
     // A promise stands.
     Reopened {
         shard: 1,
@@ -191,7 +191,7 @@ const REOPENED: [Reopened; 11] = [
 
 #[test]
 fn logs_that_are_opened_again(rt: HostRuntime) -> Result<(), Fail> {
-    for row in REOPENED {
+    for row in &REOPENED {
         let entries = entries_of(rt.alloc(), row.lines)?;
         let found = left(rt.alloc(), row.shard, &entries)?;
         assert_eq!(rt; found, row.left, "{:?}", row.lines);

@@ -29,7 +29,7 @@ const READS: &[u8] = &[
     0x61, 1, 0x62, 0, 0,
 ];
 
-const VECTORS: [Vector; 6] = [
+static VECTORS: [Vector; 6] = [
     Vector {
         line: Line::Opened(1),
         bytes: OPENED,
@@ -62,7 +62,7 @@ const VECTORS: [Vector; 6] = [
 #[test]
 fn spellings(rt: HostRuntime) -> Result<(), Fail> {
     let alloc = rt.alloc();
-    for row in VECTORS {
+    for row in &VECTORS {
         let item = record_of(alloc, row.line)?;
         assert_eq!(rt; encode(alloc, &item)?.as_slice(), row.bytes);
         let found = decode(alloc, row.bytes)?.ok_or("a record")?;
@@ -82,7 +82,7 @@ struct Read {
     is_record: bool,
 }
 
-const READ: [Read; 10] = [
+static READ: [Read; 10] = [
     Read {
         what: "no byte",
         bytes: &[],
@@ -140,7 +140,7 @@ const READ: [Read; 10] = [
 
 #[test]
 fn nothing_else_is_read(rt: HostRuntime) -> Result<(), Fail> {
-    for row in READ {
+    for row in &READ {
         let found = decode(rt.alloc(), row.bytes)?;
         assert_eq!(rt; found.is_some(), row.is_record, "{}", row.what);
     }
@@ -157,7 +157,7 @@ struct Changed {
     is_record: bool,
 }
 
-const CHANGED: [Changed; 5] = [
+static CHANGED: [Changed; 5] = [
     Changed {
         what: "coordinator 15",
         bytes: PREPARE,
@@ -197,7 +197,7 @@ const CHANGED: [Changed; 5] = [
 
 #[test]
 fn a_byte_is_changed(rt: HostRuntime) -> Result<(), Fail> {
-    for row in CHANGED {
+    for row in &CHANGED {
         let mut bytes = row.bytes.to_vec(rt.alloc())?;
         if let Some(byte) = bytes.get_mut(row.place) {
             *byte = row.byte;

@@ -12,7 +12,7 @@ struct Version {
     value: Option<u8>,
 }
 
-const VALUES: &[Version] = &[
+static VALUES: [Version; 2] = [
     Version {
         key: b'a',
         at: 111,
@@ -25,7 +25,7 @@ const VALUES: &[Version] = &[
     },
 ];
 
-const ERASED: &[Version] = &[
+static ERASED: [Version; 2] = [
     Version {
         key: b'a',
         at: 111,
@@ -79,7 +79,7 @@ fn found(versions: &Versions, row: Lookup) -> Result<Option<u8>, Fail> {
 }
 
 // A value from its timestamp on.
-const OF_VALUES: [Lookup; 8] = [
+static OF_VALUES: [Lookup; 8] = [
     Lookup {
         key: b'a',
         at: Some(110),
@@ -123,7 +123,7 @@ const OF_VALUES: [Lookup; 8] = [
 ];
 
 // An erasure hides older values.
-const OF_ERASED: [Lookup; 3] = [
+static OF_ERASED: [Lookup; 3] = [
     Lookup {
         key: b'a',
         at: Some(199),
@@ -143,13 +143,13 @@ const OF_ERASED: [Lookup; 3] = [
 
 #[test]
 fn values_at_timestamps(rt: HostRuntime) -> Result<(), Fail> {
-    let versions = installed(rt.alloc(), VALUES)?;
-    for row in OF_VALUES {
-        assert_eq!(rt; found(&versions, row)?, row.value, "{row:?}");
+    let versions = installed(rt.alloc(), &VALUES)?;
+    for row in &OF_VALUES {
+        assert_eq!(rt; found(&versions, *row)?, row.value, "{row:?}");
     }
-    let versions = installed(rt.alloc(), ERASED)?;
-    for row in OF_ERASED {
-        assert_eq!(rt; found(&versions, row)?, row.value, "{row:?}");
+    let versions = installed(rt.alloc(), &ERASED)?;
+    for row in &OF_ERASED {
+        assert_eq!(rt; found(&versions, *row)?, row.value, "{row:?}");
     }
     Ok(())
 }
@@ -162,7 +162,7 @@ struct Place {
     place: usize,
 }
 
-const PLACES: [Place; 5] = [
+static PLACES: [Place; 5] = [
     Place {
         key: b'b',
         at: 30,
@@ -193,14 +193,14 @@ const PLACES: [Place; 5] = [
 #[test]
 fn in_order_by_key_and_timestamp(rt: HostRuntime) -> Result<(), Fail> {
     let mut versions = Versions::none(rt.alloc());
-    for row in PLACES {
+    for row in &PLACES {
         let (key, at) = (Key::new(&[row.key])?, Stamp::new(row.at)?);
         versions.reserve(1)?;
         if versions.takes(&key, at) {
             versions.install(key, at, None);
         }
     }
-    for row in PLACES {
+    for row in &PLACES {
         let (count, _) = versions.find(&Key::new(&[row.key])?, Stamp::new(row.at)?);
         assert_eq!(rt; count, row.place);
     }

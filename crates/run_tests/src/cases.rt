@@ -326,7 +326,7 @@ const VIEWED_WANTED: Wanted<'static> = Wanted {
     ],
 };
 
-const CASES: [Case<'static>; 10] = [
+static CASES: [Case<'static>; 10] = [
     Case {
         name: "a promise holds the served time",
         splits: b"m",
@@ -401,8 +401,8 @@ const CASES: [Case<'static>; 10] = [
 
 #[test]
 fn cases(rt: HostRuntime) -> Result<(), Fail> {
-    for case in CASES {
-        compare(&rt, rt.alloc(), &case)?;
+    for case in &CASES {
+        compare(&rt, rt.alloc(), case)?;
     }
     Ok(())
 }

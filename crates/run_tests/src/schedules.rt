@@ -70,7 +70,7 @@ const TWO_SHARDS_WANTED: Wanted<'static> = Wanted {
     lines: &["begin 1.2 0", "ack 1.2 200 7", "look z 200 2"],
 };
 
-const SCHEDULES: [Case<'static>; 2] = [
+static SCHEDULES: [Case<'static>; 2] = [
     Case {
         name: "a commit at one shard",
         splits: b"m",
@@ -89,8 +89,8 @@ const SCHEDULES: [Case<'static>; 2] = [
 
 #[test]
 fn schedules(rt: HostRuntime) -> Result<(), Fail> {
-    for case in SCHEDULES {
-        compare(&rt, rt.alloc(), &case)?;
+    for case in &SCHEDULES {
+        compare(&rt, rt.alloc(), case)?;
     }
     Ok(())
 }

@@ -19,7 +19,7 @@ struct Beside {
     before: bool,
 }
 
-const BESIDE: [Beside; 4] = [
+static BESIDE: [Beside; 4] = [
     Beside {
         at: 99,
         after: true,
@@ -46,7 +46,7 @@ const BESIDE: [Beside; 4] = [
 fn the_two_ends(rt: HostRuntime) -> Result<(), Fail> {
     let now = reading(100, 110)?;
     assert!(rt; now.earliest().micros() == 100 && now.latest().micros() == 110);
-    for row in BESIDE {
+    for row in &BESIDE {
         let at = Stamp::new(row.at)?;
         assert!(rt; now.after(at) == row.after && now.before(at) == row.before);
     }
@@ -66,7 +66,7 @@ struct Waits {
     passed: bool,
 }
 
-const WAITS: [Waits; 3] = [
+static WAITS: [Waits; 3] = [
     Waits {
         earliest: 105,
         latest: 112,
@@ -87,7 +87,7 @@ const WAITS: [Waits; 3] = [
 #[test]
 fn the_wait_of_111(rt: HostRuntime) -> Result<(), Fail> {
     let at = Stamp::new(111)?;
-    for row in WAITS {
+    for row in &WAITS {
         match pass(at, &reading(row.earliest, row.latest)?) {
             Ok(waited) => {
                 assert_eq!(rt; waited.at(), at);
@@ -109,7 +109,7 @@ struct Ahead {
 }
 
 // Above the floor alone, and not past the greatest timestamp.
-const AHEAD: [Ahead; 5] = [
+static AHEAD: [Ahead; 5] = [
     Ahead {
         floor: 0,
         to: 110,
@@ -144,7 +144,7 @@ const AHEAD: [Ahead; 5] = [
 
 #[test]
 fn ceilings(rt: HostRuntime) -> Result<(), Fail> {
-    for row in AHEAD {
+    for row in &AHEAD {
         let stride = Stride::new(row.stride).ok_or("a stride")?;
         let found = needed(Stamp::new(row.floor)?, Stamp::new(row.to)?, stride);
         let ceiling = match &found {

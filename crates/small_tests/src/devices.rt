@@ -20,7 +20,7 @@ struct Failing {
     calls: &'static [(Call, bool)],
 }
 
-const FAILING: [Failing; 3] = [
+static FAILING: [Failing; 3] = [
     // The third call fails.
     Failing {
         plan: Plan::After(2),
@@ -50,7 +50,7 @@ const FAILING: [Failing; 3] = [
 fn calls_that_fail(rt: HostRuntime) {
     assert_eq!(rt; Plan::armed(Some(1)), Plan::AfterWrite(1));
     assert_eq!(rt; Plan::armed(None), Plan::Never);
-    for row in FAILING {
+    for row in &FAILING {
         let mut plan = row.plan;
         for (call, fails) in row.calls {
             let failed = match call {
@@ -169,7 +169,7 @@ const WRITES: &[Step] = &[
 // `Z` behind the first two letters alone.
 const A_CUT: &[Step] = &[Step::Cut(2), Step::Write(2, b"Z")];
 
-const TORN: [Torn; 10] = [
+static TORN: [Torn; 10] = [
     Torn {
         changes: WRITES,
         fates: &[],
@@ -224,7 +224,7 @@ const TORN: [Torn; 10] = [
 
 #[test]
 fn a_crash_tears_each_change_by_its_fate(rt: HostRuntime) -> Result<(), Fail> {
-    for row in TORN {
+    for row in &TORN {
         let mut steps = row.changes.to_vec(rt.alloc())?;
         steps.push(Step::Crash(row.fates))?;
         steps.push(Step::Holds(row.left))?;
@@ -233,7 +233,7 @@ fn a_crash_tears_each_change_by_its_fate(rt: HostRuntime) -> Result<(), Fail> {
     Ok(())
 }
 
-const LIVES: [&[Step]; 5] = [
+static LIVES: [&[Step]; 5] = [
     // What is synced stays.
     &[
         Step::Write(4, b"EFG"),
@@ -297,7 +297,7 @@ const LIVES: [&[Step]; 5] = [
 
 #[test]
 fn disks_over_their_lives(rt: HostRuntime) -> Result<(), Fail> {
-    for steps in LIVES {
+    for steps in &LIVES {
         go(&rt, rt.alloc(), steps)?;
     }
     Ok(())

@@ -9,7 +9,7 @@ struct Text {
     text: &'static str,
 }
 
-const TEXTS: [Text; 5] = [
+static TEXTS: [Text; 5] = [
     Text {
         fault: Fault::BadRequest(Reason::Stamp),
         text: "7 BadRequest(stamp)",
@@ -34,7 +34,7 @@ const TEXTS: [Text; 5] = [
 
 #[test]
 fn texts_of_faults(rt: HostRuntime) -> Result<(), Fail> {
-    for row in TEXTS {
+    for row in &TEXTS {
         assert_eq!(rt; row.fault.to_string(rt.alloc())?.as_str(), row.text);
     }
     Ok(())
@@ -61,7 +61,7 @@ struct Limit {
 }
 
 // Where there is one limit alone, its row has it twice.
-const LIMITS: [Limit; 6] = [
+static LIMITS: [Limit; 6] = [
     Limit {
         made: Made::Key,
         taken: [1, 64],
@@ -108,7 +108,7 @@ fn is_taken(alloc: Global, made: Made, number: u64) -> Result<bool, Fault> {
 
 #[test]
 fn limits(rt: HostRuntime) -> Result<(), Fail> {
-    for row in LIMITS {
+    for row in &LIMITS {
         for number in row.taken {
             assert!(rt;
                 is_taken(rt.alloc(), row.made, number)?,

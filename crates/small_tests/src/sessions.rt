@@ -56,7 +56,7 @@ struct Story {
     ends: Ends,
 }
 
-const STORIES: [Story; 5] = [
+static STORIES: [Story; 5] = [
     Story {
         name: "nothing is not closed",
         does: &[],
@@ -257,7 +257,7 @@ fn sessions(rt: HostRuntime) -> Result<(), Fail> {
     let alloc = rt.alloc();
     let splits = split_at_m(alloc)?;
     let txn = id(2)?;
-    for story in STORIES {
+    for story in &STORIES {
         let mut tx = Tx::begin(alloc, txn, &splits);
         let met = gets_all(&mut tx, alloc, story.does);
         let ended = ended_as(tx, alloc, story.ends);

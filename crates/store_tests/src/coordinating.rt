@@ -4,7 +4,7 @@ use crate::given::Given;
 use crate::stories::{Moment, Past, Shows, Story, tell};
 use std::test::Fail;
 
-const COORDINATING: [Story; 4] = [
+static COORDINATING: [Story; 4] = [
     Story {
         name: "a vote that comes before its commit changes nothing; the same vote again decides",
         shard: 0,

@@ -9,7 +9,7 @@ const A: Given = Given::Commit(1, 0, b"a", b"1");
 
 const DONE: Told = Told::One((b'd', 9, 1, 111));
 
-const COMMITS: [Story; 4] = [
+static COMMITS: [Story; 4] = [
     Story {
         name: "one commit and its log",
         shard: 0,
@@ -161,7 +161,7 @@ const FAILS: Story = Story {
     }],
 };
 
-const FAILING: [Story; 4] = [
+static FAILING: [Story; 4] = [
     FAILS,
     Story {
         past: Past::Failing(8),

@@ -15,7 +15,7 @@ struct Printed {
     status: u8,
 }
 
-const PRINTED: [Printed; 9] = [
+static PRINTED: [Printed; 9] = [
     Printed {
         words: ["once", "a", "1", "100", "110", "112", "121"],
         printed: "commit 1.1 at 111\ndone 1.1 committed 111\n",
@@ -83,7 +83,7 @@ const PRINTED: [Printed; 9] = [
 #[test]
 fn answers_of_once(rt: HostRuntime) -> Result<(), Fail> {
     let alloc = rt.alloc();
-    for row in PRINTED {
+    for row in &PRINTED {
         let (mut out, mut err): (Vec<u8>, Vec<u8>) = (Vec::new(alloc), Vec::new(alloc));
         let status = answer(alloc, row.words.as_slice(), &mut out, &mut err);
         assert_eq!(rt; status, row.status, "at {:?}", row.words);
@@ -150,7 +150,7 @@ fn always_memory(rt: HostRuntime) -> Result<(), Fail> {
     Ok(())
 }
 
-const NO_COMMANDS: [&[&str]; 9] = [
+static NO_COMMANDS: [&[&str]; 9] = [
     &[],
     &["once"],
     &["once", "a", "1", "100", "110", "112"],
@@ -164,7 +164,7 @@ const NO_COMMANDS: [&[&str]; 9] = [
 
 #[test]
 fn words_that_are_no_command(rt: HostRuntime) {
-    for words in NO_COMMANDS {
+    for words in &NO_COMMANDS {
         let refused = command(rt.alloc(), words).err();
         assert_eq!(rt;
             refused,

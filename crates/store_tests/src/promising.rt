@@ -5,7 +5,7 @@ use crate::stories::{Moment, Past, Shows, Story, tell};
 use std::test::Fail;
 use units::{Fault, Seen};
 
-const PROMISING: [Story; 5] = [
+static PROMISING: [Story; 5] = [
     Story {
         name: "a promise holds the served time",
         shard: 1,

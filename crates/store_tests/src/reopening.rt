@@ -36,7 +36,7 @@ const FAILS: &[Exchange] = &[
     ),
 ];
 
-const REOPENED: [Story; 5] = [
+static REOPENED: [Story; 5] = [
     // The greatest timestamp is the log's, and promises go on above it.
     Story {
         name: "a ceiling outlives a crash",
@@ -152,7 +152,7 @@ const HIDDEN: Story = Story {
     }],
 };
 
-const ARMED: [Story; 4] = [
+static ARMED: [Story; 4] = [
     HIDDEN,
     Story {
         past: Past::Armed(1, FAILS),
@@ -186,7 +186,7 @@ struct Refused {
     fault: Option<Fault>,
 }
 
-const REFUSED: [Refused; 3] = [
+static REFUSED: [Refused; 3] = [
     Refused {
         left: None,
         shard: 0,
@@ -227,8 +227,8 @@ fn refusal(alloc: Global, disk: SimDisk, setup: Setup) -> Option<Fault> {
 
 #[test]
 fn disks_that_are_not_opened(rt: HostRuntime) -> Result<(), Fail> {
-    for row in REFUSED {
-        let disk = disk_of(rt.alloc(), row).ok_or("a disk")?;
+    for row in &REFUSED {
+        let disk = disk_of(rt.alloc(), *row).ok_or("a disk")?;
         let setup = setup(rt.alloc(), row.shard, 0).ok_or("a setup")?;
         assert_eq!(rt; refusal(rt.alloc(), disk, setup), row.fault);
     }

@@ -10,7 +10,7 @@ const COMMITTED: &[Exchange] = &[
     (112, 121, Given::Settle(1), Told::One((b'd', 9, 1, 111))),
 ];
 
-const SERVING: [Story; 6] = [
+static SERVING: [Story; 6] = [
     // A ceiling in the log of a fresh shard is a frame of nine bytes behind the opening, and its gate.
     Story {
         name: "advances",
