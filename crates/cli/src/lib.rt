@@ -8,10 +8,12 @@ mod failure;
 mod numbers;
 mod once;
 mod one_shard;
+mod stream;
 mod words;
 
 pub use answers::answer;
 pub use commands::Command;
+pub use stream::Stream;
 pub use words::command;
 
 #[cfg(test)]

@@ -1,4 +1,5 @@
-use crate::{Command, answer, command};
+use crate::{Command, Stream, answer, command};
+use simdisk::SimDisk;
 use std::alloc::Global;
 use std::io;
 use std::io::Write;
@@ -74,12 +75,13 @@ const ROWS: [([&str; 7], &str, &str, u8); 9] = [
 fn answers_of_once(rt: HostRuntime) -> Result<(), Fail> {
     let alloc = rt.alloc();
     for (words, printed, refused, status) in ROWS {
-        let mut out: Vec<u8> = Vec::new(alloc);
-        let mut err: Vec<u8> = Vec::new(alloc);
-        let given = answer(alloc, words.as_slice(), &mut out, &mut err);
+        let mut out = Stream::new(Vec::<u8>::new(alloc));
+        let mut err = Stream::new(Vec::<u8>::new(alloc));
+        let disk = SimDisk::new(alloc);
+        let (given, _) = answer(alloc, words.as_slice(), disk, &mut out, &mut err);
         assert_eq!(rt; given, status, "at {words:?}");
-        assert!(rt; out.as_slice() == printed.as_bytes(), "at {words:?}");
-        assert!(rt; err.as_slice() == refused.as_bytes(), "at {words:?}");
+        assert!(rt; out.into_writer().as_slice() == printed.as_bytes(), "at {words:?}");
+        assert!(rt; err.into_writer().as_slice() == refused.as_bytes(), "at {words:?}");
     }
     Ok(())
 }
@@ -101,10 +103,11 @@ fn always_memory(rt: HostRuntime) -> Result<(), Fail> {
     assert_eq!(rt; first.latest().micros(), 110);
     assert_eq!(rt; second.earliest().micros(), 112);
     assert_eq!(rt; second.latest().micros(), 121);
-    let mut out: Vec<u8> = Vec::new(alloc);
-    let mut err: Vec<u8> = Vec::new(alloc);
-    assert_eq!(rt; answer(alloc, words.as_slice(), &mut out, &mut err), 0);
-    assert!(rt; err.is_empty());
+    let mut out = Stream::new(Vec::<u8>::new(alloc));
+    let mut err = Stream::new(Vec::<u8>::new(alloc));
+    let (status, _) = answer(alloc, words.as_slice(), SimDisk::new(alloc), &mut out, &mut err);
+    assert_eq!(rt; status, 0);
+    assert!(rt; err.into_writer().is_empty());
     Ok(())
 }
 
@@ -155,16 +158,16 @@ fn writes_that_fail(rt: HostRuntime) {
     let alloc = rt.alloc();
     let words = ["once", "a", "1", "100", "110", "112", "121"];
     for (taken, status) in [(0u8, 2u8), (1, 2), (2, 0)] {
-        let mut out = Failing { taken };
-        let mut err: Vec<u8> = Vec::new(alloc);
-        assert_eq!(rt; answer(alloc, words.as_slice(), &mut out, &mut err), status);
-        assert!(rt; err.is_empty());
+        let mut out = Stream::new(Failing { taken });
+        let mut err = Stream::new(Vec::<u8>::new(alloc));
+        let (given, _) = answer(alloc, words.as_slice(), SimDisk::new(alloc), &mut out, &mut err);
+        assert_eq!(rt; given, status);
+        assert!(rt; err.into_writer().is_empty());
     }
     let wrong = ["once", "a", "1", "110", "100", "112", "121"];
-    let mut out: Vec<u8> = Vec::new(alloc);
-    assert_eq!(rt;
-        answer(alloc, wrong.as_slice(), &mut out, &mut Failing { taken: 0 }),
-        2
-    );
-    assert!(rt; out.is_empty());
+    let mut out = Stream::new(Vec::<u8>::new(alloc));
+    let mut err = Stream::new(Failing { taken: 0 });
+    let (status, _) = answer(alloc, wrong.as_slice(), SimDisk::new(alloc), &mut out, &mut err);
+    assert_eq!(rt; status, 2);
+    assert!(rt; out.into_writer().is_empty());
 }

