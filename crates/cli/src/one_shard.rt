@@ -23,9 +23,13 @@ pub fn open_new(alloc: Global, disk: SimDisk) -> Result<Core<SimDisk>, (Fault, S
     ensures log { IfOk result (λ core. HasLog new_log (seen core)) }
     ensures memory { IfErr result (λ refused. refused.0 ≡ Memory) }
 {
-    match only_setup(alloc) {
-        Ok(setup) => Core::fresh(alloc, disk, setup),
-        Err(fault) => Err((fault, disk)),
+    let setup = match only_setup(alloc) {
+        Ok(setup) => setup,
+        Err(fault) => return Err((fault, disk)),
+    };
+    match Core::fresh(alloc, disk, setup) {
+        Ok(core) => Ok(core),
+        Err(refused) => Err(refused),
     }
 }
 

@@ -97,9 +97,7 @@ fn is_damaged(alloc: Global, number: u8, lines: &[Line], last: Line) -> Result<b
     facts.reserve()?;
     match facts.learn(64, item) {
         Ok(()) => Ok(false),
-        Err((fault, back)) => Ok(
-            fault == Fault::Damaged { offset: 64 } && !facts.follows(&back),
-        ),
+        Err((fault, back)) => Ok(fault == Fault::Damaged { offset: 64 } && !facts.follows(&back)),
     }
 }
 
@@ -205,9 +203,7 @@ fn a_promise_and_an_abort(rt: HostRuntime) -> Result<(), Fail> {
     assert!(rt;
         matches!(facts.status(promised), Some(status) if status.prepared().is_some() && status.committed().is_none())
     );
-    assert!(rt;
-        matches!(facts.status(aborted), Some(status) if status.outcome().is_none())
-    );
+    assert!(rt; matches!(facts.status(aborted), Some(status) if status.outcome().is_none()));
     Ok(())
 }
 

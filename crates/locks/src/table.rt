@@ -6,9 +6,7 @@ ghost use Rattle.locks.specs.Ways.{is_wounding};
 ghost use Rattle.locks.specs.Table.{has_claim, with_claim, without_claim, without_claims, change_claim, entrant, made_firm, granted, waiting, resumed, withdrawn, after, held_in, needs_in, most_held, KeepsRoom, ReleaseMakesWay};
 
 use crate::buffer::make_room;
-use crate::entry::{
-    Entry, holds, is_kept_out, is_wounding, place, place_for, ready, wounded,
-};
+use crate::entry::{Entry, holds, is_kept_out, is_wounding, place, place_for, ready, wounded};
 use crate::held::Held;
 use std::alloc::Global;
 use std::marker::Model;

@@ -22,12 +22,13 @@ impl Model for RowList {
     ghost use Rattle.std.specs.Prelude.{List, ◌≤◌, vec_capacity};
     ghost use Rattle.rows.specs.declared.row.Row.{Row};
     ghost use Rattle.rows.specs.CodeRows.{IsRowList};
+    ghost use Rattle.units.specs.Limits.{most_rows};
 
     ghost Value = { List Row };
 
     ghost view = { λ l. l.rows.items };
 
-    ghost invariant = { λ l. IsRowList l.rows.items × (MOST_ROWS ≤ vec_capacity l.rows) };
+    ghost invariant = { λ l. IsRowList l.rows.items × (most_rows ≤ vec_capacity l.rows) };
 }
 
 impl RowList {

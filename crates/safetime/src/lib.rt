@@ -23,12 +23,13 @@ pub struct SafeTime {
 impl Model for SafeTime {
     ghost use Rattle.std.specs.Prelude.{◌≤◌, ◌<◌, All, vec_capacity};
     ghost use Rattle.safetime.specs.Safe.{Times};
+    ghost use Rattle.units.specs.Limits.{most_rows};
 
     ghost Value = { Times };
 
     ghost view = { λ a. record { last = a.last; holds = a.holds.items } };
 
-    ghost invariant = { λ a. All (λ at. 0 < at) a.holds.items × (MOST_ROWS ≤ vec_capacity a.holds) };
+    ghost invariant = { λ a. All (λ at. 0 < at) a.holds.items × (most_rows ≤ vec_capacity a.holds) };
 }
 
 impl SafeTime {

@@ -35,9 +35,9 @@ impl Splits {
         ensures refused { IfErr result (λ fault.
             ((fault ≡ Fault.BadRequest Reason.Many) × (15 < length keys.now))
             ⊎ (((fault ≡ Fault.BadRequest Reason.Splits) × (length keys.now ≤ 15)
-                × IsFalse (ascends key_before keys.now))
+            × IsFalse (ascends key_before keys.now))
             ⊎ ((fault ≡ Fault.Memory) × (length keys.now ≤ 15)
-                × IsTrue (ascends key_before keys.now)))) }
+            × IsTrue (ascends key_before keys.now)))) }
     {
         if keys.len() > 15 {
             return Err(Fault::BadRequest(Reason::Many));

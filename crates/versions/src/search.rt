@@ -93,7 +93,13 @@ pub fn install(installs: &mut Vec<Install>, places: &mut Vec<usize>, new: Instal
     ensures in_time { new.at < 2 ^ 62 }
     ensures capacity { (vec_capacity installs.new ≡ vec_capacity installs.old) × (vec_capacity places.new ≡ vec_capacity places.old) }
 {
-    let (count, _) = find(installs, places, &new.key, new.at.micros(), &mut Count::none());
+    let (count, _) = find(
+        installs,
+        places,
+        &new.key,
+        new.at.micros(),
+        &mut Count::none(),
+    );
     match places.insert(count, installs.len()) {
         Ok(()) => {}
         Err(_) => unreachable!(),

@@ -79,11 +79,20 @@ fn in_order_by_key_and_timestamp(rt: HostRuntime) -> Result<(), Fail> {
         .into_iter()
         .zip(1..)
     {
-        assert_eq!(rt; versions.find(&Key::new(&[key])?, Stamp::new(at)?, &mut Count::none()).0, place);
+        assert_eq!(rt;
+            versions
+                .find(&Key::new(&[key])?, Stamp::new(at)?, &mut Count::none())
+                .0,
+            place
+        );
     }
     let (count, probes) = versions.find(&Key::new(b"b")?, Stamp::new(29)?, &mut Count::none());
     assert!(rt; count == 2 && probes <= 3);
-    let (count, probes) = Versions::none(rt.alloc()).find(&Key::new(b"b")?, Stamp::new(29)?, &mut Count::none());
+    let (count, probes) = Versions::none(rt.alloc()).find(
+        &Key::new(b"b")?,
+        Stamp::new(29)?,
+        &mut Count::none(),
+    );
     assert!(rt; count == 0 && probes == 0);
     Ok(())
 }
@@ -108,6 +117,11 @@ fn writes_at_one_timestamp(rt: HostRuntime) -> Result<(), Fail> {
     assert_eq!(rt; byte_at(&versions, b'a', 199)?, None);
     assert_eq!(rt; byte_at(&versions, b'a', 200)?, Some(b'1'));
     assert_eq!(rt; latest_byte(&versions, b'z')?, None);
-    assert_eq!(rt; versions.find(&Key::new(b"z")?, Stamp::new(200)?, &mut Count::none()).0, 2);
+    assert_eq!(rt;
+        versions
+            .find(&Key::new(b"z")?, Stamp::new(200)?, &mut Count::none())
+            .0,
+        2
+    );
     Ok(())
 }

@@ -18,5 +18,14 @@ first-memory : record { last = 0; rows = []; ended = [] } ≡ rebuilt (learned n
 unfolding rebuilt learn
 first-memory = refl
 
-pub returns-in-Ok-clause-log : goal.returns-in-Ok-clause-log
-returns-in-Ok-clause-log c = as_new c.fresh.result c.fresh.ensures.made c.fresh.ensures.empty c.fresh.ensures.gate (c.fresh.ensures.planned tt c.requires) c.fresh.ensures.read c.fresh.ensures.durable
+pub returns-in-Ok-fresh-clause-log : goal.returns-in-Ok-fresh-clause-log
+returns-in-Ok-fresh-clause-log c = record {
+  setup = c.in-Ok-fresh.ensures.made.0 ∙ c.in-Ok.ensures.setup;
+  facts = c.in-Ok-fresh.ensures.made.1 ∙ first-facts;
+  memory = c.in-Ok-fresh.ensures.empty ∙ first-memory;
+  gate = omega (arith, c.in-Ok-fresh.ensures.gate);
+  running = c.in-Ok-fresh.ensures.made.2;
+  plan = (c.in-Ok-fresh.ensures.planned tt c.requires).0;
+  read = c.in-Ok-fresh.ensures.read tt;
+  durable = c.in-Ok-fresh.ensures.durable tt;
+}

@@ -13,7 +13,8 @@ pub returns-in-Ok-laid_out-clause-planned : goal.returns-in-Ok-laid_out-clause-p
 returns-in-Ok-laid_out-clause-planned g c obeys never =
     let size : length (spelling c.args.first.now) ≡ c.encoded_len-size.result = sym c.encoded_len-size.ensures.value in
     let told = c.in-Ok-laid_out.ensures.planned 5 (c.encoded_len-size.result + 6) (c.in_default.ensures.room obeys) (c.reserve.ensures.plan ∙ never) in (
-      tt, (
+      tt,
+      (
         told.1.0,
         g.met.D.Disk.room_less (disk_of c.in-Ok-laid_out.log) 5 (c.encoded_len-size.result + 6) 4 (length (staged_bytes c.args.first.now) + 1) (omega arith) (omega (arith, size, bytes-size 0 c.args.first.now)) told.1.1,
       ),
