@@ -47,8 +47,8 @@ pub fn answer<'a, O: Write, E: Write>(
     ensures told { are_plain (map (λ w. w.now) words.entry.now) ≡ true → result.0 ≡ 2
         → (failures_of out.old < failures_of out.new)
         ⊎ ((fault : Fault) × ((fault ≡ Memory) ⊎ (reply_to (map (λ w. w.now) words.entry.now) ≡ Err fault))
-            × ((failures_of err.old < failures_of err.new)
-            ⊎ Appends (E.contents (writer_of err.old)) (E.contents (writer_of err.new)) (fault_line fault))) }
+        × ((failures_of err.old < failures_of err.new)
+        ⊎ Appends (E.contents (writer_of err.old)) (E.contents (writer_of err.new)) (fault_line fault))) }
 {
     let (done, disk) = carry_out(alloc, words, disk, out);
     match done {
@@ -80,12 +80,14 @@ fn carry_out<'a, O: Write>(
         FailsFor (failures_of out.old < failures_of out.new) failure (reply_to (map (λ w. w.now) words.entry.now))) }
 {
     match command(alloc, words) {
-        Ok(Command::Once {
-            key,
-            value,
-            first,
-            second,
-        }) => once(alloc, key, value, &first, &second, disk, out),
+        Ok(
+            Command::Once {
+                key,
+                value,
+                first,
+                second,
+            },
+        ) => once(alloc, key, value, &first, &second, disk, out),
         Err(fault) => (Err(Failure::Refused(fault)), disk),
     }
 }

@@ -80,8 +80,14 @@ fn answers_of_once(rt: HostRuntime) -> Result<(), Fail> {
         let disk = SimDisk::new(alloc);
         let (given, _) = answer(alloc, words.as_slice(), disk, &mut out, &mut err);
         assert_eq!(rt; given, status, "at {words:?}");
-        assert!(rt; out.into_writer().as_slice() == printed.as_bytes(), "at {words:?}");
-        assert!(rt; err.into_writer().as_slice() == refused.as_bytes(), "at {words:?}");
+        assert!(rt;
+            out.into_writer().as_slice() == printed.as_bytes(),
+            "at {words:?}"
+        );
+        assert!(rt;
+            err.into_writer().as_slice() == refused.as_bytes(),
+            "at {words:?}"
+        );
     }
     Ok(())
 }
@@ -105,7 +111,13 @@ fn always_memory(rt: HostRuntime) -> Result<(), Fail> {
     assert_eq!(rt; second.latest().micros(), 121);
     let mut out = Stream::new(Vec::<u8>::new(alloc));
     let mut err = Stream::new(Vec::<u8>::new(alloc));
-    let (status, _) = answer(alloc, words.as_slice(), SimDisk::new(alloc), &mut out, &mut err);
+    let (status, _) = answer(
+        alloc,
+        words.as_slice(),
+        SimDisk::new(alloc),
+        &mut out,
+        &mut err,
+    );
     assert_eq!(rt; status, 0);
     assert!(rt; err.into_writer().is_empty());
     Ok(())
@@ -160,14 +172,26 @@ fn writes_that_fail(rt: HostRuntime) {
     for (taken, status) in [(0u8, 2u8), (1, 2), (2, 0)] {
         let mut out = Stream::new(Failing { taken });
         let mut err = Stream::new(Vec::<u8>::new(alloc));
-        let (given, _) = answer(alloc, words.as_slice(), SimDisk::new(alloc), &mut out, &mut err);
+        let (given, _) = answer(
+            alloc,
+            words.as_slice(),
+            SimDisk::new(alloc),
+            &mut out,
+            &mut err,
+        );
         assert_eq!(rt; given, status);
         assert!(rt; err.into_writer().is_empty());
     }
     let wrong = ["once", "a", "1", "110", "100", "112", "121"];
     let mut out = Stream::new(Vec::<u8>::new(alloc));
     let mut err = Stream::new(Failing { taken: 0 });
-    let (status, _) = answer(alloc, wrong.as_slice(), SimDisk::new(alloc), &mut out, &mut err);
+    let (status, _) = answer(
+        alloc,
+        wrong.as_slice(),
+        SimDisk::new(alloc),
+        &mut out,
+        &mut err,
+    );
     assert_eq!(rt; status, 2);
     assert!(rt; out.into_writer().is_empty());
 }
