@@ -1,6 +1,7 @@
 -- The one shard of `once`, by the records of its log.
-use Rattle.std.specs.Prelude.{◌≡◌, ℕ, ◌*◌, ◌^◌, ◌≤◌, Bool, true, false, List, [], ◌∷◌, ◌++◌, length, nat_eq, Some, Ok, IsFalse}
+use Rattle.std.specs.Prelude.{◌≡◌, ℕ, ◌*◌, ◌^◌, ◌≤◌, Bool, true, false, List, [], ◌∷◌, ◌++◌, length, nat_eq, Some, Result, Ok, Err, IsFalse}
 use Rattle.units.specs.Keys.{Bytes}
+use Rattle.units.specs.declared.fault.Fault.{Fault}
 use Rattle.units.specs.declared.setup.Setup.{Setup}
 use Rattle.units.specs.declared.setup.Book.TheVariants.{Off}
 use Rattle.units.specs.declared.writes.Write.{Write}
@@ -63,6 +64,11 @@ IsLogged key value first status disk =
 -- a disk behind a command
 abbrev pub LogsCommand : Command → ℕ → SimDisk → Type 0
 LogsCommand (code.Once key value first second) status disk = IsLogged key value first status disk
+
+-- a disk behind the command that some words ask for
+abbrev pub LogsTo : Result Command Fault → ℕ → SimDisk → Type 0
+LogsTo (Ok asked) status disk = LogsCommand asked status disk
+LogsTo (Err fault) status disk = ⊥
 
 -- the shard runs on a disk that does not fail; its log has these records, also after a crash, and ends far from its limit;
 -- what it keeps in memory is what an opening of that log would find

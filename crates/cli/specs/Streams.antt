@@ -5,11 +5,11 @@ use Rattle.units.specs.declared.fault.Fault.{Fault}
 use Rattle.cli.specs.declared.stream.Stream.{Stream}
 
 -- its writer
-abbrev pub writer_of : {W : Type 0} {g : _} → Stream W g → W
+abbrev pub writer_of : {W : Type 0} → Stream W → W
 writer_of stream = stream.writer
 
 -- how often a write to it has failed
-abbrev pub failures_of : {W : Type 0} {g : _} → Stream W g → ℕ
+abbrev pub failures_of : {W : Type 0} → Stream W → ℕ
 failures_of stream = stream.failures.number
 
 -- the line of a fault

@@ -6,11 +6,10 @@ ghost use Rattle.units.specs.declared.fault.Fault.TheVariants.{Memory};
 ghost use Rattle.disk.specs.declared.plan.Plan.TheVariants.{Never};
 ghost use Rattle.simdisk.specs.State.{disk_plan};
 ghost use Rattle.cli.specs.Commands.{command_of};
-ghost use Rattle.cli.specs.declared.commands.Command.{Command};
 ghost use Rattle.cli.specs.Failures.{FailsFor};
 ghost use Rattle.cli.specs.Lines.{are_plain};
-ghost use Rattle.cli.specs.Replies.{reply_to};
-ghost use Rattle.cli.specs.Shards.{LogsCommand};
+ghost use Rattle.cli.specs.Replies.{reply_of, reply_to};
+ghost use Rattle.cli.specs.Shards.{LogsCommand, LogsTo};
 ghost use Rattle.cli.specs.Streams.{failures_of, fault_line, writer_of};
 
 use crate::command;
@@ -38,8 +37,7 @@ pub fn answer<'a, O: Write, E: Write>(
         → (text : List ℕ) × (reply_to (map (λ w. w.now) words.entry.now) ≡ Ok (text, result.0))
         × Appends (O.contents (writer_of out.old)) (O.contents (writer_of out.new)) text }
     ensures logged { are_plain (map (λ w. w.now) words.entry.now) ≡ true → result.0 ≢ 2
-        → (asked : Command) × (command_of (map (λ w. w.now) words.entry.now) ≡ Ok asked)
-        × LogsCommand asked result.0 result.1 }
+        → LogsTo (command_of (map (λ w. w.now) words.entry.now)) result.0 result.1 }
     ensures refused { are_plain (map (λ w. w.now) words.entry.now) ≡ true → (fault : Fault)
         → reply_to (map (λ w. w.now) words.entry.now) ≡ Err fault → (result.0 ≡ 2) × (out.new ≡ out.old) }
     ensures quiet { result.0 ≢ 2 → err.new ≡ err.old }
@@ -72,22 +70,41 @@ fn carry_out<'a, O: Write>(
     ensures printed { are_plain (map (λ w. w.now) words.entry.now) ≡ true → IfOk result.0 (λ status. (text : List ℕ)
         × (reply_to (map (λ w. w.now) words.entry.now) ≡ Ok (text, status))
         × Appends (O.contents (writer_of out.old)) (O.contents (writer_of out.new)) text) }
-    ensures logged { are_plain (map (λ w. w.now) words.entry.now) ≡ true → IfOk result.0 (λ status. (asked : Command)
-        × (command_of (map (λ w. w.now) words.entry.now) ≡ Ok asked) × LogsCommand asked status result.1) }
+    ensures logged { are_plain (map (λ w. w.now) words.entry.now) ≡ true → IfOk result.0 (λ status.
+        LogsTo (command_of (map (λ w. w.now) words.entry.now)) status result.1) }
     ensures refused { are_plain (map (λ w. w.now) words.entry.now) ≡ true → (fault : Fault)
         → reply_to (map (λ w. w.now) words.entry.now) ≡ Err fault → out.new ≡ out.old }
     ensures failures { are_plain (map (λ w. w.now) words.entry.now) ≡ true → IfErr result.0 (λ failure.
         FailsFor (failures_of out.old < failures_of out.new) failure (reply_to (map (λ w. w.now) words.entry.now))) }
 {
     match command(alloc, words) {
-        Ok(
-            Command::Once {
-                key,
-                value,
-                first,
-                second,
-            },
-        ) => once(alloc, key, value, &first, &second, disk, out),
+        Ok(asked) => run(alloc, asked, disk, out),
         Err(fault) => (Err(Failure::Refused(fault)), disk),
+    }
+}
+
+// Carries one command out.
+fn run<O: Write>(
+    alloc: Global,
+    asked: Command,
+    disk: SimDisk,
+    out: &mut Stream<O>,
+) -> (Result<u8, Failure>, SimDisk)
+    requires { disk_plan disk ≡ Never }
+    ensures status { IfOk result.0 (λ status. (status ≡ 0) ⊎ (status ≡ 1)) }
+    ensures printed { IfOk result.0 (λ status. (text : List ℕ) × (reply_of asked ≡ Ok (text, status))
+        × Appends (O.contents (writer_of out.old)) (O.contents (writer_of out.new)) text) }
+    ensures logged { IfOk result.0 (λ status. LogsCommand asked status result.1) }
+    ensures refused { (fault : Fault) → reply_of asked ≡ Err fault → out.new ≡ out.old }
+    ensures failures { IfErr result.0 (λ failure.
+        FailsFor (failures_of out.old < failures_of out.new) failure (reply_of asked)) }
+{
+    match asked {
+        Command::Once {
+            key,
+            value,
+            first,
+            second,
+        } => once(alloc, key, value, &first, &second, disk, out),
     }
 }

@@ -1,5 +1,5 @@
 //! A stream that the program prints to.
-ghost use Rattle.std.specs.Prelude.{◌≡◌, ◌+◌, IfErr, OnOk};
+ghost use Rattle.std.specs.Prelude.{◌≡◌, ◌+◌, ◌≤◌, IfErr, OnOk};
 ghost use Rattle.std.specs.Io.KnownBytes.{Appends};
 ghost use Rattle.cli.specs.Streams.{fault_line};
 ghost use Rattle.cli.specs.declared.failure.Failure.TheVariants.{Unwritten};
@@ -45,6 +45,7 @@ impl<W: Write> Stream<W> {
         ensures printed { OnOk result (Appends (W.contents (writer_of self.old)) (W.contents (writer_of self.new)) text.now) }
         ensures unwritten { IfErr result (λ failure. failure ≡ Unwritten) }
         ensures failed { IfErr result (λ _. failures_of self.new ≡ failures_of self.old + 1) }
+        ensures kept { failures_of self.old ≤ failures_of self.new }
     {
         match self.writer.write_all(text.as_bytes()) {
             Ok(()) => Ok(()),
@@ -60,6 +61,7 @@ impl<W: Write> Stream<W> {
         ensures printed { OnOk result (Appends (W.contents (writer_of self.old)) (W.contents (writer_of self.new)) (fault_line fault)) }
         ensures unwritten { IfErr result (λ failure. failure ≡ Unwritten) }
         ensures failed { IfErr result (λ _. failures_of self.new ≡ failures_of self.old + 1) }
+        ensures kept { failures_of self.old ≤ failures_of self.new }
     {
         match writeln!(self.writer, "fault: {fault}") {
             Ok(()) => Ok(()),
