@@ -2,6 +2,7 @@
 use Rattle.std.proofs.Common.{List, ◌≡◌, ◌∙◌, ◌+◌, ◌<◌, ◌≤◌, ◌^◌, ℕ, Bool, true, false, cond, refl, ap, [], ◌∷◌, ◌++◌, Some, Ok, Err, arith}
 use Rattle.std.specs.Prelude.{max, nat_le, nat_lt}
 use Rattle.std.proofs.lemmas.Bool.Decides.{nat_tests}
+use Rattle.units.specs.Limits.{most_rows}
 use Rattle.units.specs.Keys.{Bytes}
 use Rattle.units.specs.Locks.{exclusive}
 use Rattle.units.specs.declared.fault.Fault.TheVariants.{Early, TimeSpent}
@@ -61,7 +62,7 @@ module _ (now : Interval) (key value : Bytes) where
   -- the plan of that
   abbrev deciding : ℕ → Planned
   deciding s =
-      Ok (puts (before 1024 only_setup (learned new_log) (found new_log)) [] only_txn (exclusive (only_write key value)) (IsDecided s (0 ∷ []))
+      Ok (puts (before most_rows only_setup (learned new_log) (found new_log)) [] only_txn (exclusive (only_write key value)) (IsDecided s (0 ∷ []))
       (Some (decision only_txn s (0 ∷ []) [] (only_write key value))) (max 0 s) [])
 
   deciding-is : (s : ℕ) → stepped (found new_log) (deciding s) ≡ decides s

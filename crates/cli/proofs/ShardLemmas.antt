@@ -9,7 +9,7 @@ use Rattle.units.specs.declared.fault.Fault.{Fault}
 use Rattle.units.specs.declared.fault.Fault.TheVariants.{Memory, Early, TimeSpent, Device}
 use Rattle.truetime.specs.Interval.{Interval}
 use Rattle.truetime.specs.Reading.{after}
-use Rattle.record.specs.Facts.{Facts, learn}
+use Rattle.record.specs.Facts.{Facts, learn, no_facts}
 use Rattle.record.specs.declared.record.Record.{Record}
 use Rattle.message.specs.declared.message.Envelope.{Envelope}
 use Rattle.message.specs.declared.message.Input.{Input}
@@ -18,7 +18,7 @@ use Rattle.gatelog.specs.Frames.{IsFull}
 use Rattle.disk.specs.File.{File, surface}
 use Rattle.simdisk.specs.State.{disk_file, disk_plan, disk_clock, disk_failures, LeftSince}
 use Rattle.simdisk.specs.declared.simdisk.SimDisk.{SimDisk}
-use Rattle.shard.specs.Logs.{nothing, and_logged, records_in, KeepsRecords}
+use Rattle.shard.specs.Logs.{and_logged, records_in, KeepsRecords}
 use Rattle.shard.specs.On.{CoreView, HasStepped, IsCause, IsLogFull, IsLogCause, step_of}
 use Rattle.cli.specs.Replies.{commit_stamp, only_txn}
 use Rattle.cli.specs.Shards.{HasLog, only_commit, new_log, decided_log, settled_log}
@@ -39,7 +39,7 @@ module _ (records : List Record) (old new : CoreView SimDisk) (log : HasLog reco
         let has : Steps old new (logs records r outbox) (Ok out) = subst (λ (s : Stepped). Steps old new s (Ok out)) is taken in
         record {
           setup = has.written.setup ∙ log.setup;
-          facts = has.done.2.0 ∙ ap (λ (f : Facts). learn f r) log.facts ∙ sym (fold-append learn nothing records (r ∷ []));
+          facts = has.done.2.0 ∙ ap (λ (f : Facts). learn f r) log.facts ∙ sym (fold-append learn no_facts records (r ∷ []));
           memory = has.done.2.1;
           gate = omega (arith, has.written.gate.1, log.gate, length-append records (r ∷ []));
           running = has.done.1;

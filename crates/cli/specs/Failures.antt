@@ -13,5 +13,5 @@ pub record IsRefusal (failure : Failure) (expected : Result Reply Fault) : Type 
   pub due : expected ≡ Err fault
 
 -- a write failed, memory is wanting, or the command is refused
-abbrev pub FailsFor : Failure → Result Reply Fault → Type 0
-FailsFor failure expected = (failure ≡ Unwritten) ⊎ (failure ≡ Refused Memory) ⊎ IsRefusal failure expected
+abbrev pub FailsFor : Type 0 → Failure → Result Reply Fault → Type 0
+FailsFor failed failure expected = ((failure ≡ Unwritten) × failed) ⊎ (failure ≡ Refused Memory) ⊎ IsRefusal failure expected

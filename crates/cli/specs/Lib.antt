@@ -5,4 +5,5 @@ pub mod Numbers
 pub mod Parser
 pub mod Replies
 pub mod Shards
+pub mod Streams
 pub mod Views

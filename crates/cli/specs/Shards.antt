@@ -1,6 +1,7 @@
 -- The one shard of `once`, by the records of its log.
-use Rattle.std.specs.Prelude.{◌≡◌, ℕ, ◌*◌, ◌^◌, ◌≤◌, Bool, true, false, List, [], ◌∷◌, ◌++◌, length, Some, Ok, IsFalse}
+use Rattle.std.specs.Prelude.{◌≡◌, ℕ, ◌*◌, ◌^◌, ◌≤◌, Bool, true, false, List, [], ◌∷◌, ◌++◌, length, nat_eq, Some, Result, Ok, Err, IsFalse}
 use Rattle.units.specs.Keys.{Bytes}
+use Rattle.units.specs.declared.fault.Fault.{Fault}
 use Rattle.units.specs.declared.setup.Setup.{Setup}
 use Rattle.units.specs.declared.setup.Book.TheVariants.{Off}
 use Rattle.units.specs.declared.writes.Write.{Write}
@@ -15,7 +16,10 @@ use Rattle.simdisk.specs.State.{disk_file, disk_plan}
 use Rattle.simdisk.specs.declared.simdisk.SimDisk.{SimDisk}
 use Rattle.shard.specs.Logs.{learned, records_in, KeepsRecords}
 use Rattle.shard.specs.On.{CoreView}
-use Rattle.cli.specs.Replies.{only_txn}
+use Rattle.cli.specs.declared.commands.Command.{Command}
+use Rattle.cli.specs.declared.commands.Command.TheVariants as code
+use Rattle.truetime.specs.Interval.{Interval}
+use Rattle.cli.specs.Replies.{commit_stamp, only_txn}
 
 -- the shard of all keys
 abbrev pub only_setup : Setup
@@ -46,6 +50,26 @@ settled_log key value s = decided_log key value s ++ Record.Outcome only_txn (So
 abbrev pub log_after : Bool → Bytes → Bytes → ℕ → List Record
 log_after true = settled_log
 log_after false = decided_log
+
+-- the disk holds these records, also after a crash
+pub record HoldsRecords (records : List Record) (disk : SimDisk) : Type 0 where
+  pub read : records_in (surface (disk_file disk)).seen ≡ Ok records
+  pub durable : KeepsRecords (surface (disk_file disk)) (Ok records)
+
+-- a disk behind `once`: it holds the commit at its timestamp, and its end where the status is 0
+abbrev pub IsLogged : Bytes → Bytes → Interval → ℕ → SimDisk → Type 0
+IsLogged key value first status disk =
+    (stamp : ℕ) × (commit_stamp first ≡ Ok stamp) × HoldsRecords (log_after (nat_eq status 0) key value stamp) disk
+
+-- a disk behind a command
+abbrev pub LogsCommand : Command → ℕ → SimDisk → Type 0
+LogsCommand code.Help status disk = Unit {0}
+LogsCommand (code.Once key value first second) status disk = IsLogged key value first status disk
+
+-- a disk behind the command that some words ask for
+abbrev pub LogsTo : Result Command Fault → ℕ → SimDisk → Type 0
+LogsTo (Ok asked) status disk = LogsCommand asked status disk
+LogsTo (Err fault) status disk = ⊥
 
 -- the shard runs on a disk that does not fail; its log has these records, also after a crash, and ends far from its limit;
 -- what it keeps in memory is what an opening of that log would find

@@ -1,68 +1,120 @@
 //! What the program answers to a command line.
-ghost use Rattle.std.specs.Prelude.{◌≡◌, ◌≢◌, ◌⊎◌, Ok, Err, IfOk, IfErr, map, true, List, ℕ};
+ghost use Rattle.std.specs.Prelude.{◌≡◌, ◌≢◌, ◌⊎◌, ◌<◌, Ok, Err, IfOk, IfErr, map, true, List, ℕ};
 ghost use Rattle.std.specs.Io.KnownBytes.{Appends};
 ghost use Rattle.units.specs.declared.fault.Fault.{Fault};
+ghost use Rattle.units.specs.declared.fault.Fault.TheVariants.{Memory};
+ghost use Rattle.disk.specs.declared.plan.Plan.TheVariants.{Never};
+ghost use Rattle.simdisk.specs.State.{disk_plan};
+ghost use Rattle.cli.specs.Commands.{command_of};
+ghost use Rattle.cli.specs.declared.commands.Command.TheVariants.{Help};
 ghost use Rattle.cli.specs.declared.usage.TheConstants.{USAGE};
 ghost use Rattle.cli.specs.Failures.{FailsFor};
 ghost use Rattle.cli.specs.Lines.{are_plain, asks_help};
-ghost use Rattle.cli.specs.Replies.{reply_to};
+ghost use Rattle.cli.specs.Replies.{reply_of, reply_to};
+ghost use Rattle.cli.specs.Shards.{LogsCommand, LogsTo};
+ghost use Rattle.cli.specs.Streams.{failures_of, fault_line, writer_of};
 
 use crate::command;
 use crate::commands::Command;
 use crate::failure::Failure;
 use crate::once::once;
+use crate::stream::Stream;
 use crate::usage::help;
+use simdisk::SimDisk;
 use std::alloc::Global;
 use std::io::Write;
 
-/// Carries a command line out, over standard output and standard error, and gives the status: 0,
-/// 1 for a verdict of no or for early, 2 for a fault. A fault is printed on standard error, except
-/// that after a failed write nothing more is printed.
+/// Carries a command line out, on an empty disk and over standard output and standard error. Gives the status, 0, 1 for a
+/// verdict of no or for early, 2 for a fault, and the disk, which holds what was printed of a commit. A fault is printed on
+/// standard error, except that after a failed write nothing more is printed.
 pub fn answer<'a, O: Write, E: Write>(
     alloc: Global,
     words: &'a [&'a str],
-    out: &mut O,
-    err: &mut E,
-) -> u8
-    ensures status { (result ≡ 0) ⊎ (result ≡ 1) ⊎ (result ≡ 2) }
-    ensures printed { are_plain (map (λ w. w.now) words.entry.now) ≡ true → result ≢ 2
-        → (text : List ℕ) × (reply_to (map (λ w. w.now) words.entry.now) ≡ Ok (text, result))
-        × Appends (O.contents out.old) (O.contents out.new) text }
+    disk: SimDisk,
+    out: &mut Stream<O>,
+    err: &mut Stream<E>,
+) -> (u8, SimDisk)
+    requires { disk_plan disk ≡ Never }
+    ensures status { (result.0 ≡ 0) ⊎ (result.0 ≡ 1) ⊎ (result.0 ≡ 2) }
+    ensures printed { are_plain (map (λ w. w.now) words.entry.now) ≡ true → result.0 ≢ 2
+        → (text : List ℕ) × (reply_to (map (λ w. w.now) words.entry.now) ≡ Ok (text, result.0))
+        × Appends (O.contents (writer_of out.old)) (O.contents (writer_of out.new)) text }
+    ensures logged { are_plain (map (λ w. w.now) words.entry.now) ≡ true → result.0 ≢ 2
+        → LogsTo (command_of (map (λ w. w.now) words.entry.now)) result.0 result.1 }
     ensures refused { are_plain (map (λ w. w.now) words.entry.now) ≡ true → (fault : Fault)
-        → reply_to (map (λ w. w.now) words.entry.now) ≡ Err fault → (result ≡ 2) × (out.new ≡ out.old) }
-    ensures helped { asks_help (map (λ w. w.now) words.entry.now) ≡ true → result ≢ 2
-        → (result ≡ 0) × Appends (O.contents out.old) (O.contents out.new) USAGE.now }
-    ensures quiet { result ≢ 2 → err.new ≡ err.old }
+        → reply_to (map (λ w. w.now) words.entry.now) ≡ Err fault → (result.0 ≡ 2) × (out.new ≡ out.old) }
+    ensures helped { asks_help (map (λ w. w.now) words.entry.now) ≡ true → result.0 ≢ 2
+        → (result.0 ≡ 0) × Appends (O.contents (writer_of out.old)) (O.contents (writer_of out.new)) USAGE.now }
+    ensures quiet { result.0 ≢ 2 → err.new ≡ err.old }
+    // A status of 2 has a reason: a write to standard output that failed, or a fault, whose line is on standard error.
+    ensures told { are_plain (map (λ w. w.now) words.entry.now) ≡ true → result.0 ≡ 2
+        → (failures_of out.old < failures_of out.new)
+        ⊎ ((fault : Fault) × ((fault ≡ Memory) ⊎ (reply_to (map (λ w. w.now) words.entry.now) ≡ Err fault))
+        × ((failures_of err.old < failures_of err.new)
+        ⊎ Appends (E.contents (writer_of err.old)) (E.contents (writer_of err.new)) (fault_line fault))) }
 {
-    match carry_out(alloc, words, out) {
-        Ok(status) => status,
+    let (done, disk) = carry_out(alloc, words, disk, out);
+    match done {
+        Ok(status) => (status, disk),
         Err(Failure::Refused(fault)) => {
-            let _ = writeln!(err, "fault: {fault}");
-            2
+            let _ = err.print_fault(fault);
+            (2, disk)
         }
-        Err(Failure::Unwritten) => 2,
+        Err(Failure::Unwritten) => (2, disk),
     }
 }
 
-fn carry_out<'a, O: Write>(alloc: Global, words: &'a [&'a str], out: &mut O) -> Result<u8, Failure>
-    ensures status { IfOk result (λ status. (status ≡ 0) ⊎ (status ≡ 1)) }
-    ensures printed { are_plain (map (λ w. w.now) words.entry.now) ≡ true → IfOk result (λ status. (text : List ℕ)
+fn carry_out<'a, O: Write>(
+    alloc: Global,
+    words: &'a [&'a str],
+    disk: SimDisk,
+    out: &mut Stream<O>,
+) -> (Result<u8, Failure>, SimDisk)
+    requires { disk_plan disk ≡ Never }
+    ensures status { IfOk result.0 (λ status. (status ≡ 0) ⊎ (status ≡ 1)) }
+    ensures printed { are_plain (map (λ w. w.now) words.entry.now) ≡ true → IfOk result.0 (λ status. (text : List ℕ)
         × (reply_to (map (λ w. w.now) words.entry.now) ≡ Ok (text, status))
-        × Appends (O.contents out.old) (O.contents out.new) text) }
+        × Appends (O.contents (writer_of out.old)) (O.contents (writer_of out.new)) text) }
+    ensures logged { are_plain (map (λ w. w.now) words.entry.now) ≡ true → IfOk result.0 (λ status.
+        LogsTo (command_of (map (λ w. w.now) words.entry.now)) status result.1) }
     ensures refused { are_plain (map (λ w. w.now) words.entry.now) ≡ true → (fault : Fault)
         → reply_to (map (λ w. w.now) words.entry.now) ≡ Err fault → out.new ≡ out.old }
-    ensures helped { asks_help (map (λ w. w.now) words.entry.now) ≡ true → IfOk result (λ status. (status ≡ 0)
-        × Appends (O.contents out.old) (O.contents out.new) USAGE.now) }
-    ensures failures { are_plain (map (λ w. w.now) words.entry.now) ≡ true
-        → IfErr result (λ failure. FailsFor failure (reply_to (map (λ w. w.now) words.entry.now))) }
+    ensures helped { asks_help (map (λ w. w.now) words.entry.now) ≡ true → IfOk result.0 (λ status. (status ≡ 0)
+        × Appends (O.contents (writer_of out.old)) (O.contents (writer_of out.new)) USAGE.now) }
+    ensures failures { are_plain (map (λ w. w.now) words.entry.now) ≡ true → IfErr result.0 (λ failure.
+        FailsFor (failures_of out.old < failures_of out.new) failure (reply_to (map (λ w. w.now) words.entry.now))) }
 {
-    match command(alloc, words)? {
-        Command::Help => help(out),
+    match command(alloc, words) {
+        Ok(asked) => run(alloc, asked, disk, out),
+        Err(fault) => (Err(Failure::Refused(fault)), disk),
+    }
+}
+
+// Carries one command out.
+fn run<O: Write>(
+    alloc: Global,
+    asked: Command,
+    disk: SimDisk,
+    out: &mut Stream<O>,
+) -> (Result<u8, Failure>, SimDisk)
+    requires { disk_plan disk ≡ Never }
+    ensures status { IfOk result.0 (λ status. (status ≡ 0) ⊎ (status ≡ 1)) }
+    ensures printed { IfOk result.0 (λ status. (text : List ℕ) × (reply_of asked ≡ Ok (text, status))
+        × Appends (O.contents (writer_of out.old)) (O.contents (writer_of out.new)) text) }
+    ensures logged { IfOk result.0 (λ status. LogsCommand asked status result.1) }
+    ensures helped { asked ≡ Help → IfOk result.0 (λ status. (status ≡ 0)
+        × Appends (O.contents (writer_of out.old)) (O.contents (writer_of out.new)) USAGE.now) }
+    ensures refused { (fault : Fault) → reply_of asked ≡ Err fault → out.new ≡ out.old }
+    ensures failures { IfErr result.0 (λ failure.
+        FailsFor (failures_of out.old < failures_of out.new) failure (reply_of asked)) }
+{
+    match asked {
+        Command::Help => (help(out), disk),
         Command::Once {
             key,
             value,
             first,
             second,
-        } => once(alloc, key, value, &first, &second, out),
+        } => once(alloc, key, value, &first, &second, disk, out),
     }
 }

@@ -1,5 +1,4 @@
 //! Why a command did not come to its end.
-use std::io;
 use units::Fault;
 
 /// A refusal, which is printed, or a write that failed, after which nothing is.
@@ -17,16 +16,5 @@ impl From<Fault> for Failure {
 
     fn from(fault: Fault) -> Failure {
         Failure::Refused(fault)
-    }
-}
-
-impl From<io::Error> for Failure {
-    ghost use Rattle.std.specs.Prelude.{◌≡◌};
-    ghost use Rattle.cli.specs.declared.failure.Failure.TheVariants.{Unwritten};
-
-    ghost from_gives = { λ _ failure. failure ≡ Unwritten };
-
-    fn from(_error: io::Error) -> Failure {
-        Failure::Unwritten
     }
 }

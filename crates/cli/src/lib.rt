@@ -8,9 +8,11 @@ mod failure;
 mod numbers;
 mod once;
 mod one_shard;
+mod stream;
 mod usage;
 mod words;
 
 pub use answers::answer;
 pub use commands::Command;
+pub use stream::Stream;
 pub use words::command;

@@ -4,7 +4,9 @@ ghost use Rattle.truetime.specs.Reading.{after};
 ghost use Rattle.units.specs.declared.fault.Fault.TheVariants.{Memory};
 ghost use Rattle.cli.specs.Replies.{commit_stamp, only_txn};
 ghost use Rattle.cli.specs.Shards.{HasLog, only_setup, only_write, only_commit, new_log, decided_log, log_after};
+ghost use Rattle.disk.specs.declared.plan.Plan.TheVariants.{Never};
 ghost use Rattle.shard.specs.Core.{seen};
+ghost use Rattle.simdisk.specs.State.{disk_plan};
 
 use message::{Commit, Input, Message, Reads};
 use shard::Core;
@@ -15,15 +17,19 @@ use units::{
     Book, Fault, Key, Parts, Setup, ShardNo, Splits, Stamp, Stride, TxnId, Value, Write, Writes,
 };
 
-/// The shard with a new log.
-pub fn open_new(alloc: Global) -> Result<Core<SimDisk>, Fault>
+/// The shard with a new log, on a disk that does not fail.
+pub fn open_new(alloc: Global, disk: SimDisk) -> Result<Core<SimDisk>, (Fault, SimDisk)>
+    requires { disk_plan disk ≡ Never }
     ensures log { IfOk result (λ core. HasLog new_log (seen core)) }
-    ensures memory { IfErr result (λ fault. fault ≡ Memory) }
+    ensures memory { IfErr result (λ refused. refused.0 ≡ Memory) }
 {
-    let setup = only_setup(alloc)?;
-    match Core::fresh(alloc, SimDisk::new(alloc), setup) {
+    let setup = match only_setup(alloc) {
+        Ok(setup) => setup,
+        Err(fault) => return Err((fault, disk)),
+    };
+    match Core::fresh(alloc, disk, setup) {
         Ok(core) => Ok(core),
-        Err((fault, _)) => Err(fault),
+        Err(refused) => Err(refused),
     }
 }
 

@@ -1,10 +1,12 @@
 //! Words that ask for help, and what is printed then.
-ghost use Rattle.std.specs.Prelude.{◌≡◌, IfErr, IfOk, OnOk, map};
+ghost use Rattle.std.specs.Prelude.{◌≡◌, ◌<◌, IfErr, IfOk, OnOk, map};
 ghost use Rattle.std.specs.Io.KnownBytes.{Appends};
 ghost use Rattle.cli.specs.declared.failure.Failure.TheVariants.{Unwritten};
 ghost use Rattle.cli.specs.Lines.{asks_help};
+ghost use Rattle.cli.specs.Streams.{failures_of, writer_of};
 
 use crate::failure::Failure;
+use crate::stream::Stream;
 use std::io::Write;
 
 /// The usage of the program: its commands, and what each word is. `run`, at the top of the
@@ -41,11 +43,11 @@ pub fn asks_help(words: &[&str]) -> bool
 }
 
 /// Prints the usage, and gives status 0.
-pub fn help<O: Write>(out: &mut O) -> Result<u8, Failure>
+pub fn help<O: Write>(out: &mut Stream<O>) -> Result<u8, Failure>
     ensures status { IfOk result (λ status. status ≡ 0) }
-    ensures printed { OnOk result (Appends (O.contents out.old) (O.contents out.new) USAGE.now) }
-    ensures unwritten { IfErr result (λ failure. failure ≡ Unwritten) }
+    ensures printed { OnOk result (Appends (O.contents (writer_of out.old)) (O.contents (writer_of out.new)) USAGE.now) }
+    ensures unwritten { IfErr result (λ failure. (failure ≡ Unwritten) × (failures_of out.old < failures_of out.new)) }
 {
-    out.write_all(USAGE.as_bytes())?;
+    out.print(USAGE)?;
     Ok(0)
 }

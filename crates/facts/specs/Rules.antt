@@ -4,7 +4,7 @@ use Rattle.units.specs.Lists.{head, when}
 use Rattle.record.specs.Facts.{Facts, recorded}
 use Rattle.record.specs.Records.{Status, Unrecorded, StandsPrepared, StandsDecided}
 use Rattle.record.specs.declared.record.Record.{Record}
-use Rattle.record.specs.declared.record.Record.TheVariants.{Opened, Prepare, Commit, Abort, Outcome}
+use Rattle.record.specs.declared.record.Record.TheVariants.{Opened, Ceiling, Prepare, Commit, Abort, Outcome}
 
 -- there is no promise, decision or abort
 abbrev pub is_unrecorded : Status → Bool
@@ -20,11 +20,12 @@ allows _ _ = false
 
 -- the rules of one id
 abbrev pub id_follows : ℕ → Facts → Record → Bool
+id_follows shard facts (Opened epoch) = true
+id_follows shard facts (Ceiling at) = true
 id_follows shard facts (Prepare p) = nat_lt 0 p.at && is_unrecorded (recorded facts p.txn) && nat_lt p.coordinator shard
 id_follows shard facts (Commit c) = nat_lt 0 c.at && is_unrecorded (recorded facts c.txn) && when (nat_eq shard) (head c.parts)
 id_follows shard facts (Abort t) = is_unrecorded (recorded facts t)
 id_follows shard facts (Outcome t outcome) = allows (recorded facts t) outcome
-id_follows shard facts _ = true
 
 -- the rules of the openings, the first of which comes before all else, and of one id
 unfoldable pub follows_facts : ℕ → Facts → Record → Bool

@@ -26,7 +26,7 @@ pub enum Status {
 
 impl Status {
     ghost use Rattle.facts.specs.Shown.{meaning};
-    ghost use Rattle.facts.specs.Readers.{standing_promise, standing_decision, has_abort, outcome_in};
+    ghost use Rattle.facts.specs.Readers.{standing_promise, standing_decision, outcome_in};
     ghost use Rattle.facts.specs.Rules.{allows};
     ghost use Rattle.record.specs.Facts.{after_outcome};
 
@@ -48,13 +48,6 @@ impl Status {
             Status::Decided(committed) => Some(committed),
             _ => None,
         }
-    }
-
-    /// There is an abort decision.
-    pub fn is_aborted(&self) -> bool
-        ensures { result ≡ has_abort (meaning self.now) }
-    {
-        matches!(self, Status::Aborted)
     }
 
     /// How the transaction ended here, where it has: at a timestamp, or `None` for aborted.

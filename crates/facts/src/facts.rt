@@ -1,5 +1,5 @@
 //! The facts of a log, learnt record by record.
-ghost use Rattle.std.specs.Prelude.{◌≡◌, ◌<◌, ◌≤◌, [], IsTrue, IsFalse, IsOk, IfOk, IfErr, OnOk, OnErr, Err, ◌^◌};
+ghost use Rattle.std.specs.Prelude.{◌≡◌, ◌<◌, ◌≤◌, [], IsTrue, IsFalse, IsOk, IfErr, OnOk, OnErr, Err, ◌^◌};
 ghost use Rattle.std.specs.Option.{option_copied};
 ghost use Rattle.units.specs.declared.fault.Fault.TheVariants.{Memory, Damaged};
 ghost use Rattle.record.specs.Facts.{facts_of, learn, recorded, after_outcome};
@@ -32,12 +32,13 @@ impl Model for Facts {
     ghost use Rattle.indexmap.specs.IndexMap.{spare};
     ghost use Rattle.facts.specs.Known.{Known, room_for};
     ghost use Rattle.facts.specs.Shown.{shown, IsAscending};
+    ghost use Rattle.record.specs.Facts.{facts_with};
 
     ghost Value = { Known };
 
     ghost view = { λ f. record {
       shard = f.shard;
-      facts = record { epoch = f.epoch; floor = f.floor; entries = shown f.statuses.entries; installs = f.installs.items };
+      facts = facts_with f.epoch f.floor (shown f.statuses.entries) f.installs.items;
       room = room_for (spare f.statuses) (vec_capacity f.installs - vec_len f.installs);
     } };
 
@@ -202,24 +203,6 @@ impl Facts {
             return Err((Fault::Damaged { offset }, item));
         }
         self.note(item);
-        Ok(())
-    }
-
-    /// Learns a copy of the record that comes next in the log, with the memory that this takes. A record that may not come
-    /// next is damage at the offset.
-    pub fn learn_copy(&mut self, alloc: Global, offset: u64, item: &Record) -> Result<(), Fault>
-        ensures learnt { OnOk result (self.new.facts ≡ learn self.old.facts item.now) }
-        ensures shard { self.new.shard ≡ self.old.shard }
-        ensures damaged { IsFalse (follows_facts self.old.shard self.old.facts item.now) → result ≡ Err (Damaged offset) }
-        ensures memory { IsTrue (follows_facts self.old.shard self.old.facts item.now) → IfErr result (λ fault. fault ≡ Memory) }
-        ensures same { OnErr result (self.new.facts ≡ self.old.facts) }
-    {
-        if !self.follows(item) {
-            return Err(Fault::Damaged { offset });
-        }
-        let copy = item.copy(alloc)?;
-        self.reserve()?;
-        self.note(copy);
         Ok(())
     }
 

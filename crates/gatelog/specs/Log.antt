@@ -1,12 +1,12 @@
 -- The log of a file: the records before the first gate that is not open, each with the offset of its gate.
-use Rattle.std.specs.Prelude.{ℕ, zero, suc, ◌+◌, ◌^◌, ◌&&◌, Bool, false, List, [], ◌∷◌, ◌++◌, take, drop, Option, Some, None, Result, Ok, Err, nat_le, ◌==◌, if◌then◌else◌, bytes_eq}
+use Rattle.std.specs.Prelude.{ℕ, zero, suc, ◌+◌, ◌^◌, ◌&&◌, Bool, false, true, List, [], ◌∷◌, ◌++◌, take, drop, Option, Some, None, Result, Ok, Err, nat_le, ◌==◌, if◌then◌else◌, bytes_eq}
 use Rattle.std.specs.Int.{w32}
 use Rattle.units.specs.declared.fault.Fault.{Fault}
 use Rattle.units.specs.declared.fault.Fault.TheVariants.{Damaged, NotALog}
 use Rattle.record.specs.declared.record.Record.{Record}
 use Rattle.record.specs.Reading.{◌>>=◌, number_at, text_at, read_record}
 use Rattle.gatelog.specs.Placed.{Placed}
-use Rattle.gatelog.specs.Frames.{header, open_gate}
+use Rattle.gatelog.specs.Frames.{header, first_gate, open_gate}
 
 -- The record behind an open gate, and how many bytes it takes there. There is none where the length is 0, above 2^20
 -- or past the end, or where the body is no record.
@@ -41,12 +41,18 @@ entries_at at zero (gate ∷ bytes) =
 
 -- the entries of a file, and the offset of its closed gate
 unfoldable pub scan : List ℕ → Result (List Placed × ℕ) Fault
-scan image = if bytes_eq (take 8 image) header then entries_at 8 0 (drop 8 image) else Err NotALog
+scan image = if bytes_eq (take first_gate image) header then entries_at first_gate 0 (drop first_gate image) else Err NotALog
 
 -- the entries alone
 abbrev pub entries_of : Result (List Placed × ℕ) Fault → Result (List Placed) Fault
 entries_of (Ok found) = Ok found.0
 entries_of (Err fault) = Err fault
+
+-- why a file has no log, whatever it is: it is none, or it is damaged somewhere
+abbrev pub is_no_log : Fault → Bool
+is_no_log NotALog = true
+is_no_log (Damaged offset) = true
+is_no_log _ = false
 
 -- the log of a file, or how it is damaged
 abbrev pub log : List ℕ → Result (List Placed) Fault

@@ -1,7 +1,6 @@
 //! The log. A closed gate stands behind the last frame, on the disk before anything is written behind it. It is opened by
 //! a write of its own, once the frame behind it is on the disk.
-ghost use Rattle.std.specs.Prelude.{◌≡◌, ◌⊎◌, ◌+◌, ◌≤◌, ◌<◌, ◌^◌, ◌++◌, [], ◌∷◌, length, IsTrue, IsFalse, IfOk, IfErr, IsOk, OnOk, ℕ, nat_lt, Ok, Err};
-ghost use Rattle.std.specs.Int.{w32, to_be_bytes};
+ghost use Rattle.std.specs.Prelude.{◌≡◌, ◌⊎◌, ◌+◌, ◌≤◌, ◌<◌, ◌^◌, [], length, IsTrue, IsFalse, IfOk, IfErr, IsOk, OnOk, ℕ, nat_lt, Ok, Err};
 ghost use Rattle.disk.specs.Image.{MayLeave, IsSynced, after_sync};
 ghost use Rattle.disk.specs.File.{surface, synced};
 ghost use Rattle.disk.specs.declared.plan.Plan.TheVariants.{Never, AfterWrite};
@@ -9,19 +8,17 @@ ghost use Rattle.disk.specs.Planned.{IsAsPlanned, armed};
 ghost use Rattle.disk.specs.Moments.{LeavesOnly, HasCause};
 ghost use Rattle.gatelog.specs.Armed.{fails_in_append, appended, IsArmed};
 ghost use Rattle.gatelog.specs.Crash.{Stands, IsOldOrWith};
-ghost use Rattle.gatelog.specs.Frames.{next_gate, staged_bytes, IsFull};
-ghost use Rattle.gatelog.specs.Log.{log, and_entry, ends_at};
+ghost use Rattle.gatelog.specs.Frames.{first_gate, next_gate, staged_bytes, IsFull};
+ghost use Rattle.gatelog.specs.Log.{log, and_entry, ends_at, is_no_log};
 
 use crate::change::write_and_sync;
+use crate::frame::{FIRST_GATE, HEADER_AND_GATE, OPEN_GATE};
 use crate::opening::{entries_of, read_synced};
 use crate::token::{Entry, Logged, Staged};
-use byteorder::{BigEndian, ByteOrder};
 use disk::Disk;
-use record::{Record, encode, encoded_len};
+use record::{Record, encoded_len};
 use std::alloc::Global;
 use units::Fault;
-
-const HEADER_AND_GATE: [u8; 9] = [0x53, 0x50, 0x4e, 0x4c, 0x4f, 0x47, 0x30, 0x31, 0];
 
 /// The log in a file on a disk. Once a device call has failed in it, it is stopped: it takes no record, and only
 /// `into_disk` and another opening go on.
@@ -37,28 +34,14 @@ pub struct GateLog<D: Disk> {
 
 fn cut_and_write<D: Disk>(disk: &mut D) -> Result<(), Fault>
     ensures done { OnOk result (D.keeps_model → ((surface (D.file disk.new)).seen ≡ HEADER_AND_GATE) × IsSynced (surface (D.file disk.new))) }
-    // With room for three changes, and no call armed, the device does not fail.
-    ensures planned { D.has_room disk.old 3 9 → D.plan disk.old ≡ Never → IsOk result × (D.plan disk.new ≡ Never) }
+    // With room for three changes, and no call armed, the device does not fail. What room there is beyond is kept.
+    ensures planned { (calls more : ℕ) → D.has_room disk.old (calls + 3) (9 + more) → D.plan disk.old ≡ Never →
+        IsOk result × (D.plan disk.new ≡ Never) × D.has_room disk.new calls more }
     ensures failures_stay { D.failures disk.old ≤ D.failures disk.new }
     ensures cause { HasCause (D.failures disk.old) (D.failures disk.new) result }
 {
     disk.cut(0)?;
     write_and_sync(disk, 0, &HEADER_AND_GATE)
-}
-
-// What an append writes behind the closed gate.
-fn bytes_behind(alloc: Global, body: &[u8]) -> Result<Vec<u8>, Fault>
-    requires { length body.now < 2 ^ 32 }
-    ensures bytes { IfOk result (λ bytes. bytes.items ≡ (to_be_bytes w32 (length body.now) ++ body.now) ++ 0 ∷ []) }
-    ensures memory { IfErr result (λ fault. fault ≡ Fault.Memory) }
-{
-    let mut count = [0; 4];
-    BigEndian::write_u32(&mut count, body.len() as u32);
-    let mut bytes = Vec::new(alloc);
-    bytes.extend_from_slice(&count)?;
-    bytes.extend_from_slice(body)?;
-    bytes.push(0)?;
-    Ok(bytes)
 }
 
 impl<D: Disk> GateLog<D> {
@@ -70,7 +53,7 @@ impl<D: Disk> GateLog<D> {
         ensures empty { IfOk result (λ made. D.keeps_model → Stands (surface (D.file (disk_of made))) (Ok [])) }
         ensures read { IfOk result (λ made. D.keeps_model → log (surface (D.file (disk_of made))).seen ≡ Ok []) }
         ensures running { IfOk result (λ made. IsFalse (is_stopped made)) }
-        ensures gate { IfOk result (λ made. gate_at made ≡ 8) }
+        ensures gate { IfOk result (λ made. gate_at made ≡ first_gate) }
         ensures failures_stay { IfOk result (λ made. D.failures disk ≤ D.failures (disk_of made)) }
         ensures cause { IfErr result (λ refused. ((refused.0 ≡ Fault.Memory) × (D.file refused.1 ≡ D.file disk) × (D.plan refused.1 ≡ D.plan disk))
             ⊎ ((refused.0 ≡ Fault.Device) × (D.failures disk < D.failures refused.1))) }
@@ -81,12 +64,62 @@ impl<D: Disk> GateLog<D> {
         if let Err(fault) = disk.reserve(9) {
             return Err((fault, disk));
         }
+        GateLog::laid_out(disk)
+    }
+
+    /// Makes an empty log of a file, whatever was in it, and stages its first record. All memory is taken before the file is
+    /// changed: refused for `Memory`, it is as it was.
+    pub fn format_for(
+        alloc: Global,
+        disk: D,
+        first: &Record,
+    ) -> Result<(GateLog<D>, Staged), (Fault, D)>
+        // From then on every crash leaves the empty log, and a read gives it.
+        ensures empty { IfOk result (λ made. D.keeps_model → Stands (surface (D.file (disk_of made.0))) (Ok [])) }
+        ensures read { IfOk result (λ made. D.keeps_model → log (surface (D.file (disk_of made.0))).seen ≡ Ok []) }
+        ensures running { IfOk result (λ made. IsFalse (is_stopped made.0)) }
+        ensures gate { IfOk result (λ made. gate_at made.0 ≡ first_gate) }
+        ensures staged { IfOk result (λ made. (made.1.offset ≡ first_gate) × (made.1.item ≡ first.now)) }
+        ensures failures_stay { IfOk result (λ made. D.failures disk ≤ D.failures (disk_of made.0)) }
+        ensures cause { IfErr result (λ refused. ((refused.0 ≡ Fault.Memory) × (D.file refused.1 ≡ D.file disk) × (D.plan refused.1 ≡ D.plan disk))
+            ⊎ ((refused.0 ≡ Fault.Device) × (D.failures disk < D.failures refused.1))) }
+        // With no call armed, the device does not fail: it is made, with room for the record, or memory was refused.
+        ensures planned { D.obeys → D.plan disk ≡ Never → IfErr result (λ refused. refused.0 ≡ Fault.Memory)
+            × IfOk result (λ made. (D.plan (disk_of made.0) ≡ Never) × D.has_room (disk_of made.0) 4 (length (staged_bytes first.now) + 1)) }
+    {
+        let mut disk = disk;
+        let size = encoded_len(first) + 6;
+        let staged = match Staged::at(alloc, FIRST_GATE, first) {
+            Ok(staged) => staged,
+            Err(fault) => return Err((fault, disk)),
+        };
+        if let Err(fault) = disk.reserve(9 + size) {
+            return Err((fault, disk));
+        }
+        match GateLog::laid_out(disk) {
+            Ok(log) => Ok((log, staged)),
+            Err(refused) => Err(refused),
+        }
+    }
+
+    // Makes an empty log of a file. It has room for that.
+    fn laid_out(disk: D) -> Result<GateLog<D>, (Fault, D)>
+        ensures empty { IfOk result (λ made. D.keeps_model → Stands (surface (D.file (disk_of made))) (Ok [])) }
+        ensures read { IfOk result (λ made. D.keeps_model → log (surface (D.file (disk_of made))).seen ≡ Ok []) }
+        ensures running { IfOk result (λ made. IsFalse (is_stopped made)) }
+        ensures gate { IfOk result (λ made. gate_at made ≡ first_gate) }
+        ensures failures_stay { IfOk result (λ made. D.failures disk ≤ D.failures (disk_of made)) }
+        ensures cause { IfErr result (λ refused. (refused.0 ≡ Fault.Device) × (D.failures disk < D.failures refused.1)) }
+        ensures planned { (calls more : ℕ) → D.has_room disk (calls + 3) (9 + more) → D.plan disk ≡ Never →
+            IsOk result × IfOk result (λ made. (D.plan (disk_of made) ≡ Never) × D.has_room (disk_of made) calls more) }
+    {
+        let mut disk = disk;
         if let Err(fault) = cut_and_write(&mut disk) {
             return Err((fault, disk));
         }
         Ok(GateLog {
             disk,
-            gate: 8,
+            gate: FIRST_GATE,
             stopped: false,
         })
     }
@@ -103,7 +136,7 @@ impl<D: Disk> GateLog<D> {
         ensures refused_moment { IfErr result (λ refused. D.keeps_model → LeavesOnly D.clock D.since disk refused.1 (MayLeave (surface (D.file disk)))) }
         ensures cause { IfErr result (λ refused. (refused.0 ≡ Fault.Memory)
             ⊎ (((refused.0 ≡ Fault.Device) × (D.failures disk < D.failures refused.1))
-            ⊎ (D.keeps_model → log (surface (D.file disk)).seen ≡ Err refused.0))) }
+            ⊎ (IsTrue (is_no_log refused.0) × (D.keeps_model → log (surface (D.file disk)).seen ≡ Err refused.0)))) }
         // Refused, but for `Device`, the file reads as it did.
         ensures unchanged { IfErr result (λ refused. (refused.0 ≡ Fault.Device) ⊎ (D.keeps_model → (surface (D.file refused.1)).seen ≡ (surface (D.file disk)).seen)) }
         ensures failures_stay { IfOk result (λ opened. D.failures disk ≤ D.failures (disk_of opened.0)) }
@@ -111,7 +144,7 @@ impl<D: Disk> GateLog<D> {
         // With no call armed, the device does not fail.
         ensures planned { D.obeys → D.plan disk ≡ Never → IfOk result (λ opened. (D.plan (disk_of opened.0) ≡ Never) × (D.file (disk_of opened.0) ≡ synced (D.file disk))) }
         ensures refused_planned { D.obeys → D.plan disk ≡ Never → IfErr result (λ refused. ((D.file refused.1 ≡ D.file disk) ⊎ (D.file refused.1 ≡ synced (D.file disk)))
-            × ((refused.0 ≡ Fault.Memory) ⊎ (D.keeps_model → log (surface (D.file disk)).seen ≡ Err refused.0))) }
+            × ((refused.0 ≡ Fault.Memory) ⊎ (IsTrue (is_no_log refused.0) × (D.keeps_model → log (surface (D.file disk)).seen ≡ Err refused.0)))) }
     {
         let mut disk = disk;
         let image = match read_synced(alloc, &mut disk) {
@@ -162,15 +195,9 @@ impl<D: Disk> GateLog<D> {
         if self.gate > 1 << 40 || size > (1 << 40) - self.gate {
             return Err(Fault::TimeSpent);
         }
-        let body = encode(alloc, record)?;
-        let bytes = bytes_behind(alloc, &body)?;
-        let item = record.copy(alloc)?;
+        let staged = Staged::at(alloc, self.gate, record)?;
         self.disk.reserve(size)?;
-        Ok(Staged {
-            gate: self.gate,
-            item,
-            bytes,
-        })
+        Ok(staged)
     }
 
     /// Puts a record that was staged behind the last one. It takes no memory. After a refusal the log is stopped.
@@ -215,7 +242,7 @@ impl<D: Disk> GateLog<D> {
         let Staged { gate, item, bytes } = staged;
         self.stopped = true;
         write_and_sync(&mut self.disk, gate + 1, &bytes)?;
-        write_and_sync(&mut self.disk, gate, &[0xa5])?;
+        write_and_sync(&mut self.disk, gate, &[OPEN_GATE])?;
         self.gate = gate + bytes.len() as u64;
         self.stopped = false;
         Ok(Logged::new(item))

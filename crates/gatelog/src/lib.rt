@@ -2,6 +2,7 @@
 #![tactic(auto)]
 
 mod change;
+mod frame;
 mod gatelog;
 mod opening;
 mod token;

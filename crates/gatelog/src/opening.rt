@@ -1,19 +1,18 @@
 //! Reading a log from its file.
-ghost use Rattle.std.specs.Prelude.{◌≡◌, ◌⊎◌, ◌<◌, ◌≤◌, ◌+◌, ℕ, Ok, Err, length, IfOk, IfErr, IfSome, OnOk, MatchResult};
+ghost use Rattle.std.specs.Prelude.{◌≡◌, ◌⊎◌, ◌<◌, ◌≤◌, ◌+◌, Ok, Err, length, IsTrue, IfOk, IfErr, IfSome, OnOk, MatchResult};
 ghost use Rattle.disk.specs.Image.{MayLeave, after_sync};
 ghost use Rattle.disk.specs.declared.plan.Plan.TheVariants.{Never};
 ghost use Rattle.disk.specs.File.{surface, synced};
 ghost use Rattle.disk.specs.Moments.{LeavesOnly};
-ghost use Rattle.gatelog.specs.Log.{framed, scan};
+ghost use Rattle.gatelog.specs.Log.{framed, scan, is_no_log};
 
+use crate::frame::{FIRST_GATE, HEADER, OPEN_GATE};
 use crate::token::Entry;
 use byteorder::{BigEndian, ByteOrder};
 use disk::Disk;
 use record::{Record, decode};
 use std::alloc::Global;
 use units::Fault;
-
-const HEADER: [u8; 8] = [0x53, 0x50, 0x4e, 0x4c, 0x4f, 0x47, 0x30, 0x31];
 
 // The record behind an open gate, and how many bytes it takes there.
 #[tactic(auto, unfolding(crate::specs::Log::framed))]
@@ -40,19 +39,19 @@ fn frame_of(alloc: Global, bytes: &[u8]) -> Result<Option<(Record, usize)>, Faul
 /// The entries of a file, and the offset of its closed gate.
 pub fn entries_of(alloc: Global, image: &[u8]) -> Result<(Vec<Entry>, u64), Fault>
     ensures found { IfOk result (λ found. scan image.now ≡ Ok (found.0.items, found.1)) }
-    ensures refused { IfErr result (λ fault. (fault ≡ Fault.Memory) ⊎ (scan image.now ≡ Err fault)) }
+    ensures refused { IfErr result (λ fault. (fault ≡ Fault.Memory) ⊎ ((scan image.now ≡ Err fault) × IsTrue (is_no_log fault))) }
 {
-    if image.len() < 8 {
+    if image.len() < FIRST_GATE as usize {
         return Err(Fault::NotALog);
     }
-    let (front, _) = image.split_at(8);
+    let (front, _) = image.split_at(FIRST_GATE as usize);
     if front != HEADER.as_slice() {
         return Err(Fault::NotALog);
     }
     let mut entries = Vec::new(alloc);
-    let mut at = 8;
+    let mut at = FIRST_GATE as usize;
     while at < image.len() {
-        if image[at] != 0xa5 {
+        if image[at] != OPEN_GATE {
             return Ok((entries, at as u64));
         }
         let offset = at as u64;

@@ -1,7 +1,10 @@
 //! What a log hands out.
-ghost use Rattle.std.specs.Prelude.{◌≡◌, IfOk, IfErr};
+ghost use Rattle.std.specs.Prelude.{◌≡◌, ◌<◌, ◌≤◌, ◌+◌, ◌^◌, ◌++◌, ◌∷◌, [], length, IfOk, IfErr};
+ghost use Rattle.std.specs.Int.{w32, to_be_bytes};
+ghost use Rattle.gatelog.specs.Frames.{next_gate};
 
-use record::Record;
+use byteorder::{BigEndian, ByteOrder};
+use record::{Record, encode};
 use std::alloc::Global;
 use std::marker::Model;
 use units::Fault;
@@ -73,6 +76,35 @@ impl Model for Staged {
     ghost view = { λ s. record { offset = s.gate; item = s.item } };
 
     ghost invariant = { λ s. (s.bytes.items ≡ staged_bytes s.item) × IsRecord s.item × (next_gate s.gate s.item + 1 ≤ 2 ^ 40) };
+}
+
+impl Staged {
+    // The record for a log whose closed gate is at this offset, with all the memory that an append of it takes.
+    pub(crate) fn at(alloc: Global, gate: u64, record: &Record) -> Result<Staged, Fault>
+        requires { next_gate gate «record».now + 1 ≤ 2 ^ 40 }
+        ensures staged { IfOk result (λ staged. (staged.offset ≡ gate) × (staged.item ≡ «record».now)) }
+        ensures memory { IfErr result (λ fault. fault ≡ Fault.Memory) }
+    {
+        let body = encode(alloc, record)?;
+        let bytes = bytes_behind(alloc, &body)?;
+        let item = record.copy(alloc)?;
+        Ok(Staged { gate, item, bytes })
+    }
+}
+
+// What an append writes behind the closed gate.
+fn bytes_behind(alloc: Global, body: &[u8]) -> Result<Vec<u8>, Fault>
+    requires { length body.now < 2 ^ 32 }
+    ensures bytes { IfOk result (λ bytes. bytes.items ≡ (to_be_bytes w32 (length body.now) ++ body.now) ++ 0 ∷ []) }
+    ensures memory { IfErr result (λ fault. fault ≡ Fault.Memory) }
+{
+    let mut count = [0; 4];
+    BigEndian::write_u32(&mut count, body.len() as u32);
+    let mut bytes = Vec::new(alloc);
+    bytes.extend_from_slice(&count)?;
+    bytes.extend_from_slice(body)?;
+    bytes.push(0)?;
+    Ok(bytes)
 }
 
 /// A record that stands in the log for good. Only an append, or an entry that was read, makes it; it has to be spent.

@@ -199,48 +199,19 @@ fn wounds(rows: &mut Rows, alloc: Global, a: Key) -> Result<bool, Fault>
     )
 }
 
-// 1.2 is the ready one. What it waits with is granted, and is a read of the key.
-fn go_on(rows: &mut Rows, key: &Key) -> Result<bool, Fault> {
-    let Some(txn) = rows.ready() else {
-        return Ok(false);
-    };
-    if txn != id(2) || !rows.is_reading(txn) {
-        return Ok(false);
-    }
-    let more = rows.needs_count(txn);
-    rows.make_room(txn, more)?;
-    let wait = rows.resume(txn);
-    match &wait {
-        Wait::Read(waited) => Ok(waited.is(key)),
-        _ => Ok(false),
-    }
-}
-
-// 1.1 holds a, and 1.2 waits for it with a read. When 1.1 ends, 1.2 goes on.
+// 1.1 holds a, and 1.2 waits for it with a read. When 1.1 ends, 1.2 is ready.
 fn waits(rows: &mut Rows, alloc: Global, a: Key) -> Result<bool, Fault>
     requires { rows.old.rows ≡ idle_row (record { run = 1; number = 1 }) ∷ [] }
 {
     rows.admit(alloc, id(2))?;
     let older = own(rows, alloc, id(1), a)?;
     let younger = read(rows, alloc, id(2), a)?;
-    let blocked = rows.ready().is_none() && rows.needs_count(id(2)) == 1;
+    let blocked = rows.ready().is_none();
     if rows.is_reading(id(1)) {
         rows.end(id(1));
     }
-    let resumed = go_on(rows, &a)?;
-    Ok(older && !younger && blocked && resumed && rows.holds(id(2), &a))
-}
-
-// Those whom a request would end are ended, and nothing is asked for.
-fn ends(rows: &mut Rows, alloc: Global, a: Key) -> Result<bool, Fault>
-    requires { rows.old.rows ≡ idle_row (record { run = 1; number = 1 }) ∷ [] }
-{
-    rows.admit(alloc, id(2))?;
-    let younger = own(rows, alloc, id(2), a)?;
-    let needs = needs(a, Mode::Shared);
-    let ended = rows.wounded(alloc, id(1), &needs)?;
-    rows.end_all(id(1), &needs, ended.as_slice());
-    Ok(younger && rows.find(id(2)).is_none() && rows.find(id(1)).is_some())
+    let is_ready = rows.ready() == Some(id(2));
+    Ok(older && !younger && blocked && is_ready)
 }
 
 #[derive(Clone, Copy, Debug)]
@@ -250,16 +221,14 @@ enum Story {
     Aborts,
     Wounds,
     Waits,
-    Ends,
 }
 
-const STORIES: [Story; 6] = [
+const STORIES: [Story; 5] = [
     Story::PromiseKept,
     Story::DecisionKept,
     Story::Aborts,
     Story::Wounds,
     Story::Waits,
-    Story::Ends,
 ];
 
 fn told(rows: &mut Rows, alloc: Global, story: Story) -> Result<bool, Fault>
@@ -272,7 +241,6 @@ fn told(rows: &mut Rows, alloc: Global, story: Story) -> Result<bool, Fault>
         Story::Aborts => aborts(rows, alloc),
         Story::Wounds => wounds(rows, alloc, a),
         Story::Waits => waits(rows, alloc, a),
-        Story::Ends => ends(rows, alloc, a),
     }
 }
 

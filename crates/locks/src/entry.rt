@@ -2,7 +2,7 @@
 ghost use Rattle.std.specs.Prelude.{◌≡◌, ◌+◌, ◌<◌, ◌≤◌, true, IfOk, length, vec_capacity};
 ghost use Rattle.std.specs.List.{position_or_len};
 ghost use Rattle.units.specs.Locks.{holds, is_waiting};
-ghost use Rattle.locks.specs.Table.{has_claim, held_in, needs_in, entrant, made_firm, granted, waiting, resumed, withdrawn};
+ghost use Rattle.locks.specs.Table.{has_claim, held_in, entrant, made_firm, granted, waiting, resumed, withdrawn};
 ghost use Rattle.locks.specs.Ways.{is_of, is_younger, gives_way, is_wounding, ids_in_way, stands_in_way, is_blocked, can_go, first_to_go, keeps_out, is_kept_out};
 
 use crate::buffer::{copy, fill};
@@ -202,18 +202,6 @@ pub fn holds(table: &[Entry], txn: TxnId, key: &Key) -> bool
         }
     }
     false
-}
-
-/// How many locks a transaction waits for.
-pub fn needs_count(table: &[Entry], txn: TxnId) -> usize
-    ensures { result ≡ length (needs_in table.now txn) }
-{
-    for entry in table {
-        if entry.is_of(txn) {
-            return entry.needs_count();
-        }
-    }
-    0
 }
 
 // Some lock is of the key.

@@ -2,13 +2,11 @@
 ghost use Rattle.std.specs.Prelude.{◌≡◌, ◌+◌, ◌≤◌, [], Some, true, false, length, IsOk, IfOk, IfErr, OnOk, OnErr};
 ghost use Rattle.units.specs.LockLaws.{IsLawfulTable, IsOldestReady};
 ghost use Rattle.units.specs.Locks.{asked, holds, is_free, ready, wounded};
+ghost use Rattle.locks.specs.Ways.{is_wounding};
 ghost use Rattle.locks.specs.Table.{has_claim, with_claim, without_claim, without_claims, change_claim, entrant, made_firm, granted, waiting, resumed, withdrawn, after, held_in, needs_in, most_held, KeepsRoom, ReleaseMakesWay};
 
 use crate::buffer::make_room;
-use crate::entry::{
-    Entry, holds, is_blocked, is_kept_out, is_wounding, needs_count, place, place_for, ready,
-    wounded,
-};
+use crate::entry::{Entry, holds, is_kept_out, is_wounding, place, place_for, ready, wounded};
 use crate::held::Held;
 use std::alloc::Global;
 use std::marker::Model;
@@ -82,13 +80,6 @@ impl Table {
         holds(&self.entries, txn, key)
     }
 
-    /// How many locks a transaction waits for.
-    pub fn needs_count(&self, txn: TxnId) -> usize
-        ensures { result ≡ length (needs_in self.now txn) }
-    {
-        needs_count(&self.entries, txn)
-    }
-
     /// Whom a request ends, the oldest first. It is refused for want of memory alone.
     pub fn wounded(&self, alloc: Global, txn: TxnId, needs: &[Lock]) -> Result<Ids, Fault>
         ensures ok { IfOk result (λ ids. ids ≡ wounded self.now txn needs.now) }
@@ -135,18 +126,24 @@ impl Table {
         ensures succeeds { wounded self.old held.old.txn needs.now ≡ []
             → most_held self.old held.old.txn needs.now ≤ held.old.room → IsOk result }
     {
-        let at = place(&self.entries, held.txn);
-        make_room(&mut held.buffer, self.entries[at].held_count(), needs.len())?;
-        if is_wounding(&self.entries, held.txn, needs) {
-            let ids = wounded(alloc, &self.entries, held.txn, needs)?;
-            return Ok(Asked::Wounds(Ids::from_vec(ids)));
+        let txn = held.txn();
+        self.make_room(held, needs.len())?;
+        if self.is_wounding(txn, needs) {
+            return Ok(Asked::Wounds(self.wounded(alloc, txn, needs)?));
         }
-        if is_blocked(&self.entries, held.txn, needs) {
-            self.entries[at].wait(&mut held.buffer, needs);
-            return Ok(Asked::Waits);
+        if self.opens(txn, needs) {
+            self.grant(held, needs);
+            return Ok(Asked::Granted);
         }
-        self.entries[at].grant(&mut held.buffer, needs);
-        Ok(Asked::Granted)
+        self.wait(held, needs);
+        Ok(Asked::Waits)
+    }
+
+    // A request ends somebody.
+    fn is_wounding(&self, txn: TxnId, needs: &[Lock]) -> bool
+        ensures { result ≡ is_wounding txn needs.now self.now }
+    {
+        is_wounding(&self.entries, txn, needs)
     }
 
     /// Grants a request that nobody is in the way of, with the room that its token has. It takes no memory.

@@ -11,7 +11,10 @@ fn after(alloc: Global, number: u8, lines: &[Line]) -> Result<Facts, Fail> {
     let mut facts = Facts::new(alloc, shard(number)?);
     for line in lines {
         let item = record_of(alloc, *line)?;
-        facts.learn_copy(alloc, 8, &item)?;
+        facts.reserve()?;
+        if let Err((fault, _)) = facts.learn(8, item) {
+            return Err(fault.into());
+        }
     }
     Ok(facts)
 }
@@ -206,7 +209,7 @@ fn known_by_status(facts: &Facts, number: u64) -> Result<Known, Fail> {
         number,
         prepared: promised_at(status.prepared()),
         decided: decided_at(status.committed()),
-        aborted: status.is_aborted(),
+        aborted: matches!(status, Status::Aborted),
         outcome: ended_at(status.outcome()),
         settled: matches!(status, Status::Settled { .. }),
     })
@@ -342,15 +345,10 @@ static DAMAGED: [Damaged; 9] = [
 fn is_damaged(alloc: Global, number: u8, lines: &[Line], last: Line) -> Result<bool, Fail> {
     let mut facts = after(alloc, number, lines)?;
     let item = record_of(alloc, last)?;
-    let refused = facts.learn_copy(alloc, 64, &item);
     facts.reserve()?;
     match facts.learn(64, item) {
         Ok(()) => Ok(false),
-        Err((fault, back)) => Ok(
-            refused == Err(Fault::Damaged { offset: 64 })
-                && fault == Fault::Damaged { offset: 64 }
-                && !facts.follows(&back),
-        ),
+        Err((fault, back)) => Ok(fault == Fault::Damaged { offset: 64 } && !facts.follows(&back)),
     }
 }
 

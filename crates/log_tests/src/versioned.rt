@@ -1,4 +1,5 @@
 //! The versions of keys.
+use counts::Count;
 use std::alloc::Global;
 use std::test::Fail;
 use units::{Key, Stamp, Value, Write, Writes};
@@ -201,12 +202,16 @@ fn in_order_by_key_and_timestamp(rt: HostRuntime) -> Result<(), Fail> {
         }
     }
     for row in &PLACES {
-        let (count, _) = versions.find(&Key::new(&[row.key])?, Stamp::new(row.at)?);
+        let (count, _) = versions.find(&Key::new(&[row.key])?, Stamp::new(row.at)?, &mut Count::none());
         assert_eq!(rt; count, row.place);
     }
-    let (count, probes) = versions.find(&Key::new(b"b")?, Stamp::new(29)?);
+    let (count, probes) = versions.find(&Key::new(b"b")?, Stamp::new(29)?, &mut Count::none());
     assert!(rt; count == 2 && probes <= 3);
-    let (count, probes) = Versions::none(rt.alloc()).find(&Key::new(b"b")?, Stamp::new(29)?);
+    let (count, probes) = Versions::none(rt.alloc()).find(
+        &Key::new(b"b")?,
+        Stamp::new(29)?,
+        &mut Count::none(),
+    );
     assert!(rt; count == 0 && probes == 0);
     Ok(())
 }
@@ -232,6 +237,6 @@ fn writes_at_one_timestamp(rt: HostRuntime) -> Result<(), Fail> {
     assert_eq!(rt; byte(versions.at(&a, Stamp::new(199)?)), None);
     assert_eq!(rt; byte(versions.at(&a, at)), Some(b'1'));
     assert_eq!(rt; byte(versions.latest(&z)), None);
-    assert_eq!(rt; versions.find(&z, at).0, 2);
+    assert_eq!(rt; versions.find(&z, at, &mut Count::none()).0, 2);
     Ok(())
 }

@@ -1,5 +1,6 @@
 -- A row that was taken in for a plan leaves no trace of itself, and the plan still fits.
 use Rattle.std.proofs.Common.{◌≡◌, ◌∙◌, ℕ, ◌≤◌, Bool, true, false, nat_lt, List, [], Option, Some, None, length, refl, sym, ap, subst}
+use Rattle.units.specs.Limits.{most_rows}
 use Rattle.units.specs.Ids.{Id}
 use Rattle.units.specs.Locks.{is_free, wounded, with_locks}
 use Rattle.units.specs.declared.lock.Lock.{Lock}
@@ -53,7 +54,7 @@ asks_over rows t us needs opens up asks =
     let entrant : Row = record { txn = t; held = []; phase = Idle } in
     let left : List Row = without_rows rows us in
     let gone : AllOther t us = others_gone rows t needs us asks.1 in (
-      ap (λ (o : Option Row). elim o as (λ _. Bool) [ None ↦ nat_lt (length (put_row rows t [] Idle)) 1024 | Some r ↦ is_reading r.phase ]) (find-with_row rows entrant),
+      ap (λ (o : Option Row). elim o as (λ _. Bool) [ None ↦ nat_lt (length (put_row rows t [] Idle)) most_rows | Some r ↦ is_reading r.phase ]) (find-with_row rows entrant),
       asks.1 ∙ wounded-alike (claims rows) (claims (with_row rows entrant)) t needs (sym (others-with_row rows entrant)),
       ap (λ (l : List Row). is_free (claims l) t needs) (without_rows-with rows entrant us up gone)
           ∙ is_free-alike (claims (with_row left entrant)) (claims left) t needs (others-with_row left entrant) ∙ asks.2,

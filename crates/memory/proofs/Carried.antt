@@ -2,6 +2,7 @@
 use Rattle.std.proofs.Common.{◌≡◌, ◌∙◌, ℕ, ◌<◌, ◌≤◌, Bool, true, false, not, nat_lt, cond, List, [], ◌∷◌, ◌++◌, length, Option, Some, None, refl, sym, ap, subst, arith, filter}
 use Rattle.std.specs.Option.{MatchOption, is_some}
 use Rattle.std.proofs.lemmas.Bool.{false≢true}
+use Rattle.units.specs.Limits.{most_rows}
 use Rattle.units.specs.Lists.{follow, head, when}
 use Rattle.units.specs.Ids.{Id, same_id}
 use Rattle.units.specs.Locks.{wounded, with_locks}
@@ -57,7 +58,7 @@ ends_reading rows t r found may = by_row (find_row rows t) found may
 pub asks_reading : (rows : List Row) (t : Id) (r : Row) → find_row rows t ≡ Some r → may_ask rows t ≡ true → has_phase is_reading rows t ≡ true
 asks_reading rows t r found may =
     phase_found is_reading rows t r found
-    (ap (λ (o : Option Row). elim o as (λ _. Bool) [ None ↦ nat_lt (length rows) 1024 | Some q ↦ is_reading q.phase ]) (sym found) ∙ may)
+    (ap (λ (o : Option Row). elim o as (λ _. Bool) [ None ↦ nat_lt (length rows) most_rows | Some q ↦ is_reading q.phase ]) (sym found) ∙ may)
 
 -- ---- phases that hold nothing
 
@@ -172,7 +173,7 @@ shorter (q ∷ qs) t e = by_test (same_id q.txn t) (short-without_row qs t) (λ 
 
 -- there is space for one hold more where a row holds none
 pub space_to_hold : (test : Phase → Bool) → ((p : Phase) → test p ≡ true → held_stamp p ≡ None) → (holds : List ℕ) (rows : List Row) (t : Id) → Ascend rows → IsHolding holds rows
-    → has_phase test rows t ≡ true → length rows ≤ 1024 → length holds < 1024
+    → has_phase test rows t ≡ true → length rows ≤ most_rows → length holds < most_rows
 space_to_hold test none holds rows t up same has few =
     let there : has_phase (λ p. true) rows t ≡ true = by_row (find_row rows t) has in
     omega (arith, holds_few holds (without_row rows t) (holding_without_none holds rows t up same (none_held test none rows t has)), shorter rows t there, few)
@@ -206,7 +207,7 @@ pub asker_reads : (rows : List Row) (t : Id) → admitted rows (Some t) ≡ rows
 asker_reads rows t there may = by_row (find_row rows t) refl there may
   where
     by_row : (o : Option Row) → find_row rows t ≡ o → elim o as (λ _. List Row) [ None ↦ put_row rows t [] Idle | Some r ↦ rows ] ≡ rows
-        → elim o as (λ _. Bool) [ None ↦ nat_lt (length rows) 1024 | Some r ↦ is_reading r.phase ] ≡ true → when (λ (r : Row). is_reading r.phase) o ≡ true
+        → elim o as (λ _. Bool) [ None ↦ nat_lt (length rows) most_rows | Some r ↦ is_reading r.phase ] ≡ true → when (λ (r : Row). is_reading r.phase) o ≡ true
     by_row None e there may =
         let found : find_row rows t ≡ Some (record { txn = t; held = []; phase = Idle }) =
         ap (λ (l : List Row). find_row l t) (sym there) ∙ find-with_row rows (record { txn = t; held = []; phase = Idle }) in

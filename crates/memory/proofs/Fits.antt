@@ -3,6 +3,7 @@ use Rattle.std.specs.List.{list_any}
 use Rattle.std.proofs.Common.{◌≡◌, ℕ, nat_le, nat_lt, Bool, true, false, ◌&&◌, not, List, [], ◌∷◌, length, Option, Some, None, IfSome, refl, sym, ap, subst, ◌∙◌, arith, option_map}
 use Rattle.std.proofs.lemmas.Bool.{false≢true}
 use Rattle.std.proofs.lemmas.Bool.Decides.{nat_tests}
+use Rattle.units.specs.Limits.{most_rows}
 use Rattle.units.specs.Ids.{Id, same_id}
 use Rattle.units.specs.ById.{IsById, find_member}
 use Rattle.units.specs.Locks.{Claim, is_free, is_waiting, wounded, blockers, ready}
@@ -27,14 +28,14 @@ below : (capacity count : ℕ) → nat_le capacity count ≡ false → nat_lt co
 below capacity count e = grind (arith, nat_tests)
 
 -- who may be ended may ask, where there is room
-pub may_ask_roomy : (b : Before) (t : Id) → b.capacity ≡ 1024 → is_crowded b t ≡ false → may_end b.memory.rows t ≡ true → may_ask b.memory.rows t ≡ true
+pub may_ask_roomy : (b : Before) (t : Id) → b.capacity ≡ most_rows → is_crowded b t ≡ false → may_end b.memory.rows t ≡ true → may_ask b.memory.rows t ≡ true
 may_ask_roomy b t limit room may = by_row (find_row b.memory.rows t) refl may
   where
     rows : List Row
     rows = b.memory.rows
 
     by_row : (o : Option Row) → find_row rows t ≡ o → elim o as (λ _. Bool) [ None ↦ true | Some r ↦ is_reading r.phase ] ≡ true
-        → elim o as (λ _. Bool) [ None ↦ nat_lt (length rows) 1024 | Some r ↦ is_reading r.phase ] ≡ true
+        → elim o as (λ _. Bool) [ None ↦ nat_lt (length rows) most_rows | Some r ↦ is_reading r.phase ] ≡ true
     by_row None e m =
         let absent : list_any (λ r. same_id r.txn t) rows ≡ false =
         any-first (λ r. same_id r.txn t) rows ∙ ap (λ (o : Option Row). elim o as (λ _. Bool) [ None ↦ false | Some r ↦ true ]) e in
@@ -43,12 +44,12 @@ may_ask_roomy b t limit room may = by_row (find_row b.memory.rows t) refl may
     by_row (Some r) e m = m
 
 -- where the rows are fewer than the limit
-pub may_ask_below : (rows : List Row) (t : Id) → nat_le 1024 (length rows) ≡ false → may_end rows t ≡ true → may_ask rows t ≡ true
+pub may_ask_below : (rows : List Row) (t : Id) → nat_le most_rows (length rows) ≡ false → may_end rows t ≡ true → may_ask rows t ≡ true
 may_ask_below rows t few may = by_row (find_row rows t) may
   where
     by_row : (o : Option Row) → elim o as (λ _. Bool) [ None ↦ true | Some r ↦ is_reading r.phase ] ≡ true
-        → elim o as (λ _. Bool) [ None ↦ nat_lt (length rows) 1024 | Some r ↦ is_reading r.phase ] ≡ true
-    by_row None m = below 1024 (length rows) few
+        → elim o as (λ _. Bool) [ None ↦ nat_lt (length rows) most_rows | Some r ↦ is_reading r.phase ] ≡ true
+    by_row None m = below most_rows (length rows) few
     by_row (Some r) m = m
 
 -- ---- the one that is ready
@@ -97,7 +98,7 @@ ready_asks rows (Some t) up e =
     let row = waiting_row rows t oldest.0 oldest.1 oldest.2.0 in
     let free : is_free (claims rows) t (needs_of (row.0).phase) ≡ true = free_when_ready rows t row.0 up e row.1 in
     let needs : needs_in rows t ≡ needs_of (row.0).phase = rw row.1 refl in (
-      ap (λ (o : Option Row). elim o as (λ _. Bool) [ None ↦ nat_lt (length rows) 1024 | Some r ↦ is_reading r.phase ]) row.1 ∙ row.2,
+      ap (λ (o : Option Row). elim o as (λ _. Bool) [ None ↦ nat_lt (length rows) most_rows | Some r ↦ is_reading r.phase ]) row.1 ∙ row.2,
       sym (nobody_wounded (claims rows) t (needs_in rows t) (subst (λ ns. is_free (claims rows) t ns ≡ true) (sym needs) free)),
       subst (λ ns. is_free (claims rows) t ns ≡ true) (sym needs) free,
     )

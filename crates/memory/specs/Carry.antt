@@ -1,5 +1,6 @@
 -- What a plan needs of the state that it is carried out in, and what is made ready for it.
 use Rattle.std.specs.Prelude.{◌≡◌, ◌≤◌, ◌<◌, ◌+◌, ℕ, Bool, true, false, nat_lt, List, [], Option, Some, None, length}
+use Rattle.units.specs.Limits.{most_rows}
 use Rattle.units.specs.ById.{IsById}
 use Rattle.units.specs.Ids.{Id}
 use Rattle.units.specs.Locks.{is_free, wounded}
@@ -21,7 +22,7 @@ use Rattle.memory.specs.declared.plan.Change.{Change}
 
 -- a transaction may ask for locks: it reads, or has no row while there is room for one
 abbrev pub may_ask : List Row → Id → Bool
-may_ask rows t = elim (find_row rows t) [ None ↦ nat_lt (length rows) 1024 | Some r ↦ is_reading r.phase ]
+may_ask rows t = elim (find_row rows t) [ None ↦ nat_lt (length rows) most_rows | Some r ↦ is_reading r.phase ]
 
 -- a transaction may be ended: it reads, or has no row
 abbrev pub may_end : List Row → Id → Bool
@@ -41,24 +42,40 @@ abbrev pub IsServing : Option Record → Type 0
 IsServing None = Unit {0}
 IsServing (Some (Record.Ceiling at)) = Unit {0}
 IsServing (Some (Record.Opened epoch)) = Unit {0}
-IsServing (Some _) = ⊥
+IsServing (Some (Record.Prepare p)) = ⊥
+IsServing (Some (Record.Commit c)) = ⊥
+IsServing (Some (Record.Abort u)) = ⊥
+IsServing (Some (Record.Outcome u o)) = ⊥
 
 -- a row goes by an abort, or by its outcome
 abbrev pub MayDrop : List Row → Id → Option Record → Type 0
 MayDrop rows t (Some (Record.Abort u)) = (u ≡ t) × (may_drop rows t ≡ true)
 MayDrop rows t (Some (Record.Outcome u o)) = (u ≡ t) × (has_phase may_close rows t ≡ true)
-MayDrop rows t _ = ⊥
+MayDrop rows t None = ⊥
+MayDrop rows t (Some (Record.Opened epoch)) = ⊥
+MayDrop rows t (Some (Record.Ceiling at)) = ⊥
+MayDrop rows t (Some (Record.Prepare p)) = ⊥
+MayDrop rows t (Some (Record.Commit c)) = ⊥
 
 -- a row stands by a promise or a decision of its transaction
 abbrev pub MayStand : Id → Option Record → Type 0
 MayStand t (Some (Record.Prepare p)) = p.txn ≡ t
 MayStand t (Some (Record.Commit c)) = c.txn ≡ t
-MayStand t _ = ⊥
+MayStand t None = ⊥
+MayStand t (Some (Record.Opened epoch)) = ⊥
+MayStand t (Some (Record.Ceiling at)) = ⊥
+MayStand t (Some (Record.Abort u)) = ⊥
+MayStand t (Some (Record.Outcome u o)) = ⊥
 
 -- a decision of the transaction is logged
 abbrev pub IsDecision : Id → Option Record → Type 0
 IsDecision t (Some (Record.Commit c)) = c.txn ≡ t
-IsDecision t _ = ⊥
+IsDecision t None = ⊥
+IsDecision t (Some (Record.Opened epoch)) = ⊥
+IsDecision t (Some (Record.Ceiling at)) = ⊥
+IsDecision t (Some (Record.Prepare p)) = ⊥
+IsDecision t (Some (Record.Abort u)) = ⊥
+IsDecision t (Some (Record.Outcome u o)) = ⊥
 
 -- a change that may be made of these rows
 abbrev pub FitsRows : List Row → List Id → List Lock → Option Record → Change → Type 0
@@ -112,7 +129,13 @@ table_in k = record { rows = k.memory.rows; tokens = k.tokens }
 -- the writes that a record installs
 abbrev pub installed_by : Facts → Option Record → List Write
 installed_by facts (Some (Record.Outcome t (Some s))) = writes_standing (recorded facts t)
-installed_by facts _ = []
+installed_by facts (Some (Record.Outcome t None)) = []
+installed_by facts None = []
+installed_by facts (Some (Record.Opened epoch)) = []
+installed_by facts (Some (Record.Ceiling at)) = []
+installed_by facts (Some (Record.Prepare p)) = []
+installed_by facts (Some (Record.Commit c)) = []
+installed_by facts (Some (Record.Abort u)) = []
 
 -- a record, where there is one, may come next in the log
 abbrev pub MayFollow : ℕ → Facts → Option Record → Type 0
@@ -163,13 +186,20 @@ MayUndo rows _ _ = Unit {0}
 abbrev pub CanStand : List Row → Id → Record → Type 0
 CanStand rows t (Record.Prepare p) = (p.txn ≡ t) × (has_phase is_idle rows t ≡ true) × (0 < p.at)
 CanStand rows t (Record.Commit c) = (c.txn ≡ t) × (has_phase may_decide rows t ≡ true) × (0 < c.at)
-CanStand rows t _ = ⊥
+CanStand rows t (Record.Opened epoch) = ⊥
+CanStand rows t (Record.Ceiling at) = ⊥
+CanStand rows t (Record.Abort u) = ⊥
+CanStand rows t (Record.Outcome u o) = ⊥
 
 -- a promise or a decision that is logged has a timestamp above 0
 abbrev pub IsDated : Option Record → Type 0
 IsDated (Some (Record.Prepare p)) = 0 < p.at
 IsDated (Some (Record.Commit c)) = 0 < c.at
-IsDated _ = Unit {0}
+IsDated None = Unit {0}
+IsDated (Some (Record.Opened epoch)) = Unit {0}
+IsDated (Some (Record.Ceiling at)) = Unit {0}
+IsDated (Some (Record.Abort u)) = Unit {0}
+IsDated (Some (Record.Outcome u o)) = Unit {0}
 
 -- a plan makes the same of a state whether its asker was taken in before it or not
 abbrev pub AdmissionIsUnseen : Type 0

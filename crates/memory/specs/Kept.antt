@@ -1,5 +1,6 @@
 -- What contracts see of a shard's memory.
 use Rattle.std.specs.Prelude.{◌≡◌, ℕ, List, Result, Ok, Err, MatchResult}
+use Rattle.units.specs.Limits.{most_rows}
 use Rattle.units.specs.declared.fault.Fault.{Fault}
 use Rattle.units.specs.declared.setup.Setup.{Setup}
 use Rattle.record.specs.Facts.{Facts}
@@ -22,7 +23,7 @@ pub record Kept : Type 0 where
 
 -- where its next step starts. Its table holds 1,024 rows
 abbrev pub start_of : Kept → protocol.Before
-start_of k = protocol.before 1024 k.setup k.facts k.memory
+start_of k = protocol.before most_rows k.setup k.facts k.memory
 
 -- how a transaction stands that has no row
 abbrev pub IsPast : Standing → Past → Type 0

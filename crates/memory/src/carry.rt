@@ -298,7 +298,8 @@ fn stand(rows: &mut Rows, times: &mut SafeTime, txn: TxnId, logged: Logged) -> R
             times.hold(committed.at);
             rows.decide(txn, logged)
         }
-        _ => unreachable!(),
+        Record::Opened { .. } | Record::Ceiling { .. } => unreachable!(),
+        Record::Abort { .. } | Record::Outcome { .. } => unreachable!(),
     }
 }
 

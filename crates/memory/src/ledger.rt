@@ -196,6 +196,7 @@ fn outcome_stamp(item: &Record) -> Option<Stamp>
 {
     match item {
         Record::Outcome { txn: _, outcome } => *outcome,
-        _ => None,
+        Record::Opened { .. } | Record::Ceiling { .. } | Record::Abort { .. } => None,
+        Record::Prepare(_) | Record::Commit(_) => None,
     }
 }

@@ -4,6 +4,7 @@ use Rattle.std.proofs.Common.{◌≡◌, ℕ, suc, ◌<◌, ◌≤◌, Bool, tru
 use Rattle.std.specs.Prelude.{IsTrue, Ok, Err, cond}
 use Rattle.std.specs.List.{AllByRecursion, list_any}
 use Rattle.std.proofs.lemmas.Bool.{false≢true, and_from, and_parts, lt-ltb}
+use Rattle.units.specs.Limits.{most_rows}
 use Rattle.units.specs.Lists.{follow, gather}
 use Rattle.units.specs.Ids.{Id, same_id}
 use Rattle.units.specs.ById.{find_member}
@@ -152,7 +153,7 @@ module _ (shard : ℕ) (f after : Facts) (m later : Memory) (t : Id) (s : Status
       all_gives Old (λ (r : Row). clash new.held r.held ≡ false)
       (λ r o. rows_apart (log_rows after) t r.txn new r (opened_lawful shard after later next) found_new o.0 o.1) (log_rows f) all_old
 
-  few : length later.rows ≤ 1024 → length (log_rows f) < 1024
+  few : length later.rows ≤ most_rows → length (log_rows f) < most_rows
   unfolding Old
   few room =
       let others : length (log_rows f) ≤ length (without_row (log_rows after) t) =
@@ -175,17 +176,17 @@ installs_are log = refl
 
 -- so it stands beside what the log holds
 stands_beside : (shard : ℕ) (log : List Record) (after : Facts) (m later : Memory) (t : Id) (s : Status) (at : ℕ) (rs : List Bytes) (ws : List Write) (new : Row)
-    → IsSound shard (facts_of log) m → IsSound shard after later → length later.rows ≤ 1024
+    → IsSound shard (facts_of log) m → IsSound shard after later → length later.rows ≤ most_rows
     → after.entries ≡ with_status (facts_of log).entries t s → standing_row (record { txn = t; status = s }) ≡ Some new → new.held ≡ locks_of rs ws
     → recorded (facts_of log) t ≡ Unrecorded → IsTrue (above_versions (facts_of log).installs at ws) → stands log at rs ws ≡ true
 stands_beside shard log after m later t s at rs ws new sound next room put held locks fresh above =
-    let small : length (log_rows (facts_of log)) < 1024 = few shard (facts_of log) after m later t s new sound next put held fresh room in
+    let small : length (log_rows (facts_of log)) < most_rows = few shard (facts_of log) after m later t s new sound next put held fresh room in
     let count : length (standing log) ≡ length (log_rows (facts_of log)) = ap length (standing_is log) ∙ length-held (log_rows (facts_of log)) in
     let free : list_any (clash (locks_of rs ws)) (standing log) ≡ false =
     ap (list_any (clash (locks_of rs ws))) (standing_is log)
     ∙ none_clashes (locks_of rs ws) (log_rows (facts_of log))
     (subst (λ ls. AllByRecursion (λ (r : Row). clash ls r.held ≡ false) (log_rows (facts_of log))) locks (clear shard (facts_of log) after m later t s new sound next put held fresh)) in
-    and_from _ _ (and_from _ _ (ap (λ n. nat_lt n 1024) count ∙ lt-ltb _ _ small) (not_false _ free)) (subst (λ is. IsTrue (above_versions is at ws)) (installs_are log) above)
+    and_from _ _ (and_from _ _ (ap (λ n. nat_lt n most_rows) count ∙ lt-ltb _ _ small) (not_false _ free)) (subst (λ is. IsTrue (above_versions is at ws)) (installs_are log) above)
 
 -- ---- the records
 
@@ -207,7 +208,7 @@ above_decision installs last c (Some r) a = a.above
 above_decision installs last c None a = absurd a
 
 fits_prepare : (shard : ℕ) (log : List Record) (m later : Memory) (p : Prepared) → IsSound shard (facts_of log) m → IsSound shard (learn (facts_of log) (Record.Prepare p)) later
-    → length later.rows ≤ 1024 → follows_facts shard (facts_of log) (Record.Prepare p) ≡ true → fits_beside log (Record.Prepare p) ≡ true
+    → length later.rows ≤ most_rows → follows_facts shard (facts_of log) (Record.Prepare p) ≡ true → fits_beside log (Record.Prepare p) ≡ true
 unfolding fits_beside follows_facts learn
 fits_prepare shard log m later p sound next room follows =
     let fresh : recorded (facts_of log) p.txn ≡ Unrecorded =
@@ -218,7 +219,7 @@ fits_prepare shard log m later p sound next room follows =
     (subst (λ s. Agrees (facts_of log).installs later.last s (find_row later.rows p.txn)) (status_same (facts_of log).entries p.txn (StandsPrepared p)) (next.agrees p.txn)))
 
 fits_commit : (shard : ℕ) (log : List Record) (m later : Memory) (c : Committed) → IsSound shard (facts_of log) m → IsSound shard (learn (facts_of log) (Record.Commit c)) later
-    → length later.rows ≤ 1024 → follows_facts shard (facts_of log) (Record.Commit c) ≡ true → fits_beside log (Record.Commit c) ≡ true
+    → length later.rows ≤ most_rows → follows_facts shard (facts_of log) (Record.Commit c) ≡ true → fits_beside log (Record.Commit c) ≡ true
 unfolding fits_beside follows_facts learn
 fits_commit shard log m later c sound next room follows =
     let fresh : recorded (facts_of log) c.txn ≡ Unrecorded =
@@ -286,16 +287,16 @@ pub logged_fits_beside : LoggedFitsBeside
 unfolding fits_beside
 logged_fits_beside setup log memory now i p r sound few e logged = by_record r logged
   where
-    room : length (carried p memory).rows ≤ 1024
-    room = stays_within 1024 setup (facts_of log) memory now i p (by_id-claims memory.rows sound.table.order) few e
+    room : length (carried p memory).rows ≤ most_rows
+    room = stays_within most_rows setup (facts_of log) memory now i p (by_id-claims memory.rows sound.table.order) few e
 
     next : (q : Record) → p.logged ≡ Some q → is_ceiling q ≡ false → IsSound setup.shard (learn (facts_of log) q) (carried p memory)
     next q k c =
         subst (λ o. IsSound setup.shard (facts_after (facts_of log) o) (carried p memory)) k
-        (step_keeps_sound 1024 setup (facts_of log) memory now i p (limit_of 1024 setup (facts_of log) memory now i p q e k c) sound e)
+        (step_keeps_sound most_rows setup (facts_of log) memory now i p (limit_of most_rows setup (facts_of log) memory now i p q e k c) sound e)
 
     follows : (q : Record) → p.logged ≡ Some q → follows_facts setup.shard (facts_of log) q ≡ true
-    follows q k = logged_follows 1024 setup (facts_of log) memory now i p q sound e k
+    follows q k = logged_follows most_rows setup (facts_of log) memory now i p q sound e k
 
     by_record : (q : Record) → p.logged ≡ Some q → fits_beside log q ≡ true
     by_record (Record.Opened epoch) k = refl
@@ -305,4 +306,4 @@ logged_fits_beside setup log memory now i p r sound few e logged = by_record r l
     by_record (Record.Abort t) k = refl
     by_record (Record.Outcome t None) k = refl
     by_record (Record.Outcome t (Some s)) k =
-        fits_outcome setup.shard log t s (follows (Record.Outcome t (Some s)) k) (installs_above 1024 setup (facts_of log) memory now i p t s sound e k)
+        fits_outcome setup.shard log t s (follows (Record.Outcome t (Some s)) k) (installs_above most_rows setup (facts_of log) memory now i p t s sound e k)

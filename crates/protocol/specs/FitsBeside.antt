@@ -1,5 +1,6 @@
 -- What a step logs fits beside what the log holds.
 use Rattle.std.specs.Prelude.{◌≡◌, ◌≤◌, IsTrue, List, length, Some, Ok}
+use Rattle.units.specs.Limits.{most_rows}
 use Rattle.units.specs.declared.setup.Setup.{Setup}
 use Rattle.truetime.specs.Interval.{Interval}
 use Rattle.record.specs.Accepted.{fits_beside}
@@ -16,5 +17,5 @@ use Rattle.protocol.specs.Sound.{IsSound}
 abbrev pub LoggedFitsBeside : Type 0
 LoggedFitsBeside =
     (setup : Setup) (log : List Record) (memory : Memory) (now : Interval) (i : Input) (p : Plan) (r : Record) →
-    IsSound setup.shard (facts_of log) memory → length memory.rows ≤ 1024 →
-    plan_input setup (before 1024 setup (facts_of log) memory) now i ≡ Ok p → p.logged ≡ Some r → IsTrue (fits_beside log r)
+    IsSound setup.shard (facts_of log) memory → length memory.rows ≤ most_rows →
+    plan_input setup (before most_rows setup (facts_of log) memory) now i ≡ Ok p → p.logged ≡ Some r → IsTrue (fits_beside log r)

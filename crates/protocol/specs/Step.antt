@@ -1,6 +1,7 @@
 -- The step of a shard: from its state, a reading and an input to a refusal, or to the record that it logs, the memory
 -- after it and the messages that it puts out. The facts after it are those before it with the record learnt.
 use Rattle.std.specs.Prelude.{ℕ, ◌-◌, ◌^◌, ◌≤◌, Bool, true, false, cond, ◌&&◌, nat_lt, nat_eq, List, Option, Some, None, Ok, Err}
+use Rattle.units.specs.Limits.{most_rows}
 use Rattle.units.specs.Lists.{head, when}
 use Rattle.units.specs.Keys.{shard_of}
 use Rattle.record.specs.Accepted.{keys_belong}
@@ -61,7 +62,7 @@ step_within rows setup facts memory now i = stepped memory (plan_input setup (be
 
 -- the step of a shard: its table holds 1,024 rows
 abbrev pub step : Setup → Facts → Memory → Interval → Input → Stepped
-step = step_within 1024
+step = step_within most_rows
 
 -- the facts after a step
 abbrev pub facts_after : Facts → Option Record → Facts

@@ -2,10 +2,11 @@
 -- speak of a key of another shard.
 use Rattle.std.specs.List.{list_any, list_all}
 use Rattle.std.specs.Prelude.{ℕ, ◌+◌, Bool, true, false, not, cond, ◌&&◌, ◌||◌, nat_eq, nat_lt, nat_le, List, [], ◌∷◌, ◌++◌, length, Option, Some, None}
+use Rattle.units.specs.Limits.{most_rows}
 use Rattle.units.specs.Lists.{gather, head, when}
 use Rattle.units.specs.Ids.{Id}
 use Rattle.units.specs.Keys.{Bytes, shard_of}
-use Rattle.record.specs.Records.{Status, Unrecorded, StandsPrepared, StandsDecided, status_of, prepared_of, committed_of, ended_of, epoch_of, ids_of}
+use Rattle.record.specs.Records.{Status, Unrecorded, StandsPrepared, StandsDecided, status_of, prepared_of, committed_of, ended_of, epoch_of, ids_of, as_opened}
 use Rattle.record.specs.declared.record.Prepared.{Prepared}
 use Rattle.record.specs.declared.record.Committed.{Committed}
 use Rattle.record.specs.Installs.{installs_of, writes_by}
@@ -49,23 +50,25 @@ standing log = gather (λ t. standing_locks (status_of log t)) (ids_of log)
 -- a new promise or decision: room among the rows, no lock in the way, and above the versions of what it writes
 abbrev pub stands : List Record → ℕ → List Bytes → List Write → Bool
 stands before at reads writes =
-    nat_lt (length (standing before)) 1024
+    nat_lt (length (standing before)) most_rows
     && not (list_any (clash (locks_of reads writes)) (standing before))
     && above_versions (installs_of before) at writes
 
 -- the rules of rows, locks and versions
 unfoldable pub fits_beside : List Record → Record → Bool
+fits_beside before (Opened epoch) = true
+fits_beside before (Ceiling at) = true
 fits_beside before (Prepare p) = stands before p.at p.reads p.writes
 fits_beside before (Commit c) = stands before c.at c.reads c.writes
+fits_beside before (Abort t) = true
+fits_beside before (Outcome t None) = true
 fits_beside before (Outcome t (Some at)) =
     above_versions (installs_of before) at (writes_by (committed_of before t) (prepared_of before t))
-fits_beside before _ = true
 
 -- the first record is an opening
 abbrev pub begins : List Record → Record → Bool
-begins [] (Opened epoch) = true
-begins [] _ = false
-begins _ _ = true
+begins [] r = when (λ epoch. true) (as_opened r)
+begins (first ∷ before) r = true
 
 -- each record follows those before it, and the first is an opening
 abbrev pub followed_from : ℕ → List Record → List Record → Bool
@@ -84,9 +87,12 @@ keys_belong setup reads writes =
 
 -- a record names keys of this shard alone
 unfoldable pub belongs : Setup → Record → Bool
+belongs setup (Opened epoch) = true
+belongs setup (Ceiling at) = true
 belongs setup (Prepare p) = keys_belong setup p.reads p.writes
 belongs setup (Commit c) = keys_belong setup c.reads c.writes
-belongs setup _ = true
+belongs setup (Abort t) = true
+belongs setup (Outcome t outcome) = true
 
 -- the verdict on a list of records
 pub data Taken : Type 0 where

@@ -22,6 +22,14 @@ pub record Facts : Type 0 where
   pub entries : List Entry
   pub installs : List Install
 
+-- facts, by their parts
+abbrev pub facts_with : ℕ → ℕ → List Entry → List Install → Facts
+facts_with epoch floor entries installs = record { epoch = epoch; floor = floor; entries = entries; installs = installs }
+
+-- the facts before any record
+abbrev pub no_facts : Facts
+no_facts = facts_with 0 0 [] []
+
 -- the facts of a log, read from the set of its records
 unfoldable pub facts_of : List Record → Facts
 facts_of log =

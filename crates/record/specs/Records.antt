@@ -16,27 +16,47 @@ pub record Ended : Type 0 where
 -- the record as an opening's epoch
 abbrev pub as_opened : Record → Option ℕ
 as_opened (Opened epoch) = Some epoch
-as_opened _ = None
+as_opened (Ceiling at) = None
+as_opened (Prepare p) = None
+as_opened (Commit c) = None
+as_opened (Abort t) = None
+as_opened (Outcome t o) = None
 
 -- the record as a prepared part
 abbrev pub as_prepared : Record → Option Prepared
+as_prepared (Opened epoch) = None
+as_prepared (Ceiling at) = None
 as_prepared (Prepare p) = Some p
-as_prepared _ = None
+as_prepared (Commit c) = None
+as_prepared (Abort t) = None
+as_prepared (Outcome t o) = None
 
 -- the record as a commit decision
 abbrev pub as_committed : Record → Option Committed
+as_committed (Opened epoch) = None
+as_committed (Ceiling at) = None
+as_committed (Prepare p) = None
 as_committed (Commit c) = Some c
-as_committed _ = None
+as_committed (Abort t) = None
+as_committed (Outcome t o) = None
 
 -- the record as an abort decision
 abbrev pub as_aborted : Record → Option Id
+as_aborted (Opened epoch) = None
+as_aborted (Ceiling at) = None
+as_aborted (Prepare p) = None
+as_aborted (Commit c) = None
 as_aborted (Abort t) = Some t
-as_aborted _ = None
+as_aborted (Outcome t o) = None
 
 -- the record as an outcome
 abbrev pub as_ended : Record → Option Ended
+as_ended (Opened epoch) = None
+as_ended (Ceiling at) = None
+as_ended (Prepare p) = None
+as_ended (Commit c) = None
+as_ended (Abort t) = None
 as_ended (Outcome t o) = Some (record { txn = t; outcome = o })
-as_ended _ = None
 
 -- the timestamp that a record holds
 abbrev pub stamp_in : Record → Option ℕ

@@ -70,8 +70,6 @@ impl Committed {
 }
 
 impl Record {
-    ghost use Rattle.record.specs.Records.{as_committed};
-
     /// An equal record with memory of its own.
     pub fn copy(&self, alloc: Global) -> Result<Record, Fault>
         ensures same { IfOk result (λ copied. copied ≡ self.now) }
@@ -87,18 +85,6 @@ impl Record {
                 txn: *txn,
                 outcome: *outcome,
             }),
-        }
-    }
-
-    /// The commit decision, where it is one.
-    pub fn into_commit(self) -> Option<Committed>
-        ensures { result ≡ as_committed self }
-    {
-        match self {
-            Record::Commit(committed) => Some(committed),
-            Record::Prepare(_) => None,
-            Record::Opened { .. } | Record::Ceiling { .. } => None,
-            Record::Abort { .. } | Record::Outcome { .. } => None,
         }
     }
 }

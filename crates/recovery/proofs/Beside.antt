@@ -3,6 +3,7 @@ use Rattle.std.proofs.Common.{◌≡◌, ℕ, Bool, true, false, not, ◌&&◌, 
 use Rattle.std.specs.List.{AllByRecursion, list_any}
 use Rattle.std.proofs.lemmas.Bool.{and_parts}
 use Rattle.std.proofs.lemmas.Bool.Decides.{nat_tests}
+use Rattle.units.specs.Limits.{most_rows}
 use Rattle.units.specs.Ids.{Id, same_id}
 use Rattle.units.specs.Keys.{Bytes}
 use Rattle.units.specs.Locks.{clash, exclusive, is_free, locks_of, shared, wounded}
@@ -47,9 +48,9 @@ none_has [] t all = refl
 none_has (r ∷ rs) t all = rw (all.0) (none_has rs t all.1)
 
 -- there is room for its row
-roomy : (rows : List Row) (t : Id) → find_row rows t ≡ None → not (nat_le 1024 (length rows) && not (list_any (λ r. same_id r.txn t) rows)) ≡ nat_lt (length rows) 1024
+roomy : (rows : List Row) (t : Id) → find_row rows t ≡ None → not (nat_le most_rows (length rows) && not (list_any (λ r. same_id r.txn t) rows)) ≡ nat_lt (length rows) most_rows
 roomy rows t absent =
-    ap (λ b. not (nat_le 1024 (length rows) && not b)) (none_has rows t (first_none (λ (r : Row). same_id r.txn t) rows absent))
+    ap (λ b. not (nat_le most_rows (length rows) && not b)) (none_has rows t (first_none (λ (r : Row). same_id r.txn t) rows absent))
     ∙ grind (arith, nat_tests)
 
 -- the request goes where nobody has its locks
@@ -65,18 +66,18 @@ pub stands_are : (k : Kept) (t : Id) (at : ℕ) (rs : List Bytes) (ws : List Wri
     → crowded ≡ is_crowded (start_of k) t → free ≡ opens (start_of k) t (shared rs ++ exclusive ws) → above ≡ above_versions k.facts.installs at ws
     → (not crowded && free && above) ≡ stands_in k.facts at rs ws
 stands_are k t at rs ws crowded free above recovered absent c f a =
-    let room : not crowded ≡ nat_lt (length (standing_rows k.facts)) 1024 =
-    ap not c ∙ roomy k.memory.rows t absent ∙ ap (λ rows. nat_lt (length rows) 1024) (rows_are k recovered) in
+    let room : not crowded ≡ nat_lt (length (standing_rows k.facts)) most_rows =
+    ap not c ∙ roomy k.memory.rows t absent ∙ ap (λ rows. nat_lt (length rows) most_rows) (rows_are k recovered) in
     let open_ : free ≡ not (list_any (clash (locks_of rs ws)) (map (λ r. r.held) (standing_rows k.facts))) = f ∙ opens_are k t rs ws recovered absent in
-    ap (λ b. b && free && above) room ∙ ap (λ b. nat_lt (length (standing_rows k.facts)) 1024 && b && above) open_
-    ∙ ap (λ b. nat_lt (length (standing_rows k.facts)) 1024 && not (list_any (clash (locks_of rs ws)) (map (λ r. r.held) (standing_rows k.facts))) && b) a
+    ap (λ b. b && free && above) room ∙ ap (λ b. nat_lt (length (standing_rows k.facts)) most_rows && b && above) open_
+    ∙ ap (λ b. nat_lt (length (standing_rows k.facts)) most_rows && not (list_any (clash (locks_of rs ws)) (map (λ r. r.held) (standing_rows k.facts))) && b) a
 
 -- and then it may ask for its locks
 pub asks_are : (k : Kept) (t : Id) (at : ℕ) (rs : List Bytes) (ws : List Write) → IsRecovered k → find_row k.memory.rows t ≡ None → stands_in k.facts at rs ws ≡ true
     → Asks k.memory.rows t [] (shared rs ++ exclusive ws) true
 asks_are k t at rs ws recovered absent stands =
     let p = and_parts _ _ (and_parts _ _ stands).0 in
-    let room : nat_lt (length k.memory.rows) 1024 ≡ true = ap (λ rows. nat_lt (length rows) 1024) (rows_are k recovered) ∙ p.0 in
+    let room : nat_lt (length k.memory.rows) most_rows ≡ true = ap (λ rows. nat_lt (length rows) most_rows) (rows_are k recovered) ∙ p.0 in
     let nobody : wounded (claims k.memory.rows) t (shared rs ++ exclusive ws) ≡ [] =
     ap (λ rows. wounded (claims rows) t (shared rs ++ exclusive ws)) (rows_are k recovered) ∙ none_wounded (standing_rows k.facts) t (shared rs ++ exclusive ws) (all_still k.facts) in
     let free : is_free (claims k.memory.rows) t (shared rs ++ exclusive ws) ≡ true =
@@ -85,6 +86,6 @@ asks_are k t at rs ws recovered absent stands =
     ∙ p.1 in
     (by_row (find_row k.memory.rows t) absent room, sym nobody, free)
   where
-    by_row : (o : Option Row) → o ≡ None → nat_lt (length k.memory.rows) 1024 ≡ true → (elim o [ None ↦ nat_lt (length k.memory.rows) 1024 | Some r ↦ is_reading r.phase ]) ≡ true
+    by_row : (o : Option Row) → o ≡ None → nat_lt (length k.memory.rows) most_rows ≡ true → (elim o [ None ↦ nat_lt (length k.memory.rows) most_rows | Some r ↦ is_reading r.phase ]) ≡ true
     by_row None none room = room
     by_row (Some r) none room = cc

@@ -4,6 +4,7 @@ use Rattle.std.proofs.Common.{◌≡◌, ℕ, suc, ◌+◌, ◌<◌, Bool, true,
 use Rattle.std.specs.Prelude.{slice_get}
 use Rattle.std.proofs.lemmas.Bool.{and_parts}
 use Rattle.std.proofs.lemmas.List.{append_assoc, drop_more, length-append, take_more}
+use Rattle.units.specs.Limits.{most_rows}
 use Rattle.units.specs.Lists.{follow}
 use Rattle.units.specs.Ids.{Id}
 use Rattle.units.specs.Keys.{Bytes}
@@ -30,10 +31,10 @@ use Rattle.recovery.specs.Recovered.{fault_in, fault_next, fits_facts, items, st
 
 stands_is : (log : List Record) (at : ℕ) (rs : List Bytes) (ws : List Write) → stands log at rs ws ≡ stands_in (facts_of log) at rs ws
 stands_is log at rs ws =
-    ap (λ n. nat_lt n 1024 && not (list_any (clash (locks_of rs ws)) (standing log)) && above_versions (installs_of log) at ws)
+    ap (λ n. nat_lt n most_rows && not (list_any (clash (locks_of rs ws)) (standing log)) && above_versions (installs_of log) at ws)
     (ap length (standing_is log) ∙ length-held (standing_rows (facts_of log)))
-    ∙ ap (λ hs. nat_lt (length (standing_rows (facts_of log))) 1024 && not (list_any (clash (locks_of rs ws)) hs) && above_versions (installs_of log) at ws) (standing_is log)
-    ∙ ap (λ is. nat_lt (length (standing_rows (facts_of log))) 1024 && not (list_any (clash (locks_of rs ws)) (map (λ r. r.held) (standing_rows (facts_of log)))) && above_versions is at ws)
+    ∙ ap (λ hs. nat_lt (length (standing_rows (facts_of log))) most_rows && not (list_any (clash (locks_of rs ws)) hs) && above_versions (installs_of log) at ws) (standing_is log)
+    ∙ ap (λ is. nat_lt (length (standing_rows (facts_of log))) most_rows && not (list_any (clash (locks_of rs ws)) (map (λ r. r.held) (standing_rows (facts_of log)))) && above_versions is at ws)
     (sym (installs_are log))
 
 installs_is : (shard : ℕ) (log : List Record) (t : Id) (s : ℕ) → follows_facts shard (facts_of log) (Record.Outcome t (Some s)) ≡ true

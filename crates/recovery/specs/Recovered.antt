@@ -1,7 +1,8 @@
 -- What a log leaves of its shard, told record by record from the facts alone.
-use Rattle.std.specs.Prelude.{◌≡◌, ℕ, ◌<◌, ◌≤◌, IsTrue, nat_le, Bool, true, false, not, cond, ◌&&◌, nat_eq, nat_lt, List, [], map, length, Option, Some, None, slice_get}
+use Rattle.std.specs.Prelude.{◌≡◌, ℕ, ◌<◌, ◌≤◌, IsTrue, nat_le, Bool, true, not, cond, ◌&&◌, nat_eq, nat_lt, List, [], map, length, Option, Some, None, slice_get}
 use Rattle.std.specs.List.{AllByRecursion, list_any, list_all}
-use Rattle.units.specs.Lists.{follow, gather}
+use Rattle.units.specs.Limits.{most_rows}
+use Rattle.units.specs.Lists.{follow, gather, when}
 use Rattle.units.specs.ById.{IsById}
 use Rattle.units.specs.Keys.{Bytes}
 use Rattle.units.specs.Locks.{clash, locks_of}
@@ -11,7 +12,7 @@ use Rattle.units.specs.declared.setup.Setup.{Setup}
 use Rattle.units.specs.declared.writes.Write.{Write}
 use Rattle.record.specs.Accepted.{Taken, Accepted, DamagedAt, StrangerAt, belongs}
 use Rattle.record.specs.Facts.{Entry, Facts, facts_of, recorded}
-use Rattle.record.specs.Records.{Status, StandsPrepared, StandsDecided}
+use Rattle.record.specs.Records.{Status, StandsPrepared, StandsDecided, as_opened}
 use Rattle.record.specs.declared.record.Record.{Record}
 use Rattle.facts.specs.Rules.{follows_facts}
 use Rattle.gatelog.specs.Placed.{Placed}
@@ -31,21 +32,23 @@ standing_rows facts = gather standing_row facts.entries
 -- a promise or a decision has its place: room for its row, its locks in nobody's way, and above the versions of what it writes
 abbrev pub stands_in : Facts → ℕ → List Bytes → List Write → Bool
 stands_in facts at reads writes =
-    nat_lt (length (standing_rows facts)) 1024
+    nat_lt (length (standing_rows facts)) most_rows
     && not (list_any (clash (locks_of reads writes)) (map (λ r. r.held) (standing_rows facts)))
     && above_versions facts.installs at writes
 
 -- a record has its place beside what stands
 abbrev pub fits_facts : Facts → Record → Bool
+fits_facts facts (Record.Opened epoch) = true
+fits_facts facts (Record.Ceiling at) = true
 fits_facts facts (Record.Prepare p) = stands_in facts p.at p.reads p.writes
 fits_facts facts (Record.Commit c) = stands_in facts c.at c.reads c.writes
+fits_facts facts (Record.Abort t) = true
+fits_facts facts (Record.Outcome t None) = true
 fits_facts facts (Record.Outcome t (Some at)) = above_versions facts.installs at (writes_standing (recorded facts t))
-fits_facts facts _ = true
 
 -- the first opening
 abbrev pub is_first : Record → Bool
-is_first (Record.Opened epoch) = nat_eq epoch 1
-is_first _ = false
+is_first r = when (λ epoch. nat_eq epoch 1) (as_opened r)
 
 -- why the next record is refused, where it is: a strange key comes before damage
 abbrev pub fault_next : Setup → Facts → Placed → Option Fault

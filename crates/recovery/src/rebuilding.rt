@@ -75,7 +75,8 @@ fn is_first(item: &Record) -> bool
 {
     match item {
         Record::Opened { epoch } => epoch.number() == 1,
-        _ => false,
+        Record::Ceiling { .. } | Record::Prepare(_) | Record::Commit(_) => false,
+        Record::Abort { .. } | Record::Outcome { .. } => false,
     }
 }
 

@@ -31,7 +31,8 @@ pub fn fits_beside(state: &State, alloc: Global, item: &Record) -> Result<bool, 
             txn,
             outcome: Some(at),
         } => Ok(state.takes_standing(*txn, *at)),
-        _ => Ok(true),
+        Record::Opened { .. } | Record::Ceiling { .. } | Record::Abort { .. } => Ok(true),
+        Record::Outcome { outcome: None, .. } => Ok(true),
     }
 }
 

@@ -1,10 +1,11 @@
 -- The list of rows stays in order and within its limit.
 use Rattle.std.proofs.Common.{◌+◌, ◌<◌, ◌≤◌, Bool, true, false, not, cond, List, [], ◌∷◌, length, arith, filter}
+use Rattle.units.specs.Limits.{most_rows}
 use Rattle.units.specs.Ids.{Id, same_id, older}
 use Rattle.units.specs.ById.{with_member}
 use Rattle.units.proofs.ByIdLaws.{by_id-keep, by_id-with}
 use Rattle.rows.specs.declared.row.Row.{Row}
-use Rattle.rows.specs.CodeRows.{IsRowList, txn_of, without_txn, put_in, most_rows}
+use Rattle.rows.specs.CodeRows.{IsRowList, txn_of, without_txn, put_in}
 
 -- fewer members, or as many
 pub length-keep : {A : Type 0} (p : A → Bool) (xs : List A) → length (filter p xs) ≤ length xs

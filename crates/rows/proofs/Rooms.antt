@@ -1,15 +1,14 @@
 -- The room of a transaction is that of the token in its row.
-use Rattle.std.proofs.Common.{◌≡◌, ◌+◌, ◌≤◌, List, length, Option, Some, None, refl, sym, ap, ◌∙◌, arith, option_map}
+use Rattle.std.proofs.Common.{◌≡◌, ◌+◌, ◌≤◌, List, length, Option, Some, refl, sym, ap, ◌∙◌, arith, option_map}
 use Rattle.units.specs.Ids.{Id}
 use Rattle.units.specs.Locks.{Claim}
 use Rattle.units.specs.declared.lock.Lock.{Lock}
 use Rattle.units.proofs.ByIdLaws.{find-map, find-with_same}
-use Rattle.protocol.specs.Rows.{Row, claim_of, claims, find_row, held_in}
-use Rattle.protocol.proofs.RowTable.{claims-find_row}
-use Rattle.locks.specs.Table.{Token, held_in as held_in_table, needs_in as needs_in_table, needs_by as needs_by_claim, most_held}
+use Rattle.protocol.specs.Rows.{claims, held_in}
+use Rattle.locks.specs.Table.{Token, held_in as held_in_table, most_held}
 use Rattle.rows.specs.States.{ReadingState}
 use Rattle.rows.specs.CodeRows.{token_of, txn_of, row_of, put_in}
-use Rattle.rows.specs.RowTable.{RowTable, paired, table_of, room, room_by, needs_in, needs_by}
+use Rattle.rows.specs.RowTable.{RowTable, paired, table_of, room, room_by}
 use Rattle.rows.specs.declared.row.Row.{Row as CodeRow}
 use Rattle.rows.specs.declared.row.Row.TheVariants.{Reading}
 use Rattle.rows.proofs.Ties.{held_is, found_txn}
@@ -26,15 +25,6 @@ pub room_put : (mid new : List CodeRow) (table : List Claim) (t : Id) (z : CodeR
 room_put mid new table t z is same =
     room_found new table t z (ap (row_of new) (sym same) ∙ ap (λ l. row_of l (txn_of z)) is ∙ find-with_same txn_of mid z)
 
--- what the table says that a transaction waits for
-pub needs_is : (rows : List CodeRow) (table : List Claim) (t : Id) → claims (paired rows table) ≡ table → needs_in_table table t ≡ needs_in (paired rows table) t
-needs_is rows table t tied =
-    ap (λ s. needs_in_table s t) (sym tied) ∙ ap needs_by_claim (claims-find_row (paired rows table) t) ∙ by_row (find_row (paired rows table) t)
-  where
-    by_row : (o : Option Row) → needs_by_claim (option_map claim_of o) ≡ needs_by o
-    by_row None = refl
-    by_row (Some q) = refl
-
 -- the room is that of the token, and enough for a request
 pub room_fits : (rows : List CodeRow) (table : List Claim) (t : Id) (s : ReadingState) (seen : RowTable) (needs : List Lock)
     → table_of rows table ≡ seen → claims (paired rows table) ≡ table → row_of rows t ≡ Some (Reading s)
@@ -44,12 +34,3 @@ room_fits rows table t s seen needs view tied found fits =
     ap (λ i. length (held_in_table table i)) (found_txn rows t (Reading s) found) ∙ ap length (held_is rows table t tied) ∙ ap (λ (r : RowTable). length (held_in r.rows t)) view in
     let spare : room seen t ≡ s.token.room = ap (λ (r : RowTable). room r t) (sym view) ∙ room_found rows table t (Reading s) found in
     omega (arith, held, spare, fits)
-
--- and for what it waits for
-pub room_resumes : (rows : List CodeRow) (table : List Claim) (t : Id) (s : ReadingState) (seen : RowTable)
-    → table_of rows table ≡ seen → claims (paired rows table) ≡ table → row_of rows t ≡ Some (Reading s)
-    → length (held_in seen.rows t) + length (needs_in seen.rows t) ≤ room seen t → most_held table s.token.txn (needs_in_table table s.token.txn) ≤ s.token.room
-room_resumes rows table t s seen view tied found fits =
-    let needs : length (needs_in_table table s.token.txn) ≡ length (needs_in seen.rows t) =
-    ap (λ i. length (needs_in_table table i)) (found_txn rows t (Reading s) found) ∙ ap length (needs_is rows table t tied) ∙ ap (λ (r : RowTable). length (needs_in r.rows t)) view in
-    room_fits rows table t s seen (needs_in_table table s.token.txn) view tied found (omega (arith, needs, fits))

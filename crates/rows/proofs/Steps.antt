@@ -3,6 +3,7 @@ use Rattle.std.proofs.Common.{◌≡◌, suc, ◌<◌, Bool, true, false, ◌||�
 use Rattle.std.proofs.lemmas.Bool.{false≢true}
 use Rattle.std.specs.List.{AllByRecursion, find}
 use Rattle.std.specs.Option.{option_copied, MatchOption}
+use Rattle.units.specs.Limits.{most_rows}
 use Rattle.units.specs.Lists.{tail, when}
 use Rattle.units.specs.Ids.{Id, same_id}
 use Rattle.units.specs.ById.{has_member, without_member}
@@ -16,7 +17,7 @@ use Rattle.protocol.specs.Rows.{Row, Phase, Idle, WaitsRead, WaitsPrepare, Waits
 use Rattle.protocol.proofs.RowTable.{claims-find_row, claims-without_row}
 use Rattle.locks.specs.Table.{Token, has_claim, without_claim, without_claims, change_claim, made_firm}
 use Rattle.rows.specs.States.{is_prepare_of, is_commit_of, prepared_by, decided_by}
-use Rattle.rows.specs.CodeRows.{token_of, txn_of, phase_of, row_of, has_txn, passes, put_in, without_txn, is_reading, is_idle, most_rows, IsRowList}
+use Rattle.rows.specs.CodeRows.{token_of, txn_of, phase_of, row_of, has_txn, passes, put_in, without_txn, is_reading, is_idle, IsRowList}
 use Rattle.rows.specs.RowTable.{paired, has_phase, put_row, without_token, phase_by}
 use Rattle.rows.specs.declared.row.Row.{Row as CodeRow}
 use Rattle.rows.specs.declared.row.Row.TheVariants.{Prepared, Decided}

@@ -9,10 +9,10 @@ use Rattle.units.proofs.ByIdLaws.{change_is_with}
 use Rattle.record.specs.declared.record.Record.{Record}
 use Rattle.protocol.specs.Rows.{Row, Idle, claim_of, claims, find_row, with_row, needs_of, is_firm, held_in}
 use Rattle.protocol.proofs.RowTable.{with_row-is}
-use Rattle.locks.specs.Table.{Token, change_claim, granted, waiting, resumed, made_firm}
+use Rattle.locks.specs.Table.{Token, change_claim, granted, waiting, made_firm}
 use Rattle.rows.specs.States.{ReadingState, CollectingState, PreparedState, DecidedState, is_prepare_of, is_commit_of, prepared_by, decided_by, collecting_of, with_yes as with_yes_state}
 use Rattle.rows.specs.CodeRows.{phase_of, phase_of_wait, row_of, passes, put_in, without_txn, is_idle, is_collecting, may_decide, may_abort, may_close, IsRowList}
-use Rattle.rows.specs.RowTable.{paired, needs_in, needs_by, put_row, phase_by, phase_in, phase_of_row, with_yes}
+use Rattle.rows.specs.RowTable.{paired, put_row, phase_by, phase_in, phase_of_row, with_yes}
 use Rattle.rows.specs.declared.row.Row.{Row as CodeRow}
 use Rattle.rows.specs.declared.row.Row.TheVariants.{Reading, Collecting, Prepared, Decided}
 use Rattle.rows.specs.declared.wait.Wait.{Wait}
@@ -151,23 +151,6 @@ waits_with rows mid new table next t s z wait needs laws tied found mid_is new_i
     ∙ reading_claim t (held_in seen t) (Some wait)
     ∙ ap (λ (n : List Lock). record { txn = t; held = held_in seen t; needs = n; firm = false }) (sym needs_are)
     ∙ sym (ap (waiting needs) (reading_claim t (held_in seen t) s.wait))))
-
--- what a transaction that reads waits with is granted
-pub goes_on : (rows mid new : List CodeRow) (table next : List Claim) (t : Id) (s z : ReadingState)
-    → IsRowList rows → claims (paired rows table) ≡ table
-    → row_of rows t ≡ Some (Reading s) → mid ≡ without_txn rows t → new ≡ put_in mid (Reading z)
-    → z.token.txn ≡ s.token.txn → z.wait ≡ None → next ≡ change_claim table s.token.txn resumed
-    → IsMoved new next (put_row (paired rows table) t (with_locks (held_in (paired rows table) t) (needs_in (paired rows table) t)) Idle)
-goes_on rows mid new table next t s z laws tied found mid_is new_is same idle next_is =
-    let seen = paired rows table in
-    let needs = needs_of (phase_of_wait s.wait) in
-    let held = with_locks (held_in seen t) needs in
-    told new next _ _ (ap (λ (w : Option Wait). put_row seen t held (phase_of_wait w)) idle
-    ∙ ap (λ (o : Option Row). put_row seen t (with_locks (held_in seen t) (needs_by o)) Idle) (sym (found_row rows table t (Reading s) found)))
-    (stepped rows mid new table next t (Reading s) (Reading z) held resumed laws tied found mid_is new_is
-    (same ∙ found_txn rows t (Reading s) found) next_is
-    (ap (λ (w : Option Wait). claim_of (record { txn = t; held = held; phase = phase_of_wait w })) idle
-    ∙ sym (ap resumed (reading_claim t (held_in seen t) s.wait))))
 
 -- a row given anew as it is changes nothing
 with_same : (rows : List Row) (q : Row) → IsById (λ q. q.txn) rows → find_row rows q.txn ≡ Some q → with_row rows q ≡ rows

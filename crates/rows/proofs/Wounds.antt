@@ -1,29 +1,22 @@
 -- Those whom a request ends may be ended one by one, and the requester stays as it is.
-use Rattle.std.proofs.Common.{◌≡◌, Bool, true, false, ◌&&◌, cond, List, [], ◌∷◌, map, Option, Some, None, refl, sym, ap, subst, ◌∙◌, filter, option_map}
+use Rattle.std.proofs.Common.{◌≡◌, Bool, true, false, ◌&&◌, cond, List, [], ◌∷◌, map, refl, sym, ap, subst, ◌∙◌, filter}
 use Rattle.std.proofs.lemmas.Bool.{false≢true}
-use Rattle.std.specs.List.{AllByRecursion, list_any}
-use Rattle.units.specs.Lists.{when}
+use Rattle.std.specs.List.{AllByRecursion}
 use Rattle.units.specs.Ids.{Id, same_id}
 use Rattle.units.specs.ById.{IsById, find_member}
-use Rattle.units.specs.LockLaws.{IsOldestReady}
-use Rattle.units.specs.Locks.{Claim, wounded, is_waiting, ready}
+use Rattle.units.specs.Locks.{Claim, wounded}
 use Rattle.units.specs.declared.lock.Lock.{Lock}
 use Rattle.units.proofs.IdLaws.{same_id-refl, older_not_same}
 use Rattle.units.proofs.ListLaws.{filter-is}
 use Rattle.units.proofs.ByIdLaws.{AllYounger, later_are_younger, later_differ, without_none, find-without_other}
-use Rattle.protocol.specs.Rows.{Row, Phase, Idle, WaitsRead, WaitsPrepare, WaitsCommit, Collecting, IsPrepared, IsDecided, claim_of, claims, find_row, without_row, needs_of, without_rows}
-use Rattle.protocol.proofs.RowTable.{claims-find_row, claims-by_id}
+use Rattle.protocol.specs.Rows.{Row, claim_of, claims, find_row, without_row, without_rows}
 use Rattle.locks.specs.Table.{Token, without_claims}
 use Rattle.locks.specs.Ways.{gives_way}
 use Rattle.locks.proofs.WayLaws.{wounded-is}
 use Rattle.locks.proofs.Release.{wounded_differ, release_makes_way}
-use Rattle.locks.proofs.Oldest.{ready_is_oldest}
-use Rattle.rows.specs.CodeRows.{txn_of, phase_of_wait, passes, is_reading}
-use Rattle.rows.specs.RowTable.{paired, has_phase, without_token, without_tokens, MayEnd}
-use Rattle.rows.specs.declared.row.Row.{Row as CodeRow}
-use Rattle.rows.specs.declared.wait.Wait.{Wait}
-use Rattle.rows.proofs.Ties.{by_id-paired, has_phase-is}
-use Rattle.rows.proofs.Steps.{claims-without_rows, passes_more}
+use Rattle.rows.specs.CodeRows.{is_reading}
+use Rattle.rows.specs.RowTable.{has_phase, without_token, without_tokens, MayEnd}
+use Rattle.rows.proofs.Steps.{claims-without_rows}
 
 -- a row of another id in front changes nothing
 may_end_behind : (q : Row) (ts : List Id) (rows : List Row) → AllByRecursion (λ t. same_id q.txn t ≡ false) ts → MayEnd rows ts → MayEnd (q ∷ rows) ts
@@ -103,39 +96,3 @@ token_stays tokens t (u ∷ ts) differ = token_stays (without_token tokens u) t 
 pub then_quiet : (rows : List Row) (t : Id) (needs : List Lock) (ts : List Id) → ts ≡ wounded (claims rows) t needs → wounded (claims (without_rows rows ts)) t needs ≡ []
 then_quiet rows t needs ts is =
     ap (λ s. wounded s t needs) (claims-without_rows rows ts ∙ ap (without_claims (claims rows)) is) ∙ (release_makes_way (claims rows) t needs).quiet
-
--- a phase that waits for locks
-abbrev pub waits : Phase → Bool
-waits p = list_any (λ l. true) (needs_of p)
-
--- who is ready waits
-pub ready_waits : (rows : List CodeRow) (table : List Claim) (t : Id) → IsById txn_of rows → claims (paired rows table) ≡ table → ready table ≡ Some t → passes waits rows t ≡ true
-ready_waits rows table t up tied is =
-    let seen = paired rows table in
-    let by : IsById (λ (c : Claim). c.txn) table = subst (IsById (λ (c : Claim). c.txn)) tied (claims-by_id seen (by_id-paired rows table up)) in
-    let oldest : IsOldestReady table (Some t) = subst (IsOldestReady table) is (ready_is_oldest table by) in
-    sym (has_phase-is waits rows table t)
-    ∙ sym (by_row (find_row seen t))
-    ∙ ap (when is_waiting) (sym (claims-find_row seen t) ∙ ap (λ s. find_member (λ (c : Claim). c.txn) s t) tied ∙ oldest.1)
-    ∙ oldest.2.0
-  where
-    by_row : (o : Option Row) → when is_waiting (option_map claim_of o) ≡ when (λ (r : Row). waits r.phase) o
-    by_row None = refl
-    by_row (Some q) = refl
-
-waits_reads : (p : Phase) → waits p ≡ true → is_reading p ≡ true
-waits_reads Idle e = refl
-waits_reads (WaitsRead k) e = refl
-waits_reads (WaitsPrepare c rs ws) e = refl
-waits_reads (WaitsCommit l ps rs ws) e = refl
-waits_reads (Collecting l ps rs ws vs) e = absurd (false≢true e)
-waits_reads (IsPrepared c p) e = absurd (false≢true e)
-waits_reads (IsDecided s ps) e = absurd (false≢true e)
-
-pub ready_reads : (rows : List CodeRow) (t : Id) → passes waits rows t ≡ true → passes is_reading rows t ≡ true
-ready_reads rows t h = passes_more waits is_reading waits_reads rows t h
-
--- so it waits with something
-pub waits_some : (w : Option Wait) → waits (phase_of_wait w) ≡ true → w ≡ None → ⊥
-waits_some None h e = false≢true h
-waits_some (Some w) h e = cc

@@ -1,6 +1,7 @@
 -- The rows as the code keeps them: typed states, by ascending id.
 use Rattle.std.specs.Prelude.{◌≤◌, ℕ, Bool, true, false, not, List, length, Option, None, Some}
 use Rattle.units.specs.Lists.{when}
+use Rattle.units.specs.Limits.{most_rows}
 use Rattle.units.specs.Ids.{Id}
 use Rattle.units.specs.ById.{IsById, has_member, find_member, without_member, with_member}
 use Rattle.protocol.specs.Rows.{Phase, Idle, WaitsRead, WaitsPrepare, WaitsCommit, Collecting as CollectsVotes, IsPrepared, IsDecided, is_firm}
@@ -72,10 +73,6 @@ prepared_of _ = None
 abbrev pub decided_of : Row → Option (Id × ℕ)
 decided_of (Decided s) = Some (s.token.txn, s.at)
 decided_of _ = None
-
--- the most rows that there may be
-abbrev pub most_rows : ℕ
-most_rows = 1024
 
 -- some row is the transaction's
 abbrev pub has_txn : List Row → Id → Bool

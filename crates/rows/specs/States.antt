@@ -2,6 +2,8 @@
 use Rattle.std.specs.List.{list_any}
 use Rattle.std.specs.Prelude.{◌≡◌, ℕ, Bool, true, false, nat_eq, nat_lt, List, [], ◌∷◌, Option}
 use Rattle.units.specs.Ids.{Id, same_id}
+use Rattle.units.specs.Lists.{when}
+use Rattle.record.specs.Records.{as_aborted, as_committed, as_ended, as_prepared}
 use Rattle.record.specs.declared.record.Record.{Record}
 use Rattle.protocol.specs.Rows.{Voted, with_vote}
 use Rattle.locks.specs.Table.{Token}
@@ -63,30 +65,34 @@ with_yes n p s = record { token = s.token; request = s.request; votes = with_vot
 
 -- the record is a promise of the transaction
 abbrev pub is_prepare_of : Id → Record → Bool
-is_prepare_of t (Record.Prepare p) = same_id p.txn t
-is_prepare_of t _ = false
+is_prepare_of t r = when (λ p. same_id p.txn t) (as_prepared r)
 
 -- it is a decision of the transaction
 abbrev pub is_commit_of : Id → Record → Bool
-is_commit_of t (Record.Commit c) = same_id c.txn t
-is_commit_of t _ = false
+is_commit_of t r = when (λ c. same_id c.txn t) (as_committed r)
 
 -- it is an abort of the transaction
 abbrev pub is_abort_of : Id → Record → Bool
-is_abort_of t (Record.Abort u) = same_id u t
-is_abort_of t _ = false
+is_abort_of t r = when (λ u. same_id u t) (as_aborted r)
 
 -- it says how the transaction ended at this shard
 abbrev pub is_outcome_of : Id → Record → Bool
-is_outcome_of t (Record.Outcome u outcome) = same_id u t
-is_outcome_of t _ = false
+is_outcome_of t r = when (λ e. same_id e.txn t) (as_ended r)
 
 -- the state that a logged promise leads to
 abbrev pub prepared_by : Token → Record → PreparedState
 prepared_by token (Record.Prepare p) = record { token = token; coordinator = p.coordinator; at = p.at }
-prepared_by token _ = record { token = token; coordinator = 0; at = 0 }
+prepared_by token (Record.Opened epoch) = record { token = token; coordinator = 0; at = 0 }
+prepared_by token (Record.Ceiling at) = record { token = token; coordinator = 0; at = 0 }
+prepared_by token (Record.Commit c) = record { token = token; coordinator = 0; at = 0 }
+prepared_by token (Record.Abort u) = record { token = token; coordinator = 0; at = 0 }
+prepared_by token (Record.Outcome u o) = record { token = token; coordinator = 0; at = 0 }
 
 -- the state that a logged decision leads to
 abbrev pub decided_by : Token → Record → DecidedState
 decided_by token (Record.Commit c) = record { token = token; at = c.at; parts = c.parts }
-decided_by token _ = record { token = token; at = 0; parts = [] }
+decided_by token (Record.Opened epoch) = record { token = token; at = 0; parts = [] }
+decided_by token (Record.Ceiling at) = record { token = token; at = 0; parts = [] }
+decided_by token (Record.Prepare p) = record { token = token; at = 0; parts = [] }
+decided_by token (Record.Abort u) = record { token = token; at = 0; parts = [] }
+decided_by token (Record.Outcome u o) = record { token = token; at = 0; parts = [] }

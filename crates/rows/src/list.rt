@@ -4,17 +4,14 @@ ghost use Rattle.std.specs.List.{find, position_or_len};
 ghost use Rattle.std.specs.Option.{option_copied};
 ghost use Rattle.units.specs.Ids.{same_id, older};
 ghost use Rattle.units.specs.Lists.{gather};
-ghost use Rattle.rows.specs.CodeRows.{txn_of, has_txn, row_of, passes, is_reading, prepared_of, decided_of, without_txn, put_in, most_rows, IsRowList};
+ghost use Rattle.rows.specs.CodeRows.{txn_of, has_txn, row_of, passes, is_reading, prepared_of, decided_of, without_txn, put_in, IsRowList};
 
 use crate::row::Row;
 use crate::states::Reading;
 use locks::Table;
 use std::alloc::Global;
 use std::marker::Model;
-use units::{Fault, Stamp, TxnId};
-
-/// The most transactions of a shard at a time.
-pub const MOST_ROWS: usize = 1024;
+use units::{Fault, MOST_ROWS, Stamp, TxnId};
 
 /// The rows of a shard's transactions, by ascending id.
 pub struct RowList {
@@ -24,7 +21,8 @@ pub struct RowList {
 impl Model for RowList {
     ghost use Rattle.std.specs.Prelude.{List, ◌≤◌, vec_capacity};
     ghost use Rattle.rows.specs.declared.row.Row.{Row};
-    ghost use Rattle.rows.specs.CodeRows.{IsRowList, most_rows};
+    ghost use Rattle.rows.specs.CodeRows.{IsRowList};
+    ghost use Rattle.units.specs.Limits.{most_rows};
 
     ghost Value = { List Row };
 
@@ -117,7 +115,7 @@ impl RowList {
     /// Puts in a row of a transaction that has none. It takes no memory.
     pub fn put(&mut self, row: Row)
         requires absent { has_txn self.old (txn_of row) ≡ false }
-        requires room { length self.old < most_rows }
+        requires room { length self.old < MOST_ROWS }
         ensures { self.new ≡ put_in self.old row }
     {
         let at = place_for(&self.rows, row.txn());

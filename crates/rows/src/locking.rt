@@ -1,9 +1,9 @@
 //! How the transactions of a shard take locks, wait for them and go on.
 ghost use Rattle.std.specs.Prelude.{◌≡◌, ◌+◌, ◌≤◌, [], true, false, Some, length, OnOk, IfErr};
-ghost use Rattle.units.specs.Locks.{is_free, ready, with_locks, wounded};
-ghost use Rattle.protocol.specs.Rows.{Idle, claims, find_row, needs_of, held_in, without_rows};
+ghost use Rattle.units.specs.Locks.{is_free, with_locks, wounded};
+ghost use Rattle.protocol.specs.Rows.{Idle, claims, needs_of, held_in, without_rows};
 ghost use Rattle.rows.specs.CodeRows.{phase_of_wait, is_reading};
-ghost use Rattle.rows.specs.RowTable.{room, needs_in, has_phase, put_row, without_tokens, MayEnd};
+ghost use Rattle.rows.specs.RowTable.{room, has_phase, put_row, without_tokens, MayEnd};
 
 use crate::row::Row;
 use crate::rows::Rows;
@@ -22,18 +22,6 @@ impl Rows {
         let made = reading.make_room(more, &self.locks);
         self.rows.put(Row::Reading(reading));
         made
-    }
-
-    /// Ends those whom a request ends, and leaves every other.
-    pub fn end_all(&mut self, txn: TxnId, needs: &[Lock], ended: &[TxnId])
-        requires { ended.now ≡ wounded (claims self.old.rows) txn needs.now }
-        ensures rows { self.new.rows ≡ without_rows self.old.rows ended.now }
-        ensures tokens { self.new.tokens ≡ without_tokens self.old.tokens ended.now }
-    {
-        let _ = txn;
-        let _ = needs;
-        self.laws();
-        self.end_each(ended);
     }
 
     /// Ends those whom a request ends, and grants it. The transaction has its room, so it takes no memory.
@@ -61,23 +49,6 @@ impl Rows {
         self.laws();
         self.end_each(ended);
         self.block(txn, needs, wait);
-    }
-
-    /// What the ready transaction waits with is granted, and handed back. It has its room, so it takes no memory.
-    pub fn resume(&mut self, txn: TxnId) -> Wait
-        requires ready { ready (claims self.old.rows) ≡ Some txn }
-        requires room { length (held_in self.old.rows txn) + length (needs_in self.old.rows txn) ≤ room self.old txn }
-        ensures wait { find_row self.old.rows txn ≡ Some (record { txn = txn; held = held_in self.old.rows txn; phase = phase_of_wait (Some result) }) }
-        ensures rows { self.new.rows ≡ put_row self.old.rows txn (with_locks (held_in self.old.rows txn) (needs_in self.old.rows txn)) Idle }
-    {
-        self.rows.laws();
-        let reading = self.rows.take_reading(txn);
-        let (reading, wait) = reading.resume(&mut self.locks);
-        self.rows.put(Row::Reading(reading));
-        match wait {
-            Some(wait) => wait,
-            None => unreachable!(),
-        }
     }
 
     // Ends several transactions that read.

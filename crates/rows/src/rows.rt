@@ -6,7 +6,7 @@ ghost use Rattle.units.specs.LockLaws.{IsLawfulTable};
 ghost use Rattle.units.specs.Locks.{holds, is_free, ready, wounded};
 ghost use Rattle.protocol.specs.Rows.{Idle, claims, find_row, without_row, held_in, without_rows};
 ghost use Rattle.rows.specs.CodeRows.{phase_of, is_reading};
-ghost use Rattle.rows.specs.RowTable.{needs_in, has_phase, put_row, nth_prepared, nth_decided, without_token};
+ghost use Rattle.rows.specs.RowTable.{has_phase, put_row, nth_prepared, nth_decided, without_token};
 
 use crate::list::RowList;
 use crate::row::Row;
@@ -14,7 +14,7 @@ use crate::states::Reading;
 use locks::Table;
 use std::alloc::Global;
 use std::marker::Model;
-use units::{Fault, Ids, Key, Keys, Lock, Stamp, TxnId};
+use units::{Fault, Ids, Key, Keys, Lock, MOST_ROWS, Stamp, TxnId};
 
 /// The transactions of a shard: each has a row, in a state that holds its token of the lock table. There are at most
 /// 1,024.
@@ -53,7 +53,7 @@ impl Rows {
     /// What holds of the rows at any time. It does nothing.
     pub fn laws(&self)
         ensures locks { IsLawfulTable (claims self.now.rows) }
-        ensures few { length self.now.rows ≤ 1024 }
+        ensures few { length self.now.rows ≤ MOST_ROWS }
         ensures order { IsById (λ r. r.txn) self.now.rows }
     {
         self.locks.laws();
@@ -62,9 +62,9 @@ impl Rows {
 
     /// Whether there are as many rows as there may be.
     pub fn is_full(&self) -> bool
-        ensures { result ≡ nat_le 1024 (length self.now.rows) }
+        ensures { result ≡ nat_le MOST_ROWS (length self.now.rows) }
     {
-        self.rows.len() >= 1024
+        self.rows.len() >= MOST_ROWS
     }
 
     /// The row of a transaction.
@@ -83,13 +83,6 @@ impl Rows {
             Some(row) => row.is_reading(),
             None => false,
         }
-    }
-
-    /// How many locks a transaction waits for.
-    pub fn needs_count(&self, txn: TxnId) -> usize
-        ensures { result ≡ length (needs_in self.now.rows txn) }
-    {
-        self.locks.needs_count(txn)
     }
 
     /// Whether a transaction holds a key. One that has no row holds nothing.
@@ -150,7 +143,7 @@ impl Rows {
     /// Takes in a transaction that is new. It reads, and holds nothing. It is refused for want of memory alone.
     pub fn admit(&mut self, alloc: Global, txn: TxnId) -> Result<(), Fault>
         requires absent { find_row self.old.rows txn ≡ None }
-        requires room { length self.old.rows < 1024 }
+        requires room { length self.old.rows < MOST_ROWS }
         ensures ok { OnOk result (self.new.rows ≡ put_row self.old.rows txn [] Idle) }
         ensures err { OnErr result (self.new ≡ self.old) }
         ensures memory { IfErr result (λ fault. fault ≡ Fault.Memory) }

@@ -2,9 +2,9 @@
 //! dropped, and a step from one to the next spends the one before.
 ghost use Rattle.std.specs.Prelude.{◌≡◌, ◌≤◌, ◌+◌, [], Some, None, true, false, length, OnOk, IfErr};
 ghost use Rattle.std.specs.Option.{option_copied};
-ghost use Rattle.units.specs.Locks.{is_free, ready, wounded};
+ghost use Rattle.units.specs.Locks.{is_free, wounded};
 ghost use Rattle.rows.specs.States.{reading_of, collecting_of, with_yes, is_prepare_of, is_commit_of, is_abort_of, is_outcome_of, prepared_by, decided_by};
-ghost use Rattle.locks.specs.Table.{has_claim, without_claim, change_claim, granted, waiting, resumed, made_firm, held_in, needs_in, most_held};
+ghost use Rattle.locks.specs.Table.{has_claim, without_claim, change_claim, granted, waiting, made_firm, held_in, most_held};
 
 use crate::votes::{Gathering, Votes};
 use crate::wait::{CommitRequest, Wait};
@@ -138,25 +138,6 @@ impl Reading {
         }
     }
 
-    // What it waits with is granted, and handed back.
-    pub(crate) fn resume(self, table: &mut Table) -> (Reading, Option<Wait>)
-        requires ready { ready table.old ≡ Some self.token.txn }
-        requires room { most_held table.old self.token.txn (needs_in table.old self.token.txn) ≤ self.token.room }
-        ensures txn { result.0.token.txn ≡ self.token.txn }
-        ensures idle { result.0.wait ≡ None }
-        ensures wait { result.1 ≡ self.wait }
-        ensures table { table.new ≡ change_claim table.old self.token.txn resumed }
-    {
-        let Reading { mut held, wait } = self;
-        match table.resume(&mut held) {
-            Ok(()) => (Reading { held, wait: None }, wait),
-            Err(_) => {
-                table.release(held);
-                unreachable!()
-            }
-        }
-    }
-
     // The coordinator of several shards begins to wait for their votes.
     pub(crate) fn collect(self, gathering: Gathering, table: &mut Table) -> Collecting
         requires { has_claim table.old self.token.txn ≡ true }
@@ -193,7 +174,8 @@ impl Reading {
                 };
                 (state, record)
             }
-            _ => unreachable!(),
+            Record::Opened { .. } | Record::Ceiling { .. } => unreachable!(),
+            Record::Commit(_) | Record::Abort { .. } | Record::Outcome { .. } => unreachable!(),
         }
     }
 
@@ -411,6 +393,7 @@ fn decide(held: Held, logged: Logged) -> (Decided, Record)
             };
             (state, record)
         }
-        _ => unreachable!(),
+        Record::Opened { .. } | Record::Ceiling { .. } => unreachable!(),
+        Record::Prepare(_) | Record::Abort { .. } | Record::Outcome { .. } => unreachable!(),
     }
 }

@@ -10,12 +10,10 @@ ghost use Rattle.safetime.specs.Safe.{safe_of, lifted};
 pub use laws::order_does_not_matter;
 use std::alloc::Global;
 use std::marker::Model;
-use units::{Fault, Stamp};
+use units::{Fault, MOST_ROWS, Stamp};
 
-/// How many timestamps can be held at a time.
-pub const MOST_HOLDS: usize = 1024;
-
-/// The greatest timestamp assigned, applied or served, and the timestamps of the transactions that are not settled.
+/// The greatest timestamp assigned, applied or served, and the timestamps of the transactions that are not settled: at most
+/// as many as a shard has rows.
 #[derive(Drop)]
 pub struct SafeTime {
     last: Stamp,
@@ -25,12 +23,13 @@ pub struct SafeTime {
 impl Model for SafeTime {
     ghost use Rattle.std.specs.Prelude.{◌≤◌, ◌<◌, All, vec_capacity};
     ghost use Rattle.safetime.specs.Safe.{Times};
+    ghost use Rattle.units.specs.Limits.{most_rows};
 
     ghost Value = { Times };
 
     ghost view = { λ a. record { last = a.last; holds = a.holds.items } };
 
-    ghost invariant = { λ a. All (λ at. 0 < at) a.holds.items × (1024 ≤ vec_capacity a.holds) };
+    ghost invariant = { λ a. All (λ at. 0 < at) a.holds.items × (most_rows ≤ vec_capacity a.holds) };
 }
 
 impl SafeTime {
@@ -39,7 +38,7 @@ impl SafeTime {
         ensures times { IfOk result (λ times. times ≡ record { last = last; holds = [] }) }
         ensures memory { IfErr result (λ fault. fault ≡ Fault.Memory) }
     {
-        let holds = Vec::with_capacity(alloc, MOST_HOLDS)?;
+        let holds = Vec::with_capacity(alloc, MOST_ROWS)?;
         Ok(SafeTime { last, holds })
     }
 
@@ -60,7 +59,7 @@ impl SafeTime {
     /// Holds the safe time below a timestamp.
     pub fn hold(&mut self, at: Stamp)
         requires above_zero { 0 < at }
-        requires room { length self.old.holds < MOST_HOLDS }
+        requires room { length self.old.holds < MOST_ROWS }
         ensures { self.new ≡ record self.old { holds = self.old.holds ++ at ∷ [] } }
     {
         self.holds.push_reserved(at);

@@ -4,7 +4,7 @@ use Rattle.std.proofs.Math.Logic.{∥∥₁_map}
 use Rattle.units.specs.declared.fault.Fault.{Fault}
 use Rattle.units.specs.declared.setup.Setup.{Setup}
 use Rattle.units.specs.declared.writes.Write.{Write}
-use Rattle.record.specs.Facts.{Facts, learn}
+use Rattle.record.specs.Facts.{Facts, learn, no_facts}
 use Rattle.record.specs.declared.record.Record.{Record}
 use Rattle.protocol.specs.Rows.{Memory}
 use Rattle.protocol.specs.Plan.{carried}
@@ -15,7 +15,7 @@ use Rattle.memory.specs.Kept.{Kept}
 use Rattle.memory.specs.Plans.{plan_of}
 use Rattle.memory.specs.declared.plan.Plan.{Plan}
 use Rattle.shard.specs.Due.{IsDue}
-use Rattle.shard.specs.Logs.{and_logged, facts_logged, nothing}
+use Rattle.shard.specs.Logs.{and_logged, facts_logged}
 
 -- ---- the facts of a log
 
@@ -25,12 +25,12 @@ learned-append f (q ∷ qs) r = learned-append (learn f q) qs r
 
 abbrev given : Option Facts → Facts
 given (Some f) = f
-given None = nothing
+given None = no_facts
 
 -- one more record is learnt
 pub facts-logged : (records : Result (List Record) Fault) (f : Facts) (r : Record) → facts_logged records ≡ Some f
     → facts_logged (and_logged records (Some r)) ≡ Some (learn f r)
-facts-logged (Ok rs) f r known = ap Some (learned-append nothing rs r ∙ ap (λ g. learn g r) (ap given known))
+facts-logged (Ok rs) f r known = ap Some (learned-append no_facts rs r ∙ ap (λ g. learn g r) (ap given known))
 facts-logged (Err fault) f r known = absurd (cc)
 
 -- ---- a plan

@@ -9,8 +9,8 @@ use Rattle.units.proofs.IdLaws.{same_id-is}
 use Rattle.record.specs.declared.record.Committed.{Committed}
 use Rattle.record.specs.declared.record.Record.{Record}
 use Rattle.record.specs.Records.{Status, Unrecorded, StandsPrepared, StandsDecided, HasAborted, HasSettled, HasClosed}
-use Rattle.record.specs.Facts.{Facts, Entry, learn, recorded, or_unrecorded, with_status, after_outcome}
-use Rattle.shard.specs.Logs.{and_logged, facts_logged, learned, nothing}
+use Rattle.record.specs.Facts.{Facts, Entry, learn, recorded, or_unrecorded, with_status, after_outcome, no_facts}
+use Rattle.shard.specs.Logs.{and_logged, facts_logged, learned}
 use Rattle.shard.specs.Settled.{is_commit, HasCommit}
 use Rattle.protocol.proofs.StatusChanges.{entry_same, entry_other}
 
@@ -85,7 +85,7 @@ module _ (t : Id) (c : Committed) where
 
   abbrev given-facts : Option Facts → Facts
   given-facts (Some f) = f
-  given-facts None = nothing
+  given-facts None = no_facts
 
   -- what stands decided by the facts of a log is in that log, and in one with a record more
   pub has-commit : (records : Result (List Record) Fault) (facts : Facts) (r : Record) → facts_logged records ≡ Some facts → recorded facts t ≡ StandsDecided c
@@ -93,5 +93,5 @@ module _ (t : Id) (c : Committed) where
   has-commit (Ok rs) facts r logged stands =
       let same : learned rs ≡ facts = ap given-facts logged in
       any-more (is_commit t c.at) rs (r ∷ [])
-      (⊎_elim (λ before. absurd (cc)) (λ is. is) (learn-all nothing rs (ap (λ f. recorded f t) same ∙ stands)))
+      (⊎_elim (λ before. absurd (cc)) (λ is. is) (learn-all no_facts rs (ap (λ f. recorded f t) same ∙ stands)))
   has-commit (Err fault) facts r logged stands = absurd (cc)

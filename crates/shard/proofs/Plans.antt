@@ -3,6 +3,7 @@ use Rattle.std.proofs.Common.{◌≡◌, ℕ, true, List, [], ◌∷◌, Option,
 use Rattle.std.proofs.Math.Logic.{∥∥₁_elim, ∥∥₁_map}
 use Rattle.std.proofs.Props.{props}
 use mathlib.Core.HLevel.{×_prop, Unit-prop}
+use Rattle.units.specs.Limits.{most_rows}
 use Rattle.units.specs.Ids.{Id}
 use Rattle.units.specs.ById.{IsById}
 use Rattle.units.specs.Versions.{above_versions}
@@ -49,12 +50,12 @@ ascending shard facts memory sound = ∥∥₁_elim sound (by_id-prop (λ (r : R
 module _ (k : Kept) (now : Interval) (i : Input) (p : CodePlan) (limit : IsInLimit i) (planned : plan_input k.setup (start_of k) now i ≡ Ok (plan_of k.memory.rows p)) where
   follows_next : LoggedFollows → ∥ IsSound k.setup.shard k.facts k.memory ∥₁ → (r : Record) → p.logged ≡ Some r → follows_facts k.setup.shard k.facts r ≡ true
   follows_next follows sound r e =
-      ∥∥₁_elim sound (hlevel props) (λ s. follows 1024 k.setup k.facts k.memory now i (plan_of k.memory.rows p) r s planned e)
+      ∥∥₁_elim sound (hlevel props) (λ s. follows most_rows k.setup k.facts k.memory now i (plan_of k.memory.rows p) r s planned e)
 
   installs_next : InstallsAbove → ∥ IsSound k.setup.shard k.facts k.memory ∥₁ → (t : Id) (s : ℕ) → p.logged ≡ Some (Record.Outcome t (Some s))
       → above_versions k.facts.installs s (writes_standing (recorded k.facts t)) ≡ true
   installs_next installs sound t s e =
-      ∥∥₁_elim sound (hlevel props) (λ o. installs 1024 k.setup k.facts k.memory now i (plan_of k.memory.rows p) t s o planned e)
+      ∥∥₁_elim sound (hlevel props) (λ o. installs most_rows k.setup k.facts k.memory now i (plan_of k.memory.rows p) t s o planned e)
 
   -- a plan of an input that fits is due
   pub is_due : StepKeepsSound → LoggedFollows → InstallsAbove → ∥ IsSound k.setup.shard k.facts k.memory ∥₁ → IsFit k p → IsDue k p
@@ -63,5 +64,5 @@ module _ (k : Kept) (now : Interval) (i : Input) (p : CodePlan) (limit : IsInLim
     fit = fit;
     follows = may_follow k.setup.shard k.facts p.logged (follows_next follows sound);
     installs = may_install k.facts p.logged (λ t s e. (refl, installs_next installs sound t s e));
-    sound = ∥∥₁_map sound (λ s. keeps 1024 k.setup k.facts k.memory now i (plan_of k.memory.rows p) limit s planned);
+    sound = ∥∥₁_map sound (λ s. keeps most_rows k.setup k.facts k.memory now i (plan_of k.memory.rows p) limit s planned);
   }

@@ -1,8 +1,10 @@
 -- What an opening leaves, from what was read, the verdict on it, and what adding the opening's record did.
-use Rattle.std.proofs.Common.{◌≡◌, ◌∙◌, ◌⊎◌, inl, inr, ⊎_elim, ℕ, ◌+◌, ◌^◌, ◌<◌, ◌≤◌, true, IsTrue, List, [], ◌∷◌, ◌++◌, fold, Some, Result, Ok, Err, refl, sym, ap, subst, arith}
-use Rattle.std.specs.Prelude.{IfOk}
+use Rattle.std.proofs.Common.{◌≡◌, ◌∙◌, ◌⊎◌, inl, inr, ⊎_elim, ℕ, ◌+◌, ◌^◌, ◌<◌, ◌≤◌, true, IsTrue, List, [], ◌∷◌, ◌++◌, fold, Option, Some, None, Result, Ok, Err, refl, sym, ap, subst, arith}
+use Rattle.std.specs.Prelude.{IfOk, slice_get}
+use Rattle.std.proofs.lemmas.Bool.{false≢true}
+use Rattle.units.specs.Lists.{follow, when}
 use Rattle.units.specs.declared.fault.Fault.{Fault}
-use Rattle.units.specs.declared.fault.Fault.TheVariants.{Memory as WantsMemory, Device, TimeSpent}
+use Rattle.units.specs.declared.fault.Fault.TheVariants.{Memory as WantsMemory, Device, TimeSpent, NotALog, Damaged}
 use Rattle.units.specs.declared.setup.Setup.{Setup}
 use Rattle.disk.specs.declared.plan.Plan.{Plan}
 use Rattle.disk.specs.declared.plan.Plan.TheVariants.{Never}
@@ -10,22 +12,22 @@ use Rattle.disk.specs.File.{File, surface}
 use Rattle.disk.specs.Image.{MayLeave, after_sync}
 use Rattle.disk.specs.Moments.{LeavesOnly}
 use Rattle.disk.proofs.Runs.{and_then, weaker}
-use Rattle.record.specs.Accepted.{Accepted, followed, taken}
+use Rattle.record.specs.Accepted.{Taken, Accepted, DamagedAt, StrangerAt, followed, taken}
 use Rattle.record.specs.FactLaws.{AcceptedFollows, LearnAgrees, LearntAgrees, learnt}
-use Rattle.record.specs.Facts.{Facts, facts_of, learn}
+use Rattle.record.specs.Facts.{Facts, facts_of, learn, no_facts}
 use Rattle.record.specs.Installs.{installs_of}
 use Rattle.record.specs.Records.{epoch_of}
 use Rattle.record.specs.declared.record.Record.{Record}
 use Rattle.facts.specs.Rules.{follows_facts}
 use Rattle.facts.proofs.Known.{follows_as_known}
 use Rattle.gatelog.specs.Frames.{IsFull}
-use Rattle.gatelog.specs.Log.{ends_at, log}
+use Rattle.gatelog.specs.Log.{ends_at, log, is_no_log}
 use Rattle.gatelog.specs.Placed.{Placed}
 use Rattle.protocol.specs.Rows.{rebuilt}
-use Rattle.recovery.specs.Recovered.{items}
-use Rattle.shard.specs.Logs.{records_in, and_logged, facts_logged, items_of, nothing, KeepsRecords, HoldsOldOrWith}
+use Rattle.recovery.specs.Recovered.{fault_in, items}
+use Rattle.shard.specs.Logs.{records_in, and_logged, facts_logged, items_of, KeepsRecords, HoldsOldOrWith}
 use Rattle.shard.specs.On.{CoreView, gate_behind}
-use Rattle.shard.specs.Opened.{HasAppended, HasNotAppended, HasNotOpened, HasOpened, IsReason, IsTaken, LeavesOpening, fault_of, next_opening, opening_of}
+use Rattle.shard.specs.Opened.{HasAppended, HasNotAppended, HasNotOpened, HasOpened, IsSpent, IsTaken, IsToldReason, is_reason, LeavesOpening, fault_of, next_opening, opening_of}
 use Rattle.shard.proofs.Openings.{follows_next}
 
 -- ---- the facts of what was read
@@ -34,9 +36,9 @@ fold_is : (f : Facts) (rs : List Record) → fold learn f rs ≡ learnt f rs
 fold_is f [] = refl
 fold_is f (r ∷ rs) = fold_is (learn f r) rs
 
-nothing_is : nothing ≡ facts_of []
+no_facts_is : no_facts ≡ facts_of []
 unfolding facts_of installs_of
-nothing_is = refl
+no_facts_is = refl
 
 epoch_is : (rs : List Record) → (facts_of rs).epoch ≡ epoch_of rs
 unfolding facts_of
@@ -44,7 +46,7 @@ epoch_is rs = refl
 
 pub facts_are : LearntAgrees → AcceptedFollows → (setup : Setup) (rs : List Record) (facts : Facts) → taken setup rs ≡ Accepted → facts ≡ facts_of rs → facts_logged (Ok rs) ≡ Some facts
 facts_are learns follows setup rs facts accepted known =
-    ap Some (fold_is nothing rs ∙ ap (λ f. learnt f rs) nothing_is ∙ learns setup.shard rs (follows setup rs accepted) ∙ sym known)
+    ap Some (fold_is no_facts rs ∙ ap (λ f. learnt f rs) no_facts_is ∙ learns setup.shard rs (follows setup rs accepted) ∙ sym known)
 
 -- and with the opening
 pub facts_then : LearnAgrees → AcceptedFollows → (setup : Setup) (rs : List Record) (facts : Facts) → taken setup rs ≡ Accepted → facts ≡ facts_of rs
@@ -64,7 +66,7 @@ epoch_of_facts rs facts known = ap (λ f. Record.Opened (f.epoch + 1)) known ∙
 
 -- where there was none before, it is the first
 pub first_is : (rs : List Record) → rs ≡ [] → Record.Opened 1 ≡ next_opening rs
-first_is rs none = ap (λ n. Record.Opened (n + 1)) (ap (λ (f : Facts). f.epoch) nothing_is ∙ epoch_is []) ∙ sym (ap next_opening none)
+first_is rs none = ap (λ n. Record.Opened (n + 1)) (ap (λ (f : Facts). f.epoch) no_facts_is ∙ epoch_is []) ∙ sym (ap next_opening none)
 
 pub first_records : (rs : List Record) → rs ≡ [] → Record.Opened 1 ∷ [] ≡ rs ++ next_opening rs ∷ []
 first_records rs none = ap (λ r. r ∷ []) (first_is rs none) ∙ ap (λ qs. qs ++ next_opening rs ∷ []) (sym none)
@@ -78,6 +80,22 @@ pub room_spent : (rs : List Record) (f : Facts) (gate : ℕ) → f ≡ facts_of 
     → (2 ^ 62 ≤ epoch_of rs + 1) ⊎ IsFull gate (next_opening rs)
 room_spent rs f gate known =
     ⊎_elim (λ spent. inl (subst (λ n. 2 ^ 62 ≤ n + 1) (ap (λ g. g.epoch) known ∙ epoch_is rs) spent)) (λ full. inr (subst (IsFull gate) (epoch_of_facts rs f known) full))
+
+-- a file without a log is a reason
+no_log_is_reason : (fault : Fault) → IsTrue (is_no_log fault) → IsTrue (is_reason fault)
+no_log_is_reason NotALog told = refl
+no_log_is_reason (Damaged offset) told = refl
+no_log_is_reason fault told = absurd (false≢true told)
+
+-- and so is a verdict that is no yes
+pub verdict_is_reason : (verdict : Taken) (entries : List Placed) (fault : Fault) → fault_in verdict entries ≡ Some fault → IsTrue (is_reason fault)
+verdict_is_reason Accepted entries fault told = absurd (cc)
+verdict_is_reason (DamagedAt place) entries fault told = damaged (slice_get entries place) told
+  where
+    damaged : (found : Option Placed) → follow found (λ e. Some (Damaged e.offset)) ≡ Some fault → IsTrue (is_reason fault)
+    damaged None none = absurd (cc)
+    damaged (Some e) is = ap (λ (o : Option Fault). when is_reason o) (sym is)
+verdict_is_reason (StrangerAt place) entries fault told = ap (λ (o : Option Fault). when is_reason o) (sym told)
 
 -- what holds of a value in four ways
 pub from_four : {T E : Type 0} (r : Result T E) (A B C G Z : T → Type 0) → ((x : T) → A x → B x → C x → G x → Z x) → IfOk r A → IfOk r B → IfOk r C → IfOk r G → IfOk r Z
@@ -139,9 +157,9 @@ module _ {D : Type 0} (keeps obeys : Type 0) (file : D → File) (clock : D → 
         }
 
     pub not_opened : (told : Setup) (item : Record) (full : Type 0) (fault : Fault) (back : D) → item ≡ next_opening (items entries)
-        → (full → (2 ^ 62 ≤ epoch_of (items entries) + 1) ⊎ IsFull gate (next_opening (items entries)))
+        → taken told (items entries) ≡ Accepted → (full → (2 ^ 62 ≤ epoch_of (items entries) + 1) ⊎ IsFull gate (next_opening (items entries)))
         → HasNotAppended keeps obeys file clock since failures plan mid item full fault back → HasNotOpened keeps obeys file clock since failures plan disk told fault back
-    not_opened told item full fault back same spent refused = record {
+    not_opened told item full fault back same accepted spent refused = record {
       cause = ⊎_elim (λ memory. inl memory) (⊎_elim (λ device. inr (inl (device.0, omega (arith, found.failures_stay, device.1)))) (λ late. inr (inr (reason late)))) refused.cause;
       any_moment = λ keep. leaves keep back (subst (λ r. LeavesOnly clock since mid back (HoldsOldOrWith (records_in (surface (file mid)).seen) (Some r))) same (refused.any_moment keep));
       unchanged = ⊎_elim (λ device. inl device) (λ kept. inr (λ keep. ap (λ f. (surface f).seen) kept ∙ ap (λ s. s.seen) (found.clean keep))) refused.unchanged;
@@ -149,15 +167,18 @@ module _ {D : Type 0} (keeps obeys : Type 0) (file : D → File) (clock : D → 
           ⊎_elim (λ memory. inl memory) (⊎_elim (λ device. absurd (refused.planned obey (found.planned obey never) device.0)) (λ late. inr (reason late))) refused.cause;
     }
       where
-        reason : (fault ≡ TimeSpent) × full → keeps → IsReason told (surface (file disk)) fault
-        reason late keep = inr (late.0, (items entries, gate, records_are keep, found.ends keep, spent late.1))
+        no_room : full → keeps → IsSpent told (surface (file disk)) (items entries) gate
+        no_room late keep = record { read = records_are keep; taken = accepted; ends = found.ends keep; spent = spent late }
+
+        reason : (fault ≡ TimeSpent) × full → IsToldReason keeps told (surface (file disk)) fault
+        reason late = (ap is_reason late.0, λ keep. inr (late.0, (items entries, gate, no_room late.1 keep)))
 
   -- a file that holds no log is not taken up
   pub no_log : (told : Setup) (disk back : D) (fault : Fault)
-      → (fault ≡ WantsMemory) ⊎ (((fault ≡ Device) × (failures disk < failures back)) ⊎ (keeps → log (surface (file disk)).seen ≡ Err fault))
+      → (fault ≡ WantsMemory) ⊎ (((fault ≡ Device) × (failures disk < failures back)) ⊎ (IsTrue (is_no_log fault) × (keeps → log (surface (file disk)).seen ≡ Err fault)))
       → (keeps → LeavesOnly clock since disk back (MayLeave (surface (file disk))))
       → (fault ≡ Device) ⊎ (keeps → (surface (file back)).seen ≡ (surface (file disk)).seen)
-      → (obeys → plan disk ≡ Never → (fault ≡ WantsMemory) ⊎ (keeps → log (surface (file disk)).seen ≡ Err fault))
+      → (obeys → plan disk ≡ Never → (fault ≡ WantsMemory) ⊎ (IsTrue (is_no_log fault) × (keeps → log (surface (file disk)).seen ≡ Err fault)))
       → HasNotOpened keeps obeys file clock since failures plan disk told fault back
   no_log told disk back fault cause moment unchanged planned = record {
     cause = ⊎_elim (λ memory. inl memory) (⊎_elim (λ device. inr (inl device)) (λ none. inr (inr (reason none)))) cause;
@@ -166,5 +187,5 @@ module _ {D : Type 0} (keeps obeys : Type 0) (file : D → File) (clock : D → 
     planned = λ obey never. ⊎_elim (λ memory. inl memory) (λ none. inr (reason none)) (planned obey never);
   }
     where
-      reason : (keeps → log (surface (file disk)).seen ≡ Err fault) → keeps → IsReason told (surface (file disk)) fault
-      reason none keep = inl (ap (fault_of told) (none keep))
+      reason : IsTrue (is_no_log fault) × (keeps → log (surface (file disk)).seen ≡ Err fault) → IsToldReason keeps told (surface (file disk)) fault
+      reason none = (no_log_is_reason fault none.0, λ keep. inl (ap (fault_of told) (none.1 keep)))

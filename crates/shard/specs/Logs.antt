@@ -3,7 +3,7 @@ use Rattle.std.specs.Prelude.{◌≡◌, ◌⊎◌, ℕ, List, [], ◌∷◌, �
 use Rattle.units.specs.declared.fault.Fault.{Fault}
 use Rattle.disk.specs.Image.{Surface, MayLeave}
 use Rattle.record.specs.declared.record.Record.{Record}
-use Rattle.record.specs.Facts.{Facts, learn}
+use Rattle.record.specs.Facts.{Facts, learn, no_facts}
 use Rattle.gatelog.specs.Placed.{Placed}
 use Rattle.gatelog.specs.Log.{log}
 
@@ -29,13 +29,9 @@ KeepsRecords disk records = (image : List ℕ) → MayLeave disk image → recor
 abbrev pub HoldsOldOrWith : Result (List Record) Fault → Option Record → List ℕ → Type 0
 HoldsOldOrWith old logged image = (records_in image ≡ old) ⊎ (records_in image ≡ and_logged old logged)
 
--- the facts before any record
-abbrev pub nothing : Facts
-nothing = record { epoch = 0; floor = 0; entries = []; installs = [] }
-
 -- the facts of some records, each learnt behind those before it
 abbrev pub learned : List Record → Facts
-learned records = fold learn nothing records
+learned records = fold learn no_facts records
 
 -- the facts that a disk holds
 abbrev pub facts_logged : Result (List Record) Fault → Option Facts

@@ -1,7 +1,7 @@
 -- What an opening finds on a disk, and what it leaves.
-use Rattle.std.specs.Prelude.{◌≡◌, ◌≢◌, ◌⊎◌, ℕ, ◌+◌, ◌<◌, ◌≤◌, ◌^◌, IsTrue, IsFalse, List, [], ◌∷◌, ◌++◌, Option, Some, None, Result, Ok, Err}
+use Rattle.std.specs.Prelude.{◌≡◌, ◌≢◌, ◌⊎◌, ℕ, ◌+◌, ◌<◌, ◌≤◌, ◌^◌, Bool, true, false, IsTrue, IsFalse, List, [], ◌∷◌, ◌++◌, Option, Some, None, Result, Ok, Err}
 use Rattle.units.specs.declared.fault.Fault.{Fault}
-use Rattle.units.specs.declared.fault.Fault.TheVariants.{Memory as WantsMemory, Device, TimeSpent}
+use Rattle.units.specs.declared.fault.Fault.TheVariants.{Memory as WantsMemory, Device, TimeSpent, Damaged, NotALog, Stranger}
 use Rattle.units.specs.declared.setup.Setup.{Setup}
 use Rattle.disk.specs.declared.plan.Plan.{Plan}
 use Rattle.disk.specs.declared.plan.Plan.TheVariants.{Never}
@@ -42,14 +42,31 @@ fault_of setup (Err fault) = Some fault
 abbrev pub LeavesOpening : Surface → List ℕ → Type 0
 LeavesOpening disk image = MayLeave disk image ⊎ HoldsOldOrWith (records_in disk.seen) (opening_of (records_in disk.seen)) image
 
--- the opening has no room: epochs are at their limit, or the log is full
-abbrev pub HasNoRoom : Surface → Type 0
-HasNoRoom disk = (records : List Record) × (gate : ℕ) × (records_in disk.seen ≡ Ok records) × IsTrue (ends_at disk.seen gate)
-    × ((2 ^ 62 ≤ epoch_of records + 1) ⊎ IsFull gate (next_opening records))
+-- the records are taken, but the opening has no room: epochs are at their limit, or the log is full
+pub record IsSpent (setup : Setup) (disk : Surface) (records : List Record) (gate : ℕ) : Type 0 where
+  pub read : records_in disk.seen ≡ Ok records
+  pub taken : taken setup records ≡ Accepted
+  pub ends : IsTrue (ends_at disk.seen gate)
+  pub spent : (2 ^ 62 ≤ epoch_of records + 1) ⊎ IsFull gate (next_opening records)
+
+abbrev pub HasNoRoom : Setup → Surface → Type 0
+HasNoRoom setup disk = (records : List Record) × (gate : ℕ) × IsSpent setup disk records gate
 
 -- why it is not taken up, where the device did not fail and memory was there
 abbrev pub IsReason : Setup → Surface → Fault → Type 0
-IsReason setup disk fault = (fault_of setup (log disk.seen) ≡ Some fault) ⊎ ((fault ≡ TimeSpent) × HasNoRoom disk)
+IsReason setup disk fault = (fault_of setup (log disk.seen) ≡ Some fault) ⊎ ((fault ≡ TimeSpent) × HasNoRoom setup disk)
+
+-- the reasons that there may be, whatever the disk keeps
+abbrev pub is_reason : Fault → Bool
+is_reason NotALog = true
+is_reason (Damaged offset) = true
+is_reason Stranger = true
+is_reason TimeSpent = true
+is_reason _ = false
+
+-- it is one of them, and the one that is due by what a read gives
+abbrev pub IsToldReason : Type 0 → Setup → Surface → Fault → Type 0
+IsToldReason keeps setup disk fault = IsTrue (is_reason fault) × (keeps → IsReason setup disk fault)
 
 module _ {D : Type 0} (keeps obeys : Type 0) (file : D → File) (clock : D → ℕ) (since : D → ℕ → List ℕ → Type 0) (failures : D → ℕ) (plan : D → Plan) where
   -- a record was added to a log that ended at this gate
@@ -87,9 +104,9 @@ module _ {D : Type 0} (keeps obeys : Type 0) (file : D → File) (clock : D → 
 
   -- it was not, and the disk is given back
   pub record HasNotOpened (disk : D) (told : Setup) (fault : Fault) (back : D) : Type 0 where
-    pub cause : (fault ≡ WantsMemory) ⊎ (((fault ≡ Device) × (failures disk < failures back)) ⊎ (keeps → IsReason told (surface (file disk)) fault))
+    pub cause : (fault ≡ WantsMemory) ⊎ (((fault ≡ Device) × (failures disk < failures back)) ⊎ IsToldReason keeps told (surface (file disk)) fault)
     pub any_moment : keeps → LeavesOnly clock since disk back (LeavesOpening (surface (file disk)))
     -- but for a device that failed, the file reads as it did
     pub unchanged : (fault ≡ Device) ⊎ (keeps → (surface (file back)).seen ≡ (surface (file disk)).seen)
     -- with no call armed, it is for want of memory or for that reason
-    pub planned : obeys → plan disk ≡ Never → (fault ≡ WantsMemory) ⊎ (keeps → IsReason told (surface (file disk)) fault)
+    pub planned : obeys → plan disk ≡ Never → (fault ≡ WantsMemory) ⊎ IsToldReason keeps told (surface (file disk)) fault

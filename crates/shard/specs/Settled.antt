@@ -1,10 +1,12 @@
 -- What stands once a transaction is settled.
 use Rattle.std.specs.List.{list_any}
-use Rattle.std.specs.Prelude.{◌≡◌, ℕ, Bool, false, IsTrue, ◌&&◌, nat_eq, List, ◌∷◌, Some, Result, Ok, Err, IfOk}
+use Rattle.std.specs.Prelude.{◌≡◌, ℕ, Bool, IsTrue, ◌&&◌, nat_eq, List, ◌∷◌, Some, Result, Ok, Err, IfOk}
 use Rattle.units.specs.Ids.{Id, same_id}
+use Rattle.units.specs.Lists.{when}
 use Rattle.units.specs.declared.fault.Fault.{Fault}
 use Rattle.disk.specs.Image.{Surface, MayLeave}
 use Rattle.message.specs.declared.message.Envelope.{Envelope}
+use Rattle.record.specs.Records.{as_committed}
 use Rattle.record.specs.declared.record.Record.{Record}
 use Rattle.protocol.specs.Outputs.{done_to}
 use Rattle.message.specs.declared.message.Input.{Input}
@@ -12,8 +14,7 @@ use Rattle.shard.specs.Logs.{records_in}
 
 -- the record is the commit decision of this transaction at this timestamp
 abbrev pub is_commit : Id → ℕ → Record → Bool
-is_commit t at (Record.Commit c) = same_id c.txn t && nat_eq c.at at
-is_commit t at _ = false
+is_commit t at r = when (λ c. same_id c.txn t && nat_eq c.at at) (as_committed r)
 
 -- the records have it
 abbrev pub HasCommit : Result (List Record) Fault → Id → ℕ → Type 0

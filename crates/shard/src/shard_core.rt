@@ -5,7 +5,7 @@ ghost use Rattle.disk.specs.Image.{MayLeave};
 ghost use Rattle.disk.specs.Moments.{LeavesOnly};
 ghost use Rattle.disk.specs.Planned.{armed};
 ghost use Rattle.disk.specs.declared.plan.Plan.TheVariants.{Never};
-ghost use Rattle.gatelog.specs.Frames.{next_gate, IsFull};
+ghost use Rattle.gatelog.specs.Frames.{first_gate, next_gate, IsFull};
 ghost use Rattle.gatelog.specs.Shown.{disk_of, gate_at, is_stopped};
 ghost use Rattle.memory.specs.Plans.{plan_of};
 ghost use Rattle.protocol.specs.Rows.{claims, rebuilt};
@@ -50,19 +50,45 @@ pub struct Core<D: Disk> {
 impl<D: Disk> Core<D> {
     ghost use Rattle.shard.specs.Core.{seen};
 
-    /// Formats the disk, whatever was on it, and logs the first opening.
+    /// Formats the disk, whatever was on it, and logs the first opening. All memory is taken before: refused for `Memory`, the
+    /// disk reads as it did.
     pub fn fresh(alloc: Global, disk: D, setup: Setup) -> Result<Core<D>, (Fault, D)>
         ensures made { IfOk result (λ core. ((seen core).setup ≡ setup) × ((seen core).facts ≡ facts_of (Record.Opened 1 ∷ [])) × IsFalse (seen core).stopped) }
         ensures empty { IfOk result (λ core. (seen core).memory ≡ record { last = 0; rows = []; ended = [] }) }
-        ensures gate { IfOk result (λ core. (seen core).gate ≡ next_gate 8 (Record.Opened 1)) }
+        ensures gate { IfOk result (λ core. (seen core).gate ≡ next_gate first_gate (Record.Opened 1)) }
         ensures durable { IfOk result (λ core. D.keeps_model → KeepsRecords (surface (D.file (seen core).disk)) (Ok (Record.Opened 1 ∷ []))) }
         ensures read { IfOk result (λ core. D.keeps_model → records_in (surface (D.file (seen core).disk)).seen ≡ Ok (Record.Opened 1 ∷ [])) }
-        ensures cause { IfErr result (λ refused. (refused.0 ≡ Fault.Memory) ⊎ ((refused.0 ≡ Fault.Device) × (D.failures disk < D.failures refused.1))) }
+        ensures cause { IfErr result (λ refused. ((refused.0 ≡ Fault.Memory) × (D.file refused.1 ≡ D.file disk))
+            ⊎ ((refused.0 ≡ Fault.Device) × (D.failures disk < D.failures refused.1))) }
         // With no call armed the device does not fail.
         ensures planned { D.obeys → D.plan disk ≡ Never → IfOk result (λ core. D.plan (seen core).disk ≡ Never) × IfErr result (λ refused. refused.0 ≡ Fault.Memory) }
     {
-        let gate_log = GateLog::format(disk)?;
-        Core::begin(alloc, gate_log, setup)
+        fresh_is_sound();
+        let state = match State::fresh(alloc, setup) {
+            Ok(state) => state,
+            Err(fault) => return Err((fault, disk)),
+        };
+        let first = Record::Opened {
+            epoch: Epoch::first(),
+        };
+        let (gate_log, staged) = match GateLog::format_for(alloc, disk, &first) {
+            Ok(made) => made,
+            Err(refused) => {
+                state.stop();
+                return Err(refused);
+            }
+        };
+        let mut gate_log = gate_log;
+        match gate_log.append(staged) {
+            Ok(logged) => {
+                let _ = logged.spend();
+                Ok(Core { gate_log, state })
+            }
+            Err(fault) => {
+                state.stop();
+                Err((fault, gate_log.into_disk()))
+            }
+        }
     }
 
     /// Takes up the log of a disk, and logs the next opening. What a log leaves is the rows of its promises and decisions that

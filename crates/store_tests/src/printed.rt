@@ -1,5 +1,6 @@
 //! What the program prints.
-use cli::{Command, answer, command};
+use cli::{Command, Stream, answer, command};
+use simdisk::SimDisk;
 use std::alloc::Global;
 use std::io;
 use std::io::Write;
@@ -80,12 +81,19 @@ static PRINTED: [Printed; 9] = [
     },
 ];
 
+// The status, and what was printed to both outputs.
+fn answered<'a>(alloc: Global, words: &'a [&'a str]) -> (u8, Vec<u8>, Vec<u8>) {
+    let mut out = Stream::new(Vec::<u8>::new(alloc));
+    let mut err = Stream::new(Vec::<u8>::new(alloc));
+    let (status, _) = answer(alloc, words, SimDisk::new(alloc), &mut out, &mut err);
+    (status, out.into_writer(), err.into_writer())
+}
+
 #[test]
 fn answers_of_once(rt: HostRuntime) -> Result<(), Fail> {
     let alloc = rt.alloc();
     for row in &PRINTED {
-        let (mut out, mut err): (Vec<u8>, Vec<u8>) = (Vec::new(alloc), Vec::new(alloc));
-        let status = answer(alloc, row.words.as_slice(), &mut out, &mut err);
+        let (status, out, err) = answered(alloc, row.words.as_slice());
         assert_eq!(rt; status, row.status, "at {:?}", row.words);
         assert!(rt;
             out.as_slice() == row.printed.as_bytes(),
@@ -114,8 +122,8 @@ const ASKING_HELP: [&[&str]; 5] = [
 fn answers_of_help(rt: HostRuntime) -> Result<(), Fail> {
     let alloc = rt.alloc();
     for words in ASKING_HELP {
-        let (mut out, mut err): (Vec<u8>, Vec<u8>) = (Vec::new(alloc), Vec::new(alloc));
-        assert_eq!(rt; answer(alloc, words, &mut out, &mut err), 0, "at {words:?}");
+        let (status, out, err) = answered(alloc, words);
+        assert_eq!(rt; status, 0, "at {words:?}");
         assert!(rt;
             out.as_slice().starts_with(b"usage: shards COMMAND"),
             "at {words:?}"
@@ -123,8 +131,8 @@ fn answers_of_help(rt: HostRuntime) -> Result<(), Fail> {
         assert!(rt; err.is_empty(), "at {words:?}");
     }
     let plain = ["once", "--", "-h", "--help", "100", "110", "112", "121"];
-    let (mut out, mut err): (Vec<u8>, Vec<u8>) = (Vec::new(alloc), Vec::new(alloc));
-    assert_eq!(rt; answer(alloc, plain.as_slice(), &mut out, &mut err), 0);
+    let (status, out, err) = answered(alloc, plain.as_slice());
+    assert_eq!(rt; status, 0);
     assert!(rt; out.as_slice() == b"commit 1.1 at 111\ndone 1.1 committed 111\n".as_slice());
     assert!(rt; err.is_empty());
     Ok(())
@@ -199,14 +207,28 @@ impl Write for Failing {
 fn writes_that_fail(rt: HostRuntime) {
     let alloc = rt.alloc();
     for (taken, status) in [(0u8, 2u8), (1, 2), (2, 0)] {
-        let mut out = Failing { taken };
-        let mut err: Vec<u8> = Vec::new(alloc);
-        assert_eq!(rt; answer(alloc, WORDS.as_slice(), &mut out, &mut err), status);
-        assert!(rt; err.is_empty());
+        let mut out = Stream::new(Failing { taken });
+        let mut err = Stream::new(Vec::<u8>::new(alloc));
+        let (given, _) = answer(
+            alloc,
+            WORDS.as_slice(),
+            SimDisk::new(alloc),
+            &mut out,
+            &mut err,
+        );
+        assert_eq!(rt; given, status);
+        assert!(rt; err.into_writer().is_empty());
     }
     let wrong = ["once", "a", "1", "110", "100", "112", "121"];
-    let mut out: Vec<u8> = Vec::new(alloc);
-    let status = answer(alloc, wrong.as_slice(), &mut out, &mut Failing { taken: 0 });
+    let mut out = Stream::new(Vec::<u8>::new(alloc));
+    let mut err = Stream::new(Failing { taken: 0 });
+    let (status, _) = answer(
+        alloc,
+        wrong.as_slice(),
+        SimDisk::new(alloc),
+        &mut out,
+        &mut err,
+    );
     assert_eq!(rt; status, 2);
-    assert!(rt; out.is_empty());
+    assert!(rt; out.into_writer().is_empty());
 }

@@ -3,6 +3,7 @@ pub mod Faults
 pub mod Fronts
 pub mod Ids
 pub mod Keys
+pub mod Limits
 pub mod Lists
 pub mod LockLaws
 pub mod Locks

@@ -20,7 +20,7 @@ pub use fault::{Fault, Reason};
 pub use key::Key;
 pub use keys::Keys;
 pub use line::{Line, Seen, Verdict};
-pub use lock::{Asked, Ids, Lock, Mode};
+pub use lock::{Asked, Ids, Lock, MOST_ROWS, Mode};
 pub use parts::Parts;
 pub use setup::{Book, Setup, Stride};
 pub use shard::ShardNo;

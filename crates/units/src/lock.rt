@@ -4,6 +4,9 @@ ghost use Rattle.std.specs.Prelude.{◌≡◌};
 use crate::{Key, TxnId};
 use std::marker::Model;
 
+/// The most transactions that a shard has rows and locks of at a time.
+pub const MOST_ROWS: usize = 1024;
+
 /// How a lock is held: several transactions may share a key, one alone holds it exclusively.
 #[derive(Clone, Copy, Debug, PartialEq, Eq)]
 pub enum Mode {

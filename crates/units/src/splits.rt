@@ -1,5 +1,5 @@
 //! The keys that part the shards.
-ghost use Rattle.std.specs.Prelude.{◌≡◌, ◌≤◌, ◌<◌, ◌⊎◌, IsTrue, IsFalse, length, not, IfOk, IfErr, MatchResult};
+ghost use Rattle.std.specs.Prelude.{◌≡◌, ◌≤◌, ◌<◌, ◌⊎◌, IsTrue, IsFalse, length, not, IsOk, IfOk, IfErr};
 ghost use Rattle.units.specs.Keys.{key_before, shard_of};
 ghost use Rattle.units.specs.Lists.{ascends, count};
 
@@ -27,12 +27,17 @@ impl Model for Splits {
 }
 
 impl Splits {
-    /// The splits at these keys. More than 15 are `many`, keys that do not ascend are `splits`.
+    /// The splits at these keys. More than 15 are `many`, also where they do not ascend; else keys that do not ascend are
+    /// `splits`.
     pub fn new(alloc: Global, keys: &[Key]) -> Result<Splits, Fault>
-        ensures { MatchResult result (λ splits. (splits ≡ keys.now) × (length keys.now ≤ 15) × IsTrue (ascends key_before keys.now))
-            (λ fault. (fault ≡ Fault.Memory)
-            ⊎ ((fault ≡ Fault.BadRequest Reason.Many) × (15 < length keys.now))
-            ⊎ ((fault ≡ Fault.BadRequest Reason.Splits) × IsFalse (ascends key_before keys.now))) }
+        ensures made { IfOk result (λ splits. splits ≡ keys.now) }
+        ensures fits { IsOk result → (length keys.now ≤ 15) × IsTrue (ascends key_before keys.now) }
+        ensures refused { IfErr result (λ fault.
+            ((fault ≡ Fault.BadRequest Reason.Many) × (15 < length keys.now))
+            ⊎ (((fault ≡ Fault.BadRequest Reason.Splits) × (length keys.now ≤ 15)
+            × IsFalse (ascends key_before keys.now))
+            ⊎ ((fault ≡ Fault.Memory) × (length keys.now ≤ 15)
+            × IsTrue (ascends key_before keys.now)))) }
     {
         if keys.len() > 15 {
             return Err(Fault::BadRequest(Reason::Many));

@@ -1,5 +1,4 @@
 //! Writes of keys, and the versions that they become.
-ghost use Rattle.std.specs.List.{list_any};
 ghost use Rattle.std.specs.Prelude.{◌≡◌, ◌≤◌, ◌<◌, ◌⊎◌, IsTrue, IsFalse, [], length, MatchResult, IfOk, IfErr, vec_len};
 ghost use Rattle.units.specs.Keys.{write_before, writes_key};
 ghost use Rattle.units.specs.Lists.{ascends};
@@ -97,18 +96,6 @@ impl Writes {
         ensures { result ≡ writes_key self.now key.now }
     {
         is_written(self.writes.as_slice(), key)
-    }
-
-    /// Some key is written by both.
-    pub fn share_a_key(&self, other: &Writes) -> bool
-        ensures { result ≡ list_any (λ w. writes_key other.now w.key) self.now }
-    {
-        for write in &self.writes {
-            if other.writes_key(&write.key) {
-                return true;
-            }
-        }
-        false
     }
 
     /// The writes in order.

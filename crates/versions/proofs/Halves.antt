@@ -34,6 +34,30 @@ half_fits all size probes half fits some twice = λ digits lt.
     let less = half_left now.0 size half now.2 some twice in
     (less.0, omega (arith, now.1, less.1), less.2)
 
+-- for each number of digits that they all need, what is left to search needs the digits that are left
+abbrev pub LeftNeeds : ℕ → ℕ → ℕ → Type 0
+LeftNeeds all size probes = (digits : ℕ) → 2 ^ digits ≤ all + 1 → (left : ℕ) × (digits ≤ probes + left) × (2 ^ left ≤ size + 1)
+
+half_needed : (left size half : ℕ) → 2 ^ left ≤ size + 1 → size ≤ 2 * half + 2 → (less : ℕ) × (left ≤ less + 1) × (2 ^ less ≤ half + 1)
+half_needed zero size half le twice = (zero, omega arith, omega arith)
+half_needed (suc less) size half le twice = (less, omega arith, omega arith)
+
+-- half of what was left needs the digits but one
+pub half_needs : (all size probes half : ℕ) → LeftNeeds all size probes → size ≤ 2 * half + 2 → LeftNeeds all half (probes + 1)
+half_needs all size probes half needed twice = λ digits le.
+    let now = needed digits le in
+    let less = half_needed now.0 size half now.2 twice in
+    (less.0, omega (arith, now.1, less.1), less.2)
+
+-- nothing is left to search, and so no digit
+pub none_left : (left probes digits : ℕ) → digits ≤ probes + left → 2 ^ left ≤ 1 → digits ≤ probes
+none_left zero probes digits le few = omega arith
+none_left (suc left) probes digits le few = absurd (omega (arith, pow_some left))
+  where
+    pow_some : (n : ℕ) → 1 ≤ 2 ^ n
+    pow_some zero = omega arith
+    pow_some (suc n) = omega (arith, pow_some n)
+
 along_same : (a b c : List ℕ) → same_key a b ≡ true → key_before a c ≡ key_before b c
 along_same a b c h = ap (λ z. key_before z c) (same_key-is a b h)
 

@@ -6,17 +6,26 @@ ghost use Rattle.versions.specs.Arranged.{arranged, AreWithin};
 ghost use Rattle.versions.specs.Halves.{Before, After};
 ghost use Rattle.versions.specs.Ordered.{is_by, is_not_after, count_not_after, installed, IsAscending, IsKept};
 
+use counts::Count;
 use units::{Install, Key, Stamp};
 
-// The version is of this key and the timestamp, in microseconds, or it comes before them.
-fn is_not_after(install: &Install, key: &Key, at: u64) -> bool
-    ensures { result ≡ is_not_after key.now at install.now }
+// The version is of this key and the timestamp, in microseconds, or it comes before them. Each comparison is counted.
+fn is_not_after(install: &Install, key: &Key, at: u64, compared: &mut Count) -> bool
+    ensures value { result ≡ is_not_after key.now at install.now }
+    ensures counted { compared.new.number ≡ compared.old.number + 1 }
 {
+    compared.rise();
     install.key.is_before(key) || (install.key.is(key) && install.at.micros() <= at)
 }
 
-/// How many versions are not after the key and the timestamp, in microseconds, and how many were looked at to find that.
-pub fn find(installs: &[Install], places: &[usize], key: &Key, at: u64) -> (usize, u32)
+/// How many versions are not after the key and the timestamp, in microseconds, and how many were compared to find that.
+pub fn find(
+    installs: &[Install],
+    places: &[usize],
+    key: &Key,
+    at: u64,
+    compared: &mut Count,
+) -> (usize, u32)
     requires within { AreWithin places.now (length installs.now) }
     requires order { IsAscending (arranged installs.now places.now) }
     ensures count { result.0 ≡ count_not_after key.now at (arranged installs.now places.now) }
@@ -24,6 +33,8 @@ pub fn find(installs: &[Install], places: &[usize], key: &Key, at: u64) -> (usiz
     ensures after { After key.now at (arranged installs.now places.now) result.0 }
     ensures bound { result.0 ≤ length places.now }
     ensures probes { (digits : ℕ) → length places.now < 2 ^ digits → result.1 ≤ digits }
+    ensures fewest { (digits : ℕ) → 2 ^ digits ≤ length places.now + 1 → digits ≤ result.1 }
+    ensures counted { compared.new.number ≡ compared.old.number + result.1 }
 {
     let mut low = 0;
     let mut high = places.len();
@@ -32,7 +43,7 @@ pub fn find(installs: &[Install], places: &[usize], key: &Key, at: u64) -> (usiz
         let middle = low + (high - low) / 2;
         let place = places[middle];
         probes += 1;
-        if is_not_after(&installs[place], key, at) {
+        if is_not_after(&installs[place], key, at, compared) {
             low = middle + 1;
         } else {
             high = middle;
@@ -52,7 +63,7 @@ pub fn newest_by<'a>(
     requires order { IsAscending (arranged installs.now places.now) }
     ensures { option_copied result ≡ newest (filter (is_by key.now at) (arranged installs.now places.now)) }
 {
-    let (count, _) = find(installs, places, key, at);
+    let (count, _) = find(installs, places, key, at, &mut Count::none());
     if count == 0 {
         return None;
     }
@@ -82,7 +93,13 @@ pub fn install(installs: &mut Vec<Install>, places: &mut Vec<usize>, new: Instal
     ensures in_time { new.at < 2 ^ 62 }
     ensures capacity { (vec_capacity installs.new ≡ vec_capacity installs.old) × (vec_capacity places.new ≡ vec_capacity places.old) }
 {
-    let (count, _) = find(installs, places, &new.key, new.at.micros());
+    let (count, _) = find(
+        installs,
+        places,
+        &new.key,
+        new.at.micros(),
+        &mut Count::none(),
+    );
     match places.insert(count, installs.len()) {
         Ok(()) => {}
         Err(_) => unreachable!(),

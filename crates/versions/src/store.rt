@@ -7,6 +7,7 @@ ghost use Rattle.units.specs.Lists.{ascends};
 ghost use Rattle.versions.specs.Ordered.{installed, all_installed, count_not_after, is_above};
 
 use crate::search::{find, install, newest_by, newest_of};
+use counts::Count;
 use std::alloc::Global;
 use std::marker::Model;
 use units::{Fault, Install, Key, Stamp, Value, Write, Writes};
@@ -116,12 +117,14 @@ impl Versions {
             .as_ref()
     }
 
-    /// How many versions are not after a key and timestamp, and how many were looked at to find that: no more than their
-    /// number has binary digits.
-    pub fn find(&self, key: &Key, at: Stamp) -> (usize, u32)
+    /// How many versions are not after a key and timestamp, and how many were compared to find that: as many as their number
+    /// has binary digits, or one less. Each comparison raises the caller's count, which only proofs see.
+    pub fn find(&self, key: &Key, at: Stamp, compared: &mut Count) -> (usize, u32)
         ensures count { result.0 ≡ count_not_after key.now at self.now.installs }
         ensures probes { (digits : ℕ) → length self.now.installs < 2 ^ digits → result.1 ≤ digits }
+        ensures fewest { (digits : ℕ) → 2 ^ digits ≤ length self.now.installs + 1 → digits ≤ result.1 }
+        ensures counted { compared.new.number ≡ compared.old.number + result.1 }
     {
-        find(&self.installs, &self.places, key, at.micros())
+        find(&self.installs, &self.places, key, at.micros(), compared)
     }
 }

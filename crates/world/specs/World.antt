@@ -20,6 +20,7 @@ use Rattle.units.specs.declared.setup.Setup.{Setup}
 use Rattle.units.specs.declared.setup.Book.TheVariants.{Off}
 use Rattle.units.specs.declared.line.Line.{Line}
 use Rattle.record.specs.declared.record.Record.{Record}
+use Rattle.gatelog.specs.Frames.{open_gate}
 use Rattle.message.specs.declared.message.Message.{Message}
 use Rattle.message.specs.declared.message.Envelope.{Envelope}
 use Rattle.message.specs.declared.message.Address.TheVariants.{Shard, Session}
@@ -134,7 +135,7 @@ finished s doing logged memory =
 abbrev pub opens_gate : Fate → Bool
 opens_gate Fate.Old = false
 opens_gate Fate.New = true
-opens_gate (Fate.Filled b) = nat_eq b 165
+opens_gate (Fate.Filled b) = nat_eq b open_gate
 
 -- a crash in a call leaves the record where the gate was being opened and is left open, or the append was done
 abbrev pub is_left : ℕ → Fate → Bool

@@ -18,14 +18,14 @@ first-memory : record { last = 0; rows = []; ended = [] } ≡ rebuilt (learned n
 unfolding rebuilt learn
 first-memory = refl
 
-pub returns-in-Ok-clause-log : goal.returns-in-Ok-clause-log
-returns-in-Ok-clause-log c = record {
-  setup = c.in-Ok.ensures.made.0 ∙ c.in_ok-setup.ensures.setup;
-  facts = c.in-Ok.ensures.made.1 ∙ first-facts;
-  memory = c.in-Ok.ensures.empty ∙ first-memory;
-  gate = omega (arith, c.in-Ok.ensures.gate);
-  running = c.in-Ok.ensures.made.2;
-  plan = (c.in-Ok.ensures.planned tt c.new.ensures.plan).0;
-  read = c.in-Ok.ensures.read tt;
-  durable = c.in-Ok.ensures.durable tt;
+pub returns-in-Ok-fresh-clause-log : goal.returns-in-Ok-fresh-clause-log
+returns-in-Ok-fresh-clause-log c = record {
+  setup = c.in-Ok-fresh.ensures.made.0 ∙ c.in-Ok.ensures.setup;
+  facts = c.in-Ok-fresh.ensures.made.1 ∙ first-facts;
+  memory = c.in-Ok-fresh.ensures.empty ∙ first-memory;
+  gate = omega (arith, c.in-Ok-fresh.ensures.gate);
+  running = c.in-Ok-fresh.ensures.made.2;
+  plan = (c.in-Ok-fresh.ensures.planned tt c.requires).0;
+  read = c.in-Ok-fresh.ensures.read tt;
+  durable = c.in-Ok-fresh.ensures.durable tt;
 }

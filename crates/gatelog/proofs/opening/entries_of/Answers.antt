@@ -1,4 +1,4 @@
-use Rattle.std.proofs.Common.{◌≡◌, inr, ◌+◌, ◌++◌, ◌∷◌, [], List, take, drop, sym, ap, ◌∙◌, arith}
+use Rattle.std.proofs.Common.{◌≡◌, inr, refl, ◌+◌, ◌++◌, ◌∷◌, [], List, take, drop, sym, ap, ◌∙◌, arith}
 use Rattle.gatelog.specs.Placed.{Placed}
 use Rattle.gatelog.specs.Frames.{header}
 use Rattle.gatelog.specs.Log.{scan, framed, entries_at}
@@ -6,18 +6,18 @@ use Rattle.gatelog.proofs.Scan.{with_entries, with_entries-nil, scan_from}
 use Rattle.gatelog.proofs.Reading.{no_header, too_short, to_end, differ, agree, closed_there, damaged_there, still_inside, goes_on_behind, ends_there}
 use Rattle.gatelog.proofs.opening.entries_of.Goals as goal
 
-pub returns-then-image-lt8-clause-refused : goal.returns-then-image-lt8-clause-refused
-returns-then-image-lt8-clause-refused c = inr (too_short c.args.image.now c.if-image-lt8.true)
+pub returns-then-image-clause-refused : goal.returns-then-image-clause-refused
+returns-then-image-clause-refused c = inr (too_short c.args.image.now c.if-image.true, refl)
 
 pub returns-then-ne-clause-refused : goal.returns-then-ne-clause-refused
-returns-then-ne-clause-refused c = inr (no_header c.args.image.now (λ e. differ c.split_at.result.0.now c.as_slice.result.now (sym c.if-ne.true ∙ c.ne.ensures) (c.split_at.ensures.front ∙ e ∙ sym c.as_slice.ensures)))
+returns-then-ne-clause-refused c = inr (no_header c.args.image.now (λ e. differ c.split_at.result.0.now c.as_slice.result.now (sym c.if-ne.true ∙ c.ne.ensures) (c.split_at.ensures.front ∙ e ∙ sym c.as_slice.ensures)), refl)
 
 pub loop-at-init : goal.loop-at-init
 loop-at-init c =
     let front : take 8 c.args.image.now ≡ header = sym c.split_at.ensures.front ∙ agree c.split_at.result.0.now c.as_slice.result.now (sym c.if-ne.false ∙ c.ne.ensures) ∙ c.as_slice.ensures in
     let rest = entries_at 8 0 (drop 8 c.args.image.now) in
     record {
-      inside = omega (arith, c.if-image-lt8.false);
+      inside = omega (arith, c.if-image.false);
       so_far = ap (λ (es : List Placed). with_entries es rest) c.new-entries.ensures.items ∙ with_entries-nil rest ∙ sym (scan_from c.args.image.now front);
     }
 
@@ -37,7 +37,7 @@ loop-at-preserved c =
     }
 
 pub returns-in-Ok-None-clause-refused : goal.returns-in-Ok-None-clause-refused
-returns-in-Ok-None-clause-refused c = inr (damaged_there c.args.image.now c.loop-at.entries.items c.loop-at.at (scan c.args.image.now) c.loop-at.invariant.so_far c.loop-at-test.true c.if-image-at.false (sym (ap framed (to_end c.args.image.now (c.loop-at.at + 1))) ∙ c.in-Ok-None.ensures.read ∙ c.in-Ok-None.field-0-is))
+returns-in-Ok-None-clause-refused c = inr (damaged_there c.args.image.now c.loop-at.entries.items c.loop-at.at (scan c.args.image.now) c.loop-at.invariant.so_far c.loop-at-test.true c.if-image-at.false (sym (ap framed (to_end c.args.image.now (c.loop-at.at + 1))) ∙ c.in-Ok-None.ensures.read ∙ c.in-Ok-None.field-0-is), refl)
 
 pub returns-clause-refused : goal.returns-clause-refused
-returns-clause-refused c = inr (ends_there c.args.image.now c.loop-at.entries.items c.loop-at.at (scan c.args.image.now) c.loop-at.invariant.so_far c.loop-at-test.false)
+returns-clause-refused c = inr (ends_there c.args.image.now c.loop-at.entries.items c.loop-at.at (scan c.args.image.now) c.loop-at.invariant.so_far c.loop-at-test.false, refl)

@@ -2,7 +2,7 @@ use Rattle.std.proofs.Common.{◌∙◌, ◌+◌, ◌-◌, ◌/◌, ◌<◌, sym
 use Rattle.versions.specs.Arranged.{arranged}
 use Rattle.versions.specs.Ordered.{is_not_after}
 use Rattle.versions.proofs.Arranged.{arranged_at, length_arranged}
-use Rattle.versions.proofs.Halves.{count_at, before_passes, after_passes, half_fits}
+use Rattle.versions.proofs.Halves.{count_at, before_passes, after_passes, half_fits, half_needs, none_left}
 use Rattle.versions.proofs.search.find.Goals as goal
 
 pub overflow_add-probes : goal.overflow_add-probes
@@ -20,10 +20,12 @@ loop-low-preserved-then-is_not_after c =
       before = before_passes c.args.key.now c.args.at t middle c.requires.order (omega (arith, i.end, length_arranged c.args.installs.now c.args.places.now)) (λ d.
           ap (is_not_after c.args.key.now c.args.at)
           (arranged_at c.args.installs.now c.args.places.now middle c.index-installs-place.result d c.requires.within (omega (arith, i.end)) c.index-installs-place.is)
-          ∙ sym c.is_not_after.ensures ∙ c.if-is_not_after.true);
+          ∙ sym c.is_not_after.ensures.value ∙ c.if-is_not_after.true);
       after = i.after;
       all = i.all;
       fits = half_fits _ (c.loop-low.high - c.loop-low.low) c.loop-low.probes _ i.fits (omega arith) (omega arith);
+      needed = half_needs _ (c.loop-low.high - c.loop-low.low) c.loop-low.probes _ i.needed (omega arith);
+      counted = omega (arith, i.counted, c.is_not_after.ensures.counted);
     }
 
 pub loop-low-preserved : goal.loop-low-preserved
@@ -39,9 +41,11 @@ loop-low-preserved c =
       after = after_passes c.args.key.now c.args.at t middle c.requires.order (omega (arith, i.end, length_arranged c.args.installs.now c.args.places.now)) (λ d.
           ap (is_not_after c.args.key.now c.args.at)
           (arranged_at c.args.installs.now c.args.places.now middle c.index-installs-place.result d c.requires.within (omega (arith, i.end)) c.index-installs-place.is)
-          ∙ sym c.is_not_after.ensures ∙ c.if-is_not_after.false);
+          ∙ sym c.is_not_after.ensures.value ∙ c.if-is_not_after.false);
       all = i.all;
       fits = half_fits _ (c.loop-low.high - c.loop-low.low) c.loop-low.probes _ i.fits (omega arith) (omega arith);
+      needed = half_needs _ (c.loop-low.high - c.loop-low.low) c.loop-low.probes _ i.needed (omega arith);
+      counted = omega (arith, i.counted, c.is_not_after.ensures.counted);
     }
 
 pub returns-clause-count : goal.returns-clause-count
@@ -54,3 +58,9 @@ returns-clause-before c = c.loop-low.invariant.before
 
 pub returns-clause-after : goal.returns-clause-after
 returns-clause-after c = λ k d le lt. c.loop-low.invariant.after k d (omega (arith, c.loop-low.invariant.within)) lt
+
+pub returns-clause-fewest : goal.returns-clause-fewest
+returns-clause-fewest c = λ digits le.
+    let i = c.loop-low.invariant in
+    let now = i.needed digits le in
+    none_left now.0 c.loop-low.probes digits now.1 (omega (arith, now.2, c.loop-low-test.false))

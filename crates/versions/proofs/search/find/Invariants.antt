@@ -1,7 +1,7 @@
-use Rattle.std.proofs.Common.{◌-◌, ◌<◌, ◌≤◌, ◌^◌, length}
+use Rattle.std.proofs.Common.{◌≡◌, ◌+◌, ◌-◌, ◌<◌, ◌≤◌, ◌^◌, length}
 use Rattle.versions.specs.Arranged.{arranged}
 use Rattle.versions.specs.Halves.{Before, After}
-use Rattle.versions.proofs.Halves.{LeftFits}
+use Rattle.versions.proofs.Halves.{LeftFits, LeftNeeds}
 use Rattle.versions.proofs.search.find.Given as goal
 
 abbrev pub invariant-loop-low : goal.invariant-loop-low
@@ -12,6 +12,8 @@ invariant-loop-low l = record {
   after : After l.key l.at (arranged l.installs l.places) l.high;
   all : length l.places < 2 ^ 64;
   fits : LeftFits (length l.places) (l.high - l.low) l.probes;
+  needed : LeftNeeds (length l.places) (l.high - l.low) l.probes;
+  counted : l.compared.number ≡ l.fn.compared.number + l.probes;
 }
 
 abbrev pub decreases-loop-low : goal.decreases-loop-low

@@ -11,6 +11,9 @@ returns-in-Ok-entries_of-clause-planned g c obeys plan = (c.in-Ok.ensures.plan o
 pub returns-clause-refused_planned : goal.returns-clause-refused_planned
 returns-clause-refused_planned g c obeys plan = (
   inr (c.in-Ok.ensures.file obeys plan),
-  ⊎_elim (λ memory. inl memory) (λ refused. inr (λ keeps.
-      ap (λ (l : List ℕ). entries_of (scan l)) (sym (c.deref.ensures.value ∙ c.in-Ok.ensures.bytes keeps)) ∙ ap entries_of refused)) c.in-Err-entries_of.ensures.refused,
+  ⊎_elim (λ memory. inl memory) (λ refused. inr (
+    refused.1,
+    λ keeps.
+        ap (λ (l : List ℕ). entries_of (scan l)) (sym (c.deref.ensures.value ∙ c.in-Ok.ensures.bytes keeps)) ∙ ap entries_of refused.0,
+  )) c.in-Err-entries_of.ensures.refused,
 )

@@ -1,29 +1,11 @@
-use Rattle.std.proofs.Common.{◌≡◌, ◌+◌, ◌++◌, ℕ, List, [], ◌∷◌, length, refl, sym, subst, ap, ◌∙◌, arith}
-use Rattle.std.specs.Int.{w32, to_be_bytes}
-use Rattle.record.specs.declared.record.Record.{Record}
-use Rattle.record.specs.Grammar.{spelling, IsRecord}
-use Rattle.record.proofs.Again.{spelling-most}
+use Rattle.std.proofs.Common.{◌≡◌, ◌+◌, length, sym, arith}
+use Rattle.record.specs.Grammar.{spelling}
 use Rattle.gatelog.specs.Frames.{staged_bytes}
 use Rattle.gatelog.proofs.Images.{bytes-size}
 use Rattle.gatelog.proofs.gatelog.GateLog.stage.Goals as goal
 
-pub bytes_behind-requires : goal.bytes_behind-requires
-bytes_behind-requires g c =
-    let text : c.deref.result.now ≡ spelling c.args.record.now = c.deref.ensures.value ∙ c.in_ok-body.ensures.spelling in
-    omega (arith, ap length text, spelling-most c.args.record.now c.in_ok-body.ensures.fits)
-
-pub invariant_of-result : goal.invariant_of-result
-invariant_of-result g c =
-    let text : c.deref.result.now ≡ spelling c.args.record.now = c.deref.ensures.value ∙ c.in_ok-body.ensures.spelling in
-    let item : c.in_ok-item.item ≡ c.args.record.now = c.in_ok-item.ensures.same in
-    let size : length (spelling c.in_ok-item.item) ≡ c.encoded_len-size.result = ap (λ (r : Record). length (spelling r)) item ∙ sym c.encoded_len-size.ensures.value in (
-      c.in_ok-bytes.ensures.bytes ∙ ap (λ (l : List ℕ). (to_be_bytes w32 (length l) ++ l) ++ 0 ∷ []) text ∙ ap staged_bytes (sym item),
-      subst IsRecord (sym item) c.in_ok-body.ensures.fits,
-      omega (arith, size, c.if-size-self.false),
-    )
-
-pub returns-clause-staged : goal.returns-clause-staged
-returns-clause-staged g c = (refl, c.in_ok-item.ensures.same)
+pub at-requires : goal.at-requires
+at-requires g c = omega (arith, c.encoded_len-size.ensures.value, c.if-size-self.false)
 
 pub returns-clause-room : goal.returns-clause-room
 returns-clause-room g c obeys =

@@ -1,9 +1,10 @@
 use Rattle.std.proofs.Common.{◌≡◌, ◌<◌, ◌∙◌, sym, ap, subst, arith, length, false, List}
 use Rattle.std.specs.List.{position_or_len}
+use Rattle.units.specs.Limits.{most_rows}
 use Rattle.units.specs.Ids.{Id, older}
 use Rattle.units.proofs.ByIdLaws.{insert_is_with}
 use Rattle.rows.specs.declared.row.Row.{Row}
-use Rattle.rows.specs.CodeRows.{IsRowList, txn_of, has_txn, put_in, most_rows}
+use Rattle.rows.specs.CodeRows.{IsRowList, txn_of, has_txn, put_in}
 use Rattle.rows.proofs.Lists.{row_list-put}
 use Rattle.rows.proofs.list.RowList.put.Goals as goal
 

@@ -1,3 +1,4 @@
+use Rattle.units.specs.Limits.{most_rows}
 use Rattle.std.proofs.Common.{◌<◌, ◌∙◌, ℕ, sym, ap, subst, length, []}
 use Rattle.protocol.specs.Rows.{Idle, find_row}
 use Rattle.rows.specs.States.{ReadingState}
@@ -19,7 +20,7 @@ put-requires-clause-absent c =
 
 pub put-requires-clause-room : goal.put-requires-clause-room
 put-requires-clause-room c =
-    subst (λ (n : ℕ). n < 1024) (ap (λ (t : RowTable). length t.rows) (sym c.self.view_is) ∙ length-paired c.self.inside.rows c.self.inside.locks) c.requires.room
+    subst (λ (n : ℕ). n < most_rows) (ap (λ (t : RowTable). length t.rows) (sym c.self.view_is) ∙ length-paired c.self.inside.rows c.self.inside.locks) c.requires.room
 
 pub invariant_of-self-2 : goal.invariant_of-self-2
 invariant_of-self-2 c =

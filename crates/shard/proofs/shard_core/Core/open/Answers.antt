@@ -71,7 +71,7 @@ returns-in-Ok-Some-clause-refused g c =
     IfErr-weaker c.take_up.result _ _
     (λ refused h.
     not_opened g.D.Disk.keeps_model g.D.Disk.obeys g.D.Disk.file g.D.Disk.clock g.D.Disk.since g.D.Disk.failures g.D.Disk.plan c.args.disk (disk_of c.in_ok-gate_log.gate_log) (gate_at c.in_ok-gate_log.gate_log) c.deref.result.now found
-    c.args.setup (Record.Opened (k.facts.epoch + 1)) _ refused.0 refused.1 (epoch_of_facts rs k.facts rebuilt_as.1) (room_spent rs k.facts (gate_at c.in_ok-gate_log.gate_log) rebuilt_as.1) h)
+    c.args.setup (Record.Opened (k.facts.epoch + 1)) _ refused.0 refused.1 (epoch_of_facts rs k.facts rebuilt_as.1) c.in-Ok-Some.ensures.accepted (room_spent rs k.facts (gate_at c.in_ok-gate_log.gate_log) rebuilt_as.1) h)
     c.take_up.ensures.refused
 
 pub returns-in-Ok-None-clause-opened : goal.returns-in-Ok-None-clause-opened
@@ -108,5 +108,5 @@ returns-in-Ok-None-clause-refused g c =
     IfErr-weaker c.begin.result _ _
     (λ refused h.
     not_opened g.D.Disk.keeps_model g.D.Disk.obeys g.D.Disk.file g.D.Disk.clock g.D.Disk.since g.D.Disk.failures g.D.Disk.plan c.args.disk (disk_of c.in_ok-gate_log.gate_log) (gate_at c.in_ok-gate_log.gate_log) c.deref.result.now found
-    c.args.setup (Record.Opened 1) _ refused.0 refused.1 first (λ full. inr (subst (IsFull (gate_at c.in_ok-gate_log.gate_log)) first full)) h)
+    c.args.setup (Record.Opened 1) _ refused.0 refused.1 first c.in-Ok-None.ensures.accepted (λ full. inr (subst (IsFull (gate_at c.in_ok-gate_log.gate_log)) first full)) h)
     c.begin.ensures.refused
