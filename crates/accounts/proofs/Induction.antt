@@ -4,13 +4,13 @@ use Rattle.std.proofs.lemmas.Bool.Decides.{nat_tests}
 use Rattle.units.specs.Ids.{Id}
 use Rattle.units.specs.declared.line.Line.{Line}
 use Rattle.units.specs.declared.writes.Write.{Write}
-use Rattle.record.specs.History.{Txn, Map, history, comes_before, serial, put_all, applied, empty, before, upto}
+use Rattle.record.specs.History.{Txn, Map, history, serial_before, serial, put_all, applied, empty, before, upto}
 use Rattle.record.specs.declared.record.Record.{Record}
-use Rattle.law.specs.Evidence.{IsAmong}
+use Rattle.law.specs.Among.{IsAmong}
 use Rattle.world.specs.Headline.{IsExternallyConsistent}
 use Rattle.world.specs.declared.event.Config.{Config}
 use Rattle.law.proofs.Members.{among_right}
-use Rattle.accounts.specs.Keeping.{Agrees}
+use Rattle.accounts.specs.Keeping.{AgreesWithReads}
 use Rattle.law.proofs.InOrder.{Apart, Strict, apart, found, serial_from, serial_strict, in_history_once, in_front, before_low, applied_more, nobody}
 
 append_one : (pre : List Txn) (u : Txn) (post : List Txn) → (pre ++ u ∷ []) ++ post ≡ pre ++ u ∷ post
@@ -23,7 +23,7 @@ strict_later (p ∷ ps) u post s v k = strict_later ps u post s.1 v k
 
 -- a transaction keeps a property
 abbrev pub Keeps : (Map → Type 0) → List Line → Id → List Write → Type 0
-Keeps P lines t ws = (m : Map) → Agrees lines t m → P m → P (put_all ws m)
+Keeps P lines t ws = (m : Map) → AgreesWithReads lines t m → P m → P (put_all ws m)
 
 module _ (P : Map → Type 0) (config : Config) (logs : List (List Record)) (lines : List Line) (law : IsExternallyConsistent config logs lines) where
   abbrev h : List Txn
@@ -36,11 +36,12 @@ module _ (P : Map → Type 0) (config : Config) (logs : List (List Record)) (lin
   strict = serial_strict h each_apart
 
   -- what a transaction read is what those in front of it left
-  agrees : (pre : List Txn) (u : Txn) (post : List Txn) → serial h ≡ pre ++ u ∷ post → Agrees lines u.txn (applied pre empty)
+  agrees : (pre : List Txn) (u : Txn) (post : List Txn) → serial h ≡ pre ++ u ∷ post → AgreesWithReads lines u.txn (applied pre empty)
   unfolding before
   agrees pre u post e k x line =
       let among : IsAmong h u = serial_from h u (subst (λ l. IsAmong l u) (sym e) (among_right pre (u ∷ post) u (inl refl))) in
-      let front : filter (λ v. comes_before v u) (serial h) ≡ pre = ap (λ l. filter (λ v. comes_before v u) l) e ∙ in_front pre u post (subst Strict e strict) in
+      let front : filter (λ v. serial_before v u) (serial h) ≡ pre = ap (λ l. filter (λ v. serial_before v u) l) e
+          ∙ in_front pre u post (subst Strict e strict) in
       sym (ap (λ l. applied l empty k) front) ∙ law.reads u.txn k x u line (found h u each_apart among)
 
   module _ (low : ℕ → Bool) (at : ℕ) (falls : (a b : ℕ) → a ≤ b → low a ≡ false → low b ≡ false) (below : (a : ℕ) → low a ≡ true → a ≤ at)
@@ -54,7 +55,8 @@ module _ (P : Map → Type 0) (config : Config) (logs : List (List Record)) (lin
     is_below : (a b : ℕ) → a ≤ b → nat_le a b ≡ true
     is_below a b k = grind (arith, nat_tests)
 
-    goes_on : (pre post : List Txn) → serial h ≡ pre ++ post → P (applied (filter is_low post) (applied pre empty)) → P (applied (filter below_at post) (applied pre empty))
+    goes_on : (pre post : List Txn) → serial h ≡ pre ++ post → P (applied (filter is_low post) (applied pre empty)) →
+        P (applied (filter below_at post) (applied pre empty))
     goes_on pre [] e p = p
     goes_on pre (u ∷ post) e p = by_low (low u.at) refl p (λ next q. goes_on (pre ++ u ∷ []) post next q)
       where
@@ -71,9 +73,11 @@ module _ (P : Map → Type 0) (config : Config) (logs : List (List Record)) (lin
         more = applied_more pre u empty
 
         Rest : Type 0
-        Rest = serial h ≡ (pre ++ u ∷ []) ++ post → P (applied (filter is_low post) (applied (pre ++ u ∷ []) empty)) → P (applied (filter below_at post) (applied (pre ++ u ∷ []) empty))
+        Rest = serial h ≡ (pre ++ u ∷ []) ++ post → P (applied (filter is_low post) (applied (pre ++ u ∷ []) empty)) →
+            P (applied (filter below_at post) (applied (pre ++ u ∷ []) empty))
 
-        by_time : (b : Bool) → nat_le u.at at ≡ b → low u.at ≡ false → P (applied pre empty) → Rest → P (applied (cond b (u ∷ filter below_at post) (filter below_at post)) (applied pre empty))
+        by_time : (b : Bool) → nat_le u.at at ≡ b → low u.at ≡ false → P (applied pre empty) → Rest →
+            P (applied (cond b (u ∷ filter below_at post) (filter below_at post)) (applied pre empty))
         by_time true t f q rest =
             let none : filter is_low post ≡ [] = nobody is_low post (λ v k. falls u.at v.at (later v k) f) in
             let now : P (put_all u.writes (applied pre empty)) = keeps u among f (le u.at at t) (applied pre empty) (agrees pre u post e) q in
@@ -89,7 +93,8 @@ module _ (P : Map → Type 0) (config : Config) (logs : List (List Record)) (lin
             above : (a b c : ℕ) → a ≤ b → nat_le a c ≡ false → nat_le b c ≡ false
             above a b c k j = grind (arith, nat_tests)
 
-        by_low : (b : Bool) → low u.at ≡ b → P (applied (cond b (u ∷ filter is_low post) (filter is_low post)) (applied pre empty)) → Rest → P (applied (filter below_at (u ∷ post)) (applied pre empty))
+        by_low : (b : Bool) → low u.at ≡ b → P (applied (cond b (u ∷ filter is_low post) (filter is_low post)) (applied pre empty)) → Rest →
+            P (applied (filter below_at (u ∷ post)) (applied pre empty))
         by_low true f q rest =
             subst (λ b. P (applied (cond b (u ∷ filter below_at post) (filter below_at post)) (applied pre empty))) (sym (is_below u.at at (below u.at f)))
             (subst (λ m. P (applied (filter below_at post) m)) more (rest next (subst (λ m. P (applied (filter is_low post) m)) (sym more) q)))
@@ -97,7 +102,8 @@ module _ (P : Map → Type 0) (config : Config) (logs : List (List Record)) (lin
             let none : filter is_low post ≡ [] = nobody is_low post (λ v k. falls u.at v.at (later v k) f) in
             by_time (nat_le u.at at) refl f (subst (λ l. P (applied l (applied pre empty))) none q) rest
 
-  pub kept_between : (from at : ℕ) → from ≤ at → P (upto h from) → ((u : Txn) → IsAmong h u → from < u.at → u.at ≤ at → Keeps P lines u.txn u.writes) → P (upto h at)
+  pub kept_between : (from at : ℕ) → from ≤ at → P (upto h from) → ((u : Txn) → IsAmong h u → from < u.at → u.at ≤ at →
+      Keeps P lines u.txn u.writes) → P (upto h at)
   unfolding upto
   kept_between from at le p keeps =
       goes_on (λ a. nat_le a from) at (λ a b k f. falls a b k f) (λ a k. below a k) (λ u k f l. keeps u k (above u.at f) l) [] (serial h) refl p
@@ -114,4 +120,5 @@ module _ (P : Map → Type 0) (config : Config) (logs : List (List Record)) (lin
   pub kept_always : (at : ℕ) → P empty → ((u : Txn) → IsAmong h u → u.at ≤ at → Keeps P lines u.txn u.writes) → P (upto h at)
   unfolding upto
   kept_always at p keeps =
-      goes_on (λ a. false) at (λ a b k f. refl) (λ a k. cc) (λ u k f l. keeps u k l) [] (serial h) refl (subst (λ l. P (applied l empty)) (sym (nobody (λ v. false) (serial h) (λ u k. refl))) p)
+      goes_on (λ a. false) at (λ a b k f. refl) (λ a k. cc) (λ u k f l. keeps u k l) [] (serial h) refl
+          (subst (λ l. P (applied l empty)) (sym (nobody (λ v. false) (serial h) (λ u k. refl))) p)

@@ -1,12 +1,14 @@
 -- The laws of accounts.
-use Rattle.std.proofs.Common.{◌≡◌, inl, inr, ℕ, ◌+◌, ◌<◌, ◌≤◌, Bool, true, false, not, cond, ◌||◌, List, [], ◌∷◌, refl, sym, ap, subst, ◌∙◌, IsTrue, arith, filter}
+use Rattle.std.proofs.Common.{◌≡◌, inl, inr, ℕ, ◌+◌, ◌<◌, ◌≤◌, Bool, true, false, not, cond, ◌||◌, List, [], ◌∷◌, refl, sym, ap, subst, ◌∙◌, IsTrue}
+use Rattle.std.proofs.Common.{arith, filter}
+use Rattle.std.proofs.lemmas.Bool.{or_parts}
 use Rattle.units.specs.Ids.{Id}
 use Rattle.units.specs.Keys.{Bytes, same_key, writes_key}
 use Rattle.units.specs.declared.writes.Write.{Write}
 use Rattle.units.specs.declared.line.Line.{Line}
 use Rattle.units.proofs.KeyLaws.{same_key_comm}
 use Rattle.record.specs.History.{Txn, Map, history, put, put_all, empty, upto}
-use Rattle.law.specs.Evidence.{IsAmong}
+use Rattle.law.specs.Among.{IsAmong}
 use Rattle.record.specs.declared.record.Record.{Record}
 use Rattle.world.specs.Headline.{MayBeLeft}
 use Rattle.world.specs.Lawful.{lawful}
@@ -32,18 +34,16 @@ put_elsewhere [] m k e = refl
 put_elsewhere (w ∷ ws) m k e =
     let p = neither (same_key w.key k) (writes_key ws k) e in
     put_elsewhere ws (put w m) k p.1 ∙ ap (λ b. cond b w.value (m k)) (same_key_comm k w.key ∙ p.0)
-  where
-    neither : (a b : Bool) → (a || b) ≡ false → (a ≡ false) × (b ≡ false)
-    neither false b e = (refl, e)
-    neither true b e = cc
 
 -- a written key has a value that the map does not matter to
 put_over : (ws : List Write) (m n : Map) (k : Bytes) → writes_key ws k ≡ true → put_all ws m k ≡ put_all ws n k
 put_over [] m n k e = cc
 put_over (w ∷ ws) m n k e = by_test (same_key w.key k) refl e (λ g. put_over ws (put w m) (put w n) k g)
   where
-    by_test : (b : Bool) → same_key w.key k ≡ b → (b || writes_key ws k) ≡ true → (writes_key ws k ≡ true → put_all ws (put w m) k ≡ put_all ws (put w n) k) → put_all ws (put w m) k ≡ put_all ws (put w n) k
-    by_test true f g rest = put_alike ws (put w m) (put w n) k (ap (λ b. cond b w.value (m k)) (same_key_comm k w.key ∙ f) ∙ sym (ap (λ b. cond b w.value (n k)) (same_key_comm k w.key ∙ f)))
+    by_test : (b : Bool) → same_key w.key k ≡ b → (b || writes_key ws k) ≡ true → (writes_key ws k ≡ true →
+        put_all ws (put w m) k ≡ put_all ws (put w n) k) → put_all ws (put w m) k ≡ put_all ws (put w n) k
+    by_test true f g rest = put_alike ws (put w m) (put w n) k (ap (λ b. cond b w.value (m k)) (same_key_comm k w.key ∙ f)
+        ∙ sym (ap (λ b. cond b w.value (n k)) (same_key_comm k w.key ∙ f)))
     by_test false f g rest = rest g
 
 -- ---- sums
@@ -55,12 +55,14 @@ sum_alike b (k ∷ ks) m n h =
     let rest = sum_alike b ks m n (λ j l. h j (inr l)) in
     omega (arith, here, rest)
 
-sum_splits : (b : Bank) (test : Bytes → Bool) (ks : List Bytes) (m : Map) → sum_of b ks m ≡ sum_of b (filter test ks) m + sum_of b (filter (λ k. not (test k)) ks) m
+sum_splits : (b : Bank) (test : Bytes → Bool) (ks : List Bytes) (m : Map) → sum_of b ks m ≡
+    sum_of b (filter test ks) m + sum_of b (filter (λ k. not (test k)) ks) m
 sum_splits b test [] m = refl
 sum_splits b test (k ∷ ks) m = by_test (test k) (sum_splits b test ks m)
   where
     by_test : (c : Bool) → sum_of b ks m ≡ sum_of b (filter test ks) m + sum_of b (filter (λ j. not (test j)) ks) m →
-        b.amount (m k) + sum_of b ks m ≡ sum_of b (cond c (k ∷ filter test ks) (filter test ks)) m + sum_of b (cond (not c) (k ∷ filter (λ j. not (test j)) ks) (filter (λ j. not (test j)) ks)) m
+        b.amount (m k) + sum_of b ks m ≡ sum_of b (cond c (k ∷ filter test ks) (filter test ks)) m + sum_of b
+            (cond (not c) (k ∷ filter (λ j. not (test j)) ks) (filter (λ j. not (test j)) ks)) m
     by_test true e = omega (arith, e)
     by_test false e = omega (arith, e)
 
@@ -72,7 +74,8 @@ transfer_keeps b n lines i ws t m says e =
     let before = sum_splits b test b.accounts m in
     let new = sum_alike b (accounts_of b ws) (put_all ws m) (put_all ws t.found) (λ k h. put_over ws m t.found k (kept_passes test b.accounts k h)) in
     let old = sum_alike b (accounts_of b ws) m t.found (λ k h. says k (t.found k) (t.read k h)) in
-    let others = sum_alike b (filter (λ k. not (test k)) b.accounts) (put_all ws m) m (λ k h. put_elsewhere ws m k (turned (test k) (kept_passes (λ j. not (test j)) b.accounts k h))) in
+    let others = sum_alike b (filter (λ k. not (test k)) b.accounts) (put_all ws m) m (λ k h. put_elsewhere ws m k
+        (turned (test k) (kept_passes (λ j. not (test j)) b.accounts k h))) in
     let even = t.even in
     add _ _ _ _ _ _ _ _ _ after before new old others even e
   where
@@ -86,13 +89,18 @@ transfer_keeps b n lines i ws t m says e =
     add : (a aw ao c cw co fw f n : ℕ) → a ≡ aw + ao → c ≡ cw + co → aw ≡ fw → cw ≡ f → ao ≡ co → fw ≡ f → c ≡ n → a ≡ n
     add a aw ao c cw co fw f n h1 h2 h3 h4 h5 h6 h7 = omega (arith, h1, h2, h3, h4, h5, h6, h7)
 
-pub from_the_start : (P : Map → Type 0) (config : Config) (es : List Event) (logs : List (List Record)) (at : ℕ) → IsTrue (lawful config es) → MayBeLeft config es logs →
+pub from_the_start : (P : Map → Type 0) (config : Config) (es : List Event) (logs : List (List Record)) (at : ℕ) → IsTrue (lawful config es) →
+    MayBeLeft config es logs →
     P empty → ((u : Txn) → IsAmong (history logs) u → u.at ≤ at → Keeps P (run config es).lines u.txn u.writes) → P (upto (history logs) at)
-from_the_start P config es logs at fair may start keeps = always P config logs (run config es).lines (externally_consistent config es logs fair may) at start keeps
+from_the_start P config es logs at fair may start keeps = always P config logs (run config es).lines
+    (externally_consistent config es logs fair may) at start keeps
 
-from_one_time : (P : Map → Type 0) (config : Config) (es : List Event) (logs : List (List Record)) (from at : ℕ) → IsTrue (lawful config es) → MayBeLeft config es logs →
-    from ≤ at → P (upto (history logs) from) → ((u : Txn) → IsAmong (history logs) u → from < u.at → u.at ≤ at → Keeps P (run config es).lines u.txn u.writes) → P (upto (history logs) at)
-from_one_time P config es logs from at fair may le then keeps = between P config logs (run config es).lines (externally_consistent config es logs fair may) from at le then keeps
+from_one_time : (P : Map → Type 0) (config : Config) (es : List Event) (logs : List (List Record)) (from at : ℕ) → IsTrue (lawful config es) →
+    MayBeLeft config es logs →
+    from ≤ at → P (upto (history logs) from) → ((u : Txn) → IsAmong (history logs) u → from < u.at → u.at ≤ at →
+        Keeps P (run config es).lines u.txn u.writes) → P (upto (history logs) at)
+from_one_time P config es logs from at fair may le then keeps = between P config logs (run config es).lines
+    (externally_consistent config es logs fair may) from at le then keeps
 
 pub kept_from_the_start : KeptFromTheStart
 kept_from_the_start test = from_the_start (λ m. IsTrue (test m))
@@ -122,7 +130,8 @@ audits_agree b config es logs from at first second fair may le all one two =
 abbrev pub NoneBelow : Bank → ℕ → Map → Type 0
 NoneBelow b least m = (k : Bytes) → IsAmong b.accounts k → least ≤ b.amount (m k)
 
-pub enough_keeps : (b : Bank) (least : ℕ) (lines : List Line) (i : Id) (ws : List Write) → ((k : Bytes) → IsAmong (accounts_of b ws) k → LeavesEnough b least lines i ws k) → Keeps (NoneBelow b least) lines i ws
+pub enough_keeps : (b : Bank) (least : ℕ) (lines : List Line) (i : Id) (ws : List Write) →
+    ((k : Bytes) → IsAmong (accounts_of b ws) k → LeavesEnough b least lines i ws k) → Keeps (NoneBelow b least) lines i ws
 enough_keeps b least lines i ws all m says was k j = by_test (writes_key ws k) refl
   where
     enough : put_all ws m k ≡ put_all ws empty k → LeavesEnough b least lines i ws k → least ≤ b.amount (put_all ws m k)
@@ -139,4 +148,5 @@ enough_keeps b least lines i ws all m says was k j = by_test (writes_key ws k) r
 
 pub never_below : NeverBelow
 never_below b least config es logs at fair may start all =
-    from_the_start (NoneBelow b least) config es logs at fair may start (λ u h below. enough_keeps b least (run config es).lines u.txn u.writes (λ k j. all u k h below j))
+    from_the_start (NoneBelow b least) config es logs at fair may start (λ u h below. enough_keeps b least (run config es).lines u.txn u.writes
+        (λ k j. all u k h below j))

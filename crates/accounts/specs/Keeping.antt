@@ -7,7 +7,7 @@ use Rattle.units.specs.declared.writes.Write.{Write}
 use Rattle.record.specs.History.{Txn, Map, empty, put_all, history, upto}
 use Rattle.record.specs.Verdict.{IsLine}
 use Rattle.record.specs.declared.record.Record.{Record}
-use Rattle.law.specs.Evidence.{IsAmong}
+use Rattle.law.specs.Among.{IsAmong}
 use Rattle.world.specs.Headline.{MayBeLeft}
 use Rattle.world.specs.Lawful.{lawful}
 use Rattle.world.specs.World.{run}
@@ -15,12 +15,12 @@ use Rattle.world.specs.declared.event.Config.{Config}
 use Rattle.world.specs.declared.event.Event.{Event}
 
 -- a map says what a transaction read
-abbrev pub Agrees : List Line → Id → Map → Type 0
-Agrees lines t m = (k : Bytes) (x : Option Bytes) → IsLine lines (Line.Read t k x) → m k ≡ x
+abbrev pub AgreesWithReads : List Line → Id → Map → Type 0
+AgreesWithReads lines t m = (k : Bytes) (x : Option Bytes) → IsLine lines (Line.Read t k x) → m k ≡ x
 
 -- a transaction keeps a test: a map that says what the transaction read, and passes, passes after its writes
 abbrev pub Keeps : (Map → Bool) → List Line → Id → List Write → Type 0
-Keeps test lines t ws = (m : Map) → Agrees lines t m → IsTrue (test m) → IsTrue (test (put_all ws m))
+Keeps test lines t ws = (m : Map) → AgreesWithReads lines t m → IsTrue (test m) → IsTrue (test (put_all ws m))
 
 -- whatever crash strikes a lawful run: a test that the empty map passes and each transaction keeps is passed at every
 -- timestamp

@@ -9,14 +9,14 @@ use Rattle.record.specs.History.{Map, empty, put_all, history, upto}
 use Rattle.record.specs.Verdict.{IsLine}
 use Rattle.record.specs.declared.record.Record.{Record}
 use Rattle.session.specs.Sessions.{Client}
-use Rattle.law.specs.Evidence.{IsAmong}
+use Rattle.law.specs.Among.{IsAmong}
 use Rattle.law.specs.Written.{has_closed}
 use Rattle.world.specs.Headline.{MayBeLeft}
 use Rattle.world.specs.Lawful.{lawful}
 use Rattle.world.specs.World.{World, run}
 use Rattle.world.specs.declared.event.Config.{Config}
 use Rattle.world.specs.declared.event.Event.{Event}
-use Rattle.accounts.specs.Keeping.{Agrees, Keeps}
+use Rattle.accounts.specs.Keeping.{AgreesWithReads, Keeps}
 use Rattle.accounts.specs.Bank.{Bank, total, IsTransfer, IsAudit, LeavesEnough, accounts_of}
 
 -- something is true of each session that closed
@@ -33,8 +33,8 @@ SessionsKeep =
     IsTrue (test (upto (history logs) at))
 
 -- a session does as a function says: it wrote what the function gives of each map that says what it was answered
-abbrev pub Follows : (Map → List Write) → List Line → Id → List Write → Type 0
-Follows f lines t ws = (m : Map) → Agrees lines t m → f m ≡ ws
+abbrev pub DoesAs : (Map → List Write) → List Line → Id → List Write → Type 0
+DoesAs f lines t ws = (m : Map) → AgreesWithReads lines t m → f m ≡ ws
 
 -- a function from maps to writes keeps a test
 abbrev pub IsKeeping : (Map → Bool) → (Map → List Write) → Type 0
@@ -47,7 +47,7 @@ ServicesKeep =
     (test : Map → Bool) (config : Config) (es : List Event) (logs : List (List Record)) (at : ℕ) →
     IsTrue (lawful config es) → MayBeLeft config es logs →
     IsTrue (test empty) →
-    AllClosed (run config es) (λ c. (f : Map → List Write) × IsKeeping test f × Follows f (run config es).lines c.txn c.writes) →
+    AllClosed (run config es) (λ c. (f : Map → List Write) × IsKeeping test f × DoesAs f (run config es).lines c.txn c.writes) →
     IsTrue (test (upto (history logs) at))
 
 -- each closed session is a transfer

@@ -4,22 +4,22 @@ use Rattle.units.specs.Keys.{Bytes, writes_key}
 use Rattle.units.specs.declared.writes.Write.{Write}
 use Rattle.record.specs.History.{Map, empty}
 use Rattle.session.specs.Sessions.{Client}
-use Rattle.law.specs.Evidence.{IsAmong}
+use Rattle.law.specs.Among.{IsAmong}
 use Rattle.world.specs.Lawful.{lawful}
 use Rattle.world.specs.World.{World, run}
 use Rattle.world.specs.declared.event.Config.{Config}
 use Rattle.world.specs.declared.event.Event.{Event}
 use Rattle.accounts.specs.Bank.{Bank, total, IsAudit}
-use Rattle.accounts.specs.Sessions.{AllClosed, Follows}
+use Rattle.accounts.specs.Sessions.{AllClosed, DoesAs}
 
 -- each key once
-abbrev pub EachOnce : List Bytes → Type 0
-EachOnce [] = Unit {0}
-EachOnce (k ∷ ks) = (IsAmong ks k → ⊥) × EachOnce ks
+abbrev pub KeysOnce : List Bytes → Type 0
+KeysOnce [] = Unit {0}
+KeysOnce (k ∷ ks) = (IsAmong ks k → ⊥) × KeysOnce ks
 
 -- how a number is written in an account
 pub record IsSpelt (b : Bank) (spell : ℕ → Bytes) : Type 0 where
-  pub once : EachOnce b.accounts
+  pub once : KeysOnce b.accounts
   pub reads_back : (n : ℕ) → b.amount (Some (spell n)) ≡ n
 
 -- to move an amount between two accounts: nothing is written where there is too little
@@ -38,7 +38,7 @@ pub record Transfers (b : Bank) (spell : ℕ → Bytes) (w : World) (c : Client)
   pub from_account : IsAmong b.accounts from
   pub to_account : IsAmong b.accounts to
   pub apart : from ≢ to
-  pub follows : Follows (transfer b spell from to amount) w.lines c.txn c.writes
+  pub follows : DoesAs (transfer b spell from to amount) w.lines c.txn c.writes
 
 -- a session writes no account
 abbrev pub WritesNone : Bank → Client → Type 0

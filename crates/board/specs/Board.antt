@@ -26,12 +26,12 @@ abbrev pub safe_on : List Entry → ℕ
 safe_on entries = safe_from 0 entries
 
 -- the value that a key has at a timestamp: that of its version with the greatest timestamp that is not above it
-abbrev pub shown : List Entry → Bytes → ℕ → Option Bytes
-shown entries key t = at_time (versions_on entries) key t
+abbrev pub shown_at : List Entry → Bytes → ℕ → Option Bytes
+shown_at entries key t = at_time (versions_on entries) key t
 
 -- the entries that a board begins with
-abbrev pub opening : List Install → ℕ → List Entry
-opening installs safe = map (λ i. Installed i) installs ++ Safe safe ∷ []
+abbrev pub first_entries : List Install → ℕ → List Entry
+first_entries installs safe = map (λ i. Installed i) installs ++ Safe safe ∷ []
 
 -- the timestamp is above the last that looks are answered at
 abbrev pub is_past : Option ℕ → ℕ → Bool

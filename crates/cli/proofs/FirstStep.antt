@@ -13,7 +13,7 @@ use Rattle.message.specs.declared.message.Input.{Input}
 use Rattle.protocol.specs.Computing.{computing}
 use Rattle.protocol.specs.Rows.{IsDecided, Memory, rebuilt}
 use Rattle.protocol.specs.Outputs.{decision, done_to}
-use Rattle.protocol.specs.Plan.{Planned, before, drops, puts, time_limit, timed}
+use Rattle.protocol.specs.Plan.{Planned, start_of_step, drops, puts, time_limit, timed}
 use Rattle.protocol.specs.Cells.{commit_stamp}
 use Rattle.protocol.specs.Step.{Stepped, Does, Refuses, step, stepped}
 use Rattle.rows.specs.RowTable.{nth_decided}
@@ -62,7 +62,7 @@ module _ (now : Interval) (key value : Bytes) where
   -- the plan of that
   abbrev deciding : ℕ → Planned
   deciding s =
-      Ok (puts (before most_rows only_setup (learned new_log) (found new_log)) [] only_txn (exclusive (only_write key value)) (IsDecided s (0 ∷ []))
+      Ok (puts (start_of_step most_rows only_setup (learned new_log) (found new_log)) [] only_txn (exclusive (only_write key value)) (IsDecided s (0 ∷ []))
       (Some (decision only_txn s (0 ∷ []) [] (only_write key value))) (max 0 s) [])
 
   deciding-is : (s : ℕ) → stepped (found new_log) (deciding s) ≡ decides s
@@ -97,20 +97,24 @@ module _ (now : Interval) (key value : Bytes) where
     abbrev telling : Planned
     telling = Ok (drops only_txn (Record.Outcome only_txn (Some s)) (max 0 s) (done_to only_txn (Some s) ∷ []))
 
-    settle-is : step_at (decided_log key value s) now (Input.Settle only_txn) ≡ stepped (found (decided_log key value s)) (cond (nat_lt s now.earliest) telling (Err Early))
+    settle-is : step_at (decided_log key value s) now (Input.Settle only_txn) ≡ stepped (found (decided_log key value s))
+        (cond (nat_lt s now.earliest) telling (Err Early))
     unfolding computing
     settle-is = refl
 
     same-last : max 0 s ≡ max (max 0 s) s
     same-last = omega arith
 
-    telling-is : stepped (found (decided_log key value s)) telling ≡ logs (decided_log key value s) (Record.Outcome only_txn (Some s)) (done_to only_txn (Some s) ∷ [])
+    telling-is : stepped (found (decided_log key value s)) telling ≡ logs (decided_log key value s) (Record.Outcome only_txn (Some s))
+        (done_to only_txn (Some s) ∷ [])
     unfolding computing
-    telling-is = ap (λ (n : ℕ). Does (Some (Record.Outcome only_txn (Some s))) (record { last = n; rows = []; ended = [] }) (done_to only_txn (Some s) ∷ [])) same-last
+    telling-is = ap (λ (n : ℕ). Does (Some (Record.Outcome only_txn (Some s))) (record { last = n; rows = []; ended = [] })
+        (done_to only_txn (Some s) ∷ [])) same-last
 
     -- the timestamp has not surely passed
     pub settled-early : now.earliest ≤ s → step_at (decided_log key value s) now (Input.Settle only_txn) ≡ Refuses Early
-    settled-early early = settle-is ∙ ap (λ (b : Bool). stepped (found (decided_log key value s)) (cond b telling (Err Early))) (is-not-passed s now.earliest early)
+    settled-early early = settle-is ∙ ap (λ (b : Bool). stepped (found (decided_log key value s)) (cond b telling (Err Early)))
+        (is-not-passed s now.earliest early)
       where
         is-not-passed : (m n : ℕ) → n ≤ m → nat_lt m n ≡ false
         is-not-passed m n h = grind (arith, nat_tests)
@@ -118,7 +122,8 @@ module _ (now : Interval) (key value : Bytes) where
     -- it has
     pub settled-passed : s < now.earliest → step_at (decided_log key value s) now (Input.Settle only_txn)
         ≡ logs (decided_log key value s) (Record.Outcome only_txn (Some s)) (done_to only_txn (Some s) ∷ [])
-    settled-passed passed = settle-is ∙ ap (λ (b : Bool). stepped (found (decided_log key value s)) (cond b telling (Err Early))) (is-passed s now.earliest passed) ∙ telling-is
+    settled-passed passed = settle-is ∙ ap (λ (b : Bool). stepped (found (decided_log key value s)) (cond b telling (Err Early)))
+        (is-passed s now.earliest passed) ∙ telling-is
       where
         is-passed : (m n : ℕ) → m < n → nat_lt m n ≡ true
         is-passed m n h = grind (arith, nat_tests)

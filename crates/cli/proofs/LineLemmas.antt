@@ -1,5 +1,6 @@
 -- The parser's walk over a command line of the program.
-use Rattle.std.proofs.Common.{◌≡◌, ◌∙◌, ◌&&◌, ◌||◌, ℕ, Bool, true, false, refl, sym, ap, ap₂, subst, List, [], ◌∷◌, ◌++◌, Option, Some, None, codes, true≢false, inl, inr, ◌⊎◌, append-nil, append_assoc}
+use Rattle.std.proofs.Common.{◌≡◌, ◌∙◌, ◌&&◌, ◌||◌, ℕ, Bool, true, false, refl, sym, ap, ap₂, subst, List, [], ◌∷◌, ◌++◌, Option, Some, None, codes}
+use Rattle.std.proofs.Common.{true≢false, inl, inr, ◌⊎◌, append-nil, append_assoc}
 use Rattle.std.specs.Prelude.{find, option_map, cond, fold, is_some, if◌then◌else◌, option_and_then}
 use Rattle.std.specs.Option.{option_map_or}
 use Rattle.std.specs.Str.{bytes_eq}
@@ -10,9 +11,12 @@ use Rattle.clap.proofs.SimpleLemmas.{is_false}
 use Rattle.clap.proofs.FaultLemmas.{stopped_fault}
 use Rattle.clap.specs.Words.{App, Row, Rule, Shape, Text, Kinds, built, fault_of, subcommand_of}
 use Rattle.clap.specs.Kinds.{or_else}
-use Rattle.clap.specs.Walk.{answers_to, subcommand_met, subcommand_or_other, Step, trailing, after_step, long_or_other, short_or_plain, word_met, Held, Names, Walk, idle, value, arg_by_index, finished, is_empty, nothing_held, settled, to_positional, walk, walk_from, walked}
+use Rattle.clap.specs.Walk.{answers_to, subcommand_met, subcommand_or_other, Step, trailing, after_step, long_or_other, short_or_plain, word_met}
+use Rattle.clap.specs.Walk.{Held, Names, Walk, idle, value, arg_by_index, finished, is_empty, nothing_held, settled, to_positional, walk, walk_from}
+use Rattle.clap.specs.Walk.{walked}
 use Rattle.clap.specs.Simple.{entered, label_of, rows_at, built_leaf, inherited, names_of}
-use Rattle.clap.specs.Faults.{entered_fault, other_fault, turn_fault, bundle_fault, flag_word_fault, word_fault, check_fault, defaults_fault, level_fault, settle_fault, step_fault, walk_fault}
+use Rattle.clap.specs.Faults.{entered_fault, other_fault, turn_fault, bundle_fault, flag_word_fault, word_fault, check_fault, defaults_fault}
+use Rattle.clap.specs.Faults.{level_fault, settle_fault, step_fault, walk_fault}
 use Rattle.cli.specs.Lines.{CommandLine, Word, are_plain, is_plain, once_of, line_of}
 use Rattle.cli.specs.Parser.{bare_app, entry_of, once_app, shards_app}
 
@@ -274,7 +278,8 @@ enters name s rest starts fine found =
     ∙ stopped_fault program.top program_names (walk_from nothing_held) (name, []) rest in
     ap₂ (λ (k : Kinds) (w : Walk). or_else k (or_else (entered_fault program w.stopped) (top_end w.held (is_some (entered program w.stopped)))))
     quiet (stops name rest starts)
-    ∙ ap (λ (o : Option Shape). or_else (option_map_or (λ x. level_fault x [] nothing_held rest false []) o []) (top_end nothing_held (is_some (option_map (λ x. rows_at x rest) o)))) found
+    ∙ ap (λ (o : Option Shape). or_else (option_map_or (λ x. level_fault x [] nothing_held rest false []) o [])
+        (top_end nothing_held (is_some (option_map (λ x. rows_at x rest) o)))) found
     ∙ or_else-nil (level_fault s [] nothing_held rest false [])
 
 -- and what it is given
@@ -320,7 +325,8 @@ AgreesAt words = Agrees (line_of words) (fault_of shards_app words) (subcommand_
 
 once_line : (rest : List Word) → are_plain rest ≡ true → AgreesAt (codes "once" ∷ rest)
 unfolding walked
-once_line rest e = agrees_as (once_of rest) _ _ _ _ (enters (codes "once") once_leaf rest refl refl refl) (enters_with (codes "once") once_leaf rest refl refl) (once_agrees rest e)
+once_line rest e = agrees_as (once_of rest) _ _ _ _ (enters (codes "once") once_leaf rest refl refl refl)
+    (enters_with (codes "once") once_leaf rest refl refl) (once_agrees rest e)
 
 -- where the first word is this command's name
 named : (name known : Word) (rest : List Word) → bytes_eq known name ≡ true → AgreesAt (known ∷ rest) → AgreesAt (name ∷ rest)

@@ -1,5 +1,6 @@
 -- What an input makes of the one shard of `once`.
-use Rattle.std.proofs.Common.{◌≡◌, ◌⊎◌, inl, inr, ⊎_elim, ◌∙◌, ◌+◌, ◌^◌, ◌<◌, ◌≤◌, ℕ, Bool, true, false, List, [], ◌∷◌, ◌++◌, length, Some, Result, Ok, Err, refl, sym, ap, subst, arith}
+use Rattle.std.proofs.Common.{◌≡◌, ◌⊎◌, inl, inr, ⊎_elim, ◌∙◌, ◌+◌, ◌^◌, ◌<◌, ◌≤◌, ℕ, Bool, true, false, List, [], ◌∷◌, ◌++◌, length, Some, Result}
+use Rattle.std.proofs.Common.{Ok, Err, refl, sym, ap, subst, arith}
 use Rattle.std.specs.Prelude.{IsTrue, MatchResult, nat_lt}
 use Rattle.std.proofs.lemmas.List.{length-append}
 use Rattle.std.proofs.lemmas.List.Sums.{fold-append}
@@ -8,7 +9,7 @@ use Rattle.units.specs.Keys.{Bytes}
 use Rattle.units.specs.declared.fault.Fault.{Fault}
 use Rattle.units.specs.declared.fault.Fault.TheVariants.{Memory, Early, TimeSpent, Device}
 use Rattle.truetime.specs.Interval.{Interval}
-use Rattle.truetime.specs.Reading.{after}
+use Rattle.truetime.specs.Reading.{surely_after}
 use Rattle.record.specs.Facts.{Facts, learn, no_facts}
 use Rattle.record.specs.declared.record.Record.{Record}
 use Rattle.message.specs.declared.message.Envelope.{Envelope}
@@ -20,7 +21,7 @@ use Rattle.simdisk.specs.State.{disk_file, disk_plan, disk_clock, disk_failures,
 use Rattle.simdisk.specs.declared.simdisk.SimDisk.{SimDisk}
 use Rattle.shard.specs.Logs.{and_logged, records_in, KeepsRecords}
 use Rattle.shard.specs.On.{CoreView, HasStepped, IsCause, IsLogFull, IsLogCause, step_of}
-use Rattle.cli.specs.Replies.{commit_stamp, only_txn}
+use Rattle.cli.specs.Replies.{first_stamp, only_txn}
 use Rattle.cli.specs.Shards.{HasLog, only_commit, new_log, decided_log, settled_log}
 use Rattle.cli.proofs.FirstStep.{step_at, logs, commit-late, commit-decided, settled-early, settled-passed}
 
@@ -104,17 +105,18 @@ early_is_no_device same = cc
 -- what the commit comes to
 abbrev pub Commits : Interval → Bytes → Bytes → CoreView SimDisk → Result (List Envelope) Fault → Type 0
 Commits now key value new result = MatchResult result
-    (λ out. (commit_stamp now ≡ Ok (now.latest + 1)) × HasLog (decided_log key value (now.latest + 1)) new)
-    (λ fault. (fault ≡ Memory) ⊎ (commit_stamp now ≡ Err fault))
+    (λ out. (first_stamp now ≡ Ok (now.latest + 1)) × HasLog (decided_log key value (now.latest + 1)) new)
+    (λ fault. (fault ≡ Memory) ⊎ (first_stamp now ≡ Err fault))
 
 -- what the settling comes to
 abbrev pub Settles : Interval → Bytes → Bytes → ℕ → CoreView SimDisk → Result (List Envelope) Fault → Type 0
 Settles now key value s new result = MatchResult result
-    (λ out. (after now s ≡ true) × HasLog (settled_log key value s) new)
-    (λ fault. (fault ≡ Memory) ⊎ ((fault ≡ Early) × (after now s ≡ false) × HasLog (decided_log key value s) new))
+    (λ out. (surely_after now s ≡ true) × HasLog (settled_log key value s) new)
+    (λ fault. (fault ≡ Memory) ⊎ ((fault ≡ Early) × (surely_after now s ≡ false) × HasLog (decided_log key value s) new))
 
 module _ (now : Interval) (key value : Bytes) (old new : CoreView SimDisk) where
-  pub commits : HasLog new_log old → (result : Result (List Envelope) Fault) → Steps old new (step_of old now (only_commit key value)) result → Commits now key value new result
+  pub commits : HasLog new_log old → (result : Result (List Envelope) Fault) → Steps old new (step_of old now (only_commit key value)) result →
+      Commits now key value new result
   commits log result taken = by (nat_lt (now.latest + 1) (2 ^ 62)) refl result taken
     where
       by : (b : Bool) → nat_lt (now.latest + 1) (2 ^ 62) ≡ b → (result : Result (List Envelope) Fault)
@@ -124,21 +126,24 @@ module _ (now : Interval) (key value : Bytes) (old new : CoreView SimDisk) where
         logged new_log old new log _ _ _ (step-is new_log old new log now (only_commit key value) ∙ commit-decided now key value (is-less _ _ is)) out has,
       )
       by true is (Err fault) has =
-          inl (only-memory new_log old new log _ _ _ (step-is new_log old new log now (only_commit key value) ∙ commit-decided now key value (is-less _ _ is)) fault (omega arith) has)
+          inl (only-memory new_log old new log _ _ _ (step-is new_log old new log now (only_commit key value)
+              ∙ commit-decided now key value (is-less _ _ is)) fault (omega arith) has)
       by false is (Ok out) has =
-          absurd (no-answer new_log old new log TimeSpent _ (step-is new_log old new log now (only_commit key value) ∙ commit-late now key value (is-not-less _ _ is)) out has)
+          absurd (no-answer new_log old new log TimeSpent _ (step-is new_log old new log now (only_commit key value)
+              ∙ commit-late now key value (is-not-less _ _ is)) out has)
       by false is (Err fault) has =
-          let own : fault ≡ TimeSpent = only-refusal new_log old new log TimeSpent _ (step-is new_log old new log now (only_commit key value) ∙ commit-late now key value (is-not-less _ _ is)) fault has in
+          let own : fault ≡ TimeSpent = only-refusal new_log old new log TimeSpent _ (step-is new_log old new log now (only_commit key value)
+              ∙ commit-late now key value (is-not-less _ _ is)) fault has in
           inr (rw (is, own) refl)
 
   pub settles : (s : ℕ) → HasLog (decided_log key value s) old → (result : Result (List Envelope) Fault)
       → Steps old new (step_of old now (Input.Settle only_txn)) result → Settles now key value s new result
-  settles s log result taken = by (after now s) refl result taken
+  settles s log result taken = by (surely_after now s) refl result taken
     where
       step : step_of old now (Input.Settle only_txn) ≡ step_at (decided_log key value s) now (Input.Settle only_txn)
       step = step-is (decided_log key value s) old new log now (Input.Settle only_txn)
 
-      by : (b : Bool) → after now s ≡ b → (result : Result (List Envelope) Fault)
+      by : (b : Bool) → surely_after now s ≡ b → (result : Result (List Envelope) Fault)
           → Steps old new (step_of old now (Input.Settle only_txn)) result → Settles now key value s new result
       by true is (Ok out) has = (is, logged (decided_log key value s) old new log _ _ _ (step ∙ settled-passed now key value s (is-less _ _ is)) out has)
       by true is (Err fault) has =

@@ -4,7 +4,7 @@ use Rattle.units.specs.declared.fault.Fault.{Fault}
 use Rattle.units.specs.declared.fault.Fault.TheVariants.{BadRequest}
 use Rattle.units.specs.declared.fault.Reason.TheVariants as reason
 use Rattle.cli.specs.Lines.{CommandLine, Word, asks_help, once, line_of}
-use Rattle.cli.specs.Numbers.{and_then, reading_of}
+use Rattle.cli.specs.Numbers.{and_then, interval_of}
 use Rattle.cli.specs.declared.commands.Command.{Command}
 use Rattle.cli.specs.declared.commands.Command.TheVariants as code
 
@@ -19,7 +19,7 @@ value_of word = if nat_le (length word) 4096 then Ok word else Err (BadRequest r
 -- the words of `once` from the left: a key, a value, and the readings of the commit and of its settling
 abbrev pub once_of_words : Word → Word → Word → Word → Word → Word → Result Command Fault
 once_of_words key value e1 l1 e2 l2 =
-    and_then (key_of key) (λ k. and_then (value_of value) (λ v. and_then (reading_of e1 l1) (λ first. and_then (reading_of e2 l2) (λ second.
+    and_then (key_of key) (λ k. and_then (value_of value) (λ v. and_then (interval_of e1 l1) (λ first. and_then (interval_of e2 l2) (λ second.
     Ok (code.Once k v first second)))))
 
 -- the command of a line

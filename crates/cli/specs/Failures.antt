@@ -7,11 +7,11 @@ use Rattle.cli.specs.declared.failure.Failure.{Failure}
 use Rattle.cli.specs.declared.failure.Failure.TheVariants.{Refused, Unwritten}
 
 -- the command is refused for what its words ask
-pub record IsRefusal (failure : Failure) (expected : Result Reply Fault) : Type 0 where
+pub record IsRefusedWith (failure : Failure) (expected : Result Reply Fault) : Type 0 where
   pub fault : Fault
   pub told : failure ≡ Refused fault
   pub due : expected ≡ Err fault
 
 -- a write failed, memory is wanting, or the command is refused
 abbrev pub FailsFor : Type 0 → Failure → Result Reply Fault → Type 0
-FailsFor failed failure expected = ((failure ≡ Unwritten) × failed) ⊎ (failure ≡ Refused Memory) ⊎ IsRefusal failure expected
+FailsFor failed failure expected = ((failure ≡ Unwritten) × failed) ⊎ (failure ≡ Refused Memory) ⊎ IsRefusedWith failure expected

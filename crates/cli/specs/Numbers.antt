@@ -27,6 +27,6 @@ stamp_of word = if is_decimal word
     else Err (BadRequest reason.Command)
 
 -- the reading between two words
-abbrev pub reading_of : Word → Word → Result Interval Fault
-reading_of earliest latest = and_then (stamp_of earliest) (λ e. and_then (stamp_of latest) (λ l.
+abbrev pub interval_of : Word → Word → Result Interval Fault
+interval_of earliest latest = and_then (stamp_of earliest) (λ e. and_then (stamp_of latest) (λ l.
     if nat_le e l then Ok (record { earliest = e; latest = l }) else Err (BadRequest reason.Stamp)))

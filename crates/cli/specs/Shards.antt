@@ -19,7 +19,7 @@ use Rattle.shard.specs.On.{CoreView}
 use Rattle.cli.specs.declared.commands.Command.{Command}
 use Rattle.cli.specs.declared.commands.Command.TheVariants as code
 use Rattle.truetime.specs.Interval.{Interval}
-use Rattle.cli.specs.Replies.{commit_stamp, only_txn}
+use Rattle.cli.specs.Replies.{first_stamp, only_txn}
 
 -- the shard of all keys
 abbrev pub only_setup : Setup
@@ -59,7 +59,7 @@ pub record HoldsRecords (records : List Record) (disk : SimDisk) : Type 0 where
 -- a disk behind `once`: it holds the commit at its timestamp, and its end where the status is 0
 abbrev pub IsLogged : Bytes → Bytes → Interval → ℕ → SimDisk → Type 0
 IsLogged key value first status disk =
-    (stamp : ℕ) × (commit_stamp first ≡ Ok stamp) × HoldsRecords (log_after (nat_eq status 0) key value stamp) disk
+    (stamp : ℕ) × (first_stamp first ≡ Ok stamp) × HoldsRecords (log_after (nat_eq status 0) key value stamp) disk
 
 -- a disk behind a command
 abbrev pub LogsCommand : Command → ℕ → SimDisk → Type 0

@@ -2,15 +2,15 @@
 ghost use Rattle.std.specs.Prelude.{◌≡◌, Ok, Err, MatchResult};
 ghost use Rattle.std.specs.Char.{is_ascii_digit};
 ghost use Rattle.std.specs.List.{list_all};
-ghost use Rattle.cli.specs.Numbers.{is_decimal, reading_of, stamp_of};
+ghost use Rattle.cli.specs.Numbers.{is_decimal, interval_of, stamp_of};
 
 use truetime::Reading;
 use units::{Fault, Reason, Stamp};
 
 /// The reading between two words. The first bad word counts.
 pub fn read_reading(earliest: &str, latest: &str) -> Result<Reading, Fault>
-    ensures { MatchResult result (λ now. reading_of earliest.now latest.now ≡ Ok now)
-        (λ fault. reading_of earliest.now latest.now ≡ Err fault) }
+    ensures { MatchResult result (λ now. interval_of earliest.now latest.now ≡ Ok now)
+        (λ fault. interval_of earliest.now latest.now ≡ Err fault) }
 {
     let earliest = read_stamp(earliest)?;
     let latest = read_stamp(latest)?;

@@ -4,7 +4,7 @@ ghost use Rattle.std.specs.Io.KnownBytes.{Appends};
 ghost use Rattle.units.specs.declared.fault.Fault.{Fault};
 ghost use Rattle.units.specs.declared.fault.Fault.TheVariants.{Memory};
 ghost use Rattle.cli.specs.Failures.{FailsFor};
-ghost use Rattle.cli.specs.Replies.{commit_line, commit_stamp, done_line, once_reply};
+ghost use Rattle.cli.specs.Replies.{commit_line, first_stamp, done_line, once_reply};
 ghost use Rattle.cli.specs.Shards.{HasLog, IsLogged, new_log, log_after};
 ghost use Rattle.cli.specs.Streams.{failures_of, writer_of};
 ghost use Rattle.disk.specs.declared.plan.Plan.TheVariants.{Never};
@@ -63,7 +63,7 @@ fn commit_and_settle<O: Write>(
     ensures printed { IfOk result (λ status. (text : List ℕ) × (once_reply first.now second.now ≡ Ok (text, status))
         × Appends (O.contents (writer_of out.old)) (O.contents (writer_of out.new)) text) }
     ensures refused { (fault : Fault) → once_reply first.now second.now ≡ Err fault → out.new ≡ out.old }
-    ensures log { IfOk result (λ status. (stamp : ℕ) × (commit_stamp first.now ≡ Ok stamp)
+    ensures log { IfOk result (λ status. (stamp : ℕ) × (first_stamp first.now ≡ Ok stamp)
         × HasLog (log_after (nat_eq status 0) key value stamp) (seen core.new)) }
     ensures failures { IfErr result (λ failure.
         FailsFor (failures_of out.old < failures_of out.new) failure (once_reply first.now second.now)) }

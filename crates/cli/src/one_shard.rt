@@ -1,8 +1,8 @@
 //! One shard of all keys, on a disk in memory, for one transaction.
 ghost use Rattle.std.specs.Prelude.{◌≡◌, ◌⊎◌, ℕ, List, Ok, Err, IfErr, IfOk, MatchResult};
-ghost use Rattle.truetime.specs.Reading.{after};
+ghost use Rattle.truetime.specs.Reading.{surely_after};
 ghost use Rattle.units.specs.declared.fault.Fault.TheVariants.{Memory};
-ghost use Rattle.cli.specs.Replies.{commit_stamp, only_txn};
+ghost use Rattle.cli.specs.Replies.{first_stamp, only_txn};
 ghost use Rattle.cli.specs.Shards.{HasLog, only_setup, only_write, only_commit, new_log, decided_log, log_after};
 ghost use Rattle.disk.specs.declared.plan.Plan.TheVariants.{Never};
 ghost use Rattle.shard.specs.Core.{seen};
@@ -42,8 +42,8 @@ pub fn commit(
     at: &Reading,
 ) -> Result<Stamp, Fault>
     requires { HasLog new_log (seen core.old) }
-    ensures { MatchResult result (λ stamp. (commit_stamp at.now ≡ Ok stamp) × HasLog (decided_log key value stamp) (seen core.new))
-        (λ fault. (fault ≡ Memory) ⊎ (commit_stamp at.now ≡ Err fault)) }
+    ensures { MatchResult result (λ stamp. (first_stamp at.now ≡ Ok stamp) × HasLog (decided_log key value stamp) (seen core.new))
+        (λ fault. (fault ≡ Memory) ⊎ (first_stamp at.now ≡ Err fault)) }
 {
     let asked = only_commit(alloc, key, value)?;
     match core.on(alloc, at, &asked) {
@@ -59,7 +59,7 @@ pub fn commit(
 pub fn settle(alloc: Global, core: &mut Core<SimDisk>, at: &Reading) -> Result<bool, Fault>
     ensures { (key value : List ℕ) (stamp : ℕ) → HasLog (decided_log key value stamp) (seen core.old)
         → MatchResult result
-        (λ done. (done ≡ after at.now stamp) × HasLog (log_after done key value stamp) (seen core.new))
+        (λ done. (done ≡ surely_after at.now stamp) × HasLog (log_after done key value stamp) (seen core.new))
         (λ fault. fault ≡ Memory) }
 {
     match core.on(alloc, at, &Input::Settle(only_txn())) {

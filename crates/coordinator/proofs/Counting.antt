@@ -1,6 +1,7 @@
 -- One vote more: who has voted then, and the timestamp of the decision.
 use Rattle.std.specs.List.{list_any}
-use Rattle.std.proofs.Common.{◌≡◌, ◌∙◌, ℕ, zero, suc, ◌+◌, ◌-◌, ◌<◌, ◌≤◌, ◌^◌, ◌/◌, ◌%◌, max, Bool, true, false, not, cond, ◌&&◌, ◌||◌, nat_eq, List, [], ◌∷◌, ◌++◌, map, Option, Some, None, Ok, Err, refl, sym, ap, arith}
+use Rattle.std.proofs.Common.{◌≡◌, ◌∙◌, ℕ, zero, suc, ◌+◌, ◌-◌, ◌<◌, ◌≤◌, ◌^◌, ◌/◌, ◌%◌, max, Bool, true, false, not, cond, ◌&&◌, ◌||◌, nat_eq, List}
+use Rattle.std.proofs.Common.{[], ◌∷◌, ◌++◌, map, Option, Some, None, Ok, Err, refl, sym, ap, arith}
 use Rattle.std.proofs.lemmas.Bool.Decides.{nat_tests}
 use Rattle.units.specs.Lists.{greatest}
 use Rattle.units.specs.Ids.{Id}
@@ -128,15 +129,18 @@ marked_each votes except bits n mask h =
     by_test false ns = refl
 
 -- with one vote more
-voted_more : (votes : List CastVote) (p q n : ℕ) → list_any (λ v. nat_eq v.shard n) (more_votes p q votes) ≡ (list_any (λ v. nat_eq v.shard n) votes || nat_eq p n)
+voted_more : (votes : List CastVote) (p q n : ℕ) → list_any (λ v. nat_eq v.shard n) (more_votes p q votes) ≡
+    (list_any (λ v. nat_eq v.shard n) votes || nat_eq p n)
 unfolding more_votes
 voted_more votes p q n = voted-with (map voted_of votes) (record { shard = p; at = q }) n ∙ ap (λ b. b || nat_eq p n) (any_cast votes n)
 
 -- of a shard that voted before, and of one that did not
-pub voted_before : (votes : List CastVote) (p q n : ℕ) → list_any (λ v. nat_eq v.shard n) votes ≡ true → true ≡ list_any (λ v. nat_eq v.shard n) (more_votes p q votes)
+pub voted_before : (votes : List CastVote) (p q n : ℕ) → list_any (λ v. nat_eq v.shard n) votes ≡ true →
+    true ≡ list_any (λ v. nat_eq v.shard n) (more_votes p q votes)
 voted_before votes p q n e = sym (voted_more votes p q n ∙ ap (λ b. b || nat_eq p n) e)
 
-pub voted_last : (votes : List CastVote) (p q n : ℕ) → list_any (λ v. nat_eq v.shard n) votes ≡ false → nat_eq p n ≡ list_any (λ v. nat_eq v.shard n) (more_votes p q votes)
+pub voted_last : (votes : List CastVote) (p q n : ℕ) → list_any (λ v. nat_eq v.shard n) votes ≡ false →
+    nat_eq p n ≡ list_any (λ v. nat_eq v.shard n) (more_votes p q votes)
 voted_last votes p q n e = sym (voted_more votes p q n ∙ ap (λ b. b || nat_eq p n) e)
 
 -- ---- plans
@@ -148,7 +152,8 @@ pub count_kept : (b : Before) (n : ℕ) (t : Id) (p latest : ℕ) (ps : List ℕ
     → plan_count b n t (Some p) latest ps rs ws votes ≡ Ok (puts b [] t [] (counted n p (find_row b.memory.rows t)) None b.memory.last [])
 unfolding plan_count
 count_kept b n t p latest ps rs ws votes held row e =
-    ap (λ a. cond a (plan_decide b [] t latest ps rs ws [] (with_vote n p votes)) (Ok (puts b [] t [] (Collecting latest ps rs ws (with_vote n p votes)) None b.memory.last []))) e
+    ap (λ a. cond a (plan_decide b [] t latest ps rs ws [] (with_vote n p votes))
+        (Ok (puts b [] t [] (Collecting latest ps rs ws (with_vote n p votes)) None b.memory.last []))) e
     ∙ ap (λ (o : Option Row). Ok (puts b [] t [] (counted n p o) None b.memory.last [])) (sym row)
 
 -- the last yes
@@ -157,7 +162,8 @@ count_last : (b : Before) (n : ℕ) (t : Id) (p latest : ℕ) (ps : List ℕ) (r
     → plan_count b n t (Some p) latest ps rs ws votes ≡ plan_decide b [] t latest ps rs ws [] (with_vote n p votes)
 unfolding plan_count
 count_last b n t p latest ps rs ws votes e =
-    ap (λ a. cond a (plan_decide b [] t latest ps rs ws [] (with_vote n p votes)) (Ok (puts b [] t [] (Collecting latest ps rs ws (with_vote n p votes)) None b.memory.last []))) e
+    ap (λ a. cond a (plan_decide b [] t latest ps rs ws [] (with_vote n p votes))
+        (Ok (puts b [] t [] (Collecting latest ps rs ws (with_vote n p votes)) None b.memory.last []))) e
 
 pub count_late : (b : Before) (n : ℕ) (t : Id) (p latest : ℕ) (ps : List ℕ) (rs : List Bytes) (ws : List Write) (votes : List Voted)
     → all_voted (other_parts b.shard ps) (with_vote n p votes) ≡ true → 2 ^ 62 ≤ commit_stamp b.memory.last latest (with_vote n p votes)

@@ -1,6 +1,7 @@
 -- The plans of commits by the tests that the code makes.
 use Rattle.std.specs.List.{list_any}
-use Rattle.std.proofs.Common.{◌≡◌, ℕ, ◌+◌, ◌<◌, ◌≤◌, ◌^◌, nat_eq, nat_le, cond, not, Bool, true, false, ◌||◌, List, [], ◌∷◌, None, Ok, Err, Result, refl, sym, ap, subst, ◌∙◌, arith}
+use Rattle.std.proofs.Common.{◌≡◌, ℕ, ◌+◌, ◌<◌, ◌≤◌, ◌^◌, nat_eq, nat_le, cond, not, Bool, true, false, ◌||◌, List, [], ◌∷◌, None, Ok, Err, Result}
+use Rattle.std.proofs.Common.{refl, sym, ap, subst, ◌∙◌, arith}
 use Rattle.std.proofs.lemmas.Bool.{false≢true}
 use Rattle.std.proofs.lemmas.Bool.Decides.{nat_tests}
 use Rattle.units.specs.Ids.{Id}
@@ -13,7 +14,8 @@ use Rattle.units.specs.declared.writes.Write.{Write}
 use Rattle.message.specs.declared.message.Commit.{Commit}
 use Rattle.protocol.specs.Rows.{Voted, find_row, held_by, held_in}
 use Rattle.protocol.specs.Plan.{time_limit, Before, Planned, opens, in_way, is_crowded, roomed, timed}
-use Rattle.protocol.specs.Cells.{commit_stamp, other_parts, still_stand, plan_abort, plan_decide, plan_commit, plan_commit_fresh, plan_commit_now, plan_commit_granted}
+use Rattle.protocol.specs.Cells.{commit_stamp, other_parts, still_stand, plan_abort, plan_decide, plan_commit, plan_commit_fresh, plan_commit_now}
+use Rattle.protocol.specs.Cells.{plan_commit_granted}
 use Rattle.memory.specs.Kept.{Kept, start_of, standing_of, IsPlanned}
 use Rattle.memory.specs.declared.plan.Plan.{Plan}
 use Rattle.memory.specs.declared.state.Past.{Past}
@@ -35,13 +37,15 @@ timed_early s planned less = ap (λ a. cond a planned (Err TimeSpent)) (in_limit
 
 -- ---- decisions
 
-pub decide_late : (b : Before) (ended : List Id) (t : Id) (latest : ℕ) (ps : List ℕ) (rs : List Bytes) (ws : List Write) (needs : List Lock) (votes : List Voted)
+pub decide_late : (b : Before) (ended : List Id) (t : Id) (latest : ℕ) (ps : List ℕ) (rs : List Bytes) (ws : List Write) (needs : List Lock)
+    (votes : List Voted)
     → 2 ^ 62 ≤ commit_stamp b.memory.last latest votes → plan_decide b ended t latest ps rs ws needs votes ≡ Err TimeSpent
 unfolding plan_decide
 decide_late b ended t latest ps rs ws needs votes late =
     timed_late (commit_stamp b.memory.last latest votes) (Ok (decides b ended t needs (commit_stamp b.memory.last latest votes) ps rs ws)) late
 
-pub decide_made : (b : Before) (ended : List Id) (t : Id) (latest : ℕ) (ps : List ℕ) (rs : List Bytes) (ws : List Write) (needs : List Lock) (votes : List Voted) (at : ℕ)
+pub decide_made : (b : Before) (ended : List Id) (t : Id) (latest : ℕ) (ps : List ℕ) (rs : List Bytes) (ws : List Write) (needs : List Lock)
+    (votes : List Voted) (at : ℕ)
     → at ≡ commit_stamp b.memory.last latest votes → at < 2 ^ 62 → plan_decide b ended t latest ps rs ws needs votes ≡ Ok (decides b ended t needs at ps rs ws)
 unfolding plan_decide
 decide_made b ended t latest ps rs ws needs votes at is small =
@@ -87,7 +91,8 @@ pub resumed_late : (b : Before) (t : Id) (latest : ℕ) (ps : List ℕ) (rs : Li
 resumed_late b t latest ps rs ws none late =
     granted_alone b [] t latest ps rs ws b.shard none ∙ decide_late b [] t latest ps rs ws (exclusive ws) [] late
 
-pub resumed_decided : (b : Before) (t : Id) (latest : ℕ) (ps : List ℕ) (rs : List Bytes) (ws : List Write) (at : ℕ) → list_any (λ m. not (nat_eq m b.shard)) ps ≡ false
+pub resumed_decided : (b : Before) (t : Id) (latest : ℕ) (ps : List ℕ) (rs : List Bytes) (ws : List Write) (at : ℕ) →
+    list_any (λ m. not (nat_eq m b.shard)) ps ≡ false
     → at ≡ commit_stamp b.memory.last latest [] → at < 2 ^ 62
     → plan_commit_granted b [] t latest ps rs ws (other_parts b.shard ps) ≡ Ok (decides b [] t (exclusive ws) at ps rs ws)
 resumed_decided b t latest ps rs ws at none is small =
@@ -142,7 +147,8 @@ decided_late b latest m free none late =
 
 decided : (b : Before) (latest : ℕ) (m : Commit) (at : ℕ) (crowded : Bool) → opens b m.txn (exclusive m.writes) ≡ true
     → list_any (λ n. not (nat_eq n b.shard)) m.parts ≡ false → at ≡ commit_stamp b.memory.last latest [] → at < 2 ^ 62 → is_crowded b m.txn ≡ crowded
-    → plan_commit_now b latest m ≡ roomed crowded (Ok (decides b (in_way b m.txn (exclusive m.writes)) m.txn (exclusive m.writes) at m.parts m.reads.keys m.writes))
+    → plan_commit_now b latest m ≡ roomed crowded (Ok (decides b (in_way b m.txn (exclusive m.writes)) m.txn
+        (exclusive m.writes) at m.parts m.reads.keys m.writes))
 decided b latest m at crowded free none is small room =
     opened b latest m free
     ∙ ap (λ a. roomed a (granted_now b latest m)) room

@@ -5,7 +5,7 @@ ghost use Rattle.std.specs.Prelude.{◌≡◌, ◌≤◌, ◌+◌, List, ℕ, le
 ghost use Rattle.units.specs.declared.fault.Fault.TheVariants.{Memory};
 ghost use Rattle.disk.specs.declared.plan.Plan.{Plan};
 ghost use Rattle.disk.specs.Image.{MayLeave, after_write, after_cut, after_sync, tried_write, tried_cut, IsWithin};
-ghost use Rattle.disk.specs.File.{File, wrote, tried, cut, surface, changed, synced};
+ghost use Rattle.disk.specs.File.{File, wrote, tried, cut, surface, with_change, synced};
 ghost use Rattle.disk.specs.Planned.{fails, next, at_write, armed, IsAsPlanned};
 ghost use Rattle.disk.specs.Moments.{Elapses, HasCause};
 
@@ -68,7 +68,7 @@ pub trait Disk {
         requires { keeps_model → at ≤ length (surface (file self.old)).seen }
         ensures planned { (calls more : ℕ) → has_room self.old (calls + 1) (length bytes.now + more) →
             IsAsPlanned (fails (at_write (plan self.old))) result × has_room self.new calls more
-            × (file self.new ≡ changed (if fails (at_write (plan self.old)) then tried at bytes.now else wrote at bytes.now) (file self.old)) }
+            × (file self.new ≡ with_change (if fails (at_write (plan self.old)) then tried at bytes.now else wrote at bytes.now) (file self.old)) }
         ensures plan { plan self.new ≡ next (at_write (plan self.old)) }
         ensures fails { obeys → IsTrue (fails (at_write (plan self.old))) → IsErr result }
         ensures failed { obeys → OnErr result ((surface (file self.new)).seen ≡ (surface (file self.old)).seen) }
@@ -82,7 +82,7 @@ pub trait Disk {
         requires { keeps_model → len ≤ length (surface (file self.old)).seen }
         ensures planned { (calls more : ℕ) → has_room self.old (calls + 1) more →
             IsAsPlanned (fails (plan self.old)) result × has_room self.new calls more
-            × (file self.new ≡ (if fails (plan self.old) then file self.old else changed (cut len) (file self.old))) }
+            × (file self.new ≡ (if fails (plan self.old) then file self.old else with_change (cut len) (file self.old))) }
         ensures plan { plan self.new ≡ next (plan self.old) }
         ensures fails { obeys → IsTrue (fails (plan self.old)) → IsErr result }
         ensures failed { obeys → OnErr result (file self.new ≡ file self.old) }

@@ -9,14 +9,14 @@ use Rattle.record.specs.Records as records
 use Rattle.record.specs.Facts.{with_status, or_unrecorded}
 use Rattle.record.specs.Facts as facts
 use Rattle.facts.specs.declared.entry.Status.{Status}
-use Rattle.facts.specs.Shown.{meaning, meant, shown, status_in}
+use Rattle.facts.specs.Shown.{meaning, meant, shown_entries, status_in}
 
 -- the entry that is meant by one
 shown_one : Id × Status → facts.Entry
 shown_one e = record { txn = e.0; status = meaning e.1 }
 
 -- what is looked up is the status
-pub looked_up : (es : List (Id × Status)) (t : Id) → meant (lookup (same_id t) es) ≡ status_in (shown es) t
+pub looked_up : (es : List (Id × Status)) (t : Id) → meant (lookup (same_id t) es) ≡ status_in (shown_entries es) t
 unfolding shown_one
 looked_up es t =
     by_found (lookup (same_id t) es)
@@ -34,6 +34,7 @@ with_status_is (e ∷ es) t s =
     ap (λ l. cond (same_id e.txn t) (one ∷ es) (cond (older e.txn t) (e ∷ l) (one ∷ e ∷ es))) (with_status_is es t s)
 
 -- an entry given anew
-pub shown_with : (es : List (Id × Status)) (t : Id) (s : Status) → shown (with_member (λ e. e.0) es (t, s)) ≡ with_status (shown es) t (meaning s)
+pub shown_with : (es : List (Id × Status)) (t : Id) (s : Status) → shown_entries (with_member (λ e. e.0) es (t, s)) ≡
+    with_status (shown_entries es) t (meaning s)
 unfolding shown_one
-shown_with es t s = sym (with_status_is (shown es) t (meaning s) ∙ with-map (λ e. e.0) (λ (e : facts.Entry). e.txn) shown_one (λ e. refl) es (t, s))
+shown_with es t s = sym (with_status_is (shown_entries es) t (meaning s) ∙ with-map (λ e. e.0) (λ (e : facts.Entry). e.txn) shown_one (λ e. refl) es (t, s))

@@ -1,12 +1,13 @@
 -- What each record that follows keeps of a log: no id is both promised and decided, a decision's outcome is at its
 -- timestamp, and only an opening comes first.
 use Rattle.std.proofs.Common.{refl, sym, ◌∙◌, ap, subst, arith}
-use Rattle.std.proofs.lemmas.Bool.{eqb-true}
+use Rattle.std.proofs.lemmas.Bool.{eqb-true, or_parts, and_parts}
 use Rattle.std.proofs.lemmas.Bool.Decides.{nat_tests}
 use Rattle.std.specs.Prelude.{ℕ, ◌+◌, ◌≡◌, Bool, true, false, cond, ◌&&◌, ◌||◌, nat_lt, List, [], ◌∷◌, ◌++◌, Option, Some, None}
+use Rattle.std.proofs.lemmas.List.{append-nil}
 use Rattle.units.specs.Lists.{head}
 use Rattle.units.specs.Ids.{Id, same_id}
-use Rattle.units.proofs.Folds.{or_else, is_there, there_or_else, append_none}
+use Rattle.units.proofs.Folds.{or_else, is_there, there_or_else}
 use Rattle.units.proofs.IdLaws.{same_id-is}
 use Rattle.record.specs.Accepted.{begins, outcome_fits, follows, followed, followed_from}
 use Rattle.record.specs.Facts.{Facts, facts_of, learn}
@@ -15,7 +16,8 @@ use Rattle.record.specs.declared.record.Committed.{Committed}
 use Rattle.record.specs.declared.record.Prepared.{Prepared}
 use Rattle.record.specs.declared.record.Record.{Record}
 use Rattle.record.specs.declared.record.Record.TheVariants.{Opened, Ceiling, Prepare, Commit, Abort, Outcome}
-use Rattle.record.proofs.Sound.{both, Sound, sound_empty, sound_more, made, new_facts, prepare_new, commit_new, outcome_follows, opened_follows, prepared_more, committed_more, ended_more, single}
+use Rattle.record.proofs.Sound.{Sound, sound_empty, sound_more, made, new_facts, prepare_new, commit_new, outcome_follows, opened_follows}
+use Rattle.record.proofs.Sound.{prepared_more, committed_more, ended_more, single}
 use Rattle.record.proofs.LearnAgrees.{learns}
 
 -- the outcome of a decision is at its timestamp
@@ -124,10 +126,6 @@ fits_decided None (Some c) (Some s) x h one is =
     ap (λ n. Some n) (sym (eqb-true c.at s h) ∙ ap (λ (y : Committed). y.at) same)
 fits_decided None (Some c) None x h one is = cc
 
-neither : (a b : Bool) → (a || b) ≡ false → (a ≡ false) × (b ≡ false)
-neither true b e = cc
-neither false b e = (refl, e)
-
 unended : (log : List Record) (t : Id) → Sound log → made log t ≡ false → is_there (ended_of log t) ≡ false
 unended log t s m = by_test (is_there (ended_of log t)) refl
   where
@@ -143,7 +141,7 @@ settles_by shard log (Ceiling at) k h t = plain _ _ (k.settles t)
 settles_by shard log (Prepare p) k h t = plain _ _ (k.settles t)
 settles_by shard log (Commit c) k h t = decided (same_id c.txn t) (committed_of log t) (ended_of log t) c (k.settles t)
     (λ same. let m : made log t ≡ false = subst (λ v. made log v ≡ false) (same_id-is c.txn t same) ((new_facts log c.txn (commit_new shard log c h)).1) in
-    ((neither _ _ m).1, unended log t k.sound m))
+    ((or_parts _ _ m).1, unended log t k.sound m))
 settles_by shard log (Abort u) k h t = plain _ _ (k.settles t)
 settles_by shard log (Outcome u o) k h t = ends (same_id u t) (committed_of log t) (ended_of log t) (record { txn = u; outcome = o }) (k.settles t)
     (λ same x is. fits_decided (prepared_of log t) (committed_of log t) o x
@@ -162,7 +160,8 @@ is_begun_more : (log : List Record) (r : Record) → is_begun (log ++ r ∷ []) 
 is_begun_more [] r = refl
 is_begun_more (q ∷ qs) r = refl
 
-begun_other : (log : List Record) (r : Record) → begins log r ≡ is_begun log → begins log r ≡ true → is_begun log ≡ nat_lt 0 (epoch_of log) → true ≡ nat_lt 0 (epoch_of log)
+begun_other : (log : List Record) (r : Record) → begins log r ≡ is_begun log → begins log r ≡ true → is_begun log ≡ nat_lt 0 (epoch_of log) →
+    true ≡ nat_lt 0 (epoch_of log)
 begun_other log r e h b = sym h ∙ e ∙ b
 
 pub begins_ceiling : (log : List Record) (at : ℕ) → begins log (Ceiling at) ≡ is_begun log
@@ -223,10 +222,10 @@ append_one [] x ys = refl
 append_one (w ∷ ws) x ys = ap (λ l. w ∷ l) (append_one ws x ys)
 
 kept_from : (shard : ℕ) (before log : List Record) → Kept before → followed_from shard before log ≡ true → Kept (before ++ log)
-kept_from shard before [] k h = subst Kept (sym (append_none before)) k
+kept_from shard before [] k h = subst Kept (sym (append-nil before)) k
 kept_from shard before (r ∷ rs) k h =
-    let p : (begins before r ≡ true) × (follows shard before r ≡ true) = both _ _ ((both _ _ h).0) in
-    subst Kept (append_one before r rs) (kept_from shard (before ++ r ∷ []) rs (kept_more shard before r k p.0 p.1) ((both _ _ h).1))
+    let p : (begins before r ≡ true) × (follows shard before r ≡ true) = and_parts _ _ ((and_parts _ _ h).0) in
+    subst Kept (append_one before r rs) (kept_from shard (before ++ r ∷ []) rs (kept_more shard before r k p.0 p.1) ((and_parts _ _ h).1))
 
 pub kept_followed : (shard : ℕ) (log : List Record) → followed shard log ≡ true → Kept log
 unfolding followed

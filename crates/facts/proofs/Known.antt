@@ -1,23 +1,27 @@
 -- What the facts alone tell of a log.
 use Rattle.std.proofs.Common.{refl, sym, ◌∙◌, ap}
 use Rattle.std.specs.Prelude.{ℕ, ◌+◌, ◌≡◌, Bool, true, false, not, cond, ◌&&◌, ◌||◌, nat_eq, nat_lt, List, [], ◌∷◌, ◌++◌, Option, Some, None, option_map}
+use Rattle.std.proofs.lemmas.Bool.{and_parts}
+use Rattle.std.proofs.lemmas.List.{append-nil}
 use Rattle.units.specs.Lists.{head, when}
 use Rattle.units.specs.Ids.{Id}
-use Rattle.units.proofs.Folds.{is_there, append_none}
+use Rattle.units.proofs.Folds.{is_there}
 use Rattle.record.specs.Accepted.{begins, is_new, outcome_fits, follows, followed, followed_from}
 use Rattle.record.specs.Facts.{facts_of, learn, recorded}
-use Rattle.record.specs.Records.{Ended, Status, Unrecorded, StandsPrepared, StandsDecided, HasAborted, HasSettled, HasClosed, prepared_of, committed_of, is_aborted, ended_of, epoch_of, status_by, status_of}
+use Rattle.record.specs.Records.{Ended, Status, Unrecorded, StandsPrepared, StandsDecided, HasAborted, HasSettled, HasClosed, prepared_of}
+use Rattle.record.specs.Records.{committed_of, is_aborted, ended_of, epoch_of, status_by, status_of}
 use Rattle.record.specs.declared.record.Committed.{Committed}
 use Rattle.record.specs.declared.record.Prepared.{Prepared}
 use Rattle.record.specs.declared.record.Record.{Record}
 use Rattle.record.specs.declared.record.Record.TheVariants.{Opened, Ceiling, Prepare, Commit, Abort, Outcome}
-use Rattle.record.proofs.Sound.{both, made}
+use Rattle.record.proofs.Sound.{made}
 use Rattle.record.proofs.LearnAgrees.{learns, followed_more}
 use Rattle.record.proofs.Statuses.{recorded_is}
 use Rattle.facts.specs.Laws.{FollowsAsKnown, LearntAsFollowed, SaysOfRecords, SaysOf, learnt_from}
 use Rattle.facts.specs.Readers.{standing_promise, standing_decision, has_abort, outcome_in}
 use Rattle.facts.specs.Rules.{is_unrecorded, allows, follows_facts}
-use Rattle.facts.proofs.Kept.{Kept, Settles, kept_empty, kept_more, kept_followed, append_one, begins_ceiling, begins_prepare, begins_commit, begins_abort, begins_outcome}
+use Rattle.facts.proofs.Kept.{Kept, Settles, kept_empty, kept_more, kept_followed, append_one, begins_ceiling, begins_prepare, begins_commit}
+use Rattle.facts.proofs.Kept.{begins_abort, begins_outcome}
 
 -- ---- the rules of one id
 
@@ -107,7 +111,7 @@ follows_as_known shard log r h =
 
 learnt_by : (shard : ℕ) (before log : List Record) → Kept before →
     learnt_from shard (facts_of before) log ≡ cond (followed_from shard before log) (Some (facts_of (before ++ log))) None
-learnt_by shard before [] k = ap (λ l. Some (facts_of l)) (sym (append_none before))
+learnt_by shard before [] k = ap (λ l. Some (facts_of l)) (sym (append-nil before))
 learnt_by shard before (r ∷ rs) k = by_test (begins before r && follows shard before r) refl (learnt_by shard (before ++ r ∷ []) rs)
   where
     by_test : (b : Bool) → (begins before r && follows shard before r) ≡ b →
@@ -115,7 +119,7 @@ learnt_by shard before (r ∷ rs) k = by_test (begins before r && follows shard 
         ≡ cond (followed_from shard (before ++ r ∷ []) rs) (Some (facts_of ((before ++ r ∷ []) ++ rs))) None) →
         learnt_from shard (facts_of before) (r ∷ rs) ≡ cond (followed_from shard before (r ∷ rs)) (Some (facts_of (before ++ r ∷ rs))) None
     by_test true e rest =
-        let p : (begins before r ≡ true) × (follows shard before r ≡ true) = both _ _ e in
+        let p : (begins before r ≡ true) × (follows shard before r ≡ true) = and_parts _ _ e in
         ap (λ b. cond b (learnt_from shard (learn (facts_of before) r) rs) None) (sym (known_next shard before r k) ∙ e)
         ∙ ap (λ f. learnt_from shard f rs) (sym (learns shard before r k.sound p.1))
         ∙ rest (kept_more shard before r k p.0 p.1)

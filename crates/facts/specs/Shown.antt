@@ -23,12 +23,12 @@ meant None = Unrecorded
 meant (Some s) = meaning s
 
 -- the entries that are meant
-abbrev pub shown : List (Id × Status) → List facts.Entry
-shown es = map (λ e. record { txn = e.0; status = meaning e.1 }) es
+abbrev pub shown_entries : List (Id × Status) → List facts.Entry
+shown_entries es = map (λ e. record { txn = e.0; status = meaning e.1 }) es
 
 -- each id is older than all behind it
-abbrev pub IsAscending : List (Id × Status) → Type 0
-IsAscending es = IsById (λ e. e.0) es
+abbrev pub AscendsById : List (Id × Status) → Type 0
+AscendsById es = IsById (λ e. e.0) es
 
 -- the status of an id among some entries
 abbrev pub status_in : List facts.Entry → Id → records.Status

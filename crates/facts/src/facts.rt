@@ -5,7 +5,7 @@ ghost use Rattle.units.specs.declared.fault.Fault.TheVariants.{Memory, Damaged};
 ghost use Rattle.record.specs.Facts.{facts_of, learn, recorded, after_outcome};
 ghost use Rattle.facts.specs.Readers.{standing_promise, standing_decision, has_abort, outcome_in};
 ghost use Rattle.facts.specs.Rules.{follows_facts, is_unrecorded, allows};
-ghost use Rattle.facts.specs.Shown.{meaning, meant, shown, IsAscending};
+ghost use Rattle.facts.specs.Shown.{meaning, meant, shown_entries, AscendsById};
 
 use crate::Status;
 use crate::table::{install, put};
@@ -31,18 +31,18 @@ impl Model for Facts {
     ghost use Rattle.std.specs.Prelude.{◌<◌, ◌^◌, ◌-◌, vec_len, vec_capacity};
     ghost use Rattle.indexmap.specs.IndexMap.{spare};
     ghost use Rattle.facts.specs.Known.{Known, room_for};
-    ghost use Rattle.facts.specs.Shown.{shown, IsAscending};
+    ghost use Rattle.facts.specs.Shown.{shown_entries, AscendsById};
     ghost use Rattle.record.specs.Facts.{facts_with};
 
     ghost Value = { Known };
 
     ghost view = { λ f. record {
       shard = f.shard;
-      facts = facts_with f.epoch f.floor (shown f.statuses.entries) f.installs.items;
+      facts = facts_with f.epoch f.floor (shown_entries f.statuses.entries) f.installs.items;
       room = room_for (spare f.statuses) (vec_capacity f.installs - vec_len f.installs);
     } };
 
-    ghost invariant = { λ f. (f.epoch < 2 ^ 62) × IsAscending f.statuses.entries };
+    ghost invariant = { λ f. (f.epoch < 2 ^ 62) × AscendsById f.statuses.entries };
 }
 
 impl Facts {
@@ -133,8 +133,8 @@ impl Facts {
     /// The transactions that have a record, by ascending id, each with how it stands. The slice is gone over by `for`, or read
     /// by place with `len` and `get_index`.
     pub fn entries(&self) -> Slice<'_, TxnId, Status>
-        ensures entries { shown result ≡ self.now.facts.entries }
-        ensures ascending { IsAscending result }
+        ensures entries { shown_entries result ≡ self.now.facts.entries }
+        ensures ascending { AscendsById result }
     {
         self.statuses.as_slice()
     }

@@ -3,7 +3,7 @@ ghost use Rattle.std.specs.Prelude.{◌≡◌, ◌+◌, ◌<◌, ◌≤◌, ◌+
 ghost use Rattle.indexmap.specs.IndexMap.{spare};
 ghost use Rattle.units.specs.Versions.{versions};
 ghost use Rattle.record.specs.Facts.{with_status, installs_at};
-ghost use Rattle.facts.specs.Shown.{meaning, meant, shown, status_in, IsAscending};
+ghost use Rattle.facts.specs.Shown.{meaning, meant, shown_entries, status_in, AscendsById};
 
 use crate::Status;
 use indexmap::IndexMap;
@@ -11,11 +11,11 @@ use units::{Install, Stamp, TxnId, Write, Writes};
 
 /// Sets how a transaction stands, and hands back how it stood. It takes no memory.
 pub fn put(statuses: &mut IndexMap<TxnId, Status>, txn: TxnId, status: Status) -> Option<Status>
-    requires order { IsAscending statuses.old.entries }
+    requires order { AscendsById statuses.old.entries }
     requires room { 1 ≤ spare statuses.old }
-    ensures entries { shown statuses.new.entries ≡ with_status (shown statuses.old.entries) txn (meaning status) }
-    ensures former { meant result ≡ status_in (shown statuses.old.entries) txn }
-    ensures order { IsAscending statuses.new.entries }
+    ensures entries { shown_entries statuses.new.entries ≡ with_status (shown_entries statuses.old.entries) txn (meaning status) }
+    ensures former { meant result ≡ status_in (shown_entries statuses.old.entries) txn }
+    ensures order { AscendsById statuses.new.entries }
 {
     match statuses.insert_sorted(txn, status) {
         Ok((_, former)) => former,

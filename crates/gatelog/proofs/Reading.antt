@@ -1,5 +1,6 @@
 -- Reading the entries of a file one behind the other, as a loop does.
-use Rattle.std.proofs.Common.{◌≡◌, ◌≢◌, inl, inr, ℕ, ◌+◌, ◌-◌, ◌<◌, ◌≤◌, eqb, true, false, not, List, [], ◌∷◌, ◌++◌, length, get_or, take, drop, Some, None, Ok, Err, refl, sym, ap, ◌∙◌, append_assoc, arith}
+use Rattle.std.proofs.Common.{◌≡◌, ◌≢◌, inl, inr, ℕ, ◌+◌, ◌-◌, ◌<◌, ◌≤◌, eqb, true, false, not, List, [], ◌∷◌, ◌++◌, length, get_or, take, drop, Some}
+use Rattle.std.proofs.Common.{None, Ok, Err, refl, sym, ap, ◌∙◌, append_assoc, arith}
 use Rattle.std.specs.Prelude.{bytes_eq}
 use Rattle.std.proofs.lemmas.Bool.{eq-eqb, cases_Bool, false≢true}
 use Rattle.std.proofs.lemmas.Slice.Eq.{bytes_eq-Decides}
@@ -7,7 +8,8 @@ use Rattle.std.proofs.lemmas.List.{drop_more, drop-drop, length-drop, length-tak
 use Rattle.units.specs.declared.fault.Fault.TheVariants.{Damaged, NotALog}
 use Rattle.record.specs.declared.record.Record.{Record}
 use Rattle.gatelog.specs.Placed.{Placed}
-use Rattle.gatelog.specs.Frames.{header, open_gate}
+use Rattle.gatelog.specs.Frames.{header}
+use Rattle.gatelog.specs.Gates.{open_gate}
 use Rattle.gatelog.specs.Log.{framed, with_entry, entries_at, scan}
 use Rattle.gatelog.proofs.Scan.{Found, with_entries, frame_parts, open_step, closed_step, skips}
 
@@ -62,10 +64,12 @@ module _ (image : List ℕ) (es : List Placed) (at : ℕ) (total : Found) (so_fa
             ∙ ap (λ (l : List ℕ). entries_at (at + 1 + size) 0 l) (drop-drop size (at + 1) image)
             ∙ ap (λ (n : ℕ). entries_at n 0 (drop n image)) end
 
-        pub goes_on_behind : with_entries (es ++ (record { offset = at; item = item }) ∷ []) (entries_at (at + (1 + size)) 0 (drop (at + (1 + size)) image)) ≡ total
+        pub goes_on_behind : with_entries (es ++ (record { offset = at; item = item }) ∷ [])
+            (entries_at (at + (1 + size)) 0 (drop (at + (1 + size)) image)) ≡ total
         goes_on_behind =
             let entry : Placed = record { offset = at; item = item } in
-            sym (from_gate ∙ ap (with_entries es) (open_step at (get_or image at 0) (drop (at + 1) image) item size opened is ∙ ap (with_entry entry) past_frame)
+            sym (from_gate ∙ ap (with_entries es) (open_step at (get_or image at 0) (drop (at + 1) image) item size opened is
+                ∙ ap (with_entry entry) past_frame)
             ∙ one_more es entry (entries_at (at + (1 + size)) 0 (drop (at + (1 + size)) image)))
 
   pub ends_there : length image ≤ at → total ≡ Err (Damaged at)

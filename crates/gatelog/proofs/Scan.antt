@@ -1,5 +1,6 @@
 -- What a scan finds in the front of a file, it finds again in each file with this front.
-use Rattle.std.proofs.Common.{◌≡◌, ◌≢◌, inl, inr, ℕ, zero, suc, ◌+◌, ◌-◌, ◌^◌, ◌<◌, ◌≤◌, ◌&&◌, Bool, true, false, cond, leb, eqb, List, [], ◌∷◌, ◌++◌, length, take, drop, Option, Some, None, Result, Ok, Err, refl, sym, ap, ◌∙◌, append_assoc, add-zero, arith}
+use Rattle.std.proofs.Common.{◌≡◌, ◌≢◌, inl, inr, ℕ, zero, suc, ◌+◌, ◌-◌, ◌^◌, ◌<◌, ◌≤◌, ◌&&◌, Bool, true, false, cond, leb, eqb, List, [], ◌∷◌, ◌++◌}
+use Rattle.std.proofs.Common.{length, take, drop, Option, Some, None, Result, Ok, Err, refl, sym, ap, ◌∙◌, append_assoc, add-zero, arith}
 use Rattle.std.specs.Prelude.{bytes_eq}
 use Rattle.std.specs.Int.{w32, from_be_bytes, to_be_bytes}
 use Rattle.std.proofs.lemmas.Bool.{cases_Bool, le-leb, leb-true, eqb-true, eq-eqb, ne_eqb, and_parts, true≢false}
@@ -12,8 +13,9 @@ use Rattle.record.specs.Grammar.{spelling, IsRecord}
 use Rattle.record.specs.Reading.{◌>>=◌, only_if, number_at, text_at, read_record}
 use Rattle.record.proofs.Again.{wide32, read_again}
 use Rattle.gatelog.specs.Placed.{Placed}
-use Rattle.gatelog.specs.Frames.{header, open_gate, behind_gate}
-use Rattle.gatelog.specs.Log.{framed, taken, with_entry, with_frame, entries_at, scan}
+use Rattle.gatelog.specs.Frames.{header, behind_gate}
+use Rattle.gatelog.specs.Gates.{open_gate}
+use Rattle.gatelog.specs.Log.{framed, frame_length, with_entry, with_frame, entries_at, scan}
 
 abbrev pub Found : Type 0
 Found = Result (List Placed × ℕ) Fault
@@ -37,7 +39,8 @@ ok_parts es fs g h e =
     (ap (λ (p : List Placed × ℕ). p.0) both, ap (λ (p : List Placed × ℕ). p.1) both)
 
 -- what stands behind an entry
-behind_entry : (e : Placed) (found : Found) (es : List Placed) (g : ℕ) → with_entry e found ≡ Ok (es, g) → (rest : List Placed) × (found ≡ Ok (rest, g)) × (es ≡ e ∷ rest)
+behind_entry : (e : Placed) (found : Found) (es : List Placed) (g : ℕ) → with_entry e found ≡ Ok (es, g) → (rest : List Placed)
+    × (found ≡ Ok (rest, g)) × (es ≡ e ∷ rest)
 behind_entry e (Ok found) es g h =
     let parts = ok_parts (e ∷ found.0) es found.1 g h in
     (found.0, ap (λ (k : ℕ). Ok (found.0, k)) parts.1, sym parts.0)
@@ -45,10 +48,12 @@ behind_entry e (Err fault) es g h = absurd cc
 
 -- a gate is open and has a frame, or it is closed
 pub data AtGate (at : ℕ) (bytes : List ℕ) (gate : ℕ) (es : List Placed) (end : ℕ) : Type 0 where
-  is_open : (item : Record) (count : ℕ) (rest : List Placed) → gate ≡ open_gate → framed bytes ≡ Some (item, count) → entries_at (at + 1) count bytes ≡ Ok (rest, end) → es ≡ (record { offset = at; item = item }) ∷ rest → AtGate at bytes gate es end
+  is_open : (item : Record) (count : ℕ) (rest : List Placed) → gate ≡ open_gate → framed bytes ≡ Some (item, count) →
+      entries_at (at + 1) count bytes ≡ Ok (rest, end) → es ≡ (record { offset = at; item = item }) ∷ rest → AtGate at bytes gate es end
   is_closed : gate ≢ open_gate → es ≡ [] → end ≡ at → AtGate at bytes gate es end
 
-at_frame : (at : ℕ) (bytes : List ℕ) (gate : ℕ) (es : List Placed) (end : ℕ) (frame : Option (Record × ℕ)) → gate ≡ open_gate → framed bytes ≡ frame → with_frame at frame (entries_at (at + 1) (taken frame) bytes) ≡ Ok (es, end) → AtGate at bytes gate es end
+at_frame : (at : ℕ) (bytes : List ℕ) (gate : ℕ) (es : List Placed) (end : ℕ) (frame : Option (Record × ℕ)) → gate ≡ open_gate →
+    framed bytes ≡ frame → with_frame at frame (entries_at (at + 1) (frame_length frame) bytes) ≡ Ok (es, end) → AtGate at bytes gate es end
 at_frame at bytes gate es end (Some frame) opened is h =
     let more = behind_entry (record { offset = at; item = frame.0 }) (entries_at (at + 1) frame.1 bytes) es end h in
     is_open frame.0 frame.1 more.0 opened is more.1 more.2
@@ -64,7 +69,8 @@ at_gate at gate bytes es end h = elim (cases_Bool (eqb gate open_gate)) [
       is_closed (λ same. true≢false (sym (eq-eqb gate open_gate same) ∙ other)) (sym parts.0) (sym parts.1)
 ]
 
-pub open_step : (at gate : ℕ) (bytes : List ℕ) (item : Record) (count : ℕ) → gate ≡ open_gate → framed bytes ≡ Some (item, count) → entries_at at 0 (gate ∷ bytes) ≡ with_entry (record { offset = at; item = item }) (entries_at (at + 1) count bytes)
+pub open_step : (at gate : ℕ) (bytes : List ℕ) (item : Record) (count : ℕ) → gate ≡ open_gate → framed bytes ≡ Some (item, count) →
+    entries_at at 0 (gate ∷ bytes) ≡ with_entry (record { offset = at; item = item }) (entries_at (at + 1) count bytes)
 unfolding entries_at
 open_step at gate bytes item count opened is =
     let yes : eqb gate open_gate ≡ true = eq-eqb gate open_gate opened in
@@ -163,7 +169,8 @@ frame_from bytes item count h =
 -- a frame depends on its own bytes alone
 pub frame_same : (xs ys : List ℕ) (item : Record) (count : ℕ) → IsFrame xs item count → take (4 + count) ys ≡ take (4 + count) xs → IsFrame ys item count
 frame_same xs ys item count h same =
-    let four : take 4 ys ≡ take 4 xs = sym (take-take 4 (4 + count) ys (omega arith)) ∙ ap (λ (l : List ℕ). take 4 l) same ∙ take-take 4 (4 + count) xs (omega arith) in
+    let four : take 4 ys ≡ take 4 xs = sym (take-take 4 (4 + count) ys (omega arith)) ∙ ap (λ (l : List ℕ). take 4 l) same
+        ∙ take-take 4 (4 + count) xs (omega arith) in
     let body : take count (drop 4 ys) ≡ take count (drop 4 xs) = sym (drop-take 4 count ys) ∙ ap (λ (l : List ℕ). drop 4 l) same ∙ drop-take 4 count xs in
     record {
       long = omega (arith, h.long, ap length same, length-take (4 + count) ys, length-take (4 + count) xs);
@@ -174,18 +181,22 @@ frame_same xs ys item count h same =
     }
 
 -- the frame that was staged
-pub frame_again : (item : Record) (rest : List ℕ) → IsRecord item → 1 ≤ length (spelling item) → length (spelling item) ≤ 2 ^ 20 → IsFrame (behind_gate item ++ rest) item (length (spelling item))
+pub frame_again : (item : Record) (rest : List ℕ) → IsRecord item → 1 ≤ length (spelling item) → length (spelling item) ≤ 2 ^ 20 →
+    IsFrame (behind_gate item ++ rest) item (length (spelling item))
 frame_again item rest fits least most =
     let front = to_be_bytes w32 (length (spelling item)) in
     let grouped : behind_gate item ++ rest ≡ front ++ (spelling item ++ rest) = append_assoc front (spelling item) rest in
     let four : take 4 (behind_gate item ++ rest) ≡ front = ap (λ (l : List ℕ). take 4 l) grouped ∙ take_at front (spelling item ++ rest) 4 refl in
-    let after : drop 4 (behind_gate item ++ rest) ≡ spelling item ++ rest = ap (λ (l : List ℕ). drop 4 l) grouped ∙ drop_at front (spelling item ++ rest) 4 refl in
+    let after : drop 4 (behind_gate item ++ rest) ≡ spelling item ++ rest = ap (λ (l : List ℕ). drop 4 l) grouped
+        ∙ drop_at front (spelling item ++ rest) 4 refl in
     record {
-      long = omega (arith, ap length grouped, length-append front (spelling item ++ rest), length-append (spelling item) rest, wide32.len (length (spelling item)));
+      long = omega (arith, ap length grouped, length-append front (spelling item ++ rest), length-append (spelling item) rest,
+          wide32.len (length (spelling item)));
       is = ap (from_be_bytes w32) four ∙ wide32.again (length (spelling item)) (omega (arith, most));
       least = least;
       most = most;
-      reads = ap (λ (l : List ℕ). read_record (take (length (spelling item)) l)) after ∙ ap read_record (take_at (spelling item) rest (length (spelling item)) refl) ∙ read_again item fits;
+      reads = ap (λ (l : List ℕ). read_record (take (length (spelling item)) l)) after ∙ ap read_record
+          (take_at (spelling item) rest (length (spelling item)) refl) ∙ read_again item fits;
     }
 
 -- ---- a front of a file
@@ -226,8 +237,10 @@ goes_on (x ∷ xs) (y ∷ ys) at zero (suc k) es h same long =
           let more_at : entries_at (at + 1) size xs ≡ Ok (rest, (at + 1) + k) = more ∙ ap (λ (n : ℕ). Ok (rest, n)) end in
           let fits : size ≤ k = omega (arith, (later xs (at + 1) size rest (at + suc k) more).0) in
           let within : 4 + count ≤ k = omega (arith, frame.1, fits) in
-          let same_frame : take (4 + count) ys ≡ take (4 + count) xs = sym (take-take (4 + count) k ys within) ∙ ap (λ (l : List ℕ). take (4 + count) l) heads.1 ∙ take-take (4 + count) k xs within in
-          let again : framed ys ≡ Some (item, size) = frame_from ys item count (frame_same xs ys item count frame.2 same_frame) ∙ ap (λ (n : ℕ). Some (item, n)) (sym frame.1) in
+          let same_frame : take (4 + count) ys ≡ take (4 + count) xs = sym (take-take (4 + count) k ys within)
+              ∙ ap (λ (l : List ℕ). take (4 + count) l) heads.1 ∙ take-take (4 + count) k xs within in
+          let again : framed ys ≡ Some (item, size) = frame_from ys item count (frame_same xs ys item count frame.2 same_frame)
+              ∙ ap (λ (n : ℕ). Some (item, n)) (sym frame.1) in
           open_step at y ys item size (heads.0 ∙ opened) again
           ∙ ap (with_entry entry) (goes_on xs ys (at + 1) size k rest more_at heads.1 (omega arith))
           ∙ with_entries-cons entry rest (entries_at ((at + 1) + k) 0 (drop k ys))
@@ -252,7 +265,8 @@ skips (x ∷ front) rest at =
 -- ---- a whole file
 
 -- the parts of a scan
-pub scan_parts : (image : List ℕ) (es : List Placed) (gate : ℕ) → scan image ≡ Ok (es, gate) → (take 8 image ≡ header) × (entries_at 8 0 (drop 8 image) ≡ Ok (es, gate))
+pub scan_parts : (image : List ℕ) (es : List Placed) (gate : ℕ) → scan image ≡ Ok (es, gate) → (take 8 image ≡ header)
+    × (entries_at 8 0 (drop 8 image) ≡ Ok (es, gate))
 unfolding scan
 scan_parts image es gate h = elim (cases_Bool (bytes_eq (take 8 image) header)) [
   | inl same ↦ ((bytes_eq-Decides (take 8 image) header).0 same, rw same at h)
@@ -285,7 +299,8 @@ scan_goes_on image other es gate h same long =
     let split : gate ≡ 8 + k = omega (arith, lies.0) in
     let front : take 8 other ≡ header = sym (take-take 8 gate other lies.0) ∙ ap (λ (l : List ℕ). take 8 l) same ∙ take-take 8 gate image lies.0 ∙ parts.0 in
     let behind : take k (drop 8 other) ≡ take k (drop 8 image) =
-    sym (drop-take 8 k other) ∙ ap (λ (n : ℕ). drop 8 (take n other)) (sym split) ∙ ap (λ (l : List ℕ). drop 8 l) same ∙ ap (λ (n : ℕ). drop 8 (take n image)) split ∙ drop-take 8 k image in
+    sym (drop-take 8 k other) ∙ ap (λ (n : ℕ). drop 8 (take n other)) (sym split) ∙ ap (λ (l : List ℕ). drop 8 l) same
+        ∙ ap (λ (n : ℕ). drop 8 (take n image)) split ∙ drop-take 8 k image in
     let found : entries_at 8 0 (drop 8 image) ≡ Ok (es, 8 + k) = parts.1 ∙ ap (λ (n : ℕ). Ok (es, n)) split in
     scan_from other front
     ∙ goes_on (drop 8 image) (drop 8 other) 8 0 k es found behind (omega (arith, long, length-drop 8 other))

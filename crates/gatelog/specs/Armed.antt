@@ -4,10 +4,10 @@ use Rattle.units.specs.declared.fault.Fault.{Fault}
 use Rattle.disk.specs.declared.plan.Plan.{Plan}
 use Rattle.disk.specs.declared.plan.Fate.{Fate}
 use Rattle.disk.specs.declared.plan.Fate.TheVariants.{Old, New, Filled}
-use Rattle.disk.specs.File.{File, wrote, tried, changed, synced, surface, crashed}
+use Rattle.disk.specs.File.{File, wrote, tried, with_change, synced, surface, crash_leaves}
 use Rattle.disk.specs.Planned.{fails, next, at_write}
 use Rattle.gatelog.specs.Placed.{Placed}
-use Rattle.gatelog.specs.Frames.{open_gate}
+use Rattle.gatelog.specs.Gates.{open_gate, is_left, is_read}
 use Rattle.gatelog.specs.Log.{log, and_entry}
 
 -- one of a write and the sync behind it fails
@@ -21,7 +21,8 @@ after_two plan = next (next (at_write plan))
 -- the file behind the one that fails, or behind both
 abbrev pub two_made : Plan → ℕ → List ℕ → File → File
 two_made plan at bytes file =
-    if fails (at_write plan) then changed (tried at bytes) file else (if fails (next (at_write plan)) then changed (wrote at bytes) file else synced (changed (wrote at bytes) file))
+    if fails (at_write plan) then with_change (tried at bytes) file else (if fails (next (at_write plan)) then with_change
+        (wrote at bytes) file else synced (with_change (wrote at bytes) file))
 
 -- one of the four calls of an append fails
 abbrev pub fails_in_append : Plan → Bool
@@ -34,20 +35,6 @@ appended plan gate bytes file =
 
 -- ---- in terms of the log
 
--- a read gives the record, where this call fails
-abbrev pub is_read : ℕ → Bool
-is_read call = nat_le 3 call
-
--- a gate with this fate is open behind a crash
-abbrev pub opens : Fate → Bool
-opens Old = false
-opens New = true
-opens (Filled byte) = byte == open_gate
-
--- a crash leaves the record, where this call fails and the oldest change that is not synced has this fate
-abbrev pub is_left : ℕ → Fate → Bool
-is_left call fate = if nat_le call 1 then false else (if nat_le call 3 then opens fate else true)
-
 -- a log, with the entry where a test holds
 abbrev pub with_if : Bool → Result (List Placed) Fault → Placed → Result (List Placed) Fault
 with_if true entries entry = and_entry entries entry
@@ -57,4 +44,4 @@ with_if false entries entry = entries
 -- crash leaves it.
 pub record IsArmed (call : ℕ) (entries : Result (List Placed) Fault) (entry : Placed) (file : File) : Type 0 where
   pub read : log (surface file).seen ≡ with_if (is_read call) entries entry
-  pub left : (fates : List Fate) → log (crashed fates file) ≡ with_if (is_left call (get_or fates 0 Old)) entries entry
+  pub left : (fates : List Fate) → log (crash_leaves fates file) ≡ with_if (is_left call (get_or fates 0 Old)) entries entry

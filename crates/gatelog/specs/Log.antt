@@ -1,12 +1,14 @@
 -- The log of a file: the records before the first gate that is not open, each with the offset of its gate.
-use Rattle.std.specs.Prelude.{ℕ, zero, suc, ◌+◌, ◌^◌, ◌&&◌, Bool, false, true, List, [], ◌∷◌, ◌++◌, take, drop, Option, Some, None, Result, Ok, Err, nat_le, ◌==◌, if◌then◌else◌, bytes_eq}
+use Rattle.std.specs.Prelude.{ℕ, zero, suc, ◌+◌, ◌^◌, ◌&&◌, Bool, false, true, List, [], ◌∷◌, ◌++◌, take, drop, Option, Some, None, Result, Ok, Err}
+use Rattle.std.specs.Prelude.{nat_le, ◌==◌, if◌then◌else◌, bytes_eq}
 use Rattle.std.specs.Int.{w32}
 use Rattle.units.specs.declared.fault.Fault.{Fault}
 use Rattle.units.specs.declared.fault.Fault.TheVariants.{Damaged, NotALog}
 use Rattle.record.specs.declared.record.Record.{Record}
 use Rattle.record.specs.Reading.{◌>>=◌, number_at, text_at, read_record}
 use Rattle.gatelog.specs.Placed.{Placed}
-use Rattle.gatelog.specs.Frames.{header, first_gate, open_gate}
+use Rattle.gatelog.specs.Frames.{header}
+use Rattle.gatelog.specs.Gates.{first_gate, open_gate}
 
 -- The record behind an open gate, and how many bytes it takes there. There is none where the length is 0, above 2^20
 -- or past the end, or where the body is no record.
@@ -18,9 +20,9 @@ framed bytes = do
   Some (item, 4 + count.0)
 
 -- how many bytes a frame takes behind its gate, 0 where there is none
-abbrev pub taken : Option (Record × ℕ) → ℕ
-taken (Some frame) = frame.1
-taken None = 0
+abbrev pub frame_length : Option (Record × ℕ) → ℕ
+frame_length (Some frame) = frame.1
+frame_length None = 0
 
 -- an entry, and then what follows it
 abbrev pub with_entry : Placed → Result (List Placed × ℕ) Fault → Result (List Placed × ℕ) Fault
@@ -37,7 +39,7 @@ unfoldable pub entries_at : ℕ → ℕ → List ℕ → Result (List Placed × 
 entries_at at skip [] = Err (Damaged at)
 entries_at at (suc skip) (byte ∷ bytes) = entries_at (at + 1) skip bytes
 entries_at at zero (gate ∷ bytes) =
-    if gate == open_gate then with_frame at (framed bytes) (entries_at (at + 1) (taken (framed bytes)) bytes) else Ok ([], at)
+    if gate == open_gate then with_frame at (framed bytes) (entries_at (at + 1) (frame_length (framed bytes)) bytes) else Ok ([], at)
 
 -- the entries of a file, and the offset of its closed gate
 unfoldable pub scan : List ℕ → Result (List Placed × ℕ) Fault

@@ -8,7 +8,8 @@ ghost use Rattle.disk.specs.Planned.{IsAsPlanned, armed};
 ghost use Rattle.disk.specs.Moments.{LeavesOnly, HasCause};
 ghost use Rattle.gatelog.specs.Armed.{fails_in_append, appended, IsArmed};
 ghost use Rattle.gatelog.specs.Crash.{Stands, IsOldOrWith};
-ghost use Rattle.gatelog.specs.Frames.{first_gate, next_gate, staged_bytes, IsFull};
+ghost use Rattle.gatelog.specs.Frames.{next_gate, staged_bytes, IsFull};
+ghost use Rattle.gatelog.specs.Gates.{first_gate};
 ghost use Rattle.gatelog.specs.Log.{log, and_entry, ends_at, is_no_log};
 
 use crate::change::write_and_sync;

@@ -1,8 +1,10 @@
 -- What a log that is taken says of its versions: each comes of an outcome, and one key has one value at one time.
 use Rattle.std.specs.List.{list_all}
-use Rattle.std.proofs.Common.{◌≡◌, inl, inr, ℕ, ◌+◌, ◌<◌, Bool, true, false, not, cond, ◌&&◌, nat_lt, List, [], ◌∷◌, ◌++◌, Option, Some, None, refl, sym, ap, subst, ◌∙◌, arith, append_assoc}
+use Rattle.std.proofs.Common.{◌≡◌, inl, inr, ℕ, ◌+◌, ◌<◌, Bool, true, false, not, cond, ◌&&◌, nat_lt, List, [], ◌∷◌, ◌++◌, Option, Some, None, refl}
+use Rattle.std.proofs.Common.{sym, ap, subst, ◌∙◌, arith, append_assoc}
 use Rattle.std.proofs.lemmas.Bool.{and_parts}
 use Rattle.std.proofs.lemmas.Bool.Decides.{nat_tests}
+use Rattle.std.proofs.lemmas.List.{append-nil}
 use Rattle.units.specs.Ids.{Id, same_id}
 use Rattle.units.specs.Keys.{same_key}
 use Rattle.units.specs.Lists.{gather}
@@ -10,7 +12,6 @@ use Rattle.units.specs.Versions.{versions, above_versions, of_key}
 use Rattle.units.specs.declared.setup.Setup.{Setup}
 use Rattle.units.specs.declared.writes.Install.{Install}
 use Rattle.units.specs.declared.writes.Write.{Write}
-use Rattle.units.proofs.Folds.{append_none}
 use Rattle.units.proofs.KeyLaws.{same_key-refl}
 use Rattle.record.specs.Accepted.{Taken, Accepted, DamagedAt, StrangerAt, taken, taken_from, belongs, begins, follows, fits_beside, followed}
 use Rattle.record.specs.Facts.{Facts, facts_of, learn, recorded, installs_at}
@@ -22,7 +23,7 @@ use Rattle.record.specs.declared.record.Record.{Record}
 use Rattle.record.specs.declared.record.Record.TheVariants.{Opened, Ceiling, Prepare, Commit, Abort, Outcome}
 use Rattle.record.proofs.LearnAgrees.{learn_agrees, followed_more}
 use Rattle.record.proofs.Statuses.{recorded_is}
-use Rattle.law.specs.Evidence.{IsAmong}
+use Rattle.law.specs.Among.{IsAmong}
 use Rattle.law.proofs.Members.{among_left, among_cases}
 use Rattle.law.proofs.Picked.{among_map, map_among, among_join, join_among, keep_among, gather_among}
 use Rattle.law.proofs.Recorded.{among_first, outcome_among, promise_among, decision_among}
@@ -42,7 +43,8 @@ pub record IsTakenAfter (setup : Setup) (before : List Record) (r : Record) : Ty
   pub begins : begins before r ≡ true
   pub fits : fits_beside before r ≡ true
 
-taken_step : (a b : Bool) (place : ℕ) (rest : Taken) → cond a (StrangerAt place) (cond b rest (DamagedAt place)) ≡ Accepted → (a ≡ false) × (b ≡ true) × (rest ≡ Accepted)
+taken_step : (a b : Bool) (place : ℕ) (rest : Taken) → cond a (StrangerAt place) (cond b rest (DamagedAt place)) ≡ Accepted → (a ≡ false)
+    × (b ≡ true) × (rest ≡ Accepted)
 taken_step true b place rest e = cc
 taken_step false true place rest e = (refl, refl, e)
 taken_step false false place rest e = cc
@@ -54,27 +56,33 @@ not_not false e = cc
 first_taken : (setup : Setup) (before : List Record) (r : Record) (rest : List Record) (place : ℕ) → taken_from setup before place (r ∷ rest) ≡ Accepted →
     IsTakenAfter setup before r × (taken_from setup (before ++ r ∷ []) (place + 1) rest ≡ Accepted)
 first_taken setup before r rest place e =
-    let p = taken_step (not (belongs setup r)) (begins before r && follows setup.shard before r && fits_beside before r) place (taken_from setup (before ++ r ∷ []) (place + 1) rest) e in
+    let p = taken_step (not (belongs setup r)) (begins before r && follows setup.shard before r && fits_beside before r) place
+        (taken_from setup (before ++ r ∷ []) (place + 1) rest) e in
     let q = and_parts (begins before r && follows setup.shard before r) (fits_beside before r) p.1 in
     let b = and_parts (begins before r) (follows setup.shard before r) q.0 in
     (record { own = not_not (belongs setup r) p.0; follows = b.1; begins = b.0; fits = q.1 }, p.2)
 
-each_taken_from : (setup : Setup) (before front : List Record) (r : Record) (back : List Record) (place : ℕ) → taken_from setup before place (front ++ r ∷ back) ≡ Accepted → IsTakenAfter setup (before ++ front) r
-each_taken_from setup before [] r back place e = subst (λ l. IsTakenAfter setup l r) (sym (append_none before)) (first_taken setup before r back place e).0
+each_taken_from : (setup : Setup) (before front : List Record) (r : Record) (back : List Record) (place : ℕ) →
+    taken_from setup before place (front ++ r ∷ back) ≡ Accepted → IsTakenAfter setup (before ++ front) r
+each_taken_from setup before [] r back place e = subst (λ l. IsTakenAfter setup l r) (sym (append-nil before)) (first_taken setup before r back place e).0
 each_taken_from setup before (q ∷ qs) r back place e =
     subst (λ l. IsTakenAfter setup l r) (append_assoc before (q ∷ []) qs)
     (each_taken_from setup (before ++ q ∷ []) qs r back (place + 1) (first_taken setup before q (qs ++ r ∷ back) place e).1)
 
-pub each_taken : (setup : Setup) (front : List Record) (r : Record) (back : List Record) → taken setup (front ++ r ∷ back) ≡ Accepted → IsTakenAfter setup front r
+pub each_taken : (setup : Setup) (front : List Record) (r : Record) (back : List Record) → taken setup (front ++ r ∷ back) ≡ Accepted →
+    IsTakenAfter setup front r
 unfolding taken
 each_taken setup front r back e = each_taken_from setup [] front r back 0 e
 
 -- a beginning of what is taken is taken
-front_taken_from : (setup : Setup) (before front back : List Record) (place : ℕ) → taken_from setup before place (front ++ back) ≡ Accepted → taken_from setup before place front ≡ Accepted
+front_taken_from : (setup : Setup) (before front back : List Record) (place : ℕ) → taken_from setup before place (front ++ back) ≡ Accepted →
+    taken_from setup before place front ≡ Accepted
 front_taken_from setup before [] back place e = refl
 front_taken_from setup before (q ∷ qs) back place e =
-    let p = taken_step (not (belongs setup q)) (begins before q && follows setup.shard before q && fits_beside before q) place (taken_from setup (before ++ q ∷ []) (place + 1) (qs ++ back)) e in
-    again (not (belongs setup q)) (begins before q && follows setup.shard before q && fits_beside before q) (taken_from setup (before ++ q ∷ []) (place + 1) qs) p.0 p.1
+    let p = taken_step (not (belongs setup q)) (begins before q && follows setup.shard before q && fits_beside before q) place
+        (taken_from setup (before ++ q ∷ []) (place + 1) (qs ++ back)) e in
+    again (not (belongs setup q)) (begins before q && follows setup.shard before q && fits_beside before q)
+        (taken_from setup (before ++ q ∷ []) (place + 1) qs) p.0 p.1
     (front_taken_from setup (before ++ q ∷ []) qs back (place + 1) p.2)
   where
     again : (a b : Bool) (rest : Taken) → a ≡ false → b ≡ true → rest ≡ Accepted → cond a (StrangerAt place) (cond b rest (DamagedAt place)) ≡ Accepted
@@ -119,7 +127,8 @@ installed_from log i h =
     let j = among_join (installed_by log) (gather as_ended log) i h in
     by_outcome j.from.txn j.from.outcome (outcome_among log j.from j.among) j.within
   where
-    by_outcome : (t : Id) (o : Option ℕ) → IsAmong log (Outcome t o) → IsAmong (elim o as (λ x. List Install) [ None ↦ [] | Some s ↦ versions (writes_by (committed_of log t) (prepared_of log t)) s ]) i → InstalledBy log i
+    by_outcome : (t : Id) (o : Option ℕ) → IsAmong log (Outcome t o) →
+        IsAmong (elim o as (λ x. List Install) [ None ↦ [] | Some s ↦ versions (writes_by (committed_of log t) (prepared_of log t)) s ]) i → InstalledBy log i
     by_outcome t None k l = absurd l
     by_outcome t (Some s) k l =
         let m = among_map (λ (w : Write). record { key = w.key; at = s; value = w.value }) (writes_by (committed_of log t) (prepared_of log t)) i l in
@@ -134,7 +143,8 @@ installed_from log i h =
           value = ap (λ (q : Install). q.value) (sym m.is);
         }
 
-pub installs_have : (log : List Record) (t : Id) (s : ℕ) (w : Write) → IsAmong log (Outcome t (Some s)) → IsAmong (writes_by (committed_of log t) (prepared_of log t)) w →
+pub installs_have : (log : List Record) (t : Id) (s : ℕ) (w : Write) → IsAmong log (Outcome t (Some s)) →
+    IsAmong (writes_by (committed_of log t) (prepared_of log t)) w →
     IsAmong (installs_of log) (record { key = w.key; at = s; value = w.value })
 unfolding installs_of
 installs_have log t s w ended among =
@@ -162,16 +172,17 @@ abbrev installs_by : List Record → Record → List Install
 installs_by log (Outcome t o) = installs_at (recorded (facts_of log) t) o
 installs_by log _ = []
 
-installs_more : (shard : ℕ) (log : List Record) (r : Record) → followed shard (log ++ r ∷ []) ≡ true → installs_of (log ++ r ∷ []) ≡ installs_of log ++ installs_by log r
+installs_more : (shard : ℕ) (log : List Record) (r : Record) → followed shard (log ++ r ∷ []) ≡ true →
+    installs_of (log ++ r ∷ []) ≡ installs_of log ++ installs_by log r
 unfolding facts_of learn
 installs_more shard log r h = ap (λ (f : Facts). f.installs) (learn_agrees shard log r h) ∙ by_kind r
   where
     by_kind : (q : Record) → (learn (facts_of log) q).installs ≡ installs_of log ++ installs_by log q
-    by_kind (Opened epoch) = sym (append_none (installs_of log))
-    by_kind (Ceiling at) = sym (append_none (installs_of log))
-    by_kind (Prepare p) = sym (append_none (installs_of log))
-    by_kind (Commit c) = sym (append_none (installs_of log))
-    by_kind (Abort t) = sym (append_none (installs_of log))
+    by_kind (Opened epoch) = sym (append-nil (installs_of log))
+    by_kind (Ceiling at) = sym (append-nil (installs_of log))
+    by_kind (Prepare p) = sym (append-nil (installs_of log))
+    by_kind (Commit c) = sym (append-nil (installs_of log))
+    by_kind (Abort t) = sym (append-nil (installs_of log))
     by_kind (Outcome t o) = refl
 
 -- a new version is of the writes of its id
@@ -209,7 +220,8 @@ new_from log (Outcome t o) i h =
           value = ap (λ (q : Install). q.value) (sym m.is);
         }
 
-    to_versions : (a : Bool) (c : Option Committed) (p : Option Prepared) (e : Option Ended) (s : ℕ) → IsAmong (installs_at (status_by a c p e) (Some s)) i → IsAmong (versions (writes_by c p) s) i
+    to_versions : (a : Bool) (c : Option Committed) (p : Option Prepared) (e : Option Ended) (s : ℕ) →
+        IsAmong (installs_at (status_by a c p e) (Some s)) i → IsAmong (versions (writes_by c p) s) i
     to_versions true c p e s k = absurd k
     to_versions false (Some c) p (Some e) s k = absurd k
     to_versions false (Some c) p None s k = k
@@ -239,7 +251,8 @@ once_by log t once = by_parts (committed_of log t) refl (prepared_of log t) refl
     by_parts None hc None hp = λ v w h k e. absurd h
 
 -- a timestamp above the versions of what is written is above each of them
-above_each : (is : List Install) (s : ℕ) (ws : List Write) (w : Write) (i : Install) → above_versions is s ws ≡ true → IsAmong ws w → IsAmong is i → i.key ≡ w.key → i.at < s
+above_each : (is : List Install) (s : ℕ) (ws : List Write) (w : Write) (i : Install) → above_versions is s ws ≡ true → IsAmong ws w → IsAmong is i →
+    i.key ≡ w.key → i.at < s
 above_each is s ws w i above among there key =
     let one = each_at (λ (v : Write). list_all (λ (j : Install). nat_lt j.at s) (of_key is v.key)) ws w above among in
     less i.at s (each_at (λ (j : Install). nat_lt j.at s) (of_key is w.key) i one
@@ -248,11 +261,13 @@ above_each is s ws w i above among there key =
     less : (a b : ℕ) → nat_lt a b ≡ true → a < b
     less a b e = grind (arith, nat_tests)
 
-outcome_above : (log : List Record) (t : Id) (s : ℕ) → fits_beside log (Outcome t (Some s)) ≡ true → above_versions (installs_of log) s (writes_by (committed_of log t) (prepared_of log t)) ≡ true
+outcome_above : (log : List Record) (t : Id) (s : ℕ) → fits_beside log (Outcome t (Some s)) ≡ true →
+    above_versions (installs_of log) s (writes_by (committed_of log t) (prepared_of log t)) ≡ true
 unfolding fits_beside
 outcome_above log t s e = e
 
-one_more : (shard : ℕ) (log : List Record) (r : Record) → followed shard (log ++ r ∷ []) ≡ true → fits_beside log r ≡ true → AllWriteOnce log → OneValue (installs_of log) → OneValue (installs_of (log ++ r ∷ []))
+one_more : (shard : ℕ) (log : List Record) (r : Record) → followed shard (log ++ r ∷ []) ≡ true → fits_beside log r ≡ true → AllWriteOnce log →
+    OneValue (installs_of log) → OneValue (installs_of (log ++ r ∷ []))
 one_more shard log r h fits once one =
     subst OneValue (sym (installs_more shard log r h)) (λ i j hi hj key at.
     elim (among_cases (installs_of log) (installs_by log r) i hi) [
@@ -280,15 +295,18 @@ one_more shard log r h fits once one =
     same_new i j a b key =
         let one_id : b.txn ≡ a.txn = same_txn a.txn b.txn a.stamp b.stamp (sym a.is ∙ b.is) in
         a.value
-        ∙ once_by log a.txn once a.write b.write a.among (subst (λ t. IsAmong (writes_by (committed_of log t) (prepared_of log t)) b.write) one_id b.among) (sym a.key ∙ key ∙ b.key)
+        ∙ once_by log a.txn once a.write b.write a.among (subst (λ t. IsAmong (writes_by (committed_of log t) (prepared_of log t)) b.write) one_id
+            b.among) (sym a.key ∙ key ∙ b.key)
         ∙ sym b.value
 
-one_from : (setup : Setup) (before rest : List Record) (place : ℕ) → taken_from setup before place rest ≡ Accepted → followed setup.shard before ≡ true → AllWriteOnce (before ++ rest) →
+one_from : (setup : Setup) (before rest : List Record) (place : ℕ) → taken_from setup before place rest ≡ Accepted →
+    followed setup.shard before ≡ true → AllWriteOnce (before ++ rest) →
     OneValue (installs_of before) → OneValue (installs_of (before ++ rest))
-one_from setup before [] place e f once one = subst (λ l. OneValue (installs_of l)) (sym (append_none before)) one
+one_from setup before [] place e f once one = subst (λ l. OneValue (installs_of l)) (sym (append-nil before)) one
 one_from setup before (r ∷ rest) place e f once one =
     let p = first_taken setup before r rest place e in
-    let more : followed setup.shard (before ++ r ∷ []) ≡ true = followed_more setup.shard before r ∙ all_three (followed setup.shard before) (begins before r) (follows setup.shard before r) f p.0.begins p.0.follows in
+    let more : followed setup.shard (before ++ r ∷ []) ≡ true = followed_more setup.shard before r
+        ∙ all_three (followed setup.shard before) (begins before r) (follows setup.shard before r) f p.0.begins p.0.follows in
     let assoc = append_assoc before (r ∷ []) rest in
     subst (λ l. OneValue (installs_of l)) assoc
     (one_from setup (before ++ r ∷ []) rest (place + 1) p.1 more (subst AllWriteOnce (sym assoc) once)
@@ -301,7 +319,8 @@ one_from setup before (r ∷ rest) place e f once one =
     all_three true true false x y z = cc
 
     front_once : (front back : List Record) → AllWriteOnce (front ++ back) → AllWriteOnce front
-    front_once front back all = record { promises = λ p h. all.promises p (among_left front back (Prepare p) h); decisions = λ c h. all.decisions c (among_left front back (Commit c) h) }
+    front_once front back all = record { promises = λ p h. all.promises p (among_left front back (Prepare p) h); decisions =
+        λ c h. all.decisions c (among_left front back (Commit c) h) }
 
 -- one value of each key at each time
 pub one_value : (setup : Setup) (log : List Record) → taken setup log ≡ Accepted → AllWriteOnce log → OneValue (installs_of log)

@@ -20,11 +20,15 @@ use Rattle.protocol.specs.Rows.{Memory}
 use Rattle.protocol.specs.Step.{Stepped, Refuses, Does}
 use Rattle.session.specs.Sessions.{Client, Stage, IsOpen, IsClosing, IsOver, Moved, reads, buffers, closes, gives_up, finishes}
 use Rattle.world.specs.Lawful.{may_act, has_begun}
-use Rattle.world.specs.World.{World, After, ShardNow, State, Runs, IsStopped, IsDown, read_log, setup_of, effect, finished, crashed, crashed_in, left_by_refused, is_left, failed_in, set_shard, client_of, put_out, moved, refused, if_open, if_not_over, if_closing, if_hearing, answered, to_session, refused_doing, did, did_with_failure, at_shard, do_at, deliver_to, noted, look_shard, look_at_view, begin, acts}
+use Rattle.gatelog.specs.Gates.{is_left}
+use Rattle.world.specs.World.{World, After, ShardNow, State, Runs, IsStopped, IsDown, read_log, setup_of, effect, finished, crashed, crashed_in}
+use Rattle.world.specs.World.{left_by_refused, failed_in, set_shard, client_of, put_out, moved, refused, if_open, if_not_over, if_closing}
+use Rattle.world.specs.World.{if_hearing, answered, to_session, refused_doing, did, did_with_failure, at_shard, do_at, deliver_to, look_noted}
+use Rattle.world.specs.World.{look_shard, look_at_view, begin, acts}
 use Rattle.world.specs.declared.event.Act.{Act}
 use Rattle.world.specs.declared.event.Doing.{Doing}
 use Rattle.world.specs.declared.event.Reply.{Reply}
-use Rattle.law.specs.Evidence.{IsAmong}
+use Rattle.law.specs.Among.{IsAmong}
 use Rattle.law.proofs.Doings.{get_among}
 use Rattle.law.proofs.Recorded.{among_first}
 
@@ -46,13 +50,15 @@ step_of splits Finishes = finishes
 module _ (w : World) (C : World → Type 0) (same : C w)
     (begins : (t : Id) → not (has_begun w t) ≡ true → C (begin t w))
     (steps : (c : Client) (s : Step) → IsAmong w.clients c → C (moved w (step_of w.config.splits s c)).0)
-    (hears : (c : Client) (to : Address) (a : ReadAnswer) → IsAmong w.clients c → c.txn ≡ a.txn → IsAmong w.bag (record { to = to; message = Message.ReadAnswer a }) → C (answered w c a).0)
+    (hears : (c : Client) (to : Address) (a : ReadAnswer) → IsAmong w.clients c → c.txn ≡ a.txn →
+        IsAmong w.bag (record { to = to; message = Message.ReadAnswer a }) → C (answered w c a).0)
     (crashes : (n : ℕ) (s : ShardNow) → slice_get w.shards n ≡ Some s → (log : List Record) → C (set_shard n (crashed s log) w))
     (does : (n : ℕ) (s : ShardNow) → slice_get w.shards n ≡ Some s → (doing : Doing) (logged : Option Record) (memory : Memory) (out : List Envelope) →
     effect (setup_of w.config n) w.bag s doing ≡ Does logged memory out → C (put_out out (set_shard n (finished s doing logged memory) w)))
     (fails : (n : ℕ) (s : ShardNow) → slice_get w.shards n ≡ Some s → (call : ℕ) (r : Record) → C (set_shard n (failed_in s call r) w))
-    (looks : (n : ℕ) (s : ShardNow) → slice_get w.shards n ≡ Some s → (k : Bytes) (at : ℕ) → C (noted w k at (look_shard (setup_of w.config n) s k at)).0)
-    (views : (n : ℕ) (s : ShardNow) → slice_get w.shards n ≡ Some s → (i : ℕ) (k : Bytes) (at : ℕ) → C (noted w k at (look_at_view (setup_of w.config n) (slice_get s.views i) k at)).0) where
+    (looks : (n : ℕ) (s : ShardNow) → slice_get w.shards n ≡ Some s → (k : Bytes) (at : ℕ) → C (look_noted w k at (look_shard (setup_of w.config n) s k at)).0)
+    (views : (n : ℕ) (s : ShardNow) → slice_get w.shards n ≡ Some s → (i : ℕ) (k : Bytes) (at : ℕ) →
+        C (look_noted w k at (look_at_view (setup_of w.config n) (slice_get s.views i) k at)).0) where
   -- ---- sessions
 
   there : (t : Id) (c : Client) → client_of w t ≡ Some c → IsAmong w.clients c
@@ -85,7 +91,8 @@ module _ (w : World) (C : World → Type 0) (same : C w)
       by_stage IsClosing = steps c Finishes (among c refl)
       by_stage IsOver = same
 
-  hearing_goes : (o : Option Client) (to : Address) (a : ReadAnswer) → client_of w a.txn ≡ o → IsAmong w.bag (record { to = to; message = Message.ReadAnswer a }) → C (if_hearing w o a).0
+  hearing_goes : (o : Option Client) (to : Address) (a : ReadAnswer) → client_of w a.txn ≡ o →
+      IsAmong w.bag (record { to = to; message = Message.ReadAnswer a }) → C (if_hearing w o a).0
   hearing_goes None to a is told = same
   hearing_goes (Some c) to a is told = by_stage c.stage
     where
@@ -133,7 +140,8 @@ module _ (w : World) (C : World → Type 0) (same : C w)
     failing_goes call doing (Does None memory out) e = did_goes doing (Does None memory out) e
     failing_goes call doing (Does (Some r) memory out) e = by_test (nat_lt call 4)
       where
-        by_test : (b : Bool) → C ((cond {A = After} b (set_shard n (failed_in s call r) w, Reply.Refused Device) (did w n s doing (Does (Some r) memory out))).0)
+        by_test : (b : Bool) → C ((cond {A = After} b (set_shard n (failed_in s call r) w, Reply.Refused Device)
+            (did w n s doing (Does (Some r) memory out))).0)
         by_test true = fails n s is call r
         by_test false = did_goes doing (Does (Some r) memory out) e
 
@@ -143,15 +151,18 @@ module _ (w : World) (C : World → Type 0) (same : C w)
     crash_within_goes call fate doing (Does None memory out) = crashes n s is (read_log s)
     crash_within_goes call fate doing (Does (Some r) memory out) = crashes n s is (read_log s ++ cond (is_left call fate) (r ∷ []) [])
 
-  at_shard_goes : (n : ℕ) (f : Setup → ShardNow → After) → ((s : ShardNow) → slice_get w.shards n ≡ Some s → C (f (setup_of w.config n) s).0) → C (at_shard w n f).0
+  at_shard_goes : (n : ℕ) (f : Setup → ShardNow → After) → ((s : ShardNow) → slice_get w.shards n ≡ Some s → C (f (setup_of w.config n) s).0) →
+      C (at_shard w n f).0
   at_shard_goes n f each = by_value (slice_get w.shards n) refl
     where
-      by_value : (o : Option ShardNow) → slice_get w.shards n ≡ o → C ((elim o as (λ x. After) [ None ↦ refused w Stranger | Some s ↦ f (setup_of w.config n) s ]).0)
+      by_value : (o : Option ShardNow) → slice_get w.shards n ≡ o →
+          C ((elim o as (λ x. After) [ None ↦ refused w Stranger | Some s ↦ f (setup_of w.config n) s ]).0)
       by_value None e = same
       by_value (Some s) e = each s e
 
   do_at_goes : (n : ℕ) (doing : Doing) → C (do_at w n doing).0
-  do_at_goes n doing = at_shard_goes n (λ setup s. did w n s doing (effect setup w.bag s doing)) (λ s is. did_goes n s is doing (effect (setup_of w.config n) w.bag s doing) refl)
+  do_at_goes n doing = at_shard_goes n (λ setup s. did w n s doing (effect setup w.bag s doing))
+      (λ s is. did_goes n s is doing (effect (setup_of w.config n) w.bag s doing) refl)
 
   deliver_goes : (m : ℕ) (now : Interval) (o : Option Envelope) → slice_get w.bag m ≡ o → C (deliver_to w m now o).0
   unfolding deliver_to
@@ -173,11 +184,13 @@ module _ (w : World) (C : World → Type 0) (same : C w)
   acts_go time (Act.Quit t) may = not_over_goes (client_of w t) GivesUp (there t)
   acts_go time (Act.Deliver m now) may = deliver_goes m now (slice_get w.bag m) refl
   acts_go time (Act.At n doing) may = do_at_goes n doing
-  acts_go time (Act.Look n k at) may = at_shard_goes n (λ setup s. noted w k at (look_shard setup s k at)) (λ s is. looks n s is k at)
-  acts_go time (Act.View n v k at) may = at_shard_goes n (λ setup s. noted w k at (look_at_view setup (slice_get s.views v) k at)) (λ s is. views n s is v k at)
+  acts_go time (Act.Look n k at) may = at_shard_goes n (λ setup s. look_noted w k at (look_shard setup s k at)) (λ s is. looks n s is k at)
+  acts_go time (Act.View n v k at) may = at_shard_goes n (λ setup s. look_noted w k at (look_at_view setup (slice_get s.views v) k at))
+      (λ s is. views n s is v k at)
   acts_go time (Act.Crash n) may = at_shard_goes n (λ setup s. (set_shard n (crashed s s.log) w, Reply.Crashed)) (λ s is. crashes n s is s.log)
   acts_go time (Act.CrashIn n call fate doing) may =
       at_shard_goes n (λ setup s. (set_shard n (crashed_in s call fate doing (effect setup w.bag s doing)) w, Reply.Crashed))
       (λ s is. crash_within_goes n s is call fate doing (effect (setup_of w.config n) w.bag s doing))
   acts_go time (Act.FailIn n call doing) may =
-      at_shard_goes n (λ setup s. did_with_failure w n s call doing (effect setup w.bag s doing)) (λ s is. failing_goes n s is call doing (effect (setup_of w.config n) w.bag s doing) refl)
+      at_shard_goes n (λ setup s. did_with_failure w n s call doing (effect setup w.bag s doing))
+          (λ s is. failing_goes n s is call doing (effect (setup_of w.config n) w.bag s doing) refl)

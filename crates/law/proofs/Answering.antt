@@ -14,20 +14,21 @@ use Rattle.units.specs.declared.setup.Setup.{Setup}
 use Rattle.units.specs.declared.writes.Write.{Write}
 use Rattle.units.proofs.KeyLaws.{same_key-refl}
 use Rattle.record.specs.Facts.{Facts, facts_of, recorded}
-use Rattle.record.specs.Records.{Ended, Status, Unrecorded, StandsPrepared, StandsDecided, HasAborted, HasSettled, HasClosed, is_aborted, committed_of, prepared_of, ended_of, status_by, status_of}
+use Rattle.record.specs.Records.{Ended, Status, Unrecorded, StandsPrepared, StandsDecided, HasAborted, HasSettled, HasClosed, is_aborted}
+use Rattle.record.specs.Records.{committed_of, prepared_of, ended_of, status_by, status_of}
 use Rattle.record.specs.declared.record.Committed.{Committed}
 use Rattle.record.specs.declared.record.Prepared.{Prepared}
 use Rattle.record.specs.declared.record.Record.{Record}
 use Rattle.record.specs.declared.record.Record.TheVariants.{Opened, Ceiling, Prepare, Commit, Abort, Outcome}
 use Rattle.record.proofs.Statuses.{recorded_is}
 use Rattle.message.specs.declared.message.ReadAnswer.{ReadAnswer}
-use Rattle.protocol.specs.Plan.{Plan, Before, before, carried, changed}
+use Rattle.protocol.specs.Plan.{Plan, Before, start_of_step, carried, after_change}
 use Rattle.protocol.specs.Rows.{held_in, without_rows, Memory, Row, Phase, Idle, find_row}
 use Rattle.protocol.specs.Sound.{IsSound, Agrees, is_open}
 use Rattle.protocol.specs.Step.{facts_after}
 use Rattle.protocol.proofs.InWay.{row_at}
 use Rattle.protocol.proofs.RowChanges.{row_as, find-with_row_same}
-use Rattle.law.specs.Evidence.{IsAmong}
+use Rattle.law.specs.Among.{IsAmong}
 use Rattle.world.specs.Headline.{IsUnsure}
 use Rattle.world.specs.World.{World, ShardNow, View, State, Runs, IsStopped, IsDown, Unsure, setup_of}
 use Rattle.law.proofs.Members.{among_right}
@@ -46,17 +47,19 @@ holds_lock (h ∷ hs) k m = grind (arith, nat_tests, holds_lock hs k m, same_key
 -- ---- after the step
 
 -- who was told the value of a key holds it, and the value is the latest
-pub told_is_held : (setup : Setup) (f : Facts) (m : Memory) (p : Plan) (a : ReadAnswer) (x : Option Bytes) → AnswerFair (before 1024 setup f m) p a x → Held a.txn a.key a.epoch x (facts_after f p.logged) (carried p m)
-unfolding carried changed
+pub told_is_held : (setup : Setup) (f : Facts) (m : Memory) (p : Plan) (a : ReadAnswer) (x : Option Bytes) →
+    AnswerFair (start_of_step 1024 setup f m) p a x → Held a.txn a.key a.epoch x (facts_after f p.logged) (carried p m)
+unfolding carried after_change
 told_is_held setup f m p a x fair = by_answer fair.held
   where
     b : Before
-    b = before 1024 setup f m
+    b = start_of_step 1024 setup f m
 
     same_facts : p.logged ≡ None → facts_after f p.logged ≡ f
     same_facts e = ap (facts_after f) e
 
-    made : p.logged ≡ None → (row : Row) → find_row (carried p m).rows a.txn ≡ Some row → is_open row.phase ≡ true → holds row.held a.key ≡ true → Held a.txn a.key a.epoch x (facts_after f p.logged) (carried p m)
+    made : p.logged ≡ None → (row : Row) → find_row (carried p m).rows a.txn ≡ Some row → is_open row.phase ≡ true → holds row.held a.key ≡ true →
+        Held a.txn a.key a.epoch x (facts_after f p.logged) (carried p m)
     made none row found opened there =
         let epoch : (facts_after f p.logged).epoch ≡ a.epoch = ap (λ (g : Facts). g.epoch) (same_facts none) ∙ sym fair.epoch in
         record {
@@ -65,31 +68,37 @@ told_is_held setup f m p a x fair = by_answer fair.held
           held = λ now. Reads row found opened there (ap (λ (g : Facts). latest g.installs a.key) (same_facts none) ∙ fair.value);
         }
 
-    by_answer : Answered (before 1024 setup f m) p a.txn a.key → Held a.txn a.key a.epoch x (facts_after f p.logged) (carried p m)
+    by_answer : Answered (start_of_step 1024 setup f m) p a.txn a.key → Held a.txn a.key a.epoch x (facts_after f p.logged) (carried p m)
     by_answer (OfRow change wounded logged held phase is opened there) =
         made logged (row_as a.txn held phase)
-        (ap (λ c. find_row (changed c (without_rows m.rows p.wounded)) a.txn) change ∙ ap (λ l. find_row (without_rows m.rows l) a.txn) wounded ∙ row_at (before 1024 setup f m) a.txn held phase is) opened there
+        (ap (λ c. find_row (after_change c (without_rows m.rows p.wounded)) a.txn) change ∙ ap (λ l. find_row (without_rows m.rows l) a.txn) wounded
+            ∙ row_at (start_of_step 1024 setup f m) a.txn held phase is) opened there
     by_answer (OfLock change logged) =
         made logged (row_as a.txn (with_locks (held_in (without_rows m.rows p.wounded) a.txn) (to_read a.key)) Idle)
-        (ap (λ c. find_row (changed c (without_rows m.rows p.wounded)) a.txn) change
-        ∙ find-with_row_same (without_rows m.rows p.wounded) (row_as a.txn (with_locks (held_in (without_rows m.rows p.wounded) a.txn) (to_read a.key)) Idle)) refl
+        (ap (λ c. find_row (after_change c (without_rows m.rows p.wounded)) a.txn) change
+        ∙ find-with_row_same (without_rows m.rows p.wounded) (row_as a.txn (with_locks (held_in (without_rows m.rows p.wounded) a.txn)
+            (to_read a.key)) Idle)) refl
         (holds_lock (held_in (without_rows m.rows p.wounded) a.txn) a.key _)
 
 -- its row is open
-pub told_row : (setup : Setup) (f : Facts) (m : Memory) (p : Plan) (a : ReadAnswer) (x : Option Bytes) → AnswerFair (before 1024 setup f m) p a x → (row : Row) × (find_row (carried p m).rows a.txn ≡ Some row) × (is_open row.phase ≡ true) × (p.logged ≡ None)
-unfolding carried changed
+pub told_row : (setup : Setup) (f : Facts) (m : Memory) (p : Plan) (a : ReadAnswer) (x : Option Bytes) →
+    AnswerFair (start_of_step 1024 setup f m) p a x → (row : Row) × (find_row (carried p m).rows a.txn ≡ Some row) × (is_open row.phase ≡ true)
+    × (p.logged ≡ None)
+unfolding carried after_change
 told_row setup f m p a x fair = by_answer fair.held
   where
-    by_answer : Answered (before 1024 setup f m) p a.txn a.key → (row : Row) × (find_row (carried p m).rows a.txn ≡ Some row) × (is_open row.phase ≡ true) × (p.logged ≡ None)
+    by_answer : Answered (start_of_step 1024 setup f m) p a.txn a.key → (row : Row) × (find_row (carried p m).rows a.txn ≡ Some row)
+        × (is_open row.phase ≡ true) × (p.logged ≡ None)
     by_answer (OfRow change wounded logged held phase is opened there) = (
       row_as a.txn held phase,
-      ap (λ c. find_row (changed c (without_rows m.rows p.wounded)) a.txn) change ∙ ap (λ l. find_row (without_rows m.rows l) a.txn) wounded ∙ row_at (before 1024 setup f m) a.txn held phase is,
+      ap (λ c. find_row (after_change c (without_rows m.rows p.wounded)) a.txn) change ∙ ap (λ l. find_row (without_rows m.rows l) a.txn) wounded
+          ∙ row_at (start_of_step 1024 setup f m) a.txn held phase is,
       opened,
       logged,
     )
     by_answer (OfLock change logged) = (
       row_as a.txn (with_locks (held_in (without_rows m.rows p.wounded) a.txn) (to_read a.key)) Idle,
-      ap (λ c. find_row (changed c (without_rows m.rows p.wounded)) a.txn) change
+      ap (λ c. find_row (after_change c (without_rows m.rows p.wounded)) a.txn) change
           ∙ find-with_row_same (without_rows m.rows p.wounded) (row_as a.txn (with_locks (held_in (without_rows m.rows p.wounded) a.txn) (to_read a.key)) Idle),
       refl,
       logged,
@@ -98,9 +107,11 @@ told_row setup f m p a x fair = by_answer fair.held
 -- ---- a reader with an open row has no record
 
 -- a promise or a decision is a status
-claimed_recorded : (log : List Record) (r : Record) (t : Id) (at : ℕ) (ks : List Bytes) (ws : List Write) → IsAmong log r → Claims r t at ks ws → recorded (facts_of log) t ≡ Unrecorded → ⊥
+claimed_recorded : (log : List Record) (r : Record) (t : Id) (at : ℕ) (ks : List Bytes) (ws : List Write) → IsAmong log r → Claims r t at ks ws →
+    recorded (facts_of log) t ≡ Unrecorded → ⊥
 unfolding status_of
-claimed_recorded log r t at ks ws h c e = by_parts (is_aborted log t) (committed_of log t) refl (prepared_of log t) refl (ended_of log t) (sym (recorded_is log t) ∙ e)
+claimed_recorded log r t at ks ws h c e = by_parts (is_aborted log t) (committed_of log t) refl (prepared_of log t) refl (ended_of log t)
+    (sym (recorded_is log t) ∙ e)
   where
     none_logged : (q : Record) → IsAmong log q → Claims q t at ks ws → committed_of log t ≡ None → prepared_of log t ≡ None → ⊥
     none_logged (Prepare p) j d hc hp = not_prepared log t p hp j d.0
@@ -110,7 +121,8 @@ claimed_recorded log r t at ks ws h c e = by_parts (is_aborted log t) (committed
     none_logged (Abort y) j d hc hp = d
     none_logged (Outcome y z) j d hc hp = d
 
-    by_parts : (a : Bool) (d : Option Committed) → committed_of log t ≡ d → (q : Option Prepared) → prepared_of log t ≡ q → (z : Option Ended) → status_by a d q z ≡ Unrecorded → ⊥
+    by_parts : (a : Bool) (d : Option Committed) → committed_of log t ≡ d → (q : Option Prepared) → prepared_of log t ≡ q → (z : Option Ended) →
+        status_by a d q z ≡ Unrecorded → ⊥
     by_parts true d hd q hq z s = cc
     by_parts false (Some d) hd q hq (Some z) s = cc
     by_parts false (Some d) hd q hq None s = cc
@@ -119,7 +131,8 @@ claimed_recorded log r t at ks ws h c e = by_parts (is_aborted log t) (committed
     by_parts false None hd None hq z s = none_logged r h c hd hq
 
 -- a row that reads on is of no record
-pub open_unrecorded : (shard : ℕ) (f : Facts) (m : Memory) (t : Id) (row : Row) → IsSound shard f m → find_row m.rows t ≡ Some row → is_open row.phase ≡ true → recorded f t ≡ Unrecorded
+pub open_unrecorded : (shard : ℕ) (f : Facts) (m : Memory) (t : Id) (row : Row) → IsSound shard f m → find_row m.rows t ≡ Some row →
+    is_open row.phase ≡ true → recorded f t ≡ Unrecorded
 open_unrecorded shard f m t row sound found opened = by_status (recorded f t) refl (subst (Agrees f.installs m.last (recorded f t)) found (sound.agrees t))
   where
     not_open : (p q : Phase) → p ≡ q → is_open p ≡ true → is_open q ≡ false → ⊥
@@ -135,28 +148,35 @@ open_unrecorded shard f m t row sound found opened = by_status (recorded f t) re
 
 module _ (n : ℕ) (t : Id) (k : Bytes) (e : ℕ) (x : Option Bytes) where
   abbrev ToldShard : Setup → ShardNow → Type 0
-  ToldShard setup s = SoundShard (IsAllowed n t k e x) (Tells n t k e x) (Told n t k e x) (tells_keeps n t k e x) (tells_opens n t k e x) (told_follows n t k e x) (told_logs n t k e x) (told_opens n t k e x) setup s
+  ToldShard setup s = SoundShard (IsAllowed n t k e x) (Tells n t k e x) (Told n t k e x) (tells_keeps n t k e x) (tells_opens n t k e x)
+      (told_follows n t k e x) (told_logs n t k e x) (told_opens n t k e x) setup s
 
   abbrev ToldLog : Setup → List Record → Type 0
-  ToldLog setup log = SoundLog (IsAllowed n t k e x) (Tells n t k e x) (Told n t k e x) (tells_keeps n t k e x) (tells_opens n t k e x) (told_follows n t k e x) (told_logs n t k e x) (told_opens n t k e x) setup log
+  ToldLog setup log = SoundLog (IsAllowed n t k e x) (Tells n t k e x) (Told n t k e x) (tells_keeps n t k e x) (tells_opens n t k e x)
+      (told_follows n t k e x) (told_logs n t k e x) (told_opens n t k e x) setup log
 
   -- of another shard nothing is said
-  apart_told : (setup : Setup) (log : List Record) (unsure : Unsure) (st : State) (views : List View) → (setup.shard ≡ n → ⊥) → WellShard setup (shard_with log unsure st views) → ToldShard setup (shard_with log unsure st views)
+  apart_told : (setup : Setup) (log : List Record) (unsure : Unsure) (st : State) (views : List View) → (setup.shard ≡ n → ⊥) →
+      WellShard setup (shard_with log unsure st views) → ToldShard setup (shard_with log unsure st views)
   apart_told setup log unsure (Runs m) views other h = record {
-    left = λ l may. let z = h.left l may in record { memory = z.memory; sound = record { well = z.sound; held = λ q. absurd (other q) }; good = record { accepted = z.good; right = λ q. absurd (other q) } };
+    left = λ l may. let z = h.left l may in record { memory = z.memory; sound = record { well = z.sound; held = λ q. absurd (other q) }; good =
+        record { accepted = z.good; right = λ q. absurd (other q) } };
     state = (record { well = h.state.0; held = λ q. absurd (other q) }, h.state.1);
   }
   apart_told setup log unsure (IsStopped m) views other h = record {
-    left = λ l may. let z = h.left l may in record { memory = z.memory; sound = record { well = z.sound; held = λ q. absurd (other q) }; good = record { accepted = z.good; right = λ q. absurd (other q) } };
+    left = λ l may. let z = h.left l may in record { memory = z.memory; sound = record { well = z.sound; held = λ q. absurd (other q) }; good =
+        record { accepted = z.good; right = λ q. absurd (other q) } };
     state = tt;
   }
   apart_told setup log unsure IsDown views other h = record {
-    left = λ l may. let z = h.left l may in record { memory = z.memory; sound = record { well = z.sound; held = λ q. absurd (other q) }; good = record { accepted = z.good; right = λ q. absurd (other q) } };
+    left = λ l may. let z = h.left l may in record { memory = z.memory; sound = record { well = z.sound; held = λ q. absurd (other q) }; good =
+        record { accepted = z.good; right = λ q. absurd (other q) } };
     state = tt;
   }
 
   -- a running shard that holds the read
-  here_told : (setup : Setup) (log : List Record) (unsure : Unsure) (m : Memory) (views : List View) → WellShard setup (shard_with log unsure (Runs m) views) → Held t k e x (facts_of log) m → (recorded (facts_of log) t ≡ Unrecorded) →
+  here_told : (setup : Setup) (log : List Record) (unsure : Unsure) (m : Memory) (views : List View) →
+      WellShard setup (shard_with log unsure (Runs m) views) → Held t k e x (facts_of log) m → (recorded (facts_of log) t ≡ Unrecorded) →
       ToldShard setup (shard_with log unsure (Runs m) views)
   here_told setup log unsure m views h held none = record {
     left = λ l may. elim may [
@@ -165,7 +185,8 @@ module _ (n : ℕ) (t : Id) (k : Bytes) (e : ℕ) (x : Option Bytes) where
         sound = record { well = h.state.0; held = λ q. held };
         good = record {
           accepted = (h.left log (inl refl)).good;
-          right = λ q front r back at ks ws split claims there. absurd (claimed_recorded log r t at ks ws (subst (λ z. IsAmong z r) (sym split) (among_right front (r ∷ back) r (inl refl))) claims none);
+          right = λ q front r back at ks ws split claims there. absurd (claimed_recorded log r t at ks ws
+              (subst (λ z. IsAmong z r) (sym split) (among_right front (r ∷ back) r (inl refl))) claims none);
         };
       })
       | inr more ↦ absurd (subst (λ u. IsUnsure u more.0) h.state.1 more.1)
@@ -174,7 +195,8 @@ module _ (n : ℕ) (t : Id) (k : Bytes) (e : ℕ) (x : Option Bytes) where
   }
 
   -- a shard that runs and holds a read keeps it
-  pub held_is_kept : (w : World) (s : ShardNow) (m : Memory) → WellWorld w → slice_get w.shards n ≡ Some s → s.state ≡ Runs m → Held t k e x (facts_of s.log) m → recorded (facts_of s.log) t ≡ Unrecorded → KeptRead n t k e x w
+  pub held_is_kept : (w : World) (s : ShardNow) (m : Memory) → WellWorld w → slice_get w.shards n ≡ Some s → s.state ≡ Runs m →
+      Held t k e x (facts_of s.log) m → recorded (facts_of s.log) t ≡ Unrecorded → KeptRead n t k e x w
   held_is_kept w s m well there runs held none j z at = elim (cases_eq j n) [
     | inl same ↦ by_place same
     | inr other ↦ apart_told (setup_of w.config j) z.log z.unsure z.state z.views other (well j z at)
@@ -188,8 +210,10 @@ module _ (n : ℕ) (t : Id) (k : Bytes) (e : ℕ) (x : Option Bytes) where
           let is : s ≡ z = some_shard s z (sym there ∙ subst (λ i. slice_get w.shards i ≡ Some z) same at) in
           subst (ToldShard (setup_of w.config j)) is (by_state s.state runs (subst (WellShard (setup_of w.config j)) (sym is) (well j z at)))
         where
-          by_state : (st : State) → st ≡ Runs m → WellShard (setup_of w.config j) (shard_with s.log s.unsure st s.views) → ToldShard (setup_of w.config j) (shard_with s.log s.unsure st s.views)
-          by_state (Runs q) q_is h = here_told (setup_of w.config j) s.log s.unsure q s.views h (subst (Held t k e x (facts_of s.log)) (sym (memory_is q m q_is)) held) none
+          by_state : (st : State) → st ≡ Runs m → WellShard (setup_of w.config j) (shard_with s.log s.unsure st s.views) →
+              ToldShard (setup_of w.config j) (shard_with s.log s.unsure st s.views)
+          by_state (Runs q) q_is h = here_told (setup_of w.config j) s.log s.unsure q s.views h
+              (subst (Held t k e x (facts_of s.log)) (sym (memory_is q m q_is)) held) none
             where
               memory_is : (a b : Memory) → Runs a ≡ Runs b → a ≡ b
               memory_is a b r = cc

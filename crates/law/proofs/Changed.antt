@@ -1,8 +1,10 @@
 -- What one act changes of what shards show and of the lines of looks and of acknowledgements; and that each session writes a
 -- key once.
 use Rattle.std.specs.List.{list_any}
-use Rattle.std.proofs.Common.{◌≡◌, ◌⊎◌, inl, inr, ℕ, ◌≤◌, Bool, true, false, not, cond, ◌&&◌, nat_eq, nat_le, List, [], ◌∷◌, ◌++◌, length, Option, Some, None, slice_get, refl, sym, ap, subst, ◌∙◌, flat_map, filter, option_to_list}
+use Rattle.std.proofs.Common.{◌≡◌, ◌⊎◌, inl, inr, ℕ, ◌≤◌, Bool, true, false, not, cond, ◌&&◌, nat_eq, nat_le, List, [], ◌∷◌, ◌++◌, length, Option}
+use Rattle.std.proofs.Common.{Some, None, slice_get, refl, sym, ap, subst, ◌∙◌, flat_map, filter, option_to_list}
 use Rattle.std.proofs.lemmas.Bool.{cases_eq, eqb-true, leb-true}
+use Rattle.std.proofs.lemmas.List.{append-nil}
 use Rattle.units.specs.Ids.{Id, same_id}
 use Rattle.world.proofs.Places.{get-replaced_same, get-replaced_other}
 use Rattle.world.proofs.EveryRun.{WellShard, WellWorld, shard_with}
@@ -16,7 +18,6 @@ use Rattle.units.specs.declared.fault.Reason.TheVariants.{Many, Nothing, Again, 
 use Rattle.units.specs.declared.line.Line.{Line}
 use Rattle.units.specs.declared.setup.Setup.{Setup}
 use Rattle.units.specs.declared.writes.Write.{Write}
-use Rattle.units.proofs.Folds.{append_none}
 use Rattle.units.proofs.IdLaws.{same_id-is}
 use Rattle.units.proofs.KeyLaws.{same_key-refl}
 use Rattle.record.specs.Facts.{facts_of}
@@ -29,11 +30,14 @@ use Rattle.message.specs.declared.message.Envelope.{Envelope}
 use Rattle.message.specs.declared.message.Message.{Message}
 use Rattle.message.specs.declared.message.ReadAnswer.{ReadAnswer}
 use Rattle.protocol.specs.Rows.{Memory}
-use Rattle.session.specs.Sessions.{Client, IsClosing, Moved, Denies, Goes, unless, reads, buffers, hears, take_answer, epochs_agree, closes, gives_up, with_write, was_taken, was_answered, asked_keys, is_doomed, is_none, closing_messages, begun}
+use Rattle.session.specs.Sessions.{Client, IsClosing, Moved, Denies, Goes, unless, reads, buffers, hears, take_answer, epochs_agree, closes, gives_up}
+use Rattle.session.specs.Sessions.{with_write, was_taken, was_answered, asked_keys, is_doomed, is_none, closing_messages, begun}
 use Rattle.law.specs.Acknowledged.{committed_to}
-use Rattle.law.specs.Evidence.{IsAmong}
+use Rattle.law.specs.Among.{IsAmong}
 use Rattle.world.specs.Lawful.{may_act}
-use Rattle.world.specs.World.{World, ShardNow, View, State, Runs, IsStopped, IsDown, Unsure, shown, read_log, view_of, setup_of, finished, new_view, makes_view, crashed, failed_in, set_shard, set_client, put_out, acks_of, ack_of, commit_told, moved, answered, read_lines, noted, look_view, look_shard, look_at_view, begin, acts}
+use Rattle.world.specs.World.{World, ShardNow, View, State, Runs, IsStopped, IsDown, Unsure, shown_records, read_log, view_of, setup_of, finished}
+use Rattle.world.specs.World.{new_view, makes_view, crashed, failed_in, set_shard, set_client, put_out, acks_of, ack_of, commit_told, moved, answered}
+use Rattle.world.specs.World.{read_lines, look_noted, look_view, look_shard, look_at_view, begin, acts}
 use Rattle.world.specs.declared.event.Act.{Act}
 use Rattle.world.specs.declared.event.Doing.{Doing}
 use Rattle.world.specs.declared.event.Reply.{Reply}
@@ -119,7 +123,8 @@ ack_no_look : (w : World) (t : Id) (o : Option ℕ) (k : Bytes) (at : ℕ) (x : 
 ack_no_look w t None k at x h = h
 ack_no_look w t (Some s) k at x h = no_look (list_any (λ e. when (λ y. true) (commit_told t e)) w.bag) t s w.event k at x h
 
-message_no_look : (w : World) (to : Address) (m : Message) (k : Bytes) (at : ℕ) (x : Option Bytes) → IsAmong (acks_of w (record { to = to; message = m })) (Line.Look k at x) → ⊥
+message_no_look : (w : World) (to : Address) (m : Message) (k : Bytes) (at : ℕ) (x : Option Bytes) →
+    IsAmong (acks_of w (record { to = to; message = m })) (Line.Look k at x) → ⊥
 message_no_look w to (Message.Done d) k at x h = ack_no_look w d.txn d.outcome k at x h
 message_no_look w to (Message.Read r) k at x h = h
 message_no_look w to (Message.Prepare p) k at x h = h
@@ -141,12 +146,14 @@ has_ack_more : (lines more : List Line) (t : Id) → HasAck lines t → HasAck (
 has_ack_more lines more t h = record { stamp = h.stamp; event = h.event; among = among_left lines more (Line.Ack t h.stamp h.event) h.among }
 
 module _ (v : World) (acked : AcksAreLines v.bag v.lines) (t : Id) where
-  told_end : (to : Address) (u : Id) (o : Option ℕ) (b : Bool) → same_id u t ≡ b → IsAmong v.bag (record { to = to; message = Message.Done (record { txn = u; outcome = o }) }) → when (λ s. true) (cond b o None) ≡ true → HasAck v.lines t
+  told_end : (to : Address) (u : Id) (o : Option ℕ) (b : Bool) → same_id u t ≡ b → IsAmong v.bag
+      (record { to = to; message = Message.Done (record { txn = u; outcome = o }) }) → when (λ s. true) (cond b o None) ≡ true → HasAck v.lines t
   told_end to u (Some s) true same k e = subst (HasAck v.lines) (same_id-is u t same) (acked to u s k)
   told_end to u None true same k e = cc
   told_end to u o false same k e = cc
 
-  told_before : (to : Address) (m : Message) → IsAmong v.bag (record { to = to; message = m }) → when (λ s. true) (commit_told t (record { to = to; message = m })) ≡ true → HasAck v.lines t
+  told_before : (to : Address) (m : Message) → IsAmong v.bag (record { to = to; message = m }) →
+      when (λ s. true) (commit_told t (record { to = to; message = m })) ≡ true → HasAck v.lines t
   told_before to (Message.Done d) k e = told_end to d.txn d.outcome (same_id d.txn t) refl k e
   told_before to (Message.Read r) k e = cc
   told_before to (Message.Prepare p) k e = cc
@@ -268,7 +275,8 @@ answered_changes w c a there =
       acked = λ h to t s j. has_ack_more w.lines (read_lines c d a.key a.answer) t (h to t s j);
       has = λ n h. let s = k.has n h in record { shard = s.shard; there = s.there };
       offered = λ n view o. inl (record { shard = o.shard; there = o.there; shows = o.shows });
-      looked = λ j at x h. elim (among_cases w.lines (read_lines c d a.key a.answer) (Line.Look j at x) h) [ inl old ↦ inl old | inr new ↦ absurd (read_no_look c d a.key a.answer j at x new) ];
+      looked = λ j at x h. elim (among_cases w.lines (read_lines c d a.key a.answer) (Line.Look j at x) h) [ inl old ↦ inl old | inr new ↦
+          absurd (read_no_look c d a.key a.answer j at x new) ];
       once = λ h. k.once h;
     }
 
@@ -278,7 +286,8 @@ inserted w [] v (inl same) = inl same
 inserted w [] v (inr none) = absurd none
 inserted w (u ∷ us) v h = by_test (write_before u w) h (λ k. inserted w us v k)
   where
-    by_test : (b : Bool) → IsAmong (cond b (u ∷ insert write_before w us) (w ∷ u ∷ us)) v → (IsAmong (insert write_before w us) v → (w ≡ v) ⊎ IsAmong us v) → (w ≡ v) ⊎ IsAmong (u ∷ us) v
+    by_test : (b : Bool) → IsAmong (cond b (u ∷ insert write_before w us) (w ∷ u ∷ us)) v →
+        (IsAmong (insert write_before w us) v → (w ≡ v) ⊎ IsAmong us v) → (w ≡ v) ⊎ IsAmong (u ∷ us) v
     by_test true (inl same) rest = inr (inl same)
     by_test true (inr later) rest = elim (rest later) [ inl same ↦ inl same | inr old ↦ inr (inr old) ]
     by_test false (inl same) rest = inl same
@@ -317,11 +326,13 @@ reads_once : (splits : List Bytes) (k : Bytes) (c : Client) → WritesOnce c.wri
 unfolding reads
 reads_once splits k c h =
     unless_once ((nat_le 128 (length (asked_keys c)), Many) ∷ (was_answered c k, Again) ∷ (has_key c.awaited k, Awaited) ∷ (is_doomed c, Doomed) ∷ [])
-    (Goes (record c { awaited = c.awaited ++ k ∷ [] }) (record { to = Shard (shard_of splits k); message = Message.Read (record { txn = c.txn; key = k }) } ∷ [])) h
+    (Goes (record c { awaited = c.awaited ++ k ∷ [] }) (record { to = Shard (shard_of splits k); message =
+        Message.Read (record { txn = c.txn; key = k }) } ∷ [])) h
 
 buffers_once : (v : Write) (c : Client) → WritesOnce c.writes → OnceMoved (buffers v c)
 unfolding buffers
-buffers_once v c h = unless_once ((nat_le 128 (length c.writes) && not (writes_key c.writes v.key), Many) ∷ (is_doomed c, Doomed) ∷ []) (Goes (record c { writes = with_write c.writes v }) []) (with_write_once c.writes v h)
+buffers_once v c h = unless_once ((nat_le 128 (length c.writes) && not (writes_key c.writes v.key), Many) ∷ (is_doomed c, Doomed) ∷ [])
+    (Goes (record c { writes = with_write c.writes v }) []) (with_write_once c.writes v h)
 
 closes_once : (splits : List Bytes) (c : Client) → WritesOnce c.writes → OnceMoved (closes splits c)
 unfolding closes
@@ -363,7 +374,8 @@ begin_changes w t = record {
 some_shard : (a b : ShardNow) → Some a ≡ Some b → a ≡ b
 some_shard a b e = cc
 
-set_changes : (w : World) (n : ℕ) (old new : ShardNow) → slice_get w.shards n ≡ Some old → ((v : View) → ShowsView new v → ShowsView old v ⊎ RunsWith new v) → Changes w (set_shard n new w)
+set_changes : (w : World) (n : ℕ) (old new : ShardNow) → slice_get w.shards n ≡ Some old →
+    ((v : View) → ShowsView new v → ShowsView old v ⊎ RunsWith new v) → Changes w (set_shard n new w)
 set_changes w n old new there shows = record {
   config = refl;
   lines = λ l h. h;
@@ -382,7 +394,8 @@ set_changes w n old new there shows = record {
   where
     here : (m : ℕ) (view : View) → n ≡ m → Offers (set_shard n new w) m view → Offers w m view ⊎ IsPresent (set_shard n new w) m view
     here m view same o =
-        let there_now : slice_get (replaced w.shards n new) m ≡ Some new = subst (λ j. slice_get (replaced w.shards n new) j ≡ Some new) same (get-replaced_same w.shards n old new there) in
+        let there_now : slice_get (replaced w.shards n new) m ≡ Some new = subst (λ j. slice_get (replaced w.shards n new) j ≡ Some new) same
+            (get-replaced_same w.shards n old new there) in
         let is : o.shard ≡ new = some_shard o.shard new (sym o.there ∙ there_now) in
         elim (shows view (subst (λ (s : ShardNow). ShowsView s view) is o.shows)) [
           | inl before ↦ inl (record { shard = old; there = subst (λ j. slice_get w.shards j ≡ Some old) same there; shows = before })
@@ -396,7 +409,8 @@ crashed_shows : (s : ShardNow) (log : List Record) (v : View) → ShowsView (cra
 crashed_shows s log v (inl h) = inl (inl h)
 crashed_shows s log v (inr e) = cc
 
-finished_shows : (s : ShardNow) (doing : Doing) (logged : Option Record) (m : Memory) (v : View) → ShowsView (finished s doing logged m) v → ShowsView s v ⊎ RunsWith (finished s doing logged m) v
+finished_shows : (s : ShardNow) (doing : Doing) (logged : Option Record) (m : Memory) (v : View) → ShowsView (finished s doing logged m) v →
+    ShowsView s v ⊎ RunsWith (finished s doing logged m) v
 unfolding finished
 finished_shows s doing logged m v (inr e) = inr (record { memory = m; runs = refl; is = some_view _ v e })
 finished_shows s doing logged m v (inl h) = elim (among_cases s.views (new_view doing (read_log s ++ option_to_list logged) m) v h) [
@@ -404,18 +418,21 @@ finished_shows s doing logged m v (inl h) = elim (among_cases s.views (new_view 
   | inr new ↦ by_test (makes_view doing) new
 ]
   where
-    by_test : (b : Bool) → IsAmong (cond b (view_of (facts_of (read_log s ++ option_to_list logged)) m ∷ []) []) v → ShowsView s v ⊎ RunsWith (finished s doing logged m) v
+    by_test : (b : Bool) → IsAmong (cond b (view_of (facts_of (read_log s ++ option_to_list logged)) m ∷ []) []) v → ShowsView s v
+        ⊎ RunsWith (finished s doing logged m) v
     by_test true (inl same) = inr (record { memory = m; runs = refl; is = same })
     by_test true (inr none) = absurd none
     by_test false none = absurd none
 
 -- a shard that its device stops shows what it showed
-failed_shows : (setup : Setup) (log : List Record) (unsure : Unsure) (st : State) (views : List View) (call : ℕ) (r : Record) (v : View) → WellShard setup (shard_with log unsure st views) →
-    ShowsView (failed_in (shard_with log unsure st views) call r) v → ShowsView (shard_with log unsure st views) v ⊎ RunsWith (failed_in (shard_with log unsure st views) call r) v
+failed_shows : (setup : Setup) (log : List Record) (unsure : Unsure) (st : State) (views : List View) (call : ℕ) (r : Record) (v : View) →
+    WellShard setup (shard_with log unsure st views) →
+    ShowsView (failed_in (shard_with log unsure st views) call r) v → ShowsView (shard_with log unsure st views) v
+        ⊎ RunsWith (failed_in (shard_with log unsure st views) call r) v
 unfolding failed_in
 failed_shows setup log unsure st views call r v well (inl h) = inl (inl h)
 failed_shows setup log unsure (Runs m) views call r v well (inr e) =
-    inl (inr (subst (λ l. Some (view_of (facts_of l) m) ≡ Some v) (ap (λ u. log ++ shown u) well.state.1 ∙ append_none log) e))
+    inl (inr (subst (λ l. Some (view_of (facts_of l) m) ≡ Some v) (ap (λ u. log ++ shown_records u) well.state.1 ∙ append-nil log) e))
 failed_shows setup log unsure (IsStopped m) views call r v well (inr e) = cc
 failed_shows setup log unsure IsDown views call r v well (inr e) = cc
 
@@ -425,7 +442,7 @@ module _ (w : World) (well : WellWorld w) (n : ℕ) (s : ShardNow) (there : slic
 
   -- ---- looks
 
-  noted_changes : (k : Bytes) (at : ℕ) (r : Reply) → ((x : Option Bytes) → r ≡ Reply.Shows x → Looked w k at x) → Changes w (noted w k at r).0
+  noted_changes : (k : Bytes) (at : ℕ) (r : Reply) → ((x : Option Bytes) → r ≡ Reply.Shows x → Looked w k at x) → Changes w (look_noted w k at r).0
   noted_changes k at (Reply.Shows y) answer = record {
     config = refl;
     lines = λ l h. among_left w.lines (Line.Look k at y ∷ []) l h;
@@ -467,17 +484,18 @@ module _ (w : World) (well : WellWorld w) (n : ℕ) (s : ShardNow) (there : slic
         value = shows_is (at_time v.installs k at) x f;
       }
 
-  look_changes : (k : Bytes) (at : ℕ) → Changes w (noted w k at (look_shard (setup_of w.config n) s k at)).0
+  look_changes : (k : Bytes) (at : ℕ) → Changes w (look_noted w k at (look_shard (setup_of w.config n) s k at)).0
   look_changes k at = noted_changes k at (look_shard (setup_of w.config n) s k at) (λ x e. by_state s.state refl x e)
     where
       by_state : (st : State) → s.state ≡ st → (x : Option Bytes) →
-          (elim st as (λ y. Reply) [ Runs m ↦ look_view (setup_of w.config n) (view_of (facts_of s.log) m) k at | IsStopped m ↦ look_view (setup_of w.config n) (view_of (facts_of s.log) m) k at | IsDown ↦ Reply.Refused Stopped ]) ≡ Reply.Shows x →
+          (elim st as (λ y. Reply) [ Runs m ↦ look_view (setup_of w.config n) (view_of (facts_of s.log) m) k at | IsStopped m ↦
+              look_view (setup_of w.config n) (view_of (facts_of s.log) m) k at | IsDown ↦ Reply.Refused Stopped ]) ≡ Reply.Shows x →
           Looked w k at x
       by_state (Runs m) is x e = look_answers (view_of (facts_of s.log) m) k at x (inr (ap (λ z. view_in z s.log) is)) e
       by_state (IsStopped m) is x e = look_answers (view_of (facts_of s.log) m) k at x (inr (ap (λ z. view_in z s.log) is)) e
       by_state IsDown is x e = cc
 
-  view_changes : (i : ℕ) (k : Bytes) (at : ℕ) → Changes w (noted w k at (look_at_view (setup_of w.config n) (slice_get s.views i) k at)).0
+  view_changes : (i : ℕ) (k : Bytes) (at : ℕ) → Changes w (look_noted w k at (look_at_view (setup_of w.config n) (slice_get s.views i) k at)).0
   view_changes i k at = noted_changes k at (look_at_view (setup_of w.config n) (slice_get s.views i) k at) (λ x e. by_view (slice_get s.views i) refl x e)
     where
       by_view : (o : Option View) → slice_get s.views i ≡ o → (x : Option Bytes) → look_at_view (setup_of w.config n) o k at ≡ Reply.Shows x → Looked w k at x
@@ -494,5 +512,6 @@ acts_change w well =
     (λ n s there log. set_changes w n s (crashed s log) there (crashed_shows s log))
     (λ n s there doing logged memory out is. put_changes w (set_shard n (finished s doing logged memory) w) out
     (set_changes w n s (finished s doing logged memory) there (finished_shows s doing logged memory)))
-    (λ n s there call r. set_changes w n s (failed_in s call r) there (λ v h. failed_shows (setup_of w.config n) s.log s.unsure s.state s.views call r v (well n s there) h))
+    (λ n s there call r. set_changes w n s (failed_in s call r) there (λ v h. failed_shows
+        (setup_of w.config n) s.log s.unsure s.state s.views call r v (well n s there) h))
     (look_changes w well) (λ n s there i k at. view_changes w well n s there i k at)

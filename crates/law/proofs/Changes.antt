@@ -5,7 +5,8 @@ use Rattle.units.specs.Lists.{replaced}
 use Rattle.record.specs.declared.record.Record.{Record}
 use Rattle.world.specs.World.{World, ShardNow, State, Runs, IsStopped, IsDown, set_shard}
 use Rattle.world.proofs.Places.{get-replaced_same, get-replaced_other}
-use Rattle.law.specs.Evidence.{Scene, IsAmong, log_at, StateEvidence, ShardEvidence, Holds}
+use Rattle.law.specs.Among.{IsAmong}
+use Rattle.law.specs.Evidence.{Scene, log_at, StateEvidence, ShardEvidence, Holds}
 use Rattle.law.proofs.Grows.{Within, Grows, message_stays, line_stays, began_stays, record_stays, rows_stay}
 
 -- the scene with another world
@@ -72,8 +73,10 @@ module _ (sc : Scene) (n : ℕ) (old new : ShardNow) (there : slice_get sc.world
       some_same : (a b : ShardNow) → Some a ≡ Some b → a ≡ b
       some_same a b e = cc
 
-      by_place : (m : ℕ) (s : ShardNow) → n ≡ m → slice_get (replaced sc.world.shards n new) m ≡ Some s → ShardEvidence (with_world sc (set_shard n new sc.world)) m s
+      by_place : (m : ℕ) (s : ShardNow) → n ≡ m → slice_get (replaced sc.world.shards n new) m ≡ Some s →
+          ShardEvidence (with_world sc (set_shard n new sc.world)) m s
       by_place m s same e =
-          let is : new ≡ s = some_same new s (sym (get-replaced_same sc.world.shards n old new there) ∙ subst (λ k. slice_get (replaced sc.world.shards n new) k ≡ Some s) (sym same) e) in
+          let is : new ≡ s = some_same new s (sym (get-replaced_same sc.world.shards n old new there)
+              ∙ subst (λ k. slice_get (replaced sc.world.shards n new) k ≡ Some s) (sym same) e) in
           subst (λ k. ShardEvidence (with_world sc (set_shard n new sc.world)) k s) same
           (subst (λ x. ShardEvidence (with_world sc (set_shard n new sc.world)) n x) is (shard_stays sc _ set_grows n new evidence))

@@ -1,6 +1,8 @@
 -- The steps of sessions keep something behind all that there is.
-use Rattle.std.proofs.Common.{◌≡◌, inl, inr, ℕ, Bool, true, false, not, cond, ◌&&◌, nat_le, length, List, [], ◌∷◌, ◌++◌, Option, Some, None, slice_get, refl, sym, subst, map}
+use Rattle.std.proofs.Common.{◌≡◌, inl, inr, ℕ, Bool, true, false, not, cond, ◌&&◌, nat_le, length, List, [], ◌∷◌, ◌++◌, Option, Some, None}
+use Rattle.std.proofs.Common.{slice_get, refl, sym, subst, map}
 use Rattle.std.specs.List.{AllByRecursion}
+use Rattle.std.proofs.lemmas.List.{append-nil}
 use Rattle.units.specs.Ids.{Id}
 use Rattle.units.specs.Keys.{Bytes, has_key, shard_of, writes_key}
 use Rattle.units.specs.declared.fault.Fault.TheVariants.{Stranger}
@@ -10,17 +12,20 @@ use Rattle.units.specs.declared.line.Line.{Line}
 use Rattle.units.specs.declared.writes.Write.{Write}
 use Rattle.units.proofs.IdLaws.{same_id-is}
 use Rattle.units.proofs.ByIdLaws.{found_is}
-use Rattle.units.proofs.Folds.{append_none}
 use Rattle.message.specs.declared.message.Answer.{Answer}
 use Rattle.message.specs.declared.message.Answer.TheVariants as answer
 use Rattle.message.specs.declared.message.Address.TheVariants.{Shard}
 use Rattle.message.specs.declared.message.Envelope.{Envelope}
 use Rattle.message.specs.declared.message.Message.{Message}
 use Rattle.message.specs.declared.message.ReadAnswer.{ReadAnswer}
-use Rattle.session.specs.Sessions.{Client, Stage, IsOpen, IsClosing, IsOver, Moved, Denies, Goes, unless, closing_messages, messages_for, prepare_for, parts_of, shards_told, reads, buffers, closes, gives_up, finishes, hears, take_answer, is_doomed, epochs_agree, was_taken, asked_keys, was_answered, with_write, is_none, without_key, doomed_by}
-use Rattle.world.specs.World.{After, client_of, set_client, moved, refused, if_open, if_not_over, if_closing, if_hearing, answered, read_lines, to_session, noted}
+use Rattle.session.specs.Sessions.{Client, Stage, IsOpen, IsClosing, IsOver, Moved, Denies, Goes, unless, closing_messages, messages_for, prepare_for}
+use Rattle.session.specs.Sessions.{parts_of, shards_told, reads, buffers, closes, gives_up, finishes, hears, take_answer, is_doomed, epochs_agree}
+use Rattle.session.specs.Sessions.{was_taken, asked_keys, was_answered, with_write, is_none, without_key, doomed_by}
+use Rattle.world.specs.World.{After, client_of, set_client, moved, refused, if_open, if_not_over, if_closing, if_hearing, answered, read_lines}
+use Rattle.world.specs.World.{to_session, look_noted}
 use Rattle.world.specs.declared.event.Reply.{Reply}
-use Rattle.law.specs.Evidence.{Scene, IsAmong, ClosedOver, IsOfClosing, MessageEvidence, LineEvidence, is_past_open, Holds}
+use Rattle.law.specs.Among.{IsAmong}
+use Rattle.law.specs.Evidence.{Scene, ClosedOver, IsOfClosing, MessageEvidence, LineEvidence, is_past_open, Holds}
 use Rattle.law.proofs.Changes.{with_world}
 use Rattle.law.proofs.Says.{put_out_holds, said_holds, lined, IsNoBegin}
 use Rattle.law.proofs.Sessions.{KeepsClosing, client_holds, set_there}
@@ -72,7 +77,8 @@ module _ (sc : Scene) (h : Holds sc) (present : slice_get sc.times sc.world.even
   reading k c e =
       let d : Client = record c { awaited = c.awaited ++ k ∷ [] } in
       let out : List Envelope = record { to = Shard (shard_of sc.world.config.splits k); message = Message.Read (record { txn = c.txn; key = k }) } ∷ [] in
-      unless_evidence c ((nat_le 128 (length (asked_keys c)), Many) ∷ (was_answered c k, Again) ∷ (has_key c.awaited k, Awaited) ∷ (is_doomed c, Doomed) ∷ []) (Goes d out)
+      unless_evidence c ((nat_le 128 (length (asked_keys c)), Many) ∷ (was_answered c k, Again) ∷ (has_key c.awaited k, Awaited) ∷
+          (is_doomed c, Doomed) ∷ []) (Goes d out)
       (record { same = refl; keeps = open_keeps c d e; told = (tt, tt) })
 
   buffering : (w : Write) (c : Client) → c.stage ≡ IsOpen → MovedEvidence c (buffers w c)
@@ -110,11 +116,13 @@ module _ (sc : Scene) (h : Holds sc) (present : slice_get sc.times sc.world.even
       (Goes closed (closing_messages sc.world.config.splits c)) (record {
         same = refl;
         keeps = open_keeps c closed e;
-        told = closing_told sc2 c (parts_of sc.world.config.splits c) (λ x k. record { messages = closing_messages sc.world.config.splits c; over = over; among = k });
+        told = closing_told sc2 c (parts_of sc.world.config.splits c)
+            (λ x k. record { messages = closing_messages sc.world.config.splits c; over = over; among = k });
       })
 
   give_ups_told : (sc2 : Scene) (t : Id) (ns : List ℕ) →
-      AllByRecursion (λ (e : Envelope). MessageEvidence sc2 e.to e.message) (map (λ n. record { to = Shard n; message = Message.GiveUp (record { txn = t }) }) ns)
+      AllByRecursion (λ (e : Envelope). MessageEvidence sc2 e.to e.message)
+          (map (λ n. record { to = Shard n; message = Message.GiveUp (record { txn = t }) }) ns)
   give_ups_told sc2 t [] = tt
   give_ups_told sc2 t (n ∷ ns) = (tt, give_ups_told sc2 t ns)
 
@@ -155,7 +163,8 @@ module _ (sc : Scene) (h : Holds sc) (present : slice_get sc.times sc.world.even
   quits_hold t None e = h
   quits_hold t (Some c) e = by_stage c.stage
     where
-      by_stage : (s : Stage) → AfterHolds sc (elim s as (λ x. After) [ IsOver ↦ refused sc.world Stranger | _ ↦ moved sc.world (gives_up sc.world.config.splits c) ])
+      by_stage : (s : Stage) → AfterHolds sc (elim s as (λ x. After) [ IsOver ↦ refused sc.world Stranger | _ ↦
+          moved sc.world (gives_up sc.world.config.splits c) ])
       by_stage IsOver = h
       by_stage IsOpen = moved_holds t c e (gives_up sc.world.config.splits c) (giving_up c)
       by_stage IsClosing = moved_holds t c e (gives_up sc.world.config.splits c) (giving_up c)
@@ -175,7 +184,8 @@ module _ (sc : Scene) (h : Holds sc) (present : slice_get sc.times sc.world.even
   taken_txn c n k epoch answer.Refused = refl
   taken_txn c n k epoch (answer.Holds x) = by_test (epochs_agree c.taken n epoch)
     where
-      by_test : (b : Bool) → (cond b (record c { taken = c.taken ++ record { key = k; shard = n; epoch = epoch; value = x } ∷ []; awaited = without_key c.awaited k }) (doomed_by k c)).txn ≡ c.txn
+      by_test : (b : Bool) → (cond b (record c { taken = c.taken ++ record { key = k; shard = n; epoch = epoch; value = x } ∷ []; awaited =
+          without_key c.awaited k }) (doomed_by k c)).txn ≡ c.txn
       by_test true = refl
       by_test false = refl
 
@@ -199,7 +209,7 @@ module _ (sc : Scene) (h : Holds sc) (present : slice_get sc.times sc.world.even
   lines_hold : (sc2 : Scene) (ls : List Line) → ((sc3 : Scene) → AllByRecursion (λ l. IsNoBegin l × LineEvidence sc3 l) ls) → Holds sc2 →
       Holds (with_world sc2 (lined ls sc2.world))
   lines_hold sc2 ls written k =
-      subst (λ bag. Holds (with_world sc2 (record (sc2.world) { bag = bag; lines = sc2.world.lines ++ ls }))) (append_none sc2.world.bag)
+      subst (λ bag. Holds (with_world sc2 (record (sc2.world) { bag = bag; lines = sc2.world.lines ++ ls }))) (append-nil sc2.world.bag)
       (said_holds sc2 [] ls tt (written _) k)
 
   if_hearing_holds : (t : Id) (a : ReadAnswer) (o : Option Client) → client_of sc.world t ≡ o → AfterHolds sc (if_hearing sc.world o a)
@@ -211,7 +221,8 @@ module _ (sc : Scene) (h : Holds sc) (present : slice_get sc.times sc.world.even
       by_stage IsClosing is = h
       by_stage IsOpen is =
           let d = hears a.from a.key a.epoch a.answer c in
-          let there : client_of sc.world d.txn ≡ Some c = subst (λ u. client_of sc.world u ≡ Some c) (sym (heard_txn c a.from a.key a.epoch a.answer)) (found_txn t c e) in
+          let there : client_of sc.world d.txn ≡ Some c = subst (λ u. client_of sc.world u ≡ Some c)
+              (sym (heard_txn c a.from a.key a.epoch a.answer)) (found_txn t c e) in
           lines_hold (with_world sc (set_client d sc.world)) (read_lines c d a.key a.answer) (λ sc3. lines_told sc3 c d a.key a.answer)
           (client_holds sc c d there (open_keeps c d is) h)
 
@@ -229,9 +240,9 @@ module _ (sc : Scene) (h : Holds sc) (present : slice_get sc.times sc.world.even
   to_session_holds (Message.Ask a) = h
 
 -- an answered look is written down
-pub look_holds : (sc : Scene) (k : Bytes) (at : ℕ) (r : Reply) → Holds sc → AfterHolds sc (noted sc.world k at r)
+pub look_holds : (sc : Scene) (k : Bytes) (at : ℕ) (r : Reply) → Holds sc → AfterHolds sc (look_noted sc.world k at r)
 look_holds sc k at (Reply.Shows x) h =
-    subst (λ bag. Holds (with_world sc (record (sc.world) { bag = bag; lines = sc.world.lines ++ Line.Look k at x ∷ [] }))) (append_none sc.world.bag)
+    subst (λ bag. Holds (with_world sc (record (sc.world) { bag = bag; lines = sc.world.lines ++ Line.Look k at x ∷ [] }))) (append-nil sc.world.bag)
     (said_holds sc [] (Line.Look k at x ∷ []) tt ((tt, tt), tt) h)
 look_holds sc k at Reply.Done h = h
 look_holds sc k at (Reply.Refused f) h = h

@@ -5,16 +5,18 @@ use Rattle.units.specs.Ids.{Id, same_id}
 use Rattle.units.proofs.IdLaws.{same_id-is, same_id_comm, same_id-refl}
 use Rattle.record.specs.History.{by_shard}
 use Rattle.record.specs.Records.{as_committed, as_prepared}
-use Rattle.record.specs.Whole.{Decision, decisions, promises}
+use Rattle.record.specs.Whole.{Decision, decisions, promises_of}
 use Rattle.record.specs.declared.record.Committed.{Committed}
 use Rattle.record.specs.declared.record.Record.{Record}
 use Rattle.record.specs.declared.record.Record.TheVariants.{Opened, Ceiling, Prepare, Commit, Abort, Outcome}
-use Rattle.law.specs.Evidence.{Scene, IsAmong, Holds}
+use Rattle.law.specs.Among.{IsAmong}
+use Rattle.law.specs.Evidence.{Scene, Holds}
 use Rattle.law.specs.Left.{AreLeft}
 use Rattle.law.proofs.Orderly.{IsOrderly, IsOne, claims_of, orderly}
 use Rattle.law.proofs.Recorded.{among_keep, decision_among}
 use Rattle.law.proofs.Homes.{log_in, one_place}
-use Rattle.law.proofs.Picked.{keep_among, kept_passes, gather_among, map_among, among_map, join_among, among_join, AtMostOne, numbered_place, place_numbered, one_of_numbered}
+use Rattle.law.proofs.Picked.{keep_among, kept_passes, gather_among, map_among, among_map, join_among, among_join, AtMostOne, numbered_place}
+use Rattle.law.proofs.Picked.{place_numbered, one_of_numbered}
 
 -- ---- of one log
 
@@ -30,14 +32,16 @@ commits_claimed t (Ceiling at ∷ rs) = commits_claimed t rs
 commits_claimed t (Outcome u o ∷ rs) = commits_claimed t rs
 commits_claimed t (Prepare p ∷ rs) = commits_claimed t rs ∙ sym (skipped as_committed (same_id p.txn t) (Prepare p) (claims_of rs t) refl)
 commits_claimed t (Abort u ∷ rs) = commits_claimed t rs ∙ sym (skipped as_committed (same_id t u) (Abort u) (claims_of rs t) refl)
-commits_claimed t (Commit c ∷ rs) = ap (λ b. cond b (c ∷ filter (λ d. same_id t d.txn) (gather as_committed rs)) (filter (λ d. same_id t d.txn) (gather as_committed rs))) (same_id_comm t c.txn) ∙ by_test (same_id c.txn t) (commits_claimed t rs)
+commits_claimed t (Commit c ∷ rs) = ap (λ b. cond b (c ∷ filter (λ d. same_id t d.txn) (gather as_committed rs))
+    (filter (λ d. same_id t d.txn) (gather as_committed rs))) (same_id_comm t c.txn) ∙ by_test (same_id c.txn t) (commits_claimed t rs)
   where
     by_test : (b : Bool) → filter (λ d. same_id t d.txn) (gather as_committed rs) ≡ gather as_committed (claims_of rs t) →
-        cond b (c ∷ filter (λ d. same_id t d.txn) (gather as_committed rs)) (filter (λ d. same_id t d.txn) (gather as_committed rs)) ≡ gather as_committed (cond b (Commit c ∷ claims_of rs t) (claims_of rs t))
+        cond b (c ∷ filter (λ d. same_id t d.txn) (gather as_committed rs)) (filter (λ d. same_id t d.txn) (gather as_committed rs)) ≡
+            gather as_committed (cond b (Commit c ∷ claims_of rs t) (claims_of rs t))
     by_test true e = ap (λ l. c ∷ l) e
     by_test false e = e
 
-promises_claimed : (t : Id) (log : List Record) → promises log t ≡ gather as_prepared (claims_of log t)
+promises_claimed : (t : Id) (log : List Record) → promises_of log t ≡ gather as_prepared (claims_of log t)
 promises_claimed t [] = refl
 promises_claimed t (Opened epoch ∷ rs) = promises_claimed t rs
 promises_claimed t (Ceiling at ∷ rs) = promises_claimed t rs
@@ -46,7 +50,8 @@ promises_claimed t (Commit c ∷ rs) = promises_claimed t rs ∙ sym (skipped as
 promises_claimed t (Abort u ∷ rs) = promises_claimed t rs ∙ sym (skipped as_prepared (same_id t u) (Abort u) (claims_of rs t) refl)
 promises_claimed t (Prepare p ∷ rs) = by_test (same_id p.txn t) (promises_claimed t rs)
   where
-    by_test : (b : Bool) → promises rs t ≡ gather as_prepared (claims_of rs t) → cond b (p ∷ promises rs t) (promises rs t) ≡ gather as_prepared (cond b (Prepare p ∷ claims_of rs t) (claims_of rs t))
+    by_test : (b : Bool) → promises_of rs t ≡ gather as_prepared (claims_of rs t) → cond b (p ∷ promises_of rs t) (promises_of rs t) ≡
+        gather as_prepared (cond b (Prepare p ∷ claims_of rs t) (claims_of rs t))
     by_test true e = ap (λ l. p ∷ l) e
     by_test false e = e
 
@@ -59,7 +64,7 @@ one_gathered {B} f (x ∷ []) one = by_value (f x)
     by_value (Some y) = tt
 one_gathered f (x ∷ y ∷ rest) one = absurd one
 
-pub one_promise_in : (log : List Record) (t : Id) → IsOrderly log → AtMostOne (promises log t)
+pub one_promise_in : (log : List Record) (t : Id) → IsOrderly log → AtMostOne (promises_of log t)
 one_promise_in log t o = subst AtMostOne (sym (promises_claimed t log)) (one_gathered as_prepared (claims_of log t) (o t))
 
 one_commit_in : (log : List Record) (t : Id) → IsOrderly log → AtMostOne (filter (λ c. same_id t c.txn) (gather as_committed log))
@@ -106,7 +111,8 @@ pub decision_stands : (logs : List (List Record)) (t : Id) (d : Decision) → Is
 decision_stands logs t d h =
     let j = among_join (decided_in t) (by_shard logs) d h in
     let m = among_map (λ c. record { shard = j.from.0; commit = c }) (filter (λ c. same_id t c.txn) (gather as_committed j.from.1)) d j.within in
-    let here : IsAmong j.from.1 (Commit m.from) = decision_among j.from.1 m.from (among_keep (λ c. same_id t c.txn) (gather as_committed j.from.1) m.from m.among) in
+    let here : IsAmong j.from.1 (Commit m.from) = decision_among j.from.1 m.from (among_keep (λ c. same_id t c.txn)
+        (gather as_committed j.from.1) m.from m.among) in
     let named : t ≡ m.from.txn = same_id-is t m.from.txn (kept_passes (λ c. same_id t c.txn) (gather as_committed j.from.1) m.from m.among) in
     let stands : Decided logs t (record { shard = j.from.0; commit = m.from }) = record {
       among = subst (λ l. IsAmong l (Commit m.from)) (sym (log_in-is logs j.from.0 j.from.1 (log_of_number logs j.from j.among))) here;
@@ -114,11 +120,13 @@ decision_stands logs t d h =
     } in
     subst (Decided logs t) m.is stands
 
-pub stands_decided : (logs : List (List Record)) (n : ℕ) (c : Committed) → IsAmong (log_in logs n) (Commit c) → IsAmong (decisions logs c.txn) (record { shard = n; commit = c })
+pub stands_decided : (logs : List (List Record)) (n : ℕ) (c : Committed) → IsAmong (log_in logs n) (Commit c) →
+    IsAmong (decisions logs c.txn) (record { shard = n; commit = c })
 stands_decided logs n c h =
     join_among (decided_in c.txn) (by_shard logs) (n, log_in logs n) (record { shard = n; commit = c }) (number_there logs n (Commit c) h)
     (map_among (λ x. record { shard = n; commit = x }) (filter (λ x. same_id c.txn x.txn) (gather as_committed (log_in logs n))) c
-    (keep_among (λ x. same_id c.txn x.txn) (gather as_committed (log_in logs n)) c (gather_among as_committed (log_in logs n) (Commit c) c h refl) (same_id-refl c.txn)))
+    (keep_among (λ x. same_id c.txn x.txn) (gather as_committed (log_in logs n)) c (gather_among as_committed (log_in logs n) (Commit c) c h refl)
+        (same_id-refl c.txn)))
 
 module _ (sc : Scene) (h : Holds sc) (logs : List (List Record)) (left : AreLeft sc logs) where
   pub one_decided : (t : Id) → AtMostOne (decisions logs t)
@@ -132,7 +140,8 @@ module _ (sc : Scene) (h : Holds sc) (logs : List (List Record)) (left : AreLeft
           let m = among_map (λ c. record { shard = p.0; commit = c }) (filter (λ c. same_id t c.txn) (gather as_committed p.1)) d l in
           (decision_stands logs t d (join_among (decided_in t) (by_shard logs) p d k l), sym (ap (λ (x : Decision). x.shard) m.is))
 
-      same_number : (p q : ℕ × List Record) (x y : Decision) → IsAmong (by_shard logs) p → IsAmong (by_shard logs) q → IsAmong (decided_in t p) x → IsAmong (decided_in t q) y → p.0 ≡ q.0
+      same_number : (p q : ℕ × List Record) (x y : Decision) → IsAmong (by_shard logs) p → IsAmong (by_shard logs) q → IsAmong (decided_in t p) x →
+          IsAmong (decided_in t q) y → p.0 ≡ q.0
       same_number p q x y hp hq hx hy =
           let a = by p x hp hx in
           let b = by q y hq hy in

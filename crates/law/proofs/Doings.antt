@@ -1,5 +1,6 @@
 -- What a shard does rests on something.
-use Rattle.std.proofs.Common.{◌≡◌, inl, inr, ℕ, zero, suc, nat_le, ◌+◌, ◌<◌, ◌≤◌, Bool, true, false, cond, ◌&&◌, nat_eq, nat_lt, List, [], ◌∷◌, Option, Some, None, slice_get, refl, sym, ap, subst, ◌∙◌, arith}
+use Rattle.std.proofs.Common.{◌≡◌, inl, inr, ℕ, zero, suc, nat_le, ◌+◌, ◌<◌, ◌≤◌, Bool, true, false, cond, ◌&&◌, nat_eq, nat_lt, List, [], ◌∷◌}
+use Rattle.std.proofs.Common.{Option, Some, None, slice_get, refl, sym, ap, subst, ◌∙◌, arith}
 use Rattle.std.specs.Prelude.{Ok, Err, option_map}
 use Rattle.std.specs.List.{AllByRecursion}
 use Rattle.std.proofs.lemmas.Bool.{leb-true, eqb-true, and_parts}
@@ -19,13 +20,14 @@ use Rattle.message.specs.declared.message.Envelope.{Envelope}
 use Rattle.message.specs.declared.message.Input.{Input}
 use Rattle.message.specs.declared.message.Message.{Message}
 use Rattle.protocol.specs.Rows.{Memory, Row, rebuilt, without_row, without_rows}
-use Rattle.protocol.specs.Plan.{time_limit, before, Plan, Planned, Change, Keeps, Ends, Drops, Puts, carried, changed}
+use Rattle.protocol.specs.Plan.{time_limit, start_of_step, Plan, Planned, Change, Keeps, Ends, Drops, Puts, carried, after_change}
 use Rattle.protocol.specs.Step.{step_within, Stepped, Refuses, Does, plan_input, stepped}
 use Rattle.protocol.proofs.RowTable.{with_row-is}
-use Rattle.world.specs.World.{ShardNow, Runs, read_log, setup_of, opening, input_of, step_with}
+use Rattle.world.specs.World.{ShardNow, Runs, read_log, setup_of, step_of_opening, input_of, step_with}
 use Rattle.world.specs.Lawful.{goes_to, may_do}
 use Rattle.world.specs.declared.event.Doing.{Doing}
-use Rattle.law.specs.Evidence.{Scene, IsAmong, Sent, CommitAsked, BeganBy, PhaseEvidence, RowsEvidence, AllTold, StateEvidence, Holds}
+use Rattle.law.specs.Among.{IsAmong}
+use Rattle.law.specs.Evidence.{Scene, Sent, CommitAsked, BeganBy, PhaseEvidence, RowsEvidence, AllTold, StateEvidence, Holds}
 use Rattle.law.proofs.Members.{among_left}
 use Rattle.world.proofs.Places.{with_record}
 use Rattle.law.proofs.Moves.{LoggedEvidence, ChangeEvidence, PlannedEvidence}
@@ -62,8 +64,8 @@ module _ (sc : Scene) (log : List Record) (n : ℕ) where
   rows_without rows [] h = h
   rows_without rows (t ∷ ts) h = rows_without (without_row rows t) ts (all-keep Fits _ rows h)
 
-  rows_changed : (c : Change) (rows : List Row) → ChangeEvidence sc log n c → RowsEvidence sc log n rows → RowsEvidence sc log n (changed c rows)
-  unfolding changed
+  rows_changed : (c : Change) (rows : List Row) → ChangeEvidence sc log n c → RowsEvidence sc log n rows → RowsEvidence sc log n (after_change c rows)
+  unfolding after_change
   rows_changed Keeps rows e h = h
   rows_changed (Ends t) rows e h = all-keep Fits _ rows h
   rows_changed (Drops t) rows e h = all-keep Fits _ rows h
@@ -81,7 +83,8 @@ unfolding PlannedEvidence
 stepped_evidence sc log n m rows (Err f) e = tt
 stepped_evidence sc log n m rows (Ok p) e = record {
   rests = e.logged;
-  rows = rows_carried sc (with_record log p.logged) n p m e.change (rows_stay sc sc (grows_same sc) log (with_record log p.logged) (within_record log p.logged) n m.rows rows);
+  rows = rows_carried sc (with_record log p.logged) n p m e.change (rows_stay sc sc (grows_same sc) log (with_record log p.logged)
+      (within_record log p.logged) n m.rows rows);
   told = e.told;
 }
 
@@ -105,7 +108,8 @@ sent_to sc n m e is goes = by_address e.to refl goes
   where
     by_address : (a : Address) → e.to ≡ a → (elim a as (λ x. Bool) [ Shard k ↦ nat_eq k n | Session t ↦ false ]) ≡ true → Sent sc.world n e.message
     by_address (Shard k) same h =
-        subst (λ (x : Address). IsAmong sc.world.bag (record { to = x; message = e.message })) (same ∙ ap Shard (eqb-true k n h)) (get_among sc.world.bag m e is)
+        subst (λ (x : Address). IsAmong sc.world.bag (record { to = x; message = e.message })) (same ∙ ap Shard (eqb-true k n h))
+            (get_among sc.world.bag m e is)
     by_address (Session t) same h = cc
 
 honest_given : (sc : Scene) (now : Interval) → (nat_le now.earliest sc.now && nat_le sc.now now.latest) ≡ true → (now.earliest ≤ sc.now) × (sc.now ≤ now.latest)
@@ -128,7 +132,8 @@ given sc n Doing.Open h = tt
 -- ---- a doing of a shard
 
 module _ (sc : Scene) (h : Holds sc) (n : ℕ) (s : ShardNow) (there : slice_get sc.world.shards n ≡ Some s) where
-  began_by : (latest : ℕ) → sc.now ≤ latest → (t : Id) (ps : List ℕ) (rs : List Bytes) (ws : List Write) → CommitAsked sc.world n t ps rs ws → BeganBy sc t latest
+  began_by : (latest : ℕ) → sc.now ≤ latest → (t : Id) (ps : List ℕ) (rs : List Bytes) (ws : List Write) → CommitAsked sc.world n t ps rs ws →
+      BeganBy sc t latest
   began_by latest later t ps rs ws asked =
       let closing = h.messages _ asked.sent in
       let began = h.clients t closing.over.client closing.over.there in
@@ -145,7 +150,7 @@ module _ (sc : Scene) (h : Holds sc) (n : ℕ) (s : ShardNow) (there : slice_get
   step_evidence m runs orderly None given_none = tt
   step_evidence m runs orderly (Some p) heard =
       let setup = setup_of sc.world.config n in
-      let start = before 1024 setup (facts_of s.log) m in
+      let start = start_of_step 1024 setup (facts_of s.log) m in
       let evidence = h.shards n s there in
       let state : StateEvidence sc s n (Runs m) = subst (λ x. StateEvidence sc s n x) runs evidence.state in
       let knows : Knows sc s.log start p.0 = record {
@@ -158,14 +163,16 @@ module _ (sc : Scene) (h : Holds sc) (n : ℕ) (s : ShardNow) (there : slice_get
       stepped_evidence sc s.log n m state.0 (plan_input setup start p.0 p.1) (planned sc s.log start p.0 knows setup p.1 heard.0)
 
   -- an opening
-  pub opening_evidence : SteppedEvidence sc n (read_log s) (opening (facts_of (read_log s)))
-  unfolding opening
+  pub opening_evidence : SteppedEvidence sc n (read_log s) (step_of_opening (facts_of (read_log s)))
+  unfolding step_of_opening
   opening_evidence = by_test (nat_lt (facts_of (read_log s)).epoch time_limit)
     where
-      by_test : (b : Bool) → SteppedEvidence sc n (read_log s) (cond b (Does (Some (Record.Opened ((facts_of (read_log s)).epoch + 1))) (rebuilt (facts_of (read_log s))) []) (Refuses TimeSpent))
+      by_test : (b : Bool) → SteppedEvidence sc n (read_log s)
+          (cond b (Does (Some (Record.Opened ((facts_of (read_log s)).epoch + 1))) (rebuilt (facts_of (read_log s))) []) (Refuses TimeSpent))
       by_test false = tt
       by_test true = record {
         rests = tt;
-        rows = rows_stay sc sc (grows_same sc) (read_log s) _ (within_record (read_log s) (Some (Record.Opened ((facts_of (read_log s)).epoch + 1)))) n _ (rebuilt_rows (read_log s) sc n);
+        rows = rows_stay sc sc (grows_same sc) (read_log s) _ (within_record (read_log s) (Some (Record.Opened ((facts_of (read_log s)).epoch + 1))))
+            n _ (rebuilt_rows (read_log s) sc n);
         told = tt;
       }

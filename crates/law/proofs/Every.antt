@@ -1,5 +1,6 @@
 -- Something stands behind all that there is, at every moment of every lawful run.
-use Rattle.std.proofs.Common.{◌≡◌, ◌⊎◌, inl, inr, ℕ, zero, suc, ◌<◌, ◌≤◌, true, not, ◌&&◌, nat_le, List, [], ◌∷◌, ◌++◌, length, Option, Some, None, slice_get, refl, sym, ap, subst, ◌∙◌, arith}
+use Rattle.std.proofs.Common.{◌≡◌, ◌⊎◌, inl, inr, ℕ, zero, suc, ◌<◌, ◌≤◌, true, not, ◌&&◌, nat_le, List, [], ◌∷◌, ◌++◌, length, Option, Some, None}
+use Rattle.std.proofs.Common.{slice_get, refl, sym, ap, subst, ◌∙◌, arith}
 use Rattle.std.specs.Prelude.{option_map}
 use Rattle.std.proofs.lemmas.Bool.{leb-true, and_parts}
 use Rattle.units.specs.Lists.{when}
@@ -13,14 +14,17 @@ use Rattle.message.specs.declared.message.Address.TheVariants.{Shard, Session}
 use Rattle.message.specs.declared.message.Envelope.{Envelope}
 use Rattle.message.specs.declared.message.Input.{Input}
 use Rattle.session.specs.Sessions.{Client}
-use Rattle.world.specs.World.{World, After, ShardNow, client_of, input_of, at_shard, do_at, deliver_to, acts, happens, ticked, start, run, run_from, setup_of, did, effect, did_with_failure, crashed, crashed_in, set_shard, to_session, refused, noted, look_shard, look_at_view, fresh_shard, fresh_log}
+use Rattle.world.specs.World.{World, After, ShardNow, client_of, input_of, at_shard, do_at, deliver_to, acts, happens, ticked, start, run, run_from}
+use Rattle.world.specs.World.{setup_of, did, effect, did_with_failure, crashed, crashed_in, set_shard, to_session, refused, look_noted, look_shard}
+use Rattle.world.specs.World.{look_at_view, fresh_shard, fresh_log}
 use Rattle.world.specs.Lawful.{has_begun, may_act, may_happen, can_come, lawful_from, lawful}
 use Rattle.world.specs.declared.event.Act.{Act}
 use Rattle.world.specs.declared.event.Config.{Config}
 use Rattle.world.specs.declared.event.Doing.{Doing}
 use Rattle.world.specs.declared.event.Event.{Event}
 use Rattle.world.specs.declared.event.Reply.{Reply}
-use Rattle.law.specs.Evidence.{Scene, IsAmong, RecordEvidence, Holds, ShardEvidence}
+use Rattle.law.specs.Among.{IsAmong}
+use Rattle.law.specs.Evidence.{Scene, RecordEvidence, Holds, ShardEvidence}
 use Rattle.world.specs.Steady.{IsSteady, AlwaysSteady}
 use Rattle.world.proofs.Places.{replicated}
 use Rattle.law.proofs.Grows.{Grows, message_stays, line_stays, began_stays}
@@ -35,16 +39,19 @@ use Rattle.law.proofs.Shards.{doing_holds, plain_crash_holds, crash_within_holds
 
 module _ (sc : Scene) (h : Holds sc) (steady : IsSteady sc.world) (present : slice_get sc.times sc.world.event ≡ Some sc.now) where
   -- an event at a shard, where there is one
-  at_shard_holds : (n : ℕ) (f : Setup → ShardNow → After) → ((s : ShardNow) → slice_get sc.world.shards n ≡ Some s → AfterHolds sc (f (setup_of sc.world.config n) s)) →
+  at_shard_holds : (n : ℕ) (f : Setup → ShardNow → After) → ((s : ShardNow) → slice_get sc.world.shards n ≡ Some s →
+      AfterHolds sc (f (setup_of sc.world.config n) s)) →
       AfterHolds sc (at_shard sc.world n f)
   at_shard_holds n f each = by_value (slice_get sc.world.shards n) refl
     where
-      by_value : (o : Option ShardNow) → slice_get sc.world.shards n ≡ o → AfterHolds sc (elim o as (λ x. After) [ None ↦ refused sc.world Stranger | Some s ↦ f (setup_of sc.world.config n) s ])
+      by_value : (o : Option ShardNow) → slice_get sc.world.shards n ≡ o →
+          AfterHolds sc (elim o as (λ x. After) [ None ↦ refused sc.world Stranger | Some s ↦ f (setup_of sc.world.config n) s ])
       by_value None e = h
       by_value (Some s) e = each s e
 
   do_at_holds : (n : ℕ) (doing : Doing) → Given sc n (input_of sc.world.bag doing) → AfterHolds sc (do_at sc.world n doing)
-  do_at_holds n doing heard = at_shard_holds n (λ setup s. did sc.world n s doing (effect setup sc.world.bag s doing)) (λ s there. doing_holds sc h steady present n s there doing heard)
+  do_at_holds n doing heard = at_shard_holds n (λ setup s. did sc.world n s doing (effect setup sc.world.bag s doing))
+      (λ s there. doing_holds sc h steady present n s there doing heard)
 
   begins : (t : Id) → not (has_begun sc.world t) ≡ true → AfterHolds sc (acts sc.world (Act.Begin t))
   unfolding acts
@@ -54,7 +61,8 @@ module _ (sc : Scene) (h : Holds sc) (steady : IsSteady sc.world) (present : sli
       by_value None e = refl
       by_value (Some c) e = cc
 
-  delivers : (m : ℕ) (now : Interval) → (is_honest sc.now now && when (can_come sc.world) (slice_get sc.world.bag m)) ≡ true → AfterHolds sc (deliver_to sc.world m now (slice_get sc.world.bag m))
+  delivers : (m : ℕ) (now : Interval) → (is_honest sc.now now && when (can_come sc.world) (slice_get sc.world.bag m)) ≡ true →
+      AfterHolds sc (deliver_to sc.world m now (slice_get sc.world.bag m))
   unfolding deliver_to
   delivers m now lawful_now = by_message (slice_get sc.world.bag m) refl
     where
@@ -85,13 +93,18 @@ module _ (sc : Scene) (h : Holds sc) (steady : IsSteady sc.world) (present : sli
   acts_hold (Act.Quit t) may = quits_hold sc h present t (client_of sc.world t) refl
   acts_hold (Act.Deliver m now) may = delivers m now may
   acts_hold (Act.At n doing) may = do_at_holds n doing (given sc n doing (and_parts _ _ may).1)
-  acts_hold (Act.Look n k at) may = at_shard_holds n (λ setup s. noted sc.world k at (look_shard setup s k at)) (λ s there. look_holds sc k at (look_shard (setup_of sc.world.config n) s k at) h)
-  acts_hold (Act.View n v k at) may = at_shard_holds n (λ setup s. noted sc.world k at (look_at_view setup (slice_get s.views v) k at)) (λ s there. look_holds sc k at (look_at_view (setup_of sc.world.config n) (slice_get s.views v) k at) h)
-  acts_hold (Act.Crash n) may = at_shard_holds n (λ setup s. (set_shard n (crashed s s.log) sc.world, Reply.Crashed)) (λ s there. plain_crash_holds sc h steady present n s there)
+  acts_hold (Act.Look n k at) may = at_shard_holds n (λ setup s. look_noted sc.world k at (look_shard setup s k at))
+      (λ s there. look_holds sc k at (look_shard (setup_of sc.world.config n) s k at) h)
+  acts_hold (Act.View n v k at) may = at_shard_holds n (λ setup s. look_noted sc.world k at (look_at_view setup (slice_get s.views v) k at))
+      (λ s there. look_holds sc k at (look_at_view (setup_of sc.world.config n) (slice_get s.views v) k at) h)
+  acts_hold (Act.Crash n) may = at_shard_holds n (λ setup s. (set_shard n (crashed s s.log) sc.world, Reply.Crashed))
+      (λ s there. plain_crash_holds sc h steady present n s there)
   acts_hold (Act.CrashIn n call fate doing) may =
-      at_shard_holds n (λ setup s. (set_shard n (crashed_in s call fate doing (effect setup sc.world.bag s doing)) sc.world, Reply.Crashed)) (λ s there. crash_within_holds sc h steady present n s there call fate doing (given sc n doing (and_parts _ _ (and_parts _ _ may).0).1))
+      at_shard_holds n (λ setup s. (set_shard n (crashed_in s call fate doing (effect setup sc.world.bag s doing)) sc.world, Reply.Crashed))
+          (λ s there. crash_within_holds sc h steady present n s there call fate doing (given sc n doing (and_parts _ _ (and_parts _ _ may).0).1))
   acts_hold (Act.FailIn n call doing) may =
-      at_shard_holds n (λ setup s. did_with_failure sc.world n s call doing (effect setup sc.world.bag s doing)) (λ s there. failure_holds sc h steady present n s there call doing (given sc n doing (and_parts _ _ may).1))
+      at_shard_holds n (λ setup s. did_with_failure sc.world n s call doing (effect setup sc.world.bag s doing))
+          (λ s there. failure_holds sc h steady present n s there call doing (given sc n doing (and_parts _ _ may).1))
 
 -- ---- time
 
@@ -216,8 +229,10 @@ next_holds sc e h c steady may =
     let same = c.time in
     let later : sc.now ≤ e.time = omega (arith, from, same) in
     let begun = tick_holds sc e.time h c later in
-    let after = acts_hold (record { world = sc.world; times = sc.times ++ e.time ∷ []; event = sc.event; now = e.time }) begun steady (present_now sc e.time h c later) e.act p.1 in (
-      over_holds (with_world (record { world = sc.world; times = sc.times ++ e.time ∷ []; event = sc.event; now = e.time }) (acts sc.world e.act).0) e.time after,
+    let after = acts_hold (record { world = sc.world; times = sc.times ++ e.time ∷ []; event = sc.event; now = e.time }) begun steady
+        (present_now sc e.time h c later) e.act p.1 in (
+      over_holds (with_world (record { world = sc.world; times = sc.times ++ e.time ∷ []; event = sc.event; now = e.time }) (acts sc.world e.act).0)
+          e.time after,
       record {
         count = length_push sc.times e.time ∙ ap suc c.count;
         time = refl;

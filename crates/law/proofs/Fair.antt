@@ -1,12 +1,17 @@
 -- A step answers reads under locks alone, puts no row of an ended transaction, and logs what was read in the epoch in which it
 -- was asked for.
-use Rattle.std.proofs.Common.{◌≡◌, ℕ, ◌+◌, max, min, Bool, true, false, cond, ◌&&◌, nat_eq, nat_le, nat_lt, List, [], ◌∷◌, ◌++◌, Option, Some, None, refl, sym, ap, subst, ◌∙◌}
+use Rattle.std.proofs.Common.{◌≡◌, ℕ, ◌+◌, max, min, Bool, true, false, cond, ◌&&◌, nat_eq, nat_le, nat_lt, List, [], ◌∷◌, ◌++◌, Option, Some, None}
+use Rattle.std.proofs.Common.{refl, sym, ap, subst, ◌∙◌}
 use Rattle.std.specs.Prelude.{Ok, Err}
 use Rattle.std.specs.List.{AllByRecursion, list_all}
 use Rattle.std.proofs.lemmas.Bool.{eqb-true}
 use Rattle.units.specs.Ids.{Id, has_id}
 use Rattle.protocol.specs.Outputs.{answer_to, ask_to, done_to, vote_to, outcome_to, promise, decision, refused_vote}
-use Rattle.protocol.specs.Cells.{commit_stamp, other_parts, still_stand, plan_read, plan_read_now, plan_read_row, plan_prepare, plan_prepare_fresh, plan_prepare_now, plan_promise, plan_commit, plan_commit_fresh, plan_commit_now, plan_commit_granted, plan_decide, plan_abort, plan_vote, plan_count, plan_tell, plan_unpromised, plan_outcome, plan_abort_for, plan_give_up, plan_ask, plan_go_on, plan_resume, plan_resume_id, plan_resume_row, plan_settle, plan_advance, plan_nudge, to_read, answers, refuses, tells}
+use Rattle.protocol.specs.Cells.{commit_stamp, other_parts, still_stand, plan_read, plan_read_now, plan_read_row, plan_prepare, plan_prepare_fresh}
+use Rattle.protocol.specs.Cells.{plan_prepare_now, plan_promise, plan_commit, plan_commit_fresh, plan_commit_now, plan_commit_granted, plan_decide}
+use Rattle.protocol.specs.Cells.{plan_abort, plan_vote, plan_count, plan_tell, plan_unpromised, plan_outcome, plan_abort_for, plan_give_up, plan_ask}
+use Rattle.protocol.specs.Cells.{plan_go_on, plan_resume, plan_resume_id, plan_resume_row, plan_settle, plan_advance, plan_nudge, to_read, answers}
+use Rattle.protocol.specs.Cells.{refuses, tells}
 use Rattle.units.specs.Keys.{Bytes}
 use Rattle.units.specs.Locks.{exclusive, holds, ready}
 use Rattle.units.specs.Versions.{latest}
@@ -29,11 +34,13 @@ use Rattle.message.specs.declared.message.Commit.{Commit}
 use Rattle.message.specs.declared.message.Message.{Message}
 use Rattle.message.specs.declared.message.Prepare.{Prepare}
 use Rattle.message.specs.declared.message.ReadAnswer.{ReadAnswer}
-use Rattle.protocol.specs.Rows.{Row, Phase, Idle, WaitsRead, WaitsPrepare, WaitsCommit, Collecting, IsPrepared, IsDecided, Voted, Standing, IsUnknown, WasEnded, HasRow, WasAborted, WasSettled, WasClosed, standing, standing_by, claims, find_row, with_vote}
+use Rattle.protocol.specs.Rows.{Row, Phase, Idle, WaitsRead, WaitsPrepare, WaitsCommit, Collecting, IsPrepared, IsDecided, Voted, Standing, IsUnknown}
+use Rattle.protocol.specs.Rows.{WasEnded, HasRow, WasAborted, WasSettled, WasClosed, standing, standing_by, claims, find_row, with_vote}
 use Rattle.protocol.specs.Step.{is_for, plan_message, plan_input}
 use Rattle.protocol.specs.Sound.{is_open}
-use Rattle.protocol.specs.Plan.{time_limit, Plan, Planned, Before, Change, Keeps, Puts, replies, ends, drops, puts, roomed, votes_of, in_way, opens, is_crowded, stands}
-use Rattle.law.specs.Evidence.{IsAmong}
+use Rattle.protocol.specs.Plan.{time_limit, Plan, Planned, Before, Change, Keeps, Puts, replies, ends, drops, puts, roomed, votes_of, in_way, opens}
+use Rattle.protocol.specs.Plan.{is_crowded, stands}
+use Rattle.law.specs.Among.{IsAmong}
 use Rattle.law.proofs.Members.{all_append}
 
 -- the keys that a row waits or collects with
@@ -52,7 +59,8 @@ AllMute es = AllByRecursion Mute es
 
 -- who is told the value of a key has a row that holds it, or is given one
 pub data Answered (b : Before) (p : Plan) (u : Id) (j : Bytes) : Type 0 where
-  OfRow : p.change ≡ Keeps → p.wounded ≡ [] → p.logged ≡ None → (held : List Lock) → (phase : Phase) → stands b u ≡ HasRow held phase → is_open phase ≡ true → holds held j ≡ true → Answered b p u j
+  OfRow : p.change ≡ Keeps → p.wounded ≡ [] → p.logged ≡ None → (held : List Lock) → (phase : Phase) → stands b u ≡ HasRow held phase →
+      is_open phase ≡ true → holds held j ≡ true → Answered b p u j
   OfLock : p.change ≡ Puts u (to_read j) Idle → p.logged ≡ None → Answered b p u j
 
 -- a value that is told is the latest, in this epoch
@@ -68,7 +76,8 @@ MessageFair b p m = elim m [ Message.ReadAnswer a ↦ elim a.answer [ Holds x �
 abbrev pub AllFair : Before → Plan → List Envelope → Type 0
 AllFair b p es = AllByRecursion (λ (e : Envelope). MessageFair b p e.message) es
 
-mute_answer : (b : Before) (p : Plan) (a : ReadAnswer) (z : Answer) → a.answer ≡ z → (elim z as (λ q. Type 0) [ Holds x ↦ ⊥ | Refused ↦ Unit {0} ]) → (elim z as (λ q. Type 0) [ Holds x ↦ AnswerFair b p a x | Refused ↦ Unit {0} ])
+mute_answer : (b : Before) (p : Plan) (a : ReadAnswer) (z : Answer) → a.answer ≡ z → (elim z as (λ q. Type 0) [ Holds x ↦ ⊥ | Refused ↦ Unit {0} ]) →
+    (elim z as (λ q. Type 0) [ Holds x ↦ AnswerFair b p a x | Refused ↦ Unit {0} ])
 mute_answer b p a (Holds x) is h = absurd h
 mute_answer b p a Refused is h = tt
 
@@ -153,12 +162,14 @@ module _ (t : Id) (k : Bytes) (e : ℕ) (b : Before) where
   unfolding Fair
   dropping u r last out l h = record { change = tt; logged = l; told = mute_fair b (drops u r last out) out h }
 
-  putting : (ended : List Id) (u : Id) (needs : List Lock) (phase : Phase) (r : Option Record) (last : ℕ) (out : List Envelope) → Alive u → Asked u (reads_of phase) → LoggedFair r → AllMute out → Fair (Ok (puts b ended u needs phase r last out))
+  putting : (ended : List Id) (u : Id) (needs : List Lock) (phase : Phase) (r : Option Record) (last : ℕ) (out : List Envelope) → Alive u →
+      Asked u (reads_of phase) → LoggedFair r → AllMute out → Fair (Ok (puts b ended u needs phase r last out))
   unfolding Fair
   putting ended u needs phase r last out alive asked l h = record {
     change = (alive, asked);
     logged = l;
-    told = mute_fair b (puts b ended u needs phase r last out) (votes_of b.shard b.memory.rows ended ++ out) (all_append Mute (votes_of b.shard b.memory.rows ended) out (votes_mute b.shard b.memory.rows ended) h);
+    told = mute_fair b (puts b ended u needs phase r last out) (votes_of b.shard b.memory.rows ended ++ out)
+        (all_append Mute (votes_of b.shard b.memory.rows ended) out (votes_mute b.shard b.memory.rows ended) h);
   }
 
   refusing : (f : Fault) → Fair (Err f)
@@ -200,39 +211,49 @@ module _ (t : Id) (k : Bytes) (e : ℕ) (b : Before) where
   locking ended u j alive = record {
     change = (alive, none_asked u);
     logged = tt;
-    told = all_append (λ (z : Envelope). MessageFair b (puts b ended u (to_read j) Idle None b.memory.last (answers b u j ∷ [])) z.message) (votes_of b.shard b.memory.rows ended) (answers b u j ∷ [])
-        (mute_fair b (puts b ended u (to_read j) Idle None b.memory.last (answers b u j ∷ [])) (votes_of b.shard b.memory.rows ended) (votes_mute b.shard b.memory.rows ended))
+    told = all_append (λ (z : Envelope). MessageFair b (puts b ended u (to_read j) Idle None b.memory.last (answers b u j ∷ [])) z.message)
+        (votes_of b.shard b.memory.rows ended) (answers b u j ∷ [])
+        (mute_fair b (puts b ended u (to_read j) Idle None b.memory.last (answers b u j ∷ [])) (votes_of b.shard b.memory.rows ended)
+            (votes_mute b.shard b.memory.rows ended))
         (record { from = refl; epoch = refl; value = refl; held = OfLock refl refl }, tt);
   }
 
-  held_answer : (u : Id) (j : Bytes) (held : List Lock) (phase : Phase) → stands b u ≡ HasRow held phase → is_open phase ≡ true → holds held j ≡ true → Fair (Ok (replies b (answers b u j ∷ [])))
+  held_answer : (u : Id) (j : Bytes) (held : List Lock) (phase : Phase) → stands b u ≡ HasRow held phase → is_open phase ≡ true →
+      holds held j ≡ true → Fair (Ok (replies b (answers b u j ∷ [])))
   unfolding Fair
-  held_answer u j held phase is opened there = record { change = tt; logged = tt; told = (record { from = refl; epoch = refl; value = refl; held = OfRow refl refl refl held phase is opened there }, tt) }
+  held_answer u j held phase is opened there = record { change = tt; logged = tt; told =
+      (record { from = refl; epoch = refl; value = refl; held = OfRow refl refl refl held phase is opened there }, tt) }
 
   -- ---- promises and decisions
 
-  promising : (ended : List Id) (earliest : ℕ) (u : Id) (c : ℕ) (rs : List Bytes) (ws : List Write) → Alive u → Asked u rs → Fair (plan_promise b ended earliest u c rs ws)
+  promising : (ended : List Id) (earliest : ℕ) (u : Id) (c : ℕ) (rs : List Bytes) (ws : List Write) → Alive u → Asked u rs →
+      Fair (plan_promise b ended earliest u c rs ws)
   unfolding plan_promise
   promising ended earliest u c rs ws alive asked =
       let p : ℕ = max (b.memory.last + 1) earliest in
-      choosing (nat_le p time_limit) (Ok (puts b ended u (exclusive ws) (IsPrepared c p) (Some (promise u c p rs ws)) (max b.memory.last p) (vote_to b.shard c u (Some p) ∷ []))) (Err TimeSpent)
-      (putting ended u (exclusive ws) (IsPrepared c p) (Some (promise u c p rs ws)) (max b.memory.last p) (vote_to b.shard c u (Some p) ∷ []) alive (none_asked u) asked (tt, tt)) (refusing TimeSpent)
+      choosing (nat_le p time_limit) (Ok (puts b ended u (exclusive ws) (IsPrepared c p) (Some (promise u c p rs ws)) (max b.memory.last p)
+          (vote_to b.shard c u (Some p) ∷ []))) (Err TimeSpent)
+      (putting ended u (exclusive ws) (IsPrepared c p) (Some (promise u c p rs ws)) (max b.memory.last p) (vote_to b.shard c u (Some p) ∷ []) alive
+          (none_asked u) asked (tt, tt)) (refusing TimeSpent)
 
-  deciding : (ended : List Id) (u : Id) (l : ℕ) (ps : List ℕ) (rs : List Bytes) (ws : List Write) (needs : List Lock) (votes : List Voted) → Alive u → Asked u rs → Fair (plan_decide b ended u l ps rs ws needs votes)
+  deciding : (ended : List Id) (u : Id) (l : ℕ) (ps : List ℕ) (rs : List Bytes) (ws : List Write) (needs : List Lock) (votes : List Voted) →
+      Alive u → Asked u rs → Fair (plan_decide b ended u l ps rs ws needs votes)
   unfolding plan_decide
   deciding ended u l ps rs ws needs votes alive asked =
       let s : ℕ = commit_stamp b.memory.last l votes in
       choosing (nat_le s time_limit) (Ok (puts b ended u needs (IsDecided s ps) (Some (decision u s ps rs ws)) (max b.memory.last s) [])) (Err TimeSpent)
       (putting ended u needs (IsDecided s ps) (Some (decision u s ps rs ws)) (max b.memory.last s) [] alive (none_asked u) asked tt) (refusing TimeSpent)
 
-  granting : (ended : List Id) (u : Id) (l : ℕ) (ps : List ℕ) (rs : List Bytes) (ws : List Write) (ns : List ℕ) → Alive u → Asked u rs → Fair (plan_commit_granted b ended u l ps rs ws ns)
+  granting : (ended : List Id) (u : Id) (l : ℕ) (ps : List ℕ) (rs : List Bytes) (ws : List Write) (ns : List ℕ) → Alive u → Asked u rs →
+      Fair (plan_commit_granted b ended u l ps rs ws ns)
   unfolding plan_commit_granted
   granting ended u l ps rs ws [] alive asked = deciding ended u l ps rs ws (exclusive ws) [] alive asked
   granting ended u l ps rs ws (n ∷ ns) alive asked = putting ended u (exclusive ws) (Collecting l ps rs ws []) None b.memory.last [] alive asked tt tt
 
   aborting : (u : Id) (ps : List ℕ) → Fair (Ok (plan_abort b u ps))
   unfolding plan_abort
-  aborting u ps = dropping u (Record.Abort u) b.memory.last (done_to u None ∷ tells b u None (other_parts b.shard ps)) tt (tt, tells_mute b u None (other_parts b.shard ps))
+  aborting u ps = dropping u (Record.Abort u) b.memory.last (done_to u None ∷ tells b u None (other_parts b.shard ps)) tt
+      (tt, tells_mute b u None (other_parts b.shard ps))
 
   -- ---- the table
 
@@ -240,12 +261,15 @@ module _ (t : Id) (k : Bytes) (e : ℕ) (b : Before) where
     reading_now : (u : Id) (j : Bytes) → Alive u → Fair (plan_read_now b u j)
     unfolding plan_read_now
     reading_now u j alive =
-        rooming (is_crowded b u) _ (choosing_plan (opens b u (to_read j)) _ _ (locking (in_way b u (to_read j)) u j alive) (putting (in_way b u (to_read j)) u [] (WaitsRead j) None b.memory.last [] alive (none_asked u) tt tt))
+        rooming (is_crowded b u) _ (choosing_plan (opens b u (to_read j)) _ _ (locking (in_way b u (to_read j)) u j alive)
+            (putting (in_way b u (to_read j)) u [] (WaitsRead j) None b.memory.last [] alive (none_asked u) tt tt))
 
-    reading_row : (u : Id) (j : Bytes) (held : List Lock) (phase : Phase) (waits : Bool) → stands b u ≡ HasRow held phase → is_open phase ≡ true → Fair (plan_read_row b u j held waits)
+    reading_row : (u : Id) (j : Bytes) (held : List Lock) (phase : Phase) (waits : Bool) → stands b u ≡ HasRow held phase → is_open phase ≡ true →
+        Fair (plan_read_row b u j held waits)
     unfolding plan_read_row
     reading_row u j held phase waits is opened =
-        tested (holds held j) _ _ (λ there. held_answer u j held phase is opened there) (choosing waits _ _ (replying [] tt) (reading_now u j (alive_row u held phase is)))
+        tested (holds held j) _ _ (λ there. held_answer u j held phase is opened there) (choosing waits _ _ (replying [] tt)
+            (reading_now u j (alive_row u held phase is)))
 
     reading : (u : Id) (j : Bytes) (st : Standing) → stands b u ≡ st → Fair (plan_read b u j st)
     unfolding plan_read
@@ -263,9 +287,11 @@ module _ (t : Id) (k : Bytes) (e : ℕ) (b : Before) where
     reading u j (WasClosed o) is = replying (answer_to b.shard u j b.facts.epoch Refused ∷ []) (tt, tt)
 
     -- the reads that still stand are of this epoch
-    still_asked : (u : Id) (epoch : ℕ) (rs : List Bytes) (held : List Lock) → (u ≡ t → IsAmong rs k → epoch ≡ e) → still_stand b epoch rs held ≡ true → Asked u rs
+    still_asked : (u : Id) (epoch : ℕ) (rs : List Bytes) (held : List Lock) → (u ≡ t → IsAmong rs k → epoch ≡ e) →
+        still_stand b epoch rs held ≡ true → Asked u rs
     still_asked u epoch [] held given still same none = absurd none
-    still_asked u epoch (x ∷ xs) held given still same there = sym (eqb-true epoch b.facts.epoch (first (nat_eq epoch b.facts.epoch) (list_all (holds held) (x ∷ xs)) still)) ∙ given same there
+    still_asked u epoch (x ∷ xs) held given still same there = sym (eqb-true epoch b.facts.epoch
+        (first (nat_eq epoch b.facts.epoch) (list_all (holds held) (x ∷ xs)) still)) ∙ given same there
       where
         first : (a c : Bool) → (a && c) ≡ true → a ≡ true
         first true c f = refl
@@ -274,14 +300,19 @@ module _ (t : Id) (k : Bytes) (e : ℕ) (b : Before) where
     preparing_now : (earliest : ℕ) (m : Prepare) → Alive m.txn → Asked m.txn m.reads.keys → Fair (plan_prepare_now b earliest m)
     unfolding plan_prepare_now
     preparing_now earliest m alive asked =
-        rooming (is_crowded b m.txn) _ (choosing _ _ _ (promising (in_way b m.txn (exclusive m.writes)) earliest m.txn m.coordinator m.reads.keys m.writes alive asked) (putting (in_way b m.txn (exclusive m.writes)) m.txn [] (WaitsPrepare m.coordinator m.reads.keys m.writes) None b.memory.last [] alive asked tt tt))
+        rooming (is_crowded b m.txn) _ (choosing _ _ _ (promising (in_way b m.txn (exclusive m.writes)) earliest m.txn m.coordinator m.reads.keys
+            m.writes alive asked) (putting (in_way b m.txn (exclusive m.writes)) m.txn []
+            (WaitsPrepare m.coordinator m.reads.keys m.writes) None b.memory.last [] alive asked tt tt))
 
-    preparing_fresh : (earliest : ℕ) (m : Prepare) (held : List Lock) → Alive m.txn → (m.txn ≡ t → IsAmong m.reads.keys k → m.reads.epoch ≡ e) → Fair (plan_prepare_fresh b earliest m held)
+    preparing_fresh : (earliest : ℕ) (m : Prepare) (held : List Lock) → Alive m.txn → (m.txn ≡ t → IsAmong m.reads.keys k → m.reads.epoch ≡ e) →
+        Fair (plan_prepare_fresh b earliest m held)
     unfolding plan_prepare_fresh
     preparing_fresh earliest m held alive given =
-        tested (still_stand b m.reads.epoch m.reads.keys held) _ _ (λ still. preparing_now earliest m alive (still_asked m.txn m.reads.epoch m.reads.keys held given still)) (ending m.txn (refuses b m.txn m.coordinator ∷ []) (tt, tt))
+        tested (still_stand b m.reads.epoch m.reads.keys held) _ _ (λ still. preparing_now earliest m alive
+            (still_asked m.txn m.reads.epoch m.reads.keys held given still)) (ending m.txn (refuses b m.txn m.coordinator ∷ []) (tt, tt))
 
-    preparing : (earliest : ℕ) (m : Prepare) (st : Standing) → stands b m.txn ≡ st → (m.txn ≡ t → IsAmong m.reads.keys k → m.reads.epoch ≡ e) → Fair (plan_prepare b earliest m st)
+    preparing : (earliest : ℕ) (m : Prepare) (st : Standing) → stands b m.txn ≡ st → (m.txn ≡ t → IsAmong m.reads.keys k → m.reads.epoch ≡ e) →
+        Fair (plan_prepare b earliest m st)
     unfolding plan_prepare
     preparing earliest m IsUnknown is given = preparing_fresh earliest m [] (alive_unknown m.txn is) given
     preparing earliest m (HasRow held Idle) is given = preparing_fresh earliest m held (alive_row m.txn held Idle is) given
@@ -300,14 +331,19 @@ module _ (t : Id) (k : Bytes) (e : ℕ) (b : Before) where
     committing_now : (l : ℕ) (m : Commit) → Alive m.txn → Asked m.txn m.reads.keys → Fair (plan_commit_now b l m)
     unfolding plan_commit_now
     committing_now l m alive asked =
-        rooming (is_crowded b m.txn) _ (choosing _ _ _ (granting (in_way b m.txn (exclusive m.writes)) m.txn l m.parts m.reads.keys m.writes (other_parts b.shard m.parts) alive asked) (putting (in_way b m.txn (exclusive m.writes)) m.txn [] (WaitsCommit l m.parts m.reads.keys m.writes) None b.memory.last [] alive asked tt tt))
+        rooming (is_crowded b m.txn) _ (choosing _ _ _ (granting (in_way b m.txn (exclusive m.writes)) m.txn l m.parts m.reads.keys m.writes
+            (other_parts b.shard m.parts) alive asked) (putting (in_way b m.txn (exclusive m.writes)) m.txn []
+            (WaitsCommit l m.parts m.reads.keys m.writes) None b.memory.last [] alive asked tt tt))
 
-    committing_fresh : (l : ℕ) (m : Commit) (held : List Lock) → Alive m.txn → (m.txn ≡ t → IsAmong m.reads.keys k → m.reads.epoch ≡ e) → Fair (plan_commit_fresh b l m held)
+    committing_fresh : (l : ℕ) (m : Commit) (held : List Lock) → Alive m.txn → (m.txn ≡ t → IsAmong m.reads.keys k → m.reads.epoch ≡ e) →
+        Fair (plan_commit_fresh b l m held)
     unfolding plan_commit_fresh
     committing_fresh l m held alive given =
-        tested (still_stand b m.reads.epoch m.reads.keys held) _ _ (λ still. choosing _ _ _ (committing_now l m alive (still_asked m.txn m.reads.epoch m.reads.keys held given still)) (refusing TimeSpent)) (aborting m.txn m.parts)
+        tested (still_stand b m.reads.epoch m.reads.keys held) _ _ (λ still. choosing _ _ _
+            (committing_now l m alive (still_asked m.txn m.reads.epoch m.reads.keys held given still)) (refusing TimeSpent)) (aborting m.txn m.parts)
 
-    committing : (l : ℕ) (m : Commit) (st : Standing) → stands b m.txn ≡ st → (m.txn ≡ t → IsAmong m.reads.keys k → m.reads.epoch ≡ e) → Fair (plan_commit b l m st)
+    committing : (l : ℕ) (m : Commit) (st : Standing) → stands b m.txn ≡ st → (m.txn ≡ t → IsAmong m.reads.keys k → m.reads.epoch ≡ e) →
+        Fair (plan_commit b l m st)
     unfolding plan_commit
     committing l m IsUnknown is given = committing_fresh l m [] (alive_unknown m.txn is) given
     committing l m (HasRow held Idle) is given = committing_fresh l m held (alive_row m.txn held Idle is) given
@@ -322,11 +358,13 @@ module _ (t : Id) (k : Bytes) (e : ℕ) (b : Before) where
     committing l m (WasSettled s qs) is given = replying (done_to m.txn (Some s) ∷ []) (tt, tt)
     committing l m (WasClosed o) is given = refusing Stranger
 
-    counting : (n : ℕ) (u : Id) (vote : Option ℕ) (l : ℕ) (ps : List ℕ) (rs : List Bytes) (ws : List Write) (votes : List Voted) → Alive u → Asked u rs → Fair (plan_count b n u vote l ps rs ws votes)
+    counting : (n : ℕ) (u : Id) (vote : Option ℕ) (l : ℕ) (ps : List ℕ) (rs : List Bytes) (ws : List Write) (votes : List Voted) → Alive u →
+        Asked u rs → Fair (plan_count b n u vote l ps rs ws votes)
     unfolding plan_count
     counting n u None l ps rs ws votes alive asked = aborting u ps
     counting n u (Some p) l ps rs ws votes alive asked =
-        choosing _ _ _ (deciding [] u l ps rs ws [] (with_vote n p votes) alive asked) (putting [] u [] (Collecting l ps rs ws (with_vote n p votes)) None b.memory.last [] alive asked tt tt)
+        choosing _ _ _ (deciding [] u l ps rs ws [] (with_vote n p votes) alive asked) (putting [] u []
+            (Collecting l ps rs ws (with_vote n p votes)) None b.memory.last [] alive asked tt tt)
 
     telling : (n : ℕ) (u : Id) (outcome vote : Option ℕ) → Fair (Ok (plan_tell b n u outcome vote))
     unfolding plan_tell
@@ -345,7 +383,8 @@ module _ (t : Id) (k : Bytes) (e : ℕ) (b : Before) where
     voting n u vote (HasRow held (WaitsPrepare d ss vs)) is = refusing Stranger
     voting n u vote (HasRow held (WaitsCommit m qs ss vs)) is = replying [] tt
     voting n u vote (HasRow held (Collecting l ps rs ws votes)) is =
-        choosing _ _ _ (counting n u vote l ps rs ws votes (alive_row u held (Collecting l ps rs ws votes) is) (rows u held (Collecting l ps rs ws votes) is)) (refusing Stranger)
+        choosing _ _ _ (counting n u vote l ps rs ws votes (alive_row u held (Collecting l ps rs ws votes) is)
+            (rows u held (Collecting l ps rs ws votes) is)) (refusing Stranger)
     voting n u vote (HasRow held (IsPrepared d q)) is = refusing Stranger
     voting n u vote (HasRow held (IsDecided q qs)) is = replying [] tt
 
@@ -404,8 +443,10 @@ module _ (t : Id) (k : Bytes) (e : ℕ) (b : Before) where
     going_on : (earliest : ℕ) (u : Id) (held : List Lock) (phase : Phase) → stands b u ≡ HasRow held phase → Fair (plan_go_on b earliest u phase)
     unfolding plan_go_on
     going_on earliest u held (WaitsRead j) is = locking [] u j (alive_row u held (WaitsRead j) is)
-    going_on earliest u held (WaitsPrepare c rs ws) is = promising [] earliest u c rs ws (alive_row u held (WaitsPrepare c rs ws) is) (rows u held (WaitsPrepare c rs ws) is)
-    going_on earliest u held (WaitsCommit l ps rs ws) is = granting [] u l ps rs ws (other_parts b.shard ps) (alive_row u held (WaitsCommit l ps rs ws) is) (rows u held (WaitsCommit l ps rs ws) is)
+    going_on earliest u held (WaitsPrepare c rs ws) is = promising [] earliest u c rs ws (alive_row u held (WaitsPrepare c rs ws) is)
+        (rows u held (WaitsPrepare c rs ws) is)
+    going_on earliest u held (WaitsCommit l ps rs ws) is = granting [] u l ps rs ws (other_parts b.shard ps)
+        (alive_row u held (WaitsCommit l ps rs ws) is) (rows u held (WaitsCommit l ps rs ws) is)
     going_on earliest u held Idle is = replying [] tt
     going_on earliest u held (Collecting l ps rs ws votes) is = replying [] tt
     going_on earliest u held (IsPrepared c p) is = replying [] tt
@@ -414,7 +455,8 @@ module _ (t : Id) (k : Bytes) (e : ℕ) (b : Before) where
     settling : (earliest : ℕ) (u : Id) (st : Standing) → Fair (plan_settle b earliest u st)
     unfolding plan_settle
     settling earliest u (HasRow held (IsDecided s ps)) =
-        choosing _ _ _ (dropping u (Record.Outcome u (Some s)) b.memory.last (done_to u (Some s) ∷ tells b u (Some s) (other_parts b.shard ps)) tt (tt, tells_mute b u (Some s) (other_parts b.shard ps))) (refusing Early)
+        choosing _ _ _ (dropping u (Record.Outcome u (Some s)) b.memory.last (done_to u (Some s) ∷ tells b u (Some s) (other_parts b.shard ps)) tt
+            (tt, tells_mute b u (Some s) (other_parts b.shard ps))) (refusing Early)
     settling earliest u _ = refusing Stranger
 
     advancing : (latest_end stride up : ℕ) → Fair (plan_advance b latest_end stride up)
@@ -423,7 +465,8 @@ module _ (t : Id) (k : Bytes) (e : ℕ) (b : Before) where
       where
         by_tests : (c d : Bool) →
             Fair (cond c (Err Future)
-            (Ok (record { wounded = []; change = Keeps; logged = cond d (Some (Record.Ceiling (min (up + stride) time_limit))) None; last = max b.memory.last up; outbox = [] })))
+            (Ok (record { wounded = []; change = Keeps; logged = cond d (Some (Record.Ceiling (min (up + stride) time_limit))) None; last =
+                max b.memory.last up; outbox = [] })))
         by_tests true d = tt
         by_tests false true = record { change = tt; logged = tt; told = tt }
         by_tests false false = record { change = tt; logged = tt; told = tt }

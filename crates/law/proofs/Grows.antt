@@ -12,7 +12,10 @@ use Rattle.message.specs.declared.message.Address.{Address}
 use Rattle.message.specs.declared.message.Envelope.{Envelope}
 use Rattle.message.specs.declared.message.Message.{Message}
 use Rattle.protocol.specs.Rows.{Row, Phase, Idle, WaitsRead, WaitsPrepare, WaitsCommit, Collecting, IsPrepared, IsDecided, Voted}
-use Rattle.law.specs.Evidence.{Scene, IsAmong, log_at, ClosedOver, IsOfClosing, BeganBy, PrepareAsked, CommitAsked, VotedYes, HasPromise, HasDecision, HasOutcome, WasTold, CommitEvidence, RecordEvidence, Remembers, PhaseEvidence, RowsEvidence, Told, SaidBySome, MessageEvidence, LineEvidence}
+use Rattle.law.specs.Among.{IsAmong}
+use Rattle.law.specs.Evidence.{Scene, log_at, ClosedOver, IsOfClosing, BeganBy, PrepareAsked, CommitAsked, VotedYes, HasPromise, HasDecision}
+use Rattle.law.specs.Evidence.{HasOutcome, WasTold, CommitEvidence, RecordEvidence, Remembers, PhaseEvidence, RowsEvidence, Told, SaidBySome}
+use Rattle.law.specs.Evidence.{MessageEvidence, LineEvidence}
 
 -- each member of the first list is one of the second
 abbrev pub Within : {A : Type 0} → List A → List A → Type 0
@@ -42,12 +45,14 @@ module _ (log more : List Record) (within : Within log more) where
       record { decided = decision_stays t s h.decided; ended = within _ h.ended; passed = omega (arith, before, on) }
 
   vote_stays : (now later n : ℕ) → now ≤ later → (to : Address) (from : ℕ) (t : Id) (o : Option ℕ) →
-      Told log now n to (Message.Vote (record { from = from; txn = t; vote = o })) → Told more later n to (Message.Vote (record { from = from; txn = t; vote = o }))
+      Told log now n to (Message.Vote (record { from = from; txn = t; vote = o })) → Told more later n to
+          (Message.Vote (record { from = from; txn = t; vote = o }))
   vote_stays now later n on to from t None h = tt
   vote_stays now later n on to from t (Some p) h = (h.0, record { coordinator = h.1.coordinator; promised = promise_stays t h.1.coordinator p h.1.promised })
 
   word_stays : (now later n : ℕ) → now ≤ later → (to : Address) (from : ℕ) (t : Id) (o : Option ℕ) →
-      Told log now n to (Message.Outcome (record { from = from; txn = t; outcome = o })) → Told more later n to (Message.Outcome (record { from = from; txn = t; outcome = o }))
+      Told log now n to (Message.Outcome (record { from = from; txn = t; outcome = o })) →
+          Told more later n to (Message.Outcome (record { from = from; txn = t; outcome = o }))
   word_stays now later n on to from t None h = (h.0, within _ h.1)
   word_stays now later n on to from t (Some s) h = (h.0, outcome_stays now later on t s h.1)
 
@@ -131,7 +136,8 @@ module _ (a b : Scene) (g : Grows a b) where
 
   module _ (log more : List Record) (within : Within log more) where
     was_told_stays : (n : ℕ) (t : Id) (o : Option ℕ) → WasTold a.world log n t o → WasTold b.world more n t o
-    was_told_stays n t o h = record { coordinator = h.coordinator; stamp = h.stamp; promised = promise_stays log more within t h.coordinator h.stamp h.promised; sent = g.sent _ h.sent }
+    was_told_stays n t o h = record { coordinator = h.coordinator; stamp = h.stamp; promised =
+        promise_stays log more within t h.coordinator h.stamp h.promised; sent = g.sent _ h.sent }
 
     -- behind a record
     pub record_stays : (n : ℕ) (r : Record) → RecordEvidence a log n r → RecordEvidence b more n r
@@ -139,7 +145,8 @@ module _ (a b : Scene) (g : Grows a b) where
     record_stays n (Record.Ceiling at) h = tt
     record_stays n (Record.Prepare p) h = prepare_asked_stays n p.txn p.coordinator p.reads p.writes h
     record_stays n (Record.Commit c) h = commit_stays n c h
-    record_stays n (Record.Abort t) (inl h) = inl (record { parts = h.parts; reads = h.reads; writes = h.writes; asked = commit_asked_stays n t h.parts h.reads h.writes h.asked })
+    record_stays n (Record.Abort t) (inl h) = inl (record { parts = h.parts; reads = h.reads; writes = h.writes; asked =
+        commit_asked_stays n t h.parts h.reads h.writes h.asked })
     record_stays n (Record.Abort t) (inr h) = inr (record { from = h.from; sent = g.sent _ h.sent })
     record_stays n (Record.Outcome t None) h = was_told_stays n t None h
     record_stays n (Record.Outcome t (Some s)) h =
@@ -157,4 +164,5 @@ module _ (a b : Scene) (g : Grows a b) where
     phase_stays n t (IsDecided s ps) h = decision_stays log more within t s h
 
     pub rows_stay : (n : ℕ) (rows : List Row) → RowsEvidence a log n rows → RowsEvidence b more n rows
-    rows_stay n rows h = all_gives (λ (r : Row). PhaseEvidence a log n r.txn r.phase) (λ (r : Row). PhaseEvidence b more n r.txn r.phase) (λ r e. phase_stays n r.txn r.phase e) rows h
+    rows_stay n rows h = all_gives (λ (r : Row). PhaseEvidence a log n r.txn r.phase) (λ (r : Row). PhaseEvidence b more n r.txn r.phase)
+        (λ r e. phase_stays n r.txn r.phase e) rows h

@@ -1,8 +1,11 @@
 -- A value that was told stands while its lock is held: nobody installs the key until the reader is logged or ended.
-use Rattle.std.proofs.Common.{◌≡◌, inl, inr, ℕ, ◌+◌, ◌≤◌, max, min, Bool, true, false, cond, ◌||◌, nat_lt, List, [], ◌∷◌, ◌++◌, Option, Some, None, refl, sym, ap, subst, ◌∙◌}
+use Rattle.std.proofs.Common.{◌≡◌, inl, inr, ℕ, ◌+◌, ◌≤◌, max, min, Bool, true, false, cond, ◌||◌, nat_lt, List, [], ◌∷◌, ◌++◌, Option, Some, None}
+use Rattle.std.proofs.Common.{refl, sym, ap, subst, ◌∙◌}
 use Rattle.std.proofs.lemmas.List.Elements.{filter-append}
 use Rattle.std.specs.Prelude.{Ok}
 use Rattle.std.specs.List.{AllByRecursion}
+use Rattle.std.proofs.lemmas.Bool.{or_left, or_right}
+use Rattle.std.proofs.lemmas.List.{append-nil}
 use Rattle.units.specs.Ids.{Id, same_id, older, has_id, with_id}
 use Rattle.protocol.specs.Outputs.{promise, decision}
 use Rattle.protocol.specs.Cells.{raised}
@@ -14,7 +17,6 @@ use Rattle.units.specs.declared.lock.Lock.{Lock}
 use Rattle.units.specs.declared.setup.Setup.{Setup}
 use Rattle.units.specs.declared.writes.Install.{Install}
 use Rattle.units.specs.declared.writes.Write.{Write}
-use Rattle.units.proofs.Folds.{append_none}
 use Rattle.units.proofs.IdLaws.{same_id-is, same_id-refl, same_id_comm}
 use Rattle.units.proofs.KeyLaws.{same_key-is}
 use Rattle.truetime.specs.Interval.{Interval}
@@ -24,18 +26,21 @@ use Rattle.record.specs.declared.record.Committed.{Committed}
 use Rattle.record.specs.declared.record.Prepared.{Prepared}
 use Rattle.record.specs.declared.record.Record.{Record}
 use Rattle.message.specs.declared.message.Input.{Input}
-use Rattle.protocol.specs.Rows.{Memory, Row, Phase, Idle, WaitsRead, WaitsPrepare, WaitsCommit, Collecting, IsPrepared, IsDecided, WasEnded, find_row, standing, standing_by, without_row, with_row, is_firm, held_by, held_in, without_rows}
-use Rattle.protocol.specs.Plan.{time_limit, Plan, Before, before, carried, changed, ended_by, in_way, stands, with_ids}
+use Rattle.protocol.specs.Rows.{Memory, Row, Phase, Idle, WaitsRead, WaitsPrepare, WaitsCommit, Collecting, IsPrepared, IsDecided, WasEnded, find_row}
+use Rattle.protocol.specs.Rows.{standing, standing_by, without_row, with_row, is_firm, held_by, held_in, without_rows}
+use Rattle.protocol.specs.Plan.{time_limit, Plan, Before, start_of_step, carried, after_change, ended_by, in_way, stands, with_ids}
 use Rattle.protocol.specs.Sound.{IsSound, holds_alone, is_open}
 use Rattle.protocol.specs.Step.{plan_input, facts_after}
 use Rattle.protocol.proofs.AboveVersions.{rows_apart}
 use Rattle.protocol.proofs.Agreement.{Sound, unrecorded, promise_of, decision_of}
 use Rattle.protocol.proofs.Choices.{holds_later, others_gone, undecided_of_loose}
 use Rattle.protocol.proofs.PlanShapes.{shape_of}
-use Rattle.protocol.proofs.RowChanges.{row_as, find-with_row_same, find-with_row_other, find-without_row_same, find-without_row_other, find-without_rows, find-without_rows_other, by_id-claims}
-use Rattle.protocol.proofs.Shapes.{Shape, Answers, IsEnd, IsAbort, IsClose, IsSettle, IsLock, IsWait, IsPromise, IsDecision, IsLooseOther, is_undecided, ShapeOf, Acts, IsAdvance}
+use Rattle.protocol.proofs.RowChanges.{row_as, find-with_row_same, find-with_row_other, find-without_row_same, find-without_row_other}
+use Rattle.protocol.proofs.RowChanges.{find-without_rows, find-without_rows_other, by_id-claims}
+use Rattle.protocol.proofs.Shapes.{Shape, Answers, IsEnd, IsAbort, IsClose, IsSettle, IsLock, IsWait, IsPromise, IsDecision, IsLooseOther}
+use Rattle.protocol.proofs.Shapes.{is_undecided, ShapeOf, Acts, IsAdvance}
 use Rattle.protocol.proofs.StatusChanges.{Closing, closing, settling, installs_by, status_same, status_other}
-use Rattle.law.specs.Evidence.{IsAmong}
+use Rattle.law.specs.Among.{IsAmong}
 use Rattle.law.proofs.Members.{all_among}
 use Rattle.law.proofs.Accepts.{each_at}
 use Rattle.law.proofs.Fair.{PlanFair, reads_of}
@@ -47,38 +52,25 @@ has_same : (us : List Id) (t : Id) → has_id (with_id us t) t ≡ true
 has_same [] t = ap (λ b. b || false) (same_id-refl t)
 has_same (u ∷ us) t = by_tests (same_id u t) (older u t) refl (has_same us t)
   where
-    first : (a b : Bool) → a ≡ true → (a || b) ≡ true
-    first true b e = refl
-    first false b e = cc
-
-    later : (a b : Bool) → b ≡ true → (a || b) ≡ true
-    later true b e = refl
-    later false b e = e
 
     by_tests : (a b : Bool) → same_id u t ≡ a → has_id (with_id us t) t ≡ true → has_id (cond a (u ∷ us) (cond b (u ∷ with_id us t) (t ∷ u ∷ us))) t ≡ true
-    by_tests true b e rest = first (same_id t u) _ (same_id_comm t u ∙ e)
-    by_tests false true e rest = later (same_id t u) _ rest
-    by_tests false false e rest = first (same_id t t) _ (same_id-refl t)
+    by_tests true b e rest = or_left (same_id t u) _ (same_id_comm t u ∙ e)
+    by_tests false true e rest = or_right (same_id t u) _ rest
+    by_tests false false e rest = or_left (same_id t t) _ (same_id-refl t)
 
 has_more : (us : List Id) (v t : Id) → has_id us t ≡ true → has_id (with_id us v) t ≡ true
 has_more [] v t e = cc
 has_more (u ∷ us) v t e = by_tests (same_id u v) (older u v) (same_id t u) refl e (λ k. has_more us v t k)
   where
-    later : (a b : Bool) → b ≡ true → (a || b) ≡ true
-    later true b f = refl
-    later false b f = f
 
-    first : (a b : Bool) → a ≡ true → (a || b) ≡ true
-    first true b f = refl
-    first false b f = cc
-
-    by_tests : (a b c : Bool) → same_id t u ≡ c → (c || has_id us t) ≡ true → (has_id us t ≡ true → has_id (with_id us v) t ≡ true) → has_id (cond a (u ∷ us) (cond b (u ∷ with_id us v) (v ∷ u ∷ us))) t ≡ true
-    by_tests true b true is h rest = first (same_id t u) _ is
-    by_tests true b false is h rest = later (same_id t u) _ h
-    by_tests false true true is h rest = first (same_id t u) _ is
-    by_tests false true false is h rest = later (same_id t u) _ (rest h)
-    by_tests false false true is h rest = later (same_id t v) _ (first (same_id t u) _ is)
-    by_tests false false false is h rest = later (same_id t v) _ (later (same_id t u) _ h)
+    by_tests : (a b c : Bool) → same_id t u ≡ c → (c || has_id us t) ≡ true → (has_id us t ≡ true → has_id (with_id us v) t ≡ true) →
+        has_id (cond a (u ∷ us) (cond b (u ∷ with_id us v) (v ∷ u ∷ us))) t ≡ true
+    by_tests true b true is h rest = or_left (same_id t u) _ is
+    by_tests true b false is h rest = or_right (same_id t u) _ h
+    by_tests false true true is h rest = or_left (same_id t u) _ is
+    by_tests false true false is h rest = or_right (same_id t u) _ (rest h)
+    by_tests false false true is h rest = or_right (same_id t v) _ (or_left (same_id t u) _ is)
+    by_tests false false false is h rest = or_right (same_id t v) _ (or_right (same_id t u) _ h)
 
 has_all_more : (us vs : List Id) (t : Id) → has_id us t ≡ true → has_id (with_ids us vs) t ≡ true
 has_all_more us [] t e = e
@@ -95,15 +87,18 @@ none_of_key : (ws : List Write) (s : ℕ) (k : Bytes) → ((w : Write) → IsAmo
 none_of_key [] s k none = refl
 none_of_key (w ∷ ws) s k none = by_test (same_key w.key k) refl (none_of_key ws s k (λ v h. none v (inr h)))
   where
-    by_test : (b : Bool) → same_key w.key k ≡ b → of_key (versions ws s) k ≡ [] → cond b (record { key = w.key; at = s; value = w.value } ∷ of_key (versions ws s) k) (of_key (versions ws s) k) ≡ []
+    by_test : (b : Bool) → same_key w.key k ≡ b → of_key (versions ws s) k ≡ [] →
+        cond b (record { key = w.key; at = s; value = w.value } ∷ of_key (versions ws s) k) (of_key (versions ws s) k) ≡ []
     by_test true e rest = absurd (none w (inl refl) (same_key-is w.key k e))
     by_test false e rest = rest
 
-latest_other : (is : List Install) (ws : List Write) (o : Option ℕ) (k : Bytes) → ((w : Write) → IsAmong ws w → w.key ≡ k → ⊥) → latest (is ++ installs_by ws o) k ≡ latest is k
+latest_other : (is : List Install) (ws : List Write) (o : Option ℕ) (k : Bytes) → ((w : Write) → IsAmong ws w → w.key ≡ k → ⊥) →
+    latest (is ++ installs_by ws o) k ≡ latest is k
 unfolding latest
-latest_other is ws None k none = ap (λ l. follow (newest (of_key l k)) (λ i. i.value)) (append_none is)
+latest_other is ws None k none = ap (λ l. follow (newest (of_key l k)) (λ i. i.value)) (append-nil is)
 latest_other is ws (Some s) k none =
-    ap (λ l. follow (newest l) (λ i. i.value)) (filter-append (λ (i : Install). same_key i.key k) is (versions ws s) ∙ ap (λ l. of_key is k ++ l) (none_of_key ws s k none) ∙ append_none (of_key is k))
+    ap (λ l. follow (newest l) (λ i. i.value)) (filter-append (λ (i : Install). same_key i.key k) is (versions ws s)
+        ∙ ap (λ l. of_key is k ++ l) (none_of_key ws s k none) ∙ append-nil (of_key is k))
 
 -- ---- a value that was told
 
@@ -123,10 +118,12 @@ module _ (t : Id) (k : Bytes) (e : ℕ) (x : Option Bytes) where
   -- what becomes of the reader
   data Fate (b : Before) (f : Facts) (m : Memory) : Type 0 where
     Stays : find_row m.rows t ≡ find_row b.memory.rows t → (has_id b.memory.ended t ≡ true → has_id m.ended t ≡ true) → recorded f t ≡ recorded b.facts t
-        → ((row : Row) → find_row b.memory.rows t ≡ Some row → holds row.held k ≡ true → is_open row.phase ≡ true → latest f.installs k ≡ latest b.facts.installs k) → Fate b f m
+        → ((row : Row) → find_row b.memory.rows t ≡ Some row → holds row.held k ≡ true → is_open row.phase ≡ true →
+            latest f.installs k ≡ latest b.facts.installs k) → Fate b f m
     Goes : find_row m.rows t ≡ None → has_id m.ended t ≡ true → Fate b f m
     Ends : (recorded f t ≡ Unrecorded → ⊥) → ((row : Row) → find_row m.rows t ≡ Some row → reads_of row.phase ≡ []) → Fate b f m
-    Grows : (row : Row) → find_row m.rows t ≡ Some row → is_open row.phase ≡ true → (holds (held_in b.memory.rows t) k ≡ true → holds row.held k ≡ true) → recorded b.facts t ≡ Unrecorded
+    Grows : (row : Row) → find_row m.rows t ≡ Some row → is_open row.phase ≡ true → (holds (held_in b.memory.rows t) k ≡ true →
+        holds row.held k ≡ true) → recorded b.facts t ≡ Unrecorded
         → (stands b t ≡ WasEnded → ⊥) → (IsAmong (reads_of row.phase) k → b.facts.epoch ≡ e) → latest f.installs k ≡ latest b.facts.installs k → Fate b f m
 
   some_row : (a b : Row) → Some a ≡ Some b → a ≡ b
@@ -166,7 +163,8 @@ module _ (t : Id) (k : Bytes) (e : ℕ) (x : Option Bytes) where
       by_held : HeldIs b.facts b.memory → HeldIs f m
       by_held (Reads r before_it opened_before there is) = Reads row found opened (grows (ap (λ o. holds (held_by o) k) before_it ∙ there)) (value ∙ is)
       by_held (IsLogged logged) = absurd (logged status)
-      by_held (WasGone none gone) = absurd (alive (ap (λ o. standing_by o (recorded b.facts t) (has_id b.memory.ended t)) none ∙ ap (λ s. standing_by None s (has_id b.memory.ended t)) status ∙ ap (λ z. standing_by None Unrecorded z) gone))
+      by_held (WasGone none gone) = absurd (alive (ap (λ o. standing_by o (recorded b.facts t) (has_id b.memory.ended t)) none
+          ∙ ap (λ s. standing_by None s (has_id b.memory.ended t)) status ∙ ap (λ z. standing_by None Unrecorded z) gone))
 
   -- ---- by the shapes of a step
 
@@ -182,22 +180,29 @@ module _ (t : Id) (k : Bytes) (e : ℕ) (x : Option Bytes) where
       by_test : (c : Bool) → same_id u t ≡ c → Fate b b.facts (record { last = last; rows = without_row b.memory.rows u; ended = with_id b.memory.ended u })
       by_test true same =
           let is : u ≡ t = same_id-is u t same in
-          Goes (subst (λ z. find_row (without_row b.memory.rows u) z ≡ None) is (find-without_row_same b.memory.rows u)) (subst (λ z. has_id (with_id b.memory.ended u) z ≡ true) is (has_same b.memory.ended u))
+          Goes (subst (λ z. find_row (without_row b.memory.rows u) z ≡ None) is (find-without_row_same b.memory.rows u))
+              (subst (λ z. has_id (with_id b.memory.ended u) z ≡ true) is (has_same b.memory.ended u))
       by_test false differ = Stays (find-without_row_other b.memory.rows t u differ) (has_more b.memory.ended u t) refl (λ r found there opened. refl)
 
-  dropped_fate : (b : Before) (u : Id) (f : Facts) (s : Status) (last : ℕ) → recorded f u ≡ s → (s ≡ Unrecorded → ⊥) → (same_id u t ≡ false → recorded f t ≡ recorded b.facts t) →
-      ((row : Row) → same_id u t ≡ false → find_row b.memory.rows t ≡ Some row → holds row.held k ≡ true → is_open row.phase ≡ true → latest f.installs k ≡ latest b.facts.installs k) →
+  dropped_fate : (b : Before) (u : Id) (f : Facts) (s : Status) (last : ℕ) → recorded f u ≡ s → (s ≡ Unrecorded → ⊥) →
+      (same_id u t ≡ false → recorded f t ≡ recorded b.facts t) →
+      ((row : Row) → same_id u t ≡ false → find_row b.memory.rows t ≡ Some row → holds row.held k ≡ true → is_open row.phase ≡ true →
+          latest f.installs k ≡ latest b.facts.installs k) →
       Fate b f (record { last = last; rows = without_row b.memory.rows u; ended = b.memory.ended })
   dropped_fate b u f s last is some others values = by_test (same_id u t) refl
     where
       by_test : (c : Bool) → same_id u t ≡ c → Fate b f (record { last = last; rows = without_row b.memory.rows u; ended = b.memory.ended })
       by_test true same =
           let one : u ≡ t = same_id-is u t same in
-          Ends (λ q. some (sym is ∙ ap (recorded f) one ∙ q)) (λ r found. absurd (no_row r (sym (subst (λ z. find_row (without_row b.memory.rows u) z ≡ None) one (find-without_row_same b.memory.rows u)) ∙ found)))
-      by_test false differ = Stays (find-without_row_other b.memory.rows t u differ) (λ g. g) (others differ) (λ r found there opened. values r differ found there opened)
+          Ends (λ q. some (sym is ∙ ap (recorded f) one ∙ q))
+              (λ r found. absurd (no_row r (sym (subst (λ z. find_row (without_row b.memory.rows u) z ≡ None) one
+              (find-without_row_same b.memory.rows u)) ∙ found)))
+      by_test false differ = Stays (find-without_row_other b.memory.rows t u differ) (λ g. g) (others differ)
+          (λ r found there opened. values r differ found there opened)
 
   -- what another closes is of other keys
-  closed_values : (b : Before) (u : Id) (outcome : Option ℕ) → Sound b → Closing b u outcome → (row : Row) → same_id u t ≡ false → find_row b.memory.rows t ≡ Some row → holds row.held k ≡ true →
+  closed_values : (b : Before) (u : Id) (outcome : Option ℕ) → Sound b → Closing b u outcome → (row : Row) → same_id u t ≡ false →
+      find_row b.memory.rows t ≡ Some row → holds row.held k ≡ true →
       latest (b.facts.installs ++ installs_at (recorded b.facts u) outcome) k ≡ latest b.facts.installs k
   closed_values b u outcome sound c row differ found there =
       ap (λ l. latest (b.facts.installs ++ l) k) c.installs
@@ -205,14 +210,16 @@ module _ (t : Id) (k : Bytes) (e : ℕ) (x : Option Bytes) where
     where
       apart : (w : Write) → IsAmong c.writes w → w.key ≡ k → ⊥
       apart w h key =
-          true_false (reader_clashes row.held c.row.held k there (subst (λ z. holds_alone c.row.held z ≡ true) key (each_at (λ (v : Write). holds_alone c.row.held v.key) c.writes w c.held h)))
+          true_false (reader_clashes row.held c.row.held k there (subst (λ z. holds_alone c.row.held z ≡ true) key
+              (each_at (λ (v : Write). holds_alone c.row.held v.key) c.writes w c.held h)))
           (rows_apart b.memory.rows t u row c.row sound.table found c.found differ)
         where
           true_false : {z : Bool} → z ≡ true → z ≡ false → ⊥
           true_false p q = let r : true ≡ false = sym p ∙ q in cc
 
   -- a row that is put for another, or for this one
-  others_fate : (b : Before) (u : Id) (ended : List Id) (row : Row) (f : Facts) (last : ℕ) → row.txn ≡ u → same_id u t ≡ false → recorded f t ≡ recorded b.facts t → latest f.installs k ≡ latest b.facts.installs k →
+  others_fate : (b : Before) (u : Id) (ended : List Id) (row : Row) (f : Facts) (last : ℕ) → row.txn ≡ u → same_id u t ≡ false →
+      recorded f t ≡ recorded b.facts t → latest f.installs k ≡ latest b.facts.installs k →
       Fate b f (record { last = last; rows = with_row (without_rows b.memory.rows ended) row; ended = with_ids b.memory.ended ended })
   others_fate b u ended row f last named differ status values =
       elim (find-without_rows (λ z. IsAmong ended z) b.memory.rows ended t (all_among (λ z. IsAmong ended z) ended (λ z h. h))) [
@@ -223,37 +230,50 @@ module _ (t : Id) (k : Bytes) (e : ℕ) (x : Option Bytes) where
       other : find_row (with_row (without_rows b.memory.rows ended) row) t ≡ find_row (without_rows b.memory.rows ended) t
       other = find-with_row_other (without_rows b.memory.rows ended) row t (subst (λ z. same_id z t ≡ false) (sym named) differ)
 
-  put_found : (b : Before) (u : Id) (ended : List Id) (row : Row) → row.txn ≡ u → u ≡ t → find_row (with_row (without_rows b.memory.rows ended) row) t ≡ Some row
-  put_found b u ended row named same = subst (λ z. find_row (with_row (without_rows b.memory.rows ended) row) z ≡ Some row) (named ∙ same) (find-with_row_same (without_rows b.memory.rows ended) row)
+  put_found : (b : Before) (u : Id) (ended : List Id) (row : Row) → row.txn ≡ u → u ≡ t →
+      find_row (with_row (without_rows b.memory.rows ended) row) t ≡ Some row
+  put_found b u ended row named same = subst (λ z. find_row (with_row (without_rows b.memory.rows ended) row) z ≡ Some row) (named ∙ same)
+      (find-with_row_same (without_rows b.memory.rows ended) row)
 
   -- a row without a record
-  open_fate : (b : Before) (u : Id) (ended : List Id) (needs : List Lock) (phase : Phase) (last : ℕ) → Sound b → AllByRecursion (IsLooseOther b.memory.rows u) ended → is_open phase ≡ true → is_undecided (stands b u) ≡ true →
+  open_fate : (b : Before) (u : Id) (ended : List Id) (needs : List Lock) (phase : Phase) (last : ℕ) → Sound b →
+      AllByRecursion (IsLooseOther b.memory.rows u) ended → is_open phase ≡ true → is_undecided (stands b u) ≡ true →
       (u ≡ t → stands b t ≡ WasEnded → ⊥) → (u ≡ t → IsAmong (reads_of phase) k → b.facts.epoch ≡ e) →
-      Fate b b.facts (record { last = last; rows = with_row (without_rows b.memory.rows ended) (row_as u (with_locks (held_in (without_rows b.memory.rows ended) u) needs) phase); ended = with_ids b.memory.ended ended })
+      Fate b b.facts (record { last = last; rows = with_row (without_rows b.memory.rows ended)
+          (row_as u (with_locks (held_in (without_rows b.memory.rows ended) u) needs) phase); ended = with_ids b.memory.ended ended })
   open_fate b u ended needs phase last sound gone opened undecided alive asked = by_test (same_id u t) refl
     where
       row : Row
       row = row_as u (with_locks (held_in (without_rows b.memory.rows ended) u) needs) phase
 
-      by_test : (c : Bool) → same_id u t ≡ c → Fate b b.facts (record { last = last; rows = with_row (without_rows b.memory.rows ended) (row_as u (with_locks (held_in (without_rows b.memory.rows ended) u) needs) phase); ended = with_ids b.memory.ended ended })
+      by_test : (c : Bool) → same_id u t ≡ c → Fate b b.facts
+          (record { last = last; rows = with_row (without_rows b.memory.rows ended) (row_as u
+          (with_locks (held_in (without_rows b.memory.rows ended) u) needs) phase); ended = with_ids b.memory.ended ended })
       by_test true same =
           let is : u ≡ t = same_id-is u t same in
-          Grows (row_as u (with_locks (held_in (without_rows b.memory.rows ended) u) needs) phase) (put_found b u ended (row_as u (with_locks (held_in (without_rows b.memory.rows ended) u) needs) phase) refl is) opened
-          (λ h. holds_later needs (held_in (without_rows b.memory.rows ended) u) k (ap (λ o. holds (held_by o) k) (find-without_rows_other b.memory.rows ended u (others_gone b.memory.rows u ended gone)) ∙ subst (λ z. holds (held_in b.memory.rows z) k ≡ true) (sym is) h))
+          Grows (row_as u (with_locks (held_in (without_rows b.memory.rows ended) u) needs) phase)
+              (put_found b u ended (row_as u (with_locks (held_in (without_rows b.memory.rows ended) u) needs) phase) refl is) opened
+          (λ h. holds_later needs (held_in (without_rows b.memory.rows ended) u) k (ap (λ o. holds (held_by o) k)
+              (find-without_rows_other b.memory.rows ended u (others_gone b.memory.rows u ended gone))
+              ∙ subst (λ z. holds (held_in b.memory.rows z) k ≡ true) (sym is) h))
           (subst (λ z. recorded b.facts z ≡ Unrecorded) is (unrecorded b u sound undecided)) (alive is) (asked is) refl
-      by_test false differ = others_fate b u ended (row_as u (with_locks (held_in (without_rows b.memory.rows ended) u) needs) phase) b.facts last refl differ refl refl
+      by_test false differ = others_fate b u ended (row_as u (with_locks (held_in (without_rows b.memory.rows ended) u) needs) phase) b.facts last
+          refl differ refl refl
 
   -- a row with its record
-  logged_fate : (b : Before) (u : Id) (ended : List Id) (held : List Lock) (phase : Phase) (f : Facts) (s : Status) (last : ℕ) → reads_of phase ≡ [] → recorded f u ≡ s → (s ≡ Unrecorded → ⊥) →
+  logged_fate : (b : Before) (u : Id) (ended : List Id) (held : List Lock) (phase : Phase) (f : Facts) (s : Status) (last : ℕ) →
+      reads_of phase ≡ [] → recorded f u ≡ s → (s ≡ Unrecorded → ⊥) →
       (same_id u t ≡ false → recorded f t ≡ recorded b.facts t) → latest f.installs k ≡ latest b.facts.installs k →
       Fate b f (record { last = last; rows = with_row (without_rows b.memory.rows ended) (row_as u held phase); ended = with_ids b.memory.ended ended })
   logged_fate b u ended held phase f s last quiet is some others values = by_test (same_id u t) refl
     where
-      by_test : (c : Bool) → same_id u t ≡ c → Fate b f (record { last = last; rows = with_row (without_rows b.memory.rows ended) (row_as u held phase); ended = with_ids b.memory.ended ended })
+      by_test : (c : Bool) → same_id u t ≡ c → Fate b f (record { last = last; rows = with_row (without_rows b.memory.rows ended)
+          (row_as u held phase); ended = with_ids b.memory.ended ended })
       by_test true same =
           let one : u ≡ t = same_id-is u t same in
           Ends (λ q. some (sym is ∙ ap (recorded f) one ∙ q))
-          (λ r found. ap (λ (z : Row). reads_of z.phase) (some_row r (row_as u held phase) (sym found ∙ put_found b u ended (row_as u held phase) refl one)) ∙ quiet)
+          (λ r found. ap (λ (z : Row). reads_of z.phase) (some_row r (row_as u held phase)
+              (sym found ∙ put_found b u ended (row_as u held phase) refl one)) ∙ quiet)
       by_test false differ = others_fate b u ended (row_as u held phase) f last refl differ (others differ) values
 
   slack_open : (phase : Phase) → is_firm phase ≡ false → is_open phase ≡ true
@@ -272,61 +292,75 @@ module _ (t : Id) (k : Bytes) (e : ℕ) (x : Option Bytes) where
   settled_some c o q = cc
 
   next : (b : Before) (p : Plan) → Sound b → Shape b p → HeldNext b p
-  unfolding HeldNext carried changed ended_by learn
-  next b p sound (Answers out is) = subst (HeldNext b) (sym is) (λ fair h. held_by_fate b b.facts _ refl h (Stays refl (λ g. g) refl (λ r found there opened. refl)))
+  unfolding HeldNext carried after_change ended_by learn
+  next b p sound (Answers out is) = subst (HeldNext b) (sym is) (λ fair h. held_by_fate b b.facts _ refl h
+      (Stays refl (λ g. g) refl (λ r found there opened. refl)))
   next b p sound (IsEnd u out fresh is) = subst (HeldNext b) (sym is) (λ fair h. held_by_fate b b.facts _ refl h (ended_fate b u b.memory.last))
   next b p sound (IsAbort u out fresh is) = subst (HeldNext b) (sym is) (λ fair h. held_by_fate b _ _ refl h
       (dropped_fate b u (facts_after b.facts (Some (Record.Abort u))) HasAborted b.memory.last (status_same b.facts.entries u HasAborted) not_unrecorded_aborted
       (λ differ. status_other b.facts.entries u t HasAborted differ) (λ r differ found there opened. refl)))
   next b p sound (IsClose u n c at held outcome out found allowed is) = subst (HeldNext b) (sym is) (λ fair h. held_by_fate b _ _ refl h
-      (dropped_fate b u (facts_after b.facts (Some (Record.Outcome u outcome))) (after_outcome (recorded b.facts u) outcome) (raised b.memory.last outcome) (status_same b.facts.entries u (after_outcome (recorded b.facts u) outcome))
-      (λ q. closed_some (promise_of b u held c at sound found).promise outcome (ap (λ s. after_outcome s outcome) (sym (promise_of b u held c at sound found).is) ∙ q))
+      (dropped_fate b u (facts_after b.facts (Some (Record.Outcome u outcome))) (after_outcome (recorded b.facts u) outcome)
+          (raised b.memory.last outcome) (status_same b.facts.entries u (after_outcome (recorded b.facts u) outcome))
+      (λ q. closed_some (promise_of b u held c at sound found).promise outcome (ap (λ s. after_outcome s outcome)
+          (sym (promise_of b u held c at sound found).is) ∙ q))
       (λ differ. status_other b.facts.entries u t (after_outcome (recorded b.facts u) outcome) differ)
       (λ r differ mine there opened. closed_values b u outcome sound (closing b u c at held outcome sound found) r differ mine there)))
   next b p sound (IsSettle u at ps held out found is) = subst (HeldNext b) (sym is) (λ fair h. held_by_fate b _ _ refl h
-      (dropped_fate b u (facts_after b.facts (Some (Record.Outcome u (Some at)))) (after_outcome (recorded b.facts u) (Some at)) b.memory.last (status_same b.facts.entries u (after_outcome (recorded b.facts u) (Some at)))
-      (λ q. settled_some (decision_of b u held at ps sound found).decision (Some at) (ap (λ s. after_outcome s (Some at)) (sym (decision_of b u held at ps sound found).is) ∙ q))
+      (dropped_fate b u (facts_after b.facts (Some (Record.Outcome u (Some at)))) (after_outcome (recorded b.facts u) (Some at)) b.memory.last
+          (status_same b.facts.entries u (after_outcome (recorded b.facts u) (Some at)))
+      (λ q. settled_some (decision_of b u held at ps sound found).decision (Some at) (ap (λ s. after_outcome s (Some at))
+          (sym (decision_of b u held at ps sound found).is) ∙ q))
       (λ differ. status_other b.facts.entries u t (after_outcome (recorded b.facts u) (Some at)) differ)
       (λ r differ mine there opened. closed_values b u (Some at) sound (settling b u at ps held sound found) r differ mine there)))
   next b p sound (IsLock u ended needs phase out l is) = subst (HeldNext b) (sym is) (λ fair h. held_by_fate b b.facts _ refl h
       (open_fate b u ended needs phase b.memory.last sound l.cleared.gone l.opened l.undecided fair.change.0 fair.change.1))
   next b p sound (IsWait u needs phase out w is) = subst (HeldNext b) (sym is) (λ fair h. held_by_fate b b.facts _ refl h
-      (open_fate b u (in_way b u needs) [] phase b.memory.last sound w.gone (slack_open phase w.slack) (undecided_of_loose (stands b u) w.loose) fair.change.0 fair.change.1))
+      (open_fate b u (in_way b u needs) [] phase b.memory.last sound w.gone (slack_open phase w.slack)
+          (undecided_of_loose (stands b u) w.loose) fair.change.0 fair.change.1))
   next b p sound (IsPromise u ended c at rs ws out l is) = subst (HeldNext b) (sym is) (λ fair h. held_by_fate b _ _ refl h
-      (logged_fate b u ended (with_locks (held_in (without_rows b.memory.rows ended) u) (exclusive ws)) (IsPrepared c at) (facts_after b.facts (Some (promise u c at rs ws))) (StandsPrepared (record { txn = u; coordinator = c; at = at; reads = rs; writes = ws })) (max b.memory.last at) refl
+      (logged_fate b u ended (with_locks (held_in (without_rows b.memory.rows ended) u) (exclusive ws)) (IsPrepared c at)
+          (facts_after b.facts (Some (promise u c at rs ws)))
+          (StandsPrepared (record { txn = u; coordinator = c; at = at; reads = rs; writes = ws })) (max b.memory.last at) refl
       (status_same b.facts.entries u (StandsPrepared (record { txn = u; coordinator = c; at = at; reads = rs; writes = ws }))) (λ q. cc)
       (λ differ. status_other b.facts.entries u t (StandsPrepared (record { txn = u; coordinator = c; at = at; reads = rs; writes = ws })) differ) refl))
   next b p sound (IsDecision u ended needs at ps rs ws out l is) = subst (HeldNext b) (sym is) (λ fair h. held_by_fate b _ _ refl h
-      (logged_fate b u ended (with_locks (held_in (without_rows b.memory.rows ended) u) needs) (IsDecided at ps) (facts_after b.facts (Some (decision u at ps rs ws))) (StandsDecided (record { txn = u; at = at; parts = ps; reads = rs; writes = ws })) (max b.memory.last at) refl
+      (logged_fate b u ended (with_locks (held_in (without_rows b.memory.rows ended) u) needs) (IsDecided at ps)
+          (facts_after b.facts (Some (decision u at ps rs ws))) (StandsDecided (record { txn = u; at = at; parts = ps; reads = rs; writes = ws }))
+          (max b.memory.last at) refl
       (status_same b.facts.entries u (StandsDecided (record { txn = u; at = at; parts = ps; reads = rs; writes = ws }))) (λ q. cc)
       (λ differ. status_other b.facts.entries u t (StandsDecided (record { txn = u; at = at; parts = ps; reads = rs; writes = ws })) differ) refl))
 
   next_of : (b : Before) (i : Input) (p : Plan) → Sound b → ShapeOf b i p → HeldNext b p
-  unfolding HeldNext carried changed ended_by learn
+  unfolding HeldNext carried after_change ended_by learn
   next_of b i p sound (Acts shape) = next b p sound shape
   next_of b i p sound (IsAdvance stride at k2 is) = subst (HeldNext b) (sym is) (λ fair h. by_test (nat_lt b.facts.floor at) h)
     where
-      by_test : (c : Bool) → Held b.facts b.memory → Held (facts_after b.facts (cond c (Some (Record.Ceiling (min (at + stride) time_limit))) None)) (record { last = max b.memory.last at; rows = b.memory.rows; ended = b.memory.ended })
+      by_test : (c : Bool) → Held b.facts b.memory → Held (facts_after b.facts (cond c (Some (Record.Ceiling (min (at + stride) time_limit))) None))
+          (record { last = max b.memory.last at; rows = b.memory.rows; ended = b.memory.ended })
       by_test true h = held_by_fate b _ _ refl h (Stays refl (λ g. g) refl (λ r found there opened. refl))
       by_test false h = held_by_fate b b.facts _ refl h (Stays refl (λ g. g) refl (λ r found there opened. refl))
 
   -- a step keeps it
-  pub held_keeps : (setup : Setup) (f : Facts) (m : Memory) (now : Interval) (i : Input) (p : Plan) → IsSound setup.shard f m → plan_input setup (before 1024 setup f m) now i ≡ Ok p →
-      PlanFair t k e (before 1024 setup f m) p → Held f m → Held (facts_after f p.logged) (carried p m)
+  pub held_keeps : (setup : Setup) (f : Facts) (m : Memory) (now : Interval) (i : Input) (p : Plan) → IsSound setup.shard f m →
+      plan_input setup (start_of_step 1024 setup f m) now i ≡ Ok p →
+      PlanFair t k e (start_of_step 1024 setup f m) p → Held f m → Held (facts_after f p.logged) (carried p m)
   unfolding HeldNext
   held_keeps setup f m now i p sound is fair h =
-      next_of (before 1024 setup f m) i p sound (shape_of 1024 setup f m now i p (by_id-claims m.rows sound.table.order) is) fair h
+      next_of (start_of_step 1024 setup f m) i p sound (shape_of 1024 setup f m now i p (by_id-claims m.rows sound.table.order) is) fair h
 
   -- ---- what is logged
 
   unfoldable ReadsRight : Before → Plan → Type 0
-  ReadsRight b p = PlanFair t k e b p → Held b.facts b.memory → (r : Record) (at : ℕ) (ks : List Bytes) (ws : List Write) → p.logged ≡ Some r → Claims r t at ks ws → IsAmong ks k → latest b.facts.installs k ≡ x
+  ReadsRight b p = PlanFair t k e b p → Held b.facts b.memory → (r : Record) (at : ℕ) (ks : List Bytes) (ws : List Write) → p.logged ≡ Some r →
+      Claims r t at ks ws → IsAmong ks k → latest b.facts.installs k ≡ x
 
   same_record : (a b : Record) → Some a ≡ Some b → a ≡ b
   same_record a b q = cc
 
   -- who is logged was neither logged nor ended before
-  told_latest : (b : Before) (u : Id) (rs : List Bytes) → Sound b → is_undecided (stands b u) ≡ true → (u ≡ t → stands b t ≡ WasEnded → ⊥) → (u ≡ t → IsAmong rs k → b.facts.epoch ≡ e) → u ≡ t → IsAmong rs k → Held b.facts b.memory → latest b.facts.installs k ≡ x
+  told_latest : (b : Before) (u : Id) (rs : List Bytes) → Sound b → is_undecided (stands b u) ≡ true → (u ≡ t → stands b t ≡ WasEnded → ⊥) →
+      (u ≡ t → IsAmong rs k → b.facts.epoch ≡ e) → u ≡ t → IsAmong rs k → Held b.facts b.memory → latest b.facts.installs k ≡ x
   unfolding standing
   told_latest b u rs sound undecided alive asked is there h = by_held (h.held (asked is there))
     where
@@ -336,15 +370,19 @@ module _ (t : Id) (k : Bytes) (e : ℕ) (x : Option Bytes) where
       by_held : HeldIs b.facts b.memory → latest b.facts.installs k ≡ x
       by_held (Reads r found opened holds_it value) = value
       by_held (IsLogged logged) = absurd (logged status)
-      by_held (WasGone none gone) = absurd (alive is (ap (λ o. standing_by o (recorded b.facts t) (has_id b.memory.ended t)) none ∙ ap (λ s. standing_by None s (has_id b.memory.ended t)) status ∙ ap (λ z. standing_by None Unrecorded z) gone))
+      by_held (WasGone none gone) = absurd (alive is (ap (λ o. standing_by o (recorded b.facts t) (has_id b.memory.ended t)) none
+          ∙ ap (λ s. standing_by None s (has_id b.memory.ended t)) status ∙ ap (λ z. standing_by None Unrecorded z) gone))
 
   right : (b : Before) (p : Plan) → Sound b → Shape b p → ReadsRight b p
   unfolding ReadsRight
   right b p sound (Answers out is) = subst (ReadsRight b) (sym is) (λ fair h r at ks ws logged claims there. cc)
   right b p sound (IsEnd u out fresh is) = subst (ReadsRight b) (sym is) (λ fair h r at ks ws logged claims there. cc)
-  right b p sound (IsAbort u out fresh is) = subst (ReadsRight b) (sym is) (λ fair h r at ks ws logged claims there. absurd (subst (λ z. Claims z t at ks ws) (sym (same_record (Record.Abort u) r logged)) claims))
-  right b p sound (IsClose u n c s held outcome out found allowed is) = subst (ReadsRight b) (sym is) (λ fair h r at ks ws logged claims there. absurd (subst (λ z. Claims z t at ks ws) (sym (same_record (Record.Outcome u outcome) r logged)) claims))
-  right b p sound (IsSettle u s ps held out found is) = subst (ReadsRight b) (sym is) (λ fair h r at ks ws logged claims there. absurd (subst (λ z. Claims z t at ks ws) (sym (same_record (Record.Outcome u (Some s)) r logged)) claims))
+  right b p sound (IsAbort u out fresh is) = subst (ReadsRight b) (sym is) (λ fair h r at ks ws logged claims there. absurd
+      (subst (λ z. Claims z t at ks ws) (sym (same_record (Record.Abort u) r logged)) claims))
+  right b p sound (IsClose u n c s held outcome out found allowed is) = subst (ReadsRight b) (sym is)
+      (λ fair h r at ks ws logged claims there. absurd (subst (λ z. Claims z t at ks ws) (sym (same_record (Record.Outcome u outcome) r logged)) claims))
+  right b p sound (IsSettle u s ps held out found is) = subst (ReadsRight b) (sym is) (λ fair h r at ks ws logged claims there. absurd
+      (subst (λ z. Claims z t at ks ws) (sym (same_record (Record.Outcome u (Some s)) r logged)) claims))
   right b p sound (IsLock u ended needs phase out l is) = subst (ReadsRight b) (sym is) (λ fair h r at ks ws logged claims there. cc)
   right b p sound (IsWait u needs phase out w is) = subst (ReadsRight b) (sym is) (λ fair h r at ks ws logged claims there. cc)
   right b p sound (IsPromise u ended c s rs vs out l is) = subst (ReadsRight b) (sym is) (λ fair h r at ks ws logged claims there.
@@ -357,15 +395,19 @@ module _ (t : Id) (k : Bytes) (e : ℕ) (x : Option Bytes) where
   right_of : (b : Before) (i : Input) (p : Plan) → Sound b → ShapeOf b i p → ReadsRight b p
   unfolding ReadsRight
   right_of b i p sound (Acts shape) = right b p sound shape
-  right_of b i p sound (IsAdvance stride up k2 is) = subst (ReadsRight b) (sym is) (λ fair h r at ks ws logged claims there. by_test (nat_lt b.facts.floor up) r at ks ws logged claims)
+  right_of b i p sound (IsAdvance stride up k2 is) = subst (ReadsRight b) (sym is) (λ fair h r at ks ws logged claims there. by_test
+      (nat_lt b.facts.floor up) r at ks ws logged claims)
     where
-      by_test : (c : Bool) (r : Record) (at : ℕ) (ks : List Bytes) (ws : List Write) → cond c (Some (Record.Ceiling (min (up + stride) time_limit))) None ≡ Some r → Claims r t at ks ws → latest b.facts.installs k ≡ x
+      by_test : (c : Bool) (r : Record) (at : ℕ) (ks : List Bytes) (ws : List Write) → cond c
+          (Some (Record.Ceiling (min (up + stride) time_limit))) None ≡ Some r → Claims r t at ks ws → latest b.facts.installs k ≡ x
       by_test true r at ks ws logged claims = absurd (subst (λ z. Claims z t at ks ws) (sym (same_record _ r logged)) claims)
       by_test false r at ks ws logged claims = cc
 
   -- a reader's promise or decision is logged while the value that it was told is the latest
-  pub held_logs : (setup : Setup) (f : Facts) (m : Memory) (now : Interval) (i : Input) (p : Plan) → IsSound setup.shard f m → plan_input setup (before 1024 setup f m) now i ≡ Ok p →
-      PlanFair t k e (before 1024 setup f m) p → Held f m → (r : Record) (at : ℕ) (ks : List Bytes) (ws : List Write) → p.logged ≡ Some r → Claims r t at ks ws → IsAmong ks k → latest f.installs k ≡ x
+  pub held_logs : (setup : Setup) (f : Facts) (m : Memory) (now : Interval) (i : Input) (p : Plan) → IsSound setup.shard f m →
+      plan_input setup (start_of_step 1024 setup f m) now i ≡ Ok p →
+      PlanFair t k e (start_of_step 1024 setup f m) p → Held f m → (r : Record) (at : ℕ) (ks : List Bytes) (ws : List Write) → p.logged ≡ Some r →
+          Claims r t at ks ws → IsAmong ks k → latest f.installs k ≡ x
   unfolding ReadsRight
   held_logs setup f m now i p sound is fair h =
-      right_of (before 1024 setup f m) i p sound (shape_of 1024 setup f m now i p (by_id-claims m.rows sound.table.order) is) fair h
+      right_of (start_of_step 1024 setup f m) i p sound (shape_of 1024 setup f m now i p (by_id-claims m.rows sound.table.order) is) fair h

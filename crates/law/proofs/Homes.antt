@@ -1,5 +1,6 @@
 -- Where the records of a transaction stand: all follow from its one closing.
-use Rattle.std.proofs.Common.{◌≡◌, ◌≢◌, inl, inr, ℕ, ◌≤◌, Bool, true, false, not, cond, ◌||◌, nat_eq, List, [], ◌∷◌, Option, Some, None, slice_get, refl, sym, ap, subst, ◌∙◌, map, arith}
+use Rattle.std.proofs.Common.{◌≡◌, ◌≢◌, inl, inr, ℕ, ◌≤◌, Bool, true, false, not, cond, ◌||◌, nat_eq, List, [], ◌∷◌, Option, Some, None, slice_get}
+use Rattle.std.proofs.Common.{refl, sym, ap, subst, ◌∙◌, map, arith}
 use Rattle.std.proofs.lemmas.Bool.Decides.{nat_tests}
 use Rattle.units.specs.Lists.{has, head}
 use Rattle.units.specs.Ids.{Id}
@@ -14,7 +15,9 @@ use Rattle.message.specs.declared.message.Message.{Message}
 use Rattle.protocol.specs.Cells.{other_parts}
 use Rattle.session.specs.Sessions.{Client, closing_messages, messages_for, prepare_for, parts_of}
 use Rattle.world.specs.World.{World, ShardNow, client_of}
-use Rattle.law.specs.Evidence.{Scene, IsAmong, log_at, IsOfClosing, CommitAsked, PrepareAsked, HasDecision, WasTold, WasAsked, WasQuestioned, RecordEvidence, Holds}
+use Rattle.law.specs.Among.{IsAmong}
+use Rattle.law.specs.Evidence.{Scene, log_at, IsOfClosing, CommitAsked, PrepareAsked, HasDecision, WasTold, WasAsked, WasQuestioned}
+use Rattle.law.specs.Evidence.{RecordEvidence, Holds}
 use Rattle.law.specs.Left.{IsLeftLog, AreLeft}
 use Rattle.law.proofs.Orderly.{IsOrderly, orderly, one_decision, decided_not_aborted}
 
@@ -39,7 +42,8 @@ parts_in e = elim e.message [ Message.Commit c ↦ Some c.parts | _ ↦ None ]
 abbrev coordinator_in : Envelope → Option ℕ
 coordinator_in e = elim e.message [ Message.Prepare p ↦ Some p.coordinator | _ ↦ None ]
 
-not_prepare : (splits : List Bytes) (c : Client) (n : ℕ) (ns : List ℕ) (e : Envelope) (ps : List ℕ) → parts_in e ≡ Some ps → IsAmong (map (prepare_for splits c n) ns) e → ⊥
+not_prepare : (splits : List Bytes) (c : Client) (n : ℕ) (ns : List ℕ) (e : Envelope) (ps : List ℕ) → parts_in e ≡ Some ps →
+    IsAmong (map (prepare_for splits c n) ns) e → ⊥
 not_prepare splits c n [] e ps k h = absurd h
 not_prepare splits c n (m ∷ ms) e ps k (inl same) = none_some (ap parts_in same ∙ k)
   where
@@ -53,7 +57,8 @@ commit_in splits c [] n ps e to parts h = absurd h
 commit_in splits c (m ∷ ms) n ps e to parts (inl same) = (some_same _ ps (ap parts_in same ∙ parts), ap shard_in same ∙ to)
 commit_in splits c (m ∷ ms) n ps e to parts (inr later) = absurd (not_prepare splits c m ms e ps parts later)
 
-prepare_in : (splits : List Bytes) (c : Client) (k : ℕ) (ns : List ℕ) (n : ℕ) (e : Envelope) (coordinator : ℕ) → shard_in e ≡ Some n → coordinator_in e ≡ Some coordinator →
+prepare_in : (splits : List Bytes) (c : Client) (k : ℕ) (ns : List ℕ) (n : ℕ) (e : Envelope) (coordinator : ℕ) → shard_in e ≡ Some n →
+    coordinator_in e ≡ Some coordinator →
     IsAmong (map (prepare_for splits c k) ns) e → (k ≡ coordinator) × (has ns n ≡ true)
 prepare_in splits c k [] n e coordinator to by h = absurd h
 prepare_in splits c k (m ∷ ms) n e coordinator to by (inl same) =
@@ -74,7 +79,8 @@ pub record TakesPart (w : World) (t : Id) (coordinator n : ℕ) : Type 0 where
   pub least : head parts ≡ Some coordinator
   pub part : has parts n ≡ true
 
-prepare_among : (splits : List Bytes) (c : Client) (all : List ℕ) (n : ℕ) (e : Envelope) (coordinator : ℕ) → shard_in e ≡ Some n → coordinator_in e ≡ Some coordinator →
+prepare_among : (splits : List Bytes) (c : Client) (all : List ℕ) (n : ℕ) (e : Envelope) (coordinator : ℕ) → shard_in e ≡ Some n →
+    coordinator_in e ≡ Some coordinator →
     IsAmong (messages_for splits c all) e → (head all ≡ Some coordinator) × (has all n ≡ true)
 prepare_among splits c [] n e coordinator to by h = absurd h
 prepare_among splits c (m ∷ ms) n e coordinator to by (inl same) = absurd (none_some (ap coordinator_in same ∙ by))
@@ -93,10 +99,12 @@ module _ (sc : Scene) (h : Holds sc) where
   same_parts t ps qs a b =
       sym a.same ∙ ap (parts_of sc.world.config.splits) (some_same a.client b.client (sym a.there ∙ b.there)) ∙ b.same
 
-  pub commit_home : (n : ℕ) (t : Id) (ps : List ℕ) (rs : List Bytes) (ws : List Write) → CommitAsked sc.world n t ps rs ws → ClosesOver sc.world t ps × (head ps ≡ Some n)
+  pub commit_home : (n : ℕ) (t : Id) (ps : List ℕ) (rs : List Bytes) (ws : List Write) → CommitAsked sc.world n t ps rs ws → ClosesOver sc.world t ps
+      × (head ps ≡ Some n)
   unfolding closing_messages
   commit_home n t ps rs ws asked =
-      let e : Envelope = record { to = Shard n; message = Message.Commit (record { txn = t; parts = ps; reads = record { epoch = asked.epoch; keys = rs }; writes = ws }) } in
+      let e : Envelope = record { to = Shard n; message = Message.Commit
+          (record { txn = t; parts = ps; reads = record { epoch = asked.epoch; keys = rs }; writes = ws }) } in
       let closing : IsOfClosing sc.world t e = h.messages e asked.sent in
       let client = closing.over.client in
       let among = subst (λ l. IsAmong l e) (sym closing.over.same) closing.among in
@@ -106,12 +114,14 @@ module _ (sc : Scene) (h : Holds sc) where
   pub prepare_home : (n : ℕ) (t : Id) (c : ℕ) (rs : List Bytes) (ws : List Write) → PrepareAsked sc.world n t c rs ws → TakesPart sc.world t c n
   unfolding closing_messages
   prepare_home n t c rs ws asked =
-      let e : Envelope = record { to = Shard n; message = Message.Prepare (record { txn = t; coordinator = c; reads = record { epoch = asked.epoch; keys = rs }; writes = ws }) } in
+      let e : Envelope = record { to = Shard n; message = Message.Prepare
+          (record { txn = t; coordinator = c; reads = record { epoch = asked.epoch; keys = rs }; writes = ws }) } in
       let closing : IsOfClosing sc.world t e = h.messages e asked.sent in
       let client = closing.over.client in
       let among = subst (λ l. IsAmong l e) (sym closing.over.same) closing.among in
       let k = prepare_among sc.world.config.splits client (parts_of sc.world.config.splits client) n e c refl refl among in
-      record { parts = parts_of sc.world.config.splits client; over = record { client = client; there = closing.over.there; same = refl }; least = k.0; part = k.1 }
+      record { parts = parts_of sc.world.config.splits client; over = record { client = client; there = closing.over.there; same = refl }; least =
+          k.0; part = k.1 }
 
 -- ---- logs that a crash may leave
 
@@ -143,7 +153,8 @@ module _ (sc : Scene) (h : Holds sc) (logs : List (List Record)) (left : AreLeft
           let l = left.each n log is in
           l.whole r (subst (λ (x : ShardNow). IsAmong x.log r) (some_same s l.shard (sym e ∙ l.there)) j)
 
-      by_value : (o : Option ShardNow) → slice_get sc.world.shards n ≡ o → IsAmong (elim o as (λ x. List Record) [ None ↦ [] | Some s ↦ s.log ]) r → IsAmong (log_in logs n) r
+      by_value : (o : Option ShardNow) → slice_get sc.world.shards n ≡ o → IsAmong (elim o as (λ x. List Record) [ None ↦ [] | Some s ↦ s.log ]) r →
+          IsAmong (log_in logs n) r
       by_value None e j = absurd j
       by_value (Some s) e j =
           let l = left.all n s e in
@@ -180,7 +191,8 @@ module _ (sc : Scene) (h : Holds sc) (logs : List (List Record)) (left : AreLeft
           let said = h.messages _ q.sent in
           let promised = said.told.1.promised in
           let home = promise_home said.shard _ (kept said.shard _ promised.among) in
-          record { parts = home.parts; over = home.over; least = home.least ∙ ap (λ x. Some x) (sym (same_shard n said.told.1.coordinator said.told.1.receiver)) }
+          record { parts = home.parts; over = home.over; least = home.least ∙ ap (λ x. Some x)
+              (sym (same_shard n said.told.1.coordinator said.told.1.receiver)) }
 
   -- two shards that are the least of a closing are one
   pub one_home : (t : Id) (n m : ℕ) (ps qs : List ℕ) → ClosesOver sc.world t ps → head ps ≡ Some n → ClosesOver sc.world t qs → head qs ≡ Some m → n ≡ m
@@ -194,7 +206,8 @@ module _ (sc : Scene) (h : Holds sc) (logs : List (List Record)) (left : AreLeft
       decided_not_aborted (log_in logs n) (is_orderly n (Record.Commit c) k) c k (subst (λ j. IsAmong (log_in logs j) (Record.Abort c.txn)) same l)
 
   -- one decision over all logs
-  pub one_place : (n m : ℕ) (c d : Committed) → IsAmong (log_in logs n) (Record.Commit c) → IsAmong (log_in logs m) (Record.Commit d) → d.txn ≡ c.txn → (n ≡ m) × (c ≡ d)
+  pub one_place : (n m : ℕ) (c d : Committed) → IsAmong (log_in logs n) (Record.Commit c) → IsAmong (log_in logs m) (Record.Commit d) →
+      d.txn ≡ c.txn → (n ≡ m) × (c ≡ d)
   one_place n m c d k l e =
       let a = decision_home n c k in
       let b = decision_home m d l in
@@ -230,7 +243,8 @@ module _ (sc : Scene) (h : Holds sc) (logs : List (List Record)) (left : AreLeft
           let said = h.messages _ w.sent in
           record { shard = said.shard; commit = _; among = kept said.shard _ said.told.1.decided.among; named = refl; stamp = refl }
 
-  pub outcome_stamp : (n m : ℕ) (c : Committed) (s : ℕ) → IsAmong (log_in logs n) (Record.Commit c) → IsAmong (log_in logs m) (Record.Outcome c.txn (Some s)) → c.at ≡ s
+  pub outcome_stamp : (n m : ℕ) (c : Committed) (s : ℕ) → IsAmong (log_in logs n) (Record.Commit c) →
+      IsAmong (log_in logs m) (Record.Outcome c.txn (Some s)) → c.at ≡ s
   outcome_stamp n m c s k l =
       let d = outcome_decided m c.txn s l in
       ap (λ (x : Committed). x.at) (one_place n d.shard c d.commit k d.among d.named).1 ∙ d.stamp
@@ -241,7 +255,8 @@ module _ (sc : Scene) (h : Holds sc) (logs : List (List Record)) (left : AreLeft
   other_has [] n m e ne = e
   other_has (x ∷ xs) n m e ne = by_test (nat_eq x n) refl (other_has xs n m)
     where
-      by_test : (b : Bool) → nat_eq x n ≡ b → (has xs m ≡ true → m ≢ n → has (other_parts n xs) m ≡ true) → has (cond (not b) (x ∷ other_parts n xs) (other_parts n xs)) m ≡ true
+      by_test : (b : Bool) → nat_eq x n ≡ b → (has xs m ≡ true → m ≢ n → has (other_parts n xs) m ≡ true) →
+          has (cond (not b) (x ∷ other_parts n xs) (other_parts n xs)) m ≡ true
       by_test true is rest = rest (grind (arith, nat_tests)) ne
       by_test false is rest = let ih = rest in grind (arith, nat_tests)
 
@@ -262,10 +277,12 @@ module _ (sc : Scene) (h : Holds sc) (logs : List (List Record)) (left : AreLeft
       let there = subst (λ j. IsAmong (log_in logs j) (Record.Prepare p)) (sym said.told.0) (kept said.shard (Record.Prepare p) stands.among) in
       let home = promise_home m p there in
       let a = decision_home n c k in
-      record { promise = p; among = there; named = refl; by = one_home c.txn said.told.1.coordinator n home.parts c.parts home.over home.least a.0 a.1; below = vote.below }
+      record { promise = p; among = there; named = refl; by = one_home c.txn said.told.1.coordinator n home.parts c.parts home.over home.least a.0
+          a.1; below = vote.below }
 
   -- and nobody else
-  pub promise_of_part : (n m : ℕ) (c : Committed) (p : Prepared) → IsAmong (log_in logs n) (Record.Commit c) → IsAmong (log_in logs m) (Record.Prepare p) → p.txn ≡ c.txn →
+  pub promise_of_part : (n m : ℕ) (c : Committed) (p : Prepared) → IsAmong (log_in logs n) (Record.Commit c) →
+      IsAmong (log_in logs m) (Record.Prepare p) → p.txn ≡ c.txn →
       has c.parts m ≡ true
   promise_of_part n m c p k l e =
       let home = promise_home m p l in

@@ -1,5 +1,6 @@
 -- Acknowledged commits are in the history, and it is ordered by true time.
-use Rattle.std.proofs.Common.{◌≡◌, ℕ, ◌<◌, ◌≤◌, Bool, true, false, cond, ◌&&◌, nat_eq, nat_lt, List, Option, Some, None, slice_get, refl, sym, ap, subst, ◌∙◌, arith}
+use Rattle.std.proofs.Common.{◌≡◌, ℕ, ◌<◌, ◌≤◌, Bool, true, false, cond, ◌&&◌, nat_eq, nat_lt, List, Option, Some, None, slice_get, refl, sym, ap}
+use Rattle.std.proofs.Common.{subst, ◌∙◌, arith}
 use Rattle.std.proofs.lemmas.Bool.{ltb-true}
 use Rattle.std.proofs.lemmas.Bool.Decides.{nat_tests}
 use Rattle.units.specs.Lists.{gather, head, when}
@@ -15,7 +16,8 @@ use Rattle.record.specs.declared.record.Committed.{Committed}
 use Rattle.record.specs.declared.record.Record.{Record}
 use Rattle.message.specs.declared.message.Address.{Address}
 use Rattle.law.specs.Acknowledged.{committed_to}
-use Rattle.law.specs.Evidence.{Scene, IsAmong, AckEvidence, Holds}
+use Rattle.law.specs.Among.{IsAmong}
+use Rattle.law.specs.Evidence.{Scene, AckEvidence, Holds}
 use Rattle.law.specs.Left.{AreLeft}
 use Rattle.law.proofs.Recorded.{among_first, among_gather, decision_among}
 use Rattle.law.proofs.Doings.{get_among}
@@ -32,11 +34,13 @@ abbrev counted_in : List (List Record) → ℕ × List Record → List Txn
 counted_in logs l = gather (counted logs l.0) (gather as_committed l.1)
 
 -- a decision at its least part is in the history
-pub history_has : (logs : List (List Record)) (n : ℕ) (c : Committed) → IsAmong (log_in logs n) (Record.Commit c) → head c.parts ≡ Some n → IsAmong (history logs) (whole_txn logs n c)
+pub history_has : (logs : List (List Record)) (n : ℕ) (c : Committed) → IsAmong (log_in logs n) (Record.Commit c) → head c.parts ≡ Some n →
+    IsAmong (history logs) (whole_txn logs n c)
 unfolding history
 history_has logs n c k least =
     join_among (counted_in logs) (by_shard logs) (n, log_in logs n) (whole_txn logs n c) (number_there logs n (Record.Commit c) k)
-    (gather_among (counted logs n) (gather as_committed (log_in logs n)) c (whole_txn logs n c) (gather_among as_committed (log_in logs n) (Record.Commit c) c k refl)
+    (gather_among (counted logs n) (gather as_committed (log_in logs n)) c (whole_txn logs n c)
+        (gather_among as_committed (log_in logs n) (Record.Commit c) c k refl)
     (ap (λ b. cond b (Some (whole_txn logs n c)) None) (when_head c.parts n least)))
 
 -- a transaction of the history has its decision
@@ -54,7 +58,8 @@ from_history logs x h =
     record {
       shard = j.from.0;
       commit = s.from;
-      among = subst (λ l. IsAmong l (Record.Commit s.from)) (sym (log_in-is logs j.from.0 j.from.1 (log_of_number logs j.from j.among))) (decision_among j.from.1 s.from s.among);
+      among = subst (λ l. IsAmong l (Record.Commit s.from)) (sym (log_in-is logs j.from.0 j.from.1 (log_of_number logs j.from j.among)))
+          (decision_among j.from.1 s.from s.among);
       is = by_test (when (nat_eq j.from.0) (head s.from.parts)) (whole_txn logs j.from.0 s.from) s.gives;
     }
   where
@@ -76,7 +81,8 @@ module _ (sc : Scene) (h : Holds sc) (logs : List (List Record)) (left : AreLeft
       let d = said.told.decided in
       let c : Committed = record { txn = t; at = at; parts = d.parts; reads = d.reads; writes = d.writes } in
       let there = kept sc h logs left said.shard (Record.Commit c) d.among in
-      record { txn = whole_txn logs said.shard c; among = history_has logs said.shard c there (decision_home sc h logs left said.shard c there).1; named = refl; stamp = refl }
+      record { txn = whole_txn logs said.shard c; among = history_has logs said.shard c there (decision_home sc h logs left said.shard c there).1;
+          named = refl; stamp = refl }
 
   pub ack_of_line : (t : Id) (at m : ℕ) → IsLine sc.world.lines (Line.Ack t at m) → AckEvidence sc t at m
   ack_of_line t at m line = h.lines (Line.Ack t at m) (get_among sc.world.lines line.0 (Line.Ack t at m) line.1)

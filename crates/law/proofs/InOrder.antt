@@ -1,5 +1,6 @@
 -- The history has each id once, and so its serial order is strict.
-use Rattle.std.proofs.Common.{◌≡◌, ◌⊎◌, inl, inr, ℕ, ◌≤◌, Bool, true, false, cond, nat_eq, List, [], ◌∷◌, ◌++◌, length, Option, Some, None, map, refl, sym, ap, subst, ◌∙◌, arith, filter, flat_map}
+use Rattle.std.proofs.Common.{◌≡◌, ◌⊎◌, inl, inr, ℕ, ◌≤◌, Bool, true, false, cond, nat_eq, List, [], ◌∷◌, ◌++◌, length, Option, Some, None, map, refl}
+use Rattle.std.proofs.Common.{sym, ap, subst, ◌∙◌, arith, filter, flat_map}
 use Rattle.std.proofs.lemmas.Bool.Decides.{nat_tests}
 use Rattle.std.proofs.lemmas.List.Elements.{filter-append}
 use Rattle.units.specs.Lists.{gather, head, when, insert}
@@ -7,12 +8,12 @@ use Rattle.units.specs.Ids.{Id, same_id}
 use Rattle.units.specs.Keys.{Bytes}
 use Rattle.units.proofs.Folds.{gather_append}
 use Rattle.units.proofs.IdLaws.{same_id-refl, same_id_comm}
-use Rattle.record.specs.History.{Txn, Map, history, by_shard, whole_txn, comes_before, serial, put_all, applied, find_txn, before, empty}
+use Rattle.record.specs.History.{Txn, Map, history, by_shard, whole_txn, serial_before, serial, put_all, applied, find_txn, before, empty}
 use Rattle.record.specs.Records.{as_committed}
 use Rattle.record.specs.Whole.{is_whole, is_whole_by, Decision, decisions}
 use Rattle.record.specs.declared.record.Committed.{Committed}
 use Rattle.record.specs.declared.record.Record.{Record}
-use Rattle.law.specs.Evidence.{IsAmong}
+use Rattle.law.specs.Among.{IsAmong}
 use Rattle.law.proofs.Members.{among_right}
 use Rattle.law.proofs.Picked.{keep_among, AtMostOne}
 
@@ -43,7 +44,8 @@ module _ (logs : List (List Record)) (t : Id) where
   abbrev is_this : Txn → Bool
   is_this u = same_id t u.txn
 
-  one_log : (n : ℕ) (cs : List Committed) → filter is_this (gather (counted n) cs) ≡ gather of_decision (map (λ c. record { shard = n; commit = c }) (filter (λ c. same_id t c.txn) cs))
+  one_log : (n : ℕ) (cs : List Committed) → filter is_this (gather (counted n) cs) ≡ gather of_decision
+      (map (λ c. record { shard = n; commit = c }) (filter (λ c. same_id t c.txn) cs))
   one_log n [] = refl
   one_log n (c ∷ cs) = by_tests (when (nat_eq n) (head c.parts)) refl (same_id t c.txn) refl (one_log n cs)
     where
@@ -52,7 +54,8 @@ module _ (logs : List (List Record)) (t : Id) where
 
       by_tests : (b : Bool) → when (nat_eq n) (head c.parts) ≡ b → (s : Bool) → same_id t c.txn ≡ s →
           filter is_this (gather (counted n) cs) ≡ gather of_decision (map mark (filter (λ q. same_id t q.txn) cs)) →
-          filter is_this (elim (cond b (Some (whole_txn logs n c)) None) as (λ q. List Txn) [ None ↦ gather (counted n) cs | Some y ↦ y ∷ gather (counted n) cs ])
+          filter is_this (elim (cond b (Some (whole_txn logs n c)) None) as (λ q. List Txn) [ None ↦ gather (counted n) cs | Some y ↦
+              y ∷ gather (counted n) cs ])
           ≡ gather of_decision (map mark (cond s (c ∷ filter (λ q. same_id t q.txn) cs) (filter (λ q. same_id t q.txn) cs)))
       by_tests true e true k ih =
           ap (λ b. cond b (whole_txn logs n c ∷ filter is_this (gather (counted n) cs)) (filter is_this (gather (counted n) cs))) k
@@ -61,7 +64,8 @@ module _ (logs : List (List Record)) (t : Id) where
             | None ↦ gather of_decision (map mark (filter (λ q. same_id t q.txn) cs))
             | Some y ↦ y ∷ gather of_decision (map mark (filter (λ q. same_id t q.txn) cs))
           ]) e)
-      by_tests true e false k ih = ap (λ b. cond b (whole_txn logs n c ∷ filter is_this (gather (counted n) cs)) (filter is_this (gather (counted n) cs))) k ∙ ih
+      by_tests true e false k ih = ap (λ b. cond b (whole_txn logs n c ∷ filter is_this (gather (counted n) cs))
+          (filter is_this (gather (counted n) cs))) k ∙ ih
       by_tests false e true k ih =
           ih ∙ sym (ap (λ b. elim (cond b (Some (whole_txn logs n c)) None) as (λ q. List Txn) [
             | None ↦ gather of_decision (map mark (filter (λ q. same_id t q.txn) cs))
@@ -115,7 +119,8 @@ apart (t ∷ ts) once = (other, apart ts later)
 
         by_test : (b : Bool) → same_id t.txn u.txn ≡ b → same_id t.txn u.txn ≡ false
         by_test false e = e
-        by_test true e = absurd (two e (subst (λ b. AtMostOne (cond b (t ∷ filter (λ v. same_id t.txn v.txn) ts) (filter (λ v. same_id t.txn v.txn) ts))) (same_id-refl t.txn) (once t.txn)))
+        by_test true e = absurd (two e (subst (λ b. AtMostOne (cond b (t ∷ filter (λ v. same_id t.txn v.txn) ts)
+            (filter (λ v. same_id t.txn v.txn) ts))) (same_id-refl t.txn) (once t.txn)))
 
     later : EachOnce ts
     later i = by_test (same_id i t.txn) (once i)
@@ -124,14 +129,16 @@ apart (t ∷ ts) once = (other, apart ts later)
         rest [] q = tt
         rest (v ∷ l) q = absurd q
 
-        by_test : (b : Bool) → AtMostOne (cond b (t ∷ filter (λ v. same_id i v.txn) ts) (filter (λ v. same_id i v.txn) ts)) → AtMostOne (filter (λ v. same_id i v.txn) ts)
+        by_test : (b : Bool) → AtMostOne (cond b (t ∷ filter (λ v. same_id i v.txn) ts) (filter (λ v. same_id i v.txn) ts)) →
+            AtMostOne (filter (λ v. same_id i v.txn) ts)
         by_test true q = rest (filter (λ v. same_id i v.txn) ts) q
         by_test false q = q
 
 -- the transaction of its id
 pub found : (h : List Txn) (u : Txn) → Apart h → IsAmong h u → find_txn h u.txn ≡ Some u
 found [] u a k = absurd k
-found (t ∷ ts) u a (inl same) = subst (λ z. find_txn (t ∷ ts) z.txn ≡ Some z) same (ap (λ b. head (cond b (t ∷ filter (λ v. same_id v.txn t.txn) ts) (filter (λ v. same_id v.txn t.txn) ts))) (same_id-refl t.txn))
+found (t ∷ ts) u a (inl same) = subst (λ z. find_txn (t ∷ ts) z.txn ≡ Some z) same
+    (ap (λ b. head (cond b (t ∷ filter (λ v. same_id v.txn t.txn) ts) (filter (λ v. same_id v.txn t.txn) ts))) (same_id-refl t.txn))
 found (t ∷ ts) u a (inr later) =
     ap (λ b. head (cond b (t ∷ filter (λ v. same_id v.txn u.txn) ts) (filter (λ v. same_id v.txn u.txn) ts))) (a.0 u later) ∙ found ts u a.1 later
 
@@ -139,50 +146,51 @@ found (t ∷ ts) u a (inr later) =
 
 abbrev pub Strict : List Txn → Type 0
 Strict [] = Unit {0}
-Strict (t ∷ ts) = ((u : Txn) → IsAmong ts u → comes_before t u ≡ true) × Strict ts
+Strict (t ∷ ts) = ((u : Txn) → IsAmong ts u → serial_before t u ≡ true) × Strict ts
 
-pub before_trans : (a b c : Txn) → comes_before a b ≡ true → comes_before b c ≡ true → comes_before a c ≡ true
+pub before_trans : (a b c : Txn) → serial_before a b ≡ true → serial_before b c ≡ true → serial_before a c ≡ true
 before_trans a b c h k = grind (arith, nat_tests)
 
-pub before_total : (a b : Txn) → same_id a.txn b.txn ≡ false → comes_before a b ≡ false → comes_before b a ≡ true
+pub before_total : (a b : Txn) → same_id a.txn b.txn ≡ false → serial_before a b ≡ false → serial_before b a ≡ true
 before_total a b h k = grind (arith, nat_tests)
 
-pub before_not_back : (a b : Txn) → comes_before a b ≡ true → comes_before b a ≡ false
+pub before_not_back : (a b : Txn) → serial_before a b ≡ true → serial_before b a ≡ false
 before_not_back a b h = grind (arith, nat_tests)
 
-pub not_before_self : (a : Txn) → comes_before a a ≡ false
+pub not_before_self : (a : Txn) → serial_before a a ≡ false
 not_before_self a = grind (arith, nat_tests)
 
-pub before_low : (a b : Txn) → comes_before a b ≡ true → a.at ≤ b.at
+pub before_low : (a b : Txn) → serial_before a b ≡ true → a.at ≤ b.at
 before_low a b h = grind (arith, nat_tests)
 
-insert_cases : (x : Txn) (ys : List Txn) (u : Txn) → IsAmong (insert comes_before x ys) u → (x ≡ u) ⊎ IsAmong ys u
+insert_cases : (x : Txn) (ys : List Txn) (u : Txn) → IsAmong (insert serial_before x ys) u → (x ≡ u) ⊎ IsAmong ys u
 insert_cases x [] u (inl same) = inl same
 insert_cases x [] u (inr none) = absurd none
-insert_cases x (y ∷ ys) u h = by_test (comes_before y x) h (λ k. insert_cases x ys u k)
+insert_cases x (y ∷ ys) u h = by_test (serial_before y x) h (λ k. insert_cases x ys u k)
   where
-    by_test : (b : Bool) → IsAmong (cond b (y ∷ insert comes_before x ys) (x ∷ y ∷ ys)) u → (IsAmong (insert comes_before x ys) u → (x ≡ u) ⊎ IsAmong ys u) → (x ≡ u) ⊎ IsAmong (y ∷ ys) u
+    by_test : (b : Bool) → IsAmong (cond b (y ∷ insert serial_before x ys) (x ∷ y ∷ ys)) u →
+        (IsAmong (insert serial_before x ys) u → (x ≡ u) ⊎ IsAmong ys u) → (x ≡ u) ⊎ IsAmong (y ∷ ys) u
     by_test true (inl same) rest = inr (inl same)
     by_test true (inr later) rest = elim (rest later) [ inl same ↦ inl same | inr k ↦ inr (inr k) ]
     by_test false (inl same) rest = inl same
     by_test false (inr later) rest = inr later
 
-insert_strict : (x : Txn) (ys : List Txn) → Strict ys → ((u : Txn) → IsAmong ys u → same_id x.txn u.txn ≡ false) → Strict (insert comes_before x ys)
+insert_strict : (x : Txn) (ys : List Txn) → Strict ys → ((u : Txn) → IsAmong ys u → same_id x.txn u.txn ≡ false) → Strict (insert serial_before x ys)
 insert_strict x [] s other = ((λ u none. absurd none), tt)
-insert_strict x (y ∷ ys) s other = by_test (comes_before y x) refl (insert_strict x ys s.1 (λ u k. other u (inr k)))
+insert_strict x (y ∷ ys) s other = by_test (serial_before y x) refl (insert_strict x ys s.1 (λ u k. other u (inr k)))
   where
-    by_test : (b : Bool) → comes_before y x ≡ b → Strict (insert comes_before x ys) → Strict (cond b (y ∷ insert comes_before x ys) (x ∷ y ∷ ys))
+    by_test : (b : Bool) → serial_before y x ≡ b → Strict (insert serial_before x ys) → Strict (cond b (y ∷ insert serial_before x ys) (x ∷ y ∷ ys))
     by_test true e rest = (
       λ u k. elim (insert_cases x ys u k) [
-        | inl same ↦ subst (λ (z : Txn). comes_before y z ≡ true) same e
+        | inl same ↦ subst (λ (z : Txn). serial_before y z ≡ true) same e
         | inr old ↦ s.0 u old
       ],
       rest,
     )
     by_test false e rest =
-        let up : comes_before x y ≡ true = before_total y x (same_id_comm y.txn x.txn ∙ other y (inl refl)) e in (
+        let up : serial_before x y ≡ true = before_total y x (same_id_comm y.txn x.txn ∙ other y (inl refl)) e in (
           λ u k. elim k [
-            | inl same ↦ subst (λ (z : Txn). comes_before x z ≡ true) same up
+            | inl same ↦ subst (λ (z : Txn). serial_before x z ≡ true) same up
             | inr old ↦ before_trans x y u up (s.0 u old)
           ],
           s,
@@ -206,12 +214,13 @@ pub nobody : (test : Txn → Bool) (ts : List Txn) → ((u : Txn) → IsAmong ts
 nobody = keep_nobody
 
 -- in the strict order those before one are the ones in front of it
-pub in_front : (pre : List Txn) (u : Txn) (post : List Txn) → Strict (pre ++ u ∷ post) → filter (λ v. comes_before v u) (pre ++ u ∷ post) ≡ pre
+pub in_front : (pre : List Txn) (u : Txn) (post : List Txn) → Strict (pre ++ u ∷ post) → filter (λ v. serial_before v u) (pre ++ u ∷ post) ≡ pre
 in_front [] u post s =
-    ap (λ b. cond b (u ∷ filter (λ v. comes_before v u) post) (filter (λ v. comes_before v u) post)) (not_before_self u)
-    ∙ keep_nobody (λ v. comes_before v u) post (λ v k. before_not_back u v (s.0 v k))
+    ap (λ b. cond b (u ∷ filter (λ v. serial_before v u) post) (filter (λ v. serial_before v u) post)) (not_before_self u)
+    ∙ keep_nobody (λ v. serial_before v u) post (λ v k. before_not_back u v (s.0 v k))
 in_front (p ∷ ps) u post s =
-    ap (λ b. cond b (p ∷ filter (λ v. comes_before v u) (ps ++ u ∷ post)) (filter (λ v. comes_before v u) (ps ++ u ∷ post))) (s.0 u (among_right ps (u ∷ post) u (inl refl)))
+    ap (λ b. cond b (p ∷ filter (λ v. serial_before v u) (ps ++ u ∷ post)) (filter (λ v. serial_before v u) (ps ++ u ∷ post)))
+        (s.0 u (among_right ps (u ∷ post) u (inl refl)))
     ∙ ap (λ (l : List Txn). p ∷ l) (in_front ps u post s.1)
 
 pub applied_more : (pre : List Txn) (u : Txn) (m : Map) → applied (pre ++ u ∷ []) m ≡ put_all u.writes (applied pre m)
@@ -219,11 +228,12 @@ applied_more [] u m = refl
 applied_more (p ∷ ps) u m = applied_more ps u (put_all p.writes m)
 
 -- so the map before one is what those in front of it leave
-pub front_leaves : (h : List Txn) → Apart h → (front : List Txn) (u : Txn) (back : List Txn) → serial h ≡ front ++ u ∷ back → (k : Bytes) → before h u k ≡ applied front empty k
+pub front_leaves : (h : List Txn) → Apart h → (front : List Txn) (u : Txn) (back : List Txn) → serial h ≡ front ++ u ∷ back → (k : Bytes) →
+    before h u k ≡ applied front empty k
 unfolding before
 front_leaves h apart front u back same k =
     ap (λ (l : List Txn). applied l empty k)
-    (ap (λ (l : List Txn). filter (λ v. comes_before v u) l) same ∙ in_front front u back (subst Strict same (serial_strict h apart)))
+    (ap (λ (l : List Txn). filter (λ v. serial_before v u) l) same ∙ in_front front u back (subst Strict same (serial_strict h apart)))
 
 -- at most one is a length of at most one
 pub once_is_one : (us : List Txn) → AtMostOne us → length us ≤ 1

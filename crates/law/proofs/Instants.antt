@@ -1,6 +1,7 @@
 -- What holds of a lawful run at each moment: of its world, and of the logs that a crash may leave there.
 use Rattle.std.specs.List.{list_all}
-use Rattle.std.proofs.Common.{◌≡◌, inl, inr, ℕ, suc, ◌<◌, ◌≤◌, true, ◌&&◌, nat_lt, nat_le, List, [], ◌∷◌, ◌++◌, Option, Some, None, slice_get, refl, sym, ap, subst, ◌∙◌, arith}
+use Rattle.std.proofs.Common.{◌≡◌, inl, inr, ℕ, suc, ◌<◌, ◌≤◌, true, ◌&&◌, nat_lt, nat_le, List, [], ◌∷◌, ◌++◌, Option, Some, None, slice_get, refl}
+use Rattle.std.proofs.Common.{sym, ap, subst, ◌∙◌, arith}
 use Rattle.std.proofs.lemmas.Bool.{leb-true, and_parts}
 use Rattle.std.proofs.lemmas.Bool.Decides.{nat_tests}
 use Rattle.units.specs.Lists.{gather}
@@ -20,7 +21,8 @@ use Rattle.world.specs.Headline.{AllOrNothing, KeepsAcknowledged, MayBeLeft, May
 use Rattle.law.specs.TimeLaws.{InstalledInThePast, installed_before}
 use Rattle.world.specs.declared.event.Config.{Config}
 use Rattle.world.specs.declared.event.Event.{Event}
-use Rattle.law.specs.Evidence.{Scene, IsAmong, AckEvidence, Holds}
+use Rattle.law.specs.Among.{IsAmong}
+use Rattle.law.specs.Evidence.{Scene, AckEvidence, Holds}
 use Rattle.law.specs.Left.{AreLeft}
 use Rattle.world.specs.Steady.{IsSteady}
 use Rattle.world.proofs.EveryRun.{is_steady}
@@ -93,7 +95,8 @@ pub keeps_acknowledged : (config : Config) (es : List Event) (logs : List (List 
     KeepsAcknowledged logs (run config es).lines
 keeps_acknowledged config es logs fair may t at n line =
     let m = moment config es logs fair may in
-    (acknowledged m.scene m.holds logs m.left t at n (subst (λ (w : World). IsLine w.lines (Line.Ack t at n)) (sym m.same) line), whole m.scene m.holds logs m.left t)
+    (acknowledged m.scene m.holds logs m.left t at n (subst (λ (w : World). IsLine w.lines (Line.Ack t at n)) (sym m.same) line),
+        whole m.scene m.holds logs m.left t)
 
 pub ordered_by_time : (config : Config) (es : List Event) (logs : List (List Record)) → lawful config es ≡ true → MayBeLeft config es logs →
     OrderedByTime logs (run config es).lines
@@ -107,9 +110,11 @@ pub installed_in_the_past : InstalledInThePast
 unfolding installs_of
 installed_in_the_past config es fair =
     let r = every_run_holds is_steady config es fair in
-    subst (λ (w : World). list_all (installed_before w.time) w.shards ≡ true) r.same (each_place r.scene.world.time r.scene.world.shards (λ n s there. by_shard r n s there))
+    subst (λ (w : World). list_all (installed_before w.time) w.shards ≡ true) r.same (each_place r.scene.world.time r.scene.world.shards
+        (λ n s there. by_shard r n s there))
   where
-    each_place : (time : ℕ) (ss : List ShardNow) → ((n : ℕ) (s : ShardNow) → slice_get ss n ≡ Some s → installed_before time s ≡ true) → list_all (installed_before time) ss ≡ true
+    each_place : (time : ℕ) (ss : List ShardNow) → ((n : ℕ) (s : ShardNow) → slice_get ss n ≡ Some s → installed_before time s ≡ true) →
+        list_all (installed_before time) ss ≡ true
     each_place time [] k = refl
     each_place time (s ∷ ss) k = ap (λ b. b && list_all (installed_before time) ss) (k 0 s refl) ∙ each_place time ss (λ n x e. k (suc n) x e)
 
@@ -122,9 +127,11 @@ installed_in_the_past config es fair =
     less a b k = grind (arith, nat_tests)
 
     by_shard : {w : World} (r : RunEvidence w) (n : ℕ) (s : ShardNow) → slice_get r.scene.world.shards n ≡ Some s → installed_before r.scene.world.time s ≡ true
-    by_shard r n s there = each_of (λ i. nat_lt i.at r.scene.world.time) (installs_of s.log) (λ i k. from_join i (among_join (installed_by s.log) (gather as_ended s.log) i k))
+    by_shard r n s there = each_of (λ i. nat_lt i.at r.scene.world.time) (installs_of s.log)
+        (λ i k. from_join i (among_join (installed_by s.log) (gather as_ended s.log) i k))
       where
-        by_outcome : (t : Id) (o : Option ℕ) (i : Install) → IsAmong s.log (Record.Outcome t o) → IsAmong (elim o as (λ x. List Install) [ None ↦ [] | Some at ↦ versions (writes_by (committed_of s.log t) (prepared_of s.log t)) at ]) i →
+        by_outcome : (t : Id) (o : Option ℕ) (i : Install) → IsAmong s.log (Record.Outcome t o) →
+            IsAmong (elim o as (λ x. List Install) [ None ↦ [] | Some at ↦ versions (writes_by (committed_of s.log t) (prepared_of s.log t)) at ]) i →
             nat_lt i.at r.scene.world.time ≡ true
         by_outcome t None i logged k = absurd k
         by_outcome t (Some at) i logged k =
@@ -144,7 +151,8 @@ lawful_front w (x ∷ xs) more h =
     ap (λ b. b && lawful_from ((happens w x).0) xs) p.0 ∙ lawful_front ((happens w x).0) xs more p.1
 
 -- the timestamp of an acknowledgement is below the true time of each later event
-pub acknowledged_before : (config : Config) (es : List Event) (e : Event) (t : Id) (s m : ℕ) → lawful config (es ++ e ∷ []) ≡ true → IsLine (run config es).lines (Line.Ack t s m) → s < e.time
+pub acknowledged_before : (config : Config) (es : List Event) (e : Event) (t : Id) (s m : ℕ) → lawful config (es ++ e ∷ []) ≡ true →
+    IsLine (run config es).lines (Line.Ack t s m) → s < e.time
 unfolding run lawful
 acknowledged_before config es e t s m fair line =
     let r = every_run_holds is_steady config es (lawful_front (start config) es (e ∷ []) fair) in

@@ -1,5 +1,6 @@
 -- What a running shard shows is kept: by its steps, crashes, failing calls and openings.
-use Rattle.std.proofs.Common.{◌≡◌, inl, inr, ℕ, ◌+◌, ◌-◌, ◌<◌, ◌≤◌, Bool, true, false, List, [], ◌∷◌, ◌++◌, map, Option, Some, None, slice_get, refl, sym, ap, subst, ◌∙◌, arith}
+use Rattle.std.proofs.Common.{◌≡◌, inl, inr, ℕ, ◌+◌, ◌-◌, ◌<◌, ◌≤◌, Bool, true, false, List, [], ◌∷◌, ◌++◌, map, Option, Some, None, slice_get, refl}
+use Rattle.std.proofs.Common.{sym, ap, subst, ◌∙◌, arith}
 use Rattle.std.specs.Prelude.{Ok}
 use Rattle.std.proofs.lemmas.Bool.{cases_eq}
 use Rattle.units.specs.Ids.{Id, same_id}
@@ -21,11 +22,11 @@ use Rattle.record.specs.declared.record.Record.TheVariants.{Prepare, Commit, Abo
 use Rattle.record.proofs.LearnAgrees.{accepted_follows}
 use Rattle.record.proofs.Statuses.{recorded_is}
 use Rattle.message.specs.declared.message.Input.{Input}
-use Rattle.protocol.specs.Plan.{Plan, before, carried}
+use Rattle.protocol.specs.Plan.{Plan, start_of_step, carried}
 use Rattle.protocol.specs.Rows.{Memory, Row, Phase, IsPrepared, IsDecided, find_row, held_stamp, rebuilt, safe}
 use Rattle.protocol.specs.Sound.{IsSound, Agrees}
 use Rattle.protocol.specs.Step.{plan_input, facts_after, IsInLimit}
-use Rattle.law.specs.Evidence.{IsAmong}
+use Rattle.law.specs.Among.{IsAmong}
 use Rattle.world.specs.Headline.{IsUnsure}
 use Rattle.world.specs.World.{World, ShardNow, View, State, Runs, IsStopped, IsDown, Unsure, setup_of, view_of}
 use Rattle.world.proofs.Openings.{opening_taken, opening_follows}
@@ -51,7 +52,8 @@ quiet_lower log at low q h = record {
   decisions = λ c k e. q.decisions c k (omega (arith, h, e));
 }
 
-shown_stays : (shard : ℕ) (log : List Record) (r : Record) (v : View) → followed shard (log ++ r ∷ []) ≡ true → IsAbove v.safe r → IsShown log v → IsShown (log ++ r ∷ []) v
+shown_stays : (shard : ℕ) (log : List Record) (r : Record) (v : View) → followed shard (log ++ r ∷ []) ≡ true → IsAbove v.safe r → IsShown log v →
+    IsShown (log ++ r ∷ []) v
 shown_stays shard log r v h above s = record {
   quiet = quiet_stays log r v.safe s.quiet above;
   same = λ k at low. answer_stays shard log r k at h (quiet_lower log v.safe at s.quiet low) ∙ s.same k at low;
@@ -70,12 +72,13 @@ module _ (n : ℕ) (v : View) where
     pub accepted : taken setup log ≡ Accepted
     pub shown : setup.shard ≡ n → IsShown log v
 
-  rises : (setup : Setup) (f : Facts) (m : Memory) (now : Interval) (i : Input) (p : Plan) → plan_input setup (before 1024 setup f m) now i ≡ Ok p → v.safe ≤ m.last → (v.safe ≤ p.last) × LoggedAbove v.safe p.logged
+  rises : (setup : Setup) (f : Facts) (m : Memory) (now : Interval) (i : Input) (p : Plan) →
+      plan_input setup (start_of_step 1024 setup f m) now i ≡ Ok p → v.safe ≤ m.last → (v.safe ≤ p.last) × LoggedAbove v.safe p.logged
   unfolding Rises
-  rises setup f m now i p e low = subst (λ q. Rises v.safe q) e (rising v.safe (before 1024 setup f m) low setup now i)
+  rises setup f m now i p e low = subst (λ q. Rises v.safe q) e (rising v.safe (start_of_step 1024 setup f m) low setup now i)
 
   pub serves_keeps : (setup : Setup) (f : Facts) (m : Memory) (now : Interval) (i : Input) (p : Plan) → IsInLimit i → Serves setup f m →
-      plan_input setup (before 1024 setup f m) now i ≡ Ok p → Serves setup (facts_after f p.logged) (carried p m)
+      plan_input setup (start_of_step 1024 setup f m) now i ≡ Ok p → Serves setup (facts_after f p.logged) (carried p m)
   unfolding carried
   serves_keeps setup f m now i p limit s e = record {
     well = keeps setup f m now i p limit s.well e;
@@ -92,8 +95,9 @@ module _ (n : ℕ) (v : View) where
   pub shows_follows : (setup : Setup) (log : List Record) → Shows setup log → followed setup.shard log ≡ true
   shows_follows setup log s = accepted_follows setup log s.accepted
 
-  pub shows_logs : (setup : Setup) (log : List Record) (m : Memory) (now : Interval) (i : Input) (p : Plan) (r : Record) → IsInLimit i → Shows setup log → Serves setup (facts_of log) m →
-      plan_input setup (before 1024 setup (facts_of log) m) now i ≡ Ok p → p.logged ≡ Some r → Shows setup (log ++ r ∷ [])
+  pub shows_logs : (setup : Setup) (log : List Record) (m : Memory) (now : Interval) (i : Input) (p : Plan) (r : Record) → IsInLimit i →
+      Shows setup log → Serves setup (facts_of log) m →
+      plan_input setup (start_of_step 1024 setup (facts_of log) m) now i ≡ Ok p → p.logged ≡ Some r → Shows setup (log ++ r ∷ [])
   shows_logs setup log m now i p r limit shows serves e logged =
       let more = logs setup log m now i p r limit shows.accepted serves.well e logged in
       record {
@@ -105,7 +109,8 @@ module _ (n : ℕ) (v : View) where
   pub shows_opens : (setup : Setup) (log : List Record) → Shows setup log → Shows setup (log ++ Record.Opened ((facts_of log).epoch + 1) ∷ [])
   shows_opens setup log s = record {
     accepted = opening_taken setup log s.accepted;
-    shown = λ here. shown_stays setup.shard log (Record.Opened ((facts_of log).epoch + 1)) v (opening_follows setup.shard log (accepted_follows setup log s.accepted)) tt (s.shown here);
+    shown = λ here. shown_stays setup.shard log (Record.Opened ((facts_of log).epoch + 1)) v
+        (opening_follows setup.shard log (accepted_follows setup log s.accepted)) tt (s.shown here);
   }
 
 -- a view of a shard is kept: over whatever log a crash may leave
@@ -142,13 +147,15 @@ module _ (shard : ℕ) (log : List Record) (m : Memory) (sound : IsSound shard (
   }
 
   -- a row that stands holds back the served time
-  held_back : (t : Id) (at : ℕ) (p : Phase) (q : Option Row) → find_row m.rows t ≡ q → held_stamp p ≡ Some at → 0 < at → at ≤ safe m → ((r : Row) → q ≡ Some r → r.phase ≡ p) → (q ≡ None → ⊥) → ⊥
+  held_back : (t : Id) (at : ℕ) (p : Phase) (q : Option Row) → find_row m.rows t ≡ q → held_stamp p ≡ Some at → 0 < at → at ≤ safe m →
+      ((r : Row) → q ≡ Some r → r.phase ≡ p) → (q ≡ None → ⊥) → ⊥
   held_back t at p None found stamp zero low row none = none refl
   held_back t at p (Some r) found stamp zero low row none =
       let back = safe_below m r at (among_first (λ (x : Row). same_id x.txn t) m.rows r found) (ap held_stamp (row r refl) ∙ stamp) in
       omega (arith, back, zero, low)
 
-  agrees_at : (t : Id) (a : Bool) (c : Option Committed) (p : Option Prepared) (e : Option Ended) → is_aborted log t ≡ a → committed_of log t ≡ c → prepared_of log t ≡ p → ended_of log t ≡ e →
+  agrees_at : (t : Id) (a : Bool) (c : Option Committed) (p : Option Prepared) (e : Option Ended) → is_aborted log t ≡ a → committed_of log t ≡ c →
+      prepared_of log t ≡ p → ended_of log t ≡ e →
       Agrees (installs_of log) m.last (status_by a c p e) (find_row m.rows t)
   unfolding status_of facts_of
   agrees_at t a c p e ha hc hp he =
@@ -168,13 +175,15 @@ module _ (shard : ℕ) (log : List Record) (m : Memory) (sound : IsSound shard (
           by_row None found none = none
           by_row (Some r) found by =
               let zero = by.above_zero in
-              held_back p.txn q.at (IsPrepared q.coordinator q.at) (Some r) found refl zero (let at = ap (λ (z : Prepared). z.at) same in omega (arith, low, at))
+              held_back p.txn q.at (IsPrepared q.coordinator q.at) (Some r) found refl zero
+                  (let at = ap (λ (z : Prepared). z.at) same in omega (arith, low, at))
               (λ x e. ap (λ (z : Row). z.phase) (sym (some_is r x e)) ∙ by.phase) (λ e. cc)
             where
               some_is : (a b : Row) → Some a ≡ Some b → a ≡ b
               some_is a b e = cc
 
-      by_parts : (a : Bool) → is_aborted log p.txn ≡ a → (c : Option Committed) → committed_of log p.txn ≡ c → (q : Option Prepared) → prepared_of log p.txn ≡ q → (e : Option Ended) → ended_of log p.txn ≡ e → HasEnd log p.txn
+      by_parts : (a : Bool) → is_aborted log p.txn ≡ a → (c : Option Committed) → committed_of log p.txn ≡ c → (q : Option Prepared) →
+          prepared_of log p.txn ≡ q → (e : Option Ended) → ended_of log p.txn ≡ e → HasEnd log p.txn
       by_parts a ha c hc q hq (Some e) he = ended_there p.txn e he
       by_parts true ha c hc q hq None he =
           absurd (let same = same_claim log o p.txn (Prepare p) (Abort p.txn) h (is_aborted_among log p.txn ha) (same_id-refl p.txn) (same_id-refl p.txn) in cc)
@@ -200,7 +209,8 @@ module _ (shard : ℕ) (log : List Record) (m : Memory) (sound : IsSound shard (
               some_is : (a b : Row) → Some a ≡ Some b → a ≡ b
               some_is a b e = cc
 
-      by_parts : (a : Bool) → is_aborted log c.txn ≡ a → (d : Option Committed) → committed_of log c.txn ≡ d → (q : Option Prepared) → prepared_of log c.txn ≡ q → (e : Option Ended) → ended_of log c.txn ≡ e → HasEnd log c.txn
+      by_parts : (a : Bool) → is_aborted log c.txn ≡ a → (d : Option Committed) → committed_of log c.txn ≡ d → (q : Option Prepared) →
+          prepared_of log c.txn ≡ q → (e : Option Ended) → ended_of log c.txn ≡ e → HasEnd log c.txn
       by_parts a ha d hd q hq (Some e) he = ended_there c.txn e he
       by_parts true ha d hd q hq None he =
           absurd (let same = same_claim log o c.txn (Commit c) (Abort c.txn) h (is_aborted_among log c.txn ha) (same_id-refl c.txn) (same_id-refl c.txn) in cc)
@@ -222,20 +232,25 @@ pub record IsPresent (w : World) (n : ℕ) (v : View) : Type 0 where
   pub is : view_of (facts_of shard.log) memory ≡ v
 
 abbrev pub KeptShard : ℕ → View → Setup → ShardNow → Type 0
-KeptShard n v setup s = SoundShard InLimit (Serves n v) (Shows n v) (serves_keeps n v) (serves_opens n v) (shows_follows n v) (shows_logs n v) (shows_opens n v) setup s
+KeptShard n v setup s = SoundShard InLimit (Serves n v) (Shows n v) (serves_keeps n v) (serves_opens n v) (shows_follows n v) (shows_logs n v)
+    (shows_opens n v) setup s
 
 -- the shard of a view is another
-apart_kept : (n : ℕ) (v : View) (setup : Setup) (log : List Record) (unsure : Unsure) (st : State) (views : List View) → (setup.shard ≡ n → ⊥) → WellShard setup (shard_with log unsure st views) → KeptShard n v setup (shard_with log unsure st views)
+apart_kept : (n : ℕ) (v : View) (setup : Setup) (log : List Record) (unsure : Unsure) (st : State) (views : List View) → (setup.shard ≡ n → ⊥) →
+    WellShard setup (shard_with log unsure st views) → KeptShard n v setup (shard_with log unsure st views)
 apart_kept n v setup log unsure (Runs m) views other h = record {
-  left = λ l may. let x = h.left l may in record { memory = x.memory; sound = record { well = x.sound; served = λ e. absurd (other e) }; good = record { accepted = x.good; shown = λ e. absurd (other e) } };
+  left = λ l may. let x = h.left l may in record { memory = x.memory; sound = record { well = x.sound; served = λ e. absurd (other e) }; good =
+      record { accepted = x.good; shown = λ e. absurd (other e) } };
   state = (record { well = h.state.0; served = λ e. absurd (other e) }, h.state.1);
 }
 apart_kept n v setup log unsure (IsStopped m) views other h = record {
-  left = λ l may. let x = h.left l may in record { memory = x.memory; sound = record { well = x.sound; served = λ e. absurd (other e) }; good = record { accepted = x.good; shown = λ e. absurd (other e) } };
+  left = λ l may. let x = h.left l may in record { memory = x.memory; sound = record { well = x.sound; served = λ e. absurd (other e) }; good =
+      record { accepted = x.good; shown = λ e. absurd (other e) } };
   state = tt;
 }
 apart_kept n v setup log unsure IsDown views other h = record {
-  left = λ l may. let x = h.left l may in record { memory = x.memory; sound = record { well = x.sound; served = λ e. absurd (other e) }; good = record { accepted = x.good; shown = λ e. absurd (other e) } };
+  left = λ l may. let x = h.left l may in record { memory = x.memory; sound = record { well = x.sound; served = λ e. absurd (other e) }; good =
+      record { accepted = x.good; shown = λ e. absurd (other e) } };
   state = tt;
 }
 
@@ -243,27 +258,32 @@ memory_is : (a b : Memory) → Runs a ≡ Runs b → a ≡ b
 memory_is a b e = cc
 
 -- it is this one, and runs
-shown_now : (setup : Setup) (log : List Record) (m : Memory) → IsWell setup (facts_of log) m → taken setup log ≡ Accepted → IsShown log (view_of (facts_of log) m)
+shown_now : (setup : Setup) (log : List Record) (m : Memory) → IsWell setup (facts_of log) m → taken setup log ≡ Accepted →
+    IsShown log (view_of (facts_of log) m)
 unfolding facts_of
 shown_now setup log m well e = record {
   quiet = safe_is_quiet setup.shard log m well.sound (orderly setup.shard log (accepted_follows setup log e));
   same = λ k at low. refl;
 }
 
-running_kept : (n : ℕ) (setup : Setup) (log : List Record) (unsure : Unsure) (st : State) (views : List View) (m : Memory) → st ≡ Runs m → WellShard setup (shard_with log unsure st views) →
+running_kept : (n : ℕ) (setup : Setup) (log : List Record) (unsure : Unsure) (st : State) (views : List View) (m : Memory) → st ≡ Runs m →
+    WellShard setup (shard_with log unsure st views) →
     KeptShard n (view_of (facts_of log) m) setup (shard_with log unsure st views)
 running_kept n setup log unsure (IsStopped q) views m e h = cc
 running_kept n setup log unsure IsDown views m e h = cc
 running_kept n setup log unsure (Runs q) views m e h = record {
   left = λ l may. elim may [
-    | inl same ↦ subst (SoundLog InLimit (Serves n (view_of (facts_of log) m)) (Shows n (view_of (facts_of log) m)) (serves_keeps n (view_of (facts_of log) m)) (serves_opens n (view_of (facts_of log) m)) (shows_follows n (view_of (facts_of log) m)) (shows_logs n (view_of (facts_of log) m)) (shows_opens n (view_of (facts_of log) m)) setup) (sym same) (record {
+    | inl same ↦ subst (SoundLog InLimit (Serves n (view_of (facts_of log) m)) (Shows n (view_of (facts_of log) m))
+        (serves_keeps n (view_of (facts_of log) m)) (serves_opens n (view_of (facts_of log) m)) (shows_follows n (view_of (facts_of log) m))
+        (shows_logs n (view_of (facts_of log) m)) (shows_opens n (view_of (facts_of log) m)) setup) (sym same) (record {
       memory = m;
       sound = record { well = well; served = λ here. safe_low m };
       good = record { accepted = good; shown = λ here. shown_now setup log m well good };
     })
     | inr more ↦ absurd (subst (λ u. IsUnsure u more.0) h.state.1 more.1)
   ];
-  state = (record { well = h.state.0; served = λ here. let low = safe_low m in let same = ap (λ (z : Memory). z.last) (memory_is q m e) in omega (arith, low, same) }, h.state.1);
+  state = (record { well = h.state.0; served = λ here. let low = safe_low m in let same = ap (λ (z : Memory). z.last) (memory_is q m e) in
+      omega (arith, low, same) }, h.state.1);
 }
   where
     well : IsWell setup (facts_of log) m
@@ -282,10 +302,13 @@ present_is_kept w n v well present = subst (λ z. KeptView n z w) present.is by_
     by_place : KeptView n (view_of (facts_of present.shard.log) present.memory) w
     by_place k s there = elim (cases_eq k n) [
       | inl same ↦ here k s there (some_shard s present.shard (sym there ∙ subst (λ j. slice_get w.shards j ≡ Some present.shard) (sym same) present.there))
-      | inr other ↦ apart_kept n (view_of (facts_of present.shard.log) present.memory) (setup_of w.config k) s.log s.unsure s.state s.views other (well k s there)
+      | inr other ↦ apart_kept n (view_of (facts_of present.shard.log) present.memory) (setup_of w.config k) s.log s.unsure s.state s.views other
+          (well k s there)
     ]
       where
-        here : (j : ℕ) (x : ShardNow) → slice_get w.shards j ≡ Some x → x ≡ present.shard → KeptShard n (view_of (facts_of present.shard.log) present.memory) (setup_of w.config j) x
+        here : (j : ℕ) (x : ShardNow) → slice_get w.shards j ≡ Some x → x ≡ present.shard →
+            KeptShard n (view_of (facts_of present.shard.log) present.memory) (setup_of w.config j) x
         here j x at same =
             subst (λ (z : ShardNow). KeptShard n (view_of (facts_of z.log) present.memory) (setup_of w.config j) x) same
-            (running_kept n (setup_of w.config j) x.log x.unsure x.state x.views present.memory (ap (λ (z : ShardNow). z.state) same ∙ present.runs) (well j x at))
+            (running_kept n (setup_of w.config j) x.log x.unsure x.state x.views present.memory (ap (λ (z : ShardNow). z.state) same ∙ present.runs)
+                (well j x at))

@@ -16,11 +16,11 @@ use Rattle.record.specs.Records.{Status, Unrecorded, StandsPrepared, StandsDecid
 use Rattle.record.specs.declared.record.Record.{Record}
 use Rattle.record.proofs.LearnAgrees.{accepted_follows}
 use Rattle.message.specs.declared.message.Input.{Input}
-use Rattle.protocol.specs.Plan.{Plan, before, carried, stands}
+use Rattle.protocol.specs.Plan.{Plan, start_of_step, carried, stands}
 use Rattle.protocol.specs.Rows.{Memory, Row, Phase, HasRow, find_row, rebuilt, standing_row}
 use Rattle.protocol.specs.Step.{plan_input, facts_after, IsInLimit}
 use Rattle.protocol.proofs.InWay.{row_at}
-use Rattle.law.specs.Evidence.{IsAmong}
+use Rattle.law.specs.Among.{IsAmong}
 use Rattle.world.specs.World.{World}
 use Rattle.world.proofs.Openings.{opening_taken}
 use Rattle.law.proofs.Recorded.{among_first, among_gather}
@@ -60,22 +60,27 @@ module _ (n : ℕ) (t : Id) (k : Bytes) (e : ℕ) (x : Option Bytes) where
 
   -- where the reader was logged with the key, the value was the latest
   abbrev pub ReadsRightly : List Record → Type 0
-  ReadsRightly log = (front : List Record) (r : Record) (back : List Record) (at : ℕ) (ks : List Bytes) (ws : List Write) → log ≡ front ++ r ∷ back → Claims r t at ks ws → IsAmong ks k → latest (installs_of front) k ≡ x
+  ReadsRightly log = (front : List Record) (r : Record) (back : List Record) (at : ℕ) (ks : List Bytes) (ws : List Write) → log ≡ front ++ r ∷ back →
+      Claims r t at ks ws → IsAmong ks k → latest (installs_of front) k ≡ x
 
   pub record Told (setup : Setup) (log : List Record) : Type 0 where
     pub accepted : taken setup log ≡ Accepted
     pub right : setup.shard ≡ n → ReadsRightly log
 
-  fair_plan : (setup : Setup) (f : Facts) (m : Memory) (now : Interval) (i : Input) (p : Plan) → IsFairInput t k e i → Held t k e x f m → plan_input setup (before 1024 setup f m) now i ≡ Ok p → PlanFair t k e (before 1024 setup f m) p
+  fair_plan : (setup : Setup) (f : Facts) (m : Memory) (now : Interval) (i : Input) (p : Plan) → IsFairInput t k e i → Held t k e x f m →
+      plan_input setup (start_of_step 1024 setup f m) now i ≡ Ok p → PlanFair t k e (start_of_step 1024 setup f m) p
   unfolding Fair
   fair_plan setup f m now i p fair h is =
-      subst (λ z. Fair t k e (before 1024 setup f m) z) is (fairly t k e (before 1024 setup f m) rows setup now i fair)
+      subst (λ z. Fair t k e (start_of_step 1024 setup f m) z) is (fairly t k e (start_of_step 1024 setup f m) rows setup now i fair)
     where
-      rows : (u : Id) (held : List Lock) (phase : Phase) → stands (before 1024 setup f m) u ≡ HasRow held phase → u ≡ t → IsAmong (reads_of phase) k → f.epoch ≡ e
-      rows u held phase st same there = h.asked (record { txn = u; held = held; phase = phase }) (subst (λ z. find_row m.rows z ≡ Some (record { txn = u; held = held; phase = phase })) same (row_at (before 1024 setup f m) u held phase st)) there
+      rows : (u : Id) (held : List Lock) (phase : Phase) → stands (start_of_step 1024 setup f m) u ≡ HasRow held phase → u ≡ t →
+          IsAmong (reads_of phase) k → f.epoch ≡ e
+      rows u held phase st same there = h.asked (record { txn = u; held = held; phase = phase })
+          (subst (λ z. find_row m.rows z ≡ Some (record { txn = u; held = held; phase = phase })) same
+          (row_at (start_of_step 1024 setup f m) u held phase st)) there
 
   pub tells_keeps : (setup : Setup) (f : Facts) (m : Memory) (now : Interval) (i : Input) (p : Plan) → IsAllowed setup i → Tells setup f m →
-      plan_input setup (before 1024 setup f m) now i ≡ Ok p → Tells setup (facts_after f p.logged) (carried p m)
+      plan_input setup (start_of_step 1024 setup f m) now i ≡ Ok p → Tells setup (facts_after f p.logged) (carried p m)
   tells_keeps setup f m now i p allowed s is = record {
     well = keeps setup f m now i p allowed.limit s.well is;
     held = λ here. held_keeps t k e x setup f m now i p s.well.sound is (fair_plan setup f m now i p (allowed.fair here) (s.held here) is) (s.held here);
@@ -98,14 +103,16 @@ module _ (n : ℕ) (t : Id) (k : Bytes) (e : ℕ) (x : Option Bytes) where
   pub told_follows : (setup : Setup) (log : List Record) → Told setup log → followed setup.shard log ≡ true
   told_follows setup log s = accepted_follows setup log s.accepted
 
-  pub told_logs : (setup : Setup) (log : List Record) (m : Memory) (now : Interval) (i : Input) (p : Plan) (r : Record) → IsAllowed setup i → Told setup log → Tells setup (facts_of log) m →
-      plan_input setup (before 1024 setup (facts_of log) m) now i ≡ Ok p → p.logged ≡ Some r → Told setup (log ++ r ∷ [])
+  pub told_logs : (setup : Setup) (log : List Record) (m : Memory) (now : Interval) (i : Input) (p : Plan) (r : Record) → IsAllowed setup i →
+      Told setup log → Tells setup (facts_of log) m →
+      plan_input setup (start_of_step 1024 setup (facts_of log) m) now i ≡ Ok p → p.logged ≡ Some r → Told setup (log ++ r ∷ [])
   unfolding facts_of
   told_logs setup log m now i p r allowed good s is logged = record {
     accepted = logs setup log m now i p r allowed.limit good.accepted s.well is logged;
     right = λ here front q back at ks ws split claims there. elim (last_split log r front q back split) [
       | inl end ↦ subst (λ l. latest (installs_of l) k ≡ x) end.1
-          (held_logs t k e x setup (facts_of log) m now i p s.well.sound is (fair_plan setup (facts_of log) m now i p (allowed.fair here) (s.held here) is) (s.held here) r at ks ws logged
+          (held_logs t k e x setup (facts_of log) m now i p s.well.sound is (fair_plan setup (facts_of log) m now i p (allowed.fair here)
+              (s.held here) is) (s.held here) r at ks ws logged
           (subst (λ z. Claims z t at ks ws) (sym end.0) claims) there)
       | inr more ↦ good.right here front q more.0 at ks ws more.1 claims there
     ];
@@ -122,4 +129,5 @@ module _ (n : ℕ) (t : Id) (k : Bytes) (e : ℕ) (x : Option Bytes) where
 
 -- a value that a shard told is kept: in each log that a crash may leave, its reader was logged while it was the latest
 abbrev pub KeptRead : ℕ → Id → Bytes → ℕ → Option Bytes → World → Type 0
-KeptRead n t k e x w = SoundWorld (IsAllowed n t k e x) (Tells n t k e x) (Told n t k e x) (tells_keeps n t k e x) (tells_opens n t k e x) (told_follows n t k e x) (told_logs n t k e x) (told_opens n t k e x) w
+KeptRead n t k e x w = SoundWorld (IsAllowed n t k e x) (Tells n t k e x) (Told n t k e x) (tells_keeps n t k e x) (tells_opens n t k e x)
+    (told_follows n t k e x) (told_logs n t k e x) (told_opens n t k e x) w

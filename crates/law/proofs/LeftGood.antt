@@ -12,7 +12,7 @@ use Rattle.message.specs.declared.message.Address.TheVariants.{Shard, Session}
 use Rattle.message.specs.declared.message.Envelope.{Envelope}
 use Rattle.message.specs.declared.message.Input.{Input}
 use Rattle.protocol.specs.Rows.{Memory, rebuilt}
-use Rattle.protocol.specs.Plan.{Plan, before, carried}
+use Rattle.protocol.specs.Plan.{Plan, start_of_step, carried}
 use Rattle.protocol.specs.Step.{facts_after, plan_input}
 use Rattle.world.specs.World.{World, read_log, setup_of, start, run}
 use Rattle.world.specs.Headline.{AllAccepted, MayBeLeft, MayLeaveLog, MayHaveLogged, doing_of}
@@ -32,18 +32,26 @@ use Rattle.law.proofs.Lefts.{ShardOf, left_get, within_get}
 some_pair : (p q : ℕ × Doing) → ◌≡◌ {A = Option (ℕ × Doing)} (Some p) (Some q) → p ≡ q
 some_pair p q e = cc
 
-allowed_of : (Allowed : Setup → Input → Type 0) (w : World) (act : Act) (n : ℕ) (doing : Doing) → ActAllowed Allowed w act → doing_of w act ≡ Some (n, doing) → DoingAllowed Allowed (setup_of w.config n) w.bag doing
-allowed_of Allowed w (Act.At m d) n doing h e = subst (λ (p : ℕ × Doing). DoingAllowed Allowed (setup_of w.config p.0) w.bag p.1) (some_pair (m, d) (n, doing) e) h
-allowed_of Allowed w (Act.CrashIn m call fate d) n doing h e = subst (λ (p : ℕ × Doing). DoingAllowed Allowed (setup_of w.config p.0) w.bag p.1) (some_pair (m, d) (n, doing) e) h
-allowed_of Allowed w (Act.FailIn m call d) n doing h e = subst (λ (p : ℕ × Doing). DoingAllowed Allowed (setup_of w.config p.0) w.bag p.1) (some_pair (m, d) (n, doing) e) h
+allowed_of : (Allowed : Setup → Input → Type 0) (w : World) (act : Act) (n : ℕ) (doing : Doing) → ActAllowed Allowed w act →
+    doing_of w act ≡ Some (n, doing) → DoingAllowed Allowed (setup_of w.config n) w.bag doing
+allowed_of Allowed w (Act.At m d) n doing h e = subst (λ (p : ℕ × Doing). DoingAllowed Allowed (setup_of w.config p.0) w.bag p.1)
+    (some_pair (m, d) (n, doing) e) h
+allowed_of Allowed w (Act.CrashIn m call fate d) n doing h e = subst (λ (p : ℕ × Doing). DoingAllowed Allowed (setup_of w.config p.0) w.bag p.1)
+    (some_pair (m, d) (n, doing) e) h
+allowed_of Allowed w (Act.FailIn m call d) n doing h e = subst (λ (p : ℕ × Doing). DoingAllowed Allowed (setup_of w.config p.0) w.bag p.1)
+    (some_pair (m, d) (n, doing) e) h
 allowed_of Allowed w (Act.Deliver m now) n doing h e = by_message (slice_get w.bag m) refl e
   where
-    by_address : (z : Envelope) → slice_get w.bag m ≡ Some z → (y : Address) → z.to ≡ y → (elim y as (λ v. Option (ℕ × Doing)) [ Shard k ↦ Some (k, Doing.Take m now) | Session t ↦ None ]) ≡ Some (n, doing) → DoingAllowed Allowed (setup_of w.config n) w.bag doing
-    by_address z is (Shard k) goes same = subst (λ (p : ℕ × Doing). DoingAllowed Allowed (setup_of w.config p.0) w.bag p.1) (some_pair (k, Doing.Take m now) (n, doing) same) (h z k is goes)
+    by_address : (z : Envelope) → slice_get w.bag m ≡ Some z → (y : Address) → z.to ≡ y →
+        (elim y as (λ v. Option (ℕ × Doing)) [ Shard k ↦ Some (k, Doing.Take m now) | Session t ↦ None ]) ≡ Some (n, doing) →
+        DoingAllowed Allowed (setup_of w.config n) w.bag doing
+    by_address z is (Shard k) goes same = subst (λ (p : ℕ × Doing). DoingAllowed Allowed (setup_of w.config p.0) w.bag p.1)
+        (some_pair (k, Doing.Take m now) (n, doing) same) (h z k is goes)
     by_address z is (Session t) goes same = cc
 
     by_message : (o : Option Envelope) → slice_get w.bag m ≡ o →
-        (elim o as (λ v. Option (ℕ × Doing)) [ None ↦ None | Some z ↦ elim z.to as (λ v. Option (ℕ × Doing)) [ Shard k ↦ Some (k, Doing.Take m now) | Session t ↦ None ] ]) ≡ Some (n, doing) → DoingAllowed Allowed (setup_of w.config n) w.bag doing
+        (elim o as (λ v. Option (ℕ × Doing)) [ None ↦ None | Some z ↦ elim z.to as (λ v. Option (ℕ × Doing)) [ Shard k ↦
+            Some (k, Doing.Take m now) | Session t ↦ None ] ]) ≡ Some (n, doing) → DoingAllowed Allowed (setup_of w.config n) w.bag doing
     by_message None is same = cc
     by_message (Some z) is same = by_address z is z.to refl same
 allowed_of Allowed w (Act.Begin t) n doing h e = cc
@@ -57,11 +65,11 @@ allowed_of Allowed w (Act.Crash m) n doing h e = cc
 
 module _ (Allowed : Setup → Input → Type 0) (Sound : Setup → Facts → Memory → Type 0) (Good : Setup → List Record → Type 0)
     (keeps : (setup : Setup) (f : Facts) (m : Memory) (now : Interval) (i : Input) (p : Plan) → Allowed setup i → Sound setup f m →
-    plan_input setup (before 1024 setup f m) now i ≡ Ok p → Sound setup (facts_after f p.logged) (carried p m))
+    plan_input setup (start_of_step 1024 setup f m) now i ≡ Ok p → Sound setup (facts_after f p.logged) (carried p m))
     (opens : (setup : Setup) (f : Facts) (m : Memory) → Sound setup f m → Sound setup (learn f (Record.Opened (f.epoch + 1))) (rebuilt f))
     (follows : (setup : Setup) (log : List Record) → Good setup log → followed setup.shard log ≡ true)
     (logs : (setup : Setup) (log : List Record) (m : Memory) (now : Interval) (i : Input) (p : Plan) (r : Record) → Allowed setup i → Good setup log →
-    Sound setup (facts_of log) m → plan_input setup (before 1024 setup (facts_of log) m) now i ≡ Ok p → p.logged ≡ Some r → Good setup (log ++ r ∷ []))
+    Sound setup (facts_of log) m → plan_input setup (start_of_step 1024 setup (facts_of log) m) now i ≡ Ok p → p.logged ≡ Some r → Good setup (log ++ r ∷ []))
     (good_opens : (setup : Setup) (log : List Record) → Good setup log → Good setup (log ++ Record.Opened ((facts_of log).epoch + 1) ∷ []))
     (config : Config) (es : List Event) (ls : List (List Record)) (may : MayBeLeft config es ls)
     (sound : SoundWorld Allowed Sound Good keeps opens follows logs good_opens (run config es))
@@ -71,12 +79,14 @@ module _ (Allowed : Setup → Input → Type 0) (Sound : Setup → Facts → Mem
   left_is_good k log is = elim may [
     | inl plain ↦ (let s = left_get (run config es).shards ls k log plain is in
         left_good Allowed Sound Good keeps opens follows logs good_opens (run config es) sound k s.shard log s.there s.fits)
-    | inr within ↦ by_place within.1 within.2 (allowed_of Allowed (run config es) within.0.act within.1 within.2 (allowed within.0 (last_may (start config) es within.0 within.3)) within.4)
+    | inr within ↦ by_place within.1 within.2 (allowed_of Allowed (run config es) within.0.act within.1 within.2
+        (allowed within.0 (last_may (start config) es within.0 within.3)) within.4)
         (within_get (run config es) within.1 within.2 within.1 (run config es).shards ls k log within.5 is)
   ]
     where
       by_place : (i : ℕ) (doing : Doing) → DoingAllowed Allowed (setup_of (run config es).config i) (run config es).bag doing →
-          ShardOf (run config es).shards k (λ s. MayLeaveLog s log ⊎ ((k ≡ i) × MayHaveLogged (run config es) s i doing log)) → Good (setup_of (run config es).config k) log
+          ShardOf (run config es).shards k (λ s. MayLeaveLog s log ⊎ ((k ≡ i) × MayHaveLogged (run config es) s i doing log)) →
+              Good (setup_of (run config es).config k) log
       by_place i doing ok p = elim p.fits [
         | inl plain ↦ left_good Allowed Sound Good keeps opens follows logs good_opens (run config es) sound k p.shard log p.there plain
         | inr here ↦ subst (Good (setup_of (run config es).config k)) (sym here.1.1.1)
@@ -89,4 +99,5 @@ module _ (Allowed : Setup → Input → Type 0) (Sound : Setup → Facts → Mem
 pub recovered : (config : Config) (es : List Event) (ls : List (List Record)) → lawful config es ≡ true → MayBeLeft config es ls → AllAccepted config ls
 recovered config es ls fair may =
     subst (λ c. AllAccepted c ls) (run_settings config es)
-    (left_is_good InLimit IsWell IsTaken keeps opens accepted_follows logs opening_taken config es ls may (always_well config es fair) (in_limit (run config es)))
+    (left_is_good InLimit IsWell IsTaken keeps opens accepted_follows logs opening_taken config es ls may (always_well config es fair)
+        (in_limit (run config es)))

@@ -1,5 +1,6 @@
 -- Something stands behind each record of logs that a crash may leave, between events and within one.
-use Rattle.std.proofs.Common.{◌≡◌, ◌⊎◌, inl, inr, ℕ, zero, suc, ◌≤◌, true, nat_le, List, [], ◌∷◌, ◌++◌, Option, Some, None, slice_get, refl, sym, ap, subst, option_map}
+use Rattle.std.proofs.Common.{◌≡◌, ◌⊎◌, inl, inr, ℕ, zero, suc, ◌≤◌, true, nat_le, List, [], ◌∷◌, ◌++◌, Option, Some, None, slice_get, refl, sym, ap}
+use Rattle.std.proofs.Common.{subst, option_map}
 use Rattle.std.proofs.lemmas.Bool.{leb-true, and_parts}
 use Rattle.units.specs.Lists.{when}
 use Rattle.truetime.specs.Reading.{is_honest}
@@ -13,7 +14,8 @@ use Rattle.world.specs.Lawful.{may_act, can_come}
 use Rattle.world.specs.Headline.{MayLeaveLog, MayLeaveLogs, MayHaveLogged, MayLeaveWithin, doing_of}
 use Rattle.world.specs.declared.event.Act.{Act}
 use Rattle.world.specs.declared.event.Doing.{Doing}
-use Rattle.law.specs.Evidence.{Scene, IsAmong, RecordEvidence, Holds}
+use Rattle.law.specs.Among.{IsAmong}
+use Rattle.law.specs.Evidence.{Scene, RecordEvidence, Holds}
 use Rattle.law.specs.Left.{IsLeftLog, AreLeft}
 use Rattle.world.specs.Steady.{IsSteady}
 use Rattle.law.proofs.Members.{among_left, among_cases}
@@ -32,21 +34,24 @@ pub record ShardOf (ss : List ShardNow) (n : ℕ) (P : ShardNow → Type 0) : Ty
   pub there : slice_get ss n ≡ Some shard
   pub fits : P shard
 
-pub left_get : (ss : List ShardNow) (ls : List (List Record)) (n : ℕ) (l : List Record) → MayLeaveLogs ss ls → slice_get ls n ≡ Some l → ShardOf ss n (λ s. MayLeaveLog s l)
+pub left_get : (ss : List ShardNow) (ls : List (List Record)) (n : ℕ) (l : List Record) → MayLeaveLogs ss ls → slice_get ls n ≡ Some l →
+    ShardOf ss n (λ s. MayLeaveLog s l)
 left_get [] [] n l h e = cc
 left_get [] (m ∷ ls) n l h e = absurd h
 left_get (s ∷ ss) [] n l h e = cc
 left_get (s ∷ ss) (m ∷ ls) zero l h e = record { shard = s; there = refl; fits = subst (MayLeaveLog s) (some_same m l e) h.0 }
 left_get (s ∷ ss) (m ∷ ls) (suc n) l h e = let k = left_get ss ls n l h.1 e in record { shard = k.shard; there = k.there; fits = k.fits }
 
-left_all : (ss : List ShardNow) (ls : List (List Record)) (n : ℕ) (s : ShardNow) → MayLeaveLogs ss ls → slice_get ss n ≡ Some s → (l : List Record) × (slice_get ls n ≡ Some l)
+left_all : (ss : List ShardNow) (ls : List (List Record)) (n : ℕ) (s : ShardNow) → MayLeaveLogs ss ls → slice_get ss n ≡ Some s → (l : List Record)
+    × (slice_get ls n ≡ Some l)
 left_all [] ls n s h e = cc
 left_all (x ∷ ss) [] n s h e = absurd h
 left_all (x ∷ ss) (m ∷ ls) zero s h e = (m, refl)
 left_all (x ∷ ss) (m ∷ ls) (suc n) s h e = left_all ss ls n s h.1 e
 
 module _ (w : World) (n : ℕ) (doing : Doing) where
-  pub within_get : (i : ℕ) (ss : List ShardNow) (ls : List (List Record)) (k : ℕ) (l : List Record) → MayLeaveWithin w n doing i ss ls → slice_get ls k ≡ Some l →
+  pub within_get : (i : ℕ) (ss : List ShardNow) (ls : List (List Record)) (k : ℕ) (l : List Record) → MayLeaveWithin w n doing i ss ls →
+      slice_get ls k ≡ Some l →
       ShardOf ss k (λ s. MayLeaveLog s l ⊎ ((k ≡ i) × MayHaveLogged w s n doing l))
   within_get i [] [] k l h e = cc
   within_get zero [] (m ∷ ls) k l h e = absurd h
@@ -59,7 +64,8 @@ module _ (w : World) (n : ℕ) (doing : Doing) where
       let p = within_get i ss ls k l h.1 e in
       record { shard = p.shard; there = p.there; fits = elim p.fits [ inl a ↦ inl a | inr b ↦ inr (ap suc b.0, b.1) ] }
 
-  within_all : (i : ℕ) (ss : List ShardNow) (ls : List (List Record)) (k : ℕ) (s : ShardNow) → MayLeaveWithin w n doing i ss ls → slice_get ss k ≡ Some s → (l : List Record) × (slice_get ls k ≡ Some l)
+  within_all : (i : ℕ) (ss : List ShardNow) (ls : List (List Record)) (k : ℕ) (s : ShardNow) → MayLeaveWithin w n doing i ss ls →
+      slice_get ss k ≡ Some s → (l : List Record) × (slice_get ls k ≡ Some l)
   within_all i [] ls k s h e = cc
   within_all zero (x ∷ ss) [] k s h e = absurd h
   within_all (suc i) (x ∷ ss) [] k s h e = absurd h
@@ -104,7 +110,8 @@ module _ (sc : Scene) (h : Holds sc) (steady : IsSteady sc.world) where
   -- ---- within an event
 
   -- what is under way was honestly given
-  given_by : (a : Act) (n : ℕ) (doing : Doing) → may_act sc.world sc.now a ≡ true → doing_of sc.world a ≡ Some (n, doing) → Given sc n (input_of sc.world.bag doing)
+  given_by : (a : Act) (n : ℕ) (doing : Doing) → may_act sc.world sc.now a ≡ true → doing_of sc.world a ≡ Some (n, doing) →
+      Given sc n (input_of sc.world.bag doing)
   unfolding may_act
   given_by (Act.At m d) n doing may e = by_same (some_same (m, d) (n, doing) e) (given sc m d (and_parts _ _ may).1)
     where
@@ -121,7 +128,8 @@ module _ (sc : Scene) (h : Holds sc) (steady : IsSteady sc.world) where
   given_by (Act.Deliver m now) n doing may e = by_message (slice_get sc.world.bag m) refl e
     where
       times : (now.earliest ≤ sc.now) × (sc.now ≤ now.latest)
-      times = let p = and_parts (nat_le now.earliest sc.now) (nat_le sc.now now.latest) ((and_parts (is_honest sc.now now) (when (can_come sc.world) (slice_get sc.world.bag m)) may).0) in (leb-true _ _ p.0, leb-true _ _ p.1)
+      times = let p = and_parts (nat_le now.earliest sc.now) (nat_le sc.now now.latest)
+          ((and_parts (is_honest sc.now now) (when (can_come sc.world) (slice_get sc.world.bag m)) may).0) in (leb-true _ _ p.0, leb-true _ _ p.1)
 
       to_shard : (x : Envelope) (k : ℕ) → slice_get sc.world.bag m ≡ Some x → x.to ≡ Shard k → Given sc k (input_of sc.world.bag (Doing.Take m now))
       to_shard x k is goes =
@@ -129,12 +137,15 @@ module _ (sc : Scene) (h : Holds sc) (steady : IsSteady sc.world) where
           (subst (λ (a : Address). IsAmong sc.world.bag (record { to = a; message = x.message })) goes (get_among sc.world.bag m x is), times.0, times.1)
 
       by_address : (x : Envelope) → slice_get sc.world.bag m ≡ Some x → (a : Address) → x.to ≡ a →
-          (elim a as (λ y. Option (ℕ × Doing)) [ Shard k ↦ Some (k, Doing.Take m now) | Session t ↦ None ]) ≡ Some (n, doing) → Given sc n (input_of sc.world.bag doing)
-      by_address x is (Shard k) goes same = subst (λ (p : ℕ × Doing). Given sc p.0 (input_of sc.world.bag p.1)) (some_same (k, Doing.Take m now) (n, doing) same) (to_shard x k is goes)
+          (elim a as (λ y. Option (ℕ × Doing)) [ Shard k ↦ Some (k, Doing.Take m now) | Session t ↦ None ]) ≡ Some (n, doing) →
+              Given sc n (input_of sc.world.bag doing)
+      by_address x is (Shard k) goes same = subst (λ (p : ℕ × Doing). Given sc p.0 (input_of sc.world.bag p.1))
+          (some_same (k, Doing.Take m now) (n, doing) same) (to_shard x k is goes)
       by_address x is (Session t) goes same = cc
 
       by_message : (o : Option Envelope) → slice_get sc.world.bag m ≡ o →
-          (elim o as (λ y. Option (ℕ × Doing)) [ None ↦ None | Some x ↦ elim x.to as (λ y. Option (ℕ × Doing)) [ Shard k ↦ Some (k, Doing.Take m now) | Session t ↦ None ] ]) ≡ Some (n, doing) →
+          (elim o as (λ y. Option (ℕ × Doing)) [ None ↦ None | Some x ↦ elim x.to as (λ y. Option (ℕ × Doing)) [ Shard k ↦
+              Some (k, Doing.Take m now) | Session t ↦ None ] ]) ≡ Some (n, doing) →
           Given sc n (input_of sc.world.bag doing)
       by_message None is same = cc
       by_message (Some x) is same = by_address x is x.to refl same
@@ -167,7 +178,8 @@ module _ (sc : Scene) (h : Holds sc) (steady : IsSteady sc.world) where
       all = λ k s e. within_all sc.world n doing n sc.world.shards logs k s within e;
     }
       where
-        by_place : (k : ℕ) (log : List Record) → ShardOf sc.world.shards k (λ s. MayLeaveLog s log ⊎ ((k ≡ n) × MayHaveLogged sc.world s n doing log)) → IsLeftLog sc k log
+        by_place : (k : ℕ) (log : List Record) → ShardOf sc.world.shards k (λ s. MayLeaveLog s log
+            ⊎ ((k ≡ n) × MayHaveLogged sc.world s n doing log)) → IsLeftLog sc k log
         by_place k log p = elim p.fits [
           | inl plain ↦ left_log k p.shard log p.there plain
           | inr here ↦ subst (λ m. IsLeftLog sc m log) (sym here.0)

@@ -1,5 +1,6 @@
 -- Every answered look equals the serial run up to its time, in each log that a crash may leave, then and later.
-use Rattle.std.proofs.Common.{◌≡◌, inl, inr, ℕ, suc, ◌≤◌, Bool, true, List, [], ◌∷◌, length, map, Option, Some, slice_get, refl, sym, subst, ◌∙◌, filter, nat_le}
+use Rattle.std.proofs.Common.{◌≡◌, inl, inr, ℕ, suc, ◌≤◌, Bool, true, List, [], ◌∷◌, length, map, Option, Some, slice_get, refl, sym, subst, ◌∙◌}
+use Rattle.std.proofs.Common.{filter, nat_le}
 use Rattle.std.proofs.lemmas.Bool.{and_parts}
 use Rattle.units.specs.Ids.{Id, same_id}
 use Rattle.units.specs.Keys.{Bytes, shard_of}
@@ -18,7 +19,8 @@ use Rattle.message.specs.declared.message.Message.{Message}
 use Rattle.protocol.specs.Rows.{rebuilt}
 use Rattle.world.proofs.Places.{replicated}
 use Rattle.session.specs.Sessions.{Client, closing_messages, messages_for, prepare_for, parts_of}
-use Rattle.law.specs.Evidence.{Scene, IsAmong, Holds, IsOfClosing}
+use Rattle.law.specs.Among.{IsAmong}
+use Rattle.law.specs.Evidence.{Scene, Holds, IsOfClosing}
 use Rattle.world.specs.Headline.{AllAccepted, MayBeLeft}
 use Rattle.world.specs.Lawful.{lawful, lawful_from, may_happen, may_act}
 use Rattle.law.specs.Left.{AreLeft}
@@ -35,7 +37,8 @@ use Rattle.law.proofs.Recorded.{among_first, among_keep}
 use Rattle.world.proofs.Sounds.{ActAllowed, acts_sound}
 use Rattle.law.proofs.Accepts.{AllWriteOnce, WritesOnce, member_taken, one_value}
 use Rattle.law.proofs.Changed.{AcksAreLines, AllOnce, Changes, HasShard, Offers, RunsWith, ShowsView, acts_change}
-use Rattle.law.proofs.Kept.{IsPresent, IsShown, KeptView, Serves, Shows, present_is_kept, quiet_lower, serves_keeps, serves_opens, shows_follows, shows_logs, shows_opens}
+use Rattle.law.proofs.Kept.{IsPresent, IsShown, KeptView, Serves, Shows, present_is_kept, quiet_lower, serves_keeps, serves_opens, shows_follows}
+use Rattle.law.proofs.Kept.{shows_logs, shows_opens}
 use Rattle.law.proofs.LookedAt.{shows_serially}
 use Rattle.world.proofs.EveryRun.{WellWorld, InLimit, IsWell, IsTaken, keeps, opens, logs, always_well, in_limit}
 use Rattle.law.proofs.LeftGood.{left_is_good, recovered}
@@ -63,7 +66,8 @@ pub record IsKept (config : Config) (w : World) : Type 0 where
 
 kept_on : (w : World) (e : Event) (n : ℕ) (v : View) → ActAllowed InLimit w e.act → KeptView n v w → KeptView n v (happens w e).0
 unfolding happens
-kept_on w e n v limit kept = acts_sound InLimit (Serves n v) (Shows n v) (serves_keeps n v) (serves_opens n v) (shows_follows n v) (shows_logs n v) (shows_opens n v) w kept e.act limit
+kept_on w e n v limit kept = acts_sound InLimit (Serves n v) (Shows n v) (serves_keeps n v) (serves_opens n v) (shows_follows n v) (shows_logs n v)
+    (shows_opens n v) w kept e.act limit
 
 well_on : (w : World) (e : Event) → ActAllowed InLimit w e.act → WellWorld w → WellWorld (happens w e).0
 unfolding happens
@@ -95,10 +99,12 @@ event_keeps config w e may k =
     record {
       settings = c.config ∙ k.settings;
       well = well;
-      views = λ n v o. elim (c.offered n v o) [ inl old ↦ kept_on w e n v limit (k.views n v old) | inr present ↦ present_is_kept ((happens w e).0) n v well present ];
+      views = λ n v o. elim (c.offered n v o) [ inl old ↦ kept_on w e n v limit (k.views n v old) | inr present ↦
+          present_is_kept ((happens w e).0) n v well present ];
       looks = λ key at x h. elim (c.looked key at x h) [
         | inl old ↦ let l = k.looks key at x old in
-            record { shard = l.shard; view = l.view; own = l.own; served = l.served; value = l.value; has = c.has l.shard l.has; kept = kept_on w e l.shard l.view limit l.kept }
+            record { shard = l.shard; view = l.view; own = l.own; served = l.served; value = l.value; has = c.has l.shard l.has; kept =
+                kept_on w e l.shard l.view limit l.kept }
         | inr new ↦ record {
           shard = new.shard;
           view = new.view;
@@ -120,7 +126,8 @@ run_keeps config w (e ∷ es) fair k =
     run_keeps config ((happens w e).0) es p.1 (event_keeps config w e p.0 k)
 
 -- lines stay
-pub lines_stay : (config : Config) (w : World) (es : List Event) → lawful_from w es ≡ true → IsKept config w → (l : Line) → IsAmong w.lines l → IsAmong (run_from w es).lines l
+pub lines_stay : (config : Config) (w : World) (es : List Event) → lawful_from w es ≡ true → IsKept config w → (l : Line) → IsAmong w.lines l →
+    IsAmong (run_from w es).lines l
 lines_stay config w [] fair k l h = h
 lines_stay config w (e ∷ es) fair k l h =
     let p = and_parts (may_happen w e) (lawful_from ((happens w e).0) es) fair in
@@ -138,7 +145,8 @@ some_view a b e = cc
 fresh_runs : (v : View) → ShowsView fresh_shard v → RunsWith fresh_shard v
 fresh_runs v (inl (inl same)) = record { memory = rebuilt (facts_of fresh_log); runs = refl; is = same }
 fresh_runs v (inl (inr none)) = absurd none
-fresh_runs v (inr e) = record { memory = rebuilt (facts_of fresh_log); runs = refl; is = some_view (view_of (facts_of fresh_log) (rebuilt (facts_of fresh_log))) v e }
+fresh_runs v (inr e) = record { memory = rebuilt (facts_of fresh_log); runs = refl; is = some_view
+    (view_of (facts_of fresh_log) (rebuilt (facts_of fresh_log))) v e }
 
 start_present : (config : Config) (n : ℕ) (v : View) → Offers (start config) n v → IsPresent (start config) n v
 unfolding start
@@ -172,12 +180,14 @@ MessageOnce (Message.Prepare p) = WritesOnce p.writes
 MessageOnce (Message.Commit c) = WritesOnce c.writes
 MessageOnce _ = Unit {0}
 
-prepares_once : (splits : List Bytes) (c : Client) (n : ℕ) (ns : List ℕ) (e : Envelope) → WritesOnce c.writes → IsAmong (map (prepare_for splits c n) ns) e → MessageOnce e.message
+prepares_once : (splits : List Bytes) (c : Client) (n : ℕ) (ns : List ℕ) (e : Envelope) → WritesOnce c.writes →
+    IsAmong (map (prepare_for splits c n) ns) e → MessageOnce e.message
 prepares_once splits c n [] e once h = absurd h
 prepares_once splits c n (m ∷ ms) e once (inl same) = subst (λ (z : Envelope). MessageOnce z.message) same (keep_once _ c.writes once)
 prepares_once splits c n (m ∷ ms) e once (inr later) = prepares_once splits c n ms e once later
 
-messages_once : (splits : List Bytes) (c : Client) (ns : List ℕ) (e : Envelope) → WritesOnce c.writes → IsAmong (messages_for splits c ns) e → MessageOnce e.message
+messages_once : (splits : List Bytes) (c : Client) (ns : List ℕ) (e : Envelope) → WritesOnce c.writes → IsAmong (messages_for splits c ns) e →
+    MessageOnce e.message
 messages_once splits c [] e once h = absurd h
 messages_once splits c (n ∷ ns) e once (inl same) = subst (λ (z : Envelope). MessageOnce z.message) same (keep_once _ c.writes once)
 messages_once splits c (n ∷ ns) e once (inr later) = prepares_once splits c n ns e once later
@@ -202,7 +212,8 @@ module _ (sc : Scene) (h : Holds sc) (logs : List (List Record)) (left : AreLeft
 left_shows : (config : Config) (es : List Event) (ls : List (List Record)) → MayBeLeft config es ls → (n : ℕ) (v : View) → KeptView n v (run config es) →
     (k : ℕ) (log : List Record) → slice_get ls k ≡ Some log → Shows n v (setup_of (run config es).config k) log
 left_shows config es ls may n v kept =
-    left_is_good InLimit (Serves n v) (Shows n v) (serves_keeps n v) (serves_opens n v) (shows_follows n v) (shows_logs n v) (shows_opens n v) config es ls may kept (in_limit (run config es))
+    left_is_good InLimit (Serves n v) (Shows n v) (serves_keeps n v) (serves_opens n v) (shows_follows n v) (shows_logs n v)
+        (shows_opens n v) config es ls may kept (in_limit (run config es))
 
 module _ (config : Config) (es : List Event) (ls : List (List Record)) (fair : lawful config es ≡ true) (may : MayBeLeft config es ls) where
   m : Moment (run config es) ls
@@ -218,10 +229,13 @@ module _ (config : Config) (es : List Event) (ls : List (List Record)) (fair : l
   by_view k at x l =
       let there = m.left.all l.shard l.has.shard (subst (λ (w : World). slice_get w.shards l.shard ≡ Some l.has.shard) (sym m.same) l.has.there) in
       let is : log_in ls l.shard ≡ there.0 = log_in-is ls l.shard there.0 there.1 in
-      let taken_there : taken (setup_of config l.shard) (log_in ls l.shard) ≡ Accepted = subst (λ z. taken (setup_of config l.shard) z ≡ Accepted) (sym is) (accepted l.shard there.0 there.1) in
-      let shown : IsShown (log_in ls l.shard) l.view = subst (λ z. IsShown z l.view) (sym is) ((left_shows config es ls may l.shard l.view l.kept l.shard there.0 there.1).shown refl) in
+      let taken_there : taken (setup_of config l.shard) (log_in ls l.shard) ≡ Accepted = subst (λ z. taken (setup_of config l.shard) z ≡ Accepted)
+          (sym is) (accepted l.shard there.0 there.1) in
+      let shown : IsShown (log_in ls l.shard) l.view = subst (λ z. IsShown z l.view) (sym is)
+          ((left_shows config es ls may l.shard l.view l.kept l.shard there.0 there.1).shown refl) in
       let once : AllOnce m.scene.world = subst AllOnce (sym m.same) (always_kept config es fair).once in
-      shows_serially m.scene m.holds ls m.left config owns l.shard (orderly l.shard (log_in ls l.shard) (accepted_follows (setup_of config l.shard) (log_in ls l.shard) taken_there))
+      shows_serially m.scene m.holds ls m.left config owns l.shard (orderly l.shard (log_in ls l.shard)
+          (accepted_follows (setup_of config l.shard) (log_in ls l.shard) taken_there))
       (one_value (setup_of config l.shard) (log_in ls l.shard) taken_there (all_write_once m.scene m.holds ls m.left once l.shard))
       at (quiet_lower (log_in ls l.shard) l.view.safe at shown.quiet l.served) k l.own
       ∙ shown.same k at l.served ∙ l.value

@@ -1,7 +1,7 @@
 -- Members of a list.
 use Rattle.std.proofs.Common.{◌≡◌, ◌⊎◌, inl, inr, Bool, true, false, ◌||◌, List, [], ◌∷◌, ◌++◌, refl, subst}
 use Rattle.std.specs.List.{AllByRecursion, list_any}
-use Rattle.law.specs.Evidence.{IsAmong}
+use Rattle.law.specs.Among.{IsAmong}
 
 pub among_left : {A : Type 0} (xs ys : List A) (x : A) → IsAmong xs x → IsAmong (xs ++ ys) x
 among_left [] ys x h = absurd h

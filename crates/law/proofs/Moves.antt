@@ -6,10 +6,12 @@ use Rattle.units.specs.declared.fault.Fault.{Fault}
 use Rattle.units.specs.declared.lock.Lock.{Lock}
 use Rattle.record.specs.declared.record.Record.{Record}
 use Rattle.message.specs.declared.message.Envelope.{Envelope}
-use Rattle.protocol.specs.Rows.{Row, Phase, Idle, WaitsRead, WaitsPrepare, WaitsCommit, Collecting, IsPrepared, IsDecided, Standing, HasRow, WasAborted, WasSettled, find_row}
+use Rattle.protocol.specs.Rows.{Row, Phase, Idle, WaitsRead, WaitsPrepare, WaitsCommit, Collecting, IsPrepared, IsDecided, Standing, HasRow}
+use Rattle.protocol.specs.Rows.{WasAborted, WasSettled, find_row}
 use Rattle.protocol.specs.Outputs.{refused_vote}
 use Rattle.protocol.specs.Plan.{Change, Puts, Plan, Planned, Before, votes_of, replies, ends, drops, puts, roomed}
-use Rattle.law.specs.Evidence.{Scene, IsAmong, RecordEvidence, PhaseEvidence, Told, AllTold, HasOutcome}
+use Rattle.law.specs.Among.{IsAmong}
+use Rattle.law.specs.Evidence.{Scene, RecordEvidence, PhaseEvidence, Told, AllTold, HasOutcome}
 use Rattle.law.proofs.Members.{all_append}
 use Rattle.world.proofs.Places.{with_record}
 
@@ -110,7 +112,8 @@ module _ (sc : Scene) (log : List Record) (b : Before) where
   choosing false x y h k = k
 
   -- by a test that matters
-  pub tested : (c : Bool) (x y : Planned) → (c ≡ true → PlannedEvidence sc log b.shard x) → PlannedEvidence sc log b.shard y → PlannedEvidence sc log b.shard (cond c x y)
+  pub tested : (c : Bool) (x y : Planned) → (c ≡ true → PlannedEvidence sc log b.shard x) → PlannedEvidence sc log b.shard y →
+      PlannedEvidence sc log b.shard (cond c x y)
   tested true x y h k = h refl
   tested false x y h k = k
 
@@ -121,7 +124,8 @@ module _ (sc : Scene) (log : List Record) (b : Before) where
   rooming false (Ok p) h = h
   rooming false (Err f) h = h
 
-  pub choosing_plan : (c : Bool) (x y : Plan) → PlannedEvidence sc log b.shard (Ok x) → PlannedEvidence sc log b.shard (Ok y) → PlannedEvidence sc log b.shard (Ok (cond c x y))
+  pub choosing_plan : (c : Bool) (x y : Plan) → PlannedEvidence sc log b.shard (Ok x) → PlannedEvidence sc log b.shard (Ok y) →
+      PlannedEvidence sc log b.shard (Ok (cond c x y))
   choosing_plan true x y h k = h
   choosing_plan false x y h k = k
 

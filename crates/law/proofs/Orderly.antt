@@ -1,18 +1,20 @@
 -- A log whose records follow one another has of each id one promise, decision or abort at most.
 use Rattle.std.specs.List.{list_any}
-use Rattle.std.proofs.Common.{◌≡◌, ◌⊎◌, inl, inr, ℕ, Bool, true, false, cond, ◌||◌, List, [], ◌∷◌, ◌++◌, Option, Some, None, refl, sym, ap, subst, ◌∙◌, append_assoc, filter}
-use Rattle.std.proofs.lemmas.Bool.{and_parts}
+use Rattle.std.proofs.Common.{◌≡◌, ◌⊎◌, inl, inr, ℕ, Bool, true, false, cond, ◌||◌, List, [], ◌∷◌, ◌++◌, Option, Some, None, refl, sym, ap, subst}
+use Rattle.std.proofs.Common.{◌∙◌, append_assoc, filter}
+use Rattle.std.proofs.lemmas.Bool.{and_parts, or_parts}
+use Rattle.std.proofs.lemmas.List.{append-nil}
 use Rattle.units.specs.Lists.{gather}
 use Rattle.units.specs.Ids.{Id, same_id}
 use Rattle.units.proofs.IdLaws.{same_id-is, same_id-refl}
-use Rattle.units.proofs.Folds.{append_none, is_there, there_first}
+use Rattle.units.proofs.Folds.{is_there, there_first}
 use Rattle.record.specs.Accepted.{followed, followed_from, follows, is_new}
 use Rattle.record.specs.Records.{Ended, Status, Unrecorded, as_committed, as_prepared, status_by, status_of, is_aborted, committed_of, prepared_of, ended_of}
 use Rattle.record.specs.declared.record.Committed.{Committed}
 use Rattle.record.specs.declared.record.Prepared.{Prepared}
 use Rattle.record.specs.declared.record.Record.{Record}
 use Rattle.record.specs.declared.record.Record.TheVariants.{Opened, Ceiling, Prepare, Commit, Abort, Outcome}
-use Rattle.law.specs.Evidence.{IsAmong}
+use Rattle.law.specs.Among.{IsAmong}
 
 -- the record is a promise, a decision or an abort of the id
 abbrev pub is_claim : Id → Record → Bool
@@ -34,10 +36,6 @@ IsOne _ = Unit {0}
 abbrev pub IsOrderly : List Record → Type 0
 IsOrderly log = (t : Id) → IsOne (claims_of log t)
 
-neither : (a b : Bool) → (a || b) ≡ false → (a ≡ false) × (b ≡ false)
-neither true b e = cc
-neither false b e = (refl, e)
-
 -- ---- an id that is new has none
 
 dropped : (b : Bool) (r : Record) (rest : List Record) → b ≡ false → rest ≡ [] → cond b (r ∷ rest) rest ≡ []
@@ -49,15 +47,16 @@ none_of : (t : Id) (log : List Record) → is_aborted log t ≡ false → list_a
 none_of t [] a c p = refl
 none_of t (Opened epoch ∷ rs) a c p = none_of t rs a c p
 none_of t (Ceiling at ∷ rs) a c p = none_of t rs a c p
-none_of t (Prepare q ∷ rs) a c p = dropped (same_id q.txn t) (Prepare q) (claims_of rs t) (neither _ _ p).0 (none_of t rs a c (neither _ _ p).1)
-none_of t (Commit q ∷ rs) a c p = dropped (same_id q.txn t) (Commit q) (claims_of rs t) (neither _ _ c).0 (none_of t rs a (neither _ _ c).1 p)
-none_of t (Abort u ∷ rs) a c p = dropped (same_id t u) (Abort u) (claims_of rs t) (neither _ _ a).0 (none_of t rs (neither _ _ a).1 c p)
+none_of t (Prepare q ∷ rs) a c p = dropped (same_id q.txn t) (Prepare q) (claims_of rs t) (or_parts _ _ p).0 (none_of t rs a c (or_parts _ _ p).1)
+none_of t (Commit q ∷ rs) a c p = dropped (same_id q.txn t) (Commit q) (claims_of rs t) (or_parts _ _ c).0 (none_of t rs a (or_parts _ _ c).1 p)
+none_of t (Abort u ∷ rs) a c p = dropped (same_id t u) (Abort u) (claims_of rs t) (or_parts _ _ a).0 (none_of t rs (or_parts _ _ a).1 c p)
 none_of t (Outcome u o ∷ rs) a c p = none_of t rs a c p
 
 abbrev unrecorded : Status → Bool
 unrecorded s = elim s [ Unrecorded ↦ true | _ ↦ false ]
 
-by_status : (a : Bool) (c : Option Committed) (p : Option Prepared) (e : Option Ended) → unrecorded (status_by a c p e) ≡ true → (a ≡ false) × (c ≡ None) × (p ≡ None)
+by_status : (a : Bool) (c : Option Committed) (p : Option Prepared) (e : Option Ended) → unrecorded (status_by a c p e) ≡ true → (a ≡ false)
+    × (c ≡ None) × (p ≡ None)
 by_status true c p e h = cc
 by_status false (Some c) p (Some e) h = cc
 by_status false (Some c) p None h = cc
@@ -94,15 +93,16 @@ claims_new shard before (Opened epoch) t h k = cc
 claims_new shard before (Ceiling at) t h k = cc
 claims_new shard before (Outcome u o) t h k = cc
 
-one_more : (shard : ℕ) (before : List Record) (r : Record) (t : Id) → follows shard before r ≡ true → IsOne (claims_of before t) → IsOne (claims_of (before ++ r ∷ []) t)
+one_more : (shard : ℕ) (before : List Record) (r : Record) (t : Id) → follows shard before r ≡ true → IsOne (claims_of before t) →
+    IsOne (claims_of (before ++ r ∷ []) t)
 one_more shard before r t h one = subst IsOne (sym (claims_append t before (r ∷ []))) (by_test (is_claim t r) refl)
   where
     by_test : (b : Bool) → is_claim t r ≡ b → IsOne (claims_of before t ++ cond b (r ∷ []) [])
     by_test true k = subst (λ l. IsOne (l ++ r ∷ [])) (sym (new_none before t (claims_new shard before r t h k))) tt
-    by_test false k = subst IsOne (sym (append_none (claims_of before t))) one
+    by_test false k = subst IsOne (sym (append-nil (claims_of before t))) one
 
 orderly_from : (shard : ℕ) (before rest : List Record) → followed_from shard before rest ≡ true → IsOrderly before → IsOrderly (before ++ rest)
-orderly_from shard before [] h o t = subst (λ l. IsOne (claims_of l t)) (sym (append_none before)) (o t)
+orderly_from shard before [] h o t = subst (λ l. IsOne (claims_of l t)) (sym (append-nil before)) (o t)
 orderly_from shard before (r ∷ rs) h o t =
     let p = and_parts _ _ h in
     subst (λ l. IsOne (claims_of l t)) (append_assoc before (r ∷ []) rs)
@@ -118,7 +118,8 @@ among_kept : (t : Id) (log : List Record) (r : Record) → IsAmong log r → is_
 among_kept t [] r h k = absurd h
 among_kept t (x ∷ xs) r h k = by_test (is_claim t x) refl h (λ l. among_kept t xs r l k)
   where
-    by_test : (b : Bool) → is_claim t x ≡ b → (x ≡ r) ⊎ IsAmong xs r → (IsAmong xs r → IsAmong (claims_of xs t) r) → IsAmong (cond b (x ∷ claims_of xs t) (claims_of xs t)) r
+    by_test : (b : Bool) → is_claim t x ≡ b → (x ≡ r) ⊎ IsAmong xs r → (IsAmong xs r → IsAmong (claims_of xs t) r) →
+        IsAmong (cond b (x ∷ claims_of xs t) (claims_of xs t)) r
     by_test true e (inl same) rest = inl same
     by_test true e (inr later) rest = inr (rest later)
     by_test false e (inl same) rest = let f : is_claim t r ≡ false = sym (ap (is_claim t) same) ∙ e in cc
@@ -132,7 +133,8 @@ one_same (x ∷ []) a b o (inl h) (inr k) = absurd k
 one_same (x ∷ y ∷ rest) a b o h k = absurd o
 
 -- two claims of one id are one record
-pub same_claim : (log : List Record) → IsOrderly log → (t : Id) (a b : Record) → IsAmong log a → IsAmong log b → is_claim t a ≡ true → is_claim t b ≡ true → a ≡ b
+pub same_claim : (log : List Record) → IsOrderly log → (t : Id) (a b : Record) → IsAmong log a → IsAmong log b → is_claim t a ≡ true →
+    is_claim t b ≡ true → a ≡ b
 same_claim log o t a b h k p q = one_same (claims_of log t) a b (o t) (among_kept t log a h p) (among_kept t log b k q)
 
 some_same : {A : Type 0} (a b : A) → Some a ≡ Some b → a ≡ b
@@ -141,11 +143,13 @@ some_same a b e = cc
 module _ (log : List Record) (o : IsOrderly log) where
   pub one_decision : (c d : Committed) → IsAmong log (Commit c) → IsAmong log (Commit d) → d.txn ≡ c.txn → c ≡ d
   one_decision c d h k e =
-      some_same c d (ap as_committed (same_claim log o c.txn (Commit c) (Commit d) h k (same_id-refl c.txn) (subst (λ u. same_id u c.txn ≡ true) (sym e) (same_id-refl c.txn))))
+      some_same c d (ap as_committed (same_claim log o c.txn (Commit c) (Commit d) h k (same_id-refl c.txn)
+          (subst (λ u. same_id u c.txn ≡ true) (sym e) (same_id-refl c.txn))))
 
   pub one_promise : (p q : Prepared) → IsAmong log (Prepare p) → IsAmong log (Prepare q) → q.txn ≡ p.txn → p ≡ q
   one_promise p q h k e =
-      some_same p q (ap as_prepared (same_claim log o p.txn (Prepare p) (Prepare q) h k (same_id-refl p.txn) (subst (λ u. same_id u p.txn ≡ true) (sym e) (same_id-refl p.txn))))
+      some_same p q (ap as_prepared (same_claim log o p.txn (Prepare p) (Prepare q) h k (same_id-refl p.txn)
+          (subst (λ u. same_id u p.txn ≡ true) (sym e) (same_id-refl p.txn))))
 
   pub decided_not_promised : (c : Committed) (p : Prepared) → IsAmong log (Commit c) → IsAmong log (Prepare p) → p.txn ≡ c.txn → ⊥
   decided_not_promised c p h k e =

@@ -1,8 +1,10 @@
 -- Members of lists that are made from others.
 use Rattle.std.specs.List.{list_any, list_all}
-use Rattle.std.proofs.Common.{◌≡◌, ◌⊎◌, inl, inr, ℕ, zero, suc, ◌+◌, Bool, true, false, cond, ◌&&◌, ◌||◌, List, [], ◌∷◌, ◌++◌, Option, Some, None, slice_get, refl, sym, ap, subst, ◌∙◌, map, arith, filter, flat_map}
+use Rattle.std.proofs.Common.{◌≡◌, ◌⊎◌, inl, inr, ℕ, zero, suc, ◌+◌, Bool, true, false, cond, ◌&&◌, ◌||◌, List, [], ◌∷◌, ◌++◌, Option, Some, None}
+use Rattle.std.proofs.Common.{slice_get, refl, sym, ap, subst, ◌∙◌, map, arith, filter, flat_map}
+use Rattle.std.proofs.lemmas.Bool.{or_right}
 use Rattle.units.specs.Lists.{gather, numbered}
-use Rattle.law.specs.Evidence.{IsAmong}
+use Rattle.law.specs.Among.{IsAmong}
 use Rattle.law.proofs.Members.{among_left, among_right, among_cases}
 
 pub some_same : {A : Type 0} (a b : A) → Some a ≡ Some b → a ≡ b
@@ -14,7 +16,8 @@ pub keep_among : {A : Type 0} (test : A → Bool) (xs : List A) (x : A) → IsAm
 keep_among test [] x h k = absurd h
 keep_among test (y ∷ ys) x h k = by_test (test y) refl h (λ l. keep_among test ys x l k)
   where
-    by_test : (b : Bool) → test y ≡ b → (y ≡ x) ⊎ IsAmong ys x → (IsAmong ys x → IsAmong (filter test ys) x) → IsAmong (cond b (y ∷ filter test ys) (filter test ys)) x
+    by_test : (b : Bool) → test y ≡ b → (y ≡ x) ⊎ IsAmong ys x → (IsAmong ys x → IsAmong (filter test ys) x) →
+        IsAmong (cond b (y ∷ filter test ys) (filter test ys)) x
     by_test true e (inl same) rest = inl same
     by_test true e (inr later) rest = inr (rest later)
     by_test false e (inl same) rest = let f : test x ≡ false = sym (ap test same) ∙ e in cc
@@ -83,11 +86,7 @@ each_of test (x ∷ xs) h = ap (λ b. b && list_all test xs) (h x (inl refl)) �
 pub any_of : {A : Type 0} (test : A → Bool) (xs : List A) (x : A) → IsAmong xs x → test x ≡ true → list_any test xs ≡ true
 any_of test [] x h k = absurd h
 any_of test (y ∷ ys) x (inl same) k = ap (λ b. b || list_any test ys) (ap test same ∙ k)
-any_of test (y ∷ ys) x (inr later) k = turned (test y) (list_any test ys) (any_of test ys x later k)
-  where
-    turned : (a b : Bool) → b ≡ true → (a || b) ≡ true
-    turned true b e = refl
-    turned false b e = e
+any_of test (y ∷ ys) x (inr later) k = or_right (test y) (list_any test ys) (any_of test ys x later k)
 
 -- ---- at most one
 
@@ -140,7 +139,8 @@ place_numbered {A} n (y ∷ ys) (suc i) x e = inr (subst (λ m. IsAmong (numbere
 
 -- lists of which one alone has a member, and no second one
 pub one_of_numbered : {A B : Type 0} (f : ℕ × A → List B) (n : ℕ) (xs : List A) → ((p : ℕ × A) → IsAmong (numbered n xs) p → AtMostOne (f p)) →
-    ((p q : ℕ × A) (x y : B) → IsAmong (numbered n xs) p → IsAmong (numbered n xs) q → IsAmong (f p) x → IsAmong (f q) y → p.0 ≡ q.0) → AtMostOne (flat_map f (numbered n xs))
+    ((p q : ℕ × A) (x y : B) → IsAmong (numbered n xs) p → IsAmong (numbered n xs) q → IsAmong (f p) x → IsAmong (f q) y → p.0 ≡ q.0) →
+        AtMostOne (flat_map f (numbered n xs))
 one_of_numbered f n [] one same = tt
 one_of_numbered {A} {B} f n (x ∷ xs) one same =
     by_first (f (n, x)) refl (one (n, x) (inl refl)) (one_of_numbered f (suc n) xs (λ p h. one p (inr h)) (λ p q a b h k. same p q a b (inr h) (inr k)))
@@ -155,7 +155,8 @@ one_of_numbered {A} {B} f n (x ∷ xs) one same =
             let further = place.number in
             omega (arith, number, further)
 
-    by_first : (ys : List B) → f (n, x) ≡ ys → AtMostOne (f (n, x)) → AtMostOne (flat_map f (numbered (suc n) xs)) → AtMostOne (f (n, x) ++ flat_map f (numbered (suc n) xs))
+    by_first : (ys : List B) → f (n, x) ≡ ys → AtMostOne (f (n, x)) → AtMostOne (flat_map f (numbered (suc n) xs)) →
+        AtMostOne (f (n, x) ++ flat_map f (numbered (suc n) xs))
     by_first [] e first rest = subst (λ l. AtMostOne (l ++ flat_map f (numbered (suc n) xs))) (sym e) rest
     by_first (y ∷ []) e first rest =
         subst (λ l. AtMostOne (l ++ flat_map f (numbered (suc n) xs))) (sym e)

@@ -1,26 +1,29 @@
 -- What a log answers up to a time stays, once no promise and no decision up to it stands and all later ones are above it.
-use Rattle.std.proofs.Common.{◌≡◌, ◌⊎◌, inl, inr, ℕ, ◌<◌, ◌≤◌, Bool, true, false, not, cond, ◌||◌, nat_eq, nat_le, List, [], ◌∷◌, ◌++◌, Option, Some, None, refl, sym, ap, subst, ◌∙◌, arith, filter}
+use Rattle.std.proofs.Common.{◌≡◌, ◌⊎◌, inl, inr, ℕ, ◌<◌, ◌≤◌, Bool, true, false, not, cond, ◌||◌, nat_eq, nat_le, List, [], ◌∷◌, ◌++◌, Option, Some}
+use Rattle.std.proofs.Common.{None, refl, sym, ap, subst, ◌∙◌, arith, filter}
 use Rattle.std.proofs.lemmas.List.Elements.{filter-append}
 use Rattle.std.proofs.lemmas.Bool.{leb-true, eqb-true, cases_lt, and_parts}
 use Rattle.std.proofs.lemmas.Bool.Decides.{nat_tests}
+use Rattle.std.proofs.lemmas.List.{append-nil}
 use Rattle.units.specs.Ids.{Id, same_id}
 use Rattle.units.specs.Keys.{Bytes}
 use Rattle.units.specs.Lists.{gather, when}
 use Rattle.units.specs.Versions.{versions, at_time, latest}
 use Rattle.units.specs.declared.writes.Install.{Install}
 use Rattle.units.specs.declared.writes.Write.{Write}
-use Rattle.units.proofs.Folds.{append_none, there_first}
+use Rattle.units.proofs.Folds.{there_first}
 use Rattle.units.proofs.IdLaws.{same_id-refl}
 use Rattle.record.specs.Accepted.{followed, follows, outcome_fits}
 use Rattle.record.specs.Facts.{Facts, facts_of, learn, recorded, installs_at}
 use Rattle.record.specs.Installs.{installs_of}
-use Rattle.record.specs.Records.{Ended, Status, Unrecorded, StandsPrepared, StandsDecided, HasAborted, HasSettled, HasClosed, as_ended, ended_of, prepared_of, committed_of}
+use Rattle.record.specs.Records.{Ended, Status, Unrecorded, StandsPrepared, StandsDecided, HasAborted, HasSettled, HasClosed, as_ended, ended_of}
+use Rattle.record.specs.Records.{prepared_of, committed_of}
 use Rattle.record.proofs.LearnAgrees.{learn_agrees, followed_more}
 use Rattle.record.specs.declared.record.Committed.{Committed}
 use Rattle.record.specs.declared.record.Prepared.{Prepared}
 use Rattle.record.specs.declared.record.Record.{Record}
 use Rattle.record.specs.declared.record.Record.TheVariants.{Opened, Ceiling, Prepare, Commit, Abort, Outcome}
-use Rattle.law.specs.Evidence.{IsAmong}
+use Rattle.law.specs.Among.{IsAmong}
 use Rattle.law.proofs.Members.{among_left, among_cases}
 use Rattle.law.proofs.Picked.{any_of, gather_among}
 use Rattle.law.proofs.Resolved.{committed_is, prepared_is}
@@ -103,7 +106,8 @@ outcome_above log at t s q fresh p hp c hc fits = elim (cases_lt at s) [
 
 unseen : (ws : List Write) (at s : ℕ) → at < s → filter (λ (i : Install). nat_le i.at at) (versions ws s) ≡ []
 unseen [] at s h = refl
-unseen (w ∷ ws) at s h = ap (λ b. cond b (record { key = w.key; at = s; value = w.value } ∷ filter (λ (i : Install). nat_le i.at at) (versions ws s)) (filter (λ (i : Install). nat_le i.at at) (versions ws s))) (later at s h) ∙ unseen ws at s h
+unseen (w ∷ ws) at s h = ap (λ b. cond b (record { key = w.key; at = s; value = w.value } ∷ filter (λ (i : Install). nat_le i.at at) (versions ws s))
+    (filter (λ (i : Install). nat_le i.at at) (versions ws s))) (later at s h) ∙ unseen ws at s h
   where
     later : (a b : ℕ) → a < b → nat_le b a ≡ false
     later a b k = grind (arith, nat_tests)
@@ -119,14 +123,16 @@ installed_unseen (HasClosed c o) at s h = refl
 same_answer : (is more : List Install) (k : Bytes) (at : ℕ) → filter (λ (i : Install). nat_le i.at at) more ≡ [] → at_time (is ++ more) k at ≡ at_time is k at
 unfolding at_time
 same_answer is more k at none =
-    ap (λ l. latest l k) (filter-append (λ (i : Install). nat_le i.at at) is more ∙ ap (λ l. filter (λ (i : Install). nat_le i.at at) is ++ l) none ∙ append_none (filter (λ (i : Install). nat_le i.at at) is))
+    ap (λ l. latest l k) (filter-append (λ (i : Install). nat_le i.at at) is more ∙ ap (λ l. filter (λ (i : Install). nat_le i.at at) is ++ l) none
+        ∙ append-nil (filter (λ (i : Install). nat_le i.at at) is))
 
 -- the answer of a log at a time, after one more record that follows
 pub answer_stays : (shard : ℕ) (log : List Record) (r : Record) (k : Bytes) (at : ℕ) → followed shard (log ++ r ∷ []) ≡ true → IsQuiet log at →
     at_time (installs_of (log ++ r ∷ [])) k at ≡ at_time (installs_of log) k at
 unfolding facts_of learn follows
 answer_stays shard log r k at h q =
-    ap (λ (f : Facts). at_time f.installs k at) (learn_agrees shard log r h) ∙ by_kind r (and_parts _ _ (and_parts _ _ (sym (followed_more shard log r) ∙ h)).1).1
+    ap (λ (f : Facts). at_time f.installs k at) (learn_agrees shard log r h)
+        ∙ by_kind r (and_parts _ _ (and_parts _ _ (sym (followed_more shard log r) ∙ h)).1).1
   where
     by_kind : (x : Record) → follows shard log x ≡ true → at_time (learn (facts_of log) x).installs k at ≡ at_time (installs_of log) k at
     by_kind (Opened epoch) e = refl
@@ -147,4 +153,5 @@ answer_stays shard log r k at h q =
         same_answer (installs_of log) (installs_at (recorded (facts_of log) t) (Some s)) k at
         (installed_unseen (recorded (facts_of log) t) at s
         (outcome_above log at t s q (and_parts (not (when (λ x. true) (ended_of log t))) (outcome_fits (prepared_of log t) (committed_of log t) (Some s)) e).0
-        (prepared_of log t) refl (committed_of log t) refl (and_parts (not (when (λ x. true) (ended_of log t))) (outcome_fits (prepared_of log t) (committed_of log t) (Some s)) e).1))
+        (prepared_of log t) refl (committed_of log t) refl (and_parts (not (when (λ x. true) (ended_of log t)))
+            (outcome_fits (prepared_of log t) (committed_of log t) (Some s)) e).1))

@@ -5,14 +5,16 @@ use Rattle.units.specs.Ids.{Id, same_id}
 use Rattle.units.proofs.IdLaws.{same_id-is}
 use Rattle.units.proofs.ByIdLaws.{first_passes}
 use Rattle.record.specs.Facts.{facts_of, recorded}
-use Rattle.record.specs.Records.{Ended, Status, Unrecorded, StandsPrepared, StandsDecided, HasAborted, HasSettled, HasClosed, as_committed, as_prepared, as_aborted, as_ended, status_by, status_of, is_aborted, committed_of, prepared_of, ended_of, ids_of}
+use Rattle.record.specs.Records.{Ended, Status, Unrecorded, StandsPrepared, StandsDecided, HasAborted, HasSettled, HasClosed, as_committed}
+use Rattle.record.specs.Records.{as_prepared, as_aborted, as_ended, status_by, status_of, is_aborted, committed_of, prepared_of, ended_of, ids_of}
 use Rattle.record.proofs.Statuses.{recorded_is}
 use Rattle.record.specs.declared.record.Committed.{Committed}
 use Rattle.record.specs.declared.record.Prepared.{Prepared}
 use Rattle.record.specs.declared.record.Record.{Record}
 use Rattle.record.specs.declared.record.Record.TheVariants.{Opened, Ceiling, Prepare, Commit, Abort, Outcome}
 use Rattle.protocol.specs.Rows.{Row, IsPrepared, IsDecided, standing_row, rebuilt}
-use Rattle.law.specs.Evidence.{Scene, IsAmong, RecordEvidence, StatusEvidence, PhaseEvidence, RowsEvidence, HasDecision, HasOutcome, WasTold}
+use Rattle.law.specs.Among.{IsAmong}
+use Rattle.law.specs.Evidence.{Scene, RecordEvidence, StatusEvidence, PhaseEvidence, RowsEvidence, HasDecision, HasOutcome, WasTold}
 use Rattle.law.proofs.Members.{some_passes}
 use Rattle.law.proofs.Orderly.{IsOrderly, one_decision, decided_not_promised}
 
@@ -171,8 +173,11 @@ module _ (log : List Record) where
   found_rows sc n [] = tt
   found_rows sc n (t ∷ ts) = by_row (standing_row (record { txn = t; status = status_of log t })) refl (found_rows sc n ts)
     where
-      by_row : (o : Option Row) → standing_row (record { txn = t; status = status_of log t }) ≡ o → RowsEvidence sc log n (gather standing_row (map (λ u. record { txn = u; status = status_of log u }) ts)) →
-          RowsEvidence sc log n (elim o as (λ q. List Row) [ None ↦ gather standing_row (map (λ u. record { txn = u; status = status_of log u }) ts) | Some y ↦ y ∷ gather standing_row (map (λ u. record { txn = u; status = status_of log u }) ts) ])
+      by_row : (o : Option Row) → standing_row (record { txn = t; status = status_of log t }) ≡ o →
+          RowsEvidence sc log n (gather standing_row (map (λ u. record { txn = u; status = status_of log u }) ts)) →
+          RowsEvidence sc log n (elim o as (λ q. List Row) [ None ↦ gather standing_row (map
+              (λ u. record { txn = u; status = status_of log u }) ts) | Some y ↦ y ∷ gather standing_row
+              (map (λ u. record { txn = u; status = status_of log u }) ts) ])
       by_row None e rest = rest
       by_row (Some r) e rest = (standing_evidence sc n t (status_of log t) r (rests t) e, rest)
 

@@ -1,6 +1,7 @@
 -- Every transaction stands at one timestamp on all its shards, or on none.
 use Rattle.std.specs.List.{list_all}
-use Rattle.std.proofs.Common.{◌≡◌, inl, inr, ℕ, suc, Bool, true, false, not, cond, ◌&&◌, nat_eq, List, [], ◌∷◌, Option, Some, None, slice_get, refl, sym, ap, subst, ◌∙◌, map, arith, filter}
+use Rattle.std.proofs.Common.{◌≡◌, inl, inr, ℕ, suc, Bool, true, false, not, cond, ◌&&◌, nat_eq, List, [], ◌∷◌, Option, Some, None, slice_get, refl}
+use Rattle.std.proofs.Common.{sym, ap, subst, ◌∙◌, map, arith, filter}
 use Rattle.std.proofs.lemmas.Bool.{cases_eq}
 use Rattle.std.proofs.lemmas.Bool.Decides.{nat_tests}
 use Rattle.units.specs.Lists.{gather, has, head, when}
@@ -14,10 +15,12 @@ use Rattle.record.specs.Whole.{Decision, decisions, stands_at, stands_by, coordi
 use Rattle.record.specs.declared.record.Committed.{Committed}
 use Rattle.record.specs.declared.record.Prepared.{Prepared}
 use Rattle.record.specs.declared.record.Record.{Record}
-use Rattle.law.specs.Evidence.{Scene, IsAmong, Holds, HasDecision, WasTold}
+use Rattle.law.specs.Among.{IsAmong}
+use Rattle.law.specs.Evidence.{Scene, Holds, HasDecision, WasTold}
 use Rattle.law.specs.Left.{AreLeft}
 use Rattle.law.proofs.Recorded.{among_first, promise_among, decision_among, outcome_among}
-use Rattle.law.proofs.Homes.{log_in, evidence, decision_home, no_aborted, outcome_decided, outcome_stamp, one_place, promised, promise_of_part, promise_home, one_home, TakesPart, ClosesOver}
+use Rattle.law.proofs.Homes.{log_in, evidence, decision_home, no_aborted, outcome_decided, outcome_stamp, one_place, promised, promise_of_part}
+use Rattle.law.proofs.Homes.{promise_home, one_home, TakesPart, ClosesOver}
 use Rattle.law.proofs.AllWhole.{has_head}
 use Rattle.law.proofs.Decisions.{decision_stands, stands_decided, one_decided, log_of_number, log_in-is}
 use Rattle.law.proofs.Picked.{each_of, any_of, gather_among, AtMostOne}
@@ -50,13 +53,15 @@ module _ (log : List Record) (t : Id) where
   not_committed c e k named =
       none_there (committed_of log t) e
       (there_first (λ (x : Committed). same_id x.txn t) (gather as_committed log)
-      ∙ any_of (λ (x : Committed). same_id x.txn t) (gather as_committed log) c (gather_among as_committed log (Record.Commit c) c k refl) (subst (λ u. same_id u t ≡ true) (sym named) (same_id-refl t)))
+      ∙ any_of (λ (x : Committed). same_id x.txn t) (gather as_committed log) c (gather_among as_committed log (Record.Commit c) c k refl)
+          (subst (λ u. same_id u t ≡ true) (sym named) (same_id-refl t)))
 
   pub not_prepared : (p : Prepared) → prepared_of log t ≡ None → IsAmong log (Record.Prepare p) → p.txn ≡ t → ⊥
   not_prepared p e k named =
       none_there (prepared_of log t) e
       (there_first (λ (x : Prepared). same_id x.txn t) (gather as_prepared log)
-      ∙ any_of (λ (x : Prepared). same_id x.txn t) (gather as_prepared log) p (gather_among as_prepared log (Record.Prepare p) p k refl) (subst (λ u. same_id u t ≡ true) (sym named) (same_id-refl t)))
+      ∙ any_of (λ (x : Prepared). same_id x.txn t) (gather as_prepared log) p (gather_among as_prepared log (Record.Prepare p) p k refl)
+          (subst (λ u. same_id u t ≡ true) (sym named) (same_id-refl t)))
 
 module _ (sc : Scene) (h : Holds sc) (logs : List (List Record)) (left : AreLeft sc logs) (t : Id) where
   -- ---- without a decision it stands nowhere
@@ -64,13 +69,15 @@ module _ (sc : Scene) (h : Holds sc) (logs : List (List Record)) (left : AreLeft
   module _ (none : decisions logs t ≡ []) where
     no_commit : (n : ℕ) (c : Committed) → IsAmong (log_in logs n) (Record.Commit c) → c.txn ≡ t → ⊥
     no_commit n c k named =
-        subst (λ ds. IsAmong ds (record { shard = n; commit = c })) none (subst (λ u. IsAmong (decisions logs u) (record { shard = n; commit = c })) named (stands_decided logs n c k))
+        subst (λ ds. IsAmong ds (record { shard = n; commit = c })) none
+            (subst (λ u. IsAmong (decisions logs u) (record { shard = n; commit = c })) named (stands_decided logs n c k))
 
     nowhere : (n : ℕ) → not (when (λ s. true) (stands_at logs (log_in logs n) t)) ≡ true
     unfolding stands_at
     nowhere n = by_parts (committed_of (log_in logs n) t) refl (ended_of (log_in logs n) t) refl (prepared_of (log_in logs n) t) refl
       where
-        by_parts : (c : Option Committed) → committed_of (log_in logs n) t ≡ c → (e : Option Ended) → ended_of (log_in logs n) t ≡ e → (p : Option Prepared) → prepared_of (log_in logs n) t ≡ p →
+        by_parts : (c : Option Committed) → committed_of (log_in logs n) t ≡ c → (e : Option Ended) → ended_of (log_in logs n) t ≡ e →
+            (p : Option Prepared) → prepared_of (log_in logs n) t ≡ p →
             not (when (λ s. true) (stands_by logs c e p)) ≡ true
         by_parts (Some c) hc e he p hp = let k = committed_is (log_in logs n) t c hc in absurd (no_commit n c k.0 k.1)
         by_parts None hc (Some x) he p hp = by_outcome x.outcome (ended_is (log_in logs n) t x he)
@@ -80,7 +87,8 @@ module _ (sc : Scene) (h : Holds sc) (logs : List (List Record)) (left : AreLeft
             by_outcome (Some s) k = let d = outcome_decided sc h logs left n t s k in absurd (no_commit d.shard d.commit d.among d.named)
         by_parts None hc None he (Some p) hp =
             let k = prepared_is (log_in logs n) t p hp in
-            subst (λ (ds : List Decision). not (when (λ s. true) (head (map (λ (d : Decision). d.commit.at) (filter (λ (d : Decision). nat_eq d.shard p.coordinator) ds)))) ≡ true)
+            subst (λ (ds : List Decision). not (when (λ s. true)
+                (head (map (λ (d : Decision). d.commit.at) (filter (λ (d : Decision). nat_eq d.shard p.coordinator) ds)))) ≡ true)
             (sym (ap (decisions logs) k.1 ∙ none)) refl
         by_parts None hc None he None hp = refl
 
@@ -100,7 +108,8 @@ module _ (sc : Scene) (h : Holds sc) (logs : List (List Record)) (left : AreLeft
         let a = decision_home sc h logs left d.shard d.commit stands in
         let same : d.shard ≡ p.coordinator = one_home sc h logs left t d.shard p.coordinator d.commit.parts home.parts
         (subst (λ u. ClosesOver sc.world u d.commit.parts) named a.0) a.1 (subst (λ u. ClosesOver sc.world u home.parts) mine home.over) home.least in
-        subst (λ (ds : List Decision). head (map (λ (x : Decision). x.commit.at) (filter (λ (x : Decision). nat_eq x.shard p.coordinator) ds)) ≡ Some d.commit.at)
+        subst (λ (ds : List Decision). head (map (λ (x : Decision). x.commit.at) (filter (λ (x : Decision). nat_eq x.shard p.coordinator) ds)) ≡
+            Some d.commit.at)
         (sym (ap (decisions logs) mine ∙ only))
         (ap (λ b. head (map (λ (x : Decision). x.commit.at) (cond b (d ∷ []) []))) (same_number d.shard p.coordinator same))
 
@@ -108,7 +117,8 @@ module _ (sc : Scene) (h : Holds sc) (logs : List (List Record)) (left : AreLeft
     unfolding stands_at
     at_parts m part = by_parts (committed_of (log_in logs m) t) refl (ended_of (log_in logs m) t) refl (prepared_of (log_in logs m) t) refl
       where
-        by_parts : (c : Option Committed) → committed_of (log_in logs m) t ≡ c → (e : Option Ended) → ended_of (log_in logs m) t ≡ e → (p : Option Prepared) → prepared_of (log_in logs m) t ≡ p →
+        by_parts : (c : Option Committed) → committed_of (log_in logs m) t ≡ c → (e : Option Ended) → ended_of (log_in logs m) t ≡ e →
+            (p : Option Prepared) → prepared_of (log_in logs m) t ≡ p →
             when (nat_eq d.commit.at) (stands_by logs c e p) ≡ true
         by_parts (Some c) hc e he p hp =
             let k = committed_is (log_in logs m) t c hc in
@@ -122,7 +132,8 @@ module _ (sc : Scene) (h : Holds sc) (logs : List (List Record)) (left : AreLeft
             let k = prepared_is (log_in logs m) t p hp in
             subst (λ o. when (nat_eq d.commit.at) o ≡ true) (sym (by_coordinator m p k.0 k.1)) (same_number d.commit.at d.commit.at refl)
         by_parts None hc None he None hp = elim (cases_eq m d.shard) [
-          | inl same ↦ absurd (not_committed (log_in logs m) t d.commit hc (subst (λ j. IsAmong (log_in logs j) (Record.Commit d.commit)) (sym same) stands) named)
+          | inl same ↦ absurd (not_committed (log_in logs m) t d.commit hc (subst (λ j. IsAmong (log_in logs j) (Record.Commit d.commit))
+              (sym same) stands) named)
           | inr other ↦
               let p = promised sc h logs left d.shard m d.commit stands part other in
               absurd (not_prepared (log_in logs m) t p.promise hp p.among (p.named ∙ named))
@@ -151,9 +162,11 @@ module _ (sc : Scene) (h : Holds sc) (logs : List (List Record)) (left : AreLeft
             by_decision x = not_here (record { txn = t; at = s; parts = x.parts; reads = x.reads; writes = x.writes }) x.among refl
 
             by_word : WasTold sc.world (log_in logs m) m t (Some s) → ⊥
-            by_word w = no_promise (record { txn = t; coordinator = w.coordinator; at = w.stamp; reads = w.promised.reads; writes = w.promised.writes }) w.promised.among refl
+            by_word w = no_promise (record { txn = t; coordinator = w.coordinator; at = w.stamp; reads = w.promised.reads; writes =
+                w.promised.writes }) w.promised.among refl
 
-        by_parts : (c : Option Committed) → committed_of (log_in logs m) t ≡ c → (e : Option Ended) → ended_of (log_in logs m) t ≡ e → (p : Option Prepared) → prepared_of (log_in logs m) t ≡ p →
+        by_parts : (c : Option Committed) → committed_of (log_in logs m) t ≡ c → (e : Option Ended) → ended_of (log_in logs m) t ≡ e →
+            (p : Option Prepared) → prepared_of (log_in logs m) t ≡ p →
             not (when (λ s. true) (stands_by logs c e p)) ≡ true
         by_parts (Some c) hc e he p hp = let k = committed_is (log_in logs m) t c hc in absurd (not_here c k.0 k.1)
         by_parts None hc (Some x) he p hp = by_outcome x.outcome (ended_is (log_in logs m) t x he)
@@ -166,12 +179,14 @@ module _ (sc : Scene) (h : Holds sc) (logs : List (List Record)) (left : AreLeft
 
   -- ---- both
 
-  each_place : (ls : List (List Record)) (test : List Record → Bool) → ((n : ℕ) (log : List Record) → slice_get ls n ≡ Some log → test log ≡ true) → list_all test ls ≡ true
+  each_place : (ls : List (List Record)) (test : List Record → Bool) → ((n : ℕ) (log : List Record) → slice_get ls n ≡ Some log → test log ≡ true) →
+      list_all test ls ≡ true
   each_place [] test k = refl
   each_place (l ∷ ls) test k = ap (λ b. b && list_all test ls) (k 0 l refl) ∙ each_place ls test (λ n log e. k (suc n) log e)
 
   by_decisions : (ds : List Decision) → decisions logs t ≡ ds → resolves_by logs t ds
-  by_decisions [] e = each_place logs (λ l. not (when (λ s. true) (stands_at logs l t))) (λ n log there. subst (λ l. not (when (λ s. true) (stands_at logs l t)) ≡ true) (log_in-is logs n log there) (nowhere e n))
+  by_decisions [] e = each_place logs (λ l. not (when (λ s. true) (stands_at logs l t))) (λ n log there. subst
+      (λ l. not (when (λ s. true) (stands_at logs l t)) ≡ true) (log_in-is logs n log there) (nowhere e n))
   by_decisions (d ∷ []) e =
       let stands = decision_stands logs t d (subst (λ ds. IsAmong ds d) (sym e) (inl refl)) in
       each_of _ (by_shard logs) (λ p k. here stands.among stands.named p (log_in-is logs p.0 p.1 (log_of_number logs p k)))

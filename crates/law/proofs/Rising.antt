@@ -16,10 +16,14 @@ use Rattle.message.specs.declared.message.Input.{Input}
 use Rattle.message.specs.declared.message.Message.{Message}
 use Rattle.message.specs.declared.message.Prepare.{Prepare}
 use Rattle.message.specs.declared.message.Commit.{Commit}
-use Rattle.protocol.specs.Rows.{Row, Phase, Idle, WaitsRead, WaitsPrepare, WaitsCommit, Collecting, IsPrepared, IsDecided, Voted, Standing, IsUnknown, WasEnded, HasRow, WasAborted, WasSettled, WasClosed, claims, find_row, with_vote}
+use Rattle.protocol.specs.Rows.{Row, Phase, Idle, WaitsRead, WaitsPrepare, WaitsCommit, Collecting, IsPrepared, IsDecided, Voted, Standing, IsUnknown}
+use Rattle.protocol.specs.Rows.{WasEnded, HasRow, WasAborted, WasSettled, WasClosed, claims, find_row, with_vote}
 use Rattle.protocol.specs.Outputs.{done_to, vote_to, promise, decision}
 use Rattle.protocol.specs.Plan.{time_limit, Plan, Planned, Before, Keeps, replies, ends, drops, puts, roomed, in_way, opens, is_crowded, stands}
-use Rattle.protocol.specs.Cells.{commit_stamp, other_parts, plan_read, plan_read_now, plan_read_row, plan_prepare, plan_prepare_fresh, plan_prepare_now, plan_promise, plan_commit, plan_commit_fresh, plan_commit_now, plan_commit_granted, plan_decide, plan_abort, plan_vote, plan_count, plan_tell, plan_outcome, plan_abort_for, plan_give_up, plan_ask, plan_go_on, plan_resume, plan_resume_id, plan_resume_row, plan_settle, plan_advance, plan_nudge, to_read, answers, tells}
+use Rattle.protocol.specs.Cells.{commit_stamp, other_parts, plan_read, plan_read_now, plan_read_row, plan_prepare, plan_prepare_fresh}
+use Rattle.protocol.specs.Cells.{plan_prepare_now, plan_promise, plan_commit, plan_commit_fresh, plan_commit_now, plan_commit_granted, plan_decide}
+use Rattle.protocol.specs.Cells.{plan_abort, plan_vote, plan_count, plan_tell, plan_outcome, plan_abort_for, plan_give_up, plan_ask, plan_go_on}
+use Rattle.protocol.specs.Cells.{plan_resume, plan_resume_id, plan_resume_row, plan_settle, plan_advance, plan_nudge, to_read, answers, tells}
 use Rattle.protocol.specs.Step.{is_for, plan_message, plan_input}
 use Rattle.law.proofs.Quiet.{IsAbove}
 
@@ -46,7 +50,8 @@ module _ (at : ℕ) (b : Before) (low : at ≤ b.memory.last) where
   unfolding Rises
   dropping t r last out up above = (up, above)
 
-  putting : (ended : List Id) (t : Id) (needs : List Lock) (phase : Phase) (out : List Envelope) → Rises at (Ok (puts b ended t needs phase None b.memory.last out))
+  putting : (ended : List Id) (t : Id) (needs : List Lock) (phase : Phase) (out : List Envelope) →
+      Rises at (Ok (puts b ended t needs phase None b.memory.last out))
   unfolding Rises
   putting ended t needs phase out = (low, tt)
 
@@ -79,14 +84,17 @@ module _ (at : ℕ) (b : Before) (low : at ≤ b.memory.last) where
       (Ok (puts b ended t (exclusive ws) (IsPrepared c p) (Some (promise t c p rs ws)) (max b.memory.last p) (vote_to b.shard c t (Some p) ∷ [])))
       (Err TimeSpent) (omega arith, omega arith) tt
 
-  deciding : (ended : List Id) (t : Id) (l : ℕ) (ps : List ℕ) (rs : List Bytes) (ws : List Write) (needs : List Lock) (votes : List Voted) → Rises at (plan_decide b ended t l ps rs ws needs votes)
+  deciding : (ended : List Id) (t : Id) (l : ℕ) (ps : List ℕ) (rs : List Bytes) (ws : List Write) (needs : List Lock) (votes : List Voted) →
+      Rises at (plan_decide b ended t l ps rs ws needs votes)
   unfolding plan_decide Rises
   deciding ended t l ps rs ws needs votes =
       choosing (nat_le (commit_stamp b.memory.last l votes) time_limit)
-      (Ok (puts b ended t needs (IsDecided (commit_stamp b.memory.last l votes) ps) (Some (decision t (commit_stamp b.memory.last l votes) ps rs ws)) (max b.memory.last (commit_stamp b.memory.last l votes)) []))
+      (Ok (puts b ended t needs (IsDecided (commit_stamp b.memory.last l votes) ps) (Some (decision t (commit_stamp b.memory.last l votes) ps rs ws))
+          (max b.memory.last (commit_stamp b.memory.last l votes)) []))
       (Err TimeSpent) (omega arith, omega arith) tt
 
-  granting : (ended : List Id) (t : Id) (l : ℕ) (ps : List ℕ) (rs : List Bytes) (ws : List Write) (ns : List ℕ) → Rises at (plan_commit_granted b ended t l ps rs ws ns)
+  granting : (ended : List Id) (t : Id) (l : ℕ) (ps : List ℕ) (rs : List Bytes) (ws : List Write) (ns : List ℕ) →
+      Rises at (plan_commit_granted b ended t l ps rs ws ns)
   unfolding plan_commit_granted
   granting ended t l ps rs ws [] = deciding ended t l ps rs ws (exclusive ws) []
   granting ended t l ps rs ws (n ∷ ns) = putting ended t (exclusive ws) (Collecting l ps rs ws []) []
@@ -124,7 +132,8 @@ module _ (at : ℕ) (b : Before) (low : at ≤ b.memory.last) where
   preparing_now : (earliest : ℕ) (m : Prepare) → Rises at (plan_prepare_now b earliest m)
   unfolding plan_prepare_now
   preparing_now earliest m =
-      rooming (is_crowded b m.txn) _ (choosing _ _ _ (promising (in_way b m.txn (exclusive m.writes)) earliest m.txn m.coordinator m.reads.keys m.writes) (putting (in_way b m.txn (exclusive m.writes)) m.txn [] (WaitsPrepare m.coordinator m.reads.keys m.writes) []))
+      rooming (is_crowded b m.txn) _ (choosing _ _ _ (promising (in_way b m.txn (exclusive m.writes)) earliest m.txn m.coordinator m.reads.keys
+          m.writes) (putting (in_way b m.txn (exclusive m.writes)) m.txn [] (WaitsPrepare m.coordinator m.reads.keys m.writes) []))
 
   preparing_fresh : (earliest : ℕ) (m : Prepare) (held : List Lock) → Rises at (plan_prepare_fresh b earliest m held)
   unfolding plan_prepare_fresh
@@ -149,7 +158,8 @@ module _ (at : ℕ) (b : Before) (low : at ≤ b.memory.last) where
   committing_now : (l : ℕ) (m : Commit) → Rises at (plan_commit_now b l m)
   unfolding plan_commit_now
   committing_now l m =
-      rooming (is_crowded b m.txn) _ (choosing _ _ _ (granting (in_way b m.txn (exclusive m.writes)) m.txn l m.parts m.reads.keys m.writes (other_parts b.shard m.parts)) (putting (in_way b m.txn (exclusive m.writes)) m.txn [] (WaitsCommit l m.parts m.reads.keys m.writes) []))
+      rooming (is_crowded b m.txn) _ (choosing _ _ _ (granting (in_way b m.txn (exclusive m.writes)) m.txn l m.parts m.reads.keys m.writes
+          (other_parts b.shard m.parts)) (putting (in_way b m.txn (exclusive m.writes)) m.txn [] (WaitsCommit l m.parts m.reads.keys m.writes) []))
 
   committing_fresh : (l : ℕ) (m : Commit) (held : List Lock) → Rises at (plan_commit_fresh b l m held)
   unfolding plan_commit_fresh
@@ -170,10 +180,12 @@ module _ (at : ℕ) (b : Before) (low : at ≤ b.memory.last) where
   committing l m (HasRow held (IsPrepared d q)) = search (committing_fresh, aborting, replying, refusing)
   committing l m (HasRow held (IsDecided q qs)) = search (committing_fresh, aborting, replying, refusing)
 
-  counting : (n : ℕ) (t : Id) (vote : Option ℕ) (l : ℕ) (ps : List ℕ) (rs : List Bytes) (ws : List Write) (votes : List Voted) → Rises at (plan_count b n t vote l ps rs ws votes)
+  counting : (n : ℕ) (t : Id) (vote : Option ℕ) (l : ℕ) (ps : List ℕ) (rs : List Bytes) (ws : List Write) (votes : List Voted) →
+      Rises at (plan_count b n t vote l ps rs ws votes)
   unfolding plan_count
   counting n t None l ps rs ws votes = aborting t ps
-  counting n t (Some p) l ps rs ws votes = choosing _ _ _ (deciding [] t l ps rs ws [] (with_vote n p votes)) (putting [] t [] (Collecting l ps rs ws (with_vote n p votes)) [])
+  counting n t (Some p) l ps rs ws votes = choosing _ _ _ (deciding [] t l ps rs ws [] (with_vote n p votes))
+      (putting [] t [] (Collecting l ps rs ws (with_vote n p votes)) [])
 
   telling : (n : ℕ) (t : Id) (outcome vote : Option ℕ) → Rises at (Ok (plan_tell b n t outcome vote))
   unfolding plan_tell
@@ -198,7 +210,8 @@ module _ (at : ℕ) (b : Before) (low : at ≤ b.memory.last) where
   ending_by : (n : ℕ) (t : Id) (outcome : Option ℕ) (st : Standing) → Rises at (plan_outcome b n t outcome st)
   unfolding plan_outcome
   ending_by n t None (HasRow held (IsPrepared c p)) = choosing _ _ _ (dropping t (Record.Outcome t None) b.memory.last [] low tt) (refusing Stranger)
-  ending_by n t (Some s) (HasRow held (IsPrepared c p)) = choosing _ _ _ (dropping t (Record.Outcome t (Some s)) (max b.memory.last s) [] (omega (arith, low)) tt) (refusing Stranger)
+  ending_by n t (Some s) (HasRow held (IsPrepared c p)) = choosing _ _ _ (dropping t (Record.Outcome t (Some s)) (max b.memory.last s) []
+      (omega (arith, low)) tt) (refusing Stranger)
   ending_by n t None _ = search (ending, replying, refusing)
   ending_by n t (Some s) _ = search (ending, replying, refusing)
 
@@ -246,7 +259,8 @@ module _ (at : ℕ) (b : Before) (low : at ≤ b.memory.last) where
   settling : (earliest : ℕ) (t : Id) (st : Standing) → Rises at (plan_settle b earliest t st)
   unfolding plan_settle
   settling earliest t (HasRow held (IsDecided s ps)) =
-      choosing _ _ _ (dropping t (Record.Outcome t (Some s)) b.memory.last (done_to t (Some s) ∷ tells b t (Some s) (other_parts b.shard ps)) low tt) (refusing Early)
+      choosing _ _ _ (dropping t (Record.Outcome t (Some s)) b.memory.last (done_to t (Some s) ∷ tells b t (Some s) (other_parts b.shard ps)) low tt)
+          (refusing Early)
   settling earliest t _ = refusing Stranger
 
   advancing : (latest stride up : ℕ) → Rises at (plan_advance b latest stride up)
@@ -255,7 +269,8 @@ module _ (at : ℕ) (b : Before) (low : at ≤ b.memory.last) where
     where
       by_tests : (c d : Bool) →
           Rises at (cond c (Err Future)
-          (Ok (record { wounded = []; change = Keeps; logged = cond d (Some (Record.Ceiling (min (up + stride) time_limit))) None; last = max b.memory.last up; outbox = [] })))
+          (Ok (record { wounded = []; change = Keeps; logged = cond d (Some (Record.Ceiling (min (up + stride) time_limit))) None; last =
+              max b.memory.last up; outbox = [] })))
       by_tests true d = tt
       by_tests false true = (omega (arith, low), tt)
       by_tests false false = (omega (arith, low), tt)

@@ -1,6 +1,7 @@
 -- What one act adds to the answers of reads, to what sessions took and to the lines of reads.
 use Rattle.std.specs.List.{list_any}
-use Rattle.std.proofs.Common.{◌≡◌, ◌⊎◌, inl, inr, ℕ, Bool, true, false, not, cond, ◌&&◌, ◌||◌, nat_eq, nat_le, List, [], ◌∷◌, ◌++◌, length, map, Option, Some, None, slice_get, refl, sym, ap, subst, ◌∙◌, arith, flat_map}
+use Rattle.std.proofs.Common.{◌≡◌, ◌⊎◌, inl, inr, ℕ, Bool, true, false, not, cond, ◌&&◌, ◌||◌, nat_eq, nat_le, List, [], ◌∷◌, ◌++◌, length, map}
+use Rattle.std.proofs.Common.{Option, Some, None, slice_get, refl, sym, ap, subst, ◌∙◌, arith, flat_map}
 use Rattle.std.proofs.lemmas.Bool.Decides.{nat_tests}
 use Rattle.units.specs.Ids.{Id, same_id}
 use Rattle.protocol.specs.Step.{Does}
@@ -23,10 +24,13 @@ use Rattle.message.specs.declared.message.Envelope.{Envelope}
 use Rattle.message.specs.declared.message.Message.{Message}
 use Rattle.message.specs.declared.message.ReadAnswer.{ReadAnswer}
 use Rattle.protocol.specs.Rows.{Memory}
-use Rattle.session.specs.Sessions.{Client, IsClosing, Moved, Denies, Goes, unless, reads, buffers, hears, take_answer, doomed_by, without_key, epochs_agree, closes, gives_up, with_write, was_taken, was_answered, asked_keys, is_doomed, is_none, closing_messages, messages_for, prepare_for, parts_of, shards_told, begun}
+use Rattle.session.specs.Sessions.{Client, IsClosing, Moved, Denies, Goes, unless, reads, buffers, hears, take_answer, doomed_by, without_key}
+use Rattle.session.specs.Sessions.{epochs_agree, closes, gives_up, with_write, was_taken, was_answered, asked_keys, is_doomed, is_none}
+use Rattle.session.specs.Sessions.{closing_messages, messages_for, prepare_for, parts_of, shards_told, begun}
 use Rattle.session.specs.declared.answered.Answered.{Answered as Taken}
-use Rattle.law.specs.Evidence.{IsAmong}
-use Rattle.world.specs.World.{World, ShardNow, setup_of, effect, finished, crashed, failed_in, set_shard, client_of, set_client, put_out, acks_of, ack_of, commit_told, moved, answered, read_lines, noted, look_shard, look_at_view, begin, acts}
+use Rattle.law.specs.Among.{IsAmong}
+use Rattle.world.specs.World.{World, ShardNow, setup_of, effect, finished, crashed, failed_in, set_shard, client_of, set_client, put_out, acks_of}
+use Rattle.world.specs.World.{ack_of, commit_told, moved, answered, read_lines, look_noted, look_shard, look_at_view, begin, acts}
 use Rattle.world.specs.declared.event.Act.{Act}
 use Rattle.world.specs.declared.event.Doing.{Doing}
 use Rattle.world.specs.declared.event.Reply.{Reply}
@@ -77,7 +81,8 @@ OwnIds w = (y z : Client) → IsAmong w.clients y → IsAmong w.clients z → y.
 
 pub record Says (w v : World) : Type 0 where
   pub bag : (e : Envelope) → IsAmong w.bag e → IsAmong v.bag e
-  pub told : (to : Address) (a : ReadAnswer) (x : Option Bytes) → a.answer ≡ Holds x → IsAmong v.bag (answer_env to a) → IsAmong w.bag (answer_env to a) ⊎ HoldsNow v a x
+  pub told : (to : Address) (a : ReadAnswer) (x : Option Bytes) → a.answer ≡ Holds x → IsAmong v.bag (answer_env to a) →
+      IsAmong w.bag (answer_env to a) ⊎ HoldsNow v a x
   pub took : OwnIds w → (a : ReadAnswer) (x : Option Bytes) → Took w a x → Took v a x
   pub read : (t : Id) (k : Bytes) (x : Option Bytes) → IsAmong v.lines (Line.Read t k x) → IsAmong w.lines (Line.Read t k x) ⊎ ReadOf v t k x
   pub epochs : AllOneEpoch w → AllOneEpoch v
@@ -97,7 +102,8 @@ ack_no_read : (w : World) (t : Id) (o : Option ℕ) (u : Id) (k : Bytes) (x : Op
 ack_no_read w t None u k x h = h
 ack_no_read w t (Some s) u k x h = no_read (list_any (λ e. when (λ y. true) (commit_told t e)) w.bag) t s w.event u k x h
 
-message_no_read : (w : World) (to : Address) (m : Message) (u : Id) (k : Bytes) (x : Option Bytes) → IsAmong (acks_of w (record { to = to; message = m })) (Line.Read u k x) → ⊥
+message_no_read : (w : World) (to : Address) (m : Message) (u : Id) (k : Bytes) (x : Option Bytes) →
+    IsAmong (acks_of w (record { to = to; message = m })) (Line.Read u k x) → ⊥
 message_no_read w to (Message.Done d) u k x h = ack_no_read w d.txn d.outcome u k x h
 message_no_read w to (Message.Read r) u k x h = h
 message_no_read w to (Message.Prepare p) u k x h = h
@@ -110,7 +116,8 @@ message_no_read w to (Message.ReadAnswer a) u k x h = h
 
 acks_no_read : (w : World) (es : List Envelope) (u : Id) (k : Bytes) (x : Option Bytes) → IsAmong (flat_map (acks_of w) es) (Line.Read u k x) → ⊥
 acks_no_read w [] u k x h = h
-acks_no_read w (e ∷ es) u k x h = elim (among_cases (acks_of w e) (flat_map (acks_of w) es) (Line.Read u k x) h) [ inl here ↦ message_no_read w e.to e.message u k x here | inr later ↦ acks_no_read w es u k x later ]
+acks_no_read w (e ∷ es) u k x h = elim (among_cases (acks_of w e) (flat_map (acks_of w) es) (Line.Read u k x) h) [ inl here ↦
+    message_no_read w e.to e.message u k x here | inr later ↦ acks_no_read w es u k x later ]
 
 -- each value among new messages is held
 abbrev TellsHeld : World → List Envelope → Type 0
@@ -162,7 +169,8 @@ set_client_says w c d there more = record {
   own = λ own y z hy hz same.
       let a = among_map (λ (q : Client). cond (same_id q.txn d.txn) d q) w.clients y hy in
       let b = among_map (λ (q : Client). cond (same_id q.txn d.txn) d q) w.clients z hz in
-      let one : a.from ≡ b.from = own a.from b.from a.among b.among (sym (kept_id (same_id a.from.txn d.txn) a.from refl) ∙ ap (λ (q : Client). q.txn) a.is ∙ same ∙ sym (ap (λ (q : Client). q.txn) b.is) ∙ kept_id (same_id b.from.txn d.txn) b.from refl) in
+      let one : a.from ≡ b.from = own a.from b.from a.among b.among (sym (kept_id (same_id a.from.txn d.txn) a.from refl)
+          ∙ ap (λ (q : Client). q.txn) a.is ∙ same ∙ sym (ap (λ (q : Client). q.txn) b.is) ∙ kept_id (same_id b.from.txn d.txn) b.from refl) in
       sym a.is ∙ ap (λ (q : Client). cond (same_id q.txn d.txn) d q) one ∙ b.is;
 }
   where
@@ -189,7 +197,8 @@ set_client_says w c d there more = record {
               txn = more.0 ∙ ap (λ (z : Client). z.txn) (sym is) ∙ h.txn;
               taken = more.1 _ (subst (λ (z : Client). IsAmong z.taken (record { key = a.key; shard = a.from; epoch = a.epoch; value = x })) is h.taken);
             }
-        by_same false e = record { client = h.client; there = subst (λ b. IsAmong (map (λ (q : Client). cond (same_id q.txn d.txn) d q) w.clients) (cond b d h.client)) e mapped_there; txn = h.txn; taken = h.taken }
+        by_same false e = record { client = h.client; there = subst (λ b. IsAmong (map (λ (q : Client). cond (same_id q.txn d.txn) d q) w.clients)
+            (cond b d h.client)) e mapped_there; txn = h.txn; taken = h.taken }
 
 -- a step of a session takes no answer, and tells no value
 record StepSays (c : Client) (d : Client) (out : List Envelope) : Type 0 where
@@ -202,11 +211,13 @@ MovedSays c (Denies f) = Unit {0}
 MovedSays c (Goes d out) = StepSays c d out
 
 more_of : (c d : Client) → d.txn ≡ c.txn → d.taken ≡ c.taken → TakesMore c d
-more_of c d txn taken = (txn, (λ q h. subst (λ l. IsAmong l q) (sym taken) h), λ h p q a b. h p q (subst (λ l. IsAmong l p) taken a) (subst (λ l. IsAmong l q) taken b))
+more_of c d txn taken = (txn, (λ q h. subst (λ l. IsAmong l q) (sym taken) h), λ h p q a b. h p q (subst (λ l. IsAmong l p) taken a)
+    (subst (λ l. IsAmong l q) taken b))
 
 moved_says : (w : World) (c : Client) (m : Moved) → IsAmong w.clients c → MovedSays c m → Says w (moved w m).0
 moved_says w c (Denies f) there s = silent w
-moved_says w c (Goes d out) there s = put_says w (set_client d w) out (set_client_says w c d there (more_of c d s.txn s.taken)) (λ to a x is h. absurd (s.mute to a h))
+moved_says w c (Goes d out) there s = put_says w (set_client d w) out (set_client_says w c d there (more_of c d s.txn s.taken))
+    (λ to a x is h. absurd (s.mute to a h))
 
 unless_says : (c : Client) (rs : List (Bool × Reason)) (m : Moved) → MovedSays c m → MovedSays c (unless rs m)
 unless_says c [] m h = h
@@ -220,18 +231,22 @@ reads_say : (splits : List Bytes) (k : Bytes) (c : Client) → MovedSays c (read
 unfolding reads
 reads_say splits k c =
     unless_says c ((nat_le 128 (length (asked_keys c)), Many) ∷ (was_answered c k, Again) ∷ (has_key c.awaited k, Awaited) ∷ (is_doomed c, Doomed) ∷ [])
-    (Goes (record c { awaited = c.awaited ++ k ∷ [] }) (record { to = Shard (shard_of splits k); message = Message.Read (record { txn = c.txn; key = k }) } ∷ []))
+    (Goes (record c { awaited = c.awaited ++ k ∷ [] }) (record { to = Shard (shard_of splits k); message =
+        Message.Read (record { txn = c.txn; key = k }) } ∷ []))
     (record { txn = refl; taken = refl; mute = mute })
   where
-    mute : (to : Address) (a : ReadAnswer) → IsAmong (record { to = Shard (shard_of splits k); message = Message.Read (record { txn = c.txn; key = k }) } ∷ []) (answer_env to a) → ⊥
+    mute : (to : Address) (a : ReadAnswer) → IsAmong (record { to = Shard (shard_of splits k); message =
+        Message.Read (record { txn = c.txn; key = k }) } ∷ []) (answer_env to a) → ⊥
     mute to a (inl same) = let m : Message.Read (record { txn = c.txn; key = k }) ≡ Message.ReadAnswer a = ap (λ (e : Envelope). e.message) same in cc
     mute to a (inr none) = none
 
 buffers_say : (v : Write) (c : Client) → MovedSays c (buffers v c)
 unfolding buffers
-buffers_say v c = unless_says c ((nat_le 128 (length c.writes) && not (writes_key c.writes v.key), Many) ∷ (is_doomed c, Doomed) ∷ []) (Goes (record c { writes = with_write c.writes v }) []) (record { txn = refl; taken = refl; mute = λ to a h. h })
+buffers_say v c = unless_says c ((nat_le 128 (length c.writes) && not (writes_key c.writes v.key), Many) ∷ (is_doomed c, Doomed) ∷ [])
+    (Goes (record c { writes = with_write c.writes v }) []) (record { txn = refl; taken = refl; mute = λ to a h. h })
 
-prepares_mute : (splits : List Bytes) (c : Client) (n : ℕ) (ns : List ℕ) (to : Address) (a : ReadAnswer) → IsAmong (map (prepare_for splits c n) ns) (answer_env to a) → ⊥
+prepares_mute : (splits : List Bytes) (c : Client) (n : ℕ) (ns : List ℕ) (to : Address) (a : ReadAnswer) →
+    IsAmong (map (prepare_for splits c n) ns) (answer_env to a) → ⊥
 prepares_mute splits c n [] to a h = h
 prepares_mute splits c n (m ∷ ms) to a (inl same) = is_prepare (ap (λ (e : Envelope). e.message) same)
   where
@@ -251,13 +266,15 @@ closes_say : (splits : List Bytes) (c : Client) → MovedSays c (closes splits c
 unfolding closes closing_messages
 closes_say splits c =
     unless_says c ((is_none (asked_keys c) && is_none c.writes, Nothing) ∷ (not (is_none c.awaited), Awaited) ∷ (is_doomed c, Doomed) ∷ [])
-    (Goes (record c { stage = IsClosing }) (messages_for splits c (parts_of splits c))) (record { txn = refl; taken = refl; mute = messages_mute splits c (parts_of splits c) })
+    (Goes (record c { stage = IsClosing }) (messages_for splits c (parts_of splits c)))
+        (record { txn = refl; taken = refl; mute = messages_mute splits c (parts_of splits c) })
 
 gives_up_say : (splits : List Bytes) (c : Client) → MovedSays c (gives_up splits c)
 unfolding gives_up
 gives_up_say splits c = record { txn = refl; taken = refl; mute = mute (shards_told splits c) }
   where
-    mute : (ns : List ℕ) (to : Address) (a : ReadAnswer) → IsAmong (map (λ n. record { to = Shard n; message = Message.GiveUp (record { txn = c.txn }) }) ns) (answer_env to a) → ⊥
+    mute : (ns : List ℕ) (to : Address) (a : ReadAnswer) → IsAmong
+        (map (λ n. record { to = Shard n; message = Message.GiveUp (record { txn = c.txn }) }) ns) (answer_env to a) → ⊥
     mute [] to a h = h
     mute (n ∷ ns) to a (inl same) = let m : Message.GiveUp (record { txn = c.txn }) ≡ Message.ReadAnswer a = ap (λ (e : Envelope). e.message) same in cc
     mute (n ∷ ns) to a (inr later) = mute ns to a later
@@ -274,15 +291,18 @@ stepped_says splits Finishes c = record { txn = refl; taken = refl; mute = λ to
 -- what a session took of an answer: nothing, or its value
 data Heard (n : ℕ) (k : Bytes) (epoch : ℕ) (z : Answer) (c d : Client) : Type 0 where
   AsBefore : d.taken ≡ c.taken → Heard n k epoch z c d
-  TookOne : (x : Option Bytes) → z ≡ Holds x → d.taken ≡ c.taken ++ record { key = k; shard = n; epoch = epoch; value = x } ∷ [] → epochs_agree c.taken n epoch ≡ true → Heard n k epoch z c d
+  TookOne : (x : Option Bytes) → z ≡ Holds x → d.taken ≡ c.taken ++ record { key = k; shard = n; epoch = epoch; value = x } ∷ [] →
+      epochs_agree c.taken n epoch ≡ true → Heard n k epoch z c d
 
 heard : (n : ℕ) (k : Bytes) (epoch : ℕ) (z : Answer) (c : Client) → ((hears n k epoch z c).txn ≡ c.txn) × Heard n k epoch z c (hears n k epoch z c)
 unfolding hears
 heard n k epoch z c = by_test (has_key c.awaited k && not (is_doomed c))
   where
     by_epochs : (x : Option Bytes) (b : Bool) → epochs_agree c.taken n epoch ≡ b →
-        ((cond {A = Client} b (record c { taken = c.taken ++ record { key = k; shard = n; epoch = epoch; value = x } ∷ []; awaited = without_key c.awaited k }) (doomed_by k c)).txn ≡ c.txn)
-        × Heard n k epoch (Holds x) c (cond {A = Client} b (record c { taken = c.taken ++ record { key = k; shard = n; epoch = epoch; value = x } ∷ []; awaited = without_key c.awaited k }) (doomed_by k c))
+        ((cond {A = Client} b (record c { taken = c.taken ++ record { key = k; shard = n; epoch = epoch; value = x } ∷ []; awaited =
+            without_key c.awaited k }) (doomed_by k c)).txn ≡ c.txn)
+        × Heard n k epoch (Holds x) c (cond {A = Client} b (record c { taken = c.taken ++
+            record { key = k; shard = n; epoch = epoch; value = x } ∷ []; awaited = without_key c.awaited k }) (doomed_by k c))
     by_epochs x true e = (refl, TookOne x refl refl e)
     by_epochs x false e = (refl, AsBefore refl)
 
@@ -290,7 +310,8 @@ heard n k epoch z c = by_test (has_key c.awaited k && not (is_doomed c))
     by_answer Refused = (refl, AsBefore refl)
     by_answer (Holds x) = by_epochs x (epochs_agree c.taken n epoch) refl
 
-    by_test : (b : Bool) → ((cond {A = Client} b (take_answer c n k epoch z) c).txn ≡ c.txn) × Heard n k epoch z c (cond {A = Client} b (take_answer c n k epoch z) c)
+    by_test : (b : Bool) → ((cond {A = Client} b (take_answer c n k epoch z) c).txn ≡ c.txn)
+        × Heard n k epoch z c (cond {A = Client} b (take_answer c n k epoch z) c)
     by_test true = by_answer z
     by_test false = (refl, AsBefore refl)
 
@@ -315,19 +336,23 @@ heard_more n k epoch z c d txn (TookOne x is taken agree) = (
     new : Taken
     new = record { key = k; shard = n; epoch = epoch; value = x }
 
-    is_new : (p : Taken) → IsAmong (record { key = k; shard = n; epoch = epoch; value = x } ∷ []) p → record { key = k; shard = n; epoch = epoch; value = x } ≡ p
+    is_new : (p : Taken) → IsAmong (record { key = k; shard = n; epoch = epoch; value = x } ∷ []) p →
+        record { key = k; shard = n; epoch = epoch; value = x } ≡ p
     is_new p (inl same) = same
     is_new p (inr none) = absurd none
 
     agreed : (a b m e : ℕ) → (not (nat_eq a m) || nat_eq b e) ≡ true → a ≡ m → b ≡ e
     agreed a b m e f same = grind (arith, nat_tests)
 
-    old_new : (p q : Taken) → IsAmong c.taken p → IsAmong (record { key = k; shard = n; epoch = epoch; value = x } ∷ []) q → p.shard ≡ q.shard → p.epoch ≡ q.epoch
+    old_new : (p q : Taken) → IsAmong c.taken p → IsAmong (record { key = k; shard = n; epoch = epoch; value = x } ∷ []) q → p.shard ≡ q.shard →
+        p.epoch ≡ q.epoch
     old_new p q a b same =
-        agreed p.shard p.epoch n epoch (each_at (λ (r : Taken). not (nat_eq r.shard n) || nat_eq r.epoch epoch) c.taken p agree a) (same ∙ ap (λ (r : Taken). r.shard) (sym (is_new q b)))
+        agreed p.shard p.epoch n epoch (each_at (λ (r : Taken). not (nat_eq r.shard n) || nat_eq r.epoch epoch) c.taken p agree a)
+            (same ∙ ap (λ (r : Taken). r.shard) (sym (is_new q b)))
         ∙ ap (λ (r : Taken). r.epoch) (is_new q b)
 
-answered_says : (w : World) (c : Client) (to : Address) (a : ReadAnswer) → IsAmong w.clients c → c.txn ≡ a.txn → IsAmong w.bag (answer_env to a) → Says w (answered w c a).0
+answered_says : (w : World) (c : Client) (to : Address) (a : ReadAnswer) → IsAmong w.clients c → c.txn ≡ a.txn → IsAmong w.bag (answer_env to a) →
+    Says w (answered w c a).0
 answered_says w c to a there named told = record {
   bag = λ e h. h;
   told = λ u b x is h. inl h;
@@ -344,12 +369,16 @@ answered_says w c to a there named told = record {
     hs = heard a.from a.key a.epoch a.answer c
 
     s : Says w (set_client (hears a.from a.key a.epoch a.answer c) w)
-    s = set_client_says w c (hears a.from a.key a.epoch a.answer c) there (heard_more a.from a.key a.epoch a.answer c (hears a.from a.key a.epoch a.answer c) hs.0 hs.1)
+    s = set_client_says w c (hears a.from a.key a.epoch a.answer c) there (heard_more a.from a.key a.epoch a.answer c
+        (hears a.from a.key a.epoch a.answer c) hs.0 hs.1)
 
-    mine : IsAmong (map (λ (q : Client). cond (same_id q.txn (hears a.from a.key a.epoch a.answer c).txn) (hears a.from a.key a.epoch a.answer c) q) w.clients) (hears a.from a.key a.epoch a.answer c)
-    mine = subst (λ b. IsAmong (map (λ (q : Client). cond (same_id q.txn (hears a.from a.key a.epoch a.answer c).txn) (hears a.from a.key a.epoch a.answer c) q) w.clients) (cond b (hears a.from a.key a.epoch a.answer c) c))
+    mine : IsAmong (map (λ (q : Client). cond (same_id q.txn (hears a.from a.key a.epoch a.answer c).txn) (hears a.from a.key a.epoch a.answer c) q)
+        w.clients) (hears a.from a.key a.epoch a.answer c)
+    mine = subst (λ b. IsAmong (map (λ (q : Client). cond (same_id q.txn (hears a.from a.key a.epoch a.answer c).txn)
+        (hears a.from a.key a.epoch a.answer c) q) w.clients) (cond b (hears a.from a.key a.epoch a.answer c) c))
         (subst (λ u. same_id c.txn u ≡ true) (sym hs.0) (same_id-refl c.txn))
-        (map_among (λ (q : Client). cond (same_id q.txn (hears a.from a.key a.epoch a.answer c).txn) (hears a.from a.key a.epoch a.answer c) q) w.clients c there)
+        (map_among (λ (q : Client). cond (same_id q.txn (hears a.from a.key a.epoch a.answer c).txn) (hears a.from a.key a.epoch a.answer c) q)
+            w.clients c there)
 
     line_is : (t u : Id) (k j : Bytes) (x y : Option Bytes) → Line.Read t k x ≡ Line.Read u j y → (t ≡ u) × (k ≡ j) × (x ≡ y)
     line_is t u k j x y e = (cc, cc, cc)
@@ -361,14 +390,19 @@ answered_says w c to a there named told = record {
     value_is : (x y : Option Bytes) → Holds x ≡ Holds y → x ≡ y
     value_is x y e = cc
 
-    took_of : (y : Option Bytes) → a.answer ≡ Holds y → (was_taken (hears a.from a.key a.epoch a.answer c) a.key && not (was_taken c a.key)) ≡ true → Heard a.from a.key a.epoch a.answer c (hears a.from a.key a.epoch a.answer c) →
+    took_of : (y : Option Bytes) → a.answer ≡ Holds y → (was_taken (hears a.from a.key a.epoch a.answer c) a.key && not (was_taken c a.key)) ≡ true →
+        Heard a.from a.key a.epoch a.answer c (hears a.from a.key a.epoch a.answer c) →
         IsAmong (hears a.from a.key a.epoch a.answer c).taken (record { key = a.key; shard = a.from; epoch = a.epoch; value = y })
-    took_of y is new (AsBefore taken) = absurd (not_both (was_taken c a.key) (ap (λ l. list_any (λ (q : Taken). same_key q.key a.key) l && not (was_taken c a.key)) (sym taken) ∙ new))
+    took_of y is new (AsBefore taken) = absurd (not_both (was_taken c a.key)
+        (ap (λ l. list_any (λ (q : Taken). same_key q.key a.key) l && not (was_taken c a.key)) (sym taken) ∙ new))
     took_of y is new (TookOne x holds taken agree) =
         subst (λ l. IsAmong l (record { key = a.key; shard = a.from; epoch = a.epoch; value = y })) (sym taken)
-        (subst (λ z. IsAmong (c.taken ++ record { key = a.key; shard = a.from; epoch = a.epoch; value = x } ∷ []) (record { key = a.key; shard = a.from; epoch = a.epoch; value = z })) (value_is x y (sym holds ∙ is)) (among_last c.taken _))
+        (subst (λ z. IsAmong (c.taken ++ record { key = a.key; shard = a.from; epoch = a.epoch; value = x } ∷ [])
+            (record { key = a.key; shard = a.from; epoch = a.epoch; value = z })) (value_is x y (sym holds ∙ is)) (among_last c.taken _))
 
-    by_line : (t : Id) (k : Bytes) (x y : Option Bytes) → a.answer ≡ Holds y → (b : Bool) → (was_taken (hears a.from a.key a.epoch a.answer c) a.key && not (was_taken c a.key)) ≡ b → IsAmong (cond b (Line.Read c.txn a.key y ∷ []) []) (Line.Read t k x) → ReadOf (answered w c a).0 t k x
+    by_line : (t : Id) (k : Bytes) (x y : Option Bytes) → a.answer ≡ Holds y → (b : Bool) →
+        (was_taken (hears a.from a.key a.epoch a.answer c) a.key && not (was_taken c a.key)) ≡ b →
+        IsAmong (cond b (Line.Read c.txn a.key y ∷ []) []) (Line.Read t k x) → ReadOf (answered w c a).0 t k x
     by_line t k x y is true new (inl same) =
         let p = line_is c.txn t a.key k y x same in
         record {
@@ -388,7 +422,8 @@ answered_says w c to a there named told = record {
     by_line t k x y is true new (inr none) = absurd none
     by_line t k x y is false new none = absurd none
 
-    by_answer : (t : Id) (k : Bytes) (x : Option Bytes) (z : Answer) → a.answer ≡ z → IsAmong (read_lines c (hears a.from a.key a.epoch a.answer c) a.key z) (Line.Read t k x) → ReadOf (answered w c a).0 t k x
+    by_answer : (t : Id) (k : Bytes) (x : Option Bytes) (z : Answer) → a.answer ≡ z → IsAmong
+        (read_lines c (hears a.from a.key a.epoch a.answer c) a.key z) (Line.Read t k x) → ReadOf (answered w c a).0 t k x
     by_answer t k x Refused is none = absurd none
     by_answer t k x (Holds y) is new = by_line t k x y is (was_taken (hears a.from a.key a.epoch a.answer c) a.key && not (was_taken c a.key)) refl new
 
@@ -404,16 +439,19 @@ set_says w n s = record {
   own = λ h. h;
 }
 
-does_says : (w : World) → WellWorld w → (n : ℕ) (s : ShardNow) → slice_get w.shards n ≡ Some s → (doing : Doing) (logged : Option Record) (memory : Memory) (out : List Envelope) →
+does_says : (w : World) → WellWorld w → (n : ℕ) (s : ShardNow) → slice_get w.shards n ≡ Some s →
+    (doing : Doing) (logged : Option Record) (memory : Memory) (out : List Envelope) →
     effect (setup_of w.config n) w.bag s doing ≡ Does logged memory out → Says w (put_out out (set_shard n (finished s doing logged memory) w))
-does_says w well n s there doing logged memory out is = put_says w (set_shard n (finished s doing logged memory) w) out (set_says w n (finished s doing logged memory)) tells
+does_says w well n s there doing logged memory out is = put_says w (set_shard n (finished s doing logged memory) w) out
+    (set_says w n (finished s doing logged memory)) tells
   where
     tells : TellsHeld (set_shard n (finished s doing logged memory) w) out
     tells to a x holds h =
         let k = doing_holds (setup_of w.config n) w.bag s doing logged memory out to a x (well n s there) is h holds in
         record {
           shard = finished s doing logged memory;
-          there = subst (λ j. slice_get (replaced w.shards n (finished s doing logged memory)) j ≡ Some (finished s doing logged memory)) (sym k.0) (get-replaced_same w.shards n s (finished s doing logged memory) there);
+          there = subst (λ j. slice_get (replaced w.shards n (finished s doing logged memory)) j ≡ Some (finished s doing logged memory)) (sym k.0)
+              (get-replaced_same w.shards n s (finished s doing logged memory) there);
           holds = k.1;
         }
 
@@ -450,7 +488,8 @@ begin_says w t new = record {
     is_begun c (inr none) = absurd none
 
     found : (cs : List Client) (c : Client) → IsAmong cs c → c.txn ≡ t → when (λ z. true) (first (λ (d : Client). same_id d.txn t) cs) ≡ true
-    found cs c h e = there_first (λ (d : Client). same_id d.txn t) cs ∙ any_of (λ (d : Client). same_id d.txn t) cs c h (subst (λ u. same_id u t ≡ true) (sym e) (same_id-refl t))
+    found cs c h e = there_first (λ (d : Client). same_id d.txn t) cs ∙ any_of (λ (d : Client). same_id d.txn t) cs c h
+        (subst (λ u. same_id u t ≡ true) (sym e) (same_id-refl t))
 
     not_there : (c : Client) → IsAmong w.clients c → c.txn ≡ t → ⊥
     not_there c h e = both_ways (when (λ z. true) (client_of w t)) (found w.clients c h e) new
@@ -459,7 +498,7 @@ begin_says w t new = record {
         both_ways true p q = cc
         both_ways false p q = cc
 
-noted_says : (w : World) (k : Bytes) (at : ℕ) (r : Reply) → Says w (noted w k at r).0
+noted_says : (w : World) (k : Bytes) (at : ℕ) (r : Reply) → Says w (look_noted w k at r).0
 noted_says w k at (Reply.Shows y) = record {
   bag = λ e h. h;
   told = λ to a x is h. inl h;

@@ -8,7 +8,8 @@ use Rattle.message.specs.declared.message.Address.{Address}
 use Rattle.message.specs.declared.message.Envelope.{Envelope}
 use Rattle.message.specs.declared.message.Message.{Message}
 use Rattle.world.specs.World.{World, put_out, acks_of, ack_of, commit_told}
-use Rattle.law.specs.Evidence.{Scene, IsAmong, MessageEvidence, AckEvidence, LineEvidence, Holds}
+use Rattle.law.specs.Among.{IsAmong}
+use Rattle.law.specs.Evidence.{Scene, MessageEvidence, AckEvidence, LineEvidence, Holds}
 use Rattle.law.proofs.Members.{among_left, among_right, among_cases, all_append, all_at}
 use Rattle.law.proofs.Grows.{Grows, message_stays, line_stays, began_stays}
 use Rattle.law.proofs.Changes.{with_world, shard_stays}
@@ -95,7 +96,8 @@ module _ (sc : Scene) (out : List Envelope) (ls : List Line) (present : slice_ge
   of_message to (Message.Ask a) there told = tt
   of_message to (Message.ReadAnswer a) there told = tt
 
-  pub acks_written : (some : List Envelope) → ((e : Envelope) → IsAmong some e → IsAmong out e) → AllByRecursion (λ (e : Envelope). MessageEvidence sc e.to e.message) some →
+  pub acks_written : (some : List Envelope) → ((e : Envelope) → IsAmong some e → IsAmong out e) →
+      AllByRecursion (λ (e : Envelope). MessageEvidence sc e.to e.message) some →
       AllByRecursion (λ l. IsNoBegin l × LineEvidence (with_world sc (lined ls (bagged out sc.world))) l) (flat_map (acks_of sc.world) some)
   acks_written [] among told = tt
   acks_written (e ∷ es) among told =

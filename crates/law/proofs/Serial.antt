@@ -1,5 +1,6 @@
 -- The value of a key in the serial run is that of its newest version.
-use Rattle.std.proofs.Common.{◌≡◌, ◌⊎◌, inl, inr, ℕ, ◌≤◌, Bool, true, false, cond, ◌&&◌, ◌||◌, nat_eq, nat_lt, List, [], ◌∷◌, Option, Some, None, refl, sym, ap, subst, ◌∙◌, arith, filter}
+use Rattle.std.proofs.Common.{◌≡◌, ◌⊎◌, inl, inr, ℕ, ◌≤◌, Bool, true, false, cond, ◌&&◌, ◌||◌, nat_eq, nat_lt, List, [], ◌∷◌, Option, Some, None}
+use Rattle.std.proofs.Common.{refl, sym, ap, subst, ◌∙◌, arith, filter}
 use Rattle.std.proofs.lemmas.Bool.Decides.{nat_tests}
 use Rattle.units.specs.Ids.{older}
 use Rattle.units.specs.Keys.{Bytes, same_key}
@@ -8,8 +9,8 @@ use Rattle.units.specs.Versions.{newest, of_key, latest}
 use Rattle.units.specs.declared.writes.Install.{Install}
 use Rattle.units.specs.declared.writes.Write.{Write}
 use Rattle.units.proofs.KeyLaws.{same_key-is, same_key-refl}
-use Rattle.record.specs.History.{Txn, Map, comes_before, serial, put, put_all, applied, empty}
-use Rattle.law.specs.Evidence.{IsAmong}
+use Rattle.record.specs.History.{Txn, Map, serial_before, serial, put, put_all, applied, empty}
+use Rattle.law.specs.Among.{IsAmong}
 use Rattle.law.proofs.Picked.{keep_among, kept_passes}
 use Rattle.law.proofs.Recorded.{among_keep}
 
@@ -20,7 +21,7 @@ abbrev pub Rising : List Txn → Type 0
 Rising [] = Unit {0}
 Rising (t ∷ ts) = ((u : Txn) → IsAmong ts u → t.at ≤ u.at) × Rising ts
 
-before_low : (a b : Txn) → comes_before a b ≡ true → a.at ≤ b.at
+before_low : (a b : Txn) → serial_before a b ≡ true → a.at ≤ b.at
 before_low a b e = by_tests (nat_lt a.at b.at) refl (nat_eq a.at b.at) refl e
   where
     less : (m n : ℕ) → nat_lt m n ≡ true → m ≤ n
@@ -34,7 +35,7 @@ before_low a b e = by_tests (nat_lt a.at b.at) refl (nat_eq a.at b.at) refl e
     by_tests false h true k e = even a.at b.at k
     by_tests false h false k e = cc
 
-not_before_low : (a b : Txn) → comes_before a b ≡ false → b.at ≤ a.at
+not_before_low : (a b : Txn) → serial_before a b ≡ false → b.at ≤ a.at
 not_before_low a b e = by_test (nat_lt a.at b.at) refl e
   where
     not_less : (m n : ℕ) → nat_lt m n ≡ false → n ≤ m
@@ -44,39 +45,41 @@ not_before_low a b e = by_test (nat_lt a.at b.at) refl e
     by_test true h e = cc
     by_test false h e = not_less a.at b.at h
 
-insert_cases : (x : Txn) (ys : List Txn) (u : Txn) → IsAmong (insert comes_before x ys) u → (x ≡ u) ⊎ IsAmong ys u
+insert_cases : (x : Txn) (ys : List Txn) (u : Txn) → IsAmong (insert serial_before x ys) u → (x ≡ u) ⊎ IsAmong ys u
 insert_cases x [] u (inl same) = inl same
 insert_cases x [] u (inr none) = absurd none
-insert_cases x (y ∷ ys) u h = by_test (comes_before y x) h (λ k. insert_cases x ys u k)
+insert_cases x (y ∷ ys) u h = by_test (serial_before y x) h (λ k. insert_cases x ys u k)
   where
-    by_test : (b : Bool) → IsAmong (cond b (y ∷ insert comes_before x ys) (x ∷ y ∷ ys)) u → (IsAmong (insert comes_before x ys) u → (x ≡ u) ⊎ IsAmong ys u) → (x ≡ u) ⊎ IsAmong (y ∷ ys) u
+    by_test : (b : Bool) → IsAmong (cond b (y ∷ insert serial_before x ys) (x ∷ y ∷ ys)) u →
+        (IsAmong (insert serial_before x ys) u → (x ≡ u) ⊎ IsAmong ys u) → (x ≡ u) ⊎ IsAmong (y ∷ ys) u
     by_test true (inl same) rest = inr (inl same)
     by_test true (inr later) rest = elim (rest later) [ inl same ↦ inl same | inr k ↦ inr (inr k) ]
     by_test false (inl same) rest = inl same
     by_test false (inr later) rest = inr later
 
-insert_first : (x : Txn) (ys : List Txn) → IsAmong (insert comes_before x ys) x
+insert_first : (x : Txn) (ys : List Txn) → IsAmong (insert serial_before x ys) x
 insert_first x [] = inl refl
-insert_first x (y ∷ ys) = by_test (comes_before y x) (insert_first x ys)
+insert_first x (y ∷ ys) = by_test (serial_before y x) (insert_first x ys)
   where
-    by_test : (b : Bool) → IsAmong (insert comes_before x ys) x → IsAmong (cond b (y ∷ insert comes_before x ys) (x ∷ y ∷ ys)) x
+    by_test : (b : Bool) → IsAmong (insert serial_before x ys) x → IsAmong (cond b (y ∷ insert serial_before x ys) (x ∷ y ∷ ys)) x
     by_test true k = inr k
     by_test false k = inl refl
 
-insert_rest : (x : Txn) (ys : List Txn) (u : Txn) → IsAmong ys u → IsAmong (insert comes_before x ys) u
+insert_rest : (x : Txn) (ys : List Txn) (u : Txn) → IsAmong ys u → IsAmong (insert serial_before x ys) u
 insert_rest x [] u h = absurd h
-insert_rest x (y ∷ ys) u h = by_test (comes_before y x) h (λ k. insert_rest x ys u k)
+insert_rest x (y ∷ ys) u h = by_test (serial_before y x) h (λ k. insert_rest x ys u k)
   where
-    by_test : (b : Bool) → IsAmong (y ∷ ys) u → (IsAmong ys u → IsAmong (insert comes_before x ys) u) → IsAmong (cond b (y ∷ insert comes_before x ys) (x ∷ y ∷ ys)) u
+    by_test : (b : Bool) → IsAmong (y ∷ ys) u → (IsAmong ys u → IsAmong (insert serial_before x ys) u) →
+        IsAmong (cond b (y ∷ insert serial_before x ys) (x ∷ y ∷ ys)) u
     by_test true (inl same) rest = inl same
     by_test true (inr later) rest = inr (rest later)
     by_test false k rest = inr k
 
-insert_rises : (x : Txn) (ys : List Txn) → Rising ys → Rising (insert comes_before x ys)
+insert_rises : (x : Txn) (ys : List Txn) → Rising ys → Rising (insert serial_before x ys)
 insert_rises x [] r = ((λ u none. absurd none), tt)
-insert_rises x (y ∷ ys) r = by_test (comes_before y x) refl (insert_rises x ys r.1)
+insert_rises x (y ∷ ys) r = by_test (serial_before y x) refl (insert_rises x ys r.1)
   where
-    by_test : (b : Bool) → comes_before y x ≡ b → Rising (insert comes_before x ys) → Rising (cond b (y ∷ insert comes_before x ys) (x ∷ y ∷ ys))
+    by_test : (b : Bool) → serial_before y x ≡ b → Rising (insert serial_before x ys) → Rising (cond b (y ∷ insert serial_before x ys) (x ∷ y ∷ ys))
     by_test true e rest = (
       λ u k. elim (insert_cases x ys u k) [
         | inl same ↦ subst (λ (z : Txn). y.at ≤ z.at) same (before_low y x e)
@@ -128,7 +131,8 @@ put_same (w ∷ ws) m k x all e = put_same ws (put w m) k x (λ v h is. all v (i
     by_test true same = all w (inl refl) (sym (same_key-is k w.key same))
     by_test false same = e
 
-pub put_written : (ws : List Write) (m : Map) (k : Bytes) (x : Option Bytes) (w : Write) → ((v : Write) → IsAmong ws v → v.key ≡ k → v.value ≡ x) → IsAmong ws w → w.key ≡ k → put_all ws m k ≡ x
+pub put_written : (ws : List Write) (m : Map) (k : Bytes) (x : Option Bytes) (w : Write) → ((v : Write) → IsAmong ws v → v.key ≡ k → v.value ≡ x) →
+    IsAmong ws w → w.key ≡ k → put_all ws m k ≡ x
 put_written [] m k x w all h is = absurd h
 put_written (v ∷ ws) m k x w all (inl same) is =
     let key : v.key ≡ k = ap (λ (z : Write). z.key) same ∙ is in
@@ -158,9 +162,11 @@ module _ (k : Bytes) (x : Option Bytes) (top : ℕ) where
   stays [] m topped late e = e
   stays (t ∷ ts) m topped late e =
       stays ts (put_all t.writes m) (λ u w h. topped u w (inr h)) (λ u h. late u (inr h))
-      (put_same t.writes m k x (λ w h is. let low = (topped t w (inl refl) h is).0 in let high = late t (inl refl) in (topped t w (inl refl) h is).1 (omega (arith, low, high))) e)
+      (put_same t.writes m k x (λ w h is. let low = (topped t w (inl refl) h is).0 in let high = late t (inl refl) in
+          (topped t w (inl refl) h is).1 (omega (arith, low, high))) e)
 
-  pub written_last : (ts : List Txn) (m : Map) (t : Txn) (w : Write) → Rising ts → IsTopped ts → IsAmong ts t → IsAmong t.writes w → w.key ≡ k → t.at ≡ top → applied ts m k ≡ x
+  pub written_last : (ts : List Txn) (m : Map) (t : Txn) (w : Write) → Rising ts → IsTopped ts → IsAmong ts t → IsAmong t.writes w → w.key ≡ k →
+      t.at ≡ top → applied ts m k ≡ x
   written_last [] m t w r topped h j is e = absurd h
   written_last (u ∷ ts) m t w r topped (inl same) j is e =
       let at_top : u.at ≡ top = ap (λ (z : Txn). z.at) same ∙ e in
@@ -215,7 +221,8 @@ newest_is (j ∷ js) i e = by_value (newest js) refl e (λ l k. newest_is js l k
           above = λ q h. elim h [ inl is ↦ subst (λ (z : Install). z.at ≤ j.at) is (omega arith) | inr old ↦ let up = n.above q old in omega (arith, up, low) ];
         })
 
-    by_value : (o : Option Install) → newest js ≡ o → (elim o as (λ q. Option Install) [ None ↦ Some j | Some l ↦ cond (nat_lt j.at l.at) (Some l) (Some j) ]) ≡ Some i →
+    by_value : (o : Option Install) → newest js ≡ o → (elim o as (λ q. Option Install) [ None ↦ Some j | Some l ↦
+        cond (nat_lt j.at l.at) (Some l) (Some j) ]) ≡ Some i →
         ((l : Install) → newest js ≡ Some l → IsNewest js l) → IsNewest (j ∷ js) i
     by_value None is k rest =
         let same : j ≡ i = some_same j i k in
@@ -253,7 +260,8 @@ pub record Agree (h : List Txn) (test : Txn → Bool) (is : List Install) (k : B
   pub once : (i j : Install) → IsAmong is i → IsAmong is j → i.key ≡ k → j.key ≡ k → i.at ≡ j.at → i.value ≡ j.value
 
 -- then the value of the serial run is that of the newest version
-pub serial_value : (h : List Txn) (test : Txn → Bool) (is : List Install) (k : Bytes) → Agree h test is k → applied (filter test (serial h)) empty k ≡ latest is k
+pub serial_value : (h : List Txn) (test : Txn → Bool) (is : List Install) (k : Bytes) → Agree h test is k →
+    applied (filter test (serial h)) empty k ≡ latest is k
 unfolding latest
 serial_value h test is k agree = by_value (newest (of_key is k)) refl
   where

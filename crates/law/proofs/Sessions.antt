@@ -1,5 +1,6 @@
 -- What sessions do keeps something behind all that there is: each transaction has one set of closing messages.
-use Rattle.std.proofs.Common.{◌≡◌, ◌⊎◌, inl, inr, ℕ, Bool, true, false, cond, List, [], ◌∷◌, ◌++◌, Option, Some, None, slice_get, refl, sym, ap, subst, ◌∙◌, arith, option_map}
+use Rattle.std.proofs.Common.{◌≡◌, ◌⊎◌, inl, inr, ℕ, Bool, true, false, cond, List, [], ◌∷◌, ◌++◌, Option, Some, None, slice_get, refl, sym, ap}
+use Rattle.std.proofs.Common.{subst, ◌∙◌, arith, option_map}
 use Rattle.units.specs.Lists.{first, head}
 use Rattle.units.specs.Ids.{Id, same_id}
 use Rattle.units.specs.Keys.{Bytes}
@@ -10,7 +11,8 @@ use Rattle.units.proofs.Folds.{or_else, first_append}
 use Rattle.message.specs.declared.message.Envelope.{Envelope}
 use Rattle.session.specs.Sessions.{Client, begun, closing_messages}
 use Rattle.world.specs.World.{World, client_of, set_client, begin}
-use Rattle.law.specs.Evidence.{Scene, IsAmong, ClosedOver, BeganBy, LineEvidence, is_past_open, Holds}
+use Rattle.law.specs.Among.{IsAmong}
+use Rattle.law.specs.Evidence.{Scene, ClosedOver, BeganBy, LineEvidence, is_past_open, Holds}
 use Rattle.law.proofs.Members.{among_left, among_last, among_cases}
 use Rattle.law.proofs.Grows.{Grows, message_stays, line_stays, began_stays}
 use Rattle.law.proofs.Changes.{with_world, shard_stays}
@@ -35,14 +37,18 @@ pub record KeepsClosing (splits : List Bytes) (old new : Client) : Type 0 where
   pub closed : is_past_open old.stage ≡ true → is_past_open new.stage ≡ true
   pub messages : closing_messages splits new ≡ closing_messages splits old
 
-module _ (sc : Scene) (old new : Client) (there : client_of sc.world new.txn ≡ Some old) (keeps : is_past_open old.stage ≡ true → KeepsClosing sc.world.config.splits old new) where
+module _ (sc : Scene) (old new : Client) (there : client_of sc.world new.txn ≡ Some old) (keeps : is_past_open old.stage ≡ true →
+    KeepsClosing sc.world.config.splits old new) where
   closed_stays : (t : Id) (messages : List Envelope) → ClosedOver sc.world t messages → ClosedOver (set_client new sc.world) t messages
-  closed_stays t messages h = by_test (same_id h.client.txn new.txn) refl (client_set sc.world new t ∙ ap (option_map (λ d. cond (same_id d.txn new.txn) new d)) h.there)
+  closed_stays t messages h = by_test (same_id h.client.txn new.txn) refl (client_set sc.world new t
+      ∙ ap (option_map (λ d. cond (same_id d.txn new.txn) new d)) h.there)
     where
-      by_test : (b : Bool) → same_id h.client.txn new.txn ≡ b → client_of (set_client new sc.world) t ≡ Some (cond b new h.client) → ClosedOver (set_client new sc.world) t messages
+      by_test : (b : Bool) → same_id h.client.txn new.txn ≡ b → client_of (set_client new sc.world) t ≡ Some (cond b new h.client) →
+          ClosedOver (set_client new sc.world) t messages
       by_test false e now_there = record { client = h.client; there = now_there; closed = h.closed; same = h.same }
       by_test true e now_there =
-          let txn : t ≡ new.txn = sym (same_id-is h.client.txn t (found_is (λ (d : Client). d.txn) sc.world.clients t h.client h.there)) ∙ same_id-is h.client.txn new.txn e in
+          let txn : t ≡ new.txn = sym (same_id-is h.client.txn t (found_is (λ (d : Client). d.txn) sc.world.clients t h.client h.there))
+              ∙ same_id-is h.client.txn new.txn e in
           let one : h.client ≡ old = some_same h.client old (sym h.there ∙ ap (client_of sc.world) txn ∙ there) in
           let past : is_past_open old.stage ≡ true = subst (λ (d : Client). is_past_open d.stage ≡ true) one h.closed in
           record {
@@ -65,7 +71,8 @@ module _ (sc : Scene) (old new : Client) (there : client_of sc.world new.txn ≡
   was_there : (t : Id) (c : Client) → client_of (set_client new sc.world) t ≡ Some c → (d : Client) × (client_of sc.world t ≡ Some d)
   was_there t c e = by_value (client_of sc.world t) refl (sym (client_set sc.world new t) ∙ e)
     where
-      by_value : (o : Option Client) → client_of sc.world t ≡ o → option_map (λ d. cond (same_id d.txn new.txn) new d) o ≡ Some c → (d : Client) × (client_of sc.world t ≡ Some d)
+      by_value : (o : Option Client) → client_of sc.world t ≡ o → option_map (λ d. cond (same_id d.txn new.txn) new d) o ≡ Some c → (d : Client)
+          × (client_of sc.world t ≡ Some d)
       by_value None is k = absurd (cc)
       by_value (Some d) is k = (d, is)
 
@@ -118,7 +125,8 @@ module _ (sc : Scene) (t : Id) (fresh : client_of sc.world t ≡ None) (present 
   }
 
   new_begun : BeganBy (with_world sc (begin t sc.world)) t sc.now
-  new_begun = record { event = sc.world.event; time = sc.now; line = among_last sc.world.lines (Line.Begin t sc.world.event); timed = present; below = omega arith }
+  new_begun = record { event = sc.world.event; time = sc.now; line = among_last sc.world.lines (Line.Begin t sc.world.event); timed = present;
+      below = omega arith }
 
   began_now : (u : Id) (c : Client) (h : Holds sc) → client_of (begin t sc.world) u ≡ Some c → BeganBy (with_world sc (begin t sc.world)) u sc.now
   began_now u c h e = by_value (client_of sc.world u) refl (same_id t u) refl (sym (client_begun u) ∙ e)

@@ -1,8 +1,9 @@
 -- What happens at a shard, crashes and failures with it, keeps something behind all that there is.
-use Rattle.std.proofs.Common.{◌≡◌, inl, inr, ℕ, Bool, true, false, cond, nat_eq, nat_lt, List, [], ◌∷◌, ◌++◌, Option, Some, None, slice_get, refl, sym, ap, subst, ◌∙◌, arith, option_to_list}
+use Rattle.std.proofs.Common.{◌≡◌, inl, inr, ℕ, Bool, true, false, cond, nat_eq, nat_lt, List, [], ◌∷◌, ◌++◌, Option, Some, None, slice_get, refl}
+use Rattle.std.proofs.Common.{sym, ap, subst, ◌∙◌, arith, option_to_list}
+use Rattle.std.proofs.lemmas.List.{append-nil}
 use Rattle.units.specs.declared.fault.Fault.{Fault}
 use Rattle.units.specs.declared.fault.Fault.TheVariants.{Stopped, Device}
-use Rattle.units.proofs.Folds.{append_none}
 use Rattle.units.proofs.ListLaws.{all_gives}
 use Rattle.truetime.specs.Interval.{Interval}
 use Rattle.disk.specs.declared.plan.Fate.{Fate}
@@ -14,10 +15,14 @@ use Rattle.message.specs.declared.message.Input.{Input}
 use Rattle.message.specs.declared.message.Message.{Message}
 use Rattle.protocol.specs.Rows.{Memory}
 use Rattle.protocol.specs.Step.{Stepped, Refuses, Does}
-use Rattle.world.specs.World.{After, ShardNow, State, Runs, IsStopped, IsDown, Unsure, Nothing, Shown, Hidden, shown, read_log, setup_of, opening, input_of, step_with, effect, finished, crashed, crashed_in, failed_in, left_of, left_unsure, left_by_refused, is_left, opens_gate, stopped, set_shard, did, did_with_failure, refused_doing, refused}
+use Rattle.gatelog.specs.Gates.{is_left, is_read, opens_gate}
+use Rattle.world.specs.World.{After, ShardNow, State, Runs, IsStopped, IsDown, Unsure, Nothing, Shown, Hidden, shown_records, read_log, setup_of}
+use Rattle.world.specs.World.{step_of_opening, input_of, step_with, effect, finished, crashed, crashed_in, failed_in, left_of, left_unsure}
+use Rattle.world.specs.World.{left_by_refused, stopped, set_shard, did, did_with_failure, refused_doing, refused}
 use Rattle.world.specs.declared.event.Doing.{Doing}
 use Rattle.world.specs.declared.event.Reply.{Reply}
-use Rattle.law.specs.Evidence.{Scene, IsAmong, log_at, RecordEvidence, StateEvidence, ShardEvidence, Told, MessageEvidence, Holds}
+use Rattle.law.specs.Among.{IsAmong}
+use Rattle.law.specs.Evidence.{Scene, log_at, RecordEvidence, StateEvidence, ShardEvidence, Told, MessageEvidence, Holds}
 use Rattle.world.specs.Headline.{IsUnsure}
 use Rattle.world.specs.Steady.{IsSteady}
 use Rattle.law.proofs.Members.{among_left, among_cases}
@@ -46,7 +51,7 @@ module _ (sc : Scene) (h : Holds sc) (steady : IsSteady sc.world) (present : sli
     (n : ℕ) (s : ShardNow) (there : slice_get sc.world.shards n ≡ Some s) where
   -- ---- what a read of the disk gives
 
-  shown_unsure : (u : Unsure) (r : Record) → IsAmong (shown u) r → IsUnsure u r
+  shown_unsure : (u : Unsure) (r : Record) → IsAmong (shown_records u) r → IsUnsure u r
   shown_unsure Nothing r k = absurd k
   shown_unsure (Shown q) r (inl same) = same
   shown_unsure (Shown q) r (inr none) = absurd none
@@ -75,10 +80,10 @@ module _ (sc : Scene) (h : Holds sc) (steady : IsSteady sc.world) (present : sli
   ]
 
   read_known : (r : Record) → IsAmong (read_log s) r → RecordEvidence sc s.log n r
-  read_known r k = known (shown s.unsure) (λ q j. shown_unsure s.unsure q j) r k
+  read_known r k = known (shown_records s.unsure) (λ q j. shown_unsure s.unsure q j) r k
 
   read_within : Within s.log (read_log s)
-  read_within r k = among_left s.log (shown s.unsure) r k
+  read_within r k = among_left s.log (shown_records s.unsure) r k
 
   in_log : (log : List Record) → Within s.log log → (r : Record) → RecordEvidence sc s.log n r → RecordEvidence sc log n r
   in_log log within r e = record_stays sc sc (grows_same sc) s.log log within n r e
@@ -86,10 +91,11 @@ module _ (sc : Scene) (h : Holds sc) (steady : IsSteady sc.world) (present : sli
   -- ---- the effect
 
   no_more : s.unsure ≡ Nothing → read_log s ≡ s.log
-  no_more e = ap (λ u. s.log ++ shown u) e ∙ append_none s.log
+  no_more e = ap (λ u. s.log ++ shown_records u) e ∙ append-nil s.log
 
   running : (o : Option (Interval × Input)) → Given sc n o → (st : State) → s.state ≡ st →
-      SteppedEvidence sc n (read_log s) (elim st as (λ x. Stepped) [ Runs m ↦ step_with (setup_of sc.world.config n) (facts_of s.log) m o | _ ↦ Refuses Stopped ])
+      SteppedEvidence sc n (read_log s) (elim st as (λ x. Stepped) [ Runs m ↦ step_with (setup_of sc.world.config n) (facts_of s.log) m o | _ ↦
+          Refuses Stopped ])
   running o heard (Runs m) is =
       let state : StateEvidence sc s n (Runs m) = subst (λ x. StateEvidence sc s n x) is (h.shards n s there).state in
       subst (λ l. SteppedEvidence sc n l (step_with (setup_of sc.world.config n) (facts_of s.log) m o)) (sym (no_more state.1))
@@ -97,11 +103,13 @@ module _ (sc : Scene) (h : Holds sc) (steady : IsSteady sc.world) (present : sli
   running o heard (IsStopped m) is = tt
   running o heard IsDown is = tt
 
-  pub effect_evidence : (doing : Doing) → Given sc n (input_of sc.world.bag doing) → SteppedEvidence sc n (read_log s) (effect (setup_of sc.world.config n) sc.world.bag s doing)
+  pub effect_evidence : (doing : Doing) → Given sc n (input_of sc.world.bag doing) → SteppedEvidence sc n (read_log s)
+      (effect (setup_of sc.world.config n) sc.world.bag s doing)
   unfolding effect
   effect_evidence Doing.Open heard = by_state s.state
     where
-      by_state : (st : State) → SteppedEvidence sc n (read_log s) (elim st as (λ x. Stepped) [ Runs m ↦ Refuses Stopped | _ ↦ opening (facts_of (read_log s)) ])
+      by_state : (st : State) → SteppedEvidence sc n (read_log s)
+          (elim st as (λ x. Stepped) [ Runs m ↦ Refuses Stopped | _ ↦ step_of_opening (facts_of (read_log s)) ])
       by_state (Runs m) = tt
       by_state (IsStopped m) = opening_evidence sc h n s there
       by_state IsDown = opening_evidence sc h n s there
@@ -121,7 +129,8 @@ module _ (sc : Scene) (h : Holds sc) (steady : IsSteady sc.world) (present : sli
     | inr new ↦ by_record logged rests new
   ]
     where
-      by_record : (o : Option Record) → LoggedEvidence sc (read_log s) n o → IsAmong (option_to_list o) r → RecordEvidence sc (read_log s ++ option_to_list o) n r
+      by_record : (o : Option Record) → LoggedEvidence sc (read_log s) n o → IsAmong (option_to_list o) r →
+          RecordEvidence sc (read_log s ++ option_to_list o) n r
       by_record None e j = absurd j
       by_record (Some q) e (inl same) = subst (λ x. RecordEvidence sc (read_log s ++ q ∷ []) n x) same
           (record_stays sc sc (grows_same sc) (read_log s) (read_log s ++ q ∷ []) (λ x i. among_left (read_log s) (q ∷ []) x i) n q e)
@@ -140,13 +149,15 @@ module _ (sc : Scene) (h : Holds sc) (steady : IsSteady sc.world) (present : sli
   finished_evidence doing logged memory out e = record {
     records = logged_known logged e.rests;
     unsure = λ r none. absurd none;
-    state = (rows_stay sc sc (grows_same sc) (with_record (read_log s) logged) (read_log s ++ option_to_list logged) (with_listed logged) n memory.rows e.rows, refl);
+    state = (rows_stay sc sc (grows_same sc) (with_record (read_log s) logged) (read_log s ++ option_to_list logged)
+        (with_listed logged) n memory.rows e.rows, refl);
   }
 
   crashed_evidence : (log : List Record) → ((r : Record) → IsAmong log r → RecordEvidence sc log n r) → ShardEvidence sc n (crashed s log)
   crashed_evidence log records = record { records = records; unsure = λ r none. absurd none; state = tt }
 
-  crash_holds : (log : List Record) → Within s.log log → ((r : Record) → IsAmong log r → RecordEvidence sc log n r) → Holds (with_world sc (set_shard n (crashed s log) sc.world))
+  crash_holds : (log : List Record) → Within s.log log → ((r : Record) → IsAmong log r → RecordEvidence sc log n r) →
+      Holds (with_world sc (set_shard n (crashed s log) sc.world))
   crash_holds log within records = set_holds sc n s (crashed s log) there within (crashed_evidence log records) h
 
   read_crash_holds : Holds (with_world sc (set_shard n (crashed s (read_log s)) sc.world))
@@ -173,14 +184,16 @@ module _ (sc : Scene) (h : Holds sc) (steady : IsSteady sc.world) (present : sli
       put_out_holds sc2 out present
       (all_gives (λ (x : Envelope). Told (with_record (read_log s) logged) sc.now n x.to x.message) (λ (x : Envelope). MessageEvidence sc2 x.to x.message)
       (λ x told. told_backed sc2 n x.to x.message (subst (λ l. Told l sc.now n x.to x.message) (sym log_is)
-      (told_stays (with_record (read_log s) logged) (read_log s ++ option_to_list logged) (with_listed logged) sc.now sc.now n (omega arith) x.to x.message told)))
+      (told_stays (with_record (read_log s) logged) (read_log s ++ option_to_list logged) (with_listed logged) sc.now sc.now n
+          (omega arith) x.to x.message told)))
       out e.told)
       (set_holds sc n s new there (within_listed logged) (finished_evidence doing logged memory out e) h)
 
   refused_holds : (doing : Doing) (f : Fault) → AfterHolds sc (refused_doing sc.world n s doing f)
   refused_holds Doing.Open f = by_state s.state
     where
-      by_state : (st : State) → AfterHolds sc (elim st as (λ x. After) [ Runs m ↦ refused sc.world f | _ ↦ (set_shard n (crashed s (read_log s)) sc.world, Reply.Refused f) ])
+      by_state : (st : State) → AfterHolds sc (elim st as (λ x. After) [ Runs m ↦ refused sc.world f | _ ↦
+          (set_shard n (crashed s (read_log s)) sc.world, Reply.Refused f) ])
       by_state (Runs m) = h
       by_state (IsStopped m) = read_crash_holds
       by_state IsDown = read_crash_holds
@@ -228,9 +241,9 @@ module _ (sc : Scene) (h : Holds sc) (steady : IsSteady sc.world) (present : sli
   -- ---- a call of it fails
 
   left_unsure_is : (call : ℕ) (r q : Record) → IsUnsure (left_unsure call r) q → r ≡ q
-  left_unsure_is call r q k = by_tests (nat_eq call 2) (nat_eq call 3) k
+  left_unsure_is call r q k = by_tests (is_read call) (is_left call Fate.New) k
     where
-      by_tests : (a b : Bool) → IsUnsure (cond a (Hidden r) (cond b (Shown r) Nothing)) q → r ≡ q
+      by_tests : (a b : Bool) → IsUnsure (cond a (Shown r) (cond b (Hidden r) Nothing)) q → r ≡ q
       by_tests true b j = j
       by_tests false true j = j
       by_tests false false j = absurd j
@@ -252,13 +265,15 @@ module _ (sc : Scene) (h : Holds sc) (steady : IsSteady sc.world) (present : sli
   unfolding failed_in
   failed_holds call r e = set_holds sc n s (failed_in s call r) there read_within (failed_evidence call r e) h
 
-  failing_holds : (call : ℕ) (doing : Doing) (stepped : Stepped) → SteppedEvidence sc n (read_log s) stepped → AfterHolds sc (did_with_failure sc.world n s call doing stepped)
+  failing_holds : (call : ℕ) (doing : Doing) (stepped : Stepped) → SteppedEvidence sc n (read_log s) stepped →
+      AfterHolds sc (did_with_failure sc.world n s call doing stepped)
   unfolding did_with_failure
   failing_holds call doing (Refuses f) e = did_holds doing (Refuses f) e
   failing_holds call doing (Does None memory out) e = did_holds doing (Does None memory out) e
   failing_holds call doing (Does (Some r) memory out) e = by_test (nat_lt call 4)
     where
-      by_test : (b : Bool) → AfterHolds sc (cond b (set_shard n (failed_in s call r) sc.world, Reply.Refused Device) (did sc.world n s doing (Does (Some r) memory out)))
+      by_test : (b : Bool) → AfterHolds sc (cond b (set_shard n (failed_in s call r) sc.world, Reply.Refused Device)
+          (did sc.world n s doing (Does (Some r) memory out)))
       by_test true = failed_holds call r e.rests
       by_test false = did_holds doing (Does (Some r) memory out) e
 

@@ -5,14 +5,15 @@ use Rattle.std.proofs.lemmas.Bool.Decides.{nat_tests}
 use Rattle.units.specs.Lists.{has, insert, once, sorted}
 use Rattle.message.specs.declared.message.Address.{Address}
 use Rattle.message.specs.declared.message.Address.TheVariants.{Shard, Session}
-use Rattle.law.specs.Evidence.{IsAmong}
+use Rattle.law.specs.Among.{IsAmong}
 
 pub inserted : {A : Type 0} (less : A → A → Bool) (x : A) (ys : List A) (z : A) → (x ≡ z) ⊎ IsAmong ys z → IsAmong (insert less x ys) z
 inserted less x [] z (inl same) = inl same
 inserted less x [] z (inr none) = absurd none
 inserted {A} less x (y ∷ ys) z h = by_test (less y x) h (λ k. inserted less x ys z k)
   where
-    by_test : (b : Bool) → (x ≡ z) ⊎ IsAmong (y ∷ ys) z → ((x ≡ z) ⊎ IsAmong ys z → IsAmong (insert less x ys) z) → IsAmong (cond b (y ∷ insert less x ys) (x ∷ y ∷ ys)) z
+    by_test : (b : Bool) → (x ≡ z) ⊎ IsAmong (y ∷ ys) z → ((x ≡ z) ⊎ IsAmong ys z → IsAmong (insert less x ys) z) →
+        IsAmong (cond b (y ∷ insert less x ys) (x ∷ y ∷ ys)) z
     by_test true (inl same) rest = inr (rest (inl same))
     by_test true (inr (inl same)) rest = inl same
     by_test true (inr (inr later)) rest = inr (rest (inr later))

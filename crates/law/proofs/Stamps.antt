@@ -1,5 +1,6 @@
 -- Each promise and each decision is above the versions and the ends before it.
-use Rattle.std.proofs.Common.{◌≡◌, ◌⊎◌, inl, inr, ℕ, ◌+◌, ◌<◌, ◌≤◌, max, min, Bool, true, false, cond, nat_le, nat_lt, List, [], ◌∷◌, ◌++◌, Option, Some, None, refl, sym, ap, subst, ◌∙◌, arith, slice_get}
+use Rattle.std.proofs.Common.{◌≡◌, ◌⊎◌, inl, inr, ℕ, ◌+◌, ◌<◌, ◌≤◌, max, min, Bool, true, false, cond, nat_le, nat_lt, List, [], ◌∷◌, ◌++◌, Option}
+use Rattle.std.proofs.Common.{Some, None, refl, sym, ap, subst, ◌∙◌, arith, slice_get}
 use Rattle.std.specs.Prelude.{Ok}
 use Rattle.std.proofs.lemmas.Bool.{leb-true}
 use Rattle.protocol.specs.Outputs.{promise, decision}
@@ -20,7 +21,7 @@ use Rattle.record.specs.declared.record.Record.TheVariants.{Opened, Ceiling, Pre
 use Rattle.record.proofs.LearnAgrees.{accepted_follows}
 use Rattle.record.proofs.Statuses.{recorded_is}
 use Rattle.message.specs.declared.message.Input.{Input}
-use Rattle.protocol.specs.Plan.{time_limit, Plan, Before, before, carried}
+use Rattle.protocol.specs.Plan.{time_limit, Plan, Before, start_of_step, carried}
 use Rattle.protocol.specs.Rows.{Memory, rebuilt}
 use Rattle.protocol.specs.Step.{plan_input, facts_after, IsInLimit}
 use Rattle.protocol.proofs.Agreement.{Sound, promise_of, decision_of}
@@ -43,7 +44,8 @@ use Rattle.world.specs.Lawful.{lawful}
 use Rattle.law.proofs.LeftGood.{left_is_good}
 
 -- a record at the end of a list, or before it
-pub last_split : (log : List Record) (r : Record) (front : List Record) (q : Record) (back : List Record) → log ++ r ∷ [] ≡ front ++ q ∷ back → ((r ≡ q) × (log ≡ front)) ⊎ ((mid : List Record) × (log ≡ front ++ q ∷ mid))
+pub last_split : (log : List Record) (r : Record) (front : List Record) (q : Record) (back : List Record) → log ++ r ∷ [] ≡ front ++ q ∷ back →
+    ((r ≡ q) × (log ≡ front)) ⊎ ((mid : List Record) × (log ≡ front ++ q ∷ mid))
 last_split [] r [] q back e = inl ((first_is r q [] back e).0, refl)
   where
     first_is : (x y : Record) (xs ys : List Record) → ◌≡◌ {A = List Record} (x ∷ xs) (y ∷ ys) → (x ≡ y) × (xs ≡ ys)
@@ -75,7 +77,8 @@ some_is : (a b : ℕ) → Some a ≡ Some b → a ≡ b
 some_is a b e = cc
 
 -- one id has another status
-changed_ends : (b : Before) (f : Facts) (u : Id) (st : Status) (last : ℕ) → recorded f u ≡ st → ((v : Id) → same_id u v ≡ false → recorded f v ≡ recorded b.facts v) → b.memory.last ≤ last → ((s : ℕ) → end_stamp st ≡ Some s → s ≤ last) →
+changed_ends : (b : Before) (f : Facts) (u : Id) (st : Status) (last : ℕ) → recorded f u ≡ st →
+    ((v : Id) → same_id u v ≡ false → recorded f v ≡ recorded b.facts v) → b.memory.last ≤ last → ((s : ℕ) → end_stamp st ≡ Some s → s ≤ last) →
     EndsBelow b.facts b.memory.last → EndsBelow f last
 changed_ends b f u st last is others more own ends v s e = by_test (same_id u v) refl
   where
@@ -88,9 +91,11 @@ unfolding EndsNext learn
 next b p sound (Answers out is) = subst (EndsNext b) (sym is) (λ h. h)
 next b p sound (IsEnd u out fresh is) = subst (EndsNext b) (sym is) (λ h. h)
 next b p sound (IsAbort u out fresh is) = subst (EndsNext b) (sym is)
-    (changed_ends b (facts_after b.facts (Some (Record.Abort u))) u HasAborted b.memory.last (status_same b.facts.entries u HasAborted) (λ v d. status_other b.facts.entries u v HasAborted d) (omega arith) (λ s e. cc))
+    (changed_ends b (facts_after b.facts (Some (Record.Abort u))) u HasAborted b.memory.last (status_same b.facts.entries u HasAborted)
+        (λ v d. status_other b.facts.entries u v HasAborted d) (omega arith) (λ s e. cc))
 next b p sound (IsClose u n c at held outcome out found allowed is) = subst (EndsNext b) (sym is)
-    (changed_ends b (facts_after b.facts (Some (Record.Outcome u outcome))) u (after_outcome (recorded b.facts u) outcome) (raised b.memory.last outcome) (status_same b.facts.entries u (after_outcome (recorded b.facts u) outcome))
+    (changed_ends b (facts_after b.facts (Some (Record.Outcome u outcome))) u (after_outcome (recorded b.facts u) outcome)
+        (raised b.memory.last outcome) (status_same b.facts.entries u (after_outcome (recorded b.facts u) outcome))
     (λ v d. status_other b.facts.entries u v (after_outcome (recorded b.facts u) outcome) d) (up_to outcome)
     (λ s e. own outcome s (ap (λ st. end_stamp (after_outcome st outcome)) (sym (promise_of b u held c at sound found).is) ∙ e)))
   where
@@ -102,7 +107,8 @@ next b p sound (IsClose u n c at held outcome out found allowed is) = subst (End
     own None s e = cc
     own (Some q) s e = let same = some_is q s e in omega (arith, same)
 next b p sound (IsSettle u at ps held out found is) = subst (EndsNext b) (sym is)
-    (changed_ends b (facts_after b.facts (Some (Record.Outcome u (Some at)))) u (after_outcome (recorded b.facts u) (Some at)) b.memory.last (status_same b.facts.entries u (after_outcome (recorded b.facts u) (Some at)))
+    (changed_ends b (facts_after b.facts (Some (Record.Outcome u (Some at)))) u (after_outcome (recorded b.facts u) (Some at)) b.memory.last
+        (status_same b.facts.entries u (after_outcome (recorded b.facts u) (Some at)))
     (λ v d. status_other b.facts.entries u v (after_outcome (recorded b.facts u) (Some at)) d) (omega arith)
     (λ s e.
     let made = decision_of b u held at ps sound found in
@@ -112,10 +118,15 @@ next b p sound (IsSettle u at ps held out found is) = subst (EndsNext b) (sym is
 next b p sound (IsLock u ended needs phase out l is) = subst (EndsNext b) (sym is) (λ h. h)
 next b p sound (IsWait u needs phase out w is) = subst (EndsNext b) (sym is) (λ h. h)
 next b p sound (IsPromise u ended c at rs ws out l is) = subst (EndsNext b) (sym is)
-    (changed_ends b (facts_after b.facts (Some (promise u c at rs ws))) u (StandsPrepared (record { txn = u; coordinator = c; at = at; reads = rs; writes = ws })) (max b.memory.last at) (status_same b.facts.entries u (StandsPrepared (record { txn = u; coordinator = c; at = at; reads = rs; writes = ws })))
-    (λ v d. status_other b.facts.entries u v (StandsPrepared (record { txn = u; coordinator = c; at = at; reads = rs; writes = ws })) d) (omega arith) (λ s e. cc))
+    (changed_ends b (facts_after b.facts (Some (promise u c at rs ws))) u (StandsPrepared
+        (record { txn = u; coordinator = c; at = at; reads = rs; writes = ws })) (max b.memory.last at)
+        (status_same b.facts.entries u (StandsPrepared (record { txn = u; coordinator = c; at = at; reads = rs; writes = ws })))
+    (λ v d. status_other b.facts.entries u v (StandsPrepared (record { txn = u; coordinator = c; at = at; reads = rs; writes = ws })) d)
+        (omega arith) (λ s e. cc))
 next b p sound (IsDecision u ended needs at ps rs ws out l is) = subst (EndsNext b) (sym is)
-    (changed_ends b (facts_after b.facts (Some (decision u at ps rs ws))) u (StandsDecided (record { txn = u; at = at; parts = ps; reads = rs; writes = ws })) (max b.memory.last at) (status_same b.facts.entries u (StandsDecided (record { txn = u; at = at; parts = ps; reads = rs; writes = ws })))
+    (changed_ends b (facts_after b.facts (Some (decision u at ps rs ws))) u (StandsDecided
+        (record { txn = u; at = at; parts = ps; reads = rs; writes = ws })) (max b.memory.last at)
+        (status_same b.facts.entries u (StandsDecided (record { txn = u; at = at; parts = ps; reads = rs; writes = ws })))
     (λ v d. status_other b.facts.entries u v (StandsDecided (record { txn = u; at = at; parts = ps; reads = rs; writes = ws })) d) (omega arith) (λ s e. cc))
 
 next_of : (b : Before) (i : Input) (p : Plan) → Sound b → ShapeOf b i p → EndsNext b p
@@ -123,7 +134,8 @@ unfolding EndsNext learn
 next_of b i p sound (Acts shape) = next b p sound shape
 next_of b i p sound (IsAdvance stride at k is) = subst (EndsNext b) (sym is) (λ h. by_test (nat_lt b.facts.floor at) h)
   where
-    by_test : (c : Bool) → EndsBelow b.facts b.memory.last → EndsBelow (facts_after b.facts (cond c (Some (Record.Ceiling (min (at + stride) time_limit))) None)) (max b.memory.last at)
+    by_test : (c : Bool) → EndsBelow b.facts b.memory.last → EndsBelow (facts_after b.facts
+        (cond c (Some (Record.Ceiling (min (at + stride) time_limit))) None)) (max b.memory.last at)
     by_test true h u s e = let low = h u s e in omega (arith, low)
     by_test false h u s e = let low = h u s e in omega (arith, low)
 
@@ -138,11 +150,11 @@ pub record Stamped (setup : Setup) (log : List Record) : Type 0 where
   pub stamped : IsStamped log
 
 pub stamps_keeps : (setup : Setup) (f : Facts) (m : Memory) (now : Interval) (i : Input) (p : Plan) → IsInLimit i → Stamps setup f m →
-    plan_input setup (before 1024 setup f m) now i ≡ Ok p → Stamps setup (facts_after f p.logged) (carried p m)
+    plan_input setup (start_of_step 1024 setup f m) now i ≡ Ok p → Stamps setup (facts_after f p.logged) (carried p m)
 unfolding carried EndsNext
 stamps_keeps setup f m now i p limit s e = record {
   well = keeps setup f m now i p limit s.well e;
-  ends = next_of (before 1024 setup f m) i p s.well.sound (shape_of 1024 setup f m now i p (by_id-claims m.rows s.well.sound.table.order) e) s.ends;
+  ends = next_of (start_of_step 1024 setup f m) i p s.well.sound (shape_of 1024 setup f m now i p (by_id-claims m.rows s.well.sound.table.order) e) s.ends;
 }
 
 pub stamps_opens : (setup : Setup) (f : Facts) (m : Memory) → Stamps setup f m → Stamps setup (learn f (Record.Opened (f.epoch + 1))) (rebuilt f)
@@ -166,8 +178,9 @@ claim_above (Ceiling x) t at ks ws low c h = absurd c
 claim_above (Abort x) t at ks ws low c h = absurd c
 claim_above (Outcome x y) t at ks ws low c h = absurd c
 
-pub stamped_logs : (setup : Setup) (log : List Record) (m : Memory) (now : Interval) (i : Input) (p : Plan) (r : Record) → IsInLimit i → Stamped setup log → Stamps setup (facts_of log) m →
-    plan_input setup (before 1024 setup (facts_of log) m) now i ≡ Ok p → p.logged ≡ Some r → Stamped setup (log ++ r ∷ [])
+pub stamped_logs : (setup : Setup) (log : List Record) (m : Memory) (now : Interval) (i : Input) (p : Plan) (r : Record) → IsInLimit i →
+    Stamped setup log → Stamps setup (facts_of log) m →
+    plan_input setup (start_of_step 1024 setup (facts_of log) m) now i ≡ Ok p → p.logged ≡ Some r → Stamped setup (log ++ r ∷ [])
 unfolding facts_of Rises
 stamped_logs setup log m now i p r limit good s e logged = record {
   accepted = logs setup log m now i p r limit good.accepted s.well e logged;
@@ -178,13 +191,15 @@ stamped_logs setup log m now i p r limit good s e logged = record {
 }
   where
     above : IsAbove m.last r
-    above = subst (LoggedAbove m.last) logged (subst (λ z. Rises m.last z) e (rising m.last (before 1024 setup (facts_of log) m) (omega arith) setup now i)).1
+    above = subst (LoggedAbove m.last) logged (subst (λ z. Rises m.last z) e (rising m.last (start_of_step 1024 setup (facts_of log) m)
+        (omega arith) setup now i)).1
 
     here : (q : Record) (t : Id) (at : ℕ) (ks : List Bytes) (ws : List Write) → IsAbove m.last q → Claims q t at ks ws → IsAboveAll log at
     here q t at ks ws high claims =
         let up_from = claim_above q t at ks ws m.last claims high in
         record {
-          versions = λ i2 j. let low = leb-true i2.at m.last (each_at (λ (x : Install). nat_le x.at m.last) (installs_of log) i2 s.well.sound.installed j) in omega (arith, low, up_from);
+          versions = λ i2 j. let low = leb-true i2.at m.last (each_at (λ (x : Install). nat_le x.at m.last)
+              (installs_of log) i2 s.well.sound.installed j) in omega (arith, low, up_from);
           ends = λ u x k. let low = s.ends u x (ap end_stamp (recorded_is log u) ∙ k) in omega (arith, low, up_from);
         }
 
@@ -213,11 +228,13 @@ fresh_stamped setup = record { accepted = fresh_taken setup; stamped = λ front 
     not_none [] r back e = cc
     not_none (y ∷ front) r back e = cc
 
-    none : (front : List Record) (r : Record) (back : List Record) (t : Id) (at : ℕ) (ks : List Bytes) (ws : List Write) → Record.Opened 1 ∷ [] ≡ front ++ r ∷ back → Claims r t at ks ws → ⊥
+    none : (front : List Record) (r : Record) (back : List Record) (t : Id) (at : ℕ) (ks : List Bytes) (ws : List Write) →
+        Record.Opened 1 ∷ [] ≡ front ++ r ∷ back → Claims r t at ks ws → ⊥
     none [] r back t at ks ws e claims = subst (λ z. Claims z t at ks ws) (sym (first_is (Record.Opened 1) r [] back e).0) claims
     none (y ∷ front) r back t at ks ws e claims = not_none front r back (first_is (Record.Opened 1) y [] (front ++ r ∷ back) e).1
 
-pub left_stamped : (config : Config) (es : List Event) (ls : List (List Record)) → lawful config es ≡ true → MayBeLeft config es ls → (k : ℕ) (log : List Record) → slice_get ls k ≡ Some log → IsStamped log
+pub left_stamped : (config : Config) (es : List Event) (ls : List (List Record)) → lawful config es ≡ true → MayBeLeft config es ls →
+    (k : ℕ) (log : List Record) → slice_get ls k ≡ Some log → IsStamped log
 left_stamped config es ls fair may k log e =
     (left_is_good InLimit Stamps Stamped stamps_keeps stamps_opens stamped_follows stamped_logs stamped_opens config es ls may
     (always_sound InLimit Stamps Stamped stamps_keeps stamps_opens stamped_follows stamped_logs stamped_opens limits fresh_stamps fresh_stamped config es fair)

@@ -1,5 +1,6 @@
 -- What the history writes of a key is what the key's shard installed.
-use Rattle.std.proofs.Common.{◌≡◌, inl, inr, ℕ, ◌≤◌, Bool, true, false, not, ◌&&◌, nat_eq, List, Option, Some, None, refl, sym, ap, subst, ◌∙◌, arith, filter, flat_map}
+use Rattle.std.proofs.Common.{◌≡◌, inl, inr, ℕ, ◌≤◌, Bool, true, false, not, ◌&&◌, nat_eq, List, Option, Some, None, refl, sym, ap, subst, ◌∙◌, arith}
+use Rattle.std.proofs.Common.{filter, flat_map}
 use Rattle.std.proofs.lemmas.Bool.{eqb-true, and_from, and_parts}
 use Rattle.std.proofs.lemmas.Bool.Decides.{nat_tests}
 use Rattle.units.specs.Ids.{Id, same_id}
@@ -18,7 +19,8 @@ use Rattle.record.specs.declared.record.Record.{Record}
 use Rattle.record.specs.declared.record.Record.TheVariants.{Opened, Ceiling, Prepare, Commit, Abort, Outcome}
 use Rattle.world.specs.World.{setup_of}
 use Rattle.world.specs.declared.event.Config.{Config}
-use Rattle.law.specs.Evidence.{Scene, IsAmong, Holds}
+use Rattle.law.specs.Among.{IsAmong}
+use Rattle.law.specs.Evidence.{Scene, Holds}
 use Rattle.law.specs.Left.{AreLeft}
 use Rattle.law.proofs.Members.{among_left, among_right, among_cases}
 use Rattle.law.proofs.Orderly.{IsOrderly, one_decision, one_promise, decided_not_promised}
@@ -41,7 +43,8 @@ Wrote (Commit c) x w = (c.txn ≡ x.txn) × (c.at ≡ x.at) × IsAmong c.writes 
 Wrote _ x w = ⊥
 
 -- in an orderly log it is the one that counts
-wrote_by : (log : List Record) → IsOrderly log → (r : Record) (x : Txn) (w : Write) → IsAmong log r → Wrote r x w → IsAmong (writes_by (committed_of log x.txn) (prepared_of log x.txn)) w
+wrote_by : (log : List Record) → IsOrderly log → (r : Record) (x : Txn) (w : Write) → IsAmong log r → Wrote r x w →
+    IsAmong (writes_by (committed_of log x.txn) (prepared_of log x.txn)) w
 wrote_by log o (Commit c) x w k wrote = by_value (committed_of log x.txn) refl
   where
     by_value : (q : Option Committed) → committed_of log x.txn ≡ q → IsAmong (writes_by q (prepared_of log x.txn)) w
@@ -85,16 +88,20 @@ module _ (sc : Scene) (h : Holds sc) (logs : List (List Record)) (left : AreLeft
     pub own : shard_of config.splits w.key ≡ shard
 
   -- a promise elsewhere
-  elsewhere_home : (n : ℕ) (c : Committed) (p : Prepared) (w : Write) → IsAmong (log_in logs n) (Commit c) → IsAmong (promised_elsewhere logs c.txn n) p → IsAmong p.writes w → WriteHome (whole_txn logs n c) w
+  elsewhere_home : (n : ℕ) (c : Committed) (p : Prepared) (w : Write) → IsAmong (log_in logs n) (Commit c) →
+      IsAmong (promised_elsewhere logs c.txn n) p → IsAmong p.writes w → WriteHome (whole_txn logs n c) w
   elsewhere_home n c p w k e j =
       let m = among_join (λ (l : ℕ × List Record). filter (λ q. same_id q.txn c.txn && not (nat_eq l.0 n)) (gather as_prepared l.1)) (by_shard logs) p e in
-      let passes = and_parts (same_id p.txn c.txn) (not (nat_eq m.from.0 n)) (kept_passes (λ q. same_id q.txn c.txn && not (nat_eq m.from.0 n)) (gather as_prepared m.from.1) p m.within) in
-      let there : IsAmong (log_in logs m.from.0) (Prepare p) = subst (λ l. IsAmong l (Prepare p)) (sym (log_in-is logs m.from.0 m.from.1 (log_of_number logs m.from m.among)))
+      let passes = and_parts (same_id p.txn c.txn) (not (nat_eq m.from.0 n)) (kept_passes (λ q. same_id q.txn c.txn && not (nat_eq m.from.0 n))
+          (gather as_prepared m.from.1) p m.within) in
+      let there : IsAmong (log_in logs m.from.0) (Prepare p) = subst (λ l. IsAmong l (Prepare p))
+          (sym (log_in-is logs m.from.0 m.from.1 (log_of_number logs m.from m.among)))
       (promise_among m.from.1 p (among_keep (λ q. same_id q.txn c.txn && not (nat_eq m.from.0 n)) (gather as_prepared m.from.1) p m.within)) in
       let named : p.txn ≡ c.txn = same_id-is p.txn c.txn passes.0 in
       let part = promise_of_part sc h logs left n m.from.0 c p k there named in
       let below = promised sc h logs left n m.from.0 c k part (λ same. apart m.from.0 n passes.1 same) in
-      let same : below.promise ≡ p = one_promise (log_in logs m.from.0) (is_orderly sc h logs left m.from.0 (Prepare p) there) below.promise p below.among there (named ∙ sym below.named) in
+      let same : below.promise ≡ p = one_promise (log_in logs m.from.0) (is_orderly sc h logs left m.from.0 (Prepare p) there) below.promise p
+          below.among there (named ∙ sym below.named) in
       record {
         shard = m.from.0;
         claim = Prepare p;
@@ -110,9 +117,12 @@ module _ (sc : Scene) (h : Holds sc) (logs : List (List Record)) (left : AreLeft
   write_home x w k j =
       let d = from_history logs x k in
       subst (λ z. WriteHome z w) d.is
-      (elim (among_cases d.commit.writes (flat_map (λ p. p.writes) (promised_elsewhere logs d.commit.txn d.shard)) w (subst (λ (z : Txn). IsAmong z.writes w) (sym d.is) j)) [
-        | inl here ↦ record { shard = d.shard; claim = Commit d.commit; among = d.among; wrote = (refl, refl, here); own = own_decision d.shard d.commit w d.among here }
-        | inr there ↦ let p = among_join (λ (q : Prepared). q.writes) (promised_elsewhere logs d.commit.txn d.shard) w there in elsewhere_home d.shard d.commit p.from w d.among p.among p.within
+      (elim (among_cases d.commit.writes (flat_map (λ p. p.writes) (promised_elsewhere logs d.commit.txn d.shard)) w
+          (subst (λ (z : Txn). IsAmong z.writes w) (sym d.is) j)) [
+        | inl here ↦ record { shard = d.shard; claim = Commit d.commit; among = d.among; wrote = (refl, refl, here); own =
+            own_decision d.shard d.commit w d.among here }
+        | inr there ↦ let p = among_join (λ (q : Prepared). q.writes) (promised_elsewhere logs d.commit.txn d.shard) w there in
+            elsewhere_home d.shard d.commit p.from w d.among p.among p.within
       ])
 
   -- some first records of a shard's log
@@ -130,11 +140,14 @@ module _ (sc : Scene) (h : Holds sc) (logs : List (List Record)) (left : AreLeft
         d : InHistory logs x
         d = from_history logs x there
 
-        by_outcome : (o : Option ℕ) → IsAmong front (Outcome x.txn o) → IsAmong (writes_by (committed_of front x.txn) (prepared_of front x.txn)) w → IsInstalled (installs_of front) k x.at w.value
+        by_outcome : (o : Option ℕ) → IsAmong front (Outcome x.txn o) → IsAmong (writes_by (committed_of front x.txn) (prepared_of front x.txn)) w →
+            IsInstalled (installs_of front) k x.at w.value
         by_outcome None ended by =
-            absurd (no_aborted sc h logs left d.shard n d.commit d.among (subst (λ (z : Txn). IsAmong (log_in logs n) (Outcome z.txn None)) (sym d.is) (within (Outcome x.txn None) ended)))
+            absurd (no_aborted sc h logs left d.shard n d.commit d.among (subst (λ (z : Txn). IsAmong (log_in logs n) (Outcome z.txn None))
+                (sym d.is) (within (Outcome x.txn None) ended)))
         by_outcome (Some s) ended by =
-            let stamp : d.commit.at ≡ s = outcome_stamp sc h logs left d.shard n d.commit s d.among (subst (λ (z : Txn). IsAmong (log_in logs n) (Outcome z.txn (Some s))) (sym d.is) (within (Outcome x.txn (Some s)) ended)) in
+            let stamp : d.commit.at ≡ s = outcome_stamp sc h logs left d.shard n d.commit s d.among
+                (subst (λ (z : Txn). IsAmong (log_in logs n) (Outcome z.txn (Some s))) (sym d.is) (within (Outcome x.txn (Some s)) ended)) in
             record {
               install = record { key = w.key; at = s; value = w.value };
               among = installs_have front x.txn s w ended by;
@@ -144,7 +157,8 @@ module _ (sc : Scene) (h : Holds sc) (logs : List (List Record)) (left : AreLeft
             }
 
     -- and what is installed was written
-    pub written : (i : Install) (k : Bytes) (test : Txn → Bool) → IsAmong (installs_of front) i → i.key ≡ k → ((x : Txn) → x.at ≡ i.at → test x ≡ true) → Writes (history logs) test k i.at
+    pub written : (i : Install) (k : Bytes) (test : Txn → Bool) → IsAmong (installs_of front) i → i.key ≡ k →
+        ((x : Txn) → x.at ≡ i.at → test x ≡ true) → Writes (history logs) test k i.at
     written i k test j key passes =
         let by = installed_from front i j in
         let d = outcome_decided sc h logs left n by.txn by.stamp (within (Outcome by.txn (Some by.stamp)) by.ended) in
@@ -161,7 +175,8 @@ module _ (sc : Scene) (h : Holds sc) (logs : List (List Record)) (left : AreLeft
         }
       where
         -- its writes are among those of the transaction
-        of_this : (m : ℕ) (c : Committed) (t : Id) (w : Write) → IsAmong (log_in logs m) (Commit c) → c.txn ≡ t → (o : Option Committed) → committed_of front t ≡ o → (q : Option Prepared) → prepared_of front t ≡ q →
+        of_this : (m : ℕ) (c : Committed) (t : Id) (w : Write) → IsAmong (log_in logs m) (Commit c) → c.txn ≡ t → (o : Option Committed) →
+            committed_of front t ≡ o → (q : Option Prepared) → prepared_of front t ≡ q →
             IsAmong (writes_by o q) w → IsAmong (whole_txn logs m c).writes w
         of_this m c t w stands named (Some e) f q g l =
             let is = committed_is front t e f in
@@ -174,12 +189,16 @@ module _ (sc : Scene) (h : Holds sc) (logs : List (List Record)) (left : AreLeft
             let same : p.txn ≡ c.txn = is.1 ∙ sym named in
             among_right c.writes (flat_map (λ q. q.writes) (promised_elsewhere logs c.txn m)) w
             (join_among (λ (q : Prepared). q.writes) (promised_elsewhere logs c.txn m) p w
-            (join_among (λ (z : ℕ × List Record). filter (λ q. same_id q.txn c.txn && not (nat_eq z.0 m)) (gather as_prepared z.1)) (by_shard logs) (n, log_in logs n) p (number_there logs n (Prepare p) there)
-            (keep_among (λ q. same_id q.txn c.txn && not (nat_eq n m)) (gather as_prepared (log_in logs n)) p (gather_among as_prepared (log_in logs n) (Prepare p) p there refl)
-            (and_from (same_id p.txn c.txn) (not (nat_eq n m)) (subst (λ u. same_id u c.txn ≡ true) (sym same) (same_id-refl c.txn)) (by_place (nat_eq n m) refl)))) l)
+            (join_among (λ (z : ℕ × List Record). filter (λ q. same_id q.txn c.txn && not (nat_eq z.0 m)) (gather as_prepared z.1)) (by_shard logs)
+                (n, log_in logs n) p (number_there logs n (Prepare p) there)
+            (keep_among (λ q. same_id q.txn c.txn && not (nat_eq n m)) (gather as_prepared (log_in logs n)) p
+                (gather_among as_prepared (log_in logs n) (Prepare p) p there refl)
+            (and_from (same_id p.txn c.txn) (not (nat_eq n m)) (subst (λ u. same_id u c.txn ≡ true) (sym same) (same_id-refl c.txn))
+                (by_place (nat_eq n m) refl)))) l)
           where
             by_place : (b : Bool) → nat_eq n m ≡ b → not b ≡ true
             by_place false e = refl
             by_place true e =
                 let here : IsAmong (log_in logs n) (Commit c) = subst (λ z. IsAmong (log_in logs z) (Commit c)) (sym (eqb-true n m e)) stands in
-                absurd (decided_not_promised (log_in logs n) (is_orderly sc h logs left n (Commit c) here) c p here (within (Prepare p) (prepared_is front t p g).0) ((prepared_is front t p g).1 ∙ sym named))
+                absurd (decided_not_promised (log_in logs n) (is_orderly sc h logs left n (Commit c) here) c p here
+                    (within (Prepare p) (prepared_is front t p g).0) ((prepared_is front t p g).1 ∙ sym named))

@@ -1,5 +1,6 @@
 -- Each input in each standing is planned with evidence. The table is gone through once, here.
-use Rattle.std.proofs.Common.{◌≡◌, ◌⊎◌, inl, inr, ℕ, ◌+◌, ◌<◌, ◌≤◌, max, min, nat_eq, nat_lt, Bool, true, false, cond, ◌||◌, List, [], ◌∷◌, ◌++◌, Option, Some, None, refl, sym, ap, subst, map, arith}
+use Rattle.std.proofs.Common.{◌≡◌, ◌⊎◌, inl, inr, ℕ, ◌+◌, ◌<◌, ◌≤◌, max, min, nat_eq, nat_lt, Bool, true, false, cond, ◌||◌, List, [], ◌∷◌, ◌++◌}
+use Rattle.std.proofs.Common.{Option, Some, None, refl, sym, ap, subst, map, arith}
 use Rattle.std.specs.Prelude.{Ok, Err}
 use Rattle.std.specs.List.{AllByRecursion, list_any}
 use Rattle.std.proofs.lemmas.Bool.{eqb-true, ltb-true, and_parts}
@@ -14,13 +15,20 @@ use Rattle.record.specs.declared.record.Record.{Record}
 use Rattle.message.specs.declared.message.Message.{Message}
 use Rattle.message.specs.declared.message.Prepare.{Prepare}
 use Rattle.message.specs.declared.message.Commit.{Commit}
-use Rattle.protocol.specs.Rows.{Phase, Idle, WaitsRead, WaitsPrepare, WaitsCommit, Collecting, IsPrepared, IsDecided, Voted, Standing, IsUnknown, WasEnded, HasRow, WasAborted, WasSettled, WasClosed, with_vote}
+use Rattle.protocol.specs.Rows.{Phase, Idle, WaitsRead, WaitsPrepare, WaitsCommit, Collecting, IsPrepared, IsDecided, Voted, Standing, IsUnknown}
+use Rattle.protocol.specs.Rows.{WasEnded, HasRow, WasAborted, WasSettled, WasClosed, with_vote}
 use Rattle.protocol.specs.Outputs.{promise, decision, done_to, outcome_to, ask_to}
 use Rattle.protocol.specs.Plan.{time_limit, Before, puts, in_way, opens, is_crowded, Keeps}
-use Rattle.protocol.specs.Cells.{commit_stamp, other_parts, all_voted, is_outcome_for, plan_read, plan_read_now, plan_read_row, plan_prepare, plan_prepare_fresh, plan_prepare_now, plan_promise, plan_commit, plan_commit_fresh, plan_commit_now, plan_commit_granted, plan_decide, plan_abort, plan_vote, plan_count, plan_tell, plan_outcome, plan_give_up, plan_ask, plan_go_on, plan_settle, plan_advance, plan_nudge, tells, answers, to_read, refuses, raised, plan_abort_for}
-use Rattle.law.specs.Evidence.{Scene, IsAmong, Sent, PrepareAsked, CommitAsked, VotedYes, VoteBelow, HasPromise, HasDecision, HasOutcome, WasTold, WasAsked, WasQuestioned, RecordEvidence, Remembers, PhaseEvidence, Told, AllTold}
+use Rattle.protocol.specs.Cells.{commit_stamp, other_parts, all_voted, is_outcome_for, plan_read, plan_read_now, plan_read_row, plan_prepare}
+use Rattle.protocol.specs.Cells.{plan_prepare_fresh, plan_prepare_now, plan_promise, plan_commit, plan_commit_fresh, plan_commit_now}
+use Rattle.protocol.specs.Cells.{plan_commit_granted, plan_decide, plan_abort, plan_vote, plan_count, plan_tell, plan_outcome, plan_give_up, plan_ask}
+use Rattle.protocol.specs.Cells.{plan_go_on, plan_settle, plan_advance, plan_nudge, tells, answers, to_read, refuses, raised, plan_abort_for}
+use Rattle.law.specs.Among.{IsAmong}
+use Rattle.law.specs.Evidence.{Scene, Sent, PrepareAsked, CommitAsked, VotedYes, VoteBelow, HasPromise, HasDecision, HasOutcome, WasTold}
+use Rattle.law.specs.Evidence.{WasAsked, WasQuestioned, RecordEvidence, Remembers, PhaseEvidence, Told, AllTold}
 use Rattle.law.proofs.Members.{among_left, among_last, all_append, all_at, some_passes}
-use Rattle.law.proofs.Moves.{PlannedEvidence, StandingEvidence, replying, ending, dropping, putting, standing_by_record, refusing, choosing, choosing_plan, tested, rooming, cells}
+use Rattle.law.proofs.Moves.{PlannedEvidence, StandingEvidence, replying, ending, dropping, putting, standing_by_record, refusing, choosing}
+use Rattle.law.proofs.Moves.{choosing_plan, tested, rooming, cells}
 
 -- ---- votes
 
@@ -32,7 +40,8 @@ voted_among (n ∷ ns) votes m e h = by_test (nat_eq m n) refl h (λ k. voted_am
     here : nat_eq m n ≡ true → list_any (λ v. nat_eq v.shard m) votes ≡ true
     here k = subst (λ j. list_any (λ v. nat_eq v.shard j) votes ≡ true) (sym (eqb-true m n k)) (and_parts _ _ e).0
 
-    by_test : (b : Bool) → nat_eq m n ≡ b → (b || has ns m) ≡ true → (has ns m ≡ true → list_any (λ v. nat_eq v.shard m) votes ≡ true) → list_any (λ v. nat_eq v.shard m) votes ≡ true
+    by_test : (b : Bool) → nat_eq m n ≡ b → (b || has ns m) ≡ true → (has ns m ≡ true → list_any (λ v. nat_eq v.shard m) votes ≡ true) →
+        list_any (λ v. nat_eq v.shard m) votes ≡ true
     by_test true k l rest = here k
     by_test false k l rest = rest l
 
@@ -133,7 +142,8 @@ module _ (sc : Scene) (log : List Record) (b : Before) where
   unfolding plan_prepare_now
   preparing_now earliest m asked =
       rooming sc log b _ _
-      (choosing sc log b _ _ _ (promising _ earliest m.txn m.coordinator m.reads.keys m.writes asked) (putting sc log b _ m.txn _ (WaitsPrepare m.coordinator m.reads.keys m.writes) _ _ asked tt))
+      (choosing sc log b _ _ _ (promising _ earliest m.txn m.coordinator m.reads.keys m.writes asked)
+          (putting sc log b _ m.txn _ (WaitsPrepare m.coordinator m.reads.keys m.writes) _ _ asked tt))
 
   preparing_fresh : (earliest : ℕ) (m : Prepare) (held : List Lock) → PrepareAsked sc.world b.shard m.txn m.coordinator m.reads.keys m.writes →
       PlannedEvidence sc log b.shard (plan_prepare_fresh b earliest m held)
@@ -168,7 +178,8 @@ module _ (sc : Scene) (log : List Record) (b : Before) where
       dropping sc log b t (Record.Abort t) b.memory.last (done_to t None ∷ tells b t None (other_parts b.shard ps)) why
       (logged, tells_told (log ++ Record.Abort t ∷ []) t (other_parts b.shard ps) logged)
 
-  was_asked : (t : Id) (ps : List ℕ) (rs : List Bytes) (ws : List Write) → CommitAsked sc.world b.shard t ps rs ws → WasAsked sc.world b.shard t ⊎ WasQuestioned sc.world b.shard t
+  was_asked : (t : Id) (ps : List ℕ) (rs : List Bytes) (ws : List Write) → CommitAsked sc.world b.shard t ps rs ws → WasAsked sc.world b.shard t
+      ⊎ WasQuestioned sc.world b.shard t
   was_asked t ps rs ws h = inl (record { parts = ps; reads = rs; writes = ws; asked = h })
 
   granting : (ended : List Id) (t : Id) (latest : ℕ) (ps : List ℕ) (rs : List Bytes) (ws : List Write) → Remembers sc b.shard t latest ps rs ws →
@@ -212,7 +223,8 @@ module _ (sc : Scene) (log : List Record) (b : Before) where
 
   -- ---- vote
 
-  one_more : (t : Id) (n p : ℕ) (votes : List Voted) → VotedYes sc.world b.shard t (record { shard = n; at = p }) → AllByRecursion (VotedYes sc.world b.shard t) votes →
+  one_more : (t : Id) (n p : ℕ) (votes : List Voted) → VotedYes sc.world b.shard t (record { shard = n; at = p }) →
+      AllByRecursion (VotedYes sc.world b.shard t) votes →
       AllByRecursion (VotedYes sc.world b.shard t) (with_vote n p votes)
   one_more t n p votes new old = by_test (list_any (λ v. nat_eq v.shard n) votes)
     where
@@ -267,11 +279,13 @@ module _ (sc : Scene) (log : List Record) (b : Before) where
   same_sender n c p (Some s) e = (and_parts _ _ e).0
 
   pub ending_by : (n : ℕ) (t : Id) (outcome : Option ℕ) → Sent sc.world b.shard (Message.Outcome (record { from = n; txn = t; outcome = outcome })) →
-      ((s : ℕ) → outcome ≡ Some s → s < sc.now) → (st : Standing) → StandingEvidence sc log b.shard t st → PlannedEvidence sc log b.shard (plan_outcome b n t outcome st)
+      ((s : ℕ) → outcome ≡ Some s → s < sc.now) → (st : Standing) → StandingEvidence sc log b.shard t st →
+          PlannedEvidence sc log b.shard (plan_outcome b n t outcome st)
   unfolding plan_outcome
   ending_by n t outcome sent passed (HasRow held (IsPrepared c p)) e =
       tested sc log b (is_outcome_for n c p outcome) _ _
-      (λ fits. dropping sc log b t (Record.Outcome t outcome) (raised b.memory.last outcome) [] (closing n t outcome c p sent passed e (same_sender n c p outcome fits)) tt)
+      (λ fits. dropping sc log b t (Record.Outcome t outcome) (raised b.memory.last outcome) []
+          (closing n t outcome c p sent passed e (same_sender n c p outcome fits)) tt)
       (refusing sc log b Stranger)
   ending_by n t None sent passed IsUnknown e = ending sc log b t [] tt
   ending_by n t (Some s) sent passed IsUnknown e = refusing sc log b Stranger
@@ -300,7 +314,8 @@ module _ (sc : Scene) (log : List Record) (b : Before) where
   giving_up t (WasSettled s ps) e = replying sc log b [] tt
   giving_up t (WasClosed o) e = replying sc log b [] tt
 
-  aborting_for : (n : ℕ) (t : Id) → Sent sc.world b.shard (Message.Ask (record { from = n; txn = t })) → PlannedEvidence sc log b.shard (Ok (plan_abort_for b n t))
+  aborting_for : (n : ℕ) (t : Id) → Sent sc.world b.shard (Message.Ask (record { from = n; txn = t })) →
+      PlannedEvidence sc log b.shard (Ok (plan_abort_for b n t))
   aborting_for n t sent =
       dropping sc log b t (Record.Abort t) b.memory.last (outcome_to b.shard t None n ∷ []) (inr (record { from = n; sent = sent }))
       ((refl, among_last log (Record.Abort t)), tt)
@@ -313,7 +328,8 @@ module _ (sc : Scene) (log : List Record) (b : Before) where
   questioned n t sent (HasRow held Idle) e = aborting_for n t sent
   questioned n t sent (HasRow held (WaitsRead k)) e = aborting_for n t sent
   questioned n t sent WasAborted e = replying sc log b (outcome_to b.shard t None n ∷ []) ((refl, e), tt)
-  questioned n t sent (WasSettled s ps) e = choosing sc log b _ _ _ (replying sc log b (outcome_to b.shard t (Some s) n ∷ []) ((refl, e), tt)) (refusing sc log b Stranger)
+  questioned n t sent (WasSettled s ps) e = choosing sc log b _ _ _ (replying sc log b (outcome_to b.shard t (Some s) n ∷ []) ((refl, e), tt))
+      (refusing sc log b Stranger)
   questioned n t sent (HasRow held (WaitsCommit l ps rs ws)) e = replying sc log b [] tt
   questioned n t sent (HasRow held (Collecting l ps rs ws votes)) e = replying sc log b [] tt
   questioned n t sent (HasRow held (IsDecided s ps)) e = replying sc log b [] tt
@@ -343,7 +359,8 @@ module _ (sc : Scene) (log : List Record) (b : Before) where
       let passed : s < sc.now = omega (arith, below, honest) in
       let more = log ++ Record.Outcome t (Some s) ∷ [] in
       let stands : HasOutcome more sc.now t s = record {
-        decided = record { parts = e.parts; reads = e.reads; writes = e.writes; among = among_left log (Record.Outcome t (Some s) ∷ []) (decision t s e.parts e.reads e.writes) e.among };
+        decided = record { parts = e.parts; reads = e.reads; writes = e.writes; among = among_left log (Record.Outcome t (Some s) ∷ [])
+            (decision t s e.parts e.reads e.writes) e.among };
         ended = among_last log (Record.Outcome t (Some s));
         passed = passed;
       } in
@@ -358,7 +375,8 @@ module _ (sc : Scene) (log : List Record) (b : Before) where
     where
       by_tests : (c d : Bool) →
           PlannedEvidence sc log b.shard (cond c (Err Future)
-          (Ok (record { wounded = []; change = Keeps; logged = cond d (Some (Record.Ceiling (min (at + stride) time_limit))) None; last = max b.memory.last at; outbox = [] })))
+          (Ok (record { wounded = []; change = Keeps; logged = cond d (Some (Record.Ceiling (min (at + stride) time_limit))) None; last =
+              max b.memory.last at; outbox = [] })))
       by_tests true d = tt
       by_tests false true = record { logged = tt; change = tt; told = tt }
       by_tests false false = record { logged = tt; change = tt; told = tt }

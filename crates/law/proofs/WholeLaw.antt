@@ -1,5 +1,6 @@
 -- The law of the store, whole.
-use Rattle.std.proofs.Common.{◌≡◌, inl, inr, ℕ, true, List, [], ◌∷◌, ◌++◌, map, Option, Some, None, slice_get, refl, sym, ap, subst, ◌∙◌, suc, append_assoc, arith}
+use Rattle.std.proofs.Common.{◌≡◌, inl, inr, ℕ, true, List, [], ◌∷◌, ◌++◌, map, Option, Some, None, slice_get, refl, sym, ap, subst, ◌∙◌, suc}
+use Rattle.std.proofs.Common.{append_assoc, arith}
 use Rattle.std.proofs.lemmas.Bool.{and_parts}
 use Rattle.units.specs.Keys.{Bytes}
 use Rattle.units.specs.declared.fault.Fault.TheVariants.{Stranger}
@@ -10,13 +11,13 @@ use Rattle.record.specs.Verdict.{IsLine}
 use Rattle.record.specs.declared.record.Record.{Record}
 use Rattle.world.specs.Headline.{ExternalConsistency, MayBeLeft, MayLeaveLogs}
 use Rattle.world.specs.Lawful.{lawful, lawful_from, may_happen}
-use Rattle.world.specs.World.{World, After, ShardNow, acts, at_shard, happens, look_at_view, look_shard, noted, refused, run, run_from, setup_of, start}
+use Rattle.world.specs.World.{World, After, ShardNow, acts, at_shard, happens, look_at_view, look_shard, look_noted, refused, run, run_from, setup_of, start}
 use Rattle.world.specs.declared.event.Act.{Act}
 use Rattle.world.specs.declared.event.Config.{Config}
 use Rattle.world.specs.declared.event.Event.{Event}
 use Rattle.world.specs.declared.event.Reply.{Reply}
 use Rattle.law.specs.Acknowledged.{CommitsAreLines, committed_to}
-use Rattle.law.specs.Evidence.{IsAmong}
+use Rattle.law.specs.Among.{IsAmong}
 use Rattle.law.specs.InOrder.{BeforeIsInFront, IdsStandOnce}
 use Rattle.law.specs.TimeLaws.{InstalledInThePast, LooksShowAcknowledged, looks_at}
 use Rattle.law.proofs.Doings.{get_among}
@@ -50,8 +51,10 @@ line_of (x ∷ xs) l (inl same) = (0, ap (λ y. Some y) same)
 line_of (x ∷ xs) l (inr later) = let p = line_of xs l later in (suc p.0, p.1)
 
 -- an answered look is a line
-noted_line : (w : World) (k : Bytes) (at : ℕ) (r : Reply) (x : Option Bytes) → (noted w k at r).1 ≡ Reply.Shows x → IsAmong (noted w k at r).0.lines (Line.Look k at x)
-noted_line w k at (Reply.Shows y) x e = subst (λ z. IsAmong (w.lines ++ Line.Look k at y ∷ []) (Line.Look k at z)) (shows_is y x e) (among_last w.lines (Line.Look k at y))
+noted_line : (w : World) (k : Bytes) (at : ℕ) (r : Reply) (x : Option Bytes) → (look_noted w k at r).1 ≡ Reply.Shows x →
+    IsAmong (look_noted w k at r).0.lines (Line.Look k at x)
+noted_line w k at (Reply.Shows y) x e = subst (λ z. IsAmong (w.lines ++ Line.Look k at y ∷ []) (Line.Look k at z)) (shows_is y x e)
+    (among_last w.lines (Line.Look k at y))
   where
     shows_is : (a b : Option Bytes) → Reply.Shows a ≡ Reply.Shows b → a ≡ b
     shows_is a b f = cc
@@ -59,12 +62,14 @@ noted_line w k at Reply.Done x e = cc
 noted_line w k at (Reply.Refused f) x e = cc
 noted_line w k at Reply.Crashed x e = cc
 
-at_shard_line : (w : World) (n : ℕ) (k : Bytes) (at : ℕ) (look : Setup → ShardNow → Reply) (x : Option Bytes) → (at_shard w n (λ setup s. noted w k at (look setup s))).1 ≡ Reply.Shows x →
-    IsAmong (at_shard w n (λ setup s. noted w k at (look setup s))).0.lines (Line.Look k at x)
+at_shard_line : (w : World) (n : ℕ) (k : Bytes) (at : ℕ) (look : Setup → ShardNow → Reply) (x : Option Bytes) →
+    (at_shard w n (λ setup s. look_noted w k at (look setup s))).1 ≡ Reply.Shows x →
+    IsAmong (at_shard w n (λ setup s. look_noted w k at (look setup s))).0.lines (Line.Look k at x)
 at_shard_line w n k at look x = by_value (slice_get w.shards n)
   where
-    by_value : (o : Option ShardNow) → (elim o as (λ y. After) [ None ↦ refused w Stranger | Some s ↦ noted w k at (look (setup_of w.config n) s) ]).1 ≡ Reply.Shows x →
-        IsAmong (elim o as (λ y. After) [ None ↦ refused w Stranger | Some s ↦ noted w k at (look (setup_of w.config n) s) ]).0.lines (Line.Look k at x)
+    by_value : (o : Option ShardNow) → (elim o as (λ y. After) [ None ↦ refused w Stranger | Some s ↦
+        look_noted w k at (look (setup_of w.config n) s) ]).1 ≡ Reply.Shows x →
+        IsAmong (elim o as (λ y. After) [ None ↦ refused w Stranger | Some s ↦ look_noted w k at (look (setup_of w.config n) s) ]).0.lines (Line.Look k at x)
     by_value None e = cc
     by_value (Some s) e = noted_line w k at (look (setup_of w.config n) s) x e
 
@@ -72,10 +77,12 @@ some_look : (p q : Bytes × ℕ) → ◌≡◌ {A = Option (Bytes × ℕ)} (Some
 some_look p q e = cc
 
 -- a look at a key and a time, by its act
-of_look : (w : World) (j : Bytes) (z : ℕ) (k : Bytes) (at : ℕ) (x : Option Bytes) → ◌≡◌ {A = Option (Bytes × ℕ)} (Some (j, z)) (Some (k, at)) → IsAmong w.lines (Line.Look j z x) → IsAmong w.lines (Line.Look k at x)
+of_look : (w : World) (j : Bytes) (z : ℕ) (k : Bytes) (at : ℕ) (x : Option Bytes) → ◌≡◌ {A = Option (Bytes × ℕ)} (Some (j, z)) (Some (k, at)) →
+    IsAmong w.lines (Line.Look j z x) → IsAmong w.lines (Line.Look k at x)
 of_look w j z k at x e h = subst (λ (p : Bytes × ℕ). IsAmong w.lines (Line.Look p.0 p.1 x)) (some_look (j, z) (k, at) e) h
 
-look_line : (w : World) (a : Act) (k : Bytes) (at : ℕ) (x : Option Bytes) → looks_at a ≡ Some (k, at) → (acts w a).1 ≡ Reply.Shows x → IsAmong (acts w a).0.lines (Line.Look k at x)
+look_line : (w : World) (a : Act) (k : Bytes) (at : ℕ) (x : Option Bytes) → looks_at a ≡ Some (k, at) → (acts w a).1 ≡ Reply.Shows x →
+    IsAmong (acts w a).0.lines (Line.Look k at x)
 unfolding acts
 look_line w (Act.Look n j z) k at x e shows =
     of_look (acts w (Act.Look n j z)).0 j z k at x e (at_shard_line w n j z (λ setup s. look_shard setup s j z) x shows)
@@ -129,7 +136,8 @@ module _ (config : Config) (es later : List Event) (e : Event) (fair : lawful co
       subst (λ (w : World). IsAmong w.lines l) (sym (run_on (start config) es (e ∷ later)))
       (lines_stay config (happens (run config es) e).0 later p.1 (event_keeps config (run config es) e p.0 (always_kept config es front)) l h)
 
-  shown_line : (k : Bytes) (at : ℕ) (x : Option Bytes) → looks_at e.act ≡ Some (k, at) → (happens (run config es) e).1 ≡ Reply.Shows x → IsAmong (happens (run config es) e).0.lines (Line.Look k at x)
+  shown_line : (k : Bytes) (at : ℕ) (x : Option Bytes) → looks_at e.act ≡ Some (k, at) → (happens (run config es) e).1 ≡ Reply.Shows x →
+      IsAmong (happens (run config es) e).0.lines (Line.Look k at x)
   unfolding happens
   shown_line k at x look shows = look_line (run config es) e.act k at x look shows
 
@@ -141,7 +149,8 @@ looks_show_acknowledged config es later e logs fair may k at look late t s m lin
       (keeps_acknowledged config (es ++ e ∷ later) logs fair may t s m ack).0;
   within = let before = acknowledged_before config es e t s m (with_it config es later e fair) line in omega (arith, before, late);
   shown = λ x shows. looks_serially config (es ++ e ∷ later) logs fair may k at x
-      (line_of (run config (es ++ e ∷ later)).lines (Line.Look k at x) (own_line config es later e fair (Line.Look k at x) (shown_line config es later e fair k at x look shows)));
+      (line_of (run config (es ++ e ∷ later)).lines (Line.Look k at x) (own_line config es later e fair (Line.Look k at x)
+          (shown_line config es later e fair k at x look shows)));
 }
 
 -- ---- one strict order
@@ -177,10 +186,12 @@ commits_are_lines config es fair to t s there =
     let one = each_apart config es logs fair may in
     let told = told_txn m.scene m.holds logs m.left to t s (subst (λ (w : World). IsAmong w.bag (committed_to to t s)) (sym m.same) there) in
     let line = line_of (run config es).lines (Line.Ack t k.stamp k.event) k.among in
-    let ack = ack_of_line m.scene m.holds logs m.left t k.stamp k.event (subst (λ (w : World). IsLine w.lines (Line.Ack t k.stamp k.event)) (sym m.same) line) in
+    let ack = ack_of_line m.scene m.holds logs m.left t k.stamp k.event (subst (λ (w : World). IsLine w.lines (Line.Ack t k.stamp k.event))
+        (sym m.same) line) in
     let first = told_txn m.scene m.holds logs m.left ack.to t k.stamp ack.sent in
     let same : first.txn ≡ told.txn =
     some_txn first.txn told.txn
-    (sym (found (history logs) first.txn one first.among) ∙ ap (find_txn (history logs)) (first.named ∙ sym told.named) ∙ found (history logs) told.txn one told.among) in
+    (sym (found (history logs) first.txn one first.among) ∙ ap (find_txn (history logs)) (first.named ∙ sym told.named)
+        ∙ found (history logs) told.txn one told.among) in
     let stamp : k.stamp ≡ s = sym first.stamp ∙ ap (λ (x : Txn). x.at) same ∙ told.stamp in
     (k.event, subst (λ z. IsLine (run config es).lines (Line.Ack t z k.event)) stamp line)

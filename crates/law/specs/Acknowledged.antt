@@ -12,7 +12,7 @@ use Rattle.world.specs.Lawful.{lawful}
 use Rattle.world.specs.World.{run}
 use Rattle.world.specs.declared.event.Config.{Config}
 use Rattle.world.specs.declared.event.Event.{Event}
-use Rattle.law.specs.Evidence.{IsAmong}
+use Rattle.law.specs.Among.{IsAmong}
 
 -- the message that a transaction committed at a timestamp
 abbrev pub committed_to : Address → Id → ℕ → Envelope

@@ -20,6 +20,7 @@ use Rattle.protocol.specs.Cells.{other_parts}
 use Rattle.session.specs.Sessions.{Client, Stage, IsOpen, closing_messages}
 use Rattle.world.specs.World.{World, ShardNow, State, Runs, Nothing, client_of}
 use Rattle.world.specs.Headline.{IsUnsure}
+use Rattle.law.specs.Among.{IsAmong}
 
 -- a world with the true times of the events so far, the number of the event under way, and the present
 pub record Scene : Type 0 where
@@ -27,11 +28,6 @@ pub record Scene : Type 0 where
   pub times : List ℕ
   pub event : ℕ
   pub now : ℕ
-
--- a member of a list
-abbrev pub IsAmong : {A : Type 0} → List A → A → Type 0
-IsAmong [] x = ⊥
-IsAmong (y ∷ ys) x = (y ≡ x) ⊎ IsAmong ys x
 
 -- the surely logged records of a shard
 abbrev pub log_at : World → ℕ → List Record
@@ -186,7 +182,8 @@ pub record VoteEvidence (log : List Record) (t : Id) (at : ℕ) : Type 0 where
 -- what a shard with this log may say at a time
 abbrev pub Told : List Record → ℕ → ℕ → Address → Message → Type 0
 Told log now n to (Message.Vote v) = elim v.vote [ None ↦ Unit {0} | Some at ↦ (v.from ≡ n) × VoteEvidence log v.txn at ]
-Told log now n to (Message.Outcome o) = elim o.outcome [ None ↦ (o.from ≡ n) × IsAmong log (Record.Abort o.txn) | Some s ↦ (o.from ≡ n) × HasOutcome log now o.txn s ]
+Told log now n to (Message.Outcome o) = elim o.outcome [ None ↦ (o.from ≡ n) × IsAmong log (Record.Abort o.txn) | Some s ↦ (o.from ≡ n)
+    × HasOutcome log now o.txn s ]
 Told log now n to (Message.Ask a) = (a.from ≡ n) × AskEvidence log to a.txn
 Told log now n to (Message.Done d) = elim d.outcome [ None ↦ IsAmong log (Record.Abort d.txn) | Some s ↦ HasOutcome log now d.txn s ]
 Told log now n to (Message.ReadAnswer a) = Unit {0}

@@ -9,7 +9,7 @@ use Rattle.world.specs.Headline.{MayBeLeft}
 use Rattle.world.specs.Lawful.{lawful}
 use Rattle.world.specs.declared.event.Config.{Config}
 use Rattle.world.specs.declared.event.Event.{Event}
-use Rattle.law.specs.Evidence.{IsAmong}
+use Rattle.law.specs.Among.{IsAmong}
 
 -- no two transactions have one id, and each is found by its own
 pub record HasIdsOnce (h : List Txn) : Type 0 where

@@ -3,7 +3,8 @@ use Rattle.std.specs.Prelude.{ℕ, ◌≡◌, IsTrue, List, slice_get, Some}
 use Rattle.record.specs.Accepted.{followed}
 use Rattle.record.specs.declared.record.Record.{Record}
 use Rattle.world.specs.World.{ShardNow}
-use Rattle.law.specs.Evidence.{Scene, IsAmong, RecordEvidence}
+use Rattle.law.specs.Among.{IsAmong}
+use Rattle.law.specs.Evidence.{Scene, RecordEvidence}
 
 -- a log has all records that are surely on a shard's disk, something stands behind each of its records, and each follows
 -- those before it

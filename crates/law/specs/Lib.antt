@@ -1,4 +1,5 @@
 pub mod Acknowledged
+pub mod Among
 pub mod Evidence
 pub mod InOrder
 pub mod Left

@@ -13,7 +13,7 @@ use Rattle.world.specs.Lawful.{lawful}
 use Rattle.world.specs.World.{World, client_of, run}
 use Rattle.world.specs.declared.event.Config.{Config}
 use Rattle.world.specs.declared.event.Event.{Event}
-use Rattle.law.specs.Evidence.{IsAmong}
+use Rattle.law.specs.Among.{IsAmong}
 
 -- a session closed: its request to commit was put out
 abbrev pub asks_to_commit : Id → Envelope → Bool

@@ -18,7 +18,8 @@ modes_clash_comm Exclusive Shared = refl
 modes_clash_comm Exclusive Exclusive = refl
 
 locks_clash_comm : (a b : Lock) → locks_clash a b ≡ locks_clash b a
-locks_clash_comm a b = ap (λ t. t && modes_clash a.mode b.mode) (same_key_comm a.key b.key) ∙ ap (λ t. same_key b.key a.key && t) (modes_clash_comm a.mode b.mode)
+locks_clash_comm a b = ap (λ t. t && modes_clash a.mode b.mode) (same_key_comm a.key b.key)
+    ∙ ap (λ t. same_key b.key a.key && t) (modes_clash_comm a.mode b.mode)
 
 pub clash_nil : (a : List Lock) → clash a [] ≡ false
 clash_nil [] = refl
@@ -37,11 +38,13 @@ stronger_is Shared b = inr refl
 stronger_is Exclusive b = inl refl
 
 -- what clashes with neither of two locks of one key clashes with neither's stronger
-stronger_free : (h l : Lock) (others : List Lock) → same_key h.key l.key ≡ true → list_any (locks_clash l) others ≡ false → list_any (locks_clash h) others ≡ false
+stronger_free : (h l : Lock) (others : List Lock) → same_key h.key l.key ≡ true → list_any (locks_clash l) others ≡ false →
+    list_any (locks_clash h) others ≡ false
     → list_any (locks_clash (record { key = h.key; mode = stronger h.mode l.mode })) others ≡ false
 stronger_free h l others same a b = elim (stronger_is h.mode l.mode) [
   | inl e ↦ ap (λ m. list_any (locks_clash (record { key = h.key; mode = m })) others) e ∙ b
-  | inr e ↦ ap (λ m. list_any (locks_clash (record { key = h.key; mode = m })) others) e ∙ ap (λ k. list_any (locks_clash (record { key = k; mode = l.mode })) others) (same_key-is h.key l.key same) ∙ a
+  | inr e ↦ ap (λ m. list_any (locks_clash (record { key = h.key; mode = m })) others) e ∙ ap
+      (λ k. list_any (locks_clash (record { key = k; mode = l.mode })) others) (same_key-is h.key l.key same) ∙ a
 ]
 
 or_false_left : (a b : Bool) → (a || b) ≡ false → a ≡ false
@@ -50,7 +53,8 @@ or_false_left a b h = grind (arith, nat_tests)
 or_false_right : (a b : Bool) → (a || b) ≡ false → b ≡ false
 or_false_right a b h = grind (arith, nat_tests)
 
-clash-with_lock : (held : List Lock) (l : Lock) (others : List Lock) → list_any (locks_clash l) others ≡ false → clash held others ≡ false → clash (with_lock held l) others ≡ false
+clash-with_lock : (held : List Lock) (l : Lock) (others : List Lock) → list_any (locks_clash l) others ≡ false → clash held others ≡ false →
+    clash (with_lock held l) others ≡ false
 clash-with_lock [] l others a b = grind (arith, nat_tests)
 clash-with_lock (h ∷ hs) l others a b =
     grind (arith, nat_tests, stronger_free h l others, clash-with_lock hs l others a (or_false_right (list_any (locks_clash h) others) (clash hs others) b))
@@ -63,12 +67,14 @@ clash-with_locks held (l ∷ ls) others a b =
     (clash-with_lock held l others (or_false_left (list_any (locks_clash l) others) (clash ls others) a) b)
 
 -- a lock given anew in another mode stands where it stood
-ascends-stronger : (h : Lock) (m : Mode) (hs : List Lock) → ascends lock_before (h ∷ hs) ≡ true → ascends lock_before (record { key = h.key; mode = m } ∷ hs) ≡ true
+ascends-stronger : (h : Lock) (m : Mode) (hs : List Lock) → ascends lock_before (h ∷ hs) ≡ true →
+    ascends lock_before (record { key = h.key; mode = m } ∷ hs) ≡ true
 ascends-stronger h m [] up = refl
 ascends-stronger h m (y ∷ ys) up = up
 
 -- one more lock behind a lock before it
-ascends-behind : (h : Lock) (hs : List Lock) (l : Lock) → ascends lock_before (h ∷ hs) ≡ true → lock_before h l ≡ true → ascends lock_before (h ∷ with_lock hs l) ≡ true
+ascends-behind : (h : Lock) (hs : List Lock) (l : Lock) → ascends lock_before (h ∷ hs) ≡ true → lock_before h l ≡ true →
+    ascends lock_before (h ∷ with_lock hs l) ≡ true
 ascends-behind h [] l up b = grind (arith, nat_tests)
 ascends-behind h (y ∷ ys) l up b =
     grind (arith, nat_tests, key_before-total y.key l.key, ascends-stronger y (stronger y.mode l.mode) ys, ascends-behind y ys l)

@@ -6,7 +6,7 @@ use Rattle.units.specs.ById.{IsById}
 use Rattle.units.specs.Locks.{Claim, wounded, is_free}
 use Rattle.units.specs.declared.lock.Lock.{Lock}
 use Rattle.units.proofs.IdLaws.{same_id-refl, older_not_same}
-use Rattle.units.proofs.ListLaws.{list_any-is, filter-is, any-keep, any-alike}
+use Rattle.units.proofs.ListLaws.{any-keep, any-alike}
 use Rattle.units.proofs.ByIdLaws.{AllYounger, later_are_younger, later_differ, without_none}
 use Rattle.locks.specs.Table.{without_claim, without_claims}
 use Rattle.locks.specs.Ways.{gives_way, stands_in_way, keeps_out, is_kept_out}
@@ -41,7 +41,8 @@ left_by_test p (c ∷ t) up = by_test (p c) (left_by_test p t up.1)
     gone = rw (same_id-refl c.txn) (without_none (λ (d : Claim). d.txn) t c.txn (later_differ (λ (d : Claim). d.txn) c.txn c t (same_id-refl c.txn) young))
 
     by_test : (b : Bool) → without_claims t (map (λ d. d.txn) (filter p t)) ≡ filter (λ d. not (p d)) t
-        → without_claims (c ∷ t) (map (λ d. d.txn) (cond b (c ∷ filter p t) (filter p t))) ≡ cond (not b) (c ∷ filter (λ d. not (p d)) t) (filter (λ d. not (p d)) t)
+        → without_claims (c ∷ t) (map (λ d. d.txn) (cond b (c ∷ filter p t) (filter p t))) ≡
+            cond (not b) (c ∷ filter (λ d. not (p d)) t) (filter (λ d. not (p d)) t)
     by_test true e = ap (λ s. without_claims s (map (λ d. d.txn) (filter p t))) gone ∙ e
     by_test false e = without_claims-others c (map (λ d. d.txn) (filter p t)) t (ids_differ p c t young) ∙ ap (λ s. c ∷ s) e
 
@@ -52,13 +53,13 @@ turned false true = refl
 turned false false = refl
 
 -- a request is granted once those that it wounds are gone where nobody else is in its way
-pub opens-is : (t : List Claim) (id : Id) (needs : List Lock) → IsById (λ c. c.txn) t → not (is_kept_out id needs t) ≡ is_free (without_claims t (wounded t id needs)) id needs
+pub opens-is : (t : List Claim) (id : Id) (needs : List Lock) → IsById (λ c. c.txn) t → not (is_kept_out id needs t) ≡
+    is_free (without_claims t (wounded t id needs)) id needs
 opens-is t id needs up =
     let left : without_claims t (wounded t id needs) ≡ filter (λ c. not (gives_way id needs c)) t =
-    ap (without_claims t) (wounded-is t id needs ∙ ap (map (λ c. c.txn)) (filter-is (gives_way id needs) t)) ∙ left_by_test (gives_way id needs) t up in
-    ap not (list_any-is (keeps_out id needs) t
-    ∙ any-alike (keeps_out id needs) (λ c. not (gives_way id needs c) && stands_in_way id needs c) (λ c. turned (stands_in_way id needs c) (not (gives_way id needs c))) t
-    ∙ sym (any-keep (stands_in_way id needs) (λ c. not (gives_way id needs c)) t)
-    ∙ sym (list_any-is (stands_in_way id needs) (filter (λ c. not (gives_way id needs c)) t)))
+    ap (without_claims t) (wounded-is t id needs) ∙ left_by_test (gives_way id needs) t up in
+    ap not (any-alike (keeps_out id needs) (λ c. not (gives_way id needs c) && stands_in_way id needs c)
+        (λ c. turned (stands_in_way id needs c) (not (gives_way id needs c))) t
+    ∙ sym (any-keep (stands_in_way id needs) (λ c. not (gives_way id needs c)) t))
     ∙ sym (is_free-is (filter (λ c. not (gives_way id needs c)) t) id needs)
     ∙ ap (λ s. is_free s id needs) (sym left)

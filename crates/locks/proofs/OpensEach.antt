@@ -8,7 +8,7 @@ use Rattle.units.specs.ById.{IsById}
 use Rattle.units.specs.Locks.{Claim, locks_clash, clash, wounded, is_free}
 use Rattle.units.specs.declared.lock.Lock.{Lock}
 use Rattle.units.proofs.IdLaws.{older_not_same, older-trans, same_id-refl}
-use Rattle.units.proofs.ListLaws.{list_any-is, any-alike, any_or}
+use Rattle.units.proofs.ListLaws.{any-alike, any_or}
 use Rattle.locks.specs.Table.{without_claims}
 use Rattle.locks.specs.Ways.{is_of, keeps_out, is_kept_out}
 use Rattle.locks.proofs.Clashes.{clash_nil}
@@ -78,8 +78,7 @@ neither false b = refl
 pub opens-none : (table : List Claim) (t : Id) → IsById (λ c. c.txn) table → opens_in table t [] ≡ true
 opens-none table t up =
     sym (opens-is table t [] up)
-    ∙ ap not (list_any-is (keeps_out t []) table
-    ∙ any-alike (keeps_out t []) (λ c. false)
+    ∙ ap not (any-alike (keeps_out t []) (λ c. false)
     (λ c. ap (λ b. (not (is_of t c) && (b || (older c.txn t && clash c.needs []))) && not (older t c.txn && (not c.firm && b))) (clash_nil c.held)
     ∙ ap (λ b. (not (is_of t c) && (false || (older c.txn t && b))) && not (older t c.txn && (not c.firm && false))) (clash_nil c.needs)
     ∙ kept_none (is_of t c) (older c.txn t) (older t c.txn) c.firm) table
@@ -90,11 +89,8 @@ pub opens-more : (table : List Claim) (t : Id) (l : Lock) (ls : List Lock) → I
     → opens_in table t (l ∷ ls) ≡ (opens_in table t (l ∷ []) && opens_in table t ls)
 opens-more table t l ls up =
     sym (opens-is table t (l ∷ ls) up)
-    ∙ ap not (list_any-is (keeps_out t (l ∷ ls)) table
-    ∙ any-alike (keeps_out t (l ∷ ls)) (λ c. keeps_out t (l ∷ []) c || keeps_out t ls c) (kept_more t l ls) table
+    ∙ ap not (any-alike (keeps_out t (l ∷ ls)) (λ c. keeps_out t (l ∷ []) c || keeps_out t ls c) (kept_more t l ls) table
     ∙ any_or (keeps_out t (l ∷ [])) (keeps_out t ls) table)
     ∙ neither (list_any (keeps_out t (l ∷ [])) table) (list_any (keeps_out t ls) table)
-    ∙ ap (λ b. not b && not (list_any (keeps_out t ls) table)) (sym (list_any-is (keeps_out t (l ∷ [])) table))
-    ∙ ap (λ b. not (is_kept_out t (l ∷ []) table) && not b) (sym (list_any-is (keeps_out t ls) table))
     ∙ ap (λ b. b && not (is_kept_out t ls table)) (opens-is table t (l ∷ []) up)
     ∙ ap (λ b. opens_in table t (l ∷ []) && b) (opens-is table t ls up)

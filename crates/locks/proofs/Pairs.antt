@@ -93,7 +93,8 @@ by_pairs table laws = record {
   keys = all_of_each (λ c. ascends lock_before c.held) table laws.keys;
   locks = pair_gives (λ a b. lock_pair a b ≡ true) LockPair (λ a b. lock_pair-is (same_id b.txn a.txn) (clash a.held b.held)) table
       (pairs_of_each lock_pair table (sym (lock_law_by_pairs table) ∙ laws.lock_law));
-  waits = pair_gives (λ a b. wait_pair a b ≡ true) WaitPair (λ w c. wait_pair-is (same_id c.txn w.txn) (clash c.held w.needs) (older c.txn w.txn || c.firm)) table
+  waits = pair_gives (λ a b. wait_pair a b ≡ true) WaitPair (λ w c. wait_pair-is (same_id c.txn w.txn) (clash c.held w.needs)
+      (older c.txn w.txn || c.firm)) table
       (pairs_of_each wait_pair table (sym (wait_law_by_pairs table) ∙ laws.wait_law));
 }
 
@@ -104,5 +105,6 @@ from_pairs table laws = record {
   lock_law = lock_law_by_pairs table ∙ each_of_pairs lock_pair table
       (pair_gives LockPair (λ a b. lock_pair a b ≡ true) (λ a b. lock_pair-from (same_id b.txn a.txn) (clash a.held b.held)) table laws.locks);
   wait_law = wait_law_by_pairs table ∙ each_of_pairs wait_pair table
-      (pair_gives WaitPair (λ a b. wait_pair a b ≡ true) (λ w c. wait_pair-from (same_id c.txn w.txn) (clash c.held w.needs) (older c.txn w.txn || c.firm)) table laws.waits);
+      (pair_gives WaitPair (λ a b. wait_pair a b ≡ true) (λ w c. wait_pair-from (same_id c.txn w.txn) (clash c.held w.needs)
+          (older c.txn w.txn || c.firm)) table laws.waits);
 }

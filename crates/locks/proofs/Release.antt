@@ -1,7 +1,7 @@
 -- What a request is answered once those that it wounds are released.
 use Rattle.std.proofs.Common.{◌≡◌, ◌+◌, Bool, true, false, ◌||◌, not, cond, List, [], ◌∷◌, map, length, refl, sym, ap, ◌∙◌, arith}
 use Rattle.std.specs.List.{list_any, filter, AllByRecursion}
-use Rattle.std.proofs.lemmas.Bool.{false≢true}
+use Rattle.std.proofs.lemmas.Bool.{false≢true, or_right, false_from_ne_true}
 use Rattle.std.proofs.lemmas.Bool.Decides.{nat_tests}
 use Rattle.units.specs.Ids.{Id, same_id, older}
 use Rattle.units.specs.Locks.{Claim, wounded}
@@ -9,7 +9,7 @@ use Rattle.units.specs.declared.lock.Lock.{Lock}
 use Rattle.units.proofs.IdLaws.{same_id-refl, same_id_comm, older_not_same}
 use Rattle.units.proofs.ListLaws.{all_gives, all-keep}
 use Rattle.units.proofs.ByIdLaws.{find-without_other, has-without_other, all-without}
-use Rattle.locks.specs.Table.{has_claim, without_claim, without_claims, most_held, held_by, ReleaseMakesWay}
+use Rattle.locks.specs.Table.{has_claim, without_claim, without_claims, most_held, held_by_claim, ReleaseMakesWay}
 use Rattle.locks.specs.Ways.{is_of, gives_way, is_wounding, ids_in_way}
 use Rattle.locks.proofs.WayLaws.{wounded-is, wounds_none}
 
@@ -24,9 +24,10 @@ most-without : (id : Id) (needs : List Lock) (ids : List Id) (t : List Claim) �
 most-without id needs [] t differ = refl
 most-without id needs (other ∷ ids) t differ =
     most-without id needs ids (without_claim t other) differ.1
-    ∙ ap (λ o. length (held_by o) + length needs) (find-without_other (λ (c : Claim). c.txn) t id other differ.0)
+    ∙ ap (λ o. length (held_by_claim o) + length needs) (find-without_other (λ (c : Claim). c.txn) t id other differ.0)
 
-has-without : (id : Id) (ids : List Id) (t : List Claim) → AllByRecursion (λ other. same_id other id ≡ false) ids → has_claim (without_claims t ids) id ≡ has_claim t id
+has-without : (id : Id) (ids : List Id) (t : List Claim) → AllByRecursion (λ other. same_id other id ≡ false) ids →
+    has_claim (without_claims t ids) id ≡ has_claim t id
 has-without id [] t differ = refl
 has-without id (other ∷ ids) t differ =
     has-without id ids (without_claim t other) differ.1 ∙ has-without_other (λ (c : Claim). c.txn) t id other differ.0
@@ -57,10 +58,12 @@ all_gone [] t = each t
     each [] = tt
     each (x ∷ t) = (refl, each t)
 all_gone (id ∷ ids) t =
-    both (without_claims (without_claim t id) ids) (all-without_claims (λ c. is_of id c ≡ false) ids (without_claim t id) (all-without (λ (c : Claim). c.txn) t id))
+    both (without_claims (without_claim t id) ids) (all-without_claims (λ c. is_of id c ≡ false) ids (without_claim t id)
+        (all-without (λ (c : Claim). c.txn) t id))
     (all_gone ids (without_claim t id))
   where
-    both : (s : List Claim) → AllByRecursion (λ c. is_of id c ≡ false) s → AllByRecursion (λ c. is_among ids c ≡ false) s → AllByRecursion (λ c. is_among (id ∷ ids) c ≡ false) s
+    both : (s : List Claim) → AllByRecursion (λ c. is_of id c ≡ false) s → AllByRecursion (λ c. is_among ids c ≡ false) s →
+        AllByRecursion (λ c. is_among (id ∷ ids) c ≡ false) s
     both [] p q = tt
     both (x ∷ s) p q = (rw p.0 q.0, both s p.1 q.1)
 
@@ -75,33 +78,29 @@ among_wounded id needs (x ∷ t) = by_test (gives_way id needs x) refl (among_wo
     kept : (ids : List Id) → ((c : Claim) → is_among others c ≡ true → is_among ids c ≡ true)
         → AllByRecursion (λ c. gives_way id needs c ≡ true → is_among others c ≡ true) t
         → AllByRecursion (λ c. gives_way id needs c ≡ true → is_among ids c ≡ true) t
-    kept ids more = all_gives (λ c. gives_way id needs c ≡ true → is_among others c ≡ true) (λ c. gives_way id needs c ≡ true → is_among ids c ≡ true) (λ c h g. more c (h g)) t
-
-    or_right : (a b : Bool) → b ≡ true → (a || b) ≡ true
-    or_right true b h = refl
-    or_right false b h = h
+    kept ids more = all_gives (λ c. gives_way id needs c ≡ true → is_among others c ≡ true)
+        (λ c. gives_way id needs c ≡ true → is_among ids c ≡ true) (λ c h g. more c (h g)) t
 
     by_test : (b : Bool) → gives_way id needs x ≡ b → AllByRecursion (λ c. gives_way id needs c ≡ true → is_among others c ≡ true) t
-        → AllByRecursion (λ c. gives_way id needs c ≡ true → is_among (map (λ c. c.txn) (cond b (x ∷ filter (gives_way id needs) t) (filter (gives_way id needs) t))) c ≡ true) (x ∷ t)
-    by_test true k rest = (λ _. ap (λ b. b || is_among others x) (same_id-refl x.txn), kept (x.txn ∷ others) (λ c. or_right (is_of x.txn c) (is_among others c)) rest)
+        → AllByRecursion (λ c. gives_way id needs c ≡ true → is_among
+            (map (λ c. c.txn) (cond b (x ∷ filter (gives_way id needs) t) (filter (gives_way id needs) t))) c ≡ true) (x ∷ t)
+    by_test true k rest = (λ _. ap (λ b. b || is_among others x) (same_id-refl x.txn), kept (x.txn ∷ others)
+        (λ c. or_right (is_of x.txn c) (is_among others c)) rest)
     by_test false k rest = (λ g. absurd (false≢true (sym k ∙ g)), rest)
 
 -- who is not among the wounded does not give way
 stays : (id : Id) (needs : List Lock) (ids : List Id) (t : List Claim) → AllByRecursion (λ c. gives_way id needs c ≡ true → is_among ids c ≡ true) t
     → AllByRecursion (λ c. is_among ids c ≡ false) t → AllByRecursion (λ c. gives_way id needs c ≡ false) t
 stays id needs ids [] p q = tt
-stays id needs ids (x ∷ t) p q = (not_true (gives_way id needs x) (λ g. false≢true (sym q.0 ∙ p.0 g)), stays id needs ids t p.1 q.1)
-  where
-    not_true : (b : Bool) → (b ≡ true → ⊥) → b ≡ false
-    not_true true h = absurd (h refl)
-    not_true false h = refl
+stays id needs ids (x ∷ t) p q = (false_from_ne_true (gives_way id needs x) (λ g. false≢true (sym q.0 ∙ p.0 g)), stays id needs ids t p.1 q.1)
 
 -- the same of the ids by the definition
 made_way : (id : Id) (needs : List Lock) (t : List Claim) → (is_wounding id needs (without_claims t (ids_in_way id needs t)) ≡ false)
 made_way id needs t =
     let ids = ids_in_way id needs t in
     let left = without_claims t ids in
-    none_passes (gives_way id needs) left (stays id needs ids left (all-without_claims (λ c. gives_way id needs c ≡ true → is_among ids c ≡ true) ids t (among_wounded id needs t)) (all_gone ids t))
+    none_passes (gives_way id needs) left (stays id needs ids left (all-without_claims (λ c. gives_way id needs c ≡ true →
+        is_among ids c ≡ true) ids t (among_wounded id needs t)) (all_gone ids t))
 
 pub release_makes_way : ReleaseMakesWay
 release_makes_way t id needs =

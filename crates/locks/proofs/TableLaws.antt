@@ -1,5 +1,6 @@
 -- The laws of a table hold after each change.
-use Rattle.std.proofs.Common.{◌≡◌, Bool, true, false, ◌||◌, not, cond, List, [], ◌∷◌, map, Option, Some, None, refl, sym, ap, subst, ◌∙◌, arith, ◌⊎◌, inl, inr, filter}
+use Rattle.std.proofs.Common.{◌≡◌, Bool, true, false, ◌||◌, not, cond, List, [], ◌∷◌, map, Option, Some, None, refl, sym, ap, subst, ◌∙◌, arith, ◌⊎◌}
+use Rattle.std.proofs.Common.{inl, inr, filter}
 use Rattle.std.specs.List.{list_any, find, AllByRecursion}
 use Rattle.std.specs.Option.{option_map}
 use Rattle.std.proofs.lemmas.Bool.{false≢true}
@@ -18,7 +19,8 @@ use Rattle.locks.proofs.Clashes.{clash_nil, clash_comm, clash-with_locks, ascend
 use Rattle.locks.proofs.WayLaws.{ready-is}
 use Rattle.locks.proofs.Pairs.{EachPair, LockPair, WaitPair, HoldsByKey, by_pairs, from_pairs}
 
-all-map : (P F Q : Claim → Type 0) (g : Claim → Claim) → ((b : Claim) → P b → F b → Q (g b)) → (t : List Claim) → AllByRecursion P t → AllByRecursion F t → AllByRecursion Q (map g t)
+all-map : (P F Q : Claim → Type 0) (g : Claim → Claim) → ((b : Claim) → P b → F b → Q (g b)) → (t : List Claim) → AllByRecursion P t →
+    AllByRecursion F t → AllByRecursion Q (map g t)
 all-map P F Q g h [] ps fs = tt
 all-map P F Q g h (b ∷ t) ps fs = (h b ps.0 fs.0, all-map P F Q g h t ps.1 fs.1)
 
@@ -40,11 +42,13 @@ all_of_any P h [] = tt
 all_of_any P h (x ∷ t) = (h x, all_of_any P h t)
 
 -- and where one comes in for which it holds with everyone
-each_pair-with : (P : Claim → Claim → Type 0) (e : Claim) (t : List Claim) → ((a : Claim) → P a e) → ((a : Claim) → P e a) → EachPair P t → EachPair P (with_claim t e)
+each_pair-with : (P : Claim → Claim → Type 0) (e : Claim) (t : List Claim) → ((a : Claim) → P a e) → ((a : Claim) → P e a) → EachPair P t →
+    EachPair P (with_claim t e)
 each_pair-with P e t left right pairs =
     all-with (λ a. AllByRecursion (P a) (with_claim t e)) (λ (c : Claim). c.txn) t e
     (all_of_any (P e) right (with_claim t e))
-    (all_gives (λ a. AllByRecursion (P a) t) (λ a. AllByRecursion (P a) (with_claim t e)) (λ a row. all-with (P a) (λ (c : Claim). c.txn) t e (left a) row) t pairs)
+    (all_gives (λ a. AllByRecursion (P a) t) (λ a. AllByRecursion (P a) (with_claim t e))
+        (λ a row. all-with (P a) (λ (c : Claim). c.txn) t e (left a) row) t pairs)
 
 -- where none passes a test, each fails it
 pub all_fail : (p : Claim → Bool) (t : List Claim) → list_any p t ≡ false → AllByRecursion (λ x. p x ≡ false) t
@@ -93,7 +97,8 @@ pub free_of : (id : Id) (needs : List Lock) (b : Claim) → is_of id b ≡ false
 free_of id needs b other free = grind (arith, nat_tests)
 
 -- and, where it waits in conflict, it is not older
-pub not_older_waiter : (id : Id) (needs : List Lock) (b : Claim) → is_of id b ≡ false → stands_in_way id needs b ≡ false → clash b.needs needs ≡ true → older b.txn id ≡ false
+pub not_older_waiter : (id : Id) (needs : List Lock) (b : Claim) → is_of id b ≡ false → stands_in_way id needs b ≡ false →
+    clash b.needs needs ≡ true → older b.txn id ≡ false
 not_older_waiter id needs b other free waits = grind (arith, nat_tests)
 
 -- claims of one transaction have one id
@@ -109,7 +114,8 @@ grant-locks id needs a b false true ia ib p fa fb = λ d.
     ∙ clash-with_locks b.held needs a.held (clash_comm needs a.held ∙ free_of id needs a ia fa) (clash_comm b.held a.held ∙ p d)
 grant-locks id needs a b true true ia ib p fa fb = λ d. absurd (false≢true (sym d ∙ same_of_both id a b ia ib))
 
-grant-waits_other : (id : Id) (needs : List Lock) (w h : Claim) (c : Bool) → is_of id w ≡ false → is_of id h ≡ true → WaitPair w h → stands_in_way id needs w ≡ false
+grant-waits_other : (id : Id) (needs : List Lock) (w h : Claim) (c : Bool) → is_of id w ≡ false → is_of id h ≡ true → WaitPair w h →
+    stands_in_way id needs w ≡ false
     → same_id h.txn w.txn ≡ false → clash h.held w.needs ≡ c → clash (with_locks h.held needs) w.needs ≡ true → (older h.txn w.txn || h.firm) ≡ true
 grant-waits_other id needs w h true iw ih p fw d held clashes = p d held
 grant-waits_other id needs w h false iw ih p fw d held clashes =
@@ -128,7 +134,8 @@ grant-waits id needs a b false false ia ib p fa = p
 grant-waits id needs a b false true ia ib p fa = λ d c. grant-waits_other id needs a b (clash b.held a.needs) ia ib p fa d refl c
 
 -- a table after a grant, where nobody is in the way
-pub lawful-granted : (t : List Claim) (id : Id) (needs : List Lock) → IsLawfulTable t → is_blocked id needs t ≡ false → IsLawfulTable (change_claim t id (granted needs))
+pub lawful-granted : (t : List Claim) (id : Id) (needs : List Lock) → IsLawfulTable t → is_blocked id needs t ≡ false →
+    IsLawfulTable (change_claim t id (granted needs))
 lawful-granted t id needs lawful free =
     let laws = by_pairs t lawful in
     let none = all_fail (stands_in_way id needs) t free in
@@ -148,7 +155,8 @@ wait-locks needs a b false true p = p
 wait-locks needs a b false false p = p
 
 -- what holds in conflict and is not to be ended is older or firm
-pub older_or_firm : (id : Id) (needs : List Lock) (w h : Claim) → is_of id w ≡ true → gives_way id needs h ≡ false → same_id h.txn w.txn ≡ false → clash h.held needs ≡ true
+pub older_or_firm : (id : Id) (needs : List Lock) (w h : Claim) → is_of id w ≡ true → gives_way id needs h ≡ false → same_id h.txn w.txn ≡ false →
+    clash h.held needs ≡ true
     → (older h.txn w.txn || h.firm) ≡ true
 older_or_firm id needs w h iw stays d clashes =
     let along = older-along w.txn id h.txn iw in
@@ -165,7 +173,8 @@ wait-waits id needs a b false true ia p fb = p
 wait-waits id needs a b false false ia p fb = p
 
 -- a table where one begins to wait that would end nobody
-pub lawful-waiting : (t : List Claim) (id : Id) (needs : List Lock) → IsLawfulTable t → is_wounding id needs t ≡ false → IsLawfulTable (change_claim t id (waiting needs))
+pub lawful-waiting : (t : List Claim) (id : Id) (needs : List Lock) → IsLawfulTable t → is_wounding id needs t ≡ false →
+    IsLawfulTable (change_claim t id (waiting needs))
 lawful-waiting t id needs lawful quiet =
     let laws = by_pairs t lawful in
     let none = all_fail (gives_way id needs) t quiet in
@@ -205,8 +214,10 @@ lawful-firm t id lawful =
     from_pairs (change_claim t id made_firm) (record {
       order = by_id-change (λ (c : Claim). c.txn) t id made_firm (λ c. refl) laws.order;
       keys = keys-changed made_firm id (λ c k. k) t laws.keys;
-      locks = each_pair-map LockPair LockPair (λ b. Unit {0}) (change_of made_firm id) (λ a b p fa fb. firm-locks a b (is_of id a) (is_of id b) p) t laws.locks (nothing_asked t);
-      waits = each_pair-map WaitPair WaitPair (λ b. Unit {0}) (change_of made_firm id) (λ a b p fa fb. firm-waits a b (is_of id a) (is_of id b) p) t laws.waits (nothing_asked t);
+      locks = each_pair-map LockPair LockPair (λ b. Unit {0}) (change_of made_firm id) (λ a b p fa fb. firm-locks a b (is_of id a) (is_of id b) p) t
+          laws.locks (nothing_asked t);
+      waits = each_pair-map WaitPair WaitPair (λ b. Unit {0}) (change_of made_firm id) (λ a b p fa fb. firm-waits a b (is_of id a) (is_of id b) p) t
+          laws.waits (nothing_asked t);
     })
 
 withdraw-waits : (a b : Claim) (x y : Bool) → WaitPair a b → WaitPair (cond x (waiting [] a) a) (cond y (waiting [] b) b)
@@ -222,8 +233,10 @@ lawful-withdrawn t id lawful =
     from_pairs (change_claim t id (waiting [])) (record {
       order = by_id-change (λ (c : Claim). c.txn) t id (waiting []) (λ c. refl) laws.order;
       keys = keys-changed (waiting []) id (λ c k. k) t laws.keys;
-      locks = each_pair-map LockPair LockPair (λ b. Unit {0}) (change_of (waiting []) id) (λ a b p fa fb. wait-locks [] a b (is_of id a) (is_of id b) p) t laws.locks (nothing_asked t);
-      waits = each_pair-map WaitPair WaitPair (λ b. Unit {0}) (change_of (waiting []) id) (λ a b p fa fb. withdraw-waits a b (is_of id a) (is_of id b) p) t laws.waits (nothing_asked t);
+      locks = each_pair-map LockPair LockPair (λ b. Unit {0}) (change_of (waiting []) id)
+          (λ a b p fa fb. wait-locks [] a b (is_of id a) (is_of id b) p) t laws.locks (nothing_asked t);
+      waits = each_pair-map WaitPair WaitPair (λ b. Unit {0}) (change_of (waiting []) id)
+          (λ a b p fa fb. withdraw-waits a b (is_of id a) (is_of id b) p) t laws.waits (nothing_asked t);
     })
 
 -- what is found has what each has
@@ -275,7 +288,8 @@ changed_alike f g id h e (x ∷ t) alone = by_test (is_of id x) alone.0 ∙ ap (
     by_test true k = ap (λ z. z ∷ change_claim t id f) (ap f (k refl) ∙ e ∙ sym (ap g (k refl)))
     by_test false k = refl
 
-to_go_found : (t : List Claim) (id : Id) (o : Option Claim) → find (can_go t) t ≡ o → option_map (λ c. c.txn) o ≡ Some id → (h : Claim) × (find (can_go t) t ≡ Some h) × (h.txn ≡ id)
+to_go_found : (t : List Claim) (id : Id) (o : Option Claim) → find (can_go t) t ≡ o → option_map (λ c. c.txn) o ≡ Some id → (h : Claim)
+    × (find (can_go t) t ≡ Some h) × (h.txn ≡ id)
 to_go_found t id None e k = cc
 to_go_found t id (Some h) e k = (h, e, cc)
 

@@ -11,7 +11,7 @@ use Rattle.units.specs.Locks.{Claim, clash, others, may_wound, wounded, is_free,
 use Rattle.units.specs.declared.lock.Asked.TheVariants.{Granted, Waits, Wounds}
 use Rattle.units.specs.declared.lock.Lock.{Lock}
 use Rattle.units.proofs.IdLaws.{same_id_comm, older_not_same}
-use Rattle.units.proofs.ListLaws.{list_any-is, filter-is, find-is, any-alike, keep-alike, any_or, keep-keep, any-keep}
+use Rattle.units.proofs.ListLaws.{find-is, any-alike, keep-alike, any_or, keep-keep, any-keep}
 use Rattle.locks.specs.Ways.{gives_way, is_wounding, ids_in_way, stands_in_way, is_blocked, can_go, first_to_go}
 
 -- the three tests of one that is wounded, in another order
@@ -33,8 +33,7 @@ wounded-is table t needs = ap (map (λ c. c.txn)) (
     ap (filter (may_wound t)) (keep-keep (λ (c : Claim). clash c.held needs) (λ c. not (same_id c.txn t)) table)
     ∙ keep-keep (may_wound t) (λ c. not (same_id c.txn t) && clash c.held needs) table
     ∙ keep-alike (λ c. (not (same_id c.txn t) && clash c.held needs) && may_wound t c) (gives_way t needs)
-    (λ c. wounds_alike (same_id c.txn t) (clash c.held needs) (older t c.txn) c.firm (λ o. same_id_comm c.txn t ∙ older_not_same t c.txn o)) table
-    ∙ sym (filter-is (gives_way t needs) table))
+    (λ c. wounds_alike (same_id c.txn t) (clash c.held needs) (older t c.txn) c.firm (λ o. same_id_comm c.txn t ∙ older_not_same t c.txn o)) table)
 
 -- the two ways to be in the way, tested at once
 stands_alike : (s k o n : Bool) → ((not s && (k && true)) || (not s && ((o && n) && true))) ≡ (not s && (k || (o && n)))
@@ -63,8 +62,7 @@ is_free-is table t needs =
     ∙ neither (list_any (λ c. other c && (holds c && true)) table) (list_any (λ c. other c && (waits c && true)) table)
     ∙ ap not (sym (any_or (λ c. other c && (holds c && true)) (λ c. other c && (waits c && true)) table)
     ∙ any-alike (λ c. (other c && (holds c && true)) || (other c && (waits c && true))) (stands_in_way t needs)
-    (λ c. stands_alike (same_id c.txn t) (clash c.held needs) (older c.txn t) (clash c.needs needs)) table
-    ∙ sym (list_any-is (stands_in_way t needs) table))
+    (λ c. stands_alike (same_id c.txn t) (clash c.held needs) (older c.txn t) (clash c.needs needs)) table)
 
 -- where some claim passes a test, the ids of those that pass are some
 some_ids : (ids : List Id) (free : Bool) → (ids ≡ [] → false ≡ true) → asked_by ids free ≡ Wounds ids
@@ -75,7 +73,8 @@ no_ids : (p : Claim → Bool) (table : List Claim) → list_any p table ≡ fals
 no_ids p [] h = refl
 no_ids p (c ∷ cs) h = by_test (p c) h (no_ids p cs)
   where
-    by_test : (b : Bool) → (b || list_any p cs) ≡ false → (list_any p cs ≡ false → map (λ c. c.txn) (filter p cs) ≡ []) → map (λ c. c.txn) (cond b (c ∷ filter p cs) (filter p cs)) ≡ []
+    by_test : (b : Bool) → (b || list_any p cs) ≡ false → (list_any p cs ≡ false → map (λ c. c.txn) (filter p cs) ≡ []) →
+        map (λ c. c.txn) (cond b (c ∷ filter p cs) (filter p cs)) ≡ []
     by_test true e rest = absurd (false≢true (sym e))
     by_test false e rest = rest e
 
@@ -97,7 +96,8 @@ free_blocked table t needs h = not_true (is_blocked t needs table) (sym (is_free
     not_true false e = refl
 
 -- a request wounds somebody where the test says so
-pub asked-wounds : (table : List Claim) (t : Id) (needs : List Lock) → is_wounding t needs table ≡ true → asked table t needs ≡ Wounds (ids_in_way t needs table)
+pub asked-wounds : (table : List Claim) (t : Id) (needs : List Lock) → is_wounding t needs table ≡ true →
+    asked table t needs ≡ Wounds (ids_in_way t needs table)
 unfolding asked
 asked-wounds table t needs h =
     ap (λ ids. asked_by ids (is_free table t needs)) (wounded-is table t needs)
@@ -117,19 +117,17 @@ quiet_wounding table t needs e = by_test (is_wounding t needs table) (none_wound
     by_test true h = absurd (false≢true (h refl))
     by_test false h = refl
 
-pub asked-waits : (table : List Claim) (t : Id) (needs : List Lock) → is_wounding t needs table ≡ false → is_blocked t needs table ≡ true → asked table t needs ≡ Waits
+pub asked-waits : (table : List Claim) (t : Id) (needs : List Lock) → is_wounding t needs table ≡ false → is_blocked t needs table ≡ true →
+    asked table t needs ≡ Waits
 unfolding asked
 asked-waits table t needs h k =
     ap (λ ids. asked_by ids (is_free table t needs)) (wounds_none table t needs h) ∙ ap (asked_by []) (is_free-is table t needs ∙ ap not k)
 
-pub asked-granted : (table : List Claim) (t : Id) (needs : List Lock) → is_wounding t needs table ≡ false → is_blocked t needs table ≡ false → asked table t needs ≡ Granted
+pub asked-granted : (table : List Claim) (t : Id) (needs : List Lock) → is_wounding t needs table ≡ false → is_blocked t needs table ≡ false →
+    asked table t needs ≡ Granted
 unfolding asked
 asked-granted table t needs h k =
     ap (λ ids. asked_by ids (is_free table t needs)) (wounds_none table t needs h) ∙ ap (asked_by []) (is_free-is table t needs ∙ ap not k)
-
-option_map-is : (o : Option Claim) → option_map (λ c. c.txn) o ≡ option_map (λ c. c.txn) o
-option_map-is None = refl
-option_map-is (Some c) = refl
 
 pub ready-is : (table : List Claim) → ready table ≡ first_to_go table
 unfolding ready
@@ -137,7 +135,6 @@ ready-is table =
     ap (λ cs. option_map (λ c. c.txn) (head cs)) (keep-alike (λ c. is_waiting c && is_free table c.txn c.needs) (can_go table)
     (λ c. ap (λ b. is_waiting c && b) (is_free-is table c.txn c.needs)) table)
     ∙ ap (option_map (λ c. c.txn)) (sym (find-is (can_go table) table))
-    ∙ sym (option_map-is (find (can_go table) table))
 
 -- a list that is not empty has some member
 pub waits_by_length : (needs : List Lock) (n : ℕ) → n ≡ length needs → not (n == 0) ≡ list_any (λ l. true) needs

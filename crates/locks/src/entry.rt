@@ -2,7 +2,7 @@
 ghost use Rattle.std.specs.Prelude.{◌≡◌, ◌+◌, ◌<◌, ◌≤◌, true, IfOk, length, vec_capacity};
 ghost use Rattle.std.specs.List.{position_or_len};
 ghost use Rattle.units.specs.Locks.{holds, is_waiting};
-ghost use Rattle.locks.specs.Table.{has_claim, held_in, entrant, made_firm, granted, waiting, resumed, withdrawn};
+ghost use Rattle.locks.specs.Table.{has_claim, held_in_table, entrant, made_firm, granted, waiting, resumed, withdrawn};
 ghost use Rattle.locks.specs.Ways.{is_of, is_younger, gives_way, is_wounding, ids_in_way, stands_in_way, is_blocked, can_go, first_to_go, keeps_out, is_kept_out};
 
 use crate::buffer::{copy, fill};
@@ -194,7 +194,7 @@ pub fn ready(table: &[Entry]) -> Option<TxnId>
 
 /// Whether a transaction holds a key.
 pub fn holds(table: &[Entry], txn: TxnId, key: &Key) -> bool
-    ensures { result ≡ holds (held_in table.now txn) key.now }
+    ensures { result ≡ holds (held_in_table table.now txn) key.now }
 {
     for entry in table {
         if entry.is_of(txn) {

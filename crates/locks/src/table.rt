@@ -3,7 +3,7 @@ ghost use Rattle.std.specs.Prelude.{◌≡◌, ◌+◌, ◌≤◌, [], Some, tru
 ghost use Rattle.units.specs.LockLaws.{IsLawfulTable, IsOldestReady};
 ghost use Rattle.units.specs.Locks.{asked, holds, is_free, ready, wounded};
 ghost use Rattle.locks.specs.Ways.{is_wounding};
-ghost use Rattle.locks.specs.Table.{has_claim, with_claim, without_claim, without_claims, change_claim, entrant, made_firm, granted, waiting, resumed, withdrawn, after, held_in, needs_in, most_held, KeepsRoom, ReleaseMakesWay};
+ghost use Rattle.locks.specs.Table.{has_claim, with_claim, without_claim, without_claims, change_claim, entrant, made_firm, granted, waiting, resumed, withdrawn, after_request, held_in_table, needs_in_table, most_held, KeepsRoom, ReleaseMakesWay};
 
 use crate::buffer::make_room;
 use crate::entry::{Entry, holds, is_kept_out, is_wounding, place, place_for, ready, wounded};
@@ -75,7 +75,7 @@ impl Table {
 
     /// Whether a transaction holds a key. One that has no claim holds nothing.
     pub fn holds(&self, txn: TxnId, key: &Key) -> bool
-        ensures { result ≡ holds (held_in self.now txn) key.now }
+        ensures { result ≡ holds (held_in_table self.now txn) key.now }
     {
         holds(&self.entries, txn, key)
     }
@@ -100,9 +100,9 @@ impl Table {
     pub fn make_room(&self, held: &mut Held, more: usize) -> Result<(), Fault>
         requires { has_claim self.now held.old.txn ≡ true }
         ensures txn { held.new.txn ≡ held.old.txn }
-        ensures room { OnOk result (length (held_in self.now held.old.txn) + more ≤ held.new.room) }
+        ensures room { OnOk result (length (held_in_table self.now held.old.txn) + more ≤ held.new.room) }
         ensures memory { IfErr result (λ fault. fault ≡ Fault.Memory) }
-        ensures succeeds { length (held_in self.now held.old.txn) + more ≤ held.old.room → IsOk result }
+        ensures succeeds { length (held_in_table self.now held.old.txn) + more ≤ held.old.room → IsOk result }
     {
         let at = place(&self.entries, held.txn);
         make_room(&mut held.buffer, self.entries[at].held_count(), more)
@@ -118,7 +118,7 @@ impl Table {
     ) -> Result<Asked, Fault>
         requires { has_claim self.old held.old.txn ≡ true }
         ensures asked { IfOk result (λ answer. answer ≡ asked self.old held.old.txn needs.now) }
-        ensures ok { IfOk result (λ answer. self.new ≡ after answer self.old held.old.txn needs.now) }
+        ensures ok { IfOk result (λ answer. self.new ≡ after_request answer self.old held.old.txn needs.now) }
         ensures err { OnErr result (self.new ≡ self.old) }
         ensures memory { IfErr result (λ fault. fault ≡ Fault.Memory) }
         ensures txn { held.new.txn ≡ held.old.txn }
@@ -205,7 +205,7 @@ impl Table {
         ensures err { OnErr result (self.new ≡ self.old) }
         ensures memory { IfErr result (λ fault. fault ≡ Fault.Memory) }
         ensures txn { held.new.txn ≡ held.old.txn }
-        ensures succeeds { most_held self.old held.old.txn (needs_in self.old held.old.txn) ≤ held.old.room → IsOk result }
+        ensures succeeds { most_held self.old held.old.txn (needs_in_table self.old held.old.txn) ≤ held.old.room → IsOk result }
     {
         let at = place(&self.entries, held.txn);
         let entry = &self.entries[at];

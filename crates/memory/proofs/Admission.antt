@@ -8,8 +8,9 @@ use Rattle.units.specs.declared.setup.Setup.{Setup}
 use Rattle.record.specs.Facts.{Facts}
 use Rattle.record.specs.declared.record.Record.{Record}
 use Rattle.protocol.specs.Rows.{Row, Phase, Memory, Idle, claims, find_row, with_row, held_by, held_in, without_rows}
-use Rattle.protocol.specs.Plan.{Puts, carried, changed, ended_by, with_ids}
-use Rattle.protocol.proofs.PlanRows.{Ascend, AllOther, with_row-twice, find-with_row, without_rows-with, find-without_rows, wounded-differ, wounded-alike, is_free-alike, others-with_row}
+use Rattle.protocol.specs.Plan.{Puts, carried, after_change, ended_by, with_ids}
+use Rattle.protocol.proofs.PlanRows.{Ascend, AllOther, with_row-twice, find-with_row, without_rows-with, find-without_rows, wounded-differ}
+use Rattle.protocol.proofs.PlanRows.{wounded-alike, is_free-alike, others-with_row}
 use Rattle.rows.specs.CodeRows.{is_reading, phase_of_wait}
 use Rattle.rows.specs.RowTable.{put_row}
 use Rattle.memory.specs.Carry.{AdmissionIsUnseen, ReadyIsCarriable, FitsRows, MayFollow, MayInstall, Asks, asker, admitted}
@@ -24,37 +25,42 @@ others_gone : (rows : List Row) (t : Id) (needs : List Lock) (us : List Id) → 
 others_gone rows t needs us is = subst (AllOther t) (sym is) (wounded-differ (claims rows) t needs)
 
 -- who takes locks has the same row then
-put_over : (rows : List Row) (t : Id) (needs more : List Lock) (us : List Id) (phase : Phase) → Ascend rows → find_row rows t ≡ None → us ≡ wounded (claims rows) t needs
-    → changed (Puts t more phase) (without_rows (put_row rows t [] Idle) us) ≡ changed (Puts t more phase) (without_rows rows us)
-unfolding changed
+put_over : (rows : List Row) (t : Id) (needs more : List Lock) (us : List Id) (phase : Phase) → Ascend rows → find_row rows t ≡ None →
+    us ≡ wounded (claims rows) t needs
+    → after_change (Puts t more phase) (without_rows (put_row rows t [] Idle) us) ≡ after_change (Puts t more phase) (without_rows rows us)
+unfolding after_change
 put_over rows t needs more us phase up none is =
     let entrant : Row = record { txn = t; held = []; phase = Idle } in
     let left : List Row = without_rows rows us in
     let gone : AllOther t us = others_gone rows t needs us is in
     let held : held_in left t ≡ [] = ap held_by (find-without_rows rows t us gone ∙ none) in
     ap (λ (l : List Row). with_row l (record { txn = t; held = with_locks (held_in l t) more; phase = phase })) (without_rows-with rows entrant us up gone)
-    ∙ ap (λ (o : Option Row). with_row (with_row left entrant) (record { txn = t; held = with_locks (held_by o) more; phase = phase })) (find-with_row left entrant)
+    ∙ ap (λ (o : Option Row). with_row (with_row left entrant) (record { txn = t; held = with_locks (held_by o) more; phase = phase }))
+        (find-with_row left entrant)
     ∙ with_row-twice left entrant (record { txn = t; held = with_locks [] more; phase = phase }) refl
     ∙ ap (λ (hs : List Lock). with_row left (record { txn = t; held = with_locks hs more; phase = phase })) (sym held)
 
 -- whether it had a row or not
 pub put_the_same : (rows : List Row) (t : Id) (needs more : List Lock) (us : List Id) (phase : Phase) → Ascend rows → us ≡ wounded (claims rows) t needs
-    → changed (Puts t more phase) (without_rows (admitted rows (Some t)) us) ≡ changed (Puts t more phase) (without_rows rows us)
+    → after_change (Puts t more phase) (without_rows (admitted rows (Some t)) us) ≡ after_change (Puts t more phase) (without_rows rows us)
 put_the_same rows t needs more us phase up is = by_row (find_row rows t) refl
   where
     by_row : (o : Option Row) → find_row rows t ≡ o
-        → changed (Puts t more phase) (without_rows (elim o as (λ _. List Row) [ None ↦ put_row rows t [] Idle | Some r ↦ rows ]) us) ≡ changed (Puts t more phase) (without_rows rows us)
+        → after_change (Puts t more phase) (without_rows (elim o as (λ _. List Row) [ None ↦ put_row rows t [] Idle | Some r ↦ rows ]) us) ≡
+            after_change (Puts t more phase) (without_rows rows us)
     by_row None e = put_over rows t needs more us phase up e is
     by_row (Some r) e = refl
 
 -- ---- its request
 
-asks_over : (rows : List Row) (t : Id) (us : List Id) (needs : List Lock) (opens : Bool) → Ascend rows → Asks rows t us needs opens → Asks (put_row rows t [] Idle) t us needs opens
+asks_over : (rows : List Row) (t : Id) (us : List Id) (needs : List Lock) (opens : Bool) → Ascend rows → Asks rows t us needs opens →
+    Asks (put_row rows t [] Idle) t us needs opens
 asks_over rows t us needs opens up asks =
     let entrant : Row = record { txn = t; held = []; phase = Idle } in
     let left : List Row = without_rows rows us in
     let gone : AllOther t us = others_gone rows t needs us asks.1 in (
-      ap (λ (o : Option Row). elim o as (λ _. Bool) [ None ↦ nat_lt (length (put_row rows t [] Idle)) most_rows | Some r ↦ is_reading r.phase ]) (find-with_row rows entrant),
+      ap (λ (o : Option Row). elim o as (λ _. Bool) [ None ↦ nat_lt (length (put_row rows t [] Idle)) most_rows | Some r ↦ is_reading r.phase ])
+          (find-with_row rows entrant),
       asks.1 ∙ wounded-alike (claims rows) (claims (with_row rows entrant)) t needs (sym (others-with_row rows entrant)),
       ap (λ (l : List Row). is_free (claims l) t needs) (without_rows-with rows entrant us up gone)
           ∙ is_free-alike (claims (with_row left entrant)) (claims left) t needs (others-with_row left entrant) ∙ asks.2,
@@ -76,7 +82,8 @@ admitted_twice rows t = by_row (find_row rows t) refl
     Again l o = elim o as (λ _. List Row) [ None ↦ put_row l t [] Idle | Some r ↦ l ] ≡ l
 
     by_row : (o : Option Row) → find_row rows t ≡ o
-        → admitted (elim o as (λ _. List Row) [ None ↦ put_row rows t [] Idle | Some r ↦ rows ]) (Some t) ≡ elim o as (λ _. List Row) [ None ↦ put_row rows t [] Idle | Some r ↦ rows ]
+        → admitted (elim o as (λ _. List Row) [ None ↦ put_row rows t [] Idle | Some r ↦ rows ]) (Some t) ≡
+            elim o as (λ _. List Row) [ None ↦ put_row rows t [] Idle | Some r ↦ rows ]
     by_row None e =
         subst (Again (put_row rows t [] Idle)) (sym (find-with_row rows (record { txn = t; held = []; phase = Idle }))) refl
     by_row (Some r) e = subst (Again rows) (sym e) refl
@@ -100,7 +107,8 @@ fits_again rows us needs logged (Stands t) up fits = (asks_the_same rows t us ne
 fits_again rows us needs logged (Decides t) up fits = fits
 
 rows_the_same : (rows : List Row) (us : List Id) (needs : List Lock) (logged : Option Record) (h : Change) → Ascend rows → FitsRows rows us needs logged h
-    → changed (change_of (admitted rows (asker h)) needs logged h) (without_rows (admitted rows (asker h)) us) ≡ changed (change_of rows needs logged h) (without_rows rows us)
+    → after_change (change_of (admitted rows (asker h)) needs logged h) (without_rows (admitted rows (asker h)) us) ≡
+        after_change (change_of rows needs logged h) (without_rows rows us)
 rows_the_same rows us needs logged Keeps up fits = refl
 rows_the_same rows us needs logged (Ends t) up fits = refl
 rows_the_same rows us needs logged (Drops t) up fits = refl

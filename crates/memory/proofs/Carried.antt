@@ -1,5 +1,6 @@
 -- The rows and the holds of the served time as a change is made.
-use Rattle.std.proofs.Common.{◌≡◌, ◌∙◌, ℕ, ◌<◌, ◌≤◌, Bool, true, false, not, nat_lt, cond, List, [], ◌∷◌, ◌++◌, length, Option, Some, None, refl, sym, ap, subst, arith, filter}
+use Rattle.std.proofs.Common.{◌≡◌, ◌∙◌, ℕ, ◌<◌, ◌≤◌, Bool, true, false, not, nat_lt, cond, List, [], ◌∷◌, ◌++◌, length, Option, Some, None, refl, sym}
+use Rattle.std.proofs.Common.{ap, subst, arith, filter}
 use Rattle.std.specs.Option.{MatchOption, is_some}
 use Rattle.std.proofs.lemmas.Bool.{false≢true}
 use Rattle.units.specs.Limits.{most_rows}
@@ -11,8 +12,9 @@ use Rattle.units.proofs.ByIdLaws.{by_id-keep, first_none, without_none}
 use Rattle.record.specs.declared.record.Record.{Record}
 use Rattle.record.specs.declared.record.Record.TheVariants.{Opened, Ceiling, Prepare, Commit, Abort, Outcome}
 use Rattle.safetime.specs.Safe.{lifted}
-use Rattle.protocol.specs.Rows.{Row, Memory, Phase, Idle, WaitsRead, WaitsPrepare, WaitsCommit, Collecting, IsPrepared, IsDecided, claims, find_row, without_row, held_stamp, held_by, with_vote, held_in, without_rows}
-use Rattle.protocol.specs.Plan.{Puts, changed}
+use Rattle.protocol.specs.Rows.{Row, Memory, Phase, Idle, WaitsRead, WaitsPrepare, WaitsCommit, Collecting, IsPrepared, IsDecided, claims, find_row}
+use Rattle.protocol.specs.Rows.{without_row, held_stamp, held_by, with_vote, held_in, without_rows}
+use Rattle.protocol.specs.Plan.{Puts, after_change}
 use Rattle.protocol.proofs.PlanRows.{Ascend, put_again, find-with_row, without-with_row}
 use Rattle.protocol.proofs.RowChanges.{by_id-without_rows, short-without_row}
 use Rattle.rows.specs.CodeRows.{is_reading, is_collecting, is_idle, may_decide, phase_of_wait}
@@ -50,7 +52,8 @@ phase_found test rows t r found h = ap (when (λ (q : Row). test q.phase)) found
 pub ends_reading : (rows : List Row) (t : Id) (r : Row) → find_row rows t ≡ Some r → may_end rows t ≡ true → has_phase is_reading rows t ≡ true
 ends_reading rows t r found may = by_row (find_row rows t) found may
   where
-    by_row : (o : Option Row) → o ≡ Some r → elim o as (λ _. Bool) [ None ↦ true | Some q ↦ is_reading q.phase ] ≡ true → when (λ (q : Row). is_reading q.phase) o ≡ true
+    by_row : (o : Option Row) → o ≡ Some r → elim o as (λ _. Bool) [ None ↦ true | Some q ↦ is_reading q.phase ] ≡ true →
+        when (λ (q : Row). is_reading q.phase) o ≡ true
     by_row None e h = cc
     by_row (Some q) e h = h
 
@@ -101,31 +104,36 @@ none_held test none rows t h = by_row (find_row rows t) h
 -- ---- the holds
 
 -- those that read hold nothing, so the holds stay where they are ended
-pub holding_without_rows : (holds : List ℕ) (rows : List Row) (ts : List Id) → Ascend rows → IsHolding holds rows → MayEnd rows ts → IsHolding holds (without_rows rows ts)
+pub holding_without_rows : (holds : List ℕ) (rows : List Row) (ts : List Id) → Ascend rows → IsHolding holds rows → MayEnd rows ts →
+    IsHolding holds (without_rows rows ts)
 holding_without_rows holds rows [] up same may = same
 holding_without_rows holds rows (t ∷ ts) up same may =
     holding_without_rows holds (without_row rows t) ts (by_id-keep (λ (q : Row). q.txn) (λ (q : Row). not (same_id q.txn t)) rows up)
     (holding_without_none holds rows t up same (none_held is_reading reading_holds_none rows t may.0)) may.1
 
 -- and where the asker gets its locks
-pub holding_put : (holds : List ℕ) (rows : List Row) (t : Id) (needs : List Lock) (ts : List Id) (held : List Lock) (phase : Phase) → Ascend rows → IsHolding holds rows
-    → ts ≡ wounded (claims rows) t needs → has_phase is_reading rows t ≡ true → held_stamp phase ≡ None → IsHolding holds (put_row (without_rows rows ts) t held phase)
+pub holding_put : (holds : List ℕ) (rows : List Row) (t : Id) (needs : List Lock) (ts : List Id) (held : List Lock) (phase : Phase) → Ascend rows →
+    IsHolding holds rows
+    → ts ≡ wounded (claims rows) t needs → has_phase is_reading rows t ≡ true → held_stamp phase ≡ None →
+        IsHolding holds (put_row (without_rows rows ts) t held phase)
 holding_put holds rows t needs ts held phase up same is reads none =
     holding_with_none holds (without_rows rows ts) (record { txn = t; held = held; phase = phase }) (by_id-without_rows rows ts up)
     (holding_without_rows holds rows ts up same (may_end_wounded rows t needs ts up is))
-    (ap (λ (o : Option Row). follow o (λ r. held_stamp r.phase)) (row_stays rows t ts (others_end rows t needs ts is)) ∙ none_held is_reading reading_holds_none rows t reads)
+    (ap (λ (o : Option Row). follow o (λ r. held_stamp r.phase)) (row_stays rows t ts (others_end rows t needs ts is))
+        ∙ none_held is_reading reading_holds_none rows t reads)
     none
 
 -- ---- the rows
 
 -- what the asker holds is the same once those in its way are gone
-pub held_stays : (rows : List Row) (t : Id) (needs : List Lock) (ts : List Id) → ts ≡ wounded (claims rows) t needs → held_in (without_rows rows ts) t ≡ held_in rows t
+pub held_stays : (rows : List Row) (t : Id) (needs : List Lock) (ts : List Id) → ts ≡ wounded (claims rows) t needs →
+    held_in (without_rows rows ts) t ≡ held_in rows t
 held_stays rows t needs ts is = ap held_by (row_stays rows t ts (others_end rows t needs ts is))
 
 -- the row with its locks is that of the change
 pub put_is_change : (rows : List Row) (t : Id) (needs more : List Lock) (ts : List Id) (phase : Phase) → ts ≡ wounded (claims rows) t needs
-    → put_row (without_rows rows ts) t (with_locks (held_in rows t) more) phase ≡ changed (Puts t more phase) (without_rows rows ts)
-unfolding changed
+    → put_row (without_rows rows ts) t (with_locks (held_in rows t) more) phase ≡ after_change (Puts t more phase) (without_rows rows ts)
+unfolding after_change
 put_is_change rows t needs more ts phase is =
     ap (λ (held : List Lock). put_row (without_rows rows ts) t (with_locks held more) phase) (sym (held_stays rows t needs ts is))
 
@@ -148,12 +156,14 @@ put_reads rows next t held is =
     ∙ ap (when (λ (r : Row). is_reading r.phase)) (find-with_row rows (record { txn = t; held = held; phase = Idle }))
 
 -- a row that was taken in goes again
-pub put_and_gone : (rows next : List Row) (t : Id) (held : List Lock) (phase : Phase) → next ≡ put_row rows t held phase → find_row rows t ≡ None → without_row next t ≡ rows
+pub put_and_gone : (rows next : List Row) (t : Id) (held : List Lock) (phase : Phase) → next ≡ put_row rows t held phase → find_row rows t ≡ None →
+    without_row next t ≡ rows
 put_and_gone rows next t held phase is none =
     ap (λ (l : List Row). without_row l t) is ∙ without-with_row rows (record { txn = t; held = held; phase = phase }) ∙ gone_already rows t none
 
 -- it holds nothing
-pub holding_admitted : (holds : List ℕ) (rows next : List Row) (t : Id) → Ascend rows → IsHolding holds rows → find_row rows t ≡ None → next ≡ put_row rows t [] Idle → IsHolding holds next
+pub holding_admitted : (holds : List ℕ) (rows next : List Row) (t : Id) → Ascend rows → IsHolding holds rows → find_row rows t ≡ None →
+    next ≡ put_row rows t [] Idle → IsHolding holds next
 holding_admitted holds rows next t up same none is =
     subst (IsHolding holds) (sym is)
     (holding_with_none holds rows (record { txn = t; held = []; phase = Idle }) up same (ap (λ (o : Option Row). follow o (λ r. held_stamp r.phase)) none) refl)
@@ -172,7 +182,8 @@ shorter (q ∷ qs) t e = by_test (same_id q.txn t) (short-without_row qs t) (λ 
     by_test false short rest k = omega (arith, rest k)
 
 -- there is space for one hold more where a row holds none
-pub space_to_hold : (test : Phase → Bool) → ((p : Phase) → test p ≡ true → held_stamp p ≡ None) → (holds : List ℕ) (rows : List Row) (t : Id) → Ascend rows → IsHolding holds rows
+pub space_to_hold : (test : Phase → Bool) → ((p : Phase) → test p ≡ true → held_stamp p ≡ None) → (holds : List ℕ) (rows : List Row) (t : Id) →
+    Ascend rows → IsHolding holds rows
     → has_phase test rows t ≡ true → length rows ≤ most_rows → length holds < most_rows
 space_to_hold test none holds rows t up same has few =
     let there : has_phase (λ p. true) rows t ≡ true = by_row (find_row rows t) has in
@@ -183,8 +194,10 @@ space_to_hold test none holds rows t up same has few =
     by_row (Some r) e = refl
 
 -- it holds its timestamp then
-pub holding_stands : (test : Phase → Bool) → ((p : Phase) → test p ≡ true → held_stamp p ≡ None) → (holds : List ℕ) (rows next : List Row) (t : Id) (held : List Lock) (phase : Phase) (at : ℕ)
-    → Ascend rows → IsHolding holds rows → has_phase test rows t ≡ true → held_stamp phase ≡ Some at → next ≡ put_row rows t held phase → IsHolding (holds ++ at ∷ []) next
+pub holding_stands : (test : Phase → Bool) → ((p : Phase) → test p ≡ true → held_stamp p ≡ None) →
+    (holds : List ℕ) (rows next : List Row) (t : Id) (held : List Lock) (phase : Phase) (at : ℕ)
+    → Ascend rows → IsHolding holds rows → has_phase test rows t ≡ true → held_stamp phase ≡ Some at → next ≡ put_row rows t held phase →
+        IsHolding (holds ++ at ∷ []) next
 holding_stands test none holds rows next t held phase at up same has stamp is =
     subst (IsHolding (holds ++ at ∷ [])) (sym is)
     (holding_with holds rows (record { txn = t; held = held; phase = phase }) at up same (none_held test none rows t has) stamp)
@@ -192,12 +205,14 @@ holding_stands test none holds rows next t held phase at up same has stamp is =
 -- ---- a row goes by a record
 
 -- the hold of one that goes is lifted
-pub holding_gone : (holds : List ℕ) (rows next : List Row) (t : Id) (at : ℕ) → Ascend rows → IsHolding holds rows → stamp_held rows t ≡ Some at → next ≡ without_row rows t
+pub holding_gone : (holds : List ℕ) (rows next : List Row) (t : Id) (at : ℕ) → Ascend rows → IsHolding holds rows → stamp_held rows t ≡ Some at →
+    next ≡ without_row rows t
     → IsHolding (lifted at holds) next
 holding_gone holds rows next t at up same stamp is = subst (IsHolding (lifted at holds)) (sym is) (holding_without holds rows t at up same stamp)
 
 -- or it held none
-pub holding_left : (holds : List ℕ) (rows next : List Row) (t : Id) → Ascend rows → IsHolding holds rows → stamp_held rows t ≡ None → next ≡ without_row rows t → IsHolding holds next
+pub holding_left : (holds : List ℕ) (rows next : List Row) (t : Id) → Ascend rows → IsHolding holds rows → stamp_held rows t ≡ None →
+    next ≡ without_row rows t → IsHolding holds next
 holding_left holds rows next t up same stamp is = subst (IsHolding holds) (sym is) (holding_without_none holds rows t up same stamp)
 
 -- ---- a change
@@ -227,7 +242,8 @@ counted_holds_none : (n p : ℕ) (o : Option Row) → when (λ (r : Row). is_col
 counted_holds_none n p None e = refl
 counted_holds_none n p (Some r) e = by_phase r.phase e
   where
-    by_phase : (q : Phase) → is_collecting q ≡ true → held_stamp (elim q as (λ _. Phase) [ Collecting l ps rs ws votes ↦ Collecting l ps rs ws (with_vote n p votes) | _ ↦ q ]) ≡ None
+    by_phase : (q : Phase) → is_collecting q ≡ true → held_stamp
+        (elim q as (λ _. Phase) [ Collecting l ps rs ws votes ↦ Collecting l ps rs ws (with_vote n p votes) | _ ↦ q ]) ≡ None
     by_phase (Collecting l ps rs ws votes) e = refl
     by_phase Idle e = absurd (false≢true e)
     by_phase (WaitsRead k) e = absurd (false≢true e)
@@ -246,7 +262,8 @@ collecting_holds_none (IsPrepared c p) e = absurd (false≢true e)
 collecting_holds_none (IsDecided s ps) e = absurd (false≢true e)
 
 -- the phase with a yes
-counted_by : (n p : ℕ) (q : Phase) → with_yes n p q ≡ elim q as (λ _. Phase) [ Collecting l ps rs ws votes ↦ Collecting l ps rs ws (with_vote n p votes) | _ ↦ q ]
+counted_by : (n p : ℕ) (q : Phase) → with_yes n p q ≡ elim q as (λ _. Phase) [ Collecting l ps rs ws votes ↦
+    Collecting l ps rs ws (with_vote n p votes) | _ ↦ q ]
 counted_by n p Idle = refl
 counted_by n p (WaitsRead k) = refl
 counted_by n p (WaitsPrepare c rs ws) = refl
@@ -259,7 +276,8 @@ pub counted_is : (n p : ℕ) (o : Option Row) → with_yes n p (phase_of_row o) 
 counted_is n p None = refl
 counted_is n p (Some r) = counted_by n p r.phase
 
-pub holding_counted : (holds : List ℕ) (rows next : List Row) (t : Id) (n p : ℕ) (held : List Lock) → Ascend rows → IsHolding holds rows → has_phase is_collecting rows t ≡ true
+pub holding_counted : (holds : List ℕ) (rows next : List Row) (t : Id) (n p : ℕ) (held : List Lock) → Ascend rows → IsHolding holds rows →
+    has_phase is_collecting rows t ≡ true
     → next ≡ put_row rows t held (counted n p (find_row rows t)) → IsHolding holds next
 holding_counted holds rows next t n p held up same has is =
     subst (IsHolding holds) (sym is)
@@ -300,7 +318,8 @@ wait_holds_none (Wait.Commit c) = refl
 
 -- ---- what was made ready is taken back
 
-pub undo_reads : (rows : List Row) (who : Option Id) (taken : Bool) (t : Id) → who ≡ Some t → taken ≡ true → MayUndo rows who taken → has_phase is_reading rows t ≡ true
+pub undo_reads : (rows : List Row) (who : Option Id) (taken : Bool) (t : Id) → who ≡ Some t → taken ≡ true → MayUndo rows who taken →
+    has_phase is_reading rows t ≡ true
 undo_reads rows None taken t e f may = cc
 undo_reads rows (Some u) false t e f may = absurd (false≢true f)
 undo_reads rows (Some u) true t e f may =
@@ -332,7 +351,8 @@ undone m now next (Some u) true t e f admits is gone =
     λ i. record { last = last i; rows = rows i; ended = ended i }
 
 -- the asker of a plan that fits may ask
-pub fits_asks : (rows : List Row) (us : List Id) (needs : List Lock) (logged : Option Record) (h : Change) → FitsRows rows us needs logged h → MayAsk rows (asker h)
+pub fits_asks : (rows : List Row) (us : List Id) (needs : List Lock) (logged : Option Record) (h : Change) → FitsRows rows us needs logged h →
+    MayAsk rows (asker h)
 fits_asks rows us needs logged Change.Keeps fits = tt
 fits_asks rows us needs logged (Change.Ends t) fits = tt
 fits_asks rows us needs logged (Change.Drops t) fits = tt

@@ -1,11 +1,11 @@
 -- The versions by key and those in the log's order, as a record is learnt.
 use Rattle.std.proofs.Common.{◌≡◌, ℕ, true, List, [], ◌++◌, Some, None, refl, sym, ap, subst, ◌∙◌}
+use Rattle.std.proofs.lemmas.List.{append-nil}
 use Rattle.units.specs.Versions.{latest, versions, above_versions}
 use Rattle.units.specs.Keys.{write_before}
 use Rattle.units.specs.Lists.{ascends}
 use Rattle.units.specs.declared.writes.Install.{Install}
 use Rattle.units.specs.declared.writes.Write.{Write}
-use Rattle.units.proofs.Folds.{append_none}
 use Rattle.record.specs.Facts.{Facts, facts_of, learn, recorded, installs_at}
 use Rattle.record.specs.Installs.{installs_of}
 use Rattle.record.specs.Records.{Status, Unrecorded, StandsPrepared, StandsDecided, HasAborted, HasSettled, HasClosed}
@@ -14,7 +14,8 @@ use Rattle.record.specs.declared.record.Record.TheVariants.{Opened, Ceiling, Pre
 use Rattle.versions.specs.Ordered.{all_installed}
 use Rattle.versions.specs.Places.{SameValues}
 use Rattle.versions.proofs.AtOnce.{places_do_not_matter}
-use Rattle.memory.specs.Ledger.{writes_standing, outcome_stamp, CanInstall}
+use Rattle.protocol.specs.Sound.{writes_standing}
+use Rattle.memory.specs.Ledger.{outcome_stamp, CanInstall}
 
 pub no_versions : SameValues [] (facts_of []).installs
 unfolding latest facts_of installs_of
@@ -61,12 +62,14 @@ installs_left facts (Ceiling at) is = refl
 installs_left facts (Prepare p) is = refl
 installs_left facts (Commit c) is = refl
 installs_left facts (Abort t) is = refl
-installs_left facts (Outcome t None) is = ap (λ is. facts.installs ++ is) (installs_none (recorded facts t)) ∙ append_none facts.installs
+installs_left facts (Outcome t None) is = ap (λ is. facts.installs ++ is) (installs_none (recorded facts t)) ∙ append-nil facts.installs
 installs_left facts (Outcome t (Some at)) is = cc
 
 -- so the two stay the same where a record's writes are installed in both
-pub same_learnt : (ordered : List Install) (facts : Facts) (item : Record) (writes : List Write) (s : ℕ) → outcome_stamp item ≡ Some s → CanInstall facts item writes
-    → ascends write_before writes ≡ true → SameValues ordered facts.installs → SameValues (all_installed ordered (versions writes s)) (learn facts item).installs
+pub same_learnt : (ordered : List Install) (facts : Facts) (item : Record) (writes : List Write) (s : ℕ) → outcome_stamp item ≡ Some s →
+    CanInstall facts item writes
+    → ascends write_before writes ≡ true → SameValues ordered facts.installs → SameValues (all_installed ordered (versions writes s))
+        (learn facts item).installs
 same_learnt ordered facts item writes s is can up same =
     let given = installs_given facts item writes s is can in
     subst (SameValues (all_installed ordered (versions writes s))) (sym given.0) (places_do_not_matter writes s ordered facts.installs up given.1 same)

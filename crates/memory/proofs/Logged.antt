@@ -6,7 +6,7 @@ use Rattle.record.specs.declared.record.Record.{Record}
 use Rattle.record.specs.declared.record.Record.TheVariants.{Opened, Ceiling, Prepare, Commit, Abort, Outcome}
 use Rattle.facts.specs.Rules.{follows_facts}
 use Rattle.protocol.specs.Rows.{Memory, without_rows}
-use Rattle.protocol.specs.Plan.{carried, changed, ended_by, with_ids}
+use Rattle.protocol.specs.Plan.{carried, after_change, ended_by, with_ids}
 use Rattle.memory.specs.Carry.{MayFollow, IsDated}
 use Rattle.memory.specs.Plans.{change_of, plan_of}
 use Rattle.memory.specs.declared.plan.Plan.{Plan}
@@ -33,7 +33,8 @@ stays_opened shard facts (Abort t) opened follows = opened
 stays_opened shard facts (Outcome t outcome) opened follows = opened
 
 -- the memory by its parts
-pub carried_is : (m next : Memory) (p : Plan) → next.last ≡ p.last → next.rows ≡ changed (change_of m.rows p.needs.items p.logged p.change) (without_rows m.rows p.wounded)
+pub carried_is : (m next : Memory) (p : Plan) → next.last ≡ p.last → next.rows ≡ after_change (change_of m.rows p.needs.items p.logged p.change)
+    (without_rows m.rows p.wounded)
     → next.ended ≡ ended_by (change_of m.rows p.needs.items p.logged p.change) (with_ids m.ended p.wounded) → next ≡ carried (plan_of m.rows p) m
 unfolding carried
 carried_is m next p last rows ended = λ i. record { last = last i; rows = rows i; ended = ended i }

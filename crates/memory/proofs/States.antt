@@ -1,6 +1,7 @@
 -- What the readers of a state and its planners say of the rows.
 use Rattle.std.specs.List.{list_any}
-use Rattle.std.proofs.Common.{◌≡◌, ℕ, nat_le, Bool, true, false, ◌&&◌, ◌||◌, not, cond, List, [], ◌∷◌, length, drop, get_or, ◌<◌, ◌+◌, Option, Some, None, Result, Ok, Err, IfOk, IfErr, refl, sym, ap, subst, ◌∙◌, filter}
+use Rattle.std.proofs.Common.{◌≡◌, ℕ, nat_le, Bool, true, false, ◌&&◌, ◌||◌, not, cond, List, [], ◌∷◌, length, drop, get_or, ◌<◌, ◌+◌, Option, Some}
+use Rattle.std.proofs.Common.{None, Result, Ok, Err, IfOk, IfErr, refl, sym, ap, subst, ◌∙◌, filter}
 use Rattle.std.specs.Option.{MatchOption, is_some}
 use Rattle.std.proofs.lemmas.Bool.{false≢true}
 use Rattle.std.proofs.lemmas.List.{at_drop_more}
@@ -18,7 +19,7 @@ use Rattle.protocol.specs.Rows.{Row, Standing, HasRow, standing, standing_by, cl
 use Rattle.protocol.specs.Plan.{Before, Plan, Planned, stands, opens, is_crowded, in_way}
 use Rattle.protocol.proofs.RowTable.{claims-by_id}
 use Rattle.rows.proofs.Steps.{claims-without_rows}
-use Rattle.memory.specs.Kept.{Kept, start_of, IsPast, IsPlanned, IsRefusal, standing_of}
+use Rattle.memory.specs.Kept.{Kept, start_of, StandsAs, IsPlanned, IsRefusal, standing_of}
 use Rattle.memory.specs.Plans.{plan_of}
 use Rattle.memory.specs.declared.plan.Plan.{Plan as CodePlan}
 use Rattle.memory.specs.declared.state.Past.{Past}
@@ -38,7 +39,7 @@ stands-past b t status ended e recorded_so ended_so =
     ∙ ap (λ s. standing_by None s (has_id b.memory.ended t)) recorded_so
     ∙ ap (standing_by None status) ended_so
 
-is_past : (standing : Standing) (past : Past) → IsPast standing past → standing ≡ standing_of past
+is_past : (standing : Standing) (past : Past) → StandsAs standing past → standing ≡ standing_of past
 is_past standing Past.Unknown e = e
 is_past standing Past.Ended e = e
 is_past standing Past.Aborted e = e
@@ -71,7 +72,7 @@ pub planned-row : (k : Kept) (t : Id) (plan : Standing → Planned) (r : Row) (r
 planned-row k t plan r result e made = subst (λ s. IsPlanned k (plan s) result) (sym (stands-row (start_of k) t r e)) made
 
 -- by what is told of one that has no row
-pub planned-past : (k : Kept) (t : Id) (plan : Standing → Planned) (past : Past) (result : Result CodePlan Fault) → IsPast (stands (start_of k) t) past
+pub planned-past : (k : Kept) (t : Id) (plan : Standing → Planned) (past : Past) (result : Result CodePlan Fault) → StandsAs (stands (start_of k) t) past
     → IsPlanned k (plan (standing_of past)) result → IsPlanned k (plan (stands (start_of k) t)) result
 planned-past k t plan past result e made = subst (λ s. IsPlanned k (plan s) result) (sym (is_past (stands (start_of k) t) past e)) made
 

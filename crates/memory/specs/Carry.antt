@@ -15,7 +15,8 @@ use Rattle.rows.specs.CodeRows.{is_reading, is_collecting, is_idle, may_decide, 
 use Rattle.rows.specs.RowTable.{RowTable, put_row, has_phase, room}
 use Rattle.rows.specs.declared.row.Row.{Row as CodeRow}
 use Rattle.memory.specs.Kept.{Kept}
-use Rattle.memory.specs.Ledger.{writes_standing, CanInstall}
+use Rattle.protocol.specs.Sound.{writes_standing}
+use Rattle.memory.specs.Ledger.{CanInstall}
 use Rattle.memory.specs.Plans.{plan_of}
 use Rattle.memory.specs.declared.plan.Plan.{Plan}
 use Rattle.memory.specs.declared.plan.Change.{Change}
@@ -118,24 +119,24 @@ abbrev pub admitted_to : Memory → Option Id → Memory
 admitted_to m t = record m { rows = admitted m.rows t }
 
 -- the asker has room for its locks
-abbrev pub HasRoom : RowTable → Option Id → ℕ → Type 0
-HasRoom table None more = Unit {0}
-HasRoom table (Some t) more = length (held_in table.rows t) + more ≤ room table t
+abbrev pub AskerHasRoom : RowTable → Option Id → ℕ → Type 0
+AskerHasRoom table None more = Unit {0}
+AskerHasRoom table (Some t) more = length (held_in table.rows t) + more ≤ room table t
 
 -- the rows and the tokens of a state
 abbrev pub table_in : Kept → RowTable
 table_in k = record { rows = k.memory.rows; tokens = k.tokens }
 
 -- the writes that a record installs
-abbrev pub installed_by : Facts → Option Record → List Write
-installed_by facts (Some (Record.Outcome t (Some s))) = writes_standing (recorded facts t)
-installed_by facts (Some (Record.Outcome t None)) = []
-installed_by facts None = []
-installed_by facts (Some (Record.Opened epoch)) = []
-installed_by facts (Some (Record.Ceiling at)) = []
-installed_by facts (Some (Record.Prepare p)) = []
-installed_by facts (Some (Record.Commit c)) = []
-installed_by facts (Some (Record.Abort u)) = []
+abbrev pub writes_installed : Facts → Option Record → List Write
+writes_installed facts (Some (Record.Outcome t (Some s))) = writes_standing (recorded facts t)
+writes_installed facts (Some (Record.Outcome t None)) = []
+writes_installed facts None = []
+writes_installed facts (Some (Record.Opened epoch)) = []
+writes_installed facts (Some (Record.Ceiling at)) = []
+writes_installed facts (Some (Record.Prepare p)) = []
+writes_installed facts (Some (Record.Commit c)) = []
+writes_installed facts (Some (Record.Abort u)) = []
 
 -- a record, where there is one, may come next in the log
 abbrev pub MayFollow : ℕ → Facts → Option Record → Type 0
@@ -148,13 +149,13 @@ MayInstall facts None writes = Unit {0}
 MayInstall facts (Some r) writes = CanInstall facts r writes
 
 -- all memory for a plan is there: the state is what it was, with the asker taken in
-pub record IsReady (old new : Kept) (p : Plan) : Type 0 where
+pub record HasMemoryFor (old new : Kept) (p : Plan) : Type 0 where
   pub setup : new.setup ≡ old.setup
   pub facts : new.facts ≡ old.facts
   pub memory : new.memory ≡ admitted_to old.memory (asker p.change)
   pub records : 1 ≤ new.records
   pub ends : length p.wounded < new.ends
-  pub locks : HasRoom (table_in new) (asker p.change) (length p.needs.items)
+  pub locks : AskerHasRoom (table_in new) (asker p.change) (length p.needs.items)
 
 -- whether the asker had no row, and was taken in
 abbrev pub Admits : List Row → Option Id → Bool → Type 0
@@ -168,7 +169,7 @@ pub record IsCarriable (k : Kept) (p : Plan) (writes : List Write) : Type 0 wher
   pub there : admitted k.memory.rows (asker p.change) ≡ k.memory.rows
   pub records : 1 ≤ k.records
   pub ends : length p.wounded < k.ends
-  pub locks : HasRoom (table_in k) (asker p.change) (length p.needs.items)
+  pub locks : AskerHasRoom (table_in k) (asker p.change) (length p.needs.items)
   pub follows : MayFollow k.setup.shard k.facts p.logged
   pub installs : MayInstall k.facts p.logged writes
 
@@ -210,5 +211,5 @@ AdmissionIsUnseen =
 -- a plan that fits can be carried out once all is ready, where its record may come next and install what it does
 abbrev pub ReadyIsCarriable : Type 0
 ReadyIsCarriable =
-    (old new : Kept) (p : Plan) (writes : List Write) → IsById (λ r. r.txn) old.memory.rows → IsFit old p → IsReady old new p →
+    (old new : Kept) (p : Plan) (writes : List Write) → IsById (λ r. r.txn) old.memory.rows → IsFit old p → HasMemoryFor old new p →
     MayFollow old.setup.shard old.facts p.logged → MayInstall old.facts p.logged writes → IsCarriable new p writes

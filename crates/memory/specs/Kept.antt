@@ -23,15 +23,15 @@ pub record Kept : Type 0 where
 
 -- where its next step starts. Its table holds 1,024 rows
 abbrev pub start_of : Kept → protocol.Before
-start_of k = protocol.before most_rows k.setup k.facts k.memory
+start_of k = protocol.start_of_step most_rows k.setup k.facts k.memory
 
 -- how a transaction stands that has no row
-abbrev pub IsPast : Standing → Past → Type 0
-IsPast standing Past.Unknown = standing ≡ IsUnknown
-IsPast standing Past.Ended = standing ≡ WasEnded
-IsPast standing Past.Aborted = standing ≡ WasAborted
-IsPast standing (Past.Settled at parts) = standing ≡ WasSettled at parts
-IsPast standing (Past.Closed outcome) = standing ≡ WasClosed outcome
+abbrev pub StandsAs : Standing → Past → Type 0
+StandsAs standing Past.Unknown = standing ≡ IsUnknown
+StandsAs standing Past.Ended = standing ≡ WasEnded
+StandsAs standing Past.Aborted = standing ≡ WasAborted
+StandsAs standing (Past.Settled at parts) = standing ≡ WasSettled at parts
+StandsAs standing (Past.Closed outcome) = standing ≡ WasClosed outcome
 
 -- the plan's own refusal; or, where there is a plan, want of memory
 abbrev pub IsRefusal : protocol.Planned → Fault → Type 0

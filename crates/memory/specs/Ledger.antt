@@ -6,12 +6,7 @@ use Rattle.record.specs.Facts.{Facts, recorded}
 use Rattle.record.specs.Records.{Status, StandsPrepared, StandsDecided}
 use Rattle.record.specs.declared.record.Record.{Record}
 use Rattle.record.specs.declared.record.Record.TheVariants.{Opened, Ceiling, Prepare, Commit, Abort, Outcome}
-
--- the writes of a promise or a decision that stands
-abbrev pub writes_standing : Status → List Write
-writes_standing (StandsPrepared p) = p.writes
-writes_standing (StandsDecided c) = c.writes
-writes_standing _ = []
+use Rattle.protocol.specs.Sound.{writes_standing}
 
 -- the timestamp of an outcome
 abbrev pub outcome_stamp : Record → Option ℕ

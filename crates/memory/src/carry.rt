@@ -2,10 +2,10 @@
 ghost use Rattle.std.specs.Prelude.{◌≡◌, ◌≤◌, ◌<◌, ◌+◌, Some, None, true, false, OnOk, OnErr, IfOk, IfErr, IsSome, length, List, ℕ};
 ghost use Rattle.units.specs.Locks.{with_locks};
 ghost use Rattle.protocol.specs.Rows.{Memory, Idle, find_row, without_row, held_in, without_rows};
-ghost use Rattle.protocol.specs.Plan.{carried, changed, ended_by, with_ids};
+ghost use Rattle.protocol.specs.Plan.{carried, after_change, ended_by, with_ids};
 ghost use Rattle.protocol.specs.Step.{facts_after};
 ghost use Rattle.rows.specs.RowTable.{put_row, phase_by, room};
-ghost use Rattle.memory.specs.Carry.{AdmissionIsUnseen, ReadyIsCarriable, IsFit, MayAsk, IsReady, IsCarriable, IsDated, Admits, MayUndo, MayDrop, MayFollow, MayInstall, CanStand, FitsRows, Asks, HasRoom, asker, admitted, admitted_to, installed_by, may_ask, may_end};
+ghost use Rattle.memory.specs.Carry.{AdmissionIsUnseen, ReadyIsCarriable, IsFit, MayAsk, HasMemoryFor, IsCarriable, IsDated, Admits, MayUndo, MayDrop, MayFollow, MayInstall, CanStand, FitsRows, Asks, AskerHasRoom, asker, admitted, admitted_to, writes_installed, may_ask, may_end};
 ghost use Rattle.memory.specs.Plans.{plan_of, change_of};
 ghost use Rattle.memory.specs.Served.{IsHolding, stamp_held};
 
@@ -48,8 +48,8 @@ impl State {
     /// refused, all is as it was.
     pub fn make_ready(&mut self, alloc: Global, plan: &Plan) -> Result<Ready, Fault>
         requires { IsFit self.old plan.now }
-        ensures ready { OnOk result (IsReady self.old self.new plan.now) }
-        ensures writes { IfOk result (λ ready. ready.writes ≡ installed_by self.old.facts plan.now.logged) }
+        ensures ready { OnOk result (HasMemoryFor self.old self.new plan.now) }
+        ensures writes { IfOk result (λ ready. ready.writes ≡ writes_installed self.old.facts plan.now.logged) }
         ensures admits { IfOk result (λ ready. Admits self.old.memory.rows (asker plan.now.change) ready.admitted) }
         ensures undo { IfOk result (λ ready. MayUndo self.new.memory.rows (asker plan.now.change) ready.admitted) }
         ensures kept { OnErr result ((self.new.setup ≡ self.old.setup) × (self.new.facts ≡ self.old.facts) × (self.new.memory ≡ self.old.memory)) }
@@ -117,7 +117,7 @@ pub fn ready_plans_can_be_carried()
 
 // A copy of the writes that the record of a plan installs.
 fn writes_for(ledger: &Ledger, alloc: Global, plan: &Plan) -> Result<Writes, Fault>
-    ensures writes { IfOk result (λ writes. writes ≡ installed_by ledger.now.facts plan.now.logged) }
+    ensures writes { IfOk result (λ writes. writes ≡ writes_installed ledger.now.facts plan.now.logged) }
     ensures memory { IfErr result (λ fault. fault ≡ Fault.Memory) }
 {
     match &plan.logged {
@@ -140,7 +140,7 @@ fn admit_asker(
 ) -> Result<bool, Fault>
     requires { MayAsk rows.old.rows asker }
     ensures rows { OnOk result (rows.new.rows ≡ admitted rows.old.rows asker) }
-    ensures room { OnOk result (HasRoom rows.new asker more) }
+    ensures room { OnOk result (AskerHasRoom rows.new asker more) }
     ensures admits { IfOk result (λ taken. Admits rows.old.rows asker taken) }
     ensures undo { IfOk result (λ taken. MayUndo rows.new.rows asker taken) }
     ensures holding { (holds : List ℕ) → IsHolding holds rows.old.rows → IsHolding holds rows.new.rows }
@@ -193,11 +193,11 @@ fn make_change(
     requires fits { FitsRows rows.old.rows wounded.now needs.now logged change }
     requires there { admitted rows.old.rows (asker change) ≡ rows.old.rows }
     requires ends { length wounded.now < ended.old.room }
-    requires locks { HasRoom rows.old (asker change) (length needs.now) }
+    requires locks { AskerHasRoom rows.old (asker change) (length needs.now) }
     requires dated { IsDated logged }
     ensures holding { IsHolding times.new.holds rows.new.rows }
     ensures last { times.new.last ≡ times.old.last }
-    ensures rows { rows.new.rows ≡ changed (change_of rows.old.rows needs.now logged change) (without_rows rows.old.rows wounded.now) }
+    ensures rows { rows.new.rows ≡ after_change (change_of rows.old.rows needs.now logged change) (without_rows rows.old.rows wounded.now) }
     ensures ended { ended.new.ids ≡ ended_by (change_of rows.old.rows needs.now logged change) (with_ids ended.old.ids wounded.now) }
     ensures record { result ≡ logged }
 {

@@ -5,7 +5,8 @@ ghost use Rattle.units.specs.Versions.{latest, at_time, above_versions};
 ghost use Rattle.record.specs.Facts.{facts_of, learn, recorded};
 ghost use Rattle.facts.specs.Rules.{follows_facts};
 ghost use Rattle.facts.specs.Shown.{meant};
-ghost use Rattle.memory.specs.Ledger.{writes_standing, outcome_stamp, CanInstall};
+ghost use Rattle.protocol.specs.Sound.{writes_standing};
+ghost use Rattle.memory.specs.Ledger.{outcome_stamp, CanInstall};
 
 use facts::{Facts, Status};
 use record::Record;

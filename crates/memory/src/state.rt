@@ -13,8 +13,8 @@ ghost use Rattle.protocol.specs.Plan.{stands, in_way, opens, is_crowded};
 ghost use Rattle.rows.specs.CodeRows.{phase_of};
 ghost use Rattle.rows.specs.RowTable.{needs_in};
 ghost use Rattle.memory.specs.Carry.{Asks, MayTurn, may_ask, may_drop, may_end};
-ghost use Rattle.memory.specs.Kept.{start_of, IsPast};
-ghost use Rattle.memory.specs.Ledger.{writes_standing};
+ghost use Rattle.memory.specs.Kept.{start_of, StandsAs};
+ghost use Rattle.protocol.specs.Sound.{writes_standing};
 
 use crate::ended::Ended;
 use crate::ledger::Ledger;
@@ -168,7 +168,7 @@ impl State {
     /// How a transaction stands that has no row.
     pub fn past(&self, txn: TxnId) -> Past
         requires { find_row self.now.memory.rows txn ≡ None }
-        ensures past { IsPast (stands (start_of self.now) txn) result }
+        ensures past { StandsAs (stands (start_of self.now) txn) result }
         ensures ends { may_end self.now.memory.rows txn ≡ true }
         ensures drops { may_drop self.now.memory.rows txn ≡ true }
     {
@@ -241,7 +241,7 @@ impl State {
 
 // How a transaction stands that has no row, by its recorded status and by whether it was ended.
 fn past_by(status: Option<&Status>, ended: bool) -> Past
-    ensures { IsPast (standing_by None (meant (option_copied status.entry)) ended) result }
+    ensures { StandsAs (standing_by None (meant (option_copied status.entry)) ended) result }
 {
     match status {
         Some(Status::Aborted) => Past::Aborted,

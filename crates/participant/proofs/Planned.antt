@@ -1,5 +1,6 @@
 -- The plans of a participant by the tests that the code makes.
-use Rattle.std.proofs.Common.{◌≡◌, ℕ, ◌+◌, ◌<◌, ◌≤◌, ◌^◌, nat_le, max, cond, Bool, true, false, List, [], ◌∷◌, Option, Some, None, Ok, Err, Result, refl, sym, ap, subst, ◌∙◌, arith}
+use Rattle.std.proofs.Common.{◌≡◌, ℕ, ◌+◌, ◌<◌, ◌≤◌, ◌^◌, nat_le, max, cond, Bool, true, false, List, [], ◌∷◌, Option, Some, None, Ok, Err, Result}
+use Rattle.std.proofs.Common.{refl, sym, ap, subst, ◌∙◌, arith}
 use Rattle.std.proofs.lemmas.Bool.Decides.{nat_tests}
 use Rattle.std.specs.Option.{is_some}
 use Rattle.units.specs.Ids.{Id, has_id}
@@ -14,14 +15,15 @@ use Rattle.record.specs.Facts.{recorded}
 use Rattle.message.specs.declared.message.Prepare.{Prepare}
 use Rattle.protocol.specs.Rows.{HasRow, Idle, WaitsRead, WaitsPrepare, find_row, standing_by, held_by, held_in}
 use Rattle.protocol.specs.Plan.{time_limit, Before, Planned, stands, opens, in_way, is_crowded, replies, idles, ends, puts, roomed}
-use Rattle.protocol.specs.Cells.{still_stand, answers, refuses, to_read, plan_go_on, plan_nudge, plan_read, plan_read_row, plan_read_now, plan_prepare, plan_prepare_fresh, plan_prepare_now, plan_promise}
+use Rattle.protocol.specs.Cells.{still_stand, answers, refuses, to_read, plan_go_on, plan_nudge, plan_read, plan_read_row, plan_read_now}
+use Rattle.protocol.specs.Cells.{plan_prepare, plan_prepare_fresh, plan_prepare_now, plan_promise}
 use Rattle.rows.specs.CodeRows.{phase_of_wait}
 use Rattle.rows.specs.declared.wait.Wait.{Wait}
 use Rattle.memory.specs.Kept.{Kept, start_of, standing_of, IsPlanned}
 use Rattle.memory.specs.declared.plan.Plan.{Plan}
 use Rattle.memory.specs.declared.state.Past.{Past}
 use Rattle.memory.proofs.States.{stands-past}
-use Rattle.participant.specs.Asks.{read_asks, promises}
+use Rattle.participant.specs.Asks.{read_asks, promised_by}
 
 -- a row that reads, by whether it waits
 pub read_of_row : (b : Before) (t : Id) (k : Bytes) (held : List Lock) (wait : Option Wait)
@@ -36,7 +38,8 @@ read_of_row b t k held (Some (Wait.Commit c)) = refl
 pub nudge_none : (b : Before) (t : Id) → find_row b.memory.rows t ≡ None → plan_nudge b t (stands b t) ≡ Err Stranger
 unfolding plan_nudge
 nudge_none b t none =
-    ap (plan_nudge b t) (stands-past b t (recorded b.facts t) (has_id b.memory.ended t) none refl refl) ∙ by_status (recorded b.facts t) (has_id b.memory.ended t)
+    ap (plan_nudge b t) (stands-past b t (recorded b.facts t) (has_id b.memory.ended t) none refl refl)
+        ∙ by_status (recorded b.facts t) (has_id b.memory.ended t)
   where
     by_status : (status : Status) (ended : Bool) → plan_nudge b t (standing_by None status ended) ≡ Err Stranger
     by_status HasAborted ended = refl
@@ -90,14 +93,14 @@ pub promise_late : (b : Before) (ended : List Id) (earliest : ℕ) (t : Id) (c :
     → plan_promise b ended earliest t c rs ws ≡ Err TimeSpent
 unfolding plan_promise
 promise_late b ended earliest t c rs ws late =
-    ap (λ a. cond a (Ok (promises b ended t (promise_stamp b earliest) c rs ws)) (Err TimeSpent)) (over_limit (promise_stamp b earliest) late)
+    ap (λ a. cond a (Ok (promised_by b ended t (promise_stamp b earliest) c rs ws)) (Err TimeSpent)) (over_limit (promise_stamp b earliest) late)
 
 pub promise_made : (b : Before) (ended : List Id) (earliest : ℕ) (t : Id) (c : ℕ) (rs : List Bytes) (ws : List Write) (at : ℕ)
-    → at ≡ promise_stamp b earliest → at < 2 ^ 62 → plan_promise b ended earliest t c rs ws ≡ Ok (promises b ended t at c rs ws)
+    → at ≡ promise_stamp b earliest → at < 2 ^ 62 → plan_promise b ended earliest t c rs ws ≡ Ok (promised_by b ended t at c rs ws)
 unfolding plan_promise
 promise_made b ended earliest t c rs ws at is small =
-    ap (λ p. cond (nat_le p time_limit) (Ok (promises b ended t p c rs ws)) (Err TimeSpent)) (sym is)
-    ∙ ap (λ a. cond a (Ok (promises b ended t at c rs ws)) (Err TimeSpent)) (in_limit at small)
+    ap (λ p. cond (nat_le p time_limit) (Ok (promised_by b ended t p c rs ws)) (Err TimeSpent)) (sym is)
+    ∙ ap (λ a. cond a (Ok (promised_by b ended t at c rs ws)) (Err TimeSpent)) (in_limit at small)
 
 -- ---- prepares
 
@@ -141,7 +144,8 @@ pub now_late : (b : Before) (earliest : ℕ) (m : Prepare) → opens b m.txn (ex
     → 2 ^ 62 ≤ promise_stamp b earliest → plan_prepare_now b earliest m ≡ Err TimeSpent
 now_late b earliest m free late =
     opened b earliest m free
-    ∙ roomed_late (is_crowded b m.txn) (promises_now b earliest m) (promise_late b (in_way b m.txn (exclusive m.writes)) earliest m.txn m.coordinator m.reads.keys m.writes late)
+    ∙ roomed_late (is_crowded b m.txn) (promises_now b earliest m)
+        (promise_late b (in_way b m.txn (exclusive m.writes)) earliest m.txn m.coordinator m.reads.keys m.writes late)
 
 pub now_crowded : (b : Before) (earliest : ℕ) (m : Prepare) (at : ℕ) → opens b m.txn (exclusive m.writes) ≡ true
     → at ≡ promise_stamp b earliest → at < 2 ^ 62 → is_crowded b m.txn ≡ true → plan_prepare_now b earliest m ≡ Err RowsFull
@@ -152,7 +156,7 @@ now_crowded b earliest m at free is small full =
 
 pub now_promised : (b : Before) (earliest : ℕ) (m : Prepare) (at : ℕ) → opens b m.txn (exclusive m.writes) ≡ true
     → at ≡ promise_stamp b earliest → at < 2 ^ 62 → is_crowded b m.txn ≡ false
-    → plan_prepare_now b earliest m ≡ Ok (promises b (in_way b m.txn (exclusive m.writes)) m.txn at m.coordinator m.reads.keys m.writes)
+    → plan_prepare_now b earliest m ≡ Ok (promised_by b (in_way b m.txn (exclusive m.writes)) m.txn at m.coordinator m.reads.keys m.writes)
 now_promised b earliest m at free is small roomy =
     opened b earliest m free
     ∙ ap (λ a. roomed a (promises_now b earliest m)) roomy

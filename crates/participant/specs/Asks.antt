@@ -17,6 +17,6 @@ read_asks b t k =
     (puts b (in_way b t (to_read k)) t [] (WaitsRead k) None b.memory.last [])
 
 -- the promise at a timestamp, and the vote
-abbrev pub promises : Before → List Id → Id → ℕ → ℕ → List Bytes → List Write → Plan
-promises b ended t p c rs ws =
+abbrev pub promised_by : Before → List Id → Id → ℕ → ℕ → List Bytes → List Write → Plan
+promised_by b ended t p c rs ws =
     puts b ended t (exclusive ws) (IsPrepared c p) (Some (promise t c p rs ws)) (max b.memory.last p) (vote_to b.shard c t (Some p) ∷ [])

@@ -10,7 +10,7 @@ ghost use Rattle.rows.specs.CodeRows.{phase_of, phase_of_wait};
 ghost use Rattle.memory.specs.Carry.{Asks, IsFit, MayTurn, may_ask, may_end};
 ghost use Rattle.memory.specs.Kept.{start_of, standing_of, IsPlanned};
 ghost use Rattle.memory.specs.Plans.{plan_of};
-ghost use Rattle.participant.specs.Asks.{promises};
+ghost use Rattle.participant.specs.Asks.{promised_by};
 
 use memory::{Change, Past, Plan, Request, State, exclusive, reads_stand, vote_to};
 use message::Prepare;
@@ -182,7 +182,7 @@ fn promise_anew(state: &State, alloc: Global, prepare: &Prepare, at: Stamp) -> R
     requires opens { opens (start_of state.now) prepare.now.txn (exclusive prepare.now.writes) ≡ true }
     requires asks { may_ask state.now.memory.rows prepare.now.txn ≡ true }
     ensures plan { IfOk result (λ plan. plan_of state.now.memory.rows plan ≡
-        promises (start_of state.now) (in_way (start_of state.now) prepare.now.txn (exclusive prepare.now.writes)) prepare.now.txn at prepare.now.coordinator prepare.now.reads.keys prepare.now.writes) }
+        promised_by (start_of state.now) (in_way (start_of state.now) prepare.now.txn (exclusive prepare.now.writes)) prepare.now.txn at prepare.now.coordinator prepare.now.reads.keys prepare.now.writes) }
     ensures fit { IfOk result (IsFit state.now) }
     ensures memory { IfErr result (λ fault. fault ≡ Fault.Memory) }
 {
@@ -250,7 +250,7 @@ fn promise_alone(
     request: &PrepareRequest,
 ) -> Result<Plan, Fault>
     requires { Asks state.now.memory.rows txn [] (exclusive request.now.writes) true }
-    ensures plan { IfOk result (λ plan. plan_of state.now.memory.rows plan ≡ promises (start_of state.now) [] txn at request.now.coordinator request.now.reads request.now.writes) }
+    ensures plan { IfOk result (λ plan. plan_of state.now.memory.rows plan ≡ promised_by (start_of state.now) [] txn at request.now.coordinator request.now.reads request.now.writes) }
     ensures fit { IfOk result (IsFit state.now) }
     ensures memory { IfErr result (λ fault. fault ≡ Fault.Memory) }
 {
@@ -282,7 +282,7 @@ fn promise_at(
 ) -> Result<Plan, Fault>
     requires needs { needs.items ≡ exclusive request.writes }
     requires asks { Asks state.now.memory.rows txn wounded (exclusive request.writes) true }
-    ensures plan { IfOk result (λ plan. plan_of state.now.memory.rows plan ≡ promises (start_of state.now) wounded txn at request.coordinator request.reads request.writes) }
+    ensures plan { IfOk result (λ plan. plan_of state.now.memory.rows plan ≡ promised_by (start_of state.now) wounded txn at request.coordinator request.reads request.writes) }
     ensures fit { IfOk result (IsFit state.now) }
     ensures memory { IfErr result (λ fault. fault ≡ Fault.Memory) }
 {

@@ -42,7 +42,8 @@ lower_later : (at s : ℕ) (i : Install) → at ≤ s → nat_lt i.at at ≡ tru
 lower_later at s i h e = grind (arith, nat_tests)
 
 -- a later timestamp is above too
-pub above_later : (installs : List Install) (at s : ℕ) (ws : List Write) → at ≤ s → IsTrue (above_versions installs at ws) → IsTrue (above_versions installs s ws)
+pub above_later : (installs : List Install) (at s : ℕ) (ws : List Write) → at ≤ s → IsTrue (above_versions installs at ws) →
+    IsTrue (above_versions installs s ws)
 above_later installs at s ws h e =
     each_gives (λ (w : Write). list_all (λ i. nat_lt i.at at) (of_key installs w.key)) (λ (w : Write). list_all (λ i. nat_lt i.at s) (of_key installs w.key))
     (λ w. each_gives (λ (i : Install). nat_lt i.at at) (λ (i : Install). nat_lt i.at s) (λ i. lower_later at s i h) (of_key installs w.key)) ws e
@@ -60,7 +61,8 @@ pub above_all : (installs : List Install) (last at : ℕ) (ws : List Write) → 
 above_all installs last at ws h e =
     each_of_any (λ (w : Write). list_all (λ i. nat_lt i.at at) (of_key installs w.key))
     (λ w. above_key installs at w.key
-    ∙ each_gives (λ (i : Install). nat_le i.at last) (lower at w.key) (λ i k. or_right (not (same_key i.key w.key)) (nat_lt i.at at) (below_last last at i.at h k)) installs e) ws
+    ∙ each_gives (λ (i : Install). nat_le i.at last) (lower at w.key) (λ i k. or_right (not (same_key i.key w.key)) (nat_lt i.at at)
+        (below_last last at i.at h k)) installs e) ws
 
 -- no write is of the key
 abbrev none_of_key : List Write → Bytes → Bool
@@ -141,13 +143,15 @@ writes_apart held others ws vs free h o =
     each_gives (λ (w : Write). holds_alone held w.key) (λ (w : Write). none_of_key vs w.key) (λ w a. one_apart held others vs w.key free a o) ws h
 
 -- two rows of different ids hold nothing in conflict
-pub rows_apart : (rows : List Row) (t u : Id) (r q : Row) → IsLawfulTable (claims rows) → find_row rows t ≡ Some r → find_row rows u ≡ Some q → same_id u t ≡ false
+pub rows_apart : (rows : List Row) (t u : Id) (r q : Row) → IsLawfulTable (claims rows) → find_row rows t ≡ Some r → find_row rows u ≡ Some q →
+    same_id u t ≡ false
     → clash r.held q.held ≡ false
 rows_apart rows t u r q lawful found other differ =
     let there : find_member (λ (c : Claim). c.txn) (claims rows) t ≡ Some (claim_of r) = claims-find_row rows t ∙ ap (option_map claim_of) found in
     let others : find_member (λ (c : Claim). c.txn) (claims rows) u ≡ Some (claim_of q) = claims-find_row rows u ∙ ap (option_map claim_of) other in
     let row : AllByRecursion (LockPair (claim_of r)) (claims rows) =
-    found_all (λ a. AllByRecursion (LockPair a) (claims rows)) (λ (c : Claim). c.txn) (claims rows) t (claim_of r) ((by_pairs (claims rows) lawful).locks) there in
+    found_all (λ a. AllByRecursion (LockPair a) (claims rows)) (λ (c : Claim). c.txn) (claims rows) t (claim_of r)
+        ((by_pairs (claims rows) lawful).locks) there in
     let pair : LockPair (claim_of r) (claim_of q) = found_all (LockPair (claim_of r)) (λ (c : Claim). c.txn) (claims rows) u (claim_of q) row others in
     let own : r.txn ≡ t = same_id-is r.txn t (found_is (λ (z : Row). z.txn) rows t r found) in
     let theirs : q.txn ≡ u = same_id-is q.txn u (found_is (λ (z : Row). z.txn) rows u q other) in

@@ -45,7 +45,8 @@ unrecorded b t sound e =
 pub record PromiseOf (b : Before) (t : Id) (held : List Lock) (c at : ℕ) : Type 0 where
   pub promise : Prepared
   pub is : recorded b.facts t ≡ StandsPrepared promise
-  pub stands_by : StandsBy b.facts.installs b.memory.last (row_as t held (IsPrepared c at)) (IsPrepared promise.coordinator promise.at) promise.txn promise.at promise.reads promise.writes
+  pub stands_by : StandsBy b.facts.installs b.memory.last (row_as t held (IsPrepared c at))
+      (IsPrepared promise.coordinator promise.at) promise.txn promise.at promise.reads promise.writes
   pub stamp : promise.at ≡ at
 
 pub promise_of : (b : Before) (t : Id) (held : List Lock) (c at : ℕ) → Sound b → find_row b.memory.rows t ≡ Some (row_as t held (IsPrepared c at))
@@ -53,7 +54,8 @@ pub promise_of : (b : Before) (t : Id) (held : List Lock) (c at : ℕ) → Sound
 promise_of b t held c at sound found =
     by_status (recorded b.facts t) refl (subst (Agrees b.facts.installs b.memory.last (recorded b.facts t)) found (sound.agrees t))
   where
-    by_status : (s : Status) → recorded b.facts t ≡ s → Agrees b.facts.installs b.memory.last s (Some (row_as t held (IsPrepared c at))) → PromiseOf b t held c at
+    by_status : (s : Status) → recorded b.facts t ≡ s → Agrees b.facts.installs b.memory.last s (Some (row_as t held (IsPrepared c at))) →
+        PromiseOf b t held c at
     by_status (StandsPrepared p) e a =
         let phase : IsPrepared c at ≡ IsPrepared p.coordinator p.at = a.phase in
         let stamp : p.at ≡ at = cc in
@@ -68,7 +70,8 @@ promise_of b t held c at sound found =
 pub record DecisionOf (b : Before) (t : Id) (held : List Lock) (at : ℕ) (ps : List ℕ) : Type 0 where
   pub decision : Committed
   pub is : recorded b.facts t ≡ StandsDecided decision
-  pub stands_by : StandsBy b.facts.installs b.memory.last (row_as t held (IsDecided at ps)) (IsDecided decision.at decision.parts) decision.txn decision.at decision.reads decision.writes
+  pub stands_by : StandsBy b.facts.installs b.memory.last (row_as t held (IsDecided at ps))
+      (IsDecided decision.at decision.parts) decision.txn decision.at decision.reads decision.writes
   pub stamp : decision.at ≡ at
 
 pub decision_of : (b : Before) (t : Id) (held : List Lock) (at : ℕ) (ps : List ℕ) → Sound b → find_row b.memory.rows t ≡ Some (row_as t held (IsDecided at ps))
@@ -76,7 +79,8 @@ pub decision_of : (b : Before) (t : Id) (held : List Lock) (at : ℕ) (ps : List
 decision_of b t held at ps sound found =
     by_status (recorded b.facts t) refl (subst (Agrees b.facts.installs b.memory.last (recorded b.facts t)) found (sound.agrees t))
   where
-    by_status : (s : Status) → recorded b.facts t ≡ s → Agrees b.facts.installs b.memory.last s (Some (row_as t held (IsDecided at ps))) → DecisionOf b t held at ps
+    by_status : (s : Status) → recorded b.facts t ≡ s → Agrees b.facts.installs b.memory.last s (Some (row_as t held (IsDecided at ps))) →
+        DecisionOf b t held at ps
     by_status (StandsDecided d) e a =
         let phase : IsDecided at ps ≡ IsDecided d.at d.parts = a.phase in
         let stamp : d.at ≡ at = cc in

@@ -10,7 +10,8 @@ use Rattle.units.specs.Locks.{holds}
 use Rattle.units.specs.declared.lock.Lock.{Lock}
 use Rattle.units.specs.declared.writes.Write.{Write}
 use Rattle.message.specs.declared.message.Envelope.{Envelope}
-use Rattle.protocol.specs.Rows.{Idle, WaitsRead, WaitsPrepare, WaitsCommit, Collecting, IsPrepared, IsDecided, Voted, Standing, IsUnknown, WasEnded, HasRow, WasAborted, WasSettled, WasClosed, claims, with_vote, held_in}
+use Rattle.protocol.specs.Rows.{Idle, WaitsRead, WaitsPrepare, WaitsCommit, Collecting, IsPrepared, IsDecided, Voted, Standing, IsUnknown, WasEnded}
+use Rattle.protocol.specs.Rows.{HasRow, WasAborted, WasSettled, WasClosed, claims, with_vote, held_in}
 use Rattle.protocol.specs.Outputs.{outcome_to}
 use Rattle.protocol.specs.Plan.{Before, stands, ends, is_crowded}
 use Rattle.protocol.specs.Cells.{is_outcome_for, plan_count, plan_tell, plan_vote, plan_unpromised, plan_outcome, plan_give_up, plan_abort_for, plan_ask}
@@ -22,7 +23,8 @@ use Rattle.protocol.proofs.RequestShapes.{shaped_abort, shaped_decide}
 
 -- ---- vote
 
-shaped_count : (b : Before) (n : ℕ) (t : Id) (vote : Option ℕ) (latest : ℕ) (ps : List ℕ) (rs : List Bytes) (ws : List Write) (votes : List Voted) (held : List Lock)
+shaped_count : (b : Before) (n : ℕ) (t : Id) (vote : Option ℕ) (latest : ℕ) (ps : List ℕ) (rs : List Bytes) (ws : List Write) (votes : List Voted)
+    (held : List Lock)
     → stands b t ≡ HasRow held (Collecting latest ps rs ws votes) → Shaped b (plan_count b n t vote latest ps rs ws votes)
 unfolding plan_count
 shaped_count b n t None latest ps rs ws votes held e = shaped_abort b t ps (ap is_undecided e)
@@ -71,14 +73,16 @@ shaped_vote b n t vote _ e = refused b _
 shaped_end : (b : Before) (t : Id) (out : List Envelope) → is_undecided (stands b t) ≡ true → Shaped b (Ok (ends b t out))
 shaped_end b t out fresh = planned b _ (IsEnd t out fresh refl)
 
-shaped_unpromised : (b : Before) (t : Id) (outcome : Option ℕ) (out : List Envelope) → is_undecided (stands b t) ≡ true → Shaped b (plan_unpromised b t outcome out)
+shaped_unpromised : (b : Before) (t : Id) (outcome : Option ℕ) (out : List Envelope) → is_undecided (stands b t) ≡ true →
+    Shaped b (plan_unpromised b t outcome out)
 shaped_unpromised b t None out fresh = shaped_end b t out fresh
 shaped_unpromised b t (Some s) out fresh = refused b _
 
 pub shaped_outcome : (b : Before) (n : ℕ) (t : Id) (outcome : Option ℕ) (s : Standing) → stands b t ≡ s → Shaped b (plan_outcome b n t outcome s)
 unfolding plan_outcome
 shaped_outcome b n t outcome (HasRow held (IsPrepared c p)) e =
-    shaped_cond b (is_outcome_for n c p outcome) _ _ (λ k. planned b _ (IsClose t n c p held outcome [] (row_at b t held (IsPrepared c p) e) k refl)) (λ _. refused b _)
+    shaped_cond b (is_outcome_for n c p outcome) _ _ (λ k. planned b _ (IsClose t n c p held outcome [] (row_at b t held (IsPrepared c p) e) k refl))
+        (λ _. refused b _)
 shaped_outcome b n t outcome IsUnknown e = shaped_unpromised b t outcome [] (ap is_undecided e)
 shaped_outcome b n t outcome (HasRow held Idle) e = shaped_unpromised b t outcome [] (ap is_undecided e)
 shaped_outcome b n t outcome (HasRow held (WaitsRead k)) e = shaped_unpromised b t outcome [] (ap is_undecided e)

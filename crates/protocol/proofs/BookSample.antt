@@ -4,11 +4,11 @@ use Rattle.record.specs.declared.record.Record.{Record}
 use Rattle.message.specs.declared.message.Input.{Input}
 use Rattle.protocol.specs.Computing.{computing}
 use Rattle.protocol.specs.Outputs.{done_to}
-use Rattle.protocol.specs.Replay.{Kept, IsReplay, opened_with, replayed}
+use Rattle.protocol.specs.Replay.{BookEntry, IsReplay, opened_with, replayed}
 use Rattle.protocol.proofs.Samples.{a, one, txn, clock, sets, shard, commit_of}
 
 -- it is decided at 111, and settled at a reading above
-abbrev book : List Kept
+abbrev book : List BookEntry
 book =
     record { input = Input.Deliver (commit_of (txn 1) (0 ∷ []) 0 [] (sets a one ∷ [])); now = clock 100 110; outbox = [] }
     ∷ record { input = Input.Settle (txn 1); now = clock 112 121; outbox = done_to (txn 1) (Some 111) ∷ [] }

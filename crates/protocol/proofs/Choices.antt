@@ -14,7 +14,9 @@ use Rattle.units.proofs.ByIdLaws.{found_all}
 use Rattle.units.proofs.ListLaws.{all_of_each, all_gives}
 use Rattle.record.specs.Facts.{recorded}
 use Rattle.message.specs.declared.message.Envelope.{Envelope}
-use Rattle.protocol.specs.Rows.{Row, Phase, Idle, WaitsRead, WaitsPrepare, WaitsCommit, Collecting, IsPrepared, IsDecided, Standing, IsUnknown, WasEnded, HasRow, WasAborted, WasSettled, WasClosed, claims, find_row, standing, standing_by, held_by, held_in, without_rows}
+use Rattle.protocol.specs.Rows.{Row, Phase, Idle, WaitsRead, WaitsPrepare, WaitsCommit, Collecting, IsPrepared, IsDecided, Standing, IsUnknown}
+use Rattle.protocol.specs.Rows.{WasEnded, HasRow, WasAborted, WasSettled, WasClosed, claims, find_row, standing, standing_by, held_by, held_in}
+use Rattle.protocol.specs.Rows.{without_rows}
 use Rattle.protocol.specs.Plan.{Plan, Planned, Before, stands, replies, idles, roomed, in_way, opens}
 use Rattle.protocol.specs.Cells.{still_stand}
 use Rattle.protocol.specs.Sound.{fits}
@@ -84,7 +86,8 @@ undecided b t e = undecided_of_loose (stands b t) e
 -- a row fits, where each does
 pub fits_at : (b : Before) (t : Id) (held : List Lock) (phase : Phase) → stands b t ≡ HasRow held phase → all_fit b → fits b.shard (row_as t held phase) ≡ true
 fits_at b t held phase e fit =
-    found_all (λ r. fits b.shard r ≡ true) (λ (r : Row). r.txn) b.memory.rows t (row_as t held phase) (all_of_each (fits b.shard) b.memory.rows fit) (row_at b t held phase e)
+    found_all (λ r. fits b.shard r ≡ true) (λ (r : Row). r.txn) b.memory.rows t (row_as t held phase) (all_of_each (fits b.shard) b.memory.rows fit)
+        (row_at b t held phase e)
 
 -- those in the way gone, and nobody else there
 pub cleared : (b : Before) (t : Id) (needs : List Lock) → Ascends b → opens b t needs ≡ true → IsCleared b.memory.rows t (in_way b t needs) needs
@@ -116,7 +119,8 @@ held_unknown b t e = by_row (find_row b.memory.rows t) e
 pub reads_still : (b : Before) (t : Id) (epoch : ℕ) (rs : List Bytes) (held : List Lock) → held_in b.memory.rows t ≡ held → still_stand b epoch rs held ≡ true
     → reads_held b t rs
 reads_still b t epoch [] held same e = refl
-reads_still b t epoch (k ∷ ks) held same e = ap (λ ls. list_all (holds ls) (k ∷ ks)) same ∙ (and_parts (nat_eq epoch b.facts.epoch) (list_all (holds held) (k ∷ ks)) e).1
+reads_still b t epoch (k ∷ ks) held same e = ap (λ ls. list_all (holds ls) (k ∷ ks)) same
+    ∙ (and_parts (nat_eq epoch b.facts.epoch) (list_all (holds held) (k ∷ ks)) e).1
 
 -- a key that is held stays so with one lock more
 holds_still : (held : List Lock) (l : Lock) (k : Bytes) → holds held k ≡ true → holds (with_lock held l) k ≡ true
@@ -128,7 +132,8 @@ holds_later [] held k e = e
 holds_later (l ∷ ls) held k e = holds_later ls (with_lock held l) k (holds_still held l k e)
 
 -- and once those in the way are gone and some needs are granted
-pub reads_granted : (b : Before) (t : Id) (ended : List Id) (needs : List Lock) (rs : List Bytes) → AllByRecursion (IsLooseOther b.memory.rows t) ended → reads_held b t rs
+pub reads_granted : (b : Before) (t : Id) (ended : List Id) (needs : List Lock) (rs : List Bytes) →
+    AllByRecursion (IsLooseOther b.memory.rows t) ended → reads_held b t rs
     → list_all (holds (granted_to b t ended needs)) rs ≡ true
 reads_granted b t ended needs rs gone e =
     let same : find_row (without_rows b.memory.rows ended) t ≡ find_row b.memory.rows t =

@@ -99,7 +99,8 @@ own_of rows t firm (Some r) lawful found firms =
 pub keys_of : (rows : List Row) (t : Id) (o : Option Row) → IsLawfulTable (claims rows) → find_row rows t ≡ o → ascends lock_before (held_by o) ≡ true
 keys_of rows t None lawful found = refl
 keys_of rows t (Some r) lawful found =
-    found_all HoldsByKey (λ (c : Claim). c.txn) (claims rows) t (claim_of r) ((by_pairs (claims rows) lawful).keys) (claims-find_row rows t ∙ ap (option_map claim_of) found)
+    found_all HoldsByKey (λ (c : Claim). c.txn) (claims rows) t (claim_of r) ((by_pairs (claims rows) lawful).keys)
+        (claims-find_row rows t ∙ ap (option_map claim_of) found)
 
 -- ---- a grant and a wait
 
@@ -111,7 +112,8 @@ grant_beside t held needs e a own locks quiet before free = record {
       ap (λ ls. clash ls a.held) locks
       ∙ clash-with_locks held needs a.held (clash_comm needs a.held ∙ free_of t needs a (away d) free) (before.apart (away d));
   for_other = λ d c. absurd (false≢true (sym (ap (clash a.held) quiet ∙ clash_nil a.held) ∙ c));
-  for_it = λ d c. ap (λ u. older u a.txn || e.firm) own ∙ by_held (clash held a.needs) refl (ap (λ u. same_id u a.txn) (sym own) ∙ d) (ap (λ ls. clash ls a.needs) (sym locks) ∙ c);
+  for_it = λ d c. ap (λ u. older u a.txn || e.firm) own ∙ by_held (clash held a.needs) refl (ap (λ u. same_id u a.txn) (sym own) ∙ d)
+      (ap (λ ls. clash ls a.needs) (sym locks) ∙ c);
 }
   where
     away : same_id a.txn e.txn ≡ false → same_id a.txn t ≡ false

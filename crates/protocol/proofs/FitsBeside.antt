@@ -1,9 +1,10 @@
 -- What a step logs fits beside what the log holds: after it the log's rows are a lawful table still, and no more than the
 -- rows in memory.
-use Rattle.std.proofs.Common.{◌≡◌, ℕ, suc, ◌<◌, ◌≤◌, Bool, true, false, not, nat_lt, List, [], ◌∷◌, map, length, Option, Some, None, refl, sym, ap, subst, ◌∙◌, arith}
+use Rattle.std.proofs.Common.{◌≡◌, ℕ, suc, ◌<◌, ◌≤◌, Bool, true, false, not, nat_lt, List, [], ◌∷◌, map, length, Option, Some, None, refl, sym, ap}
+use Rattle.std.proofs.Common.{subst, ◌∙◌, arith}
 use Rattle.std.specs.Prelude.{IsTrue, Ok, Err, cond}
 use Rattle.std.specs.List.{AllByRecursion, list_any}
-use Rattle.std.proofs.lemmas.Bool.{false≢true, and_from, and_parts, lt-ltb}
+use Rattle.std.proofs.lemmas.Bool.{false≢true, and_from, and_parts, lt-ltb, not_from_false}
 use Rattle.units.specs.Limits.{most_rows}
 use Rattle.units.specs.Lists.{follow, gather}
 use Rattle.units.specs.Ids.{Id, same_id}
@@ -20,10 +21,11 @@ use Rattle.units.proofs.ByIdLaws.{first_none, found_has, has-without_other}
 use Rattle.units.proofs.IdLaws.{same_id_comm}
 use Rattle.units.proofs.ListLaws.{all_gives}
 use Rattle.truetime.specs.Interval.{Interval}
-use Rattle.record.specs.Accepted.{fits_beside, stands, standing, standing_locks}
+use Rattle.record.specs.Accepted.{fits_beside, may_stand, locks_standing, standing_locks}
 use Rattle.record.specs.Facts.{Entry, Facts, facts_of, learn, or_unrecorded, recorded, with_status}
 use Rattle.record.specs.Installs.{installs_of, writes_by}
-use Rattle.record.specs.Records.{Ended, Status, Unrecorded, StandsPrepared, StandsDecided, HasAborted, HasSettled, HasClosed, status_by, status_of, ids_of, is_aborted, committed_of, prepared_of, ended_of}
+use Rattle.record.specs.Records.{Ended, Status, Unrecorded, StandsPrepared, StandsDecided, HasAborted, HasSettled, HasClosed, status_by, status_of}
+use Rattle.record.specs.Records.{ids_of, is_aborted, committed_of, prepared_of, ended_of}
 use Rattle.record.specs.declared.record.Committed.{Committed}
 use Rattle.record.specs.declared.record.Prepared.{Prepared}
 use Rattle.record.specs.declared.record.Record.{Record}
@@ -32,7 +34,7 @@ use Rattle.facts.specs.Rules.{allows, follows_facts, is_unrecorded}
 use Rattle.message.specs.declared.message.Input.{Input}
 use Rattle.protocol.specs.FitsBeside.{LoggedFitsBeside}
 use Rattle.protocol.specs.Rows.{Memory, Row, IsPrepared, IsDecided, find_row, standing_row, without_row}
-use Rattle.protocol.specs.Plan.{Keeps, Plan, Planned, before, carried}
+use Rattle.protocol.specs.Plan.{Keeps, Plan, Planned, start_of_step, carried}
 use Rattle.protocol.specs.Cells.{plan_advance}
 use Rattle.protocol.specs.Step.{plan_input, facts_after, IsInLimit}
 use Rattle.protocol.specs.Sound.{Agrees, IsSound, writes_standing}
@@ -68,7 +70,8 @@ locks_of_rows [] = refl
 locks_of_rows (e ∷ es) = by_status e.status (locks_of_rows es)
   where
     by_status : (s : Status) → gather (λ e. standing_locks e.status) es ≡ map (λ r. r.held) (gather standing_row es)
-        → gather (λ e. standing_locks e.status) (record { txn = e.txn; status = s } ∷ es) ≡ map (λ r. r.held) (gather standing_row (record { txn = e.txn; status = s } ∷ es))
+        → gather (λ e. standing_locks e.status) (record { txn = e.txn; status = s } ∷ es) ≡
+            map (λ r. r.held) (gather standing_row (record { txn = e.txn; status = s } ∷ es))
     by_status (StandsPrepared p) k = ap (λ l. locks_of p.reads p.writes ∷ l) k
     by_status (StandsDecided c) k = ap (λ l. locks_of c.reads c.writes ∷ l) k
     by_status Unrecorded k = k
@@ -76,7 +79,7 @@ locks_of_rows (e ∷ es) = by_status e.status (locks_of_rows es)
     by_status (HasSettled at ps) k = k
     by_status (HasClosed c o) k = k
 
-pub standing_is : (log : List Record) → standing log ≡ map (λ r. r.held) (log_rows (facts_of log))
+pub standing_is : (log : List Record) → locks_standing log ≡ map (λ r. r.held) (log_rows (facts_of log))
 unfolding facts_of
 standing_is log =
     gather-map (λ (e : Entry). standing_locks e.status) (λ t. record { txn = t; status = status_of log t }) (ids_of log)
@@ -94,12 +97,14 @@ none_clashes ls (r ∷ rs) free = rw free.0 (none_clashes ls rs free.1)
 pub few_opened : (shard : ℕ) (f : Facts) (m : Memory) → IsSound shard f m → length (log_rows f) ≤ length m.rows
 few_opened shard f m sound =
     no_more (log_rows f) m.rows (opened_up shard f m sound)
-    (all_gives (Backed m) (λ x. has_row m.rows x.txn ≡ true) (λ r x. found_has (λ (q : Row). q.txn) m.rows r.txn x.row x.found) (log_rows f) (opened_backed shard f m sound))
+    (all_gives (Backed m) (λ x. has_row m.rows x.txn ≡ true) (λ r x. found_has (λ (q : Row). q.txn) m.rows r.txn x.row x.found) (log_rows f)
+        (opened_backed shard f m sound))
 
 -- ---- one more record that stands
 
 module _ (shard : ℕ) (f after : Facts) (m later : Memory) (t : Id) (s : Status) (new : Row) (sound : IsSound shard f m) (next : IsSound shard after later)
-    (put : after.entries ≡ with_status f.entries t s) (stands : standing_row (record { txn = t; status = s }) ≡ Some new) (fresh : recorded f t ≡ Unrecorded) where
+    (put : after.entries ≡ with_status f.entries t s) (may_stand : standing_row (record { txn = t; status = s }) ≡ Some new)
+        (fresh : recorded f t ≡ Unrecorded) where
   -- the log had no row of the id
   none_before : find_row (log_rows f) t ≡ None
   none_before = find-gather f.entries t sound.entries (entries_own shard f m sound) ∙ by_entry (find_member (λ (e : Entry). e.txn) f.entries t) fresh
@@ -124,7 +129,7 @@ module _ (shard : ℕ) (f after : Facts) (m later : Memory) (t : Id) (s : Status
       find-gather after.entries t next.entries (entries_own shard after later next)
       ∙ ap (λ es. follow (find_member (λ (e : Entry). e.txn) es t) standing_row) put
       ∙ ap (λ o. follow o standing_row) (entry_same f.entries t s)
-      ∙ stands
+      ∙ may_stand
 
   found_old : (r : Row) → find_row (log_rows f) r.txn ≡ Some r → same_id r.txn t ≡ false → find_row (log_rows after) r.txn ≡ Some r
   found_old r found apart =
@@ -142,7 +147,8 @@ module _ (shard : ℕ) (f after : Facts) (m later : Memory) (t : Id) (s : Status
   unfolding Old
   all_old = both (log_rows f) (find_each (log_rows f) (opened_up shard f m sound)) differ
     where
-      both : (rows : List Row) → AllByRecursion (λ (r : Row). find_row (log_rows f) r.txn ≡ Some r) rows → AllByRecursion (λ (r : Row). same_id r.txn t ≡ false) rows
+      both : (rows : List Row) → AllByRecursion (λ (r : Row). find_row (log_rows f) r.txn ≡ Some r) rows →
+          AllByRecursion (λ (r : Row). same_id r.txn t ≡ false) rows
           → AllByRecursion Old rows
       both [] found apart = tt
       both (r ∷ rs) found apart = ((found_old r found.0 apart.0, apart.0), both rs found.1 apart.1)
@@ -166,27 +172,26 @@ module _ (shard : ℕ) (f after : Facts) (m later : Memory) (t : Id) (s : Status
       let all : length (log_rows after) ≤ length later.rows = few_opened shard after later next in
       omega (arith, others, fewer, all, room)
 
-not_false : (b : Bool) → b ≡ false → not b ≡ true
-not_false false e = refl
-not_false true e = cc
-
 pub installs_are : (log : List Record) → (facts_of log).installs ≡ installs_of log
 unfolding facts_of
 installs_are log = refl
 
 -- so it stands beside what the log holds
-stands_beside : (shard : ℕ) (log : List Record) (after : Facts) (m later : Memory) (t : Id) (s : Status) (at : ℕ) (rs : List Bytes) (ws : List Write) (new : Row)
+stands_beside : (shard : ℕ) (log : List Record) (after : Facts) (m later : Memory) (t : Id) (s : Status) (at : ℕ) (rs : List Bytes) (ws : List Write)
+    (new : Row)
     → IsSound shard (facts_of log) m → IsSound shard after later → length later.rows ≤ most_rows
     → after.entries ≡ with_status (facts_of log).entries t s → standing_row (record { txn = t; status = s }) ≡ Some new → new.held ≡ locks_of rs ws
-    → recorded (facts_of log) t ≡ Unrecorded → IsTrue (above_versions (facts_of log).installs at ws) → stands log at rs ws ≡ true
+    → recorded (facts_of log) t ≡ Unrecorded → IsTrue (above_versions (facts_of log).installs at ws) → may_stand log at rs ws ≡ true
 stands_beside shard log after m later t s at rs ws new sound next room put held locks fresh above =
     let small : length (log_rows (facts_of log)) < most_rows = few shard (facts_of log) after m later t s new sound next put held fresh room in
-    let count : length (standing log) ≡ length (log_rows (facts_of log)) = ap length (standing_is log) ∙ length-held (log_rows (facts_of log)) in
-    let free : list_any (clash (locks_of rs ws)) (standing log) ≡ false =
+    let count : length (locks_standing log) ≡ length (log_rows (facts_of log)) = ap length (standing_is log) ∙ length-held (log_rows (facts_of log)) in
+    let free : list_any (clash (locks_of rs ws)) (locks_standing log) ≡ false =
     ap (list_any (clash (locks_of rs ws))) (standing_is log)
     ∙ none_clashes (locks_of rs ws) (log_rows (facts_of log))
-    (subst (λ ls. AllByRecursion (λ (r : Row). clash ls r.held ≡ false) (log_rows (facts_of log))) locks (clear shard (facts_of log) after m later t s new sound next put held fresh)) in
-    and_from _ _ (and_from _ _ (ap (λ n. nat_lt n most_rows) count ∙ lt-ltb _ _ small) (not_false _ free)) (subst (λ is. IsTrue (above_versions is at ws)) (installs_are log) above)
+    (subst (λ ls. AllByRecursion (λ (r : Row). clash ls r.held ≡ false) (log_rows (facts_of log))) locks
+        (clear shard (facts_of log) after m later t s new sound next put held fresh)) in
+    and_from _ _ (and_from _ _ (ap (λ n. nat_lt n most_rows) count ∙ lt-ltb _ _ small) (not_from_false _ free))
+        (subst (λ is. IsTrue (above_versions is at ws)) (installs_are log) above)
 
 -- ---- the records
 
@@ -199,15 +204,18 @@ unrecorded_is (HasSettled at ps) e = absurd (false≢true e)
 unrecorded_is (HasClosed c o) e = absurd (false≢true e)
 
 -- what stands is above the versions of what it writes
-above_promise : (installs : List Install) (last : ℕ) (p : Prepared) (o : Option Row) → Agrees installs last (StandsPrepared p) o → IsTrue (above_versions installs p.at p.writes)
+above_promise : (installs : List Install) (last : ℕ) (p : Prepared) (o : Option Row) → Agrees installs last (StandsPrepared p) o →
+    IsTrue (above_versions installs p.at p.writes)
 above_promise installs last p (Some r) a = a.above
 above_promise installs last p None a = absurd a
 
-above_decision : (installs : List Install) (last : ℕ) (c : Committed) (o : Option Row) → Agrees installs last (StandsDecided c) o → IsTrue (above_versions installs c.at c.writes)
+above_decision : (installs : List Install) (last : ℕ) (c : Committed) (o : Option Row) → Agrees installs last (StandsDecided c) o →
+    IsTrue (above_versions installs c.at c.writes)
 above_decision installs last c (Some r) a = a.above
 above_decision installs last c None a = absurd a
 
-fits_prepare : (shard : ℕ) (log : List Record) (m later : Memory) (p : Prepared) → IsSound shard (facts_of log) m → IsSound shard (learn (facts_of log) (Record.Prepare p)) later
+fits_prepare : (shard : ℕ) (log : List Record) (m later : Memory) (p : Prepared) → IsSound shard (facts_of log) m →
+    IsSound shard (learn (facts_of log) (Record.Prepare p)) later
     → length later.rows ≤ most_rows → follows_facts shard (facts_of log) (Record.Prepare p) ≡ true → fits_beside log (Record.Prepare p) ≡ true
 unfolding fits_beside follows_facts learn
 fits_prepare shard log m later p sound next room follows =
@@ -216,9 +224,11 @@ fits_prepare shard log m later p sound next room follows =
     stands_beside shard log (learn (facts_of log) (Record.Prepare p)) m later p.txn (StandsPrepared p) p.at p.reads p.writes
     (record { txn = p.txn; held = locks_of p.reads p.writes; phase = IsPrepared p.coordinator p.at }) sound next room refl refl refl fresh
     (above_promise (facts_of log).installs later.last p (find_row later.rows p.txn)
-    (subst (λ s. Agrees (facts_of log).installs later.last s (find_row later.rows p.txn)) (status_same (facts_of log).entries p.txn (StandsPrepared p)) (next.agrees p.txn)))
+    (subst (λ s. Agrees (facts_of log).installs later.last s (find_row later.rows p.txn))
+        (status_same (facts_of log).entries p.txn (StandsPrepared p)) (next.agrees p.txn)))
 
-fits_commit : (shard : ℕ) (log : List Record) (m later : Memory) (c : Committed) → IsSound shard (facts_of log) m → IsSound shard (learn (facts_of log) (Record.Commit c)) later
+fits_commit : (shard : ℕ) (log : List Record) (m later : Memory) (c : Committed) → IsSound shard (facts_of log) m →
+    IsSound shard (learn (facts_of log) (Record.Commit c)) later
     → length later.rows ≤ most_rows → follows_facts shard (facts_of log) (Record.Commit c) ≡ true → fits_beside log (Record.Commit c) ≡ true
 unfolding fits_beside follows_facts learn
 fits_commit shard log m later c sound next room follows =
@@ -227,7 +237,8 @@ fits_commit shard log m later c sound next room follows =
     stands_beside shard log (learn (facts_of log) (Record.Commit c)) m later c.txn (StandsDecided c) c.at c.reads c.writes
     (record { txn = c.txn; held = locks_of c.reads c.writes; phase = IsDecided c.at c.parts }) sound next room refl refl refl fresh
     (above_decision (facts_of log).installs later.last c (find_row later.rows c.txn)
-    (subst (λ s. Agrees (facts_of log).installs later.last s (find_row later.rows c.txn)) (status_same (facts_of log).entries c.txn (StandsDecided c)) (next.agrees c.txn)))
+    (subst (λ s. Agrees (facts_of log).installs later.last s (find_row later.rows c.txn))
+        (status_same (facts_of log).entries c.txn (StandsDecided c)) (next.agrees c.txn)))
 
 -- the writes of what an outcome ends
 pub writes_are : (a : Bool) (c : Option Committed) (p : Option Prepared) (e : Option Ended) (s : ℕ) → allows (status_by a c p e) (Some s) ≡ true
@@ -274,10 +285,12 @@ advance_logs false false n last p r e logged =
     cc
 
 -- an input by which a step logs anything else names no timestamp
-limit_of : (rows : ℕ) (setup : Setup) (f : Facts) (m : Memory) (now : Interval) (i : Input) (p : Plan) (r : Record) → plan_input setup (before rows setup f m) now i ≡ Ok p
+limit_of : (rows : ℕ) (setup : Setup) (f : Facts) (m : Memory) (now : Interval) (i : Input) (p : Plan) (r : Record) →
+    plan_input setup (start_of_step rows setup f m) now i ≡ Ok p
     → p.logged ≡ Some r → is_ceiling r ≡ false → IsInLimit i
 unfolding plan_input plan_advance
-limit_of rows setup f m now (Input.Advance at) p r e logged k = absurd (false≢true (sym k ∙ advance_logs (nat_lt now.latest at) (nat_lt f.floor at) _ _ p r e logged))
+limit_of rows setup f m now (Input.Advance at) p r e logged k =
+    absurd (false≢true (sym k ∙ advance_logs (nat_lt now.latest at) (nat_lt f.floor at) _ _ p r e logged))
 limit_of rows setup f m now (Input.Deliver x) p r e logged k = tt
 limit_of rows setup f m now Input.Resume p r e logged k = tt
 limit_of rows setup f m now (Input.Settle t) p r e logged k = tt
@@ -301,8 +314,10 @@ logged_fits_beside setup log memory now i p r sound few e logged = by_record r l
     by_record : (q : Record) → p.logged ≡ Some q → fits_beside log q ≡ true
     by_record (Record.Opened epoch) k = refl
     by_record (Record.Ceiling at) k = refl
-    by_record (Record.Prepare x) k = fits_prepare setup.shard log memory (carried p memory) x sound (next (Record.Prepare x) k refl) room (follows (Record.Prepare x) k)
-    by_record (Record.Commit c) k = fits_commit setup.shard log memory (carried p memory) c sound (next (Record.Commit c) k refl) room (follows (Record.Commit c) k)
+    by_record (Record.Prepare x) k = fits_prepare setup.shard log memory (carried p memory) x sound (next (Record.Prepare x) k refl) room
+        (follows (Record.Prepare x) k)
+    by_record (Record.Commit c) k = fits_commit setup.shard log memory (carried p memory) c sound (next (Record.Commit c) k refl) room
+        (follows (Record.Commit c) k)
     by_record (Record.Abort t) k = refl
     by_record (Record.Outcome t None) k = refl
     by_record (Record.Outcome t (Some s)) k =

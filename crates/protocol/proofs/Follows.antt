@@ -10,12 +10,13 @@ use Rattle.record.specs.declared.record.Record.{Record}
 use Rattle.facts.specs.Rules.{allows, is_unrecorded, follows_facts}
 use Rattle.message.specs.declared.message.Input.{Input}
 use Rattle.protocol.specs.Rows.{IsPrepared, IsDecided, find_row}
-use Rattle.protocol.specs.Plan.{Plan, Before, before, stands}
+use Rattle.protocol.specs.Plan.{Plan, Before, start_of_step, stands}
 use Rattle.protocol.specs.Cells.{is_outcome_for, ceiling_for}
 use Rattle.protocol.specs.Sound.{LoggedFollows}
 use Rattle.protocol.proofs.RowChanges.{row_as, by_id-claims}
 use Rattle.protocol.proofs.PlanShapes.{shape_of}
-use Rattle.protocol.proofs.Shapes.{Shape, Answers, IsEnd, IsAbort, IsClose, IsSettle, IsLock, IsWait, IsPromise, IsDecision, ShapeOf, Acts, IsAdvance, is_undecided}
+use Rattle.protocol.proofs.Shapes.{Shape, Answers, IsEnd, IsAbort, IsClose, IsSettle, IsLock, IsWait, IsPromise, IsDecision, ShapeOf, Acts, IsAdvance}
+use Rattle.protocol.proofs.Shapes.{is_undecided}
 use Rattle.protocol.proofs.Agreement.{Sound, unrecorded, PromiseOf, promise_of, DecisionOf, decision_of, not_below}
 
 -- where something is logged, it may come next
@@ -70,10 +71,12 @@ follows b p sound (IsLock t ended needs phase out l e) = subst (Follows b) (sym 
 follows b p sound (IsWait t needs phase out w e) = subst (Follows b) (sym e) tt
 follows b p sound (IsPromise t ended c at rs ws out l e) =
     subst (Follows b) (sym e)
-    (and_from _ _ (opened b sound) (all_three _ _ _ (stamped b.memory.last at l.above) (ap is_unrecorded (unrecorded b t sound l.undecided)) (l.lower sound.fit)))
+    (and_from _ _ (opened b sound) (all_three _ _ _ (stamped b.memory.last at l.above) (ap is_unrecorded (unrecorded b t sound l.undecided))
+        (l.lower sound.fit)))
 follows b p sound (IsDecision t ended needs at ps rs ws out l e) =
     subst (Follows b) (sym e)
-    (and_from _ _ (opened b sound) (all_three _ _ _ (stamped b.memory.last at l.above) (ap is_unrecorded (unrecorded b t sound l.undecided)) (l.first sound.fit)))
+    (and_from _ _ (opened b sound) (all_three _ _ _ (stamped b.memory.last at l.above) (ap is_unrecorded (unrecorded b t sound l.undecided))
+        (l.first sound.fit)))
 
 follows_ceiling : (b : Before) (stride at : ℕ) → Sound b → LogFollows b (ceiling_for b.facts.floor stride at)
 unfolding follows_facts
@@ -91,6 +94,6 @@ follows_of b i p sound (IsAdvance stride at k e) = subst (Follows b) (sym e) (fo
 pub logged_follows : LoggedFollows
 unfolding Follows
 logged_follows rows setup facts memory now i p r sound e logged =
-    let b : Before = before rows setup facts memory in
+    let b : Before = start_of_step rows setup facts memory in
     subst (LogFollows b) logged
     (follows_of b i p sound (shape_of rows setup facts memory now i p (by_id-claims memory.rows sound.table.order) e))

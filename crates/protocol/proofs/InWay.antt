@@ -1,5 +1,6 @@
 -- The row of a standing, those in the way of a request, and the locks that a grant gives.
-use Rattle.std.proofs.Common.{◌≡◌, Bool, true, false, ◌&&◌, not, cond, nat_le, List, [], ◌∷◌, map, filter, length, Option, Some, None, refl, sym, ap, subst, ◌∙◌, arith, option_map}
+use Rattle.std.proofs.Common.{◌≡◌, Bool, true, false, ◌&&◌, not, cond, nat_le, List, [], ◌∷◌, map, filter, length, Option, Some, None, refl, sym, ap}
+use Rattle.std.proofs.Common.{subst, ◌∙◌, arith, option_map}
 use Rattle.std.specs.List.{AllByRecursion, list_any}
 use Rattle.std.proofs.lemmas.Bool.{false≢true}
 use Rattle.std.proofs.lemmas.Bool.Decides.{nat_tests}
@@ -88,7 +89,8 @@ not_firm true true k e = absurd (false≢true e)
 not_firm false f k e = absurd (false≢true e)
 
 -- the wounded are others, and may be ended
-pub in_way_gone : (b : Before) (t : Id) (needs : List Lock) → IsById (λ r. r.txn) b.memory.rows → AllByRecursion (IsLooseOther b.memory.rows t) (in_way b t needs)
+pub in_way_gone : (b : Before) (t : Id) (needs : List Lock) → IsById (λ r. r.txn) b.memory.rows →
+    AllByRecursion (IsLooseOther b.memory.rows t) (in_way b t needs)
 in_way_gone b t needs up =
     subst (AllByRecursion (IsLooseOther b.memory.rows t)) (sym (wounded-is (claims b.memory.rows) t needs))
     (of_wounded (IsLooseOther b.memory.rows t) (gives_way t needs) b.memory.rows (each_row b.memory.rows (find_each b.memory.rows up)))

@@ -8,7 +8,7 @@ use Rattle.record.specs.Facts.{recorded}
 use Rattle.record.specs.declared.record.Record.{Record}
 use Rattle.message.specs.declared.message.Input.{Input}
 use Rattle.protocol.specs.Rows.{IsPrepared, IsDecided, find_row}
-use Rattle.protocol.specs.Plan.{Plan, Before, before}
+use Rattle.protocol.specs.Plan.{Plan, Before, start_of_step}
 use Rattle.protocol.specs.Cells.{is_outcome_for, ceiling_for}
 use Rattle.protocol.specs.Sound.{writes_standing, InstallsAbove}
 use Rattle.protocol.proofs.Agreement.{Sound, PromiseOf, promise_of, DecisionOf, decision_of, not_below}
@@ -67,6 +67,6 @@ above_of b i p sound (IsAdvance stride at k e) = subst (Above b) (sym e) (above_
 pub installs_above : InstallsAbove
 unfolding Above
 installs_above rows setup facts memory now i p t s sound e logged =
-    let b : Before = before rows setup facts memory in
+    let b : Before = start_of_step rows setup facts memory in
     subst (LogAbove b) logged
     (above_of b i p sound (shape_of rows setup facts memory now i p (by_id-claims memory.rows sound.table.order) e))

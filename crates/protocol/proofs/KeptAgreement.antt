@@ -1,9 +1,11 @@
 -- Each transaction's record and its row agree after a step.
-use Rattle.std.proofs.Common.{◌≡◌, ℕ, ◌<◌, ◌≤◌, max, Bool, true, false, cond, nat_lt, List, [], ◌++◌, Option, Some, None, refl, sym, ap, subst, ◌∙◌, arith, ◌⊎◌, inl, inr}
+use Rattle.std.proofs.Common.{◌≡◌, ℕ, ◌<◌, ◌≤◌, max, Bool, true, false, cond, nat_lt, List, [], ◌++◌, Option, Some, None, refl, sym, ap, subst, ◌∙◌}
+use Rattle.std.proofs.Common.{arith, ◌⊎◌, inl, inr}
 use Rattle.std.proofs.Math.Nat.{le-max_left, le-max_right}
 use Rattle.std.specs.Prelude.{IsTrue}
 use Rattle.std.specs.List.{AllByRecursion, list_all}
 use Rattle.std.proofs.lemmas.Bool.{false≢true}
+use Rattle.std.proofs.lemmas.List.{append-nil}
 use Rattle.units.specs.Ids.{Id, same_id}
 use Rattle.units.specs.Keys.{Bytes}
 use Rattle.units.specs.Locks.{holds, exclusive}
@@ -11,14 +13,14 @@ use Rattle.units.specs.Versions.{above_versions}
 use Rattle.units.specs.declared.lock.Lock.{Lock}
 use Rattle.units.specs.declared.writes.Install.{Install}
 use Rattle.units.specs.declared.writes.Write.{Write}
-use Rattle.units.proofs.Folds.{append_none}
 use Rattle.units.proofs.IdLaws.{same_id-is}
 use Rattle.record.specs.Records.{Status, Unrecorded, StandsPrepared, StandsDecided, HasAborted, HasSettled, HasClosed}
 use Rattle.record.specs.Facts.{Entry, learn, recorded, installs_at, with_status}
 use Rattle.record.specs.declared.record.Record.{Record}
 use Rattle.message.specs.declared.message.Input.{Input}
-use Rattle.protocol.specs.Rows.{Row, Phase, Idle, WaitsRead, WaitsPrepare, WaitsCommit, Collecting, IsPrepared, IsDecided, find_row, is_firm, with_row, without_row, without_rows}
-use Rattle.protocol.specs.Plan.{Plan, Before, carried, changed, stands, in_way}
+use Rattle.protocol.specs.Rows.{Row, Phase, Idle, WaitsRead, WaitsPrepare, WaitsCommit, Collecting, IsPrepared, IsDecided, find_row, is_firm}
+use Rattle.protocol.specs.Rows.{with_row, without_row, without_rows}
+use Rattle.protocol.specs.Plan.{Plan, Before, carried, after_change, stands, in_way}
 use Rattle.protocol.specs.Step.{facts_after}
 use Rattle.protocol.specs.Sound.{Agrees, StandsBy, is_open, holds_writes}
 use Rattle.protocol.proofs.AboveVersions.{above_all, above_more, rows_apart, writes_apart}
@@ -28,7 +30,8 @@ use Rattle.protocol.proofs.KeptFacts.{raised_up}
 use Rattle.protocol.proofs.Choices.{undecided_of_loose}
 use Rattle.protocol.proofs.RowChanges.{row_as, find-with_row_same, find-with_row_other, find-without_row_same, find-without_row_other, find-without_rows}
 use Rattle.protocol.proofs.StatusChanges.{Closing, closing, settling, installs_by, status_in, status_same, status_other}
-use Rattle.protocol.proofs.Shapes.{Shape, Answers, IsEnd, IsAbort, IsClose, IsSettle, IsLock, IsWait, IsPromise, IsDecision, ShapeOf, Acts, IsAdvance, IsLooseOther, is_undecided, granted_to}
+use Rattle.protocol.proofs.Shapes.{Shape, Answers, IsEnd, IsAbort, IsClose, IsSettle, IsLock, IsWait, IsPromise, IsDecision, ShapeOf, Acts, IsAdvance}
+use Rattle.protocol.proofs.Shapes.{IsLooseOther, is_undecided, granted_to}
 
 -- each transaction's record and its row agree
 abbrev pub AllAgree : List Install → ℕ → List Entry → List Row → Type 0
@@ -45,14 +48,17 @@ abbrev Stays : List Install → List Install → Option Row → Type 0
 Stays old new o =
     (r : Row) (at : ℕ) (ws : List Write) → o ≡ Some r → IsTrue (holds_writes r.held ws) → IsTrue (above_versions old at ws) → IsTrue (above_versions new at ws)
 
-stands_later : (old new : List Install) (last later : ℕ) (r : Row) (phase : Phase) (t : Id) (at : ℕ) (rs : List Bytes) (ws : List Write) → last ≤ later → Stays old new (Some r)
+stands_later : (old new : List Install) (last later : ℕ) (r : Row) (phase : Phase) (t : Id) (at : ℕ) (rs : List Bytes) (ws : List Write) →
+    last ≤ later → Stays old new (Some r)
     → StandsBy old last r phase t at rs ws → StandsBy new later r phase t at rs ws
 stands_later old new last later r phase t at rs ws h stays a =
     let low : at ≤ last = a.assigned in
-    record { phase = a.phase; own = a.own; read = a.read; above_zero = a.above_zero; assigned = omega (arith, low, h); held = a.held; above = stays r at ws refl a.held a.above }
+    record { phase = a.phase; own = a.own; read = a.read; above_zero = a.above_zero; assigned = omega (arith, low, h); held = a.held; above =
+        stays r at ws refl a.held a.above }
 
 -- a record and its row agree later
-agrees_later : (old new : List Install) (last later : ℕ) (s : Status) (o : Option Row) → last ≤ later → Stays old new o → Agrees old last s o → Agrees new later s o
+agrees_later : (old new : List Install) (last later : ℕ) (s : Status) (o : Option Row) → last ≤ later → Stays old new o → Agrees old last s o →
+    Agrees new later s o
 agrees_later old new last later (StandsPrepared p) (Some r) h stays a = stands_later old new last later r _ p.txn p.at p.reads p.writes h stays a
 agrees_later old new last later (StandsPrepared p) None h stays a = a
 agrees_later old new last later (StandsDecided c) (Some r) h stays a = stands_later old new last later r _ c.txn c.at c.reads c.writes h stays a
@@ -77,7 +83,8 @@ agrees_gone old new last later (HasClosed c o) r loose a = tt
 
 -- what is left of a transaction once those in the way are gone
 left_agrees : (b : Before) (t v : Id) (ended : List Id) (new : List Install) (later : ℕ) → Sound b → AllByRecursion (IsLooseOther b.memory.rows t) ended
-    → b.memory.last ≤ later → Stays b.facts.installs new (find_row b.memory.rows v) → Agrees new later (recorded b.facts v) (find_row (without_rows b.memory.rows ended) v)
+    → b.memory.last ≤ later → Stays b.facts.installs new (find_row b.memory.rows v) → Agrees new later (recorded b.facts v)
+        (find_row (without_rows b.memory.rows ended) v)
 left_agrees b t v ended new later sound gone h stays =
     by_way (find-without_rows (IsLooseOther b.memory.rows t) b.memory.rows ended v gone)
   where
@@ -86,7 +93,8 @@ left_agrees b t v ended new later sound gone h stays =
     by_row (Some r) found l a stays = agrees_gone b.facts.installs new b.memory.last later (recorded b.facts v) r (l.loose r found) a
     by_row None found l a stays = agrees_later b.facts.installs new b.memory.last later (recorded b.facts v) None h stays a
 
-    by_way : (find_row (without_rows b.memory.rows ended) v ≡ find_row b.memory.rows v) ⊎ ((find_row (without_rows b.memory.rows ended) v ≡ None) × IsLooseOther b.memory.rows t v)
+    by_way : (find_row (without_rows b.memory.rows ended) v ≡ find_row b.memory.rows v) ⊎
+        ((find_row (without_rows b.memory.rows ended) v ≡ None) × IsLooseOther b.memory.rows t v)
         → Agrees new later (recorded b.facts v) (find_row (without_rows b.memory.rows ended) v)
     by_way (inl same) =
         subst (Agrees new later (recorded b.facts v)) (sym same)
@@ -150,7 +158,7 @@ stays_apart b t outcome sound made v differ r at ws e holds a =
     subst (λ more. IsTrue (above_versions (b.facts.installs ++ more) at ws)) (sym made.installs) (by_outcome outcome)
   where
     by_outcome : (o : Option ℕ) → IsTrue (above_versions (b.facts.installs ++ installs_by made.writes o) at ws)
-    by_outcome None = subst (λ is. IsTrue (above_versions is at ws)) (sym (append_none b.facts.installs)) a
+    by_outcome None = subst (λ is. IsTrue (above_versions is at ws)) (sym (append-nil b.facts.installs)) a
     by_outcome (Some s) =
         above_more b.facts.installs at s ws made.writes
         (writes_apart r.held made.row.held ws made.writes (rows_apart b.memory.rows v t r made.row sound.table e made.found differ) holds made.held) a
@@ -203,7 +211,7 @@ recorded_agrees b t ended held phase at ws s sound gone own =
     (subst (λ r. Agrees b.facts.installs (max b.memory.last at) r (Some (row_as t held phase))) (sym (status_same b.facts.entries t s)) own)
 
 agreeing : (b : Before) (p : Plan) → Sound b → Shape b p → KeepsAgreement b p
-unfolding KeepsAgreement carried changed learn
+unfolding KeepsAgreement carried after_change learn
 agreeing b p sound (Answers out e) = subst (KeepsAgreement b) (sym e) sound.agrees
 agreeing b p sound (IsEnd t out fresh e) =
     subst (KeepsAgreement b) (sym e)
@@ -224,22 +232,25 @@ agreeing b p sound (IsWait t needs phase out w e) =
     (open_agrees b t (in_way b t needs) _ phase sound w.gone (undecided_of_loose (stands b t) w.loose) (open_of_slack phase w.slack))
 agreeing b p sound (IsPromise t ended c at rs ws out l e) =
     subst (KeepsAgreement b) (sym e)
-    (recorded_agrees b t ended (granted_to b t ended (exclusive ws)) (IsPrepared c at) at ws (StandsPrepared (record { txn = t; coordinator = c; at = at; reads = rs; writes = ws }))
+    (recorded_agrees b t ended (granted_to b t ended (exclusive ws)) (IsPrepared c at) at ws
+        (StandsPrepared (record { txn = t; coordinator = c; at = at; reads = rs; writes = ws }))
     sound l.cleared.gone (stands_now b t _ (IsPrepared c at) at rs ws sound l.above (l.read sound.fit) (holds_exclusive ws _)))
 agreeing b p sound (IsDecision t ended needs at ps rs ws out l e) =
     subst (KeepsAgreement b) (sym e)
-    (recorded_agrees b t ended (granted_to b t ended needs) (IsDecided at ps) at ws (StandsDecided (record { txn = t; at = at; parts = ps; reads = rs; writes = ws }))
+    (recorded_agrees b t ended (granted_to b t ended needs) (IsDecided at ps) at ws (StandsDecided
+        (record { txn = t; at = at; parts = ps; reads = rs; writes = ws }))
     sound l.cleared.gone (stands_now b t _ (IsDecided at ps) at rs ws sound l.above (l.read sound.fit) (l.alone sound.fit)))
 
 -- the facts that agreement speaks of are those before a ceiling
 later_agrees : (b : Before) (later : ℕ) (high : Bool) (at : ℕ) → Sound b → b.memory.last ≤ later
-    → AllAgree (facts_after b.facts (cond high (Some (Record.Ceiling at)) None)).installs later (facts_after b.facts (cond high (Some (Record.Ceiling at)) None)).entries b.memory.rows
+    → AllAgree (facts_after b.facts (cond high (Some (Record.Ceiling at)) None)).installs later
+        (facts_after b.facts (cond high (Some (Record.Ceiling at)) None)).entries b.memory.rows
 unfolding learn
 later_agrees b later true at sound h v = left_agrees b v v [] b.facts.installs later sound tt h (λ r at ws e k a. a)
 later_agrees b later false at sound h v = left_agrees b v v [] b.facts.installs later sound tt h (λ r at ws e k a. a)
 
 pub agreeing_of : (b : Before) (i : Input) (p : Plan) → Sound b → ShapeOf b i p → KeepsAgreement b p
-unfolding KeepsAgreement carried changed
+unfolding KeepsAgreement carried after_change
 agreeing_of b i p sound (Acts shape) = agreeing b p sound shape
 agreeing_of b i p sound (IsAdvance stride at k e) =
     subst (KeepsAgreement b) (sym e) (later_agrees b (max b.memory.last at) (nat_lt b.facts.floor at) _ sound (le-max_left b.memory.last at))

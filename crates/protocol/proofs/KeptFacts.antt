@@ -1,7 +1,8 @@
 -- What a step keeps of the facts and of the greatest timestamp: the epoch, the order of the entries and of the ended ids, the
 -- floor above what was served, and no version above it.
 use Rattle.std.specs.List.{list_all}
-use Rattle.std.proofs.Common.{◌≡◌, ℕ, ◌+◌, ◌-◌, ◌^◌, ◌<◌, ◌≤◌, max, min, Bool, true, false, cond, ◌&&◌, nat_lt, nat_le, List, [], ◌∷◌, ◌++◌, Option, Some, None, refl, sym, ap, subst, ◌∙◌, arith, ltb-false}
+use Rattle.std.proofs.Common.{◌≡◌, ℕ, ◌+◌, ◌-◌, ◌^◌, ◌<◌, ◌≤◌, max, min, Bool, true, false, cond, ◌&&◌, nat_lt, nat_le, List, [], ◌∷◌, ◌++◌, Option}
+use Rattle.std.proofs.Common.{Some, None, refl, sym, ap, subst, ◌∙◌, arith, ltb-false}
 use Rattle.std.proofs.Math.Nat.{le-max_left}
 use Rattle.std.proofs.lemmas.Bool.{le-leb}
 use Rattle.std.specs.Prelude.{IsTrue}
@@ -53,7 +54,8 @@ covered_later last later installs h e =
 
 pub covered_versions : (ws : List Write) (s last : ℕ) → s ≤ last → Covered last (versions ws s)
 covered_versions [] s last h = refl
-covered_versions (w ∷ ws) s last h = ap (λ b. b && list_all (λ (i : Install). nat_le i.at last) (versions ws s)) (le-leb s last h) ∙ covered_versions ws s last h
+covered_versions (w ∷ ws) s last h = ap (λ b. b && list_all (λ (i : Install). nat_le i.at last) (versions ws s)) (le-leb s last h)
+    ∙ covered_versions ws s last h
 
 -- the versions after an outcome
 covered_after : (b : Before) (t : Id) (outcome : Option ℕ) (last : ℕ) → Closing b t outcome → b.memory.last ≤ last → ((s : ℕ) → outcome ≡ Some s → s ≤ last)
@@ -175,7 +177,8 @@ kept_ceiling : (b : Before) (stride at : ℕ) (rest : Memory) (high : Bool) → 
     → rest.last ≡ max b.memory.last at → rest.ended ≡ b.memory.ended
     → KeptFacts (facts_after b.facts (cond high (Some (Record.Ceiling (min (at + stride) time_limit))) None)) rest
 unfolding learn
-kept_ceiling b stride at rest true sound fits e same others = other_rows _ (record { last = max b.memory.last at; rows = []; ended = b.memory.ended }) rest (sym same) (sym others) (record {
+kept_ceiling b stride at rest true sound fits e same others =
+    other_rows _ (record { last = max b.memory.last at; rows = []; ended = b.memory.ended }) rest (sym same) (sym others) (record {
   opened = sound.opened;
   entries = sound.entries;
   ended = sound.ended;

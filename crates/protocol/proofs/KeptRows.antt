@@ -17,14 +17,15 @@ use Rattle.locks.proofs.TableLaws.{all_fail, lawful-without}
 use Rattle.locks.proofs.WayLaws.{is_free-is, none_wounded}
 use Rattle.message.specs.declared.message.Input.{Input}
 use Rattle.protocol.specs.Rows.{Row, Phase, IsPrepared, IsDecided, claim_of, claims, find_row, is_firm, needs_of, with_row, without_row, without_rows, held_in}
-use Rattle.protocol.specs.Plan.{Plan, Before, carried, changed, in_way, stands}
+use Rattle.protocol.specs.Plan.{Plan, Before, carried, after_change, in_way, stands}
 use Rattle.protocol.specs.Sound.{fits}
 use Rattle.protocol.proofs.Agreement.{Sound}
 use Rattle.protocol.proofs.ClaimsBeside.{IsBeside, OwnApart, Firms, all_both, lawful_put, own_of, keys_of, grant_beside, wait_beside}
 use Rattle.protocol.proofs.InWay.{stands_at}
 use Rattle.protocol.proofs.RowChanges.{row_as, find-without_rows_other}
 use Rattle.protocol.proofs.RowTable.{with_row-is, claims-with_row, claims-without_row}
-use Rattle.protocol.proofs.Shapes.{Shape, Answers, IsEnd, IsAbort, IsClose, IsSettle, IsLock, IsWait, IsPromise, IsDecision, ShapeOf, Acts, IsAdvance, IsLooseOther, IsCleared, is_loose}
+use Rattle.protocol.proofs.Shapes.{Shape, Answers, IsEnd, IsAbort, IsClose, IsSettle, IsLock, IsWait, IsPromise, IsDecision, ShapeOf, Acts, IsAdvance}
+use Rattle.protocol.proofs.Shapes.{IsLooseOther, IsCleared, is_loose}
 use Rattle.protocol.proofs.Choices.{others_gone}
 
 -- ---- the lock table
@@ -95,7 +96,7 @@ grant_of b t ended needs phase sound clear quiet e =
     (firms_of b t ended (is_firm phase) clear.gone e)
 
 pub kept_table : (b : Before) (p : Plan) → Sound b → Shape b p → KeepsTable b p
-unfolding KeepsTable carried changed
+unfolding KeepsTable carried after_change
 kept_table b p sound (Answers out e) = subst (KeepsTable b) (sym e) sound.table
 kept_table b p sound (IsEnd t out fresh e) = subst (KeepsTable b) (sym e) (lawful-without_row b.memory.rows t sound.table)
 kept_table b p sound (IsAbort t out fresh e) = subst (KeepsTable b) (sym e) (lawful-without_row b.memory.rows t sound.table)
@@ -104,7 +105,8 @@ kept_table b p sound (IsSettle t at ps held out found e) = subst (KeepsTable b) 
 kept_table b p sound (IsLock t ended needs phase out l e) = subst (KeepsTable b) (sym e) (grant_of b t ended needs phase sound l.cleared l.quiet l.firmer)
 kept_table b p sound (IsWait t needs phase out w e) =
     subst (KeepsTable b) (sym e)
-    (lawful-wait (without_rows b.memory.rows (in_way b t needs)) t needs phase (lawful-without_rows b.memory.rows (in_way b t needs) sound.table) (ends_nobody b t needs) w.wants
+    (lawful-wait (without_rows b.memory.rows (in_way b t needs)) t needs phase (lawful-without_rows b.memory.rows (in_way b t needs) sound.table)
+        (ends_nobody b t needs) w.wants
     (firms_of b t (in_way b t needs) (is_firm phase) w.gone (or_right (is_firm phase) (is_loose (stands b t)) w.loose)))
 kept_table b p sound (IsPromise t ended c at rs ws out l e) =
     subst (KeepsTable b) (sym e) (grant_of b t ended (exclusive ws) (IsPrepared c at) sound l.cleared refl refl)
@@ -112,7 +114,7 @@ kept_table b p sound (IsDecision t ended needs at ps rs ws out l e) =
     subst (KeepsTable b) (sym e) (grant_of b t ended needs (IsDecided at ps) sound l.cleared refl refl)
 
 pub kept_table_of : (b : Before) (i : Input) (p : Plan) → Sound b → ShapeOf b i p → KeepsTable b p
-unfolding KeepsTable carried changed
+unfolding KeepsTable carried after_change
 kept_table_of b i p sound (Acts shape) = kept_table b p sound shape
 kept_table_of b i p sound (IsAdvance stride at k e) = subst (KeepsTable b) (sym e) sound.table
 
@@ -143,7 +145,7 @@ fit_put : (b : Before) (ended : List Id) (r : Row) → Sound b → fits b.shard 
 fit_put b ended r sound own = fit-with_row b (without_rows b.memory.rows ended) r own (fit-without_rows b b.memory.rows ended sound.fit)
 
 kept_fit : (b : Before) (p : Plan) → Sound b → Shape b p → KeepsFit b p
-unfolding KeepsFit carried changed
+unfolding KeepsFit carried after_change
 kept_fit b p sound (Answers out e) = subst (KeepsFit b) (sym e) sound.fit
 kept_fit b p sound (IsEnd t out fresh e) = subst (KeepsFit b) (sym e) (fit-without_row b b.memory.rows t sound.fit)
 kept_fit b p sound (IsAbort t out fresh e) = subst (KeepsFit b) (sym e) (fit-without_row b b.memory.rows t sound.fit)
@@ -155,6 +157,6 @@ kept_fit b p sound (IsPromise t ended c at rs ws out l e) = subst (KeepsFit b) (
 kept_fit b p sound (IsDecision t ended needs at ps rs ws out l e) = subst (KeepsFit b) (sym e) (fit_put b ended _ sound refl)
 
 pub kept_fit_of : (b : Before) (i : Input) (p : Plan) → Sound b → ShapeOf b i p → KeepsFit b p
-unfolding KeepsFit carried changed
+unfolding KeepsFit carried after_change
 kept_fit_of b i p sound (Acts shape) = kept_fit b p sound shape
 kept_fit_of b i p sound (IsAdvance stride at k e) = subst (KeepsFit b) (sym e) sound.fit

@@ -52,7 +52,8 @@ pub record Backed (memory : Memory) (r : Row) : Type 0 where
 
 keys_of_record : (rs : List Bytes) (ws : List Write) (c : Claim) → c.held ≡ locks_of rs ws → HoldsByKey c
 keys_of_record rs ws c same =
-    subst (λ ls. HoldsByKey (record c { held = ls })) (sym same) (ascends-with_locks (with_locks [] (shared rs)) (exclusive ws) (ascends-with_locks [] (shared rs) refl))
+    subst (λ ls. HoldsByKey (record c { held = ls })) (sym same) (ascends-with_locks (with_locks [] (shared rs)) (exclusive ws)
+        (ascends-with_locks [] (shared rs) refl))
 
 -- what an entry's agreement says of the row that it leaves
 record Left (facts : Facts) (memory : Memory) (e : Entry) (r : Row) : Type 0 where
@@ -61,8 +62,10 @@ record Left (facts : Facts) (memory : Memory) (e : Entry) (r : Row) : Type 0 whe
   agrees : (last : ℕ) → memory.last ≤ last → Agrees facts.installs last e.status (Some r)
   fit : (shard : ℕ) → fits shard r ≡ true
 
-backed_by : (memory : Memory) (last : ℕ) (installs : List Install) (t : Id) (q : Row) (phase : Phase) (u : Id) (at : ℕ) (rs : List Bytes) (ws : List Write) (r : Row)
-    → find_row memory.rows t ≡ Some q → StandsBy installs last q phase u at rs ws → r.txn ≡ t → r.held ≡ locks_of rs ws → (claim_of r).needs ≡ [] → Backed memory r
+backed_by : (memory : Memory) (last : ℕ) (installs : List Install) (t : Id) (q : Row) (phase : Phase) (u : Id) (at : ℕ) (rs : List Bytes)
+    (ws : List Write) (r : Row)
+    → find_row memory.rows t ≡ Some q → StandsBy installs last q phase u at rs ws → r.txn ≡ t → r.held ≡ locks_of rs ws → (claim_of r).needs ≡ [] →
+        Backed memory r
 backed_by memory last installs t q phase u at rs ws r found a own locks still = record {
   row = q;
   found = ap (find_row memory.rows) own ∙ found;
@@ -85,7 +88,8 @@ stands_again installs last later q r phase u at rs ws h a phased own locks =
       above = a.above;
     }
 
-left_by : (facts : Facts) (memory : Memory) (t : Id) (s : Status) (o : Option Row) (r : Row) → find_row memory.rows t ≡ o → Agrees facts.installs memory.last s o
+left_by : (facts : Facts) (memory : Memory) (t : Id) (s : Status) (o : Option Row) (r : Row) → find_row memory.rows t ≡ o →
+    Agrees facts.installs memory.last s o
     → standing_row (record { txn = t; status = s }) ≡ Some r → Left facts memory (record { txn = t; status = s }) r
 left_by facts memory t (StandsPrepared p) (Some q) r found a e =
     let is : record { txn = p.txn; held = locks_of p.reads p.writes; phase = IsPrepared p.coordinator p.at } ≡ r = cc in
@@ -117,7 +121,8 @@ left_of facts memory e r k a = left_by facts memory e.txn e.status (find_row mem
 
 -- ---- the lock table
 
-all_claims : (P : Claim → Type 0) (Q : Row → Type 0) → ((r : Row) → Q r → P (claim_of r)) → (rows : List Row) → AllByRecursion Q rows → AllByRecursion P (claims rows)
+all_claims : (P : Claim → Type 0) (Q : Row → Type 0) → ((r : Row) → Q r → P (claim_of r)) → (rows : List Row) → AllByRecursion Q rows →
+    AllByRecursion P (claims rows)
 all_claims P Q h [] all = tt
 all_claims P Q h (r ∷ rs) all = (h r all.0, all_claims P Q h rs all.1)
 
@@ -134,7 +139,8 @@ lawful_again memory rows lawful up backed = from_pairs (claims rows) (record {
   locks = all_claims (λ a. AllByRecursion (LockPair a) (claims rows)) (Backed memory)
       (λ a x. all_claims (LockPair (claim_of a)) (Backed memory) (λ b y. pair_of memory a b lawful x y) rows backed) rows backed;
   waits = all_claims (λ w. AllByRecursion (WaitPair w) (claims rows)) (Backed memory)
-      (λ w x. all_of_any (WaitPair (claim_of w)) (λ c d k. absurd (false≢true (sym (ap (clash c.held) x.still ∙ clash_nil c.held) ∙ k))) (claims rows)) rows backed;
+      (λ w x. all_of_any (WaitPair (claim_of w)) (λ c d k. absurd (false≢true (sym (ap (clash c.held) x.still ∙ clash_nil c.held) ∙ k)))
+          (claims rows)) rows backed;
 })
 
 -- ---- an opening

@@ -25,9 +25,15 @@ use Rattle.message.specs.declared.message.Message.{Message}
 use Rattle.protocol.specs.OwnKeys.{LoggedBelongs, StepKeepsOwn, all_own, names_own}
 use Rattle.message.specs.declared.message.Prepare.{Prepare}
 use Rattle.message.specs.declared.message.Commit.{Commit}
-use Rattle.protocol.specs.Rows.{Memory, Row, Phase, Idle, WaitsRead, WaitsPrepare, WaitsCommit, Collecting, IsPrepared, IsDecided, Voted, Standing, IsUnknown, WasEnded, HasRow, WasAborted, WasSettled, WasClosed, claims, find_row, rebuilt, standing_row, without_row, without_rows}
-use Rattle.protocol.specs.Plan.{Before, Change, Keeps, Ends, Drops, Puts, Plan, Planned, before, carried, changed, is_crowded, opens, roomed, stands}
-use Rattle.protocol.specs.Cells.{other_parts, plan_abort, plan_advance, plan_ask, plan_commit, plan_commit_fresh, plan_commit_granted, plan_commit_now, plan_count, plan_decide, plan_give_up, plan_go_on, plan_nudge, plan_outcome, plan_prepare, plan_prepare_fresh, plan_prepare_now, plan_promise, plan_read, plan_read_now, plan_read_row, plan_resume, plan_resume_id, plan_resume_row, plan_settle, plan_tell, plan_unpromised, plan_vote, to_read}
+use Rattle.protocol.specs.Rows.{Memory, Row, Phase, Idle, WaitsRead, WaitsPrepare, WaitsCommit, Collecting, IsPrepared, IsDecided, Voted, Standing}
+use Rattle.protocol.specs.Rows.{IsUnknown, WasEnded, HasRow, WasAborted, WasSettled, WasClosed, claims, find_row, rebuilt, standing_row, without_row}
+use Rattle.protocol.specs.Rows.{without_rows}
+use Rattle.protocol.specs.Plan.{Before, Change, Keeps, Ends, Drops, Puts, Plan, Planned, start_of_step, carried, after_change, is_crowded, opens}
+use Rattle.protocol.specs.Plan.{roomed, stands}
+use Rattle.protocol.specs.Cells.{other_parts, plan_abort, plan_advance, plan_ask, plan_commit, plan_commit_fresh, plan_commit_granted}
+use Rattle.protocol.specs.Cells.{plan_commit_now, plan_count, plan_decide, plan_give_up, plan_go_on, plan_nudge, plan_outcome, plan_prepare}
+use Rattle.protocol.specs.Cells.{plan_prepare_fresh, plan_prepare_now, plan_promise, plan_read, plan_read_now, plan_read_row, plan_resume}
+use Rattle.protocol.specs.Cells.{plan_resume_id, plan_resume_row, plan_settle, plan_tell, plan_unpromised, plan_vote, to_read}
 use Rattle.protocol.specs.Step.{is_for, plan_input, plan_message}
 use Rattle.protocol.proofs.InWay.{row_at}
 use Rattle.protocol.proofs.RowChanges.{row_as}
@@ -140,7 +146,8 @@ module _ (setup : Setup) where
   unfolding plan_decide belongs
   own_decide b ended t latest ps rs ws needs votes own = owned_cond _ _ _ (owned _ refl own) (refused _)
 
-  own_granted : (b : Before) (ended : List Id) (t : Id) (latest : ℕ) (ps : List ℕ) (rs : List Bytes) (ws : List Write) (ns : List ℕ) → keys_belong setup rs ws ≡ true
+  own_granted : (b : Before) (ended : List Id) (t : Id) (latest : ℕ) (ps : List ℕ) (rs : List Bytes) (ws : List Write) (ns : List ℕ) →
+      keys_belong setup rs ws ≡ true
       → Owned (plan_commit_granted b ended t latest ps rs ws ns)
   unfolding plan_commit_granted
   own_granted b ended t latest ps rs ws [] own = own_decide b ended t latest ps rs ws _ [] own
@@ -186,12 +193,14 @@ module _ (setup : Setup) where
   own_tell b n t outcome None = owned _ refl refl
 
   -- the row of a standing speaks of own keys
-  own_at : (b : Before) (t : Id) (held : List Lock) (phase : Phase) → all_own setup b.memory.rows ≡ true → stands b t ≡ HasRow held phase → names_own setup phase ≡ true
+  own_at : (b : Before) (t : Id) (held : List Lock) (phase : Phase) → all_own setup b.memory.rows ≡ true → stands b t ≡ HasRow held phase →
+      names_own setup phase ≡ true
   own_at b t held phase own e =
       found_all (λ r. names_own setup r.phase ≡ true) (λ (r : Row). r.txn) b.memory.rows t (row_as t held phase)
       (all_of_each (λ (r : Row). names_own setup r.phase) b.memory.rows own) (row_at b t held phase e)
 
-  own_vote : (b : Before) (n : ℕ) (t : Id) (vote : Option ℕ) (s : Standing) → all_own setup b.memory.rows ≡ true → stands b t ≡ s → Owned (plan_vote b n t vote s)
+  own_vote : (b : Before) (n : ℕ) (t : Id) (vote : Option ℕ) (s : Standing) → all_own setup b.memory.rows ≡ true → stands b t ≡ s →
+      Owned (plan_vote b n t vote s)
   unfolding plan_vote
   own_vote b n t vote (HasRow held (Collecting l ps rs ws votes)) own e =
       owned_cond _ _ _ (own_count b n t vote l ps rs ws votes (own_at b t held (Collecting l ps rs ws votes) own e)) (refused _)
@@ -257,7 +266,8 @@ module _ (setup : Setup) where
   own_resume_row b earliest t None own e = owned _ refl refl
   own_resume_row b earliest t (Some r) own e =
       own_go_on b earliest r.txn r.phase
-      (found_all (λ q. names_own setup q.phase ≡ true) (λ (q : Row). q.txn) b.memory.rows t r (all_of_each (λ (q : Row). names_own setup q.phase) b.memory.rows own) e)
+      (found_all (λ q. names_own setup q.phase ≡ true) (λ (q : Row). q.txn) b.memory.rows t r
+          (all_of_each (λ (q : Row). names_own setup q.phase) b.memory.rows own) e)
 
   own_resume_id : (b : Before) (earliest : ℕ) (o : Option Id) → all_own setup b.memory.rows ≡ true → Owned (plan_resume_id b earliest o)
   own_resume_id b earliest None own = owned _ refl refl
@@ -323,8 +333,8 @@ module _ (setup : Setup) where
   own-without_rows rows [] own = own
   own-without_rows rows (u ∷ us) own = own-without_rows (without_row rows u) us (own-without_row rows u own)
 
-  own-changed : (c : Change) (rows : List Row) → own_change c ≡ true → AllOwn rows → AllOwn (changed c rows)
-  unfolding changed
+  own-changed : (c : Change) (rows : List Row) → own_change c ≡ true → AllOwn rows → AllOwn (after_change c rows)
+  unfolding after_change
   own-changed Keeps rows e own = own
   own-changed (Ends t) rows e own = own-without_row rows t own
   own-changed (Drops t) rows e own = own-without_row rows t own
@@ -335,7 +345,8 @@ module _ (setup : Setup) where
   unfolding carried
   own-carried p m e own =
       each_of_all (λ (r : Row). names_own setup r.phase) _
-      (own-changed p.change (without_rows m.rows p.wounded) e (own-without_rows m.rows p.wounded (all_of_each (λ (r : Row). names_own setup r.phase) m.rows own)))
+      (own-changed p.change (without_rows m.rows p.wounded) e (own-without_rows m.rows p.wounded
+          (all_of_each (λ (r : Row). names_own setup r.phase) m.rows own)))
 
   -- ---- an opening
 
@@ -343,7 +354,8 @@ module _ (setup : Setup) where
   own-left [] = refl
   own-left (e ∷ es) = by_status e.status (own-left es)
     where
-      by_status : (s : Status) → all_own setup (gather standing_row es) ≡ true → all_own setup (gather standing_row (record { txn = e.txn; status = s } ∷ es)) ≡ true
+      by_status : (s : Status) → all_own setup (gather standing_row es) ≡ true → all_own setup
+          (gather standing_row (record { txn = e.txn; status = s } ∷ es)) ≡ true
       by_status (StandsPrepared p) rest = rest
       by_status (StandsDecided c) rest = rest
       by_status Unrecorded rest = rest
@@ -359,9 +371,9 @@ module _ (setup : Setup) where
 pub step_keeps_own : StepKeepsOwn
 unfolding Owned
 step_keeps_own rows setup facts memory now i p own e =
-    own-carried setup p memory (subst (Owned setup) e (own_input setup (before rows setup facts memory) now i own)).0 own
+    own-carried setup p memory (subst (Owned setup) e (own_input setup (start_of_step rows setup facts memory) now i own)).0 own
 
 pub logged_belongs : LoggedBelongs
 unfolding Owned
 logged_belongs rows setup facts memory now i p r own e logged =
-    sym (ap (own_logged setup) logged) ∙ (subst (Owned setup) e (own_input setup (before rows setup facts memory) now i own)).1
+    sym (ap (own_logged setup) logged) ∙ (subst (Owned setup) e (own_input setup (start_of_step rows setup facts memory) now i own)).1

@@ -16,9 +16,11 @@ use Rattle.truetime.specs.Interval.{Interval}
 use Rattle.record.specs.Facts.{Facts}
 use Rattle.message.specs.declared.message.Message.{Message}
 use Rattle.message.specs.declared.message.Input.{Input}
-use Rattle.protocol.specs.Rows.{Memory, Row, Phase, Idle, WaitsRead, WaitsPrepare, WaitsCommit, Collecting, IsPrepared, IsDecided, Standing, HasRow, claims, find_row, needs_of}
-use Rattle.protocol.specs.Plan.{Plan, Planned, Keeps, Before, before, stands}
-use Rattle.protocol.specs.Cells.{other_parts, ceiling_for, to_read, plan_go_on, plan_resume_row, plan_resume_id, plan_resume, plan_settle, plan_advance, plan_nudge}
+use Rattle.protocol.specs.Rows.{Memory, Row, Phase, Idle, WaitsRead, WaitsPrepare, WaitsCommit, Collecting, IsPrepared, IsDecided, Standing, HasRow}
+use Rattle.protocol.specs.Rows.{claims, find_row, needs_of}
+use Rattle.protocol.specs.Plan.{Plan, Planned, Keeps, Before, start_of_step, stands}
+use Rattle.protocol.specs.Cells.{other_parts, ceiling_for, to_read, plan_go_on, plan_resume_row, plan_resume_id, plan_resume, plan_settle}
+use Rattle.protocol.specs.Cells.{plan_advance, plan_nudge}
 use Rattle.protocol.specs.Step.{is_for, plan_message, plan_input}
 use Rattle.protocol.proofs.InWay.{row_at, stands_at, room_at, free_when_ready}
 use Rattle.protocol.proofs.Shapes.{Shaped, IsSettle, IsLock, ShapeOf, Acts, IsAdvance, ShapedBy, is_undecided, is_loose, reads_held, all_fit}
@@ -43,12 +45,14 @@ shaped_go_on b earliest t held (WaitsRead k) e free =
     }) refl)
 shaped_go_on b earliest t held (WaitsPrepare c rs ws) e free =
     let fitting : all_fit b → (nat_lt c b.shard && list_all (holds held) rs) ≡ true = fits_at b t held (WaitsPrepare c rs ws) e in
-    let read : all_fit b → reads_held b t rs = λ f. ap (λ ls. list_all (holds ls) rs) (held_at b t held (WaitsPrepare c rs ws) e) ∙ (and_parts _ _ (fitting f)).1 in
+    let read : all_fit b → reads_held b t rs = λ f. ap (λ ls. list_all (holds ls) rs) (held_at b t held (WaitsPrepare c rs ws) e)
+        ∙ (and_parts _ _ (fitting f)).1 in
     shaped_promise b [] earliest t c rs ws (clear b t (exclusive ws) free) (ap is_undecided e) (λ f. (and_parts _ _ (fitting f)).0) read
     (room_at b t _ (row_at b t held (WaitsPrepare c rs ws) e))
 shaped_go_on b earliest t held (WaitsCommit l ps rs ws) e free =
     let fitting : all_fit b → (when (nat_eq b.shard) (head ps) && list_all (holds held) rs) ≡ true = fits_at b t held (WaitsCommit l ps rs ws) e in
-    let read : all_fit b → reads_held b t rs = λ f. ap (λ ls. list_all (holds ls) rs) (held_at b t held (WaitsCommit l ps rs ws) e) ∙ (and_parts _ _ (fitting f)).1 in
+    let read : all_fit b → reads_held b t rs = λ f. ap (λ ls. list_all (holds ls) rs) (held_at b t held (WaitsCommit l ps rs ws) e)
+        ∙ (and_parts _ _ (fitting f)).1 in
     shaped_granted b [] t l ps rs ws (other_parts b.shard ps) (clear b t (exclusive ws) free) (ap is_undecided e) (λ f. (and_parts _ _ (fitting f)).0) read
     (room_at b t _ (row_at b t held (WaitsCommit l ps rs ws) e))
 shaped_go_on b earliest t held Idle e free = shaped_idle b
@@ -85,19 +89,20 @@ shaped_nudge b t _ e = refused b _
 
 -- ---- all inputs
 
-shaped_message : (rows : ℕ) (setup : Setup) (facts : Facts) (memory : Memory) (now : Interval) (m : Message) → IsById (λ r. r.txn) memory.rows → is_for setup m ≡ true
-    → Shaped (before rows setup facts memory) (plan_message (before rows setup facts memory) now m)
+shaped_message : (rows : ℕ) (setup : Setup) (facts : Facts) (memory : Memory) (now : Interval) (m : Message) → IsById (λ r. r.txn) memory.rows →
+    is_for setup m ≡ true
+    → Shaped (start_of_step rows setup facts memory) (plan_message (start_of_step rows setup facts memory) now m)
 unfolding plan_message is_for
-shaped_message rows setup facts memory now (Message.Read r) up e = shaped_read (before rows setup facts memory) r.txn r.key _ up refl
+shaped_message rows setup facts memory now (Message.Read r) up e = shaped_read (start_of_step rows setup facts memory) r.txn r.key _ up refl
 shaped_message rows setup facts memory now (Message.Prepare p) up e =
-    shaped_prepare (before rows setup facts memory) now.earliest p _ up ((and_parts _ _ e).1) refl
+    shaped_prepare (start_of_step rows setup facts memory) now.earliest p _ up ((and_parts _ _ e).1) refl
 shaped_message rows setup facts memory now (Message.Commit c) up e =
-    shaped_commit (before rows setup facts memory) now.latest c _ up ((and_parts _ _ e).1) refl
-shaped_message rows setup facts memory now (Message.GiveUp g) up e = shaped_give_up (before rows setup facts memory) g.txn _ refl
-shaped_message rows setup facts memory now (Message.Vote v) up e = shaped_vote (before rows setup facts memory) v.from v.txn v.vote _ refl
-shaped_message rows setup facts memory now (Message.Outcome o) up e = shaped_outcome (before rows setup facts memory) o.from o.txn o.outcome _ refl
-shaped_message rows setup facts memory now (Message.Ask a) up e = shaped_ask (before rows setup facts memory) a.from a.txn _ refl
-shaped_message rows setup facts memory now _ up e = refused (before rows setup facts memory) _
+    shaped_commit (start_of_step rows setup facts memory) now.latest c _ up ((and_parts _ _ e).1) refl
+shaped_message rows setup facts memory now (Message.GiveUp g) up e = shaped_give_up (start_of_step rows setup facts memory) g.txn _ refl
+shaped_message rows setup facts memory now (Message.Vote v) up e = shaped_vote (start_of_step rows setup facts memory) v.from v.txn v.vote _ refl
+shaped_message rows setup facts memory now (Message.Outcome o) up e = shaped_outcome (start_of_step rows setup facts memory) o.from o.txn o.outcome _ refl
+shaped_message rows setup facts memory now (Message.Ask a) up e = shaped_ask (start_of_step rows setup facts memory) a.from a.txn _ refl
+shaped_message rows setup facts memory now _ up e = refused (start_of_step rows setup facts memory) _
 
 acts : (b : Before) (i : Input) (plan : Planned) → Shaped b plan → ShapedBy b i plan
 unfolding Shaped ShapedBy
@@ -114,18 +119,19 @@ shaped_advance b latest stride at = by_test (nat_lt latest at)
     by_test false = IsAdvance stride at refl refl
 
 shaped_input : (rows : ℕ) (setup : Setup) (facts : Facts) (memory : Memory) (now : Interval) (i : Input) → IsById (λ r. r.txn) memory.rows
-    → ShapedBy (before rows setup facts memory) i (plan_input setup (before rows setup facts memory) now i)
+    → ShapedBy (start_of_step rows setup facts memory) i (plan_input setup (start_of_step rows setup facts memory) now i)
 unfolding plan_input
 shaped_input rows setup facts memory now (Input.Deliver m) up =
-    let b : Before = before rows setup facts memory in
+    let b : Before = start_of_step rows setup facts memory in
     acts b (Input.Deliver m) _ (shaped_cond b (is_for setup m) _ _ (λ e. shaped_message rows setup facts memory now m up e) (λ _. refused b _))
-shaped_input rows setup facts memory now Input.Resume up = acts _ Input.Resume _ (shaped_resume (before rows setup facts memory) now.earliest up)
-shaped_input rows setup facts memory now (Input.Settle t) up = acts _ (Input.Settle t) _ (shaped_settle (before rows setup facts memory) now.earliest t _ refl)
-shaped_input rows setup facts memory now (Input.Advance at) up = shaped_advance (before rows setup facts memory) now.latest setup.stride at
-shaped_input rows setup facts memory now (Input.Nudge t) up = acts _ (Input.Nudge t) _ (shaped_nudge (before rows setup facts memory) t _ refl)
+shaped_input rows setup facts memory now Input.Resume up = acts _ Input.Resume _ (shaped_resume (start_of_step rows setup facts memory) now.earliest up)
+shaped_input rows setup facts memory now (Input.Settle t) up = acts _ (Input.Settle t) _ (shaped_settle
+    (start_of_step rows setup facts memory) now.earliest t _ refl)
+shaped_input rows setup facts memory now (Input.Advance at) up = shaped_advance (start_of_step rows setup facts memory) now.latest setup.stride at
+shaped_input rows setup facts memory now (Input.Nudge t) up = acts _ (Input.Nudge t) _ (shaped_nudge (start_of_step rows setup facts memory) t _ refl)
 
 -- each plan of a step has a shape
 pub shape_of : (rows : ℕ) (setup : Setup) (facts : Facts) (memory : Memory) (now : Interval) (i : Input) (p : Plan) → IsById (λ r. r.txn) memory.rows
-    → plan_input setup (before rows setup facts memory) now i ≡ Ok p → ShapeOf (before rows setup facts memory) i p
+    → plan_input setup (start_of_step rows setup facts memory) now i ≡ Ok p → ShapeOf (start_of_step rows setup facts memory) i p
 unfolding ShapedBy
-shape_of rows setup facts memory now i p up e = subst (ShapedBy (before rows setup facts memory) i) e (shaped_input rows setup facts memory now i up)
+shape_of rows setup facts memory now i p up e = subst (ShapedBy (start_of_step rows setup facts memory) i) e (shaped_input rows setup facts memory now i up)

@@ -32,7 +32,8 @@ holds_shared (k ∷ ks) held =
 
 pub holds_reads : (rs : List Bytes) (ws : List Write) → list_all (holds (locks_of rs ws)) rs ≡ true
 holds_reads rs ws =
-    each_gives (holds (with_locks [] (shared rs))) (holds (locks_of rs ws)) (λ k h. holds_later (exclusive ws) (with_locks [] (shared rs)) k h) rs (holds_shared rs [])
+    each_gives (holds (with_locks [] (shared rs))) (holds (locks_of rs ws)) (λ k h. holds_later (exclusive ws) (with_locks [] (shared rs)) k h) rs
+        (holds_shared rs [])
 
 -- ---- what they conflict with
 
@@ -44,7 +45,8 @@ weaker l h same less (m ∷ ms) free =
     let p = or_parts (locks_clash h m) (list_any (locks_clash h) ms) free in
     ap (λ b. b || list_any (locks_clash l) ms) (one (same_key l.key m.key) refl p.0) ∙ weaker l h same less ms p.1
   where
-    one : (b : Bool) → same_key l.key m.key ≡ b → (same_key h.key m.key && modes_clash h.mode m.mode) ≡ false → (same_key l.key m.key && modes_clash l.mode m.mode) ≡ false
+    one : (b : Bool) → same_key l.key m.key ≡ b → (same_key h.key m.key && modes_clash h.mode m.mode) ≡ false →
+        (same_key l.key m.key && modes_clash l.mode m.mode) ≡ false
     one false e free = ap (λ b. b && modes_clash l.mode m.mode) e
     one true e free =
         let also : same_key h.key m.key ≡ true = ap (λ k. same_key k m.key) (same_key-is h.key l.key same) ∙ e in
@@ -97,7 +99,8 @@ writes_free (w ∷ ws) held ms h free =
     let p = and_parts (holds_alone held w.key) (holds_writes held ws) h in
     ap (λ b. b || clash (exclusive ws) ms) (exclusive_free held ms w.key p.0 free) ∙ writes_free ws held ms p.1 free
 
-pub record_free : (rs : List Bytes) (ws : List Write) (held ms : List Lock) → list_all (holds held) rs ≡ true → holds_writes held ws ≡ true → clash held ms ≡ false
+pub record_free : (rs : List Bytes) (ws : List Write) (held ms : List Lock) → list_all (holds held) rs ≡ true → holds_writes held ws ≡ true →
+    clash held ms ≡ false
     → clash (locks_of rs ws) ms ≡ false
 record_free rs ws held ms read alone free =
     clash-with_locks (with_locks [] (shared rs)) (exclusive ws) ms (writes_free ws held ms alone free)

@@ -12,9 +12,13 @@ use Rattle.message.specs.declared.message.Message.{Message}
 use Rattle.message.specs.declared.message.Input.{Input}
 use Rattle.message.specs.declared.message.Prepare.{Prepare}
 use Rattle.message.specs.declared.message.Commit.{Commit}
-use Rattle.protocol.specs.Rows.{Row, Phase, Idle, WaitsRead, WaitsPrepare, WaitsCommit, Collecting, IsPrepared, IsDecided, Voted, Standing, IsUnknown, WasEnded, HasRow, WasAborted, WasSettled, WasClosed, claims, find_row, with_vote}
+use Rattle.protocol.specs.Rows.{Row, Phase, Idle, WaitsRead, WaitsPrepare, WaitsCommit, Collecting, IsPrepared, IsDecided, Voted, Standing, IsUnknown}
+use Rattle.protocol.specs.Rows.{WasEnded, HasRow, WasAborted, WasSettled, WasClosed, claims, find_row, with_vote}
 use Rattle.protocol.specs.Plan.{time_limit, Planned, Before, roomed, timed, opens, stands}
-use Rattle.protocol.specs.Cells.{other_parts, all_voted, is_outcome_for, plan_read_now, plan_read_row, plan_read, plan_promise, plan_prepare_now, plan_prepare_fresh, plan_prepare, plan_decide, plan_commit_granted, plan_commit_now, plan_commit_fresh, plan_commit, plan_count, plan_vote, plan_outcome, plan_ask, plan_go_on, plan_resume, plan_resume_id, plan_resume_row, plan_settle, plan_advance, plan_nudge, still_stand, of_part}
+use Rattle.protocol.specs.Cells.{other_parts, all_voted, is_outcome_for, plan_read_now, plan_read_row, plan_read, plan_promise, plan_prepare_now}
+use Rattle.protocol.specs.Cells.{plan_prepare_fresh, plan_prepare, plan_decide, plan_commit_granted, plan_commit_now, plan_commit_fresh, plan_commit}
+use Rattle.protocol.specs.Cells.{plan_count, plan_vote, plan_outcome, plan_ask, plan_go_on, plan_resume, plan_resume_id, plan_resume_row, plan_settle}
+use Rattle.protocol.specs.Cells.{plan_advance, plan_nudge, still_stand, of_part}
 use Rattle.protocol.specs.Step.{is_for, plan_message, plan_input}
 use Rattle.protocol.specs.Refusals.{Owns, OwnRefusals}
 
@@ -89,11 +93,13 @@ owns_prepare b earliest m (WasClosed (Some s)) = tt
 
 -- ---- commits
 
-owns_decide : (b : Before) (ids : List Id) (t : Id) (latest : ℕ) (ps : List ℕ) (rs : List Bytes) (ws : List Write) (needs : List Lock) (vs : List Voted) → Owns (plan_decide b ids t latest ps rs ws needs vs)
+owns_decide : (b : Before) (ids : List Id) (t : Id) (latest : ℕ) (ps : List ℕ) (rs : List Bytes) (ws : List Write) (needs : List Lock)
+    (vs : List Voted) → Owns (plan_decide b ids t latest ps rs ws needs vs)
 unfolding plan_decide
 owns_decide b ids t latest ps rs ws needs vs = owns_timed _ (Ok _) tt
 
-owns_granted : (b : Before) (ids : List Id) (t : Id) (latest : ℕ) (ps : List ℕ) (rs : List Bytes) (ws : List Write) (others : List ℕ) → Owns (plan_commit_granted b ids t latest ps rs ws others)
+owns_granted : (b : Before) (ids : List Id) (t : Id) (latest : ℕ) (ps : List ℕ) (rs : List Bytes) (ws : List Write) (others : List ℕ) →
+    Owns (plan_commit_granted b ids t latest ps rs ws others)
 unfolding plan_commit_granted
 owns_granted b ids t latest ps rs ws [] = owns_decide b ids t latest ps rs ws (exclusive ws) []
 owns_granted b ids t latest ps rs ws (n ∷ ns) = tt
@@ -102,7 +108,8 @@ owns_commit_fresh : (b : Before) (latest : ℕ) (m : Commit) (held : List Lock) 
 unfolding plan_commit_fresh plan_commit_now
 owns_commit_fresh b latest m held =
     owns_cond (still_stand b m.reads.epoch m.reads.keys held) _ (Ok _)
-    (owns_timed (latest + 1) _ (owns_roomed _ _ (owns_cond (opens b m.txn (exclusive m.writes)) _ (Ok _) (owns_granted b _ m.txn latest m.parts m.reads.keys m.writes (other_parts b.shard m.parts)) tt))) tt
+    (owns_timed (latest + 1) _ (owns_roomed _ _ (owns_cond (opens b m.txn (exclusive m.writes)) _ (Ok _)
+        (owns_granted b _ m.txn latest m.parts m.reads.keys m.writes (other_parts b.shard m.parts)) tt))) tt
 
 owns_commit : (b : Before) (latest : ℕ) (m : Commit) (s : Standing) → Owns (plan_commit b latest m s)
 unfolding plan_commit
@@ -121,7 +128,8 @@ owns_commit b latest m (WasClosed o) = refl
 
 -- ---- votes
 
-owns_count : (b : Before) (n : ℕ) (t : Id) (vote : Option ℕ) (latest : ℕ) (ps : List ℕ) (rs : List Bytes) (ws : List Write) (vs : List Voted) → Owns (plan_count b n t vote latest ps rs ws vs)
+owns_count : (b : Before) (n : ℕ) (t : Id) (vote : Option ℕ) (latest : ℕ) (ps : List ℕ) (rs : List Bytes) (ws : List Write) (vs : List Voted) →
+    Owns (plan_count b n t vote latest ps rs ws vs)
 unfolding plan_count
 owns_count b n t None latest ps rs ws vs = tt
 owns_count b n t (Some p) latest ps rs ws vs =

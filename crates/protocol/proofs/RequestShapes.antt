@@ -10,13 +10,18 @@ use Rattle.units.specs.declared.lock.Lock.{Lock}
 use Rattle.units.specs.declared.writes.Write.{Write}
 use Rattle.message.specs.declared.message.Prepare.{Prepare}
 use Rattle.message.specs.declared.message.Commit.{Commit}
-use Rattle.protocol.specs.Rows.{Idle, WaitsRead, WaitsPrepare, WaitsCommit, Collecting, IsPrepared, IsDecided, Voted, Standing, IsUnknown, WasEnded, HasRow, WasAborted, WasSettled, WasClosed, held_in}
+use Rattle.protocol.specs.Rows.{Idle, WaitsRead, WaitsPrepare, WaitsCommit, Collecting, IsPrepared, IsDecided, Voted, Standing, IsUnknown, WasEnded}
+use Rattle.protocol.specs.Rows.{HasRow, WasAborted, WasSettled, WasClosed, held_in}
 use Rattle.protocol.specs.Plan.{Before, stands, is_crowded, in_way, opens}
-use Rattle.protocol.specs.Cells.{commit_stamp, other_parts, still_stand, answers, to_read, plan_read_now, plan_read_row, plan_read, plan_promise, plan_prepare_now, plan_prepare_fresh, plan_prepare, plan_abort, plan_decide, plan_commit_granted, plan_commit_now, plan_commit_fresh, plan_commit}
+use Rattle.protocol.specs.Cells.{commit_stamp, other_parts, still_stand, answers, to_read, plan_read_now, plan_read_row, plan_read, plan_promise}
+use Rattle.protocol.specs.Cells.{plan_prepare_now, plan_prepare_fresh, plan_prepare, plan_abort, plan_decide, plan_commit_granted, plan_commit_now}
+use Rattle.protocol.specs.Cells.{plan_commit_fresh, plan_commit}
 use Rattle.protocol.specs.Sound.{holds_writes}
 use Rattle.protocol.proofs.InWay.{in_way_gone, holds_exclusive}
-use Rattle.protocol.proofs.Shapes.{Shaped, IsEnd, IsAbort, IsLock, IsWait, IsPromise, IsDecision, IsCleared, is_undecided, is_loose, all_fit, granted_to, reads_held}
-use Rattle.protocol.proofs.Choices.{Ascends, planned, refused, shaped_cond, shape_cond, shaped_err, shaped_roomed, shaped_idle, shaped_reply, undecided, cleared, clear, held_at, held_unknown, reads_still, reads_granted}
+use Rattle.protocol.proofs.Shapes.{Shaped, IsEnd, IsAbort, IsLock, IsWait, IsPromise, IsDecision, IsCleared, is_undecided, is_loose, all_fit}
+use Rattle.protocol.proofs.Shapes.{granted_to, reads_held}
+use Rattle.protocol.proofs.Choices.{Ascends, planned, refused, shaped_cond, shape_cond, shaped_err, shaped_roomed, shaped_idle, shaped_reply}
+use Rattle.protocol.proofs.Choices.{undecided, cleared, clear, held_at, held_unknown, reads_still, reads_granted}
 
 -- ---- read
 
@@ -72,7 +77,8 @@ above_last : (last earliest : ℕ) → last < max (last + 1) earliest
 above_last last earliest = omega arith
 
 pub shaped_promise : (b : Before) (ended : List Id) (earliest : ℕ) (t : Id) (c : ℕ) (rs : List Bytes) (ws : List Write)
-    → IsCleared b.memory.rows t ended (exclusive ws) → is_undecided (stands b t) ≡ true → (all_fit b → nat_lt c b.shard ≡ true) → (all_fit b → reads_held b t rs) → is_crowded b t ≡ false
+    → IsCleared b.memory.rows t ended (exclusive ws) → is_undecided (stands b t) ≡ true → (all_fit b → nat_lt c b.shard ≡ true) →
+        (all_fit b → reads_held b t rs) → is_crowded b t ≡ false
     → Shaped b (plan_promise b ended earliest t c rs ws)
 unfolding plan_promise
 shaped_promise b ended earliest t c rs ws clear fresh lower read room =
@@ -91,7 +97,8 @@ shaped_prepare_now : (b : Before) (earliest : ℕ) (m : Prepare) → Ascends b �
 unfolding plan_prepare_now
 shaped_prepare_now b earliest m up loose lower read = shaped_roomed b (is_crowded b m.txn) _ (λ room.
     shaped_cond b (opens b m.txn (exclusive m.writes)) _ _
-    (λ free. shaped_promise b _ earliest m.txn m.coordinator m.reads.keys m.writes (cleared b m.txn (exclusive m.writes) up free) (undecided b m.txn loose) (λ _. lower) (λ _. read) room)
+    (λ free. shaped_promise b _ earliest m.txn m.coordinator m.reads.keys m.writes (cleared b m.txn (exclusive m.writes) up free)
+        (undecided b m.txn loose) (λ _. lower) (λ _. read) room)
     (λ _. planned b _ (IsWait m.txn (exclusive m.writes) (WaitsPrepare m.coordinator m.reads.keys m.writes) [] (record {
       loose = loose;
       slack = refl;
@@ -102,10 +109,12 @@ shaped_prepare_now b earliest m up loose lower read = shaped_roomed b (is_crowde
     }) refl)))
 
 shaped_prepare_fresh : (b : Before) (earliest : ℕ) (m : Prepare) (held : List Lock) → Ascends b
-    → is_loose (stands b m.txn) ≡ true → nat_lt m.coordinator b.shard ≡ true → held_in b.memory.rows m.txn ≡ held → Shaped b (plan_prepare_fresh b earliest m held)
+    → is_loose (stands b m.txn) ≡ true → nat_lt m.coordinator b.shard ≡ true → held_in b.memory.rows m.txn ≡ held →
+        Shaped b (plan_prepare_fresh b earliest m held)
 unfolding plan_prepare_fresh
 shaped_prepare_fresh b earliest m held up loose lower same =
-    shaped_cond b (still_stand b m.reads.epoch m.reads.keys held) _ _ (λ k. shaped_prepare_now b earliest m up loose lower (reads_still b m.txn m.reads.epoch m.reads.keys held same k)) (λ _. planned b _ (IsEnd m.txn _ (undecided b m.txn loose) refl))
+    shaped_cond b (still_stand b m.reads.epoch m.reads.keys held) _ _ (λ k. shaped_prepare_now b earliest m up loose lower
+        (reads_still b m.txn m.reads.epoch m.reads.keys held same k)) (λ _. planned b _ (IsEnd m.txn _ (undecided b m.txn loose) refl))
 
 pub shaped_prepare : (b : Before) (earliest : ℕ) (m : Prepare) (s : Standing) → Ascends b → nat_lt m.coordinator b.shard ≡ true
     → stands b m.txn ≡ s → Shaped b (plan_prepare b earliest m s)
@@ -131,7 +140,8 @@ shaped_abort b t ps fresh = planned b _ (IsAbort t _ fresh refl)
 above_stamp : (g latest last : ℕ) → last < max g (max (latest + 1) (last + 1))
 above_stamp g latest last = omega arith
 
-pub shaped_decide : (b : Before) (ended : List Id) (t : Id) (latest : ℕ) (ps : List ℕ) (rs : List Bytes) (ws : List Write) (needs : List Lock) (votes : List Voted)
+pub shaped_decide : (b : Before) (ended : List Id) (t : Id) (latest : ℕ) (ps : List ℕ) (rs : List Bytes) (ws : List Write) (needs : List Lock)
+    (votes : List Voted)
     → IsCleared b.memory.rows t ended needs → is_undecided (stands b t) ≡ true → (all_fit b → when (nat_eq b.shard) (head ps) ≡ true)
     → (all_fit b → reads_held b t rs) → (all_fit b → holds_writes (granted_to b t ended needs) ws ≡ true) → is_crowded b t ≡ false
     → Shaped b (plan_decide b ended t latest ps rs ws needs votes)
@@ -170,7 +180,8 @@ shaped_commit_now : (b : Before) (latest : ℕ) (m : Commit) → Ascends b → i
 unfolding plan_commit_now
 shaped_commit_now b latest m up loose first read = shaped_roomed b (is_crowded b m.txn) _ (λ room.
     shaped_cond b (opens b m.txn (exclusive m.writes)) _ _
-    (λ free. shaped_granted b _ m.txn latest m.parts m.reads.keys m.writes (other_parts b.shard m.parts) (cleared b m.txn (exclusive m.writes) up free) (undecided b m.txn loose) (λ _. first) (λ _. read) room)
+    (λ free. shaped_granted b _ m.txn latest m.parts m.reads.keys m.writes (other_parts b.shard m.parts)
+        (cleared b m.txn (exclusive m.writes) up free) (undecided b m.txn loose) (λ _. first) (λ _. read) room)
     (λ _. planned b _ (IsWait m.txn (exclusive m.writes) (WaitsCommit latest m.parts m.reads.keys m.writes) [] (record {
       loose = loose;
       slack = refl;
@@ -181,10 +192,13 @@ shaped_commit_now b latest m up loose first read = shaped_roomed b (is_crowded b
     }) refl)))
 
 shaped_commit_fresh : (b : Before) (latest : ℕ) (m : Commit) (held : List Lock) → Ascends b
-    → is_loose (stands b m.txn) ≡ true → when (nat_eq b.shard) (head m.parts) ≡ true → held_in b.memory.rows m.txn ≡ held → Shaped b (plan_commit_fresh b latest m held)
+    → is_loose (stands b m.txn) ≡ true → when (nat_eq b.shard) (head m.parts) ≡ true → held_in b.memory.rows m.txn ≡ held →
+        Shaped b (plan_commit_fresh b latest m held)
 unfolding plan_commit_fresh
 shaped_commit_fresh b latest m held up loose first same =
-    shaped_cond b (still_stand b m.reads.epoch m.reads.keys held) _ _ (λ k. shaped_err b _ _ _ (shaped_commit_now b latest m up loose first (reads_still b m.txn m.reads.epoch m.reads.keys held same k))) (λ _. shaped_abort b m.txn m.parts (undecided b m.txn loose))
+    shaped_cond b (still_stand b m.reads.epoch m.reads.keys held) _ _ (λ k. shaped_err b _ _ _
+        (shaped_commit_now b latest m up loose first (reads_still b m.txn m.reads.epoch m.reads.keys held same k)))
+        (λ _. shaped_abort b m.txn m.parts (undecided b m.txn loose))
 
 pub shaped_commit : (b : Before) (latest : ℕ) (m : Commit) (s : Standing) → Ascends b
     → when (nat_eq b.shard) (head m.parts) ≡ true → stands b m.txn ≡ s → Shaped b (plan_commit b latest m s)

@@ -1,5 +1,6 @@
 -- The rows after a change: which row an id has, how many there are, and that they ascend by id.
-use Rattle.std.proofs.Common.{◌≡◌, suc, ◌≤◌, Bool, true, false, ◌||◌, not, cond, List, [], ◌∷◌, length, Some, None, refl, sym, ap, subst, ◌∙◌, arith, ◌⊎◌, inl, inr}
+use Rattle.std.proofs.Common.{◌≡◌, suc, ◌≤◌, Bool, true, false, ◌||◌, not, cond, List, [], ◌∷◌, length, Some, None, refl, sym, ap, subst, ◌∙◌, arith}
+use Rattle.std.proofs.Common.{◌⊎◌, inl, inr}
 use Rattle.std.specs.List.{AllByRecursion, list_any}
 use Rattle.std.proofs.lemmas.Bool.{false≢true}
 use Rattle.std.proofs.lemmas.Bool.Decides.{nat_tests}
@@ -8,7 +9,8 @@ use Rattle.units.specs.ById.{IsById, find_member}
 use Rattle.units.specs.Locks.{Claim}
 use Rattle.units.specs.declared.lock.Lock.{Lock}
 use Rattle.units.proofs.IdLaws.{same_id-is, same_id-refl, older_not_same}
-use Rattle.units.proofs.ByIdLaws.{find-with_same, find-with_other, find-without_other, has-without_other, all-without, by_id-keep, by_id-with, by_id-cons, later_are_younger}
+use Rattle.units.proofs.ByIdLaws.{find-with_same, find-with_other, find-without_other, has-without_other, all-without, by_id-keep, by_id-with}
+use Rattle.units.proofs.ByIdLaws.{by_id-cons, later_are_younger}
 use Rattle.protocol.specs.Rows.{Row, Phase, claim_of, claims, find_row, without_row, with_row, without_rows}
 use Rattle.protocol.proofs.RowTable.{with_row-is}
 

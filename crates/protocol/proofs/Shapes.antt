@@ -11,7 +11,8 @@ use Rattle.units.specs.declared.writes.Write.{Write}
 use Rattle.record.specs.declared.record.Record.{Record}
 use Rattle.message.specs.declared.message.Envelope.{Envelope}
 use Rattle.message.specs.declared.message.Input.{Input}
-use Rattle.protocol.specs.Rows.{Row, Phase, IsPrepared, IsDecided, Standing, IsUnknown, WasEnded, HasRow, claims, find_row, is_firm, needs_of, held_in, without_rows}
+use Rattle.protocol.specs.Rows.{Row, Phase, IsPrepared, IsDecided, Standing, IsUnknown, WasEnded, HasRow, claims, find_row, is_firm, needs_of}
+use Rattle.protocol.specs.Rows.{held_in, without_rows}
 use Rattle.protocol.specs.Outputs.{promise, decision}
 use Rattle.protocol.specs.Plan.{Plan, Planned, Before, Keeps, stands, replies, ends, drops, puts, in_way, is_crowded}
 use Rattle.protocol.specs.Cells.{is_outcome_for, raised, ceiling_for}

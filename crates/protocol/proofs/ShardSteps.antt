@@ -10,7 +10,8 @@ use Rattle.record.specs.declared.record.Record.{Record}
 use Rattle.message.specs.declared.message.Input.{Input}
 use Rattle.message.specs.declared.message.Answer.TheVariants.{Holds}
 use Rattle.protocol.specs.Computing.{computing}
-use Rattle.protocol.proofs.Samples.{answer_of, ask_of, commit_of, done_of, give_up_of, outcome_of, prepare_of, read_of, vote_of, a, z, one, two, txn, clock, sets, shard, opened, fresh, Refuses, Does, fed, hears, nothing, comes, to_shard, to_session}
+use Rattle.protocol.proofs.Samples.{answer_of, ask_of, commit_of, done_of, give_up_of, outcome_of, prepare_of, read_of, vote_of, a, z, one, two, txn}
+use Rattle.protocol.proofs.Samples.{clock, sets, shard, opened, fresh, Refuses, Does, fed, hears, nothing, comes, to_shard, to_session}
 
 -- what is written in the examples
 abbrev pub writes_a : List Write

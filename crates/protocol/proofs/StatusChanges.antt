@@ -38,9 +38,11 @@ pub entry_same : (es : List Entry) (t : Id) (s : Status) → first (λ e. same_i
 unfolding entry_of
 entry_same es t s = ap (first (λ (e : Entry). same_id e.txn t)) (with_status-is es t s) ∙ find-with_same (λ (e : Entry). e.txn) es (entry_of t s)
 
-pub entry_other : (es : List Entry) (t u : Id) (s : Status) → same_id t u ≡ false → first (λ e. same_id e.txn u) (with_status es t s) ≡ first (λ e. same_id e.txn u) es
+pub entry_other : (es : List Entry) (t u : Id) (s : Status) → same_id t u ≡ false → first (λ e. same_id e.txn u) (with_status es t s) ≡
+    first (λ e. same_id e.txn u) es
 unfolding entry_of
-entry_other es t u s differ = ap (first (λ (e : Entry). same_id e.txn u)) (with_status-is es t s) ∙ find-with_other (λ (e : Entry). e.txn) es (entry_of t s) u differ
+entry_other es t u s differ = ap (first (λ (e : Entry). same_id e.txn u)) (with_status-is es t s)
+    ∙ find-with_other (λ (e : Entry). e.txn) es (entry_of t s) u differ
 
 pub status_same : (es : List Entry) (t : Id) (s : Status) → status_in (with_status es t s) t ≡ s
 status_same es t s = ap or_unrecorded (entry_same es t s)
@@ -105,7 +107,8 @@ closing b t c at held outcome sound found =
       leaves = λ is last. subst (λ s. Agrees is last (after_outcome s outcome) None) (sym made.is) tt;
     }
   where
-    by_outcome : (o : Option ℕ) → installs_at (StandsPrepared ((promise_of b t held c at sound found).promise)) o ≡ installs_by ((promise_of b t held c at sound found).promise.writes) o
+    by_outcome : (o : Option ℕ) → installs_at (StandsPrepared ((promise_of b t held c at sound found).promise)) o ≡
+        installs_by ((promise_of b t held c at sound found).promise.writes) o
     by_outcome None = refl
     by_outcome (Some s) = refl
 

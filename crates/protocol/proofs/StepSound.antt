@@ -3,7 +3,7 @@ use Rattle.std.proofs.Common.{refl, arith}
 use Rattle.record.specs.Computing.{computing as computing_logs}
 use Rattle.message.specs.declared.message.Input.{Input}
 use Rattle.protocol.specs.Sound.{FreshIsSound, IsSound, StepKeepsSound}
-use Rattle.protocol.specs.Plan.{Plan, Before, before, carried}
+use Rattle.protocol.specs.Plan.{Plan, Before, start_of_step, carried}
 use Rattle.protocol.specs.Step.{facts_after, IsInLimit}
 use Rattle.protocol.proofs.Agreement.{Sound}
 use Rattle.protocol.proofs.KeptAgreement.{KeepsAgreement, agreeing_of}
@@ -29,7 +29,7 @@ kept b i p fits sound shape =
 
 pub step_keeps_sound : StepKeepsSound
 step_keeps_sound rows setup facts memory now i p fits sound e =
-    kept (before rows setup facts memory) i p fits sound (shape_of rows setup facts memory now i p (by_id-claims memory.rows sound.table.order) e)
+    kept (start_of_step rows setup facts memory) i p fits sound (shape_of rows setup facts memory now i p (by_id-claims memory.rows sound.table.order) e)
 
 -- nothing is recorded and nothing stands
 pub fresh_is_sound : FreshIsSound

@@ -6,7 +6,7 @@ use Rattle.units.specs.Ids.{Id, same_id}
 use Rattle.units.specs.ById.{IsById}
 use Rattle.message.specs.declared.message.Input.{Input}
 use Rattle.protocol.specs.Rows.{Row, with_row, without_rows}
-use Rattle.protocol.specs.Plan.{Plan, Before, before, changed, carried}
+use Rattle.protocol.specs.Plan.{Plan, Before, start_of_step, after_change, carried}
 use Rattle.protocol.specs.Sound.{StaysWithin}
 use Rattle.protocol.proofs.RowChanges.{short-without_row, short-without_rows, length-with_row, length-with_row_same, any-without_rows, by_id-without_rows}
 use Rattle.protocol.proofs.Shapes.{Shape, Answers, IsEnd, IsAbort, IsClose, IsSettle, IsLock, IsWait, IsPromise, IsDecision, ShapeOf, Acts, IsAdvance}
@@ -42,7 +42,7 @@ Within : Before → Plan → Type 0
 Within b p = length (carried p b.memory).rows ≤ b.capacity
 
 within : (b : Before) (p : Plan) → IsById (λ r. r.txn) b.memory.rows → length b.memory.rows ≤ b.capacity → Shape b p → Within b p
-unfolding Within carried changed
+unfolding Within carried after_change
 within b p up fits (Answers out e) = subst (Within b) (sym e) fits
 within b p up fits (IsEnd t out s e) = subst (Within b) (sym e) (omega (arith, fits, short-without_row b.memory.rows t))
 within b p up fits (IsAbort t out s e) = subst (Within b) (sym e) (omega (arith, fits, short-without_row b.memory.rows t))
@@ -58,11 +58,11 @@ within b p up fits (IsDecision t ended needs at ps rs ws out l e) =
     subst (Within b) (sym e) (put_within b.capacity b.memory.rows ended _ up fits l.room (others_gone b.memory.rows t ended l.cleared.gone))
 
 within_of : (b : Before) (i : Input) (p : Plan) → IsById (λ r. r.txn) b.memory.rows → length b.memory.rows ≤ b.capacity → ShapeOf b i p → Within b p
-unfolding Within carried changed
+unfolding Within carried after_change
 within_of b i p up fits (Acts shape) = within b p up fits shape
 within_of b i p up fits (IsAdvance stride at k e) = subst (Within b) (sym e) fits
 
 pub stays_within : StaysWithin
 unfolding Within
 stays_within rows setup facts memory now i p up fits e =
-    within_of (before rows setup facts memory) i p up fits (shape_of rows setup facts memory now i p up e)
+    within_of (start_of_step rows setup facts memory) i p up fits (shape_of rows setup facts memory now i p up e)

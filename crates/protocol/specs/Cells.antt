@@ -1,13 +1,15 @@
 -- The step as a table: a function for each input, and in it a clause for each standing of its transaction. The last
 -- clause, `_`, is for all other standings.
 use Rattle.std.specs.List.{list_any, list_all}
-use Rattle.std.specs.Prelude.{ℕ, ◌+◌, Bool, true, false, not, cond, ◌&&◌, nat_lt, nat_le, nat_eq, min, max, List, [], ◌∷◌, map, Option, Some, None, Ok, Err, filter}
+use Rattle.std.specs.Prelude.{ℕ, ◌+◌, Bool, true, false, not, cond, ◌&&◌, nat_lt, nat_le, nat_eq, min, max, List, [], ◌∷◌, map, Option, Some, None}
+use Rattle.std.specs.Prelude.{Ok, Err, filter}
 use Rattle.units.specs.Lists.{has, greatest}
 use Rattle.units.specs.Ids.{Id}
 use Rattle.units.specs.Keys.{Bytes}
 use Rattle.units.specs.Locks.{holds, ready, exclusive}
 use Rattle.units.specs.Versions.{latest}
-use Rattle.protocol.specs.Rows.{Row, Phase, Idle, WaitsRead, WaitsPrepare, WaitsCommit, Collecting, IsPrepared, IsDecided, Voted, Standing, IsUnknown, WasEnded, HasRow, WasAborted, WasSettled, WasClosed, claims, find_row, with_vote}
+use Rattle.protocol.specs.Rows.{Row, Phase, Idle, WaitsRead, WaitsPrepare, WaitsCommit, Collecting, IsPrepared, IsDecided, Voted, Standing, IsUnknown}
+use Rattle.protocol.specs.Rows.{WasEnded, HasRow, WasAborted, WasSettled, WasClosed, claims, find_row, with_vote}
 use Rattle.protocol.specs.Outputs.{promise, decision, vote_to, answer_to, done_to, outcome_to, ask_to}
 use Rattle.protocol.specs.Plan.{Keeps, Plan, Planned, Before, in_way, opens, is_crowded, replies, idles, ends, drops, puts, roomed, time_limit, timed}
 use Rattle.units.specs.declared.fault.Fault.TheVariants.{Future, Early, Stranger}

@@ -8,7 +8,7 @@ use Rattle.record.specs.Facts.{facts_of}
 use Rattle.record.specs.declared.record.Record.{Record}
 use Rattle.message.specs.declared.message.Input.{Input}
 use Rattle.protocol.specs.Rows.{Memory}
-use Rattle.protocol.specs.Plan.{Plan, before}
+use Rattle.protocol.specs.Plan.{Plan, start_of_step}
 use Rattle.protocol.specs.Step.{plan_input}
 use Rattle.protocol.specs.Sound.{IsSound}
 
@@ -18,4 +18,4 @@ abbrev pub LoggedFitsBeside : Type 0
 LoggedFitsBeside =
     (setup : Setup) (log : List Record) (memory : Memory) (now : Interval) (i : Input) (p : Plan) (r : Record) →
     IsSound setup.shard (facts_of log) memory → length memory.rows ≤ most_rows →
-    plan_input setup (before most_rows setup (facts_of log) memory) now i ≡ Ok p → p.logged ≡ Some r → IsTrue (fits_beside log r)
+    plan_input setup (start_of_step most_rows setup (facts_of log) memory) now i ≡ Ok p → p.logged ≡ Some r → IsTrue (fits_beside log r)

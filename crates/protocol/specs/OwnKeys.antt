@@ -8,7 +8,7 @@ use Rattle.record.specs.Facts.{Facts}
 use Rattle.record.specs.declared.record.Record.{Record}
 use Rattle.message.specs.declared.message.Input.{Input}
 use Rattle.protocol.specs.Rows.{Memory, Row, Phase, WaitsPrepare, WaitsCommit, Collecting}
-use Rattle.protocol.specs.Plan.{Plan, before, carried}
+use Rattle.protocol.specs.Plan.{Plan, start_of_step, carried}
 use Rattle.protocol.specs.Step.{plan_input}
 
 -- the keys of the prepare or the commit that a row waits with or collects for are of this shard
@@ -26,12 +26,12 @@ all_own setup rows = list_all (λ r. names_own setup r.phase) rows
 abbrev pub StepKeepsOwn : Type 0
 StepKeepsOwn =
     (rows : ℕ) (setup : Setup) (facts : Facts) (memory : Memory) (now : Interval) (i : Input) (p : Plan) →
-    IsTrue (all_own setup memory.rows) → plan_input setup (before rows setup facts memory) now i ≡ Ok p →
+    IsTrue (all_own setup memory.rows) → plan_input setup (start_of_step rows setup facts memory) now i ≡ Ok p →
     IsTrue (all_own setup (carried p memory).rows)
 
 -- what a step logs names keys of the shard alone
 abbrev pub LoggedBelongs : Type 0
 LoggedBelongs =
     (rows : ℕ) (setup : Setup) (facts : Facts) (memory : Memory) (now : Interval) (i : Input) (p : Plan) (r : Record) →
-    IsTrue (all_own setup memory.rows) → plan_input setup (before rows setup facts memory) now i ≡ Ok p → p.logged ≡ Some r →
+    IsTrue (all_own setup memory.rows) → plan_input setup (start_of_step rows setup facts memory) now i ≡ Ok p → p.logged ≡ Some r →
     IsTrue (belongs setup r)

@@ -47,11 +47,11 @@ with_ids ids [] = ids
 with_ids ids (t ∷ ts) = with_ids (with_id ids t) ts
 
 -- the rows after a change
-unfoldable pub changed : Change → List Row → List Row
-changed Keeps rows = rows
-changed (Ends t) rows = without_row rows t
-changed (Drops t) rows = without_row rows t
-changed (Puts t needs phase) rows = with_row rows (record { txn = t; held = with_locks (held_in rows t) needs; phase = phase })
+unfoldable pub after_change : Change → List Row → List Row
+after_change Keeps rows = rows
+after_change (Ends t) rows = without_row rows t
+after_change (Drops t) rows = without_row rows t
+after_change (Puts t needs phase) rows = with_row rows (record { txn = t; held = with_locks (held_in rows t) needs; phase = phase })
 
 -- the ended ids after a change
 unfoldable pub ended_by : Change → List Id → List Id
@@ -63,7 +63,7 @@ unfoldable pub carried : Plan → Memory → Memory
 carried p m =
     record {
       last = p.last;
-      rows = changed p.change (without_rows m.rows p.wounded);
+      rows = after_change p.change (without_rows m.rows p.wounded);
       ended = ended_by p.change (with_ids m.ended p.wounded);
     }
 
@@ -77,8 +77,8 @@ pub record Before : Type 0 where
   pub memory : Memory
 
 -- where a step of a shard starts
-abbrev pub before : ℕ → Setup → Facts → Memory → Before
-before rows setup facts memory = record { capacity = rows; shard = setup.shard; facts = facts; memory = memory }
+abbrev pub start_of_step : ℕ → Setup → Facts → Memory → Before
+start_of_step rows setup facts memory = record { capacity = rows; shard = setup.shard; facts = facts; memory = memory }
 
 -- how a transaction stands
 abbrev pub stands : Before → Id → Standing

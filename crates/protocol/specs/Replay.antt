@@ -10,7 +10,7 @@ use Rattle.protocol.specs.Rows.{Memory, rebuilt}
 use Rattle.protocol.specs.Step.{Stepped, Refuses, Does, facts_after, step}
 
 -- an accepted input, with the reading at which it came and the messages that were put out
-pub record Kept : Type 0 where
+pub record BookEntry : Type 0 where
   pub input : Input
   pub now : Interval
   pub outbox : List Envelope
@@ -30,21 +30,21 @@ after_step s (Refuses fault) = s
 after_step s (Does logged memory outbox) = record { facts = facts_after s.facts logged; memory = memory }
 
 -- what a step puts out, where it is done
-abbrev pub put_out : Stepped → Option (List Envelope)
-put_out (Refuses fault) = None
-put_out (Does logged memory outbox) = Some outbox
+abbrev pub outbox_put_out : Stepped → Option (List Envelope)
+outbox_put_out (Refuses fault) = None
+outbox_put_out (Does logged memory outbox) = Some outbox
 
 -- one input of the book
-abbrev pub step_kept : Setup → Stand → Kept → Stepped
+abbrev pub step_kept : Setup → Stand → BookEntry → Stepped
 step_kept setup s k = step setup s.facts s.memory k.now k.input
 
 -- where the inputs of a book lead
-abbrev pub replayed : Setup → Stand → List Kept → Stand
+abbrev pub replayed : Setup → Stand → List BookEntry → Stand
 replayed setup s [] = s
 replayed setup s (k ∷ ks) = replayed setup (after_step s (step_kept setup s k)) ks
 
 -- each input of the book is accepted, and puts out what was kept of it
-abbrev pub IsReplay : Setup → Stand → List Kept → Type 0
+abbrev pub IsReplay : Setup → Stand → List BookEntry → Type 0
 IsReplay setup s [] = Unit {0}
 IsReplay setup s (k ∷ ks) =
-    (put_out (step_kept setup s k) ≡ Some k.outbox) × IsReplay setup (after_step s (step_kept setup s k)) ks
+    (outbox_put_out (step_kept setup s k) ≡ Some k.outbox) × IsReplay setup (after_step s (step_kept setup s k)) ks

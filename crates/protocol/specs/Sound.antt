@@ -21,7 +21,7 @@ use Rattle.record.specs.declared.record.Record.{Record}
 use Rattle.facts.specs.Rules.{follows_facts}
 use Rattle.message.specs.declared.message.Input.{Input}
 use Rattle.protocol.specs.Rows.{Memory, Row, Phase, WaitsPrepare, WaitsCommit, Collecting, IsPrepared, IsDecided, claims, find_row, rebuilt}
-use Rattle.protocol.specs.Plan.{Plan, before, carried}
+use Rattle.protocol.specs.Plan.{Plan, start_of_step, carried}
 use Rattle.protocol.specs.Step.{facts_after, IsInLimit, plan_input}
 
 -- the mode allows writing
@@ -45,7 +45,8 @@ is_open _ = true
 
 -- a row that stands by a record: its phase, its id, its timestamp, which was assigned, its locks, and that it is above the
 -- versions of what it writes
-pub record StandsBy (installs : List Install) (last : ℕ) (r : Row) (standing : Phase) (txn : Id) (at : ℕ) (reads : List Bytes) (writes : List Write) : Type 0 where
+pub record StandsBy (installs : List Install) (last : ℕ) (r : Row) (standing : Phase) (txn : Id) (at : ℕ) (reads : List Bytes)
+    (writes : List Write) : Type 0 where
   pub phase : r.phase ≡ standing
   pub own : r.txn ≡ txn
   pub above_zero : 0 < at
@@ -103,14 +104,14 @@ OpeningKeepsSound =
 abbrev pub StepKeepsSound : Type 0
 StepKeepsSound =
     (rows : ℕ) (setup : Setup) (facts : Facts) (memory : Memory) (now : Interval) (i : Input) (p : Plan) → IsInLimit i →
-    IsSound setup.shard facts memory → plan_input setup (before rows setup facts memory) now i ≡ Ok p →
+    IsSound setup.shard facts memory → plan_input setup (start_of_step rows setup facts memory) now i ≡ Ok p →
     IsSound setup.shard (facts_after facts p.logged) (carried p memory)
 
 -- what a step logs may come next
 abbrev pub LoggedFollows : Type 0
 LoggedFollows =
     (rows : ℕ) (setup : Setup) (facts : Facts) (memory : Memory) (now : Interval) (i : Input) (p : Plan) (r : Record) →
-    IsSound setup.shard facts memory → plan_input setup (before rows setup facts memory) now i ≡ Ok p → p.logged ≡ Some r →
+    IsSound setup.shard facts memory → plan_input setup (start_of_step rows setup facts memory) now i ≡ Ok p → p.logged ≡ Some r →
     IsTrue (follows_facts setup.shard facts r)
 
 -- the writes of a promise or a decision that stands
@@ -123,12 +124,12 @@ writes_standing _ = []
 abbrev pub InstallsAbove : Type 0
 InstallsAbove =
     (rows : ℕ) (setup : Setup) (facts : Facts) (memory : Memory) (now : Interval) (i : Input) (p : Plan) (t : Id) (s : ℕ) →
-    IsSound setup.shard facts memory → plan_input setup (before rows setup facts memory) now i ≡ Ok p → p.logged ≡ Some (Record.Outcome t (Some s)) →
+    IsSound setup.shard facts memory → plan_input setup (start_of_step rows setup facts memory) now i ≡ Ok p → p.logged ≡ Some (Record.Outcome t (Some s)) →
     IsTrue (above_versions facts.installs s (writes_standing (recorded facts t)))
 
 -- a step keeps the table within its limit
 abbrev pub StaysWithin : Type 0
 StaysWithin =
     (rows : ℕ) (setup : Setup) (facts : Facts) (memory : Memory) (now : Interval) (i : Input) (p : Plan) →
-    IsById (λ r. r.txn) memory.rows → length memory.rows ≤ rows → plan_input setup (before rows setup facts memory) now i ≡ Ok p →
+    IsById (λ r. r.txn) memory.rows → length memory.rows ≤ rows → plan_input setup (start_of_step rows setup facts memory) now i ≡ Ok p →
     length (carried p memory).rows ≤ rows

@@ -7,8 +7,9 @@ use Rattle.units.specs.Keys.{shard_of}
 use Rattle.record.specs.Accepted.{keys_belong}
 use Rattle.record.specs.Facts.{Facts, learn}
 use Rattle.protocol.specs.Rows.{Memory}
-use Rattle.protocol.specs.Plan.{Planned, Before, before, stands, carried}
-use Rattle.protocol.specs.Cells.{plan_read, plan_prepare, plan_commit, plan_vote, plan_outcome, plan_give_up, plan_ask, plan_resume, plan_settle, plan_advance, plan_nudge}
+use Rattle.protocol.specs.Plan.{Planned, Before, start_of_step, stands, carried}
+use Rattle.protocol.specs.Cells.{plan_read, plan_prepare, plan_commit, plan_vote, plan_outcome, plan_give_up, plan_ask, plan_resume, plan_settle}
+use Rattle.protocol.specs.Cells.{plan_advance, plan_nudge}
 use Rattle.units.specs.declared.fault.Fault.{Fault}
 use Rattle.units.specs.declared.fault.Fault.TheVariants.{Stranger}
 use Rattle.units.specs.declared.setup.Setup.{Setup}
@@ -58,7 +59,7 @@ stepped m (Ok p) = Does p.logged (carried p m) p.outbox
 
 -- the step of a shard whose table holds so many rows
 unfoldable pub step_within : ℕ → Setup → Facts → Memory → Interval → Input → Stepped
-step_within rows setup facts memory now i = stepped memory (plan_input setup (before rows setup facts memory) now i)
+step_within rows setup facts memory now i = stepped memory (plan_input setup (start_of_step rows setup facts memory) now i)
 
 -- the step of a shard: its table holds 1,024 rows
 abbrev pub step : Setup → Facts → Memory → Interval → Input → Stepped

@@ -1,5 +1,6 @@
 -- What is spelled is read again.
-use Rattle.std.proofs.Common.{◌≡◌, ℕ, suc, ◌+◌, ◌*◌, ◌^◌, ◌<◌, ◌≤◌, true, leb, ltb, List, [], ◌∷◌, ◌++◌, length, Option, Some, None, refl, sym, ap, ◌∙◌, append_assoc, arith}
+use Rattle.std.proofs.Common.{◌≡◌, ℕ, suc, ◌+◌, ◌*◌, ◌^◌, ◌<◌, ◌≤◌, true, leb, ltb, List, [], ◌∷◌, ◌++◌, length, Option, Some, None, refl, sym, ap}
+use Rattle.std.proofs.Common.{◌∙◌, append_assoc, arith}
 use Rattle.std.specs.Prelude.{IfSome, flat_map}
 use Rattle.std.specs.List.{AllByRecursion}
 use Rattle.std.specs.Int.{Width, w16, w32, w64, byte_len, from_be_bytes, to_be_bytes}
@@ -14,8 +15,11 @@ use Rattle.record.specs.declared.record.Committed.{Committed}
 use Rattle.record.specs.declared.record.Prepared.{Prepared}
 use Rattle.record.specs.declared.record.Record.{Record}
 use Rattle.record.specs.declared.record.Record.TheVariants as records
-use Rattle.record.specs.Grammar.{key_spelling, keys_spelling, value_spelling, write_spelling, writes_spelling, id_spelling, parts_spelling, shard_spelling, outcome_spelling, prepare_spelling, commit_spelling, spelling, IsStamp, IsEpoch, IsId, IsShard, IsParts, IsKey, IsKeys, IsWrite, IsWrites, IsPrepare, IsCommit, IsOutcome, IsRecord}
-use Rattle.record.specs.Reading.{◌>>=◌, only_if, number_at, stamp_at, epoch_at, text_at, key_at, value_at, write_at, many_at, keys_at, writes_at, id_at, parts_at, shard_at, outcome_at, prepare_at, commit_at, ended_at, record_at, read_record}
+use Rattle.record.specs.Grammar.{key_spelling, keys_spelling, value_spelling, write_spelling, writes_spelling, id_spelling, parts_spelling}
+use Rattle.record.specs.Grammar.{shard_spelling, outcome_spelling, prepare_spelling, commit_spelling, spelling, IsStamp, IsEpoch, IsId, IsShard}
+use Rattle.record.specs.Grammar.{IsParts, IsKey, IsKeys, IsWrite, IsWrites, IsPrepare, IsCommit, IsOutcome, IsRecord}
+use Rattle.record.specs.Reading.{◌>>=◌, only_if, number_at, stamp_at, epoch_at, text_at, key_at, value_at, write_at, many_at, keys_at, writes_at}
+use Rattle.record.specs.Reading.{id_at, parts_at, shard_at, outcome_at, prepare_at, commit_at, ended_at, record_at, read_record}
 
 pub record IsWide (w : Width) (limit : ℕ) : Type 0 where
   pub len : (n : ℕ) → length (to_be_bytes w n) ≡ byte_len w
@@ -73,7 +77,8 @@ write_again write rest h =
     ap write_at (append_assoc (key_spelling write.key) (value_spelling write.value) rest)
     ∙ rw (key_again write.key (value_spelling write.value ++ rest) h.0, value_again write.value rest h.1) refl
 
-pub many_again : {A : Type 0} (one : List ℕ → Option (A × List ℕ)) (spell : A → List ℕ) (Fits : A → Type 0) → ((a : A) (rest : List ℕ) → Fits a → one (spell a ++ rest) ≡ Some (a, rest))
+pub many_again : {A : Type 0} (one : List ℕ → Option (A × List ℕ)) (spell : A → List ℕ) (Fits : A → Type 0) →
+    ((a : A) (rest : List ℕ) → Fits a → one (spell a ++ rest) ≡ Some (a, rest))
     → (as' : List A) (rest : List ℕ) → AllByRecursion Fits as' → many_at one (length as') (flat_map spell as' ++ rest) ≡ Some (as', rest)
 unfolding many_at
 many_again one spell Fits again [] rest h = refl
@@ -86,14 +91,16 @@ unfolding keys_at
 keys_again keys rest h =
     let few : leb (length keys) 128 ≡ true = le-leb _ _ h.few in
     ap keys_at (append_assoc (to_be_bytes w16 (length keys)) (flat_map key_spelling keys) rest)
-    ∙ rw (number_again w16 (2 ^ 16) wide16 (length keys) (flat_map key_spelling keys ++ rest) (omega (arith, h.few)), few, many_again key_at key_spelling IsKey key_again keys rest h.each, h.in_order) refl
+    ∙ rw (number_again w16 (2 ^ 16) wide16 (length keys) (flat_map key_spelling keys ++ rest) (omega (arith, h.few)), few,
+        many_again key_at key_spelling IsKey key_again keys rest h.each, h.in_order) refl
 
 pub writes_again : (writes : List (Write)) (rest : List ℕ) → IsWrites writes → writes_at (writes_spelling writes ++ rest) ≡ Some (writes, rest)
 unfolding writes_at
 writes_again writes rest h =
     let few : leb (length writes) 128 ≡ true = le-leb _ _ h.few in
     ap writes_at (append_assoc (to_be_bytes w16 (length writes)) (flat_map write_spelling writes) rest)
-    ∙ rw (number_again w16 (2 ^ 16) wide16 (length writes) (flat_map write_spelling writes ++ rest) (omega (arith, h.few)), few, many_again write_at write_spelling IsWrite write_again writes rest h.each, h.in_order) refl
+    ∙ rw (number_again w16 (2 ^ 16) wide16 (length writes) (flat_map write_spelling writes ++ rest) (omega (arith, h.few)), few,
+        many_again write_at write_spelling IsWrite write_again writes rest h.each, h.in_order) refl
 
 five : (a b c d e rest : List ℕ) → ((((a ++ b) ++ c) ++ d) ++ e) ++ rest ≡ a ++ (b ++ (c ++ (d ++ (e ++ rest))))
 five a b c d e rest = simp append_assoc
@@ -135,7 +142,9 @@ prepare_again p rest h =
     let txn = id_spelling p.txn in
     let grouped : prepare_spelling p ++ rest ≡ txn ++ (coordinator ++ (at ++ (reads ++ (writes ++ rest)))) = five txn coordinator at reads writes rest in
     ap prepare_at grouped
-    ∙ rw (id_again p.txn (coordinator ++ (at ++ (reads ++ (writes ++ rest)))) h.txn, shard_again p.coordinator (at ++ (reads ++ (writes ++ rest))) h.coordinator, stamp_again p.at (reads ++ (writes ++ rest)) h.at, keys_again p.reads (writes ++ rest) h.reads, writes_again p.writes rest h.writes) refl
+    ∙ rw (id_again p.txn (coordinator ++ (at ++ (reads ++ (writes ++ rest)))) h.txn, shard_again p.coordinator
+        (at ++ (reads ++ (writes ++ rest))) h.coordinator, stamp_again p.at (reads ++ (writes ++ rest)) h.at,
+        keys_again p.reads (writes ++ rest) h.reads, writes_again p.writes rest h.writes) refl
 
 pub commit_again : (c : Committed) (rest : List ℕ) → IsCommit c → commit_at (commit_spelling c ++ rest) ≡ Some (c, rest)
 unfolding commit_at
@@ -147,9 +156,11 @@ commit_again c rest h =
     let txn = id_spelling c.txn in
     let grouped : commit_spelling c ++ rest ≡ txn ++ (at ++ (parts ++ (reads ++ (writes ++ rest)))) = five txn at parts reads writes rest in
     ap commit_at grouped
-    ∙ rw (id_again c.txn (at ++ (parts ++ (reads ++ (writes ++ rest)))) h.txn, stamp_again c.at (parts ++ (reads ++ (writes ++ rest))) h.at, parts_again c.parts (reads ++ (writes ++ rest)) h.parts, keys_again c.reads (writes ++ rest) h.reads, writes_again c.writes rest h.writes) refl
+    ∙ rw (id_again c.txn (at ++ (parts ++ (reads ++ (writes ++ rest)))) h.txn, stamp_again c.at (parts ++ (reads ++ (writes ++ rest))) h.at,
+        parts_again c.parts (reads ++ (writes ++ rest)) h.parts, keys_again c.reads (writes ++ rest) h.reads, writes_again c.writes rest h.writes) refl
 
-pub ended_again : (txn : Id) (outcome : Option ℕ) (rest : List ℕ) → IsId txn → IsOutcome outcome → ended_at (id_spelling txn ++ outcome_spelling outcome ++ rest) ≡ Some ((txn, outcome), rest)
+pub ended_again : (txn : Id) (outcome : Option ℕ) (rest : List ℕ) → IsId txn → IsOutcome outcome →
+    ended_at (id_spelling txn ++ outcome_spelling outcome ++ rest) ≡ Some ((txn, outcome), rest)
 unfolding ended_at
 ended_again txn outcome rest h k =
     ap ended_at (append_assoc (id_spelling txn) (outcome_spelling outcome) rest)
@@ -184,7 +195,8 @@ none_begins_another r s rest fits_r fits_s same =
 
 -- ---- how long a spelling is
 
-flat_map-most : {A : Type 0} (spell : A → List ℕ) (Fits : A → Type 0) (most : ℕ) → ((a : A) → Fits a → length (spell a) ≤ most) → (as' : List A) → AllByRecursion Fits as' → length (flat_map spell as') ≤ most * length as'
+flat_map-most : {A : Type 0} (spell : A → List ℕ) (Fits : A → Type 0) (most : ℕ) → ((a : A) → Fits a → length (spell a) ≤ most) → (as' : List A) →
+    AllByRecursion Fits as' → length (flat_map spell as') ≤ most * length as'
 flat_map-most spell Fits most each [] h = omega arith
 flat_map-most spell Fits most each (a ∷ as') h =
     omega (arith, each a h.0, flat_map-most spell Fits most each as' h.1, length-append (spell a) (flat_map spell as'))
@@ -228,8 +240,10 @@ pub spelling-most : (r : Record) → IsRecord r → length (spelling r) ≤ 2 ^ 
 spelling-most (records.Opened epoch) h = omega arith
 spelling-most (records.Ceiling at) h = omega arith
 spelling-most (records.Prepare p) h =
-    omega (arith, length-five (id_spelling p.txn) (shard_spelling p.coordinator) (to_be_bytes w64 p.at) (keys_spelling p.reads) (writes_spelling p.writes), keys-most p.reads h.reads, writes-most p.writes h.writes)
+    omega (arith, length-five (id_spelling p.txn) (shard_spelling p.coordinator) (to_be_bytes w64 p.at) (keys_spelling p.reads)
+        (writes_spelling p.writes), keys-most p.reads h.reads, writes-most p.writes h.writes)
 spelling-most (records.Commit c) h =
-    omega (arith, length-five (id_spelling c.txn) (to_be_bytes w64 c.at) (parts_spelling c.parts) (keys_spelling c.reads) (writes_spelling c.writes), length-parts c.parts, keys-most c.reads h.reads, writes-most c.writes h.writes)
+    omega (arith, length-five (id_spelling c.txn) (to_be_bytes w64 c.at) (parts_spelling c.parts) (keys_spelling c.reads) (writes_spelling c.writes),
+        length-parts c.parts, keys-most c.reads h.reads, writes-most c.writes h.writes)
 spelling-most (records.Abort txn) h = omega arith
 spelling-most (records.Outcome txn outcome) h = omega (arith, length-append (id_spelling txn) (outcome_spelling outcome), outcome-most outcome)

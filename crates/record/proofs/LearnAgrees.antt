@@ -1,26 +1,30 @@
 -- The facts that are learnt record by record are those that are read from the set of all records.
 use Rattle.std.specs.List.{list_any, list_all}
 use Rattle.std.proofs.Common.{refl, sym, ◌∙◌, ap, subst, arith}
-use Rattle.std.proofs.lemmas.Bool.{eqb-true}
+use Rattle.std.proofs.lemmas.Bool.{eqb-true, or_right, and_parts, or_parts}
 use Rattle.std.specs.Prelude.{ℕ, ◌+◌, ◌≡◌, max, Bool, true, false, not, cond, ◌&&◌, ◌||◌, List, [], ◌∷◌, ◌++◌, Option, Some, None, flat_map}
+use Rattle.std.proofs.lemmas.List.{append-nil}
+use Rattle.std.proofs.lemmas.Grind.{flat_map-append}
 use Rattle.units.specs.Lists.{gather, first, greatest}
 use Rattle.units.specs.Ids.{Id, same_id, with_id, ids_once}
 use Rattle.units.specs.Versions.{versions}
 use Rattle.units.specs.declared.setup.Setup.{Setup}
 use Rattle.units.specs.declared.writes.Install.{Install}
-use Rattle.units.proofs.Folds.{or_else, is_there, append_none, gather_append, join_append, greatest_append, there_first, join_same}
+use Rattle.units.proofs.Folds.{or_else, is_there, gather_append, greatest_append, there_first, join_same}
 use Rattle.units.proofs.IdLaws.{same_id-is, same_id-refl}
 use Rattle.units.proofs.IdOrder.{once_more, rises_once}
 use Rattle.record.specs.Accepted.{Taken, Accepted, DamagedAt, StrangerAt, taken, taken_from, belongs, begins, follows, fits_beside, followed, followed_from}
 use Rattle.record.specs.Facts.{Facts, Entry, facts_of, learn, with_status, after_outcome, installs_at, or_floor}
 use Rattle.record.specs.FactLaws.{LearnAgrees, LearntAgrees, AcceptedFollows, learnt}
 use Rattle.record.specs.Installs.{installs_of, installed_by, writes_by}
-use Rattle.record.specs.Records.{Ended, Status, Unrecorded, StandsPrepared, StandsDecided, HasAborted, HasSettled, HasClosed, as_opened, as_ended, stamp_in, id_in, ids_of, epoch_of, floor_of, prepared_of, committed_of, is_aborted, ended_of, status_by, status_of}
+use Rattle.record.specs.Records.{Ended, Status, Unrecorded, StandsPrepared, StandsDecided, HasAborted, HasSettled, HasClosed, as_opened, as_ended}
+use Rattle.record.specs.Records.{stamp_in, id_in, ids_of, epoch_of, floor_of, prepared_of, committed_of, is_aborted, ended_of, status_by, status_of}
 use Rattle.record.specs.declared.record.Committed.{Committed}
 use Rattle.record.specs.declared.record.Prepared.{Prepared}
 use Rattle.record.specs.declared.record.Record.{Record}
 use Rattle.record.specs.declared.record.Record.TheVariants.{Opened, Ceiling, Prepare, Commit, Abort, Outcome}
-use Rattle.record.proofs.Sound.{both, Sound, sound_empty, sound_more, made, new_facts, prepare_new, commit_new, outcome_follows, opened_follows, committed_more, prepared_more, outcome_made}
+use Rattle.record.proofs.Sound.{Sound, sound_empty, sound_more, made, new_facts, prepare_new, commit_new, outcome_follows, opened_follows}
+use Rattle.record.proofs.Sound.{committed_more, prepared_more, outcome_made}
 use Rattle.record.proofs.Statuses.{status_more, status_same, recorded_is, entries_by, entries_with, or_none}
 
 -- ---- the epoch and the floor
@@ -69,7 +73,7 @@ entries_stay : (log : List Record) (r : Record) → gather id_in (r ∷ []) ≡ 
 unfolding entries
 entries_stay log r none =
     let ids : gather id_in (log ++ r ∷ []) ≡ gather id_in log =
-    gather_append id_in log (r ∷ []) ∙ ap (λ l. gather id_in log ++ l) none ∙ append_none (gather id_in log) in
+    gather_append id_in log (r ∷ []) ∙ ap (λ l. gather id_in log ++ l) none ∙ append-nil (gather id_in log) in
     let same : (t : Id) → status_of (log ++ r ∷ []) t ≡ status_of log t = λ t. status_same log r t (ap (λ l. list_any (same_id t) l) none) in
     ap (λ l. entries_by (λ t. status_of (log ++ r ∷ []) t) (ids_once l)) ids
     ∙ ap (λ (f : Id → Status). entries_by f (ids_of log)) (λ i t. same t i)
@@ -96,10 +100,6 @@ is_none (Some x) e = cc
 not_true : ¬ (false ≡ true)
 not_true e = cc
 
-neither : (a b : Bool) → (a || b) ≡ false → (a ≡ false) × (b ≡ false)
-neither true b e = cc
-neither false b e = (refl, e)
-
 not_there : (b : Bool) → ((b ≡ true) → false ≡ true) → b ≡ false
 not_there true h = absurd (not_true (h refl))
 not_there false h = refl
@@ -116,8 +116,8 @@ unfolding made
 untouched log t s a m =
     record {
       aborted = a;
-      committed = is_none _ ((neither _ _ m).1);
-      prepared = is_none _ ((neither _ _ m).0);
+      committed = is_none _ ((or_parts _ _ m).1);
+      prepared = is_none _ ((or_parts _ _ m).0);
       ended = is_none _ (not_there _ (λ there. sym m ∙ s.closed t there));
     }
 
@@ -128,7 +128,8 @@ found_one : {A : Type 0} (b : Bool) (x : A) → b ≡ true → first (λ y. b) (
 found_one true x e = refl
 found_one false x e = cc
 
-by_parts : (a b : Bool) (c d : Option Committed) (p q : Option Prepared) (e f : Option Ended) → a ≡ b → c ≡ d → p ≡ q → e ≡ f → status_by a c p e ≡ status_by b d q f
+by_parts : (a b : Bool) (c d : Option Committed) (p q : Option Prepared) (e f : Option Ended) → a ≡ b → c ≡ d → p ≡ q → e ≡ f →
+    status_by a c p e ≡ status_by b d q f
 by_parts a b c d p q e f g h k l = λ i. status_by (g i) (h i) (k i) (l i)
 
 prepared_status : (log : List Record) (p : Prepared) → Untouched log p.txn → status_of (log ++ Prepare p ∷ []) p.txn ≡ StandsPrepared p
@@ -149,15 +150,11 @@ decided_status log c u =
     (ap (λ o. or_else o None) u.prepared)
     (ap (λ o. or_else o None) u.ended)
 
-or_true : (a b : Bool) → b ≡ true → (a || b) ≡ true
-or_true true b e = refl
-or_true false b e = e
-
 aborted_status : (log : List Record) (t : Id) → status_of (log ++ Abort t ∷ []) t ≡ HasAborted
 aborted_status log t =
     status_more log (Abort t) t
     ∙ ap (λ b. status_by b (or_else (committed_of log t) None) (or_else (prepared_of log t) None) (or_else (ended_of log t) None))
-    (or_true (is_aborted log t) (same_id t t || false) (ap (λ b. b || false) (same_id-refl t)))
+    (or_right (is_aborted log t) (same_id t t || false) (ap (λ b. b || false) (same_id-refl t)))
 
 ended_by : (a : Bool) (c : Option Committed) (p : Option Prepared) (t : Id) (o : Option ℕ) →
     status_by a c p (Some (record { txn = t; outcome = o })) ≡ after_outcome (status_by a c p None) o
@@ -184,17 +181,19 @@ ended_status log t o none =
 
 -- an outcome was promised or decided
 all_made : (log : List Record) → Sound log → list_all (λ e. made log e.txn) (gather as_ended log) ≡ true
-all_made log s = weaker _ _ (λ e there. s.closed e.txn (there_first (λ d. same_id d.txn e.txn) (gather as_ended log) ∙ there)) (gather as_ended log) (each_found (gather as_ended log))
+all_made log s = weaker _ _ (λ e there. s.closed e.txn (there_first (λ d. same_id d.txn e.txn) (gather as_ended log) ∙ there)) (gather as_ended log)
+    (each_found (gather as_ended log))
   where
     weaker : (P Q : Ended → Bool) → ((e : Ended) → P e ≡ true → Q e ≡ true) → (es : List Ended) → list_all P es ≡ true → list_all Q es ≡ true
     weaker P Q more [] h = refl
-    weaker P Q more (e ∷ es) h = ap (λ b. b && list_all Q es) (more e ((both _ _ h).0)) ∙ weaker P Q more es ((both _ _ h).1)
+    weaker P Q more (e ∷ es) h = ap (λ b. b && list_all Q es) (more e ((and_parts _ _ h).0)) ∙ weaker P Q more es ((and_parts _ _ h).1)
 
     each_found : (es : List Ended) → list_all (λ e. list_any (λ d. same_id d.txn e.txn) es) es ≡ true
     each_found [] = refl
     each_found (e ∷ es) =
-        ap (λ b. (b || list_any (λ d. same_id d.txn e.txn) es) && list_all (λ x. same_id e.txn x.txn || list_any (λ d. same_id d.txn x.txn) es) es) (same_id-refl e.txn)
-        ∙ weaker _ _ (λ x h. or_true (same_id e.txn x.txn) _ h) es (each_found es)
+        ap (λ b. (b || list_any (λ d. same_id d.txn e.txn) es) && list_all (λ x. same_id e.txn x.txn || list_any (λ d. same_id d.txn x.txn) es) es)
+            (same_id-refl e.txn)
+        ∙ weaker _ _ (λ x h. or_right (same_id e.txn x.txn) _ h) es (each_found es)
 
 no_single : {A : Type 0} (b : Bool) (x : A) → (b ≡ true → false ≡ true) → first (λ y. b) (x ∷ []) ≡ None
 no_single true x h = absurd (not_true (h refl))
@@ -206,9 +205,11 @@ single_none : (shard : ℕ) (log : List Record) (r : Record) (t : Id) → follow
 single_none shard log (Opened e) t h m = (refl, refl)
 single_none shard log (Ceiling at) t h m = (refl, refl)
 single_none shard log (Prepare p) t h m =
-    (refl, no_single (same_id p.txn t) p (λ e. sym (subst (λ v. made log v ≡ false) (same_id-is p.txn t e) ((new_facts log p.txn (prepare_new shard log p h)).1)) ∙ m))
+    (refl, no_single (same_id p.txn t) p (λ e. sym (subst (λ v. made log v ≡ false) (same_id-is p.txn t e)
+        ((new_facts log p.txn (prepare_new shard log p h)).1)) ∙ m))
 single_none shard log (Commit c) t h m =
-    (no_single (same_id c.txn t) c (λ e. sym (subst (λ v. made log v ≡ false) (same_id-is c.txn t e) ((new_facts log c.txn (commit_new shard log c h)).1)) ∙ m), refl)
+    (no_single (same_id c.txn t) c (λ e. sym (subst (λ v. made log v ≡ false) (same_id-is c.txn t e)
+        ((new_facts log c.txn (commit_new shard log c h)).1)) ∙ m), refl)
 single_none shard log (Abort u) t h m = (refl, refl)
 single_none shard log (Outcome u o) t h m = (refl, refl)
 
@@ -237,7 +238,8 @@ installs_stay : (shard : ℕ) (log : List Record) (r : Record) → Sound log →
     installs_of (log ++ r ∷ []) ≡ installs_of log
 unfolding installs_of
 installs_stay shard log r s h none =
-    ap (λ l. flat_map (installed_by (log ++ r ∷ [])) l) (gather_append as_ended log (r ∷ []) ∙ ap (λ l. gather as_ended log ++ l) none ∙ append_none (gather as_ended log))
+    ap (λ l. flat_map (installed_by (log ++ r ∷ [])) l) (gather_append as_ended log (r ∷ []) ∙ ap (λ l. gather as_ended log ++ l) none
+        ∙ append-nil (gather as_ended log))
     ∙ installed_all shard log r s h
 
 none_installed : (s : Status) → installs_at s None ≡ []
@@ -264,15 +266,16 @@ outcome_installs log t (Some v) s none m =
     installs_by (is_aborted log t) (committed_of log t) (prepared_of log t) v (not_there _ (λ a. sym (s.apart t a) ∙ m)) m
     ∙ ap (λ e. installs_at (status_by (is_aborted log t) (committed_of log t) (prepared_of log t) e) (Some v)) (sym none)
 
-installs_change : (shard : ℕ) (log : List Record) (t : Id) (o : Option ℕ) → Sound log → follows shard log (Outcome t o) ≡ true → ended_of log t ≡ None → made log t ≡ true →
+installs_change : (shard : ℕ) (log : List Record) (t : Id) (o : Option ℕ) → Sound log → follows shard log (Outcome t o) ≡ true →
+    ended_of log t ≡ None → made log t ≡ true →
     installs_of (log ++ Outcome t o ∷ []) ≡ installs_of log ++ installs_at (status_of log t) o
 unfolding installs_of
 installs_change shard log t o s h none m =
     ap (λ l. flat_map (installed_by (log ++ Outcome t o ∷ [])) l) (gather_append as_ended log (Outcome t o ∷ []))
-    ∙ join_append (installed_by (log ++ Outcome t o ∷ [])) (gather as_ended log) (record { txn = t; outcome = o } ∷ [])
+    ∙ flat_map-append (installed_by (log ++ Outcome t o ∷ [])) (gather as_ended log) (record { txn = t; outcome = o } ∷ [])
     ∙ ap (λ l. l ++ (installed_by (log ++ Outcome t o ∷ []) (record { txn = t; outcome = o }) ++ [])) (installed_all shard log (Outcome t o) s h)
     ∙ ap (λ l. flat_map (installed_by log) (gather as_ended log) ++ l)
-    (append_none _ ∙ installed_same shard log (Outcome t o) h (record { txn = t; outcome = o }) m ∙ outcome_installs log t o s none m)
+    (append-nil _ ∙ installed_same shard log (Outcome t o) h (record { txn = t; outcome = o }) m ∙ outcome_installs log t o s none m)
 
 -- ---- all facts
 
@@ -287,16 +290,20 @@ not_false false e = refl
 pub learns : (shard : ℕ) (log : List Record) (r : Record) → Sound log → follows shard log r ≡ true → facts_of (log ++ r ∷ []) ≡ learn (facts_of log) r
 unfolding facts_of learn entries entries_by epoch_after
 learns shard log (Opened e) s h =
-    same_facts _ _ _ _ _ _ _ _ (epoch_more shard log (Opened e) h) (floor_more log (Opened e)) (entries_stay log (Opened e) refl) (installs_stay shard log (Opened e) s h refl)
+    same_facts _ _ _ _ _ _ _ _ (epoch_more shard log (Opened e) h) (floor_more log (Opened e)) (entries_stay log (Opened e) refl)
+        (installs_stay shard log (Opened e) s h refl)
 learns shard log (Ceiling at) s h =
-    same_facts _ _ _ _ _ _ _ _ (epoch_more shard log (Ceiling at) h) (floor_more log (Ceiling at)) (entries_stay log (Ceiling at) refl) (installs_stay shard log (Ceiling at) s h refl)
+    same_facts _ _ _ _ _ _ _ _ (epoch_more shard log (Ceiling at) h) (floor_more log (Ceiling at)) (entries_stay log (Ceiling at) refl)
+        (installs_stay shard log (Ceiling at) s h refl)
 learns shard log (Prepare p) s h =
     same_facts _ _ _ _ _ _ _ _ (epoch_more shard log (Prepare p) h) (floor_more log (Prepare p))
-    (entries_change log (Prepare p) p.txn (StandsPrepared p) refl (prepared_status log p (new_untouched log p.txn s (new_facts log p.txn (prepare_new shard log p h)))))
+    (entries_change log (Prepare p) p.txn (StandsPrepared p) refl
+        (prepared_status log p (new_untouched log p.txn s (new_facts log p.txn (prepare_new shard log p h)))))
     (installs_stay shard log (Prepare p) s h refl)
 learns shard log (Commit c) s h =
     same_facts _ _ _ _ _ _ _ _ (epoch_more shard log (Commit c) h) (floor_more log (Commit c))
-    (entries_change log (Commit c) c.txn (StandsDecided c) refl (decided_status log c (new_untouched log c.txn s (new_facts log c.txn (commit_new shard log c h)))))
+    (entries_change log (Commit c) c.txn (StandsDecided c) refl
+        (decided_status log c (new_untouched log c.txn s (new_facts log c.txn (commit_new shard log c h)))))
     (installs_stay shard log (Commit c) s h refl)
 learns shard log (Abort t) s h =
     same_facts _ _ _ _ _ _ _ _ (epoch_more shard log (Abort t) h) (floor_more log (Abort t))
@@ -306,7 +313,8 @@ learns shard log (Outcome t o) s h =
     let none : ended_of log t ≡ None = is_none _ (not_false _ ((outcome_follows shard log t o h).0)) in
     let m : made log t ≡ true = outcome_made log t o ((outcome_follows shard log t o h).1) in
     same_facts _ _ _ _ _ _ _ _ (epoch_more shard log (Outcome t o) h) (floor_more log (Outcome t o))
-    (entries_change log (Outcome t o) t _ refl (ended_status log t o none) ∙ ap (λ x. with_status (entries log) t (after_outcome x o)) (sym (recorded_is log t)))
+    (entries_change log (Outcome t o) t _ refl (ended_status log t o none) ∙ ap (λ x. with_status (entries log) t (after_outcome x o))
+        (sym (recorded_is log t)))
     (installs_change shard log t o s h none m ∙ ap (λ x. installs_of log ++ installs_at x o) (sym (recorded_is log t)))
 
 -- ---- whole lists
@@ -319,10 +327,10 @@ append_one (w ∷ ws) x ys = ap (λ l. w ∷ l) (append_one ws x ys)
 last_follows : (shard : ℕ) (before log : List Record) (r : Record) → Sound before → followed_from shard before (log ++ r ∷ []) ≡ true →
     Sound (before ++ log) × (follows shard (before ++ log) r ≡ true)
 last_follows shard before [] r s h =
-    (subst Sound (sym (append_none before)) s, subst (λ l. follows shard l r ≡ true) (sym (append_none before)) ((both _ _ ((both _ _ h).0)).1))
+    (subst Sound (sym (append-nil before)) s, subst (λ l. follows shard l r ≡ true) (sym (append-nil before)) ((and_parts _ _ ((and_parts _ _ h).0)).1))
 last_follows shard before (q ∷ qs) r s h =
     let p : Sound ((before ++ q ∷ []) ++ qs) × (follows shard ((before ++ q ∷ []) ++ qs) r ≡ true) =
-    last_follows shard (before ++ q ∷ []) qs r (sound_more shard before q s ((both _ _ ((both _ _ h).0)).1)) ((both _ _ h).1) in
+    last_follows shard (before ++ q ∷ []) qs r (sound_more shard before q s ((and_parts _ _ ((and_parts _ _ h).0)).1)) ((and_parts _ _ h).1) in
     subst (λ l. Sound l × (follows shard l r ≡ true)) (append_one before q qs) p
 
 pub learn_agrees : LearnAgrees
@@ -330,12 +338,13 @@ unfolding followed
 learn_agrees shard log r h =
     let p : Sound log × (follows shard log r ≡ true) = last_follows shard [] log r sound_empty h in learns shard log r p.0 p.1
 
-learnt_from : (shard : ℕ) (before log : List Record) → Sound before → followed_from shard before log ≡ true → learnt (facts_of before) log ≡ facts_of (before ++ log)
-learnt_from shard before [] s h = ap facts_of (sym (append_none before))
+learnt_from : (shard : ℕ) (before log : List Record) → Sound before → followed_from shard before log ≡ true →
+    learnt (facts_of before) log ≡ facts_of (before ++ log)
+learnt_from shard before [] s h = ap facts_of (sym (append-nil before))
 learnt_from shard before (r ∷ rs) s h =
-    let f : follows shard before r ≡ true = (both _ _ ((both _ _ h).0)).1 in
+    let f : follows shard before r ≡ true = (and_parts _ _ ((and_parts _ _ h).0)).1 in
     ap (λ facts. learnt facts rs) (sym (learns shard before r s f))
-    ∙ learnt_from shard (before ++ r ∷ []) rs (sound_more shard before r s f) ((both _ _ h).1)
+    ∙ learnt_from shard (before ++ r ∷ []) rs (sound_more shard before r s f) ((and_parts _ _ h).1)
     ∙ ap facts_of (append_one before r rs)
 
 pub learnt_agrees : LearntAgrees
@@ -349,12 +358,14 @@ taken_step true b place rest e = cc
 taken_step false true place rest e = (refl, e)
 taken_step false false place rest e = cc
 
-followed_next : (setup : Setup) (before : List Record) (place : ℕ) (log : List Record) → taken_from setup before place log ≡ Accepted → followed_from setup.shard before log ≡ true
+followed_next : (setup : Setup) (before : List Record) (place : ℕ) (log : List Record) → taken_from setup before place log ≡ Accepted →
+    followed_from setup.shard before log ≡ true
 followed_next setup before place [] e = refl
 followed_next setup before place (r ∷ rs) e =
-    let p : ((begins before r && follows setup.shard before r && fits_beside before r) ≡ true) × (taken_from setup (before ++ r ∷ []) (place + 1) rs ≡ Accepted) =
+    let p : ((begins before r && follows setup.shard before r && fits_beside before r) ≡ true)
+        × (taken_from setup (before ++ r ∷ []) (place + 1) rs ≡ Accepted) =
     taken_step (not (belongs setup r)) (begins before r && follows setup.shard before r && fits_beside before r) place _ e in
-    ap (λ b. b && followed_from setup.shard (before ++ r ∷ []) rs) ((both _ _ p.0).0) ∙ followed_next setup (before ++ r ∷ []) (place + 1) rs p.1
+    ap (λ b. b && followed_from setup.shard (before ++ r ∷ []) rs) ((and_parts _ _ p.0).0) ∙ followed_next setup (before ++ r ∷ []) (place + 1) rs p.1
 
 pub accepted_follows : AcceptedFollows
 unfolding taken followed
@@ -369,7 +380,7 @@ and_turned false b c = refl
 followed_one_more : (shard : ℕ) (before log : List Record) (r : Record) →
     followed_from shard before (log ++ r ∷ []) ≡ (followed_from shard before log && (begins (before ++ log) r && follows shard (before ++ log) r))
 followed_one_more shard before [] r =
-    all_true (begins before r && follows shard before r) ∙ ap (λ l. begins l r && follows shard l r) (sym (append_none before))
+    all_true (begins before r && follows shard before r) ∙ ap (λ l. begins l r && follows shard l r) (sym (append-nil before))
   where
     all_true : (b : Bool) → (b && true) ≡ b
     all_true true = refl
@@ -381,6 +392,7 @@ followed_one_more shard before (q ∷ qs) r =
     ∙ sym (and_turned (begins before q && follows shard before q) _ _)
 
 -- a list with one more record is followed where the list is, and the record follows it
-pub followed_more : (shard : ℕ) (log : List Record) (r : Record) → followed shard (log ++ r ∷ []) ≡ (followed shard log && (begins log r && follows shard log r))
+pub followed_more : (shard : ℕ) (log : List Record) (r : Record) → followed shard (log ++ r ∷ []) ≡
+    (followed shard log && (begins log r && follows shard log r))
 unfolding followed
 followed_more shard log r = followed_one_more shard [] log r

@@ -4,7 +4,8 @@ use Rattle.std.proofs.Common.{◌≡◌, ◌++◌, ℕ, List, ap, ◌∙◌, app
 regroup : (out a b c d e : List ℕ) → ((((out ++ a) ++ b) ++ c) ++ d) ++ e ≡ out ++ ((((a ++ b) ++ c) ++ d) ++ e)
 regroup out a b c d e = simp append_assoc
 
-pub five_put : (out a b c d e o1 o2 o3 o4 o5 : List ℕ) → o1 ≡ out ++ a → o2 ≡ o1 ++ b → o3 ≡ o2 ++ c → o4 ≡ o3 ++ d → o5 ≡ o4 ++ e → o5 ≡ out ++ ((((a ++ b) ++ c) ++ d) ++ e)
+pub five_put : (out a b c d e o1 o2 o3 o4 o5 : List ℕ) → o1 ≡ out ++ a → o2 ≡ o1 ++ b → o3 ≡ o2 ++ c → o4 ≡ o3 ++ d → o5 ≡ o4 ++ e →
+    o5 ≡ out ++ ((((a ++ b) ++ c) ++ d) ++ e)
 five_put out a b c d e o1 o2 o3 o4 o5 h1 h2 h3 h4 h5 =
     h5 ∙ ap (λ (l : List ℕ). l ++ e) (h4 ∙ ap (λ (l : List ℕ). l ++ d) (h3 ∙ ap (λ (l : List ℕ). l ++ c) (h2 ∙ ap (λ (l : List ℕ). l ++ b) h1)))
     ∙ regroup out a b c d e

@@ -3,20 +3,18 @@
 use Rattle.std.specs.List.{list_any}
 use Rattle.std.proofs.Common.{refl, sym, ◌∙◌, ap, subst}
 use Rattle.std.specs.Prelude.{ℕ, ◌+◌, ◌≡◌, Bool, true, false, not, cond, ◌&&◌, ◌||◌, nat_eq, List, [], ◌∷◌, ◌++◌, Option, Some, None}
+use Rattle.std.proofs.lemmas.Bool.{and_parts}
 use Rattle.units.specs.Lists.{gather, first, head}
 use Rattle.units.specs.Ids.{Id, same_id}
 use Rattle.units.proofs.Folds.{or_else, is_there, there_or_else, gather_append, first_append, any_append}
 use Rattle.units.proofs.IdLaws.{same_id-is}
 use Rattle.record.specs.Accepted.{is_new, outcome_fits, follows}
-use Rattle.record.specs.Records.{Ended, Unrecorded, as_prepared, as_committed, as_aborted, as_ended, prepared_of, committed_of, is_aborted, ended_of, status_by, status_of, epoch_of}
+use Rattle.record.specs.Records.{Ended, Unrecorded, as_prepared, as_committed, as_aborted, as_ended, prepared_of, committed_of, is_aborted, ended_of}
+use Rattle.record.specs.Records.{status_by, status_of, epoch_of}
 use Rattle.record.specs.declared.record.Committed.{Committed}
 use Rattle.record.specs.declared.record.Prepared.{Prepared}
 use Rattle.record.specs.declared.record.Record.{Record}
 use Rattle.record.specs.declared.record.Record.TheVariants.{Opened, Ceiling, Prepare, Commit, Abort, Outcome}
-
-pub both : (a b : Bool) → (a && b) ≡ true → (a ≡ true) × (b ≡ true)
-both true b e = (refl, e)
-both false b e = cc
 
 -- ---- one more record
 
@@ -89,11 +87,11 @@ outcome_made log t o h = fits_made (prepared_of log t) (committed_of log t) o h
 
 pub prepare_new : (shard : ℕ) (log : List Record) (p : Prepared) → follows shard log (Prepare p) ≡ true → is_new log p.txn ≡ true
 unfolding follows
-prepare_new shard log p h = (both _ _ ((both _ _ h).0)).1
+prepare_new shard log p h = (and_parts _ _ ((and_parts _ _ h).0)).1
 
 pub commit_new : (shard : ℕ) (log : List Record) (c : Committed) → follows shard log (Commit c) ≡ true → is_new log c.txn ≡ true
 unfolding follows
-commit_new shard log c h = (both _ _ ((both _ _ h).0)).1
+commit_new shard log c h = (and_parts _ _ ((and_parts _ _ h).0)).1
 
 pub abort_new : (shard : ℕ) (log : List Record) (t : Id) → follows shard log (Abort t) ≡ true → is_new log t ≡ true
 unfolding follows
@@ -102,7 +100,7 @@ abort_new shard log t h = h
 pub outcome_follows : (shard : ℕ) (log : List Record) (t : Id) (o : Option ℕ) → follows shard log (Outcome t o) ≡ true →
     (not (is_there (ended_of log t)) ≡ true) × (outcome_fits (prepared_of log t) (committed_of log t) o ≡ true)
 unfolding follows
-outcome_follows shard log t o h = both _ _ h
+outcome_follows shard log t o h = and_parts _ _ h
 
 pub opened_follows : (shard : ℕ) (log : List Record) (epoch : ℕ) → follows shard log (Opened epoch) ≡ true → nat_eq epoch (epoch_of log + 1) ≡ true
 unfolding follows

@@ -2,18 +2,19 @@
 use Rattle.std.specs.List.{list_any, list_all}
 use Rattle.std.proofs.Common.{refl, sym, ◌∙◌, ap, subst}
 use Rattle.std.specs.Prelude.{◌≡◌, Bool, true, false, cond, ◌||◌, List, [], ◌∷◌, ◌++◌, map, Option, Some, None, filter}
+use Rattle.std.proofs.lemmas.Bool.{and_from, or_parts, and_parts}
 use Rattle.units.specs.Lists.{gather, first, head}
 use Rattle.units.specs.Ids.{Id, same_id, older, with_id}
 use Rattle.units.proofs.Folds.{or_else}
 use Rattle.units.proofs.IdLaws.{same_id-is, same_id_comm, older_not_same, older_total}
-use Rattle.units.proofs.IdOrder.{and_true, above_more, rises, any_once}
+use Rattle.units.proofs.IdOrder.{above_more, rises, any_once}
 use Rattle.record.specs.Facts.{Entry, facts_of, recorded, or_unrecorded, with_status}
 use Rattle.record.specs.Records.{Ended, Status, Unrecorded, id_in, ids_of, prepared_of, committed_of, is_aborted, ended_of, status_by, status_of}
 use Rattle.record.specs.declared.record.Committed.{Committed}
 use Rattle.record.specs.declared.record.Prepared.{Prepared}
 use Rattle.record.specs.declared.record.Record.{Record}
 use Rattle.record.specs.declared.record.Record.TheVariants.{Opened, Ceiling, Prepare, Commit, Abort, Outcome}
-use Rattle.record.proofs.Sound.{both, aborted_more, prepared_more, committed_more, ended_more}
+use Rattle.record.proofs.Sound.{aborted_more, prepared_more, committed_more, ended_more}
 
 -- the status from the parts of the log and those of the record
 pub status_more : (log : List Record) (r : Record) (t : Id) →
@@ -24,8 +25,10 @@ unfolding status_of
 status_more log r t =
     ap (λ a. status_by a (committed_of (log ++ r ∷ []) t) (prepared_of (log ++ r ∷ []) t) (ended_of (log ++ r ∷ []) t)) (aborted_more log r t)
     ∙ ap (λ c. status_by (is_aborted log t || is_aborted (r ∷ []) t) c (prepared_of (log ++ r ∷ []) t) (ended_of (log ++ r ∷ []) t)) (committed_more log r t)
-    ∙ ap (λ p. status_by (is_aborted log t || is_aborted (r ∷ []) t) (or_else (committed_of log t) (committed_of (r ∷ []) t)) p (ended_of (log ++ r ∷ []) t)) (prepared_more log r t)
-    ∙ ap (λ e. status_by (is_aborted log t || is_aborted (r ∷ []) t) (or_else (committed_of log t) (committed_of (r ∷ []) t)) (or_else (prepared_of log t) (prepared_of (r ∷ []) t)) e) (ended_more log r t)
+    ∙ ap (λ p. status_by (is_aborted log t || is_aborted (r ∷ []) t) (or_else (committed_of log t) (committed_of (r ∷ []) t)) p
+        (ended_of (log ++ r ∷ []) t)) (prepared_more log r t)
+    ∙ ap (λ e. status_by (is_aborted log t || is_aborted (r ∷ []) t) (or_else (committed_of log t) (committed_of (r ∷ []) t))
+        (or_else (prepared_of log t) (prepared_of (r ∷ []) t)) e) (ended_more log r t)
 
 pub or_none : {A : Type 0} (o : Option A) → or_else o None ≡ o
 or_none None = refl
@@ -36,7 +39,8 @@ or_false true = refl
 or_false false = refl
 
 -- with nothing of the id in the record
-as_before : (a : Bool) (c : Option Committed) (p : Option Prepared) (e : Option Ended) (b : Bool) (d : Option Committed) (q : Option Prepared) (f : Option Ended) →
+as_before : (a : Bool) (c : Option Committed) (p : Option Prepared) (e : Option Ended) (b : Bool) (d : Option Committed) (q : Option Prepared)
+    (f : Option Ended) →
     b ≡ false → d ≡ None → q ≡ None → f ≡ None → status_by (a || b) (or_else c d) (or_else p q) (or_else e f) ≡ status_by a c p e
 as_before a c p e b d q f g h k l =
     ap (λ x. status_by (a || x) (or_else c d) (or_else p q) (or_else e f)) g
@@ -56,7 +60,8 @@ apart_single : (t u : Id) → (same_id t u || false) ≡ false → same_id u t �
 apart_single t u e = same_id_comm u t ∙ (sym (or_false (same_id t u)) ∙ e)
 
 -- the status of an id that the record is not about
-pub status_same : (log : List Record) (r : Record) (t : Id) → list_any (same_id t) (gather id_in (r ∷ [])) ≡ false → status_of (log ++ r ∷ []) t ≡ status_of log t
+pub status_same : (log : List Record) (r : Record) (t : Id) → list_any (same_id t) (gather id_in (r ∷ [])) ≡ false →
+    status_of (log ++ r ∷ []) t ≡ status_of log t
 unfolding status_of
 status_same log r t apart = status_more log r t ∙ by_kind r apart
   where
@@ -73,10 +78,6 @@ status_same log r t apart = status_more log r t ∙ by_kind r apart
 
 -- ---- an id that no record is about
 
-neither : (a b : Bool) → (a || b) ≡ false → (a ≡ false) × (b ≡ false)
-neither true b e = cc
-neither false b e = (refl, e)
-
 not_first : {A : Type 0} (b : Bool) (x : A) (rest : List A) → b ≡ false → head rest ≡ None → head (cond b (x ∷ rest) rest) ≡ None
 not_first true x rest e f = cc
 not_first false x rest e f = f
@@ -85,30 +86,30 @@ none_aborted : (t : Id) (log : List Record) → list_any (same_id t) (gather id_
 none_aborted t [] e = refl
 none_aborted t (Opened epoch ∷ rs) e = none_aborted t rs e
 none_aborted t (Ceiling at ∷ rs) e = none_aborted t rs e
-none_aborted t (Prepare p ∷ rs) e = none_aborted t rs ((neither _ _ e).1)
-none_aborted t (Commit c ∷ rs) e = none_aborted t rs ((neither _ _ e).1)
-none_aborted t (Abort u ∷ rs) e = ap (λ b. b || is_aborted rs t) ((neither _ _ e).0) ∙ none_aborted t rs ((neither _ _ e).1)
-none_aborted t (Outcome u o ∷ rs) e = none_aborted t rs ((neither _ _ e).1)
+none_aborted t (Prepare p ∷ rs) e = none_aborted t rs ((or_parts _ _ e).1)
+none_aborted t (Commit c ∷ rs) e = none_aborted t rs ((or_parts _ _ e).1)
+none_aborted t (Abort u ∷ rs) e = ap (λ b. b || is_aborted rs t) ((or_parts _ _ e).0) ∙ none_aborted t rs ((or_parts _ _ e).1)
+none_aborted t (Outcome u o ∷ rs) e = none_aborted t rs ((or_parts _ _ e).1)
 
 none_prepared : (t : Id) (log : List Record) → list_any (same_id t) (gather id_in log) ≡ false → prepared_of log t ≡ None
 none_prepared t [] e = refl
 none_prepared t (Opened epoch ∷ rs) e = none_prepared t rs e
 none_prepared t (Ceiling at ∷ rs) e = none_prepared t rs e
 none_prepared t (Prepare p ∷ rs) e =
-    not_first (same_id p.txn t) p _ (same_id_comm p.txn t ∙ (neither _ _ e).0) (none_prepared t rs ((neither _ _ e).1))
-none_prepared t (Commit c ∷ rs) e = none_prepared t rs ((neither _ _ e).1)
-none_prepared t (Abort u ∷ rs) e = none_prepared t rs ((neither _ _ e).1)
-none_prepared t (Outcome u o ∷ rs) e = none_prepared t rs ((neither _ _ e).1)
+    not_first (same_id p.txn t) p _ (same_id_comm p.txn t ∙ (or_parts _ _ e).0) (none_prepared t rs ((or_parts _ _ e).1))
+none_prepared t (Commit c ∷ rs) e = none_prepared t rs ((or_parts _ _ e).1)
+none_prepared t (Abort u ∷ rs) e = none_prepared t rs ((or_parts _ _ e).1)
+none_prepared t (Outcome u o ∷ rs) e = none_prepared t rs ((or_parts _ _ e).1)
 
 none_committed : (t : Id) (log : List Record) → list_any (same_id t) (gather id_in log) ≡ false → committed_of log t ≡ None
 none_committed t [] e = refl
 none_committed t (Opened epoch ∷ rs) e = none_committed t rs e
 none_committed t (Ceiling at ∷ rs) e = none_committed t rs e
-none_committed t (Prepare p ∷ rs) e = none_committed t rs ((neither _ _ e).1)
+none_committed t (Prepare p ∷ rs) e = none_committed t rs ((or_parts _ _ e).1)
 none_committed t (Commit c ∷ rs) e =
-    not_first (same_id c.txn t) c _ (same_id_comm c.txn t ∙ (neither _ _ e).0) (none_committed t rs ((neither _ _ e).1))
-none_committed t (Abort u ∷ rs) e = none_committed t rs ((neither _ _ e).1)
-none_committed t (Outcome u o ∷ rs) e = none_committed t rs ((neither _ _ e).1)
+    not_first (same_id c.txn t) c _ (same_id_comm c.txn t ∙ (or_parts _ _ e).0) (none_committed t rs ((or_parts _ _ e).1))
+none_committed t (Abort u ∷ rs) e = none_committed t rs ((or_parts _ _ e).1)
+none_committed t (Outcome u o ∷ rs) e = none_committed t rs ((or_parts _ _ e).1)
 
 none_recorded : (t : Id) (log : List Record) → list_any (same_id t) (gather id_in log) ≡ false → status_of log t ≡ Unrecorded
 unfolding status_of
@@ -131,7 +132,8 @@ found f t (u ∷ us) = by_test (same_id u t) refl (found f t us)
   where
     by_test : (b : Bool) → same_id u t ≡ b →
         or_unrecorded (head (filter (λ e. same_id e.txn t) (entries_by f us))) ≡ cond (list_any (same_id t) us) (f t) Unrecorded →
-        or_unrecorded (head (cond b (record { txn = u; status = f u } ∷ filter (λ e. same_id e.txn t) (entries_by f us)) (filter (λ e. same_id e.txn t) (entries_by f us))))
+        or_unrecorded (head (cond b (record { txn = u; status = f u } ∷ filter (λ e. same_id e.txn t) (entries_by f us))
+            (filter (λ e. same_id e.txn t) (entries_by f us))))
         ≡ cond (same_id t u || list_any (same_id t) us) (f t) Unrecorded
     by_test true e rest = ap f (same_id-is u t e) ∙ sym (ap (λ b. cond (b || list_any (same_id t) us) (f t) Unrecorded) (same_id_comm t u ∙ e))
     by_test false e rest = rest ∙ sym (ap (λ b. cond (b || list_any (same_id t) us) (f t) Unrecorded) (same_id_comm t u ∙ e))
@@ -152,7 +154,7 @@ entries_same : (f g : Id → Status) (t : Id) → ((u : Id) → same_id u t ≡ 
 unfolding entries_by
 entries_same f g t same [] h = refl
 entries_same f g t same (u ∷ us) h =
-    let p : (older t u ≡ true) × (list_all (older t) us ≡ true) = both _ _ h in
+    let p : (older t u ≡ true) × (list_all (older t) us ≡ true) = and_parts _ _ h in
     let apart : same_id u t ≡ false = same_id_comm u t ∙ older_not_same t u p.0 in
     ap (λ s. let e : Entry = record { txn = u; status = s } in e ∷ entries_by g us) (same u apart)
     ∙ ap (λ l. let e : Entry = record { txn = u; status = f u } in e ∷ l) (entries_same f g t same us p.1)
@@ -163,13 +165,14 @@ pub entries_with : (f g : Id → Status) (t : Id) → ((u : Id) → same_id u t 
 unfolding entries_by
 entries_with f g t same [] h = refl
 entries_with f g t same (u ∷ us) h =
-    placed (same_id u t) (older u t) refl refl (both _ _ h) (entries_with f g t same us ((both _ _ h).1))
+    placed (same_id u t) (older u t) refl refl (and_parts _ _ h) (entries_with f g t same us ((and_parts _ _ h).1))
   where
     placed : (a b : Bool) → same_id u t ≡ a → older u t ≡ b → (list_all (older u) us ≡ true) × (rises us ≡ true) →
         entries_by g (with_id us t) ≡ with_status (entries_by f us) t (g t) →
         entries_by g (cond a (u ∷ us) (cond b (u ∷ with_id us t) (t ∷ u ∷ us)))
         ≡ cond a (record { txn = t; status = g t } ∷ entries_by f us)
-        (cond b (record { txn = u; status = f u } ∷ with_status (entries_by f us) t (g t)) (record { txn = t; status = g t } ∷ record { txn = u; status = f u } ∷ entries_by f us))
+        (cond b (record { txn = u; status = f u } ∷ with_status (entries_by f us) t (g t))
+            (record { txn = t; status = g t } ∷ record { txn = u; status = f u } ∷ entries_by f us))
     placed true b e k p rest =
         ap (λ v. let x : Entry = record { txn = v; status = g v } in x ∷ entries_by g us) (same_id-is u t e)
         ∙ ap (λ l. let x : Entry = record { txn = t; status = g t } in x ∷ l)
@@ -180,4 +183,4 @@ entries_with f g t same (u ∷ us) h =
     placed false false e k p rest =
         let below : older t u ≡ true = older_total u t e k in
         ap (λ l. let x : Entry = record { txn = t; status = g t } in x ∷ l)
-        (entries_same f g t same (u ∷ us) (and_true _ _ below (above_more t u us below p.0)))
+        (entries_same f g t same (u ∷ us) (and_from _ _ below (above_more t u us below p.0)))

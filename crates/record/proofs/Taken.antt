@@ -1,5 +1,6 @@
 -- What is read is spelled so, each byte of it, and is within the limits.
-use Rattle.std.proofs.Common.{◌≡◌, ◌⊎◌, inl, inr, ℕ, zero, suc, ◌+◌, ◌^◌, ◌<◌, ◌≤◌, ◌&&◌, Bool, true, false, cond, eqb, leb, ltb, List, [], ◌∷◌, ◌++◌, length, get_or, take, drop, Option, Some, None, refl, sym, ap, subst, ◌∙◌, append_assoc, arith}
+use Rattle.std.proofs.Common.{◌≡◌, ◌⊎◌, inl, inr, ℕ, zero, suc, ◌+◌, ◌^◌, ◌<◌, ◌≤◌, ◌&&◌, Bool, true, false, cond, eqb, leb, ltb, List, [], ◌∷◌, ◌++◌}
+use Rattle.std.proofs.Common.{length, get_or, take, drop, Option, Some, None, refl, sym, ap, subst, ◌∙◌, append_assoc, arith}
 use Rattle.std.specs.Prelude.{flat_map}
 use Rattle.std.specs.List.{AllByRecursion}
 use Rattle.std.specs.Int.{Width, w16, w64, byte_len, from_be_bytes, to_be_bytes}
@@ -15,8 +16,11 @@ use Rattle.record.specs.declared.record.Committed.{Committed}
 use Rattle.record.specs.declared.record.Prepared.{Prepared}
 use Rattle.record.specs.declared.record.Record.{Record}
 use Rattle.record.specs.declared.record.Record.TheVariants as records
-use Rattle.record.specs.Grammar.{key_spelling, keys_spelling, value_spelling, write_spelling, writes_spelling, id_spelling, parts_spelling, shard_spelling, outcome_spelling, prepare_spelling, commit_spelling, spelling, IsStamp, IsEpoch, IsId, IsShard, IsParts, IsKey, IsKeys, IsValue, IsWrite, IsWrites, IsPrepare, IsCommit, IsOutcome, IsRecord, Spells}
-use Rattle.record.specs.Reading.{◌>>=◌, only_if, number_at, stamp_at, epoch_at, text_at, key_at, value_at, write_at, many_at, keys_at, writes_at, id_at, parts_at, shard_at, outcome_at, prepare_at, commit_at, ended_at, record_at, read_record}
+use Rattle.record.specs.Grammar.{key_spelling, keys_spelling, value_spelling, write_spelling, writes_spelling, id_spelling, parts_spelling}
+use Rattle.record.specs.Grammar.{shard_spelling, outcome_spelling, prepare_spelling, commit_spelling, spelling, IsStamp, IsEpoch, IsId, IsShard}
+use Rattle.record.specs.Grammar.{IsParts, IsKey, IsKeys, IsValue, IsWrite, IsWrites, IsPrepare, IsCommit, IsOutcome, IsRecord, Spells}
+use Rattle.record.specs.Reading.{◌>>=◌, only_if, number_at, stamp_at, epoch_at, text_at, key_at, value_at, write_at, many_at, keys_at, writes_at}
+use Rattle.record.specs.Reading.{id_at, parts_at, shard_at, outcome_at, prepare_at, commit_at, ended_at, record_at, read_record}
 use Rattle.record.proofs.Loop.{bind_some, some_is}
 
 abbrev pub IsBytes : List ℕ → Type 0
@@ -63,7 +67,8 @@ exact16 : IsExact w16 (2 ^ 16)
 exact16 = record { back = λ bytes len fits. be_bytes_2 bytes _ len fits refl; below = λ bytes fits. omega (arith, fits 0, fits 1) }
 
 exact64 : IsExact w64 (2 ^ 64)
-exact64 = record { back = λ bytes len fits. be_bytes_8 bytes _ len fits refl; below = λ bytes fits. omega (arith, fits 0, fits 1, fits 2, fits 3, fits 4, fits 5, fits 6, fits 7) }
+exact64 = record { back = λ bytes len fits. be_bytes_8 bytes _ len fits refl; below = λ bytes fits. omega
+    (arith, fits 0, fits 1, fits 2, fits 3, fits 4, fits 5, fits 6, fits 7) }
 
 number_reads : (w : Width) (limit : ℕ) → IsExact w limit → Reads (number_at w) (to_be_bytes w) (λ n. n < limit)
 number_reads w limit exact bytes x fits e =
@@ -72,9 +77,11 @@ number_reads w limit exact bytes x fits e =
     let long : count ≤ length bytes = leb-true _ _ g.0 in
     let n-is : from_be_bytes w (take count bytes) ≡ x.0 = ap (λ (p : ℕ × List ℕ). p.0) g.1 in
     let rest-is : drop count bytes ≡ x.1 = ap (λ (p : ℕ × List ℕ). p.1) g.1 in
-    let front : to_be_bytes w x.0 ≡ take count bytes = ap (to_be_bytes w) (sym n-is) ∙ exact.back (take count bytes) (length-take-le count bytes long) (bytes-take count bytes fits) in (
+    let front : to_be_bytes w x.0 ≡ take count bytes = ap (to_be_bytes w) (sym n-is) ∙ exact.back (take count bytes)
+        (length-take-le count bytes long) (bytes-take count bytes fits) in (
       record {
-        parts = sym (take-append-drop count bytes) ∙ ap (λ (t : List ℕ). t ++ drop count bytes) (sym front) ∙ ap (λ (t : List ℕ). to_be_bytes w x.0 ++ t) rest-is;
+        parts = sym (take-append-drop count bytes) ∙ ap (λ (t : List ℕ). t ++ drop count bytes) (sym front)
+            ∙ ap (λ (t : List ℕ). to_be_bytes w x.0 ++ t) rest-is;
         rest_fits = subst IsBytes rest-is (bytes-drop count bytes fits);
       },
       subst (λ (n : ℕ). n < limit) n-is (exact.below (take count bytes) (bytes-take count bytes fits)),
@@ -85,7 +92,8 @@ unfolding stamp_at
 stamp_reads bytes x fits e =
     let a = bind_some (number_at w64 bytes) (λ n. only_if (ltb n.0 (2 ^ 62)) n) x e in
     let g = only_some (ltb a.0.0 (2 ^ 62)) a.0 x a.2 in
-    subst (λ (y : ℕ × List ℕ). Taken bytes (to_be_bytes w64 y.0) y.1 × IsStamp y.0) g.1 ((number_reads w64 (2 ^ 64) exact64 bytes a.0 fits a.1).0, ltb-true _ _ g.0)
+    subst (λ (y : ℕ × List ℕ). Taken bytes (to_be_bytes w64 y.0) y.1 × IsStamp y.0) g.1 ((number_reads w64 (2 ^ 64) exact64 bytes a.0 fits a.1).0,
+        ltb-true _ _ g.0)
 
 epoch_reads : Reads epoch_at (to_be_bytes w64) IsEpoch
 unfolding epoch_at
@@ -125,7 +133,8 @@ value_reads : Reads value_at value_spelling IsValue
 unfolding value_at
 value_reads [] x fits e = absurd cc
 value_reads (zero ∷ bytes) x fits e =
-    subst (λ (y : Option (List ℕ) × List ℕ). Taken (0 ∷ bytes) (value_spelling y.0) y.1 × IsValue y.0) (some_is (None, bytes) x e) (record { parts = refl; rest_fits = bytes-behind 0 bytes fits }, tt)
+    subst (λ (y : Option (List ℕ) × List ℕ). Taken (0 ∷ bytes) (value_spelling y.0) y.1 × IsValue y.0) (some_is (None, bytes) x e)
+        (record { parts = refl; rest_fits = bytes-behind 0 bytes fits }, tt)
 value_reads (suc zero ∷ bytes) x fits e =
     let a = bind_some (number_at w16 bytes) (λ count. (cond (leb count.0 4096) (text_at count.0 count.1) None) >>= λ value. Some (Some value.0, value.1)) x e in
     let b = bind_some (cond (leb a.0.0 4096) (text_at a.0.0 a.0.1) None) (λ value. Some (Some value.0, value.1)) x a.2 in
@@ -133,7 +142,8 @@ value_reads (suc zero ∷ bytes) x fits e =
     let n = number_reads w16 (2 ^ 16) exact16 bytes a.0 (bytes-behind 1 bytes fits) a.1 in
     let text = text_reads a.0.0 a.0.1 b.0 n.0.rest_fits t.1 in
     let both = taken_then bytes (to_be_bytes w16 a.0.0) a.0.1 b.0.0 b.0.1 n.0 text.0 in
-    let sized : Taken bytes (to_be_bytes w16 (length b.0.0) ++ b.0.0) b.0.1 = subst (λ (k : ℕ). Taken bytes (to_be_bytes w16 k ++ b.0.0) b.0.1) (sym text.1) both in
+    let sized : Taken bytes (to_be_bytes w16 (length b.0.0) ++ b.0.0) b.0.1 = subst (λ (k : ℕ). Taken bytes (to_be_bytes w16 k ++ b.0.0) b.0.1)
+        (sym text.1) both in
     subst (λ (y : Option (List ℕ) × List ℕ). Taken (1 ∷ bytes) (value_spelling y.0) y.1 × IsValue y.0) (some_is (Some b.0.0, b.0.1) x b.2)
     (behind_byte 1 bytes (to_be_bytes w16 (length b.0.0) ++ b.0.0) b.0.1 sized, omega (arith, text.1, leb-true a.0.0 4096 t.0))
 value_reads (suc (suc other) ∷ bytes) x fits e = absurd cc
@@ -148,16 +158,19 @@ write_reads bytes x fits e =
     subst (λ (y : Write × List ℕ). Taken bytes (write_spelling y.0) y.1 × IsWrite y.0) (some_is (record { key = a.0.0; value = b.0.0 }, b.0.1) x b.2)
     (taken_then bytes (key_spelling a.0.0) a.0.1 (value_spelling b.0.0) b.0.1 key.0 value.0, (key.1, value.1))
 
-many_read : {A : Type 0} (one : List ℕ → Option (A × List ℕ)) (spell : A → List ℕ) (Fits : A → Type 0) → Reads one spell Fits → (count : ℕ) → Reads (many_at one count) (flat_map spell) (λ xs. (length xs ≡ count) × AllByRecursion Fits xs)
+many_read : {A : Type 0} (one : List ℕ → Option (A × List ℕ)) (spell : A → List ℕ) (Fits : A → Type 0) → Reads one spell Fits → (count : ℕ) →
+    Reads (many_at one count) (flat_map spell) (λ xs. (length xs ≡ count) × AllByRecursion Fits xs)
 unfolding many_at
 many_read {A} one spell Fits reads zero bytes x fits e =
-    subst (λ (y : List A × List ℕ). Taken bytes (flat_map spell y.0) y.1 × ((length y.0 ≡ 0) × AllByRecursion Fits y.0)) (some_is ([], bytes) x e) (record { parts = refl; rest_fits = fits }, (refl, tt))
+    subst (λ (y : List A × List ℕ). Taken bytes (flat_map spell y.0) y.1 × ((length y.0 ≡ 0) × AllByRecursion Fits y.0)) (some_is ([], bytes) x e)
+        (record { parts = refl; rest_fits = fits }, (refl, tt))
 many_read {A} one spell Fits reads (suc count) bytes x fits e =
     let a = bind_some (one bytes) (λ first. many_at one count first.1 >>= λ others. Some (first.0 ∷ others.0, others.1)) x e in
     let b = bind_some (many_at one count a.0.1) (λ others. Some (a.0.0 ∷ others.0, others.1)) x a.2 in
     let first = reads bytes a.0 fits a.1 in
     let others = many_read one spell Fits reads count a.0.1 b.0 first.0.rest_fits b.1 in
-    subst (λ (y : List A × List ℕ). Taken bytes (flat_map spell y.0) y.1 × ((length y.0 ≡ suc count) × AllByRecursion Fits y.0)) (some_is (a.0.0 ∷ b.0.0, b.0.1) x b.2)
+    subst (λ (y : List A × List ℕ). Taken bytes (flat_map spell y.0) y.1 × ((length y.0 ≡ suc count) × AllByRecursion Fits y.0))
+        (some_is (a.0.0 ∷ b.0.0, b.0.1) x b.2)
     (taken_then bytes (spell a.0.0) a.0.1 (flat_map spell b.0.0) b.0.1 first.0 others.0, (ap suc others.1.0, (first.1, others.1.1)))
 
 -- ---- lists
@@ -165,7 +178,8 @@ many_read {A} one spell Fits reads (suc count) bytes x fits e =
 keys_read : Reads keys_at keys_spelling IsKeys
 unfolding keys_at
 keys_read bytes x fits e =
-    let a = bind_some (number_at w16 bytes) (λ count. (cond (leb count.0 128) (many_at key_at count.0 count.1) None) >>= λ keys. only_if (ascends key_before keys.0) keys) x e in
+    let a = bind_some (number_at w16 bytes) (λ count. (cond (leb count.0 128) (many_at key_at count.0 count.1) None) >>= λ keys. only_if
+        (ascends key_before keys.0) keys) x e in
     let b = bind_some (cond (leb a.0.0 128) (many_at key_at a.0.0 a.0.1) None) (λ keys. only_if (ascends key_before keys.0) keys) x a.2 in
     let t = if_some (leb a.0.0 128) (many_at key_at a.0.0 a.0.1) b.0 b.1 in
     let g = only_some (ascends key_before b.0.0) b.0 x b.2 in
@@ -173,12 +187,14 @@ keys_read bytes x fits e =
     let many = many_read key_at key_spelling IsKey key_reads a.0.0 a.0.1 b.0 n.0.rest_fits t.1 in
     let both = taken_then bytes (to_be_bytes w16 a.0.0) a.0.1 (flat_map key_spelling b.0.0) b.0.1 n.0 many.0 in
     subst (λ (y : List (List ℕ) × List ℕ). Taken bytes (keys_spelling y.0) y.1 × IsKeys y.0) g.1
-    (subst (λ (k : ℕ). Taken bytes (to_be_bytes w16 k ++ flat_map key_spelling b.0.0) b.0.1) (sym many.1.0) both, record { few = omega (arith, many.1.0, leb-true a.0.0 128 t.0); in_order = g.0; each = many.1.1 })
+    (subst (λ (k : ℕ). Taken bytes (to_be_bytes w16 k ++ flat_map key_spelling b.0.0) b.0.1) (sym many.1.0) both,
+        record { few = omega (arith, many.1.0, leb-true a.0.0 128 t.0); in_order = g.0; each = many.1.1 })
 
 writes_read : Reads writes_at writes_spelling IsWrites
 unfolding writes_at
 writes_read bytes x fits e =
-    let a = bind_some (number_at w16 bytes) (λ count. (cond (leb count.0 128) (many_at write_at count.0 count.1) None) >>= λ writes. only_if (ascends write_before writes.0) writes) x e in
+    let a = bind_some (number_at w16 bytes) (λ count. (cond (leb count.0 128) (many_at write_at count.0 count.1) None) >>= λ writes. only_if
+        (ascends write_before writes.0) writes) x e in
     let b = bind_some (cond (leb a.0.0 128) (many_at write_at a.0.0 a.0.1) None) (λ writes. only_if (ascends write_before writes.0) writes) x a.2 in
     let t = if_some (leb a.0.0 128) (many_at write_at a.0.0 a.0.1) b.0 b.1 in
     let g = only_some (ascends write_before b.0.0) b.0 x b.2 in
@@ -186,7 +202,8 @@ writes_read bytes x fits e =
     let many = many_read write_at write_spelling IsWrite write_reads a.0.0 a.0.1 b.0 n.0.rest_fits t.1 in
     let both = taken_then bytes (to_be_bytes w16 a.0.0) a.0.1 (flat_map write_spelling b.0.0) b.0.1 n.0 many.0 in
     subst (λ (y : List Write × List ℕ). Taken bytes (writes_spelling y.0) y.1 × IsWrites y.0) g.1
-    (subst (λ (k : ℕ). Taken bytes (to_be_bytes w16 k ++ flat_map write_spelling b.0.0) b.0.1) (sym many.1.0) both, record { few = omega (arith, many.1.0, leb-true a.0.0 128 t.0); in_order = g.0; each = many.1.1 })
+    (subst (λ (k : ℕ). Taken bytes (to_be_bytes w16 k ++ flat_map write_spelling b.0.0) b.0.1) (sym many.1.0) both,
+        record { few = omega (arith, many.1.0, leb-true a.0.0 128 t.0); in_order = g.0; each = many.1.1 })
 
 -- ---- records
 
@@ -229,7 +246,8 @@ outcome_reads : Reads outcome_at outcome_spelling IsOutcome
 unfolding outcome_at
 outcome_reads [] x fits e = absurd cc
 outcome_reads (zero ∷ bytes) x fits e =
-    subst (λ (y : Option ℕ × List ℕ). Taken (0 ∷ bytes) (outcome_spelling y.0) y.1 × IsOutcome y.0) (some_is (None, bytes) x e) (record { parts = refl; rest_fits = bytes-behind 0 bytes fits }, tt)
+    subst (λ (y : Option ℕ × List ℕ). Taken (0 ∷ bytes) (outcome_spelling y.0) y.1 × IsOutcome y.0) (some_is (None, bytes) x e)
+        (record { parts = refl; rest_fits = bytes-behind 0 bytes fits }, tt)
 outcome_reads (suc zero ∷ bytes) x fits e =
     let a = bind_some (stamp_at bytes) (λ at. Some (Some at.0, at.1)) x e in
     let at = stamp_reads bytes a.0 (bytes-behind 1 bytes fits) a.1 in
@@ -245,8 +263,10 @@ taken_five a p b q c r d s e t f one two three four five =
 prepare_reads : Reads prepare_at prepare_spelling IsPrepare
 unfolding prepare_at
 prepare_reads bytes x fits e =
-    let a = bind_some (id_at bytes) (λ txn. shard_at txn.1 >>= λ coordinator. stamp_at coordinator.1 >>= λ at. keys_at at.1 >>= λ reads. writes_at reads.1 >>= λ writes. Some (made txn.0 coordinator.0 at.0 reads.0 writes)) x e in
-    let b = bind_some (shard_at a.0.1) (λ coordinator. stamp_at coordinator.1 >>= λ at. keys_at at.1 >>= λ reads. writes_at reads.1 >>= λ writes. Some (made a.0.0 coordinator.0 at.0 reads.0 writes)) x a.2 in
+    let a = bind_some (id_at bytes) (λ txn. shard_at txn.1 >>= λ coordinator. stamp_at coordinator.1 >>= λ at. keys_at at.1 >>= λ reads. writes_at
+        reads.1 >>= λ writes. Some (made txn.0 coordinator.0 at.0 reads.0 writes)) x e in
+    let b = bind_some (shard_at a.0.1) (λ coordinator. stamp_at coordinator.1 >>= λ at. keys_at at.1 >>= λ reads. writes_at reads.1 >>= λ
+        writes. Some (made a.0.0 coordinator.0 at.0 reads.0 writes)) x a.2 in
     let c = bind_some (stamp_at b.0.1) (λ at. keys_at at.1 >>= λ reads. writes_at reads.1 >>= λ writes. Some (made a.0.0 b.0.0 at.0 reads.0 writes)) x b.2 in
     let d = bind_some (keys_at c.0.1) (λ reads. writes_at reads.1 >>= λ writes. Some (made a.0.0 b.0.0 c.0.0 reads.0 writes)) x c.2 in
     let f = bind_some (writes_at d.0.1) (λ writes. Some (made a.0.0 b.0.0 c.0.0 d.0.0 writes)) x d.2 in
@@ -255,8 +275,10 @@ prepare_reads bytes x fits e =
     let at = stamp_reads b.0.1 c.0 coordinator.0.rest_fits c.1 in
     let reads = keys_read c.0.1 d.0 at.0.rest_fits d.1 in
     let writes = writes_read d.0.1 f.0 reads.0.rest_fits f.1 in
-    let all = taken_five bytes (id_spelling a.0.0) a.0.1 (shard_spelling b.0.0) b.0.1 (to_be_bytes w64 c.0.0) c.0.1 (keys_spelling d.0.0) d.0.1 (writes_spelling f.0.0) f.0.1 txn.0 coordinator.0 at.0 reads.0 writes.0 in
-    subst (λ (y : Prepared × List ℕ). Taken bytes (prepare_spelling y.0) y.1 × IsPrepare y.0) {x = made a.0.0 b.0.0 c.0.0 d.0.0 f.0} (some_is (made a.0.0 b.0.0 c.0.0 d.0.0 f.0) x f.2)
+    let all = taken_five bytes (id_spelling a.0.0) a.0.1 (shard_spelling b.0.0) b.0.1 (to_be_bytes w64 c.0.0) c.0.1 (keys_spelling d.0.0) d.0.1
+        (writes_spelling f.0.0) f.0.1 txn.0 coordinator.0 at.0 reads.0 writes.0 in
+    subst (λ (y : Prepared × List ℕ). Taken bytes (prepare_spelling y.0) y.1 × IsPrepare y.0) {x = made a.0.0 b.0.0 c.0.0 d.0.0 f.0}
+        (some_is (made a.0.0 b.0.0 c.0.0 d.0.0 f.0) x f.2)
     (all, record { txn = txn.1; coordinator = coordinator.1; at = at.1; reads = reads.1; writes = writes.1 })
   where
     made : Id → ℕ → ℕ → List Bytes → List Write × List ℕ → Prepared × List ℕ
@@ -265,9 +287,12 @@ prepare_reads bytes x fits e =
 commit_reads : Reads commit_at commit_spelling IsCommit
 unfolding commit_at
 commit_reads bytes x fits e =
-    let a = bind_some (id_at bytes) (λ txn. stamp_at txn.1 >>= λ at. parts_at at.1 >>= λ parts. keys_at parts.1 >>= λ reads. writes_at reads.1 >>= λ writes. Some (made txn.0 at.0 parts.0 reads.0 writes)) x e in
-    let b = bind_some (stamp_at a.0.1) (λ at. parts_at at.1 >>= λ parts. keys_at parts.1 >>= λ reads. writes_at reads.1 >>= λ writes. Some (made a.0.0 at.0 parts.0 reads.0 writes)) x a.2 in
-    let c = bind_some (parts_at b.0.1) (λ parts. keys_at parts.1 >>= λ reads. writes_at reads.1 >>= λ writes. Some (made a.0.0 b.0.0 parts.0 reads.0 writes)) x b.2 in
+    let a = bind_some (id_at bytes) (λ txn. stamp_at txn.1 >>= λ at. parts_at at.1 >>= λ parts. keys_at parts.1 >>= λ reads. writes_at reads.1 >>= λ
+        writes. Some (made txn.0 at.0 parts.0 reads.0 writes)) x e in
+    let b = bind_some (stamp_at a.0.1) (λ at. parts_at at.1 >>= λ parts. keys_at parts.1 >>= λ reads. writes_at reads.1 >>= λ writes. Some
+        (made a.0.0 at.0 parts.0 reads.0 writes)) x a.2 in
+    let c = bind_some (parts_at b.0.1) (λ parts. keys_at parts.1 >>= λ reads. writes_at reads.1 >>= λ writes. Some
+        (made a.0.0 b.0.0 parts.0 reads.0 writes)) x b.2 in
     let d = bind_some (keys_at c.0.1) (λ reads. writes_at reads.1 >>= λ writes. Some (made a.0.0 b.0.0 c.0.0 reads.0 writes)) x c.2 in
     let f = bind_some (writes_at d.0.1) (λ writes. Some (made a.0.0 b.0.0 c.0.0 d.0.0 writes)) x d.2 in
     let txn = id_reads bytes a.0 fits a.1 in
@@ -275,8 +300,10 @@ commit_reads bytes x fits e =
     let parts = parts_read b.0.1 c.0 at.0.rest_fits c.1 in
     let reads = keys_read c.0.1 d.0 parts.0.rest_fits d.1 in
     let writes = writes_read d.0.1 f.0 reads.0.rest_fits f.1 in
-    let all = taken_five bytes (id_spelling a.0.0) a.0.1 (to_be_bytes w64 b.0.0) b.0.1 (parts_spelling c.0.0) c.0.1 (keys_spelling d.0.0) d.0.1 (writes_spelling f.0.0) f.0.1 txn.0 at.0 parts.0 reads.0 writes.0 in
-    subst (λ (y : Committed × List ℕ). Taken bytes (commit_spelling y.0) y.1 × IsCommit y.0) {x = made a.0.0 b.0.0 c.0.0 d.0.0 f.0} (some_is (made a.0.0 b.0.0 c.0.0 d.0.0 f.0) x f.2)
+    let all = taken_five bytes (id_spelling a.0.0) a.0.1 (to_be_bytes w64 b.0.0) b.0.1 (parts_spelling c.0.0) c.0.1 (keys_spelling d.0.0) d.0.1
+        (writes_spelling f.0.0) f.0.1 txn.0 at.0 parts.0 reads.0 writes.0 in
+    subst (λ (y : Committed × List ℕ). Taken bytes (commit_spelling y.0) y.1 × IsCommit y.0) {x = made a.0.0 b.0.0 c.0.0 d.0.0 f.0}
+        (some_is (made a.0.0 b.0.0 c.0.0 d.0.0 f.0) x f.2)
     (all, record { txn = txn.1; at = at.1; parts = parts.1; reads = reads.1; writes = writes.1 })
   where
     made : Id → ℕ → List ℕ → List Bytes → List Write × List ℕ → Committed × List ℕ
@@ -296,8 +323,10 @@ ended_reads bytes x fits e =
     (taken_then bytes (id_spelling a.0.0) a.0.1 (outcome_spelling b.0.0) b.0.1 txn.0 outcome.0, (txn.1, outcome.1))
 
 -- a kind, and what stands behind its byte
-of_kind : {A : Type 0} (kind byte : ℕ) (one : List ℕ → Option (A × List ℕ)) (spell : A → List ℕ) (Fits : A → Type 0) (make : A → Record) (bytes : List ℕ) (x : Record × List ℕ) → IsBytes bytes → Reads one spell Fits → byte ≡ kind
-    → ((a : A) → spelling (make a) ≡ kind ∷ spell a) → ((a : A) → Fits a → IsRecord (make a)) → (one bytes >>= λ y. Some (make y.0, y.1)) ≡ Some x → Taken (byte ∷ bytes) (spelling x.0) x.1 × IsRecord x.0
+of_kind : {A : Type 0} (kind byte : ℕ) (one : List ℕ → Option (A × List ℕ)) (spell : A → List ℕ) (Fits : A → Type 0) (make : A → Record)
+    (bytes : List ℕ) (x : Record × List ℕ) → IsBytes bytes → Reads one spell Fits → byte ≡ kind
+    → ((a : A) → spelling (make a) ≡ kind ∷ spell a) → ((a : A) → Fits a → IsRecord (make a)) → (one bytes >>= λ y. Some (make y.0, y.1)) ≡ Some x →
+        Taken (byte ∷ bytes) (spelling x.0) x.1 × IsRecord x.0
 of_kind {A} kind byte one spell Fits make bytes x fits reads is spelled limits e =
     let a = bind_some (one bytes) (λ y. Some (make y.0, y.1)) x e in
     let read = reads bytes a.0 fits a.1 in
@@ -327,18 +356,24 @@ record_reads (kind ∷ bytes) x fits e =
     let ceilings : Option (Record × List ℕ) = stamp_at bytes >>= λ at. Some (records.Ceiling at.0, at.1) in
     let second : Option (Record × List ℕ) = cond (eqb kind 2) ceilings third in
     elim (chosen (eqb kind 1) (epoch_at bytes >>= λ epoch. Some (records.Opened epoch.0, epoch.1)) second (Some x) e) [
-      | inl opened ↦ of_kind 1 kind epoch_at (to_be_bytes w64) IsEpoch (λ n. records.Opened n) bytes x rest_fits epoch_reads (eqb-true kind 1 opened.0) (λ a. refl) (λ a h. h) opened.1
+      | inl opened ↦ of_kind 1 kind epoch_at (to_be_bytes w64) IsEpoch (λ n. records.Opened n) bytes x rest_fits epoch_reads
+          (eqb-true kind 1 opened.0) (λ a. refl) (λ a h. h) opened.1
       | inr later ↦ elim (chosen (eqb kind 2) ceilings third (Some x) later.1) [
-        | inl ceiling ↦ of_kind 2 kind stamp_at (to_be_bytes w64) IsStamp (λ n. records.Ceiling n) bytes x rest_fits stamp_reads (eqb-true kind 2 ceiling.0) (λ a. refl) (λ a h. h) ceiling.1
+        | inl ceiling ↦ of_kind 2 kind stamp_at (to_be_bytes w64) IsStamp (λ n. records.Ceiling n) bytes x rest_fits stamp_reads
+            (eqb-true kind 2 ceiling.0) (λ a. refl) (λ a h. h) ceiling.1
         | inr past2 ↦ elim (chosen (eqb kind 3) prepares fourth (Some x) past2.1) [
-          | inl prepare ↦ of_kind 3 kind prepare_at prepare_spelling IsPrepare (λ p. records.Prepare p) bytes x rest_fits prepare_reads (eqb-true kind 3 prepare.0) (λ a. refl) (λ a h. h) prepare.1
+          | inl prepare ↦ of_kind 3 kind prepare_at prepare_spelling IsPrepare (λ p. records.Prepare p) bytes x rest_fits prepare_reads
+              (eqb-true kind 3 prepare.0) (λ a. refl) (λ a h. h) prepare.1
           | inr past3 ↦ elim (chosen (eqb kind 4) commits fifth (Some x) past3.1) [
-            | inl commit ↦ of_kind 4 kind commit_at commit_spelling IsCommit (λ c. records.Commit c) bytes x rest_fits commit_reads (eqb-true kind 4 commit.0) (λ a. refl) (λ a h. h) commit.1
+            | inl commit ↦ of_kind 4 kind commit_at commit_spelling IsCommit (λ c. records.Commit c) bytes x rest_fits commit_reads
+                (eqb-true kind 4 commit.0) (λ a. refl) (λ a h. h) commit.1
             | inr past4 ↦ elim (chosen (eqb kind 5) aborts sixth (Some x) past4.1) [
-              | inl abort ↦ of_kind 5 kind id_at id_spelling IsId (λ txn. records.Abort txn) bytes x rest_fits id_reads (eqb-true kind 5 abort.0) (λ a. refl) (λ a h. h) abort.1
+              | inl abort ↦ of_kind 5 kind id_at id_spelling IsId (λ txn. records.Abort txn) bytes x rest_fits id_reads (eqb-true kind 5 abort.0)
+                  (λ a. refl) (λ a h. h) abort.1
               | inr past5 ↦
                   let outcome = if_some (eqb kind 6) ends x past5.1 in
-                  of_kind 6 kind ended_at ended_spelling (λ y. IsId y.0 × IsOutcome y.1) (λ y. records.Outcome y.0 y.1) bytes x rest_fits ended_reads (eqb-true kind 6 outcome.0) (λ a. refl) (λ a h. h) outcome.1
+                  of_kind 6 kind ended_at ended_spelling (λ y. IsId y.0 × IsOutcome y.1) (λ y. records.Outcome y.0 y.1) bytes x rest_fits ended_reads
+                      (eqb-true kind 6 outcome.0) (λ a. refl) (λ a h. h) outcome.1
             ]
           ]
         ]

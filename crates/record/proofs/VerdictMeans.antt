@@ -1,13 +1,15 @@
 -- A yes of the inspector means what it should: what was acknowledged is in the history, every value is that of the serial
 -- run, and who began after an acknowledgement has the larger timestamp.
 use Rattle.std.proofs.Common.{refl, sym, ◌∙◌, ap, subst}
-use Rattle.std.proofs.lemmas.Bool.{eqb-true, leb-false, lt-ltb}
-use Rattle.std.specs.Prelude.{ℕ, zero, suc, ◌≡◌, Bool, true, false, not, cond, ◌&&◌, nat_eq, nat_lt, nat_le, IsTrue, List, [], ◌∷◌, slice_get, Option, Some, None, filter, option_map}
+use Rattle.std.proofs.lemmas.Bool.{eqb-true, leb-false, lt-ltb, and_parts}
+use Rattle.std.specs.Prelude.{ℕ, zero, suc, ◌≡◌, Bool, true, false, not, cond, ◌&&◌, nat_eq, nat_lt, nat_le, IsTrue, List, [], ◌∷◌, slice_get, Option}
+use Rattle.std.specs.Prelude.{Some, None, filter, option_map}
 use Rattle.units.specs.Lists.{gather, head, follow, numbered, when, same_numbers}
 use Rattle.units.specs.Ids.{Id, same_id, older, with_id, ids_once}
 use Rattle.units.specs.Keys.{Bytes}
 use Rattle.record.specs.History.{Txn, history, before}
-use Rattle.record.specs.Verdict.{verdict, first_fault, first_lost, first_wrong_read, first_wrong_order, lost_by, line_reads_right, late_acks, is_late_ack, is_in_at, same_value, IsLine}
+use Rattle.record.specs.Verdict.{verdict, first_fault, first_lost, first_wrong_read, first_wrong_order, lost_by, line_reads_right, late_acks}
+use Rattle.record.specs.Verdict.{is_late_ack, is_in_at, same_value, IsLine}
 use Rattle.record.specs.Serially.{LooksSerially, ReadsSerially, OrderedByTime}
 use Rattle.record.specs.declared.record.Record.{Record}
 use Rattle.units.specs.declared.line.Line.{Line}
@@ -27,10 +29,6 @@ not_some x e = cc
 pub not_false : (b : Bool) → not b ≡ false → b ≡ true
 not_false true e = refl
 not_false false e = cc
-
-pub both : (a b : Bool) → (a && b) ≡ true → (a ≡ true) × (b ≡ true)
-both true b e = (refl, e)
-both false b e = cc
 
 pub head_none : {A : Type 0} (xs : List A) → head xs ≡ None → xs ≡ []
 head_none [] e = refl
@@ -77,7 +75,7 @@ same_list [] [] e = refl
 same_list [] (y ∷ ys) e = cc
 same_list (x ∷ xs) [] e = cc
 same_list (x ∷ xs) (y ∷ ys) e =
-    let two : (nat_eq x y ≡ true) × (same_numbers xs ys ≡ true) = both (nat_eq x y) (same_numbers xs ys) e in
+    let two : (nat_eq x y ≡ true) × (same_numbers xs ys ≡ true) = and_parts (nat_eq x y) (same_numbers xs ys) e in
     ap (λ z. z ∷ xs) (eqb-true x y two.0) ∙ ap (λ zs. y ∷ zs) (same_list xs ys two.1)
 
 same_option : (x y : Option Bytes) → same_value x y ≡ true → x ≡ y
@@ -145,10 +143,12 @@ order logs lines told t u at m n x acked begun before found =
     let ack_place : (q : ℕ) × (slice_get (numbered 0 lines) acked.0 ≡ Some (q, Line.Ack t at m)) = has_place 0 lines acked.0 (Line.Ack t at m) acked.1 in
     let none : first_wrong_order h lines ≡ None = (no_fault _ _ _ _ told).3 in
     let no_pair : option_map (λ j. (begin_place.0, j)) (head (late_acks h (numbered 0 lines) (Line.Begin u n))) ≡ None =
-    none_given (λ l. option_map (λ j. (l.0, j)) (head (late_acks h (numbered 0 lines) l.1))) (numbered 0 lines) begun.0 (begin_place.0, Line.Begin u n) (head_none _ none) begin_place.1 in
+    none_given (λ l. option_map (λ j. (l.0, j)) (head (late_acks h (numbered 0 lines) l.1))) (numbered 0 lines) begun.0
+        (begin_place.0, Line.Begin u n) (head_none _ none) begin_place.1 in
     let no_ack : late_acks h (numbered 0 lines) (Line.Begin u n) ≡ [] = head_none _ (mapped_none _ _ no_pair) in
     let no_ack_of : gather (λ l. cond (is_late_ack n x.at l.1) (Some (l.0)) None) (numbered 0 lines) ≡ [] =
-    subst (λ o. (elim o as (λ v. List ℕ) [ None ↦ [] | Some v ↦ gather (λ l. cond (is_late_ack n v.at l.1) (Some (l.0)) None) (numbered 0 lines) ]) ≡ []) found no_ack in
+    subst (λ o. (elim o as (λ v. List ℕ) [ None ↦ [] | Some v ↦ gather (λ l. cond (is_late_ack n v.at l.1) (Some (l.0)) None) (numbered 0 lines) ]) ≡
+        []) found no_ack in
     let not_this : is_late_ack n x.at (Line.Ack t at m) ≡ false =
     chosen_none _ ack_place.0
     (none_given (λ l. cond (is_late_ack n x.at l.1) (Some (l.0)) None) (numbered 0 lines) acked.0 (ack_place.0, Line.Ack t at m) no_ack_of ack_place.1) in

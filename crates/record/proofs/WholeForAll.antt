@@ -2,13 +2,14 @@
 use Rattle.std.specs.List.{list_any, list_all}
 use Rattle.std.proofs.Common.{refl, sym, ◌∙◌, ap, subst, inl, inr}
 use Rattle.std.specs.Prelude.{ℕ, suc, ◌≡◌, Bool, true, false, not, cond, ◌&&◌, ◌||◌, ◌⊎◌, List, [], ◌∷◌, ◌++◌, map, None, filter, flat_map}
+use Rattle.std.proofs.lemmas.Bool.{or_parts}
 use Rattle.units.specs.Lists.{gather, numbered}
 use Rattle.units.specs.Ids.{Id, same_id}
 use Rattle.units.proofs.Folds.{any_append}
 use Rattle.units.proofs.IdLaws.{same_id-is}
 use Rattle.units.proofs.IdOrder.{any_once}
 use Rattle.record.specs.Records.{id_in, as_committed}
-use Rattle.record.specs.Whole.{is_whole, is_whole_by, Decision, ends_at, all_ids}
+use Rattle.record.specs.Whole.{is_whole, is_whole_by, Decision, outcomes_fit, all_ids}
 use Rattle.record.specs.Verdict.{verdict, first_torn}
 use Rattle.record.specs.VerdictLaws.{YesIsSound}
 use Rattle.record.specs.declared.record.Record.{Record}
@@ -16,10 +17,6 @@ use Rattle.record.specs.declared.record.Record.TheVariants.{Opened, Ceiling, Pre
 use Rattle.record.proofs.VerdictMeans.{head_none, kept_step, not_false, no_fault, acknowledged, looks, reads, order}
 
 -- ---- ids
-
-neither : (a b : Bool) → (a || b) ≡ false → (a ≡ false) × (b ≡ false)
-neither true b e = cc
-neither false b e = (refl, e)
 
 one_of : (a b : Bool) → (a || b) ≡ true → (a ≡ true) ⊎ (b ≡ true)
 one_of true b e = inl refl
@@ -39,29 +36,30 @@ no_commit : (t : Id) (log : List Record) → list_any (same_id t) (gather id_in 
 no_commit t [] e = refl
 no_commit t (Opened epoch ∷ rs) e = no_commit t rs e
 no_commit t (Ceiling at ∷ rs) e = no_commit t rs e
-no_commit t (Prepare p ∷ rs) e = no_commit t rs ((neither _ _ e).1)
-no_commit t (Commit c ∷ rs) e = kept_if (same_id t c.txn) c _ ((neither _ _ e).0) (no_commit t rs ((neither _ _ e).1))
-no_commit t (Abort u ∷ rs) e = no_commit t rs ((neither _ _ e).1)
-no_commit t (Outcome u o ∷ rs) e = no_commit t rs ((neither _ _ e).1)
+no_commit t (Prepare p ∷ rs) e = no_commit t rs ((or_parts _ _ e).1)
+no_commit t (Commit c ∷ rs) e = kept_if (same_id t c.txn) c _ ((or_parts _ _ e).0) (no_commit t rs ((or_parts _ _ e).1))
+no_commit t (Abort u ∷ rs) e = no_commit t rs ((or_parts _ _ e).1)
+no_commit t (Outcome u o ∷ rs) e = no_commit t rs ((or_parts _ _ e).1)
 
-no_end : (t : Id) (fits : ℕ → Bool) (log : List Record) → list_any (same_id t) (gather id_in log) ≡ false → ends_at log t fits ≡ true
+no_end : (t : Id) (fits : ℕ → Bool) (log : List Record) → list_any (same_id t) (gather id_in log) ≡ false → outcomes_fit log t fits ≡ true
 no_end t fits [] e = refl
 no_end t fits (Opened epoch ∷ rs) e = no_end t fits rs e
 no_end t fits (Ceiling at ∷ rs) e = no_end t fits rs e
-no_end t fits (Prepare p ∷ rs) e = no_end t fits rs ((neither _ _ e).1)
-no_end t fits (Commit c ∷ rs) e = no_end t fits rs ((neither _ _ e).1)
-no_end t fits (Abort u ∷ rs) e = no_end t fits rs ((neither _ _ e).1)
-no_end t fits (Outcome u o ∷ rs) e = passes (same_id t u) _ _ ((neither _ _ e).0) (no_end t fits rs ((neither _ _ e).1))
+no_end t fits (Prepare p ∷ rs) e = no_end t fits rs ((or_parts _ _ e).1)
+no_end t fits (Commit c ∷ rs) e = no_end t fits rs ((or_parts _ _ e).1)
+no_end t fits (Abort u ∷ rs) e = no_end t fits rs ((or_parts _ _ e).1)
+no_end t fits (Outcome u o ∷ rs) e = passes (same_id t u) _ _ ((or_parts _ _ e).0) (no_end t fits rs ((or_parts _ _ e).1))
 
 -- its place in a log among others
 apart : (t : Id) (log : List Record) (logs : List (List Record)) → list_any (same_id t) (flat_map (gather id_in) (log ∷ logs)) ≡ false →
     (list_any (same_id t) (gather id_in log) ≡ false) × (list_any (same_id t) (flat_map (gather id_in) logs) ≡ false)
-apart t log logs e = neither _ _ (sym (any_append (same_id t) (gather id_in log) (flat_map (gather id_in) logs)) ∙ e)
+apart t log logs e = or_parts _ _ (sym (any_append (same_id t) (gather id_in log) (flat_map (gather id_in) logs)) ∙ e)
 
 decisions_of : Id → ℕ × List Record → List Decision
 decisions_of t l = map (λ c. record { shard = l.0; commit = c }) (filter (λ c. same_id t c.txn) (gather as_committed l.1))
 
-no_decision : (t : Id) (n : ℕ) (logs : List (List Record)) → list_any (same_id t) (flat_map (gather id_in) logs) ≡ false → flat_map (decisions_of t) (numbered n logs) ≡ []
+no_decision : (t : Id) (n : ℕ) (logs : List (List Record)) → list_any (same_id t) (flat_map (gather id_in) logs) ≡ false →
+    flat_map (decisions_of t) (numbered n logs) ≡ []
 unfolding decisions_of
 no_decision t n [] e = refl
 no_decision t n (log ∷ logs) e =
@@ -69,11 +67,12 @@ no_decision t n (log ∷ logs) e =
     ap (λ cs. map (λ c. let d : Decision = record { shard = n; commit = c } in d) cs ++ flat_map (decisions_of t) (numbered (suc n) logs)) (no_commit t log p.0)
     ∙ no_decision t (suc n) logs p.1
 
-no_ends : (t : Id) (logs : List (List Record)) → list_any (same_id t) (flat_map (gather id_in) logs) ≡ false → list_all (λ l. ends_at l t (λ s. false)) logs ≡ true
+no_ends : (t : Id) (logs : List (List Record)) → list_any (same_id t) (flat_map (gather id_in) logs) ≡ false →
+    list_all (λ l. outcomes_fit l t (λ s. false)) logs ≡ true
 no_ends t [] e = refl
 no_ends t (log ∷ logs) e =
     let p : (list_any (same_id t) (gather id_in log) ≡ false) × (list_any (same_id t) (flat_map (gather id_in) logs) ≡ false) = apart t log logs e in
-    ap (λ b. b && list_all (λ l. ends_at l t (λ s. false)) logs) (no_end t (λ s. false) log p.0) ∙ no_ends t logs p.1
+    ap (λ b. b && list_all (λ l. outcomes_fit l t (λ s. false)) logs) (no_end t (λ s. false) log p.0) ∙ no_ends t logs p.1
 
 unmentioned : (t : Id) (logs : List (List Record)) → list_any (same_id t) (flat_map (gather id_in) logs) ≡ false → is_whole t logs ≡ true
 unfolding is_whole decisions_of
@@ -81,13 +80,16 @@ unmentioned t logs e = ap (λ ds. is_whole_by logs t ds) (no_decision t 0 logs e
 
 -- ---- all ids
 
-mentioned : (t : Id) (logs : List (List Record)) (ids : List Id) → filter (λ u. not (is_whole u logs)) ids ≡ [] → list_any (same_id t) ids ≡ true → is_whole t logs ≡ true
+mentioned : (t : Id) (logs : List (List Record)) (ids : List Id) → filter (λ u. not (is_whole u logs)) ids ≡ [] → list_any (same_id t) ids ≡ true →
+    is_whole t logs ≡ true
 mentioned t logs [] e there = cc
 mentioned t logs (u ∷ us) e there =
-    let p : (not (is_whole u logs) ≡ false) × (filter (λ v. not (is_whole v logs)) us ≡ []) = kept_step (not (is_whole u logs)) u (filter (λ v. not (is_whole v logs)) us) e in
+    let p : (not (is_whole u logs) ≡ false) × (filter (λ v. not (is_whole v logs)) us ≡ []) =
+        kept_step (not (is_whole u logs)) u (filter (λ v. not (is_whole v logs)) us) e in
     here_or_later (one_of (same_id t u) (list_any (same_id t) us) there) p.0 (λ later. mentioned t logs us p.1 later)
   where
-    here_or_later : (same_id t u ≡ true) ⊎ (list_any (same_id t) us ≡ true) → not (is_whole u logs) ≡ false → (list_any (same_id t) us ≡ true → is_whole t logs ≡ true) → is_whole t logs ≡ true
+    here_or_later : (same_id t u ≡ true) ⊎ (list_any (same_id t) us ≡ true) → not (is_whole u logs) ≡ false →
+        (list_any (same_id t) us ≡ true → is_whole t logs ≡ true) → is_whole t logs ≡ true
     here_or_later (inl same) good later = subst (λ v. is_whole v logs ≡ true) (sym (same_id-is t u same)) (not_false _ good)
     here_or_later (inr more) good later = later more
 

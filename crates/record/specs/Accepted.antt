@@ -44,22 +44,22 @@ standing_locks (StandsDecided c) = Some (locks_of c.reads c.writes)
 standing_locks _ = None
 
 -- the locks of all of them
-abbrev pub standing : List Record → List (List Lock)
-standing log = gather (λ t. standing_locks (status_of log t)) (ids_of log)
+abbrev pub locks_standing : List Record → List (List Lock)
+locks_standing log = gather (λ t. standing_locks (status_of log t)) (ids_of log)
 
 -- a new promise or decision: room among the rows, no lock in the way, and above the versions of what it writes
-abbrev pub stands : List Record → ℕ → List Bytes → List Write → Bool
-stands before at reads writes =
-    nat_lt (length (standing before)) most_rows
-    && not (list_any (clash (locks_of reads writes)) (standing before))
+abbrev pub may_stand : List Record → ℕ → List Bytes → List Write → Bool
+may_stand before at reads writes =
+    nat_lt (length (locks_standing before)) most_rows
+    && not (list_any (clash (locks_of reads writes)) (locks_standing before))
     && above_versions (installs_of before) at writes
 
 -- the rules of rows, locks and versions
 unfoldable pub fits_beside : List Record → Record → Bool
 fits_beside before (Opened epoch) = true
 fits_beside before (Ceiling at) = true
-fits_beside before (Prepare p) = stands before p.at p.reads p.writes
-fits_beside before (Commit c) = stands before c.at c.reads c.writes
+fits_beside before (Prepare p) = may_stand before p.at p.reads p.writes
+fits_beside before (Commit c) = may_stand before c.at c.reads c.writes
 fits_beside before (Abort t) = true
 fits_beside before (Outcome t None) = true
 fits_beside before (Outcome t (Some at)) =

@@ -13,5 +13,6 @@ use Rattle.record.specs.Verdict.{verdict}
 
 -- the list of names
 unfoldable pub computing : Unit {0}
-unfolding shard_of latest at_time wounded is_free asked ready status_of installs_of follows fits_beside belongs taken followed facts_of learn history before upto is_whole stands_at verdict
+unfolding shard_of latest at_time wounded is_free asked ready status_of installs_of follows fits_beside belongs taken followed facts_of learn history
+    before upto is_whole stands_at verdict
 computing = tt

@@ -2,7 +2,8 @@
 use Rattle.std.specs.Prelude.{ℕ, cond, max, List, [], ◌∷◌, ◌++◌, map, Option, Some, None}
 use Rattle.units.specs.Lists.{first}
 use Rattle.units.specs.Ids.{Id, same_id, older}
-use Rattle.record.specs.Records.{Status, Unrecorded, StandsPrepared, StandsDecided, HasAborted, HasSettled, HasClosed, status_of, ids_of, epoch_of, floor_of, stamp_in}
+use Rattle.record.specs.Records.{Status, Unrecorded, StandsPrepared, StandsDecided, HasAborted, HasSettled, HasClosed, status_of, ids_of, epoch_of}
+use Rattle.record.specs.Records.{floor_of, stamp_in}
 use Rattle.record.specs.Installs.{installs_of}
 use Rattle.units.specs.Versions.{versions}
 use Rattle.units.specs.declared.writes.Install.{Install}
@@ -78,17 +79,17 @@ or_floor floor None = floor
 or_floor floor (Some at) = max floor at
 
 -- the statuses, the epoch and the versions after one more record
-abbrev pub noted : Facts → Record → Facts
-noted facts (Opened epoch) = record facts { epoch = epoch }
-noted facts (Ceiling at) = facts
-noted facts (Prepare p) = set_status facts p.txn (StandsPrepared p)
-noted facts (Commit c) = set_status facts c.txn (StandsDecided c)
-noted facts (Abort t) = set_status facts t HasAborted
-noted facts (Outcome t outcome) =
+abbrev pub with_record_noted : Facts → Record → Facts
+with_record_noted facts (Opened epoch) = record facts { epoch = epoch }
+with_record_noted facts (Ceiling at) = facts
+with_record_noted facts (Prepare p) = set_status facts p.txn (StandsPrepared p)
+with_record_noted facts (Commit c) = set_status facts c.txn (StandsDecided c)
+with_record_noted facts (Abort t) = set_status facts t HasAborted
+with_record_noted facts (Outcome t outcome) =
     record (set_status facts t (after_outcome (recorded facts t) outcome)) {
       installs = facts.installs ++ installs_at (recorded facts t) outcome;
     }
 
 -- the facts after one more record
 unfoldable pub learn : Facts → Record → Facts
-learn facts r = record (noted facts r) { floor = or_floor facts.floor (stamp_in r) }
+learn facts r = record (with_record_noted facts r) { floor = or_floor facts.floor (stamp_in r) }

@@ -35,8 +35,8 @@ history logs =
     flat_map (λ l. gather (λ c. cond (when (nat_eq l.0) (head c.parts)) (Some (whole_txn logs l.0 c)) None) (gather as_committed l.1)) (by_shard logs)
 
 -- the serial order: by timestamp, then by id
-abbrev pub comes_before : Txn → Txn → Bool
-comes_before a b = nat_lt a.at b.at || (nat_eq a.at b.at && older a.txn b.txn)
+abbrev pub serial_before : Txn → Txn → Bool
+serial_before a b = nat_lt a.at b.at || (nat_eq a.at b.at && older a.txn b.txn)
 
 -- a plain map from keys to values
 abbrev pub Map : Type 0
@@ -62,11 +62,11 @@ applied (t ∷ ts) m = applied ts (put_all t.writes m)
 
 -- the transactions in the serial order
 abbrev pub serial : List Txn → List Txn
-serial h = sorted comes_before h
+serial h = sorted serial_before h
 
 -- the map of the transactions that come before one
 unfoldable pub before : List Txn → Txn → Map
-before h t = applied (filter (λ u. comes_before u t) (serial h)) empty
+before h t = applied (filter (λ u. serial_before u t) (serial h)) empty
 
 -- the map of the transactions up to a timestamp
 unfoldable pub upto : List Txn → ℕ → Map

@@ -11,7 +11,7 @@ use Rattle.units.specs.declared.line.Verdict.TheVariants.{Yes}
 
 -- every transaction is whole; what was acknowledged is in the history; looks, and reads of committed transactions, are
 -- those of the serial run; who began after an acknowledgement has the larger timestamp
-pub record IsSound (logs : List (List Record)) (lines : List Line) : Type 0 where
+pub record IsBorneOut (logs : List (List Record)) (lines : List Line) : Type 0 where
   pub whole : (t : Id) → IsTrue (is_whole t logs)
   pub acknowledged : (t : Id) (at m : ℕ) → IsLine lines (Line.Ack t at m) → IsTrue (is_in_at (history logs) t at)
   pub looks : LooksSerially logs lines
@@ -20,4 +20,4 @@ pub record IsSound (logs : List (List Record)) (lines : List Line) : Type 0 wher
 
 -- a yes means this
 abbrev pub YesIsSound : Type 0
-YesIsSound = (logs : List (List Record)) (lines : List Line) → verdict logs lines ≡ Yes → IsSound logs lines
+YesIsSound = (logs : List (List Record)) (lines : List Line) → verdict logs lines ≡ Yes → IsBorneOut logs lines

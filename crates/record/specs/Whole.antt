@@ -1,6 +1,7 @@
 -- Two-phase commit as seen in the logs: a transaction is whole, and where it stands.
 use Rattle.std.specs.List.{list_any, list_all}
-use Rattle.std.specs.Prelude.{ℕ, Bool, true, false, not, cond, ◌&&◌, ◌||◌, nat_eq, nat_lt, nat_le, IsTrue, List, [], ◌∷◌, length, map, Option, Some, None, filter, flat_map}
+use Rattle.std.specs.Prelude.{ℕ, Bool, true, false, not, cond, ◌&&◌, ◌||◌, nat_eq, nat_lt, nat_le, IsTrue, List, [], ◌∷◌, length, map, Option, Some}
+use Rattle.std.specs.Prelude.{None, filter, flat_map}
 use Rattle.units.specs.Lists.{gather, head, when, has}
 use Rattle.units.specs.Ids.{Id, same_id, ids_once}
 use Rattle.record.specs.Records.{Ended, as_committed, as_prepared, as_ended, committed_of, prepared_of, ended_of, is_aborted, id_in}
@@ -20,8 +21,8 @@ decisions logs t =
     flat_map (λ l. map (λ c. record { shard = l.0; commit = c }) (filter (λ c. same_id t c.txn) (gather as_committed l.1))) (by_shard logs)
 
 -- each promise of an id in one log
-abbrev pub promises : List Record → Id → List Prepared
-promises log t = filter (λ p. same_id p.txn t) (gather as_prepared log)
+abbrev pub promises_of : List Record → Id → List Prepared
+promises_of log t = filter (λ p. same_id p.txn t) (gather as_prepared log)
 
 -- a log has an abort of an id, or its outcome aborted
 abbrev pub turns_down : List Record → Id → Bool
@@ -29,8 +30,8 @@ turns_down log t =
     is_aborted log t || list_any (λ e. same_id e.txn t && not (when (λ s. true) e.outcome)) (gather as_ended log)
 
 -- a log's outcomes of an id at a timestamp all have this one
-abbrev pub ends_at : List Record → Id → (ℕ → Bool) → Bool
-ends_at log t fits =
+abbrev pub outcomes_fit : List Record → Id → (ℕ → Bool) → Bool
+outcomes_fit log t fits =
     list_all (λ e. not (same_id t e.txn) || elim e.outcome [ None ↦ true | Some s ↦ fits s ]) (gather as_ended log)
 
 -- exactly one promise, which names the coordinator and is not above the commit's timestamp
@@ -42,9 +43,9 @@ is_promise_for d _ = false
 abbrev pub fits_decision : Id → Decision → ℕ × List Record → Bool
 fits_decision t d l =
     not (turns_down l.1 t)
-    && ends_at l.1 t (nat_eq d.commit.at)
+    && outcomes_fit l.1 t (nat_eq d.commit.at)
     && cond (nat_eq l.0 d.shard) true
-    (cond (has d.commit.parts l.0) (is_promise_for d (promises l.1 t)) (nat_eq (length (promises l.1 t)) 0))
+    (cond (has d.commit.parts l.0) (is_promise_for d (promises_of l.1 t)) (nat_eq (length (promises_of l.1 t)) 0))
 
 -- each part is the number of a log
 abbrev pub parts_exist : List (List Record) → Decision → Bool
@@ -52,7 +53,7 @@ parts_exist logs d = list_all (λ n. nat_lt n (length logs)) d.commit.parts
 
 -- with one decision every log fits it, and it stands in its least part's log; with none no log ends the id at a timestamp
 abbrev pub is_whole_by : List (List Record) → Id → List Decision → Bool
-is_whole_by logs t [] = list_all (λ l. ends_at l t (λ s. false)) logs
+is_whole_by logs t [] = list_all (λ l. outcomes_fit l t (λ s. false)) logs
 is_whole_by logs t (d ∷ []) =
     when (nat_eq d.shard) (head d.commit.parts) && parts_exist logs d && list_all (fits_decision t d) (by_shard logs)
 is_whole_by logs t _ = false
@@ -92,7 +93,8 @@ stands_at logs log t = stands_by logs (committed_of log t) (ended_of log t) (pre
 abbrev pub resolves_by : List (List Record) → Id → List Decision → Type 0
 resolves_by logs t [] = IsTrue (list_all (λ l. not (when (λ s. true) (stands_at logs l t))) logs)
 resolves_by logs t (d ∷ ds) =
-    IsTrue (list_all (λ l. cond (has d.commit.parts l.0) (when (nat_eq d.commit.at) (stands_at logs l.1 t)) (not (when (λ s. true) (stands_at logs l.1 t)))) (by_shard logs))
+    IsTrue (list_all (λ l. cond (has d.commit.parts l.0) (when (nat_eq d.commit.at) (stands_at logs l.1 t))
+        (not (when (λ s. true) (stands_at logs l.1 t)))) (by_shard logs))
 
 -- an id resolves to all of its parts or to none
 abbrev pub Resolves : List (List Record) → Id → Type 0

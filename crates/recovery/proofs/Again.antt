@@ -16,7 +16,7 @@ use Rattle.record.specs.declared.record.Record.{Record}
 use Rattle.message.specs.declared.message.Envelope.{Envelope}
 use Rattle.facts.specs.Rules.{allows, follows_facts, id_follows}
 use Rattle.protocol.specs.Rows.{held_by, held_in, Phase, Row, IsPrepared, IsDecided, find_row, rebuilt, standing_row, with_row, without_row}
-use Rattle.protocol.specs.Plan.{carried, changed, ended_by}
+use Rattle.protocol.specs.Plan.{carried, after_change, ended_by}
 use Rattle.protocol.specs.Plan as protocol
 use Rattle.protocol.proofs.FitsBeside.{unrecorded_is}
 use Rattle.protocol.proofs.StatusChanges.{by_id-status}
@@ -40,7 +40,7 @@ names _ = None
 pub opens_again : (k : Kept) (epoch last : ℕ) (logged : Option Record) (p : protocol.Plan) → IsRecovered k → last ≡ k.memory.last
     → p ≡ record { wounded = []; change = protocol.Keeps; logged = logged; last = last; outbox = [] }
     → carried p k.memory ≡ rebuilt (learn k.facts (Record.Opened epoch))
-unfolding carried changed ended_by rebuilt learn
+unfolding carried after_change ended_by rebuilt learn
 opens_again k epoch last logged p recovered same plan =
     ap (λ q. carried q k.memory) plan
     ∙ ap (λ n. record { last = n; rows = k.memory.rows; ended = k.memory.ended }) same
@@ -49,7 +49,7 @@ opens_again k epoch last logged p recovered same plan =
 pub serves_again : (k : Kept) (at last : ℕ) (logged : Option Record) (p : protocol.Plan) → IsRecovered k → last ≡ max k.memory.last at
     → p ≡ record { wounded = []; change = protocol.Keeps; logged = logged; last = last; outbox = [] }
     → carried p k.memory ≡ rebuilt (learn k.facts (Record.Ceiling at))
-unfolding carried changed ended_by rebuilt learn
+unfolding carried after_change ended_by rebuilt learn
 serves_again k at last logged p recovered same plan =
     ap (λ q. carried q k.memory) plan
     ∙ ap (λ n. record { last = n; rows = k.memory.rows; ended = k.memory.ended }) same
@@ -58,19 +58,21 @@ serves_again k at last logged p recovered same plan =
 -- ---- a promise or a decision
 
 -- the row is put, with the locks of the record
-stands_again : (k : Kept) (t : Id) (s : Status) (at : ℕ) (rs : List Bytes) (ws : List Write) (phase : Phase) (logged : Option Record) (last : ℕ) (after : Facts) (p : protocol.Plan)
+stands_again : (k : Kept) (t : Id) (s : Status) (at : ℕ) (rs : List Bytes) (ws : List Write) (phase : Phase) (logged : Option Record) (last : ℕ)
+    (after : Facts) (p : protocol.Plan)
     → IsRecovered k → recorded k.facts t ≡ Unrecorded → IsOwn (record { txn = t; status = s })
     → standing_row (record { txn = t; status = s }) ≡ Some (record { txn = t; held = locks_of rs ws; phase = phase })
     → after.entries ≡ with_status k.facts.entries t s → after.floor ≡ max k.facts.floor at → last ≡ max k.memory.last at
     → p ≡ record { wounded = []; change = protocol.Puts t (shared rs ++ exclusive ws) phase; logged = logged; last = last; outbox = [] }
     → carried p k.memory ≡ rebuilt after
-unfolding carried changed ended_by rebuilt
+unfolding carried after_change ended_by rebuilt
 stands_again k t s at rs ws phase logged last after p recovered fresh own stands put floor late plan =
     let absent : find_row k.memory.rows t ≡ None = fresh_absent k t recovered fresh in
     let nothing : held_in k.memory.rows t ≡ [] = ap held_by absent in
     let held : with_locks (held_in k.memory.rows t) (shared rs ++ exclusive ws) ≡ locks_of rs ws =
     ap (λ hs. with_locks hs (shared rs ++ exclusive ws)) nothing ∙ with_locks-append [] (shared rs) (exclusive ws) in
-    let rows : with_row k.memory.rows (record { txn = t; held = with_locks (held_in k.memory.rows t) (shared rs ++ exclusive ws); phase = phase }) ≡ gather standing_row after.entries =
+    let rows : with_row k.memory.rows (record { txn = t; held = with_locks (held_in k.memory.rows t) (shared rs ++ exclusive ws); phase = phase }) ≡
+        gather standing_row after.entries =
     ap (λ ls. with_row k.memory.rows (record { txn = t; held = ls; phase = phase })) held
     ∙ ap (λ rows. with_row rows (record { txn = t; held = locks_of rs ws; phase = phase })) (rows_are k recovered)
     ∙ row_put k.facts.entries t s (record { txn = t; held = locks_of rs ws; phase = phase }) recovered.order recovered.own own stands refl
@@ -78,7 +80,8 @@ stands_again k t s at rs ws phase logged last after p recovered fresh own stands
     let same : last ≡ after.floor = late ∙ ap (λ m. max m.last at) recovered.memory ∙ sym floor in
     let ended : k.memory.ended ≡ [] = ap (λ m. m.ended) recovered.memory in
     ap (λ q. carried q k.memory) plan
-    ∙ ap (λ n. record { last = n; rows = with_row k.memory.rows (record { txn = t; held = with_locks (held_in k.memory.rows t) (shared rs ++ exclusive ws); phase = phase }); ended = k.memory.ended }) same
+    ∙ ap (λ n. record { last = n; rows = with_row k.memory.rows
+        (record { txn = t; held = with_locks (held_in k.memory.rows t) (shared rs ++ exclusive ws); phase = phase }); ended = k.memory.ended }) same
     ∙ ap (λ rs. record { last = after.floor; rows = rs; ended = k.memory.ended }) rows
     ∙ ap (λ ids. record { last = after.floor; rows = gather standing_row after.entries; ended = ids }) ended
 
@@ -89,7 +92,7 @@ drops_again : (k : Kept) (t : Id) (s : Status) (last : ℕ) (item : Record) (out
     → IsRecovered k → IsOwn (record { txn = t; status = s }) → standing_row (record { txn = t; status = s }) ≡ None
     → after.entries ≡ with_status k.facts.entries t s → after.floor ≡ last → p ≡ protocol.drops t item last out
     → carried p k.memory ≡ rebuilt after
-unfolding carried changed ended_by rebuilt
+unfolding carried after_change ended_by rebuilt
 drops_again k t s last item out after p recovered own stands put floor plan =
     let rows : without_row k.memory.rows t ≡ gather standing_row after.entries =
     ap (λ rows. without_row rows t) (rows_are k recovered)
@@ -119,36 +122,44 @@ fresh_before shard facts r t follows named = by_record r (id_rules shard facts r
   where
     by_record : (r : Record) → id_follows shard facts r ≡ true → names r ≡ Some t → recorded facts t ≡ Unrecorded
     by_record (Record.Prepare p) h k =
-        let same : p.txn ≡ t = cc in subst (λ u. recorded facts u ≡ Unrecorded) same (unrecorded_is (recorded facts p.txn) (and_parts _ _ (and_parts _ _ h).0).1)
+        let same : p.txn ≡ t = cc in subst (λ u. recorded facts u ≡ Unrecorded) same (unrecorded_is (recorded facts p.txn)
+            (and_parts _ _ (and_parts _ _ h).0).1)
     by_record (Record.Commit c) h k =
-        let same : c.txn ≡ t = cc in subst (λ u. recorded facts u ≡ Unrecorded) same (unrecorded_is (recorded facts c.txn) (and_parts _ _ (and_parts _ _ h).0).1)
+        let same : c.txn ≡ t = cc in subst (λ u. recorded facts u ≡ Unrecorded) same (unrecorded_is (recorded facts c.txn)
+            (and_parts _ _ (and_parts _ _ h).0).1)
     by_record (Record.Abort u) h k = let same : u ≡ t = cc in subst (λ u. recorded facts u ≡ Unrecorded) same (unrecorded_is (recorded facts u) h)
     by_record (Record.Opened epoch) h k = cc
     by_record (Record.Ceiling at) h k = cc
     by_record (Record.Outcome u o) h k = cc
 
-pub absent_before : (k : Kept) (shard : ℕ) (r : Record) (t : Id) → IsRecovered k → follows_facts shard k.facts r ≡ true → names r ≡ Some t → find_row k.memory.rows t ≡ None
+pub absent_before : (k : Kept) (shard : ℕ) (r : Record) (t : Id) → IsRecovered k → follows_facts shard k.facts r ≡ true → names r ≡ Some t →
+    find_row k.memory.rows t ≡ None
 absent_before k shard r t recovered follows named = fresh_absent k t recovered (fresh_before shard k.facts r t follows named)
 
-pub promise_again : (k : Kept) (shard : ℕ) (x : Prepared) (logged : Option Record) (last : ℕ) (p : protocol.Plan) → IsRecovered k → follows_facts shard k.facts (Record.Prepare x) ≡ true
+pub promise_again : (k : Kept) (shard : ℕ) (x : Prepared) (logged : Option Record) (last : ℕ) (p : protocol.Plan) → IsRecovered k →
+    follows_facts shard k.facts (Record.Prepare x) ≡ true
     → last ≡ max k.memory.last x.at
-    → p ≡ record { wounded = []; change = protocol.Puts x.txn (shared x.reads ++ exclusive x.writes) (IsPrepared x.coordinator x.at); logged = logged; last = last; outbox = [] }
+    → p ≡ record { wounded = []; change = protocol.Puts x.txn (shared x.reads ++ exclusive x.writes) (IsPrepared x.coordinator x.at); logged =
+        logged; last = last; outbox = [] }
     → carried p k.memory ≡ rebuilt (learn k.facts (Record.Prepare x))
 unfolding learn
 promise_again k shard x logged last p recovered follows late plan =
     stands_again k x.txn (StandsPrepared x) x.at x.reads x.writes (IsPrepared x.coordinator x.at) logged last (learn k.facts (Record.Prepare x)) p recovered
     (fresh_before shard k.facts (Record.Prepare x) x.txn follows refl) refl refl refl refl late plan
 
-pub decision_again : (k : Kept) (shard : ℕ) (x : Committed) (logged : Option Record) (last : ℕ) (p : protocol.Plan) → IsRecovered k → follows_facts shard k.facts (Record.Commit x) ≡ true
+pub decision_again : (k : Kept) (shard : ℕ) (x : Committed) (logged : Option Record) (last : ℕ) (p : protocol.Plan) → IsRecovered k →
+    follows_facts shard k.facts (Record.Commit x) ≡ true
     → last ≡ max k.memory.last x.at
-    → p ≡ record { wounded = []; change = protocol.Puts x.txn (shared x.reads ++ exclusive x.writes) (IsDecided x.at x.parts); logged = logged; last = last; outbox = [] }
+    → p ≡ record { wounded = []; change = protocol.Puts x.txn (shared x.reads ++ exclusive x.writes) (IsDecided x.at x.parts); logged = logged;
+        last = last; outbox = [] }
     → carried p k.memory ≡ rebuilt (learn k.facts (Record.Commit x))
 unfolding learn
 decision_again k shard x logged last p recovered follows late plan =
     stands_again k x.txn (StandsDecided x) x.at x.reads x.writes (IsDecided x.at x.parts) logged last (learn k.facts (Record.Commit x)) p recovered
     (fresh_before shard k.facts (Record.Commit x) x.txn follows refl) refl refl refl refl late plan
 
-pub abort_again : (k : Kept) (t : Id) (last : ℕ) (item : Record) (out : List Envelope) (p : protocol.Plan) → IsRecovered k → last ≡ k.memory.last → p ≡ protocol.drops t item last out
+pub abort_again : (k : Kept) (t : Id) (last : ℕ) (item : Record) (out : List Envelope) (p : protocol.Plan) → IsRecovered k → last ≡ k.memory.last →
+    p ≡ protocol.drops t item last out
     → carried p k.memory ≡ rebuilt (learn k.facts (Record.Abort t))
 unfolding learn rebuilt
 abort_again k t last item out p recovered same plan =
@@ -171,17 +182,20 @@ ended_own t HasAborted o k = absurd (false≢true k)
 ended_own t (HasSettled at ps) o k = absurd (false≢true k)
 ended_own t (HasClosed c q) o k = absurd (false≢true k)
 
-pub outcome_again : (k : Kept) (shard : ℕ) (t : Id) (o : Option ℕ) (last : ℕ) (item : Record) (out : List Envelope) (p : protocol.Plan) → IsRecovered k → follows_facts shard k.facts (Record.Outcome t o) ≡ true
+pub outcome_again : (k : Kept) (shard : ℕ) (t : Id) (o : Option ℕ) (last : ℕ) (item : Record) (out : List Envelope) (p : protocol.Plan) →
+    IsRecovered k → follows_facts shard k.facts (Record.Outcome t o) ≡ true
     → last ≡ or_floor k.memory.last o → p ≡ protocol.drops t item last out
     → carried p k.memory ≡ rebuilt (learn k.facts (Record.Outcome t o))
 unfolding learn rebuilt
 outcome_again k shard t o last item out p recovered follows late plan =
     let allowed : allows (recorded k.facts t) o ≡ true = id_rules shard k.facts (Record.Outcome t o) follows in
     drops_again k t (after_outcome (recorded k.facts t) o) last item out (learn k.facts (Record.Outcome t o)) p recovered
-    (ended_own t (recorded k.facts t) o allowed) (ended_row t (recorded k.facts t) o allowed) refl (sym (late ∙ ap (λ m. or_floor m.last o) recovered.memory)) plan
+    (ended_own t (recorded k.facts t) o allowed) (ended_row t (recorded k.facts t) o allowed) refl
+        (sym (late ∙ ap (λ m. or_floor m.last o) recovered.memory)) plan
 
 -- what may be done with the row
-pub may_abort_again : (k : Kept) (shard : ℕ) (t : Id) → IsRecovered k → follows_facts shard k.facts (Record.Abort t) ≡ true → MayDrop k.memory.rows t (Some (Record.Abort t))
+pub may_abort_again : (k : Kept) (shard : ℕ) (t : Id) → IsRecovered k → follows_facts shard k.facts (Record.Abort t) ≡ true →
+    MayDrop k.memory.rows t (Some (Record.Abort t))
 may_abort_again k shard t recovered follows = (refl, by_row (find_row k.memory.rows t) (absent_before k shard (Record.Abort t) t recovered follows refl))
   where
     by_row : (o : Option Row) → o ≡ None → (elim o [ None ↦ true | Some r ↦ may_abort r.phase ]) ≡ true
@@ -220,7 +234,8 @@ learn_order f (Record.Commit c) up = by_id-status f.entries c.txn (StandsDecided
 learn_order f (Record.Abort t) up = by_id-status f.entries t HasAborted up
 learn_order f (Record.Outcome t o) up = by_id-status f.entries t (after_outcome (recorded f t) o) up
 
-pub learn_own : (shard : ℕ) (f : Facts) (r : Record) → follows_facts shard f r ≡ true → AllByRecursion IsOwn f.entries → AllByRecursion IsOwn (learn f r).entries
+pub learn_own : (shard : ℕ) (f : Facts) (r : Record) → follows_facts shard f r ≡ true → AllByRecursion IsOwn f.entries →
+    AllByRecursion IsOwn (learn f r).entries
 unfolding learn
 learn_own shard f (Record.Opened epoch) follows own = own
 learn_own shard f (Record.Ceiling at) follows own = own

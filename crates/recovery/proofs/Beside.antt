@@ -1,5 +1,6 @@
 -- Whether a record has its place beside the rows that a log holds.
-use Rattle.std.proofs.Common.{◌≡◌, ℕ, Bool, true, false, not, ◌&&◌, nat_lt, nat_le, List, [], ◌∷◌, ◌++◌, map, length, Option, Some, None, refl, sym, ap, ◌∙◌, arith}
+use Rattle.std.proofs.Common.{◌≡◌, ℕ, Bool, true, false, not, ◌&&◌, nat_lt, nat_le, List, [], ◌∷◌, ◌++◌, map, length, Option, Some, None, refl, sym}
+use Rattle.std.proofs.Common.{ap, ◌∙◌, arith}
 use Rattle.std.specs.List.{AllByRecursion, list_any}
 use Rattle.std.proofs.lemmas.Bool.{and_parts}
 use Rattle.std.proofs.lemmas.Bool.Decides.{nat_tests}
@@ -48,7 +49,8 @@ none_has [] t all = refl
 none_has (r ∷ rs) t all = rw (all.0) (none_has rs t all.1)
 
 -- there is room for its row
-roomy : (rows : List Row) (t : Id) → find_row rows t ≡ None → not (nat_le most_rows (length rows) && not (list_any (λ r. same_id r.txn t) rows)) ≡ nat_lt (length rows) most_rows
+roomy : (rows : List Row) (t : Id) → find_row rows t ≡ None → not (nat_le most_rows (length rows) && not (list_any (λ r. same_id r.txn t) rows)) ≡
+    nat_lt (length rows) most_rows
 roomy rows t absent =
     ap (λ b. not (nat_le most_rows (length rows) && not b)) (none_has rows t (first_none (λ (r : Row). same_id r.txn t) rows absent))
     ∙ grind (arith, nat_tests)
@@ -58,7 +60,8 @@ opens_are : (k : Kept) (t : Id) (rs : List Bytes) (ws : List Write) → IsRecove
     → opens (start_of k) t (shared rs ++ exclusive ws) ≡ not (list_any (clash (locks_of rs ws)) (map (λ r. r.held) (standing_rows k.facts)))
 opens_are k t rs ws recovered absent =
     ap (λ rows. is_free (claims (without_rows rows (wounded (claims rows) t (shared rs ++ exclusive ws)))) t (shared rs ++ exclusive ws)) (rows_are k recovered)
-    ∙ ap (λ us. is_free (claims (without_rows (standing_rows k.facts) us)) t (shared rs ++ exclusive ws)) (none_wounded (standing_rows k.facts) t (shared rs ++ exclusive ws) (all_still k.facts))
+    ∙ ap (λ us. is_free (claims (without_rows (standing_rows k.facts) us)) t (shared rs ++ exclusive ws))
+        (none_wounded (standing_rows k.facts) t (shared rs ++ exclusive ws) (all_still k.facts))
     ∙ locks_free k.facts t rs ws (ap (λ rows. find_row rows t) (sym (rows_are k recovered)) ∙ absent)
 
 -- so it stands beside them by the three tests
@@ -73,19 +76,22 @@ stands_are k t at rs ws crowded free above recovered absent c f a =
     ∙ ap (λ b. nat_lt (length (standing_rows k.facts)) most_rows && not (list_any (clash (locks_of rs ws)) (map (λ r. r.held) (standing_rows k.facts))) && b) a
 
 -- and then it may ask for its locks
-pub asks_are : (k : Kept) (t : Id) (at : ℕ) (rs : List Bytes) (ws : List Write) → IsRecovered k → find_row k.memory.rows t ≡ None → stands_in k.facts at rs ws ≡ true
+pub asks_are : (k : Kept) (t : Id) (at : ℕ) (rs : List Bytes) (ws : List Write) → IsRecovered k → find_row k.memory.rows t ≡ None →
+    stands_in k.facts at rs ws ≡ true
     → Asks k.memory.rows t [] (shared rs ++ exclusive ws) true
 asks_are k t at rs ws recovered absent stands =
     let p = and_parts _ _ (and_parts _ _ stands).0 in
     let room : nat_lt (length k.memory.rows) most_rows ≡ true = ap (λ rows. nat_lt (length rows) most_rows) (rows_are k recovered) ∙ p.0 in
     let nobody : wounded (claims k.memory.rows) t (shared rs ++ exclusive ws) ≡ [] =
-    ap (λ rows. wounded (claims rows) t (shared rs ++ exclusive ws)) (rows_are k recovered) ∙ none_wounded (standing_rows k.facts) t (shared rs ++ exclusive ws) (all_still k.facts) in
+    ap (λ rows. wounded (claims rows) t (shared rs ++ exclusive ws)) (rows_are k recovered)
+        ∙ none_wounded (standing_rows k.facts) t (shared rs ++ exclusive ws) (all_still k.facts) in
     let free : is_free (claims k.memory.rows) t (shared rs ++ exclusive ws) ≡ true =
     ap (λ rows. is_free (claims rows) t (shared rs ++ exclusive ws)) (rows_are k recovered)
     ∙ locks_free k.facts t rs ws (ap (λ rows. find_row rows t) (sym (rows_are k recovered)) ∙ absent)
     ∙ p.1 in
     (by_row (find_row k.memory.rows t) absent room, sym nobody, free)
   where
-    by_row : (o : Option Row) → o ≡ None → nat_lt (length k.memory.rows) most_rows ≡ true → (elim o [ None ↦ nat_lt (length k.memory.rows) most_rows | Some r ↦ is_reading r.phase ]) ≡ true
+    by_row : (o : Option Row) → o ≡ None → nat_lt (length k.memory.rows) most_rows ≡ true →
+        (elim o [ None ↦ nat_lt (length k.memory.rows) most_rows | Some r ↦ is_reading r.phase ]) ≡ true
     by_row None none room = room
     by_row (Some r) none room = cc

@@ -49,30 +49,38 @@ learnt_first r h = first_facts ∙ ap (learn (facts_of [])) (sym (first_is r h))
 
 -- a record of another shard is refused, whatever it follows
 pub stranger_next : (setup : Setup) (facts : Facts) (e : Placed) → belongs setup e.item ≡ false → fault_next setup facts e ≡ Some Fault.Stranger
-stranger_next setup facts e foreign = ap (λ b. cond (not b) (Some Fault.Stranger) (cond (follows_facts setup.shard facts e.item && fits_facts facts e.item) None (Some (Fault.Damaged e.offset)))) foreign
+stranger_next setup facts e foreign = ap (λ b. cond (not b) (Some Fault.Stranger)
+    (cond (follows_facts setup.shard facts e.item && fits_facts facts e.item) None (Some (Fault.Damaged e.offset)))) foreign
 
 -- one of this shard, by its place
 own_next : (setup : Setup) (facts : Facts) (e : Placed) → belongs setup e.item ≡ true
     → fault_next setup facts e ≡ cond (follows_facts setup.shard facts e.item && fits_facts facts e.item) None (Some (Fault.Damaged e.offset))
-own_next setup facts e own = ap (λ b. cond (not b) (Some Fault.Stranger) (cond (follows_facts setup.shard facts e.item && fits_facts facts e.item) None (Some (Fault.Damaged e.offset)))) own
+own_next setup facts e own = ap (λ b. cond (not b) (Some Fault.Stranger)
+    (cond (follows_facts setup.shard facts e.item && fits_facts facts e.item) None (Some (Fault.Damaged e.offset)))) own
 
-pub unfollowing_next : (setup : Setup) (facts : Facts) (e : Placed) → belongs setup e.item ≡ true → follows_facts setup.shard facts e.item ≡ false → fault_next setup facts e ≡ Some (Fault.Damaged e.offset)
+pub unfollowing_next : (setup : Setup) (facts : Facts) (e : Placed) → belongs setup e.item ≡ true → follows_facts setup.shard facts e.item ≡ false →
+    fault_next setup facts e ≡ Some (Fault.Damaged e.offset)
 unfollowing_next setup facts e own out = own_next setup facts e own ∙ ap (λ b. cond (b && fits_facts facts e.item) None (Some (Fault.Damaged e.offset))) out
 
-pub unfit_next : (setup : Setup) (facts : Facts) (e : Placed) → belongs setup e.item ≡ true → follows_facts setup.shard facts e.item ≡ true → fits_facts facts e.item ≡ false
+pub unfit_next : (setup : Setup) (facts : Facts) (e : Placed) → belongs setup e.item ≡ true → follows_facts setup.shard facts e.item ≡ true →
+    fits_facts facts e.item ≡ false
     → fault_next setup facts e ≡ Some (Fault.Damaged e.offset)
 unfit_next setup facts e own follows out =
-    own_next setup facts e own ∙ ap (λ b. cond (b && fits_facts facts e.item) None (Some (Fault.Damaged e.offset))) follows ∙ ap (λ b. cond {A = Option Fault} b None (Some (Fault.Damaged e.offset))) out
+    own_next setup facts e own ∙ ap (λ b. cond (b && fits_facts facts e.item) None (Some (Fault.Damaged e.offset))) follows
+        ∙ ap (λ b. cond {A = Option Fault} b None (Some (Fault.Damaged e.offset))) out
 
-pub taken_next : (setup : Setup) (facts : Facts) (e : Placed) → belongs setup e.item ≡ true → follows_facts setup.shard facts e.item ≡ true → fits_facts facts e.item ≡ true
+pub taken_next : (setup : Setup) (facts : Facts) (e : Placed) → belongs setup e.item ≡ true → follows_facts setup.shard facts e.item ≡ true →
+    fits_facts facts e.item ≡ true
     → fault_next setup facts e ≡ None
 taken_next setup facts e own follows fits =
-    own_next setup facts e own ∙ ap (λ b. cond (b && fits_facts facts e.item) None (Some (Fault.Damaged e.offset))) follows ∙ ap (λ b. cond {A = Option Fault} b None (Some (Fault.Damaged e.offset))) fits
+    own_next setup facts e own ∙ ap (λ b. cond (b && fits_facts facts e.item) None (Some (Fault.Damaged e.offset))) follows
+        ∙ ap (λ b. cond {A = Option Fault} b None (Some (Fault.Damaged e.offset))) fits
 
 pub first_taken : (setup : Setup) (e : Placed) → belongs setup e.item ≡ true → is_first e.item ≡ true → fault_next setup (facts_of []) e ≡ None
 first_taken setup e own first = taken_next setup (facts_of []) e own (first_follows setup.shard e.item ∙ first) (fits_first e.item first)
 
-pub first_refused : (setup : Setup) (e : Placed) → belongs setup e.item ≡ true → is_first e.item ≡ false → fault_next setup (facts_of []) e ≡ Some (Fault.Damaged e.offset)
+pub first_refused : (setup : Setup) (e : Placed) → belongs setup e.item ≡ true → is_first e.item ≡ false →
+    fault_next setup (facts_of []) e ≡ Some (Fault.Damaged e.offset)
 first_refused setup e own other = unfollowing_next setup (facts_of []) e own (first_follows setup.shard e.item ∙ other)
 
 -- it installs nothing

@@ -44,7 +44,8 @@ needs_clash rs ws ms = by_tests (clash (shared rs ++ exclusive ws) ms) (clash (l
         let writes : clash (exclusive ws) ms ≡ false = writes_free ws (locks_of rs ws) ms (holds_exclusive ws (with_locks [] (shared rs))) free in
         clash-append (shared rs) (exclusive ws) ms ∙ ap (λ b. b || clash (exclusive ws) ms) reads ∙ writes
 
-    by_tests : (a b : Bool) → clash (shared rs ++ exclusive ws) ms ≡ a → clash (locks_of rs ws) ms ≡ b → clash (shared rs ++ exclusive ws) ms ≡ clash (locks_of rs ws) ms
+    by_tests : (a b : Bool) → clash (shared rs ++ exclusive ws) ms ≡ a → clash (locks_of rs ws) ms ≡ b →
+        clash (shared rs ++ exclusive ws) ms ≡ clash (locks_of rs ws) ms
     by_tests true true j k = j ∙ sym k
     by_tests false b j k = j ∙ sym (both_free j)
     by_tests true false j k = absurd (false≢true (sym (all_free k) ∙ j))
@@ -117,12 +118,14 @@ free_is rows t needs still apart =
     and_not true = refl
     and_not false = refl
 
-    held_in_way : (rs : List Row) → AllByRecursion (λ r. same_id r.txn t ≡ false) rs → list_any (λ c. true) (blockers (claims rs) t needs) ≡ list_any (clash needs) (map (λ r. r.held) rs)
+    held_in_way : (rs : List Row) → AllByRecursion (λ r. same_id r.txn t ≡ false) rs → list_any (λ c. true) (blockers (claims rs) t needs) ≡
+        list_any (clash needs) (map (λ r. r.held) rs)
     held_in_way [] all = refl
     held_in_way (r ∷ rs) all = rw (all.0) (by_test (clash r.held needs) refl (held_in_way rs all.1))
       where
         by_test : (b : Bool) → clash r.held needs ≡ b → list_any (λ c. true) (blockers (claims rs) t needs) ≡ list_any (clash needs) (map (λ r. r.held) rs)
-            → list_any (λ c. true) (cond b (claim_of r ∷ blockers (claims rs) t needs) (blockers (claims rs) t needs)) ≡ (clash needs r.held || list_any (clash needs) (map (λ r. r.held) rs))
+            → list_any (λ c. true) (cond b (claim_of r ∷ blockers (claims rs) t needs) (blockers (claims rs) t needs)) ≡
+                (clash needs r.held || list_any (clash needs) (map (λ r. r.held) rs))
         by_test true k rest = sym (ap (λ b. b || list_any (clash needs) (map (λ (r : Row). r.held) rs)) (clash_comm needs r.held ∙ k))
         by_test false k rest = rest ∙ sym (ap (λ b. b || list_any (clash needs) (map (λ (r : Row). r.held) rs)) (clash_comm needs r.held ∙ k))
 

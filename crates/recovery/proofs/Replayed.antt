@@ -13,7 +13,7 @@ use Rattle.protocol.specs.Rows.{Memory, Row, claims, rebuilt}
 use Rattle.protocol.specs.Plan.{carried}
 use Rattle.protocol.specs.Step.{facts_after}
 use Rattle.protocol.proofs.OpenedRows.{by_id-gather}
-use Rattle.memory.specs.Carry.{AdmissionIsUnseen, IsCarriable, IsFit, IsReady, MayFollow, MayInstall, ReadyIsCarriable, installed_by}
+use Rattle.memory.specs.Carry.{AdmissionIsUnseen, IsCarriable, IsFit, HasMemoryFor, MayFollow, MayInstall, ReadyIsCarriable, writes_installed}
 use Rattle.memory.specs.Kept.{Kept}
 use Rattle.memory.specs.Ledger.{CanInstall}
 use Rattle.memory.specs.Plans.{plan_of}
@@ -29,7 +29,8 @@ rows_by_id k recovered =
     subst (IsById (λ (r : Row). r.txn)) (sym (rows_are k recovered)) (by_id-gather k.facts.entries recovered.order (own_rows k.facts.entries recovered.own))
 
 -- what it installs is above the versions of its keys
-installs_again : (facts : Facts) (item : Record) (writes : List Write) → fits_facts facts item ≡ true → writes ≡ installed_by facts (Some item) → CanInstall facts item writes
+installs_again : (facts : Facts) (item : Record) (writes : List Write) → fits_facts facts item ≡ true → writes ≡ writes_installed facts (Some item) →
+    CanInstall facts item writes
 installs_again facts (Record.Outcome t (Some s)) writes fits same = (same, subst (λ ws. above_versions facts.installs s ws ≡ true) (sym same) fits)
 installs_again facts (Record.Outcome t None) writes fits same = tt
 installs_again facts (Record.Opened epoch) writes fits same = tt
@@ -38,21 +39,24 @@ installs_again facts (Record.Prepare p) writes fits same = tt
 installs_again facts (Record.Commit c) writes fits same = tt
 installs_again facts (Record.Abort t) writes fits same = tt
 
-pub can_carry_again : (old new : Kept) (p : Plan) (item : Record) (writes : List Write) → IsRecovered old → follows_facts old.setup.shard old.facts item ≡ true → fits_facts old.facts item ≡ true
-    → p.logged ≡ Some item → IsFit old p → IsReady old new p → ReadyIsCarriable → writes ≡ installed_by old.facts p.logged → IsCarriable new p writes
+pub can_carry_again : (old new : Kept) (p : Plan) (item : Record) (writes : List Write) → IsRecovered old →
+    follows_facts old.setup.shard old.facts item ≡ true → fits_facts old.facts item ≡ true
+    → p.logged ≡ Some item → IsFit old p → HasMemoryFor old new p → ReadyIsCarriable → writes ≡ writes_installed old.facts p.logged → IsCarriable new p writes
 can_carry_again old new p item writes recovered follows fits logged fit ready law same =
     law old new p writes (rows_by_id old recovered) fit ready
     (subst (MayFollow old.setup.shard old.facts) (sym logged) follows)
-    (subst (λ o. MayInstall old.facts o writes) (sym logged) (installs_again old.facts item writes fits (same ∙ ap (installed_by old.facts) logged)))
+    (subst (λ o. MayInstall old.facts o writes) (sym logged) (installs_again old.facts item writes fits (same ∙ ap (writes_installed old.facts) logged)))
 
 -- the memory after it
-memory_again : (old new : Kept) (p : Plan) (after : Memory) → IsRecovered old → IsFit old p → IsReady old new p → AdmissionIsUnseen
+memory_again : (old new : Kept) (p : Plan) (after : Memory) → IsRecovered old → IsFit old p → HasMemoryFor old new p → AdmissionIsUnseen
     → after ≡ carried (plan_of new.memory.rows p) new.memory → after ≡ carried (plan_of old.memory.rows p) old.memory
 memory_again old new p after recovered fit ready law same =
     same ∙ ap (λ m. carried (plan_of m.rows p) m) ready.memory ∙ law old.memory p (rows_by_id old recovered) fit.0
 
-pub recovered_again : (old new later : Kept) (p : Plan) (item : Record) → IsRecovered old → IsLawfulTable (claims old.memory.rows) → follows_facts old.setup.shard old.facts item ≡ true → fits_facts old.facts item ≡ true
-    → p.logged ≡ Some item → IsFit old p → IsReady old new p → AdmissionIsUnseen → carried (plan_of old.memory.rows p) old.memory ≡ rebuilt (learn old.facts item)
+pub recovered_again : (old new later : Kept) (p : Plan) (item : Record) → IsRecovered old → IsLawfulTable (claims old.memory.rows) →
+    follows_facts old.setup.shard old.facts item ≡ true → fits_facts old.facts item ≡ true
+    → p.logged ≡ Some item → IsFit old p → HasMemoryFor old new p → AdmissionIsUnseen → carried (plan_of old.memory.rows p) old.memory ≡
+        rebuilt (learn old.facts item)
     → later.facts ≡ facts_after new.facts p.logged → later.memory ≡ carried (plan_of new.memory.rows p) new.memory
     → (later.facts ≡ learn old.facts item) × IsRecovered later
 recovered_again old new later p item recovered lawful follows fits logged fit ready law again facts memory =

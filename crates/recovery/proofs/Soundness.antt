@@ -1,6 +1,7 @@
 -- What the records of a log leave is sound: each that has its place keeps the timestamps of what stands above the versions of
 -- what it writes.
-use Rattle.std.proofs.Common.{◌≡◌, ℕ, ◌+◌, ◌<◌, ◌≤◌, Bool, true, false, not, nat_le, nat_lt, max, List, [], ◌∷◌, ◌++◌, Option, Some, None, refl, sym, ap, subst, ◌∙◌, arith}
+use Rattle.std.proofs.Common.{◌≡◌, ℕ, ◌+◌, ◌<◌, ◌≤◌, Bool, true, false, not, nat_le, nat_lt, max, List, [], ◌∷◌, ◌++◌, Option, Some, None, refl, sym}
+use Rattle.std.proofs.Common.{ap, subst, ◌∙◌, arith}
 use Rattle.std.specs.Prelude.{IsTrue}
 use Rattle.std.specs.List.{AllByRecursion, list_all}
 use Rattle.std.proofs.lemmas.Bool.{false≢true, and_parts}
@@ -30,7 +31,7 @@ use Rattle.protocol.proofs.RecordLocks.{holds_reads}
 use Rattle.protocol.proofs.RowChanges.{find_members}
 use Rattle.protocol.proofs.StatusChanges.{by_id-status, entry_other, entry_same}
 use Rattle.memory.specs.Kept.{Kept}
-use Rattle.recovery.specs.Recovered.{IsDue, IsGood, IsGoodPart, IsOwn, IsRecovered, Part, fits_facts, part_of, standing_rows}
+use Rattle.recovery.specs.Recovered.{MayStandNext, IsGood, IsGoodPart, IsOwn, IsRecovered, Part, fits_facts, part_of, standing_rows}
 use Rattle.recovery.proofs.Again.{id_rules}
 use Rattle.recovery.proofs.StandingRows.{found}
 
@@ -38,7 +39,8 @@ use Rattle.recovery.proofs.StandingRows.{found}
 
 -- each entry of another id keeps what it had
 all_status : (P Q : Entry → Type 0) (es : List Entry) (t : Id) (s : Status) → IsById (λ e. e.txn) es → Q (record { txn = t; status = s })
-    → ((e : Entry) → find_member (λ e. e.txn) es e.txn ≡ Some e → same_id t e.txn ≡ false → P e → Q e) → AllByRecursion P es → AllByRecursion Q (with_status es t s)
+    → ((e : Entry) → find_member (λ e. e.txn) es e.txn ≡ Some e → same_id t e.txn ≡ false → P e → Q e) → AllByRecursion P es →
+        AllByRecursion Q (with_status es t s)
 all_status P Q es t s up new keeps all =
     all_gives (λ (e : Entry). find_member (λ (e : Entry). e.txn) (with_status es t s) e.txn ≡ Some e) Q one (with_status es t s)
     (find_members (λ (e : Entry). e.txn) (with_status es t s) (by_id-status es t s up))
@@ -71,10 +73,12 @@ has_row e x k = by_status e.status k
     by_status : (s : Status) → part_of s ≡ Some x → HasRow (record { txn = e.txn; status = s }) x
     by_status (StandsPrepared p) k =
         let same : record { at = p.at; reads = p.reads; writes = p.writes } ≡ x = cc in
-        subst (HasRow (record { txn = e.txn; status = StandsPrepared p })) same (record { row = record { txn = p.txn; held = locks_of p.reads p.writes; phase = IsPrepared p.coordinator p.at }; is = refl; held = refl })
+        subst (HasRow (record { txn = e.txn; status = StandsPrepared p })) same
+            (record { row = record { txn = p.txn; held = locks_of p.reads p.writes; phase = IsPrepared p.coordinator p.at }; is = refl; held = refl })
     by_status (StandsDecided c) k =
         let same : record { at = c.at; reads = c.reads; writes = c.writes } ≡ x = cc in
-        subst (HasRow (record { txn = e.txn; status = StandsDecided c })) same (record { row = record { txn = c.txn; held = locks_of c.reads c.writes; phase = IsDecided c.at c.parts }; is = refl; held = refl })
+        subst (HasRow (record { txn = e.txn; status = StandsDecided c })) same
+            (record { row = record { txn = c.txn; held = locks_of c.reads c.writes; phase = IsDecided c.at c.parts }; is = refl; held = refl })
     by_status Unrecorded k = cc
     by_status HasAborted k = cc
     by_status (HasSettled at ps) k = cc
@@ -98,14 +102,14 @@ parts_apart f e d x y up own lawful here there differ k j =
 
 -- ---- what stands is due
 
-due_later : (f g : Facts) (x : Part) → f.floor ≤ g.floor → f.installs ≡ g.installs → IsDue f x → IsDue g x
+due_later : (f g : Facts) (x : Part) → f.floor ≤ g.floor → f.installs ≡ g.installs → MayStandNext f x → MayStandNext g x
 due_later f g x low same due = record {
   above_zero = due.above_zero;
   assigned = omega (arith, due.assigned, low);
   above = subst (λ is. IsTrue (above_versions is x.at x.writes)) same due.above;
 }
 
-good_by : (f g : Facts) (e : Entry) → ((x : Part) → part_of e.status ≡ Some x → IsDue f x → IsDue g x) → IsGood f e → IsGood g e
+good_by : (f g : Facts) (e : Entry) → ((x : Part) → part_of e.status ≡ Some x → MayStandNext f x → MayStandNext g x) → IsGood f e → IsGood g e
 good_by f g e h good = by_part (part_of e.status) refl good
   where
     by_part : (o : Option Part) → part_of e.status ≡ o → IsGoodPart f o → IsGoodPart g o
@@ -130,19 +134,22 @@ floor_later f r = by_stamp (stamp_in r)
     by_stamp (Some at) = up_left f.floor at
 
 -- a record that changes no version, and no status
-raised_good : (f g : Facts) → f.entries ≡ g.entries → f.installs ≡ g.installs → f.floor ≤ g.floor → AllByRecursion (IsGood f) f.entries → AllByRecursion (IsGood g) g.entries
+raised_good : (f g : Facts) → f.entries ≡ g.entries → f.installs ≡ g.installs → f.floor ≤ g.floor → AllByRecursion (IsGood f) f.entries →
+    AllByRecursion (IsGood g) g.entries
 raised_good f g same installs low good =
     subst (λ es. AllByRecursion (IsGood g) es) same (all_gives (IsGood f) (IsGood g) (λ e h. good_later f g e low installs h) f.entries good)
 
 -- a record of one id that changes no version
-noted_good : (f g : Facts) (t : Id) (s : Status) → IsById (λ e. e.txn) f.entries → g.entries ≡ with_status f.entries t s → f.installs ≡ g.installs → f.floor ≤ g.floor
+noted_good : (f g : Facts) (t : Id) (s : Status) → IsById (λ e. e.txn) f.entries → g.entries ≡ with_status f.entries t s → f.installs ≡ g.installs →
+    f.floor ≤ g.floor
     → IsGoodPart g (part_of s) → AllByRecursion (IsGood f) f.entries → AllByRecursion (IsGood g) g.entries
 noted_good f g t s up put installs low new good =
     subst (λ es. AllByRecursion (IsGood g) es) (sym put)
     (all_status (IsGood f) (IsGood g) f.entries t s up new (λ e here differ h. good_later f g e low installs h) good)
 
 -- an outcome of what stands: the others write other keys
-installed_good : (f g : Facts) (t : Id) (s : Status) (y : Part) (at : ℕ) (d : Entry) → IsById (λ e. e.txn) f.entries → AllByRecursion IsOwn f.entries → IsLawfulTable (claims (standing_rows f))
+installed_good : (f g : Facts) (t : Id) (s : Status) (y : Part) (at : ℕ) (d : Entry) → IsById (λ e. e.txn) f.entries →
+    AllByRecursion IsOwn f.entries → IsLawfulTable (claims (standing_rows f))
     → find_member (λ e. e.txn) f.entries t ≡ Some d → part_of d.status ≡ Some y → g.entries ≡ with_status f.entries t s → part_of s ≡ None
     → g.installs ≡ f.installs ++ versions y.writes at → f.floor ≤ g.floor → AllByRecursion (IsGood f) f.entries → AllByRecursion (IsGood g) g.entries
 installed_good f g t s y at d up own lawful there part put gone installs low good =
@@ -163,7 +170,8 @@ installed_good f g t s y at d up own lawful there part put gone installs low goo
           assigned = omega (arith, due.assigned, low);
           above =
               subst (λ is. IsTrue (above_versions is x.at x.writes)) (sym installs)
-              (above_more f.installs x.at at x.writes y.writes (parts_apart f e d x y up own lawful here at_own (ap (λ u. same_id u e.txn) mine ∙ differ) k part) due.above);
+              (above_more f.installs x.at at x.writes y.writes (parts_apart f e d x y up own lawful here at_own
+                  (ap (λ u. same_id u e.txn) mine ∙ differ) k part) due.above);
         })
 
 -- ---- each record keeps it
@@ -174,7 +182,8 @@ pub record IsTaken (f : Facts) : Type 0 where
   pub good : AllByRecursion (IsGood f) f.entries
   pub covered : IsTrue (list_all (λ i. nat_le i.at f.floor) f.installs)
 
-fresh_due : (f g : Facts) (x : Part) → 0 < x.at → f.installs ≡ g.installs → g.floor ≡ max f.floor x.at → above_versions f.installs x.at x.writes ≡ true → IsDue g x
+fresh_due : (f g : Facts) (x : Part) → 0 < x.at → f.installs ≡ g.installs → g.floor ≡ max f.floor x.at →
+    above_versions f.installs x.at x.writes ≡ true → MayStandNext g x
 fresh_due f g x some same floor above = record {
   above_zero = some;
   assigned = omega (arith, floor, up_right f.floor x.at);
@@ -229,7 +238,8 @@ more_nil : (is : List Install) → is ++ [] ≡ is
 more_nil [] = refl
 more_nil (i ∷ is) = ap (λ js. i ∷ js) (more_nil is)
 
-pub taken_more : (shard : ℕ) (f : Facts) (r : Record) → IsById (λ e. e.txn) f.entries → AllByRecursion IsOwn f.entries → IsLawfulTable (claims (standing_rows f))
+pub taken_more : (shard : ℕ) (f : Facts) (r : Record) → IsById (λ e. e.txn) f.entries → AllByRecursion IsOwn f.entries →
+    IsLawfulTable (claims (standing_rows f))
     → follows_facts shard f r ≡ true → fits_facts f r ≡ true → IsTaken f → IsTaken (learn f r)
 unfolding learn follows_facts
 taken_more shard f (Record.Opened epoch) up own lawful follows fit taken = record {
@@ -268,19 +278,22 @@ taken_more shard f (Record.Outcome t None) up own lawful follows fit taken =
     let same : f.installs ≡ f.installs ++ installs_at (recorded f t) None = sym (ap (λ is. f.installs ++ is) x.none ∙ more_nil f.installs) in
     record {
       opened = taken.opened;
-      good = noted_good f (learn f (Record.Outcome t None)) t (after_outcome (recorded f t) None) up refl same (omega arith) (subst (IsGoodPart (learn f (Record.Outcome t None))) (sym (x.gone None)) tt) taken.good;
+      good = noted_good f (learn f (Record.Outcome t None)) t (after_outcome (recorded f t) None) up refl same (omega arith)
+          (subst (IsGoodPart (learn f (Record.Outcome t None))) (sym (x.gone None)) tt) taken.good;
       covered = subst (λ is. IsTrue (list_all (λ i. nat_le i.at f.floor) is)) same taken.covered;
     }
 taken_more shard f (Record.Outcome t (Some s)) up own lawful follows fit taken =
     let x = standing_entry f t (Some s) (id_rules shard f (Record.Outcome t (Some s)) follows) in
     record {
       opened = taken.opened;
-      good = installed_good f (learn f (Record.Outcome t (Some s))) t (after_outcome (recorded f t) (Some s)) x.part s x.entry up own lawful x.there x.is refl (x.gone (Some s))
+      good = installed_good f (learn f (Record.Outcome t (Some s))) t (after_outcome (recorded f t) (Some s)) x.part s x.entry up own lawful x.there
+          x.is refl (x.gone (Some s))
           (ap (λ is. f.installs ++ is) (x.installs s)) (up_left f.floor s) taken.good;
       covered =
           each_append (λ (i : Install). nat_le i.at (max f.floor s)) f.installs (installs_at (recorded f t) (Some s))
           (covered_later f.floor (max f.floor s) f.installs (up_left f.floor s) taken.covered)
-          (subst (λ is. list_all (λ (i : Install). nat_le i.at (max f.floor s)) is ≡ true) (sym (x.installs s)) (covered_versions x.part.writes s (max f.floor s) (up_right f.floor s)));
+          (subst (λ is. list_all (λ (i : Install). nat_le i.at (max f.floor s)) is ≡ true) (sym (x.installs s))
+              (covered_versions x.part.writes s (max f.floor s) (up_right f.floor s)));
     }
 
 -- ---- so it is sound
@@ -354,7 +367,8 @@ recovered_sound shard k recovered lawful = record {
   under = omega (arith, last_is k recovered);
   installed = ap (λ n. list_all (λ (i : Install). nat_le i.at n) k.facts.installs) (last_is k recovered) ∙ recovered.covered;
   fit = ap (list_all (fits shard)) (rows_is k recovered)
-      ∙ each_of_all (fits shard) (standing_rows k.facts) (all-gather (λ e. Unit {0}) (λ r. fits shard r ≡ true) (row_fits shard) k.facts.entries (all_unit k.facts.entries));
+      ∙ each_of_all (fits shard) (standing_rows k.facts) (all-gather (λ e. Unit {0}) (λ r. fits shard r ≡ true) (row_fits shard) k.facts.entries
+          (all_unit k.facts.entries));
   agrees = λ t.
       subst (λ rows. Agrees k.facts.installs k.memory.last (recorded k.facts t) (find_row rows t)) (sym (rows_is k recovered))
       (subst (λ n. Agrees k.facts.installs n (recorded k.facts t) (find_row (standing_rows k.facts) t)) (sym (last_is k recovered))

@@ -11,7 +11,8 @@ use Rattle.record.specs.Facts.{Entry, with_status}
 use Rattle.record.specs.Records.{Status, Unrecorded, StandsPrepared, StandsDecided, HasAborted, HasSettled, HasClosed}
 use Rattle.protocol.specs.Rows.{Row, find_row, standing_row, with_row, without_row}
 use Rattle.protocol.proofs.OpenedRows as opened
-use Rattle.protocol.proofs.RowChanges.{by_id-with_row, by_id-without_rows, find-with_row_same, find-with_row_other, find-without_row_same, find-without_row_other}
+use Rattle.protocol.proofs.RowChanges.{by_id-with_row, by_id-without_rows, find-with_row_same, find-with_row_other, find-without_row_same}
+use Rattle.protocol.proofs.RowChanges.{find-without_row_other}
 use Rattle.protocol.proofs.StatusChanges.{by_id-status, entry_other, entry_same}
 use Rattle.recovery.specs.Recovered.{IsOwn}
 
@@ -22,7 +23,8 @@ some_txn e r o own k = sym (ap (λ o. elim o [ Some q ↦ q.txn | None ↦ e.txn
 own_row : (e : Entry) → IsOwn e → opened.IsOwn e
 own_row e own = λ r k. some_txn e r (standing_row e) (by_status e.status own) k
   where
-    by_status : (s : Status) → IsOwn (record { txn = e.txn; status = s }) → (elim (standing_row (record { txn = e.txn; status = s })) [ Some q ↦ q.txn | None ↦ e.txn ]) ≡ e.txn
+    by_status : (s : Status) → IsOwn (record { txn = e.txn; status = s }) →
+        (elim (standing_row (record { txn = e.txn; status = s })) [ Some q ↦ q.txn | None ↦ e.txn ]) ≡ e.txn
     by_status (StandsPrepared p) h = h
     by_status (StandsDecided c) h = h
     by_status Unrecorded h = refl
@@ -33,7 +35,8 @@ own_row e own = λ r k. some_txn e r (standing_row e) (by_status e.status own) k
 pub own_rows : (es : List Entry) → AllByRecursion IsOwn es → AllByRecursion opened.IsOwn es
 own_rows es own = all_gives IsOwn opened.IsOwn own_row es own
 
-pub own-status : (es : List Entry) (t : Id) (s : Status) → IsOwn (record { txn = t; status = s }) → AllByRecursion IsOwn es → AllByRecursion IsOwn (with_status es t s)
+pub own-status : (es : List Entry) (t : Id) (s : Status) → IsOwn (record { txn = t; status = s }) → AllByRecursion IsOwn es →
+    AllByRecursion IsOwn (with_status es t s)
 own-status [] t s new own = (new, tt)
 own-status (e ∷ es) t s new own = by_place (same_id e.txn t) (older e.txn t) (own-status es t s new own.1)
   where
@@ -44,7 +47,8 @@ own-status (e ∷ es) t s new own = by_place (same_id e.txn t) (older e.txn t) (
     by_place false false rest = (new, own)
 
 -- the row of an id, by its entry
-pub found : (es : List Entry) (t : Id) → IsById (λ e. e.txn) es → AllByRecursion IsOwn es → find_row (gather standing_row es) t ≡ follow (find_member (λ e. e.txn) es t) standing_row
+pub found : (es : List Entry) (t : Id) → IsById (λ e. e.txn) es → AllByRecursion IsOwn es →
+    find_row (gather standing_row es) t ≡ follow (find_member (λ e. e.txn) es t) standing_row
 found es t up own = opened.find-gather es t up (own_rows es own)
 
 -- an id of which nothing stands has no row

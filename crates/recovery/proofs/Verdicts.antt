@@ -1,6 +1,7 @@
 -- The verdict on a whole log, told record by record from the facts.
 use Rattle.std.specs.List.{list_any}
-use Rattle.std.proofs.Common.{◌≡◌, ℕ, suc, ◌+◌, ◌<◌, Bool, true, false, not, cond, ◌&&◌, nat_lt, List, [], ◌∷◌, ◌++◌, map, length, take, drop, get_or, Some, None, refl, sym, ap, subst, ◌∙◌, ◌⊎◌, inl, inr, arith}
+use Rattle.std.proofs.Common.{◌≡◌, ℕ, suc, ◌+◌, ◌<◌, Bool, true, false, not, cond, ◌&&◌, nat_lt, List, [], ◌∷◌, ◌++◌, map, length, take, drop, get_or}
+use Rattle.std.proofs.Common.{Some, None, refl, sym, ap, subst, ◌∙◌, ◌⊎◌, inl, inr, arith}
 use Rattle.std.specs.Prelude.{slice_get}
 use Rattle.std.proofs.lemmas.Bool.{and_parts}
 use Rattle.std.proofs.lemmas.List.{append_assoc, drop_more, length-append, take_more}
@@ -13,7 +14,8 @@ use Rattle.units.specs.Versions.{above_versions}
 use Rattle.units.specs.declared.fault.Fault.{Fault}
 use Rattle.units.specs.declared.setup.Setup.{Setup}
 use Rattle.units.specs.declared.writes.Write.{Write}
-use Rattle.record.specs.Accepted.{Taken, Accepted, DamagedAt, StrangerAt, begins, belongs, fits_beside, followed, follows, standing, stands, taken, taken_from}
+use Rattle.record.specs.Accepted.{Taken, Accepted, DamagedAt, StrangerAt, begins, belongs, fits_beside, followed, follows, locks_standing, may_stand}
+use Rattle.record.specs.Accepted.{taken, taken_from}
 use Rattle.record.specs.Facts.{Facts, facts_of, learn, recorded}
 use Rattle.record.specs.Installs.{installs_of, writes_by}
 use Rattle.record.specs.Records.{committed_of, ended_of, is_aborted, prepared_of, status_by, status_of}
@@ -23,22 +25,25 @@ use Rattle.record.proofs.Statuses.{recorded_is}
 use Rattle.facts.specs.Rules.{allows, follows_facts}
 use Rattle.facts.proofs.Known.{follows_as_known}
 use Rattle.gatelog.specs.Placed.{Placed}
-use Rattle.memory.specs.Ledger.{writes_standing}
+use Rattle.protocol.specs.Sound.{writes_standing}
 use Rattle.protocol.proofs.FitsBeside.{installs_are, length-held, standing_is, writes_are}
 use Rattle.recovery.specs.Recovered.{fault_in, fault_next, fits_facts, items, standing_rows, stands_in}
 
 -- ---- a record has its place by the log where it has by the facts
 
-stands_is : (log : List Record) (at : ℕ) (rs : List Bytes) (ws : List Write) → stands log at rs ws ≡ stands_in (facts_of log) at rs ws
+stands_is : (log : List Record) (at : ℕ) (rs : List Bytes) (ws : List Write) → may_stand log at rs ws ≡ stands_in (facts_of log) at rs ws
 stands_is log at rs ws =
-    ap (λ n. nat_lt n most_rows && not (list_any (clash (locks_of rs ws)) (standing log)) && above_versions (installs_of log) at ws)
+    ap (λ n. nat_lt n most_rows && not (list_any (clash (locks_of rs ws)) (locks_standing log)) && above_versions (installs_of log) at ws)
     (ap length (standing_is log) ∙ length-held (standing_rows (facts_of log)))
-    ∙ ap (λ hs. nat_lt (length (standing_rows (facts_of log))) most_rows && not (list_any (clash (locks_of rs ws)) hs) && above_versions (installs_of log) at ws) (standing_is log)
-    ∙ ap (λ is. nat_lt (length (standing_rows (facts_of log))) most_rows && not (list_any (clash (locks_of rs ws)) (map (λ r. r.held) (standing_rows (facts_of log)))) && above_versions is at ws)
+    ∙ ap (λ hs. nat_lt (length (standing_rows (facts_of log))) most_rows && not (list_any (clash (locks_of rs ws)) hs) && above_versions
+        (installs_of log) at ws) (standing_is log)
+    ∙ ap (λ is. nat_lt (length (standing_rows (facts_of log))) most_rows && not (list_any (clash (locks_of rs ws))
+        (map (λ r. r.held) (standing_rows (facts_of log)))) && above_versions is at ws)
     (sym (installs_are log))
 
 installs_is : (shard : ℕ) (log : List Record) (t : Id) (s : ℕ) → follows_facts shard (facts_of log) (Record.Outcome t (Some s)) ≡ true
-    → above_versions (installs_of log) s (writes_by (committed_of log t) (prepared_of log t)) ≡ above_versions (facts_of log).installs s (writes_standing (recorded (facts_of log) t))
+    → above_versions (installs_of log) s (writes_by (committed_of log t) (prepared_of log t)) ≡
+        above_versions (facts_of log).installs s (writes_standing (recorded (facts_of log) t))
 unfolding follows_facts status_of
 installs_is shard log t s follows =
     let allowed : allows (status_by (is_aborted log t) (committed_of log t) (prepared_of log t) (ended_of log t)) (Some s) ≡ true =
@@ -59,7 +64,8 @@ beside_is shard log (Record.Outcome t None) follows = refl
 beside_is shard log (Record.Outcome t (Some s)) follows = installs_is shard log t s follows
 
 -- and it follows by the log where it does by the facts
-follows_is : (shard : ℕ) (log : List Record) (r : Record) → followed shard log ≡ true → (begins log r && follows shard log r) ≡ follows_facts shard (facts_of log) r
+follows_is : (shard : ℕ) (log : List Record) (r : Record) → followed shard log ≡ true → (begins log r && follows shard log r) ≡
+    follows_facts shard (facts_of log) r
 follows_is shard log r before =
     sym (ap (λ b. b && (begins log r && follows shard log r)) before) ∙ sym (followed_more shard log r) ∙ follows_as_known shard log r before
 
@@ -93,12 +99,13 @@ items-append (e ∷ es) b = ap (λ rs. e.item ∷ rs) (items-append es b)
 verdict_here : (setup : Setup) (entries done : List Placed) (e : Placed) (left : List Placed) (facts : Facts) → Stands setup entries done (e ∷ left) facts
     → taken setup (items entries)
     ≡ cond (not (belongs setup e.item)) (StrangerAt (length done))
-    (cond (follows_facts setup.shard facts e.item && fits_facts facts e.item) (taken_from setup (items done ++ e.item ∷ []) (length done + 1) (items left)) (DamagedAt (length done)))
-verdict_here setup entries done e left facts stands =
-    stands.verdict
+    (cond (follows_facts setup.shard facts e.item && fits_facts facts e.item) (taken_from setup (items done ++ e.item ∷ []) (length done + 1)
+        (items left)) (DamagedAt (length done)))
+verdict_here setup entries done e left facts may_stand =
+    may_stand.verdict
     ∙ ap (λ b. cond (not (belongs setup e.item)) (StrangerAt (length done))
     (cond b (taken_from setup (items done ++ e.item ∷ []) (length done + 1) (items left)) (DamagedAt (length done))))
-    (place_is setup.shard (items done) e.item stands.before ∙ ap (λ f. follows_facts setup.shard f e.item && fits_facts f e.item) (sym stands.known))
+    (place_is setup.shard (items done) e.item may_stand.before ∙ ap (λ f. follows_facts setup.shard f e.item && fits_facts f e.item) (sym may_stand.known))
 
 -- a record that is not refused belongs here, follows and has its place
 record Fits (setup : Setup) (facts : Facts) (e : Placed) : Type 0 where
@@ -119,15 +126,16 @@ not_refused setup facts e none = by_tests (belongs setup e.item) (follows_facts 
 -- one more
 pub at_next : (setup : Setup) (entries done : List Placed) (e : Placed) (left : List Placed) (facts : Facts) → Stands setup entries done (e ∷ left) facts
     → fault_next setup facts e ≡ None → Stands setup entries (done ++ e ∷ []) left (learn facts e.item)
-at_next setup entries done e left facts stands none = record {
-  whole = stands.whole ∙ sym (append_assoc done (e ∷ []) left);
+at_next setup entries done e left facts may_stand none = record {
+  whole = may_stand.whole ∙ sym (append_assoc done (e ∷ []) left);
   before = ap (followed setup.shard) (items-append done (e ∷ [])) ∙ more;
   known =
-      ap (λ f. learn f e.item) stands.known ∙ sym (learn_agrees setup.shard (items done) e.item more)
+      ap (λ f. learn f e.item) may_stand.known ∙ sym (learn_agrees setup.shard (items done) e.item more)
       ∙ ap facts_of (sym (items-append done (e ∷ [])));
   verdict =
-      verdict_here setup entries done e left facts stands
-      ∙ ap (λ b. cond (not b) (StrangerAt (length done)) (cond (follows_facts setup.shard facts e.item && fits_facts facts e.item) rest (DamagedAt (length done)))) fit.own
+      verdict_here setup entries done e left facts may_stand
+      ∙ ap (λ b. cond (not b) (StrangerAt (length done)) (cond (follows_facts setup.shard facts e.item && fits_facts facts e.item) rest
+          (DamagedAt (length done)))) fit.own
       ∙ ap (λ b. cond (b && fits_facts facts e.item) rest (DamagedAt (length done))) fit.follows
       ∙ ap (λ b. cond b rest (DamagedAt (length done))) fit.fits
       ∙ ap (λ rs. taken_from setup rs (length done + 1) (items left)) (sym (items-append done (e ∷ [])))
@@ -141,33 +149,35 @@ at_next setup entries done e left facts stands none = record {
     rest = taken_from setup (items done ++ e.item ∷ []) (length done + 1) (items left)
 
     more : followed setup.shard (items done ++ e.item ∷ []) ≡ true
-    more = follows_as_known setup.shard (items done) e.item stands.before ∙ ap (λ f. follows_facts setup.shard f e.item) (sym stands.known) ∙ fit.follows
+    more = follows_as_known setup.shard (items done) e.item may_stand.before ∙ ap (λ f. follows_facts setup.shard f e.item) (sym may_stand.known) ∙ fit.follows
 
 get_there : (done : List Placed) (e : Placed) (left : List Placed) → slice_get (done ++ e ∷ left) (length done) ≡ Some e
 get_there [] e left = refl
 get_there (d ∷ ds) e left = get_there ds e left
 
 -- a refused one is the verdict
-pub at_fault : (setup : Setup) (entries done : List Placed) (e : Placed) (left : List Placed) (facts : Facts) (fault : Fault) → Stands setup entries done (e ∷ left) facts
+pub at_fault : (setup : Setup) (entries done : List Placed) (e : Placed) (left : List Placed) (facts : Facts) (fault : Fault) →
+    Stands setup entries done (e ∷ left) facts
     → fault_next setup facts e ≡ Some fault → fault_in (taken setup (items entries)) entries ≡ Some fault
-at_fault setup entries done e left facts fault stands refused =
-    ap (λ v. fault_in v entries) (verdict_here setup entries done e left facts stands)
+at_fault setup entries done e left facts fault may_stand refused =
+    ap (λ v. fault_in v entries) (verdict_here setup entries done e left facts may_stand)
     ∙ by_tests (belongs setup e.item) (follows_facts setup.shard facts e.item && fits_facts facts e.item) refused
   where
     by_tests : (a b : Bool) → cond (not a) (Some Fault.Stranger) (cond b None (Some (Fault.Damaged e.offset))) ≡ Some fault
-        → fault_in (cond (not a) (StrangerAt (length done)) (cond b (taken_from setup (items done ++ e.item ∷ []) (length done + 1) (items left)) (DamagedAt (length done)))) entries ≡ Some fault
+        → fault_in (cond (not a) (StrangerAt (length done)) (cond b (taken_from setup (items done ++ e.item ∷ []) (length done + 1) (items left))
+            (DamagedAt (length done)))) entries ≡ Some fault
     by_tests false b k = k
     by_tests true false k =
-        ap (λ es. follow (slice_get es (length done)) (λ q. Some (Fault.Damaged q.offset))) stands.whole
+        ap (λ es. follow (slice_get es (length done)) (λ q. Some (Fault.Damaged q.offset))) may_stand.whole
         ∙ ap (λ o. follow o (λ q. Some (Fault.Damaged q.offset))) (get_there done e left) ∙ k
     by_tests true true k = cc
 
 -- where none is left, all were taken
 pub at_end : (setup : Setup) (entries done : List Placed) (facts : Facts) → Stands setup entries done [] facts → taken setup (items entries) ≡ Accepted
-at_end setup entries done facts stands = stands.verdict
+at_end setup entries done facts may_stand = may_stand.verdict
 
 pub all_known : (setup : Setup) (entries done : List Placed) (facts : Facts) → Stands setup entries done [] facts → facts ≡ facts_of (items entries)
-all_known setup entries done facts stands = stands.known ∙ ap (λ es. facts_of (items es)) (sym (all_done done) ∙ sym stands.whole)
+all_known setup entries done facts may_stand = may_stand.known ∙ ap (λ es. facts_of (items es)) (sym (all_done done) ∙ sym may_stand.whole)
   where
     all_done : (es : List Placed) → es ++ [] ≡ es
     all_done [] = refl
@@ -190,9 +200,10 @@ fault_first setup entries first rest fault whole refused =
     at_fault setup entries [] first rest (facts_of []) fault (subst (λ left. Stands setup entries [] left (facts_of [])) whole (at_start setup entries)) refused
 
 module _ (setup : Setup) (entries : List Placed) (first : Placed) (rest : List Placed) (i : ℕ) (e : Placed) (facts : Facts)
-    (whole : entries ≡ first ∷ rest) (lt : i < length rest) (is : e ≡ get_or rest i e) (stands : Stands setup entries (take (i + 1) entries) (drop i rest) facts) where
+    (whole : entries ≡ first ∷ rest) (lt : i < length rest) (is : e ≡ get_or rest i e) (may_stand : Stands setup entries (take (i + 1) entries)
+        (drop i rest) facts) where
   here : Stands setup entries (take (i + 1) entries) (e ∷ drop (i + 1) rest) facts
-  here = subst (λ left. Stands setup entries (take (i + 1) entries) left facts) (drop_more rest i e lt ∙ ap (λ q. q ∷ drop (i + 1) rest) (sym is)) stands
+  here = subst (λ left. Stands setup entries (take (i + 1) entries) left facts) (drop_more rest i e lt ∙ ap (λ q. q ∷ drop (i + 1) rest) (sym is)) may_stand
 
   long : length entries ≡ suc (length rest)
   long = ap length whole
@@ -204,10 +215,12 @@ module _ (setup : Setup) (entries : List Placed) (first : Placed) (rest : List P
       behind n = let on : n + 1 ≡ suc n = omega arith in ap (λ m. get_or (first ∷ rest) m e) on
 
   -- the next one was taken
-  pub after_next : (later : Facts) → fault_next setup facts e ≡ None → later ≡ learn facts e.item → Stands setup entries (take (i + 1 + 1) entries) (drop (i + 1) rest) later
+  pub after_next : (later : Facts) → fault_next setup facts e ≡ None → later ≡ learn facts e.item →
+      Stands setup entries (take (i + 1 + 1) entries) (drop (i + 1) rest) later
   after_next later none learnt =
       subst (λ f. Stands setup entries (take (i + 1 + 1) entries) (drop (i + 1) rest) f) (sym learnt)
-      (subst (λ done. Stands setup entries done (drop (i + 1) rest) (learn facts e.item)) (sym (take_more entries (i + 1) e (omega (arith, long, lt)) ∙ ap (λ q. take (i + 1) entries ++ q ∷ []) there))
+      (subst (λ done. Stands setup entries done (drop (i + 1) rest) (learn facts e.item))
+          (sym (take_more entries (i + 1) e (omega (arith, long, lt)) ∙ ap (λ q. take (i + 1) entries ++ q ∷ []) there))
       (at_next setup entries (take (i + 1) entries) e (drop (i + 1) rest) facts here none))
 
   -- or it is refused

@@ -1,5 +1,6 @@
 -- What a log leaves of its shard, told record by record from the facts alone.
-use Rattle.std.specs.Prelude.{◌≡◌, ℕ, ◌<◌, ◌≤◌, IsTrue, nat_le, Bool, true, not, cond, ◌&&◌, nat_eq, nat_lt, List, [], map, length, Option, Some, None, slice_get}
+use Rattle.std.specs.Prelude.{◌≡◌, ℕ, ◌<◌, ◌≤◌, IsTrue, nat_le, Bool, true, not, cond, ◌&&◌, nat_eq, nat_lt, List, [], map, length, Option, Some}
+use Rattle.std.specs.Prelude.{None, slice_get}
 use Rattle.std.specs.List.{AllByRecursion, list_any, list_all}
 use Rattle.units.specs.Limits.{most_rows}
 use Rattle.units.specs.Lists.{follow, gather, when}
@@ -19,7 +20,7 @@ use Rattle.gatelog.specs.Placed.{Placed}
 use Rattle.protocol.specs.Rows.{Row, rebuilt, standing_row}
 use Rattle.protocol.specs.Sound.{IsSound}
 use Rattle.memory.specs.Kept.{Kept}
-use Rattle.memory.specs.Ledger.{writes_standing}
+use Rattle.protocol.specs.Sound.{writes_standing}
 
 -- the records of some entries
 abbrev pub items : List Placed → List Record
@@ -78,14 +79,14 @@ part_of (StandsDecided c) = Some (record { at = c.at; reads = c.reads; writes = 
 part_of _ = None
 
 -- its timestamp is one of the log's, and above the versions of what it writes
-pub record IsDue (facts : Facts) (x : Part) : Type 0 where
+pub record MayStandNext (facts : Facts) (x : Part) : Type 0 where
   pub above_zero : 0 < x.at
   pub assigned : x.at ≤ facts.floor
   pub above : IsTrue (above_versions facts.installs x.at x.writes)
 
 abbrev pub IsGoodPart : Facts → Option Part → Type 0
 IsGoodPart facts None = Unit {0}
-IsGoodPart facts (Some x) = IsDue facts x
+IsGoodPart facts (Some x) = MayStandNext facts x
 
 abbrev pub IsGood : Facts → Entry → Type 0
 IsGood facts e = IsGoodPart facts (part_of e.status)

@@ -1,7 +1,9 @@
 -- Votes of each shard once are sixteen at most.
 use Rattle.std.specs.List.{list_any, list_all}
-use Rattle.std.proofs.Common.{◌≡◌, ℕ, zero, suc, ◌<◌, ◌≤◌, Bool, true, false, cond, ◌&&◌, ◌||◌, nat_eq, nat_lt, List, [], ◌∷◌, ◌++◌, map, length, refl, sym, ap, ◌∙◌, arith}
+use Rattle.std.proofs.Common.{◌≡◌, ℕ, zero, suc, ◌<◌, ◌≤◌, Bool, true, false, cond, ◌&&◌, ◌||◌, nat_eq, nat_lt, List, [], ◌∷◌, ◌++◌, map, length}
+use Rattle.std.proofs.Common.{refl, sym, ap, ◌∙◌, arith}
 use Rattle.std.proofs.lemmas.Bool.Decides.{nat_tests}
+use Rattle.std.proofs.lemmas.Bool.{or_parts}
 use Rattle.units.specs.Lists.{has, once, insert, sorted}
 use Rattle.units.specs.Parts.{marked}
 use Rattle.units.proofs.Marked.{sorted_once}
@@ -72,20 +74,17 @@ space_for_vote v vs small new are = omega (arith, few_votes (v ∷ vs) (grind (a
 
 has_voted-append : (n : ℕ) (vs : List CastVote) (v : CastVote) → has_voted n (vs ++ v ∷ []) ≡ (has_voted n vs || (nat_eq v.shard n || false))
 has_voted-append n [] v = refl
-has_voted-append n (w ∷ vs) v = ap (λ b. nat_eq w.shard n || b) (has_voted-append n vs v) ∙ sym (grouped (nat_eq w.shard n) (has_voted n vs) (nat_eq v.shard n || false))
+has_voted-append n (w ∷ vs) v = ap (λ b. nat_eq w.shard n || b) (has_voted-append n vs v)
+    ∙ sym (grouped (nat_eq w.shard n) (has_voted n vs) (nat_eq v.shard n || false))
   where
     grouped : (a b c : Bool) → ((a || b) || c) ≡ (a || (b || c))
     grouped true b c = refl
     grouped false b c = refl
 
-neither : (a b : Bool) → (a || b) ≡ false → (a ≡ false) × (b ≡ false)
-neither false b e = (refl, e)
-neither true b e = cc
-
 pub votes-append : (vs : List CastVote) (v : CastVote) → v.shard < 16 → has_voted v.shard vs ≡ false → AreVotes vs → AreVotes (vs ++ v ∷ [])
 votes-append [] v small new are = (grind (arith, nat_tests), refl, tt)
 votes-append (w ∷ vs) v small new are =
-    let parts = neither (nat_eq w.shard v.shard) (has_voted v.shard vs) new in
+    let parts = or_parts (nat_eq w.shard v.shard) (has_voted v.shard vs) new in
     let other : (nat_eq v.shard w.shard || false) ≡ false = ap (λ b. b || false) (turned v.shard w.shard ∙ parts.0) in
     (are.0, has_voted-append w.shard vs v ∙ ap (λ b. b || (nat_eq v.shard w.shard || false)) are.1 ∙ other, votes-append vs v small parts.1 are.2)
 
@@ -103,7 +102,8 @@ pub vote_again : (n p : ℕ) (vs : List CastVote) → has_voted n vs ≡ true �
 vote_again n p vs e =
     sym (ap (λ b. cond b (map voted_of vs) (map voted_of vs ++ record { shard = n; at = p } ∷ [])) (voted-map n vs ∙ e))
 
-pub vote_added : (n p : ℕ) (vs : List CastVote) → has_voted n vs ≡ false → map voted_of (vs ++ record { shard = n; at = p } ∷ []) ≡ with_vote n p (map voted_of vs)
+pub vote_added : (n p : ℕ) (vs : List CastVote) → has_voted n vs ≡ false → map voted_of (vs ++ record { shard = n; at = p } ∷ []) ≡
+    with_vote n p (map voted_of vs)
 vote_added n p vs e =
     map-append vs (record { shard = n; at = p })
     ∙ sym (ap (λ b. cond b (map voted_of vs) (map voted_of vs ++ record { shard = n; at = p } ∷ [])) (voted-map n vs ∙ e))

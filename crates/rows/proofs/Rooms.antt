@@ -5,7 +5,7 @@ use Rattle.units.specs.Locks.{Claim}
 use Rattle.units.specs.declared.lock.Lock.{Lock}
 use Rattle.units.proofs.ByIdLaws.{find-map, find-with_same}
 use Rattle.protocol.specs.Rows.{claims, held_in}
-use Rattle.locks.specs.Table.{Token, held_in as held_in_table, most_held}
+use Rattle.locks.specs.Table.{Token, held_in_table, most_held}
 use Rattle.rows.specs.States.{ReadingState}
 use Rattle.rows.specs.CodeRows.{token_of, txn_of, row_of, put_in}
 use Rattle.rows.specs.RowTable.{RowTable, paired, table_of, room, room_by}
@@ -21,7 +21,8 @@ pub room_found : (rows : List CodeRow) (table : List Claim) (t : Id) (y : CodeRo
 room_found rows table t y found = token_found rows table t ∙ ap (λ (o : Option CodeRow). room_by (option_map token_of o)) found
 
 -- and of one that was put in
-pub room_put : (mid new : List CodeRow) (table : List Claim) (t : Id) (z : CodeRow) → new ≡ put_in mid z → txn_of z ≡ t → room (table_of new table) t ≡ (token_of z).room
+pub room_put : (mid new : List CodeRow) (table : List Claim) (t : Id) (z : CodeRow) → new ≡ put_in mid z → txn_of z ≡ t →
+    room (table_of new table) t ≡ (token_of z).room
 room_put mid new table t z is same =
     room_found new table t z (ap (row_of new) (sym same) ∙ ap (λ l. row_of l (txn_of z)) is ∙ find-with_same txn_of mid z)
 
@@ -31,6 +32,7 @@ pub room_fits : (rows : List CodeRow) (table : List Claim) (t : Id) (s : Reading
     → length (held_in seen.rows t) + length needs ≤ room seen t → most_held table s.token.txn needs ≤ s.token.room
 room_fits rows table t s seen needs view tied found fits =
     let held : length (held_in_table table s.token.txn) ≡ length (held_in seen.rows t) =
-    ap (λ i. length (held_in_table table i)) (found_txn rows t (Reading s) found) ∙ ap length (held_is rows table t tied) ∙ ap (λ (r : RowTable). length (held_in r.rows t)) view in
+    ap (λ i. length (held_in_table table i)) (found_txn rows t (Reading s) found) ∙ ap length (held_is rows table t tied)
+        ∙ ap (λ (r : RowTable). length (held_in r.rows t)) view in
     let spare : room seen t ≡ s.token.room = ap (λ (r : RowTable). room r t) (sym view) ∙ room_found rows table t (Reading s) found in
     omega (arith, held, spare, fits)

@@ -1,5 +1,6 @@
 -- What each step does to the rows: one row is taken out, and another put in its place or none.
-use Rattle.std.proofs.Common.{◌≡◌, suc, ◌<◌, Bool, true, false, ◌||◌, not, cond, List, [], ◌∷◌, length, map, Option, Some, None, Bor, refl, sym, ap, subst, ◌∙◌, arith, option_map}
+use Rattle.std.proofs.Common.{◌≡◌, suc, ◌<◌, Bool, true, false, ◌||◌, not, cond, List, [], ◌∷◌, length, map, Option, Some, None, Bor, refl, sym, ap}
+use Rattle.std.proofs.Common.{subst, ◌∙◌, arith, option_map}
 use Rattle.std.proofs.lemmas.Bool.{false≢true}
 use Rattle.std.specs.List.{AllByRecursion, find}
 use Rattle.std.specs.Option.{option_copied, MatchOption}
@@ -13,7 +14,8 @@ use Rattle.units.proofs.ByIdLaws.{all-without, found_has, without-map}
 use Rattle.units.proofs.ListLaws.{find-is}
 use Rattle.units.proofs.Folds.{there_first}
 use Rattle.record.specs.declared.record.Record.{Record}
-use Rattle.protocol.specs.Rows.{Row, Phase, Idle, WaitsRead, WaitsPrepare, WaitsCommit, Collecting as CollectsVotes, IsPrepared, IsDecided, claim_of, claims, find_row, without_row, needs_of, is_firm, held_in, without_rows}
+use Rattle.protocol.specs.Rows.{Row, Phase, Idle, WaitsRead, WaitsPrepare, WaitsCommit, Collecting as CollectsVotes, IsPrepared, IsDecided, claim_of}
+use Rattle.protocol.specs.Rows.{claims, find_row, without_row, needs_of, is_firm, held_in, without_rows}
 use Rattle.protocol.proofs.RowTable.{claims-find_row, claims-without_row}
 use Rattle.locks.specs.Table.{Token, has_claim, without_claim, without_claims, change_claim, made_firm}
 use Rattle.rows.specs.States.{is_prepare_of, is_commit_of, prepared_by, decided_by}
@@ -54,7 +56,8 @@ taken rows mid t y laws found is = record {
 pub stepped : (rows mid new : List CodeRow) (table next : List Claim) (t : Id) (y z : CodeRow) (held : List Lock) (f : Claim → Claim)
     → IsRowList rows → claims (paired rows table) ≡ table → row_of rows t ≡ Some y
     → mid ≡ without_txn rows t → new ≡ put_in mid z → txn_of z ≡ t → next ≡ change_claim table (txn_of y) f
-    → claim_of (record { txn = t; held = held; phase = phase_of z }) ≡ f (claim_of (record { txn = t; held = held_in (paired rows table) t; phase = phase_of y }))
+    → claim_of (record { txn = t; held = held; phase = phase_of z }) ≡
+        f (claim_of (record { txn = t; held = held_in (paired rows table) t; phase = phase_of y }))
     → IsMoved new next (put_row (paired rows table) t held (phase_of z))
 stepped rows mid new table next t y z held f laws tied found mid_is new_is same next_is claim =
     changed rows new table next t y z held f laws.order tied found same
@@ -88,7 +91,8 @@ left rows new table next t y tied found new_is next_is =
     gone rows new table next t tied new_is (next_is ∙ ap (without_claim table) (found_txn rows t y found))
 
 -- the table has a claim of the token of the row that was taken out
-pub has_its_claim : (rows : List CodeRow) (table : List Claim) (t : Id) (y : CodeRow) → claims (paired rows table) ≡ table → row_of rows t ≡ Some y → has_claim table (txn_of y) ≡ true
+pub has_its_claim : (rows : List CodeRow) (table : List Claim) (t : Id) (y : CodeRow) → claims (paired rows table) ≡ table → row_of rows t ≡ Some y →
+    has_claim table (txn_of y) ≡ true
 has_its_claim rows table t y tied found = ap (has_claim table) (found_txn rows t y found) ∙ claim_there rows table t y tied found
 
 -- an idle row needs nothing
@@ -102,7 +106,8 @@ idle_is (IsPrepared c p) e = absurd (false≢true e)
 idle_is (IsDecided s ps) e = absurd (false≢true e)
 
 -- a transaction whose row passes a test passes a weaker one
-pub passes_more : (p q : Phase → Bool) → ((x : Phase) → p x ≡ true → q x ≡ true) → (rows : List CodeRow) (t : Id) → passes p rows t ≡ true → passes q rows t ≡ true
+pub passes_more : (p q : Phase → Bool) → ((x : Phase) → p x ≡ true → q x ≡ true) → (rows : List CodeRow) (t : Id) → passes p rows t ≡ true →
+    passes q rows t ≡ true
 passes_more p q weaker rows t h = by_row (row_of rows t) h
   where
     by_row : (o : Option CodeRow) → when (λ r. p (phase_of r)) o ≡ true → when (λ r. q (phase_of r)) o ≡ true
@@ -176,7 +181,8 @@ pub absent_row : (rows : List CodeRow) (table : List Claim) (t : Id) → find_ro
 absent_row rows table t none =
     sym (there_first (λ (r : CodeRow). same_id (txn_of r) t) rows) ∙ sym (has_phase-is (λ (p : Phase). true) rows table t) ∙ ap (when (λ (r : Row). true)) none
 
-pub absent_claim : (rows : List CodeRow) (table : List Claim) (t : Id) → claims (paired rows table) ≡ table → find_row (paired rows table) t ≡ None → has_claim table t ≡ false
+pub absent_claim : (rows : List CodeRow) (table : List Claim) (t : Id) → claims (paired rows table) ≡ table → find_row (paired rows table) t ≡ None →
+    has_claim table t ≡ false
 absent_claim rows table t tied none =
     ap (λ (s : List Claim). has_claim s t) (sym tied)
     ∙ sym (there_first (λ (c : Claim). same_id c.txn t) (claims (paired rows table)))

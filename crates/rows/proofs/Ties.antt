@@ -6,11 +6,12 @@ use Rattle.units.specs.ById.{IsById, without_member, with_member}
 use Rattle.units.specs.Locks.{Claim}
 use Rattle.units.specs.declared.lock.Lock.{Lock}
 use Rattle.units.proofs.IdLaws.{same_id-is, same_id_comm, older_not_same, older_not_younger, older_total, older-trans, older-along}
-use Rattle.units.proofs.ByIdLaws.{AllYounger, later_are_younger, by_id-cons, by_id-map, found_is, found_has, found_none, without-map, with-map, without_none, later_differ}
+use Rattle.units.proofs.ByIdLaws.{AllYounger, later_are_younger, by_id-cons, by_id-map, found_is, found_has, found_none, without-map, with-map}
+use Rattle.units.proofs.ByIdLaws.{without_none, later_differ}
 use Rattle.units.proofs.ListLaws.{all_gives}
 use Rattle.protocol.specs.Rows.{Row, Phase, Idle, claim_of, claims, find_row, with_row, without_row, held_by, held_in}
 use Rattle.protocol.proofs.RowTable.{with_row-is, claims-find_row, claims-without_row, claims-with_row, claims-changed_row}
-use Rattle.locks.specs.Table.{has_claim, with_claim, without_claim, change_claim, entrant, held_in as held_in_table, held_by as held_by_claim}
+use Rattle.locks.specs.Table.{has_claim, with_claim, without_claim, change_claim, entrant, held_in_table, held_by_claim}
 use Rattle.rows.specs.CodeRows.{txn_of, phase_of, row_of, has_txn, passes, put_in, without_txn}
 use Rattle.rows.specs.RowTable.{paired, held_first, put_row, has_phase}
 use Rattle.rows.specs.declared.row.Row.{Row as CodeRow}
@@ -106,7 +107,8 @@ passes_there test rows t h = by_test (has_txn rows t) refl
     by_test false e = ap (when (λ (r : CodeRow). test (phase_of r))) (sym (found_none txn_of rows t e)) ∙ h
 
 -- a row that is found passes the test that its transaction passes
-pub found_passes : (test : Phase → Bool) (rows : List CodeRow) (t : Id) (y : CodeRow) → row_of rows t ≡ Some y → passes test rows t ≡ true → test (phase_of y) ≡ true
+pub found_passes : (test : Phase → Bool) (rows : List CodeRow) (t : Id) (y : CodeRow) → row_of rows t ≡ Some y → passes test rows t ≡ true →
+    test (phase_of y) ≡ true
 found_passes test rows t y e h = sym (ap (when (λ (r : CodeRow). test (phase_of r))) e) ∙ h
 
 -- what the table says that a transaction holds
@@ -119,10 +121,12 @@ held_is rows table t tied =
     by_row (Some q) = refl
 
 -- the table has a claim of each row's id
-pub claim_there : (rows : List CodeRow) (table : List Claim) (t : Id) (y : CodeRow) → claims (paired rows table) ≡ table → row_of rows t ≡ Some y → has_claim table t ≡ true
+pub claim_there : (rows : List CodeRow) (table : List Claim) (t : Id) (y : CodeRow) → claims (paired rows table) ≡ table → row_of rows t ≡ Some y →
+    has_claim table t ≡ true
 claim_there rows table t y tied e =
     subst (λ s. has_claim s t ≡ true) tied
-    (found_has (λ (c : Claim). c.txn) (claims (paired rows table)) t _ (claims-find_row (paired rows table) t ∙ ap (option_map claim_of) (found_row rows table t y e)))
+    (found_has (λ (c : Claim). c.txn) (claims (paired rows table)) t _ (claims-find_row (paired rows table) t
+        ∙ ap (option_map claim_of) (found_row rows table t y e)))
 
 -- the row that is found is of the id
 pub found_txn : (rows : List CodeRow) (t : Id) (y : CodeRow) → row_of rows t ≡ Some y → txn_of y ≡ t
@@ -158,7 +162,8 @@ with-without {A = A} id (x ∷ xs) y up = by_test (same_id (id x) (id y)) refl (
         ≡ cond b (y ∷ xs) (cond (older (id x) (id y)) (x ∷ with_member id xs y) (y ∷ x ∷ xs))
     by_test true s rest =
         ap (λ l. with_member id l y) (without_none id xs (id y) (later_differ id (id y) x xs s young))
-        ∙ with-in_front id xs y (all_gives (λ z. older (id x) (id z) ≡ true) (λ z. older (id y) (id z) ≡ true) (λ z k. sym (older-along (id x) (id y) (id z) s) ∙ k) xs young)
+        ∙ with-in_front id xs y (all_gives (λ z. older (id x) (id z) ≡ true) (λ z. older (id y) (id z) ≡ true)
+            (λ z k. sym (older-along (id x) (id y) (id z) s) ∙ k) xs young)
     by_test false s rest = rw s (by_age (older (id x) (id y)) refl s rest)
 
 -- what a method leaves: the claims are those of the rows, and a contract sees these rows
@@ -184,7 +189,8 @@ put_seen rows new table next z x is same tied =
 pub changed : (rows new : List CodeRow) (table next : List Claim) (t : Id) (y z : CodeRow) (held : List Lock) (f : Claim → Claim)
     → IsById txn_of rows → claims (paired rows table) ≡ table → row_of rows t ≡ Some y → txn_of z ≡ t
     → new ≡ put_in (without_txn rows t) z → next ≡ change_claim table t f
-    → claim_of (record { txn = t; held = held; phase = phase_of z }) ≡ f (claim_of (record { txn = t; held = held_in (paired rows table) t; phase = phase_of y }))
+    → claim_of (record { txn = t; held = held; phase = phase_of z }) ≡
+        f (claim_of (record { txn = t; held = held_in (paired rows table) t; phase = phase_of y }))
     → IsMoved new next (put_row (paired rows table) t held (phase_of z))
 changed rows new table next t y z held f up tied found same is next_is claim =
     let seen : List Row = paired rows table in

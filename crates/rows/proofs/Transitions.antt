@@ -10,8 +10,10 @@ use Rattle.record.specs.declared.record.Record.{Record}
 use Rattle.protocol.specs.Rows.{Row, Idle, claim_of, claims, find_row, with_row, needs_of, is_firm, held_in}
 use Rattle.protocol.proofs.RowTable.{with_row-is}
 use Rattle.locks.specs.Table.{Token, change_claim, granted, waiting, made_firm}
-use Rattle.rows.specs.States.{ReadingState, CollectingState, PreparedState, DecidedState, is_prepare_of, is_commit_of, prepared_by, decided_by, collecting_of, with_yes as with_yes_state}
-use Rattle.rows.specs.CodeRows.{phase_of, phase_of_wait, row_of, passes, put_in, without_txn, is_idle, is_collecting, may_decide, may_abort, may_close, IsRowList}
+use Rattle.rows.specs.States.{ReadingState, CollectingState, PreparedState, DecidedState, is_prepare_of, is_commit_of, prepared_by, decided_by}
+use Rattle.rows.specs.States.{collecting_of, collecting_with_yes as with_yes_state}
+use Rattle.rows.specs.CodeRows.{phase_of, phase_of_wait, row_of, passes, put_in, without_txn, is_idle, is_collecting, may_decide, may_abort}
+use Rattle.rows.specs.CodeRows.{may_close, IsRowList}
 use Rattle.rows.specs.RowTable.{paired, put_row, phase_by, phase_in, phase_of_row, with_yes}
 use Rattle.rows.specs.declared.row.Row.{Row as CodeRow}
 use Rattle.rows.specs.declared.row.Row.TheVariants.{Reading, Collecting, Prepared, Decided}
@@ -36,7 +38,8 @@ prepared rows mid new table next t s z r laws tied idle mine found mid_is new_is
     (stepped rows mid new table next t (Reading s) (Prepared z) (held_in seen t) made_firm laws tied found mid_is new_is
     (ap (λ (x : PreparedState). x.token.txn) z_is ∙ ap (λ (k : Token). k.txn) (prepared_token s.token r) ∙ found_txn rows t (Reading s) found)
     next_is
-    (firm_claim t (held_in seen t) (phase_of_wait s.wait) (phase_of (Prepared z)) (idle_is (phase_of_wait s.wait) (found_passes is_idle rows t (Reading s) found idle)) refl refl))
+    (firm_claim t (held_in seen t) (phase_of_wait s.wait) (phase_of (Prepared z)) (idle_is (phase_of_wait s.wait)
+        (found_passes is_idle rows t (Reading s) found idle)) refl refl))
 
 -- a phase of a transaction that reads
 pub reading_is_open : (w : Option Wait) → is_firm (phase_of_wait w) ≡ false
@@ -89,7 +92,8 @@ decided rows mid new table next t s z r laws tied may mine found mid_is new_is z
     (stepped rows mid new table next t (Reading s) (Decided z) (held_in seen t) made_firm laws tied found mid_is new_is
     (ap (λ (x : DecidedState). x.token.txn) z_is ∙ ap (λ (k : Token). k.txn) (decided_token s.token r) ∙ found_txn rows t (Reading s) found)
     next_is
-    (firm_claim t (held_in seen t) (phase_of_wait s.wait) (phase_of (Decided z)) (reading_decides s.wait (found_passes may_decide rows t (Reading s) found may)) refl refl))
+    (firm_claim t (held_in seen t) (phase_of_wait s.wait) (phase_of (Decided z)) (reading_decides s.wait
+        (found_passes may_decide rows t (Reading s) found may)) refl refl))
 
 -- and one that collects votes is decided
 pub decided_by_votes : (rows mid new : List CodeRow) (table : List Claim) (t : Id) (s : CollectingState) (z : DecidedState) (r : Record)
@@ -115,10 +119,12 @@ collected rows mid new table next t s z request laws tied idle found mid_is new_
     (stepped rows mid new table next t (Reading s) (Collecting z) (held_in seen t) made_firm laws tied found mid_is new_is
     (ap (λ (x : CollectingState). x.token.txn) z_is ∙ found_txn rows t (Reading s) found)
     next_is
-    (firm_claim t (held_in seen t) (phase_of_wait s.wait) (phase_of (Collecting z)) (idle_is (phase_of_wait s.wait) (found_passes is_idle rows t (Reading s) found idle)) refl refl))
+    (firm_claim t (held_in seen t) (phase_of_wait s.wait) (phase_of (Collecting z)) (idle_is (phase_of_wait s.wait)
+        (found_passes is_idle rows t (Reading s) found idle)) refl refl))
 
 -- what a transaction that reads has is told by what it waits with
-reading_claim : (t : Id) (held : List Lock) (w : Option Wait) → claim_of (record { txn = t; held = held; phase = phase_of_wait w }) ≡ record { txn = t; held = held; needs = needs_of (phase_of_wait w); firm = false }
+reading_claim : (t : Id) (held : List Lock) (w : Option Wait) → claim_of (record { txn = t; held = held; phase = phase_of_wait w }) ≡
+    record { txn = t; held = held; needs = needs_of (phase_of_wait w); firm = false }
 reading_claim t held w = ap (λ (b : Bool). record { txn = t; held = held; needs = needs_of (phase_of_wait w); firm = b }) (reading_is_open w)
 
 -- a transaction that reads is granted some locks
@@ -173,7 +179,8 @@ pub given_room : (rows mid new : List CodeRow) (table : List Claim) (t : Id) (s 
 given_room rows mid new table t s z laws tied found mid_is new_is same wait =
     let seen = paired rows table in
     told new table _ _ (ap (λ (w : Option Wait). put_row seen t (held_in seen t) (phase_of_wait w)) wait
-    ∙ with_same seen (record { txn = t; held = held_in seen t; phase = phase_of_wait s.wait }) (by_id-paired rows table laws.order) (found_row rows table t (Reading s) found))
+    ∙ with_same seen (record { txn = t; held = held_in seen t; phase = phase_of_wait s.wait }) (by_id-paired rows table laws.order)
+        (found_row rows table t (Reading s) found))
     (kept rows mid new table t (Reading s) (Reading z) laws tied found mid_is new_is (same ∙ found_txn rows t (Reading s) found)
     (ap (λ (w : Option Wait). needs_of (phase_of_wait w)) wait) (ap (λ (w : Option Wait). is_firm (phase_of_wait w)) wait))
 

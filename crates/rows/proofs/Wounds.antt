@@ -7,7 +7,6 @@ use Rattle.units.specs.ById.{IsById, find_member}
 use Rattle.units.specs.Locks.{Claim, wounded}
 use Rattle.units.specs.declared.lock.Lock.{Lock}
 use Rattle.units.proofs.IdLaws.{same_id-refl, older_not_same}
-use Rattle.units.proofs.ListLaws.{filter-is}
 use Rattle.units.proofs.ByIdLaws.{AllYounger, later_are_younger, later_differ, without_none, find-without_other}
 use Rattle.protocol.specs.Rows.{Row, claim_of, claims, find_row, without_row, without_rows}
 use Rattle.locks.specs.Table.{Token, without_claims}
@@ -60,26 +59,31 @@ ids-map p [] = refl
 ids-map p (q ∷ rows) = by_test (p (claim_of q)) (ids-map p rows)
   where
     by_test : (b : Bool) → map (λ c. c.txn) (filter p (claims rows)) ≡ map (λ q. q.txn) (filter (λ q. p (claim_of q)) rows)
-        → map (λ c. c.txn) (cond b (claim_of q ∷ filter p (claims rows)) (filter p (claims rows))) ≡ map (λ r. r.txn) (cond b (q ∷ filter (λ r. p (claim_of r)) rows) (filter (λ r. p (claim_of r)) rows))
+        → map (λ c. c.txn) (cond b (claim_of q ∷ filter p (claims rows)) (filter p (claims rows))) ≡
+            map (λ r. r.txn) (cond b (q ∷ filter (λ r. p (claim_of r)) rows) (filter (λ r. p (claim_of r)) rows))
     by_test true e = ap (λ l. q.txn ∷ l) e
     by_test false e = e
 
-wounded-rows : (rows : List Row) (t : Id) (needs : List Lock) → wounded (claims rows) t needs ≡ map (λ q. q.txn) (filter (λ q. gives_way t needs (claim_of q)) rows)
-wounded-rows rows t needs = wounded-is (claims rows) t needs ∙ ap (map (λ c. c.txn)) (filter-is (gives_way t needs) (claims rows)) ∙ ids-map (gives_way t needs) rows
+wounded-rows : (rows : List Row) (t : Id) (needs : List Lock) → wounded (claims rows) t needs ≡
+    map (λ q. q.txn) (filter (λ q. gives_way t needs (claim_of q)) rows)
+wounded-rows rows t needs = wounded-is (claims rows) t needs ∙ ids-map (gives_way t needs) rows
 
 middle_of : (a b c : Bool) → (a && (b && c)) ≡ true → b ≡ true
 middle_of true true c e = refl
 middle_of true false c e = e
 middle_of false b c e = absurd (false≢true e)
 
-pub may_end_wounded : (rows : List Row) (t : Id) (needs : List Lock) (ts : List Id) → IsById (λ q. q.txn) rows → ts ≡ wounded (claims rows) t needs → MayEnd rows ts
+pub may_end_wounded : (rows : List Row) (t : Id) (needs : List Lock) (ts : List Id) → IsById (λ q. q.txn) rows → ts ≡ wounded (claims rows) t needs →
+    MayEnd rows ts
 may_end_wounded rows t needs ts up is =
     subst (MayEnd rows) (sym (is ∙ wounded-rows rows t needs))
     (may_end_kept (λ q. gives_way t needs (claim_of q)) (λ q e. middle_of _ _ _ e) rows up)
 
 -- the requester is not among the wounded
-pub others_end : (rows : List Row) (t : Id) (needs : List Lock) (ts : List Id) → ts ≡ wounded (claims rows) t needs → AllByRecursion (λ u. same_id u t ≡ false) ts
-others_end rows t needs ts is = subst (AllByRecursion (λ u. same_id u t ≡ false)) (sym (is ∙ wounded-is (claims rows) t needs)) (wounded_differ t needs (claims rows))
+pub others_end : (rows : List Row) (t : Id) (needs : List Lock) (ts : List Id) → ts ≡ wounded (claims rows) t needs →
+    AllByRecursion (λ u. same_id u t ≡ false) ts
+others_end rows t needs ts is = subst (AllByRecursion (λ u. same_id u t ≡ false)) (sym (is ∙ wounded-is (claims rows) t needs))
+    (wounded_differ t needs (claims rows))
 
 -- so its row stays
 pub row_stays : (rows : List Row) (t : Id) (ts : List Id) → AllByRecursion (λ u. same_id u t ≡ false) ts → find_row (without_rows rows ts) t ≡ find_row rows t
@@ -93,6 +97,7 @@ token_stays tokens t [] differ = refl
 token_stays tokens t (u ∷ ts) differ = token_stays (without_token tokens u) t ts differ.1 ∙ find-without_other (λ (k : Token). k.txn) tokens t u differ.0
 
 -- the same request then ends nobody
-pub then_quiet : (rows : List Row) (t : Id) (needs : List Lock) (ts : List Id) → ts ≡ wounded (claims rows) t needs → wounded (claims (without_rows rows ts)) t needs ≡ []
+pub then_quiet : (rows : List Row) (t : Id) (needs : List Lock) (ts : List Id) → ts ≡ wounded (claims rows) t needs →
+    wounded (claims (without_rows rows ts)) t needs ≡ []
 then_quiet rows t needs ts is =
     ap (λ s. wounded s t needs) (claims-without_rows rows ts ∙ ap (without_claims (claims rows)) is) ∙ (release_makes_way (claims rows) t needs).quiet

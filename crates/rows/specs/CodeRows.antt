@@ -66,13 +66,13 @@ abbrev pub may_close : Phase → Bool
 may_close phase = not (may_abort phase)
 
 -- the transaction and its timestamp, of a row that is prepared, and of one that is decided
-abbrev pub prepared_of : Row → Option (Id × ℕ)
-prepared_of (Prepared s) = Some (s.token.txn, s.at)
-prepared_of _ = None
+abbrev pub stamp_if_prepared : Row → Option (Id × ℕ)
+stamp_if_prepared (Prepared s) = Some (s.token.txn, s.at)
+stamp_if_prepared _ = None
 
-abbrev pub decided_of : Row → Option (Id × ℕ)
-decided_of (Decided s) = Some (s.token.txn, s.at)
-decided_of _ = None
+abbrev pub stamp_if_decided : Row → Option (Id × ℕ)
+stamp_if_decided (Decided s) = Some (s.token.txn, s.at)
+stamp_if_decided _ = None
 
 -- some row is the transaction's
 abbrev pub has_txn : List Row → Id → Bool

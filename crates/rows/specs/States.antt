@@ -52,16 +52,16 @@ pub record DecidedState : Type 0 where
   pub parts : List ℕ
 
 -- the state of a transaction that reads
-abbrev pub reading_of : Token → Option Wait → ReadingState
-reading_of token wait = record { token = token; wait = wait }
+abbrev pub reading_state : Token → Option Wait → ReadingState
+reading_state token wait = record { token = token; wait = wait }
 
 -- the state of a coordinator that has no vote yet
 abbrev pub collecting_of : Token → CommitRequest → CollectingState
 collecting_of token request = record { token = token; request = request; votes = [] }
 
 -- the state with a yes of a shard
-abbrev pub with_yes : ℕ → ℕ → CollectingState → CollectingState
-with_yes n p s = record { token = s.token; request = s.request; votes = with_vote n p s.votes }
+abbrev pub collecting_with_yes : ℕ → ℕ → CollectingState → CollectingState
+collecting_with_yes n p s = record { token = s.token; request = s.request; votes = with_vote n p s.votes }
 
 -- the record is a promise of the transaction
 abbrev pub is_prepare_of : Id → Record → Bool

@@ -4,7 +4,7 @@ ghost use Rattle.std.specs.List.{find, position_or_len};
 ghost use Rattle.std.specs.Option.{option_copied};
 ghost use Rattle.units.specs.Ids.{same_id, older};
 ghost use Rattle.units.specs.Lists.{gather};
-ghost use Rattle.rows.specs.CodeRows.{txn_of, has_txn, row_of, passes, is_reading, prepared_of, decided_of, without_txn, put_in, IsRowList};
+ghost use Rattle.rows.specs.CodeRows.{txn_of, has_txn, row_of, passes, is_reading, stamp_if_prepared, stamp_if_decided, without_txn, put_in, IsRowList};
 
 use crate::row::Row;
 use crate::states::Reading;
@@ -64,14 +64,14 @@ impl RowList {
 
     /// The n-th prepared transaction, with its timestamp.
     pub fn nth_prepared(&self, n: usize) -> Option<(TxnId, Stamp)>
-        ensures { result ≡ slice_get (gather prepared_of self.now) n }
+        ensures { result ≡ slice_get (gather stamp_if_prepared self.now) n }
     {
         nth_prepared(&self.rows, n)
     }
 
     /// The n-th decided transaction, with its timestamp.
     pub fn nth_decided(&self, n: usize) -> Option<(TxnId, Stamp)>
-        ensures { result ≡ slice_get (gather decided_of self.now) n }
+        ensures { result ≡ slice_get (gather stamp_if_decided self.now) n }
     {
         nth_decided(&self.rows, n)
     }
@@ -135,7 +135,7 @@ fn found(rows: &[Row], txn: TxnId) -> Option<&Row>
 
 // The n-th prepared transaction.
 fn nth_prepared(rows: &[Row], n: usize) -> Option<(TxnId, Stamp)>
-    ensures { result ≡ slice_get (gather prepared_of rows.now) n }
+    ensures { result ≡ slice_get (gather stamp_if_prepared rows.now) n }
 {
     let mut left = n;
     for row in rows {
@@ -151,7 +151,7 @@ fn nth_prepared(rows: &[Row], n: usize) -> Option<(TxnId, Stamp)>
 
 // The n-th decided transaction.
 fn nth_decided(rows: &[Row], n: usize) -> Option<(TxnId, Stamp)>
-    ensures { result ≡ slice_get (gather decided_of rows.now) n }
+    ensures { result ≡ slice_get (gather stamp_if_decided rows.now) n }
 {
     let mut left = n;
     for row in rows {

@@ -1,7 +1,7 @@
 //! A row: a transaction in one of its states.
 ghost use Rattle.std.specs.Prelude.{◌≡◌};
 ghost use Rattle.units.specs.Ids.{same_id};
-ghost use Rattle.rows.specs.CodeRows.{txn_of, phase_of, is_reading, prepared_of, decided_of};
+ghost use Rattle.rows.specs.CodeRows.{txn_of, phase_of, is_reading, stamp_if_prepared, stamp_if_decided};
 ghost use Rattle.locks.specs.Table.{without_claim};
 
 use crate::states::{Collecting, Decided, Prepared, Reading};
@@ -46,7 +46,7 @@ impl Row {
 
     /// Whose row it is and its timestamp, where it is prepared.
     pub fn prepared(&self) -> Option<(TxnId, Stamp)>
-        ensures { result ≡ prepared_of self.now }
+        ensures { result ≡ stamp_if_prepared self.now }
     {
         match self {
             Row::Prepared(state) => Some((state.txn(), state.at())),
@@ -56,7 +56,7 @@ impl Row {
 
     /// Whose row it is and its timestamp, where it is decided.
     pub fn decided(&self) -> Option<(TxnId, Stamp)>
-        ensures { result ≡ decided_of self.now }
+        ensures { result ≡ stamp_if_decided self.now }
     {
         match self {
             Row::Decided(state) => Some((state.txn(), state.at())),

@@ -3,8 +3,8 @@
 ghost use Rattle.std.specs.Prelude.{◌≡◌, ◌≤◌, ◌+◌, [], Some, None, true, false, length, OnOk, IfErr};
 ghost use Rattle.std.specs.Option.{option_copied};
 ghost use Rattle.units.specs.Locks.{is_free, wounded};
-ghost use Rattle.rows.specs.States.{reading_of, collecting_of, with_yes, is_prepare_of, is_commit_of, is_abort_of, is_outcome_of, prepared_by, decided_by};
-ghost use Rattle.locks.specs.Table.{has_claim, without_claim, change_claim, granted, waiting, made_firm, held_in, most_held};
+ghost use Rattle.rows.specs.States.{reading_state, collecting_of, collecting_with_yes, is_prepare_of, is_commit_of, is_abort_of, is_outcome_of, prepared_by, decided_by};
+ghost use Rattle.locks.specs.Table.{has_claim, without_claim, change_claim, granted, waiting, made_firm, held_in_table, most_held};
 
 use crate::votes::{Gathering, Votes};
 use crate::wait::{CommitRequest, Wait};
@@ -76,7 +76,7 @@ impl Model for Decided {
 impl Reading {
     /// A transaction that is new.
     pub(crate) fn new(held: Held) -> Reading
-        ensures { result ≡ reading_of held None }
+        ensures { result ≡ reading_state held None }
     {
         Reading { held, wait: None }
     }
@@ -100,7 +100,7 @@ impl Reading {
         requires { has_claim table.now self.old.token.txn ≡ true }
         ensures txn { self.new.token.txn ≡ self.old.token.txn }
         ensures wait { self.new.wait ≡ self.old.wait }
-        ensures room { OnOk result (length (held_in table.now self.old.token.txn) + more ≤ self.new.token.room) }
+        ensures room { OnOk result (length (held_in_table table.now self.old.token.txn) + more ≤ self.new.token.room) }
         ensures memory { IfErr result (λ fault. fault ≡ Fault.Memory) }
     {
         table.make_room(&mut self.held, more)
@@ -214,7 +214,7 @@ impl Reading {
 impl Collecting {
     // A yes of a shard comes. Its first is kept.
     pub(crate) fn vote(self, from: ShardNo, at: Stamp) -> Collecting
-        ensures { result ≡ with_yes from at self }
+        ensures { result ≡ collecting_with_yes from at self }
     {
         let Collecting {
             held,

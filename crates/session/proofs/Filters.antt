@@ -1,17 +1,9 @@
 -- Filters, and where a member comes in an ascending list.
-use Rattle.std.proofs.Common.{◌≡◌, suc, Bool, true, false, cond, List, [], ◌∷◌, insert, filter, refl, ap}
+use Rattle.std.proofs.Common.{◌≡◌, suc, Bool, true, false, cond, List, [], ◌∷◌, insert, refl, ap}
 use Rattle.units.specs.Lists.{insert as put}
 use Rattle.units.specs.Keys.{Bytes, key_before, write_before}
 use Rattle.units.specs.declared.writes.Write.{Write}
 use Rattle.session.specs.Places.{place_among, write_place}
-
-pub keep_is_filter : {A : Type 0} (test : A → Bool) (xs : List A) → filter test xs ≡ filter test xs
-keep_is_filter test [] = refl
-keep_is_filter {A} test (x ∷ xs) = by_test (test x) (keep_is_filter test xs)
-  where
-    by_test : (b : Bool) → filter test xs ≡ filter test xs → cond b (x ∷ filter test xs) (filter test xs) ≡ cond b (x ∷ filter test xs) (filter test xs)
-    by_test true e = ap (λ l. x ∷ l) e
-    by_test false e = e
 
 pub insert_key : (ks : List Bytes) (k : Bytes) → insert ks (place_among ks k) k ≡ put key_before k ks
 insert_key [] k = refl

@@ -1,5 +1,6 @@
 -- The steps of a session, by the tests that they make.
-use Rattle.std.proofs.Common.{◌≡◌, ◌≢◌, ℕ, ◌≤◌, ◌<◌, Bool, true, false, cond, not, ◌&&◌, nat_le, List, [], ◌∷◌, ◌++◌, length, Option, refl, sym, ◌∙◌, subst, arith}
+use Rattle.std.proofs.Common.{◌≡◌, ◌≢◌, ℕ, ◌≤◌, ◌<◌, Bool, true, false, cond, not, ◌&&◌, nat_le, List, [], ◌∷◌, ◌++◌, length, Option, refl, sym, ◌∙◌}
+use Rattle.std.proofs.Common.{subst, arith}
 use Rattle.std.proofs.lemmas.Bool.Decides.{nat_tests}
 use Rattle.units.specs.Keys.{Bytes, has_key, shard_of, writes_key}
 use Rattle.units.specs.declared.fault.Fault.TheVariants.{BadRequest}
@@ -11,7 +12,9 @@ use Rattle.message.specs.declared.message.Answer.{Answer}
 use Rattle.message.specs.declared.message.Answer.TheVariants.{Holds, Refused}
 use Rattle.session.specs.declared.answered.Heard.{Heard}
 use Rattle.session.specs.Shown.{heard_as, taken_as, closing_client, is_closing}
-use Rattle.session.specs.Sessions.{Client, Moved, Denies, Goes, unless, asked_keys, was_answered, is_doomed, reads, buffers, hears, with_write, take_answer, epochs_agree, doomed_by, without_key, Stage, IsOpen, IsClosing, IsOver, is_none, closes, closing_messages, parts_of, asked_shards, shards_told}
+use Rattle.session.specs.Sessions.{Client, Moved, Denies, Goes, unless, asked_keys, was_answered, is_doomed, reads, buffers, hears, with_write}
+use Rattle.session.specs.Sessions.{take_answer, epochs_agree, doomed_by, without_key, Stage, IsOpen, IsClosing, IsOver, is_none, closes}
+use Rattle.session.specs.Sessions.{closing_messages, parts_of, asked_shards, shards_told}
 
 -- a reading, by its tests
 abbrev reads_by : List Bytes → Bytes → Client → List Bytes → ℕ → Bool → Bool → Bool → Bool → Moved
@@ -20,7 +23,8 @@ reads_by splits k c aw n a b d e =
     (Goes (record c { awaited = aw }) (record { to = Shard n; message = Message.Read (record { txn = c.txn; key = k }) } ∷ []))
 
 read_as : (splits : List Bytes) (k : Bytes) (c : Client)
-    → reads splits k c ≡ reads_by splits k c (c.awaited ++ k ∷ []) (shard_of splits k) (nat_le 128 (length (asked_keys c))) (was_answered c k) (has_key c.awaited k) (is_doomed c)
+    → reads splits k c ≡ reads_by splits k c (c.awaited ++ k ∷ []) (shard_of splits k) (nat_le 128 (length (asked_keys c))) (was_answered c k)
+        (has_key c.awaited k) (is_doomed c)
 unfolding reads
 read_as splits k c = refl
 
@@ -43,7 +47,8 @@ pub reads_doomed : (splits : List Bytes) (k : Bytes) (c : Client) → nat_le 128
 reads_doomed splits k c a b d e =
     read_as splits k c ∙ (λ i. reads_by splits k c (c.awaited ++ k ∷ []) (shard_of splits k) (a i) (b i) (d i) (e i))
 
-pub reads_goes : (splits : List Bytes) (k : Bytes) (c : Client) (aw : List Bytes) (n : ℕ) → nat_le 128 (length (asked_keys c)) ≡ false → was_answered c k ≡ false
+pub reads_goes : (splits : List Bytes) (k : Bytes) (c : Client) (aw : List Bytes) (n : ℕ) → nat_le 128 (length (asked_keys c)) ≡ false →
+    was_answered c k ≡ false
     → has_key c.awaited k ≡ false → is_doomed c ≡ false → aw ≡ c.awaited ++ k ∷ [] → n ≡ shard_of splits k
     → reads splits k c ≡ Goes (record c { awaited = aw }) (record { to = Shard n; message = Message.Read (record { txn = c.txn; key = k }) } ∷ [])
 reads_goes splits k c aw n a b d e is at =
@@ -53,7 +58,8 @@ reads_goes splits k c aw n a b d e is at =
 abbrev buffers_by : Client → List Write → Bool → Bool → Moved
 buffers_by c ws a b = unless ((a, Many) ∷ (b, Doomed) ∷ []) (Goes (record c { writes = ws }) [])
 
-buffer_as : (w : Write) (c : Client) → buffers w c ≡ buffers_by c (with_write c.writes w) (nat_le 128 (length c.writes) && not (writes_key c.writes w.key)) (is_doomed c)
+buffer_as : (w : Write) (c : Client) → buffers w c ≡ buffers_by c (with_write c.writes w)
+    (nat_le 128 (length c.writes) && not (writes_key c.writes w.key)) (is_doomed c)
 unfolding buffers
 buffer_as w c = refl
 
@@ -89,12 +95,14 @@ Hears n k epoch a c d h = (d ≡ hears n k epoch a c) × (h ≡ heard_as c n k e
 pub heard_again : (n : ℕ) (k : Bytes) (epoch : ℕ) (a : Answer) (c : Client) → (has_key c.awaited k && not (is_doomed c)) ≡ false
     → Hears n k epoch a c c Heard.Again
 heard_again n k epoch a c e =
-    (sym (hear_as n k epoch a c ∙ (λ i. cond (e i) (take_answer c n k epoch a) c)), sym (λ i. cond (e i) (taken_as (epochs_agree c.taken n epoch) a) Heard.Again))
+    (sym (hear_as n k epoch a c ∙ (λ i. cond (e i) (take_answer c n k epoch a) c)), sym (λ i. cond (e i)
+        (taken_as (epochs_agree c.taken n epoch) a) Heard.Again))
 
 heard_taken : (n : ℕ) (k : Bytes) (epoch : ℕ) (a : Answer) (c : Client) → (has_key c.awaited k && not (is_doomed c)) ≡ true
     → Hears n k epoch a c (take_answer c n k epoch a) (taken_as (epochs_agree c.taken n epoch) a)
 heard_taken n k epoch a c e =
-    (sym (hear_as n k epoch a c ∙ (λ i. cond (e i) (take_answer c n k epoch a) c)), sym (λ i. cond (e i) (taken_as (epochs_agree c.taken n epoch) a) Heard.Again))
+    (sym (hear_as n k epoch a c ∙ (λ i. cond (e i) (take_answer c n k epoch a) c)), sym (λ i. cond (e i)
+        (taken_as (epochs_agree c.taken n epoch) a) Heard.Again))
 
 pub heard_refused : (n : ℕ) (k : Bytes) (epoch : ℕ) (a : Answer) (c : Client) → (has_key c.awaited k && not (is_doomed c)) ≡ true
     → a ≡ Refused → Hears n k epoch a c (doomed_by k c) Heard.Doomed
@@ -105,7 +113,8 @@ pub heard_value : (n : ℕ) (k : Bytes) (epoch : ℕ) (a : Answer) (c : Client) 
     → a ≡ Holds x → epochs_agree c.taken n epoch ≡ true → Hears n k epoch a c (take_answer c n k epoch (Holds x)) (Heard.Value x)
 heard_value n k epoch a c x e is agree =
     let h = heard_taken n k epoch (Holds x) c e in
-    subst (λ b. Hears n k epoch b c (take_answer c n k epoch (Holds x)) (Heard.Value x)) (sym is) (h.0, sym (λ i. cond (agree i) (Heard.Value x) Heard.Doomed) ∙ h.1)
+    subst (λ b. Hears n k epoch b c (take_answer c n k epoch (Holds x)) (Heard.Value x)) (sym is)
+        (h.0, sym (λ i. cond (agree i) (Heard.Value x) Heard.Doomed) ∙ h.1)
 
 pub heard_second_epoch : (n : ℕ) (k : Bytes) (epoch : ℕ) (a : Answer) (c : Client) (x : Option Bytes) → (has_key c.awaited k && not (is_doomed c)) ≡ true
     → a ≡ Holds x → epochs_agree c.taken n epoch ≡ false → Hears n k epoch a c (doomed_by k c) Heard.Doomed
@@ -124,7 +133,8 @@ abbrev closes_by : List Bytes → Client → Bool → Bool → Bool → Moved
 closes_by splits c a b d =
     unless ((a, Nothing) ∷ (b, Awaited) ∷ (d, Doomed) ∷ []) (Goes (record c { stage = IsClosing }) (closing_messages splits c))
 
-close_as : (splits : List Bytes) (c : Client) → closes splits c ≡ closes_by splits c (is_none (asked_keys c) && is_none c.writes) (not (is_none c.awaited)) (is_doomed c)
+close_as : (splits : List Bytes) (c : Client) → closes splits c ≡ closes_by splits c (is_none (asked_keys c) && is_none c.writes)
+    (not (is_none c.awaited)) (is_doomed c)
 unfolding closes
 close_as splits c = refl
 
@@ -135,11 +145,13 @@ pub closes_awaited : (splits : List Bytes) (c : Client) → (is_none (asked_keys
     → closes splits c ≡ Denies (BadRequest Awaited)
 closes_awaited splits c a b = close_as splits c ∙ (λ i. closes_by splits c (a i) (b i) (is_doomed c))
 
-pub closes_doomed : (splits : List Bytes) (c : Client) → (is_none (asked_keys c) && is_none c.writes) ≡ false → not (is_none c.awaited) ≡ false → is_doomed c ≡ true
+pub closes_doomed : (splits : List Bytes) (c : Client) → (is_none (asked_keys c) && is_none c.writes) ≡ false → not (is_none c.awaited) ≡ false →
+    is_doomed c ≡ true
     → closes splits c ≡ Denies (BadRequest Doomed)
 closes_doomed splits c a b d = close_as splits c ∙ (λ i. closes_by splits c (a i) (b i) (d i))
 
-pub closes_goes : (splits : List Bytes) (c : Client) → (is_none (asked_keys c) && is_none c.writes) ≡ false → not (is_none c.awaited) ≡ false → is_doomed c ≡ false
+pub closes_goes : (splits : List Bytes) (c : Client) → (is_none (asked_keys c) && is_none c.writes) ≡ false → not (is_none c.awaited) ≡ false →
+    is_doomed c ≡ false
     → closes splits c ≡ Goes (record c { stage = IsClosing }) (closing_messages splits c)
 closes_goes splits c a b d = close_as splits c ∙ (λ i. closes_by splits c (a i) (b i) (d i))
 

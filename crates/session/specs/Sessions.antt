@@ -1,6 +1,7 @@
 -- A client's session: it reads, buffers writes, closes into one set of messages, and hears the end of its transaction.
 use Rattle.std.specs.List.{list_any, list_all}
-use Rattle.std.specs.Prelude.{ℕ, Bool, true, false, not, cond, ◌&&◌, ◌||◌, nat_eq, nat_lt, nat_le, List, [], ◌∷◌, ◌++◌, length, map, Option, Some, None, filter, option_to_list}
+use Rattle.std.specs.Prelude.{ℕ, Bool, true, false, not, cond, ◌&&◌, ◌||◌, nat_eq, nat_lt, nat_le, List, [], ◌∷◌, ◌++◌, length, map, Option, Some}
+use Rattle.std.specs.Prelude.{None, filter, option_to_list}
 use Rattle.units.specs.Lists.{first, sorted, once, insert, when}
 use Rattle.units.specs.Ids.{Id}
 use Rattle.units.specs.Keys.{Bytes, same_key, key_before, write_before, shard_of, has_key, writes_key}
@@ -114,8 +115,8 @@ epoch_or_none None = 0
 epoch_or_none (Some a) = a.epoch
 
 -- the epoch in which the session read at a shard
-abbrev pub epoch_at : Client → ℕ → ℕ
-epoch_at c n = epoch_or_none (first (λ a. nat_eq a.shard n) c.taken)
+abbrev pub epoch_read_at : Client → ℕ → ℕ
+epoch_read_at c n = epoch_or_none (first (λ a. nat_eq a.shard n) c.taken)
 
 -- the keys read at a shard, ascending
 abbrev pub reads_at : Client → ℕ → List Bytes
@@ -123,22 +124,24 @@ reads_at c n = sorted key_before (map (λ a. a.key) (filter (λ a. nat_eq a.shar
 
 -- what was read at a shard: the keys and their epoch
 abbrev pub read_set : Client → ℕ → ReadSet
-read_set c n = record { epoch = epoch_at c n; keys = reads_at c n }
+read_set c n = record { epoch = epoch_read_at c n; keys = reads_at c n }
 
 -- the writes of a shard
-abbrev pub writes_at : List Bytes → Client → ℕ → List Write
-writes_at splits c n = filter (λ w. nat_eq (shard_of splits w.key) n) c.writes
+abbrev pub writes_at_shard : List Bytes → Client → ℕ → List Write
+writes_at_shard splits c n = filter (λ w. nat_eq (shard_of splits w.key) n) c.writes
 
 -- the message to a part that does not decide
 abbrev pub prepare_for : List Bytes → Client → ℕ → ℕ → Envelope
 prepare_for splits c coordinator n =
-    record { to = Shard n; message = Message.Prepare (record { txn = c.txn; coordinator = coordinator; reads = read_set c n; writes = writes_at splits c n }) }
+    record { to = Shard n; message = Message.Prepare (record { txn = c.txn; coordinator = coordinator; reads = read_set c n; writes =
+        writes_at_shard splits c n }) }
 
 -- the messages of a closing: Commit to the least part, which decides, then Prepare to each other part
 abbrev pub messages_for : List Bytes → Client → List ℕ → List Envelope
 messages_for splits c [] = []
 messages_for splits c (n ∷ ns) =
-    record { to = Shard n; message = Message.Commit (record { txn = c.txn; parts = n ∷ ns; reads = read_set c n; writes = writes_at splits c n }) } ∷ map (prepare_for splits c n) ns
+    record { to = Shard n; message = Message.Commit (record { txn = c.txn; parts = n ∷ ns; reads = read_set c n; writes =
+        writes_at_shard splits c n }) } ∷ map (prepare_for splits c n) ns
 
 -- the messages of the closing, the same each time
 unfoldable pub closing_messages : List Bytes → Client → List Envelope

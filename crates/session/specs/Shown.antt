@@ -33,7 +33,7 @@ taken_keys taken = map (λ a. a.key) taken
 
 -- what a transaction keeps: at most 128 keys are asked for, a key is answered once and then not awaited, and the writes
 -- are at most 128 by ascending keys
-pub record IsKept (taken : List Answered) (awaited : List Bytes) (writes : List Write) : Type 0 where
+pub record IsWithinLimits (taken : List Answered) (awaited : List Bytes) (writes : List Write) : Type 0 where
   pub few_keys : length taken + length awaited ≤ 128
   pub once : IsTrue (distinct (taken_keys taken))
   pub apart : IsTrue (list_all (λ k. not (has_key (taken_keys taken) k)) awaited)

@@ -2,8 +2,8 @@
 ghost use Rattle.std.specs.Prelude.{◌≡◌, ◌≤◌, [], ◌∷◌, ◌++◌, length, map, IfOk, IfErr, IfNone, IfSome, nat_eq, nat_lt, filter};
 ghost use Rattle.units.specs.Keys.{key_before, shard_of};
 ghost use Rattle.units.specs.Lists.{first, once, sorted};
-ghost use Rattle.session.specs.Sessions.{closing_messages, epoch_or_none, messages_for, parts_of, prepare_for, reads_at, read_set, writes_at};
-ghost use Rattle.session.specs.Shown.{IsKept, closing_client};
+ghost use Rattle.session.specs.Sessions.{closing_messages, epoch_or_none, messages_for, parts_of, prepare_for, reads_at, read_set, writes_at_shard};
+ghost use Rattle.session.specs.Shown.{IsWithinLimits, closing_client};
 
 use crate::Answered;
 use crate::lists::insert_key;
@@ -18,7 +18,7 @@ pub struct Request<'a> {
     pub txn: TxnId,
     pub taken: &'a [Answered],
     pub writes: &'a [Write],
-    ghost kept: { IsKept taken.now [] writes.now },
+    ghost kept: { IsWithinLimits taken.now [] writes.now },
 }
 
 impl Request<'_> {
@@ -69,7 +69,7 @@ impl Request<'_> {
             txn = self.now.txn;
             parts = parts;
             reads = read_set (closing_client self.now.txn self.now.taken.now self.now.writes.now) shard;
-            writes = writes_at self.now.splits.now (closing_client self.now.txn self.now.taken.now self.now.writes.now) shard;
+            writes = writes_at_shard self.now.splits.now (closing_client self.now.txn self.now.taken.now self.now.writes.now) shard;
           });
         }) }
         ensures memory { IfErr result (λ fault. fault ≡ Fault.Memory) }
@@ -126,7 +126,7 @@ impl Request<'_> {
 
     // The writes of a shard.
     fn writes_at(&self, alloc: Global, shard: ShardNo) -> Result<Writes, Fault>
-        ensures same { IfOk result (λ writes. writes ≡ writes_at self.now.splits.now (closing_client self.now.txn self.now.taken.now self.now.writes.now) shard) }
+        ensures same { IfOk result (λ writes. writes ≡ writes_at_shard self.now.splits.now (closing_client self.now.txn self.now.taken.now self.now.writes.now) shard) }
         ensures memory { IfErr result (λ fault. fault ≡ Fault.Memory) }
     {
         match Writes::from_vec(writes_of(alloc, self.splits, self.writes, shard)?) {

@@ -57,13 +57,13 @@ pub struct Tx<'s, S: Phase> {
 }
 
 impl<'s, S: Phase> Model for Tx<'s, S> {
-    ghost use Rattle.session.specs.Shown.{Session, IsKept};
+    ghost use Rattle.session.specs.Shown.{Session, IsWithinLimits};
 
     ghost Value = { Session };
 
     ghost view = { λ t. record { splits = t.splits.now; client = record { txn = t.txn; stage = S.stage; doom = t.doom; taken = t.taken.items; awaited = t.awaited.items; writes = t.writes.items } } };
 
-    ghost invariant = { λ t. IsKept t.taken.items t.awaited.items t.writes.items };
+    ghost invariant = { λ t. IsWithinLimits t.taken.items t.awaited.items t.writes.items };
 }
 
 impl<'s> Tx<'s, Open> {

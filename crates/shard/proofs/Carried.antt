@@ -10,7 +10,7 @@ use Rattle.protocol.specs.Rows.{Memory}
 use Rattle.protocol.specs.Plan.{carried}
 use Rattle.protocol.specs.Step.{facts_after}
 use Rattle.protocol.specs.Sound.{IsSound}
-use Rattle.memory.specs.Carry.{AdmissionIsUnseen, ReadyIsCarriable, IsReady, IsCarriable, MayInstall, installed_by}
+use Rattle.memory.specs.Carry.{AdmissionIsUnseen, ReadyIsCarriable, HasMemoryFor, IsCarriable, MayInstall, writes_installed}
 use Rattle.memory.specs.Kept.{Kept}
 use Rattle.memory.specs.Plans.{plan_of}
 use Rattle.memory.specs.declared.plan.Plan.{Plan}
@@ -35,14 +35,15 @@ facts-logged (Err fault) f r known = absurd (cc)
 
 -- ---- a plan
 
-module _ (k ready : Kept) (p : Plan) (due : IsDue k p) (made : IsReady k ready p) where
+module _ (k ready : Kept) (p : Plan) (due : IsDue k p) (made : HasMemoryFor k ready p) where
   -- it can be carried out
-  pub can_carry : ReadyIsCarriable → (writes : List Write) → writes ≡ installed_by k.facts p.logged → IsCarriable ready p writes
+  pub can_carry : ReadyIsCarriable → (writes : List Write) → writes ≡ writes_installed k.facts p.logged → IsCarriable ready p writes
   can_carry law writes is =
       law k ready p writes due.order due.fit made due.follows (subst (MayInstall k.facts p.logged) (sym is) due.installs)
 
   -- and makes of the memory what the plan says, told from the state before
-  pub memory_after : AdmissionIsUnseen → (after : Memory) → after ≡ carried (plan_of ready.memory.rows p) ready.memory → after ≡ carried (plan_of k.memory.rows p) k.memory
+  pub memory_after : AdmissionIsUnseen → (after : Memory) → after ≡ carried (plan_of ready.memory.rows p) ready.memory →
+      after ≡ carried (plan_of k.memory.rows p) k.memory
   memory_after unseen after e =
       e ∙ ap (λ (m : Memory). carried (plan_of m.rows p) m) made.memory ∙ unseen k.memory p due.order (due.fit).0
 

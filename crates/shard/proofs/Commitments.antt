@@ -1,7 +1,9 @@
 -- A decision that stands was logged.
 use Rattle.std.specs.List.{list_any}
-use Rattle.std.proofs.Common.{◌≡◌, ◌⊎◌, inl, inr, ⊎_elim, ℕ, Bool, true, false, ◌&&◌, ◌||◌, nat_eq, List, [], ◌∷◌, ◌++◌, fold, Option, Some, None, Result, Ok, Err, refl, sym, ap, ◌∙◌, subst, arith}
+use Rattle.std.proofs.Common.{◌≡◌, ◌⊎◌, inl, inr, ⊎_elim, ℕ, Bool, true, false, ◌&&◌, ◌||◌, nat_eq, List, [], ◌∷◌, ◌++◌, fold, Option, Some, None}
+use Rattle.std.proofs.Common.{Result, Ok, Err, refl, sym, ap, ◌∙◌, subst, arith}
 use Rattle.std.proofs.lemmas.Bool.Decides.{nat_tests}
+use Rattle.std.proofs.lemmas.Bool.{or_right, or_left}
 use Rattle.units.specs.Ids.{Id, same_id}
 use Rattle.units.specs.Lists.{first}
 use Rattle.units.specs.declared.fault.Fault.{Fault}
@@ -28,10 +30,12 @@ decided_stamp _ = 0
 
 module _ (t : Id) (c : Committed) where
   -- an entry given anew for an id
-  given : (es : List Entry) (u : Id) (status : Status) (same : Bool) → same_id u t ≡ same → or_unrecorded (entry_for (with_status es u status) t) ≡ StandsDecided c
+  given : (es : List Entry) (u : Id) (status : Status) (same : Bool) → same_id u t ≡ same →
+      or_unrecorded (entry_for (with_status es u status) t) ≡ StandsDecided c
       → ((same ≡ true) × (status ≡ StandsDecided c)) ⊎ (or_unrecorded (entry_for es t) ≡ StandsDecided c)
   given es u status true is h =
-      inl (refl, sym (ap or_unrecorded (subst (λ v. entry_for (with_status es u status) v ≡ Some (entry u status)) (same_id-is u t is) (entry_same es u status))) ∙ h)
+      inl (refl, sym (ap or_unrecorded (subst (λ v. entry_for (with_status es u status) v ≡ Some (entry u status)) (same_id-is u t is)
+          (entry_same es u status))) ∙ h)
   given es u status false is h = inr (sym (ap or_unrecorded (entry_other es u t status is)) ∙ h)
 
   not-decided : (status : Status) (outcome : Option ℕ) → after_outcome status outcome ≡ StandsDecided c → ⊥
@@ -58,27 +62,23 @@ module _ (t : Id) (c : Committed) where
       ⊎_elim (λ same. inr (same-stamp d same.0 same.1)) (λ before. inl before) (given f.entries d.txn (StandsDecided d) (same_id d.txn t) refl h)
   learn-one f (Record.Abort u) h = ⊎_elim (λ same. absurd (cc)) (λ before. inl before) (given f.entries u HasAborted (same_id u t) refl h)
   learn-one f (Record.Outcome u outcome) h =
-      ⊎_elim (λ same. absurd (not-decided (recorded f u) outcome same.1)) (λ before. inl before) (given f.entries u (after_outcome (recorded f u) outcome) (same_id u t) refl h)
-
-  or-right : (a b : Bool) → b ≡ true → (a || b) ≡ true
-  or-right true b h = refl
-  or-right false b h = h
-
-  or-left : (a b : Bool) → a ≡ true → (a || b) ≡ true
-  or-left a b h = ap (λ x. x || b) h
+      ⊎_elim (λ same. absurd (not-decided (recorded f u) outcome same.1)) (λ before. inl before)
+          (given f.entries u (after_outcome (recorded f u) outcome) (same_id u t) refl h)
 
   -- a list of records
-  learn-all : (f : Facts) (rs : List Record) → recorded (fold learn f rs) t ≡ StandsDecided c → (recorded f t ≡ StandsDecided c) ⊎ (list_any (is_commit t c.at) rs ≡ true)
+  learn-all : (f : Facts) (rs : List Record) → recorded (fold learn f rs) t ≡ StandsDecided c → (recorded f t ≡ StandsDecided c)
+      ⊎ (list_any (is_commit t c.at) rs ≡ true)
   learn-all f [] h = inl h
   learn-all f (r ∷ rs) h =
-      ⊎_elim (λ here. ⊎_elim (λ before. inl before) (λ is. inr (or-left (is_commit t c.at r) (list_any (is_commit t c.at) rs) is)) (learn-one f r here))
-      (λ later. inr (or-right (is_commit t c.at r) (list_any (is_commit t c.at) rs) later))
+      ⊎_elim (λ here. ⊎_elim (λ before. inl before) (λ is. inr (or_left (is_commit t c.at r) (list_any (is_commit t c.at) rs) is)) (learn-one f r here))
+      (λ later. inr (or_right (is_commit t c.at r) (list_any (is_commit t c.at) rs) later))
       (learn-all (learn f r) rs h)
 
   any-more : (test : Record → Bool) (rs more : List Record) → list_any test rs ≡ true → list_any test (rs ++ more) ≡ true
   any-more test (r ∷ rs) more h = step (test r) h (any-more test rs more)
     where
-      step : (b : Bool) → (b || list_any test rs) ≡ true → (list_any test rs ≡ true → list_any test (rs ++ more) ≡ true) → (b || list_any test (rs ++ more)) ≡ true
+      step : (b : Bool) → (b || list_any test rs) ≡ true → (list_any test rs ≡ true → list_any test (rs ++ more) ≡ true) →
+          (b || list_any test (rs ++ more)) ≡ true
       step true e ih = refl
       step false e ih = ih e
   any-more test [] more h = cc

@@ -7,11 +7,11 @@ use Rattle.record.specs.declared.record.Record.{Record}
 use Rattle.facts.specs.Rules.{follows_facts}
 use Rattle.protocol.specs.Plan as protocol
 use Rattle.protocol.specs.Rows.{Memory, rebuilt}
-use Rattle.protocol.specs.Plan.{carried, ended_by, changed}
+use Rattle.protocol.specs.Plan.{carried, ended_by, after_change}
 use Rattle.protocol.specs.Step.{facts_after}
 use Rattle.protocol.specs.Sound.{FreshIsSound, IsSound, OpeningKeepsSound}
 use Rattle.protocol.proofs.RowChanges.{by_id-claims}
-use Rattle.memory.specs.Carry.{IsFit, MayFollow, MayInstall, installed_by}
+use Rattle.memory.specs.Carry.{IsFit, MayFollow, MayInstall, writes_installed}
 use Rattle.memory.specs.Kept.{Kept}
 use Rattle.memory.specs.Plans.{plan_of}
 use Rattle.memory.specs.declared.plan.Plan.{Plan}
@@ -41,21 +41,23 @@ follows_next shard f = grind (arith, nat_tests)
 
 -- its plan leaves what the log with it leaves
 pub opened_memory : (k : Kept) (p : protocol.Plan) (last : ℕ) (logged : Option Record) → k.memory ≡ rebuilt k.facts → last ≡ k.memory.last
-    → p ≡ record { wounded = []; change = protocol.Keeps; logged = logged; last = last; outbox = [] } → carried p k.memory ≡ rebuilt (learn k.facts (next k.facts))
-unfolding carried changed ended_by rebuilt learn
+    → p ≡ record { wounded = []; change = protocol.Keeps; logged = logged; last = last; outbox = [] } →
+        carried p k.memory ≡ rebuilt (learn k.facts (next k.facts))
+unfolding carried after_change ended_by rebuilt learn
 opened_memory k p last logged again same plan =
     ap (λ q. carried q k.memory) plan
     ∙ ap (λ n. record { last = n; rows = k.memory.rows; ended = k.memory.ended }) same
     ∙ ap (λ m. record { last = m.last; rows = m.rows; ended = m.ended }) again
 
 -- and may be logged and carried out
-pub opening_due : OpeningKeepsSound → (k : Kept) (p : Plan) (last : ℕ) → k.memory ≡ rebuilt k.facts → IsSound k.setup.shard k.facts k.memory → last ≡ k.memory.last → IsFit k p
+pub opening_due : OpeningKeepsSound → (k : Kept) (p : Plan) (last : ℕ) → k.memory ≡ rebuilt k.facts → IsSound k.setup.shard k.facts k.memory →
+    last ≡ k.memory.last → IsFit k p
     → plan_of k.memory.rows p ≡ record { wounded = []; change = protocol.Keeps; logged = Some (next k.facts); last = last; outbox = [] } → IsDue k p
 opening_due law k p last again sound same fit plan = record {
   order = by_id-claims k.memory.rows sound.table.order;
   fit = fit;
   follows = subst (MayFollow k.setup.shard k.facts) (sym logged) (follows_next k.setup.shard k.facts);
-  installs = subst (λ o. MayInstall k.facts o (installed_by k.facts o)) (sym logged) tt;
+  installs = subst (λ o. MayInstall k.facts o (writes_installed k.facts o)) (sym logged) tt;
   sound =
       ∣ subst (λ o. IsSound k.setup.shard (facts_after k.facts o) (carried (plan_of k.memory.rows p) k.memory)) (sym logged)
       (subst (IsSound k.setup.shard (learn k.facts (next k.facts))) (sym (opened_memory k (plan_of k.memory.rows p) last (Some (next k.facts)) again same plan))

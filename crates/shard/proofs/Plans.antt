@@ -12,24 +12,26 @@ use Rattle.record.specs.Facts.{Facts, recorded}
 use Rattle.record.specs.declared.record.Record.{Record}
 use Rattle.message.specs.declared.message.Input.{Input}
 use Rattle.facts.specs.Rules.{follows_facts}
-use Rattle.memory.specs.Ledger.{writes_standing}
+use Rattle.protocol.specs.Sound.{writes_standing}
 use Rattle.protocol.specs.Rows.{Memory, Row}
 use Rattle.protocol.specs.Step.{IsInLimit, plan_input}
 use Rattle.protocol.proofs.RowChanges.{by_id-claims}
 use Rattle.protocol.specs.Sound.{IsSound, StepKeepsSound, LoggedFollows, InstallsAbove}
-use Rattle.memory.specs.Carry.{IsFit, MayFollow, MayInstall, installed_by}
+use Rattle.memory.specs.Carry.{IsFit, MayFollow, MayInstall, writes_installed}
 use Rattle.memory.specs.Kept.{Kept, start_of}
 use Rattle.memory.specs.Plans.{plan_of}
 use Rattle.memory.specs.declared.plan.Plan.{Plan as CodePlan}
 use Rattle.shard.specs.Due.{IsDue}
 
-may_follow : (shard : ℕ) (facts : Facts) (logged : Option Record) → ((r : Record) → logged ≡ Some r → MayFollow shard facts (Some r)) → MayFollow shard facts logged
+may_follow : (shard : ℕ) (facts : Facts) (logged : Option Record) → ((r : Record) → logged ≡ Some r → MayFollow shard facts (Some r)) →
+    MayFollow shard facts logged
 may_follow shard facts None follows = tt
 may_follow shard facts (Some r) follows = follows r refl
 
 may_install : (facts : Facts) (logged : Option Record)
-    → ((t : Id) (s : ℕ) → logged ≡ Some (Record.Outcome t (Some s)) → MayInstall facts (Some (Record.Outcome t (Some s))) (installed_by facts (Some (Record.Outcome t (Some s)))))
-    → MayInstall facts logged (installed_by facts logged)
+    → ((t : Id) (s : ℕ) → logged ≡ Some (Record.Outcome t (Some s)) → MayInstall facts (Some (Record.Outcome t (Some s)))
+        (writes_installed facts (Some (Record.Outcome t (Some s)))))
+    → MayInstall facts logged (writes_installed facts logged)
 may_install facts None installs = tt
 may_install facts (Some (Record.Outcome t (Some s))) installs = installs t s refl
 may_install facts (Some (Record.Outcome t None)) installs = tt
@@ -47,7 +49,8 @@ by_id-prop id (x ∷ xs) = ×_prop (hlevel props) (by_id-prop id xs)
 pub ascending : (shard : ℕ) (facts : Facts) (memory : Memory) → ∥ IsSound shard facts memory ∥₁ → IsById (λ r. r.txn) memory.rows
 ascending shard facts memory sound = ∥∥₁_elim sound (by_id-prop (λ (r : Row). r.txn) memory.rows) (λ s. by_id-claims memory.rows s.table.order)
 
-module _ (k : Kept) (now : Interval) (i : Input) (p : CodePlan) (limit : IsInLimit i) (planned : plan_input k.setup (start_of k) now i ≡ Ok (plan_of k.memory.rows p)) where
+module _ (k : Kept) (now : Interval) (i : Input) (p : CodePlan) (limit : IsInLimit i) (planned : plan_input k.setup (start_of k) now i ≡
+    Ok (plan_of k.memory.rows p)) where
   follows_next : LoggedFollows → ∥ IsSound k.setup.shard k.facts k.memory ∥₁ → (r : Record) → p.logged ≡ Some r → follows_facts k.setup.shard k.facts r ≡ true
   follows_next follows sound r e =
       ∥∥₁_elim sound (hlevel props) (λ s. follows most_rows k.setup k.facts k.memory now i (plan_of k.memory.rows p) r s planned e)

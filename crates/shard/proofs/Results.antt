@@ -1,5 +1,6 @@
 -- What an input that is refused, or that logs nothing, leaves of a core.
-use Rattle.std.proofs.Common.{◌∙◌, ◌≡◌, inl, inr, ℕ, ◌+◌, ◌^◌, ◌≤◌, ◌<◌, true, IsTrue, IsFalse, List, Option, Some, None, Result, Ok, Err, IfOk, refl, sym, subst, arith}
+use Rattle.std.proofs.Common.{◌∙◌, ◌≡◌, inl, inr, ℕ, ◌+◌, ◌^◌, ◌≤◌, ◌<◌, true, IsTrue, IsFalse, List, Option, Some, None, Result, Ok, Err, IfOk, refl}
+use Rattle.std.proofs.Common.{sym, subst, arith}
 use Rattle.std.proofs.lemmas.Bool.{false≢true}
 use Rattle.units.specs.declared.fault.Fault.{Fault}
 use Rattle.units.specs.declared.fault.Fault.TheVariants.{Device, Memory as WantsMemory}
@@ -43,13 +44,15 @@ outbox_of old new logged after outbox (Err fault) h = tt
 
 module _ {D : Type 0} (keeps obeys : Type 0) (file : D → File) (clock : D → ℕ) (since : D → ℕ → List ℕ → Type 0) (failures : D → ℕ) (plan : D → Plan)
     (only_now : (d : D) (image : List ℕ) → since d (clock d) image → MayLeave (surface (file d)) image) where
-  module _ (core : CoreView D) (running : IsFalse core.stopped) (stands : keeps → KeepsRecords (surface (file core.disk)) (records_in (surface (file core.disk)).seen)) where
+  module _ (core : CoreView D) (running : IsFalse core.stopped) (stands : keeps → KeepsRecords (surface (file core.disk))
+      (records_in (surface (file core.disk)).seen)) where
     -- the core with this told and known of it
     abbrev with_known : Setup → Facts → Memory → CoreView D
     with_known setup facts memory = record core { setup = setup; facts = facts; memory = memory }
 
     -- nothing was done to the disk
-    untouched : (logged : Option Record) → keeps → LeavesOnly clock since core.disk core.disk (HoldsOldOrWith (records_in (surface (file core.disk)).seen) logged)
+    untouched : (logged : Option Record) → keeps → LeavesOnly clock since core.disk core.disk
+        (HoldsOldOrWith (records_in (surface (file core.disk)).seen) logged)
     untouched logged keep = record {
       later = omega arith;
       each = λ image left. inl (stands keep image (only_now core.disk image left));
@@ -76,12 +79,14 @@ module _ {D : Type 0} (keeps obeys : Type 0) (file : D → File) (clock : D → 
       refused is_memory (Err why) fault other own = record {
         written = refused-written is_memory None fault other;
         done = tt;
-        cause = subst (λ b. IsCause b (Refuses why) fault (IsLogFull core.gate None) ((failures core.disk < failures core.disk) × IsTrue core.stopped)) (sym running) own;
+        cause = subst (λ b. IsCause b (Refuses why) fault (IsLogFull core.gate None) ((failures core.disk < failures core.disk)
+            × IsTrue core.stopped)) (sym running) own;
       }
       refused is_memory (Ok p) fault other want = record {
         written = refused-written is_memory p.logged fault other;
         done = tt;
-        cause = subst (λ b. IsCause b (stepped core.memory (Ok p)) fault (IsLogFull core.gate p.logged) ((failures core.disk < failures core.disk) × IsTrue core.stopped)) (sym running) (inl want);
+        cause = subst (λ b. IsCause b (stepped core.memory (Ok p)) fault (IsLogFull core.gate p.logged)
+            ((failures core.disk < failures core.disk) × IsTrue core.stopped)) (sym running) (inl want);
       }
 
       -- want of memory for what is to be done
@@ -90,7 +95,8 @@ module _ {D : Type 0} (keeps obeys : Type 0) (file : D → File) (clock : D → 
       wanting is_memory logged after out fault want = record {
         written = refused-written is_memory logged fault (λ device. cc);
         done = tt;
-        cause = subst (λ b. IsCause b (Does logged after out) fault (IsLogFull core.gate logged) ((failures core.disk < failures core.disk) × IsTrue core.stopped)) (sym running) (inl want);
+        cause = subst (λ b. IsCause b (Does logged after out) fault (IsLogFull core.gate logged)
+            ((failures core.disk < failures core.disk) × IsTrue core.stopped)) (sym running) (inl want);
       }
 
       -- nothing is logged
@@ -101,7 +107,8 @@ module _ {D : Type 0} (keeps obeys : Type 0) (file : D → File) (clock : D → 
           setup = is_setup;
           failures_stay = omega arith;
           any_moment = λ run keep. untouched None keep;
-          durable = λ keep. subst (λ records. KeepsRecords (surface (file core.disk)) records) (sym (and-none (records_in (surface (file core.disk)).seen))) (stands keep);
+          durable = λ keep. subst (λ records. KeepsRecords (surface (file core.disk)) records)
+              (sym (and-none (records_in (surface (file core.disk)).seen))) (stands keep);
           read = λ keep. sym (and-none (records_in (surface (file core.disk)).seen));
           gate = (refl, omega arith);
           kept = tt;
@@ -119,14 +126,17 @@ module _ {D : Type 0} (keeps obeys : Type 0) (file : D → File) (clock : D → 
         subst (λ o. HasStepped keeps obeys file clock since failures plan core new (Does step_logged after out) (Ok o)) (sym is_out)
         (subst (λ l. HasStepped keeps obeys file clock since failures plan core new (Does l after out) (Ok out)) (sym is_logged) h)
 
-    pub served_as : (setup : Setup) (facts : Facts) (memory : Memory) (step_logged : Option Record) (after : Memory) (out answer : List Envelope) → step_logged ≡ None
+    pub served_as : (setup : Setup) (facts : Facts) (memory : Memory) (step_logged : Option Record) (after : Memory) (out answer : List Envelope) →
+        step_logged ≡ None
         → answer ≡ out → setup ≡ core.setup → facts ≡ core.facts → memory ≡ after
         → HasStepped keeps obeys file clock since failures plan core (with_known setup facts memory) (Does step_logged after out) (Ok answer)
     served_as setup facts memory step_logged after out answer is_logged is_out is_setup is_facts is_memory =
-        restated (with_known setup facts memory) None step_logged after out answer is_logged is_out (served setup facts memory is_setup is_facts after out is_memory)
+        restated (with_known setup facts memory) None step_logged after out answer is_logged is_out
+            (served setup facts memory is_setup is_facts after out is_memory)
 
     -- a record is logged
-    pub logged_as : (new : CoreView D) (r : Record) (step_logged : Option Record) (after : Memory) (out answer : List Envelope) → step_logged ≡ Some r → answer ≡ out → new.setup ≡ core.setup → new.facts ≡ facts_after core.facts (Some r)
+    pub logged_as : (new : CoreView D) (r : Record) (step_logged : Option Record) (after : Memory) (out answer : List Envelope) →
+        step_logged ≡ Some r → answer ≡ out → new.setup ≡ core.setup → new.facts ≡ facts_after core.facts (Some r)
         → new.memory ≡ after → IsFalse new.stopped → failures core.disk ≤ failures new.disk
         → (IsFalse core.stopped → keeps → LeavesOnly clock since core.disk new.disk (HoldsOldOrWith (records_in (surface (file core.disk)).seen) (Some r)))
         → (keeps → KeepsRecords (surface (file new.disk)) (and_logged (records_in (surface (file core.disk)).seen) (Some r)))

@@ -16,7 +16,8 @@ use Rattle.record.specs.declared.record.Record.{Record}
 use Rattle.record.specs.Records.{Status, Unrecorded, StandsPrepared, StandsDecided, HasAborted, HasSettled, HasClosed}
 use Rattle.record.specs.Facts.{recorded}
 use Rattle.record.specs.declared.record.Prepared.{Prepared}
-use Rattle.protocol.specs.Rows.{Row, Idle, WaitsRead, WaitsPrepare, WaitsCommit, Collecting, IsPrepared, IsDecided, Standing, IsUnknown, WasEnded, HasRow, WasAborted, WasSettled, WasClosed, find_row}
+use Rattle.protocol.specs.Rows.{Row, Idle, WaitsRead, WaitsPrepare, WaitsCommit, Collecting, IsPrepared, IsDecided, Standing, IsUnknown, WasEnded}
+use Rattle.protocol.specs.Rows.{HasRow, WasAborted, WasSettled, WasClosed, find_row}
 use Rattle.protocol.specs.Outputs.{done_to}
 use Rattle.protocol.specs.Plan.{Before, Plan, stands}
 use Rattle.protocol.specs.Cells.{plan_settle}
@@ -99,11 +100,13 @@ module _ (k : Kept) (now : Interval) (p : CodePlan) (sound : ∥ IsSound k.setup
       → facts_logged records ≡ Some k.facts → HasCommit (and_logged records (Some r)) t done.at
   decision_there records r t done known =
       ∥∥₁_elim sound (HasCommit-prop (and_logged records (Some r)) t done.at) (λ s.
-      let there = decided-stands k.facts.installs k.memory.last (recorded k.facts t) t done.held done.at done.parts (find_row k.memory.rows t) done.row (s.agrees t) in
+      let there = decided-stands k.facts.installs k.memory.last (recorded k.facts t) t done.held done.at done.parts
+          (find_row k.memory.rows t) done.row (s.agrees t) in
       subst (HasCommit (and_logged records (Some r)) t) there.2 (has-commit t there.0 records k.facts r known there.1))
 
   durably : (keeps : Type 0) (disk : Surface) (records : Result (List Record) Fault) (t : Id) (result : Result (List Envelope) Fault)
-      → Settles (start_of k) t (plan_of k.memory.rows p) → IfOk result (λ out. out ≡ p.outbox) → OnOk result (keeps → KeepsRecords disk (and_logged records p.logged))
+      → Settles (start_of k) t (plan_of k.memory.rows p) → IfOk result (λ out. out ≡ p.outbox) →
+          OnOk result (keeps → KeepsRecords disk (and_logged records p.logged))
       → (keeps → facts_logged records ≡ Some k.facts) → IsDurablySettled keeps disk (Input.Settle t) result
   durably keeps disk records t (Err fault) done out durable known = tt
   durably keeps disk records t (Ok out) done is durable known = (

@@ -1,5 +1,6 @@
 -- What an opening leaves, from what was read, the verdict on it, and what adding the opening's record did.
-use Rattle.std.proofs.Common.{◌≡◌, ◌∙◌, ◌⊎◌, inl, inr, ⊎_elim, ℕ, ◌+◌, ◌^◌, ◌<◌, ◌≤◌, true, IsTrue, List, [], ◌∷◌, ◌++◌, fold, Option, Some, None, Result, Ok, Err, refl, sym, ap, subst, arith}
+use Rattle.std.proofs.Common.{◌≡◌, ◌∙◌, ◌⊎◌, inl, inr, ⊎_elim, ℕ, ◌+◌, ◌^◌, ◌<◌, ◌≤◌, true, IsTrue, List, [], ◌∷◌, ◌++◌, fold, Option, Some, None}
+use Rattle.std.proofs.Common.{Result, Ok, Err, refl, sym, ap, subst, arith}
 use Rattle.std.specs.Prelude.{IfOk, slice_get}
 use Rattle.std.proofs.lemmas.Bool.{false≢true}
 use Rattle.units.specs.Lists.{follow, when}
@@ -27,7 +28,8 @@ use Rattle.protocol.specs.Rows.{rebuilt}
 use Rattle.recovery.specs.Recovered.{fault_in, items}
 use Rattle.shard.specs.Logs.{records_in, and_logged, facts_logged, items_of, KeepsRecords, HoldsOldOrWith}
 use Rattle.shard.specs.On.{CoreView, gate_behind}
-use Rattle.shard.specs.Opened.{HasAppended, HasNotAppended, HasNotOpened, HasOpened, IsSpent, IsTaken, IsToldReason, is_reason, LeavesOpening, fault_of, next_opening, opening_of}
+use Rattle.shard.specs.Opened.{HasAppended, HasNotAppended, HasNotOpened, HasOpened, IsSpent, IsTaken, IsToldReason, is_reason, LeavesOpening}
+use Rattle.shard.specs.Opened.{fault_of, next_opening, opening_of}
 use Rattle.shard.proofs.Openings.{follows_next}
 
 -- ---- the facts of what was read
@@ -44,7 +46,8 @@ epoch_is : (rs : List Record) → (facts_of rs).epoch ≡ epoch_of rs
 unfolding facts_of
 epoch_is rs = refl
 
-pub facts_are : LearntAgrees → AcceptedFollows → (setup : Setup) (rs : List Record) (facts : Facts) → taken setup rs ≡ Accepted → facts ≡ facts_of rs → facts_logged (Ok rs) ≡ Some facts
+pub facts_are : LearntAgrees → AcceptedFollows → (setup : Setup) (rs : List Record) (facts : Facts) → taken setup rs ≡ Accepted →
+    facts ≡ facts_of rs → facts_logged (Ok rs) ≡ Some facts
 facts_are learns follows setup rs facts accepted known =
     ap Some (fold_is no_facts rs ∙ ap (λ f. learnt f rs) no_facts_is ∙ learns setup.shard rs (follows setup rs accepted) ∙ sym known)
 
@@ -79,7 +82,8 @@ first_memory f same = sym (ap rebuilt same)
 pub room_spent : (rs : List Record) (f : Facts) (gate : ℕ) → f ≡ facts_of rs → (2 ^ 62 ≤ f.epoch + 1) ⊎ IsFull gate (Record.Opened (f.epoch + 1))
     → (2 ^ 62 ≤ epoch_of rs + 1) ⊎ IsFull gate (next_opening rs)
 room_spent rs f gate known =
-    ⊎_elim (λ spent. inl (subst (λ n. 2 ^ 62 ≤ n + 1) (ap (λ g. g.epoch) known ∙ epoch_is rs) spent)) (λ full. inr (subst (IsFull gate) (epoch_of_facts rs f known) full))
+    ⊎_elim (λ spent. inl (subst (λ n. 2 ^ 62 ≤ n + 1) (ap (λ g. g.epoch) known ∙ epoch_is rs) spent))
+        (λ full. inr (subst (IsFull gate) (epoch_of_facts rs f known) full))
 
 -- a file without a log is a reason
 no_log_is_reason : (fault : Fault) → IsTrue (is_no_log fault) → IsTrue (is_reason fault)
@@ -98,7 +102,8 @@ verdict_is_reason (DamagedAt place) entries fault told = damaged (slice_get entr
 verdict_is_reason (StrangerAt place) entries fault told = ap (λ (o : Option Fault). when is_reason o) (sym told)
 
 -- what holds of a value in four ways
-pub from_four : {T E : Type 0} (r : Result T E) (A B C G Z : T → Type 0) → ((x : T) → A x → B x → C x → G x → Z x) → IfOk r A → IfOk r B → IfOk r C → IfOk r G → IfOk r Z
+pub from_four : {T E : Type 0} (r : Result T E) (A B C G Z : T → Type 0) → ((x : T) → A x → B x → C x → G x → Z x) → IfOk r A → IfOk r B → IfOk r C →
+    IfOk r G → IfOk r Z
 from_four (Ok x) A B C G Z h a b c g = h x a b c g
 from_four (Err e) A B C G Z h a b c g = tt
 
@@ -134,12 +139,15 @@ module _ {D : Type 0} (keeps obeys : Type 0) (file : D → File) (clock : D → 
     leaves : keeps → (end : D) → LeavesOnly clock since mid end (HoldsOldOrWith (records_in (surface (file mid)).seen) (Some (next_opening (items entries))))
         → LeavesOnly clock since disk end (LeavesOpening (surface (file disk)))
     leaves keep end second =
-        and_then clock since disk mid end (MayLeave (surface (file disk))) (HoldsOldOrWith (records_in (surface (file mid)).seen) (Some (next_opening (items entries))))
+        and_then clock since disk mid end (MayLeave (surface (file disk))) (HoldsOldOrWith (records_in (surface (file mid)).seen)
+            (Some (next_opening (items entries))))
         (LeavesOpening (surface (file disk))) (found.moment keep) second (λ image left. inl left)
         (λ image held. inr (⊎_elim (λ old. inl (old ∙ same_records keep)) (λ new. inr (new ∙ with_opening keep)) held))
 
-    pub opened : (told : Setup) (item : Record) (core : CoreView D) → item ≡ next_opening (items entries) → HasAppended keeps obeys file clock since failures plan mid gate item core
-        → core.setup ≡ told → core.memory ≡ rebuilt core.facts → taken told (items entries) ≡ Accepted → core.facts ≡ facts_of (items entries ++ next_opening (items entries) ∷ [])
+    pub opened : (told : Setup) (item : Record) (core : CoreView D) → item ≡ next_opening (items entries) →
+        HasAppended keeps obeys file clock since failures plan mid gate item core
+        → core.setup ≡ told → core.memory ≡ rebuilt core.facts → taken told (items entries) ≡ Accepted →
+            core.facts ≡ facts_of (items entries ++ next_opening (items entries) ∷ [])
         → HasOpened keeps obeys file clock since failures plan disk told core
     opened told item core same appended setup memory accepted facts =
         let it = subst (λ r. HasAppended keeps obeys file clock since failures plan mid gate r core) same appended in
@@ -158,13 +166,17 @@ module _ {D : Type 0} (keeps obeys : Type 0) (file : D → File) (clock : D → 
 
     pub not_opened : (told : Setup) (item : Record) (full : Type 0) (fault : Fault) (back : D) → item ≡ next_opening (items entries)
         → taken told (items entries) ≡ Accepted → (full → (2 ^ 62 ≤ epoch_of (items entries) + 1) ⊎ IsFull gate (next_opening (items entries)))
-        → HasNotAppended keeps obeys file clock since failures plan mid item full fault back → HasNotOpened keeps obeys file clock since failures plan disk told fault back
+        → HasNotAppended keeps obeys file clock since failures plan mid item full fault back →
+            HasNotOpened keeps obeys file clock since failures plan disk told fault back
     not_opened told item full fault back same accepted spent refused = record {
-      cause = ⊎_elim (λ memory. inl memory) (⊎_elim (λ device. inr (inl (device.0, omega (arith, found.failures_stay, device.1)))) (λ late. inr (inr (reason late)))) refused.cause;
-      any_moment = λ keep. leaves keep back (subst (λ r. LeavesOnly clock since mid back (HoldsOldOrWith (records_in (surface (file mid)).seen) (Some r))) same (refused.any_moment keep));
+      cause = ⊎_elim (λ memory. inl memory) (⊎_elim (λ device. inr (inl (device.0, omega (arith, found.failures_stay, device.1))))
+          (λ late. inr (inr (reason late)))) refused.cause;
+      any_moment = λ keep. leaves keep back (subst (λ r. LeavesOnly clock since mid back (HoldsOldOrWith (records_in (surface (file mid)).seen)
+          (Some r))) same (refused.any_moment keep));
       unchanged = ⊎_elim (λ device. inl device) (λ kept. inr (λ keep. ap (λ f. (surface f).seen) kept ∙ ap (λ s. s.seen) (found.clean keep))) refused.unchanged;
       planned = λ obey never.
-          ⊎_elim (λ memory. inl memory) (⊎_elim (λ device. absurd (refused.planned obey (found.planned obey never) device.0)) (λ late. inr (reason late))) refused.cause;
+          ⊎_elim (λ memory. inl memory) (⊎_elim (λ device. absurd (refused.planned obey (found.planned obey never) device.0))
+              (λ late. inr (reason late))) refused.cause;
     }
       where
         no_room : full → keeps → IsSpent told (surface (file disk)) (items entries) gate
@@ -175,14 +187,16 @@ module _ {D : Type 0} (keeps obeys : Type 0) (file : D → File) (clock : D → 
 
   -- a file that holds no log is not taken up
   pub no_log : (told : Setup) (disk back : D) (fault : Fault)
-      → (fault ≡ WantsMemory) ⊎ (((fault ≡ Device) × (failures disk < failures back)) ⊎ (IsTrue (is_no_log fault) × (keeps → log (surface (file disk)).seen ≡ Err fault)))
+      → (fault ≡ WantsMemory) ⊎ (((fault ≡ Device) × (failures disk < failures back)) ⊎ (IsTrue (is_no_log fault)
+          × (keeps → log (surface (file disk)).seen ≡ Err fault)))
       → (keeps → LeavesOnly clock since disk back (MayLeave (surface (file disk))))
       → (fault ≡ Device) ⊎ (keeps → (surface (file back)).seen ≡ (surface (file disk)).seen)
       → (obeys → plan disk ≡ Never → (fault ≡ WantsMemory) ⊎ (IsTrue (is_no_log fault) × (keeps → log (surface (file disk)).seen ≡ Err fault)))
       → HasNotOpened keeps obeys file clock since failures plan disk told fault back
   no_log told disk back fault cause moment unchanged planned = record {
     cause = ⊎_elim (λ memory. inl memory) (⊎_elim (λ device. inr (inl device)) (λ none. inr (inr (reason none)))) cause;
-    any_moment = λ keep. weaker clock since disk back (MayLeave (surface (file disk))) (LeavesOpening (surface (file disk))) (moment keep) (λ image left. inl left);
+    any_moment = λ keep. weaker clock since disk back (MayLeave (surface (file disk))) (LeavesOpening (surface (file disk))) (moment keep)
+        (λ image left. inl left);
     unchanged = unchanged;
     planned = λ obey never. ⊎_elim (λ memory. inl memory) (λ none. inr (reason none)) (planned obey never);
   }

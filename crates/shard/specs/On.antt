@@ -63,9 +63,10 @@ IsCause false (Refuses why) fault full failed = fault ≡ why
 IsCause false (Does logged memory outbox) fault full failed = IsLogCause fault full failed
 
 -- what stands after a refusal: all as it was, but that a device's failure stops the core
-abbrev pub IsKept : {D : Type 0} → (D → File) → CoreView D → CoreView D → Fault → Type 0
-IsKept file old new fault =
-    (new.facts ≡ old.facts) × (new.memory ≡ old.memory) × ((fault ≡ Device) ⊎ ((new.stopped ≡ old.stopped) × (new.gate ≡ old.gate) × (file new.disk ≡ file old.disk)))
+abbrev pub StandsAsBefore : {D : Type 0} → (D → File) → CoreView D → CoreView D → Fault → Type 0
+StandsAsBefore file old new fault =
+    (new.facts ≡ old.facts) × (new.memory ≡ old.memory) × ((fault ≡ Device) ⊎ ((new.stopped ≡ old.stopped) × (new.gate ≡ old.gate)
+        × (file new.disk ≡ file old.disk)))
 
 module _ {D : Type 0} (keeps obeys : Type 0) (file : D → File) (clock : D → ℕ) (since : D → ℕ → List ℕ → Type 0) (failures : D → ℕ) (plan : D → Plan) where
   -- what holds of a core's disk over a call that logs a record, or nothing, whatever it answers
@@ -79,7 +80,7 @@ module _ {D : Type 0} (keeps obeys : Type 0) (file : D → File) (clock : D → 
     pub durable : OnOk result (keeps → KeepsRecords (surface (file new.disk)) (and_logged (records_in (surface (file old.disk)).seen) logged))
     pub read : OnOk result (keeps → records_in (surface (file new.disk)).seen ≡ and_logged (records_in (surface (file old.disk)).seen) logged)
     pub gate : OnOk result ((new.gate ≡ gate_behind old.gate logged) × (new.gate ≤ old.gate + 2 ^ 20 + 5))
-    pub kept : IfErr result (IsKept file old new)
+    pub kept : IfErr result (StandsAsBefore file old new)
     -- with no call armed the device does not fail
     pub planned : obeys → plan old.disk ≡ Never → (plan new.disk ≡ Never) × IfErr result (λ fault. fault ≢ Device)
 
@@ -87,4 +88,5 @@ module _ {D : Type 0} (keeps obeys : Type 0) (file : D → File) (clock : D → 
   pub record HasStepped (old new : CoreView D) (step : Stepped) (result : Result (List Envelope) Fault) : Type 0 where
     pub written : HasWritten old new (record_of step) result
     pub done : IfOk result (λ out. IsFalse old.stopped × IsFalse new.stopped × IsDone step old new out)
-    pub cause : IfErr result (λ fault. IsCause old.stopped step fault (IsLogFull old.gate (record_of step)) ((failures old.disk < failures new.disk) × IsTrue new.stopped))
+    pub cause : IfErr result (λ fault. IsCause old.stopped step fault (IsLogFull old.gate (record_of step))
+        ((failures old.disk < failures new.disk) × IsTrue new.stopped))

@@ -1,5 +1,6 @@
 -- What an opening finds on a disk, and what it leaves.
-use Rattle.std.specs.Prelude.{◌≡◌, ◌≢◌, ◌⊎◌, ℕ, ◌+◌, ◌<◌, ◌≤◌, ◌^◌, Bool, true, false, IsTrue, IsFalse, List, [], ◌∷◌, ◌++◌, Option, Some, None, Result, Ok, Err}
+use Rattle.std.specs.Prelude.{◌≡◌, ◌≢◌, ◌⊎◌, ℕ, ◌+◌, ◌<◌, ◌≤◌, ◌^◌, Bool, true, false, IsTrue, IsFalse, List, [], ◌∷◌, ◌++◌, Option, Some, None}
+use Rattle.std.specs.Prelude.{Result, Ok, Err}
 use Rattle.units.specs.declared.fault.Fault.{Fault}
 use Rattle.units.specs.declared.fault.Fault.TheVariants.{Memory as WantsMemory, Device, TimeSpent, Damaged, NotALog, Stranger}
 use Rattle.units.specs.declared.setup.Setup.{Setup}
@@ -96,9 +97,12 @@ module _ {D : Type 0} (keeps obeys : Type 0) (file : D → File) (clock : D → 
     -- a crash at any moment since the start leaves no more than one before, or what was read, or that with the opening
     pub any_moment : keeps → LeavesOnly clock since disk core.disk (LeavesOpening (surface (file disk)))
     -- from then on every crash leaves what was read with the opening, and a read gives it
-    pub durable : keeps → KeepsRecords (surface (file core.disk)) (and_logged (records_in (surface (file disk)).seen) (opening_of (records_in (surface (file disk)).seen)))
-    pub read : keeps → records_in (surface (file core.disk)).seen ≡ and_logged (records_in (surface (file disk)).seen) (opening_of (records_in (surface (file disk)).seen))
-    pub gate : keeps → (gate : ℕ) × IsTrue (ends_at (surface (file disk)).seen gate) × (core.gate ≡ gate_behind gate (opening_of (records_in (surface (file disk)).seen)))
+    pub durable : keeps → KeepsRecords (surface (file core.disk)) (and_logged (records_in (surface (file disk)).seen)
+        (opening_of (records_in (surface (file disk)).seen)))
+    pub read : keeps → records_in (surface (file core.disk)).seen ≡ and_logged (records_in (surface (file disk)).seen)
+        (opening_of (records_in (surface (file disk)).seen))
+    pub gate : keeps → (gate : ℕ) × IsTrue (ends_at (surface (file disk)).seen gate) × (core.gate ≡
+        gate_behind gate (opening_of (records_in (surface (file disk)).seen)))
     pub failures_stay : failures disk ≤ failures core.disk
     pub planned : obeys → plan disk ≡ Never → plan core.disk ≡ Never
 

@@ -2,7 +2,7 @@
 use Rattle.std.specs.Prelude.{ℕ, List, get_or}
 use Rattle.disk.specs.declared.plan.Fate.{Fate}
 use Rattle.disk.specs.declared.plan.Fate.TheVariants.{Old, New}
-use Rattle.disk.specs.File.{File, seen_by, crashed}
+use Rattle.disk.specs.File.{File, seen_by, crash_leaves}
 use Rattle.simdisk.specs.declared.change.Change.{Change}
 use Rattle.simdisk.specs.declared.change.Change.TheVariants.{Write, Tried, Cut}
 use Rattle.simdisk.specs.declared.tear.Fates.{Fates}
@@ -22,4 +22,4 @@ fate_at (Given fates) place change = get_or fates.now place Old
 -- what a file holds once each change is made by its fate
 abbrev pub made_by : Fates → File → List ℕ
 made_by AsSeen file = seen_by file.durable file.changes
-made_by (Given fates) file = crashed fates.now file
+made_by (Given fates) file = crash_leaves fates.now file

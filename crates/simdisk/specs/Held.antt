@@ -14,21 +14,21 @@ abbrev pub held_file : Buffers → File
 held_file b = file_of (held b)
 
 -- so many changes and syncs, of so many bytes in all, need no more memory
-pub record HasRoom (b : Buffers) (calls bytes : ℕ) : Type 0 where
+pub record HasRoomFor (b : Buffers) (calls bytes : ℕ) : Type 0 where
   pub changes : vec_len b.changes + calls ≤ vec_capacity b.changes
   pub store : vec_len b.store + bytes ≤ vec_capacity b.store
   pub seen : vec_len b.seen + bytes ≤ vec_capacity b.seen
   pub durable : vec_len b.seen + bytes ≤ vec_capacity b.durable
 
 -- one write at this offset, of so many bytes, needs no more memory, nor does a crash behind it
-pub record IsReady (b : Buffers) (at count : ℕ) : Type 0 where
+pub record IsReadyForWrite (b : Buffers) (at count : ℕ) : Type 0 where
   pub changes : vec_len b.changes + 1 ≤ vec_capacity b.changes
   pub store : vec_len b.store + count ≤ vec_capacity b.store
   pub seen : at + count ≤ vec_capacity b.seen
   pub durable : at + count ≤ vec_capacity b.durable
 
 -- room for more is room for less
-pub room_less : (b : Buffers) (calls bytes fewer less : ℕ) → fewer ≤ calls → less ≤ bytes → HasRoom b calls bytes → HasRoom b fewer less
+pub room_less : (b : Buffers) (calls bytes fewer less : ℕ) → fewer ≤ calls → less ≤ bytes → HasRoomFor b calls bytes → HasRoomFor b fewer less
 room_less b calls bytes fewer less few small room = record {
   changes = omega (arith, few, room.changes);
   store = omega (arith, small, room.store);

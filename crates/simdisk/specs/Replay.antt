@@ -1,7 +1,7 @@
 -- The file that kept changes make, one by one.
 use Rattle.std.specs.Prelude.{◌≡◌, ℕ, ◌+◌, max, List, [], ◌∷◌, ◌++◌, length, take, drop}
 use Rattle.disk.specs.File as Files
-use Rattle.disk.specs.File.{File, changed}
+use Rattle.disk.specs.File.{File, with_change}
 use Rattle.simdisk.specs.declared.change.Change.{Change}
 use Rattle.simdisk.specs.declared.change.Change.TheVariants.{Write, Tried, Cut}
 
@@ -28,9 +28,9 @@ end_of (Tried at count) = at + count
 end_of (Cut len) = 0
 
 -- how many bytes changes have in the store
-abbrev pub total : List Change → ℕ
-total [] = 0
-total (change ∷ changes) = size change + total changes
+abbrev pub bytes_in_all : List Change → ℕ
+bytes_in_all [] = 0
+bytes_in_all (change ∷ changes) = size change + bytes_in_all changes
 
 -- the furthest end of a range
 abbrev pub furthest : List Change → ℕ
@@ -38,19 +38,19 @@ furthest [] = 0
 furthest (change ∷ changes) = max (end_of change) (furthest changes)
 
 -- a change with its bytes, as the disk model has it
-abbrev pub made : Change → List ℕ → Files.Change
+abbrev pub made : Change → List ℕ → Files.FileChange
 made (Write at count) bytes = Files.wrote at bytes
 made (Tried at count) bytes = Files.tried at bytes
 made (Cut len) bytes = Files.cut len
 
 -- the file behind a change with these bytes
-abbrev pub step : Change → List ℕ → File → File
-step change bytes file = changed (made change bytes) file
+abbrev pub with_made : Change → List ℕ → File → File
+with_made change bytes file = with_change (made change bytes) file
 
 -- the file behind all of them, each with its bytes of the store
 abbrev pub replay : List Change → List ℕ → File → File
 replay [] store file = file
-replay (change ∷ changes) store file = replay changes (drop (size change) store) (step change (take (size change) store) file)
+replay (change ∷ changes) store file = replay changes (drop (size change) store) (with_made change (take (size change) store) file)
 
 -- a file with no change since the last sync
 abbrev pub settled : List ℕ → File
@@ -70,4 +70,4 @@ pushed h change bytes = record { base = h.base; changes = h.changes ++ change �
 
 -- the store has the bytes of all changes
 abbrev pub IsStored : History → Type 0
-IsStored h = total h.changes ≡ length h.store
+IsStored h = bytes_in_all h.changes ≡ length h.store

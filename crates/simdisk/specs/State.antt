@@ -2,7 +2,7 @@
 use Rattle.std.specs.Prelude.{ℕ, List, ◌∷◌, length, map}
 use Rattle.disk.specs.File.{File}
 use Rattle.disk.specs.declared.plan.Plan.{Plan}
-use Rattle.simdisk.specs.Held.{held_file, HasRoom}
+use Rattle.simdisk.specs.Held.{held_file, HasRoomFor}
 use Rattle.simdisk.specs.Moments.{Left}
 use Rattle.simdisk.specs.declared.simdisk.SimDisk.{SimDisk}
 
@@ -24,7 +24,7 @@ disk_failures d = d.failures.number
 
 -- so many more changes and syncs, of so many bytes in all, need no memory
 abbrev pub DiskHasRoom : SimDisk → ℕ → ℕ → Type 0
-DiskHasRoom d calls bytes = HasRoom d.buffers calls bytes
+DiskHasRoom d calls bytes = HasRoomFor d.buffers calls bytes
 
 -- the moment: how often a change was begun
 abbrev pub disk_clock : SimDisk → ℕ

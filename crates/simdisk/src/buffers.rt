@@ -1,7 +1,7 @@
 // What a disk in memory holds. A crash takes no memory: each buffer has room for all that a crash may leave.
 ghost use Rattle.std.specs.Prelude.{◌≡◌, ◌+◌, ◌<◌, ◌≤◌, ℕ, [], ◌∷◌, ◌++◌, length, vec_len, vec_capacity, OnOk, OnErr, IsOk};
-ghost use Rattle.disk.specs.File.{wrote, tried, cut, changed, synced, surface, crashed};
-ghost use Rattle.simdisk.specs.Replay.{kept, settled, total, furthest, file_of};
+ghost use Rattle.disk.specs.File.{wrote, tried, cut, with_change, synced, surface, crash_leaves};
+ghost use Rattle.simdisk.specs.Replay.{kept, settled, bytes_in_all, furthest, file_of};
 
 use crate::change::Change;
 use crate::tear::{Fates, make_changes, put};
@@ -18,7 +18,7 @@ pub struct Buffers {
     pub store: Vec<u8>,
     /// What a read gives.
     pub seen: Vec<u8>,
-    ghost stored: { total changes.items ≡ length store.items },
+    ghost stored: { bytes_in_all changes.items ≡ length store.items },
     ghost replayed: { seen.items ≡ (surface (file_of (kept durable.items changes.items store.items))).seen },
     ghost durable_fits: { furthest changes.items ≤ vec_capacity durable },
     ghost seen_fits: { furthest changes.items ≤ vec_capacity seen },
@@ -26,7 +26,7 @@ pub struct Buffers {
 }
 
 impl Buffers {
-    ghost use Rattle.simdisk.specs.Held.{held, held_file, HasRoom, IsReady};
+    ghost use Rattle.simdisk.specs.Held.{held, held_file, HasRoomFor, IsReadyForWrite};
 
     /// An empty file.
     pub fn new(alloc: Global) -> Buffers
@@ -43,7 +43,7 @@ impl Buffers {
     /// Takes memory ahead, for changes of that many bytes in all, in at most 8 calls.
     pub fn reserve(&mut self, bytes: usize) -> Result<(), AllocError>
         ensures same { held_file self.new ≡ held_file self.old }
-        ensures room { OnOk result (HasRoom self.new 8 bytes) }
+        ensures room { OnOk result (HasRoomFor self.new 8 bytes) }
     {
         self.changes.reserve(8)?;
         self.store.reserve(bytes)?;
@@ -58,8 +58,8 @@ impl Buffers {
     fn make_ready(&mut self, at: usize, count: usize) -> Result<(), AllocError>
         requires { at ≤ length self.old.seen.items }
         ensures same { (held self.new ≡ held self.old) × (self.new.seen.items ≡ self.old.seen.items) }
-        ensures ready { OnOk result (IsReady self.new at count) }
-        ensures room { (calls more : ℕ) → HasRoom self.old (calls + 1) (count + more) → IsOk result × HasRoom self.new (calls + 1) (count + more) }
+        ensures ready { OnOk result (IsReadyForWrite self.new at count) }
+        ensures room { (calls more : ℕ) → HasRoomFor self.old (calls + 1) (count + more) → IsOk result × HasRoomFor self.new (calls + 1) (count + more) }
     {
         let over = count.min(self.seen.len() - at);
         self.changes.reserve(1)?;
@@ -74,9 +74,9 @@ impl Buffers {
     /// A write that is seen.
     pub fn write(&mut self, at: usize, bytes: &[u8]) -> Result<(), AllocError>
         requires { at ≤ length self.old.seen.items }
-        ensures ok { OnOk result (held_file self.new ≡ changed (wrote at bytes.now) (held_file self.old)) }
+        ensures ok { OnOk result (held_file self.new ≡ with_change (wrote at bytes.now) (held_file self.old)) }
         ensures err { OnErr result (held_file self.new ≡ held_file self.old) }
-        ensures room { (calls more : ℕ) → HasRoom self.old (calls + 1) (length bytes.now + more) → IsOk result × HasRoom self.new calls more }
+        ensures room { (calls more : ℕ) → HasRoomFor self.old (calls + 1) (length bytes.now + more) → IsOk result × HasRoomFor self.new calls more }
     {
         self.make_ready(at, bytes.len())?;
         let change = Change::Write {
@@ -91,9 +91,9 @@ impl Buffers {
     /// A write that failed: a read does not see it.
     pub fn try_write(&mut self, at: usize, bytes: &[u8]) -> Result<(), AllocError>
         requires { at ≤ length self.old.seen.items }
-        ensures ok { OnOk result (held_file self.new ≡ changed (tried at bytes.now) (held_file self.old)) }
+        ensures ok { OnOk result (held_file self.new ≡ with_change (tried at bytes.now) (held_file self.old)) }
         ensures err { OnErr result (held_file self.new ≡ held_file self.old) }
-        ensures room { (calls more : ℕ) → HasRoom self.old (calls + 1) (length bytes.now + more) → IsOk result × HasRoom self.new calls more }
+        ensures room { (calls more : ℕ) → HasRoomFor self.old (calls + 1) (length bytes.now + more) → IsOk result × HasRoomFor self.new calls more }
     {
         self.make_ready(at, bytes.len())?;
         let change = Change::Tried {
@@ -106,9 +106,9 @@ impl Buffers {
 
     /// Cuts the file to a length.
     pub fn cut(&mut self, len: u64) -> Result<(), AllocError>
-        ensures ok { OnOk result (held_file self.new ≡ changed (cut len) (held_file self.old)) }
+        ensures ok { OnOk result (held_file self.new ≡ with_change (cut len) (held_file self.old)) }
         ensures err { OnErr result (held_file self.new ≡ held_file self.old) }
-        ensures room { (calls more : ℕ) → HasRoom self.old (calls + 1) more → IsOk result × HasRoom self.new calls more }
+        ensures room { (calls more : ℕ) → HasRoomFor self.old (calls + 1) more → IsOk result × HasRoomFor self.new calls more }
     {
         self.changes.reserve(1)?;
         keep(&mut self.changes, &mut self.store, Change::Cut { len }, &[]);
@@ -120,7 +120,7 @@ impl Buffers {
     pub fn sync(&mut self) -> Result<(), AllocError>
         ensures ok { OnOk result (held_file self.new ≡ synced (held_file self.old)) }
         ensures err { OnErr result (held_file self.new ≡ held_file self.old) }
-        ensures room { (calls more : ℕ) → HasRoom self.old (calls + 1) more → IsOk result × HasRoom self.new calls more }
+        ensures room { (calls more : ℕ) → HasRoomFor self.old (calls + 1) more → IsOk result × HasRoomFor self.new calls more }
     {
         make_changes(&mut self.durable, &self.changes, &self.store, Fates::AsSeen);
         forget(&mut self.changes, &mut self.store);
@@ -129,7 +129,7 @@ impl Buffers {
 
     /// Each change comes out by its fate, the oldest first.
     pub fn crash(&mut self, fates: &[Fate])
-        ensures { held_file self.new ≡ settled (crashed fates.now (held_file self.old)) }
+        ensures { held_file self.new ≡ settled (crash_leaves fates.now (held_file self.old)) }
     {
         make_changes(
             &mut self.durable,

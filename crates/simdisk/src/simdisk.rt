@@ -20,7 +20,7 @@ pub struct SimDisk {
 impl SimDisk {
     ghost use Rattle.disk.specs.declared.plan.Plan.TheVariants.{Never, After};
     ghost use Rattle.disk.specs.Image.{MayLeave};
-    ghost use Rattle.disk.specs.File.{File, surface, crashed};
+    ghost use Rattle.disk.specs.File.{File, surface, crash_leaves};
     ghost use Rattle.disk.specs.Moments.{Elapses};
     ghost use Rattle.simdisk.specs.Replay.{settled};
     ghost use Rattle.simdisk.specs.State.{disk_file, disk_past, disk_plan, disk_failures, DiskHasRoom, disk_clock, LeftSince};
@@ -41,8 +41,8 @@ impl SimDisk {
 
     /// A crash now. Each change that is not synced comes out by its fate in the choice. No call is to fail any more.
     pub fn crash(self, choice: &Choice) -> SimDisk
-        ensures image { disk_file result ≡ settled (crashed choice.now (disk_file self)) }
-        ensures may { MayLeave (surface (disk_file self)) (crashed choice.now (disk_file self)) }
+        ensures image { disk_file result ≡ settled (crash_leaves choice.now (disk_file self)) }
+        ensures may { MayLeave (surface (disk_file self)) (crash_leaves choice.now (disk_file self)) }
         ensures plan { disk_plan result ≡ Plan.Never }
         ensures failures { disk_failures result ≡ disk_failures self }
         ensures time { Elapses disk_file disk_clock LeftSince disk_failures self result }

@@ -3,7 +3,7 @@ ghost use Rattle.std.specs.Prelude.{◌≡◌, ◌+◌, ◌≤◌, max, length, 
 ghost use Rattle.disk.specs.Image.{with_bytes};
 ghost use Rattle.disk.specs.File.{laid, by_fate, wrote, tried};
 ghost use Rattle.simdisk.specs.Fates.{fate_at, made_by};
-ghost use Rattle.simdisk.specs.Replay.{kept, file_of, total, furthest, size, end_of, made};
+ghost use Rattle.simdisk.specs.Replay.{kept, file_of, bytes_in_all, furthest, size, end_of, made};
 
 use crate::change::Change;
 use disk::Fate;
@@ -106,7 +106,7 @@ fn fate_of(fates: Fates<'_>, place: usize, change: Change) -> Fate
 
 /// Makes each change, by its fate, of what the last sync left.
 pub fn make_changes(image: &mut Vec<u8>, changes: &[Change], store: &[u8], fates: Fates<'_>)
-    requires stored { total changes.now ≡ length store.now }
+    requires stored { bytes_in_all changes.now ≡ length store.now }
     requires room { furthest changes.now ≤ vec_capacity image.old }
     ensures image { image.new.items ≡ made_by fates.entry (file_of (kept image.old.items changes.now store.now)) }
     ensures len { vec_len image.new ≤ max (vec_len image.old) (furthest changes.now) }

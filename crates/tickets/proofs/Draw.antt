@@ -1,5 +1,6 @@
 -- A draw keeps the rule of a ticket source.
-use Rattle.std.proofs.Common.{◌≡◌, ◌≢◌, ℕ, zero, suc, ◌+◌, ◌*◌, ◌^◌, ◌%◌, ◌-◌, ◌<◌, ◌≤◌, List, [], ◌∷◌, ◌++◌, length, set, sum_by, slice_index, nat_eq, if◌then◌else◌, refl, ap, sym, mod-eq_of_lt, ◌∙◌, subst, ⊎_elim, arith, length-append}
+use Rattle.std.proofs.Common.{◌≡◌, ◌≢◌, ℕ, zero, suc, ◌+◌, ◌*◌, ◌^◌, ◌%◌, ◌-◌, ◌<◌, ◌≤◌, List, [], ◌∷◌, ◌++◌, length, set, sum_by, slice_index}
+use Rattle.std.proofs.Common.{nat_eq, if◌then◌else◌, refl, ap, sym, mod-eq_of_lt, ◌∙◌, subst, ⊎_elim, arith, length-append}
 use Rattle.std.proofs.lemmas.List.Sums.{sum_by-cons, sum_by-append}
 use mathlib.Core.Option.{some, some-injective, some-ne-none}
 use lib.ListN.{get_elem?}
@@ -16,9 +17,11 @@ total-set f (x ∷ xs) zero v w e = omega (arith, ap f (some-injective x v e), s
 total-set f (x ∷ xs) (suc j) v w e = omega (arith, total-set f xs j v w e, sum_by-cons f x xs, sum_by-cons f x (set xs j w))
 
 -- the lists are no longer than the drawers may make them
-bounded : (views : List Hand) → ((seat : ℕ) (h : Hand) → get_elem? views seat ≡ some h → length h.drawn ≤ 2 ^ 40 * h.drawers) → sum_by (λ (h : Hand). length h.drawn) views ≤ 2 ^ 40 * sum_by (λ (h : Hand). h.drawers) views
+bounded : (views : List Hand) → ((seat : ℕ) (h : Hand) → get_elem? views seat ≡ some h → length h.drawn ≤ 2 ^ 40 * h.drawers) →
+    sum_by (λ (h : Hand). length h.drawn) views ≤ 2 ^ 40 * sum_by (λ (h : Hand). h.drawers) views
 bounded [] each = omega arith
-bounded (x ∷ xs) each = omega (arith, sum_by-cons (λ (h : Hand). length h.drawn) x xs, sum_by-cons (λ (h : Hand). h.drawers) x xs, each 0 x refl, bounded xs (λ seat h at. each (suc seat) h at))
+bounded (x ∷ xs) each = omega (arith, sum_by-cons (λ (h : Hand). length h.drawn) x xs, sum_by-cons (λ (h : Hand). h.drawers) x xs, each 0 x refl,
+    bounded xs (λ seat h at. each (suc seat) h at))
 
 -- one more draw of n
 times-snoc : (x n : ℕ) (hand : Hand) → times x record { drawers = hand.drawers; drawn = hand.drawn ++ n ∷ [] } ≡ times x hand + (if nat_eq x n then 1 else 0)
@@ -29,7 +32,8 @@ once_more x n = grind (arith, nat_tests)
 
 -- whatever the others have drawn, a drawer that may still draw gets the word
 pub draws : (slots seat : ℕ) (hand : Hand) (held : List (ℕ × ℕ)) → length hand.drawn < 2 ^ 40 → hand.drawers ≡ 1
-    → Allows IsDrawn slots seat (hand, held) 0 (λ n. (n + 1) % 2 ^ 64) (λ found me. (found ≤ 2 ^ 48) × (me ≡ (record { drawers = hand.drawers; drawn = hand.drawn ++ found ∷ [] }, held)))
+    → Allows IsDrawn slots seat (hand, held) 0 (λ n. (n + 1) % 2 ^ 64) (λ found me. (found ≤ 2 ^ 48)
+        × (me ≡ (record { drawers = hand.drawers; drawn = hand.drawn ++ found ∷ [] }, held)))
 draws slots seat hand held few one s is homes at fits =
     let n = is.word in
     let more : Hand = record { drawers = hand.drawers; drawn = hand.drawn ++ n ∷ [] } in
@@ -45,22 +49,26 @@ draws slots seat hand held few one s is homes at fits =
         drawers = omega (arith, total-set (λ (h : Hand). h.drawers) s.views seat hand more at, is.drawers);
         limits = λ j h h_at.
             ⊎_elim
-            (λ (t : (j ≡ seat) × (more ≡ h)). subst (λ (k : Hand). length k.drawn ≤ 2 ^ 40 * k.drawers) t.1 (omega (arith, length-append hand.drawn (n ∷ []), few, one)))
+            (λ (t : (j ≡ seat) × (more ≡ h)). subst (λ (k : Hand). length k.drawn ≤ 2 ^ 40 * k.drawers) t.1
+                (omega (arith, length-append hand.drawn (n ∷ []), few, one)))
             (λ (t : (j ≢ seat) × (get_elem? s.views j ≡ some h)). is.limits j h t.1)
             (at_set s.views seat j more h h_at);
         counted = omega (arith, total-set (λ (h : Hand). length h.drawn) s.views seat hand more at, is.counted, length-append hand.drawn (n ∷ []));
         once = λ x. omega (arith, total-set (times x) s.views seat hand more at, is.once x, times-snoc x n hand, once_more x n);
       },
-      (subst (λ (k : ℕ). k ≤ 2 ^ 48) (sym here) (omega (arith, low)), ap (λ (k : ℕ). (record { drawers = hand.drawers; drawn = hand.drawn ++ k ∷ [] }, held)) (sym here)),
+      (subst (λ (k : ℕ). k ≤ 2 ^ 48) (sym here) (omega (arith, low)),
+          ap (λ (k : ℕ). (record { drawers = hand.drawers; drawn = hand.drawn ++ k ∷ [] }, held)) (sym here)),
     )
 
 -- one drawer is cut off
-pub splits : (seat : ℕ) (hand : Hand) → 0 < hand.drawers → hand.drawn ≡ [] → Splits IsDrawn seat hand (record { drawers = hand.drawers - 1; drawn = hand.drawn }) (record { drawers = 1; drawn = [] })
+pub splits : (seat : ℕ) (hand : Hand) → 0 < hand.drawers → hand.drawn ≡ [] → Splits IsDrawn seat hand
+    (record { drawers = hand.drawers - 1; drawn = hand.drawn }) (record { drawers = 1; drawn = [] })
 splits seat hand some_left none_drawn s is at =
     let left : Hand = record { drawers = hand.drawers - 1; drawn = hand.drawn } in
     let right : Hand = record { drawers = 1; drawn = [] } in
     let views = set s.views seat left in
-    let moved : (f : Hand → ℕ) → sum_by f (views ++ right ∷ []) + f hand ≡ sum_by f s.views + f left + f right = λ f. omega (arith, total-set f s.views seat hand left at, sum_by-append f views (right ∷ []), sum_by-cons f right []) in
+    let moved : (f : Hand → ℕ) → sum_by f (views ++ right ∷ []) + f hand ≡ sum_by f s.views + f left + f right =
+        λ f. omega (arith, total-set f s.views seat hand left at, sum_by-append f views (right ∷ []), sum_by-cons f right []) in
     record {
       word = is.word;
       words = is.words;
@@ -69,7 +77,8 @@ splits seat hand some_left none_drawn s is at =
           ⊎_elim
           (λ (there : get_elem? views j ≡ some h).
           ⊎_elim
-          (λ (t : (j ≡ seat) × (left ≡ h)). subst (λ (k : Hand). length k.drawn ≤ 2 ^ 40 * k.drawers) t.1 (subst (λ (d : List ℕ). length d ≤ 2 ^ 40 * (hand.drawers - 1)) (sym none_drawn) (omega arith)))
+          (λ (t : (j ≡ seat) × (left ≡ h)). subst (λ (k : Hand). length k.drawn ≤ 2 ^ 40 * k.drawers) t.1
+              (subst (λ (d : List ℕ). length d ≤ 2 ^ 40 * (hand.drawers - 1)) (sym none_drawn) (omega arith)))
           (λ (t : (j ≢ seat) × (get_elem? s.views j ≡ some h)). is.limits j h t.1)
           (at_set s.views seat j left h there))
           (λ (e : right ≡ h). subst (λ (k : Hand). length k.drawn ≤ 2 ^ 40 * k.drawers) e (omega arith))

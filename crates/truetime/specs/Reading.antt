@@ -3,12 +3,12 @@ use Rattle.std.specs.Prelude.{ℕ, Bool, ◌&&◌, nat_lt, nat_le}
 use Rattle.truetime.specs.Interval.{Interval}
 
 -- the timestamp has surely passed
-abbrev pub after : Interval → ℕ → Bool
-after now at = nat_lt at now.earliest
+abbrev pub surely_after : Interval → ℕ → Bool
+surely_after now at = nat_lt at now.earliest
 
 -- the timestamp has surely not come
-abbrev pub before : Interval → ℕ → Bool
-before now at = nat_lt now.latest at
+abbrev pub surely_before : Interval → ℕ → Bool
+surely_before now at = nat_lt now.latest at
 
 -- a reading is honest where it holds the true time
 abbrev pub is_honest : ℕ → Interval → Bool

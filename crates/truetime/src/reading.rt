@@ -1,5 +1,5 @@
 ghost use Rattle.std.specs.Prelude.{◌≡◌, ◌<◌, ◌≤◌, ◌^◌, MatchResult, nat_lt};
-ghost use Rattle.truetime.specs.Reading.{after, before};
+ghost use Rattle.truetime.specs.Reading.{surely_after, surely_before};
 
 use std::marker::Model;
 use units::{Fault, Reason, Stamp};
@@ -56,14 +56,14 @@ impl Reading {
 
     /// The timestamp has surely passed (`TT.after`).
     pub fn after(self, at: Stamp) -> bool
-        ensures { result ≡ after self at }
+        ensures { result ≡ surely_after self at }
     {
         self.earliest.micros() > at.micros()
     }
 
     /// The timestamp has surely not come (`TT.before`).
     pub fn before(self, at: Stamp) -> bool
-        ensures { result ≡ before self at }
+        ensures { result ≡ surely_before self at }
     {
         self.latest.micros() < at.micros()
     }

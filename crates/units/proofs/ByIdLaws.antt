@@ -1,5 +1,6 @@
 -- A member of a list that ascends by id is looked up, put in, taken out or changed.
-use Rattle.std.proofs.Common.{◌≡◌, ℕ, zero, suc, ◌<◌, Bool, true, false, ◌||◌, not, cond, List, [], ◌∷◌, map, length, get_or, set, Option, Some, None, refl, sym, ap, subst, ◌∙◌, arith, filter, option_map}
+use Rattle.std.proofs.Common.{◌≡◌, ℕ, zero, suc, ◌<◌, Bool, true, false, ◌||◌, not, cond, List, [], ◌∷◌, map, length, get_or, set, Option, Some, None}
+use Rattle.std.proofs.Common.{refl, sym, ap, subst, ◌∙◌, arith, filter, option_map}
 use Rattle.std.specs.List.{insert, remove, position_or_len, AllByRecursion}
 use Rattle.std.proofs.lemmas.Bool.{false≢true}
 use Rattle.std.proofs.lemmas.Bool.Decides.{nat_tests}
@@ -49,7 +50,8 @@ by_id-map {A = A} id of g same (x ∷ xs) up = by_id-cons of (g x) (map g xs) (y
 change_keeps : {A : Type 0} (id : A → Id) (t : Id) (f : A → A) → ((x : A) → id (f x) ≡ id x) → (x : A) → id (cond (same_id (id x) t) (f x) x) ≡ id x
 change_keeps id t f same x = elim (same_id (id x) t) as (λ b. id (cond b (f x) x) ≡ id x) [ true ↦ same x | false ↦ refl ]
 
-pub by_id-change : {A : Type 0} (id : A → Id) (xs : List A) (t : Id) (f : A → A) → ((x : A) → id (f x) ≡ id x) → IsById id xs → IsById id (change_member id xs t f)
+pub by_id-change : {A : Type 0} (id : A → Id) (xs : List A) (t : Id) (f : A → A) → ((x : A) → id (f x) ≡ id x) → IsById id xs →
+    IsById id (change_member id xs t f)
 by_id-change id xs t f same up = by_id-map id id (λ x. cond (same_id (id x) t) (f x) x) (change_keeps id t f same) xs up
 
 -- what each has and the new one, each has of the members with the new one
@@ -85,7 +87,8 @@ by_id-with {A = A} id (x ∷ xs) y up = by_tests (same_id (id x) (id y)) (older 
         ) up
 
 -- where no member has the id, nothing is changed
-pub change_none : {A : Type 0} (id : A → Id) (xs : List A) (t : Id) (f : A → A) → AllByRecursion (λ y. same_id (id y) t ≡ false) xs → change_member id xs t f ≡ xs
+pub change_none : {A : Type 0} (id : A → Id) (xs : List A) (t : Id) (f : A → A) → AllByRecursion (λ y. same_id (id y) t ≡ false) xs →
+    change_member id xs t f ≡ xs
 change_none id [] t f none = refl
 change_none id (x ∷ xs) t f none = rw none.0 (ap (λ r. x ∷ r) (change_none id xs t f none.1))
 
@@ -100,7 +103,8 @@ place_within id [] t h = cc
 place_within id (x ∷ xs) t h = grind (arith, nat_tests, place_within id xs t)
 
 -- what stands at the place is the member
-pub find_at_place : {A : Type 0} (id : A → Id) (xs : List A) (t : Id) (p : ℕ) (y : A) → p ≡ position_or_len (λ x. same_id (id x) t) xs → p < length xs → y ≡ get_or xs p y
+pub find_at_place : {A : Type 0} (id : A → Id) (xs : List A) (t : Id) (p : ℕ) (y : A) → p ≡ position_or_len (λ x. same_id (id x) t) xs →
+    p < length xs → y ≡ get_or xs p y
     → find_member id xs t ≡ Some y
 find_at_place id [] t p y e lt at = absurd (omega arith)
 find_at_place id (x ∷ xs) t zero y e lt at =
@@ -120,7 +124,8 @@ set_is_change id (x ∷ xs) t f up (suc p) y z e lt at made =
     rw other (ap (λ r. x ∷ r) (set_is_change id xs t f up.1 p y z (grind (arith, nat_tests)) (omega arith) at made))
 
 -- putting a new member before the first younger one puts it in its place
-pub insert_is_with : {A : Type 0} (id : A → Id) (xs : List A) (y : A) (p : ℕ) → has_member id xs (id y) ≡ false → p ≡ position_or_len (λ x. older (id y) (id x)) xs
+pub insert_is_with : {A : Type 0} (id : A → Id) (xs : List A) (y : A) (p : ℕ) → has_member id xs (id y) ≡ false →
+    p ≡ position_or_len (λ x. older (id y) (id x)) xs
     → insert xs p y ≡ with_member id xs y
 insert_is_with id [] y zero new e = refl
 insert_is_with id [] y (suc p) new e = absurd (omega arith)
@@ -136,7 +141,8 @@ insert_is_with id (x ∷ xs) y (suc p) new e =
     rw (other, before) (ap (λ r. x ∷ r) (insert_is_with id xs y p (grind (arith, nat_tests)) (grind (arith, nat_tests))))
 
 -- taking out what stands at the place takes the member out
-pub remove_is_without : {A : Type 0} (id : A → Id) (xs : List A) (t : Id) (p : ℕ) → IsById id xs → p ≡ position_or_len (λ x. same_id (id x) t) xs → p < length xs
+pub remove_is_without : {A : Type 0} (id : A → Id) (xs : List A) (t : Id) (p : ℕ) → IsById id xs → p ≡ position_or_len (λ x. same_id (id x) t) xs →
+    p < length xs
     → remove xs p ≡ without_member id xs t
 remove_is_without id [] t p up e lt = absurd (omega arith)
 remove_is_without id (x ∷ xs) t zero up e lt =
@@ -151,7 +157,8 @@ pub found_is : {A : Type 0} (id : A → Id) (xs : List A) (t : Id) (y : A) → f
 found_is id [] t y e = cc
 found_is id (x ∷ xs) t y e = by_test (same_id (id x) t) refl (λ k. found_is id xs t y k) e
   where
-    by_test : (b : Bool) → same_id (id x) t ≡ b → (find_member id xs t ≡ Some y → same_id (id y) t ≡ true) → head (cond b (x ∷ filter (λ x. same_id (id x) t) xs) (filter (λ x. same_id (id x) t) xs)) ≡ Some y → same_id (id y) t ≡ true
+    by_test : (b : Bool) → same_id (id x) t ≡ b → (find_member id xs t ≡ Some y → same_id (id y) t ≡ true) →
+        head (cond b (x ∷ filter (λ x. same_id (id x) t) xs) (filter (λ x. same_id (id x) t) xs)) ≡ Some y → same_id (id y) t ≡ true
     by_test true s rest k = let is : x ≡ y = cc in ap (λ z. same_id (id z) t) (sym is) ∙ s
     by_test false s rest k = rest k
 
@@ -160,7 +167,8 @@ pub found_has : {A : Type 0} (id : A → Id) (xs : List A) (t : Id) (y : A) → 
 found_has id [] t y e = cc
 found_has id (x ∷ xs) t y e = by_test (same_id (id x) t) (λ k. found_has id xs t y k) e
   where
-    by_test : (b : Bool) → (find_member id xs t ≡ Some y → has_member id xs t ≡ true) → head (cond b (x ∷ filter (λ x. same_id (id x) t) xs) (filter (λ x. same_id (id x) t) xs)) ≡ Some y → (b || has_member id xs t) ≡ true
+    by_test : (b : Bool) → (find_member id xs t ≡ Some y → has_member id xs t ≡ true) → head
+        (cond b (x ∷ filter (λ x. same_id (id x) t) xs) (filter (λ x. same_id (id x) t) xs)) ≡ Some y → (b || has_member id xs t) ≡ true
     by_test true rest k = refl
     by_test false rest k = rest k
 
@@ -175,7 +183,8 @@ pub found_all : {A : Type 0} (P : A → Type 0) (id : A → Id) (xs : List A) (t
 found_all P id [] t y all e = cc
 found_all P id (x ∷ xs) t y all e = by_test (same_id (id x) t) (λ k. found_all P id xs t y all.1 k) e
   where
-    by_test : (b : Bool) → (find_member id xs t ≡ Some y → P y) → head (cond b (x ∷ filter (λ x. same_id (id x) t) xs) (filter (λ x. same_id (id x) t) xs)) ≡ Some y → P y
+    by_test : (b : Bool) → (find_member id xs t ≡ Some y → P y) →
+        head (cond b (x ∷ filter (λ x. same_id (id x) t) xs) (filter (λ x. same_id (id x) t) xs)) ≡ Some y → P y
     by_test true rest k = let is : x ≡ y = cc in subst P is all.0
     by_test false rest k = rest k
 
@@ -219,7 +228,8 @@ find-first id p (x ∷ xs) y up e = by_test (p x) (λ k. find-first id p xs y up
         let same : same_id (id x) (id y) ≡ true = ap (λ z. same_id (id x) (id z)) (sym is) ∙ same_id-refl (id x) in
         rw same (ap (λ z. Some z) is)
     by_test false rest k =
-        let other : same_id (id x) (id y) ≡ false = older_not_same (id x) (id y) (first_all (λ z. older (id x) (id z) ≡ true) p xs y (later_are_younger id x xs up) k) in
+        let other : same_id (id x) (id y) ≡ false = older_not_same (id x) (id y) (first_all (λ z. older (id x) (id z) ≡ true) p xs y
+            (later_are_younger id x xs up) k) in
         rw other (rest k)
 
 -- and no older member passes it
@@ -234,7 +244,8 @@ first_oldest id p (x ∷ xs) y up e = by_test (p x) refl (λ k. first_oldest id 
         let is : x ≡ y = cc in (
           λ o. absurd (false≢true (sym (older_not_same (id x) (id y) o) ∙ ap (λ z. same_id (id x) (id z)) (sym is) ∙ same_id-refl (id x))),
           all_gives (λ z. older (id x) (id z) ≡ true) (λ z. older (id z) (id y) ≡ true → p z ≡ false)
-              (λ z young o. absurd (false≢true (sym (older_not_younger (id z) (id y) o) ∙ ap (λ w. older (id w) (id z)) (sym is) ∙ young))) xs (later_are_younger id x xs up),
+              (λ z young o. absurd (false≢true (sym (older_not_younger (id z) (id y) o) ∙ ap (λ w. older (id w) (id z)) (sym is) ∙ young))) xs
+                  (later_are_younger id x xs up),
         )
     by_test false s rest k = (λ o. s, rest k)
 
@@ -250,16 +261,19 @@ change_is_with id (x ∷ xs) t f y up e same = by_test (same_id (id x) t) refl (
     by_test true s rest k =
         let is : x ≡ y = cc in
         let there : same_id (id x) (id (f y)) ≡ true = ap (same_id (id x)) same ∙ ap (λ z. same_id (id x) (id z)) (sym is) ∙ same_id-refl (id x) in
-        rw there (ap (λ z. f z ∷ change_member id xs t f) is ∙ ap (λ r. f y ∷ r) (change_none id xs t f (later_differ id t x xs s (later_are_younger id x xs up))))
+        rw there (ap (λ z. f z ∷ change_member id xs t f) is ∙ ap (λ r. f y ∷ r) (change_none id xs t f
+            (later_differ id t x xs s (later_are_younger id x xs up))))
     by_test false s rest k =
         let t_is : same_id (id y) t ≡ true = found_is id xs t y k in
         let other : same_id (id x) (id (f y)) ≡ false =
         ap (same_id (id x)) same ∙ same_id_comm (id x) (id y) ∙ same_id-along (id y) t (id x) t_is ∙ same_id_comm t (id x) ∙ s in
-        let before : older (id x) (id (f y)) ≡ true = ap (older (id x)) same ∙ found_all (λ z. older (id x) (id z) ≡ true) id xs t y (later_are_younger id x xs up) k in
+        let before : older (id x) (id (f y)) ≡ true = ap (older (id x)) same ∙ found_all (λ z. older (id x) (id z) ≡ true) id xs t y
+            (later_are_younger id x xs up) k in
         rw (other, before) (ap (λ r. x ∷ r) (rest k))
 
 -- the member of another id, where one is taken out
-pub find-without_other : {A : Type 0} (id : A → Id) (xs : List A) (t u : Id) → same_id u t ≡ false → find_member id (without_member id xs u) t ≡ find_member id xs t
+pub find-without_other : {A : Type 0} (id : A → Id) (xs : List A) (t u : Id) → same_id u t ≡ false →
+    find_member id (without_member id xs u) t ≡ find_member id xs t
 find-without_other id [] t u differ = refl
 find-without_other id (x ∷ xs) t u differ = by_tests (same_id (id x) t) (same_id (id x) u) refl refl (find-without_other id xs t u differ)
   where
@@ -282,7 +296,8 @@ all-without id (x ∷ xs) t = by_test (same_id (id x) t) refl (all-without id xs
     by_test false s rest = (s, rest)
 
 -- whether another id is there, where one is taken out
-pub has-without_other : {A : Type 0} (id : A → Id) (xs : List A) (t u : Id) → same_id u t ≡ false → has_member id (without_member id xs u) t ≡ has_member id xs t
+pub has-without_other : {A : Type 0} (id : A → Id) (xs : List A) (t u : Id) → same_id u t ≡ false →
+    has_member id (without_member id xs u) t ≡ has_member id xs t
 has-without_other id [] t u differ = refl
 has-without_other id (x ∷ xs) t u differ = by_tests (same_id (id x) t) (same_id (id x) u) refl refl (has-without_other id xs t u differ)
   where
@@ -305,7 +320,8 @@ find-with_same id (x ∷ xs) y = by_tests (same_id (id x) (id y)) (older (id x) 
     by_tests false false s rest = rw (same_id-refl (id y)) refl
 
 -- the members of other ids stay
-pub find-with_other : {A : Type 0} (id : A → Id) (xs : List A) (y : A) (t : Id) → same_id (id y) t ≡ false → find_member id (with_member id xs y) t ≡ find_member id xs t
+pub find-with_other : {A : Type 0} (id : A → Id) (xs : List A) (y : A) (t : Id) → same_id (id y) t ≡ false →
+    find_member id (with_member id xs y) t ≡ find_member id xs t
 find-with_other id [] y t differ = rw differ refl
 find-with_other id (x ∷ xs) y t differ = by_tests (same_id (id x) (id y)) (older (id x) (id y)) refl (find-with_other id xs y t differ)
   where
@@ -313,12 +329,14 @@ find-with_other id (x ∷ xs) y t differ = by_tests (same_id (id x) (id y)) (old
         → find_member id (cond a (y ∷ xs) (cond b (x ∷ with_member id xs y) (y ∷ x ∷ xs))) t ≡ find_member id (x ∷ xs) t
     by_tests true b s rest =
         let other : same_id (id x) t ≡ false = same_id-along (id x) (id y) t s ∙ differ in rw (differ, other) refl
-    by_tests false true s rest = elim (same_id (id x) t) as (λ c. head (cond c (x ∷ filter (λ z. same_id (id z) t) (with_member id xs y)) (filter (λ z. same_id (id z) t) (with_member id xs y)))
+    by_tests false true s rest = elim (same_id (id x) t) as (λ c. head (cond c (x ∷ filter (λ z. same_id (id z) t) (with_member id xs y))
+        (filter (λ z. same_id (id z) t) (with_member id xs y)))
         ≡ head (cond c (x ∷ filter (λ z. same_id (id z) t) xs) (filter (λ z. same_id (id z) t) xs))) [ true ↦ refl | false ↦ rest ]
     by_tests false false s rest = rw differ refl
 
 -- a view of each member that has the member's id
-pub find-map : {A B : Type 0} (id : A → Id) (of : B → Id) (g : A → B) → ((x : A) → of (g x) ≡ id x) → (xs : List A) (t : Id) → find_member of (map g xs) t ≡ option_map g (find_member id xs t)
+pub find-map : {A B : Type 0} (id : A → Id) (of : B → Id) (g : A → B) → ((x : A) → of (g x) ≡ id x) → (xs : List A) (t : Id) →
+    find_member of (map g xs) t ≡ option_map g (find_member id xs t)
 find-map id of g same [] t = refl
 find-map id of g same (x ∷ xs) t = rw (same x) (by_test (same_id (id x) t) (find-map id of g same xs t))
   where
@@ -328,16 +346,19 @@ find-map id of g same (x ∷ xs) t = rw (same x) (by_test (same_id (id x) t) (fi
     by_test true rest = refl
     by_test false rest = rest
 
-pub without-map : {A B : Type 0} (id : A → Id) (of : B → Id) (g : A → B) → ((x : A) → of (g x) ≡ id x) → (xs : List A) (t : Id) → without_member of (map g xs) t ≡ map g (without_member id xs t)
+pub without-map : {A B : Type 0} (id : A → Id) (of : B → Id) (g : A → B) → ((x : A) → of (g x) ≡ id x) → (xs : List A) (t : Id) →
+    without_member of (map g xs) t ≡ map g (without_member id xs t)
 without-map id of g same [] t = refl
 without-map id of g same (x ∷ xs) t = rw (same x) (by_test (same_id (id x) t) (without-map id of g same xs t))
   where
     by_test : (b : Bool) → without_member of (map g xs) t ≡ map g (without_member id xs t)
-        → cond (not b) (g x ∷ without_member of (map g xs) t) (without_member of (map g xs) t) ≡ map g (cond (not b) (x ∷ without_member id xs t) (without_member id xs t))
+        → cond (not b) (g x ∷ without_member of (map g xs) t) (without_member of (map g xs) t) ≡
+            map g (cond (not b) (x ∷ without_member id xs t) (without_member id xs t))
     by_test true e = e
     by_test false e = ap (λ r. g x ∷ r) e
 
-pub with-map : {A B : Type 0} (id : A → Id) (of : B → Id) (g : A → B) → ((x : A) → of (g x) ≡ id x) → (xs : List A) (y : A) → with_member of (map g xs) (g y) ≡ map g (with_member id xs y)
+pub with-map : {A B : Type 0} (id : A → Id) (of : B → Id) (g : A → B) → ((x : A) → of (g x) ≡ id x) → (xs : List A) (y : A) →
+    with_member of (map g xs) (g y) ≡ map g (with_member id xs y)
 with-map id of g same [] y = refl
 with-map id of g same (x ∷ xs) y = rw (same x, same y) (by_tests (same_id (id x) (id y)) (older (id x) (id y)) (with-map id of g same xs y))
   where

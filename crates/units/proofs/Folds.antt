@@ -2,6 +2,7 @@
 use Rattle.std.specs.List.{list_any, list_all}
 use Rattle.std.proofs.Common.{refl, sym, ◌∙◌, ap, arith}
 use Rattle.std.specs.Prelude.{ℕ, ◌≡◌, Bool, true, false, cond, ◌&&◌, ◌||◌, max, List, [], ◌∷◌, ◌++◌, Option, Some, None, filter, flat_map}
+use Rattle.std.proofs.lemmas.Bool.{and_parts}
 use Rattle.units.specs.Lists.{gather, head, first, greatest, when}
 
 -- the first value that is there
@@ -17,10 +18,6 @@ pub there_or_else : {A : Type 0} (a b : Option A) → is_there (or_else a b) ≡
 there_or_else None b = refl
 there_or_else (Some x) b = refl
 
-pub append_none : {A : Type 0} (xs : List A) → xs ++ [] ≡ xs
-append_none [] = refl
-append_none (x ∷ xs) = ap (λ l. x ∷ l) (append_none xs)
-
 append_again : {A : Type 0} (xs ys zs : List A) → (xs ++ ys) ++ zs ≡ xs ++ (ys ++ zs)
 append_again [] ys zs = refl
 append_again (x ∷ xs) ys zs = ap (λ l. x ∷ l) (append_again xs ys zs)
@@ -34,10 +31,6 @@ gather_append {B = B} f (x ∷ xs) ys = by_value (f x) (gather_append f xs ys)
         ≡ (elim o as (λ q. List B) [ None ↦ gather f xs | Some y ↦ y ∷ gather f xs ]) ++ gather f ys
     by_value None e = e
     by_value (Some y) e = ap (λ l. y ∷ l) e
-
-pub join_append : {A B : Type 0} (f : A → List B) (xs ys : List A) → flat_map f (xs ++ ys) ≡ flat_map f xs ++ flat_map f ys
-join_append f [] ys = refl
-join_append f (x ∷ xs) ys = ap (λ l. f x ++ l) (join_append f xs ys) ∙ sym (append_again (f x) (flat_map f xs) (flat_map f ys))
 
 pub greatest_append : (xs ys : List ℕ) → greatest (xs ++ ys) ≡ max (greatest xs) (greatest ys)
 greatest_append [] ys = from_none (greatest ys)
@@ -54,7 +47,8 @@ first_append test [] ys = refl
 first_append {A} test (x ∷ xs) ys = by_test (test x) (first_append test xs ys)
   where
     by_test : (b : Bool) → head (filter test (xs ++ ys)) ≡ or_else (head (filter test xs)) (head (filter test ys)) →
-        head (cond b (x ∷ filter test (xs ++ ys)) (filter test (xs ++ ys))) ≡ or_else (head (cond b (x ∷ filter test xs) (filter test xs))) (head (filter test ys))
+        head (cond b (x ∷ filter test (xs ++ ys)) (filter test (xs ++ ys))) ≡ or_else (head (cond b (x ∷ filter test xs) (filter test xs)))
+            (head (filter test ys))
     by_test true e = refl
     by_test false e = e
 
@@ -71,7 +65,8 @@ pub there_first : {A : Type 0} (test : A → Bool) (xs : List A) → is_there (f
 there_first test [] = refl
 there_first test (x ∷ xs) = by_test (test x) (there_first test xs)
   where
-    by_test : (b : Bool) → is_there (head (filter test xs)) ≡ list_any test xs → is_there (head (cond b (x ∷ filter test xs) (filter test xs))) ≡ (b || list_any test xs)
+    by_test : (b : Bool) → is_there (head (filter test xs)) ≡ list_any test xs → is_there (head (cond b (x ∷ filter test xs) (filter test xs))) ≡
+        (b || list_any test xs)
     by_test true e = refl
     by_test false e = e
 
@@ -80,8 +75,4 @@ pub join_same : {A B : Type 0} (f g : A → List B) (test : A → Bool) → ((x 
     (xs : List A) → list_all test xs ≡ true → flat_map f xs ≡ flat_map g xs
 join_same f g test same [] h = refl
 join_same f g test same (x ∷ xs) h =
-    ap (λ l. l ++ flat_map f xs) (same x ((both _ _ h).0)) ∙ ap (λ l. g x ++ l) (join_same f g test same xs ((both _ _ h).1))
-  where
-    both : (a b : Bool) → (a && b) ≡ true → (a ≡ true) × (b ≡ true)
-    both true b e = (refl, e)
-    both false b e = cc
+    ap (λ l. l ++ flat_map f xs) (same x ((and_parts _ _ h).0)) ∙ ap (λ l. g x ++ l) (join_same f g test same xs ((and_parts _ _ h).1))

@@ -2,12 +2,9 @@
 use Rattle.std.specs.List.{list_any, list_all}
 use Rattle.std.proofs.Common.{refl, sym, ◌∙◌, ap, subst}
 use Rattle.std.specs.Prelude.{◌≡◌, Bool, true, false, cond, ◌&&◌, ◌||◌, List, [], ◌∷◌, ◌++◌}
+use Rattle.std.proofs.lemmas.Bool.{and_parts, and_from}
 use Rattle.units.proofs.IdLaws.{same_id-is, same_id-refl, same_id_comm, older_total, older_not_younger, older_not_same, older-trans}
 use Rattle.units.specs.Ids.{Id, same_id, older, with_id, ids_once}
-
-both : (a b : Bool) → (a && b) ≡ true → (a ≡ true) × (b ≡ true)
-both true b e = (refl, e)
-both false b e = cc
 
 -- ---- an id in its place
 
@@ -104,7 +101,8 @@ any_with t u (v ∷ vs) = placed (same_id v u) (older v u) refl (any_with t u vs
     placed : (a b : Bool) → same_id v u ≡ a → list_any (same_id t) (with_id vs u) ≡ (same_id t u || list_any (same_id t) vs) →
         list_any (same_id t) (cond a (v ∷ vs) (cond b (v ∷ with_id vs u) (u ∷ v ∷ vs))) ≡ (same_id t u || (same_id t v || list_any (same_id t) vs))
     placed true b e rest =
-        subst (λ w. (same_id t v || list_any (same_id t) vs) ≡ (same_id t w || (same_id t v || list_any (same_id t) vs))) (same_id-is v u e) (twice (same_id t v) _)
+        subst (λ w. (same_id t v || list_any (same_id t) vs) ≡ (same_id t w || (same_id t v || list_any (same_id t) vs))) (same_id-is v u e)
+            (twice (same_id t v) _)
     placed false true e rest = ap (λ b. same_id t v || b) rest ∙ swap (same_id t v) (same_id t u) _
     placed false false e rest = refl
 
@@ -119,36 +117,32 @@ abbrev pub rises : List Id → Bool
 rises [] = true
 rises (t ∷ ts) = list_all (older t) ts && rises ts
 
-pub and_true : (a b : Bool) → a ≡ true → b ≡ true → (a && b) ≡ true
-and_true true b e f = f
-and_true false b e f = cc
-
 pub above_more : (t u : Id) (us : List Id) → older t u ≡ true → list_all (older u) us ≡ true → list_all (older t) us ≡ true
 above_more t u [] e h = refl
 above_more t u (v ∷ vs) e h =
-    let p : (older u v ≡ true) × (list_all (older u) vs ≡ true) = both _ _ h in
-    and_true _ _ (older-trans t u v e p.0) (above_more t u vs e p.1)
+    let p : (older u v ≡ true) × (list_all (older u) vs ≡ true) = and_parts _ _ h in
+    and_from _ _ (older-trans t u v e p.0) (above_more t u vs e p.1)
 
 above_with : (y t : Id) (us : List Id) → older y t ≡ true → list_all (older y) us ≡ true → list_all (older y) (with_id us t) ≡ true
-above_with y t [] e h = and_true _ _ e refl
-above_with y t (u ∷ us) e h = placed (same_id u t) (older u t) (both _ _ h) (above_with y t us e ((both _ _ h).1))
+above_with y t [] e h = and_from _ _ e refl
+above_with y t (u ∷ us) e h = placed (same_id u t) (older u t) (and_parts _ _ h) (above_with y t us e ((and_parts _ _ h).1))
   where
     placed : (a b : Bool) → (older y u ≡ true) × (list_all (older y) us ≡ true) → list_all (older y) (with_id us t) ≡ true →
         list_all (older y) (cond a (u ∷ us) (cond b (u ∷ with_id us t) (t ∷ u ∷ us))) ≡ true
-    placed true b p rest = and_true _ _ p.0 p.1
-    placed false true p rest = and_true _ _ p.0 rest
-    placed false false p rest = and_true _ _ e (and_true _ _ p.0 p.1)
+    placed true b p rest = and_from _ _ p.0 p.1
+    placed false true p rest = and_from _ _ p.0 rest
+    placed false false p rest = and_from _ _ e (and_from _ _ p.0 p.1)
 
 pub rises_with : (us : List Id) (t : Id) → rises us ≡ true → rises (with_id us t) ≡ true
 rises_with [] t h = refl
-rises_with (u ∷ us) t h = by_way (way u t) (both _ _ h) (rises_with us t ((both _ _ h).1))
+rises_with (u ∷ us) t h = by_way (way u t) (and_parts _ _ h) (rises_with us t ((and_parts _ _ h).1))
   where
     by_way : Way u t → (list_all (older u) us ≡ true) × (rises us ≡ true) → rises (with_id us t) ≡ true → rises (with_id (u ∷ us) t) ≡ true
     by_way (IsOne e) p rest =
         let same : with_id (u ∷ us) t ≡ u ∷ us = subst (λ v. with_id (u ∷ us) v ≡ u ∷ us) e (with_same us u) in
         ap rises same ∙ h
-    by_way (IsBefore e) p rest = ap rises (with_later us u t e) ∙ and_true _ _ (above_with u t us e p.0) rest
-    by_way (IsBehind e) p rest = ap rises (with_earlier us u t e) ∙ and_true _ _ (and_true _ _ e (above_more t u us e p.0)) h
+    by_way (IsBefore e) p rest = ap rises (with_later us u t e) ∙ and_from _ _ (above_with u t us e p.0) rest
+    by_way (IsBehind e) p rest = ap rises (with_earlier us u t e) ∙ and_from _ _ (and_from _ _ e (above_more t u us e p.0)) h
 
 -- ids that stand once rise
 pub rises_once : (ts : List Id) → rises (ids_once ts) ≡ true

@@ -4,15 +4,6 @@ use Rattle.std.specs.List.{list_any, filter, find, AllByRecursion, list_all}
 use Rattle.std.proofs.lemmas.Bool.Decides.{nat_tests}
 use Rattle.units.specs.Lists.{head, first}
 
--- std's words for the same
-pub list_any-is : {A : Type 0} (p : A → Bool) (xs : List A) → list_any p xs ≡ list_any p xs
-list_any-is p [] = refl
-list_any-is p (x ∷ xs) = ap (λ b. p x || b) (list_any-is p xs)
-
-pub filter-is : {A : Type 0} (p : A → Bool) (xs : List A) → filter p xs ≡ filter p xs
-filter-is p [] = refl
-filter-is p (x ∷ xs) = ap (λ ys. cond (p x) (x ∷ ys) ys) (filter-is p xs)
-
 pub find-is : {A : Type 0} (p : A → Bool) (xs : List A) → find p xs ≡ first p xs
 find-is p [] = refl
 find-is p (x ∷ xs) = by_test (p x) (find-is p xs)

@@ -1,9 +1,11 @@
 -- The numbers below 16 that are in a list, ascending.
 use Rattle.std.specs.List.{list_all}
-use Rattle.std.proofs.Common.{◌≡◌, ◌≢◌, ℕ, zero, suc, ◌+◌, ◌-◌, ◌*◌, ◌/◌, ◌%◌, ◌<◌, ◌≤◌, ◌^◌, Bool, true, false, cond, ◌&&◌, ◌||◌, nat_eq, nat_lt, List, [], ◌∷◌, ◌++◌, Option, Some, None, if◌then◌else◌, refl, sym, ap, ◌∙◌, subst, arith, append_assoc}
+use Rattle.std.proofs.Common.{◌≡◌, ◌≢◌, ℕ, zero, suc, ◌+◌, ◌-◌, ◌*◌, ◌/◌, ◌%◌, ◌<◌, ◌≤◌, ◌^◌, Bool, true, false, cond, ◌&&◌, ◌||◌, nat_eq, nat_lt}
+use Rattle.std.proofs.Common.{List, [], ◌∷◌, ◌++◌, Option, Some, None, if◌then◌else◌, refl, sym, ap, ◌∙◌, subst, arith, append_assoc}
 use Rattle.std.specs.Prelude.{IfSome, IfNone}
 use Rattle.std.proofs.lemmas.Bool.Decides.{nat_tests}
 use Rattle.std.proofs.Math.Nat.{pow-suc}
+use Rattle.std.proofs.lemmas.Bool.{and_parts}
 use Rattle.units.specs.Lists.{has, once, insert, sorted}
 use Rattle.units.specs.Parts.{marked, shards_from, shards_of_mask}
 
@@ -70,11 +72,8 @@ insert_marked f (suc bits) n x low high new =
 -- numbers below 16, each once and in order, are those that are marked
 pub sorted_once : (ns : List ℕ) → list_all (λ n. nat_lt n 16) ns ≡ true → sorted nat_lt (once ns) ≡ marked (has ns) 16 0
 sorted_once [] h = refl
-sorted_once (x ∷ xs) h = by_test (has xs x) refl (sorted_once xs ((both _ _ h).1))
+sorted_once (x ∷ xs) h = by_test (has xs x) refl (sorted_once xs ((and_parts _ _ h).1))
   where
-    both : (a b : Bool) → (a && b) ≡ true → (a ≡ true) × (b ≡ true)
-    both true b e = (refl, e)
-    both false b e = cc
 
     low : nat_lt x 16 ≡ true → x < 0 + 16
     low e = grind (arith, nat_tests)
@@ -92,7 +91,7 @@ sorted_once (x ∷ xs) h = by_test (has xs x) refl (sorted_once xs ((both _ _ h)
     by_test : (b : Bool) → has xs x ≡ b → sorted nat_lt (once xs) ≡ marked (has xs) 16 0 →
         sorted nat_lt (cond b (once xs) (x ∷ once xs)) ≡ marked (has (x ∷ xs)) 16 0
     by_test true e rest = rest ∙ marked_same (has xs) (has (x ∷ xs)) 16 0 (λ k _. there e k)
-    by_test false e rest = ap (insert nat_lt x) rest ∙ insert_marked (has xs) 16 0 x (omega arith) (low ((both _ _ h).0)) e
+    by_test false e rest = ap (insert nat_lt x) rest ∙ insert_marked (has xs) 16 0 x (omega arith) (low ((and_parts _ _ h).0)) e
 
 -- ---- the bits of a mask
 
@@ -101,7 +100,8 @@ one_less n h = omega (arith, h)
 
 -- one more bit is read
 bit_read : (n rest : ℕ) → n < 16
-    → shards_from (16 - n) n rest ≡ cond (nat_eq (rest % 2) 1) (n ∷ shards_from (16 - (n + 1)) (n + 1) (rest / 2)) (shards_from (16 - (n + 1)) (n + 1) (rest / 2))
+    → shards_from (16 - n) n rest ≡ cond (nat_eq (rest % 2) 1) (n ∷ shards_from (16 - (n + 1)) (n + 1) (rest / 2))
+        (shards_from (16 - (n + 1)) (n + 1) (rest / 2))
 bit_read n rest h =
     ap (λ bits. shards_from bits n rest) (sym (one_less n h))
     ∙ ap (λ m. cond (nat_eq (rest % 2) 1) (n ∷ shards_from (16 - (n + 1)) m (rest / 2)) (shards_from (16 - (n + 1)) m (rest / 2))) (next n)
@@ -114,7 +114,8 @@ pub bit_set : (n rest : ℕ) (v w : List ℕ) → n < 16 → rest % 2 ≡ 1 → 
 bit_set n rest v w h one is =
     ap (λ l. l ++ shards_from (16 - (n + 1)) (n + 1) (rest / 2)) is
     ∙ append_assoc v (n ∷ []) (shards_from (16 - (n + 1)) (n + 1) (rest / 2))
-    ∙ ap (λ l. v ++ l) (sym (bit_read n rest h ∙ (λ i. cond (tested i) (n ∷ shards_from (16 - (n + 1)) (n + 1) (rest / 2)) (shards_from (16 - (n + 1)) (n + 1) (rest / 2)))))
+    ∙ ap (λ l. v ++ l) (sym (bit_read n rest h ∙ (λ i. cond (tested i) (n ∷ shards_from (16 - (n + 1)) (n + 1) (rest / 2))
+        (shards_from (16 - (n + 1)) (n + 1) (rest / 2)))))
   where
     tested : nat_eq (rest % 2) 1 ≡ true
     tested = grind (arith, nat_tests)
@@ -122,7 +123,8 @@ bit_set n rest v w h one is =
 pub bit_clear : (n rest : ℕ) (v : List ℕ) → n < 16 → rest % 2 ≢ 1
     → v ++ shards_from (16 - (n + 1)) (n + 1) (rest / 2) ≡ v ++ shards_from (16 - n) n rest
 bit_clear n rest v h none =
-    ap (λ l. v ++ l) (sym (bit_read n rest h ∙ (λ i. cond (tested i) (n ∷ shards_from (16 - (n + 1)) (n + 1) (rest / 2)) (shards_from (16 - (n + 1)) (n + 1) (rest / 2)))))
+    ap (λ l. v ++ l) (sym (bit_read n rest h ∙ (λ i. cond (tested i) (n ∷ shards_from (16 - (n + 1)) (n + 1) (rest / 2))
+        (shards_from (16 - (n + 1)) (n + 1) (rest / 2)))))
   where
     tested : nat_eq (rest % 2) 1 ≡ false
     tested = grind (arith, nat_tests)

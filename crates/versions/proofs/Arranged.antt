@@ -3,7 +3,7 @@ use Rattle.std.proofs.Common.{◌≡◌, ℕ, zero, suc, ◌+◌, ◌<◌, List,
 use Rattle.std.specs.List.{insert}
 use Rattle.std.proofs.lemmas.List.{length-map, get_or-map, get_or_append_left, get_or_push, get_or_default}
 use Rattle.units.specs.declared.writes.Install.{Install}
-use Rattle.versions.specs.Arranged.{nothing, arranged, AreWithin}
+use Rattle.versions.specs.Arranged.{no_install, arranged, AreWithin}
 
 -- the place is that of a version
 pub place_within : (places : List ℕ) (len k d : ℕ) → AreWithin places len → k < length places → get_or places k d < len
@@ -12,31 +12,32 @@ place_within (p ∷ places) len zero d within lt = within.0
 place_within (p ∷ places) len (suc k) d within lt = place_within places len k d within.1 (omega arith)
 
 pub length_arranged : (installs : List Install) (places : List ℕ) → length (arranged installs places) ≡ length places
-length_arranged installs places = length-map places (λ p. get_or installs p nothing)
+length_arranged installs places = length-map places (λ p. get_or installs p no_install)
 
 -- what is read in order is what stands at the place
 pub arranged_at : (installs : List Install) (places : List ℕ) (k : ℕ) (x d : Install) → AreWithin places (length installs) → k < length places
     → x ≡ get_or installs (get_or places k 0) x → get_or (arranged installs places) k d ≡ x
 arranged_at installs places k x d within lt is =
-    get_or-map (λ p. get_or installs p nothing) places k 0 d lt
-    ∙ get_or_default installs (get_or places k 0) nothing x (place_within places (length installs) k 0 within lt)
+    get_or-map (λ p. get_or installs p no_install) places k 0 d lt
+    ∙ get_or_default installs (get_or places k 0) no_install x (place_within places (length installs) k 0 within lt)
     ∙ sym is
 
 cons : {a b : Install} {s t : List Install} → a ≡ b → s ≡ t → a ∷ s ≡ b ∷ t
 cons {a} {b} {s} {t} first rest = ap (λ x. x ∷ s) first ∙ ap (λ r. b ∷ r) rest
 
 -- one more version at the end is read at none of the places before
-still_arranged : (installs : List Install) (x : Install) (places : List ℕ) → AreWithin places (length installs) → arranged (installs ++ x ∷ []) places ≡ arranged installs places
+still_arranged : (installs : List Install) (x : Install) (places : List ℕ) → AreWithin places (length installs) →
+    arranged (installs ++ x ∷ []) places ≡ arranged installs places
 still_arranged installs x [] within = refl
-still_arranged installs x (p ∷ places) within = cons (get_or_append_left installs (x ∷ []) nothing p within.0) (still_arranged installs x places within.1)
+still_arranged installs x (p ∷ places) within = cons (get_or_append_left installs (x ∷ []) no_install p within.0) (still_arranged installs x places within.1)
 
 -- a version at the end whose place is put in is put in there
 pub insert_is_arranged : (installs : List Install) (x : Install) (places : List ℕ) (k : ℕ) → AreWithin places (length installs)
     → arranged (installs ++ x ∷ []) (insert places k (length installs)) ≡ insert (arranged installs places) k x
-insert_is_arranged installs x places zero within = cons (get_or_push installs x nothing (length installs) refl) (still_arranged installs x places within)
-insert_is_arranged installs x [] (suc k) within = cons (get_or_push installs x nothing (length installs) refl) refl
+insert_is_arranged installs x places zero within = cons (get_or_push installs x no_install (length installs) refl) (still_arranged installs x places within)
+insert_is_arranged installs x [] (suc k) within = cons (get_or_push installs x no_install (length installs) refl) refl
 insert_is_arranged installs x (p ∷ places) (suc k) within =
-    cons (get_or_append_left installs (x ∷ []) nothing p within.0) (insert_is_arranged installs x places k within.1)
+    cons (get_or_append_left installs (x ∷ []) no_install p within.0) (insert_is_arranged installs x places k within.1)
 
 one_more : (places : List ℕ) (len : ℕ) → AreWithin places len → AreWithin places (len + 1)
 one_more [] len within = tt

@@ -1,7 +1,7 @@
 -- The writes of a transaction are versions of different keys, so each is above its key's others when its turn comes.
 use Rattle.std.specs.List.{list_all}
 use Rattle.std.proofs.Common.{◌≡◌, ℕ, Bool, true, false, ◌&&◌, nat_lt, List, [], ◌∷◌, ◌++◌, refl, sym, ap, subst, ◌∙◌}
-use Rattle.std.proofs.lemmas.Bool.{false≢true}
+use Rattle.std.proofs.lemmas.Bool.{false≢true, and_from}
 use Rattle.std.proofs.lemmas.List.{append_assoc}
 use Rattle.units.specs.Lists.{ascends}
 use Rattle.units.specs.Keys.{same_key, key_before, write_before}
@@ -25,9 +25,6 @@ differs a b h = by_test (same_key a b) refl
     by_test true k = absurd (false≢true (sym (key_before-irreflexive b) ∙ (sym (ap (λ z. key_before z b) (same_key-is a b k)) ∙ h)))
     by_test false k = refl
 
-both : (a b : Bool) → a ≡ true → b ≡ true → (a && b) ≡ true
-both a b h k = ap (λ z. z && b) h ∙ k
-
 left : (a b : Bool) → (a && b) ≡ true → a ≡ true
 left true b h = refl
 left false b h = h
@@ -43,14 +40,15 @@ rest_ascends w (v ∷ ws) h = right _ _ h
 -- without the second the writes still ascend
 skipped : (w v : Write) (ws : List Write) → ascends write_before (w ∷ v ∷ ws) ≡ true → ascends write_before (w ∷ ws) ≡ true
 skipped w v [] h = refl
-skipped w v (u ∷ ws) h = both _ _ (key_before-trans w.key v.key u.key (left _ _ h) (left _ _ (right _ _ h))) (right _ _ (right _ _ h))
+skipped w v (u ∷ ws) h = and_from _ _ (key_before-trans w.key v.key u.key (left _ _ h) (left _ _ (right _ _ h))) (right _ _ (right _ _ h))
 
 -- a version of an earlier key leaves what the later keys take, in the log
 still_above : (w : Write) (at : ℕ) (log : List Install) (ws : List Write) → ascends write_before (w ∷ ws) ≡ true → above_versions log at ws ≡ true
     → above_versions (log ++ version w at ∷ []) at ws ≡ true
 still_above w at log [] up above = refl
 still_above w at log (v ∷ ws) up above =
-    both _ _ (ap (λ r. list_all (λ i. nat_lt i.at at) r) (keep-last (λ i. same_key i.key v.key) (version w at) log (differs w.key v.key (left _ _ up))) ∙ left _ _ above)
+    and_from _ _ (ap (λ r. list_all (λ i. nat_lt i.at at) r) (keep-last (λ i. same_key i.key v.key) (version w at) log
+        (differs w.key v.key (left _ _ up))) ∙ left _ _ above)
     (still_above w at log ws (skipped w v ws up) (right _ _ above))
 
 -- and in order
@@ -58,7 +56,8 @@ above_in_order : (w : Write) (at : ℕ) (ordered : List Install) (ws : List Writ
     → above_versions (installed ordered (version w at)) at ws ≡ true
 above_in_order w at ordered [] up above = refl
 above_in_order w at ordered (v ∷ ws) up above =
-    both _ _ (ap (λ r. list_all (λ i. nat_lt i.at at) r) (keep-installed (λ i. same_key i.key v.key) (version w at) ordered (differs w.key v.key (left _ _ up))) ∙ left _ _ above)
+    and_from _ _ (ap (λ r. list_all (λ i. nat_lt i.at at) r) (keep-installed (λ i. same_key i.key v.key) (version w at) ordered
+        (differs w.key v.key (left _ _ up))) ∙ left _ _ above)
     (above_in_order w at ordered ws (skipped w v ws up) (right _ _ above))
 
 -- when its turn comes, each write is above its key's versions
@@ -66,7 +65,8 @@ pub above_at_turn : (done : List Write) (w : Write) (ws : List Write) (at : ℕ)
     → above_versions ordered at (done ++ w ∷ ws) ≡ true → is_above (all_installed ordered (versions done at)) w.key at ≡ true
 above_at_turn [] w ws at ordered up above = left _ _ above
 above_at_turn (v ∷ done) w ws at ordered up above =
-    above_at_turn done w ws at (installed ordered (version v at)) (rest_ascends v (done ++ w ∷ ws) up) (above_in_order v at ordered (done ++ w ∷ ws) up (right _ _ above))
+    above_at_turn done w ws at (installed ordered (version v at)) (rest_ascends v (done ++ w ∷ ws) up)
+        (above_in_order v at ordered (done ++ w ∷ ws) up (right _ _ above))
 
 -- one more write is one more version
 pub installed_next : (done : List Write) (w : Write) (at : ℕ) (ordered : List Install)
@@ -82,4 +82,5 @@ places_do_not_matter [] at ordered log up above same = subst (SameValues ordered
     append-nil (x ∷ t) = ap (λ r. x ∷ r) (append-nil t)
 places_do_not_matter (w ∷ ws) at ordered log up above same =
     subst (SameValues (all_installed ordered (versions (w ∷ ws) at))) (append_assoc log (version w at ∷ []) (versions ws at))
-    (places_do_not_matter ws at _ (log ++ version w at ∷ []) (rest_ascends w ws up) (still_above w at log ws up (right _ _ above)) (place_does_not_matter (version w at) ordered log (left _ _ above) same))
+    (places_do_not_matter ws at _ (log ++ version w at ∷ []) (rest_ascends w ws up) (still_above w at log ws up (right _ _ above))
+        (place_does_not_matter (version w at) ordered log (left _ _ above) same))

@@ -3,20 +3,22 @@ use Rattle.std.proofs.Common.{◌≡◌, ℕ, zero, suc, ◌+◌, ◌*◌, ◌^�
 use Rattle.std.specs.List.{AllByRecursion, insert}
 use Rattle.std.proofs.lemmas.Bool.Decides.{nat_tests}
 use Rattle.units.specs.Keys.{same_key, key_before}
-use Rattle.std.proofs.lemmas.Bool.{false≢true}
+use Rattle.std.proofs.lemmas.Bool.{false≢true, false_from_ne_true}
 use Rattle.units.proofs.KeyLaws.{same_key-is, key_before-trans}
 use Rattle.units.specs.declared.writes.Install.{Install}
-use Rattle.versions.specs.Halves.{Before, After}
-use Rattle.versions.specs.Ordered.{is_not_after, count_not_after, comes_before, installed, IsAscending}
+use Rattle.versions.specs.Halves.{AllUpTo, AllAfter}
+use Rattle.versions.specs.Ordered.{is_not_after, count_not_after, version_before, installed, AscendsByVersion}
 
 -- where the first places pass and the others do not, the count is the number of places
-pub count_at : (key : List ℕ) (at : ℕ) (t : List Install) (p : ℕ) → p ≤ length t → Before key at t p → After key at t p → p ≡ count_not_after key at t
+pub count_at : (key : List ℕ) (at : ℕ) (t : List Install) (p : ℕ) → p ≤ length t → AllUpTo key at t p → AllAfter key at t p → p ≡ count_not_after key at t
 count_at key at [] p le below above = omega arith
 count_at key at (x ∷ t) zero le below above =
-    let rest : zero ≡ count_not_after key at t = count_at key at t zero (omega arith) (λ k d lt. absurd (omega arith)) (λ k d le lt. above (suc k) d (omega arith) (omega arith)) in
+    let rest : zero ≡ count_not_after key at t = count_at key at t zero (omega arith) (λ k d lt. absurd (omega arith))
+        (λ k d le lt. above (suc k) d (omega arith) (omega arith)) in
     rw (above zero x (omega arith) (omega arith)) rest
 count_at key at (x ∷ t) (suc p) le below above =
-    let rest : p ≡ count_not_after key at t = count_at key at t p (omega arith) (λ k d lt. below (suc k) d (omega arith)) (λ k d le lt. above (suc k) d (omega arith) (omega arith)) in
+    let rest : p ≡ count_not_after key at t = count_at key at t p (omega arith) (λ k d lt. below (suc k) d (omega arith))
+        (λ k d le lt. above (suc k) d (omega arith) (omega arith)) in
     rw (below zero x (omega arith)) (ap suc rest)
 
 -- for each number of digits that is enough for them all, what is left to search fits the digits that are left
@@ -68,7 +70,7 @@ same_same : (a b c : List ℕ) → same_key a b ≡ true → same_key a c ≡ sa
 same_same a b c h = ap (λ z. same_key z c) (same_key-is a b h)
 
 -- what is not after one that is not after the key and stamp is not after them
-not_after-trans : (key : List ℕ) (at : ℕ) (x y : Install) → comes_before x y ≡ true → is_not_after key at y ≡ true → is_not_after key at x ≡ true
+not_after-trans : (key : List ℕ) (at : ℕ) (x y : Install) → version_before x y ≡ true → is_not_after key at y ≡ true → is_not_after key at x ≡ true
 not_after-trans key at x y h k =
     grind (arith, nat_tests, key_before-trans x.key y.key key, along_same x.key y.key key, along_same_right x.key y.key key, same_same x.key y.key key)
 
@@ -78,7 +80,8 @@ each_at P (x ∷ t) zero d all lt = all.0
 each_at P (x ∷ t) (suc p) d all lt = each_at P t p d all.1 (omega arith)
 
 -- in order, each install before one that is not after the key and stamp is not after them
-pub before_passes : (key : List ℕ) (at : ℕ) (t : List Install) (p : ℕ) → IsAscending t → p < length t → ((d : Install) → is_not_after key at (get_or t p d) ≡ true) → Before key at t (p + 1)
+pub before_passes : (key : List ℕ) (at : ℕ) (t : List Install) (p : ℕ) → AscendsByVersion t → p < length t →
+    ((d : Install) → is_not_after key at (get_or t p d) ≡ true) → AllUpTo key at t (p + 1)
 before_passes key at [] p up lt here = absurd (omega arith)
 before_passes key at (x ∷ t) zero up lt here = λ k d less. first k d less
   where
@@ -87,33 +90,33 @@ before_passes key at (x ∷ t) zero up lt here = λ k d less. first k d less
     first (suc k) d less = absurd (omega arith)
 before_passes key at (x ∷ t) (suc p) up lt here = each (before_passes key at t p up.1 (omega arith) here)
   where
-    each : Before key at t (p + 1) → Before key at (x ∷ t) (suc p + 1)
-    each rest zero d less = not_after-trans key at x (get_or t p d) (each_at (λ next. comes_before x next ≡ true) t p d up.0 (omega arith)) (here d)
+    each : AllUpTo key at t (p + 1) → AllUpTo key at (x ∷ t) (suc p + 1)
+    each rest zero d less = not_after-trans key at x (get_or t p d) (each_at (λ next. version_before x next ≡ true) t p d up.0 (omega arith)) (here d)
     each rest (suc k) d less = rest k d (omega arith)
 
-not_false : (b : Bool) → (b ≡ true → ⊥) → b ≡ false
-not_false true h = absurd (h refl)
-not_false false h = refl
-
 -- and each behind one that is after them is after them
-pub after_passes : (key : List ℕ) (at : ℕ) (t : List Install) (p : ℕ) → IsAscending t → p < length t → ((d : Install) → is_not_after key at (get_or t p d) ≡ false) → After key at t p
+pub after_passes : (key : List ℕ) (at : ℕ) (t : List Install) (p : ℕ) → AscendsByVersion t → p < length t →
+    ((d : Install) → is_not_after key at (get_or t p d) ≡ false) → AllAfter key at t p
 after_passes key at [] p up lt here = absurd (omega arith)
 after_passes key at (x ∷ t) zero up lt here = each
   where
-    each : After key at (x ∷ t) zero
+    each : AllAfter key at (x ∷ t) zero
     each zero d le less = here d
-    each (suc k) d le less = not_false (is_not_after key at (get_or t k d))
-        (λ passes. false≢true (sym (here d) ∙ not_after-trans key at x (get_or t k d) (each_at (λ next. comes_before x next ≡ true) t k d up.0 (omega arith)) passes))
+    each (suc k) d le less = false_from_ne_true (is_not_after key at (get_or t k d))
+        (λ passes. false≢true (sym (here d) ∙ not_after-trans key at x (get_or t k d) (each_at (λ next. version_before x next ≡ true) t k d up.0
+            (omega arith)) passes))
 after_passes key at (x ∷ t) (suc p) up lt here = each (after_passes key at t p up.1 (omega arith) here)
   where
-    each : After key at t p → After key at (x ∷ t) (suc p)
+    each : AllAfter key at t p → AllAfter key at (x ∷ t) (suc p)
     each rest zero d le less = absurd (omega arith)
     each rest (suc k) d le less = rest k d (omega arith) (omega arith)
 
 -- a version put in where its key and stamp fall is put in at its place
-pub insert_is_installed : (install : Install) (t : List Install) (p : ℕ) → p ≤ length t → Before install.key install.at t p → After install.key install.at t p → insert t p install ≡ installed t install
+pub insert_is_installed : (install : Install) (t : List Install) (p : ℕ) → p ≤ length t → AllUpTo install.key install.at t p →
+    AllAfter install.key install.at t p → insert t p install ≡ installed t install
 insert_is_installed install [] zero le before after = refl
 insert_is_installed install [] (suc p) le before after = absurd (omega arith)
 insert_is_installed install (x ∷ t) zero le before after = rw (after 0 x (omega arith) (omega arith)) refl
 insert_is_installed install (x ∷ t) (suc p) le before after =
-    rw (before 0 x (omega arith)) (ap (λ r. x ∷ r) (insert_is_installed install t p (omega arith) (λ k d lt. before (suc k) d (omega arith)) (λ k d le lt. after (suc k) d (omega arith) (omega arith))))
+    rw (before 0 x (omega arith)) (ap (λ r. x ∷ r) (insert_is_installed install t p (omega arith) (λ k d lt. before (suc k) d (omega arith))
+        (λ k d le lt. after (suc k) d (omega arith) (omega arith))))

@@ -1,5 +1,6 @@
 -- The newest version of a key, among installs in order.
-use Rattle.std.proofs.Common.{◌≡◌, ℕ, zero, suc, ◌+◌, ◌<◌, Bool, ◌&&◌, true, false, cond, List, [], ◌∷◌, length, get_or, nat_lt, nat_le, Option, Some, None, refl, sym, ap, ◌∙◌, arith, filter}
+use Rattle.std.proofs.Common.{◌≡◌, ℕ, zero, suc, ◌+◌, ◌<◌, Bool, ◌&&◌, true, false, cond, List, [], ◌∷◌, length, get_or, nat_lt, nat_le, Option, Some}
+use Rattle.std.proofs.Common.{None, refl, sym, ap, ◌∙◌, arith, filter}
 use Rattle.std.specs.List.{AllByRecursion, list_all}
 use Rattle.std.proofs.lemmas.Bool.{false≢true}
 use Rattle.std.proofs.lemmas.Bool.Decides.{nat_tests}
@@ -8,8 +9,8 @@ use Rattle.units.proofs.KeyLaws.{same_key-is, same_key_comm, key_before-trans, k
 use Rattle.units.specs.declared.writes.Install.{Install}
 use Rattle.units.specs.Lists.{follow}
 use Rattle.units.specs.Versions.{of_key, newest, latest, at_time}
-use Rattle.versions.specs.Ordered.{is_by, is_not_after, comes_before, IsAscending, IsKept}
-use Rattle.versions.specs.Halves.{Before, After}
+use Rattle.versions.specs.Ordered.{is_by, is_not_after, version_before, AscendsByVersion, IsInOrder}
+use Rattle.versions.specs.Halves.{AllUpTo, AllAfter}
 use Rattle.versions.proofs.Halves.{each_at}
 
 -- the last of a list, or what was there
@@ -53,7 +54,7 @@ newest_is_last [] up = refl
 newest_is_last (x ∷ f) up = newest_some x f up.1 up.0
 
 -- of two versions of one key the later one in order has the greater stamp
-higher : (key : List ℕ) (at : ℕ) (x y : Install) → is_by key at x ≡ true → is_by key at y ≡ true → comes_before x y ≡ true → x.at < y.at
+higher : (key : List ℕ) (at : ℕ) (x y : Install) → is_by key at x ≡ true → is_by key at y ≡ true → version_before x y ≡ true → x.at < y.at
 higher key at x y k m before =
     let same_x : same_key x.key key ≡ true = grind (arith, nat_tests) in
     let same_y : same_key y.key key ≡ true = grind (arith, nat_tests) in
@@ -62,15 +63,17 @@ higher key at x y k m before =
     grind (arith, nat_tests)
 
 -- the versions of one key rise, in order
-rises : (key : List ℕ) (at : ℕ) (t : List Install) → IsAscending t → IsRising (filter (is_by key at) t)
+rises : (key : List ℕ) (at : ℕ) (t : List Install) → AscendsByVersion t → IsRising (filter (is_by key at) t)
 rises key at [] up = tt
 rises key at (x ∷ t) up = by_test (is_by key at x) refl (rises key at t up.1)
   where
-    above : (s : List Install) → is_by key at x ≡ true → AllByRecursion (λ next. comes_before x next ≡ true) s → AllByRecursion (λ y. x.at < y.at) (filter (is_by key at) s)
+    above : (s : List Install) → is_by key at x ≡ true → AllByRecursion (λ next. version_before x next ≡ true) s →
+        AllByRecursion (λ y. x.at < y.at) (filter (is_by key at) s)
     above [] k all = tt
     above (y ∷ s) k all = by (is_by key at y) refl (above s k all.1)
       where
-        by : (b : Bool) → is_by key at y ≡ b → AllByRecursion (λ z. x.at < z.at) (filter (is_by key at) s) → AllByRecursion (λ z. x.at < z.at) (cond b (y ∷ filter (is_by key at) s) (filter (is_by key at) s))
+        by : (b : Bool) → is_by key at y ≡ b → AllByRecursion (λ z. x.at < z.at) (filter (is_by key at) s) →
+            AllByRecursion (λ z. x.at < z.at) (cond b (y ∷ filter (is_by key at) s) (filter (is_by key at) s))
         by true m rest = (higher key at x y k m all.0, rest)
         by false m rest = rest
 
@@ -78,7 +81,7 @@ rises key at (x ∷ t) up = by_test (is_by key at x) refl (rises key at t up.1)
     by_test true k rest = (above t k up.0, rest)
     by_test false k rest = rest
 
-none_by : (key : List ℕ) (at : ℕ) (t : List Install) → After key at t 0 → filter (is_by key at) t ≡ []
+none_by : (key : List ℕ) (at : ℕ) (t : List Install) → AllAfter key at t 0 → filter (is_by key at) t ≡ []
 none_by key at [] after = refl
 none_by key at (x ∷ t) after =
     let none : is_by key at x ≡ false = grind (arith, nat_tests, after 0 x (omega arith) (omega arith)) in
@@ -95,7 +98,8 @@ by_is_same key at x passes = by_test (same_key x.key key) refl
         grind (arith, nat_tests)
 
 -- before a version of a smaller key there is none of the key
-smaller_before : (key : List ℕ) (at : ℕ) (x y : Install) → comes_before x y ≡ true → is_not_after key at y ≡ true → same_key y.key key ≡ false → is_by key at x ≡ false
+smaller_before : (key : List ℕ) (at : ℕ) (x y : Install) → version_before x y ≡ true → is_not_after key at y ≡ true → same_key y.key key ≡ false →
+    is_by key at x ≡ false
 smaller_before key at x y before passes differ = by_test (same_key x.key key) refl
   where
     by_test : (b : Bool) → same_key x.key key ≡ b → is_by key at x ≡ false
@@ -109,41 +113,44 @@ smaller_before key at x y before passes differ = by_test (same_key x.key key) re
         absurd (false≢true (sym (key_before-irreflexive key) ∙ round))
 
 -- The last version by key and stamp is the last that is not after them, where that is of the key.
-last_by : (key : List ℕ) (at : ℕ) (t : List Install) (q : ℕ) (y : Install) (found : Option Install) → IsAscending t → q < length t → y ≡ get_or t q y
-    → Before key at t (q + 1) → After key at t (q + 1) → last_from found (filter (is_by key at) t) ≡ cond (same_key y.key key) (Some y) found
+last_by : (key : List ℕ) (at : ℕ) (t : List Install) (q : ℕ) (y : Install) (found : Option Install) → AscendsByVersion t → q < length t → y ≡ get_or t q y
+    → AllUpTo key at t (q + 1) → AllAfter key at t (q + 1) → last_from found (filter (is_by key at) t) ≡ cond (same_key y.key key) (Some y) found
 last_by key at [] q y found up lt is before after = absurd (omega arith)
 last_by key at (x ∷ t) zero y found up lt is before after =
     let none = none_by key at t (λ k d le less. after (suc k) d (omega arith) (omega arith)) in
     let here : is_by key at x ≡ same_key y.key key = by_is_same key at x (before 0 x (omega arith)) ∙ ap (λ z. same_key z.key key) (sym is) in
     by_test (is_by key at x) refl (same_key y.key key) here none
   where
-    by_test : (a : Bool) → is_by key at x ≡ a → (b : Bool) → is_by key at x ≡ b → filter (is_by key at) t ≡ [] → last_from found (cond a (x ∷ filter (is_by key at) t) (filter (is_by key at) t)) ≡ cond b (Some y) found
+    by_test : (a : Bool) → is_by key at x ≡ a → (b : Bool) → is_by key at x ≡ b → filter (is_by key at) t ≡ [] →
+        last_from found (cond a (x ∷ filter (is_by key at) t) (filter (is_by key at) t)) ≡ cond b (Some y) found
     by_test true k true m none = ap (last_from (Some x)) none ∙ ap Some (sym is)
     by_test true k false m none = absurd (false≢true (sym m ∙ k))
     by_test false k true m none = absurd (false≢true (sym k ∙ m))
     by_test false k false m none = ap (last_from found) none
 last_by key at (x ∷ t) (suc q) y found up lt is before after =
-    by_test (is_by key at x) refl (same_key y.key key) refl (λ f. last_by key at t q y f up.1 (omega arith) is (λ k d less. before (suc k) d (omega arith)) (λ k d le less. after (suc k) d (omega arith) (omega arith)))
+    by_test (is_by key at x) refl (same_key y.key key) refl (λ f. last_by key at t q y f up.1 (omega arith) is
+        (λ k d less. before (suc k) d (omega arith)) (λ k d le less. after (suc k) d (omega arith) (omega arith)))
   where
     passes : is_not_after key at y ≡ true
     passes = ap (is_not_after key at) is ∙ before (suc q) y (omega arith)
 
-    behind : comes_before x y ≡ true
-    behind = ap (comes_before x) is ∙ each_at (λ next. comes_before x next ≡ true) t q y up.0 (omega arith)
+    behind : version_before x y ≡ true
+    behind = ap (version_before x) is ∙ each_at (λ next. version_before x next ≡ true) t q y up.0 (omega arith)
 
-    by_test : (a : Bool) → is_by key at x ≡ a → (b : Bool) → same_key y.key key ≡ b → ((f : Option Install) → last_from f (filter (is_by key at) t) ≡ cond (same_key y.key key) (Some y) f)
+    by_test : (a : Bool) → is_by key at x ≡ a → (b : Bool) → same_key y.key key ≡ b → ((f : Option Install) →
+        last_from f (filter (is_by key at) t) ≡ cond (same_key y.key key) (Some y) f)
         → last_from found (cond a (x ∷ filter (is_by key at) t) (filter (is_by key at) t)) ≡ cond b (Some y) found
     by_test true k true m rest = rest (Some x) ∙ ap (λ z. cond z (Some y) (Some x)) m
     by_test true k false m rest = absurd (false≢true (sym (smaller_before key at x y behind passes m) ∙ k))
     by_test false k b m rest = rest found ∙ ap (λ z. cond z (Some y) found) m
 
 -- the newest version by key and stamp, where something is not after them
-pub newest_at : (key : List ℕ) (at : ℕ) (t : List Install) (q : ℕ) (y : Install) → IsAscending t → q < length t → y ≡ get_or t q y
-    → Before key at t (q + 1) → After key at t (q + 1) → newest (filter (is_by key at) t) ≡ cond (same_key y.key key) (Some y) None
+pub newest_at : (key : List ℕ) (at : ℕ) (t : List Install) (q : ℕ) (y : Install) → AscendsByVersion t → q < length t → y ≡ get_or t q y
+    → AllUpTo key at t (q + 1) → AllAfter key at t (q + 1) → newest (filter (is_by key at) t) ≡ cond (same_key y.key key) (Some y) None
 newest_at key at t q y up lt is before after = newest_is_last (filter (is_by key at) t) (rises key at t up) ∙ last_by key at t q y None up lt is before after
 
 -- and where everything is after them
-pub newest_none : (key : List ℕ) (at : ℕ) (t : List Install) → After key at t 0 → newest (filter (is_by key at) t) ≡ None
+pub newest_none : (key : List ℕ) (at : ℕ) (t : List Install) → AllAfter key at t 0 → newest (filter (is_by key at) t) ≡ None
 newest_none key at t after = ap newest (none_by key at t after)
 
 -- the versions of the key among those that are no later
@@ -152,7 +159,8 @@ of_key_by key at [] = refl
 of_key_by key at (x ∷ t) = by_tests (nat_le x.at at) (same_key x.key key) refl (of_key_by key at t)
   where
     by_tests : (a b : Bool) → same_key x.key key ≡ b → of_key (filter (λ i. nat_le i.at at) t) key ≡ filter (is_by key at) t
-        → of_key (cond a (x ∷ filter (λ i. nat_le i.at at) t) (filter (λ i. nat_le i.at at) t)) key ≡ cond (b && a) (x ∷ filter (is_by key at) t) (filter (is_by key at) t)
+        → of_key (cond a (x ∷ filter (λ i. nat_le i.at at) t) (filter (λ i. nat_le i.at at) t)) key ≡
+            cond (b && a) (x ∷ filter (is_by key at) t) (filter (is_by key at) t)
     by_tests true true k rest = rw k (ap (λ r. x ∷ r) rest)
     by_tests true false k rest = rw k rest
     by_tests false true k rest = rest
@@ -168,7 +176,7 @@ all_in_time greatest [] all = refl
 all_in_time greatest (x ∷ t) all = rw (all.0) (ap (λ r. x ∷ r) (all_in_time greatest t all.1))
 
 -- the newest version of the key is that at the greatest timestamp
-pub newest_is : (key : List ℕ) (greatest : ℕ) (t : List Install) → IsKept greatest t → newest (filter (is_by key greatest) t) ≡ newest (of_key t key)
+pub newest_is : (key : List ℕ) (greatest : ℕ) (t : List Install) → IsInOrder greatest t → newest (filter (is_by key greatest) t) ≡ newest (of_key t key)
 newest_is key greatest t kept = sym (ap newest (of_key_by key greatest t)) ∙ ap (λ r. newest (of_key r key)) (all_in_time greatest t kept.in_time)
 
 -- the latest value, by the newest version of the key
@@ -186,7 +194,8 @@ pub above_newest : (n : ℕ) (t : List Install) → list_all (λ i. nat_lt i.at 
 above_newest n [] = refl
 above_newest n (x ∷ t) = by_found (newest t) (above_newest n t)
   where
-    by_found : (found : Option Install) → list_all (λ i. nat_lt i.at n) t ≡ was_before n found → (nat_lt x.at n && list_all (λ i. nat_lt i.at n) t) ≡ was_before n (newer x found)
+    by_found : (found : Option Install) → list_all (λ i. nat_lt i.at n) t ≡ was_before n found →
+        (nat_lt x.at n && list_all (λ i. nat_lt i.at n) t) ≡ was_before n (newer x found)
     by_found None h = rw h (and_true (nat_lt x.at n))
       where
         and_true : (b : Bool) → (b && true) ≡ b

@@ -1,6 +1,7 @@
 -- One more version, above its key's others, is the newest wherever it stands.
 use Rattle.std.specs.List.{list_all}
-use Rattle.std.proofs.Common.{◌≡◌, ℕ, ◌<◌, Bool, true, false, ◌&&◌, cond, nat_lt, nat_le, List, [], ◌∷◌, ◌++◌, Option, Some, None, refl, sym, ap, subst, ◌∙◌, arith, filter}
+use Rattle.std.proofs.Common.{◌≡◌, ℕ, ◌<◌, Bool, true, false, ◌&&◌, cond, nat_lt, nat_le, List, [], ◌∷◌, ◌++◌, Option, Some, None, refl, sym, ap}
+use Rattle.std.proofs.Common.{subst, ◌∙◌, arith, filter}
 use Rattle.std.proofs.lemmas.Bool.Decides.{nat_tests}
 use Rattle.units.specs.Lists.{follow}
 use Rattle.units.specs.Keys.{same_key}
@@ -53,11 +54,13 @@ newer-below x i lt = by_test (nat_lt x.at i.at) refl
     by_test false k = absurd (grind (arith, nat_tests))
 
 -- put in at its place, a version that passes the test is the newest of those that pass
-pub newest-installed : (test : Install → Bool) (i : Install) (t : List Install) → test i ≡ true → below i.at (filter test t) ≡ true → newest (filter test (installed t i)) ≡ Some i
+pub newest-installed : (test : Install → Bool) (i : Install) (t : List Install) → test i ≡ true → below i.at (filter test t) ≡ true →
+    newest (filter test (installed t i)) ≡ Some i
 newest-installed test i [] is h = rw is refl
 newest-installed test i (x ∷ t) is h = by_tests (is_not_after i.key i.at x) (test x) refl h (newest-installed test i t is)
   where
-    by_tests : (p q : Bool) → test x ≡ q → below i.at (cond q (x ∷ filter test t) (filter test t)) ≡ true → (below i.at (filter test t) ≡ true → newest (filter test (installed t i)) ≡ Some i)
+    by_tests : (p q : Bool) → test x ≡ q → below i.at (cond q (x ∷ filter test t) (filter test t)) ≡ true →
+        (below i.at (filter test t) ≡ true → newest (filter test (installed t i)) ≡ Some i)
         → newest (filter test (cond p (x ∷ installed t i) (i ∷ x ∷ t))) ≡ Some i
     by_tests true true k h rest = rw k (ap (newer x) (rest (grind (arith, nat_tests))) ∙ newer-below x i (grind (arith, nat_tests)))
     by_tests true false k h rest = rw k (rest h)
@@ -65,11 +68,13 @@ newest-installed test i (x ∷ t) is h = by_tests (is_not_after i.key i.at x) (t
     by_tests false false k h rest = rw (is, k) (newest-first i (filter test t) h)
 
 -- and so it is at the end of the log
-pub newest-last : (test : Install → Bool) (i : Install) (t : List Install) → test i ≡ true → below i.at (filter test t) ≡ true → newest (filter test (t ++ i ∷ [])) ≡ Some i
+pub newest-last : (test : Install → Bool) (i : Install) (t : List Install) → test i ≡ true → below i.at (filter test t) ≡ true →
+    newest (filter test (t ++ i ∷ [])) ≡ Some i
 newest-last test i [] is h = rw is refl
 newest-last test i (x ∷ t) is h = by_test (test x) refl h (newest-last test i t is)
   where
-    by_test : (q : Bool) → test x ≡ q → below i.at (cond q (x ∷ filter test t) (filter test t)) ≡ true → (below i.at (filter test t) ≡ true → newest (filter test (t ++ i ∷ [])) ≡ Some i)
+    by_test : (q : Bool) → test x ≡ q → below i.at (cond q (x ∷ filter test t) (filter test t)) ≡ true →
+        (below i.at (filter test t) ≡ true → newest (filter test (t ++ i ∷ [])) ≡ Some i)
         → newest (cond q (x ∷ filter test (t ++ i ∷ [])) (filter test (t ++ i ∷ []))) ≡ Some i
     by_test true k h rest = ap (newer x) (rest (grind (arith, nat_tests))) ∙ newer-below x i (grind (arith, nat_tests))
     by_test false k h rest = rest h
@@ -109,21 +114,26 @@ each-kept test pass i ordered log same =
     as_cond true x r = refl
     as_cond false x r = refl
 
-    next : (x : Install) (t : List Install) (r : List Install) → list_all test r ≡ cond (pass i) (test i && list_all test (filter pass t)) (list_all test (filter pass t))
+    next : (x : Install) (t : List Install) (r : List Install) → list_all test r ≡ cond (pass i) (test i && list_all test (filter pass t))
+        (list_all test (filter pass t))
         → list_all test (cond (pass x) (x ∷ r) r) ≡ cond (pass i) (test i && list_all test (filter pass (x ∷ t))) (list_all test (filter pass (x ∷ t)))
     next x t r h =
         with_first (pass i) (pass x) x r (list_all test (filter pass t)) h ∙ ap (λ z. cond (pass i) (test i && z) z) (sym (as_cond (pass x) x (filter pass t)))
 
-    each_as-installed : (t : List Install) → list_all test (filter pass (installed t i)) ≡ cond (pass i) (test i && list_all test (filter pass t)) (list_all test (filter pass t))
+    each_as-installed : (t : List Install) → list_all test (filter pass (installed t i)) ≡
+        cond (pass i) (test i && list_all test (filter pass t)) (list_all test (filter pass t))
     each_as-installed [] = as_cond (pass i) i []
     each_as-installed (x ∷ t) = by_place (is_not_after i.key i.at x) (each_as-installed t)
       where
-        by_place : (p : Bool) → list_all test (filter pass (installed t i)) ≡ cond (pass i) (test i && list_all test (filter pass t)) (list_all test (filter pass t))
-            → list_all test (filter pass (cond p (x ∷ installed t i) (i ∷ x ∷ t))) ≡ cond (pass i) (test i && list_all test (filter pass (x ∷ t))) (list_all test (filter pass (x ∷ t)))
+        by_place : (p : Bool) → list_all test (filter pass (installed t i)) ≡ cond (pass i) (test i && list_all test (filter pass t))
+            (list_all test (filter pass t))
+            → list_all test (filter pass (cond p (x ∷ installed t i) (i ∷ x ∷ t))) ≡ cond (pass i) (test i && list_all test (filter pass (x ∷ t)))
+                (list_all test (filter pass (x ∷ t)))
         by_place true h = next x t (filter pass (installed t i)) h
         by_place false h = as_cond (pass i) i (filter pass (x ∷ t))
 
-    each_as-last : (t : List Install) → list_all test (filter pass (t ++ i ∷ [])) ≡ cond (pass i) (test i && list_all test (filter pass t)) (list_all test (filter pass t))
+    each_as-last : (t : List Install) → list_all test (filter pass (t ++ i ∷ [])) ≡ cond (pass i) (test i && list_all test (filter pass t))
+        (list_all test (filter pass t))
     each_as-last [] = as_cond (pass i) i []
     each_as-last (x ∷ t) = next x t (filter pass (t ++ i ∷ [])) (each_as-last t)
 
@@ -132,7 +142,8 @@ below_by : (key : List ℕ) (at n : ℕ) (t : List Install) → below n (of_key 
 below_by key at n [] h = refl
 below_by key at n (x ∷ t) h = by_tests (same_key x.key key) (nat_le x.at at) h (below_by key at n t)
   where
-    by_tests : (a b : Bool) → below n (cond a (x ∷ of_key t key) (of_key t key)) ≡ true → (below n (of_key t key) ≡ true → below n (filter (is_by key at) t) ≡ true)
+    by_tests : (a b : Bool) → below n (cond a (x ∷ of_key t key) (of_key t key)) ≡ true →
+        (below n (of_key t key) ≡ true → below n (filter (is_by key at) t) ≡ true)
         → below n (cond (a && b) (x ∷ filter (is_by key at) t) (filter (is_by key at) t)) ≡ true
     by_tests true true h rest = let r : below n (filter (is_by key at) t) ≡ true = rest (grind (arith, nat_tests)) in grind (arith, nat_tests)
     by_tests true false h rest = rest (grind (arith, nat_tests))
@@ -151,7 +162,8 @@ same_by test i ordered log h same = by_test (test i) refl
     by_test true k =
         ap (λ found. follow found (λ i. i.value)) (newest-installed test i ordered k (h k).0 ∙ sym (newest-last test i log k (h k).1))
     by_test false k =
-        ap (λ r. follow (newest r) (λ i. i.value)) (keep-installed test i ordered k) ∙ same ∙ sym (ap (λ r. follow (newest r) (λ i. i.value)) (keep-last test i log k))
+        ap (λ r. follow (newest r) (λ i. i.value)) (keep-installed test i ordered k) ∙ same
+            ∙ sym (ap (λ r. follow (newest r) (λ i. i.value)) (keep-last test i log k))
 
 pub place_does_not_matter : PlaceDoesNotMatter
 unfolding latest
@@ -159,7 +171,8 @@ place_does_not_matter i ordered log above same = record {
   now = λ key. same_by (λ x. same_key x.key key) i ordered log (λ k. (along ordered key k above_ordered, along log key k above)) (same.now key);
   at = λ key t.
       at_time_is key t (installed ordered i)
-      ∙ same_by (is_by key t) i ordered log (λ k. (below_by key t i.at ordered (along ordered key (of_the_key key t k) above_ordered), below_by key t i.at log (along log key (of_the_key key t k) above)))
+      ∙ same_by (is_by key t) i ordered log (λ k. (below_by key t i.at ordered (along ordered key (of_the_key key t k) above_ordered),
+          below_by key t i.at log (along log key (of_the_key key t k) above)))
       (sym (at_time_is key t ordered) ∙ same.at key t ∙ at_time_is key t log)
       ∙ sym (at_time_is key t (log ++ i ∷ []));
   above = λ key t. each-kept (λ x. nat_lt x.at t) (λ x. same_key x.key key) i ordered log (same.above key t);

@@ -5,9 +5,9 @@ use Rattle.units.specs.declared.writes.Install.{Install}
 use Rattle.versions.specs.Ordered.{is_not_after}
 
 -- each version before this place is not after the key and timestamp
-abbrev pub Before : Bytes → ℕ → List Install → ℕ → Type 0
-Before key at t low = (k : ℕ) (d : Install) → k < low → is_not_after key at (slice_index_or t k d) ≡ true
+abbrev pub AllUpTo : Bytes → ℕ → List Install → ℕ → Type 0
+AllUpTo key at t low = (k : ℕ) (d : Install) → k < low → is_not_after key at (slice_index_or t k d) ≡ true
 
 -- each from this place on is after them
-abbrev pub After : Bytes → ℕ → List Install → ℕ → Type 0
-After key at t high = (k : ℕ) (d : Install) → high ≤ k → k < length t → is_not_after key at (slice_index_or t k d) ≡ false
+abbrev pub AllAfter : Bytes → ℕ → List Install → ℕ → Type 0
+AllAfter key at t high = (k : ℕ) (d : Install) → high ≤ k → k < length t → is_not_after key at (slice_index_or t k d) ≡ false

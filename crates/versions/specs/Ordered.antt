@@ -29,19 +29,19 @@ all_installed ordered [] = ordered
 all_installed ordered (install ∷ more) = all_installed (installed ordered install) more
 
 -- the first is before the second
-abbrev pub comes_before : Install → Install → Bool
-comes_before install next = key_before install.key next.key || (same_key install.key next.key && nat_lt install.at next.at)
+abbrev pub version_before : Install → Install → Bool
+version_before install next = key_before install.key next.key || (same_key install.key next.key && nat_lt install.at next.at)
 
 -- each version is before all that follow
-abbrev pub IsAscending : List Install → Type 0
-IsAscending [] = Unit {0}
-IsAscending (install ∷ rest) = AllByRecursion (λ next. IsTrue (comes_before install next)) rest × IsAscending rest
+abbrev pub AscendsByVersion : List Install → Type 0
+AscendsByVersion [] = Unit {0}
+AscendsByVersion (install ∷ rest) = AllByRecursion (λ next. IsTrue (version_before install next)) rest × AscendsByVersion rest
 
 -- the timestamp is above all versions of the key
 abbrev pub is_above : List Install → Bytes → ℕ → Bool
 is_above installs key at = list_all (λ i. nat_lt i.at at) (of_key installs key)
 
 -- what is kept of the versions: their order, and that no timestamp passes the greatest
-pub record IsKept (greatest : ℕ) (installs : List Install) : Type 0 where
-  pub order : IsAscending installs
+pub record IsInOrder (greatest : ℕ) (installs : List Install) : Type 0 where
+  pub order : AscendsByVersion installs
   pub in_time : AllByRecursion (λ i. IsTrue (nat_le i.at greatest)) installs

@@ -3,8 +3,8 @@ ghost use Rattle.std.specs.Prelude.{◌≡◌, ◌+◌, ◌<◌, ◌≤◌, ◌^
 ghost use Rattle.std.specs.Option.{option_copied};
 ghost use Rattle.units.specs.Versions.{newest, of_key};
 ghost use Rattle.versions.specs.Arranged.{arranged, AreWithin};
-ghost use Rattle.versions.specs.Halves.{Before, After};
-ghost use Rattle.versions.specs.Ordered.{is_by, is_not_after, count_not_after, installed, IsAscending, IsKept};
+ghost use Rattle.versions.specs.Halves.{AllUpTo, AllAfter};
+ghost use Rattle.versions.specs.Ordered.{is_by, is_not_after, count_not_after, installed, AscendsByVersion, IsInOrder};
 
 use counts::Count;
 use units::{Install, Key, Stamp};
@@ -27,10 +27,10 @@ pub fn find(
     compared: &mut Count,
 ) -> (usize, u32)
     requires within { AreWithin places.now (length installs.now) }
-    requires order { IsAscending (arranged installs.now places.now) }
+    requires order { AscendsByVersion (arranged installs.now places.now) }
     ensures count { result.0 ≡ count_not_after key.now at (arranged installs.now places.now) }
-    ensures before { Before key.now at (arranged installs.now places.now) result.0 }
-    ensures after { After key.now at (arranged installs.now places.now) result.0 }
+    ensures before { AllUpTo key.now at (arranged installs.now places.now) result.0 }
+    ensures after { AllAfter key.now at (arranged installs.now places.now) result.0 }
     ensures bound { result.0 ≤ length places.now }
     ensures probes { (digits : ℕ) → length places.now < 2 ^ digits → result.1 ≤ digits }
     ensures fewest { (digits : ℕ) → 2 ^ digits ≤ length places.now + 1 → digits ≤ result.1 }
@@ -60,7 +60,7 @@ pub fn newest_by<'a>(
     at: u64,
 ) -> Option<&'a Install>
     requires within { AreWithin places.now (length installs.now) }
-    requires order { IsAscending (arranged installs.now places.now) }
+    requires order { AscendsByVersion (arranged installs.now places.now) }
     ensures { option_copied result ≡ newest (filter (is_by key.now at) (arranged installs.now places.now)) }
 {
     let (count, _) = find(installs, places, key, at, &mut Count::none());
@@ -76,7 +76,7 @@ pub fn newest_by<'a>(
 #[tactic(auto, using(crate::proofs::Newest::newest_is))]
 pub fn newest_of<'a>(installs: &'a [Install], places: &[usize], key: &Key) -> Option<&'a Install>
     requires within { AreWithin places.now (length installs.now) }
-    requires kept { IsKept Stamp.MAX (arranged installs.now places.now) }
+    requires kept { IsInOrder Stamp.MAX (arranged installs.now places.now) }
     ensures { option_copied result ≡ newest (of_key (arranged installs.now places.now) key.now) }
 {
     newest_by(installs, places, key, Stamp::MAX)
@@ -85,7 +85,7 @@ pub fn newest_of<'a>(installs: &'a [Install], places: &[usize], key: &Key) -> Op
 /// Adds a version, and puts in its place. There is room.
 pub fn install(installs: &mut Vec<Install>, places: &mut Vec<usize>, new: Install)
     requires within { AreWithin places.old.items (length installs.old.items) }
-    requires order { IsAscending (arranged installs.old.items places.old.items) }
+    requires order { AscendsByVersion (arranged installs.old.items places.old.items) }
     requires room { (vec_len installs.old < vec_capacity installs.old) × (vec_len places.old < vec_capacity places.old) }
     ensures items { arranged installs.new.items places.new.items ≡ installed (arranged installs.old.items places.old.items) new }
     ensures within { AreWithin places.new.items (length installs.new.items) }

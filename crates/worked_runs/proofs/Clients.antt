@@ -1,7 +1,7 @@
 -- Sessions: what they put out, and what they refuse.
 use Rattle.std.proofs.Common.{refl}
 use Rattle.std.specs.Prelude.{◌≡◌, List, [], ◌∷◌, drop, Some, None}
-use Rattle.world.specs.World.{run, replies}
+use Rattle.world.specs.World.{run, replies_of_run}
 use Rattle.units.specs.declared.fault.Fault.TheVariants.{BadRequest, Stranger}
 use Rattle.units.specs.declared.fault.Reason.TheVariants.{Again, Awaited, Doomed}
 use Rattle.message.specs.declared.message.Answer.TheVariants.{Holds, Refused}
@@ -22,7 +22,7 @@ asks =
     ∷ on 107 (Act.Quit (txn 1)) ∷ on 108 (Act.Quit (txn 1))
     ∷ []
 
-pub what_is_refused : replies two_shards asks
+pub what_is_refused : replies_of_run two_shards asks
     ≡ Reply.Done ∷ Reply.Done ∷ Reply.Refused (BadRequest Awaited) ∷ Reply.Refused (BadRequest Awaited)
     ∷ Reply.Done ∷ Reply.Done ∷ Reply.Done
     ∷ Reply.Refused (BadRequest Again) ∷ Reply.Done ∷ Reply.Done ∷ Reply.Refused Stranger
@@ -52,7 +52,7 @@ two_epochs =
     ∷ on 108 (Act.Write (txn 1) z (Some two)) ∷ on 109 (Act.Quit (txn 1))
     ∷ []
 
-pub a_second_epoch_dooms : replies two_shards two_epochs
+pub a_second_epoch_dooms : replies_of_run two_shards two_epochs
     ≡ Reply.Done ∷ Reply.Done ∷ Reply.Done ∷ Reply.Done ∷ Reply.Crashed ∷ Reply.Done ∷ Reply.Done ∷ Reply.Done ∷ Reply.Done
     ∷ Reply.Refused (BadRequest Doomed) ∷ Reply.Done ∷ []
 unfolding computing
@@ -62,14 +62,15 @@ a_second_epoch_dooms = refl
 -- and giving up tells the shard that refused
 abbrev pub refused_read : List Event
 refused_read =
-    on 90 (Act.Begin (txn 1)) ∷ on 90 (Act.Begin (txn 2)) ∷ on 91 (Act.Read (txn 2) z) ∷ on 92 (Act.Deliver 0 (clock 90 95)) ∷ on 93 (Act.Deliver 1 (clock 90 95))
+    on 90 (Act.Begin (txn 1)) ∷ on 90 (Act.Begin (txn 2)) ∷ on 91 (Act.Read (txn 2) z) ∷ on 92 (Act.Deliver 0 (clock 90 95)) ∷ on 93
+        (Act.Deliver 1 (clock 90 95))
     ∷ on 94 (Act.Write (txn 1) z (Some one)) ∷ on 94 (Act.Write (txn 1) a (Some one)) ∷ on 94 (Act.Close (txn 1)) ∷ on 95 (Act.Deliver 3 (clock 90 95))
     ∷ on 96 (Act.Read (txn 2) m) ∷ on 97 (Act.Read (txn 2) a) ∷ on 98 (Act.Deliver 5 (clock 90 105)) ∷ on 99 (Act.Deliver 7 (clock 90 105))
     ∷ on 100 (Act.Read (txn 2) m) ∷ on 100 (Act.Read (txn 2) (110 ∷ [])) ∷ on 100 (Act.Write (txn 2) a (Some one)) ∷ on 100 (Act.Close (txn 2))
     ∷ on 101 (Act.Deliver 6 (clock 90 105)) ∷ on 102 (Act.Deliver 8 (clock 90 105)) ∷ on 103 (Act.Read (txn 2) a) ∷ on 103 (Act.Close (txn 2))
     ∷ on 104 (Act.Quit (txn 2)) ∷ []
 
-pub a_refused_answer_dooms : replies two_shards refused_read
+pub a_refused_answer_dooms : replies_of_run two_shards refused_read
     ≡ Reply.Done ∷ Reply.Done ∷ Reply.Done ∷ Reply.Done ∷ Reply.Done
     ∷ Reply.Done ∷ Reply.Done ∷ Reply.Done ∷ Reply.Done
     ∷ Reply.Done ∷ Reply.Done ∷ Reply.Done ∷ Reply.Done
@@ -86,12 +87,13 @@ who_is_told = refl
 -- the session of 1.3 asks a key of a shard at which it was ended meanwhile
 abbrev pub ended_reader : List Event
 ended_reader =
-    on 90 (Act.Begin (txn 3)) ∷ on 90 (Act.Read (txn 3) z) ∷ on 90 (Act.Read (txn 3) m) ∷ on 91 (Act.Deliver 0 (clock 90 95)) ∷ on 92 (Act.Deliver 2 (clock 90 95))
+    on 90 (Act.Begin (txn 3)) ∷ on 90 (Act.Read (txn 3) z) ∷ on 90 (Act.Read (txn 3) m) ∷ on 91 (Act.Deliver 0 (clock 90 95)) ∷ on 92
+        (Act.Deliver 2 (clock 90 95))
     ∷ on 93 (Act.Begin (txn 1)) ∷ on 93 (Act.Write (txn 1) z (Some one)) ∷ on 93 (Act.Close (txn 1)) ∷ on 94 (Act.Deliver 3 (clock 90 95))
     ∷ on 95 (Act.Deliver 1 (clock 90 95)) ∷ on 96 (Act.Deliver 4 (clock 90 100)) ∷ on 97 (Act.Deliver 4 (clock 90 100))
     ∷ on 98 (Act.Read (txn 3) m) ∷ on 98 (Act.Close (txn 3)) ∷ on 99 (Act.Quit (txn 3)) ∷ []
 
-pub a_doomed_session_cannot_close : replies two_shards ended_reader
+pub a_doomed_session_cannot_close : replies_of_run two_shards ended_reader
     ≡ Reply.Done ∷ Reply.Done ∷ Reply.Done ∷ Reply.Done ∷ Reply.Done
     ∷ Reply.Done ∷ Reply.Done ∷ Reply.Done ∷ Reply.Done
     ∷ Reply.Done ∷ Reply.Done ∷ Reply.Done

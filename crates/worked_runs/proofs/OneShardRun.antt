@@ -3,7 +3,7 @@ use Rattle.std.proofs.Common.{refl}
 use Rattle.std.specs.Prelude.{◌≡◌, true, List, [], ◌∷◌, Some}
 use Rattle.record.specs.Verdict.{verdict}
 use Rattle.units.specs.declared.line.Verdict.TheVariants.{Yes}
-use Rattle.world.specs.World.{run, replies, logs_of}
+use Rattle.world.specs.World.{run, replies_of_run, logs_of}
 use Rattle.world.specs.Lawful.{lawful}
 use Rattle.units.specs.declared.fault.Fault.TheVariants.{Early}
 use Rattle.units.specs.declared.line.Line.{Line}
@@ -38,7 +38,7 @@ pub is_lawful : lawful two_shards events ≡ true
 unfolding computing
 is_lawful = refl
 
-pub replies_are : replies two_shards events
+pub replies_are : replies_of_run two_shards events
     ≡ Reply.Done ∷ Reply.Done ∷ Reply.Done ∷ Reply.Done ∷ Reply.Refused Early ∷ Reply.Done ∷ []
 unfolding computing
 replies_are = refl

@@ -2,7 +2,8 @@
 -- looks, crashes between and within events, failing calls and openings. The verdict on each is yes.
 use Rattle.std.specs.List.{list_all}
 use Rattle.std.proofs.Common.{refl}
-use Rattle.std.specs.Prelude.{ℕ, Bool, ◌&&◌, ◌||◌, ◌++◌, not, nat_le, zero, suc, ◌+◌, ◌-◌, ◌*◌, ◌/◌, ◌%◌, ◌≡◌, true, false, cond, nat_eq, nat_lt, List, [], ◌∷◌, length, map, slice_get, Some, None}
+use Rattle.std.specs.Prelude.{ℕ, Bool, ◌&&◌, ◌||◌, ◌++◌, not, nat_le, zero, suc, ◌+◌, ◌-◌, ◌*◌, ◌/◌, ◌%◌, ◌≡◌, true, false, cond, nat_eq, nat_lt}
+use Rattle.std.specs.Prelude.{List, [], ◌∷◌, length, map, slice_get, Some, None}
 use Rattle.units.specs.Lists.{count}
 use Rattle.units.specs.LockLaws.{keeps_lock_law, keeps_wait_law}
 use Rattle.record.specs.Records.{floor_of}
@@ -57,7 +58,8 @@ abbrev pub some_row : ℕ → World → ℕ → Id
 some_row r w n =
     elim (slice_get w.shards n) [
       | None ↦ someone r w
-      | Some s ↦ elim s.state [ Runs memory ↦ elim (slice_get memory.rows (pick r (length memory.rows))) [ None ↦ someone r w | Some q ↦ q.txn ] | _ ↦ someone r w ]
+      | Some s ↦ elim s.state [ Runs memory ↦ elim (slice_get memory.rows (pick r (length memory.rows))) [ None ↦ someone r w | Some q ↦
+          q.txn ] | _ ↦ someone r w ]
     ]
 
 -- what a shard may do

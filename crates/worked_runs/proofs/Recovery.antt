@@ -1,7 +1,7 @@
 -- Runs with crashes, failing device calls and openings.
 use Rattle.std.proofs.Common.{refl}
 use Rattle.std.specs.Prelude.{ℕ, ◌≡◌, ◌-◌, ◌^◌, List, [], ◌∷◌, ◌++◌, map, Some, None}
-use Rattle.world.specs.World.{run, replies, logs_of, start}
+use Rattle.world.specs.World.{run, replies_of_run, logs_of, start}
 use Rattle.world.specs.Lawful.{first_unlawful_from}
 use Rattle.units.specs.declared.fault.Fault.TheVariants.{Early, Stopped, Device, NotYet, BadRequest}
 use Rattle.units.specs.declared.fault.Reason.TheVariants.{Nothing}
@@ -37,7 +37,7 @@ after_a_crash =
     ∷ on 116 (Act.Look 0 a 111)
     ∷ []
 
-pub a_decision_outlives_a_crash : replies two_shards (one_decided ++ after_a_crash)
+pub a_decision_outlives_a_crash : replies_of_run two_shards (one_decided ++ after_a_crash)
     ≡ Reply.Done ∷ Reply.Done ∷ Reply.Done ∷ Reply.Done
     ∷ Reply.Crashed ∷ Reply.Refused Stopped ∷ Reply.Done
     ∷ Reply.Refused NotYet ∷ Reply.Shows None
@@ -71,7 +71,7 @@ asks =
     ∷ on 222 (Act.Look 1 z 200)
     ∷ []
 
-pub a_lost_outcome_is_asked_for : replies two_shards (two_writes ++ asks)
+pub a_lost_outcome_is_asked_for : replies_of_run two_shards (two_writes ++ asks)
     ≡ Reply.Done ∷ Reply.Done ∷ Reply.Done ∷ Reply.Done ∷ Reply.Done ∷ Reply.Done ∷ Reply.Done ∷ Reply.Done
     ∷ Reply.Crashed ∷ Reply.Done ∷ Reply.Refused NotYet ∷ Reply.Done ∷ Reply.Done ∷ Reply.Done ∷ Reply.Shows (Some two)
     ∷ []
@@ -145,7 +145,7 @@ abbrev pub stopped : List Reply
 stopped =
     Reply.Done ∷ Reply.Done ∷ Reply.Done ∷ Reply.Refused Device ∷ Reply.Refused Stopped ∷ Reply.Shows None ∷ Reply.Done ∷ []
 
-pub a_stopped_shard_refuses : map (λ call. replies two_shards (fails_in call)) (0 ∷ 1 ∷ 2 ∷ 3 ∷ []) ≡ stopped ∷ stopped ∷ stopped ∷ stopped ∷ []
+pub a_stopped_shard_refuses : map (λ call. replies_of_run two_shards (fails_in call)) (0 ∷ 1 ∷ 2 ∷ 3 ∷ []) ≡ stopped ∷ stopped ∷ stopped ∷ stopped ∷ []
 unfolding computing
 a_stopped_shard_refuses = refl
 
@@ -169,7 +169,8 @@ unfolding computing served
 and_its_row = refl
 
 -- the record of the last sync that failed is lost where the shard crashes before it is opened
-pub unless_it_crashes_first : logs_of (run two_shards (one_write ++ on 105 (Act.FailIn 0 3 (Doing.Take 0 (clock 100 110))) ∷ on 106 (Act.Crash 0) ∷ on 107 (Act.At 0 Doing.Open) ∷ []))
+pub unless_it_crashes_first : logs_of (run two_shards (one_write ++ on 105 (Act.FailIn 0 3 (Doing.Take 0 (clock 100 110))) ∷ on 106
+    (Act.Crash 0) ∷ on 107 (Act.At 0 Doing.Open) ∷ []))
     ≡ nothing_left
 unfolding computing
 unless_it_crashes_first = refl
@@ -202,7 +203,7 @@ pub an_opening_of_a_shard_that_runs : first_unlawful_from (start two_shards) (on
 unfolding computing
 an_opening_of_a_shard_that_runs = refl
 
-pub a_transaction_of_nothing : replies two_shards (on 100 (Act.Begin (txn 1)) ∷ on 100 (Act.Close (txn 1)) ∷ [])
+pub a_transaction_of_nothing : replies_of_run two_shards (on 100 (Act.Begin (txn 1)) ∷ on 100 (Act.Close (txn 1)) ∷ [])
     ≡ Reply.Done ∷ Reply.Refused (BadRequest Nothing) ∷ []
 unfolding computing
 a_transaction_of_nothing = refl

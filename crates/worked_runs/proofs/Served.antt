@@ -7,10 +7,11 @@ use Rattle.units.specs.declared.line.Line.{Line}
 use Rattle.record.specs.declared.record.Record.{Record}
 use Rattle.protocol.specs.Rows.{safe}
 use Rattle.protocol.specs.Outputs.{decision, promise}
-use Rattle.protocol.proofs.Samples.{read_of, a, m, z, one, two, txn, clock, sets, commit_of, prepare_of, vote_of, outcome_of, answer_of, done_of, to_shard, to_session}
+use Rattle.protocol.proofs.Samples.{read_of, a, m, z, one, two, txn, clock, sets, commit_of, prepare_of, vote_of, outcome_of, answer_of, done_of}
+use Rattle.protocol.proofs.Samples.{to_shard, to_session}
 use Rattle.message.specs.declared.message.Answer.TheVariants.{Holds}
 use Rattle.world.specs.Computing.{computing}
-use Rattle.world.specs.World.{World, Runs, run, replies, logs_of}
+use Rattle.world.specs.World.{World, Runs, run, replies_of_run, logs_of}
 use Rattle.world.specs.declared.event.Act.{Act}
 use Rattle.world.specs.declared.event.Config.{Config}
 use Rattle.world.specs.declared.event.Doing.{Doing}
@@ -35,7 +36,7 @@ pub a_promise_holds_back : served (run two_shards promised) 1 ≡ Some (200, 199
 unfolding computing served
 a_promise_holds_back = refl
 
-pub looks_at_a_promise : replies two_shards (promised ++ on 206 (Act.Look 1 z 199) ∷ on 206 (Act.Look 1 z 200) ∷ on 206 (Act.Look 0 z 0) ∷ [])
+pub looks_at_a_promise : replies_of_run two_shards (promised ++ on 206 (Act.Look 1 z 199) ∷ on 206 (Act.Look 1 z 200) ∷ on 206 (Act.Look 0 z 0) ∷ [])
     ≡ Reply.Done ∷ Reply.Done ∷ Reply.Done ∷ Reply.Done ∷ Reply.Done ∷ Reply.Done
     ∷ Reply.Shows None ∷ Reply.Refused NotYet ∷ Reply.Refused Stranger ∷ []
 unfolding computing

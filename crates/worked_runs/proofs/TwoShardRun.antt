@@ -5,7 +5,7 @@ use Rattle.record.specs.Accepted.{Accepted, taken}
 use Rattle.record.specs.History.{history, serial}
 use Rattle.record.specs.Verdict.{verdict}
 use Rattle.units.specs.declared.line.Verdict.TheVariants.{Yes, Torn, Lost, WrongRead, WrongOrder}
-use Rattle.world.specs.World.{run, replies, logs_of, counted_lines}
+use Rattle.world.specs.World.{run, replies_of_run, logs_of, counted_lines}
 use Rattle.world.specs.Lawful.{lawful}
 use Rattle.units.specs.declared.line.Line.{Line}
 use Rattle.record.specs.declared.record.Record.{Record}
@@ -53,7 +53,7 @@ pub is_lawful : lawful two_shards events ≡ true
 unfolding computing
 is_lawful = refl
 
-pub replies_are : replies two_shards events
+pub replies_are : replies_of_run two_shards events
     ≡ Reply.Done ∷ Reply.Done ∷ Reply.Done ∷ Reply.Done ∷ Reply.Done ∷ Reply.Done ∷ Reply.Done ∷ Reply.Done ∷ Reply.Done
     ∷ Reply.Shows (Some two) ∷ []
 unfolding computing
@@ -76,7 +76,8 @@ unfolding computing
 verdict_is = refl
 
 -- both shards take these lists of records for their logs
-pub the_logs_are_accepted : map (taken (shard 0)) ((Record.Opened 1 ∷ decision (txn 2) 200 (0 ∷ 1 ∷ []) [] (sets a one ∷ []) ∷ Record.Outcome (txn 2) (Some 200) ∷ []) ∷ []) ≡ Accepted ∷ []
+pub the_logs_are_accepted : map (taken (shard 0)) ((Record.Opened 1 ∷ decision (txn 2) 200 (0 ∷ 1 ∷ []) [] (sets a one ∷ []) ∷ Record.Outcome (txn 2)
+    (Some 200) ∷ []) ∷ []) ≡ Accepted ∷ []
 unfolding computing
 the_logs_are_accepted = refl
 

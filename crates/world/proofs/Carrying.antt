@@ -1,10 +1,11 @@
 -- What a running shard carries out is what its doing comes to.
 use Rattle.std.specs.List.{list_all}
-use Rattle.std.proofs.Common.{◌≡◌, ◌≢◌, ◌⊎◌, inl, inr, ℕ, ◌+◌, ◌^◌, ◌<◌, true, IsTrue, List, [], ◌∷◌, ◌++◌, map, Option, Some, None, Result, Ok, Err, refl, sym, ap, ◌∙◌, subst, arith, option_to_list}
+use Rattle.std.proofs.Common.{◌≡◌, ◌≢◌, ◌⊎◌, inl, inr, ℕ, ◌+◌, ◌^◌, ◌<◌, true, IsTrue, List, [], ◌∷◌, ◌++◌, map, Option, Some, None, Result, Ok, Err}
+use Rattle.std.proofs.Common.{refl, sym, ap, ◌∙◌, subst, arith, option_to_list}
+use Rattle.std.proofs.lemmas.List.{append-nil}
 use Rattle.units.specs.declared.fault.Fault.{Fault}
 use Rattle.units.specs.declared.fault.Fault.TheVariants.{Device, Memory as WantsMemory, Stopped, TimeSpent}
 use Rattle.units.specs.declared.setup.Setup.{Setup}
-use Rattle.units.proofs.Folds.{append_none}
 use Rattle.truetime.specs.Interval.{Interval}
 use Rattle.disk.specs.File.{surface}
 use Rattle.disk.specs.declared.plan.Plan.{Plan}
@@ -18,7 +19,7 @@ use Rattle.protocol.specs.Rows.{Memory}
 use Rattle.protocol.specs.Step.{Stepped, Refuses, Does, step, facts_after}
 use Rattle.shard.specs.Core.{seen}
 use Rattle.shard.specs.Logs.{records_in, and_logged}
-use Rattle.shard.specs.On.{HasStepped, IsCause, IsKept, IsLogFull, step_of}
+use Rattle.shard.specs.On.{HasStepped, IsCause, StandsAsBefore, IsLogFull, step_of}
 use Rattle.simdisk.specs.State.{disk_clock, disk_failures, disk_file, disk_plan, LeftSince}
 use Rattle.world.specs.World.{ShardNow, Runs, effect, input_of, step_with}
 use Rattle.world.specs.Crashless.{goes_on}
@@ -36,7 +37,8 @@ effect_steps setup bag s doing m now i goes runs is = by_doing doing goes is
     by_state : (o : Option (Interval × Input)) → o ≡ Some (now, i)
         → elim s.state as (λ x. Stepped) [ Runs k ↦ step_with setup (facts_of s.log) k o | _ ↦ Refuses Stopped ] ≡ step setup (facts_of s.log) m now i
     by_state o e =
-        ap (λ st. elim st as (λ x. Stepped) [ Runs k ↦ step_with setup (facts_of s.log) k o | _ ↦ Refuses Stopped ]) runs ∙ ap (step_with setup (facts_of s.log) m) e
+        ap (λ st. elim st as (λ x. Stepped) [ Runs k ↦ step_with setup (facts_of s.log) k o | _ ↦ Refuses Stopped ]) runs
+            ∙ ap (step_with setup (facts_of s.log) m) e
 
     by_doing : (d : Doing) → goes_on d ≡ true → input_of bag d ≡ Some (now, i) → effect setup bag s d ≡ step setup (facts_of s.log) m now i
     by_doing (Doing.Take n at) g e = by_state _ e
@@ -55,7 +57,8 @@ effect_refuses setup bag s doing m goes runs is = by_doing doing goes is
     by_state : (o : Option (Interval × Input)) → o ≡ None
         → elim s.state as (λ x. Stepped) [ Runs k ↦ step_with setup (facts_of s.log) k o | _ ↦ Refuses Stopped ] ≡ Refuses Stopped
     by_state o e =
-        ap (λ st. elim st as (λ x. Stepped) [ Runs k ↦ step_with setup (facts_of s.log) k o | _ ↦ Refuses Stopped ]) runs ∙ ap (step_with setup (facts_of s.log) m) e
+        ap (λ st. elim st as (λ x. Stepped) [ Runs k ↦ step_with setup (facts_of s.log) k o | _ ↦ Refuses Stopped ]) runs
+            ∙ ap (step_with setup (facts_of s.log) m) e
 
     by_doing : (d : Doing) → goes_on d ≡ true → input_of bag d ≡ None → effect setup bag s d ≡ Refuses Stopped
     by_doing (Doing.Take n at) g e = by_state _ e
@@ -67,22 +70,24 @@ effect_refuses setup bag s doing m goes runs is = by_doing doing goes is
 
 -- the records with the one that a step logs
 with_logged : (log : List Record) (logged : Option Record) → and_logged (Ok log) logged ≡ Ok (log ++ option_to_list logged)
-with_logged log None = ap (λ l. Ok l) (sym (append_none log))
+with_logged log None = ap (λ l. Ok l) (sym (append-nil log))
 with_logged log (Some r) = refl
 
 -- and their facts
-facts_with : (n : ℕ) (log : List Record) (logged : Option Record) → ((r : Record) → logged ≡ Some r → IsTrue (followed n (log ++ r ∷ []))) → facts_after (facts_of log) logged ≡ facts_of (log ++ option_to_list logged)
-facts_with n log None h = ap facts_of (sym (append_none log))
+facts_with : (n : ℕ) (log : List Record) (logged : Option Record) → ((r : Record) → logged ≡ Some r → IsTrue (followed n (log ++ r ∷ []))) →
+    facts_after (facts_of log) logged ≡ facts_of (log ++ option_to_list logged)
+facts_with n log None h = ap facts_of (sym (append-nil log))
 facts_with n log (Some r) h = sym (learn_agrees n log r (h r refl))
 
-module _ (setup : Setup) (used : ℕ) (bag : List Envelope) (s : ShardNow) (doing : Doing) (old new : Running) (views : new.views ≡ old.views) (h : IsRunning setup used old s) where
+module _ (setup : Setup) (used : ℕ) (bag : List Envelope) (s : ShardNow) (doing : Doing) (old new : Running) (views : new.views ≡ old.views)
+    (h : IsRunning setup used old s) where
   abbrev Full : Option Record → Type 0
   Full logged = IsLogFull (seen old.core).gate logged
 
   abbrev Failed : Type 0
   Failed = (disk_failures (seen old.core).disk < disk_failures (seen new.core).disk) × IsTrue (seen new.core).stopped
 
-  stays : (fault : Fault) → IsKept disk_file (seen old.core) (seen new.core) fault → fault ≢ Device → disk_plan (seen new.core).disk ≡ Plan.Never
+  stays : (fault : Fault) → StandsAsBefore disk_file (seen old.core) (seen new.core) fault → fault ≢ Device → disk_plan (seen new.core).disk ≡ Plan.Never
       → (seen new.core).setup ≡ (seen old.core).setup → IsRunning setup used new s
   stays fault (facts, memory, inl device) other never setup_same = absurd (other device)
   stays fault (facts, memory, inr same) other never setup_same = record {
@@ -99,7 +104,8 @@ module _ (setup : Setup) (used : ℕ) (bag : List Envelope) (s : ShardNow) (doin
   }
 
   pub carries : (st : Stepped) (r : Result (List Envelope) Fault) → effect setup bag s doing ≡ st
-      → HasStepped (Unit {0}) (Unit {0}) disk_file disk_clock LeftSince disk_failures disk_plan (seen old.core) (seen new.core) st r → Carries setup used bag s doing new r
+      → HasStepped (Unit {0}) (Unit {0}) disk_file disk_clock LeftSince disk_failures disk_plan (seen old.core) (seen new.core) st r →
+          Carries setup used bag s doing new r
   carries (Refuses why) (Ok out) is k = λ follows. absurd (k.done.2)
   carries (Does logged memory outbox) (Ok out) is k = λ follows. (
     logged,
@@ -122,7 +128,8 @@ module _ (setup : Setup) (used : ℕ) (bag : List Envelope) (s : ShardNow) (doin
   carries (Refuses why) (Err fault) is k = λ room.
       let because : fault ≡ why = subst (λ b. IsCause b (Refuses why) fault (Full None) Failed) h.up k.cause in
       inr (is ∙ ap (λ f. Refuses f) (sym because), stays fault k.written.kept (k.written.planned tt h.never).1 (k.written.planned tt h.never).0 k.written.setup)
-  carries (Does logged memory outbox) (Err fault) is k = λ room. by_cause logged room (subst (λ b. IsCause b (Does logged memory outbox) fault (Full logged) Failed) h.up k.cause)
+  carries (Does logged memory outbox) (Err fault) is k = λ room. by_cause logged room (subst
+      (λ b. IsCause b (Does logged memory outbox) fault (Full logged) Failed) h.up k.cause)
     where
       by_cause : (l : Option Record) → reach used + 2 ^ 20 + 5 < 2 ^ 40
           → (fault ≡ WantsMemory) ⊎ (((fault ≡ TimeSpent) × Full l) ⊎ ((fault ≡ Device) × Failed))
@@ -133,10 +140,12 @@ module _ (setup : Setup) (used : ℕ) (bag : List Envelope) (s : ShardNow) (doin
       by_cause l room (inr (inr device)) = absurd ((k.written.planned tt h.never).1 device.0)
 
 -- taking the input of a doing carries it out
-pub takes_input : (setup : Setup) (used : ℕ) (bag : List Envelope) (s : ShardNow) (doing : Doing) (old new : Running) → new.views ≡ old.views → IsRunning setup used old s → goes_on doing ≡ true
+pub takes_input : (setup : Setup) (used : ℕ) (bag : List Envelope) (s : ShardNow) (doing : Doing) (old new : Running) → new.views ≡ old.views →
+    IsRunning setup used old s → goes_on doing ≡ true
     → (now : Interval) (i : Input) (r : Result (List Envelope) Fault) → input_of bag doing ≡ Some (now, i)
     → HasStepped (Unit {0}) (Unit {0}) disk_file disk_clock LeftSince disk_failures disk_plan (seen old.core) (seen new.core) (step_of (seen old.core) now i) r
     → Carries setup used bag s doing new r
 takes_input setup used bag s doing old new views h goes now i r found stepped_so =
     carries setup used bag s doing old new views h (step_of (seen old.core) now i) r
-    (effect_steps setup bag s doing (seen old.core).memory now i goes h.state found ∙ sym (λ j. step (h.setup_is j) (h.facts j) (seen old.core).memory now i)) stepped_so
+    (effect_steps setup bag s doing (seen old.core).memory now i goes h.state found ∙ sym
+        (λ j. step (h.setup_is j) (h.facts j) (seen old.core).memory now i)) stepped_so

@@ -1,11 +1,12 @@
 -- What holds of a single running shard is kept by its steps and its openings, so it holds at every moment of a run.
-use Rattle.std.proofs.Common.{◌≡◌, ◌≤◌, inl, ℕ, ◌+◌, Bool, true, false, cond, ◌&&◌, nat_le, nat_lt, List, [], ◌∷◌, ◌++◌, length, Option, Some, None, slice_get, refl, sym, ap, subst, ◌∙◌, arith}
+use Rattle.std.proofs.Common.{◌≡◌, ◌≤◌, inl, ℕ, ◌+◌, Bool, true, false, cond, ◌&&◌, nat_le, nat_lt, List, [], ◌∷◌, ◌++◌, length, Option, Some, None}
+use Rattle.std.proofs.Common.{slice_get, refl, sym, ap, subst, ◌∙◌, arith}
 use Rattle.std.specs.Prelude.{Ok, Err, option_map}
 use Rattle.std.proofs.lemmas.Bool.{leb-true, and_from, and_parts}
+use Rattle.std.proofs.lemmas.List.{append-nil}
 use Rattle.units.specs.ById.{IsById}
 use Rattle.units.specs.declared.fault.Fault.TheVariants.{Stopped, TimeSpent}
 use Rattle.units.specs.declared.setup.Setup.{Setup}
-use Rattle.units.proofs.Folds.{append_none}
 use Rattle.truetime.specs.Interval.{Interval}
 use Rattle.truetime.specs.Reading.{is_honest}
 use Rattle.record.specs.Accepted.{Accepted, taken, followed, begins, follows, belongs, fits_beside}
@@ -16,7 +17,7 @@ use Rattle.facts.proofs.Known.{follows_as_known}
 use Rattle.message.specs.declared.message.Envelope.{Envelope}
 use Rattle.message.specs.declared.message.Input.{Input}
 use Rattle.protocol.specs.Rows.{Memory, rebuilt}
-use Rattle.protocol.specs.Plan.{time_limit, Plan, Planned, before, carried}
+use Rattle.protocol.specs.Plan.{time_limit, Plan, Planned, start_of_step, carried}
 use Rattle.protocol.specs.Step.{Stepped, Refuses, Does, plan_input, stepped, step_within, facts_after, IsInLimit}
 use Rattle.protocol.specs.OwnKeys.{all_own}
 use Rattle.protocol.specs.Sound.{IsSound}
@@ -29,7 +30,8 @@ use Rattle.protocol.proofs.StepSound.{fresh_is_sound, step_keeps_sound}
 use Rattle.protocol.proofs.WithinLimit.{stays_within}
 use Rattle.world.specs.Lawful.{lawful, may_act, may_crash, may_do, may_happen}
 use Rattle.world.specs.Steady.{AlwaysSteady}
-use Rattle.world.specs.World.{World, ShardNow, State, Runs, IsStopped, IsDown, Unsure, View, shown, read_log, setup_of, opening, input_of, step_with, effect, fresh_log, run}
+use Rattle.world.specs.World.{World, ShardNow, State, Runs, IsStopped, IsDown, Unsure, View, shown_records, read_log, setup_of, step_of_opening}
+use Rattle.world.specs.World.{input_of, step_with, effect, fresh_log, run}
 use Rattle.world.specs.declared.event.Act.{Act}
 use Rattle.world.specs.declared.event.Config.{Config}
 use Rattle.world.specs.declared.event.Doing.{Doing}
@@ -49,7 +51,7 @@ pub up : (setup : Setup) (f : Facts) (m : Memory) → IsWell setup f m → IsByI
 up setup f m well = by_id-claims m.rows well.sound.table.order
 
 pub keeps : (setup : Setup) (f : Facts) (m : Memory) (now : Interval) (i : Input) (p : Plan) → IsInLimit i → IsWell setup f m →
-    plan_input setup (before 1024 setup f m) now i ≡ Ok p → IsWell setup (facts_after f p.logged) (carried p m)
+    plan_input setup (start_of_step 1024 setup f m) now i ≡ Ok p → IsWell setup (facts_after f p.logged) (carried p m)
 keeps setup f m now i p limit well e = record {
   sound = step_keeps_sound 1024 setup f m now i p limit well.sound e;
   own = step_keeps_own 1024 setup f m now i p well.own e;
@@ -74,7 +76,8 @@ IsTaken setup log = taken setup log ≡ Accepted
 
 -- what a step logs is taken
 takes : (setup : Setup) (log : List Record) (m : Memory) (now : Interval) (i : Input) (p : Plan) (r : Record) → IsTaken setup log →
-    IsWell setup (facts_of log) m → plan_input setup (before 1024 setup (facts_of log) m) now i ≡ Ok p → p.logged ≡ Some r → IsTaken setup (log ++ r ∷ [])
+    IsWell setup (facts_of log) m → plan_input setup (start_of_step 1024 setup (facts_of log) m) now i ≡ Ok p → p.logged ≡ Some r →
+        IsTaken setup (log ++ r ∷ [])
 takes setup log m now i p r h well e logged =
     let so_far : followed setup.shard log ≡ true = accepted_follows setup log h in
     let with_it : followed setup.shard (log ++ r ∷ []) ≡ true =
@@ -82,11 +85,13 @@ takes setup log m now i p r h well e logged =
     let next = and_parts (followed setup.shard log) (begins log r && follows setup.shard log r) (sym (followed_more setup.shard log r) ∙ with_it) in
     taken_more setup log r h (record {
       own = logged_belongs 1024 setup (facts_of log) m now i p r well.own e logged;
-      fits = and_from (begins log r && follows setup.shard log r) (fits_beside log r) next.1 (logged_fits_beside setup log m now i p r well.sound well.few e logged);
+      fits = and_from (begins log r && follows setup.shard log r) (fits_beside log r) next.1
+          (logged_fits_beside setup log m now i p r well.sound well.few e logged);
     })
 
 pub logs : (setup : Setup) (log : List Record) (m : Memory) (now : Interval) (i : Input) (p : Plan) (r : Record) → IsInLimit i → IsTaken setup log →
-    IsWell setup (facts_of log) m → plan_input setup (before 1024 setup (facts_of log) m) now i ≡ Ok p → p.logged ≡ Some r → IsTaken setup (log ++ r ∷ [])
+    IsWell setup (facts_of log) m → plan_input setup (start_of_step 1024 setup (facts_of log) m) now i ≡ Ok p → p.logged ≡ Some r →
+        IsTaken setup (log ++ r ∷ [])
 logs setup log m now i p r limit h well e logged = takes setup log m now i p r h well e logged
 
 -- the first opening is taken
@@ -128,7 +133,8 @@ limits w time (Act.At n doing) may = doing_limit (setup_of w.config n) w time n 
 limits w time (Act.CrashIn n call fate doing) may =
     let p = and_parts (nat_lt n (length w.shards) && may_do w time n doing) (may_crash w n doing) may in
     doing_limit (setup_of w.config n) w time n doing (and_parts (nat_lt n (length w.shards)) (may_do w time n doing) p.0).1
-limits w time (Act.FailIn n call doing) may = doing_limit (setup_of w.config n) w time n doing (and_parts (nat_lt n (length w.shards)) (may_do w time n doing) may).1
+limits w time (Act.FailIn n call doing) may = doing_limit (setup_of w.config n) w time n doing
+    (and_parts (nat_lt n (length w.shards)) (may_do w time n doing) may).1
 limits w time (Act.Deliver m now) may = λ e n is goes. message_limit (setup_of w.config n) w.bag m now
 limits w time (Act.Begin t) may = tt
 limits w time (Act.Read t k) may = tt
@@ -168,36 +174,39 @@ logged_is a b m q out more e = cc
 some_record : (a b : Record) → Some a ≡ Some b → a ≡ b
 some_record a b e = cc
 
-step_logs : (setup : Setup) (log : List Record) (unsure : Unsure) (st : State) (views : List View) (o : Option (Interval × Input)) (r : Record) (memory : Memory) (out : List Envelope) →
+step_logs : (setup : Setup) (log : List Record) (unsure : Unsure) (st : State) (views : List View) (o : Option (Interval × Input)) (r : Record)
+    (memory : Memory) (out : List Envelope) →
     WellShard setup (shard_with log unsure st views) →
     (elim st as (λ x. Stepped) [ Runs m ↦ step_with setup (facts_of log) m o | _ ↦ Refuses Stopped ]) ≡ Does (Some r) memory out →
-    IsTaken setup ((log ++ shown unsure) ++ r ∷ [])
+    IsTaken setup ((log ++ shown_records unsure) ++ r ∷ [])
 unfolding step_within
 step_logs setup log unsure (IsStopped m) views o r memory out well e = cc
 step_logs setup log unsure IsDown views o r memory out well e = cc
 step_logs setup log unsure (Runs m) views None r memory out well e = cc
 step_logs setup log unsure (Runs m) views (Some q) r memory out well e =
-    by_plan (plan_input setup (before 1024 setup (facts_of log) m) q.0 q.1) refl e
+    by_plan (plan_input setup (start_of_step 1024 setup (facts_of log) m) q.0 q.1) refl e
   where
-    log_is : log ++ shown unsure ≡ log
-    log_is = ap (λ u. log ++ shown u) well.state.1 ∙ append_none log
+    log_is : log ++ shown_records unsure ≡ log
+    log_is = ap (λ u. log ++ shown_records u) well.state.1 ∙ append-nil log
 
-    by_plan : (p : Planned) → plan_input setup (before 1024 setup (facts_of log) m) q.0 q.1 ≡ p → stepped m p ≡ Does (Some r) memory out →
-        IsTaken setup ((log ++ shown unsure) ++ r ∷ [])
+    by_plan : (p : Planned) → plan_input setup (start_of_step 1024 setup (facts_of log) m) q.0 q.1 ≡ p → stepped m p ≡ Does (Some r) memory out →
+        IsTaken setup ((log ++ shown_records unsure) ++ r ∷ [])
     by_plan (Err f) is k = cc
     by_plan (Ok p) is k =
         subst (λ l. IsTaken setup (l ++ r ∷ [])) (sym log_is)
         (takes setup log m q.0 q.1 p r (well.left log (inl refl)).good well.state.0 is (logged_is p.logged (Some r) (carried p m) memory p.outbox out k))
 
 module _ (config : Config) (bag : List Envelope) (n : ℕ) (s : ShardNow) (well : WellShard (setup_of config n) s) where
-  opening_logs : (r : Record) (memory : Memory) (out : List Envelope) → opening (facts_of (read_log s)) ≡ Does (Some r) memory out → IsTaken (setup_of config n) (read_log s ++ r ∷ [])
-  unfolding opening
+  opening_logs : (r : Record) (memory : Memory) (out : List Envelope) → step_of_opening (facts_of (read_log s)) ≡ Does (Some r) memory out →
+      IsTaken (setup_of config n) (read_log s ++ r ∷ [])
+  unfolding step_of_opening
   opening_logs r memory out e = by_test (nat_lt (facts_of (read_log s)).epoch time_limit) e
     where
       good : IsTaken (setup_of config n) (read_log s)
       good = (well.left (read_log s) (read_left InLimit IsWell IsTaken keeps opens accepted_follows logs opening_taken config bag n s well)).good
 
-      by_test : (b : Bool) → cond b (Does (Some (Record.Opened ((facts_of (read_log s)).epoch + 1))) (rebuilt (facts_of (read_log s))) []) (Refuses TimeSpent) ≡ Does (Some r) memory out →
+      by_test : (b : Bool) → cond b (Does (Some (Record.Opened ((facts_of (read_log s)).epoch + 1))) (rebuilt (facts_of (read_log s))) [])
+          (Refuses TimeSpent) ≡ Does (Some r) memory out →
           IsTaken (setup_of config n) (read_log s ++ r ∷ [])
       by_test false k = cc
       by_test true k =
@@ -211,16 +220,22 @@ module _ (config : Config) (bag : List Envelope) (n : ℕ) (s : ShardNow) (well 
   unfolding effect
   doing_logs Doing.Open r memory out e = by_state s.state e
     where
-      by_state : (st : State) → (elim st as (λ x. Stepped) [ Runs m ↦ Refuses Stopped | _ ↦ opening (facts_of (read_log s)) ]) ≡ Does (Some r) memory out →
+      by_state : (st : State) → (elim st as (λ x. Stepped) [ Runs m ↦ Refuses Stopped | _ ↦ step_of_opening (facts_of (read_log s)) ]) ≡
+          Does (Some r) memory out →
           IsTaken (setup_of config n) (read_log s ++ r ∷ [])
       by_state (Runs m) k = cc
       by_state (IsStopped m) k = opening_logs r memory out k
       by_state IsDown k = opening_logs r memory out k
-  doing_logs (Doing.Take m now) r memory out e = step_logs (setup_of config n) s.log s.unsure s.state s.views (input_of bag (Doing.Take m now)) r memory out well e
-  doing_logs (Doing.Resume now) r memory out e = step_logs (setup_of config n) s.log s.unsure s.state s.views (input_of bag (Doing.Resume now)) r memory out well e
-  doing_logs (Doing.Settle t now) r memory out e = step_logs (setup_of config n) s.log s.unsure s.state s.views (input_of bag (Doing.Settle t now)) r memory out well e
-  doing_logs (Doing.Advance at now) r memory out e = step_logs (setup_of config n) s.log s.unsure s.state s.views (input_of bag (Doing.Advance at now)) r memory out well e
-  doing_logs (Doing.Nudge t now) r memory out e = step_logs (setup_of config n) s.log s.unsure s.state s.views (input_of bag (Doing.Nudge t now)) r memory out well e
+  doing_logs (Doing.Take m now) r memory out e = step_logs (setup_of config n) s.log s.unsure s.state s.views
+      (input_of bag (Doing.Take m now)) r memory out well e
+  doing_logs (Doing.Resume now) r memory out e = step_logs (setup_of config n) s.log s.unsure s.state s.views
+      (input_of bag (Doing.Resume now)) r memory out well e
+  doing_logs (Doing.Settle t now) r memory out e = step_logs (setup_of config n) s.log s.unsure s.state s.views
+      (input_of bag (Doing.Settle t now)) r memory out well e
+  doing_logs (Doing.Advance at now) r memory out e = step_logs (setup_of config n) s.log s.unsure s.state s.views
+      (input_of bag (Doing.Advance at now)) r memory out well e
+  doing_logs (Doing.Nudge t now) r memory out e = step_logs (setup_of config n) s.log s.unsure s.state s.views
+      (input_of bag (Doing.Nudge t now)) r memory out well e
 
 -- every lawful run is steady
 pub is_steady : AlwaysSteady

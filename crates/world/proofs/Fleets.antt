@@ -1,5 +1,6 @@
 -- The running shards of a run, by their places.
-use Rattle.std.proofs.Common.{◌≡◌, inl, inr, ℕ, zero, suc, ◌+◌, ◌<◌, ◌≤◌, Bool, false, List, [], ◌∷◌, ◌++◌, length, map, replicate, set, slice_get, Some, None, Result, Ok, Err, IfOk, IfErr, get_or, drop, ◌==◌, refl, sym, ap, ◌∙◌, subst, append_assoc, arith}
+use Rattle.std.proofs.Common.{◌≡◌, inl, inr, ℕ, zero, suc, ◌+◌, ◌<◌, ◌≤◌, Bool, false, List, [], ◌∷◌, ◌++◌, length, map, replicate, set, slice_get}
+use Rattle.std.proofs.Common.{Some, None, Result, Ok, Err, IfOk, IfErr, get_or, drop, ◌==◌, refl, sym, ap, ◌∙◌, subst, append_assoc, arith}
 use Rattle.std.proofs.lemmas.Bool.Decides.{nat_tests}
 use Rattle.std.proofs.lemmas.List.{length-replicate, map-append, replicate-append-replicate}
 use Rattle.std.proofs.lemmas.Option.{slice_get_past, slice_get_within}
@@ -53,11 +54,13 @@ not_none : {A : Type 0} (x : A) → None ≡ Some x → ⊥
 not_none {A = A} x e = subst (λ o. elim o as (λ p. Type 0) [ None ↦ Unit {0} | Some y ↦ ⊥ ]) e tt
 
 -- what stands in the first place
-at_first : (config : Config) (used n k : ℕ) (r : Running) (s : ShardNow) → k ≡ n → IsRunning (setup_of config n) used r s → IsRunning (setup_of config k) used r s
+at_first : (config : Config) (used n k : ℕ) (r : Running) (s : ShardNow) → k ≡ n → IsRunning (setup_of config n) used r s →
+    IsRunning (setup_of config k) used r s
 at_first config used n k r s here h = subst (λ m. IsRunning (setup_of config m) used r s) (sym here) h
 
 -- what stands in a place of the code
-pub in_place : (config : Config) (used n i k : ℕ) (rs : List Running) (ss : List ShardNow) (r : Running) → AreRunning config used n rs ss → k ≡ n + i → slice_get rs i ≡ Some r
+pub in_place : (config : Config) (used n i k : ℕ) (rs : List Running) (ss : List ShardNow) (r : Running) → AreRunning config used n rs ss →
+    k ≡ n + i → slice_get rs i ≡ Some r
     → (s : ShardNow) × (slice_get ss i ≡ Some s) × IsRunning (setup_of config k) used r s
 in_place config used n i k [] ss r h at there = absurd (not_none r there)
 in_place config used n i k (x ∷ rs) [] r h at there = absurd h
@@ -67,7 +70,8 @@ in_place config used n zero k (x ∷ rs) (s ∷ ss) r h at there =
 in_place config used n (suc i) k (x ∷ rs) (s ∷ ss) r h at there = in_place config used (suc n) i k rs ss r h.1 (omega (arith, at)) there
 
 -- and of the definitions
-pub of_place : (config : Config) (used n i k : ℕ) (rs : List Running) (ss : List ShardNow) (s : ShardNow) → AreRunning config used n rs ss → k ≡ n + i → slice_get ss i ≡ Some s
+pub of_place : (config : Config) (used n i k : ℕ) (rs : List Running) (ss : List ShardNow) (s : ShardNow) → AreRunning config used n rs ss →
+    k ≡ n + i → slice_get ss i ≡ Some s
     → (r : Running) × (slice_get rs i ≡ Some r) × IsRunning (setup_of config k) used r s
 of_place config used n i k rs [] s h at there = absurd (not_none s there)
 of_place config used n i k [] (y ∷ ss) s h at there = absurd h
@@ -77,7 +81,8 @@ of_place config used n zero k (x ∷ rs) (y ∷ ss) s h at there =
 of_place config used n (suc i) k (x ∷ rs) (y ∷ ss) s h at there = of_place config used (suc n) i k rs ss s h.1 (omega (arith, at)) there
 
 -- another in a place
-pub another : (config : Config) (used n i k : ℕ) (rs : List Running) (ss : List ShardNow) (r : Running) (s : ShardNow) → AreRunning config used n rs ss → k ≡ n + i
+pub another : (config : Config) (used n i k : ℕ) (rs : List Running) (ss : List ShardNow) (r : Running) (s : ShardNow) →
+    AreRunning config used n rs ss → k ≡ n + i
     → i < length rs → IsRunning (setup_of config k) used r s → AreRunning config used n (set rs i r) (replaced ss i s)
 another config used n i k [] [] r s h at lt new = absurd (omega (arith, lt))
 another config used n i k [] (y ∷ ss) r s h at lt new = absurd h
@@ -85,10 +90,12 @@ another config used n i k (x ∷ rs) [] r s h at lt new = absurd h
 another config used n zero k (x ∷ rs) (y ∷ ss) r s h at lt new =
     let here : k ≡ n = omega (arith, at) in
     (subst (λ m. IsRunning (setup_of config m) used r s) here new, h.1)
-another config used n (suc i) k (x ∷ rs) (y ∷ ss) r s h at lt new = (h.0, another config used (suc n) i k rs ss r s h.1 (omega (arith, at)) (omega (arith, lt)) new)
+another config used n (suc i) k (x ∷ rs) (y ∷ ss) r s h at lt new = (h.0, another config used (suc n) i k rs ss r s h.1 (omega (arith, at))
+    (omega (arith, lt)) new)
 
 -- one in a place that stands for the same as before
-pub again : (config : Config) (used n i k : ℕ) (rs : List Running) (ss : List ShardNow) (r : Running) (s : ShardNow) → AreRunning config used n rs ss → k ≡ n + i
+pub again : (config : Config) (used n i k : ℕ) (rs : List Running) (ss : List ShardNow) (r : Running) (s : ShardNow) →
+    AreRunning config used n rs ss → k ≡ n + i
     → slice_get ss i ≡ Some s → IsRunning (setup_of config k) used r s → AreRunning config used n (set rs i r) ss
 again config used n i k [] [] r s h at there new = absurd (not_none s there)
 again config used n i k [] (y ∷ ss) r s h at there new = absurd h
@@ -100,7 +107,8 @@ again config used n zero k (x ∷ rs) (y ∷ ss) r s h at there new =
 again config used n (suc i) k (x ∷ rs) (y ∷ ss) r s h at there new = (h.0, again config used (suc n) i k rs ss r s h.1 (omega (arith, at)) there new)
 
 -- one more behind them
-pub one_more : (config : Config) (used n k : ℕ) (rs : List Running) (ss : List ShardNow) (r : Running) (s : ShardNow) → AreRunning config used n rs ss → k ≡ n + length rs
+pub one_more : (config : Config) (used n k : ℕ) (rs : List Running) (ss : List ShardNow) (r : Running) (s : ShardNow) →
+    AreRunning config used n rs ss → k ≡ n + length rs
     → IsRunning (setup_of config k) used r s → AreRunning config used n (rs ++ r ∷ []) (ss ++ s ∷ [])
 one_more config used n k [] [] r s h at new =
     let here : k ≡ n = omega (arith, at) in
@@ -110,40 +118,48 @@ one_more config used n k (x ∷ rs) [] r s h at new = absurd h
 one_more config used n k (x ∷ rs) (y ∷ ss) r s h at new = (h.0, one_more config used (suc n) k rs ss r s h.1 (omega (arith, at)) new)
 
 -- so of fresh ones
-pub one_more_fresh : (config : Config) (k : ℕ) (rs new : List Running) (r : Running) → AreRunning config 0 0 rs (replicate k fresh_shard) → IsRunning (setup_of config k) 0 r fresh_shard
+pub one_more_fresh : (config : Config) (k : ℕ) (rs new : List Running) (r : Running) → AreRunning config 0 0 rs (replicate k fresh_shard) →
+    IsRunning (setup_of config k) 0 r fresh_shard
     → new ≡ rs ++ r ∷ [] → AreRunning config 0 0 new (replicate (k + 1) fresh_shard)
 one_more_fresh config k rs new r h fresh put =
     let many = as_many config 0 0 rs (replicate k fresh_shard) h in
     let place : k ≡ 0 + length rs = omega (arith, many, length-replicate k fresh_shard) in
-    let more : AreRunning config 0 0 (rs ++ r ∷ []) (replicate k fresh_shard ++ fresh_shard ∷ []) = one_more config 0 0 k rs (replicate k fresh_shard) r fresh_shard h place fresh in
+    let more : AreRunning config 0 0 (rs ++ r ∷ []) (replicate k fresh_shard ++ fresh_shard ∷ []) =
+        one_more config 0 0 k rs (replicate k fresh_shard) r fresh_shard h place fresh in
     subst (λ ss. AreRunning config 0 0 new ss) (replicate-append-replicate k 1 fresh_shard)
     (subst (λ l. AreRunning config 0 0 l (replicate k fresh_shard ++ fresh_shard ∷ [])) (sym put) more)
 
 -- ---- a shard that does something, or is looked at
 
 -- there is none
-pub nowhere : {A : Type 0} (config : Config) (used : ℕ) (shards : Shards) (ss : List ShardNow) (n : ℕ) (none : A) (f : ShardNow → A) → AreShards config used shards ss → length shards.running.items ≤ n
+pub nowhere : {A : Type 0} (config : Config) (used : ℕ) (shards : Shards) (ss : List ShardNow) (n : ℕ) (none : A) (f : ShardNow → A) →
+    AreShards config used shards ss → length shards.running.items ≤ n
     → elim (slice_get ss n) as (λ x. A) [ None ↦ none | Some s ↦ f s ] ≡ none
 nowhere {A = A} config used shards ss n none f h over =
     let many = as_many config used 0 shards.running.items ss h.running in
     ap (λ o. elim o as (λ x. A) [ None ↦ none | Some s ↦ f s ]) (slice_get_past ss n (omega (arith, many, over)))
 
 -- there is one
-pub looks_there : (config : Config) (used : ℕ) (shards : Shards) (ss : List ShardNow) (n : ℕ) (r : Running) (result : Result Reply Fault) (f : ShardNow → Reply) → AreShards config used shards ss
+pub looks_there : (config : Config) (used : ℕ) (shards : Shards) (ss : List ShardNow) (n : ℕ) (r : Running) (result : Result Reply Fault)
+    (f : ShardNow → Reply) → AreShards config used shards ss
     → slice_get shards.running.items n ≡ Some r → ((s : ShardNow) → IsRunning (setup_of config n) used r s → IfOk result (λ reply. reply ≡ f s))
     → IfOk result (λ reply. reply ≡ elim (slice_get ss n) as (λ x. Reply) [ None ↦ Reply.Refused Stranger | Some s ↦ f s ])
 looks_there config used shards ss n r result f h there look =
-    let p : (s : ShardNow) × (slice_get ss n ≡ Some s) × IsRunning (setup_of config n) used r s = in_place config used 0 n n shards.running.items ss r h.running (omega arith) there in
+    let p : (s : ShardNow) × (slice_get ss n ≡ Some s) × IsRunning (setup_of config n) used r s =
+        in_place config used 0 n n shards.running.items ss r h.running (omega arith) there in
     subst (λ x. IfOk result (λ reply. reply ≡ x)) (sym (ap (λ o. elim o as (λ x. Reply) [ None ↦ Reply.Refused Stranger | Some s ↦ f s ]) p.1)) (look p.0 p.2)
 
 -- a test of one
-pub tests_there : (config : Config) (used : ℕ) (shards : Shards) (ss : List ShardNow) (n : ℕ) (r : Running) (b : Bool) (f : ShardNow → Bool) → AreShards config used shards ss
+pub tests_there : (config : Config) (used : ℕ) (shards : Shards) (ss : List ShardNow) (n : ℕ) (r : Running) (b : Bool) (f : ShardNow → Bool) →
+    AreShards config used shards ss
     → slice_get shards.running.items n ≡ Some r → ((s : ShardNow) → IsRunning (setup_of config n) used r s → b ≡ f s) → b ≡ when f (slice_get ss n)
 tests_there config used shards ss n r b f h there tested =
-    let p : (s : ShardNow) × (slice_get ss n ≡ Some s) × IsRunning (setup_of config n) used r s = in_place config used 0 n n shards.running.items ss r h.running (omega arith) there in
+    let p : (s : ShardNow) × (slice_get ss n ≡ Some s) × IsRunning (setup_of config n) used r s =
+        in_place config used 0 n n shards.running.items ss r h.running (omega arith) there in
     tested p.0 p.2 ∙ ap (when f) (sym p.1)
 
-pub tests_nowhere : (config : Config) (used : ℕ) (shards : Shards) (ss : List ShardNow) (n : ℕ) (f : ShardNow → Bool) → AreShards config used shards ss → length shards.running.items ≤ n
+pub tests_nowhere : (config : Config) (used : ℕ) (shards : Shards) (ss : List ShardNow) (n : ℕ) (f : ShardNow → Bool) →
+    AreShards config used shards ss → length shards.running.items ≤ n
     → false ≡ when f (slice_get ss n)
 tests_nowhere config used shards ss n f h over =
     let many = as_many config used 0 shards.running.items ss h.running in
@@ -154,9 +170,11 @@ module _ (config : Config) (used : ℕ) (bag : List Envelope) (ss : List ShardNo
     (there : slice_get old.running.items n ≡ Some before) where
   by_shard : (s : ShardNow) → slice_get ss n ≡ Some s → shards_by config bag ss n doing ≡ shards_after ss n s doing (effect (setup_of config n) bag s doing)
   by_shard s is =
-      ap (λ o. elim o as (λ x. Result (List ShardNow × List Envelope) Fault) [ None ↦ Err Stranger | Some t ↦ shards_after ss n t doing (effect (setup_of config n) bag t doing) ]) is
+      ap (λ o. elim o as (λ x. Result (List ShardNow × List Envelope) Fault) [ None ↦ Err Stranger | Some t ↦
+          shards_after ss n t doing (effect (setup_of config n) bag t doing) ]) is
 
-  pub acts_there : (result : Result (List Envelope) Fault) → ((s : ShardNow) → IsRunning (setup_of config n) used before s → Acts (setup_of config n) used bag s doing after result)
+  pub acts_there : (result : Result (List Envelope) Fault) → ((s : ShardNow) → IsRunning (setup_of config n) used before s →
+      Acts (setup_of config n) used bag s doing after result)
       → ActsAt config used bag ss n doing new result
   acts_there result act = by_result result (act p.0 p.2)
     where
@@ -182,7 +200,8 @@ module _ (config : Config) (used : ℕ) (bag : List Envelope) (ss : List ShardNo
           by_shard p.0 p.1 ∙ ap (shards_after ss n p.0 doing) k.0,
           record {
             splits_are = splits ∙ h.splits_are;
-            running = subst (λ rs. AreRunning config used 0 rs ss) (sym put) (again config used 0 n n old.running.items ss after p.0 h.running (omega arith) p.1 k.1);
+            running = subst (λ rs. AreRunning config used 0 rs ss) (sym put) (again config used 0 n n old.running.items ss after p.0 h.running
+                (omega arith) p.1 k.1);
           },
         )
       ]
@@ -197,19 +216,23 @@ AreTaken all logs left =
 
 pub one_taken : (all left after : List Running) (logs : List (List Record)) (r : Running) (log : List Record) → left ≡ r ∷ after
     → ((setup : Setup) (used : ℕ) (s : ShardNow) → IsRunning setup used r s → log ≡ read_log s) → AreTaken all logs left → AreTaken all (logs ++ log ∷ []) after
-one_taken all left after logs r log is read h = λ config used n ss running. let p = h config used n ss running in by_rest config used p.0 p.1 (map read_log ss) (subst (λ l. AreRunning config used p.0 l p.1) is p.2) p.3
+one_taken all left after logs r log is read h = λ config used n ss running. let p = h config used n ss running in
+    by_rest config used p.0 p.1 (map read_log ss) (subst (λ l. AreRunning config used p.0 l p.1) is p.2) p.3
   where
-    by_rest : (config : Config) (used m : ℕ) (rest : List ShardNow) (whole : List (List Record)) → AreRunning config used m (r ∷ after) rest → whole ≡ logs ++ map read_log rest
+    by_rest : (config : Config) (used m : ℕ) (rest : List ShardNow) (whole : List (List Record)) → AreRunning config used m (r ∷ after) rest →
+        whole ≡ logs ++ map read_log rest
         → (k : ℕ) × (others : List ShardNow) × AreRunning config used k after others × (whole ≡ (logs ++ log ∷ []) ++ map read_log others)
     by_rest config used m [] whole k e = absurd k
     by_rest config used m (s ∷ rest) whole k e =
-        (suc m, rest, k.1, e ∙ ap (λ l. logs ++ l ∷ map read_log rest) (sym (read (setup_of config m) used s k.0)) ∙ sym (append_assoc logs (log ∷ []) (map read_log rest)))
+        (suc m, rest, k.1, e ∙ ap (λ l. logs ++ l ∷ map read_log rest) (sym (read (setup_of config m) used s k.0))
+            ∙ sym (append_assoc logs (log ∷ []) (map read_log rest)))
 
 -- the first that is left
 pub stands_first : (all left after : List Running) (logs : List (List Record)) (r : Running) (P : Type 0) → left ≡ r ∷ after
     → ((setup : Setup) (used : ℕ) (s : ShardNow) → IsRunning setup used r s → P) → AreTaken all logs left
     → (config : Config) (used n : ℕ) (ss : List ShardNow) → AreRunning config used n all ss → P
-stands_first all left after logs r P is so h config used n ss running = let p = h config used n ss running in by_rest p.0 p.1 (subst (λ l. AreRunning config used p.0 l p.1) is p.2)
+stands_first all left after logs r P is so h config used n ss running = let p = h config used n ss running in
+    by_rest p.0 p.1 (subst (λ l. AreRunning config used p.0 l p.1) is p.2)
   where
     by_rest : (m : ℕ) (rest : List ShardNow) → AreRunning config used m (r ∷ after) rest → P
     by_rest m [] k = absurd k

@@ -1,6 +1,7 @@
 -- A step of a transaction is the step of the session that it stands for.
 use Rattle.std.specs.List.{list_any}
-use Rattle.std.proofs.Common.{◌≡◌, inl, inr, ℕ, Bool, true, false, not, ◌&&◌, cond, nat_le, ◌||◌, List, [], ◌∷◌, ◌++◌, length, Option, Result, Ok, Err, OnOk, IfOk, IfErr, refl, sym, ap, ◌∙◌, subst, option_to_list}
+use Rattle.std.proofs.Common.{◌≡◌, inl, inr, ℕ, Bool, true, false, not, ◌&&◌, cond, nat_le, ◌||◌, List, [], ◌∷◌, ◌++◌, length, Option, Result, Ok}
+use Rattle.std.proofs.Common.{Err, OnOk, IfOk, IfErr, refl, sym, ap, ◌∙◌, subst, option_to_list}
 use Rattle.units.specs.Keys.{Bytes, same_key, has_key, shard_of, writes_key}
 use Rattle.units.specs.Ids.{Id}
 use Rattle.units.proofs.Folds.{any_append}
@@ -17,7 +18,9 @@ use Rattle.message.specs.declared.message.Address.TheVariants.{Shard}
 use Rattle.message.specs.declared.message.Envelope.{Envelope}
 use Rattle.message.specs.declared.message.Message.{Message}
 use Rattle.message.specs.declared.message.ReadAnswer.{ReadAnswer}
-use Rattle.session.specs.Sessions.{Client, Stage, IsOpen, IsClosing, IsOver, Moved, Denies, Goes, unless, reads, buffers, closes, gives_up, finishes, hears, take_answer, is_doomed, epochs_agree, asked_keys, was_answered, with_write, is_none, closing_messages, without_key, doomed_by, was_taken}
+use Rattle.session.specs.Sessions.{Client, Stage, IsOpen, IsClosing, IsOver, Moved, Denies, Goes, unless, reads, buffers, closes, gives_up, finishes}
+use Rattle.session.specs.Sessions.{hears, take_answer, is_doomed, epochs_agree, asked_keys, was_answered, with_write, is_none, closing_messages}
+use Rattle.session.specs.Sessions.{without_key, doomed_by, was_taken}
 use Rattle.session.specs.Shown.{Session, heard_as, taken_as}
 use Rattle.session.specs.declared.answered.Answered.{Answered}
 use Rattle.session.specs.declared.answered.Heard.{Heard}
@@ -45,7 +48,8 @@ pub reads_keeps : (splits : List Bytes) (k : Bytes) → Keeps (reads splits k)
 unfolding reads
 reads_keeps splits k c =
     after_tests c c.stage ((nat_le 128 (length (asked_keys c)), Many) ∷ (was_answered c k, Again) ∷ (has_key c.awaited k, Awaited) ∷ (is_doomed c, Doomed) ∷ [])
-    (Goes (record c { awaited = c.awaited ++ k ∷ [] }) (record { to = Shard (shard_of splits k); message = Message.Read (record { txn = c.txn; key = k }) } ∷ []))
+    (Goes (record c { awaited = c.awaited ++ k ∷ [] }) (record { to = Shard (shard_of splits k); message =
+        Message.Read (record { txn = c.txn; key = k }) } ∷ []))
     (refl, refl)
 
 pub buffers_keeps : (w : Write) → Keeps (buffers w)
@@ -73,7 +77,8 @@ take_keeps c n k epoch (Holds x) =
 pub hears_keeps : (n : ℕ) (k : Bytes) (epoch : ℕ) (a : Answer) (c : Client) → Alike c (hears n k epoch a c)
 unfolding hears
 hears_keeps n k epoch a c =
-    elim (has_key c.awaited k && not (is_doomed c)) as (λ b. Alike c (cond b (take_answer c n k epoch a) c)) [ true ↦ take_keeps c n k epoch a | false ↦ (refl, refl) ]
+    elim (has_key c.awaited k && not (is_doomed c)) as (λ b. Alike c (cond b (take_answer c n k epoch a) c)) [ true ↦
+        take_keeps c n k epoch a | false ↦ (refl, refl) ]
 
 -- ---- in which stage it is taken
 
@@ -82,7 +87,8 @@ open_takes f c e = ap (λ s. elim s as (λ x. Moved) [ IsOpen ↦ f c | _ ↦ De
 
 -- ---- steps of an open transaction
 
-pub open_moves : (f : List Bytes → Client → Moved) → ((splits : List Bytes) → Keeps (f splits)) → (b : Begun) (tx new : Session) (r : Result (List Envelope) Fault)
+pub open_moves : (f : List Bytes → Client → Moved) → ((splits : List Bytes) → Keeps (f splits)) →
+    (b : Begun) (tx new : Session) (r : Result (List Envelope) Fault)
     → b.held ≡ Open tx → new.splits ≡ tx.splits → Steps (f tx.splits tx.client) new.client tx.client r
     → (splits : List Bytes) (c : Client) → IsBegun splits b c → Moves splits (when_open (f splits) c) (record { txn = b.txn; held = Open new }) c r
 open_moves f keeps b tx new r is same step splits c begun = by_result r step
@@ -93,12 +99,14 @@ open_moves f keeps b tx new r is same step splits c begun = by_result r step
     takes : when_open (f splits) c ≡ f tx.splits tx.client
     takes = open_takes (f splits) c h.1 ∙ ap (λ (t : Session). f t.splits t.client) (sym h.0)
 
-    by_result : (r : Result (List Envelope) Fault) → Steps (f tx.splits tx.client) new.client tx.client r → Moves splits (when_open (f splits) c) (record { txn = b.txn; held = Open new }) c r
+    by_result : (r : Result (List Envelope) Fault) → Steps (f tx.splits tx.client) new.client tx.client r →
+        Moves splits (when_open (f splits) c) (record { txn = b.txn; held = Open new }) c r
     by_result (Ok out) e =
         let kept = subst (Leaves tx.client tx.client.stage) e (keeps tx.splits tx.client) in
         let client : tx.client ≡ c = ap (λ (t : Session). t.client) h.0 in
         let txn : new.client.txn ≡ c.txn = kept.0 ∙ ap (λ (d : Client). d.txn) client in
-        let there : new ≡ record { splits = splits; client = new.client } = ap (λ s. record { splits = s; client = new.client }) (same ∙ ap (λ (t : Session). t.splits) h.0) in (
+        let there : new ≡ record { splits = splits; client = new.client } = ap (λ s. record { splits = s; client = new.client })
+            (same ∙ ap (λ (t : Session). t.splits) h.0) in (
           new.client,
           takes ∙ e,
           txn,
@@ -114,13 +122,16 @@ open_moves f keeps b tx new r is same step splits c begun = by_result r step
         inr (takes ∙ refused.0, record { txn = begun.txn; held = (there, h.1) })
 
 -- it closes
-pub close_moves : (b : Begun) (tx new : Session) (out : List Envelope) → b.held ≡ Open tx → new.splits ≡ tx.splits → closes tx.splits tx.client ≡ Goes new.client out
-    → (splits : List Bytes) (c : Client) → IsBegun splits b c → Moves splits (when_open (closes splits) c) (record { txn = b.txn; held = Closing new }) c (Ok out)
+pub close_moves : (b : Begun) (tx new : Session) (out : List Envelope) → b.held ≡ Open tx → new.splits ≡ tx.splits →
+    closes tx.splits tx.client ≡ Goes new.client out
+    → (splits : List Bytes) (c : Client) → IsBegun splits b c → Moves splits (when_open (closes splits) c)
+        (record { txn = b.txn; held = Closing new }) c (Ok out)
 close_moves b tx new out is same step splits c begun =
     let h : IsHeld splits (Open tx) c = subst (λ x. IsHeld splits x c) is begun.held in
     let kept = subst (Leaves tx.client IsClosing) step (closes_closing tx.splits tx.client) in
     let txn : new.client.txn ≡ c.txn = kept.0 ∙ ap (λ (t : Session). t.client.txn) h.0 in
-    let there : new ≡ record { splits = splits; client = new.client } = ap (λ s. record { splits = s; client = new.client }) (same ∙ ap (λ (t : Session). t.splits) h.0) in (
+    let there : new ≡ record { splits = splits; client = new.client } = ap (λ s. record { splits = s; client = new.client })
+        (same ∙ ap (λ (t : Session). t.splits) h.0) in (
       new.client,
       open_takes (closes splits) c h.1 ∙ ap (λ (t : Session). closes t.splits t.client) (sym h.0) ∙ step,
       txn,
@@ -134,10 +145,12 @@ close_moves b tx new out is same step splits c begun =
 abbrev over : Client → Client
 over c = record c { stage = IsOver }
 
-over_begun : (b gone : Begun) (splits : List Bytes) (c : Client) → IsBegun splits b c → gone ≡ record { txn = b.txn; held = Over } → IsBegun splits gone (over c)
+over_begun : (b gone : Begun) (splits : List Bytes) (c : Client) → IsBegun splits b c → gone ≡ record { txn = b.txn; held = Over } →
+    IsBegun splits gone (over c)
 over_begun b gone splits c begun is = subst (λ x. IsBegun splits x (over c)) (sym is) (record { txn = begun.txn; held = refl })
 
-not_over_takes : (f : Client → Moved) (c : Client) (s : Stage) → c.stage ≡ s → elim s as (λ x. Moved) [ IsOver ↦ Denies Stranger | _ ↦ f c ] ≡ f c → when_not_over f c ≡ f c
+not_over_takes : (f : Client → Moved) (c : Client) (s : Stage) → c.stage ≡ s → elim s as (λ x. Moved) [ IsOver ↦ Denies Stranger | _ ↦ f c ] ≡ f c →
+    when_not_over f c ≡ f c
 not_over_takes f c s e is = ap (λ x. elim x as (λ y. Moved) [ IsOver ↦ Denies Stranger | _ ↦ f c ]) e ∙ is
 
 pub quit_open : (b gone : Begun) (tx : Session) (out : List Envelope) → b.held ≡ Open tx → gives_up tx.splits tx.client ≡ Goes (over tx.client) out
@@ -184,7 +197,8 @@ open_hears b tx new a r is same heard line memory splits c begun = by_result r h
     by_result (Ok l) is_heard is_line spent =
         let made : new.client ≡ hears a.from a.key a.epoch a.answer c = is_heard ∙ ap (hears a.from a.key a.epoch a.answer) client in
         let kept = hears_keeps a.from a.key a.epoch a.answer c in
-        let there : new ≡ record { splits = splits; client = new.client } = ap (λ s. record { splits = s; client = new.client }) (same ∙ ap (λ (t : Session). t.splits) h.0) in (
+        let there : new ≡ record { splits = splits; client = new.client } = ap (λ s. record { splits = s; client = new.client })
+            (same ∙ ap (λ (t : Session). t.splits) h.0) in (
           new.client,
           h.1,
           made,
@@ -217,7 +231,8 @@ one_line : (c : Client) (r : Answered) (aw : List Bytes) (k : Bytes) (x : Option
     → (Line.Read c.txn k x ∷ []) ≡ read_lines c (record c { taken = c.taken ++ r ∷ []; awaited = aw }) k (Holds x)
 one_line c r aw k x own new =
     let there : list_any (λ (a : Answered). same_key a.key k) (c.taken ++ r ∷ []) ≡ true =
-    any_append (λ (a : Answered). same_key a.key k) c.taken (r ∷ []) ∙ ap (λ b. b || (same_key r.key k || false)) new ∙ ap (λ j. same_key j k || false) own ∙ ap (λ b. b || false) (same_key-refl k) in
+    any_append (λ (a : Answered). same_key a.key k) c.taken (r ∷ []) ∙ ap (λ b. b || (same_key r.key k || false)) new
+        ∙ ap (λ j. same_key j k || false) own ∙ ap (λ b. b || false) (same_key-refl k) in
     (λ i. cond (sym there i && not (sym new i)) (Line.Read c.txn k x ∷ []) [])
 
 -- what is heard and the line agree
@@ -231,16 +246,19 @@ heard_lines n k epoch a c apart = by_tests (has_key c.awaited k) refl (is_doomed
 
     by_agree : (x : Option Bytes) → has_key c.awaited k ≡ true → (b : Bool)
         → lines_of c.txn k (cond b (Heard.Value x) Heard.Doomed)
-        ≡ read_lines c (cond b (record c { taken = c.taken ++ record { key = k; shard = n; epoch = epoch; value = x } ∷ []; awaited = without_key c.awaited k }) (doomed_by k c)) k (Holds x)
+        ≡ read_lines c (cond b (record c { taken = c.taken ++ record { key = k; shard = n; epoch = epoch; value = x } ∷ []; awaited =
+            without_key c.awaited k }) (doomed_by k c)) k (Holds x)
     by_agree x is true = one_line c (record { key = k; shard = n; epoch = epoch; value = x }) (without_key c.awaited k) k x refl (new is)
     by_agree x is false = no_line c (doomed_by k c) k (Holds x) refl
 
-    by_answer : (answer : Answer) → has_key c.awaited k ≡ true → lines_of c.txn k (taken_as (epochs_agree c.taken n epoch) answer) ≡ read_lines c (take_answer c n k epoch answer) k answer
+    by_answer : (answer : Answer) → has_key c.awaited k ≡ true → lines_of c.txn k (taken_as (epochs_agree c.taken n epoch) answer) ≡
+        read_lines c (take_answer c n k epoch answer) k answer
     by_answer Refused is = refl
     by_answer (Holds x) is = by_agree x is (epochs_agree c.taken n epoch)
 
     by_tests : (b : Bool) → has_key c.awaited k ≡ b → (d : Bool)
-        → lines_of c.txn k (cond (b && not d) (taken_as (epochs_agree c.taken n epoch) a) Heard.Again) ≡ read_lines c (cond (b && not d) (take_answer c n k epoch a) c) k a
+        → lines_of c.txn k (cond (b && not d) (taken_as (epochs_agree c.taken n epoch) a) Heard.Again) ≡
+            read_lines c (cond (b && not d) (take_answer c n k epoch a) c) k a
     by_tests false is d = no_line c c k a refl
     by_tests true is true = no_line c c k a refl
     by_tests true is false = by_answer a is

@@ -1,6 +1,7 @@
 -- The session of an id, by its place in the code.
-use Rattle.std.proofs.Common.{◌≡◌, inl, inr, ℕ, zero, suc, ◌<◌, ◌≤◌, Bool, true, false, not, ◌&&◌, ◌||◌, cond, nat_lt, List, [], ◌∷◌, ◌++◌, length, get_or, set, Option, Some, None, Result, Ok, Err, refl, sym, ap, ◌∙◌, subst, arith, filter}
-use Rattle.std.proofs.lemmas.Bool.{and_parts}
+use Rattle.std.proofs.Common.{◌≡◌, inl, inr, ℕ, zero, suc, ◌<◌, ◌≤◌, Bool, true, false, not, ◌&&◌, ◌||◌, cond, nat_lt, List, [], ◌∷◌, ◌++◌, length}
+use Rattle.std.proofs.Common.{get_or, set, Option, Some, None, Result, Ok, Err, refl, sym, ap, ◌∙◌, subst, arith, filter}
+use Rattle.std.proofs.lemmas.Bool.{and_parts, or_right, or_parts, and_from}
 use Rattle.std.specs.List.{position_or_len, list_any}
 use Rattle.std.proofs.lemmas.Bool.Decides.{nat_tests}
 use Rattle.units.specs.Lists.{first, head, when}
@@ -15,7 +16,7 @@ use Rattle.message.specs.declared.message.Envelope.{Envelope}
 use Rattle.message.specs.declared.message.ReadAnswer.{ReadAnswer}
 use Rattle.session.specs.Sessions.{Client, Moved, begun, finishes}
 use Rattle.world.specs.Held.{IsBegun, Moves, Hears, when_open}
-use Rattle.world.specs.Hosts.{AreBegun, Hosts, HearsIn, MovesIn, are_apart, are_once, step_of, with_client}
+use Rattle.world.specs.Hosts.{AreBegun, Hosts, HearsIn, MovesIn, are_apart, are_once, session_step, with_client}
 use Rattle.world.proofs.HeldSteps.{hears_keeps}
 use Rattle.world.specs.declared.begun.Begun.{Begun}
 use Rattle.world.specs.declared.hosting.Sessions.{Sessions}
@@ -33,7 +34,8 @@ same_txn : (splits : List Bytes) (b : Begun) (c : Client) (t : Id) → IsBegun s
 same_txn splits b c t h = ap (λ i. same_id i t) h.txn
 
 -- the session that stands at the place is that of the id
-pub found : (splits : List Bytes) (bs : List Begun) (cs : List Client) (t : Id) (i : ℕ) (b : Begun) → AreBegun splits bs cs → i ≡ place_of bs t → i < length bs → b ≡ get_or bs i b
+pub found : (splits : List Bytes) (bs : List Begun) (cs : List Client) (t : Id) (i : ℕ) (b : Begun) → AreBegun splits bs cs → i ≡ place_of bs t →
+    i < length bs → b ≡ get_or bs i b
     → (c : Client) × (client_at cs t ≡ Some c) × IsBegun splits b c × (same_id b.txn t ≡ true)
 found splits [] [] t i b h at lt is = absurd (omega arith)
 found splits [] (c ∷ cs) t i b h at lt is = absurd h
@@ -58,11 +60,7 @@ absent splits (x ∷ bs) (c ∷ cs) t h none =
 one_of : (bs : List Begun) (t : Id) (i : ℕ) (d : Begun) → i < length bs → same_id (get_or bs i d).txn t ≡ true → list_any (λ c. same_id c.txn t) bs ≡ true
 one_of [] t i d lt is = absurd (omega arith)
 one_of (x ∷ bs) t zero d lt is = ap (λ b. b || list_any (λ c. same_id c.txn t) bs) is
-one_of (x ∷ bs) t (suc i) d lt is = or_true (same_id x.txn t) (list_any (λ c. same_id c.txn t) bs) (one_of bs t i d (omega arith) is)
-  where
-    or_true : (a b : Bool) → b ≡ true → (a || b) ≡ true
-    or_true true b e = refl
-    or_true false b e = e
+one_of (x ∷ bs) t (suc i) d lt is = or_right (same_id x.txn t) (list_any (λ c. same_id c.txn t) bs) (one_of bs t i d (omega arith) is)
 
 differ : true ≡ false → ⊥
 differ e = cc
@@ -72,15 +70,11 @@ not_is : (a : Bool) → not a ≡ true → a ≡ false
 not_is true e = cc
 not_is false e = refl
 
-neither : (a b : Bool) → (a || b) ≡ false → (a ≡ false) × (b ≡ false)
-neither true b e = cc
-neither false b e = (refl, e)
-
 -- where nobody has it the place is behind all
 pub no_place : (bs : List Begun) (t : Id) → list_any (λ c. same_id c.txn t) bs ≡ false → length bs ≡ place_of bs t
 no_place [] t none = refl
 no_place (x ∷ bs) t none =
-    let p = neither (same_id x.txn t) (list_any (λ c. same_id c.txn t) bs) none in
+    let p = or_parts (same_id x.txn t) (list_any (λ c. same_id c.txn t) bs) none in
     let rest = no_place bs t p.1 in
     let other = p.0 in
     grind (arith, nat_tests)
@@ -88,7 +82,7 @@ no_place (x ∷ bs) t none =
 none_changed : (d : Client) (cs : List Client) → list_any (λ e. same_id e.txn d.txn) cs ≡ false → with_client d cs ≡ cs
 none_changed d [] h = refl
 none_changed d (c ∷ cs) h =
-    let p = neither (same_id c.txn d.txn) (list_any (λ e. same_id e.txn d.txn) cs) h in
+    let p = or_parts (same_id c.txn d.txn) (list_any (λ e. same_id e.txn d.txn) cs) h in
     (λ i. cond (p.0 i) d c ∷ none_changed d cs p.1 i)
 
 pub placed : (splits : List Bytes) (bs : List Begun) (cs : List Client) (t : Id) (i : ℕ) (b : Begun) (d : Client) → AreBegun splits bs cs → are_once cs ≡ true
@@ -144,22 +138,19 @@ none_has : (cs : List Client) (t : Id) → client_at cs t ≡ None → list_any 
 none_has [] t e = refl
 none_has (c ∷ cs) t e = by_test (same_id c.txn t) e (none_has cs t)
   where
-    by_test : (b : Bool) → Tested c cs t b ≡ None → (client_at cs t ≡ None → list_any (λ d. same_id d.txn t) cs ≡ false) → (b || list_any (λ d. same_id d.txn t) cs) ≡ false
+    by_test : (b : Bool) → Tested c cs t b ≡ None → (client_at cs t ≡ None → list_any (λ d. same_id d.txn t) cs ≡ false) →
+        (b || list_any (λ d. same_id d.txn t) cs) ≡ false
     by_test true k rest = absurd (cc)
     by_test false k rest = rest k
-
-and_is : (a b : Bool) → a ≡ true → b ≡ true → (a && b) ≡ true
-and_is true b e f = f
-and_is false b e f = cc
 
 pub once_more : (cs : List Client) (c : Client) → are_once cs ≡ true → list_any (λ d. same_id d.txn c.txn) cs ≡ false → are_once (cs ++ c ∷ []) ≡ true
 once_more [] c h new = refl
 once_more (x ∷ cs) c h new =
     let p = and_parts _ _ h in
-    let n = neither _ _ new in
+    let n = or_parts _ _ new in
     let apart : list_any (λ d. same_id d.txn x.txn) (cs ++ c ∷ []) ≡ false =
     any_append (λ d. same_id d.txn x.txn) cs (c ∷ []) ∙ (λ i. not_is _ p.0 i || ((same_id_comm c.txn x.txn ∙ n.0) i || false)) in
-    and_is _ _ (ap not apart) (once_more cs c p.1 n.1)
+    and_from _ _ (ap not apart) (once_more cs c p.1 n.1)
 
 pub begun_more : (splits : List Bytes) (bs : List Begun) (cs : List Client) (b : Begun) (c : Client) → AreBegun splits bs cs → IsBegun splits b c
     → AreBegun splits (bs ++ b ∷ []) (cs ++ c ∷ [])
@@ -168,7 +159,8 @@ begun_more splits [] (d ∷ cs) b c h is = absurd h
 begun_more splits (x ∷ bs) [] b c h is = absurd h
 begun_more splits (x ∷ bs) (d ∷ cs) b c h is = (h.0, begun_more splits bs cs b c h.1 is)
 
-pub begins : (splits : List Bytes) (s new : Sessions) (cs : List Client) (b : Begun) (t : Id) → Hosts splits s cs → client_at cs t ≡ None → IsBegun splits b (begun t)
+pub begins : (splits : List Bytes) (s new : Sessions) (cs : List Client) (b : Begun) (t : Id) → Hosts splits s cs → client_at cs t ≡ None →
+    IsBegun splits b (begun t)
     → new.splits.now ≡ splits → new.begun.items ≡ s.begun.items ++ b ∷ [] → Hosts splits new (cs ++ begun t ∷ [])
 begins splits s new cs b t h none is same pushed = record {
   splits_are = same;
@@ -207,22 +199,25 @@ module _ (splits : List Bytes) (s new : Sessions) (cs : List Client) (t : Id) (a
   goes_on : (d : Client) → d.txn ≡ client.txn → IsBegun splits b d → Hosts splits new (with_client d cs)
   goes_on d txn next = record {
     splits_are = same;
-    begun = subst (λ bs. AreBegun splits bs (with_client d cs)) (sym put) (placed splits s.begun.items cs t at b d h.begun h.once place within next (ap (λ i. same_id i t) txn ∙ own));
+    begun = subst (λ bs. AreBegun splits bs (with_client d cs)) (sym put) (placed splits s.begun.items cs t at b d h.begun h.once place within next
+        (ap (λ i. same_id i t) txn ∙ own));
     once = once_with d cs ∙ h.once;
   }
 
-  moves_from : (f : Client → Moved) (r : Result (List Envelope) Fault) → ((c : Client) → IsBegun splits old c → Moves splits (f c) b c r) → MovesIn splits (step_of f (client_at cs t)) new cs r
+  moves_from : (f : Client → Moved) (r : Result (List Envelope) Fault) → ((c : Client) → IsBegun splits old c → Moves splits (f c) b c r) →
+      MovesIn splits (session_step f (client_at cs t)) new cs r
   moves_from f r moves = by_result r (moves client stands)
     where
-      step : step_of f (client_at cs t) ≡ f client
-      step = ap (step_of f) is
+      step : session_step f (client_at cs t) ≡ f client
+      step = ap (session_step f) is
 
-      by_result : (r : Result (List Envelope) Fault) → Moves splits (f client) b client r → MovesIn splits (step_of f (client_at cs t)) new cs r
+      by_result : (r : Result (List Envelope) Fault) → Moves splits (f client) b client r → MovesIn splits (session_step f (client_at cs t)) new cs r
       by_result (Ok out) m = (m.0, step ∙ m.1, goes_on m.0 m.2 m.3)
       by_result (Err fault) (inl memory) = inl memory
       by_result (Err fault) (inr m) = inr (step ∙ m.0, kept m.1)
 
-  hears_from : (a : ReadAnswer) (r : Result (Option Line) Fault) → ((c : Client) → IsBegun splits old c → Hears splits a b c r) → HearsIn splits a new cs (client_at cs t) r
+  hears_from : (a : ReadAnswer) (r : Result (Option Line) Fault) → ((c : Client) → IsBegun splits old c → Hears splits a b c r) →
+      HearsIn splits a new cs (client_at cs t) r
   hears_from a r hears_it = by_result r (hears_it client stands)
     where
       by_result : (r : Result (Option Line) Fault) → Hears splits a b client r → HearsIn splits a new cs (client_at cs t) r
@@ -230,27 +225,31 @@ module _ (splits : List Bytes) (s new : Sessions) (cs : List Client) (t : Id) (a
           let txn : m.0.txn ≡ client.txn = ap (λ (d : Client). d.txn) m.2 ∙ (hears_keeps a.from a.key a.epoch a.answer client).0 in
           (client, is, m.1, (m.0, m.2, m.3, goes_on m.0 txn m.4))
       by_result (Err fault) (inl memory) = inl memory
-      by_result (Err fault) (inr m) = inr (m.0, ap (step_of (when_open finishes)) is ∙ m.1, kept m.2)
+      by_result (Err fault) (inr m) = inr (m.0, ap (session_step (when_open finishes)) is ∙ m.1, kept m.2)
 
 module _ (splits : List Bytes) (s new : Sessions) (cs : List Client) (t : Id) (at : ℕ) (old b : Begun) (h : Hosts splits s cs)
     (place : at ≡ place_of s.begun.items t) (within : at < length s.begun.items) (taken : old ≡ get_or s.begun.items at old)
     (same : new.splits.now ≡ splits) (put : new.begun.items ≡ set s.begun.items at b) where
-  pub moves_in : (f : Client → Moved) (r : Result (List Envelope) Fault) → ((c : Client) → IsBegun splits old c → Moves splits (f c) b c r) → MovesIn splits (step_of f (client_at cs t)) new cs r
+  pub moves_in : (f : Client → Moved) (r : Result (List Envelope) Fault) → ((c : Client) → IsBegun splits old c → Moves splits (f c) b c r) →
+      MovesIn splits (session_step f (client_at cs t)) new cs r
   moves_in =
       let p = found splits s.begun.items cs t at old h.begun place within taken in
       moves_from splits s new cs t at old b h place within taken same put p.0 p.1 p.2 (same_txn splits old p.0 t p.2 ∙ p.3)
 
-  pub hears_in : (a : ReadAnswer) (r : Result (Option Line) Fault) → ((c : Client) → IsBegun splits old c → Hears splits a b c r) → HearsIn splits a new cs (client_at cs t) r
+  pub hears_in : (a : ReadAnswer) (r : Result (Option Line) Fault) → ((c : Client) → IsBegun splits old c → Hears splits a b c r) →
+      HearsIn splits a new cs (client_at cs t) r
   hears_in =
       let p = found splits s.begun.items cs t at old h.begun place within taken in
       hears_from splits s new cs t at old b h place within taken same put p.0 p.1 p.2 (same_txn splits old p.0 t p.2 ∙ p.3)
 
 -- the id of the session that stands there
-pub id_there : (bs xs : List Begun) (t : Id) (i : ℕ) (b : Begun) → xs ≡ bs → ((y : Begun) → i < length xs → y ≡ get_or xs i y → same_id y.txn t ≡ true) → i < length bs → b ≡ get_or bs i b → same_id b.txn t ≡ true
+pub id_there : (bs xs : List Begun) (t : Id) (i : ℕ) (b : Begun) → xs ≡ bs → ((y : Begun) → i < length xs → y ≡ get_or xs i y →
+    same_id y.txn t ≡ true) → i < length bs → b ≡ get_or bs i b → same_id b.txn t ≡ true
 id_there bs xs t i b same there lt is = there b (subst (λ ys. i < length ys) (sym same) lt) (is ∙ ap (λ ys. get_or ys i b) (sym same))
 
 -- ids in the code come once where they do in the definitions
-apart_as : (splits : List Bytes) (bs : List Begun) (cs : List Client) (t : Id) → AreBegun splits bs cs → list_any (λ b. same_id b.txn t) bs ≡ list_any (λ c. same_id c.txn t) cs
+apart_as : (splits : List Bytes) (bs : List Begun) (cs : List Client) (t : Id) → AreBegun splits bs cs →
+    list_any (λ b. same_id b.txn t) bs ≡ list_any (λ c. same_id c.txn t) cs
 apart_as splits [] [] t h = refl
 apart_as splits [] (c ∷ cs) t h = absurd h
 apart_as splits (b ∷ bs) [] t h = absurd h
@@ -260,7 +259,8 @@ apart : (splits : List Bytes) (bs : List Begun) (cs : List Client) → AreBegun 
 apart splits [] [] h = refl
 apart splits [] (c ∷ cs) h = absurd h
 apart splits (b ∷ bs) [] h = absurd h
-apart splits (b ∷ bs) (c ∷ cs) h = (λ i. not ((apart_as splits bs cs b.txn h.1 ∙ ap (λ t. list_any (λ d. same_id d.txn t) cs) (sym h.0.txn)) i) && apart splits bs cs h.1 i)
+apart splits (b ∷ bs) (c ∷ cs) h = (λ i. not ((apart_as splits bs cs b.txn h.1 ∙ ap (λ t. list_any (λ d. same_id d.txn t) cs) (sym h.0.txn))
+    i) && apart splits bs cs h.1 i)
 
 pub apart_in : (splits : List Bytes) (s : Sessions) (cs : List Client) (bs : List Begun) → Hosts splits s cs → bs ≡ s.begun.items → are_apart bs ≡ true
 apart_in splits s cs bs h same = ap are_apart same ∙ apart splits s.begun.items cs h.begun ∙ h.once
@@ -288,14 +288,16 @@ set_again (b ∷ bs) zero x y = refl
 set_again (b ∷ bs) (suc i) x y = ap (λ r. b ∷ r) (set_again bs i x y)
 
 -- there is no session
-pub none_moves : (splits : List Bytes) (s : Sessions) (cs : List Client) (t : Id) (at : ℕ) (f : Client → Moved) → Hosts splits s cs → at ≡ place_of s.begun.items t → length s.begun.items ≤ at
-    → MovesIn splits (step_of f (client_at cs t)) s cs (Err Stranger)
-none_moves splits s cs t at f h place over = inr (ap (step_of f) (absent splits s.begun.items cs t h.begun (omega (arith, place, over))), h)
+pub none_moves : (splits : List Bytes) (s : Sessions) (cs : List Client) (t : Id) (at : ℕ) (f : Client → Moved) → Hosts splits s cs →
+    at ≡ place_of s.begun.items t → length s.begun.items ≤ at
+    → MovesIn splits (session_step f (client_at cs t)) s cs (Err Stranger)
+none_moves splits s cs t at f h place over = inr (ap (session_step f) (absent splits s.begun.items cs t h.begun (omega (arith, place, over))), h)
 
-pub none_hears : (splits : List Bytes) (s : Sessions) (cs : List Client) (a : ReadAnswer) (at : ℕ) → Hosts splits s cs → at ≡ place_of s.begun.items a.txn → length s.begun.items ≤ at
+pub none_hears : (splits : List Bytes) (s : Sessions) (cs : List Client) (a : ReadAnswer) (at : ℕ) → Hosts splits s cs →
+    at ≡ place_of s.begun.items a.txn → length s.begun.items ≤ at
     → HearsIn splits a s cs (client_at cs a.txn) (Err Stranger)
 none_hears splits s cs a at h place over =
-    inr (refl, ap (step_of (when_open finishes)) (absent splits s.begun.items cs a.txn h.begun (omega (arith, place, over))), h)
+    inr (refl, ap (session_step (when_open finishes)) (absent splits s.begun.items cs a.txn h.begun (omega (arith, place, over))), h)
 
 pub is_below : (i n : ℕ) (w : Bool) → (i < n → w ≡ true) → (n ≤ i → w ≡ false) → nat_lt i n ≡ w
 is_below i n w so not_so = by_test (nat_lt i n) refl

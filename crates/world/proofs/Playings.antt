@@ -1,12 +1,13 @@
 -- A run of some events and of one more.
-use Rattle.std.proofs.Common.{◌≡◌, ◌⊎◌, inl, inr, ℕ, suc, ◌+◌, ◌<◌, ◌≤◌, ◌^◌, Bool, true, false, ◌&&◌, cond, nat_le, List, [], ◌∷◌, ◌++◌, length, take, drop, get_or, Some, Result, Ok, Err, IfOk, refl, sym, ap, ◌∙◌, subst, arith}
+use Rattle.std.proofs.Common.{◌≡◌, ◌⊎◌, inl, inr, ℕ, suc, ◌+◌, ◌<◌, ◌≤◌, ◌^◌, Bool, true, false, ◌&&◌, cond, nat_le, List, [], ◌∷◌, ◌++◌, length}
+use Rattle.std.proofs.Common.{take, drop, get_or, Some, Result, Ok, Err, IfOk, refl, sym, ap, ◌∙◌, subst, arith}
 use Rattle.std.proofs.lemmas.Bool.{and_parts}
 use Rattle.std.proofs.Math.Seq.{drop-cons}
 use Rattle.std.proofs.lemmas.List.{length-take-le, take-append-drop, take_more, length_push}
 use Rattle.units.specs.declared.fault.Fault.{Fault}
 use Rattle.units.specs.declared.fault.Fault.TheVariants.{Memory, BadRequest}
 use Rattle.units.specs.declared.fault.Reason.TheVariants.{Many, Unlawful}
-use Rattle.world.specs.World.{World, acts, happens, replies, replies_from, run, run_from, start}
+use Rattle.world.specs.World.{World, acts, happens, replies_of_run, replies_from, run, run_from, start}
 use Rattle.world.specs.Lawful.{first_unlawful_from, lawful, lawful_from, may_act, may_happen}
 use Rattle.world.specs.Steady.{IsSteady}
 use Rattle.world.specs.Comes.{Comes, IsRun, Takes}
@@ -61,10 +62,10 @@ pub record HasPlayed (config : Config) (es : List Event) (r : Run) (answers : Li
   pub fair : lawful config es ≡ true
   pub event : (run config es).event ≡ length es
   pub stands : IsRun (length es) r (run config es)
-  pub told : answers ≡ replies config es
+  pub told : answers ≡ replies_of_run config es
 
 pub none_played : (config : Config) (r : Run) (answers : List Reply) → IsRun 0 r (start config) → answers ≡ [] → HasPlayed config [] r answers
-unfolding run lawful replies start
+unfolding run lawful replies_of_run start
 none_played config r answers h none = record { fair = refl; event = refl; stands = h; told = none }
 
 module _ (config : Config) (es : List Event) (r new : Run) (answers : List Reply) (h : HasPlayed config es r answers) where
@@ -72,7 +73,7 @@ module _ (config : Config) (es : List Event) (r new : Run) (answers : List Reply
   steady = is_steady config es h.fair
 
   pub one_played : (e : Event) (reply : Reply) → Takes (run config es) e new (Ok reply) → HasPlayed config (es ++ e ∷ []) new (answers ++ reply ∷ [])
-  unfolding run lawful replies
+  unfolding run lawful replies_of_run
   one_played e reply t =
       let same = run_more (start config) es e in
       let long = length_push es e in
@@ -81,19 +82,23 @@ module _ (config : Config) (es : List Event) (r new : Run) (answers : List Reply
       record {
         fair = lawful_more (start config) es e h.fair t.0;
         event = ap (λ w. w.event) same ∙ counts_one (run config es) e ∙ long_event;
-        stands = subst (λ w. IsRun (length (es ++ e ∷ [])) new w) (sym same) (subst (λ n. IsRun n new ((happens (run config es) e).0)) (ap (λ n. n + 1) h.event ∙ sym long) t.1.1);
+        stands = subst (λ w. IsRun (length (es ++ e ∷ [])) new w) (sym same) (subst (λ n. IsRun n new ((happens (run config es) e).0))
+            (ap (λ n. n + 1) h.event ∙ sym long) t.1.1);
         told = (λ i. h.told i ++ t.1.0 i ∷ []) ∙ sym (replies_more (start config) es e);
       }
 
-  pub none_more : (e : Event) (rest : List Event) (fault : Fault) → Takes (run config es) e new (Err fault) → (fault ≡ Memory) ⊎ IsUnlawful config (es ++ e ∷ rest) fault
+  pub none_more : (e : Event) (rest : List Event) (fault : Fault) → Takes (run config es) e new (Err fault) → (fault ≡ Memory)
+      ⊎ IsUnlawful config (es ++ e ∷ rest) fault
   unfolding run lawful
   none_more e rest fault (inl memory) = inl memory
   none_more e rest fault (inr t) = inr ((run config es).event, t.0, unlawful_at (start config) es e rest h.fair t.1)
 
 -- an event that may happen has happened
 module _ (w : World) (e : Event) (number : ℕ) (at : w.event ≡ number) where
-  pub happened : (mid new : Run) (reply : Reply) → may_happen w e ≡ true → Comes (number + 1) (acts w e.act) mid (Ok reply) → new.sessions ≡ mid.sessions → new.shards ≡ mid.shards
-      → new.past.bag ≡ mid.past.bag → new.past.told ≡ mid.past.told → new.past.lines ≡ mid.past.lines → new.past.event ≡ number + 1 → new.time ≡ e.time → Takes w e new (Ok reply)
+  pub happened : (mid new : Run) (reply : Reply) → may_happen w e ≡ true → Comes (number + 1) (acts w e.act) mid (Ok reply) →
+      new.sessions ≡ mid.sessions → new.shards ≡ mid.shards
+      → new.past.bag ≡ mid.past.bag → new.past.told ≡ mid.past.told → new.past.lines ≡ mid.past.lines → new.past.event ≡ number + 1 →
+          new.time ≡ e.time → Takes w e new (Ok reply)
   unfolding happens
   happened mid new reply may comes sessions shards bag told lines event time =
       let after : World = (acts w e.act).0 in
@@ -104,8 +109,10 @@ module _ (w : World) (e : Event) (number : ℕ) (at : w.event ≡ number) where
           comes.0,
           record {
             sessions = subst (λ s. Hosts after.config.splits s after.clients) (sym sessions) h.sessions;
-            shards = subst (λ n. AreShards after.config (n + 1) new.shards after.shards) (sym at) (subst (λ s. AreShards after.config (number + 1) s after.shards) (sym shards) h.shards);
-            past = record { bag = bag ∙ h.past.bag; told = ap (λ ts. ts.items) told ∙ h.past.told; lines = ap (λ ls. ls.items) lines ∙ h.past.lines; event = omega (arith, event, same, at) };
+            shards = subst (λ n. AreShards after.config (n + 1) new.shards after.shards) (sym at)
+                (subst (λ s. AreShards after.config (number + 1) s after.shards) (sym shards) h.shards);
+            past = record { bag = bag ∙ h.past.bag; told = ap (λ ts. ts.items) told ∙ h.past.told; lines = ap (λ ls. ls.items) lines
+                ∙ h.past.lines; event = omega (arith, event, same, at) };
             time = time;
           },
         ),
@@ -126,28 +133,35 @@ pub whole_is : (es : List Event) (n : ℕ) (e : Event) → n < length es → e �
 whole_is es n e lt is = ap (λ xs. take n es ++ xs) (ap (λ x. x ∷ drop (suc n) es) is ∙ sym (drop-cons es n e lt)) ∙ take-append-drop n es
 
 -- what has been played of some events, and the next of them
-module _ (config : Config) (es : List Event) (n : ℕ) (e : Event) (lt : n < length es) (is : e ≡ get_or es n e) (r new : Run) (answers : List Reply) (h : HasPlayed config (take n es) r answers) where
+module _ (config : Config) (es : List Event) (n : ℕ) (e : Event) (lt : n < length es) (is : e ≡ get_or es n e) (r new : Run) (answers : List Reply)
+    (h : HasPlayed config (take n es) r answers) where
   so_many : length (take n es) ≡ n
   so_many = length-take-le n es (omega (arith, lt))
 
-  taken : (result : Result Reply Fault) → ((w : World) → w.event ≡ n → IsRun n r w → IsSteady w → Takes w e new result) → Takes (run config (take n es)) e new result
-  taken result f = f (run config (take n es)) (h.event ∙ so_many) (subst (λ k. IsRun k r (run config (take n es))) so_many h.stands) (steady config (take n es) r r answers h)
+  taken : (result : Result Reply Fault) → ((w : World) → w.event ≡ n → IsRun n r w → IsSteady w → Takes w e new result) →
+      Takes (run config (take n es)) e new result
+  taken result f = f (run config (take n es)) (h.event ∙ so_many) (subst (λ k. IsRun k r (run config (take n es))) so_many h.stands)
+      (steady config (take n es) r r answers h)
 
-  pub next_played : (reply : Reply) (told : List Reply) → told ≡ answers ++ reply ∷ [] → ((w : World) → w.event ≡ n → IsRun n r w → IsSteady w → Takes w e new (Ok reply))
+  pub next_played : (reply : Reply) (told : List Reply) → told ≡ answers ++ reply ∷ [] → ((w : World) → w.event ≡ n → IsRun n r w → IsSteady w →
+      Takes w e new (Ok reply))
       → HasPlayed config (take (n + 1) es) new told
   next_played reply told are f =
       subst (λ xs. HasPlayed config xs new told) (sym (front_is es n e lt is))
       (subst (λ rs. HasPlayed config (take n es ++ e ∷ []) new rs) (sym are) (one_played config (take n es) r new answers h e reply (taken (Ok reply) f)))
 
-  pub none_next : (fault : Fault) (result : Result (Unit {0}) Fault) (told : List Reply) → result ≡ Err fault → ((w : World) → w.event ≡ n → IsRun n r w → IsSteady w → Takes w e new (Err fault))
+  pub none_next : (fault : Fault) (result : Result (Unit {0}) Fault) (told : List Reply) → result ≡ Err fault →
+      ((w : World) → w.event ≡ n → IsRun n r w → IsSteady w → Takes w e new (Err fault))
       → Plays config es new told result
   none_next fault result told is_err f =
       subst (λ x. Plays config es new told x) (sym is_err)
-      (subst (λ xs. (fault ≡ Memory) ⊎ IsUnlawful config xs fault) (whole_is es n e lt is) (none_more config (take n es) r new answers h e (drop (suc n) es) fault (taken (Err fault) f)))
+      (subst (λ xs. (fault ≡ Memory) ⊎ IsUnlawful config xs fault) (whole_is es n e lt is)
+          (none_more config (take n es) r new answers h e (drop (suc n) es) fault (taken (Err fault) f)))
 
 -- ---- the report
 
-pub reported : (config : Config) (es : List Event) (r : Run) (answers : List Reply) (result : Result Report Fault) (played : Result (Unit {0}) Fault) → played ≡ Ok tt → Plays config es r answers played
+pub reported : (config : Config) (es : List Event) (r : Run) (answers : List Reply) (result : Result Report Fault)
+    (played : Result (Unit {0}) Fault) → played ≡ Ok tt → Plays config es r answers played
     → ((used : ℕ) (w : World) → IsRun used r w → IfOk result (λ report. Reports w answers report)) → IfOk result (λ report. IsReport config es report)
 reported config es r answers (Err fault) played is plays h = tt
 reported config es r answers (Ok report) played is plays h =
@@ -156,7 +170,8 @@ reported config es r answers (Ok report) played is plays h =
     record { fair = all.0; replies = p.replies ∙ all.1; bag = p.bag; logs = p.logs; lines = p.lines }
 
 -- a list that is refused as unlawful is not lawful
-pub not_fair : (config : Config) (es : List Event) (fault : Fault) (n : ℕ) → IsNoReport config es fault → fault ≡ BadRequest (Unlawful n) → lawful config es ≡ false
+pub not_fair : (config : Config) (es : List Event) (fault : Fault) (n : ℕ) → IsNoReport config es fault → fault ≡ BadRequest (Unlawful n) →
+    lawful config es ≡ false
 not_fair config es fault n (inl memory) is = absurd (cc)
 not_fair config es fault n (inr (inl many)) is = absurd (cc)
 not_fair config es fault n (inr (inr not)) is = unlawful config es fault not

@@ -1,9 +1,11 @@
 -- What is put out in the code is put out in the definitions.
 use Rattle.std.specs.List.{list_any}
-use Rattle.std.proofs.Common.{◌≡◌, ◌||◌, ℕ, Bool, true, false, cond, List, [], ◌∷◌, ◌++◌, Option, Some, None, Result, Ok, Err, OnOk, refl, sym, ap, ◌∙◌, flat_map, option_to_list, option_map}
+use Rattle.std.proofs.Common.{◌≡◌, ◌||◌, ℕ, Bool, true, false, cond, List, [], ◌∷◌, ◌++◌, Option, Some, None, Result, Ok, Err, OnOk, refl, sym, ap}
+use Rattle.std.proofs.Common.{◌∙◌, flat_map, option_to_list, option_map}
+use Rattle.std.proofs.lemmas.Grind.{flat_map-append}
 use Rattle.units.specs.Lists.{when}
 use Rattle.units.specs.Ids.{Id, same_id}
-use Rattle.units.proofs.Folds.{any_append, join_append}
+use Rattle.units.proofs.Folds.{any_append}
 use Rattle.units.specs.declared.line.Line.{Line}
 use Rattle.message.specs.declared.message.Done.{Done}
 use Rattle.message.specs.declared.message.Envelope.{Envelope}
@@ -74,13 +76,14 @@ acks_same : (w : World) (es : List Envelope) → flat_map (ack_in (flat_map told
 acks_same w [] = refl
 acks_same w (e ∷ es) = (λ i. by_message w e.message i ++ acks_same w es i)
 
-pub puts : (p : Past) (w : World) (new : Past) (out : List Envelope) → IsPast p w → new.bag ≡ p.bag ++ out → new.told.items ≡ p.told.items ++ flat_map told_in out
+pub puts : (p : Past) (w : World) (new : Past) (out : List Envelope) → IsPast p w → new.bag ≡ p.bag ++ out →
+    new.told.items ≡ p.told.items ++ flat_map told_in out
     → new.lines.items ≡ p.lines.items ++ flat_map (ack_in p.told.items p.event) out
     → new.event ≡ p.event → IsPast new (put_out out w)
 unfolding put_out
 puts p w new out h bag told lines event = record {
   bag = bag ∙ ap (λ b. b ++ out) h.bag;
-  told = told ∙ ap (λ ts. ts ++ flat_map told_in out) h.told ∙ sym (join_append told_in w.bag out);
+  told = told ∙ ap (λ ts. ts ++ flat_map told_in out) h.told ∙ sym (flat_map-append told_in w.bag out);
   lines = lines ∙ (λ i. h.lines i ++ flat_map (ack_in (h.told i) (h.event i)) out) ∙ ap (λ ls. w.lines ++ ls) (acks_same w out);
   event = event ∙ h.event;
 }

@@ -1,9 +1,10 @@
 -- What the parts of a run answer is what the event comes to.
-use Rattle.std.proofs.Common.{◌≡◌, inl, inr, ℕ, ◌+◌, ◌<◌, ◌^◌, true, not, IsTrue, List, [], ◌∷◌, ◌++◌, slice_get, Option, Some, None, Result, Ok, Err, refl, sym, ap, ◌∙◌, subst, arith}
+use Rattle.std.proofs.Common.{◌≡◌, inl, inr, ℕ, ◌+◌, ◌<◌, ◌^◌, true, not, IsTrue, List, [], ◌∷◌, ◌++◌, slice_get, Option, Some, None, Result, Ok, Err}
+use Rattle.std.proofs.Common.{refl, sym, ap, ◌∙◌, subst, arith}
+use Rattle.std.proofs.lemmas.List.{append-nil}
 use Rattle.units.specs.Ids.{Id}
 use Rattle.units.specs.Keys.{Bytes}
 use Rattle.units.specs.Lists.{when}
-use Rattle.units.proofs.Folds.{append_none}
 use Rattle.units.specs.declared.fault.Fault.{Fault}
 use Rattle.units.specs.declared.fault.Fault.TheVariants.{Stranger}
 use Rattle.units.specs.declared.line.Line.{Line}
@@ -16,12 +17,14 @@ use Rattle.message.specs.declared.message.Message.{Message}
 use Rattle.message.specs.declared.message.ReadAnswer.{ReadAnswer}
 use Rattle.protocol.specs.Step.{Stepped, Refuses, Does}
 use Rattle.session.specs.Sessions.{Client, Stage, IsOpen, IsClosing, IsOver, Moved, Denies, Goes, begun, finishes, hears}
-use Rattle.world.specs.World.{World, After, ShardNow, Nothing, answered, begin, client_of, deliver_to, did, do_at, effect, if_closing, if_hearing, if_not_over, if_open, look_at_view, look_shard, moved, note, noted, put_out, read_lines, refused, set_client, setup_of, shown, to_session, at_shard}
+use Rattle.world.specs.World.{World, After, ShardNow, Nothing, answered, begin, client_of, deliver_to, did, do_at, effect, if_closing, if_hearing}
+use Rattle.world.specs.World.{if_not_over, if_open, look_at_view, look_shard, moved, note, look_noted, put_out, read_lines, refused, set_client}
+use Rattle.world.specs.World.{setup_of, shown_records, to_session, at_shard}
 use Rattle.world.specs.Crashless.{goes_on}
 use Rattle.world.specs.Lawful.{may_act}
 use Rattle.world.specs.Steady.{IsSteady}
 use Rattle.world.specs.Held.{when_closing, when_not_over, when_open}
-use Rattle.world.specs.Hosts.{Hosts, HearsIn, MovesIn, step_of, with_client}
+use Rattle.world.specs.Hosts.{Hosts, HearsIn, MovesIn, session_step, with_client}
 use Rattle.world.specs.Passed.{IsPast}
 use Rattle.world.specs.Fleet.{ActsAt, AreShards, FollowsAt, looked, looked_back, shards_after, shards_by}
 use Rattle.world.specs.Comes.{Comes, HasHeard, HasReplied, IsRun, Notes, TakesMessage, no_line, with_line}
@@ -34,29 +37,32 @@ use Rattle.world.specs.declared.run.Run.{Run}
 
 -- ---- steps of sessions
 
-pub open_moves : (w : World) (o : Option Client) (f : Client → Moved) → if_open w o f ≡ moved w (step_of (when_open f) o)
+pub open_moves : (w : World) (o : Option Client) (f : Client → Moved) → if_open w o f ≡ moved w (session_step (when_open f) o)
 open_moves w None f = refl
 open_moves w (Some c) f = by_stage c.stage
   where
-    by_stage : (s : Stage) → elim s as (λ x. After) [ IsOpen ↦ moved w (f c) | _ ↦ refused w Stranger ] ≡ moved w (elim s as (λ x. Moved) [ IsOpen ↦ f c | _ ↦ Denies Stranger ])
+    by_stage : (s : Stage) → elim s as (λ x. After) [ IsOpen ↦ moved w (f c) | _ ↦ refused w Stranger ] ≡
+        moved w (elim s as (λ x. Moved) [ IsOpen ↦ f c | _ ↦ Denies Stranger ])
     by_stage IsOpen = refl
     by_stage IsClosing = refl
     by_stage IsOver = refl
 
-pub not_over_moves : (w : World) (o : Option Client) (f : Client → Moved) → if_not_over w o f ≡ moved w (step_of (when_not_over f) o)
+pub not_over_moves : (w : World) (o : Option Client) (f : Client → Moved) → if_not_over w o f ≡ moved w (session_step (when_not_over f) o)
 not_over_moves w None f = refl
 not_over_moves w (Some c) f = by_stage c.stage
   where
-    by_stage : (s : Stage) → elim s as (λ x. After) [ IsOver ↦ refused w Stranger | _ ↦ moved w (f c) ] ≡ moved w (elim s as (λ x. Moved) [ IsOver ↦ Denies Stranger | _ ↦ f c ])
+    by_stage : (s : Stage) → elim s as (λ x. After) [ IsOver ↦ refused w Stranger | _ ↦ moved w (f c) ] ≡
+        moved w (elim s as (λ x. Moved) [ IsOver ↦ Denies Stranger | _ ↦ f c ])
     by_stage IsOpen = refl
     by_stage IsClosing = refl
     by_stage IsOver = refl
 
-pub closing_moves : (w : World) (o : Option Client) → if_closing w o ≡ moved w (step_of when_closing o)
+pub closing_moves : (w : World) (o : Option Client) → if_closing w o ≡ moved w (session_step when_closing o)
 closing_moves w None = refl
 closing_moves w (Some c) = by_stage c.stage
   where
-    by_stage : (s : Stage) → elim s as (λ x. After) [ IsClosing ↦ moved w (finishes c) | _ ↦ refused w Stranger ] ≡ moved w (elim s as (λ x. Moved) [ IsClosing ↦ finishes c | _ ↦ Denies Stranger ])
+    by_stage : (s : Stage) → elim s as (λ x. After) [ IsClosing ↦ moved w (finishes c) | _ ↦ refused w Stranger ] ≡
+        moved w (elim s as (λ x. Moved) [ IsClosing ↦ finishes c | _ ↦ Denies Stranger ])
     by_stage IsOpen = refl
     by_stage IsClosing = refl
     by_stage IsOver = refl
@@ -66,11 +72,13 @@ pub open_hears : (w : World) (c : Client) (a : ReadAnswer) → c.stage ≡ IsOpe
 open_hears w c a is = ap (λ s. elim s as (λ x. After) [ IsOpen ↦ answered w c a | _ ↦ refused w Stranger ]) is
 
 -- any other is a stranger
-pub others_hear_not : (w : World) (o : Option Client) (a : ReadAnswer) → step_of (when_open finishes) o ≡ Denies Stranger → if_hearing w o a ≡ refused w Stranger
+pub others_hear_not : (w : World) (o : Option Client) (a : ReadAnswer) → session_step (when_open finishes) o ≡ Denies Stranger →
+    if_hearing w o a ≡ refused w Stranger
 others_hear_not w None a h = refl
 others_hear_not w (Some c) a h = by_stage c.stage h
   where
-    by_stage : (s : Stage) → elim s as (λ x. Moved) [ IsOpen ↦ finishes c | _ ↦ Denies Stranger ] ≡ Denies Stranger → elim s as (λ x. After) [ IsOpen ↦ answered w c a | _ ↦ refused w Stranger ] ≡ refused w Stranger
+    by_stage : (s : Stage) → elim s as (λ x. Moved) [ IsOpen ↦ finishes c | _ ↦ Denies Stranger ] ≡ Denies Stranger →
+        elim s as (λ x. After) [ IsOpen ↦ answered w c a | _ ↦ refused w Stranger ] ≡ refused w Stranger
     by_stage IsOpen e = absurd (cc)
     by_stage IsClosing e = refl
     by_stage IsOver e = refl
@@ -89,13 +97,15 @@ is_new w time t may = by_value (client_of w t) may
 module _ (w : World) (new : Sessions) where
   nothing_put : (d : Client) → put_out [] (set_client d w) ≡ with_line None (set_client d w)
   unfolding put_out
-  nothing_put d = ap (λ bag. record w { clients = with_client d w.clients; bag = bag; lines = w.lines ++ [] }) (append_none w.bag)
+  nothing_put d = ap (λ bag. record w { clients = with_client d w.clients; bag = bag; lines = w.lines ++ [] }) (append-nil w.bag)
 
-  end_taken : (o : Option Client) (d : Client) (out : List Envelope) → step_of when_closing o ≡ Goes d out → moved w (Goes d out) ≡ (with_line None (set_client d w), Reply.Done)
+  end_taken : (o : Option Client) (d : Client) (out : List Envelope) → session_step when_closing o ≡ Goes d out →
+      moved w (Goes d out) ≡ (with_line None (set_client d w), Reply.Done)
   end_taken None d out h = absurd (cc)
   end_taken (Some c) d out h = by_stage c.stage h
     where
-      by_stage : (s : Stage) → elim s as (λ x. Moved) [ IsClosing ↦ finishes c | _ ↦ Denies Stranger ] ≡ Goes d out → moved w (Goes d out) ≡ (with_line None (set_client d w), Reply.Done)
+      by_stage : (s : Stage) → elim s as (λ x. Moved) [ IsClosing ↦ finishes c | _ ↦ Denies Stranger ] ≡ Goes d out →
+          moved w (Goes d out) ≡ (with_line None (set_client d w), Reply.Done)
       by_stage IsOpen e = absurd (cc)
       by_stage IsOver e = absurd (cc)
       by_stage IsClosing e =
@@ -103,14 +113,17 @@ module _ (w : World) (new : Sessions) where
           (λ i. (put_out (none i) (set_client d w), Reply.Done)) ∙ (λ i. (nothing_put d i, Reply.Done))
 
   -- the end of a transaction
-  pub takes_end : (e : Done) (answer : Result (List Envelope) Fault) → MovesIn w.config.splits (step_of when_closing (client_of w e.txn)) new w.clients answer → TakesMessage w (Message.Done e) new (no_line answer)
+  pub takes_end : (e : Done) (answer : Result (List Envelope) Fault) → MovesIn w.config.splits
+      (session_step when_closing (client_of w e.txn)) new w.clients answer → TakesMessage w (Message.Done e) new (no_line answer)
   unfolding to_session
-  takes_end e (Ok out) moves = (moves.0, closing_moves w (client_of w e.txn) ∙ ap (moved w) moves.1 ∙ end_taken (client_of w e.txn) moves.0 out moves.1, moves.2)
+  takes_end e (Ok out) moves = (moves.0, closing_moves w (client_of w e.txn) ∙ ap (moved w) moves.1
+      ∙ end_taken (client_of w e.txn) moves.0 out moves.1, moves.2)
   takes_end e (Err fault) (inl memory) = inl memory
   takes_end e (Err fault) (inr moves) = inr (closing_moves w (client_of w e.txn) ∙ ap (moved w) moves.0, moves.1)
 
   -- an answer
-  pub takes_answer : (a : ReadAnswer) (answer : Result (Option Line) Fault) → HearsIn w.config.splits a new w.clients (client_of w a.txn) answer → TakesMessage w (Message.ReadAnswer a) new answer
+  pub takes_answer : (a : ReadAnswer) (answer : Result (Option Line) Fault) → HearsIn w.config.splits a new w.clients (client_of w a.txn) answer →
+      TakesMessage w (Message.ReadAnswer a) new answer
   unfolding to_session
   takes_answer a (Ok line) hears =
       let d = hears.3 in (
@@ -124,7 +137,8 @@ module _ (w : World) (new : Sessions) where
   takes_answer a (Err fault) (inr hears) = inr (others_hear_not w (client_of w a.txn) a hears.1 ∙ ap (λ f. refused w f) (sym hears.0), hears.2)
 
   -- no other message is for a session
-  pub no_others : (m : Message) → ((x : ReadAnswer) → m ≡ Message.ReadAnswer x → ⊥) → ((x : Done) → m ≡ Message.Done x → ⊥) → to_session w m ≡ refused w Stranger
+  pub no_others : (m : Message) → ((x : ReadAnswer) → m ≡ Message.ReadAnswer x → ⊥) → ((x : Done) → m ≡ Message.Done x → ⊥) →
+      to_session w m ≡ refused w Stranger
   unfolding to_session
   no_others (Message.ReadAnswer x) answer end = absurd (answer x refl)
   no_others (Message.Done x) answer end = absurd (end x refl)
@@ -140,73 +154,88 @@ module _ (w : World) (new : Sessions) where
 
 module _ (used : ℕ) (w : World) (old new : Run) (h : IsRun used old w) where
   same_shards : new.shards ≡ old.shards → AreShards w.config (used + 1) new.shards w.shards
-  same_shards e = subst (λ s. AreShards w.config (used + 1) s w.shards) (sym e) (record { splits_are = h.shards.splits_are; running = all_grow w.config used 0 old.shards.running.items w.shards h.shards.running })
+  same_shards e = subst (λ s. AreShards w.config (used + 1) s w.shards) (sym e)
+      (record { splits_are = h.shards.splits_are; running = all_grow w.config used 0 old.shards.running.items w.shards h.shards.running })
 
   -- nothing happens
   stands_still : IsRun (used + 1) old w
-  stands_still = record { sessions = h.sessions; shards = record { splits_are = h.shards.splits_are; running = all_grow w.config used 0 old.shards.running.items w.shards h.shards.running }; past = h.past; time = h.time }
+  stands_still = record { sessions = h.sessions; shards = record { splits_are = h.shards.splits_are; running =
+      all_grow w.config used 0 old.shards.running.items w.shards h.shards.running }; past = h.past; time = h.time }
 
   pub nobody_comes : (m : ℕ) (now : Interval) (o : Option Envelope) → o ≡ None → Comes (used + 1) (deliver_to w m now o) old (Ok (Reply.Refused Stranger))
   unfolding deliver_to
   nobody_comes m now o none = subst (λ x. Comes (used + 1) (deliver_to w m now x) old (Ok (Reply.Refused Stranger))) (sym none) (refl, stands_still)
 
   -- a session begins
-  pub begin_comes : (t : Id) (number : ℕ) → number ≡ w.event → Hosts w.config.splits new.sessions (w.clients ++ begun t ∷ []) → ((v : World) → IsPast old.past v → IsPast new.past (note (Line.Begin t number) v))
+  pub begin_comes : (t : Id) (number : ℕ) → number ≡ w.event → Hosts w.config.splits new.sessions (w.clients ++ begun t ∷ []) →
+      ((v : World) → IsPast old.past v → IsPast new.past (note (Line.Begin t number) v))
       → new.shards ≡ old.shards → new.time ≡ old.time → Comes (used + 1) (begin t w, Reply.Done) new (Ok Reply.Done)
-  begin_comes t number is hosts noted shards time = (
+  begin_comes t number is hosts look_noted shards time = (
     refl,
     record {
       sessions = hosts;
       shards = same_shards shards;
       past = subst (λ n. IsPast new.past (note (Line.Begin t n) (record w { clients = w.clients ++ begun t ∷ [] }))) is
-          (noted (record w { clients = w.clients ++ begun t ∷ [] }) (record { bag = h.past.bag; told = h.past.told; lines = h.past.lines; event = h.past.event }));
+          (look_noted (record w { clients = w.clients ++ begun t ∷ [] })
+              (record { bag = h.past.bag; told = h.past.told; lines = h.past.lines; event = h.past.event }));
       time = time ∙ h.time;
     },
   )
 
   -- a step of a session
-  pub session_comes : (m : Moved) (answer : Result (List Envelope) Fault) (result : Result Reply Fault) → MovesIn w.config.splits m new.sessions w.clients answer
-      → ((v : World) → IsPast old.past v → HasReplied v answer new.past result) → new.shards ≡ old.shards → new.time ≡ old.time → Comes (used + 1) (moved w m) new result
+  pub session_comes : (m : Moved) (answer : Result (List Envelope) Fault) (result : Result Reply Fault) →
+      MovesIn w.config.splits m new.sessions w.clients answer
+      → ((v : World) → IsPast old.past v → HasReplied v answer new.past result) → new.shards ≡ old.shards → new.time ≡ old.time →
+          Comes (used + 1) (moved w m) new result
   unfolding put_out
   session_comes m (Ok out) (Ok reply) moves replies shards time =
       let r = replies (set_client moves.0 w) (record { bag = h.past.bag; told = h.past.told; lines = h.past.lines; event = h.past.event }) in
-      subst (λ n. Comes (used + 1) (moved w n) new (Ok reply)) (sym moves.1) (r.0, record { sessions = moves.2; shards = same_shards shards; past = r.1; time = time ∙ h.time })
+      subst (λ n. Comes (used + 1) (moved w n) new (Ok reply)) (sym moves.1)
+          (r.0, record { sessions = moves.2; shards = same_shards shards; past = r.1; time = time ∙ h.time })
   session_comes m (Ok out) (Err fault) moves replies shards time = replies w h.past
   session_comes m (Err why) (Ok reply) (inl memory) replies shards time = absurd ((replies w h.past).0 memory)
   session_comes m (Err why) (Ok reply) (inr moves) replies shards time =
       let r = replies w h.past in
-      subst (λ n. Comes (used + 1) (moved w n) new (Ok reply)) (sym moves.0) (r.1, record { sessions = moves.1; shards = same_shards shards; past = r.2; time = time ∙ h.time })
+      subst (λ n. Comes (used + 1) (moved w n) new (Ok reply)) (sym moves.0)
+          (r.1, record { sessions = moves.1; shards = same_shards shards; past = r.2; time = time ∙ h.time })
   session_comes m (Err why) (Err fault) moves replies shards time = replies w h.past
 
   -- a message that comes to one
   pub message_comes : (m : Message) (answer : Result (Option Line) Fault) (result : Result Reply Fault) → TakesMessage w m new.sessions answer
-      → ((v : World) → IsPast old.past v → HasHeard v answer new.past result) → new.shards ≡ old.shards → new.time ≡ old.time → Comes (used + 1) (to_session w m) new result
+      → ((v : World) → IsPast old.past v → HasHeard v answer new.past result) → new.shards ≡ old.shards → new.time ≡ old.time →
+          Comes (used + 1) (to_session w m) new result
   message_comes m (Ok line) (Ok reply) takes heard shards time =
       let r = heard (set_client takes.0 w) (record { bag = h.past.bag; told = h.past.told; lines = h.past.lines; event = h.past.event }) in
-      subst (λ a. Comes (used + 1) a new (Ok reply)) (sym takes.1) (r.0, record { sessions = takes.2; shards = same_shards shards; past = r.1; time = time ∙ h.time })
+      subst (λ a. Comes (used + 1) a new (Ok reply)) (sym takes.1)
+          (r.0, record { sessions = takes.2; shards = same_shards shards; past = r.1; time = time ∙ h.time })
   message_comes m (Ok line) (Err fault) takes heard shards time = heard w h.past
   message_comes m (Err why) (Ok reply) (inl memory) heard shards time = absurd ((heard w h.past).0 memory)
   message_comes m (Err why) (Ok reply) (inr takes) heard shards time =
       let r = heard w h.past in
-      subst (λ a. Comes (used + 1) a new (Ok reply)) (sym takes.0) (r.1, record { sessions = takes.1; shards = same_shards shards; past = r.2; time = time ∙ h.time })
+      subst (λ a. Comes (used + 1) a new (Ok reply)) (sym takes.0)
+          (r.1, record { sessions = takes.1; shards = same_shards shards; past = r.2; time = time ∙ h.time })
   message_comes m (Err why) (Err fault) takes heard shards time = heard w h.past
 
   -- a look
   pub look_comes : (k : Bytes) (at : ℕ) (shows : Reply) (result : Result Reply Fault) → ((v : World) → IsPast old.past v → Notes v k at shows new.past result)
-      → new.sessions ≡ old.sessions → new.shards ≡ old.shards → new.time ≡ old.time → Comes (used + 1) (noted w k at shows) new result
+      → new.sessions ≡ old.sessions → new.shards ≡ old.shards → new.time ≡ old.time → Comes (used + 1) (look_noted w k at shows) new result
   look_comes k at shows (Err fault) notes sessions shards time = notes w h.past
   look_comes k at (Reply.Shows x) (Ok reply) notes sessions shards time =
       let r = notes w h.past in
-      (r.0, record { sessions = subst (λ s. Hosts w.config.splits s w.clients) (sym sessions) h.sessions; shards = same_shards shards; past = r.1; time = time ∙ h.time })
+      (r.0, record { sessions = subst (λ s. Hosts w.config.splits s w.clients) (sym sessions) h.sessions; shards = same_shards shards; past = r.1;
+          time = time ∙ h.time })
   look_comes k at (Reply.Refused fault) (Ok reply) notes sessions shards time =
       let r = notes w h.past in
-      (r.0, record { sessions = subst (λ s. Hosts w.config.splits s w.clients) (sym sessions) h.sessions; shards = same_shards shards; past = r.1; time = time ∙ h.time })
+      (r.0, record { sessions = subst (λ s. Hosts w.config.splits s w.clients) (sym sessions) h.sessions; shards = same_shards shards; past = r.1;
+          time = time ∙ h.time })
   look_comes k at Reply.Done (Ok reply) notes sessions shards time =
       let r = notes w h.past in
-      (r.0, record { sessions = subst (λ s. Hosts w.config.splits s w.clients) (sym sessions) h.sessions; shards = same_shards shards; past = r.1; time = time ∙ h.time })
+      (r.0, record { sessions = subst (λ s. Hosts w.config.splits s w.clients) (sym sessions) h.sessions; shards = same_shards shards; past = r.1;
+          time = time ∙ h.time })
   look_comes k at Reply.Crashed (Ok reply) notes sessions shards time =
       let r = notes w h.past in
-      (r.0, record { sessions = subst (λ s. Hosts w.config.splits s w.clients) (sym sessions) h.sessions; shards = same_shards shards; past = r.1; time = time ∙ h.time })
+      (r.0, record { sessions = subst (λ s. Hosts w.config.splits s w.clients) (sym sessions) h.sessions; shards = same_shards shards; past = r.1;
+          time = time ∙ h.time })
 
   -- a step of a shard
   abbrev by_shards : Result (List ShardNow × List Envelope) Fault → After
@@ -232,7 +261,8 @@ module _ (used : ℕ) (w : World) (old new : Run) (h : IsRun used old w) where
     where
       by_place : (o : Option ShardNow)
           → elim o as (λ x. After) [ None ↦ refused w Stranger | Some s ↦ did w n s doing (effect (setup_of w.config n) w.bag s doing) ]
-          ≡ by_shards (elim o as (λ x. Result (List ShardNow × List Envelope) Fault) [ None ↦ Err Stranger | Some s ↦ shards_after w.shards n s doing (effect (setup_of w.config n) w.bag s doing) ])
+          ≡ by_shards (elim o as (λ x. Result (List ShardNow × List Envelope) Fault) [ None ↦ Err Stranger | Some s ↦
+              shards_after w.shards n s doing (effect (setup_of w.config n) w.bag s doing) ])
       by_place None = refl
       by_place (Some s) = did_is n s doing (effect (setup_of w.config n) w.bag s doing) goes
 
@@ -240,9 +270,11 @@ module _ (used : ℕ) (w : World) (old new : Run) (h : IsRun used old w) where
   follows_at : (n : ℕ) (doing : Doing) → IsSteady w → FollowsAt w.config w.bag w.shards n doing
   follows_at n doing steady s there r memory out is =
       let sure : s.unsure ≡ Nothing = (of_place w.config used 0 n n old.shards.running.items w.shards s h.shards.running (omega arith) there).2.sure in
-      subst (λ log. IsTrue (followed n (log ++ r ∷ []))) (ap (λ u. s.log ++ shown u) sure ∙ append_none s.log) (steady.logged n s doing r memory out there is)
+      subst (λ log. IsTrue (followed n (log ++ r ∷ []))) (ap (λ u. s.log ++ shown_records u) sure ∙ append-nil s.log)
+          (steady.logged n s doing r memory out there is)
 
-  pub shard_comes : (n : ℕ) (doing : Doing) (answer : Result (List Envelope) Fault) (result : Result Reply Fault) → goes_on doing ≡ true → used < 2 ^ 19 → IsSteady w
+  pub shard_comes : (n : ℕ) (doing : Doing) (answer : Result (List Envelope) Fault) (result : Result Reply Fault) → goes_on doing ≡ true →
+      used < 2 ^ 19 → IsSteady w
       → ActsAt w.config used w.bag w.shards n doing new.shards answer → ((v : World) → IsPast old.past v → HasReplied v answer new.past result)
       → new.sessions ≡ old.sessions → new.time ≡ old.time → Comes (used + 1) (do_at w n doing) new result
   unfolding put_out
@@ -269,29 +301,35 @@ module _ (used : ℕ) (w : World) (old new : Run) (h : IsRun used old w) where
       ]
 
 -- a message to a shard, and one to a session
-pub for_shard : (w : World) (m n : ℕ) (now : Interval) (e : Envelope) → slice_get w.bag m ≡ Some e → e.to ≡ Shard n → deliver_to w m now (slice_get w.bag m) ≡ do_at w n (Doing.Take m now)
+pub for_shard : (w : World) (m n : ℕ) (now : Interval) (e : Envelope) → slice_get w.bag m ≡ Some e → e.to ≡ Shard n →
+    deliver_to w m now (slice_get w.bag m) ≡ do_at w n (Doing.Take m now)
 unfolding deliver_to
 for_shard w m n now e there to =
     ap (deliver_to w m now) there ∙ ap (λ a. elim a as (λ x. After) [ Shard k ↦ do_at w k (Doing.Take m now) | Session t ↦ to_session w e.message ]) to
 
-pub for_session : (w : World) (m : ℕ) (t : Id) (now : Interval) (e : Envelope) → slice_get w.bag m ≡ Some e → e.to ≡ Session t → deliver_to w m now (slice_get w.bag m) ≡ to_session w e.message
+pub for_session : (w : World) (m : ℕ) (t : Id) (now : Interval) (e : Envelope) → slice_get w.bag m ≡ Some e → e.to ≡ Session t →
+    deliver_to w m now (slice_get w.bag m) ≡ to_session w e.message
 unfolding deliver_to
 for_session w m t now e there to =
     ap (deliver_to w m now) there ∙ ap (λ a. elim a as (λ x. After) [ Shard k ↦ do_at w k (Doing.Take m now) | Session u ↦ to_session w e.message ]) to
 
 -- a look at a shard, and at a view of it
-pub looks : (w : World) (n : ℕ) (k : Bytes) (at : ℕ) → at_shard w n (λ setup s. noted w k at (look_shard setup s k at)) ≡ noted w k at (looked w.config w.shards n k at)
+pub looks : (w : World) (n : ℕ) (k : Bytes) (at : ℕ) → at_shard w n (λ setup s. look_noted w k at (look_shard setup s k at)) ≡
+    look_noted w k at (looked w.config w.shards n k at)
 looks w n k at = by_place (slice_get w.shards n)
   where
-    by_place : (o : Option ShardNow) → elim o as (λ x. After) [ None ↦ refused w Stranger | Some s ↦ noted w k at (look_shard (setup_of w.config n) s k at) ]
-        ≡ noted w k at (elim o as (λ x. Reply) [ None ↦ Reply.Refused Stranger | Some s ↦ look_shard (setup_of w.config n) s k at ])
+    by_place : (o : Option ShardNow) → elim o as (λ x. After) [ None ↦ refused w Stranger | Some s ↦
+        look_noted w k at (look_shard (setup_of w.config n) s k at) ]
+        ≡ look_noted w k at (elim o as (λ x. Reply) [ None ↦ Reply.Refused Stranger | Some s ↦ look_shard (setup_of w.config n) s k at ])
     by_place None = refl
     by_place (Some s) = refl
 
-pub looks_back : (w : World) (n v : ℕ) (k : Bytes) (at : ℕ) → at_shard w n (λ setup s. noted w k at (look_at_view setup (slice_get s.views v) k at)) ≡ noted w k at (looked_back w.config w.shards n v k at)
+pub looks_back : (w : World) (n v : ℕ) (k : Bytes) (at : ℕ) →
+    at_shard w n (λ setup s. look_noted w k at (look_at_view setup (slice_get s.views v) k at)) ≡ look_noted w k at (looked_back w.config w.shards n v k at)
 looks_back w n v k at = by_place (slice_get w.shards n)
   where
-    by_place : (o : Option ShardNow) → elim o as (λ x. After) [ None ↦ refused w Stranger | Some s ↦ noted w k at (look_at_view (setup_of w.config n) (slice_get s.views v) k at) ]
-        ≡ noted w k at (elim o as (λ x. Reply) [ None ↦ Reply.Refused Stranger | Some s ↦ look_at_view (setup_of w.config n) (slice_get s.views v) k at ])
+    by_place : (o : Option ShardNow) → elim o as (λ x. After) [ None ↦ refused w Stranger | Some s ↦
+        look_noted w k at (look_at_view (setup_of w.config n) (slice_get s.views v) k at) ]
+        ≡ look_noted w k at (elim o as (λ x. Reply) [ None ↦ Reply.Refused Stranger | Some s ↦ look_at_view (setup_of w.config n) (slice_get s.views v) k at ])
     by_place None = refl
     by_place (Some s) = refl

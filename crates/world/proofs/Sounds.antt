@@ -1,13 +1,14 @@
 -- What each step of a shard keeps and each opening brings back holds at every moment of a run. A step may rest on what is
 -- given to its shard: `Allowed` says what that is.
-use Rattle.std.proofs.Common.{◌≡◌, nat_le, inl, inr, ℕ, suc, ◌+◌, Bool, true, false, cond, nat_eq, nat_lt, List, [], ◌∷◌, ◌++◌, length, Option, Some, None, slice_get, refl, sym, ap, subst, ◌∙◌}
+use Rattle.std.proofs.Common.{◌≡◌, nat_le, inl, inr, ℕ, suc, ◌+◌, Bool, true, false, cond, nat_eq, nat_lt, List, [], ◌∷◌, ◌++◌, length, Option, Some}
+use Rattle.std.proofs.Common.{None, slice_get, refl, sym, ap, subst, ◌∙◌}
 use Rattle.std.specs.Prelude.{Ok, Err, option_to_list}
 use Rattle.std.proofs.lemmas.Bool.{cases_eq, and_parts}
+use Rattle.std.proofs.lemmas.List.{append-nil}
 use Rattle.units.specs.Lists.{replaced}
 use Rattle.units.specs.declared.fault.Fault.{Fault}
 use Rattle.units.specs.declared.fault.Fault.TheVariants.{Stopped, Stranger, Device, TimeSpent}
 use Rattle.units.specs.declared.setup.Setup.{Setup}
-use Rattle.units.proofs.Folds.{append_none}
 use Rattle.truetime.specs.Interval.{Interval}
 use Rattle.disk.specs.declared.plan.Fate.{Fate}
 use Rattle.record.specs.Accepted.{followed}
@@ -19,11 +20,16 @@ use Rattle.message.specs.declared.message.Address.TheVariants.{Shard, Session}
 use Rattle.message.specs.declared.message.Envelope.{Envelope}
 use Rattle.message.specs.declared.message.Input.{Input}
 use Rattle.protocol.specs.Rows.{Memory, rebuilt}
-use Rattle.protocol.specs.Plan.{time_limit, Plan, Planned, before, carried}
+use Rattle.protocol.specs.Plan.{time_limit, Plan, Planned, start_of_step, carried}
 use Rattle.protocol.specs.Step.{step_within, Stepped, Refuses, Does, facts_after, plan_input, stepped}
 use Rattle.world.specs.Lawful.{lawful, lawful_from, may_happen, may_act}
 use Rattle.session.specs.Sessions.{reads, buffers, closes, gives_up}
-use Rattle.world.specs.World.{World, ShardNow, State, Runs, IsStopped, IsDown, Unsure, Nothing, Shown, Hidden, shown, read_log, setup_of, opening, input_of, step_with, effect, finished, crashed, crashed_in, failed_in, left_of, left_by_refused, is_left, opens_gate, stopped, set_shard, fresh_log, fresh_shard, After, client_of, put_out, refused, if_open, if_not_over, to_session, refused_doing, did, did_with_failure, at_shard, do_at, deliver_to, noted, look_shard, look_at_view, acts, happens, start, run, run_from}
+use Rattle.gatelog.specs.Gates.{is_left, is_read, opens_gate}
+use Rattle.world.specs.World.{World, ShardNow, State, Runs, IsStopped, IsDown, Unsure, Nothing, Shown, Hidden, shown_records, read_log, setup_of}
+use Rattle.world.specs.World.{step_of_opening, input_of, step_with, effect, finished, crashed, crashed_in, failed_in, left_of, left_by_refused}
+use Rattle.world.specs.World.{stopped, set_shard, fresh_log, fresh_shard, After, client_of, put_out, refused, if_open}
+use Rattle.world.specs.World.{if_not_over, to_session, refused_doing, did, did_with_failure, at_shard, do_at, deliver_to, look_noted, look_shard}
+use Rattle.world.specs.World.{look_at_view, acts, happens, start, run, run_from}
 use Rattle.world.specs.Headline.{IsUnsure, MayLeaveLog}
 use Rattle.world.specs.declared.event.Act.{Act}
 use Rattle.world.specs.declared.event.Config.{Config}
@@ -42,16 +48,17 @@ abbrev pub ActAllowed : (Setup → Input → Type 0) → World → Act → Type 
 ActAllowed Allowed w (Act.At n doing) = DoingAllowed Allowed (setup_of w.config n) w.bag doing
 ActAllowed Allowed w (Act.CrashIn n call fate doing) = DoingAllowed Allowed (setup_of w.config n) w.bag doing
 ActAllowed Allowed w (Act.FailIn n call doing) = DoingAllowed Allowed (setup_of w.config n) w.bag doing
-ActAllowed Allowed w (Act.Deliver m now) = (e : Envelope) (n : ℕ) → slice_get w.bag m ≡ Some e → e.to ≡ Shard n → DoingAllowed Allowed (setup_of w.config n) w.bag (Doing.Take m now)
+ActAllowed Allowed w (Act.Deliver m now) = (e : Envelope) (n : ℕ) → slice_get w.bag m ≡ Some e → e.to ≡ Shard n →
+    DoingAllowed Allowed (setup_of w.config n) w.bag (Doing.Take m now)
 ActAllowed Allowed w _ = Unit {0}
 
 module _ (Allowed : Setup → Input → Type 0) (Sound : Setup → Facts → Memory → Type 0) (Good : Setup → List Record → Type 0)
     (keeps : (setup : Setup) (f : Facts) (m : Memory) (now : Interval) (i : Input) (p : Plan) → Allowed setup i → Sound setup f m →
-    plan_input setup (before 1024 setup f m) now i ≡ Ok p → Sound setup (facts_after f p.logged) (carried p m))
+    plan_input setup (start_of_step 1024 setup f m) now i ≡ Ok p → Sound setup (facts_after f p.logged) (carried p m))
     (opens : (setup : Setup) (f : Facts) (m : Memory) → Sound setup f m → Sound setup (learn f (Record.Opened (f.epoch + 1))) (rebuilt f))
     (follows : (setup : Setup) (log : List Record) → Good setup log → followed setup.shard log ≡ true)
     (logs : (setup : Setup) (log : List Record) (m : Memory) (now : Interval) (i : Input) (p : Plan) (r : Record) → Allowed setup i → Good setup log →
-    Sound setup (facts_of log) m → plan_input setup (before 1024 setup (facts_of log) m) now i ≡ Ok p → p.logged ≡ Some r → Good setup (log ++ r ∷ []))
+    Sound setup (facts_of log) m → plan_input setup (start_of_step 1024 setup (facts_of log) m) now i ≡ Ok p → p.logged ≡ Some r → Good setup (log ++ r ∷ []))
     (good_opens : (setup : Setup) (log : List Record) → Good setup log → Good setup (log ++ Record.Opened ((facts_of log).epoch + 1) ∷ [])) where
   -- ---- one shard
 
@@ -80,17 +87,21 @@ module _ (Allowed : Setup → Input → Type 0) (Sound : Setup → Facts → Mem
   SteppedSound L setup log (Does logged memory out) = SoundStep L setup (with_record log logged) memory
 
   -- one more record
-  more : (L : Type 0) (setup : Setup) (log : List Record) (r : Record) (m : Memory) → (L → Good setup (log ++ r ∷ [])) → (L → Sound setup (learn (facts_of log) r) m) →
+  more : (L : Type 0) (setup : Setup) (log : List Record) (r : Record) (m : Memory) → (L → Good setup (log ++ r ∷ [])) →
+      (L → Sound setup (learn (facts_of log) r) m) →
       SoundStep L setup (log ++ r ∷ []) m
-  more L setup log r m next sound = record { sound = λ l. subst (λ x. Sound setup x m) (sym (learn_agrees setup.shard log r (follows setup (log ++ r ∷ []) (next l)))) (sound l); good = next }
+  more L setup log r m next sound = record { sound = λ l. subst (λ x. Sound setup x m) (sym
+      (learn_agrees setup.shard log r (follows setup (log ++ r ∷ []) (next l)))) (sound l); good = next }
 
   -- a step of a running shard
-  of_plan : (L : Type 0) (setup : Setup) (log : List Record) (m : Memory) (now : Interval) (i : Input) → (L → Allowed setup i) → Good setup log → Sound setup (facts_of log) m →
-      (p : Planned) → plan_input setup (before 1024 setup (facts_of log) m) now i ≡ p → SteppedSound L setup log (stepped m p)
+  of_plan : (L : Type 0) (setup : Setup) (log : List Record) (m : Memory) (now : Interval) (i : Input) → (L → Allowed setup i) → Good setup log →
+      Sound setup (facts_of log) m →
+      (p : Planned) → plan_input setup (start_of_step 1024 setup (facts_of log) m) now i ≡ p → SteppedSound L setup log (stepped m p)
   of_plan L setup log m now i allowed good sound (Err f) e = tt
   of_plan L setup log m now i allowed good sound (Ok p) e = by_record p.logged refl (λ l. keeps setup (facts_of log) m now i p (allowed l) sound e)
     where
-      by_record : (o : Option Record) → p.logged ≡ o → (L → Sound setup (facts_after (facts_of log) o) (carried p m)) → SoundStep L setup (with_record log o) (carried p m)
+      by_record : (o : Option Record) → p.logged ≡ o → (L → Sound setup (facts_after (facts_of log) o) (carried p m)) →
+          SoundStep L setup (with_record log o) (carried p m)
       by_record None is kept = record { sound = kept; good = λ l. good }
       by_record (Some r) is kept = more L setup log r (carried p m) (λ l. logs setup log m now i p r (allowed l) good sound e is) kept
 
@@ -102,56 +113,70 @@ module _ (Allowed : Setup → Input → Type 0) (Sound : Setup → Facts → Mem
     pub read_left : MayLeaveLog s (read_log s)
     read_left = by_unsure s.unsure refl
       where
-        by_unsure : (u : Unsure) → s.unsure ≡ u → MayLeaveLog s (s.log ++ shown u)
-        by_unsure Nothing is = inl (append_none s.log)
+        by_unsure : (u : Unsure) → s.unsure ≡ u → MayLeaveLog s (s.log ++ shown_records u)
+        by_unsure Nothing is = inl (append-nil s.log)
         by_unsure (Shown r) is = inr (r, subst (λ u. IsUnsure u r) (sym is) refl, refl)
-        by_unsure (Hidden r) is = inl (append_none s.log)
+        by_unsure (Hidden r) is = inl (append-nil s.log)
 
-    running : (L : Type 0) (o : Option (Interval × Input)) → ((p : Interval × Input) → o ≡ Some p → L → Allowed (setup_of config n) p.1) → (st : State) → s.state ≡ st →
-        SteppedSound L (setup_of config n) (read_log s) (elim st as (λ x. Stepped) [ Runs m ↦ step_with (setup_of config n) (facts_of s.log) m o | _ ↦ Refuses Stopped ])
+    running : (L : Type 0) (o : Option (Interval × Input)) → ((p : Interval × Input) → o ≡ Some p → L → Allowed (setup_of config n) p.1) →
+        (st : State) → s.state ≡ st →
+        SteppedSound L (setup_of config n) (read_log s) (elim st as (λ x. Stepped) [ Runs m ↦
+            step_with (setup_of config n) (facts_of s.log) m o | _ ↦ Refuses Stopped ])
     unfolding step_within
     running L o allowed (IsStopped m) is = tt
     running L o allowed IsDown is = tt
     running L None allowed (Runs m) is = tt
     running L (Some p) allowed (Runs m) is =
         let state : SoundState (setup_of config n) s (Runs m) = subst (SoundState (setup_of config n) s) is sound.state in
-        let read_is : read_log s ≡ s.log = ap (λ u. s.log ++ shown u) state.1 ∙ append_none s.log in
+        let read_is : read_log s ≡ s.log = ap (λ u. s.log ++ shown_records u) state.1 ∙ append-nil s.log in
         subst (λ l. SteppedSound L (setup_of config n) l (step_with (setup_of config n) (facts_of s.log) m (Some p))) (sym read_is)
-        (of_plan L (setup_of config n) s.log m p.0 p.1 (allowed p refl) plain.good state.0 (plan_input (setup_of config n) (before 1024 (setup_of config n) (facts_of s.log) m) p.0 p.1) refl)
+        (of_plan L (setup_of config n) s.log m p.0 p.1 (allowed p refl) plain.good state.0
+            (plan_input (setup_of config n) (start_of_step 1024 (setup_of config n) (facts_of s.log) m) p.0 p.1) refl)
 
-    opened : SteppedSound (Unit {0}) (setup_of config n) (read_log s) (opening (facts_of (read_log s)))
-    unfolding opening
+    opened : SteppedSound (Unit {0}) (setup_of config n) (read_log s) (step_of_opening (facts_of (read_log s)))
+    unfolding step_of_opening
     opened = by_test (nat_lt (facts_of (read_log s)).epoch time_limit)
       where
-        by_test : (b : Bool) → SteppedSound (Unit {0}) (setup_of config n) (read_log s) (cond b (Does (Some (Record.Opened ((facts_of (read_log s)).epoch + 1))) (rebuilt (facts_of (read_log s))) []) (Refuses TimeSpent))
+        by_test : (b : Bool) → SteppedSound (Unit {0}) (setup_of config n) (read_log s) (cond b
+            (Does (Some (Record.Opened ((facts_of (read_log s)).epoch + 1))) (rebuilt (facts_of (read_log s))) []) (Refuses TimeSpent))
         by_test false = tt
         by_test true =
             let l = sound.left (read_log s) read_left in
-            more (Unit {0}) (setup_of config n) (read_log s) (Record.Opened ((facts_of (read_log s)).epoch + 1)) (rebuilt (facts_of (read_log s))) (λ u. good_opens (setup_of config n) (read_log s) l.good)
+            more (Unit {0}) (setup_of config n) (read_log s) (Record.Opened ((facts_of (read_log s)).epoch + 1)) (rebuilt (facts_of (read_log s)))
+                (λ u. good_opens (setup_of config n) (read_log s) l.good)
             (λ u. opens (setup_of config n) (facts_of (read_log s)) l.memory l.sound)
 
-    pub effect_sound : (doing : Doing) → SteppedSound (DoingAllowed Allowed (setup_of config n) bag doing) (setup_of config n) (read_log s) (effect (setup_of config n) bag s doing)
+    pub effect_sound : (doing : Doing) → SteppedSound (DoingAllowed Allowed (setup_of config n) bag doing) (setup_of config n) (read_log s)
+        (effect (setup_of config n) bag s doing)
     unfolding effect
     effect_sound Doing.Open = by_state s.state
       where
-        opened_so : (st : Stepped) → SteppedSound (Unit {0}) (setup_of config n) (read_log s) st → SteppedSound (DoingAllowed Allowed (setup_of config n) bag Doing.Open) (setup_of config n) (read_log s) st
+        opened_so : (st : Stepped) → SteppedSound (Unit {0}) (setup_of config n) (read_log s) st →
+            SteppedSound (DoingAllowed Allowed (setup_of config n) bag Doing.Open) (setup_of config n) (read_log s) st
         opened_so (Refuses f) e = tt
         opened_so (Does logged memory out) e = record { sound = λ l. e.sound tt; good = λ l. e.good tt }
 
-        by_state : (st : State) → SteppedSound (DoingAllowed Allowed (setup_of config n) bag Doing.Open) (setup_of config n) (read_log s) (elim st as (λ x. Stepped) [ Runs m ↦ Refuses Stopped | _ ↦ opening (facts_of (read_log s)) ])
+        by_state : (st : State) → SteppedSound (DoingAllowed Allowed (setup_of config n) bag Doing.Open) (setup_of config n) (read_log s)
+            (elim st as (λ x. Stepped) [ Runs m ↦ Refuses Stopped | _ ↦ step_of_opening (facts_of (read_log s)) ])
         by_state (Runs m) = tt
-        by_state (IsStopped m) = opened_so (opening (facts_of (read_log s))) opened
-        by_state IsDown = opened_so (opening (facts_of (read_log s))) opened
-    effect_sound (Doing.Take m now) = running (DoingAllowed Allowed (setup_of config n) bag (Doing.Take m now)) (input_of bag (Doing.Take m now)) (λ p e l. l p e) s.state refl
-    effect_sound (Doing.Resume now) = running (DoingAllowed Allowed (setup_of config n) bag (Doing.Resume now)) (input_of bag (Doing.Resume now)) (λ p e l. l p e) s.state refl
-    effect_sound (Doing.Settle t now) = running (DoingAllowed Allowed (setup_of config n) bag (Doing.Settle t now)) (input_of bag (Doing.Settle t now)) (λ p e l. l p e) s.state refl
-    effect_sound (Doing.Advance at now) = running (DoingAllowed Allowed (setup_of config n) bag (Doing.Advance at now)) (input_of bag (Doing.Advance at now)) (λ p e l. l p e) s.state refl
-    effect_sound (Doing.Nudge t now) = running (DoingAllowed Allowed (setup_of config n) bag (Doing.Nudge t now)) (input_of bag (Doing.Nudge t now)) (λ p e l. l p e) s.state refl
+        by_state (IsStopped m) = opened_so (step_of_opening (facts_of (read_log s))) opened
+        by_state IsDown = opened_so (step_of_opening (facts_of (read_log s))) opened
+    effect_sound (Doing.Take m now) = running (DoingAllowed Allowed (setup_of config n) bag (Doing.Take m now)) (input_of bag (Doing.Take m now))
+        (λ p e l. l p e) s.state refl
+    effect_sound (Doing.Resume now) = running (DoingAllowed Allowed (setup_of config n) bag (Doing.Resume now)) (input_of bag (Doing.Resume now))
+        (λ p e l. l p e) s.state refl
+    effect_sound (Doing.Settle t now) = running (DoingAllowed Allowed (setup_of config n) bag (Doing.Settle t now))
+        (input_of bag (Doing.Settle t now)) (λ p e l. l p e) s.state refl
+    effect_sound (Doing.Advance at now) = running (DoingAllowed Allowed (setup_of config n) bag (Doing.Advance at now))
+        (input_of bag (Doing.Advance at now)) (λ p e l. l p e) s.state refl
+    effect_sound (Doing.Nudge t now) = running (DoingAllowed Allowed (setup_of config n) bag (Doing.Nudge t now)) (input_of bag (Doing.Nudge t now))
+        (λ p e l. l p e) s.state refl
 
     -- ---- the shard after it
 
     -- a shard without an unsure record
-    sure : (new : ShardNow) → new.unsure ≡ Nothing → SoundLog (setup_of config n) new.log → SoundState (setup_of config n) new new.state → SoundShard (setup_of config n) new
+    sure : (new : ShardNow) → new.unsure ≡ Nothing → SoundLog (setup_of config n) new.log → SoundState (setup_of config n) new new.state →
+        SoundShard (setup_of config n) new
     sure new none l state = record { left = by_left; state = state }
       where
         by_left : (log : List Record) → MayLeaveLog new log → SoundLog (setup_of config n) log
@@ -166,18 +191,19 @@ module _ (Allowed : Setup → Input → Type 0) (Sound : Setup → Facts → Mem
       where
         by_gate : (r : Record) → IsUnsure s.unsure r → (b : Bool) → MayLeaveLog s (s.log ++ cond b (r ∷ []) [])
         by_gate r is true = inr (r, is, refl)
-        by_gate r is false = inl (append_none s.log)
+        by_gate r is false = inl (append-nil s.log)
 
         by_unsure : (u : Unsure) → s.unsure ≡ u → MayLeaveLog s (s.log ++ left_of fate u)
-        by_unsure Nothing is = inl (append_none s.log)
+        by_unsure Nothing is = inl (append-nil s.log)
         by_unsure (Shown r) is = by_gate r (subst (λ u. IsUnsure u r) (sym is) refl) (opens_gate fate)
         by_unsure (Hidden r) is = by_gate r (subst (λ u. IsUnsure u r) (sym is) refl) (opens_gate fate)
 
     with_listed : (o : Option Record) → with_record (read_log s) o ≡ read_log s ++ option_to_list o
-    with_listed None = sym (append_none (read_log s))
+    with_listed None = sym (append-nil (read_log s))
     with_listed (Some r) = refl
 
-    pub finished_sound : (L : Type 0) → L → (doing : Doing) (logged : Option Record) (memory : Memory) → SoundStep L (setup_of config n) (with_record (read_log s) logged) memory → SoundShard (setup_of config n) (finished s doing logged memory)
+    pub finished_sound : (L : Type 0) → L → (doing : Doing) (logged : Option Record) (memory : Memory) →
+        SoundStep L (setup_of config n) (with_record (read_log s) logged) memory → SoundShard (setup_of config n) (finished s doing logged memory)
     unfolding finished
     finished_sound L allowed doing logged memory e =
         let k = subst (λ l. SoundStep L (setup_of config n) l memory) (with_listed logged) e in
@@ -191,7 +217,8 @@ module _ (Allowed : Setup → Input → Type 0) (Sound : Setup → Facts → Mem
     refused_left_sound fate (Doing.Advance at now) = crashed_sound _ (left_sound fate)
     refused_left_sound fate (Doing.Nudge t now) = crashed_sound _ (left_sound fate)
 
-    pub crashed_in_sound : (L : Type 0) → L → (call : ℕ) (fate : Fate) (doing : Doing) (st : Stepped) → SteppedSound L (setup_of config n) (read_log s) st → SoundShard (setup_of config n) (crashed_in s call fate doing st)
+    pub crashed_in_sound : (L : Type 0) → L → (call : ℕ) (fate : Fate) (doing : Doing) (st : Stepped) →
+        SteppedSound L (setup_of config n) (read_log s) st → SoundShard (setup_of config n) (crashed_in s call fate doing st)
     unfolding crashed_in
     crashed_in_sound L allowed call fate doing (Refuses f) e = refused_left_sound fate doing
     crashed_in_sound L allowed call fate doing (Does None memory out) e = crashed_sound (read_log s) (sound.left (read_log s) read_left)
@@ -199,9 +226,11 @@ module _ (Allowed : Setup → Input → Type 0) (Sound : Setup → Facts → Mem
       where
         by_test : (b : Bool) → SoundShard (setup_of config n) (crashed s (read_log s ++ cond b (r ∷ []) []))
         by_test true = crashed_sound (read_log s ++ r ∷ []) (record { memory = memory; sound = e.sound allowed; good = e.good allowed })
-        by_test false = crashed_sound (read_log s ++ []) (subst (SoundLog (setup_of config n)) (sym (append_none (read_log s))) (sound.left (read_log s) read_left))
+        by_test false = crashed_sound (read_log s ++ []) (subst (SoundLog (setup_of config n)) (sym (append-nil (read_log s)))
+            (sound.left (read_log s) read_left))
 
-    pub failed_sound : (L : Type 0) → L → (call : ℕ) (r : Record) (memory : Memory) → SoundStep L (setup_of config n) (read_log s ++ r ∷ []) memory → SoundShard (setup_of config n) (failed_in s call r)
+    pub failed_sound : (L : Type 0) → L → (call : ℕ) (r : Record) (memory : Memory) → SoundStep L (setup_of config n) (read_log s ++ r ∷ []) memory →
+        SoundShard (setup_of config n) (failed_in s call r)
     unfolding failed_in
     failed_sound L allowed call r memory e = record { left = by_left; state = by_state s.state }
       where
@@ -210,7 +239,7 @@ module _ (Allowed : Setup → Input → Type 0) (Sound : Setup → Facts → Mem
         by_state (IsStopped m) = tt
         by_state IsDown = tt
 
-        unsure_is : (a b : Bool) (q : Record) → IsUnsure (cond a (Hidden r) (cond b (Shown r) Nothing)) q → r ≡ q
+        unsure_is : (a b : Bool) (q : Record) → IsUnsure (cond a (Shown r) (cond b (Hidden r) Nothing)) q → r ≡ q
         unsure_is true b q k = k
         unsure_is false true q k = k
         unsure_is false false q k = absurd k
@@ -218,8 +247,9 @@ module _ (Allowed : Setup → Input → Type 0) (Sound : Setup → Facts → Mem
         by_left : (log : List Record) → MayLeaveLog (failed_in s call r) log → SoundLog (setup_of config n) log
         by_left log (inl same) = subst (SoundLog (setup_of config n)) (sym same) (sound.left (read_log s) read_left)
         by_left log (inr x) =
-            let is : r ≡ x.0 = unsure_is (nat_eq call 2) (nat_eq call 3) x.0 x.1 in
-            subst (SoundLog (setup_of config n)) (sym x.2) (subst (λ q. SoundLog (setup_of config n) (read_log s ++ q ∷ [])) is (record { memory = memory; sound = e.sound allowed; good = e.good allowed }))
+            let is : r ≡ x.0 = unsure_is (is_read call) (is_left call Fate.New) x.0 x.1 in
+            subst (SoundLog (setup_of config n)) (sym x.2) (subst (λ q. SoundLog (setup_of config n) (read_log s ++ q ∷ [])) is
+                (record { memory = memory; sound = e.sound allowed; good = e.good allowed }))
 
   -- ---- a world
 
@@ -239,7 +269,8 @@ module _ (Allowed : Setup → Input → Type 0) (Sound : Setup → Facts → Mem
 
         by_place : n ≡ m → SoundShard (setup_of w.config m) s
         by_place same =
-            let is : new ≡ s = some_same new s (sym (get-replaced_same w.shards n old new there) ∙ subst (λ k. slice_get (replaced w.shards n new) k ≡ Some s) (sym same) e) in
+            let is : new ≡ s = some_same new s (sym (get-replaced_same w.shards n old new there)
+                ∙ subst (λ k. slice_get (replaced w.shards n new) k ≡ Some s) (sym same) e) in
             subst (λ k. SoundShard (setup_of w.config k) s) same (subst (SoundShard (setup_of w.config n)) is new_sound)
 
     -- a change that touches no shard
@@ -252,9 +283,11 @@ module _ (Allowed : Setup → Input → Type 0) (Sound : Setup → Facts → Mem
       refused_sound Doing.Open f = by_state s.state
         where
           down : SoundWorld (set_shard n (crashed s (read_log s)) w)
-          down = set_sound n s (crashed s (read_log s)) there (crashed_sound w.config w.bag n s (sound n s there) (read_log s) ((sound n s there).left (read_log s) (read_left w.config w.bag n s (sound n s there))))
+          down = set_sound n s (crashed s (read_log s)) there (crashed_sound w.config w.bag n s (sound n s there) (read_log s)
+              ((sound n s there).left (read_log s) (read_left w.config w.bag n s (sound n s there))))
 
-          by_state : (st : State) → SoundWorld ((elim st as (λ x. After) [ Runs m ↦ refused w f | _ ↦ (set_shard n (crashed s (read_log s)) w, Reply.Refused f) ]).0)
+          by_state : (st : State) → SoundWorld ((elim st as (λ x. After) [ Runs m ↦ refused w f | _ ↦
+              (set_shard n (crashed s (read_log s)) w, Reply.Refused f) ]).0)
           by_state (Runs m) = sound
           by_state (IsStopped m) = down
           by_state IsDown = down
@@ -264,61 +297,81 @@ module _ (Allowed : Setup → Input → Type 0) (Sound : Setup → Facts → Mem
       refused_sound (Doing.Advance at now) f = sound
       refused_sound (Doing.Nudge t now) f = sound
 
-      did_sound : (doing : Doing) → DoingAllowed Allowed (setup_of w.config n) w.bag doing → (st : Stepped) → SteppedSound (DoingAllowed Allowed (setup_of w.config n) w.bag doing) (setup_of w.config n) (read_log s) st → SoundWorld ((did w n s doing st).0)
+      did_sound : (doing : Doing) → DoingAllowed Allowed (setup_of w.config n) w.bag doing → (st : Stepped) →
+          SteppedSound (DoingAllowed Allowed (setup_of w.config n) w.bag doing) (setup_of w.config n) (read_log s) st → SoundWorld ((did w n s doing st).0)
       unfolding did put_out
       did_sound doing allowed (Refuses f) e = refused_sound doing f
-      did_sound doing allowed (Does logged memory out) e = set_sound n s (finished s doing logged memory) there (finished_sound w.config w.bag n s (sound n s there) (DoingAllowed Allowed (setup_of w.config n) w.bag doing) allowed doing logged memory e)
+      did_sound doing allowed (Does logged memory out) e = set_sound n s (finished s doing logged memory) there
+          (finished_sound w.config w.bag n s (sound n s there) (DoingAllowed Allowed (setup_of w.config n) w.bag doing) allowed doing logged memory e)
 
-      failing_sound : (call : ℕ) (doing : Doing) → DoingAllowed Allowed (setup_of w.config n) w.bag doing → (st : Stepped) → SteppedSound (DoingAllowed Allowed (setup_of w.config n) w.bag doing) (setup_of w.config n) (read_log s) st → SoundWorld ((did_with_failure w n s call doing st).0)
+      failing_sound : (call : ℕ) (doing : Doing) → DoingAllowed Allowed (setup_of w.config n) w.bag doing → (st : Stepped) →
+          SteppedSound (DoingAllowed Allowed (setup_of w.config n) w.bag doing) (setup_of w.config n) (read_log s) st →
+          SoundWorld ((did_with_failure w n s call doing st).0)
       unfolding did_with_failure
       failing_sound call doing allowed (Refuses f) e = did_sound doing allowed (Refuses f) e
       failing_sound call doing allowed (Does None memory out) e = did_sound doing allowed (Does None memory out) e
       failing_sound call doing allowed (Does (Some r) memory out) e = by_test (nat_lt call 4)
         where
-          by_test : (b : Bool) → SoundWorld ((cond {A = After} b (set_shard n (failed_in s call r) w, Reply.Refused Device) (did w n s doing (Does (Some r) memory out))).0)
-          by_test true = set_sound n s (failed_in s call r) there (failed_sound w.config w.bag n s (sound n s there) (DoingAllowed Allowed (setup_of w.config n) w.bag doing) allowed call r memory e)
+          by_test : (b : Bool) → SoundWorld ((cond {A = After} b (set_shard n (failed_in s call r) w, Reply.Refused Device)
+              (did w n s doing (Does (Some r) memory out))).0)
+          by_test true = set_sound n s (failed_in s call r) there (failed_sound w.config w.bag n s (sound n s there)
+              (DoingAllowed Allowed (setup_of w.config n) w.bag doing) allowed call r memory e)
           by_test false = did_sound doing allowed (Does (Some r) memory out) e
 
-      effect_is_sound : (doing : Doing) → SteppedSound (DoingAllowed Allowed (setup_of w.config n) w.bag doing) (setup_of w.config n) (read_log s) (effect (setup_of w.config n) w.bag s doing)
+      effect_is_sound : (doing : Doing) → SteppedSound (DoingAllowed Allowed (setup_of w.config n) w.bag doing) (setup_of w.config n) (read_log s)
+          (effect (setup_of w.config n) w.bag s doing)
       effect_is_sound doing = effect_sound w.config w.bag n s (sound n s there) doing
 
-    at_shard_sound : (n : ℕ) (f : Setup → ShardNow → After) → ((s : ShardNow) → slice_get w.shards n ≡ Some s → SoundWorld ((f (setup_of w.config n) s).0)) → SoundWorld ((at_shard w n f).0)
+    at_shard_sound : (n : ℕ) (f : Setup → ShardNow → After) → ((s : ShardNow) → slice_get w.shards n ≡ Some s →
+        SoundWorld ((f (setup_of w.config n) s).0)) → SoundWorld ((at_shard w n f).0)
     at_shard_sound n f each = by_value (slice_get w.shards n) refl
       where
-        by_value : (o : Option ShardNow) → slice_get w.shards n ≡ o → SoundWorld ((elim o as (λ x. After) [ None ↦ refused w Stranger | Some s ↦ f (setup_of w.config n) s ]).0)
+        by_value : (o : Option ShardNow) → slice_get w.shards n ≡ o →
+            SoundWorld ((elim o as (λ x. After) [ None ↦ refused w Stranger | Some s ↦ f (setup_of w.config n) s ]).0)
         by_value None e = sound
         by_value (Some s) e = each s e
 
     do_at_sound : (n : ℕ) (doing : Doing) → DoingAllowed Allowed (setup_of w.config n) w.bag doing → SoundWorld ((do_at w n doing).0)
-    do_at_sound n doing allowed = at_shard_sound n (λ setup s. did w n s doing (effect setup w.bag s doing)) (λ s there. did_sound n s there doing allowed _ (effect_is_sound n s there doing))
+    do_at_sound n doing allowed = at_shard_sound n (λ setup s. did w n s doing (effect setup w.bag s doing))
+        (λ s there. did_sound n s there doing allowed _ (effect_is_sound n s there doing))
 
-    deliver_sound : (m : ℕ) (now : Interval) (o : Option Envelope) → ((e : Envelope) (n : ℕ) → o ≡ Some e → e.to ≡ Shard n → DoingAllowed Allowed (setup_of w.config n) w.bag (Doing.Take m now)) → SoundWorld ((deliver_to w m now o).0)
+    deliver_sound : (m : ℕ) (now : Interval) (o : Option Envelope) → ((e : Envelope) (n : ℕ) → o ≡ Some e → e.to ≡ Shard n →
+        DoingAllowed Allowed (setup_of w.config n) w.bag (Doing.Take m now)) → SoundWorld ((deliver_to w m now o).0)
     unfolding deliver_to
     deliver_sound m now None allowed = sound
     deliver_sound m now (Some e) allowed = by_address e.to refl
       where
-        by_address : (a : Address) → e.to ≡ a → SoundWorld ((elim a as (λ x. After) [ Shard n ↦ do_at w n (Doing.Take m now) | Session t ↦ to_session w e.message ]).0)
+        by_address : (a : Address) → e.to ≡ a → SoundWorld ((elim a as (λ x. After) [ Shard n ↦ do_at w n (Doing.Take m now) | Session t ↦
+            to_session w e.message ]).0)
         by_address (Shard n) goes = do_at_sound n (Doing.Take m now) (allowed e n refl goes)
         by_address (Session t) goes = untouched ((to_session w e.message).0) (to_session_keeps w e.message)
 
     pub acts_sound : (a : Act) → ActAllowed Allowed w a → SoundWorld ((acts w a).0)
     unfolding acts
     acts_sound (Act.Begin t) allowed = sound
-    acts_sound (Act.Read t k) allowed = untouched ((if_open w (client_of w t) (reads w.config.splits k)).0) (if_open_keeps w (client_of w t) (reads w.config.splits k))
-    acts_sound (Act.Write t k x) allowed = untouched ((if_open w (client_of w t) (buffers (record { key = k; value = x }))).0) (if_open_keeps w (client_of w t) (buffers (record { key = k; value = x })))
-    acts_sound (Act.Close t) allowed = untouched ((if_open w (client_of w t) (closes w.config.splits)).0) (if_open_keeps w (client_of w t) (closes w.config.splits))
-    acts_sound (Act.Quit t) allowed = untouched ((if_not_over w (client_of w t) (gives_up w.config.splits)).0) (if_not_over_keeps w (client_of w t) (gives_up w.config.splits))
+    acts_sound (Act.Read t k) allowed = untouched ((if_open w (client_of w t) (reads w.config.splits k)).0)
+        (if_open_keeps w (client_of w t) (reads w.config.splits k))
+    acts_sound (Act.Write t k x) allowed = untouched ((if_open w (client_of w t) (buffers (record { key = k; value = x }))).0)
+        (if_open_keeps w (client_of w t) (buffers (record { key = k; value = x })))
+    acts_sound (Act.Close t) allowed = untouched ((if_open w (client_of w t) (closes w.config.splits)).0)
+        (if_open_keeps w (client_of w t) (closes w.config.splits))
+    acts_sound (Act.Quit t) allowed = untouched ((if_not_over w (client_of w t) (gives_up w.config.splits)).0)
+        (if_not_over_keeps w (client_of w t) (gives_up w.config.splits))
     acts_sound (Act.Deliver m now) allowed = deliver_sound m now (slice_get w.bag m) allowed
     acts_sound (Act.At n doing) allowed = do_at_sound n doing allowed
-    acts_sound (Act.Look n k at) allowed = at_shard_sound n (λ setup s. noted w k at (look_shard setup s k at)) (λ s there. untouched ((noted w k at (look_shard (setup_of w.config n) s k at)).0) (noted_keeps w k at (look_shard (setup_of w.config n) s k at)))
+    acts_sound (Act.Look n k at) allowed = at_shard_sound n (λ setup s. look_noted w k at (look_shard setup s k at))
+        (λ s there. untouched ((look_noted w k at (look_shard (setup_of w.config n) s k at)).0) (noted_keeps w k at (look_shard (setup_of w.config n) s k at)))
     acts_sound (Act.View n v k at) allowed =
-        at_shard_sound n (λ setup s. noted w k at (look_at_view setup (slice_get s.views v) k at)) (λ s there. untouched ((noted w k at (look_at_view (setup_of w.config n) (slice_get s.views v) k at)).0) (noted_keeps w k at (look_at_view (setup_of w.config n) (slice_get s.views v) k at)))
+        at_shard_sound n (λ setup s. look_noted w k at (look_at_view setup (slice_get s.views v) k at))
+            (λ s there. untouched ((look_noted w k at (look_at_view (setup_of w.config n) (slice_get s.views v) k at)).0)
+            (noted_keeps w k at (look_at_view (setup_of w.config n) (slice_get s.views v) k at)))
     acts_sound (Act.Crash n) allowed = at_shard_sound n (λ setup s. (set_shard n (crashed s s.log) w, Reply.Crashed))
         (λ s there. set_sound n s (crashed s s.log) there (crashed_sound w.config w.bag n s (sound n s there) s.log ((sound n s there).left s.log (inl refl))))
     acts_sound (Act.CrashIn n call fate doing) allowed =
         at_shard_sound n (λ setup s. (set_shard n (crashed_in s call fate doing (effect setup w.bag s doing)) w, Reply.Crashed))
         (λ s there. set_sound n s (crashed_in s call fate doing (effect (setup_of w.config n) w.bag s doing)) there
-        (crashed_in_sound w.config w.bag n s (sound n s there) (DoingAllowed Allowed (setup_of w.config n) w.bag doing) allowed call fate doing (effect (setup_of w.config n) w.bag s doing) (effect_is_sound n s there doing)))
+        (crashed_in_sound w.config w.bag n s (sound n s there) (DoingAllowed Allowed (setup_of w.config n) w.bag doing) allowed call fate doing
+            (effect (setup_of w.config n) w.bag s doing) (effect_is_sound n s there doing)))
     acts_sound (Act.FailIn n call doing) allowed = at_shard_sound n (λ setup s. did_with_failure w n s call doing (effect setup w.bag s doing))
         (λ s there. failing_sound n s there call doing allowed _ (effect_is_sound n s there doing))
 
@@ -326,9 +379,11 @@ module _ (Allowed : Setup → Input → Type 0) (Sound : Setup → Facts → Mem
     pub left_good : (n : ℕ) (s : ShardNow) (log : List Record) → slice_get w.shards n ≡ Some s → MayLeaveLog s log → Good (setup_of w.config n) log
     left_good n s log there may = ((sound n s there).left log may).good
 
-    pub logged_good : (n : ℕ) (s : ShardNow) (doing : Doing) (r : Record) (memory : Memory) (out : List Envelope) → slice_get w.shards n ≡ Some s → DoingAllowed Allowed (setup_of w.config n) w.bag doing →
+    pub logged_good : (n : ℕ) (s : ShardNow) (doing : Doing) (r : Record) (memory : Memory) (out : List Envelope) → slice_get w.shards n ≡ Some s →
+        DoingAllowed Allowed (setup_of w.config n) w.bag doing →
         effect (setup_of w.config n) w.bag s doing ≡ Does (Some r) memory out → Good (setup_of w.config n) (read_log s ++ r ∷ [])
-    logged_good n s doing r memory out there allowed e = (subst (SteppedSound (DoingAllowed Allowed (setup_of w.config n) w.bag doing) (setup_of w.config n) (read_log s)) e (effect_is_sound n s there doing)).good allowed
+    logged_good n s doing r memory out there allowed e = (subst (SteppedSound (DoingAllowed Allowed (setup_of w.config n) w.bag doing)
+        (setup_of w.config n) (read_log s)) e (effect_is_sound n s there doing)).good allowed
 
   module _ (limits : (w : World) (time : ℕ) (a : Act) → may_act w time a ≡ true → ActAllowed Allowed w a)
       (fresh : (setup : Setup) → Sound setup (facts_of fresh_log) (rebuilt (facts_of fresh_log))) (good_fresh : (setup : Setup) → Good setup fresh_log) where

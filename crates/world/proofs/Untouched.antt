@@ -12,7 +12,10 @@ use Rattle.message.specs.declared.message.Message.{Message}
 use Rattle.message.specs.declared.message.ReadAnswer.{ReadAnswer}
 use Rattle.session.specs.Sessions.{Client, Stage, IsOpen, IsClosing, IsOver, Moved, Denies, Goes, reads, buffers, closes, gives_up, finishes}
 use Rattle.protocol.specs.Step.{Stepped, Refuses, Does}
-use Rattle.world.specs.World.{World, After, client_of, put_out, moved, refused, if_open, if_not_over, if_closing, if_hearing, answered, to_session, noted, ShardNow, State, Runs, IsStopped, IsDown, setup_of, read_log, effect, crashed, crashed_in, failed_in, set_shard, refused_doing, did, did_with_failure, at_shard, do_at, deliver_to, look_shard, look_at_view, acts, happens, start, run, run_from}
+use Rattle.world.specs.World.{World, After, client_of, put_out, moved, refused, if_open, if_not_over, if_closing, if_hearing, answered, to_session}
+use Rattle.world.specs.World.{look_noted, ShardNow, State, Runs, IsStopped, IsDown, setup_of, read_log, effect, crashed, crashed_in, failed_in}
+use Rattle.world.specs.World.{set_shard, refused_doing, did, did_with_failure, at_shard, do_at, deliver_to, look_shard, look_at_view, acts, happens}
+use Rattle.world.specs.World.{start, run, run_from}
 use Rattle.world.specs.declared.event.Act.{Act}
 use Rattle.world.specs.declared.event.Config.{Config}
 use Rattle.world.specs.declared.event.Doing.{Doing}
@@ -81,7 +84,7 @@ module _ (w : World) where
   to_session_keeps (Message.Outcome o) = (refl, refl, refl)
   to_session_keeps (Message.Ask a) = (refl, refl, refl)
 
-  pub noted_keeps : (k : Bytes) (at : ℕ) (r : Reply) → Kept w ((noted w k at r).0)
+  pub noted_keeps : (k : Bytes) (at : ℕ) (r : Reply) → Kept w ((look_noted w k at r).0)
   noted_keeps k at (Reply.Shows x) = (refl, refl, refl)
   noted_keeps k at Reply.Done = (refl, refl, refl)
   noted_keeps k at (Reply.Refused f) = (refl, refl, refl)
@@ -113,7 +116,8 @@ module _ (w : World) where
   failing_settings n s call doing (Does None memory out) = did_settings n s doing (Does None memory out)
   failing_settings n s call doing (Does (Some r) memory out) = by_test (nat_lt call 4)
     where
-      by_test : (b : Bool) → Fixed w ((cond {A = After} b (set_shard n (failed_in s call r) w, Reply.Refused Device) (did w n s doing (Does (Some r) memory out))).0)
+      by_test : (b : Bool) → Fixed w ((cond {A = After} b (set_shard n (failed_in s call r) w, Reply.Refused Device)
+          (did w n s doing (Does (Some r) memory out))).0)
       by_test true = (refl, refl)
       by_test false = did_settings n s doing (Does (Some r) memory out)
 
@@ -125,7 +129,8 @@ module _ (w : World) where
       by_value (Some s) = each s
 
   do_at_settings : (n : ℕ) (doing : Doing) → Fixed w ((do_at w n doing).0)
-  do_at_settings n doing = at_shard_settings n (λ setup s. did w n s doing (effect setup w.bag s doing)) (λ s. did_settings n s doing (effect (setup_of w.config n) w.bag s doing))
+  do_at_settings n doing = at_shard_settings n (λ setup s. did w n s doing (effect setup w.bag s doing))
+      (λ s. did_settings n s doing (effect (setup_of w.config n) w.bag s doing))
 
   deliver_settings : (m : ℕ) (now : Interval) (o : Option Envelope) → Fixed w ((deliver_to w m now o).0)
   unfolding deliver_to
@@ -145,14 +150,17 @@ module _ (w : World) where
   acts_settings (Act.Quit t) = let k = if_not_over_keeps (client_of w t) (gives_up w.config.splits) in (k.1, k.2)
   acts_settings (Act.Deliver m now) = deliver_settings m now (slice_get w.bag m)
   acts_settings (Act.At n doing) = do_at_settings n doing
-  acts_settings (Act.Look n k at) = at_shard_settings n (λ setup s. noted w k at (look_shard setup s k at)) (λ s. let k = noted_keeps k at (look_shard (setup_of w.config n) s k at) in (k.1, k.2))
+  acts_settings (Act.Look n k at) = at_shard_settings n (λ setup s. look_noted w k at (look_shard setup s k at))
+      (λ s. let k = noted_keeps k at (look_shard (setup_of w.config n) s k at) in (k.1, k.2))
   acts_settings (Act.View n v k at) =
-      at_shard_settings n (λ setup s. noted w k at (look_at_view setup (slice_get s.views v) k at)) (λ s. let k = noted_keeps k at (look_at_view (setup_of w.config n) (slice_get s.views v) k at) in (k.1, k.2))
+      at_shard_settings n (λ setup s. look_noted w k at (look_at_view setup (slice_get s.views v) k at))
+          (λ s. let k = noted_keeps k at (look_at_view (setup_of w.config n) (slice_get s.views v) k at) in (k.1, k.2))
   acts_settings (Act.Crash n) = at_shard_settings n (λ setup s. (set_shard n (crashed s s.log) w, Reply.Crashed)) (λ s. (refl, refl))
   acts_settings (Act.CrashIn n call fate doing) =
       at_shard_settings n (λ setup s. (set_shard n (crashed_in s call fate doing (effect setup w.bag s doing)) w, Reply.Crashed)) (λ s. (refl, refl))
   acts_settings (Act.FailIn n call doing) =
-      at_shard_settings n (λ setup s. did_with_failure w n s call doing (effect setup w.bag s doing)) (λ s. failing_settings n s call doing (effect (setup_of w.config n) w.bag s doing))
+      at_shard_settings n (λ setup s. did_with_failure w n s call doing (effect setup w.bag s doing))
+          (λ s. failing_settings n s call doing (effect (setup_of w.config n) w.bag s doing))
 
 -- nor does a run
 run_from_settings : (w : World) (es : List Event) → (run_from w es).config ≡ w.config

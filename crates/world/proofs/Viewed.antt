@@ -1,16 +1,16 @@
 -- The views of a running shard stay what they are, since no version is ever taken back.
 use Rattle.std.specs.List.{list_all}
-use Rattle.std.proofs.Common.{◌≡◌, ◌≤◌, ◌+◌, ℕ, Bool, true, false, cond, ◌&&◌, nat_eq, List, [], ◌∷◌, ◌++◌, length, map, take, slice_get, option_map, Option, Some, None, Result, Ok, Err, refl, sym, ap, ◌∙◌, subst, arith, option_to_list}
+use Rattle.std.proofs.Common.{◌≡◌, ◌≤◌, ◌+◌, ℕ, Bool, true, false, cond, ◌&&◌, nat_eq, List, [], ◌∷◌, ◌++◌, length, map, take, slice_get, option_map}
+use Rattle.std.proofs.Common.{Option, Some, None, Result, Ok, Err, refl, sym, ap, ◌∙◌, subst, arith, option_to_list}
 use Rattle.std.proofs.lemmas.Bool.{and_parts}
 use Rattle.std.proofs.lemmas.Bool.Decides.{nat_tests}
-use Rattle.std.proofs.lemmas.List.{length-append, take-append-le, take_all, map-append}
+use Rattle.std.proofs.lemmas.List.{length-append, take-append-le, take_all, map-append, append-nil}
 use Rattle.std.proofs.lemmas.Option.{slice_get-map}
 use Rattle.units.specs.Keys.{Bytes, shard_of}
 use Rattle.units.specs.declared.fault.Fault.TheVariants.{Stranger}
 use Rattle.units.specs.declared.fault.Fault.{Fault}
 use Rattle.units.specs.declared.setup.Setup.{Setup}
 use Rattle.units.specs.declared.writes.Install.{Install}
-use Rattle.units.proofs.Folds.{append_none}
 use Rattle.record.specs.Facts.{Facts, facts_of, installs_at, learn, recorded}
 use Rattle.record.specs.declared.record.Record.{Record}
 use Rattle.message.specs.declared.message.Envelope.{Envelope}
@@ -21,8 +21,8 @@ use Rattle.shard.specs.Look.{safe_at}
 use Rattle.shard.specs.Logs.{records_in}
 use Rattle.disk.specs.File.{surface}
 use Rattle.simdisk.specs.State.{disk_file, disk_plan}
-use Rattle.world.specs.World.{ShardNow, Runs, Nothing, View, finished, look_at_view, makes_view, read_log, shown, view_of}
-use Rattle.world.specs.Runs.{Acts, Carries, IsRunning, is_within, shown_view, stepped}
+use Rattle.world.specs.World.{ShardNow, Runs, Nothing, View, finished, look_at_view, makes_view, read_log, shown_records, view_of}
+use Rattle.world.specs.Runs.{Acts, Carries, IsRunning, is_within, shown_view, shard_stepped}
 use Rattle.world.specs.Looks.{look_at}
 use Rattle.world.specs.declared.event.Doing.{Doing}
 use Rattle.world.specs.declared.event.Reply.{Reply}
@@ -55,12 +55,12 @@ still_shown is more (v ∷ vs) h =
 -- the versions that a record adds stand behind those before it
 added : (facts : Facts) (logged : Option Record) → (more : List Install) × ((facts_after facts logged).installs ≡ facts.installs ++ more)
 unfolding learn
-added facts None = ([], sym (append_none facts.installs))
-added facts (Some (Record.Opened epoch)) = ([], sym (append_none facts.installs))
-added facts (Some (Record.Ceiling at)) = ([], sym (append_none facts.installs))
-added facts (Some (Record.Prepare p)) = ([], sym (append_none facts.installs))
-added facts (Some (Record.Commit c)) = ([], sym (append_none facts.installs))
-added facts (Some (Record.Abort t)) = ([], sym (append_none facts.installs))
+added facts None = ([], sym (append-nil facts.installs))
+added facts (Some (Record.Opened epoch)) = ([], sym (append-nil facts.installs))
+added facts (Some (Record.Ceiling at)) = ([], sym (append-nil facts.installs))
+added facts (Some (Record.Prepare p)) = ([], sym (append-nil facts.installs))
+added facts (Some (Record.Commit c)) = ([], sym (append-nil facts.installs))
+added facts (Some (Record.Abort t)) = ([], sym (append-nil facts.installs))
 added facts (Some (Record.Outcome t outcome)) = (installs_at (recorded facts t) outcome, refl)
 
 pub shown_after : (facts : Facts) (logged : Option Record) (vs : List CodeView) → list_all (is_within facts.installs) vs ≡ true
@@ -90,7 +90,8 @@ shown_now is n at same =
     let all : take (length is) is ≡ is = take_all (length is) is (omega arith) in
     λ i. record { installs = all i; safe = same i }
 
-within_more : (is : List Install) (vs ws : List CodeView) → list_all (is_within is) vs ≡ true → list_all (is_within is) ws ≡ true → list_all (is_within is) (vs ++ ws) ≡ true
+within_more : (is : List Install) (vs ws : List CodeView) → list_all (is_within is) vs ≡ true → list_all (is_within is) ws ≡ true →
+    list_all (is_within is) (vs ++ ws) ≡ true
 within_more is [] ws h k = k
 within_more is (v ∷ vs) ws h k =
     let p : (is_within is v ≡ true) × (list_all (is_within is) vs ≡ true) = and_parts _ _ h in
@@ -113,11 +114,13 @@ module _ (setup : Setup) (used : ℕ) (bag : List Envelope) (s : ShardNow) (doin
       ap (λ v. v ∷ []) (now ∙ (λ i. record { installs = (facts i).installs; safe = safe memory }))
 
   runs : (new : Running) → new.core ≡ mid.core → new.views.items ≡ mid.views.items ++ views_made (makes_view doing) mid → s.unsure ≡ Nothing
-      → (logged : Option Record) (memory : Memory) → IsRunning setup (used + 1) mid (stepped s logged memory) → IsRunning setup (used + 1) new (finished s doing logged memory)
+      → (logged : Option Record) (memory : Memory) → IsRunning setup (used + 1) mid (shard_stepped s logged memory) →
+          IsRunning setup (used + 1) new (finished s doing logged memory)
   unfolding finished
   runs new same put sure logged memory k =
-      let log : read_log s ≡ s.log = ap (λ u. s.log ++ shown u) sure ∙ append_none s.log in
-      let facts : (seen mid.core).facts ≡ facts_of (read_log s ++ option_to_list logged) = k.facts ∙ ap (λ l. facts_of (l ++ option_to_list logged)) (sym log) in
+      let log : read_log s ≡ s.log = ap (λ u. s.log ++ shown_records u) sure ∙ append-nil s.log in
+      let facts : (seen mid.core).facts ≡ facts_of (read_log s ++ option_to_list logged) = k.facts
+          ∙ ap (λ l. facts_of (l ++ option_to_list logged)) (sym log) in
       let memory_is : (seen mid.core).memory ≡ memory = sym (same_memory memory (seen mid.core).memory k.state) in
       let gate : (seen new.core).gate ≡ (seen mid.core).gate = λ i. (seen (same i)).gate in
       record {
@@ -143,7 +146,8 @@ module _ (setup : Setup) (used : ℕ) (bag : List Envelope) (s : ShardNow) (doin
       (p.0, p.1, p.2, runs new same put sure p.0 p.1 p.3)
 
 -- a shard with the same views elsewhere
-pub same_running : (setup : Setup) (used : ℕ) (s : ShardNow) (old new : Running) → new.core ≡ old.core → new.views.items ≡ old.views.items → IsRunning setup used old s → IsRunning setup used new s
+pub same_running : (setup : Setup) (used : ℕ) (s : ShardNow) (old new : Running) → new.core ≡ old.core → new.views.items ≡ old.views.items →
+    IsRunning setup used old s → IsRunning setup used new s
 same_running setup used s old new same views h =
     let gate : (seen new.core).gate ≡ (seen old.core).gate = λ i. (seen (same i)).gate in
     record {
@@ -160,7 +164,8 @@ same_running setup used s old new same views h =
     }
 
 -- a refusal is passed on
-pub acted_not : (setup : Setup) (used : ℕ) (bag : List Envelope) (s : ShardNow) (doing : Doing) (new : Running) (r : Result (List Envelope) Fault) (fault : Fault) → r ≡ Err fault
+pub acted_not : (setup : Setup) (used : ℕ) (bag : List Envelope) (s : ShardNow) (doing : Doing) (new : Running) (r : Result (List Envelope) Fault)
+    (fault : Fault) → r ≡ Err fault
     → Carries setup used bag s doing new (Err fault) → Acts setup used bag s doing new r
 acted_not setup used bag s doing new r fault is carried = subst (λ (x : Result (List Envelope) Fault). Acts setup used bag s doing new x) (sym is) carried
 
@@ -172,7 +177,8 @@ pub looked_at : (setup : Setup) (is : List Install) (vs : List CodeView) (views 
     → look_at here (take v.count is) v.safe k at ≡ look_at_view setup (slice_get views n) k at
 looked_at setup is vs views n v here k at same there is_here =
     ap (λ b. look_at b (take v.count is) v.safe k at) is_here
-    ∙ sym (ap (λ o. look_at_view setup o k at) (ap (λ l. slice_get l n) (sym same) ∙ slice_get-map (shown_view is) vs n ∙ ap (option_map (shown_view is)) there))
+    ∙ sym (ap (λ o. look_at_view setup o k at) (ap (λ l. slice_get l n) (sym same) ∙ slice_get-map (shown_view is) vs n
+        ∙ ap (option_map (shown_view is)) there))
 
 -- there is none
 pub looked_at_none : (setup : Setup) (is : List Install) (vs : List CodeView) (views : List View) (n : ℕ) (k : Bytes) (at : ℕ)
@@ -182,7 +188,8 @@ looked_at_none setup is vs views n k at same there =
 
 -- ---- the first view
 
-pub one_shown : (r : Running) (log : List Record) (memory : Memory) → (seen r.core).facts ≡ facts_of log → (seen r.core).memory ≡ memory → r.views.items ≡ view_now r ∷ []
+pub one_shown : (r : Running) (log : List Record) (memory : Memory) → (seen r.core).facts ≡ facts_of log → (seen r.core).memory ≡ memory →
+    r.views.items ≡ view_now r ∷ []
     → map (shown_view (seen r.core).facts.installs) r.views.items ≡ view_of (facts_of log) memory ∷ []
 one_shown r log memory facts same views =
     let now = shown_now (seen r.core).facts.installs (safe_at (seen r.core)) (safe memory) (ap safe same) in

@@ -8,7 +8,7 @@ use Rattle.units.specs.declared.line.Line.{Line}
 use Rattle.message.specs.declared.message.Envelope.{Envelope}
 use Rattle.message.specs.declared.message.Message.{Message}
 use Rattle.session.specs.Sessions.{Client}
-use Rattle.world.specs.World.{World, After, happens, noted, put_out, refused, set_client, to_session}
+use Rattle.world.specs.World.{World, After, happens, look_noted, put_out, refused, set_client, to_session}
 use Rattle.world.specs.Lawful.{may_happen}
 use Rattle.world.specs.Fleet.{AreShards}
 use Rattle.world.specs.Hosts.{Hosts, with_client}
@@ -49,7 +49,7 @@ HasHeard w answer new (Err fault) = fault ≡ Memory
 
 -- an answered look is a line
 abbrev pub Notes : World → Bytes → ℕ → Reply → Past → Result Reply Fault → Type 0
-Notes w k at shows new (Ok reply) = (reply ≡ (noted w k at shows).1) × IsPast new (noted w k at shows).0
+Notes w k at shows new (Ok reply) = (reply ≡ (look_noted w k at shows).1) × IsPast new (look_noted w k at shows).0
 Notes w k at shows new (Err fault) = fault ≡ Memory
 
 -- an end is no line
@@ -59,7 +59,8 @@ no_line (Err fault) = Err fault
 
 -- a message comes to a session: it is taken, and may be a line; or it is refused; or memory was
 abbrev pub TakesMessage : World → Message → Sessions → Result (Option Line) Fault → Type 0
-TakesMessage w m new (Ok line) = (d : Client) × (to_session w m ≡ (with_line line (set_client d w), Reply.Done)) × Hosts w.config.splits new (with_client d w.clients)
+TakesMessage w m new (Ok line) = (d : Client) × (to_session w m ≡ (with_line line (set_client d w), Reply.Done))
+    × Hosts w.config.splits new (with_client d w.clients)
 TakesMessage w m new (Err fault) = (fault ≡ Memory) ⊎ ((to_session w m ≡ refused w fault) × Hosts w.config.splits new w.clients)
 
 -- the event may happen, and the run is the world after it; or it may not; or memory was refused

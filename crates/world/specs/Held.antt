@@ -48,5 +48,6 @@ Moves splits m new c (Err fault) = (fault ≡ Memory) ⊎ ((m ≡ Denies fault) 
 -- an answer is heard by an open session, and refused by any other; or memory was refused
 abbrev pub Hears : List Bytes → ReadAnswer → Begun → Client → Result (Option Line) Fault → Type 0
 Hears splits a new c (Ok line) =
-    (d : Client) × (c.stage ≡ IsOpen) × (d ≡ hears a.from a.key a.epoch a.answer c) × (option_to_list line ≡ read_lines c d a.key a.answer) × IsBegun splits new d
+    (d : Client) × (c.stage ≡ IsOpen) × (d ≡ hears a.from a.key a.epoch a.answer c) × (option_to_list line ≡ read_lines c d a.key a.answer)
+        × IsBegun splits new d
 Hears splits a new c (Err fault) = (fault ≡ Memory) ⊎ ((fault ≡ Stranger) × (when_open finishes c ≡ Denies Stranger) × IsBegun splits new c)

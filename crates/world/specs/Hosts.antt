@@ -41,9 +41,9 @@ abbrev pub with_client : Client → List Client → List Client
 with_client c cs = map (λ d. cond (same_id d.txn c.txn) c d) cs
 
 -- the step of the session of an id, where it has begun
-abbrev pub step_of : (Client → Moved) → Option Client → Moved
-step_of f None = Denies Stranger
-step_of f (Some c) = f c
+abbrev pub session_step : (Client → Moved) → Option Client → Moved
+session_step f None = Denies Stranger
+session_step f (Some c) = f c
 
 -- a step of one session is made, or refused for its own reason; or memory was refused
 abbrev pub MovesIn : List Bytes → Moved → Sessions → List Client → Result (List Envelope) Fault → Type 0
@@ -55,4 +55,4 @@ abbrev pub HearsIn : List Bytes → ReadAnswer → Sessions → List Client → 
 HearsIn splits a new cs o (Ok line) =
     (c : Client) × (o ≡ Some c) × (c.stage ≡ IsOpen)
     × ((d : Client) × (d ≡ hears a.from a.key a.epoch a.answer c) × (option_to_list line ≡ read_lines c d a.key a.answer) × Hosts splits new (with_client d cs))
-HearsIn splits a new cs o (Err fault) = (fault ≡ Memory) ⊎ ((fault ≡ Stranger) × (step_of (when_open finishes) o ≡ Denies Stranger) × Hosts splits new cs)
+HearsIn splits a new cs o (Err fault) = (fault ≡ Memory) ⊎ ((fault ≡ Stranger) × (session_step (when_open finishes) o ≡ Denies Stranger) × Hosts splits new cs)

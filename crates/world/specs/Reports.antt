@@ -3,7 +3,7 @@ use Rattle.std.specs.Prelude.{ℕ, ◌≡◌, ◌⊎◌, ◌≤◌, ◌^◌, IsT
 use Rattle.units.specs.declared.fault.Fault.{Fault}
 use Rattle.units.specs.declared.fault.Fault.TheVariants.{Memory, BadRequest}
 use Rattle.units.specs.declared.fault.Reason.TheVariants.{Many, Unlawful}
-use Rattle.world.specs.World.{World, counted_lines, logs_of, replies, run, start}
+use Rattle.world.specs.World.{World, counted_lines, logs_of, replies_of_run, run, start}
 use Rattle.world.specs.Comes.{IsRun}
 use Rattle.world.specs.Lawful.{first_unlawful_from, lawful}
 use Rattle.world.specs.declared.event.Config.{Config}
@@ -15,7 +15,7 @@ use Rattle.world.specs.declared.run.Run.{Run}
 -- the events are lawful, and the report has the replies, the messages, the logs and the lines of their run
 pub record IsReport (config : Config) (es : List Event) (r : Report) : Type 0 where
   pub fair : IsTrue (lawful config es)
-  pub replies : r.replies.items ≡ replies config es
+  pub replies : r.replies.items ≡ replies_of_run config es
   pub bag : r.bag ≡ (run config es).bag
   pub logs : map (λ log. log.items) r.logs.items ≡ logs_of (run config es)
   pub lines : r.lines.items ≡ counted_lines (logs_of (run config es)) (run config es).lines
@@ -30,7 +30,7 @@ IsNoReport config es fault = (fault ≡ Memory) ⊎ (((fault ≡ BadRequest Many
 
 -- all events were played; or one of them may not happen; or memory was refused
 abbrev pub Plays : Config → List Event → Run → List Reply → Result (Unit {0}) Fault → Type 0
-Plays config es new answers (Ok done) = IsTrue (lawful config es) × (answers ≡ replies config es) × ((used : ℕ) × IsRun used new (run config es))
+Plays config es new answers (Ok done) = IsTrue (lawful config es) × (answers ≡ replies_of_run config es) × ((used : ℕ) × IsRun used new (run config es))
 Plays config es new answers (Err fault) = (fault ≡ Memory) ⊎ IsUnlawful config es fault
 
 -- the report of a world, with some replies

@@ -1,6 +1,7 @@
 -- How a running shard in the code stands for one of the definitions.
 use Rattle.std.specs.List.{list_all}
-use Rattle.std.specs.Prelude.{◌≡◌, ◌⊎◌, ℕ, ◌+◌, ◌*◌, ◌^◌, ◌≤◌, ◌<◌, Bool, true, false, IsTrue, nat_le, List, [], ◌∷◌, ◌++◌, length, map, take, Option, Some, Result, Ok, Err, option_to_list}
+use Rattle.std.specs.Prelude.{◌≡◌, ◌⊎◌, ℕ, ◌+◌, ◌*◌, ◌^◌, ◌≤◌, ◌<◌, Bool, true, false, IsTrue, nat_le, List, [], ◌∷◌, ◌++◌, length, map, take, Option}
+use Rattle.std.specs.Prelude.{Some, Result, Ok, Err, option_to_list}
 use Rattle.units.specs.declared.fault.Fault.{Fault}
 use Rattle.units.specs.declared.fault.Fault.TheVariants.{Memory}
 use Rattle.units.specs.declared.setup.Setup.{Setup}
@@ -47,24 +48,27 @@ pub record IsRunning (setup : Setup) (used : ℕ) (r : Running) (s : ShardNow) :
   pub room : (seen r.core).gate ≤ reach used
 
 -- a shard after a doing but for the view that it makes
-abbrev pub stepped : ShardNow → Option Record → Kept → ShardNow
-stepped s logged memory = record { log = s.log ++ option_to_list logged; unsure = Nothing; state = Runs memory; views = s.views }
+abbrev pub shard_stepped : ShardNow → Option Record → Kept → ShardNow
+shard_stepped s logged memory = record { log = s.log ++ option_to_list logged; unsure = Nothing; state = Runs memory; views = s.views }
 
 -- each record that a doing logs follows those before it
 abbrev pub Follows : Setup → List Envelope → ShardNow → Doing → Type 0
-Follows setup bag s doing = (r : Record) (memory : Kept) (out : List Envelope) → effect setup bag s doing ≡ Does (Some r) memory out → IsTrue (followed setup.shard (s.log ++ r ∷ []))
+Follows setup bag s doing = (r : Record) (memory : Kept) (out : List Envelope) → effect setup bag s doing ≡ Does (Some r) memory out →
+    IsTrue (followed setup.shard (s.log ++ r ∷ []))
 
 -- a doing is done, or it is refused for its own reason; or memory was refused. The log has room for some two hundred
 -- thousand records of the greatest size
 abbrev pub Carries : Setup → ℕ → List Envelope → ShardNow → Doing → Running → Result (List Envelope) Fault → Type 0
 Carries setup used bag s doing new (Ok out) =
-    Follows setup bag s doing → (logged : Option Record) × (memory : Kept) × (effect setup bag s doing ≡ Does logged memory out) × IsRunning setup (used + 1) new (stepped s logged memory)
+    Follows setup bag s doing → (logged : Option Record) × (memory : Kept) × (effect setup bag s doing ≡ Does logged memory out)
+        × IsRunning setup (used + 1) new (shard_stepped s logged memory)
 Carries setup used bag s doing new (Err fault) =
     reach used + 2 ^ 20 + 5 < 2 ^ 40 → (fault ≡ Memory) ⊎ ((effect setup bag s doing ≡ Refuses fault) × IsRunning setup used new s)
 
 -- so with the view that the doing makes
 abbrev pub Acts : Setup → ℕ → List Envelope → ShardNow → Doing → Running → Result (List Envelope) Fault → Type 0
 Acts setup used bag s doing new (Ok out) =
-    Follows setup bag s doing → (logged : Option Record) × (memory : Kept) × (effect setup bag s doing ≡ Does logged memory out) × IsRunning setup (used + 1) new (finished s doing logged memory)
+    Follows setup bag s doing → (logged : Option Record) × (memory : Kept) × (effect setup bag s doing ≡ Does logged memory out)
+        × IsRunning setup (used + 1) new (finished s doing logged memory)
 Acts setup used bag s doing new (Err fault) =
     reach used + 2 ^ 20 + 5 < 2 ^ 40 → (fault ≡ Memory) ⊎ ((effect setup bag s doing ≡ Refuses fault) × IsRunning setup used new s)

@@ -1,7 +1,8 @@
 -- The world: sessions, shards, every message ever put out, and the lines of the report. An event changes it by a step of a
 -- session, by a step of a shard, by a crash or by an opening.
 use Rattle.std.specs.List.{list_any}
-use Rattle.std.specs.Prelude.{ℕ, suc, ◌+◌, Bool, true, false, not, cond, ◌&&◌, ◌||◌, nat_eq, nat_lt, nat_le, List, [], ◌∷◌, ◌++◌, length, map, replicate, slice_get, Option, Some, None, filter, flat_map, option_map, option_to_list}
+use Rattle.std.specs.Prelude.{ℕ, suc, ◌+◌, Bool, true, false, not, cond, ◌&&◌, ◌||◌, nat_eq, nat_lt, nat_le, List, [], ◌∷◌, ◌++◌, length, map}
+use Rattle.std.specs.Prelude.{replicate, slice_get, Option, Some, None, filter, flat_map, option_map, option_to_list}
 use Rattle.units.specs.Lists.{first, replaced, when}
 use Rattle.units.specs.Ids.{Id, same_id}
 use Rattle.units.specs.Keys.{Bytes, shard_of}
@@ -20,7 +21,7 @@ use Rattle.units.specs.declared.setup.Setup.{Setup}
 use Rattle.units.specs.declared.setup.Book.TheVariants.{Off}
 use Rattle.units.specs.declared.line.Line.{Line}
 use Rattle.record.specs.declared.record.Record.{Record}
-use Rattle.gatelog.specs.Frames.{open_gate}
+use Rattle.gatelog.specs.Gates.{is_left, is_read, opens_gate}
 use Rattle.message.specs.declared.message.Message.{Message}
 use Rattle.message.specs.declared.message.Envelope.{Envelope}
 use Rattle.message.specs.declared.message.Address.TheVariants.{Shard, Session}
@@ -76,22 +77,22 @@ abbrev pub setup_of : Config → ℕ → Setup
 setup_of config n = record { shard = n; splits = config.splits; stride = config.stride; book = Off }
 
 -- the records that a read of the disk gives
-abbrev pub shown : Unsure → List Record
-shown Nothing = []
-shown (Shown r) = r ∷ []
-shown (Hidden r) = []
+abbrev pub shown_records : Unsure → List Record
+shown_records Nothing = []
+shown_records (Shown r) = r ∷ []
+shown_records (Hidden r) = []
 
 -- a read of the disk
 abbrev pub read_log : ShardNow → List Record
-read_log s = s.log ++ shown s.unsure
+read_log s = s.log ++ shown_records s.unsure
 
 -- the view of a running shard
 abbrev pub view_of : Facts → Memory → View
 view_of facts memory = record { installs = facts.installs; safe = safe memory }
 
 -- an opening logs the next epoch, and finds its memory in the log
-unfoldable pub opening : Facts → Stepped
-opening facts =
+unfoldable pub step_of_opening : Facts → Stepped
+step_of_opening facts =
     cond (nat_lt facts.epoch time_limit) (Does (Some (Record.Opened (facts.epoch + 1))) (rebuilt facts) []) (Refuses TimeSpent)
 
 -- the input of a doing, with its reading; the message is the one of that number
@@ -110,7 +111,7 @@ step_with setup facts memory (Some p) = step setup facts memory p.0 p.1
 
 -- what a doing comes to: a step of a shard that runs, or an opening of one that does not
 unfoldable pub effect : Setup → List Envelope → ShardNow → Doing → Stepped
-effect setup bag s Doing.Open = elim s.state [ Runs m ↦ Refuses Stopped | _ ↦ opening (facts_of (read_log s)) ]
+effect setup bag s Doing.Open = elim s.state [ Runs m ↦ Refuses Stopped | _ ↦ step_of_opening (facts_of (read_log s)) ]
 effect setup bag s doing =
     elim s.state [ Runs m ↦ step_with setup (facts_of s.log) m (input_of bag doing) | _ ↦ Refuses Stopped ]
 
@@ -129,17 +130,6 @@ unfoldable pub finished : ShardNow → Doing → Option Record → Memory → Sh
 finished s doing logged memory =
     let log : List Record = read_log s ++ option_to_list logged in
     record { log = log; unsure = Nothing; state = Runs memory; views = s.views ++ new_view doing log memory }
-
--- an append makes four device calls: it writes the frame behind the closed gate, syncs, opens the gate, syncs. A change
--- that opens the gate leaves it open where it is done, or filled with the byte of an open gate
-abbrev pub opens_gate : Fate → Bool
-opens_gate Fate.Old = false
-opens_gate Fate.New = true
-opens_gate (Fate.Filled b) = nat_eq b open_gate
-
--- a crash in a call leaves the record where the gate was being opened and is left open, or the append was done
-abbrev pub is_left : ℕ → Fate → Bool
-is_left call fate = nat_le 4 call || (nat_le 2 call && opens_gate fate)
 
 -- a crash leaves an unsure record where its gate is left open
 abbrev pub left_of : Fate → Unsure → List Record
@@ -164,7 +154,7 @@ crashed_in s call fate doing (Does (Some r) memory out) = crashed s (read_log s 
 
 -- what a failing call leaves of the record: it is hidden behind a gate that was not written, or shown and not synced
 abbrev pub left_unsure : ℕ → Record → Unsure
-left_unsure call r = cond (nat_eq call 2) (Hidden r) (cond (nat_eq call 3) (Shown r) Nothing)
+left_unsure call r = cond (is_read call) (Shown r) (cond (is_left call Fate.New) (Hidden r) Nothing)
 
 -- a shard whose device failed is stopped with the memory that it had; an opening that fails leaves it down
 abbrev pub stopped : State → State
@@ -184,7 +174,8 @@ look_view setup v k at =
 -- a look at a shard: a stopped one can be looked at, one that is down not
 abbrev pub look_shard : Setup → ShardNow → Bytes → ℕ → Reply
 look_shard setup s k at =
-    elim s.state [ Runs m ↦ look_view setup (view_of (facts_of s.log) m) k at | IsStopped m ↦ look_view setup (view_of (facts_of s.log) m) k at | IsDown ↦ Reply.Refused Stopped ]
+    elim s.state [ Runs m ↦ look_view setup (view_of (facts_of s.log) m) k at | IsStopped m ↦
+        look_view setup (view_of (facts_of s.log) m) k at | IsDown ↦ Reply.Refused Stopped ]
 
 -- ---- the world
 
@@ -301,9 +292,9 @@ deliver_to w m now None = refused w Stranger
 deliver_to w m now (Some e) = elim e.to [ Shard n ↦ do_at w n (Doing.Take m now) | Session t ↦ to_session w e.message ]
 
 -- an answered look is a line
-abbrev pub noted : World → Bytes → ℕ → Reply → After
-noted w k at (Reply.Shows x) = (note (Line.Look k at x) w, Reply.Shows x)
-noted w k at reply = (w, reply)
+abbrev pub look_noted : World → Bytes → ℕ → Reply → After
+look_noted w k at (Reply.Shows x) = (note (Line.Look k at x) w, Reply.Shows x)
+look_noted w k at reply = (w, reply)
 
 -- a look at a view that a shard has
 abbrev pub look_at_view : Setup → Option View → Bytes → ℕ → Reply
@@ -323,8 +314,8 @@ acts w (Act.Close t) = if_open w (client_of w t) (closes w.config.splits)
 acts w (Act.Quit t) = if_not_over w (client_of w t) (gives_up w.config.splits)
 acts w (Act.Deliver m now) = deliver_to w m now (slice_get w.bag m)
 acts w (Act.At n doing) = do_at w n doing
-acts w (Act.Look n k at) = at_shard w n (λ setup s. noted w k at (look_shard setup s k at))
-acts w (Act.View n v k at) = at_shard w n (λ setup s. noted w k at (look_at_view setup (slice_get s.views v) k at))
+acts w (Act.Look n k at) = at_shard w n (λ setup s. look_noted w k at (look_shard setup s k at))
+acts w (Act.View n v k at) = at_shard w n (λ setup s. look_noted w k at (look_at_view setup (slice_get s.views v) k at))
 acts w (Act.Crash n) = at_shard w n (λ setup s. (set_shard n (crashed s s.log) w, Reply.Crashed))
 acts w (Act.CrashIn n call fate doing) =
     at_shard w n (λ setup s. (set_shard n (crashed_in s call fate doing (effect setup w.bag s doing)) w, Reply.Crashed))
@@ -377,8 +368,8 @@ replies_from w [] = []
 replies_from w (e ∷ es) = let after : After = happens w e in after.1 ∷ replies_from (after.0) es
 
 -- the replies of a whole run
-unfoldable pub replies : Config → List Event → List Reply
-replies config es = replies_from (start config) es
+unfoldable pub replies_of_run : Config → List Event → List Reply
+replies_of_run config es = replies_from (start config) es
 
 -- the logs as reads of the disks give them
 unfoldable pub logs_of : World → List (List Record)

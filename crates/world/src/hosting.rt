@@ -5,7 +5,7 @@ ghost use Rattle.units.specs.Ids.{same_id};
 ghost use Rattle.units.specs.Keys.{Bytes};
 ghost use Rattle.units.specs.Lists.{first, when};
 ghost use Rattle.session.specs.Sessions.{Client, begun, reads, buffers, closes, gives_up};
-ghost use Rattle.world.specs.Hosts.{Hosts, HearsIn, MovesIn, are_apart, step_of};
+ghost use Rattle.world.specs.Hosts.{Hosts, HearsIn, MovesIn, are_apart, session_step};
 ghost use Rattle.world.specs.declared.begun.Begun.{Begun as Began};
 ghost use Rattle.world.specs.Comes.{no_line};
 ghost use Rattle.world.specs.declared.begun.Held.{Held};
@@ -57,7 +57,7 @@ impl<'s> Sessions<'s> {
 
     /// A session asks for the value of a key.
     pub fn read(&mut self, alloc: Global, txn: TxnId, key: Key) -> Result<Outbox, Fault>
-        ensures { (splits : List Bytes) (cs : List Client) → Hosts splits self.old cs → MovesIn splits (step_of (when_open (reads splits key)) (first (λ c. same_id c.txn txn) cs)) self.new cs result }
+        ensures { (splits : List Bytes) (cs : List Client) → Hosts splits self.old cs → MovesIn splits (session_step (when_open (reads splits key)) (first (λ c. same_id c.txn txn) cs)) self.new cs result }
     {
         let at = place(&self.begun, txn);
         if at >= self.begun.len() {
@@ -77,7 +77,7 @@ impl<'s> Sessions<'s> {
         key: Key,
         value: Option<Value>,
     ) -> Result<Outbox, Fault>
-        ensures { (splits : List Bytes) (cs : List Client) → Hosts splits self.old cs → MovesIn splits (step_of (when_open (buffers (record { key = key; value = value }))) (first (λ c. same_id c.txn txn) cs)) self.new cs result }
+        ensures { (splits : List Bytes) (cs : List Client) → Hosts splits self.old cs → MovesIn splits (session_step (when_open (buffers (record { key = key; value = value }))) (first (λ c. same_id c.txn txn) cs)) self.new cs result }
     {
         let at = place(&self.begun, txn);
         if at >= self.begun.len() {
@@ -91,7 +91,7 @@ impl<'s> Sessions<'s> {
 
     /// A session closes.
     pub fn close(&mut self, alloc: Global, txn: TxnId) -> Result<Outbox, Fault>
-        ensures { (splits : List Bytes) (cs : List Client) → Hosts splits self.old cs → MovesIn splits (step_of (when_open (closes splits)) (first (λ c. same_id c.txn txn) cs)) self.new cs result }
+        ensures { (splits : List Bytes) (cs : List Client) → Hosts splits self.old cs → MovesIn splits (session_step (when_open (closes splits)) (first (λ c. same_id c.txn txn) cs)) self.new cs result }
     {
         let at = place(&self.begun, txn);
         if at >= self.begun.len() {
@@ -105,7 +105,7 @@ impl<'s> Sessions<'s> {
 
     /// A session gives up.
     pub fn quit(&mut self, alloc: Global, txn: TxnId) -> Result<Outbox, Fault>
-        ensures { (splits : List Bytes) (cs : List Client) → Hosts splits self.old cs → MovesIn splits (step_of (when_not_over (gives_up splits)) (first (λ c. same_id c.txn txn) cs)) self.new cs result }
+        ensures { (splits : List Bytes) (cs : List Client) → Hosts splits self.old cs → MovesIn splits (session_step (when_not_over (gives_up splits)) (first (λ c. same_id c.txn txn) cs)) self.new cs result }
     {
         let at = place(&self.begun, txn);
         if at >= self.begun.len() {
@@ -119,7 +119,7 @@ impl<'s> Sessions<'s> {
 
     /// The end of a transaction comes to its session.
     pub fn finish(&mut self, alloc: Global, done: &Done) -> Result<Outbox, Fault>
-        ensures { (splits : List Bytes) (cs : List Client) → Hosts splits self.old cs → MovesIn splits (step_of when_closing (first (λ c. same_id c.txn done.now.txn) cs)) self.new cs result }
+        ensures { (splits : List Bytes) (cs : List Client) → Hosts splits self.old cs → MovesIn splits (session_step when_closing (first (λ c. same_id c.txn done.now.txn) cs)) self.new cs result }
     {
         let at = place(&self.begun, done.txn);
         if at >= self.begun.len() {

@@ -9,7 +9,8 @@ use Rattle.cli.proofs.once.commit_and_settle.Goals as goal
 pub returns-in_ok-print-2-clause-printed : goal.returns-in_ok-print-2-clause-printed
 returns-in_ok-print-2-clause-printed g c = (
   _,
-  reply_done c.args.first.now c.args.second.now c.in_ok-stamp.stamp _ _ c.in_ok-stamp.ensures.0 (sym (c.in_ok-settle.ensures _ _ _ c.in_ok-stamp.ensures.1).0 ∙ c.if-branch.true)
+  reply_done c.args.first.now c.args.second.now c.in_ok-stamp.stamp _ _ c.in_ok-stamp.ensures.0
+      (sym (c.in_ok-settle.ensures _ _ _ c.in_ok-stamp.ensures.1).0 ∙ c.if-branch.true)
       (c.deref.ensures ∙ c.in_ok-committed.ensures.line) (c.deref-then-branch.ensures ∙ c.in_ok-done.ensures.line),
   Appends-trans _ _ _ _ _ c.in_ok-print.ensures.printed c.in_ok-print-2.ensures.printed,
 )
@@ -17,7 +18,8 @@ returns-in_ok-print-2-clause-printed g c = (
 pub returns-in_ok-print-3-clause-printed : goal.returns-in_ok-print-3-clause-printed
 returns-in_ok-print-3-clause-printed g c = (
   _,
-  reply_early c.args.first.now c.args.second.now c.in_ok-stamp.stamp _ c.in_ok-stamp.ensures.0 (sym (c.in_ok-settle.ensures _ _ _ c.in_ok-stamp.ensures.1).0 ∙ c.if-branch.false)
+  reply_early c.args.first.now c.args.second.now c.in_ok-stamp.stamp _ c.in_ok-stamp.ensures.0
+      (sym (c.in_ok-settle.ensures _ _ _ c.in_ok-stamp.ensures.1).0 ∙ c.if-branch.false)
       (c.deref.ensures ∙ c.in_ok-committed.ensures.line),
   Appends-trans _ _ _ _ _ c.in_ok-print.ensures.printed c.in_ok-print-3.ensures.printed,
 )

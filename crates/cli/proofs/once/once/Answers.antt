@@ -7,12 +7,12 @@ use Rattle.shard.specs.Core.{seen}
 use Rattle.shard.specs.On.{CoreView}
 use Rattle.simdisk.specs.declared.simdisk.SimDisk.{SimDisk}
 use Rattle.cli.specs.declared.failure.Failure.{Failure}
-use Rattle.cli.specs.Replies.{commit_stamp}
+use Rattle.cli.specs.Replies.{first_stamp}
 use Rattle.cli.specs.Shards.{HasLog, HoldsRecords, IsLogged, log_after}
 use Rattle.cli.proofs.once.once.Goals as goal
 
 logged_as : (key value : Bytes) (first : Interval) (core : CoreView SimDisk) (disk : SimDisk) (r : Result ℕ Failure) → disk ≡ core.disk
-    → IfOk r (λ status. (stamp : ℕ) × (commit_stamp first ≡ Ok stamp) × HasLog (log_after (nat_eq status 0) key value stamp) core)
+    → IfOk r (λ status. (stamp : ℕ) × (first_stamp first ≡ Ok stamp) × HasLog (log_after (nat_eq status 0) key value stamp) core)
     → IfOk r (λ status. IsLogged key value first status disk)
 logged_as key value first core disk (Err failure) is log = tt
 logged_as key value first core disk (Ok status) is log = (
@@ -22,4 +22,5 @@ logged_as key value first core disk (Ok status) is log = (
 )
 
 pub returns-clause-logged : goal.returns-clause-logged
-returns-clause-logged g c = logged_as c.args.key c.args.value c.args.first.now (seen c.commit_and_settle-status.new.core) _ c.commit_and_settle-status.result c.stop.ensures c.commit_and_settle-status.ensures.log
+returns-clause-logged g c = logged_as c.args.key c.args.value c.args.first.now (seen c.commit_and_settle-status.new.core) _
+    c.commit_and_settle-status.result c.stop.ensures c.commit_and_settle-status.ensures.log

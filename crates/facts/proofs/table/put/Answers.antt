@@ -1,6 +1,6 @@
 use Rattle.std.proofs.Common.{◌∙◌, ap}
 use Rattle.units.proofs.ByAge.{by_id_sorted, sorted_by_id, put_is_with}
-use Rattle.facts.specs.Shown.{meant, shown}
+use Rattle.facts.specs.Shown.{meant, shown_entries}
 use Rattle.facts.proofs.Entries.{looked_up, shown_with}
 use Rattle.facts.proofs.table.put.Goals as goal
 
@@ -12,7 +12,7 @@ returns-clause-order c =
 pub returns-clause-entries : goal.returns-clause-entries
 returns-clause-entries c =
     let old = c.args.statuses.now.entries in
-    ap shown (put_is_with old _ c.args.txn c.args.status c.requires.order (returns-clause-order c) c.in-Ok.ensures.updates.0)
+    ap shown_entries (put_is_with old _ c.args.txn c.args.status c.requires.order (returns-clause-order c) c.in-Ok.ensures.updates.0)
     ∙ shown_with old c.args.txn c.args.status
 
 pub returns-clause-former : goal.returns-clause-former

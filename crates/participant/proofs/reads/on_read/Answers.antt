@@ -13,4 +13,5 @@ pub returns-in-None-clause-planned : goal.returns-in-None-clause-planned
 returns-in-None-clause-planned c =
     let k = c.args.state.now in
     let read = c.args.read.now in
-    planned-past k read.txn (plan_read (start_of k) read.txn read.key) c.past.result c.read_without_row.result c.past.ensures.past c.read_without_row.ensures.planned
+    planned-past k read.txn (plan_read (start_of k) read.txn read.key) c.past.result c.read_without_row.result c.past.ensures.past
+        c.read_without_row.ensures.planned

@@ -24,7 +24,8 @@ returns-clause-next c =
     let first : is_first e.item ≡ true = ap is_first (sym c.item-2.ensures) ∙ sym c.is_first.ensures ∙ c.if-not-is_first.false in
     by_result c.fresh.result (first_taken c.args.setup.now e own first)
   where
-    by_result : {A : Type 0} (r : Result A Fault) → fault_next c.args.setup.now (facts_of []) c.args.entry.now ≡ None → OnOk r (fault_next c.args.setup.now (facts_of []) c.args.entry.now ≡ None)
+    by_result : {A : Type 0} (r : Result A Fault) → fault_next c.args.setup.now (facts_of []) c.args.entry.now ≡ None →
+        OnOk r (fault_next c.args.setup.now (facts_of []) c.args.entry.now ≡ None)
     by_result (Ok x) h = h
     by_result (Err e) h = tt
 
@@ -37,6 +38,7 @@ returns-clause-facts c =
 pub returns-clause-recovered : goal.returns-clause-recovered
 returns-clause-recovered c = by_result c.fresh.result c.fresh.ensures.facts c.fresh.ensures.empty
   where
-    by_result : (r : Result Kept Fault) → IfOk r (λ s. s.facts ≡ facts_of (Record.Opened 1 ∷ [])) → IfOk r (λ s. s.memory ≡ record { last = 0; rows = []; ended = [] }) → IfOk r IsRecovered
+    by_result : (r : Result Kept Fault) → IfOk r (λ s. s.facts ≡ facts_of (Record.Opened 1 ∷ [])) →
+        IfOk r (λ s. s.memory ≡ record { last = 0; rows = []; ended = [] }) → IfOk r IsRecovered
     by_result (Ok s) facts memory = first_recovered s facts memory
     by_result (Err e) facts memory = tt

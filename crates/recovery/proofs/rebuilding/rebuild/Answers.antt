@@ -17,18 +17,22 @@ returns-in_default-clause-accepted c = none_taken c.args.setup.now c.args.entrie
 pub returns-in_err-state-clause-refused : goal.returns-in_err-state-clause-refused
 returns-in_err-state-clause-refused c =
     by_fault c.from_residual.result (search rules)
-    (or_fault _ _ _ (fault_first c.args.setup.now c.args.entries.now c.in-Some.first.now c.in-Some.rest.now c.in_err-state.field-0.0 c.in-Some.ensures.cases.0) c.in_err-state.ensures.refused)
+    (or_fault _ _ _ (fault_first c.args.setup.now c.args.entries.now c.in-Some.first.now c.in-Some.rest.now c.in_err-state.field-0.0
+        c.in-Some.ensures.cases.0) c.in_err-state.ensures.refused)
   where
     by_fault : {A : Type 0} (r : Result A Fault) → r ≡ Err c.in_err-state.field-0.0
-        → (c.in_err-state.field-0.0 ≡ Fault.Memory) ⊎ (fault_in (taken c.args.setup.now (items c.args.entries.now)) c.args.entries.now ≡ Some c.in_err-state.field-0.0)
+        → (c.in_err-state.field-0.0 ≡ Fault.Memory) ⊎ (fault_in (taken c.args.setup.now (items c.args.entries.now)) c.args.entries.now ≡
+            Some c.in_err-state.field-0.0)
         → IfErr r (λ fault. (fault ≡ Fault.Memory) ⊎ (fault_in (taken c.args.setup.now (items c.args.entries.now)) c.args.entries.now ≡ Some fault))
-    by_fault r is h = subst (λ q. IfErr q (λ fault. (fault ≡ Fault.Memory) ⊎ (fault_in (taken c.args.setup.now (items c.args.entries.now)) c.args.entries.now ≡ Some fault))) (sym is) h
+    by_fault r is h = subst (λ q. IfErr q (λ fault. (fault ≡ Fault.Memory)
+        ⊎ (fault_in (taken c.args.setup.now (items c.args.entries.now)) c.args.entries.now ≡ Some fault))) (sym is) h
 
 pub loop-entry-init : goal.loop-entry-init
 loop-entry-init c = record {
   setup = c.in_ok-state.ensures.setup;
   recovered = c.in_ok-state.ensures.recovered;
-  stands = after_first c.args.setup.now c.args.entries.now c.in-Some.first.now c.in-Some.rest.now c.in_ok-state.state.facts c.in-Some.ensures.cases.0 c.in_ok-state.ensures.next c.in_ok-state.ensures.facts;
+  stands = after_first c.args.setup.now c.args.entries.now c.in-Some.first.now c.in-Some.rest.now c.in_ok-state.state.facts c.in-Some.ensures.cases.0
+      c.in_ok-state.ensures.next c.in_ok-state.ensures.facts;
 }
 
 pub returns-in-Err-clause-refused : goal.returns-in-Err-clause-refused
@@ -48,7 +52,8 @@ loop-entry-preserved c =
       setup = c.take.ensures.setup ∙ i.setup;
       recovered = c.in-Ok.ensures.recovered;
       stands =
-          after_next c.args.setup.now c.args.entries.now c.in-Some.first.now c.in-Some.rest.now c.loop-entry.entry-index c.entry-item.result c.loop-entry.state.facts
+          after_next c.args.setup.now c.args.entries.now c.in-Some.first.now c.in-Some.rest.now c.loop-entry.entry-index c.entry-item.result
+              c.loop-entry.state.facts
           c.in-Some.ensures.cases.0 c.loop-entry-test.true c.entry-item.is i.stands c.take.new.state.facts
           (ap (λ (s : Setup). fault_next s c.loop-entry.state.facts c.entry-item.result) (sym i.setup) ∙ c.in-Ok.ensures.next) c.in-Ok.ensures.facts;
     }
@@ -60,5 +65,6 @@ returns-clause-found c =
     let done : Stands c.args.setup.now c.args.entries.now (take (c.loop-entry.entry-index + 1) c.args.entries.now) [] k.facts =
     subst (λ (left : List Placed). Stands c.args.setup.now c.args.entries.now (take (c.loop-entry.entry-index + 1) c.args.entries.now) left k.facts)
     (drop_of_length-le c.in-Some.rest.now c.loop-entry-test.false) i.stands in
-    let known : k.facts ≡ facts_of (items c.args.entries.now) = all_known c.args.setup.now c.args.entries.now (take (c.loop-entry.entry-index + 1) c.args.entries.now) k.facts done in
+    let known : k.facts ≡ facts_of (items c.args.entries.now) = all_known c.args.setup.now c.args.entries.now
+        (take (c.loop-entry.entry-index + 1) c.args.entries.now) k.facts done in
     (i.setup, known, i.recovered.memory ∙ ap rebuilt known, recovered_sound c.args.setup.now.shard k i.recovered c.laws.ensures)

@@ -7,7 +7,7 @@ use Rattle.simdisk.specs.declared.change.Change.TheVariants.{Write, Tried, Cut}
 use Rattle.simdisk.specs.declared.tear.Fates.{Fates}
 use Rattle.simdisk.specs.declared.tear.Fates.TheVariants.{AsSeen, Given}
 use Rattle.simdisk.specs.Fates.{fate_at, made_by}
-use Rattle.simdisk.specs.Replay.{kept, size, step, made, settled, file_at, total}
+use Rattle.simdisk.specs.Replay.{kept, size, with_made, made, settled, file_at, bytes_in_all}
 use Rattle.simdisk.proofs.Histories.{total-more, total-fits, file-more, end-within, count-at}
 use Rattle.simdisk.proofs.tear.make_changes.Goals as goal
 
@@ -20,7 +20,8 @@ made-none AsSeen base = refl
 made-none (Given given) base = refl
 
 -- one change more is made by its fate
-made-more : (fates : Fates) (change : Change) (bytes : List ℕ) (file : File) → by_fate (fate_at fates (length file.changes) change) (made change bytes) (made_by fates file) ≡ made_by fates (step change bytes file)
+made-more : (fates : Fates) (change : Change) (bytes : List ℕ) (file : File) → by_fate (fate_at fates (length file.changes) change)
+    (made change bytes) (made_by fates file) ≡ made_by fates (with_made change bytes file)
 made-more AsSeen (Write at count) bytes file = refl
 made-more AsSeen (Tried at count) bytes file = refl
 made-more AsSeen (Cut len) bytes file = refl
@@ -38,7 +39,8 @@ pub split_at-requires : goal.split_at-requires
 split_at-requires c =
     let changes = c.args.changes.now in
     let at = c.loop-made.made in
-    omega (arith, c.count.ensures, c.requires.stored, ap length c.loop-made.invariant.rest, length-drop (total (take at changes)) c.args.store.now, total-fits changes at none c.loop-made-test.true)
+    omega (arith, c.count.ensures, c.requires.stored, ap length c.loop-made.invariant.rest, length-drop (bytes_in_all (take at changes)) c.args.store.now,
+        total-fits changes at none c.loop-made-test.true)
 
 pub change_by_fate-requires : goal.change_by_fate-requires
 change_by_fate-requires c =
@@ -59,10 +61,11 @@ loop-made-preserved c =
     let file = file_at h at in
     let fates = c.args.fates in
     let text = c.split_at.result.0.now in
-    let bytes : text ≡ take (size change) (drop (total (take at h.changes)) h.store) =
+    let bytes : text ≡ take (size change) (drop (bytes_in_all (take at h.changes)) h.store) =
     c.split_at.ensures.front ∙ ap (λ (n : ℕ). take n c.loop-made.rest.now) c.count.ensures ∙ ap (λ (l : List ℕ). take (size change) l) rest in
-    let more : step change text file ≡ file_at h (at + 1) = ap (λ (l : List ℕ). step change l file) bytes ∙ sym (file-more h at none lt) in
-    let place : c.fate_of-fate.result ≡ fate_at fates (length file.changes) change = c.fate_of-fate.ensures ∙ ap (λ (n : ℕ). fate_at fates n change) (sym (count-at h at (omega (arith, lt)))) in
+    let more : with_made change text file ≡ file_at h (at + 1) = ap (λ (l : List ℕ). with_made change l file) bytes ∙ sym (file-more h at none lt) in
+    let place : c.fate_of-fate.result ≡ fate_at fates (length file.changes) change = c.fate_of-fate.ensures
+        ∙ ap (λ (n : ℕ). fate_at fates n change) (sym (count-at h at (omega (arith, lt)))) in
     record {
       image = c.change_by_fate.ensures.image
           ∙ ap (λ (t : Fate). by_fate t (made change text) c.loop-made.image.items) place
@@ -70,7 +73,7 @@ loop-made-preserved c =
           ∙ made-more fates change text file
           ∙ ap (λ (f : File). made_by fates f) more;
       rest = c.split_at.ensures.back ∙ ap (λ (n : ℕ). drop n c.loop-made.rest.now) c.count.ensures ∙ ap (λ (l : List ℕ). drop (size change) l) rest
-          ∙ drop-drop (size change) (total (take at h.changes)) h.store ∙ ap (λ (n : ℕ). drop n h.store) (sym (total-more h.changes at none lt));
+          ∙ drop-drop (size change) (bytes_in_all (take at h.changes)) h.store ∙ ap (λ (n : ℕ). drop n h.store) (sym (total-more h.changes at none lt));
       len = omega (arith, c.change_by_fate.ensures.len, end-within h.changes at none lt, c.loop-made.invariant.len);
       capacity = omega (arith, c.change_by_fate.ensures.capacity, c.loop-made.invariant.capacity);
     }

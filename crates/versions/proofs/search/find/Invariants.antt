@@ -1,6 +1,6 @@
 use Rattle.std.proofs.Common.{◌≡◌, ◌+◌, ◌-◌, ◌<◌, ◌≤◌, ◌^◌, length}
 use Rattle.versions.specs.Arranged.{arranged}
-use Rattle.versions.specs.Halves.{Before, After}
+use Rattle.versions.specs.Halves.{AllUpTo, AllAfter}
 use Rattle.versions.proofs.Halves.{LeftFits, LeftNeeds}
 use Rattle.versions.proofs.search.find.Given as goal
 
@@ -8,8 +8,8 @@ abbrev pub invariant-loop-low : goal.invariant-loop-low
 invariant-loop-low l = record {
   within : l.low ≤ l.high;
   end : l.high ≤ length l.places;
-  before : Before l.key l.at (arranged l.installs l.places) l.low;
-  after : After l.key l.at (arranged l.installs l.places) l.high;
+  before : AllUpTo l.key l.at (arranged l.installs l.places) l.low;
+  after : AllAfter l.key l.at (arranged l.installs l.places) l.high;
   all : length l.places < 2 ^ 64;
   fits : LeftFits (length l.places) (l.high - l.low) l.probes;
   needed : LeftNeeds (length l.places) (l.high - l.low) l.probes;

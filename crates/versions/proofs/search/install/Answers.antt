@@ -2,7 +2,7 @@ use Rattle.std.proofs.Common.{◌≡◌, ◌∙◌, ℕ, ◌+◌, ◌≤◌, ◌
 use Rattle.std.proofs.lemmas.List.{length-append}
 use Rattle.std.specs.List.{insert}
 use Rattle.versions.specs.Arranged.{arranged, AreWithin}
-use Rattle.versions.specs.Halves.{Before, After}
+use Rattle.versions.specs.Halves.{AllUpTo, AllAfter}
 use Rattle.versions.proofs.Arranged.{insert_is_arranged, insert_within, length_arranged}
 use Rattle.versions.proofs.Halves.{insert_is_installed}
 use Rattle.versions.proofs.search.install.Goals as goal
@@ -23,8 +23,8 @@ returns-clause-items c =
     ∙ ap (arranged (items ++ new ∷ [])) (c.in-Ok.ensures.items ∙ ap (insert places found) count)
     ∙ insert_is_arranged items new places found c.requires.within
     ∙ insert_is_installed new ordered found (omega (arith, bound, length_arranged items places))
-    (subst (λ (n : ℕ). Before new.key n ordered found) at (subst (λ t. Before new.key c.micros.result t found) same c.find-count.ensures.before))
-    (subst (λ (n : ℕ). After new.key n ordered found) at (subst (λ t. After new.key c.micros.result t found) same c.find-count.ensures.after))
+    (subst (λ (n : ℕ). AllUpTo new.key n ordered found) at (subst (λ t. AllUpTo new.key c.micros.result t found) same c.find-count.ensures.before))
+    (subst (λ (n : ℕ). AllAfter new.key n ordered found) at (subst (λ t. AllAfter new.key c.micros.result t found) same c.find-count.ensures.after))
 
 pub returns-clause-within : goal.returns-clause-within
 returns-clause-within c =

@@ -16,7 +16,8 @@ returns-in-Ok-laid_out-clause-planned g c obeys never =
       tt,
       (
         told.1.0,
-        g.met.D.Disk.room_less (disk_of c.in-Ok-laid_out.log) 5 (c.encoded_len-size.result + 6) 4 (length (staged_bytes c.args.first.now) + 1) (omega arith) (omega (arith, size, bytes-size 0 c.args.first.now)) told.1.1,
+        g.met.D.Disk.room_less (disk_of c.in-Ok-laid_out.log) 5 (c.encoded_len-size.result + 6) 4 (length (staged_bytes c.args.first.now) + 1)
+            (omega arith) (omega (arith, size, bytes-size 0 c.args.first.now)) told.1.1,
       ),
     )
 

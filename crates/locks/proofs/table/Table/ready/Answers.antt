@@ -12,5 +12,6 @@ returns c =
     let is : c.ready.result ≡ ready c.args.self.now = c.ready.ensures ∙ ap first_to_go c.deref.ensures.value ∙ sym (ready-is items) ∙ ap ready c.self.view_is in
     record {
       value = is;
-      oldest = subst (IsOldestReady c.args.self.now) (sym is) (subst (λ t. IsOldestReady t (ready t)) c.self.view_is (ready_is_oldest items c.self.invariant.order));
+      oldest = subst (IsOldestReady c.args.self.now) (sym is) (subst (λ t. IsOldestReady t (ready t)) c.self.view_is
+          (ready_is_oldest items c.self.invariant.order));
     }

@@ -2,7 +2,6 @@ use Rattle.std.proofs.Common.{◌≡◌, sym, ap, ◌∙◌, subst, not, rules}
 use Rattle.std.proofs.lemmas.Fn.{filter_same}
 use Rattle.units.specs.Locks.{Claim}
 use Rattle.units.specs.LockLaws.{IsLawfulTable}
-use Rattle.units.proofs.ListLaws.{filter-is}
 use Rattle.locks.specs.Table.{without_claim}
 use Rattle.locks.specs.Ways.{is_of}
 use Rattle.locks.proofs.TableLaws.{lawful-without}
@@ -11,12 +10,10 @@ use Rattle.locks.proofs.table.Table.release.Goals as goal
 pub invariant_of-self : goal.invariant_of-self
 invariant_of-self c =
     let is : c.retain.new.self.items ≡ without_claim c.self.inside.entries.items c.args.held.txn =
-    filter_same _ (λ (e : Claim). not (is_of c.args.held.txn e)) _ (λ x b f' k. search rules) _ _ c.retain.ensures.filtered
-    ∙ filter-is (λ (e : Claim). not (is_of c.args.held.txn e)) c.self.inside.entries.items in
+    filter_same _ (λ (e : Claim). not (is_of c.args.held.txn e)) _ (λ x b f' k. search rules) _ _ c.retain.ensures.filtered in
     subst IsLawfulTable (sym is) (lawful-without c.self.inside.entries.items c.args.held.txn c.self.invariant)
 
 pub returns : goal.returns
 returns c =
     filter_same _ (λ (e : Claim). not (is_of c.args.held.txn e)) _ (λ x b f' k. search rules) _ _ c.retain.ensures.filtered
-    ∙ filter-is (λ (e : Claim). not (is_of c.args.held.txn e)) c.self.inside.entries.items
     ∙ ap (λ t. without_claim t c.args.held.txn) c.self.view_is

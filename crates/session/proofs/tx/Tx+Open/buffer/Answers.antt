@@ -4,7 +4,7 @@ use Rattle.units.specs.declared.writes.Write.{Write}
 use Rattle.units.specs.Keys.{same_key, write_before, writes_key}
 use Rattle.units.specs.Lists.{insert}
 use Rattle.session.specs.Sessions.{Goes, with_write}
-use Rattle.session.specs.Shown.{Session, IsKept, is_made}
+use Rattle.session.specs.Shown.{Session, IsWithinLimits, is_made}
 use Rattle.session.proofs.Kept.{kept_written}
 use Rattle.session.proofs.Steps.{buffers_goes}
 use Rattle.session.proofs.tx.Tx+Open.buffer.Goals as goal
@@ -29,8 +29,10 @@ invariant_of-self-2 c =
     let room : (nat_le 128 (length i.writes.items) && not (writes_key i.writes.items w.key)) ≡ false =
     subst (λ (t : Session). (nat_le 128 (length t.client.writes) && not (writes_key t.client.writes w.key)) ≡ false) (sym c.self.view_is) may.0 in
     let written : c.insert_write.new.writes.items ≡ with_write i.writes.items w =
-    c.insert_write.ensures ∙ ap (insert write_before w) (c.drop_write.ensures.same ∙ ap (λ ws. filter (λ (v : Write). not (same_key v.key w.key)) ws) c.in_ok-reserve.ensures.items) in
-    subst (λ ws. IsKept i.taken.items i.awaited.items ws) (sym written) (kept_written i.taken.items i.awaited.items i.writes.items w c.self.invariant room)
+    c.insert_write.ensures ∙ ap (insert write_before w) (c.drop_write.ensures.same
+        ∙ ap (λ ws. filter (λ (v : Write). not (same_key v.key w.key)) ws) c.in_ok-reserve.ensures.items) in
+    subst (λ ws. IsWithinLimits i.taken.items i.awaited.items ws) (sym written)
+        (kept_written i.taken.items i.awaited.items i.writes.items w c.self.invariant room)
 
 pub returns-clause-step : goal.returns-clause-step
 returns-clause-step c =

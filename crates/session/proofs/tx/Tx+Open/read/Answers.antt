@@ -4,7 +4,7 @@ use Rattle.units.specs.Keys.{has_key, shard_of}
 use Rattle.message.specs.declared.message.Message.{Message}
 use Rattle.message.specs.declared.message.Address.TheVariants.{Shard}
 use Rattle.session.specs.Sessions.{Goes}
-use Rattle.session.specs.Shown.{Session, IsKept, is_made, taken_keys}
+use Rattle.session.specs.Shown.{Session, IsWithinLimits, is_made, taken_keys}
 use Rattle.session.proofs.Kept.{kept_read, few_asked, not_answered}
 use Rattle.session.proofs.Steps.{reads_goes}
 use Rattle.session.proofs.tx.Tx+Open.read.Goals as goal
@@ -32,7 +32,8 @@ invariant_of-self-2 c =
     subst (λ (t : Session). has_key (taken_keys t.client.taken) k ≡ false) (sym c.self.view_is) (not_answered s.client k may.1) in
     let pushed : c.push_reserved.new.self.items ≡ i.awaited.items ++ k ∷ [] =
     c.push_reserved.ensures.items ∙ ap (λ l. l ++ k ∷ []) c.in_ok-reserve.ensures.items in
-    subst (λ aw. IsKept i.taken.items aw i.writes.items) (sym pushed) (kept_read i.taken.items i.awaited.items i.writes.items k c.self.invariant few new)
+    subst (λ aw. IsWithinLimits i.taken.items aw i.writes.items) (sym pushed)
+        (kept_read i.taken.items i.awaited.items i.writes.items k c.self.invariant few new)
 
 pub returns-clause-step : goal.returns-clause-step
 returns-clause-step c =
@@ -45,4 +46,5 @@ returns-clause-step c =
     c.push_reserved.ensures.items ∙ ap (λ l. l ++ k ∷ []) c.in_ok-reserve.ensures.items ∙ ap (λ (t : Session). t.client.awaited ++ k ∷ []) c.self.view_is in
     let at : n ≡ shard_of s.splits k = c.shard_of-shard.ensures ∙ ap (λ (t : Session). shard_of t.splits k) c.self.view_is in
     reads_goes s.splits k s.client aw n may.0 may.1 may.2 may.3 pushed at
-    ∙ ap (λ (t : Session). Goes (record t.client { awaited = aw }) (record { to = Shard n; message = Message.Read (record { txn = t.client.txn; key = k }) } ∷ [])) (sym c.self.view_is)
+    ∙ ap (λ (t : Session). Goes (record t.client { awaited = aw })
+        (record { to = Shard n; message = Message.Read (record { txn = t.client.txn; key = k }) } ∷ [])) (sym c.self.view_is)

@@ -30,7 +30,8 @@ invariant_of-self-in_default g c =
       agrees = λ running keeps.
           c.args.self.now.agrees running keeps
           ∙ ap (λ (l : Option Record). Some (facts_after k.facts l)) (sym c.in_default.is) ∙ ap (λ (f : Facts). Some f) (sym facts);
-      sound = sound_then k c.make_ready.new.self c.args.plan c.requires.due c.in-Ok.ensures.ready _ _ _ (c.carry.ensures.setup ∙ c.in-Ok.ensures.ready.setup) facts memory;
+      sound = sound_then k c.make_ready.new.self c.args.plan c.requires.due c.in-Ok.ensures.ready _ _ _
+          (c.carry.ensures.setup ∙ c.in-Ok.ensures.ready.setup) facts memory;
     }
 
 pub returns-in_default : goal.returns-in_default
@@ -57,7 +58,8 @@ invariant_of-self-in-Ok-append_record g c =
           ap facts_logged (c.in-Ok-append_record.ensures.read keeps)
           ∙ facts-logged _ k.facts c.in-Some.item (c.args.self.now.agrees c.requires.running keeps)
           ∙ ap (λ (l : Option Record). Some (facts_after k.facts l)) (sym c.in-Some.is) ∙ ap (λ (f : Facts). Some f) (sym facts);
-      sound = sound_then k c.make_ready.new.self c.args.plan c.requires.due c.in-Ok.ensures.ready _ _ _ (after.ensures.setup ∙ c.in-Ok.ensures.ready.setup) facts memory;
+      sound = sound_then k c.make_ready.new.self c.args.plan c.requires.due c.in-Ok.ensures.ready _ _ _
+          (after.ensures.setup ∙ c.in-Ok.ensures.ready.setup) facts memory;
     }
 
 pub returns-in-Ok-append_record : goal.returns-in-Ok-append_record

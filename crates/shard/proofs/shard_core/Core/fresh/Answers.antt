@@ -30,5 +30,6 @@ invariant_of-result g c =
           (first-logged (log (surface (g.D.Disk.file (disk_of made.made.0))).seen) made.made.1 (Record.Opened 1) (made.ensures.read keeps)
           (made.ensures.staged.1 ∙ ap (λ n. Record.Opened n) c.first.ensures) _ (c.in-Ok-append.ensures.read keeps))
           ∙ first-learnt ∙ ap (λ (f : Facts). Some f) (sym c.in-Ok.ensures.facts);
-      sound = ∣ first-sound c.args.setup c.in-Ok.state.setup c.in-Ok.state.facts c.in-Ok.state.memory c.fresh_is_sound.ensures c.in-Ok.ensures.setup c.in-Ok.ensures.facts c.in-Ok.ensures.empty ∣₁;
+      sound = ∣ first-sound c.args.setup c.in-Ok.state.setup c.in-Ok.state.facts c.in-Ok.state.memory c.fresh_is_sound.ensures c.in-Ok.ensures.setup
+          c.in-Ok.ensures.facts c.in-Ok.ensures.empty ∣₁;
     }

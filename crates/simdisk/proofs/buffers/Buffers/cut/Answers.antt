@@ -17,7 +17,8 @@ invariant_of-self-2 c =
     let far : furthest new.changes ≡ max (furthest h.changes) 0 = ap furthest added ∙ furthest-push h.changes change in
     record {
       stored = stored_new h new change [] old.stored refl is;
-      replayed = c.truncate.ensures.items ∙ ap (λ (l : List ℕ). take c.args.len l) old.replayed ∙ ap (λ (f : File). (surface f).seen) (sym (file_new h new change [] old.stored refl is));
+      replayed = c.truncate.ensures.items ∙ ap (λ (l : List ℕ). take c.args.len l) old.replayed
+          ∙ ap (λ (f : File). (surface f).seen) (sym (file_new h new change [] old.stored refl is));
       durable_fits = omega (arith, far, old.durable_fits);
       seen_fits = omega (arith, far, old.seen_fits, c.truncate.ensures.capacity);
       copy_fits = omega (arith, old.copy_fits, c.truncate.ensures.capacity);

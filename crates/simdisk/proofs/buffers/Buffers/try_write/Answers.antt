@@ -2,7 +2,7 @@ use Rattle.std.proofs.Common.{◌≡◌, length, ◌+◌, max, refl, sym, ap, �
 use Rattle.disk.specs.File.{File, surface}
 use Rattle.simdisk.specs.declared.change.Change.{Change}
 use Rattle.simdisk.specs.declared.change.Change.TheVariants.{Tried}
-use Rattle.simdisk.specs.Replay.{History, kept, pushed, file_of, furthest, step}
+use Rattle.simdisk.specs.Replay.{History, kept, pushed, file_of, furthest, with_made}
 use Rattle.simdisk.proofs.Histories.{then_pushed, stored_new, file_new, furthest-push}
 use Rattle.simdisk.proofs.buffers.Buffers.try_write.Goals as goal
 
@@ -15,7 +15,8 @@ invariant_of-self c =
     let new = kept h.base c.keep.new.changes.items c.keep.new.store.items in
     let is : new ≡ pushed h change bytes = then_pushed h new.changes new.store change bytes c.keep.ensures.changes c.keep.ensures.store in
     let file = file_new h new change bytes ready.stored refl is in
-    let far : furthest new.changes ≡ max (furthest h.changes) (c.args.at + length bytes) = ap furthest c.keep.ensures.changes ∙ furthest-push h.changes change in
+    let far : furthest new.changes ≡ max (furthest h.changes) (c.args.at + length bytes) = ap furthest c.keep.ensures.changes
+        ∙ furthest-push h.changes change in
     let fits = c.in_ok-make_ready.ensures.ready in
     record {
       stored = stored_new h new change bytes ready.stored refl is;
@@ -33,7 +34,7 @@ returns-clause-ok c =
     let change : Change = Tried c.args.at (length bytes) in
     let new = kept h.base c.keep.new.changes.items c.keep.new.store.items in
     file_new h new change bytes ready.stored refl (then_pushed h new.changes new.store change bytes c.keep.ensures.changes c.keep.ensures.store)
-    ∙ ap (λ (was : History). step change bytes (file_of was)) c.make_ready.ensures.same.0
+    ∙ ap (λ (was : History). with_made change bytes (file_of was)) c.make_ready.ensures.same.0
 
 pub returns-clause-room : goal.returns-clause-room
 returns-clause-room c calls more room =

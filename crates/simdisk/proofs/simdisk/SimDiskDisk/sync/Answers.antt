@@ -5,14 +5,15 @@ use Rattle.disk.specs.File.{surface, synced}
 use Rattle.disk.specs.Planned.{IsAsPlanned}
 use Rattle.disk.proofs.Runs.{after_sync_within}
 use Rattle.disk.proofs.Crashes.{kept-seen}
-use Rattle.simdisk.specs.Held.{held_file, HasRoom}
+use Rattle.simdisk.specs.Held.{held_file, HasRoomFor}
 use Rattle.simdisk.proofs.simdisk.SimDiskDisk.sync.Goals as goal
 
 pub returns-in-Ok-clause-planned : goal.returns-in-Ok-clause-planned
 returns-in-Ok-clause-planned c calls more room =
     let old = held_file c.args.self.now.buffers in
     let new = c.sync.new.self in
-    subst (λ (failed : Bool). IsAsPlanned {T = Unit {0}} {E = Fault} failed (Ok tt) × HasRoom new calls more × (held_file new ≡ (if failed then old else synced old))) c.if-call.ensures.fails
+    subst (λ (failed : Bool). IsAsPlanned {T = Unit {0}} {E = Fault} failed (Ok tt) × HasRoomFor new calls more
+        × (held_file new ≡ (if failed then old else synced old))) c.if-call.ensures.fails
     (refl, (c.in-Ok.ensures.room calls more room).1, c.in-Ok.ensures.ok)
 
 pub returns-in-Ok-clause-crash : goal.returns-in-Ok-clause-crash

@@ -2,12 +2,12 @@ use Rattle.std.proofs.Common.{◌≡◌, Bool, Ok, Err, if◌then◌else◌, ref
 use Rattle.units.specs.declared.fault.Fault.{Fault}
 use Rattle.units.specs.declared.fault.Fault.TheVariants.{Device}
 use Rattle.disk.specs.Image.{after_write}
-use Rattle.disk.specs.File.{wrote, tried, surface, changed}
+use Rattle.disk.specs.File.{wrote, tried, surface, with_change}
 use Rattle.disk.specs.Planned.{IsAsPlanned}
 use Rattle.disk.proofs.Runs.{after_write_within}
 use Rattle.disk.proofs.Crashes.{wrote_surface}
 use Rattle.simdisk.proofs.Histories.{ok_of}
-use Rattle.simdisk.specs.Held.{held_file, HasRoom}
+use Rattle.simdisk.specs.Held.{held_file, HasRoomFor}
 use Rattle.simdisk.proofs.simdisk.SimDiskDisk.write_at.Goals as goal
 
 pub returns-in-Ok-clause-planned : goal.returns-in-Ok-clause-planned
@@ -15,7 +15,8 @@ returns-in-Ok-clause-planned c calls more room =
     let old = held_file c.args.self.now.buffers in
     let new = c.write-2.new.self in
     let bytes = c.args.bytes.now in
-    subst (λ (failed : Bool). IsAsPlanned {T = Unit {0}} {E = Fault} failed (Ok tt) × HasRoom new calls more × (held_file new ≡ changed (if failed then tried c.args.at bytes else wrote c.args.at bytes) old)) c.if-write.ensures.fails
+    subst (λ (failed : Bool). IsAsPlanned {T = Unit {0}} {E = Fault} failed (Ok tt) × HasRoomFor new calls more
+        × (held_file new ≡ with_change (if failed then tried c.args.at bytes else wrote c.args.at bytes) old)) c.if-write.ensures.fails
     (refl, (c.in-Ok.ensures.room calls more room).1, c.in-Ok.ensures.ok)
 
 pub returns-then-write-clause-planned : goal.returns-then-write-clause-planned
@@ -24,7 +25,8 @@ returns-then-write-clause-planned c calls more room =
     let new = c.try_write.new.self in
     let bytes = c.args.bytes.now in
     let kept = c.try_write.ensures.room calls more room in
-    subst (λ (failed : Bool). IsAsPlanned {T = Unit {0}} {E = Fault} failed (Err Device) × HasRoom new calls more × (held_file new ≡ changed (if failed then tried c.args.at bytes else wrote c.args.at bytes) old)) c.if-write.ensures.fails
+    subst (λ (failed : Bool). IsAsPlanned {T = Unit {0}} {E = Fault} failed (Err Device) × HasRoomFor new calls more
+        × (held_file new ≡ with_change (if failed then tried c.args.at bytes else wrote c.args.at bytes) old)) c.if-write.ensures.fails
     (refl, kept.1, ok_of c.try_write.result kept.0 c.try_write.ensures.ok)
 
 pub returns-in-Ok-clause-crash : goal.returns-in-Ok-clause-crash

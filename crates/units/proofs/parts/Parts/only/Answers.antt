@@ -11,4 +11,5 @@ bit-kept k h = ap (λ n. n % 65536) (one-mul (2 ^ k)) ∙ mod-eq_of_lt (pow-lt h
 pub returns : goal.returns
 returns c =
     let k = c.number-number.result in
-    ap shards_of_mask (bit-kept k c.number-number.ensures.limit) ∙ shards_of-bit k c.number-number.ensures.limit ∙ ap (λ (n : ℕ). n ∷ []) c.number-number.ensures.same
+    ap shards_of_mask (bit-kept k c.number-number.ensures.limit) ∙ shards_of-bit k c.number-number.ensures.limit
+        ∙ ap (λ (n : ℕ). n ∷ []) c.number-number.ensures.same

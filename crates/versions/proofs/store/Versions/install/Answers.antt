@@ -1,6 +1,6 @@
 use Rattle.std.proofs.Common.{◌≡◌, true, sym, subst, arith}
 use Rattle.versions.specs.Arranged.{arranged}
-use Rattle.versions.specs.Ordered.{is_above, IsKept}
+use Rattle.versions.specs.Ordered.{is_above, IsInOrder}
 use Rattle.versions.specs.Store.{Store}
 use Rattle.versions.proofs.Kept.{kept-installed}
 use Rattle.versions.proofs.store.Versions.install.Goals as goal
@@ -11,8 +11,9 @@ invariant_of-self c =
     record {
       within = c.install.ensures.within;
       kept =
-          subst (IsKept 4611686018427387903) (sym c.install.ensures.items)
-          (kept-installed _ (record { key = c.args.key; at = c.args.at; value = c.args.value }) (arranged c.self.inside.installs.items c.self.inside.places.items) above (omega (arith, c.install.ensures.in_time)) c.self.invariant.kept);
+          subst (IsInOrder 4611686018427387903) (sym c.install.ensures.items)
+          (kept-installed _ (record { key = c.args.key; at = c.args.at; value = c.args.value })
+              (arranged c.self.inside.installs.items c.self.inside.places.items) above (omega (arith, c.install.ensures.in_time)) c.self.invariant.kept);
       installs_fit = omega (arith, c.install.ensures.len, c.install.ensures.capacity, c.self.invariant.installs_fit);
       places_fit = omega (arith, c.install.ensures.len, c.install.ensures.capacity, c.self.invariant.places_fit);
     }

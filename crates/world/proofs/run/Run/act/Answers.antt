@@ -1,9 +1,9 @@
 use Rattle.std.proofs.Common.{◌+◌, refl, sym, ap, ◌∙◌, subst}
 use Rattle.session.specs.Sessions.{reads, buffers, closes, gives_up}
-use Rattle.world.specs.World.{acts, client_of, if_open, noted}
+use Rattle.world.specs.World.{acts, client_of, if_open, look_noted}
 use Rattle.world.specs.Comes.{Comes}
 use Rattle.world.specs.Held.{when_not_over, when_open}
-use Rattle.world.specs.Hosts.{step_of}
+use Rattle.world.specs.Hosts.{session_step}
 use Rattle.world.specs.Lawful.{may_act}
 use Rattle.world.specs.declared.run.Run.{Run}
 use Rattle.world.proofs.Replying.{is_new, look_comes, looks, looks_back, not_over_moves, open_moves, session_comes}
@@ -23,7 +23,8 @@ returns-in-Read c used time w few h steady may =
     let t = c.in-Read.txn in
     let f = reads w.config.splits c.in-Read.key in
     subst (λ a. Comes (used + 1) a new c.reply.result) (sym (ap (acts w) c.in-Read.is ∙ open_moves w (client_of w t) f))
-    (session_comes used w old new h (step_of (when_open f) (client_of w t)) c.read-moved.result c.reply.result (c.read-moved.ensures w.config.splits w.clients h.sessions) c.reply.ensures refl refl)
+    (session_comes used w old new h (session_step (when_open f) (client_of w t)) c.read-moved.result c.reply.result
+        (c.read-moved.ensures w.config.splits w.clients h.sessions) c.reply.ensures refl refl)
 
 pub returns-in_ok-value-in-Write : goal.returns-in_ok-value-in-Write
 unfolding acts
@@ -33,8 +34,9 @@ returns-in_ok-value-in-Write c used time w few h steady may =
     let t = c.in-Write.txn in
     let f = buffers (record { key = c.in-Write.key; value = c.in_ok-value-in-Write.value }) in
     subst (λ a. Comes (used + 1) a new c.reply-in-Write.result)
-    (sym (ap (acts w) c.in-Write.is ∙ ap (λ x. if_open w (client_of w t) (buffers (record { key = c.in-Write.key; value = x }))) (sym c.in_ok-value-in-Write.ensures.same) ∙ open_moves w (client_of w t) f))
-    (session_comes used w old new h (step_of (when_open f) (client_of w t)) c.write-moved.result c.reply-in-Write.result
+    (sym (ap (acts w) c.in-Write.is ∙ ap (λ x. if_open w (client_of w t) (buffers (record { key = c.in-Write.key; value = x })))
+        (sym c.in_ok-value-in-Write.ensures.same) ∙ open_moves w (client_of w t) f))
+    (session_comes used w old new h (session_step (when_open f) (client_of w t)) c.write-moved.result c.reply-in-Write.result
     (c.write-moved.ensures w.config.splits w.clients h.sessions) c.reply-in-Write.ensures refl refl)
 
 pub returns-in-Close : goal.returns-in-Close
@@ -45,7 +47,7 @@ returns-in-Close c used time w few h steady may =
     let t = c.in-Close.txn in
     let f = closes w.config.splits in
     subst (λ a. Comes (used + 1) a new c.reply-in-Close.result) (sym (ap (acts w) c.in-Close.is ∙ open_moves w (client_of w t) f))
-    (session_comes used w old new h (step_of (when_open f) (client_of w t)) c.close-moved.result c.reply-in-Close.result
+    (session_comes used w old new h (session_step (when_open f) (client_of w t)) c.close-moved.result c.reply-in-Close.result
     (c.close-moved.ensures w.config.splits w.clients h.sessions) c.reply-in-Close.ensures refl refl)
 
 pub returns-in-Quit : goal.returns-in-Quit
@@ -56,7 +58,7 @@ returns-in-Quit c used time w few h steady may =
     let t = c.in-Quit.txn in
     let f = gives_up w.config.splits in
     subst (λ a. Comes (used + 1) a new c.reply-in-Quit.result) (sym (ap (acts w) c.in-Quit.is ∙ not_over_moves w (client_of w t) f))
-    (session_comes used w old new h (step_of (when_not_over f) (client_of w t)) c.quit-moved.result c.reply-in-Quit.result
+    (session_comes used w old new h (session_step (when_not_over f) (client_of w t)) c.quit-moved.result c.reply-in-Quit.result
     (c.quit-moved.ensures w.config.splits w.clients h.sessions) c.reply-in-Quit.ensures refl refl)
 
 pub returns-in-Deliver : goal.returns-in-Deliver
@@ -76,7 +78,7 @@ returns-in_ok-reply-in-Look c used time w few h steady may =
     let new : Run = record { sessions = old.sessions; shards = old.shards; past = c.note_look.new.self; time = old.time } in
     let v = c.in-Look in
     let shown = c.in_ok-reply-in-Look.ensures.shown w.config used w.shards h.shards in
-    subst (λ a. Comes (used + 1) a new c.note_look.result) (sym (ap (acts w) v.is ∙ looks w v.shard v.key v.at ∙ ap (noted w v.key v.at) (sym shown)))
+    subst (λ a. Comes (used + 1) a new c.note_look.result) (sym (ap (acts w) v.is ∙ looks w v.shard v.key v.at ∙ ap (look_noted w v.key v.at) (sym shown)))
     (look_comes used w old new h v.key v.at c.in_ok-reply-in-Look.reply c.note_look.result c.note_look.ensures refl refl refl)
 
 pub returns-in_ok-reply-in-View : goal.returns-in_ok-reply-in-View
@@ -86,5 +88,6 @@ returns-in_ok-reply-in-View c used time w few h steady may =
     let new : Run = record { sessions = old.sessions; shards = old.shards; past = c.note_look-in-View.new.self; time = old.time } in
     let v = c.in-View in
     let shown = c.in_ok-reply-in-View.ensures.shown w.config used w.shards h.shards in
-    subst (λ a. Comes (used + 1) a new c.note_look-in-View.result) (sym (ap (acts w) v.is ∙ looks_back w v.shard v.number v.key v.at ∙ ap (noted w v.key v.at) (sym shown)))
+    subst (λ a. Comes (used + 1) a new c.note_look-in-View.result) (sym (ap (acts w) v.is ∙ looks_back w v.shard v.number v.key v.at
+        ∙ ap (look_noted w v.key v.at) (sym shown)))
     (look_comes used w old new h v.key v.at c.in_ok-reply-in-View.reply c.note_look-in-View.result c.note_look-in-View.ensures refl refl refl)

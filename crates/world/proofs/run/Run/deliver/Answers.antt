@@ -24,4 +24,5 @@ returns-in-Session c used w few h steady =
     subst (λ a. Comes (used + 1) a new c.reply_line.result)
     (sym (for_session w c.args.number c.in-Session.field-0 c.args.now c.in-Some.envelope.now
     (ap (λ b. slice_get b c.args.number) (sym h.past.bag) ∙ sym c.nth.ensures ∙ ap option_copied c.in-Some.is) c.in-Session.is))
-    (message_comes used w old new h c.in-Some.envelope.now.message c.take_message-heard.result c.reply_line.result (c.take_message-heard.ensures w h.sessions) c.reply_line.ensures refl refl)
+    (message_comes used w old new h c.in-Some.envelope.now.message c.take_message-heard.result c.reply_line.result
+        (c.take_message-heard.ensures w h.sessions) c.reply_line.ensures refl refl)

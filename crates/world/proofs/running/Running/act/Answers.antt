@@ -1,5 +1,5 @@
 use Rattle.std.proofs.Common.{◌≡◌, ◌∷◌, ◌++◌, [], refl, sym, ap, ◌∙◌, rules}
-use Rattle.units.proofs.Folds.{append_none}
+use Rattle.std.proofs.lemmas.List.{append-nil}
 use Rattle.world.specs.World.{makes_view}
 use Rattle.world.specs.Runs.{IsRunning}
 use Rattle.world.specs.declared.running.Running.{Running}
@@ -28,7 +28,8 @@ returns c setup used s h =
     elim c.if-makes_view.branch [
       | then-makes_view w ↦ ap (λ (r : Running). r.views.items) w.self-is ∙ w.push_reserved.ensures.items ∙ (λ i. mid.views.items ++ w.of.ensures i ∷ [])
           ∙ ap (λ b. mid.views.items ++ views_made b mid) (sym w.if-makes_view.true ∙ c.makes_view.ensures)
-      | else-makes_view w ↦ ap (λ (r : Running). r.views.items) w.self-is ∙ sym (append_none mid.views.items)
+      | else-makes_view w ↦ ap (λ (r : Running). r.views.items) w.self-is ∙ sym (append-nil mid.views.items)
           ∙ ap (λ b. mid.views.items ++ views_made b mid) (sym w.if-makes_view.false ∙ c.makes_view.ensures)
     ] in
-    acted setup used c.args.bag.now s c.args.doing.now mid c.if-makes_view.self core views h.sure c.in_ok-out.out (c.in_ok-out.ensures.carried setup used s there)
+    acted setup used c.args.bag.now s c.args.doing.now mid c.if-makes_view.self core views h.sure c.in_ok-out.out
+        (c.in_ok-out.ensures.carried setup used s there)
