@@ -3,7 +3,7 @@ use truetime::Reading;
 use units::{Key, Value};
 
 /// A command.
-#[derive(Debug, Drop)]
+#[derive(Drop)]
 pub enum Command {
     /// One shard commits the write of a value at the first reading, and settles it at the second.
     Once {
