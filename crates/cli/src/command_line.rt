@@ -14,7 +14,7 @@ use std::alloc::{AllocError, Global};
 use units::{Fault, Reason};
 
 /// A command, with its words.
-#[derive(Clone, Copy, Debug)]
+#[derive(Clone, Copy)]
 pub enum Line<'a> {
     Once {
         key: &'a str,

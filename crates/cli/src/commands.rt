@@ -3,7 +3,7 @@ use truetime::Reading;
 use units::{Key, Value};
 
 /// A command.
-#[derive(Debug, Drop)]
+#[derive(Drop)]
 pub enum Command {
     /// The usage is printed.
     Help,

@@ -2,7 +2,7 @@
 use units::Fault;
 
 /// A refusal, which is printed, or a write that failed, after which nothing is.
-#[derive(Clone, Copy, Debug)]
+#[derive(Clone, Copy)]
 pub enum Failure {
     Refused(Fault),
     Unwritten,

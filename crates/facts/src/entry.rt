@@ -7,7 +7,7 @@ use units::{Parts, ShardNo, Stamp};
 
 /// How a transaction that has a record stands in a log: a promise or a decision without an outcome, an abort decision, or
 /// how it ended. Of one that ended the log's facts keep no reads and no writes.
-#[derive(Debug, Drop)]
+#[derive(Drop)]
 pub enum Status {
     Prepared(Prepared),
     Decided(Committed),

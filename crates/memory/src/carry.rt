@@ -22,7 +22,7 @@ use std::alloc::Global;
 use units::{Fault, Lock, Stamp, TxnId, Writes};
 
 /// What was made ready for a plan: a copy of the writes that its record installs, and whether its transaction got a row.
-#[derive(Debug, Drop)]
+#[derive(Drop)]
 pub struct Ready {
     pub writes: Writes,
     pub admitted: bool,

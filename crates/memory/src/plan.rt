@@ -5,7 +5,7 @@ use rows::{Gathering, Wait};
 use units::{Ids, Lock, ShardNo, Stamp, TxnId};
 
 /// What becomes of the row of a step's own transaction.
-#[derive(Debug, Drop)]
+#[derive(Drop)]
 pub enum Change {
     /// It stays as it is, or there is none.
     Keeps,
@@ -29,7 +29,7 @@ pub enum Change {
 
 /// What a transaction asks of the rows: whom it ends, the locks that it wants beside those that it holds, and what becomes of
 /// its row.
-#[derive(Debug, Drop)]
+#[derive(Drop)]
 pub struct Request {
     pub wounded: Ids,
     pub needs: Vec<Lock>,
@@ -38,7 +38,7 @@ pub struct Request {
 
 /// What a step does: whom it ends first, the locks that its transaction asks for, the change of that transaction's row, the
 /// record that it logs, the greatest timestamp after it, and what it puts out.
-#[derive(Debug, Drop)]
+#[derive(Drop)]
 pub struct Plan {
     pub wounded: Ids,
     pub needs: Vec<Lock>,

@@ -58,7 +58,7 @@ impl Model for State {
 }
 
 /// How a transaction stands that has no row.
-#[derive(Clone, Copy, Debug)]
+#[derive(Clone, Copy)]
 pub enum Past {
     Unknown,
     Ended,

@@ -109,7 +109,7 @@ pub struct Envelope {
 }
 
 /// What a shard is given: a message, or one of its own chores.
-#[derive(Debug, Drop)]
+#[derive(Drop)]
 pub enum Input {
     Deliver(Message),
     /// The oldest wait that would be granted now goes on.

@@ -6,7 +6,7 @@ use std::alloc::Global;
 use std::marker::Model;
 
 /// The messages that a step puts out, in order.
-#[derive(Debug, Drop)]
+#[derive(Drop)]
 pub struct Outbox {
     envelopes: Vec<Envelope>,
 }

@@ -9,14 +9,14 @@ use std::marker::Model;
 use units::{Fault, ShardNo, Stamp};
 
 /// A yes that came: the shard, and its prepare timestamp.
-#[derive(Clone, Copy, Debug)]
+#[derive(Clone, Copy)]
 pub struct Voted {
     pub shard: ShardNo,
     pub at: Stamp,
 }
 
 /// The votes that came, in order, each shard's first, with the space for one of each shard.
-#[derive(Debug, Drop)]
+#[derive(Drop)]
 pub struct Votes {
     votes: Vec<Voted>,
 }
@@ -78,7 +78,7 @@ fn has_voted(votes: &[Voted], shard: ShardNo) -> bool
 }
 
 /// A commit whose votes are to be collected, with the space for them.
-#[derive(Debug, Drop)]
+#[derive(Drop)]
 pub struct Gathering {
     pub(crate) request: CommitRequest,
     pub(crate) votes: Votes,

@@ -5,7 +5,7 @@ use std::alloc::Global;
 use units::{Fault, Key, Keys, Parts, ShardNo, Stamp, Writes};
 
 /// A prepare that came: who decides, and the part of the transaction at this shard.
-#[derive(Debug, Drop)]
+#[derive(Drop)]
 pub struct PrepareRequest {
     pub coordinator: ShardNo,
     pub reads: Keys,
@@ -14,7 +14,7 @@ pub struct PrepareRequest {
 
 /// A commit that came: the latest end of the reading at its arrival, the shards that take part, and the part of the
 /// transaction at this shard.
-#[derive(Debug, Drop)]
+#[derive(Drop)]
 pub struct CommitRequest {
     pub latest: Stamp,
     pub parts: Parts,
@@ -23,7 +23,7 @@ pub struct CommitRequest {
 }
 
 /// What a transaction waits with for its locks: a read, a prepare or a commit.
-#[derive(Debug, Drop)]
+#[derive(Drop)]
 pub enum Wait {
     Read(Key),
     Prepare(PrepareRequest),

@@ -2,7 +2,7 @@
 use units::{Epoch, Key, ShardNo, Stamp, Value};
 
 /// An answer with a value that a session took: the key, the shard that gave it, the shard's epoch, and the value.
-#[derive(Debug, Drop)]
+#[derive(Drop)]
 pub struct Answered {
     pub key: Key,
     pub shard: ShardNo,
@@ -11,7 +11,7 @@ pub struct Answered {
 }
 
 /// What an answer to a read comes to: its value is taken; it changes nothing; or it dooms the session.
-#[derive(Debug, Drop)]
+#[derive(Drop)]
 pub enum Heard {
     Value(Option<Value>),
     Again,
@@ -19,7 +19,7 @@ pub enum Heard {
 }
 
 /// How a transaction ended: committed at a timestamp, or aborted.
-#[derive(Clone, Copy, Debug, PartialEq, Eq)]
+#[derive(Clone, Copy, PartialEq, Eq)]
 pub enum Finished {
     Committed(Stamp),
     Aborted,

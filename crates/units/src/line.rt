@@ -19,7 +19,7 @@ pub enum Line {
 
 /// The verdict on logs and lines: all is well, or the first fault. An id is not whole, or its acknowledged commit is
 /// missing; a line shows a wrong value; a begin line and an earlier acknowledgement are out of order.
-#[derive(Clone, Copy, Debug, PartialEq, Eq)]
+#[derive(Clone, Copy, PartialEq, Eq)]
 pub enum Verdict {
     Yes,
     Torn(TxnId),

@@ -8,21 +8,21 @@ use std::marker::Model;
 pub const MOST_ROWS: usize = 1024;
 
 /// How a lock is held: several transactions may share a key, one alone holds it exclusively.
-#[derive(Clone, Copy, Debug, PartialEq, Eq)]
+#[derive(Clone, Copy, PartialEq, Eq)]
 pub enum Mode {
     Shared,
     Exclusive,
 }
 
 /// A key with the way in which it is locked.
-#[derive(Clone, Copy, Debug)]
+#[derive(Clone, Copy)]
 pub struct Lock {
     pub key: Key,
     pub mode: Mode,
 }
 
 /// Ids of transactions, in ascending order.
-#[derive(Debug, Drop)]
+#[derive(Drop)]
 pub struct Ids {
     ids: Vec<TxnId>,
 }
@@ -53,7 +53,7 @@ impl Ids {
 }
 
 /// The answer to a request for locks: it is granted, it waits, or these younger holders are to be ended first.
-#[derive(Debug, Drop)]
+#[derive(Drop)]
 pub enum Asked {
     Granted,
     Waits,

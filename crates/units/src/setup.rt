@@ -49,13 +49,13 @@ impl Stride {
 }
 
 /// Whether a shard keeps a book of its inputs. So far none does.
-#[derive(Clone, Copy, Debug, PartialEq, Eq)]
+#[derive(Clone, Copy, PartialEq, Eq)]
 pub enum Book {
     Off,
 }
 
 /// What a shard is told when it is opened: its number, the splits of all shards, its stride and its book.
-#[derive(Debug, Drop)]
+#[derive(Drop)]
 pub struct Setup {
     pub shard: ShardNo,
     pub splits: Splits,

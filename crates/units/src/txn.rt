@@ -7,7 +7,7 @@ use std::fmt;
 use std::marker::Model;
 
 /// The number of a run, from 1 to 2^62 - 1.
-#[derive(Clone, Copy, Debug, PartialEq, Eq)]
+#[derive(Clone, Copy, PartialEq, Eq)]
 pub struct Run {
     number: u64,
 }

@@ -32,7 +32,7 @@ impl Write {
 }
 
 /// A version: what a key holds from a timestamp on, or `None` for its erasure.
-#[derive(Debug, Drop)]
+#[derive(Drop)]
 pub struct Install {
     pub key: Key,
     pub at: Stamp,
