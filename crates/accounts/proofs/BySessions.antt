@@ -27,7 +27,7 @@ by_session : (P : Map → Type 0) (w : World) (u : Txn) → IsOfSession w u → 
 by_session P w u s all m says p =
     let named : s.client.txn ≡ u.txn = same_id-is s.client.txn u.txn (first_passes (λ (d : Client). same_id d.txn u.txn) w.clients s.client s.there) in
     let kept = all s.client (among_first (λ (d : Client). same_id d.txn u.txn) w.clients s.client s.there)
-        (subst (λ t. IsTrue (has_closed w t)) (sym named) s.closed) m (λ k x line. says k x (subst (λ t. IsLine w.lines (Line.Read t k x)) named line)) p in
+    (subst (λ t. IsTrue (has_closed w t)) (sym named) s.closed) m (λ k x line. says k x (subst (λ t. IsLine w.lines (Line.Read t k x)) named line)) p in
     subst P (sym (λ i k. s.same m k i)) kept
 
 pub keep_by_sessions : (P : Map → Type 0) (config : Config) (es : List Event) (logs : List (List Record)) (at : ℕ) → IsTrue (lawful config es) →
@@ -35,7 +35,7 @@ pub keep_by_sessions : (P : Map → Type 0) (config : Config) (es : List Event) 
     P empty → AllClosed (run config es) (λ c. Keeps P (run config es).lines c.txn c.writes) → P (upto (history logs) at)
 keep_by_sessions P config es logs at fair may start all =
     from_the_start P config es logs at fair may start (λ u there below. by_session P (run config es) u
-        (written_by_sessions config es logs fair may u there) all)
+    (written_by_sessions config es logs fair may u there) all)
 
 pub sessions_keep : SessionsKeep
 sessions_keep test = keep_by_sessions (λ m. IsTrue (test m))
@@ -61,7 +61,7 @@ sessions_conserve = record {
         AllTransfer b (run config es) → total b (upto (history logs) at) ≡ total b empty
     snapshot b config es logs at fair may all =
         keep_by_sessions (λ m. total b m ≡ total b empty) config es logs at fair may refl
-            (λ c there closed. transfer_keeps b (total b empty) (run config es).lines c.txn c.writes (all c there closed))
+        (λ c there closed. transfer_keeps b (total b empty) (run config es).lines c.txn c.writes (all c there closed))
 
 pub sessions_leave_enough : SessionsLeaveEnough
 sessions_leave_enough b least config es k at x fair start all among line =
@@ -69,4 +69,4 @@ sessions_leave_enough b least config es k at x fair start all among line =
     let may : MayBeLeft config es logs = inl (as_they_are (run config es).shards) in
     subst (λ y. least ≤ b.amount y) ((externally_consistent config es logs fair may).looks k at x line)
     (keep_by_sessions (NoneBelow b least) config es logs at fair may start (λ c there closed. enough_keeps b least
-        (run config es).lines c.txn c.writes (all c there closed)) k among)
+    (run config es).lines c.txn c.writes (all c there closed)) k among)

@@ -41,7 +41,7 @@ module _ (P : Map → Type 0) (config : Config) (logs : List (List Record)) (lin
   agrees pre u post e k x line =
       let among : IsAmong h u = serial_from h u (subst (λ l. IsAmong l u) (sym e) (among_right pre (u ∷ post) u (inl refl))) in
       let front : filter (λ v. serial_before v u) (serial h) ≡ pre = ap (λ l. filter (λ v. serial_before v u) l) e
-          ∙ in_front pre u post (subst Strict e strict) in
+      ∙ in_front pre u post (subst Strict e strict) in
       sym (ap (λ l. applied l empty k) front) ∙ law.reads u.txn k x u line (found h u each_apart among)
 
   module _ (low : ℕ → Bool) (at : ℕ) (falls : (a b : ℕ) → a ≤ b → low a ≡ false → low b ≡ false) (below : (a : ℕ) → low a ≡ true → a ≤ at)
@@ -121,4 +121,4 @@ module _ (P : Map → Type 0) (config : Config) (logs : List (List Record)) (lin
   unfolding upto
   kept_always at p keeps =
       goes_on (λ a. false) at (λ a b k f. refl) (λ a k. cc) (λ u k f l. keeps u k l) [] (serial h) refl
-          (subst (λ l. P (applied l empty)) (sym (nobody (λ v. false) (serial h) (λ u k. refl))) p)
+      (subst (λ l. P (applied l empty)) (sym (nobody (λ v. false) (serial h) (λ u k. refl))) p)

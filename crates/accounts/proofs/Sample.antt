@@ -50,7 +50,7 @@ abbrev pub events : List Event
 events =
     on 100 (Act.Begin (txn 2)) ∷ on 100 (Act.Read (txn 2) a) ∷ on 100 (Act.Read (txn 2) z)
     ∷ on 105 (Act.Deliver 0 (clock 100 110)) ∷ on 105 (Act.Deliver 1 (clock 100 110)) ∷ on 106 (Act.Deliver 2 (clock 100 110)) ∷ on 106
-        (Act.Deliver 3 (clock 100 110))
+    (Act.Deliver 3 (clock 100 110))
     ∷ on 106 (Act.Write (txn 2) a (Some (55 ∷ []))) ∷ on 106 (Act.Write (txn 2) z (Some (49 ∷ 51 ∷ []))) ∷ on 107 (Act.Close (txn 2))
     ∷ on 108 (Act.Deliver 4 (clock 100 110)) ∷ on 205 (Act.Deliver 5 (clock 200 210)) ∷ on 206 (Act.Deliver 6 (clock 200 210))
     ∷ on 207 (Act.Crash 1)
@@ -59,7 +59,7 @@ events =
     ∷ on 231 (Act.Deliver 8 (clock 220 240))
     ∷ on 240 (Act.Begin (txn 3)) ∷ on 240 (Act.Read (txn 3) z) ∷ on 240 (Act.Read (txn 3) a)
     ∷ on 241 (Act.Deliver 9 (clock 230 250)) ∷ on 241 (Act.Deliver 10 (clock 230 250)) ∷ on 242 (Act.Deliver 11 (clock 230 250)) ∷ on 242
-        (Act.Deliver 12 (clock 230 250))
+    (Act.Deliver 12 (clock 230 250))
     ∷ on 243 (Act.Write (txn 3) z (Some (56 ∷ []))) ∷ on 243 (Act.Write (txn 3) a (Some (49 ∷ 50 ∷ []))) ∷ on 244 (Act.Close (txn 3))
     ∷ on 245 (Act.Deliver 13 (clock 240 260)) ∷ on 255 (Act.Deliver 14 (clock 250 260)) ∷ on 256 (Act.Deliver 15 (clock 250 260))
     ∷ on 257 (Act.CrashIn 0 2 Fate.Old (Doing.Settle (txn 3) (clock 255 259)))
@@ -133,8 +133,11 @@ second_is = record {
   found = after_first;
   read = λ k h. elim h [
     | inl same ↦ subst (λ j. IsLine (run two_shards events).lines (Line.Read (txn 3) j (after_first j))) same (6, refl)
-    | inr later ↦ elim later [ inl same ↦ subst (λ j. IsLine (run two_shards events).lines (Line.Read (txn 3) j (after_first j))) same
-        (5, refl) | inr none ↦ absurd none ]
+    | inr later ↦ elim later [
+      | inl same ↦ subst (λ j. IsLine (run two_shards events).lines (Line.Read (txn 3) j (after_first j))) same
+          (5, refl)
+      | inr none ↦ absurd none
+    ]
   ];
   even = refl;
 }
@@ -159,7 +162,7 @@ sessions_are = refl
 all_transfer : AllTransfer bank (run two_shards events)
 all_transfer c among closed =
     of_two (λ (p : Id × List Write). IsTransfer bank (run two_shards events).lines p.0 p.1) (map does (run two_shards events).clients)
-        (txn 2, sets a (55 ∷ []) ∷ sets z (49 ∷ 51 ∷ []) ∷ []) (txn 3, sets a (49 ∷ 50 ∷ []) ∷ sets z (56 ∷ []) ∷ [])
+    (txn 2, sets a (55 ∷ []) ∷ sets z (49 ∷ 51 ∷ []) ∷ []) (txn 3, sets a (49 ∷ 50 ∷ []) ∷ sets z (56 ∷ []) ∷ [])
     (does c) sessions_are first_is second_is (map_among does (run two_shards events).clients c among)
 
 -- so whatever a crash leaves of these logs, at every timestamp the accounts hold twenty

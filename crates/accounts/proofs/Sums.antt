@@ -62,7 +62,7 @@ sum_splits b test (k ∷ ks) m = by_test (test k) (sum_splits b test ks m)
   where
     by_test : (c : Bool) → sum_of b ks m ≡ sum_of b (filter test ks) m + sum_of b (filter (λ j. not (test j)) ks) m →
         b.amount (m k) + sum_of b ks m ≡ sum_of b (cond c (k ∷ filter test ks) (filter test ks)) m + sum_of b
-            (cond (not c) (k ∷ filter (λ j. not (test j)) ks) (filter (λ j. not (test j)) ks)) m
+        (cond (not c) (k ∷ filter (λ j. not (test j)) ks) (filter (λ j. not (test j)) ks)) m
     by_test true e = omega (arith, e)
     by_test false e = omega (arith, e)
 
@@ -75,7 +75,7 @@ transfer_keeps b n lines i ws t m says e =
     let new = sum_alike b (accounts_of b ws) (put_all ws m) (put_all ws t.found) (λ k h. put_over ws m t.found k (kept_passes test b.accounts k h)) in
     let old = sum_alike b (accounts_of b ws) m t.found (λ k h. says k (t.found k) (t.read k h)) in
     let others = sum_alike b (filter (λ k. not (test k)) b.accounts) (put_all ws m) m (λ k h. put_elsewhere ws m k
-        (turned (test k) (kept_passes (λ j. not (test j)) b.accounts k h))) in
+    (turned (test k) (kept_passes (λ j. not (test j)) b.accounts k h))) in
     let even = t.even in
     add _ _ _ _ _ _ _ _ _ after before new old others even e
   where
@@ -98,7 +98,7 @@ from_the_start P config es logs at fair may start keeps = always P config logs (
 from_one_time : (P : Map → Type 0) (config : Config) (es : List Event) (logs : List (List Record)) (from at : ℕ) → IsTrue (lawful config es) →
     MayBeLeft config es logs →
     from ≤ at → P (upto (history logs) from) → ((u : Txn) → IsAmong (history logs) u → from < u.at → u.at ≤ at →
-        Keeps P (run config es).lines u.txn u.writes) → P (upto (history logs) at)
+    Keeps P (run config es).lines u.txn u.writes) → P (upto (history logs) at)
 from_one_time P config es logs from at fair may le then keeps = between P config logs (run config es).lines
     (externally_consistent config es logs fair may) from at le then keeps
 
@@ -149,4 +149,4 @@ enough_keeps b least lines i ws all m says was k j = by_test (writes_key ws k) r
 pub never_below : NeverBelow
 never_below b least config es logs at fair may start all =
     from_the_start (NoneBelow b least) config es logs at fair may start (λ u h below. enough_keeps b least (run config es).lines u.txn u.writes
-        (λ k j. all u k h below j))
+    (λ k j. all u k h below j))

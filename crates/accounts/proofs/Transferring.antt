@@ -58,11 +58,14 @@ transfer_is_even b spell from to n m is from_in to_in apart = by_test (nat_le n 
         let untouched : b.amount (put l m g.key) ≡ b.amount (m to) = ap (λ x. b.amount x) (put_there l m g.key (λ e. apart (sym lk ∙ sym e ∙ gk)) ∙ ap m gk) in
         let was : b.amount (m l.key) ≡ b.amount (m from) = ap (λ z. b.amount (m z)) lk in
         add (total b m) (total b (put l m)) (total b (put g (put l m))) (b.amount (m from)) (b.amount (m to)) n (b.amount l.value) (b.amount g.value)
-            (b.amount (put l m g.key)) (omega (arith, first, was)) second lv gv untouched enough
+        (b.amount (put l m g.key)) (omega (arith, first, was)) second lv gv untouched enough
 
     by_test : (c : Bool) → nat_le n (b.amount (m from)) ≡ c →
-        total b (put_all (cond c (record { key = from; value = Some (spell (b.amount (m from) - n)) } ∷ record { key = to; value =
-        Some (spell (b.amount (m to) + n)) } ∷ []) []) m) ≡ total b m
+        total b (put_all (cond c (record { key = from; value = Some (spell (b.amount (m from) - n)) } ∷ record {
+          key = to;
+          value =
+              Some (spell (b.amount (m to) + n));
+        } ∷ []) []) m) ≡ total b m
     by_test true e = moved (record { key = from; value = Some (spell (b.amount (m from) - n)) })
         (record { key = to; value = Some (spell (b.amount (m to) + n)) }) refl refl (is.reads_back (b.amount (m from) - n))
         (is.reads_back (b.amount (m to) + n)) (le n (b.amount (m from)) e)

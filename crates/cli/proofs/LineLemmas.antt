@@ -279,7 +279,7 @@ enters name s rest starts fine found =
     ap₂ (λ (k : Kinds) (w : Walk). or_else k (or_else (entered_fault program w.stopped) (top_end w.held (is_some (entered program w.stopped)))))
     quiet (stops name rest starts)
     ∙ ap (λ (o : Option Shape). or_else (option_map_or (λ x. level_fault x [] nothing_held rest false []) o [])
-        (top_end nothing_held (is_some (option_map (λ x. rows_at x rest) o)))) found
+    (top_end nothing_held (is_some (option_map (λ x. rows_at x rest) o)))) found
     ∙ or_else-nil (level_fault s [] nothing_held rest false [])
 
 -- and what it is given

@@ -127,13 +127,13 @@ module _ (now : Interval) (key value : Bytes) (old new : CoreView SimDisk) where
       )
       by true is (Err fault) has =
           inl (only-memory new_log old new log _ _ _ (step-is new_log old new log now (only_commit key value)
-              ∙ commit-decided now key value (is-less _ _ is)) fault (omega arith) has)
+          ∙ commit-decided now key value (is-less _ _ is)) fault (omega arith) has)
       by false is (Ok out) has =
           absurd (no-answer new_log old new log TimeSpent _ (step-is new_log old new log now (only_commit key value)
-              ∙ commit-late now key value (is-not-less _ _ is)) out has)
+          ∙ commit-late now key value (is-not-less _ _ is)) out has)
       by false is (Err fault) has =
           let own : fault ≡ TimeSpent = only-refusal new_log old new log TimeSpent _ (step-is new_log old new log now (only_commit key value)
-              ∙ commit-late now key value (is-not-less _ _ is)) fault has in
+          ∙ commit-late now key value (is-not-less _ _ is)) fault has in
           inr (rw (is, own) refl)
 
   pub settles : (s : ℕ) → HasLog (decided_log key value s) old → (result : Result (List Envelope) Fault)

@@ -153,7 +153,7 @@ pub count_kept : (b : Before) (n : ℕ) (t : Id) (p latest : ℕ) (ps : List ℕ
 unfolding plan_count
 count_kept b n t p latest ps rs ws votes held row e =
     ap (λ a. cond a (plan_decide b [] t latest ps rs ws [] (with_vote n p votes))
-        (Ok (puts b [] t [] (Collecting latest ps rs ws (with_vote n p votes)) None b.memory.last []))) e
+    (Ok (puts b [] t [] (Collecting latest ps rs ws (with_vote n p votes)) None b.memory.last []))) e
     ∙ ap (λ (o : Option Row). Ok (puts b [] t [] (counted n p o) None b.memory.last [])) (sym row)
 
 -- the last yes
@@ -163,7 +163,7 @@ count_last : (b : Before) (n : ℕ) (t : Id) (p latest : ℕ) (ps : List ℕ) (r
 unfolding plan_count
 count_last b n t p latest ps rs ws votes e =
     ap (λ a. cond a (plan_decide b [] t latest ps rs ws [] (with_vote n p votes))
-        (Ok (puts b [] t [] (Collecting latest ps rs ws (with_vote n p votes)) None b.memory.last []))) e
+    (Ok (puts b [] t [] (Collecting latest ps rs ws (with_vote n p votes)) None b.memory.last []))) e
 
 pub count_late : (b : Before) (n : ℕ) (t : Id) (p latest : ℕ) (ps : List ℕ) (rs : List Bytes) (ws : List Write) (votes : List Voted)
     → all_voted (other_parts b.shard ps) (with_vote n p votes) ≡ true → 2 ^ 62 ≤ commit_stamp b.memory.last latest (with_vote n p votes)

@@ -148,7 +148,7 @@ decided_late b latest m free none late =
 decided : (b : Before) (latest : ℕ) (m : Commit) (at : ℕ) (crowded : Bool) → opens b m.txn (exclusive m.writes) ≡ true
     → list_any (λ n. not (nat_eq n b.shard)) m.parts ≡ false → at ≡ commit_stamp b.memory.last latest [] → at < 2 ^ 62 → is_crowded b m.txn ≡ crowded
     → plan_commit_now b latest m ≡ roomed crowded (Ok (decides b (in_way b m.txn (exclusive m.writes)) m.txn
-        (exclusive m.writes) at m.parts m.reads.keys m.writes))
+    (exclusive m.writes) at m.parts m.reads.keys m.writes))
 decided b latest m at crowded free none is small room =
     opened b latest m free
     ∙ ap (λ a. roomed a (granted_now b latest m)) room

@@ -14,7 +14,7 @@ any_other : (test : ℕ → Bool) (n k : ℕ) (ks : List ℕ)
     → list_any test (other_parts n (k ∷ ks)) ≡ ((not (nat_eq k n) && test k) || list_any test (other_parts n ks))
 any_other test n k ks =
     elim (nat_eq k n) as (λ a. list_any test (cond (not a) (k ∷ other_parts n ks) (other_parts n ks)) ≡
-        ((not a && test k) || list_any test (other_parts n ks))) [
+    ((not a && test k) || list_any test (other_parts n ks))) [
       | true ↦ refl
       | false ↦ refl
     ]

@@ -20,7 +20,7 @@ pub wrote_surface : (at : ℕ) (bytes : List ℕ) (file : File) → at ≤ lengt
     surface (with_change (wrote at bytes) file) ≡ after_write at bytes (surface file)
 wrote_surface at bytes file le =
     ap (λ (l : List ℕ). record { seen = l; kept = (surface file).kept; written = (at, length bytes) ∷ (surface file).written; synced = false })
-        (laid_is at bytes (surface file).seen le)
+    (laid_is at bytes (surface file).seen le)
 
 padded-size : (at : ℕ) (file : List ℕ) → at ≤ length (file ++ replicate (at - length file) 0)
 padded-size at file = omega (arith, length-append file (replicate (at - length file) 0), length-replicate {A = ℕ} (at - length file) 0)
@@ -28,8 +28,14 @@ padded-size at file = omega (arith, length-append file (replicate (at - length f
 laid-size : (at : ℕ) (bytes file : List ℕ) → length file ≤ length (laid at bytes file)
 laid-size at bytes file =
     let padded = file ++ replicate (at - length file) 0 in
-    omega (arith, length-append (take at padded ++ bytes) (drop (at + length bytes) padded), length-append (take at padded) bytes,
-        length-take-le at padded (padded-size at file), length-drop (at + length bytes) padded, length-append file (replicate (at - length file) 0))
+    omega (
+      arith,
+      length-append (take at padded ++ bytes) (drop (at + length bytes) padded),
+      length-append (take at padded) bytes,
+      length-take-le at padded (padded-size at file),
+      length-drop (at + length bytes) padded,
+      length-append file (replicate (at - length file) 0),
+    )
 
 -- outside its range a file stays as it was
 laid-outside : (at : ℕ) (bytes file : List ℕ) (place : ℕ) → place < length file → (place < at) ⊎ (at + length bytes ≤ place) →
@@ -110,7 +116,7 @@ untouched-crashed fates durable [] place lt un = refl
 untouched-crashed fates durable (change ∷ changes) place lt un =
     let before = earlier-kept change durable changes place lt in
     fate-outside (get_or fates (length changes) Old) change (crashed_by fates durable changes) durable changes place
-        (omega (arith, before, kept-crashed fates durable changes)) lt un
+    (omega (arith, before, kept-crashed fates durable changes)) lt un
     ∙ untouched-crashed fates durable changes place before (earlier-untouched change changes place un)
     ∙ sym (seen-outside change (seen_by durable changes) durable changes place (omega (arith, before, kept-seen durable changes)) lt un)
 

@@ -54,8 +54,12 @@ none_of (change ∷ changes) = false
 
 -- what the disk model says of it
 abbrev pub surface : File → Surface
-surface file = record { seen = seen_by file.durable file.changes; kept = kept_by file.durable file.changes; written = written_by file.changes;
-    synced = none_of file.changes }
+surface file = record {
+  seen = seen_by file.durable file.changes;
+  kept = kept_by file.durable file.changes;
+  written = written_by file.changes;
+  synced = none_of file.changes;
+}
 
 -- a file with one change more
 abbrev pub with_change : FileChange → File → File

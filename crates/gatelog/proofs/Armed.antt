@@ -59,7 +59,7 @@ synced_unless false old mid new is same new-is = new-is ∙ ap synced same
 pub first_fails : {T E : Type 0} (result : Result T E) (one two : Bool) (at : ℕ) (bytes : List ℕ) (file mid : File) → one ≡ true → IsErr result →
     mid ≡ with_change (if one then tried at bytes else wrote at bytes) file
     → IsAsPlanned (one || two) result × (mid ≡ (if one then with_change (tried at bytes) file else
-        (if two then with_change (wrote at bytes) file else synced (with_change (wrote at bytes) file))))
+    (if two then with_change (wrote at bytes) file else synced (with_change (wrote at bytes) file))))
 first_fails result true two at bytes file mid is err mid-is = (err, mid-is)
 first_fails result false two at bytes file mid is err mid-is = absurd (false≢true is)
 
@@ -68,7 +68,7 @@ pub then_second : {T E : Type 0} (result : Result T E) (one two : Bool) (at : �
     mid ≡ with_change (if one then tried at bytes else wrote at bytes) file
     → IsAsPlanned two result → new ≡ (if two then mid else synced mid)
     → IsAsPlanned (one || two) result × (new ≡ (if one then with_change (tried at bytes) file else
-        (if two then with_change (wrote at bytes) file else synced (with_change (wrote at bytes) file))))
+    (if two then with_change (wrote at bytes) file else synced (with_change (wrote at bytes) file))))
 then_second result true two at bytes file mid new is mid-is planned new-is = absurd (false≢true (sym is))
 then_second result false true at bytes file mid new is mid-is planned new-is = (planned, new-is ∙ mid-is)
 then_second result false false at bytes file mid new is mid-is planned new-is = (planned, new-is ∙ ap synced mid-is)
@@ -108,7 +108,7 @@ two_whole count at bytes file le =
   where
     neither : (one two : Bool) → one ≡ false → two ≡ false
         → (if one then with_change (tried at bytes) file else (if two then with_change (wrote at bytes) file else synced
-            (with_change (wrote at bytes) file))) ≡ synced (with_change (wrote at bytes) file)
+        (with_change (wrote at bytes) file))) ≡ synced (with_change (wrote at bytes) file)
     neither true two first second = absurd (false≢true (sym first))
     neither false true first second = absurd (false≢true (sym second))
     neither false false first second = refl
@@ -132,7 +132,7 @@ fails_by_call (suc (suc (suc zero))) = refl
 fails_by_call (suc (suc (suc (suc more)))) =
     let late = late_calls (suc (suc (suc (suc more)))) (omega arith) in
     ap (λ (b : Bool). b || fails_in_two (after_two (AfterWrite (suc (suc (suc (suc more))))))) late.0 ∙ late.2
-        ∙ sym (not_less (suc (suc (suc (suc more)))) (omega arith))
+    ∙ sym (not_less (suc (suc (suc (suc more)))) (omega arith))
   where
     not_less : (call : ℕ) → 4 ≤ call → nat_lt call 4 ≡ false
     not_less call le = le-ltb call 4 le
@@ -194,7 +194,7 @@ module _ (durable : List ℕ) (gate : ℕ) (item : Record) (whole : IsTrue (ends
   wrote_within image may =
       after_write_within (gate + 1) bytes (surface start) inside image
       (subst (λ (l : List ℕ). MayLeave (record { seen = l; kept = length durable; written = (gate + 1, length bytes) ∷ []; synced = false }) image)
-          behind-is may)
+      behind-is may)
 
   -- what each call leaves where it fails
   abbrev Left : ℕ → File → Type 0
@@ -247,6 +247,6 @@ armed_is file gate item synced whole fits call = from_changes file.changes synce
   where
     from_changes : (changes : List FileChange) → none_of changes ≡ true → IsTrue (ends_at (seen_by file.durable changes) gate)
         → IsArmed call (log (seen_by file.durable changes)) (record { offset = gate; item = item })
-            (appended (AfterWrite call) gate (staged_bytes item) (record { durable = file.durable; changes = changes }))
+        (appended (AfterWrite call) gate (staged_bytes item) (record { durable = file.durable; changes = changes }))
     from_changes [] none whole = armed_from_start file.durable gate item whole fits call
     from_changes (change ∷ changes) none whole = absurd (false≢true none)

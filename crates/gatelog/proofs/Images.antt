@@ -51,7 +51,7 @@ gate_closed image es gate h opened =
     let whole = sym (scan_goes_on image image es gate h refl (omega (arith, lies.1))) ∙ h in
     let rest = from_entries es (entries_at gate 0 (drop gate image)) es gate whole in
     let there : entries_at gate 0 (get_or image gate 0 ∷ drop (gate + 1) image) ≡ Ok (rest.0, gate) =
-        ap (λ (l : List ℕ). entries_at gate 0 l) (sym at_end) ∙ rest.1 in
+    ap (λ (l : List ℕ). entries_at gate 0 l) (sym at_end) ∙ rest.1 in
     elim (at_gate gate (get_or image gate 0) (drop (gate + 1) image) rest.0 gate there) [
       | is_open item count more is_it frame behind split ↦ absurd (omega (arith, (later (drop (gate + 1) image) (gate + 1) count more gate behind).0))
       | is_closed shut none here ↦ shut opened
@@ -75,14 +75,14 @@ module _ (image other : List ℕ) (es : List Placed) (gate : ℕ) (h : scan imag
       let bytes = behind_gate item ++ (0 ∷ rest) in
       let grouped : staged_bytes item ++ rest ≡ bytes = append_assoc (behind_gate item) (0 ∷ []) rest in
       let frame : framed bytes ≡ Some (item, 4 + count) = frame_from bytes item count (frame_again item (0 ∷ rest) fits (spelling-least item)
-          (spelling-most item fits)) in
+      (spelling-most item fits)) in
       let size : length (behind_gate item) ≡ 4 + count = omega (arith, length-append (to_be_bytes w32 count) (spelling item), wide32.len count) in
       let end : (gate + 1) + (4 + count) ≡ next_gate gate item = omega arith in
       let not_open : 0 ≢ open_gate = λ (e : 0 ≡ open_gate). absurd (omega (arith, e)) in
       let past : entries_at (gate + 1) (4 + count) bytes ≡ Ok ([], next_gate gate item) =
       ap (λ (n : ℕ). entries_at (gate + 1) n bytes) (sym size) ∙ skips (behind_gate item) (0 ∷ rest) (gate + 1)
       ∙ ap (λ (n : ℕ). entries_at ((gate + 1) + n) 0 (0 ∷ rest)) size ∙ closed_step ((gate + 1) + (4 + count)) 0 rest not_open
-          ∙ ap (λ (n : ℕ). Ok ([], n)) end in
+      ∙ ap (λ (n : ℕ). Ok ([], n)) end in
       scan_goes_on image other es gate h front long
       ∙ ap (λ (l : List ℕ). with_entries es (entries_at gate 0 l)) (behind ∙ ap (λ (l : List ℕ). open_gate ∷ l) grouped)
       ∙ ap (with_entries es) (open_step gate open_gate bytes item (4 + count) refl frame ∙ ap (with_entry entry) past)
@@ -122,11 +122,11 @@ module _ (file : Surface) (gate : ℕ) (item : Record) (synced : IsSynced file) 
   log-staging image may =
       let long : gate < length image = omega (arith, within.1, may.no_shorter, synced.whole) in
       let same : (i : ℕ) → i < gate + 1 → get_or image i 0 ≡ get_or file.seen i 0 = λ i lt. may.untouched i
-          (omega (arith, lt, within.1, synced.whole)) (inl lt, subst (λ ranges. IsUntouched i ranges) (sym synced.none) tt) in
+      (omega (arith, lt, within.1, synced.whole)) (inl lt, subst (λ ranges. IsUntouched i ranges) (sym synced.none) tt) in
       let front : take gate image ≡ take gate file.seen = take_agrees image file.seen gate (omega (arith, long)) (omega (arith, within.1))
-          (λ i lt. same i (omega (arith, lt))) in
+      (λ i lt. same i (omega (arith, lt))) in
       let shut : get_or image gate 0 ≢ open_gate = λ (e : get_or image gate 0 ≡ open_gate). gate_closed file.seen found.0 gate found.1
-          (sym (same gate (omega arith)) ∙ e) in
+      (sym (same gate (omega arith)) ∙ e) in
       same_log image (stays_closed file.seen image found.0 gate found.1 front long shut)
 
   pub while_staging : (image : List ℕ) → MayLeave (tried_write (gate + 1) (length bytes) file) image → IsOldOrWith (log file.seen) entry image
@@ -164,7 +164,7 @@ module _ (file : Surface) (gate : ℕ) (item : Record) (synced : IsSynced file) 
       let front : take gate image ≡ take gate file.seen = front_is ∙ staged_front in
       let rest = drop (length bytes) (drop (gate + 1) image) in
       let parts : drop (gate + 1) image ≡ bytes ++ rest = sym (take-append-drop (length bytes) (drop (gate + 1) image))
-          ∙ ap (λ (l : List ℕ). l ++ rest) behind in
+      ∙ ap (λ (l : List ℕ). l ++ rest) behind in
       let all : drop gate image ≡ get_or image gate 0 ∷ (bytes ++ rest) = drop_more image gate 0 long ∙ ap (λ (l : List ℕ). get_or image gate 0 ∷ l) parts in
       elim (cases_eq (get_or image gate 0) open_gate) [
         | inl opened ↦ inr (more_log image (is_opened file.seen image found.0 gate found.1 front item rest fits
@@ -177,14 +177,14 @@ module _ (file : Surface) (gate : ℕ) (item : Record) (synced : IsSynced file) 
   while_opening image may =
       let long : length staged ≤ length image = may.no_shorter in
       let front : take gate image ≡ take gate staged = take_agrees image staged gate (omega (arith, long, staged_long)) (omega (arith, staged_long))
-          (λ i lt. may.untouched i (omega (arith, lt, staged_long)) (inl lt, tt)) in
+      (λ i lt. may.untouched i (omega (arith, lt, staged_long)) (inl lt, tt)) in
       let behind : take (length bytes) (drop (gate + 1) image) ≡ take (length bytes) (drop (gate + 1) staged) =
       take_agrees (drop (gate + 1) image) (drop (gate + 1) staged) (length bytes) (omega (arith, long, staged_long, length-drop (gate + 1) image))
-          (omega (arith, staged_long, length-drop (gate + 1) staged)) (λ i lt.
+      (omega (arith, staged_long, length-drop (gate + 1) staged)) (λ i lt.
       get_or-drop (gate + 1) image i 0 ∙ may.untouched (gate + 1 + i) (omega (arith, lt, staged_long)) (inr (omega arith), tt)
-          ∙ sym (get_or-drop (gate + 1) staged i 0)) in
+      ∙ sym (get_or-drop (gate + 1) staged i 0)) in
       gate_any image front (behind ∙ ap (λ (l : List ℕ). take (length bytes) l) staged_behind ∙ take_at bytes tail (length bytes) refl)
-          (omega (arith, long, staged_long))
+      (omega (arith, long, staged_long))
 
   -- the file with the gate open
   abbrev opened : List ℕ
@@ -201,11 +201,11 @@ module _ (file : Surface) (gate : ℕ) (item : Record) (synced : IsSynced file) 
   scan-opened : scan opened ≡ Ok (found.0 ++ entry ∷ [], next_gate gate item)
   scan-opened =
       let front : take gate opened ≡ take gate file.seen = ap (λ (l : List ℕ). take gate l) opened_is
-          ∙ take_at (take gate staged) (open_gate ∷ (bytes ++ tail)) gate front_size ∙ staged_front in
+      ∙ take_at (take gate staged) (open_gate ∷ (bytes ++ tail)) gate front_size ∙ staged_front in
       let behind : drop gate opened ≡ open_gate ∷ (bytes ++ tail) = ap (λ (l : List ℕ). drop gate l) opened_is
-          ∙ drop_at (take gate staged) (open_gate ∷ (bytes ++ tail)) gate front_size in
+      ∙ drop_at (take gate staged) (open_gate ∷ (bytes ++ tail)) gate front_size in
       is_opened file.seen opened found.0 gate found.1 front item tail fits behind
-          (omega (arith, ap length opened_is, front_size, length-append (take gate staged) (open_gate ∷ (bytes ++ tail))))
+      (omega (arith, ap length opened_is, front_size, length-append (take gate staged) (open_gate ∷ (bytes ++ tail))))
 
   pub log-opened : log opened ≡ and_entry (log file.seen) entry
   log-opened = more_log opened scan-opened
@@ -221,9 +221,9 @@ module _ (file : Surface) (gate : ℕ) (item : Record) (synced : IsSynced file) 
   log-staged =
       let gate-is : get_or staged gate 0 ≡ get_or file.seen gate 0 =
       ap (λ (l : List ℕ). get_or l gate 0) staged_is ∙ get_or_append_left (take (gate + 1) file.seen) (bytes ++ tail) 0 gate
-          (omega (arith, staged_size)) ∙ get_or-take (gate + 1) file.seen gate 0 (omega arith) in
+      (omega (arith, staged_size)) ∙ get_or-take (gate + 1) file.seen gate 0 (omega arith) in
       same_log staged (stays_closed file.seen staged found.0 gate found.1 staged_front (omega (arith, staged_long))
-          (λ (e : get_or staged gate 0 ≡ open_gate). shut_there (sym gate-is ∙ e)))
+      (λ (e : get_or staged gate 0 ≡ open_gate). shut_there (sym gate-is ∙ e)))
 
   -- with any other byte at the gate too
   pub log-shut : (byte : ℕ) → byte ≢ open_gate → log (with_bytes gate (byte ∷ []) staged) ≡ log file.seen
@@ -232,12 +232,12 @@ module _ (file : Surface) (gate : ℕ) (item : Record) (synced : IsSynced file) 
       let rest = drop (gate + 1) staged in
       let image-is : image ≡ take gate staged ++ (byte ∷ rest) = append_assoc (take gate staged) (byte ∷ []) rest in
       let front : take gate image ≡ take gate file.seen = ap (λ (l : List ℕ). take gate l) image-is
-          ∙ take_at (take gate staged) (byte ∷ rest) gate front_size ∙ staged_front in
+      ∙ take_at (take gate staged) (byte ∷ rest) gate front_size ∙ staged_front in
       let gate-is : get_or image gate 0 ≡ byte = ap (λ (l : List ℕ). get_or l gate 0) image-is
-          ∙ ap (λ (n : ℕ). get_or (take gate staged ++ (byte ∷ rest)) n 0) (sym front_size) ∙ get_or-append_seam (take gate staged) byte rest 0 in
+      ∙ ap (λ (n : ℕ). get_or (take gate staged ++ (byte ∷ rest)) n 0) (sym front_size) ∙ get_or-append_seam (take gate staged) byte rest 0 in
       same_log image (stays_closed file.seen image found.0 gate found.1 front
-          (omega (arith, ap length image-is, front_size, length-append (take gate staged) (byte ∷ rest)))
-          (λ (e : get_or image gate 0 ≡ open_gate). other (sym gate-is ∙ e)))
+      (omega (arith, ap length image-is, front_size, length-append (take gate staged) (byte ∷ rest)))
+      (λ (e : get_or image gate 0 ≡ open_gate). other (sym gate-is ∙ e)))
 
 -- ---- the runs of an append
 
@@ -252,21 +252,21 @@ module _ {D : Type 0} (surface : D → Surface) (clock : D → ℕ) (since : D �
   first_run mid run =
       weaker clock since old mid (MayLeave (tried_write (gate + 1) (length bytes) (surface old))) Kept run
       (λ image may. while_staging (surface old) gate item synced whole fits image
-          (subst (λ (l : List ℕ). MayLeave (tried_write (gate + 1) (length l) (surface old)) image) bytes-is may))
+      (subst (λ (l : List ℕ). MayLeave (tried_write (gate + 1) (length l) (surface old)) image) bytes-is may))
 
   pub both_runs : (mid new : D) → LeavesOnly clock since old mid (MayLeave (tried_write (gate + 1) (length bytes) (surface old))) →
       surface mid ≡ after_sync (after_write (gate + 1) bytes (surface old))
       → LeavesOnly clock since mid new (MayLeave (tried_write gate 1 (surface mid))) → LeavesOnly clock since old new Kept
   both_runs mid new run mid-is again =
       let staged-is : surface mid ≡ after_sync (after_write (gate + 1) (staged_bytes item) (surface old)) = mid-is
-          ∙ ap (λ (l : List ℕ). after_sync (after_write (gate + 1) l (surface old))) bytes-is in
+      ∙ ap (λ (l : List ℕ). after_sync (after_write (gate + 1) l (surface old))) bytes-is in
       and_then clock since old mid new Kept (MayLeave (tried_write gate 1 (surface mid))) Kept (first_run mid run) again (λ image kept. kept)
       (λ image may. while_opening (surface old) gate item synced whole fits image
-          (subst (λ (f : Surface). MayLeave (tried_write gate 1 f) image) staged-is may))
+      (subst (λ (f : Surface). MayLeave (tried_write gate 1 f) image) staged-is may))
 
   pub end_is : (mid new : D) → surface mid ≡ after_sync (after_write (gate + 1) bytes (surface old)) →
       surface new ≡ after_sync (after_write gate (open_gate ∷ []) (surface mid))
       → surface new ≡ after_sync (after_write gate (open_gate ∷ []) (after_sync (after_write (gate + 1) (staged_bytes item) (surface old))))
   end_is mid new mid-is new-is =
       new-is ∙ ap (λ (f : Surface). after_sync (after_write gate (open_gate ∷ []) f)) (mid-is
-          ∙ ap (λ (l : List ℕ). after_sync (after_write (gate + 1) l (surface old))) bytes-is)
+      ∙ ap (λ (l : List ℕ). after_sync (after_write (gate + 1) l (surface old))) bytes-is)

@@ -69,7 +69,7 @@ module _ (image : List ℕ) (es : List Placed) (at : ℕ) (total : Found) (so_fa
         goes_on_behind =
             let entry : Placed = record { offset = at; item = item } in
             sym (from_gate ∙ ap (with_entries es) (open_step at (get_or image at 0) (drop (at + 1) image) item size opened is
-                ∙ ap (with_entry entry) past_frame)
+            ∙ ap (with_entry entry) past_frame)
             ∙ one_more es entry (entries_at (at + (1 + size)) 0 (drop (at + (1 + size)) image)))
 
   pub ends_there : length image ≤ at → total ≡ Err (Damaged at)

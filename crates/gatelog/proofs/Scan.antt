@@ -170,7 +170,7 @@ frame_from bytes item count h =
 pub frame_same : (xs ys : List ℕ) (item : Record) (count : ℕ) → IsFrame xs item count → take (4 + count) ys ≡ take (4 + count) xs → IsFrame ys item count
 frame_same xs ys item count h same =
     let four : take 4 ys ≡ take 4 xs = sym (take-take 4 (4 + count) ys (omega arith)) ∙ ap (λ (l : List ℕ). take 4 l) same
-        ∙ take-take 4 (4 + count) xs (omega arith) in
+    ∙ take-take 4 (4 + count) xs (omega arith) in
     let body : take count (drop 4 ys) ≡ take count (drop 4 xs) = sym (drop-take 4 count ys) ∙ ap (λ (l : List ℕ). drop 4 l) same ∙ drop-take 4 count xs in
     record {
       long = omega (arith, h.long, ap length same, length-take (4 + count) ys, length-take (4 + count) xs);
@@ -188,10 +188,15 @@ frame_again item rest fits least most =
     let grouped : behind_gate item ++ rest ≡ front ++ (spelling item ++ rest) = append_assoc front (spelling item) rest in
     let four : take 4 (behind_gate item ++ rest) ≡ front = ap (λ (l : List ℕ). take 4 l) grouped ∙ take_at front (spelling item ++ rest) 4 refl in
     let after : drop 4 (behind_gate item ++ rest) ≡ spelling item ++ rest = ap (λ (l : List ℕ). drop 4 l) grouped
-        ∙ drop_at front (spelling item ++ rest) 4 refl in
+    ∙ drop_at front (spelling item ++ rest) 4 refl in
     record {
-      long = omega (arith, ap length grouped, length-append front (spelling item ++ rest), length-append (spelling item) rest,
-          wide32.len (length (spelling item)));
+      long = omega (
+        arith,
+        ap length grouped,
+        length-append front (spelling item ++ rest),
+        length-append (spelling item) rest,
+        wide32.len (length (spelling item)),
+      );
       is = ap (from_be_bytes w32) four ∙ wide32.again (length (spelling item)) (omega (arith, most));
       least = least;
       most = most;
@@ -238,9 +243,9 @@ goes_on (x ∷ xs) (y ∷ ys) at zero (suc k) es h same long =
           let fits : size ≤ k = omega (arith, (later xs (at + 1) size rest (at + suc k) more).0) in
           let within : 4 + count ≤ k = omega (arith, frame.1, fits) in
           let same_frame : take (4 + count) ys ≡ take (4 + count) xs = sym (take-take (4 + count) k ys within)
-              ∙ ap (λ (l : List ℕ). take (4 + count) l) heads.1 ∙ take-take (4 + count) k xs within in
+          ∙ ap (λ (l : List ℕ). take (4 + count) l) heads.1 ∙ take-take (4 + count) k xs within in
           let again : framed ys ≡ Some (item, size) = frame_from ys item count (frame_same xs ys item count frame.2 same_frame)
-              ∙ ap (λ (n : ℕ). Some (item, n)) (sym frame.1) in
+          ∙ ap (λ (n : ℕ). Some (item, n)) (sym frame.1) in
           open_step at y ys item size (heads.0 ∙ opened) again
           ∙ ap (with_entry entry) (goes_on xs ys (at + 1) size k rest more_at heads.1 (omega arith))
           ∙ with_entries-cons entry rest (entries_at ((at + 1) + k) 0 (drop k ys))
@@ -300,7 +305,7 @@ scan_goes_on image other es gate h same long =
     let front : take 8 other ≡ header = sym (take-take 8 gate other lies.0) ∙ ap (λ (l : List ℕ). take 8 l) same ∙ take-take 8 gate image lies.0 ∙ parts.0 in
     let behind : take k (drop 8 other) ≡ take k (drop 8 image) =
     sym (drop-take 8 k other) ∙ ap (λ (n : ℕ). drop 8 (take n other)) (sym split) ∙ ap (λ (l : List ℕ). drop 8 l) same
-        ∙ ap (λ (n : ℕ). drop 8 (take n image)) split ∙ drop-take 8 k image in
+    ∙ ap (λ (n : ℕ). drop 8 (take n image)) split ∙ drop-take 8 k image in
     let found : entries_at 8 0 (drop 8 image) ≡ Ok (es, 8 + k) = parts.1 ∙ ap (λ (n : ℕ). Ok (es, n)) split in
     scan_from other front
     ∙ goes_on (drop 8 image) (drop 8 other) 8 0 k es found behind (omega (arith, long, length-drop 8 other))

@@ -22,7 +22,7 @@ after_two plan = next (next (at_write plan))
 abbrev pub two_made : Plan → ℕ → List ℕ → File → File
 two_made plan at bytes file =
     if fails (at_write plan) then with_change (tried at bytes) file else (if fails (next (at_write plan)) then with_change
-        (wrote at bytes) file else synced (with_change (wrote at bytes) file))
+    (wrote at bytes) file else synced (with_change (wrote at bytes) file))
 
 -- one of the four calls of an append fails
 abbrev pub fails_in_append : Plan → Bool

@@ -57,7 +57,7 @@ first_taken : (setup : Setup) (before : List Record) (r : Record) (rest : List R
     IsTakenAfter setup before r × (taken_from setup (before ++ r ∷ []) (place + 1) rest ≡ Accepted)
 first_taken setup before r rest place e =
     let p = taken_step (not (belongs setup r)) (begins before r && follows setup.shard before r && fits_beside before r) place
-        (taken_from setup (before ++ r ∷ []) (place + 1) rest) e in
+    (taken_from setup (before ++ r ∷ []) (place + 1) rest) e in
     let q = and_parts (begins before r && follows setup.shard before r) (fits_beside before r) p.1 in
     let b = and_parts (begins before r) (follows setup.shard before r) q.0 in
     (record { own = not_not (belongs setup r) p.0; follows = b.1; begins = b.0; fits = q.1 }, p.2)
@@ -80,9 +80,9 @@ front_taken_from : (setup : Setup) (before front back : List Record) (place : �
 front_taken_from setup before [] back place e = refl
 front_taken_from setup before (q ∷ qs) back place e =
     let p = taken_step (not (belongs setup q)) (begins before q && follows setup.shard before q && fits_beside before q) place
-        (taken_from setup (before ++ q ∷ []) (place + 1) (qs ++ back)) e in
+    (taken_from setup (before ++ q ∷ []) (place + 1) (qs ++ back)) e in
     again (not (belongs setup q)) (begins before q && follows setup.shard before q && fits_beside before q)
-        (taken_from setup (before ++ q ∷ []) (place + 1) qs) p.0 p.1
+    (taken_from setup (before ++ q ∷ []) (place + 1) qs) p.0 p.1
     (front_taken_from setup (before ++ q ∷ []) qs back (place + 1) p.2)
   where
     again : (a b : Bool) (rest : Taken) → a ≡ false → b ≡ true → rest ≡ Accepted → cond a (StrangerAt place) (cond b rest (DamagedAt place)) ≡ Accepted
@@ -296,7 +296,7 @@ one_more shard log r h fits once one =
         let one_id : b.txn ≡ a.txn = same_txn a.txn b.txn a.stamp b.stamp (sym a.is ∙ b.is) in
         a.value
         ∙ once_by log a.txn once a.write b.write a.among (subst (λ t. IsAmong (writes_by (committed_of log t) (prepared_of log t)) b.write) one_id
-            b.among) (sym a.key ∙ key ∙ b.key)
+        b.among) (sym a.key ∙ key ∙ b.key)
         ∙ sym b.value
 
 one_from : (setup : Setup) (before rest : List Record) (place : ℕ) → taken_from setup before place rest ≡ Accepted →
@@ -306,7 +306,7 @@ one_from setup before [] place e f once one = subst (λ l. OneValue (installs_of
 one_from setup before (r ∷ rest) place e f once one =
     let p = first_taken setup before r rest place e in
     let more : followed setup.shard (before ++ r ∷ []) ≡ true = followed_more setup.shard before r
-        ∙ all_three (followed setup.shard before) (begins before r) (follows setup.shard before r) f p.0.begins p.0.follows in
+    ∙ all_three (followed setup.shard before) (begins before r) (follows setup.shard before r) f p.0.begins p.0.follows in
     let assoc = append_assoc before (r ∷ []) rest in
     subst (λ l. OneValue (installs_of l)) assoc
     (one_from setup (before ++ r ∷ []) rest (place + 1) p.1 more (subst AllWriteOnce (sym assoc) once)
@@ -319,8 +319,11 @@ one_from setup before (r ∷ rest) place e f once one =
     all_three true true false x y z = cc
 
     front_once : (front back : List Record) → AllWriteOnce (front ++ back) → AllWriteOnce front
-    front_once front back all = record { promises = λ p h. all.promises p (among_left front back (Prepare p) h); decisions =
-        λ c h. all.decisions c (among_left front back (Commit c) h) }
+    front_once front back all = record {
+      promises = λ p h. all.promises p (among_left front back (Prepare p) h);
+      decisions =
+          λ c h. all.decisions c (among_left front back (Commit c) h);
+    }
 
 -- one value of each key at each time
 pub one_value : (setup : Setup) (log : List Record) → taken setup log ≡ Accepted → AllWriteOnce log → OneValue (installs_of log)

@@ -51,14 +51,14 @@ module _ (w : World) (C : World → Type 0) (same : C w)
     (begins : (t : Id) → not (has_begun w t) ≡ true → C (begin t w))
     (steps : (c : Client) (s : Step) → IsAmong w.clients c → C (moved w (step_of w.config.splits s c)).0)
     (hears : (c : Client) (to : Address) (a : ReadAnswer) → IsAmong w.clients c → c.txn ≡ a.txn →
-        IsAmong w.bag (record { to = to; message = Message.ReadAnswer a }) → C (answered w c a).0)
+    IsAmong w.bag (record { to = to; message = Message.ReadAnswer a }) → C (answered w c a).0)
     (crashes : (n : ℕ) (s : ShardNow) → slice_get w.shards n ≡ Some s → (log : List Record) → C (set_shard n (crashed s log) w))
     (does : (n : ℕ) (s : ShardNow) → slice_get w.shards n ≡ Some s → (doing : Doing) (logged : Option Record) (memory : Memory) (out : List Envelope) →
     effect (setup_of w.config n) w.bag s doing ≡ Does logged memory out → C (put_out out (set_shard n (finished s doing logged memory) w)))
     (fails : (n : ℕ) (s : ShardNow) → slice_get w.shards n ≡ Some s → (call : ℕ) (r : Record) → C (set_shard n (failed_in s call r) w))
     (looks : (n : ℕ) (s : ShardNow) → slice_get w.shards n ≡ Some s → (k : Bytes) (at : ℕ) → C (look_noted w k at (look_shard (setup_of w.config n) s k at)).0)
     (views : (n : ℕ) (s : ShardNow) → slice_get w.shards n ≡ Some s → (i : ℕ) (k : Bytes) (at : ℕ) →
-        C (look_noted w k at (look_at_view (setup_of w.config n) (slice_get s.views i) k at)).0) where
+    C (look_noted w k at (look_at_view (setup_of w.config n) (slice_get s.views i) k at)).0) where
   -- ---- sessions
 
   there : (t : Id) (c : Client) → client_of w t ≡ Some c → IsAmong w.clients c
@@ -193,4 +193,4 @@ module _ (w : World) (C : World → Type 0) (same : C w)
       (λ s is. crash_within_goes n s is call fate doing (effect (setup_of w.config n) w.bag s doing))
   acts_go time (Act.FailIn n call doing) may =
       at_shard_goes n (λ setup s. did_with_failure w n s call doing (effect setup w.bag s doing))
-          (λ s is. failing_goes n s is call doing (effect (setup_of w.config n) w.bag s doing) refl)
+      (λ s is. failing_goes n s is call doing (effect (setup_of w.config n) w.bag s doing) refl)

@@ -131,9 +131,9 @@ module _ (sc : Scene) (h : Holds sc) (logs : List (List Record)) (left : AreLeft
         let mine : same_id p.promise.txn t ≡ true = subst (λ u. same_id u t ≡ true) (sym (p.named ∙ named)) (same_id-refl t) in
         let among : IsAmong (promises_of (log_in logs m) t) p.promise =
         keep_among (λ (x : Prepared). same_id x.txn t) (gather as_prepared (log_in logs m)) p.promise
-            (gather_among as_prepared (log_in logs m) (Record.Prepare p.promise) p.promise p.among refl) mine in
+        (gather_among as_prepared (log_in logs m) (Record.Prepare p.promise) p.promise p.among refl) mine in
         let single = is_single (promises_of (log_in logs m) t) p.promise (one_promise_in (log_in logs m) t
-            (is_orderly sc h logs left m (Record.Prepare p.promise) p.among)) among in
+        (is_orderly sc h logs left m (Record.Prepare p.promise) p.among)) among in
         subst (λ l. is_promise_for d l ≡ true) (sym single) (fits_for p.promise p.by p.below)
       where
         fits_for : (p : Prepared) → p.coordinator ≡ d.shard → p.at ≤ d.commit.at → (nat_eq p.coordinator d.shard && nat_le p.at d.commit.at) ≡ true

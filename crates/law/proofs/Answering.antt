@@ -72,12 +72,12 @@ told_is_held setup f m p a x fair = by_answer fair.held
     by_answer (OfRow change wounded logged held phase is opened there) =
         made logged (row_as a.txn held phase)
         (ap (λ c. find_row (after_change c (without_rows m.rows p.wounded)) a.txn) change ∙ ap (λ l. find_row (without_rows m.rows l) a.txn) wounded
-            ∙ row_at (start_of_step 1024 setup f m) a.txn held phase is) opened there
+        ∙ row_at (start_of_step 1024 setup f m) a.txn held phase is) opened there
     by_answer (OfLock change logged) =
         made logged (row_as a.txn (with_locks (held_in (without_rows m.rows p.wounded) a.txn) (to_read a.key)) Idle)
         (ap (λ c. find_row (after_change c (without_rows m.rows p.wounded)) a.txn) change
         ∙ find-with_row_same (without_rows m.rows p.wounded) (row_as a.txn (with_locks (held_in (without_rows m.rows p.wounded) a.txn)
-            (to_read a.key)) Idle)) refl
+        (to_read a.key)) Idle)) refl
         (holds_lock (held_in (without_rows m.rows p.wounded) a.txn) a.key _)
 
 -- its row is open
@@ -159,18 +159,30 @@ module _ (n : ℕ) (t : Id) (k : Bytes) (e : ℕ) (x : Option Bytes) where
   apart_told : (setup : Setup) (log : List Record) (unsure : Unsure) (st : State) (views : List View) → (setup.shard ≡ n → ⊥) →
       WellShard setup (shard_with log unsure st views) → ToldShard setup (shard_with log unsure st views)
   apart_told setup log unsure (Runs m) views other h = record {
-    left = λ l may. let z = h.left l may in record { memory = z.memory; sound = record { well = z.sound; held = λ q. absurd (other q) }; good =
-        record { accepted = z.good; right = λ q. absurd (other q) } };
+    left = λ l may. let z = h.left l may in record {
+      memory = z.memory;
+      sound = record { well = z.sound; held = λ q. absurd (other q) };
+      good =
+          record { accepted = z.good; right = λ q. absurd (other q) };
+    };
     state = (record { well = h.state.0; held = λ q. absurd (other q) }, h.state.1);
   }
   apart_told setup log unsure (IsStopped m) views other h = record {
-    left = λ l may. let z = h.left l may in record { memory = z.memory; sound = record { well = z.sound; held = λ q. absurd (other q) }; good =
-        record { accepted = z.good; right = λ q. absurd (other q) } };
+    left = λ l may. let z = h.left l may in record {
+      memory = z.memory;
+      sound = record { well = z.sound; held = λ q. absurd (other q) };
+      good =
+          record { accepted = z.good; right = λ q. absurd (other q) };
+    };
     state = tt;
   }
   apart_told setup log unsure IsDown views other h = record {
-    left = λ l may. let z = h.left l may in record { memory = z.memory; sound = record { well = z.sound; held = λ q. absurd (other q) }; good =
-        record { accepted = z.good; right = λ q. absurd (other q) } };
+    left = λ l may. let z = h.left l may in record {
+      memory = z.memory;
+      sound = record { well = z.sound; held = λ q. absurd (other q) };
+      good =
+          record { accepted = z.good; right = λ q. absurd (other q) };
+    };
     state = tt;
   }
 

@@ -275,8 +275,11 @@ answered_changes w c a there =
       acked = λ h to t s j. has_ack_more w.lines (read_lines c d a.key a.answer) t (h to t s j);
       has = λ n h. let s = k.has n h in record { shard = s.shard; there = s.there };
       offered = λ n view o. inl (record { shard = o.shard; there = o.there; shows = o.shows });
-      looked = λ j at x h. elim (among_cases w.lines (read_lines c d a.key a.answer) (Line.Look j at x) h) [ inl old ↦ inl old | inr new ↦
-          absurd (read_no_look c d a.key a.answer j at x new) ];
+      looked = λ j at x h. elim (among_cases w.lines (read_lines c d a.key a.answer) (Line.Look j at x) h) [
+        | inl old ↦ inl old
+        | inr new ↦
+            absurd (read_no_look c d a.key a.answer j at x new)
+      ];
       once = λ h. k.once h;
     }
 
@@ -326,8 +329,11 @@ reads_once : (splits : List Bytes) (k : Bytes) (c : Client) → WritesOnce c.wri
 unfolding reads
 reads_once splits k c h =
     unless_once ((nat_le 128 (length (asked_keys c)), Many) ∷ (was_answered c k, Again) ∷ (has_key c.awaited k, Awaited) ∷ (is_doomed c, Doomed) ∷ [])
-    (Goes (record c { awaited = c.awaited ++ k ∷ [] }) (record { to = Shard (shard_of splits k); message =
-        Message.Read (record { txn = c.txn; key = k }) } ∷ [])) h
+    (Goes (record c { awaited = c.awaited ++ k ∷ [] }) (record {
+      to = Shard (shard_of splits k);
+      message =
+          Message.Read (record { txn = c.txn; key = k });
+    } ∷ [])) h
 
 buffers_once : (v : Write) (c : Client) → WritesOnce c.writes → OnceMoved (buffers v c)
 unfolding buffers
@@ -395,7 +401,7 @@ set_changes w n old new there shows = record {
     here : (m : ℕ) (view : View) → n ≡ m → Offers (set_shard n new w) m view → Offers w m view ⊎ IsPresent (set_shard n new w) m view
     here m view same o =
         let there_now : slice_get (replaced w.shards n new) m ≡ Some new = subst (λ j. slice_get (replaced w.shards n new) j ≡ Some new) same
-            (get-replaced_same w.shards n old new there) in
+        (get-replaced_same w.shards n old new there) in
         let is : o.shard ≡ new = some_shard o.shard new (sym o.there ∙ there_now) in
         elim (shows view (subst (λ (s : ShardNow). ShowsView s view) is o.shows)) [
           | inl before ↦ inl (record { shard = old; there = subst (λ j. slice_get w.shards j ≡ Some old) same there; shows = before })
@@ -428,7 +434,7 @@ finished_shows s doing logged m v (inl h) = elim (among_cases s.views (new_view 
 failed_shows : (setup : Setup) (log : List Record) (unsure : Unsure) (st : State) (views : List View) (call : ℕ) (r : Record) (v : View) →
     WellShard setup (shard_with log unsure st views) →
     ShowsView (failed_in (shard_with log unsure st views) call r) v → ShowsView (shard_with log unsure st views) v
-        ⊎ RunsWith (failed_in (shard_with log unsure st views) call r) v
+    ⊎ RunsWith (failed_in (shard_with log unsure st views) call r) v
 unfolding failed_in
 failed_shows setup log unsure st views call r v well (inl h) = inl (inl h)
 failed_shows setup log unsure (Runs m) views call r v well (inr e) =
@@ -488,8 +494,12 @@ module _ (w : World) (well : WellWorld w) (n : ℕ) (s : ShardNow) (there : slic
   look_changes k at = noted_changes k at (look_shard (setup_of w.config n) s k at) (λ x e. by_state s.state refl x e)
     where
       by_state : (st : State) → s.state ≡ st → (x : Option Bytes) →
-          (elim st as (λ y. Reply) [ Runs m ↦ look_view (setup_of w.config n) (view_of (facts_of s.log) m) k at | IsStopped m ↦
-              look_view (setup_of w.config n) (view_of (facts_of s.log) m) k at | IsDown ↦ Reply.Refused Stopped ]) ≡ Reply.Shows x →
+          (elim st as (λ y. Reply) [
+            | Runs m ↦ look_view (setup_of w.config n) (view_of (facts_of s.log) m) k at
+            | IsStopped m ↦
+                look_view (setup_of w.config n) (view_of (facts_of s.log) m) k at
+            | IsDown ↦ Reply.Refused Stopped
+          ]) ≡ Reply.Shows x →
           Looked w k at x
       by_state (Runs m) is x e = look_answers (view_of (facts_of s.log) m) k at x (inr (ap (λ z. view_in z s.log) is)) e
       by_state (IsStopped m) is x e = look_answers (view_of (facts_of s.log) m) k at x (inr (ap (λ z. view_in z s.log) is)) e
@@ -513,5 +523,5 @@ acts_change w well =
     (λ n s there doing logged memory out is. put_changes w (set_shard n (finished s doing logged memory) w) out
     (set_changes w n s (finished s doing logged memory) there (finished_shows s doing logged memory)))
     (λ n s there call r. set_changes w n s (failed_in s call r) there (λ v h. failed_shows
-        (setup_of w.config n) s.log s.unsure s.state s.views call r v (well n s there) h))
+    (setup_of w.config n) s.log s.unsure s.state s.views call r v (well n s there) h))
     (look_changes w well) (λ n s there i k at. view_changes w well n s there i k at)

@@ -77,6 +77,6 @@ module _ (sc : Scene) (n : ℕ) (old new : ShardNow) (there : slice_get sc.world
           ShardEvidence (with_world sc (set_shard n new sc.world)) m s
       by_place m s same e =
           let is : new ≡ s = some_same new s (sym (get-replaced_same sc.world.shards n old new there)
-              ∙ subst (λ k. slice_get (replaced sc.world.shards n new) k ≡ Some s) (sym same) e) in
+          ∙ subst (λ k. slice_get (replaced sc.world.shards n new) k ≡ Some s) (sym same) e) in
           subst (λ k. ShardEvidence (with_world sc (set_shard n new sc.world)) k s) same
           (subst (λ x. ShardEvidence (with_world sc (set_shard n new sc.world)) n x) is (shard_stays sc _ set_grows n new evidence))

@@ -78,7 +78,7 @@ module _ (sc : Scene) (h : Holds sc) (present : slice_get sc.times sc.world.even
       let d : Client = record c { awaited = c.awaited ++ k ∷ [] } in
       let out : List Envelope = record { to = Shard (shard_of sc.world.config.splits k); message = Message.Read (record { txn = c.txn; key = k }) } ∷ [] in
       unless_evidence c ((nat_le 128 (length (asked_keys c)), Many) ∷ (was_answered c k, Again) ∷ (has_key c.awaited k, Awaited) ∷
-          (is_doomed c, Doomed) ∷ []) (Goes d out)
+      (is_doomed c, Doomed) ∷ []) (Goes d out)
       (record { same = refl; keeps = open_keeps c d e; told = (tt, tt) })
 
   buffering : (w : Write) (c : Client) → c.stage ≡ IsOpen → MovedEvidence c (buffers w c)
@@ -122,7 +122,7 @@ module _ (sc : Scene) (h : Holds sc) (present : slice_get sc.times sc.world.even
 
   give_ups_told : (sc2 : Scene) (t : Id) (ns : List ℕ) →
       AllByRecursion (λ (e : Envelope). MessageEvidence sc2 e.to e.message)
-          (map (λ n. record { to = Shard n; message = Message.GiveUp (record { txn = t }) }) ns)
+      (map (λ n. record { to = Shard n; message = Message.GiveUp (record { txn = t }) }) ns)
   give_ups_told sc2 t [] = tt
   give_ups_told sc2 t (n ∷ ns) = (tt, give_ups_told sc2 t ns)
 
@@ -163,8 +163,11 @@ module _ (sc : Scene) (h : Holds sc) (present : slice_get sc.times sc.world.even
   quits_hold t None e = h
   quits_hold t (Some c) e = by_stage c.stage
     where
-      by_stage : (s : Stage) → AfterHolds sc (elim s as (λ x. After) [ IsOver ↦ refused sc.world Stranger | _ ↦
-          moved sc.world (gives_up sc.world.config.splits c) ])
+      by_stage : (s : Stage) → AfterHolds sc (elim s as (λ x. After) [
+        | IsOver ↦ refused sc.world Stranger
+        | _ ↦
+            moved sc.world (gives_up sc.world.config.splits c)
+      ])
       by_stage IsOver = h
       by_stage IsOpen = moved_holds t c e (gives_up sc.world.config.splits c) (giving_up c)
       by_stage IsClosing = moved_holds t c e (gives_up sc.world.config.splits c) (giving_up c)
@@ -184,8 +187,11 @@ module _ (sc : Scene) (h : Holds sc) (present : slice_get sc.times sc.world.even
   taken_txn c n k epoch answer.Refused = refl
   taken_txn c n k epoch (answer.Holds x) = by_test (epochs_agree c.taken n epoch)
     where
-      by_test : (b : Bool) → (cond b (record c { taken = c.taken ++ record { key = k; shard = n; epoch = epoch; value = x } ∷ []; awaited =
-          without_key c.awaited k }) (doomed_by k c)).txn ≡ c.txn
+      by_test : (b : Bool) → (cond b (record c {
+        taken = c.taken ++ record { key = k; shard = n; epoch = epoch; value = x } ∷ [];
+        awaited =
+            without_key c.awaited k;
+      }) (doomed_by k c)).txn ≡ c.txn
       by_test true = refl
       by_test false = refl
 
@@ -222,7 +228,7 @@ module _ (sc : Scene) (h : Holds sc) (present : slice_get sc.times sc.world.even
       by_stage IsOpen is =
           let d = hears a.from a.key a.epoch a.answer c in
           let there : client_of sc.world d.txn ≡ Some c = subst (λ u. client_of sc.world u ≡ Some c)
-              (sym (heard_txn c a.from a.key a.epoch a.answer)) (found_txn t c e) in
+          (sym (heard_txn c a.from a.key a.epoch a.answer)) (found_txn t c e) in
           lines_hold (with_world sc (set_client d sc.world)) (read_lines c d a.key a.answer) (λ sc3. lines_told sc3 c d a.key a.answer)
           (client_holds sc c d there (open_keeps c d is) h)
 

@@ -37,7 +37,7 @@ commits_claimed t (Commit c ∷ rs) = ap (λ b. cond b (c ∷ filter (λ d. same
   where
     by_test : (b : Bool) → filter (λ d. same_id t d.txn) (gather as_committed rs) ≡ gather as_committed (claims_of rs t) →
         cond b (c ∷ filter (λ d. same_id t d.txn) (gather as_committed rs)) (filter (λ d. same_id t d.txn) (gather as_committed rs)) ≡
-            gather as_committed (cond b (Commit c ∷ claims_of rs t) (claims_of rs t))
+        gather as_committed (cond b (Commit c ∷ claims_of rs t) (claims_of rs t))
     by_test true e = ap (λ l. c ∷ l) e
     by_test false e = e
 
@@ -112,7 +112,7 @@ decision_stands logs t d h =
     let j = among_join (decided_in t) (by_shard logs) d h in
     let m = among_map (λ c. record { shard = j.from.0; commit = c }) (filter (λ c. same_id t c.txn) (gather as_committed j.from.1)) d j.within in
     let here : IsAmong j.from.1 (Commit m.from) = decision_among j.from.1 m.from (among_keep (λ c. same_id t c.txn)
-        (gather as_committed j.from.1) m.from m.among) in
+    (gather as_committed j.from.1) m.from m.among) in
     let named : t ≡ m.from.txn = same_id-is t m.from.txn (kept_passes (λ c. same_id t c.txn) (gather as_committed j.from.1) m.from m.among) in
     let stands : Decided logs t (record { shard = j.from.0; commit = m.from }) = record {
       among = subst (λ l. IsAmong l (Commit m.from)) (sym (log_in-is logs j.from.0 j.from.1 (log_of_number logs j.from j.among))) here;
@@ -126,7 +126,7 @@ stands_decided logs n c h =
     join_among (decided_in c.txn) (by_shard logs) (n, log_in logs n) (record { shard = n; commit = c }) (number_there logs n (Commit c) h)
     (map_among (λ x. record { shard = n; commit = x }) (filter (λ x. same_id c.txn x.txn) (gather as_committed (log_in logs n))) c
     (keep_among (λ x. same_id c.txn x.txn) (gather as_committed (log_in logs n)) c (gather_among as_committed (log_in logs n) (Commit c) c h refl)
-        (same_id-refl c.txn)))
+    (same_id-refl c.txn)))
 
 module _ (sc : Scene) (h : Holds sc) (logs : List (List Record)) (left : AreLeft sc logs) where
   pub one_decided : (t : Id) → AtMostOne (decisions logs t)

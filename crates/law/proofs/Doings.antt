@@ -109,7 +109,7 @@ sent_to sc n m e is goes = by_address e.to refl goes
     by_address : (a : Address) → e.to ≡ a → (elim a as (λ x. Bool) [ Shard k ↦ nat_eq k n | Session t ↦ false ]) ≡ true → Sent sc.world n e.message
     by_address (Shard k) same h =
         subst (λ (x : Address). IsAmong sc.world.bag (record { to = x; message = e.message })) (same ∙ ap Shard (eqb-true k n h))
-            (get_among sc.world.bag m e is)
+        (get_among sc.world.bag m e is)
     by_address (Session t) same h = cc
 
 honest_given : (sc : Scene) (now : Interval) → (nat_le now.earliest sc.now && nat_le sc.now now.latest) ≡ true → (now.earliest ≤ sc.now) × (sc.now ≤ now.latest)

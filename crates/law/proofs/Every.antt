@@ -101,10 +101,10 @@ module _ (sc : Scene) (h : Holds sc) (steady : IsSteady sc.world) (present : sli
       (λ s there. plain_crash_holds sc h steady present n s there)
   acts_hold (Act.CrashIn n call fate doing) may =
       at_shard_holds n (λ setup s. (set_shard n (crashed_in s call fate doing (effect setup sc.world.bag s doing)) sc.world, Reply.Crashed))
-          (λ s there. crash_within_holds sc h steady present n s there call fate doing (given sc n doing (and_parts _ _ (and_parts _ _ may).0).1))
+      (λ s there. crash_within_holds sc h steady present n s there call fate doing (given sc n doing (and_parts _ _ (and_parts _ _ may).0).1))
   acts_hold (Act.FailIn n call doing) may =
       at_shard_holds n (λ setup s. did_with_failure sc.world n s call doing (effect setup sc.world.bag s doing))
-          (λ s there. failure_holds sc h steady present n s there call doing (given sc n doing (and_parts _ _ may).1))
+      (λ s there. failure_holds sc h steady present n s there call doing (given sc n doing (and_parts _ _ may).1))
 
 -- ---- time
 
@@ -230,7 +230,7 @@ next_holds sc e h c steady may =
     let later : sc.now ≤ e.time = omega (arith, from, same) in
     let begun = tick_holds sc e.time h c later in
     let after = acts_hold (record { world = sc.world; times = sc.times ++ e.time ∷ []; event = sc.event; now = e.time }) begun steady
-        (present_now sc e.time h c later) e.act p.1 in (
+    (present_now sc e.time h c later) e.act p.1 in (
       over_holds (with_world (record { world = sc.world; times = sc.times ++ e.time ∷ []; event = sc.event; now = e.time }) (acts sc.world e.act).0)
           e.time after,
       record {

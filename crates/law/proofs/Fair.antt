@@ -214,15 +214,19 @@ module _ (t : Id) (k : Bytes) (e : ℕ) (b : Before) where
     told = all_append (λ (z : Envelope). MessageFair b (puts b ended u (to_read j) Idle None b.memory.last (answers b u j ∷ [])) z.message)
         (votes_of b.shard b.memory.rows ended) (answers b u j ∷ [])
         (mute_fair b (puts b ended u (to_read j) Idle None b.memory.last (answers b u j ∷ [])) (votes_of b.shard b.memory.rows ended)
-            (votes_mute b.shard b.memory.rows ended))
+        (votes_mute b.shard b.memory.rows ended))
         (record { from = refl; epoch = refl; value = refl; held = OfLock refl refl }, tt);
   }
 
   held_answer : (u : Id) (j : Bytes) (held : List Lock) (phase : Phase) → stands b u ≡ HasRow held phase → is_open phase ≡ true →
       holds held j ≡ true → Fair (Ok (replies b (answers b u j ∷ [])))
   unfolding Fair
-  held_answer u j held phase is opened there = record { change = tt; logged = tt; told =
-      (record { from = refl; epoch = refl; value = refl; held = OfRow refl refl refl held phase is opened there }, tt) }
+  held_answer u j held phase is opened there = record {
+    change = tt;
+    logged = tt;
+    told =
+        (record { from = refl; epoch = refl; value = refl; held = OfRow refl refl refl held phase is opened there }, tt);
+  }
 
   -- ---- promises and decisions
 
@@ -232,9 +236,9 @@ module _ (t : Id) (k : Bytes) (e : ℕ) (b : Before) where
   promising ended earliest u c rs ws alive asked =
       let p : ℕ = max (b.memory.last + 1) earliest in
       choosing (nat_le p time_limit) (Ok (puts b ended u (exclusive ws) (IsPrepared c p) (Some (promise u c p rs ws)) (max b.memory.last p)
-          (vote_to b.shard c u (Some p) ∷ []))) (Err TimeSpent)
+      (vote_to b.shard c u (Some p) ∷ []))) (Err TimeSpent)
       (putting ended u (exclusive ws) (IsPrepared c p) (Some (promise u c p rs ws)) (max b.memory.last p) (vote_to b.shard c u (Some p) ∷ []) alive
-          (none_asked u) asked (tt, tt)) (refusing TimeSpent)
+      (none_asked u) asked (tt, tt)) (refusing TimeSpent)
 
   deciding : (ended : List Id) (u : Id) (l : ℕ) (ps : List ℕ) (rs : List Bytes) (ws : List Write) (needs : List Lock) (votes : List Voted) →
       Alive u → Asked u rs → Fair (plan_decide b ended u l ps rs ws needs votes)
@@ -262,14 +266,14 @@ module _ (t : Id) (k : Bytes) (e : ℕ) (b : Before) where
     unfolding plan_read_now
     reading_now u j alive =
         rooming (is_crowded b u) _ (choosing_plan (opens b u (to_read j)) _ _ (locking (in_way b u (to_read j)) u j alive)
-            (putting (in_way b u (to_read j)) u [] (WaitsRead j) None b.memory.last [] alive (none_asked u) tt tt))
+        (putting (in_way b u (to_read j)) u [] (WaitsRead j) None b.memory.last [] alive (none_asked u) tt tt))
 
     reading_row : (u : Id) (j : Bytes) (held : List Lock) (phase : Phase) (waits : Bool) → stands b u ≡ HasRow held phase → is_open phase ≡ true →
         Fair (plan_read_row b u j held waits)
     unfolding plan_read_row
     reading_row u j held phase waits is opened =
         tested (holds held j) _ _ (λ there. held_answer u j held phase is opened there) (choosing waits _ _ (replying [] tt)
-            (reading_now u j (alive_row u held phase is)))
+        (reading_now u j (alive_row u held phase is)))
 
     reading : (u : Id) (j : Bytes) (st : Standing) → stands b u ≡ st → Fair (plan_read b u j st)
     unfolding plan_read
@@ -301,15 +305,15 @@ module _ (t : Id) (k : Bytes) (e : ℕ) (b : Before) where
     unfolding plan_prepare_now
     preparing_now earliest m alive asked =
         rooming (is_crowded b m.txn) _ (choosing _ _ _ (promising (in_way b m.txn (exclusive m.writes)) earliest m.txn m.coordinator m.reads.keys
-            m.writes alive asked) (putting (in_way b m.txn (exclusive m.writes)) m.txn []
-            (WaitsPrepare m.coordinator m.reads.keys m.writes) None b.memory.last [] alive asked tt tt))
+        m.writes alive asked) (putting (in_way b m.txn (exclusive m.writes)) m.txn []
+        (WaitsPrepare m.coordinator m.reads.keys m.writes) None b.memory.last [] alive asked tt tt))
 
     preparing_fresh : (earliest : ℕ) (m : Prepare) (held : List Lock) → Alive m.txn → (m.txn ≡ t → IsAmong m.reads.keys k → m.reads.epoch ≡ e) →
         Fair (plan_prepare_fresh b earliest m held)
     unfolding plan_prepare_fresh
     preparing_fresh earliest m held alive given =
         tested (still_stand b m.reads.epoch m.reads.keys held) _ _ (λ still. preparing_now earliest m alive
-            (still_asked m.txn m.reads.epoch m.reads.keys held given still)) (ending m.txn (refuses b m.txn m.coordinator ∷ []) (tt, tt))
+        (still_asked m.txn m.reads.epoch m.reads.keys held given still)) (ending m.txn (refuses b m.txn m.coordinator ∷ []) (tt, tt))
 
     preparing : (earliest : ℕ) (m : Prepare) (st : Standing) → stands b m.txn ≡ st → (m.txn ≡ t → IsAmong m.reads.keys k → m.reads.epoch ≡ e) →
         Fair (plan_prepare b earliest m st)
@@ -332,15 +336,15 @@ module _ (t : Id) (k : Bytes) (e : ℕ) (b : Before) where
     unfolding plan_commit_now
     committing_now l m alive asked =
         rooming (is_crowded b m.txn) _ (choosing _ _ _ (granting (in_way b m.txn (exclusive m.writes)) m.txn l m.parts m.reads.keys m.writes
-            (other_parts b.shard m.parts) alive asked) (putting (in_way b m.txn (exclusive m.writes)) m.txn []
-            (WaitsCommit l m.parts m.reads.keys m.writes) None b.memory.last [] alive asked tt tt))
+        (other_parts b.shard m.parts) alive asked) (putting (in_way b m.txn (exclusive m.writes)) m.txn []
+        (WaitsCommit l m.parts m.reads.keys m.writes) None b.memory.last [] alive asked tt tt))
 
     committing_fresh : (l : ℕ) (m : Commit) (held : List Lock) → Alive m.txn → (m.txn ≡ t → IsAmong m.reads.keys k → m.reads.epoch ≡ e) →
         Fair (plan_commit_fresh b l m held)
     unfolding plan_commit_fresh
     committing_fresh l m held alive given =
         tested (still_stand b m.reads.epoch m.reads.keys held) _ _ (λ still. choosing _ _ _
-            (committing_now l m alive (still_asked m.txn m.reads.epoch m.reads.keys held given still)) (refusing TimeSpent)) (aborting m.txn m.parts)
+        (committing_now l m alive (still_asked m.txn m.reads.epoch m.reads.keys held given still)) (refusing TimeSpent)) (aborting m.txn m.parts)
 
     committing : (l : ℕ) (m : Commit) (st : Standing) → stands b m.txn ≡ st → (m.txn ≡ t → IsAmong m.reads.keys k → m.reads.epoch ≡ e) →
         Fair (plan_commit b l m st)
@@ -364,7 +368,7 @@ module _ (t : Id) (k : Bytes) (e : ℕ) (b : Before) where
     counting n u None l ps rs ws votes alive asked = aborting u ps
     counting n u (Some p) l ps rs ws votes alive asked =
         choosing _ _ _ (deciding [] u l ps rs ws [] (with_vote n p votes) alive asked) (putting [] u []
-            (Collecting l ps rs ws (with_vote n p votes)) None b.memory.last [] alive asked tt tt)
+        (Collecting l ps rs ws (with_vote n p votes)) None b.memory.last [] alive asked tt tt)
 
     telling : (n : ℕ) (u : Id) (outcome vote : Option ℕ) → Fair (Ok (plan_tell b n u outcome vote))
     unfolding plan_tell
@@ -384,7 +388,7 @@ module _ (t : Id) (k : Bytes) (e : ℕ) (b : Before) where
     voting n u vote (HasRow held (WaitsCommit m qs ss vs)) is = replying [] tt
     voting n u vote (HasRow held (Collecting l ps rs ws votes)) is =
         choosing _ _ _ (counting n u vote l ps rs ws votes (alive_row u held (Collecting l ps rs ws votes) is)
-            (rows u held (Collecting l ps rs ws votes) is)) (refusing Stranger)
+        (rows u held (Collecting l ps rs ws votes) is)) (refusing Stranger)
     voting n u vote (HasRow held (IsPrepared d q)) is = refusing Stranger
     voting n u vote (HasRow held (IsDecided q qs)) is = replying [] tt
 
@@ -456,7 +460,7 @@ module _ (t : Id) (k : Bytes) (e : ℕ) (b : Before) where
     unfolding plan_settle
     settling earliest u (HasRow held (IsDecided s ps)) =
         choosing _ _ _ (dropping u (Record.Outcome u (Some s)) b.memory.last (done_to u (Some s) ∷ tells b u (Some s) (other_parts b.shard ps)) tt
-            (tt, tells_mute b u (Some s) (other_parts b.shard ps))) (refusing Early)
+        (tt, tells_mute b u (Some s) (other_parts b.shard ps))) (refusing Early)
     settling earliest u _ = refusing Stranger
 
     advancing : (latest_end stride up : ℕ) → Fair (plan_advance b latest_end stride up)
@@ -465,8 +469,14 @@ module _ (t : Id) (k : Bytes) (e : ℕ) (b : Before) where
       where
         by_tests : (c d : Bool) →
             Fair (cond c (Err Future)
-            (Ok (record { wounded = []; change = Keeps; logged = cond d (Some (Record.Ceiling (min (up + stride) time_limit))) None; last =
-                max b.memory.last up; outbox = [] })))
+            (Ok (record {
+              wounded = [];
+              change = Keeps;
+              logged = cond d (Some (Record.Ceiling (min (up + stride) time_limit))) None;
+              last =
+                  max b.memory.last up;
+              outbox = [];
+            })))
         by_tests true d = tt
         by_tests false true = record { change = tt; logged = tt; told = tt }
         by_tests false false = record { change = tt; logged = tt; told = tt }

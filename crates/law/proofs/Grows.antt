@@ -46,13 +46,13 @@ module _ (log more : List Record) (within : Within log more) where
 
   vote_stays : (now later n : ℕ) → now ≤ later → (to : Address) (from : ℕ) (t : Id) (o : Option ℕ) →
       Told log now n to (Message.Vote (record { from = from; txn = t; vote = o })) → Told more later n to
-          (Message.Vote (record { from = from; txn = t; vote = o }))
+      (Message.Vote (record { from = from; txn = t; vote = o }))
   vote_stays now later n on to from t None h = tt
   vote_stays now later n on to from t (Some p) h = (h.0, record { coordinator = h.1.coordinator; promised = promise_stays t h.1.coordinator p h.1.promised })
 
   word_stays : (now later n : ℕ) → now ≤ later → (to : Address) (from : ℕ) (t : Id) (o : Option ℕ) →
       Told log now n to (Message.Outcome (record { from = from; txn = t; outcome = o })) →
-          Told more later n to (Message.Outcome (record { from = from; txn = t; outcome = o }))
+      Told more later n to (Message.Outcome (record { from = from; txn = t; outcome = o }))
   word_stays now later n on to from t None h = (h.0, within _ h.1)
   word_stays now later n on to from t (Some s) h = (h.0, outcome_stays now later on t s h.1)
 
@@ -136,8 +136,13 @@ module _ (a b : Scene) (g : Grows a b) where
 
   module _ (log more : List Record) (within : Within log more) where
     was_told_stays : (n : ℕ) (t : Id) (o : Option ℕ) → WasTold a.world log n t o → WasTold b.world more n t o
-    was_told_stays n t o h = record { coordinator = h.coordinator; stamp = h.stamp; promised =
-        promise_stays log more within t h.coordinator h.stamp h.promised; sent = g.sent _ h.sent }
+    was_told_stays n t o h = record {
+      coordinator = h.coordinator;
+      stamp = h.stamp;
+      promised =
+          promise_stays log more within t h.coordinator h.stamp h.promised;
+      sent = g.sent _ h.sent;
+    }
 
     -- behind a record
     pub record_stays : (n : ℕ) (r : Record) → RecordEvidence a log n r → RecordEvidence b more n r
@@ -145,8 +150,13 @@ module _ (a b : Scene) (g : Grows a b) where
     record_stays n (Record.Ceiling at) h = tt
     record_stays n (Record.Prepare p) h = prepare_asked_stays n p.txn p.coordinator p.reads p.writes h
     record_stays n (Record.Commit c) h = commit_stays n c h
-    record_stays n (Record.Abort t) (inl h) = inl (record { parts = h.parts; reads = h.reads; writes = h.writes; asked =
-        commit_asked_stays n t h.parts h.reads h.writes h.asked })
+    record_stays n (Record.Abort t) (inl h) = inl (record {
+      parts = h.parts;
+      reads = h.reads;
+      writes = h.writes;
+      asked =
+          commit_asked_stays n t h.parts h.reads h.writes h.asked;
+    })
     record_stays n (Record.Abort t) (inr h) = inr (record { from = h.from; sent = g.sent _ h.sent })
     record_stays n (Record.Outcome t None) h = was_told_stays n t None h
     record_stays n (Record.Outcome t (Some s)) h =

@@ -52,7 +52,6 @@ has_same : (us : List Id) (t : Id) → has_id (with_id us t) t ≡ true
 has_same [] t = ap (λ b. b || false) (same_id-refl t)
 has_same (u ∷ us) t = by_tests (same_id u t) (older u t) refl (has_same us t)
   where
-
     by_tests : (a b : Bool) → same_id u t ≡ a → has_id (with_id us t) t ≡ true → has_id (cond a (u ∷ us) (cond b (u ∷ with_id us t) (t ∷ u ∷ us))) t ≡ true
     by_tests true b e rest = or_left (same_id t u) _ (same_id_comm t u ∙ e)
     by_tests false true e rest = or_right (same_id t u) _ rest
@@ -62,7 +61,6 @@ has_more : (us : List Id) (v t : Id) → has_id us t ≡ true → has_id (with_i
 has_more [] v t e = cc
 has_more (u ∷ us) v t e = by_tests (same_id u v) (older u v) (same_id t u) refl e (λ k. has_more us v t k)
   where
-
     by_tests : (a b c : Bool) → same_id t u ≡ c → (c || has_id us t) ≡ true → (has_id us t ≡ true → has_id (with_id us v) t ≡ true) →
         has_id (cond a (u ∷ us) (cond b (u ∷ with_id us v) (v ∷ u ∷ us))) t ≡ true
     by_tests true b true is h rest = or_left (same_id t u) _ is
@@ -98,7 +96,7 @@ unfolding latest
 latest_other is ws None k none = ap (λ l. follow (newest (of_key l k)) (λ i. i.value)) (append-nil is)
 latest_other is ws (Some s) k none =
     ap (λ l. follow (newest l) (λ i. i.value)) (filter-append (λ (i : Install). same_key i.key k) is (versions ws s)
-        ∙ ap (λ l. of_key is k ++ l) (none_of_key ws s k none) ∙ append-nil (of_key is k))
+    ∙ ap (λ l. of_key is k ++ l) (none_of_key ws s k none) ∙ append-nil (of_key is k))
 
 -- ---- a value that was told
 
@@ -119,7 +117,7 @@ module _ (t : Id) (k : Bytes) (e : ℕ) (x : Option Bytes) where
   data Fate (b : Before) (f : Facts) (m : Memory) : Type 0 where
     Stays : find_row m.rows t ≡ find_row b.memory.rows t → (has_id b.memory.ended t ≡ true → has_id m.ended t ≡ true) → recorded f t ≡ recorded b.facts t
         → ((row : Row) → find_row b.memory.rows t ≡ Some row → holds row.held k ≡ true → is_open row.phase ≡ true →
-            latest f.installs k ≡ latest b.facts.installs k) → Fate b f m
+        latest f.installs k ≡ latest b.facts.installs k) → Fate b f m
     Goes : find_row m.rows t ≡ None → has_id m.ended t ≡ true → Fate b f m
     Ends : (recorded f t ≡ Unrecorded → ⊥) → ((row : Row) → find_row m.rows t ≡ Some row → reads_of row.phase ≡ []) → Fate b f m
     Grows : (row : Row) → find_row m.rows t ≡ Some row → is_open row.phase ≡ true → (holds (held_in b.memory.rows t) k ≡ true →
@@ -181,13 +179,13 @@ module _ (t : Id) (k : Bytes) (e : ℕ) (x : Option Bytes) where
       by_test true same =
           let is : u ≡ t = same_id-is u t same in
           Goes (subst (λ z. find_row (without_row b.memory.rows u) z ≡ None) is (find-without_row_same b.memory.rows u))
-              (subst (λ z. has_id (with_id b.memory.ended u) z ≡ true) is (has_same b.memory.ended u))
+          (subst (λ z. has_id (with_id b.memory.ended u) z ≡ true) is (has_same b.memory.ended u))
       by_test false differ = Stays (find-without_row_other b.memory.rows t u differ) (has_more b.memory.ended u t) refl (λ r found there opened. refl)
 
   dropped_fate : (b : Before) (u : Id) (f : Facts) (s : Status) (last : ℕ) → recorded f u ≡ s → (s ≡ Unrecorded → ⊥) →
       (same_id u t ≡ false → recorded f t ≡ recorded b.facts t) →
       ((row : Row) → same_id u t ≡ false → find_row b.memory.rows t ≡ Some row → holds row.held k ≡ true → is_open row.phase ≡ true →
-          latest f.installs k ≡ latest b.facts.installs k) →
+      latest f.installs k ≡ latest b.facts.installs k) →
       Fate b f (record { last = last; rows = without_row b.memory.rows u; ended = b.memory.ended })
   dropped_fate b u f s last is some others values = by_test (same_id u t) refl
     where
@@ -195,8 +193,8 @@ module _ (t : Id) (k : Bytes) (e : ℕ) (x : Option Bytes) where
       by_test true same =
           let one : u ≡ t = same_id-is u t same in
           Ends (λ q. some (sym is ∙ ap (recorded f) one ∙ q))
-              (λ r found. absurd (no_row r (sym (subst (λ z. find_row (without_row b.memory.rows u) z ≡ None) one
-              (find-without_row_same b.memory.rows u)) ∙ found)))
+          (λ r found. absurd (no_row r (sym (subst (λ z. find_row (without_row b.memory.rows u) z ≡ None) one
+          (find-without_row_same b.memory.rows u)) ∙ found)))
       by_test false differ = Stays (find-without_row_other b.memory.rows t u differ) (λ g. g) (others differ)
           (λ r found there opened. values r differ found there opened)
 
@@ -211,7 +209,7 @@ module _ (t : Id) (k : Bytes) (e : ℕ) (x : Option Bytes) where
       apart : (w : Write) → IsAmong c.writes w → w.key ≡ k → ⊥
       apart w h key =
           true_false (reader_clashes row.held c.row.held k there (subst (λ z. holds_alone c.row.held z ≡ true) key
-              (each_at (λ (v : Write). holds_alone c.row.held v.key) c.writes w c.held h)))
+          (each_at (λ (v : Write). holds_alone c.row.held v.key) c.writes w c.held h)))
           (rows_apart b.memory.rows t u row c.row sound.table found c.found differ)
         where
           true_false : {z : Bool} → z ≡ true → z ≡ false → ⊥
@@ -239,23 +237,31 @@ module _ (t : Id) (k : Bytes) (e : ℕ) (x : Option Bytes) where
   open_fate : (b : Before) (u : Id) (ended : List Id) (needs : List Lock) (phase : Phase) (last : ℕ) → Sound b →
       AllByRecursion (IsLooseOther b.memory.rows u) ended → is_open phase ≡ true → is_undecided (stands b u) ≡ true →
       (u ≡ t → stands b t ≡ WasEnded → ⊥) → (u ≡ t → IsAmong (reads_of phase) k → b.facts.epoch ≡ e) →
-      Fate b b.facts (record { last = last; rows = with_row (without_rows b.memory.rows ended)
-          (row_as u (with_locks (held_in (without_rows b.memory.rows ended) u) needs) phase); ended = with_ids b.memory.ended ended })
+      Fate b b.facts (record {
+        last = last;
+        rows = with_row (without_rows b.memory.rows ended)
+            (row_as u (with_locks (held_in (without_rows b.memory.rows ended) u) needs) phase);
+        ended = with_ids b.memory.ended ended;
+      })
   open_fate b u ended needs phase last sound gone opened undecided alive asked = by_test (same_id u t) refl
     where
       row : Row
       row = row_as u (with_locks (held_in (without_rows b.memory.rows ended) u) needs) phase
 
       by_test : (c : Bool) → same_id u t ≡ c → Fate b b.facts
-          (record { last = last; rows = with_row (without_rows b.memory.rows ended) (row_as u
-          (with_locks (held_in (without_rows b.memory.rows ended) u) needs) phase); ended = with_ids b.memory.ended ended })
+          (record {
+            last = last;
+            rows = with_row (without_rows b.memory.rows ended) (row_as u
+                (with_locks (held_in (without_rows b.memory.rows ended) u) needs) phase);
+            ended = with_ids b.memory.ended ended;
+          })
       by_test true same =
           let is : u ≡ t = same_id-is u t same in
           Grows (row_as u (with_locks (held_in (without_rows b.memory.rows ended) u) needs) phase)
-              (put_found b u ended (row_as u (with_locks (held_in (without_rows b.memory.rows ended) u) needs) phase) refl is) opened
+          (put_found b u ended (row_as u (with_locks (held_in (without_rows b.memory.rows ended) u) needs) phase) refl is) opened
           (λ h. holds_later needs (held_in (without_rows b.memory.rows ended) u) k (ap (λ o. holds (held_by o) k)
-              (find-without_rows_other b.memory.rows ended u (others_gone b.memory.rows u ended gone))
-              ∙ subst (λ z. holds (held_in b.memory.rows z) k ≡ true) (sym is) h))
+          (find-without_rows_other b.memory.rows ended u (others_gone b.memory.rows u ended gone))
+          ∙ subst (λ z. holds (held_in b.memory.rows z) k ≡ true) (sym is) h))
           (subst (λ z. recorded b.facts z ≡ Unrecorded) is (unrecorded b u sound undecided)) (alive is) (asked is) refl
       by_test false differ = others_fate b u ended (row_as u (with_locks (held_in (without_rows b.memory.rows ended) u) needs) phase) b.facts last
           refl differ refl refl
@@ -267,13 +273,17 @@ module _ (t : Id) (k : Bytes) (e : ℕ) (x : Option Bytes) where
       Fate b f (record { last = last; rows = with_row (without_rows b.memory.rows ended) (row_as u held phase); ended = with_ids b.memory.ended ended })
   logged_fate b u ended held phase f s last quiet is some others values = by_test (same_id u t) refl
     where
-      by_test : (c : Bool) → same_id u t ≡ c → Fate b f (record { last = last; rows = with_row (without_rows b.memory.rows ended)
-          (row_as u held phase); ended = with_ids b.memory.ended ended })
+      by_test : (c : Bool) → same_id u t ≡ c → Fate b f (record {
+        last = last;
+        rows = with_row (without_rows b.memory.rows ended)
+            (row_as u held phase);
+        ended = with_ids b.memory.ended ended;
+      })
       by_test true same =
           let one : u ≡ t = same_id-is u t same in
           Ends (λ q. some (sym is ∙ ap (recorded f) one ∙ q))
           (λ r found. ap (λ (z : Row). reads_of z.phase) (some_row r (row_as u held phase)
-              (sym found ∙ put_found b u ended (row_as u held phase) refl one)) ∙ quiet)
+          (sym found ∙ put_found b u ended (row_as u held phase) refl one)) ∙ quiet)
       by_test false differ = others_fate b u ended (row_as u held phase) f last refl differ (others differ) values
 
   slack_open : (phase : Phase) → is_firm phase ≡ false → is_open phase ≡ true
@@ -301,33 +311,33 @@ module _ (t : Id) (k : Bytes) (e : ℕ) (x : Option Bytes) where
       (λ differ. status_other b.facts.entries u t HasAborted differ) (λ r differ found there opened. refl)))
   next b p sound (IsClose u n c at held outcome out found allowed is) = subst (HeldNext b) (sym is) (λ fair h. held_by_fate b _ _ refl h
       (dropped_fate b u (facts_after b.facts (Some (Record.Outcome u outcome))) (after_outcome (recorded b.facts u) outcome)
-          (raised b.memory.last outcome) (status_same b.facts.entries u (after_outcome (recorded b.facts u) outcome))
+      (raised b.memory.last outcome) (status_same b.facts.entries u (after_outcome (recorded b.facts u) outcome))
       (λ q. closed_some (promise_of b u held c at sound found).promise outcome (ap (λ s. after_outcome s outcome)
-          (sym (promise_of b u held c at sound found).is) ∙ q))
+      (sym (promise_of b u held c at sound found).is) ∙ q))
       (λ differ. status_other b.facts.entries u t (after_outcome (recorded b.facts u) outcome) differ)
       (λ r differ mine there opened. closed_values b u outcome sound (closing b u c at held outcome sound found) r differ mine there)))
   next b p sound (IsSettle u at ps held out found is) = subst (HeldNext b) (sym is) (λ fair h. held_by_fate b _ _ refl h
       (dropped_fate b u (facts_after b.facts (Some (Record.Outcome u (Some at)))) (after_outcome (recorded b.facts u) (Some at)) b.memory.last
-          (status_same b.facts.entries u (after_outcome (recorded b.facts u) (Some at)))
+      (status_same b.facts.entries u (after_outcome (recorded b.facts u) (Some at)))
       (λ q. settled_some (decision_of b u held at ps sound found).decision (Some at) (ap (λ s. after_outcome s (Some at))
-          (sym (decision_of b u held at ps sound found).is) ∙ q))
+      (sym (decision_of b u held at ps sound found).is) ∙ q))
       (λ differ. status_other b.facts.entries u t (after_outcome (recorded b.facts u) (Some at)) differ)
       (λ r differ mine there opened. closed_values b u (Some at) sound (settling b u at ps held sound found) r differ mine there)))
   next b p sound (IsLock u ended needs phase out l is) = subst (HeldNext b) (sym is) (λ fair h. held_by_fate b b.facts _ refl h
       (open_fate b u ended needs phase b.memory.last sound l.cleared.gone l.opened l.undecided fair.change.0 fair.change.1))
   next b p sound (IsWait u needs phase out w is) = subst (HeldNext b) (sym is) (λ fair h. held_by_fate b b.facts _ refl h
       (open_fate b u (in_way b u needs) [] phase b.memory.last sound w.gone (slack_open phase w.slack)
-          (undecided_of_loose (stands b u) w.loose) fair.change.0 fair.change.1))
+      (undecided_of_loose (stands b u) w.loose) fair.change.0 fair.change.1))
   next b p sound (IsPromise u ended c at rs ws out l is) = subst (HeldNext b) (sym is) (λ fair h. held_by_fate b _ _ refl h
       (logged_fate b u ended (with_locks (held_in (without_rows b.memory.rows ended) u) (exclusive ws)) (IsPrepared c at)
-          (facts_after b.facts (Some (promise u c at rs ws)))
-          (StandsPrepared (record { txn = u; coordinator = c; at = at; reads = rs; writes = ws })) (max b.memory.last at) refl
+      (facts_after b.facts (Some (promise u c at rs ws)))
+      (StandsPrepared (record { txn = u; coordinator = c; at = at; reads = rs; writes = ws })) (max b.memory.last at) refl
       (status_same b.facts.entries u (StandsPrepared (record { txn = u; coordinator = c; at = at; reads = rs; writes = ws }))) (λ q. cc)
       (λ differ. status_other b.facts.entries u t (StandsPrepared (record { txn = u; coordinator = c; at = at; reads = rs; writes = ws })) differ) refl))
   next b p sound (IsDecision u ended needs at ps rs ws out l is) = subst (HeldNext b) (sym is) (λ fair h. held_by_fate b _ _ refl h
       (logged_fate b u ended (with_locks (held_in (without_rows b.memory.rows ended) u) needs) (IsDecided at ps)
-          (facts_after b.facts (Some (decision u at ps rs ws))) (StandsDecided (record { txn = u; at = at; parts = ps; reads = rs; writes = ws }))
-          (max b.memory.last at) refl
+      (facts_after b.facts (Some (decision u at ps rs ws))) (StandsDecided (record { txn = u; at = at; parts = ps; reads = rs; writes = ws }))
+      (max b.memory.last at) refl
       (status_same b.facts.entries u (StandsDecided (record { txn = u; at = at; parts = ps; reads = rs; writes = ws }))) (λ q. cc)
       (λ differ. status_other b.facts.entries u t (StandsDecided (record { txn = u; at = at; parts = ps; reads = rs; writes = ws })) differ) refl))
 
@@ -407,7 +417,7 @@ module _ (t : Id) (k : Bytes) (e : ℕ) (x : Option Bytes) where
   pub held_logs : (setup : Setup) (f : Facts) (m : Memory) (now : Interval) (i : Input) (p : Plan) → IsSound setup.shard f m →
       plan_input setup (start_of_step 1024 setup f m) now i ≡ Ok p →
       PlanFair t k e (start_of_step 1024 setup f m) p → Held f m → (r : Record) (at : ℕ) (ks : List Bytes) (ws : List Write) → p.logged ≡ Some r →
-          Claims r t at ks ws → IsAmong ks k → latest f.installs k ≡ x
+      Claims r t at ks ws → IsAmong ks k → latest f.installs k ≡ x
   unfolding ReadsRight
   held_logs setup f m now i p sound is fair h =
       right_of (start_of_step 1024 setup f m) i p sound (shape_of 1024 setup f m now i p (by_id-claims m.rows sound.table.order) is) fair h

@@ -103,8 +103,11 @@ module _ (sc : Scene) (h : Holds sc) where
       × (head ps ≡ Some n)
   unfolding closing_messages
   commit_home n t ps rs ws asked =
-      let e : Envelope = record { to = Shard n; message = Message.Commit
-          (record { txn = t; parts = ps; reads = record { epoch = asked.epoch; keys = rs }; writes = ws }) } in
+      let e : Envelope = record {
+        to = Shard n;
+        message = Message.Commit
+            (record { txn = t; parts = ps; reads = record { epoch = asked.epoch; keys = rs }; writes = ws });
+      } in
       let closing : IsOfClosing sc.world t e = h.messages e asked.sent in
       let client = closing.over.client in
       let among = subst (λ l. IsAmong l e) (sym closing.over.same) closing.among in
@@ -114,14 +117,22 @@ module _ (sc : Scene) (h : Holds sc) where
   pub prepare_home : (n : ℕ) (t : Id) (c : ℕ) (rs : List Bytes) (ws : List Write) → PrepareAsked sc.world n t c rs ws → TakesPart sc.world t c n
   unfolding closing_messages
   prepare_home n t c rs ws asked =
-      let e : Envelope = record { to = Shard n; message = Message.Prepare
-          (record { txn = t; coordinator = c; reads = record { epoch = asked.epoch; keys = rs }; writes = ws }) } in
+      let e : Envelope = record {
+        to = Shard n;
+        message = Message.Prepare
+            (record { txn = t; coordinator = c; reads = record { epoch = asked.epoch; keys = rs }; writes = ws });
+      } in
       let closing : IsOfClosing sc.world t e = h.messages e asked.sent in
       let client = closing.over.client in
       let among = subst (λ l. IsAmong l e) (sym closing.over.same) closing.among in
       let k = prepare_among sc.world.config.splits client (parts_of sc.world.config.splits client) n e c refl refl among in
-      record { parts = parts_of sc.world.config.splits client; over = record { client = client; there = closing.over.there; same = refl }; least =
-          k.0; part = k.1 }
+      record {
+        parts = parts_of sc.world.config.splits client;
+        over = record { client = client; there = closing.over.there; same = refl };
+        least =
+            k.0;
+        part = k.1;
+      }
 
 -- ---- logs that a crash may leave
 
@@ -191,8 +202,12 @@ module _ (sc : Scene) (h : Holds sc) (logs : List (List Record)) (left : AreLeft
           let said = h.messages _ q.sent in
           let promised = said.told.1.promised in
           let home = promise_home said.shard _ (kept said.shard _ promised.among) in
-          record { parts = home.parts; over = home.over; least = home.least ∙ ap (λ x. Some x)
-              (sym (same_shard n said.told.1.coordinator said.told.1.receiver)) }
+          record {
+            parts = home.parts;
+            over = home.over;
+            least = home.least ∙ ap (λ x. Some x)
+                (sym (same_shard n said.told.1.coordinator said.told.1.receiver));
+          }
 
   -- two shards that are the least of a closing are one
   pub one_home : (t : Id) (n m : ℕ) (ps qs : List ℕ) → ClosesOver sc.world t ps → head ps ≡ Some n → ClosesOver sc.world t qs → head qs ≡ Some m → n ≡ m
@@ -277,8 +292,14 @@ module _ (sc : Scene) (h : Holds sc) (logs : List (List Record)) (left : AreLeft
       let there = subst (λ j. IsAmong (log_in logs j) (Record.Prepare p)) (sym said.told.0) (kept said.shard (Record.Prepare p) stands.among) in
       let home = promise_home m p there in
       let a = decision_home n c k in
-      record { promise = p; among = there; named = refl; by = one_home c.txn said.told.1.coordinator n home.parts c.parts home.over home.least a.0
-          a.1; below = vote.below }
+      record {
+        promise = p;
+        among = there;
+        named = refl;
+        by = one_home c.txn said.told.1.coordinator n home.parts c.parts home.over home.least a.0
+            a.1;
+        below = vote.below;
+      }
 
   -- and nobody else
   pub promise_of_part : (n m : ℕ) (c : Committed) (p : Prepared) → IsAmong (log_in logs n) (Record.Commit c) →

@@ -40,7 +40,7 @@ unfolding history
 history_has logs n c k least =
     join_among (counted_in logs) (by_shard logs) (n, log_in logs n) (whole_txn logs n c) (number_there logs n (Record.Commit c) k)
     (gather_among (counted logs n) (gather as_committed (log_in logs n)) c (whole_txn logs n c)
-        (gather_among as_committed (log_in logs n) (Record.Commit c) c k refl)
+    (gather_among as_committed (log_in logs n) (Record.Commit c) c k refl)
     (ap (λ b. cond b (Some (whole_txn logs n c)) None) (when_head c.parts n least)))
 
 -- a transaction of the history has its decision
@@ -81,8 +81,12 @@ module _ (sc : Scene) (h : Holds sc) (logs : List (List Record)) (left : AreLeft
       let d = said.told.decided in
       let c : Committed = record { txn = t; at = at; parts = d.parts; reads = d.reads; writes = d.writes } in
       let there = kept sc h logs left said.shard (Record.Commit c) d.among in
-      record { txn = whole_txn logs said.shard c; among = history_has logs said.shard c there (decision_home sc h logs left said.shard c there).1;
-          named = refl; stamp = refl }
+      record {
+        txn = whole_txn logs said.shard c;
+        among = history_has logs said.shard c there (decision_home sc h logs left said.shard c there).1;
+        named = refl;
+        stamp = refl;
+      }
 
   pub ack_of_line : (t : Id) (at m : ℕ) → IsLine sc.world.lines (Line.Ack t at m) → AckEvidence sc t at m
   ack_of_line t at m line = h.lines (Line.Ack t at m) (get_among sc.world.lines line.0 (Line.Ack t at m) line.1)

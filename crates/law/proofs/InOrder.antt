@@ -54,8 +54,11 @@ module _ (logs : List (List Record)) (t : Id) where
 
       by_tests : (b : Bool) → when (nat_eq n) (head c.parts) ≡ b → (s : Bool) → same_id t c.txn ≡ s →
           filter is_this (gather (counted n) cs) ≡ gather of_decision (map mark (filter (λ q. same_id t q.txn) cs)) →
-          filter is_this (elim (cond b (Some (whole_txn logs n c)) None) as (λ q. List Txn) [ None ↦ gather (counted n) cs | Some y ↦
-              y ∷ gather (counted n) cs ])
+          filter is_this (elim (cond b (Some (whole_txn logs n c)) None) as (λ q. List Txn) [
+            | None ↦ gather (counted n) cs
+            | Some y ↦
+                y ∷ gather (counted n) cs
+          ])
           ≡ gather of_decision (map mark (cond s (c ∷ filter (λ q. same_id t q.txn) cs) (filter (λ q. same_id t q.txn) cs)))
       by_tests true e true k ih =
           ap (λ b. cond b (whole_txn logs n c ∷ filter is_this (gather (counted n) cs)) (filter is_this (gather (counted n) cs))) k
@@ -220,7 +223,7 @@ in_front [] u post s =
     ∙ keep_nobody (λ v. serial_before v u) post (λ v k. before_not_back u v (s.0 v k))
 in_front (p ∷ ps) u post s =
     ap (λ b. cond b (p ∷ filter (λ v. serial_before v u) (ps ++ u ∷ post)) (filter (λ v. serial_before v u) (ps ++ u ∷ post)))
-        (s.0 u (among_right ps (u ∷ post) u (inl refl)))
+    (s.0 u (among_right ps (u ∷ post) u (inl refl)))
     ∙ ap (λ (l : List Txn). p ∷ l) (in_front ps u post s.1)
 
 pub applied_more : (pre : List Txn) (u : Txn) (m : Map) → applied (pre ++ u ∷ []) m ≡ put_all u.writes (applied pre m)

@@ -94,9 +94,10 @@ all_or_nothing config es logs fair may t =
 pub keeps_acknowledged : (config : Config) (es : List Event) (logs : List (List Record)) → lawful config es ≡ true → MayBeLeft config es logs →
     KeepsAcknowledged logs (run config es).lines
 keeps_acknowledged config es logs fair may t at n line =
-    let m = moment config es logs fair may in
-    (acknowledged m.scene m.holds logs m.left t at n (subst (λ (w : World). IsLine w.lines (Line.Ack t at n)) (sym m.same) line),
-        whole m.scene m.holds logs m.left t)
+    let m = moment config es logs fair may in (
+      acknowledged m.scene m.holds logs m.left t at n (subst (λ (w : World). IsLine w.lines (Line.Ack t at n)) (sym m.same) line),
+      whole m.scene m.holds logs m.left t,
+    )
 
 pub ordered_by_time : (config : Config) (es : List Event) (logs : List (List Record)) → lawful config es ≡ true → MayBeLeft config es logs →
     OrderedByTime logs (run config es).lines
@@ -111,7 +112,7 @@ unfolding installs_of
 installed_in_the_past config es fair =
     let r = every_run_holds is_steady config es fair in
     subst (λ (w : World). list_all (installed_before w.time) w.shards ≡ true) r.same (each_place r.scene.world.time r.scene.world.shards
-        (λ n s there. by_shard r n s there))
+    (λ n s there. by_shard r n s there))
   where
     each_place : (time : ℕ) (ss : List ShardNow) → ((n : ℕ) (s : ShardNow) → slice_get ss n ≡ Some s → installed_before time s ≡ true) →
         list_all (installed_before time) ss ≡ true

@@ -176,7 +176,7 @@ module _ (shard : ℕ) (log : List Record) (m : Memory) (sound : IsSound shard (
           by_row (Some r) found by =
               let zero = by.above_zero in
               held_back p.txn q.at (IsPrepared q.coordinator q.at) (Some r) found refl zero
-                  (let at = ap (λ (z : Prepared). z.at) same in omega (arith, low, at))
+              (let at = ap (λ (z : Prepared). z.at) same in omega (arith, low, at))
               (λ x e. ap (λ (z : Row). z.phase) (sym (some_is r x e)) ∙ by.phase) (λ e. cc)
             where
               some_is : (a b : Row) → Some a ≡ Some b → a ≡ b
@@ -239,18 +239,30 @@ KeptShard n v setup s = SoundShard InLimit (Serves n v) (Shows n v) (serves_keep
 apart_kept : (n : ℕ) (v : View) (setup : Setup) (log : List Record) (unsure : Unsure) (st : State) (views : List View) → (setup.shard ≡ n → ⊥) →
     WellShard setup (shard_with log unsure st views) → KeptShard n v setup (shard_with log unsure st views)
 apart_kept n v setup log unsure (Runs m) views other h = record {
-  left = λ l may. let x = h.left l may in record { memory = x.memory; sound = record { well = x.sound; served = λ e. absurd (other e) }; good =
-      record { accepted = x.good; shown = λ e. absurd (other e) } };
+  left = λ l may. let x = h.left l may in record {
+    memory = x.memory;
+    sound = record { well = x.sound; served = λ e. absurd (other e) };
+    good =
+        record { accepted = x.good; shown = λ e. absurd (other e) };
+  };
   state = (record { well = h.state.0; served = λ e. absurd (other e) }, h.state.1);
 }
 apart_kept n v setup log unsure (IsStopped m) views other h = record {
-  left = λ l may. let x = h.left l may in record { memory = x.memory; sound = record { well = x.sound; served = λ e. absurd (other e) }; good =
-      record { accepted = x.good; shown = λ e. absurd (other e) } };
+  left = λ l may. let x = h.left l may in record {
+    memory = x.memory;
+    sound = record { well = x.sound; served = λ e. absurd (other e) };
+    good =
+        record { accepted = x.good; shown = λ e. absurd (other e) };
+  };
   state = tt;
 }
 apart_kept n v setup log unsure IsDown views other h = record {
-  left = λ l may. let x = h.left l may in record { memory = x.memory; sound = record { well = x.sound; served = λ e. absurd (other e) }; good =
-      record { accepted = x.good; shown = λ e. absurd (other e) } };
+  left = λ l may. let x = h.left l may in record {
+    memory = x.memory;
+    sound = record { well = x.sound; served = λ e. absurd (other e) };
+    good =
+        record { accepted = x.good; shown = λ e. absurd (other e) };
+  };
   state = tt;
 }
 
@@ -276,14 +288,20 @@ running_kept n setup log unsure (Runs q) views m e h = record {
     | inl same ↦ subst (SoundLog InLimit (Serves n (view_of (facts_of log) m)) (Shows n (view_of (facts_of log) m))
         (serves_keeps n (view_of (facts_of log) m)) (serves_opens n (view_of (facts_of log) m)) (shows_follows n (view_of (facts_of log) m))
         (shows_logs n (view_of (facts_of log) m)) (shows_opens n (view_of (facts_of log) m)) setup) (sym same) (record {
-      memory = m;
-      sound = record { well = well; served = λ here. safe_low m };
-      good = record { accepted = good; shown = λ here. shown_now setup log m well good };
-    })
+          memory = m;
+          sound = record { well = well; served = λ here. safe_low m };
+          good = record { accepted = good; shown = λ here. shown_now setup log m well good };
+        })
     | inr more ↦ absurd (subst (λ u. IsUnsure u more.0) h.state.1 more.1)
   ];
-  state = (record { well = h.state.0; served = λ here. let low = safe_low m in let same = ap (λ (z : Memory). z.last) (memory_is q m e) in
-      omega (arith, low, same) }, h.state.1);
+  state = (
+    record {
+      well = h.state.0;
+      served = λ here. let low = safe_low m in let same = ap (λ (z : Memory). z.last) (memory_is q m e) in
+          omega (arith, low, same);
+    },
+    h.state.1,
+  );
 }
   where
     well : IsWell setup (facts_of log) m
@@ -311,4 +329,4 @@ present_is_kept w n v well present = subst (λ z. KeptView n z w) present.is by_
         here j x at same =
             subst (λ (z : ShardNow). KeptShard n (view_of (facts_of z.log) present.memory) (setup_of w.config j) x) same
             (running_kept n (setup_of w.config j) x.log x.unsure x.state x.views present.memory (ap (λ (z : ShardNow). z.state) same ∙ present.runs)
-                (well j x at))
+            (well j x at))

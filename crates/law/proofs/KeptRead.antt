@@ -112,7 +112,7 @@ module _ (n : ℕ) (t : Id) (k : Bytes) (e : ℕ) (x : Option Bytes) where
     right = λ here front q back at ks ws split claims there. elim (last_split log r front q back split) [
       | inl end ↦ subst (λ l. latest (installs_of l) k ≡ x) end.1
           (held_logs t k e x setup (facts_of log) m now i p s.well.sound is (fair_plan setup (facts_of log) m now i p (allowed.fair here)
-              (s.held here) is) (s.held here) r at ks ws logged
+          (s.held here) is) (s.held here) r at ks ws logged
           (subst (λ z. Claims z t at ks ws) (sym end.0) claims) there)
       | inr more ↦ good.right here front q more.0 at ks ws more.1 claims there
     ];

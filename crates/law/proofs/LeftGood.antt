@@ -50,8 +50,14 @@ allowed_of Allowed w (Act.Deliver m now) n doing h e = by_message (slice_get w.b
     by_address z is (Session t) goes same = cc
 
     by_message : (o : Option Envelope) → slice_get w.bag m ≡ o →
-        (elim o as (λ v. Option (ℕ × Doing)) [ None ↦ None | Some z ↦ elim z.to as (λ v. Option (ℕ × Doing)) [ Shard k ↦
-            Some (k, Doing.Take m now) | Session t ↦ None ] ]) ≡ Some (n, doing) → DoingAllowed Allowed (setup_of w.config n) w.bag doing
+        (elim o as (λ v. Option (ℕ × Doing)) [
+          | None ↦ None
+          | Some z ↦ elim z.to as (λ v. Option (ℕ × Doing)) [
+            | Shard k ↦
+                Some (k, Doing.Take m now)
+            | Session t ↦ None
+          ]
+        ]) ≡ Some (n, doing) → DoingAllowed Allowed (setup_of w.config n) w.bag doing
     by_message None is same = cc
     by_message (Some z) is same = by_address z is z.to refl same
 allowed_of Allowed w (Act.Begin t) n doing h e = cc
@@ -86,7 +92,7 @@ module _ (Allowed : Setup → Input → Type 0) (Sound : Setup → Facts → Mem
     where
       by_place : (i : ℕ) (doing : Doing) → DoingAllowed Allowed (setup_of (run config es).config i) (run config es).bag doing →
           ShardOf (run config es).shards k (λ s. MayLeaveLog s log ⊎ ((k ≡ i) × MayHaveLogged (run config es) s i doing log)) →
-              Good (setup_of (run config es).config k) log
+          Good (setup_of (run config es).config k) log
       by_place i doing ok p = elim p.fits [
         | inl plain ↦ left_good Allowed Sound Good keeps opens follows logs good_opens (run config es) sound k p.shard log p.there plain
         | inr here ↦ subst (Good (setup_of (run config es).config k)) (sym here.1.1.1)
@@ -100,4 +106,4 @@ pub recovered : (config : Config) (es : List Event) (ls : List (List Record)) �
 recovered config es ls fair may =
     subst (λ c. AllAccepted c ls) (run_settings config es)
     (left_is_good InLimit IsWell IsTaken keeps opens accepted_follows logs opening_taken config es ls may (always_well config es fair)
-        (in_limit (run config es)))
+    (in_limit (run config es)))

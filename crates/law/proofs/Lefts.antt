@@ -138,14 +138,20 @@ module _ (sc : Scene) (h : Holds sc) (steady : IsSteady sc.world) where
 
       by_address : (x : Envelope) → slice_get sc.world.bag m ≡ Some x → (a : Address) → x.to ≡ a →
           (elim a as (λ y. Option (ℕ × Doing)) [ Shard k ↦ Some (k, Doing.Take m now) | Session t ↦ None ]) ≡ Some (n, doing) →
-              Given sc n (input_of sc.world.bag doing)
+          Given sc n (input_of sc.world.bag doing)
       by_address x is (Shard k) goes same = subst (λ (p : ℕ × Doing). Given sc p.0 (input_of sc.world.bag p.1))
           (some_same (k, Doing.Take m now) (n, doing) same) (to_shard x k is goes)
       by_address x is (Session t) goes same = cc
 
       by_message : (o : Option Envelope) → slice_get sc.world.bag m ≡ o →
-          (elim o as (λ y. Option (ℕ × Doing)) [ None ↦ None | Some x ↦ elim x.to as (λ y. Option (ℕ × Doing)) [ Shard k ↦
-              Some (k, Doing.Take m now) | Session t ↦ None ] ]) ≡ Some (n, doing) →
+          (elim o as (λ y. Option (ℕ × Doing)) [
+            | None ↦ None
+            | Some x ↦ elim x.to as (λ y. Option (ℕ × Doing)) [
+              | Shard k ↦
+                  Some (k, Doing.Take m now)
+              | Session t ↦ None
+            ]
+          ]) ≡ Some (n, doing) →
           Given sc n (input_of sc.world.bag doing)
       by_message None is same = cc
       by_message (Some x) is same = by_address x is x.to refl same

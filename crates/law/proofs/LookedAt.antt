@@ -62,11 +62,11 @@ module _ (sc : Scene) (h : Holds sc) (logs : List (List Record)) (left : AreLeft
       written = λ i j key.
           let low = leb-true i.at at (kept_passes (λ (q : Install). nat_le q.at at) (installs_of (log_in logs n)) i j) in
           written sc h logs left config owns n (log_in logs n) (λ r q. q) orderly i k (λ u. nat_le u.at at)
-              (among_keep (λ (q : Install). nat_le q.at at) (installs_of (log_in logs n)) i j) key
+          (among_keep (λ (q : Install). nat_le q.at at) (installs_of (log_in logs n)) i j) key
           (λ x stamp. le_true x.at at (omega (arith, low, stamp)));
       once = λ i j hi hj ki kj stamp.
           one i j (among_keep (λ (q : Install). nat_le q.at at) (installs_of (log_in logs n)) i hi)
-              (among_keep (λ (q : Install). nat_le q.at at) (installs_of (log_in logs n)) j hj) (ki ∙ sym kj) stamp;
+          (among_keep (λ (q : Install). nat_le q.at at) (installs_of (log_in logs n)) j hj) (ki ∙ sym kj) stamp;
     }
 
     pub shows_serially : upto (history logs) at k ≡ at_time (installs_of (log_in logs n)) k at

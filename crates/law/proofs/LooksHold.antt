@@ -99,12 +99,23 @@ event_keeps config w e may k =
     record {
       settings = c.config ∙ k.settings;
       well = well;
-      views = λ n v o. elim (c.offered n v o) [ inl old ↦ kept_on w e n v limit (k.views n v old) | inr present ↦
-          present_is_kept ((happens w e).0) n v well present ];
+      views = λ n v o. elim (c.offered n v o) [
+        | inl old ↦ kept_on w e n v limit (k.views n v old)
+        | inr present ↦
+            present_is_kept ((happens w e).0) n v well present
+      ];
       looks = λ key at x h. elim (c.looked key at x h) [
         | inl old ↦ let l = k.looks key at x old in
-            record { shard = l.shard; view = l.view; own = l.own; served = l.served; value = l.value; has = c.has l.shard l.has; kept =
-                kept_on w e l.shard l.view limit l.kept }
+            record {
+              shard = l.shard;
+              view = l.view;
+              own = l.own;
+              served = l.served;
+              value = l.value;
+              has = c.has l.shard l.has;
+              kept =
+                  kept_on w e l.shard l.view limit l.kept;
+            }
         | inr new ↦ record {
           shard = new.shard;
           view = new.view;
@@ -145,8 +156,12 @@ some_view a b e = cc
 fresh_runs : (v : View) → ShowsView fresh_shard v → RunsWith fresh_shard v
 fresh_runs v (inl (inl same)) = record { memory = rebuilt (facts_of fresh_log); runs = refl; is = same }
 fresh_runs v (inl (inr none)) = absurd none
-fresh_runs v (inr e) = record { memory = rebuilt (facts_of fresh_log); runs = refl; is = some_view
-    (view_of (facts_of fresh_log) (rebuilt (facts_of fresh_log))) v e }
+fresh_runs v (inr e) = record {
+  memory = rebuilt (facts_of fresh_log);
+  runs = refl;
+  is = some_view
+      (view_of (facts_of fresh_log) (rebuilt (facts_of fresh_log))) v e;
+}
 
 start_present : (config : Config) (n : ℕ) (v : View) → Offers (start config) n v → IsPresent (start config) n v
 unfolding start
@@ -213,7 +228,7 @@ left_shows : (config : Config) (es : List Event) (ls : List (List Record)) → M
     (k : ℕ) (log : List Record) → slice_get ls k ≡ Some log → Shows n v (setup_of (run config es).config k) log
 left_shows config es ls may n v kept =
     left_is_good InLimit (Serves n v) (Shows n v) (serves_keeps n v) (serves_opens n v) (shows_follows n v) (shows_logs n v)
-        (shows_opens n v) config es ls may kept (in_limit (run config es))
+    (shows_opens n v) config es ls may kept (in_limit (run config es))
 
 module _ (config : Config) (es : List Event) (ls : List (List Record)) (fair : lawful config es ≡ true) (may : MayBeLeft config es ls) where
   m : Moment (run config es) ls
@@ -230,12 +245,12 @@ module _ (config : Config) (es : List Event) (ls : List (List Record)) (fair : l
       let there = m.left.all l.shard l.has.shard (subst (λ (w : World). slice_get w.shards l.shard ≡ Some l.has.shard) (sym m.same) l.has.there) in
       let is : log_in ls l.shard ≡ there.0 = log_in-is ls l.shard there.0 there.1 in
       let taken_there : taken (setup_of config l.shard) (log_in ls l.shard) ≡ Accepted = subst (λ z. taken (setup_of config l.shard) z ≡ Accepted)
-          (sym is) (accepted l.shard there.0 there.1) in
+      (sym is) (accepted l.shard there.0 there.1) in
       let shown : IsShown (log_in ls l.shard) l.view = subst (λ z. IsShown z l.view) (sym is)
-          ((left_shows config es ls may l.shard l.view l.kept l.shard there.0 there.1).shown refl) in
+      ((left_shows config es ls may l.shard l.view l.kept l.shard there.0 there.1).shown refl) in
       let once : AllOnce m.scene.world = subst AllOnce (sym m.same) (always_kept config es fair).once in
       shows_serially m.scene m.holds ls m.left config owns l.shard (orderly l.shard (log_in ls l.shard)
-          (accepted_follows (setup_of config l.shard) (log_in ls l.shard) taken_there))
+      (accepted_follows (setup_of config l.shard) (log_in ls l.shard) taken_there))
       (one_value (setup_of config l.shard) (log_in ls l.shard) taken_there (all_write_once m.scene m.holds ls m.left once l.shard))
       at (quiet_lower (log_in ls l.shard) l.view.safe at shown.quiet l.served) k l.own
       ∙ shown.same k at l.served ∙ l.value

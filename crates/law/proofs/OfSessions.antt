@@ -55,7 +55,7 @@ prepares_write : (splits : List Bytes) (c : Client) (k : ℕ) (ns : List ℕ) (n
 prepares_write splits c k [] n e s h to is = absurd h
 prepares_write splits c k (m ∷ ms) n e s (inl same) to is =
     some_list s (writes_at_shard splits c n) (sym is ∙ ap (λ (z : Envelope). writes_in z.message) (sym same)
-        ∙ ap (λ j. Some (writes_at_shard splits c j)) (some_number m n (ap (λ (z : Envelope). shard_in z.to) same ∙ to)))
+    ∙ ap (λ j. Some (writes_at_shard splits c j)) (some_number m n (ap (λ (z : Envelope). shard_in z.to) same ∙ to)))
 prepares_write splits c k (m ∷ ms) n e s (inr later) to is = prepares_write splits c k ms n e s later to is
 
 closing_writes : (splits : List Bytes) (c : Client) (ns : List ℕ) (n : ℕ) (e : Envelope) (s : List Write) → IsAmong (messages_for splits c ns) e →
@@ -63,7 +63,7 @@ closing_writes : (splits : List Bytes) (c : Client) (ns : List ℕ) (n : ℕ) (e
 closing_writes splits c [] n e s h to is = absurd h
 closing_writes splits c (m ∷ ms) n e s (inl same) to is =
     some_list s (writes_at_shard splits c n) (sym is ∙ ap (λ (z : Envelope). writes_in z.message) (sym same)
-        ∙ ap (λ j. Some (writes_at_shard splits c j)) (some_number m n (ap (λ (z : Envelope). shard_in z.to) same ∙ to)))
+    ∙ ap (λ j. Some (writes_at_shard splits c j)) (some_number m n (ap (λ (z : Envelope). shard_in z.to) same ∙ to)))
 closing_writes splits c (m ∷ ms) n e s (inr later) to is = prepares_write splits c m ms n e s later to is
 
 -- ---- the value that is written last
@@ -116,8 +116,12 @@ module _ (sc : Scene) (h : Holds sc) (logs : List (List Record)) (left : AreLeft
   request = (evidence sc h logs left d.shard (Commit d.commit) d.among).asked
 
   abbrev message : Message
-  message = Message.Commit (record { txn = d.commit.txn; parts = d.commit.parts; reads = record { epoch = request.epoch; keys = d.commit.reads };
-      writes = d.commit.writes })
+  message = Message.Commit (record {
+    txn = d.commit.txn;
+    parts = d.commit.parts;
+    reads = record { epoch = request.epoch; keys = d.commit.reads };
+    writes = d.commit.writes;
+  })
 
   abbrev asked : IsOfClosing sc.world d.commit.txn (record { to = Shard d.shard; message = message })
   asked = h.messages (record { to = Shard d.shard; message = message }) request.sent
@@ -145,11 +149,11 @@ module _ (sc : Scene) (h : Holds sc) (logs : List (List Record)) (left : AreLeft
   at_home n (Prepare p) w k wrote =
       let sent = evidence sc h logs left n (Prepare p) k in
       among_keep (λ (v : Write). nat_eq (shard_of splits v.key) n) c.writes w (subst (λ l. IsAmong l w)
-          (closing_set p.txn n _ _ wrote.0 (h.messages _ sent.sent) refl) wrote.2)
+      (closing_set p.txn n _ _ wrote.0 (h.messages _ sent.sent) refl) wrote.2)
   at_home n (Commit q) w k wrote =
       let sent = (evidence sc h logs left n (Commit q) k).asked in
       among_keep (λ (v : Write). nat_eq (shard_of splits v.key) n) c.writes w (subst (λ l. IsAmong l w)
-          (closing_set q.txn n _ _ wrote.0 (h.messages _ sent.sent) refl) wrote.2)
+      (closing_set q.txn n _ _ wrote.0 (h.messages _ sent.sent) refl) wrote.2)
   at_home n (Opened e) w k wrote = absurd wrote
   at_home n (Ceiling e) w k wrote = absurd wrote
   at_home n (Abort e) w k wrote = absurd wrote
@@ -178,7 +182,7 @@ module _ (sc : Scene) (h : Holds sc) (logs : List (List Record)) (left : AreLeft
       decides same =
           among_left d.commit.writes (flat_map (λ p. p.writes) (promised_elsewhere logs d.commit.txn d.shard)) w
           (subst (λ l. IsAmong l w) (ap (writes_at_shard splits c) same
-              ∙ sym (closing_set d.commit.txn d.shard message d.commit.writes txn_is asked refl)) at_shard)
+          ∙ sym (closing_set d.commit.txn d.shard message d.commit.writes txn_is asked refl)) at_shard)
 
       part : has d.commit.parts n ≡ true
       part =
@@ -186,10 +190,10 @@ module _ (sc : Scene) (h : Holds sc) (logs : List (List Record)) (left : AreLeft
           let mine : over.client ≡ c = some_client over.client c (sym over.there ∙ asked.over.there) in
           subst (λ ps. has ps n ≡ true) (ap (parts_of splits) (sym mine) ∙ over.same)
           (has_of (parts_of splits c) n (sorted_has nat_lt (once (map (λ (a : Taken). a.shard) c.taken ++
-              map (λ (v : Write). shard_of splits v.key) c.writes)) n
+          map (λ (v : Write). shard_of splits v.key) c.writes)) n
           (once_has (map (λ (a : Taken). a.shard) c.taken ++ map (λ (v : Write). shard_of splits v.key) c.writes) n
           (among_right (map (λ (a : Taken). a.shard) c.taken) (map (λ (v : Write). shard_of splits v.key) c.writes) n
-              (map_among (λ (v : Write). shard_of splits v.key) c.writes w k)))))
+          (map_among (λ (v : Write). shard_of splits v.key) c.writes w k)))))
 
       apart : (a b : ℕ) → a ≢ b → not (nat_eq a b) ≡ true
       apart a b e = by_value (nat_eq a b) refl
@@ -203,15 +207,15 @@ module _ (sc : Scene) (h : Holds sc) (logs : List (List Record)) (left : AreLeft
           let p = promised sc h logs left d.shard n d.commit d.among part other in
           let sent = evidence sc h logs left n (Prepare p.promise) p.among in
           let has_it : IsAmong p.promise.writes w = subst (λ l. IsAmong l w)
-              (sym (closing_set p.promise.txn n _ p.promise.writes (p.named ∙ txn_is) (h.messages _ sent.sent) refl)) at_shard in
+          (sym (closing_set p.promise.txn n _ p.promise.writes (p.named ∙ txn_is) (h.messages _ sent.sent) refl)) at_shard in
           among_right d.commit.writes (flat_map (λ q. q.writes) (promised_elsewhere logs d.commit.txn d.shard)) w
           (join_among (λ (q : Prepared). q.writes) (promised_elsewhere logs d.commit.txn d.shard) p.promise w
           (join_among (λ (z : ℕ × List Record). filter (λ q. same_id q.txn d.commit.txn && not (nat_eq z.0 d.shard)) (gather as_prepared z.1))
-              (by_shard logs) (n, log_in logs n) p.promise (number_there logs n (Prepare p.promise) p.among)
+          (by_shard logs) (n, log_in logs n) p.promise (number_there logs n (Prepare p.promise) p.among)
           (keep_among (λ q. same_id q.txn d.commit.txn && not (nat_eq n d.shard)) (gather as_prepared (log_in logs n)) p.promise
-              (gather_among as_prepared (log_in logs n) (Prepare p.promise) p.promise p.among refl)
+          (gather_among as_prepared (log_in logs n) (Prepare p.promise) p.promise p.among refl)
           (and_from (same_id p.promise.txn d.commit.txn) (not (nat_eq n d.shard)) (subst (λ i. same_id i d.commit.txn ≡ true) (sym p.named)
-              (same_id-refl d.commit.txn)) (apart n d.shard other)))) has_it)
+          (same_id-refl d.commit.txn)) (apart n d.shard other)))) has_it)
 
   pub of_session : IsOfSession sc.world u
   of_session = record {
@@ -229,4 +233,4 @@ written_by_sessions config es ls fair may u there =
     let is_config : m.scene.world.config ≡ config = ap (λ (w : World). w.config) m.same ∙ (always_kept config es fair).settings in
     subst (λ (w : World). IsOfSession w u) m.same
     (of_session m.scene m.holds ls m.left (λ n r k. subst (λ g. belongs (setup_of g n) r ≡ true) (sym is_config) (owns config es ls fair may n r k))
-        once u there)
+    once u there)

@@ -144,12 +144,12 @@ module _ (log : List Record) (o : IsOrderly log) where
   pub one_decision : (c d : Committed) → IsAmong log (Commit c) → IsAmong log (Commit d) → d.txn ≡ c.txn → c ≡ d
   one_decision c d h k e =
       some_same c d (ap as_committed (same_claim log o c.txn (Commit c) (Commit d) h k (same_id-refl c.txn)
-          (subst (λ u. same_id u c.txn ≡ true) (sym e) (same_id-refl c.txn))))
+      (subst (λ u. same_id u c.txn ≡ true) (sym e) (same_id-refl c.txn))))
 
   pub one_promise : (p q : Prepared) → IsAmong log (Prepare p) → IsAmong log (Prepare q) → q.txn ≡ p.txn → p ≡ q
   one_promise p q h k e =
       some_same p q (ap as_prepared (same_claim log o p.txn (Prepare p) (Prepare q) h k (same_id-refl p.txn)
-          (subst (λ u. same_id u p.txn ≡ true) (sym e) (same_id-refl p.txn))))
+      (subst (λ u. same_id u p.txn ≡ true) (sym e) (same_id-refl p.txn))))
 
   pub decided_not_promised : (c : Committed) (p : Prepared) → IsAmong log (Commit c) → IsAmong log (Prepare p) → p.txn ≡ c.txn → ⊥
   decided_not_promised c p h k e =

@@ -140,7 +140,7 @@ place_numbered {A} n (y ∷ ys) (suc i) x e = inr (subst (λ m. IsAmong (numbere
 -- lists of which one alone has a member, and no second one
 pub one_of_numbered : {A B : Type 0} (f : ℕ × A → List B) (n : ℕ) (xs : List A) → ((p : ℕ × A) → IsAmong (numbered n xs) p → AtMostOne (f p)) →
     ((p q : ℕ × A) (x y : B) → IsAmong (numbered n xs) p → IsAmong (numbered n xs) q → IsAmong (f p) x → IsAmong (f q) y → p.0 ≡ q.0) →
-        AtMostOne (flat_map f (numbered n xs))
+    AtMostOne (flat_map f (numbered n xs))
 one_of_numbered f n [] one same = tt
 one_of_numbered {A} {B} f n (x ∷ xs) one same =
     by_first (f (n, x)) refl (one (n, x) (inl refl)) (one_of_numbered f (suc n) xs (λ p h. one p (inr h)) (λ p q a b h k. same p q a b (inr h) (inr k)))

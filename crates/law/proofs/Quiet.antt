@@ -124,7 +124,7 @@ same_answer : (is more : List Install) (k : Bytes) (at : ℕ) → filter (λ (i 
 unfolding at_time
 same_answer is more k at none =
     ap (λ l. latest l k) (filter-append (λ (i : Install). nat_le i.at at) is more ∙ ap (λ l. filter (λ (i : Install). nat_le i.at at) is ++ l) none
-        ∙ append-nil (filter (λ (i : Install). nat_le i.at at) is))
+    ∙ append-nil (filter (λ (i : Install). nat_le i.at at) is))
 
 -- the answer of a log at a time, after one more record that follows
 pub answer_stays : (shard : ℕ) (log : List Record) (r : Record) (k : Bytes) (at : ℕ) → followed shard (log ++ r ∷ []) ≡ true → IsQuiet log at →
@@ -132,7 +132,7 @@ pub answer_stays : (shard : ℕ) (log : List Record) (r : Record) (k : Bytes) (a
 unfolding facts_of learn follows
 answer_stays shard log r k at h q =
     ap (λ (f : Facts). at_time f.installs k at) (learn_agrees shard log r h)
-        ∙ by_kind r (and_parts _ _ (and_parts _ _ (sym (followed_more shard log r) ∙ h)).1).1
+    ∙ by_kind r (and_parts _ _ (and_parts _ _ (sym (followed_more shard log r) ∙ h)).1).1
   where
     by_kind : (x : Record) → follows shard log x ≡ true → at_time (learn (facts_of log) x).installs k at ≡ at_time (installs_of log) k at
     by_kind (Opened epoch) e = refl
@@ -154,4 +154,4 @@ answer_stays shard log r k at h q =
         (installed_unseen (recorded (facts_of log) t) at s
         (outcome_above log at t s q (and_parts (not (when (λ x. true) (ended_of log t))) (outcome_fits (prepared_of log t) (committed_of log t) (Some s)) e).0
         (prepared_of log t) refl (committed_of log t) refl (and_parts (not (when (λ x. true) (ended_of log t)))
-            (outcome_fits (prepared_of log t) (committed_of log t) (Some s)) e).1))
+        (outcome_fits (prepared_of log t) (committed_of log t) (Some s)) e).1))

@@ -124,14 +124,13 @@ held_clashes l (m ∷ ms) k e h = by_test (same_key m.key k && is_exclusive m.mo
     by_test true f g rest =
         let p = and_parts (same_key m.key k) (is_exclusive m.mode) f in
         tested (same_key l.key m.key) (modes_clash l.mode m.mode) (list_any (locks_clash l) ms)
-            (subst (λ z. same_key l.key z ≡ true) (sym (same_key-is m.key k p.0)) e) (in_conflict l.mode m.mode p.1)
+        (subst (λ z. same_key l.key z ≡ true) (sym (same_key-is m.key k p.0)) e) (in_conflict l.mode m.mode p.1)
     by_test false f g rest = or_right (locks_clash l m) _ (rest g)
 
 pub reader_clashes : (held others : List Lock) (k : Bytes) → holds held k ≡ true → holds_alone others k ≡ true → clash held others ≡ true
 reader_clashes [] others k h a = cc
 reader_clashes (l ∷ ls) others k h a = by_test (same_key l.key k) refl h (λ g. reader_clashes ls others k g a)
   where
-
     by_test : (b : Bool) → same_key l.key k ≡ b → (b || holds ls k) ≡ true → (holds ls k ≡ true → clash ls others ≡ true) → clash (l ∷ ls) others ≡ true
     by_test true e g rest = or_left (list_any (locks_clash l) others) _ (held_clashes l others k e a)
     by_test false e g rest = or_right (list_any (locks_clash l) others) _ (rest g)
@@ -142,7 +141,7 @@ pub read_clashes : (rs ks : List Bytes) (vs ws : List Write) (k : Bytes) (w : Wr
 read_clashes rs ks vs ws k w reads writes key =
     reader_clashes (locks_of rs vs) (locks_of ks ws) k (each_at (holds (locks_of rs vs)) rs k (holds_reads rs vs) reads)
     (subst (λ z. holds_alone (locks_of ks ws) z ≡ true) key (each_at (λ (v : Write). holds_alone
-        (with_locks (with_locks [] (shared ks)) (exclusive ws)) v.key) ws w (holds_exclusive ws (with_locks [] (shared ks))) writes))
+    (with_locks (with_locks [] (shared ks)) (exclusive ws)) v.key) ws w (holds_exclusive ws (with_locks [] (shared ks))) writes))
 
 -- ---- what stands keeps out what is in conflict with it
 
@@ -180,7 +179,7 @@ stands_there log o (Prepare p) t at ks ws h c none = by_parts (is_aborted log t)
     by_parts a ha d hd q hq (Some e) he = cc
     by_parts true ha d hd q hq None he =
         absurd (let same = same_claim log o t (Prepare p) (Abort t) h (is_aborted_among log t ha)
-            (subst (λ u. same_id u t ≡ true) (sym c.0) (same_id-refl t)) (same_id-refl t) in cc)
+        (subst (λ u. same_id u t ≡ true) (sym c.0) (same_id-refl t)) (same_id-refl t) in cc)
     by_parts false ha (Some d) hd q hq None he = let i = committed_is log t d hd in absurd (decided_not_promised log o d p i.0 h (c.0 ∙ sym i.1))
     by_parts false ha None hd None hq None he = absurd (not_prepared log t p hq h c.0)
     by_parts false ha None hd (Some q) hq None he =
@@ -194,7 +193,7 @@ stands_there log o (Commit p) t at ks ws h c none = by_parts (is_aborted log t) 
     by_parts a ha d hd q hq (Some e) he = cc
     by_parts true ha d hd q hq None he =
         absurd (let same = same_claim log o t (Commit p) (Abort t) h (is_aborted_among log t ha)
-            (subst (λ u. same_id u t ≡ true) (sym c.0) (same_id-refl t)) (same_id-refl t) in cc)
+        (subst (λ u. same_id u t ≡ true) (sym c.0) (same_id-refl t)) (same_id-refl t) in cc)
     by_parts false ha None hd q hq None he = absurd (not_committed log t p hd h c.0)
     by_parts false ha (Some d) hd q hq None he =
         let i = committed_is log t d hd in
@@ -218,7 +217,7 @@ stamp_of_end log o (Prepare p) t at ks ws s h c x is own = by_parts (is_aborted 
     by_parts a ha d hd q hq None he = cc
     by_parts true ha d hd q hq (Some e) he =
         absurd (let same = same_claim log o t (Prepare p) (Abort t) h (is_aborted_among log t ha)
-            (subst (λ u. same_id u t ≡ true) (sym c.0) (same_id-refl t)) (same_id-refl t) in cc)
+        (subst (λ u. same_id u t ≡ true) (sym c.0) (same_id-refl t)) (same_id-refl t) in cc)
     by_parts false ha (Some d) hd q hq (Some e) he = let i = committed_is log t d hd in absurd (decided_not_promised log o d p i.0 h (c.0 ∙ sym i.1))
     by_parts false ha None hd None hq (Some e) he = absurd (not_prepared log t p hq h c.0)
     by_parts false ha None hd (Some q) hq (Some e) he = ap (λ (z : Ended). z.outcome) (same_end e x.ended he) ∙ is
@@ -233,7 +232,7 @@ stamp_of_end log o (Commit p) t at ks ws s h c x is own = by_parts (is_aborted l
     by_parts a ha d hd q hq None he = cc
     by_parts true ha d hd q hq (Some e) he =
         absurd (let same = same_claim log o t (Commit p) (Abort t) h (is_aborted_among log t ha)
-            (subst (λ u. same_id u t ≡ true) (sym c.0) (same_id-refl t)) (same_id-refl t) in cc)
+        (subst (λ u. same_id u t ≡ true) (sym c.0) (same_id-refl t)) (same_id-refl t) in cc)
     by_parts false ha None hd q hq (Some e) he = absurd (not_committed log t p hd h c.0)
     by_parts false ha (Some d) hd q hq (Some e) he =
         let i = committed_is log t d hd in
@@ -261,7 +260,7 @@ locks_stand log o r t at ks ws h c none =
     id_there =
         let there = gather_among id_in log r t h (claim_id r t at ks ws c) in
         let p = some_passes (ids_once (gather id_in log)) (same_id t) (any_once t (gather id_in log)
-            ∙ any_of (same_id t) (gather id_in log) t there (same_id-refl t)) in
+        ∙ any_of (same_id t) (gather id_in log) t there (same_id-refl t)) in
         subst (λ u. IsAmong (ids_of log) u) (sym (same_id-is t p.member p.passes)) p.among
 
 clashes_none : (held : List Lock) (all : List (List Lock)) (other : List Lock) → list_any (clash held) all ≡ false → IsAmong all other →
@@ -289,11 +288,11 @@ unfolding fits_beside
 free_beside front (Prepare p) t at ks ws c e =
     let a = and_parts (nat_lt (length (locks_standing front)) 1024 && not (list_any (clash (locks_of p.reads p.writes)) (locks_standing front))) _ e in
     subst (λ l. list_any (clash (locks_of ks l)) (locks_standing front) ≡ false) c.3 (subst
-        (λ l. list_any (clash (locks_of l p.writes)) (locks_standing front) ≡ false) c.2 (not_any _ (and_parts _ _ a.0).1))
+    (λ l. list_any (clash (locks_of l p.writes)) (locks_standing front) ≡ false) c.2 (not_any _ (and_parts _ _ a.0).1))
 free_beside front (Commit p) t at ks ws c e =
     let a = and_parts (nat_lt (length (locks_standing front)) 1024 && not (list_any (clash (locks_of p.reads p.writes)) (locks_standing front))) _ e in
     subst (λ l. list_any (clash (locks_of ks l)) (locks_standing front) ≡ false) c.3 (subst
-        (λ l. list_any (clash (locks_of l p.writes)) (locks_standing front) ≡ false) c.2 (not_any _ (and_parts _ _ a.0).1))
+    (λ l. list_any (clash (locks_of l p.writes)) (locks_standing front) ≡ false) c.2 (not_any _ (and_parts _ _ a.0).1))
 free_beside front (Opened x) t at ks ws c e = absurd c
 free_beside front (Ceiling x) t at ks ws c e = absurd c
 free_beside front (Abort x) t at ks ws c e = absurd c
@@ -358,7 +357,7 @@ module _ (sc : Scene) (h : Holds sc) (logs : List (List Record)) (left : AreLeft
     (n : ℕ) (accepted : taken (setup_of config n) (log_in logs n) ≡ Accepted) (once : AllWriteOnce (log_in logs n)) (stamped : IsStamped (log_in logs n))
     -- the promise or the decision of a transaction of the history, which read a key of this shard
     (u : Txn) (there : IsAmong (history logs) u) (front : List Record) (r : Record) (back : List Record) (same : log_in logs n ≡ front ++ r ∷ back)
-        (at : ℕ) (ks : List Bytes) (ws : List Write)
+    (at : ℕ) (ks : List Bytes) (ws : List Write)
     (claims : Claims r u.txn at ks ws) (low : at ≤ u.at) (k : Bytes) (own : shard_of config.splits k ≡ n) (reads : IsAmong ks k) where
   d : InHistory logs u
   d = from_history logs u there
@@ -369,7 +368,7 @@ module _ (sc : Scene) (h : Holds sc) (logs : List (List Record)) (left : AreLeft
       (sym d.is) e))
   outcome_is (Some s) e =
       ap (λ z. Some z) (sym (outcome_stamp sc h logs left d.shard n d.commit s d.among (subst
-          (λ (z : Txn). IsAmong (log_in logs n) (Outcome z.txn (Some s))) (sym d.is) e)) ∙ ap (λ (z : Txn). z.at) d.is)
+      (λ (z : Txn). IsAmong (log_in logs n) (Outcome z.txn (Some s))) (sym d.is) e)) ∙ ap (λ (z : Txn). z.at) d.is)
 
   front_within : (q : Record) → IsAmong front q → IsAmong (log_in logs n) q
   front_within q j = subst (λ l. IsAmong l q) (sym same) (among_left front (r ∷ back) q j)
@@ -393,7 +392,7 @@ module _ (sc : Scene) (h : Holds sc) (logs : List (List Record)) (left : AreLeft
           let ids : u.txn ≡ v.txn = same_claim_id q u.txn v.txn at c.0 ks c.1 ws c.2 (subst (λ z. Claims z u.txn at ks ws) e claims) c.3 in
           let f = from_history logs v in_it in
           let one = one_place sc h logs left d.shard f.shard d.commit f.commit d.among f.among
-              (ap (λ (z : Txn). z.txn) f.is ∙ sym ids ∙ sym (ap (λ (z : Txn). z.txn) d.is)) in
+          (ap (λ (z : Txn). z.txn) f.is ∙ sym ids ∙ sym (ap (λ (z : Txn). z.txn) d.is)) in
           before_itself v u (sym (ap (λ (z : Txn). z.at) f.is) ∙ sym (ap (λ (z : Committed). z.at) one.1) ∙ ap (λ (z : Txn). z.at) d.is) (sym ids) earlier
 
       -- the decision at this shard is its own
@@ -401,7 +400,7 @@ module _ (sc : Scene) (h : Holds sc) (logs : List (List Record)) (left : AreLeft
       own_commit g e =
           let mine = subst (λ z. Claims z u.txn at ks ws) e claims in
           let here : IsAmong (log_in logs n) (Commit g) = subst (λ z. IsAmong (log_in logs n) z) e
-              (subst (λ l. IsAmong l r) (sym same) (among_right front (r ∷ back) r (inl refl))) in
+          (subst (λ l. IsAmong l r) (sym same) (among_right front (r ∷ back) r (inl refl))) in
           let one = one_place sc h logs left d.shard n d.commit g d.among here (mine.0 ∙ sym (ap (λ (z : Txn). z.txn) d.is)) in
           sym (ap (λ (z : Committed). z.at) one.1) ∙ ap (λ (z : Txn). z.at) d.is
 
@@ -409,9 +408,9 @@ module _ (sc : Scene) (h : Holds sc) (logs : List (List Record)) (left : AreLeft
       later_end mid is end =
           let split : log_in logs n ≡ (front ++ r ∷ mid) ++ q ∷ p.back = p.same ∙ ap (λ l. l ++ q ∷ p.back) is in
           let o : end.ended.outcome ≡ Some u.at = outcome_is end.ended.outcome (subst (λ l. IsAmong l (Outcome u.txn end.ended.outcome)) (sym split)
-              (among_left (front ++ r ∷ mid) (q ∷ p.back) (Outcome u.txn end.ended.outcome) end.among)) in
+          (among_left (front ++ r ∷ mid) (q ∷ p.back) (Outcome u.txn end.ended.outcome) end.among)) in
           let stamp = stamp_of_end (front ++ r ∷ mid) (front_orderly (setup_of config n) (log_in logs n) accepted (front ++ r ∷ mid)
-              (q ∷ p.back) split) r u.txn at ks ws u.at (among_right front (r ∷ mid) r (inl refl)) claims end o own_commit in
+          (q ∷ p.back) split) r u.txn at ks ws u.at (among_right front (r ∷ mid) r (inl refl)) claims end o own_commit in
           let above = (stamped (front ++ r ∷ mid) q p.back v.txn c.0 c.1 c.2 split c.3).ends u.txn u.at stamp in
           let below = c.4 in
           before_above v u (omega (arith, above, below)) earlier
@@ -426,7 +425,7 @@ module _ (sc : Scene) (h : Holds sc) (logs : List (List Record)) (left : AreLeft
       )
       by_order (IsLater mid e) = absurd (later_end mid e
           (ended_between (setup_of config n) (log_in logs n) accepted front mid p.back r q u.txn v.txn at c.0 ks c.1 ws c.2
-              (p.same ∙ ap (λ l. l ++ q ∷ p.back) e) claims c.3
+          (p.same ∙ ap (λ l. l ++ q ∷ p.back) e) claims c.3
           (clash_comm (locks_of c.1 c.2) (locks_of ks ws) ∙ read_clashes ks c.1 ws c.2 k w reads c.5 key)))
 
   agree : Agree (history logs) (λ v. serial_before v u) (installs_of front) k
@@ -436,12 +435,12 @@ module _ (sc : Scene) (h : Holds sc) (logs : List (List Record)) (left : AreLeft
     written = λ i j key.
         let above = (stamped front r back u.txn at ks ws same claims).versions i j in
         written sc h logs left config owns n front front_within front_is_orderly i k (λ v. serial_before v u) j key
-            (λ x e. before_lower x u (omega (arith, above, low, e)));
+        (λ x e. before_lower x u (omega (arith, above, low, e)));
     once = λ i j hi hj ki kj stamp.
         one_value (setup_of config n) front (front_taken (setup_of config n) front (r ∷ back)
-            (subst (λ l. taken (setup_of config n) l ≡ Accepted) same accepted))
+        (subst (λ l. taken (setup_of config n) l ≡ Accepted) same accepted))
         (record { promises = λ p e. once.promises p (front_within (Prepare p) e); decisions = λ c e. once.decisions c (front_within (Commit c) e) })
-            i j hi hj (ki ∙ sym kj) stamp;
+        i j hi hj (ki ∙ sym kj) stamp;
   }
 
   -- its value in the serial run before it is the latest when it was logged

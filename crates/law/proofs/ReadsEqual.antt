@@ -58,10 +58,10 @@ module _ (c : Client) (q : Taken) (there : IsAmong c.taken q) where
   part : (splits : List Bytes) → has (parts_of splits c) q.shard ≡ true
   part splits =
       has_of (parts_of splits c) q.shard (sorted_has nat_lt (once (map (λ (a : Taken). a.shard) c.taken ++
-          map (λ (w : Write). shard_of splits w.key) c.writes)) q.shard
+      map (λ (w : Write). shard_of splits w.key) c.writes)) q.shard
       (once_has (map (λ (a : Taken). a.shard) c.taken ++ map (λ (w : Write). shard_of splits w.key) c.writes) q.shard
       (among_left (map (λ (a : Taken). a.shard) c.taken) (map (λ (w : Write). shard_of splits w.key) c.writes) q.shard
-          (map_among (λ (a : Taken). a.shard) c.taken q there))))
+      (map_among (λ (a : Taken). a.shard) c.taken q there))))
 
   same_number : (n : ℕ) → nat_eq n n ≡ true
   same_number n = grind (arith, nat_tests)
@@ -70,7 +70,7 @@ module _ (c : Client) (q : Taken) (there : IsAmong c.taken q) where
   read_there =
       sorted_has key_before (map (λ (a : Taken). a.key) (filter (λ (a : Taken). nat_eq a.shard q.shard) c.taken)) q.key
       (map_among (λ (a : Taken). a.key) (filter (λ (a : Taken). nat_eq a.shard q.shard) c.taken) q
-          (keep_among (λ (a : Taken). nat_eq a.shard q.shard) c.taken q there (same_number q.shard)))
+      (keep_among (λ (a : Taken). nat_eq a.shard q.shard) c.taken q there (same_number q.shard)))
 
   epoch_is : OneEpoch c → epoch_read_at c q.shard ≡ q.epoch
   epoch_is one = by_value (first (λ (a : Taken). nat_eq a.shard q.shard) c.taken) refl
@@ -99,7 +99,7 @@ prepares_read : (splits : List Bytes) (c : Client) (k : ℕ) (ns : List ℕ) (n 
 prepares_read splits c k [] n e s h to is = absurd h
 prepares_read splits c k (m ∷ ms) n e s (inl same) to is =
     some_set s (read_set c n) (sym is ∙ ap (λ (z : Envelope). reads_in z.message) (sym same)
-        ∙ ap (λ j. Some (read_set c j)) (some_number m n (ap (λ (z : Envelope). shard_in z.to) same ∙ to)))
+    ∙ ap (λ j. Some (read_set c j)) (some_number m n (ap (λ (z : Envelope). shard_in z.to) same ∙ to)))
 prepares_read splits c k (m ∷ ms) n e s (inr later) to is = prepares_read splits c k ms n e s later to is
 
 closing_reads : (splits : List Bytes) (c : Client) (ns : List ℕ) (n : ℕ) (e : Envelope) (s : ReadSet) → IsAmong (messages_for splits c ns) e →
@@ -107,7 +107,7 @@ closing_reads : (splits : List Bytes) (c : Client) (ns : List ℕ) (n : ℕ) (e 
 closing_reads splits c [] n e s h to is = absurd h
 closing_reads splits c (m ∷ ms) n e s (inl same) to is =
     some_set s (read_set c n) (sym is ∙ ap (λ (z : Envelope). reads_in z.message) (sym same)
-        ∙ ap (λ j. Some (read_set c j)) (some_number m n (ap (λ (z : Envelope). shard_in z.to) same ∙ to)))
+    ∙ ap (λ j. Some (read_set c j)) (some_number m n (ap (λ (z : Envelope). shard_in z.to) same ∙ to)))
 closing_reads splits c (m ∷ ms) n e s (inr later) to is = prepares_read splits c m ms n e s later to is
 
 module _ (sc : Scene) (h : Holds sc) (own : OwnIds sc.world) (epochs : AllOneEpoch sc.world) (a : ReadAnswer) (x : Option Bytes)
@@ -125,7 +125,7 @@ module _ (sc : Scene) (h : Holds sc) (own : OwnIds sc.world) (epochs : AllOneEpo
       let mine : client ≡ took.client = own client took.client (among_first (λ (d : Client). same_id d.txn t) sc.world.clients client c.over.there) took.there
       (same_id-is client.txn t (first_passes (λ (d : Client). same_id d.txn t) sc.world.clients client c.over.there) ∙ named ∙ sym took.txn) in
       subst (λ (z : Client). s ≡ read_set z n) mine (closing_reads sc.world.config.splits client (parts_of sc.world.config.splits client) n e s
-          (subst (λ l. IsAmong l e) (sym c.over.same) c.among) refl is)
+      (subst (λ l. IsAmong l e) (sym c.over.same) c.among) refl is)
 
   pub asked_fairly : (m : Message) → IsAmong sc.world.bag (record { to = Shard a.from; message = m }) → IsFairInput a.txn a.key a.epoch (Input.Deliver m)
   asked_fairly (Message.Prepare p) sent = λ same there. ap (λ (z : ReadSet). z.epoch) (closing_set p.txn a.from (Message.Prepare p) p.reads same
@@ -185,11 +185,11 @@ module _ (sc : Scene) (h : Holds sc) (own : OwnIds sc.world) (epochs : AllOneEpo
       has_part =
           let over = (decision_home sc h logs left d.shard d.commit d.among).0 in
           let mine : over.client ≡ took.client = own over.client took.client (among_first
-              (λ (z : Client). same_id z.txn d.commit.txn) sc.world.clients over.client over.there) took.there
+          (λ (z : Client). same_id z.txn d.commit.txn) sc.world.clients over.client over.there) took.there
           (same_id-is over.client.txn d.commit.txn (first_passes (λ (z : Client). same_id z.txn d.commit.txn) sc.world.clients over.client
-              over.there) ∙ txn_is ∙ named ∙ sym took.txn) in
+          over.there) ∙ txn_is ∙ named ∙ sym took.txn) in
           subst (λ ps. has ps a.from ≡ true) (ap (parts_of sc.world.config.splits) (sym mine) ∙ over.same)
-              (part took.client q took.taken sc.world.config.splits)
+          (part took.client q took.taken sc.world.config.splits)
 
       promises : a.from ≢ d.shard → ReaderLogged logs u
       promises other =
@@ -246,7 +246,7 @@ module _ (config : Config) (es : List Event) (ls : List (List Record)) (fair : l
       λ z h. asked_fairly m.scene m.holds own epochs a x took z (subst (λ (v : World). IsAmong v.bag (record { to = Shard n; message = z })) (sym m.same) h) in
       let kept : KeptRead n a.txn a.key a.epoch x (run config es) =
       run_keeps_read r.to a x r.holds (run config es).bag fairly config (start config) es fair (start_kept config) (λ z h. h)
-          (λ h. absurd (nothing_told (answer_env r.to a) h)) r.told in
+      (λ h. absurd (nothing_told (answer_env r.to a) h)) r.told in
       let there = among_first (λ (y : Txn). same_id y.txn t) (history ls) u found in
       let named : u.txn ≡ a.txn = same_id-is u.txn t (first_passes (λ (y : Txn). same_id y.txn t) (history ls) u found) ∙ sym r.txn in
       let logged = reader_logged m.scene m.holds own epochs a x took ls m.left u there named in
@@ -254,20 +254,20 @@ module _ (config : Config) (es : List Event) (ls : List (List Record)) (fair : l
       let is_there = there_in ls n logged.claim logged.among in
       let told : Told n a.txn a.key a.epoch x (setup_of (run config es).config n) (log_in ls n) =
       left_is_good (IsAllowed n a.txn a.key a.epoch x) (Tells n a.txn a.key a.epoch x) (Told n a.txn a.key a.epoch x)
-          (tells_keeps n a.txn a.key a.epoch x) (tells_opens n a.txn a.key a.epoch x)
+      (tells_keeps n a.txn a.key a.epoch x) (tells_opens n a.txn a.key a.epoch x)
       (told_follows n a.txn a.key a.epoch x) (told_logs n a.txn a.key a.epoch x) (told_opens n a.txn a.key a.epoch x) config es ls may kept
       (λ z ok. act_allowed r.to a x r.holds (run config es).bag fairly (run config es) z.time z.act (λ v h. h)
-          (and_parts (nat_le (run config es).time z.time) (may_act (run config es) z.time z.act) ok).1) n (log_in ls n) is_there in
+      (and_parts (nat_le (run config es).time z.time) (may_act (run config es) z.time z.act) ok).1) n (log_in ls n) is_there in
       let value = told.right refl place.front logged.claim place.back logged.at logged.reads logged.writes place.same
-          (subst (λ v. Claims logged.claim v logged.at logged.reads logged.writes) named logged.claims) logged.within in
+      (subst (λ v. Claims logged.claim v logged.at logged.reads logged.writes) named logged.claims) logged.within in
       let shard_is = own_read config n logged.claim u.txn logged.at logged.reads logged.writes a.key logged.claims
-          (owns config es ls fair may n logged.claim logged.among) logged.within in
+      (owns config es ls fair may n logged.claim logged.among) logged.within in
       let once : AllOnce m.scene.world = subst AllOnce (sym m.same) (always_kept config es fair).once in
       subst (λ j. before (history ls) u j ≡ x) r.key
       (read_serially m.scene m.holds ls m.left config (owns config es ls fair may) n (accepted n (log_in ls n) is_there)
-          (all_write_once m.scene m.holds ls m.left once n)
+      (all_write_once m.scene m.holds ls m.left once n)
       (left_stamped config es ls fair may n (log_in ls n) is_there) u there place.front logged.claim place.back place.same logged.at logged.reads
-          logged.writes logged.claims logged.low a.key shard_is logged.within
+      logged.writes logged.claims logged.low a.key shard_is logged.within
       ∙ value)
 
   -- every answered read of a committed transaction equals the serial run before it

@@ -52,8 +52,11 @@ says w e well may =
     let s = acts_say w well e.time e.act (and_parts (nat_le w.time e.time) (may_act w e.time e.act) may).1 in
     record {
       bag = λ z h. s.bag z h;
-      told = λ to a x is h. elim (s.told to a x is h) [ inl old ↦ inl old | inr now ↦ inr
-          (record { shard = now.shard; there = now.there; holds = now.holds }) ];
+      told = λ to a x is h. elim (s.told to a x is h) [
+        | inl old ↦ inl old
+        | inr now ↦ inr
+            (record { shard = now.shard; there = now.there; holds = now.holds })
+      ];
       took = λ own a x h. let z = s.took own a x h in record { client = z.client; there = z.there; txn = z.txn; taken = z.taken };
       read = λ t k x h. elim (s.read t k x h) [
         | inl old ↦ inl old
@@ -149,8 +152,11 @@ module _ (to : Address) (a : ReadAnswer) (x : Option Bytes) (holds : a.answer �
   doing_allowed w time n (Doing.Settle u now) within may p same = given (setup_of w.config n) now (Input.Settle u) p
       (record { limit = tt; fair = λ here. tt }) same
   doing_allowed w time n (Doing.Advance at now) within may p same =
-      given (setup_of w.config n) now (Input.Advance at) p (record { limit = leb-true at time_limit
-          (and_parts (is_honest time now) (nat_le at time_limit) may).1; fair = λ here. tt }) same
+      given (setup_of w.config n) now (Input.Advance at) p (record {
+        limit = leb-true at time_limit
+            (and_parts (is_honest time now) (nat_le at time_limit) may).1;
+        fair = λ here. tt;
+      }) same
   doing_allowed w time n (Doing.Nudge u now) within may p same = given (setup_of w.config n) now (Input.Nudge u) p
       (record { limit = tt; fair = λ here. tt }) same
   doing_allowed w time n Doing.Open within may p same = cc
@@ -179,9 +185,9 @@ module _ (to : Address) (a : ReadAnswer) (x : Option Bytes) (holds : a.answer �
   unfolding happens
   on_event w e within may kept =
       acts_sound (IsAllowed a.from a.txn a.key a.epoch x) (Tells a.from a.txn a.key a.epoch x) (Told a.from a.txn a.key a.epoch x)
-          (tells_keeps a.from a.txn a.key a.epoch x)
+      (tells_keeps a.from a.txn a.key a.epoch x)
       (tells_opens a.from a.txn a.key a.epoch x) (told_follows a.from a.txn a.key a.epoch x) (told_logs a.from a.txn a.key a.epoch x)
-          (told_opens a.from a.txn a.key a.epoch x) w kept e.act
+      (told_opens a.from a.txn a.key a.epoch x) w kept e.act
       (act_allowed w e.time e.act within (and_parts (nat_le w.time e.time) (may_act w e.time e.act) may).1)
 
   -- what is told now is kept
@@ -203,7 +209,7 @@ module _ (to : Address) (a : ReadAnswer) (x : Option Bytes) (holds : a.answer �
   pub run_keeps_read : (config : Config) (w : World) (es : List Event) → lawful_from w es ≡ true → IsKept config w →
       ((z : Envelope) → IsAmong (run_from w es).bag z → IsAmong all z) →
       (IsAmong w.bag (answer_env to a) → KeptRead a.from a.txn a.key a.epoch x w) → IsAmong (run_from w es).bag (answer_env to a) →
-          KeptRead a.from a.txn a.key a.epoch x (run_from w es)
+      KeptRead a.from a.txn a.key a.epoch x (run_from w es)
   run_keeps_read config w [] lawful_es k within kept there = kept there
   run_keeps_read config w (e ∷ es) lawful_es k within kept there =
       let p = and_parts (may_happen w e) (lawful_from ((happens w e).0) es) lawful_es in

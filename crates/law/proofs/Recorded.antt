@@ -175,9 +175,12 @@ module _ (log : List Record) where
     where
       by_row : (o : Option Row) → standing_row (record { txn = t; status = status_of log t }) ≡ o →
           RowsEvidence sc log n (gather standing_row (map (λ u. record { txn = u; status = status_of log u }) ts)) →
-          RowsEvidence sc log n (elim o as (λ q. List Row) [ None ↦ gather standing_row (map
-              (λ u. record { txn = u; status = status_of log u }) ts) | Some y ↦ y ∷ gather standing_row
-              (map (λ u. record { txn = u; status = status_of log u }) ts) ])
+          RowsEvidence sc log n (elim o as (λ q. List Row) [
+            | None ↦ gather standing_row (map
+                (λ u. record { txn = u; status = status_of log u }) ts)
+            | Some y ↦ y ∷ gather standing_row
+                (map (λ u. record { txn = u; status = status_of log u }) ts)
+          ])
       by_row None e rest = rest
       by_row (Some r) e rest = (standing_evidence sc n t (status_of log t) r (rests t) e, rest)
 

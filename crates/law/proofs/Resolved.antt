@@ -54,14 +54,14 @@ module _ (log : List Record) (t : Id) where
       none_there (committed_of log t) e
       (there_first (λ (x : Committed). same_id x.txn t) (gather as_committed log)
       ∙ any_of (λ (x : Committed). same_id x.txn t) (gather as_committed log) c (gather_among as_committed log (Record.Commit c) c k refl)
-          (subst (λ u. same_id u t ≡ true) (sym named) (same_id-refl t)))
+      (subst (λ u. same_id u t ≡ true) (sym named) (same_id-refl t)))
 
   pub not_prepared : (p : Prepared) → prepared_of log t ≡ None → IsAmong log (Record.Prepare p) → p.txn ≡ t → ⊥
   not_prepared p e k named =
       none_there (prepared_of log t) e
       (there_first (λ (x : Prepared). same_id x.txn t) (gather as_prepared log)
       ∙ any_of (λ (x : Prepared). same_id x.txn t) (gather as_prepared log) p (gather_among as_prepared log (Record.Prepare p) p k refl)
-          (subst (λ u. same_id u t ≡ true) (sym named) (same_id-refl t)))
+      (subst (λ u. same_id u t ≡ true) (sym named) (same_id-refl t)))
 
 module _ (sc : Scene) (h : Holds sc) (logs : List (List Record)) (left : AreLeft sc logs) (t : Id) where
   -- ---- without a decision it stands nowhere
@@ -70,7 +70,7 @@ module _ (sc : Scene) (h : Holds sc) (logs : List (List Record)) (left : AreLeft
     no_commit : (n : ℕ) (c : Committed) → IsAmong (log_in logs n) (Record.Commit c) → c.txn ≡ t → ⊥
     no_commit n c k named =
         subst (λ ds. IsAmong ds (record { shard = n; commit = c })) none
-            (subst (λ u. IsAmong (decisions logs u) (record { shard = n; commit = c })) named (stands_decided logs n c k))
+        (subst (λ u. IsAmong (decisions logs u) (record { shard = n; commit = c })) named (stands_decided logs n c k))
 
     nowhere : (n : ℕ) → not (when (λ s. true) (stands_at logs (log_in logs n) t)) ≡ true
     unfolding stands_at
@@ -88,7 +88,7 @@ module _ (sc : Scene) (h : Holds sc) (logs : List (List Record)) (left : AreLeft
         by_parts None hc None he (Some p) hp =
             let k = prepared_is (log_in logs n) t p hp in
             subst (λ (ds : List Decision). not (when (λ s. true)
-                (head (map (λ (d : Decision). d.commit.at) (filter (λ (d : Decision). nat_eq d.shard p.coordinator) ds)))) ≡ true)
+            (head (map (λ (d : Decision). d.commit.at) (filter (λ (d : Decision). nat_eq d.shard p.coordinator) ds)))) ≡ true)
             (sym (ap (decisions logs) k.1 ∙ none)) refl
         by_parts None hc None he None hp = refl
 
@@ -109,7 +109,7 @@ module _ (sc : Scene) (h : Holds sc) (logs : List (List Record)) (left : AreLeft
         let same : d.shard ≡ p.coordinator = one_home sc h logs left t d.shard p.coordinator d.commit.parts home.parts
         (subst (λ u. ClosesOver sc.world u d.commit.parts) named a.0) a.1 (subst (λ u. ClosesOver sc.world u home.parts) mine home.over) home.least in
         subst (λ (ds : List Decision). head (map (λ (x : Decision). x.commit.at) (filter (λ (x : Decision). nat_eq x.shard p.coordinator) ds)) ≡
-            Some d.commit.at)
+        Some d.commit.at)
         (sym (ap (decisions logs) mine ∙ only))
         (ap (λ b. head (map (λ (x : Decision). x.commit.at) (cond b (d ∷ []) []))) (same_number d.shard p.coordinator same))
 
@@ -162,8 +162,14 @@ module _ (sc : Scene) (h : Holds sc) (logs : List (List Record)) (left : AreLeft
             by_decision x = not_here (record { txn = t; at = s; parts = x.parts; reads = x.reads; writes = x.writes }) x.among refl
 
             by_word : WasTold sc.world (log_in logs m) m t (Some s) → ⊥
-            by_word w = no_promise (record { txn = t; coordinator = w.coordinator; at = w.stamp; reads = w.promised.reads; writes =
-                w.promised.writes }) w.promised.among refl
+            by_word w = no_promise (record {
+              txn = t;
+              coordinator = w.coordinator;
+              at = w.stamp;
+              reads = w.promised.reads;
+              writes =
+                  w.promised.writes;
+            }) w.promised.among refl
 
         by_parts : (c : Option Committed) → committed_of (log_in logs m) t ≡ c → (e : Option Ended) → ended_of (log_in logs m) t ≡ e →
             (p : Option Prepared) → prepared_of (log_in logs m) t ≡ p →

@@ -90,7 +90,7 @@ module _ (at : ℕ) (b : Before) (low : at ≤ b.memory.last) where
   deciding ended t l ps rs ws needs votes =
       choosing (nat_le (commit_stamp b.memory.last l votes) time_limit)
       (Ok (puts b ended t needs (IsDecided (commit_stamp b.memory.last l votes) ps) (Some (decision t (commit_stamp b.memory.last l votes) ps rs ws))
-          (max b.memory.last (commit_stamp b.memory.last l votes)) []))
+      (max b.memory.last (commit_stamp b.memory.last l votes)) []))
       (Err TimeSpent) (omega arith, omega arith) tt
 
   granting : (ended : List Id) (t : Id) (l : ℕ) (ps : List ℕ) (rs : List Bytes) (ws : List Write) (ns : List ℕ) →
@@ -133,7 +133,7 @@ module _ (at : ℕ) (b : Before) (low : at ≤ b.memory.last) where
   unfolding plan_prepare_now
   preparing_now earliest m =
       rooming (is_crowded b m.txn) _ (choosing _ _ _ (promising (in_way b m.txn (exclusive m.writes)) earliest m.txn m.coordinator m.reads.keys
-          m.writes) (putting (in_way b m.txn (exclusive m.writes)) m.txn [] (WaitsPrepare m.coordinator m.reads.keys m.writes) []))
+      m.writes) (putting (in_way b m.txn (exclusive m.writes)) m.txn [] (WaitsPrepare m.coordinator m.reads.keys m.writes) []))
 
   preparing_fresh : (earliest : ℕ) (m : Prepare) (held : List Lock) → Rises at (plan_prepare_fresh b earliest m held)
   unfolding plan_prepare_fresh
@@ -159,7 +159,7 @@ module _ (at : ℕ) (b : Before) (low : at ≤ b.memory.last) where
   unfolding plan_commit_now
   committing_now l m =
       rooming (is_crowded b m.txn) _ (choosing _ _ _ (granting (in_way b m.txn (exclusive m.writes)) m.txn l m.parts m.reads.keys m.writes
-          (other_parts b.shard m.parts)) (putting (in_way b m.txn (exclusive m.writes)) m.txn [] (WaitsCommit l m.parts m.reads.keys m.writes) []))
+      (other_parts b.shard m.parts)) (putting (in_way b m.txn (exclusive m.writes)) m.txn [] (WaitsCommit l m.parts m.reads.keys m.writes) []))
 
   committing_fresh : (l : ℕ) (m : Commit) (held : List Lock) → Rises at (plan_commit_fresh b l m held)
   unfolding plan_commit_fresh
@@ -260,7 +260,7 @@ module _ (at : ℕ) (b : Before) (low : at ≤ b.memory.last) where
   unfolding plan_settle
   settling earliest t (HasRow held (IsDecided s ps)) =
       choosing _ _ _ (dropping t (Record.Outcome t (Some s)) b.memory.last (done_to t (Some s) ∷ tells b t (Some s) (other_parts b.shard ps)) low tt)
-          (refusing Early)
+      (refusing Early)
   settling earliest t _ = refusing Stranger
 
   advancing : (latest stride up : ℕ) → Rises at (plan_advance b latest stride up)
@@ -269,8 +269,14 @@ module _ (at : ℕ) (b : Before) (low : at ≤ b.memory.last) where
     where
       by_tests : (c d : Bool) →
           Rises at (cond c (Err Future)
-          (Ok (record { wounded = []; change = Keeps; logged = cond d (Some (Record.Ceiling (min (up + stride) time_limit))) None; last =
-              max b.memory.last up; outbox = [] })))
+          (Ok (record {
+            wounded = [];
+            change = Keeps;
+            logged = cond d (Some (Record.Ceiling (min (up + stride) time_limit))) None;
+            last =
+                max b.memory.last up;
+            outbox = [];
+          })))
       by_tests true d = tt
       by_tests false true = (omega (arith, low), tt)
       by_tests false false = (omega (arith, low), tt)

@@ -116,8 +116,11 @@ message_no_read w to (Message.ReadAnswer a) u k x h = h
 
 acks_no_read : (w : World) (es : List Envelope) (u : Id) (k : Bytes) (x : Option Bytes) → IsAmong (flat_map (acks_of w) es) (Line.Read u k x) → ⊥
 acks_no_read w [] u k x h = h
-acks_no_read w (e ∷ es) u k x h = elim (among_cases (acks_of w e) (flat_map (acks_of w) es) (Line.Read u k x) h) [ inl here ↦
-    message_no_read w e.to e.message u k x here | inr later ↦ acks_no_read w es u k x later ]
+acks_no_read w (e ∷ es) u k x h = elim (among_cases (acks_of w e) (flat_map (acks_of w) es) (Line.Read u k x) h) [
+  | inl here ↦
+      message_no_read w e.to e.message u k x here
+  | inr later ↦ acks_no_read w es u k x later
+]
 
 -- each value among new messages is held
 abbrev TellsHeld : World → List Envelope → Type 0
@@ -170,7 +173,7 @@ set_client_says w c d there more = record {
       let a = among_map (λ (q : Client). cond (same_id q.txn d.txn) d q) w.clients y hy in
       let b = among_map (λ (q : Client). cond (same_id q.txn d.txn) d q) w.clients z hz in
       let one : a.from ≡ b.from = own a.from b.from a.among b.among (sym (kept_id (same_id a.from.txn d.txn) a.from refl)
-          ∙ ap (λ (q : Client). q.txn) a.is ∙ same ∙ sym (ap (λ (q : Client). q.txn) b.is) ∙ kept_id (same_id b.from.txn d.txn) b.from refl) in
+      ∙ ap (λ (q : Client). q.txn) a.is ∙ same ∙ sym (ap (λ (q : Client). q.txn) b.is) ∙ kept_id (same_id b.from.txn d.txn) b.from refl) in
       sym a.is ∙ ap (λ (q : Client). cond (same_id q.txn d.txn) d q) one ∙ b.is;
 }
   where
@@ -197,8 +200,13 @@ set_client_says w c d there more = record {
               txn = more.0 ∙ ap (λ (z : Client). z.txn) (sym is) ∙ h.txn;
               taken = more.1 _ (subst (λ (z : Client). IsAmong z.taken (record { key = a.key; shard = a.from; epoch = a.epoch; value = x })) is h.taken);
             }
-        by_same false e = record { client = h.client; there = subst (λ b. IsAmong (map (λ (q : Client). cond (same_id q.txn d.txn) d q) w.clients)
-            (cond b d h.client)) e mapped_there; txn = h.txn; taken = h.taken }
+        by_same false e = record {
+          client = h.client;
+          there = subst (λ b. IsAmong (map (λ (q : Client). cond (same_id q.txn d.txn) d q) w.clients)
+              (cond b d h.client)) e mapped_there;
+          txn = h.txn;
+          taken = h.taken;
+        }
 
 -- a step of a session takes no answer, and tells no value
 record StepSays (c : Client) (d : Client) (out : List Envelope) : Type 0 where
@@ -211,8 +219,12 @@ MovedSays c (Denies f) = Unit {0}
 MovedSays c (Goes d out) = StepSays c d out
 
 more_of : (c d : Client) → d.txn ≡ c.txn → d.taken ≡ c.taken → TakesMore c d
-more_of c d txn taken = (txn, (λ q h. subst (λ l. IsAmong l q) (sym taken) h), λ h p q a b. h p q (subst (λ l. IsAmong l p) taken a)
-    (subst (λ l. IsAmong l q) taken b))
+more_of c d txn taken = (
+  txn,
+  (λ q h. subst (λ l. IsAmong l q) (sym taken) h),
+  λ h p q a b. h p q (subst (λ l. IsAmong l p) taken a)
+      (subst (λ l. IsAmong l q) taken b),
+)
 
 moved_says : (w : World) (c : Client) (m : Moved) → IsAmong w.clients c → MovedSays c m → Says w (moved w m).0
 moved_says w c (Denies f) there s = silent w
@@ -231,12 +243,18 @@ reads_say : (splits : List Bytes) (k : Bytes) (c : Client) → MovedSays c (read
 unfolding reads
 reads_say splits k c =
     unless_says c ((nat_le 128 (length (asked_keys c)), Many) ∷ (was_answered c k, Again) ∷ (has_key c.awaited k, Awaited) ∷ (is_doomed c, Doomed) ∷ [])
-    (Goes (record c { awaited = c.awaited ++ k ∷ [] }) (record { to = Shard (shard_of splits k); message =
-        Message.Read (record { txn = c.txn; key = k }) } ∷ []))
+    (Goes (record c { awaited = c.awaited ++ k ∷ [] }) (record {
+      to = Shard (shard_of splits k);
+      message =
+          Message.Read (record { txn = c.txn; key = k });
+    } ∷ []))
     (record { txn = refl; taken = refl; mute = mute })
   where
-    mute : (to : Address) (a : ReadAnswer) → IsAmong (record { to = Shard (shard_of splits k); message =
-        Message.Read (record { txn = c.txn; key = k }) } ∷ []) (answer_env to a) → ⊥
+    mute : (to : Address) (a : ReadAnswer) → IsAmong (record {
+      to = Shard (shard_of splits k);
+      message =
+          Message.Read (record { txn = c.txn; key = k });
+    } ∷ []) (answer_env to a) → ⊥
     mute to a (inl same) = let m : Message.Read (record { txn = c.txn; key = k }) ≡ Message.ReadAnswer a = ap (λ (e : Envelope). e.message) same in cc
     mute to a (inr none) = none
 
@@ -267,7 +285,7 @@ unfolding closes closing_messages
 closes_say splits c =
     unless_says c ((is_none (asked_keys c) && is_none c.writes, Nothing) ∷ (not (is_none c.awaited), Awaited) ∷ (is_doomed c, Doomed) ∷ [])
     (Goes (record c { stage = IsClosing }) (messages_for splits c (parts_of splits c)))
-        (record { txn = refl; taken = refl; mute = messages_mute splits c (parts_of splits c) })
+    (record { txn = refl; taken = refl; mute = messages_mute splits c (parts_of splits c) })
 
 gives_up_say : (splits : List Bytes) (c : Client) → MovedSays c (gives_up splits c)
 unfolding gives_up
@@ -299,10 +317,16 @@ unfolding hears
 heard n k epoch z c = by_test (has_key c.awaited k && not (is_doomed c))
   where
     by_epochs : (x : Option Bytes) (b : Bool) → epochs_agree c.taken n epoch ≡ b →
-        ((cond {A = Client} b (record c { taken = c.taken ++ record { key = k; shard = n; epoch = epoch; value = x } ∷ []; awaited =
-            without_key c.awaited k }) (doomed_by k c)).txn ≡ c.txn)
-        × Heard n k epoch (Holds x) c (cond {A = Client} b (record c { taken = c.taken ++
-            record { key = k; shard = n; epoch = epoch; value = x } ∷ []; awaited = without_key c.awaited k }) (doomed_by k c))
+        ((cond {A = Client} b (record c {
+          taken = c.taken ++ record { key = k; shard = n; epoch = epoch; value = x } ∷ [];
+          awaited =
+              without_key c.awaited k;
+        }) (doomed_by k c)).txn ≡ c.txn)
+        × Heard n k epoch (Holds x) c (cond {A = Client} b (record c {
+          taken = c.taken ++
+              record { key = k; shard = n; epoch = epoch; value = x } ∷ [];
+          awaited = without_key c.awaited k;
+        }) (doomed_by k c))
     by_epochs x true e = (refl, TookOne x refl refl e)
     by_epochs x false e = (refl, AsBefore refl)
 
@@ -348,7 +372,7 @@ heard_more n k epoch z c d txn (TookOne x is taken agree) = (
         p.epoch ≡ q.epoch
     old_new p q a b same =
         agreed p.shard p.epoch n epoch (each_at (λ (r : Taken). not (nat_eq r.shard n) || nat_eq r.epoch epoch) c.taken p agree a)
-            (same ∙ ap (λ (r : Taken). r.shard) (sym (is_new q b)))
+        (same ∙ ap (λ (r : Taken). r.shard) (sym (is_new q b)))
         ∙ ap (λ (r : Taken). r.epoch) (is_new q b)
 
 answered_says : (w : World) (c : Client) (to : Address) (a : ReadAnswer) → IsAmong w.clients c → c.txn ≡ a.txn → IsAmong w.bag (answer_env to a) →
@@ -378,7 +402,7 @@ answered_says w c to a there named told = record {
         (hears a.from a.key a.epoch a.answer c) q) w.clients) (cond b (hears a.from a.key a.epoch a.answer c) c))
         (subst (λ u. same_id c.txn u ≡ true) (sym hs.0) (same_id-refl c.txn))
         (map_among (λ (q : Client). cond (same_id q.txn (hears a.from a.key a.epoch a.answer c).txn) (hears a.from a.key a.epoch a.answer c) q)
-            w.clients c there)
+        w.clients c there)
 
     line_is : (t u : Id) (k j : Bytes) (x y : Option Bytes) → Line.Read t k x ≡ Line.Read u j y → (t ≡ u) × (k ≡ j) × (x ≡ y)
     line_is t u k j x y e = (cc, cc, cc)
@@ -398,7 +422,7 @@ answered_says w c to a there named told = record {
     took_of y is new (TookOne x holds taken agree) =
         subst (λ l. IsAmong l (record { key = a.key; shard = a.from; epoch = a.epoch; value = y })) (sym taken)
         (subst (λ z. IsAmong (c.taken ++ record { key = a.key; shard = a.from; epoch = a.epoch; value = x } ∷ [])
-            (record { key = a.key; shard = a.from; epoch = a.epoch; value = z })) (value_is x y (sym holds ∙ is)) (among_last c.taken _))
+        (record { key = a.key; shard = a.from; epoch = a.epoch; value = z })) (value_is x y (sym holds ∙ is)) (among_last c.taken _))
 
     by_line : (t : Id) (k : Bytes) (x y : Option Bytes) → a.answer ≡ Holds y → (b : Bool) →
         (was_taken (hears a.from a.key a.epoch a.answer c) a.key && not (was_taken c a.key)) ≡ b →

@@ -163,7 +163,7 @@ module _ (k : Bytes) (x : Option Bytes) (top : ℕ) where
   stays (t ∷ ts) m topped late e =
       stays ts (put_all t.writes m) (λ u w h. topped u w (inr h)) (λ u h. late u (inr h))
       (put_same t.writes m k x (λ w h is. let low = (topped t w (inl refl) h is).0 in let high = late t (inl refl) in
-          (topped t w (inl refl) h is).1 (omega (arith, low, high))) e)
+      (topped t w (inl refl) h is).1 (omega (arith, low, high))) e)
 
   pub written_last : (ts : List Txn) (m : Map) (t : Txn) (w : Write) → Rising ts → IsTopped ts → IsAmong ts t → IsAmong t.writes w → w.key ≡ k →
       t.at ≡ top → applied ts m k ≡ x
@@ -221,8 +221,11 @@ newest_is (j ∷ js) i e = by_value (newest js) refl e (λ l k. newest_is js l k
           above = λ q h. elim h [ inl is ↦ subst (λ (z : Install). z.at ≤ j.at) is (omega arith) | inr old ↦ let up = n.above q old in omega (arith, up, low) ];
         })
 
-    by_value : (o : Option Install) → newest js ≡ o → (elim o as (λ q. Option Install) [ None ↦ Some j | Some l ↦
-        cond (nat_lt j.at l.at) (Some l) (Some j) ]) ≡ Some i →
+    by_value : (o : Option Install) → newest js ≡ o → (elim o as (λ q. Option Install) [
+      | None ↦ Some j
+      | Some l ↦
+          cond (nat_lt j.at l.at) (Some l) (Some j)
+    ]) ≡ Some i →
         ((l : Install) → newest js ≡ Some l → IsNewest js l) → IsNewest (j ∷ js) i
     by_value None is k rest =
         let same : j ≡ i = some_same j i k in

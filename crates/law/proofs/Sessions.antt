@@ -48,7 +48,7 @@ module _ (sc : Scene) (old new : Client) (there : client_of sc.world new.txn ≡
       by_test false e now_there = record { client = h.client; there = now_there; closed = h.closed; same = h.same }
       by_test true e now_there =
           let txn : t ≡ new.txn = sym (same_id-is h.client.txn t (found_is (λ (d : Client). d.txn) sc.world.clients t h.client h.there))
-              ∙ same_id-is h.client.txn new.txn e in
+          ∙ same_id-is h.client.txn new.txn e in
           let one : h.client ≡ old = some_same h.client old (sym h.there ∙ ap (client_of sc.world) txn ∙ there) in
           let past : is_past_open old.stage ≡ true = subst (λ (d : Client). is_past_open d.stage ≡ true) one h.closed in
           record {
@@ -125,8 +125,13 @@ module _ (sc : Scene) (t : Id) (fresh : client_of sc.world t ≡ None) (present 
   }
 
   new_begun : BeganBy (with_world sc (begin t sc.world)) t sc.now
-  new_begun = record { event = sc.world.event; time = sc.now; line = among_last sc.world.lines (Line.Begin t sc.world.event); timed = present;
-      below = omega arith }
+  new_begun = record {
+    event = sc.world.event;
+    time = sc.now;
+    line = among_last sc.world.lines (Line.Begin t sc.world.event);
+    timed = present;
+    below = omega arith;
+  }
 
   began_now : (u : Id) (c : Client) (h : Holds sc) → client_of (begin t sc.world) u ≡ Some c → BeganBy (with_world sc (begin t sc.world)) u sc.now
   began_now u c h e = by_value (client_of sc.world u) refl (same_id t u) refl (sym (client_begun u) ∙ e)

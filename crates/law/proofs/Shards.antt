@@ -94,8 +94,11 @@ module _ (sc : Scene) (h : Holds sc) (steady : IsSteady sc.world) (present : sli
   no_more e = ap (λ u. s.log ++ shown_records u) e ∙ append-nil s.log
 
   running : (o : Option (Interval × Input)) → Given sc n o → (st : State) → s.state ≡ st →
-      SteppedEvidence sc n (read_log s) (elim st as (λ x. Stepped) [ Runs m ↦ step_with (setup_of sc.world.config n) (facts_of s.log) m o | _ ↦
-          Refuses Stopped ])
+      SteppedEvidence sc n (read_log s) (elim st as (λ x. Stepped) [
+        | Runs m ↦ step_with (setup_of sc.world.config n) (facts_of s.log) m o
+        | _ ↦
+            Refuses Stopped
+      ])
   running o heard (Runs m) is =
       let state : StateEvidence sc s n (Runs m) = subst (λ x. StateEvidence sc s n x) is (h.shards n s there).state in
       subst (λ l. SteppedEvidence sc n l (step_with (setup_of sc.world.config n) (facts_of s.log) m o)) (sym (no_more state.1))
@@ -149,8 +152,11 @@ module _ (sc : Scene) (h : Holds sc) (steady : IsSteady sc.world) (present : sli
   finished_evidence doing logged memory out e = record {
     records = logged_known logged e.rests;
     unsure = λ r none. absurd none;
-    state = (rows_stay sc sc (grows_same sc) (with_record (read_log s) logged) (read_log s ++ option_to_list logged)
-        (with_listed logged) n memory.rows e.rows, refl);
+    state = (
+      rows_stay sc sc (grows_same sc) (with_record (read_log s) logged) (read_log s ++ option_to_list logged)
+          (with_listed logged) n memory.rows e.rows,
+      refl,
+    );
   }
 
   crashed_evidence : (log : List Record) → ((r : Record) → IsAmong log r → RecordEvidence sc log n r) → ShardEvidence sc n (crashed s log)
@@ -185,15 +191,18 @@ module _ (sc : Scene) (h : Holds sc) (steady : IsSteady sc.world) (present : sli
       (all_gives (λ (x : Envelope). Told (with_record (read_log s) logged) sc.now n x.to x.message) (λ (x : Envelope). MessageEvidence sc2 x.to x.message)
       (λ x told. told_backed sc2 n x.to x.message (subst (λ l. Told l sc.now n x.to x.message) (sym log_is)
       (told_stays (with_record (read_log s) logged) (read_log s ++ option_to_list logged) (with_listed logged) sc.now sc.now n
-          (omega arith) x.to x.message told)))
+      (omega arith) x.to x.message told)))
       out e.told)
       (set_holds sc n s new there (within_listed logged) (finished_evidence doing logged memory out e) h)
 
   refused_holds : (doing : Doing) (f : Fault) → AfterHolds sc (refused_doing sc.world n s doing f)
   refused_holds Doing.Open f = by_state s.state
     where
-      by_state : (st : State) → AfterHolds sc (elim st as (λ x. After) [ Runs m ↦ refused sc.world f | _ ↦
-          (set_shard n (crashed s (read_log s)) sc.world, Reply.Refused f) ])
+      by_state : (st : State) → AfterHolds sc (elim st as (λ x. After) [
+        | Runs m ↦ refused sc.world f
+        | _ ↦
+            (set_shard n (crashed s (read_log s)) sc.world, Reply.Refused f)
+      ])
       by_state (Runs m) = h
       by_state (IsStopped m) = read_crash_holds
       by_state IsDown = read_crash_holds

@@ -64,10 +64,10 @@ unfolding Fair
 told_fairly setup f m now i p to a x is there holds =
     let fair : PlanFair (away i) [] f.epoch (start_of_step 1024 setup f m) p =
     subst (λ z. Fair (away i) [] f.epoch (start_of_step 1024 setup f m) z) is (fairly (away i) [] f.epoch (start_of_step 1024 setup f m)
-        (λ u held phase st same in_it. refl) setup now i (away_fair [] f.epoch i)) in
+    (λ u held phase st same in_it. refl) setup now i (away_fair [] f.epoch i)) in
     subst (λ z. elim z as (λ q. Type 0) [ Holds y ↦ AnswerFair (start_of_step 1024 setup f m) p a y | Refused ↦ Unit {0} ]) holds
     (all_at (λ (e : Envelope). MessageFair (start_of_step 1024 setup f m) p e.message) p.outbox
-        (record { to = to; message = Message.ReadAnswer a }) fair.told there)
+    (record { to = to; message = Message.ReadAnswer a }) fair.told there)
 
 -- a shard that runs holds a read, by an open row of the reader
 pub record HoldsRead (s : ShardNow) (a : ReadAnswer) (x : Option Bytes) : Type 0 where
@@ -84,10 +84,13 @@ parts_of_does l1 l2 m1 m2 o1 o2 e = (cc, cc, cc)
 -- what a running shard tells it holds after the step
 step_holds : (setup : Setup) (log : List Record) (unsure : Unsure) (st : State) (views : List View) (o : Option (Interval × Input)) (doing : Doing)
     (logged : Option Record) (memory : Memory) (out : List Envelope) (to : Address) (a : ReadAnswer) (x : Option Bytes) →
-    WellShard setup (shard_with log unsure st views) → (elim st as (λ z. Stepped) [ Runs m ↦ step_with setup (facts_of log) m o | _ ↦
-        Refuses Stopped ]) ≡ Does logged memory out →
+    WellShard setup (shard_with log unsure st views) → (elim st as (λ z. Stepped) [
+      | Runs m ↦ step_with setup (facts_of log) m o
+      | _ ↦
+          Refuses Stopped
+    ]) ≡ Does logged memory out →
     IsAmong out (record { to = to; message = Message.ReadAnswer a }) → a.answer ≡ Holds x → (a.from ≡ setup.shard)
-        × HoldsRead (finished (shard_with log unsure st views) doing logged memory) a x
+    × HoldsRead (finished (shard_with log unsure st views) doing logged memory) a x
 unfolding finished step_within
 step_holds setup log unsure (IsStopped m) views o doing logged memory out to a x well e there holds = cc
 step_holds setup log unsure IsDown views o doing logged memory out to a x well e there holds = cc
@@ -101,13 +104,13 @@ step_holds setup log unsure (Runs m) views (Some q) doing logged memory out to a
     by_plan (Ok p) is k =
         let same = parts_of_does p.logged logged (carried p m) memory p.outbox out k in
         let fair : AnswerFair (start_of_step 1024 setup (facts_of log) m) p a x = told_fairly setup (facts_of log) m q.0 q.1 p to a x is
-            (subst (λ l. IsAmong l (record { to = to; message = Message.ReadAnswer a })) (sym same.2) there) holds in
+        (subst (λ l. IsAmong l (record { to = to; message = Message.ReadAnswer a })) (sym same.2) there) holds in
         let row = told_row setup (facts_of log) m p a x fair in
         let none : logged ≡ None = sym same.0 ∙ row.3 in
         let log_is : (log ++ shown_records unsure) ++ option_to_list logged ≡ log = ap (λ z. (log ++ shown_records unsure) ++ option_to_list z) none
-            ∙ append-nil (log ++ shown_records unsure) ∙ ap (λ z. log ++ shown_records z) well.state.1 ∙ append-nil log in
+        ∙ append-nil (log ++ shown_records unsure) ∙ ap (λ z. log ++ shown_records z) well.state.1 ∙ append-nil log in
         let facts_is : facts_after (facts_of log) p.logged ≡ facts_of ((log ++ shown_records unsure) ++ option_to_list logged) =
-            ap (facts_after (facts_of log)) row.3 ∙ sym (ap facts_of log_is) in (
+        ap (facts_after (facts_of log)) row.3 ∙ sym (ap facts_of log_is) in (
           fair.from,
           record {
             memory = memory;
@@ -132,7 +135,7 @@ opening_tells f logged memory out e is there = by_test (nat_lt f.epoch time_limi
 pub doing_holds : (setup : Setup) (bag : List Envelope) (s : ShardNow) (doing : Doing) (logged : Option Record) (memory : Memory)
     (out : List Envelope) (to : Address) (a : ReadAnswer) (x : Option Bytes) →
     WellShard setup s → effect setup bag s doing ≡ Does logged memory out → IsAmong out (record { to = to; message = Message.ReadAnswer a }) →
-        a.answer ≡ Holds x → (a.from ≡ setup.shard) × HoldsRead (finished s doing logged memory) a x
+    a.answer ≡ Holds x → (a.from ≡ setup.shard) × HoldsRead (finished s doing logged memory) a x
 unfolding effect
 doing_holds setup bag s Doing.Open logged memory out to a x well e there holds = absurd (by_state s.state e)
   where

@@ -92,10 +92,10 @@ next b p sound (Answers out is) = subst (EndsNext b) (sym is) (λ h. h)
 next b p sound (IsEnd u out fresh is) = subst (EndsNext b) (sym is) (λ h. h)
 next b p sound (IsAbort u out fresh is) = subst (EndsNext b) (sym is)
     (changed_ends b (facts_after b.facts (Some (Record.Abort u))) u HasAborted b.memory.last (status_same b.facts.entries u HasAborted)
-        (λ v d. status_other b.facts.entries u v HasAborted d) (omega arith) (λ s e. cc))
+    (λ v d. status_other b.facts.entries u v HasAborted d) (omega arith) (λ s e. cc))
 next b p sound (IsClose u n c at held outcome out found allowed is) = subst (EndsNext b) (sym is)
     (changed_ends b (facts_after b.facts (Some (Record.Outcome u outcome))) u (after_outcome (recorded b.facts u) outcome)
-        (raised b.memory.last outcome) (status_same b.facts.entries u (after_outcome (recorded b.facts u) outcome))
+    (raised b.memory.last outcome) (status_same b.facts.entries u (after_outcome (recorded b.facts u) outcome))
     (λ v d. status_other b.facts.entries u v (after_outcome (recorded b.facts u) outcome) d) (up_to outcome)
     (λ s e. own outcome s (ap (λ st. end_stamp (after_outcome st outcome)) (sym (promise_of b u held c at sound found).is) ∙ e)))
   where
@@ -108,7 +108,7 @@ next b p sound (IsClose u n c at held outcome out found allowed is) = subst (End
     own (Some q) s e = let same = some_is q s e in omega (arith, same)
 next b p sound (IsSettle u at ps held out found is) = subst (EndsNext b) (sym is)
     (changed_ends b (facts_after b.facts (Some (Record.Outcome u (Some at)))) u (after_outcome (recorded b.facts u) (Some at)) b.memory.last
-        (status_same b.facts.entries u (after_outcome (recorded b.facts u) (Some at)))
+    (status_same b.facts.entries u (after_outcome (recorded b.facts u) (Some at)))
     (λ v d. status_other b.facts.entries u v (after_outcome (recorded b.facts u) (Some at)) d) (omega arith)
     (λ s e.
     let made = decision_of b u held at ps sound found in
@@ -119,14 +119,14 @@ next b p sound (IsLock u ended needs phase out l is) = subst (EndsNext b) (sym i
 next b p sound (IsWait u needs phase out w is) = subst (EndsNext b) (sym is) (λ h. h)
 next b p sound (IsPromise u ended c at rs ws out l is) = subst (EndsNext b) (sym is)
     (changed_ends b (facts_after b.facts (Some (promise u c at rs ws))) u (StandsPrepared
-        (record { txn = u; coordinator = c; at = at; reads = rs; writes = ws })) (max b.memory.last at)
-        (status_same b.facts.entries u (StandsPrepared (record { txn = u; coordinator = c; at = at; reads = rs; writes = ws })))
+    (record { txn = u; coordinator = c; at = at; reads = rs; writes = ws })) (max b.memory.last at)
+    (status_same b.facts.entries u (StandsPrepared (record { txn = u; coordinator = c; at = at; reads = rs; writes = ws })))
     (λ v d. status_other b.facts.entries u v (StandsPrepared (record { txn = u; coordinator = c; at = at; reads = rs; writes = ws })) d)
-        (omega arith) (λ s e. cc))
+    (omega arith) (λ s e. cc))
 next b p sound (IsDecision u ended needs at ps rs ws out l is) = subst (EndsNext b) (sym is)
     (changed_ends b (facts_after b.facts (Some (decision u at ps rs ws))) u (StandsDecided
-        (record { txn = u; at = at; parts = ps; reads = rs; writes = ws })) (max b.memory.last at)
-        (status_same b.facts.entries u (StandsDecided (record { txn = u; at = at; parts = ps; reads = rs; writes = ws })))
+    (record { txn = u; at = at; parts = ps; reads = rs; writes = ws })) (max b.memory.last at)
+    (status_same b.facts.entries u (StandsDecided (record { txn = u; at = at; parts = ps; reads = rs; writes = ws })))
     (λ v d. status_other b.facts.entries u v (StandsDecided (record { txn = u; at = at; parts = ps; reads = rs; writes = ws })) d) (omega arith) (λ s e. cc))
 
 next_of : (b : Before) (i : Input) (p : Plan) → Sound b → ShapeOf b i p → EndsNext b p

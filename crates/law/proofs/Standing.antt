@@ -93,15 +93,15 @@ module _ (sc : Scene) (h : Holds sc) (logs : List (List Record)) (left : AreLeft
   elsewhere_home n c p w k e j =
       let m = among_join (λ (l : ℕ × List Record). filter (λ q. same_id q.txn c.txn && not (nat_eq l.0 n)) (gather as_prepared l.1)) (by_shard logs) p e in
       let passes = and_parts (same_id p.txn c.txn) (not (nat_eq m.from.0 n)) (kept_passes (λ q. same_id q.txn c.txn && not (nat_eq m.from.0 n))
-          (gather as_prepared m.from.1) p m.within) in
+      (gather as_prepared m.from.1) p m.within) in
       let there : IsAmong (log_in logs m.from.0) (Prepare p) = subst (λ l. IsAmong l (Prepare p))
-          (sym (log_in-is logs m.from.0 m.from.1 (log_of_number logs m.from m.among)))
+      (sym (log_in-is logs m.from.0 m.from.1 (log_of_number logs m.from m.among)))
       (promise_among m.from.1 p (among_keep (λ q. same_id q.txn c.txn && not (nat_eq m.from.0 n)) (gather as_prepared m.from.1) p m.within)) in
       let named : p.txn ≡ c.txn = same_id-is p.txn c.txn passes.0 in
       let part = promise_of_part sc h logs left n m.from.0 c p k there named in
       let below = promised sc h logs left n m.from.0 c k part (λ same. apart m.from.0 n passes.1 same) in
       let same : below.promise ≡ p = one_promise (log_in logs m.from.0) (is_orderly sc h logs left m.from.0 (Prepare p) there) below.promise p
-          below.among there (named ∙ sym below.named) in
+      below.among there (named ∙ sym below.named) in
       record {
         shard = m.from.0;
         claim = Prepare p;
@@ -118,9 +118,15 @@ module _ (sc : Scene) (h : Holds sc) (logs : List (List Record)) (left : AreLeft
       let d = from_history logs x k in
       subst (λ z. WriteHome z w) d.is
       (elim (among_cases d.commit.writes (flat_map (λ p. p.writes) (promised_elsewhere logs d.commit.txn d.shard)) w
-          (subst (λ (z : Txn). IsAmong z.writes w) (sym d.is) j)) [
-        | inl here ↦ record { shard = d.shard; claim = Commit d.commit; among = d.among; wrote = (refl, refl, here); own =
-            own_decision d.shard d.commit w d.among here }
+      (subst (λ (z : Txn). IsAmong z.writes w) (sym d.is) j)) [
+        | inl here ↦ record {
+          shard = d.shard;
+          claim = Commit d.commit;
+          among = d.among;
+          wrote = (refl, refl, here);
+          own =
+              own_decision d.shard d.commit w d.among here;
+        }
         | inr there ↦ let p = among_join (λ (q : Prepared). q.writes) (promised_elsewhere logs d.commit.txn d.shard) w there in
             elsewhere_home d.shard d.commit p.from w d.among p.among p.within
       ])
@@ -144,10 +150,10 @@ module _ (sc : Scene) (h : Holds sc) (logs : List (List Record)) (left : AreLeft
             IsInstalled (installs_of front) k x.at w.value
         by_outcome None ended by =
             absurd (no_aborted sc h logs left d.shard n d.commit d.among (subst (λ (z : Txn). IsAmong (log_in logs n) (Outcome z.txn None))
-                (sym d.is) (within (Outcome x.txn None) ended)))
+            (sym d.is) (within (Outcome x.txn None) ended)))
         by_outcome (Some s) ended by =
             let stamp : d.commit.at ≡ s = outcome_stamp sc h logs left d.shard n d.commit s d.among
-                (subst (λ (z : Txn). IsAmong (log_in logs n) (Outcome z.txn (Some s))) (sym d.is) (within (Outcome x.txn (Some s)) ended)) in
+            (subst (λ (z : Txn). IsAmong (log_in logs n) (Outcome z.txn (Some s))) (sym d.is) (within (Outcome x.txn (Some s)) ended)) in
             record {
               install = record { key = w.key; at = s; value = w.value };
               among = installs_have front x.txn s w ended by;
@@ -190,15 +196,15 @@ module _ (sc : Scene) (h : Holds sc) (logs : List (List Record)) (left : AreLeft
             among_right c.writes (flat_map (λ q. q.writes) (promised_elsewhere logs c.txn m)) w
             (join_among (λ (q : Prepared). q.writes) (promised_elsewhere logs c.txn m) p w
             (join_among (λ (z : ℕ × List Record). filter (λ q. same_id q.txn c.txn && not (nat_eq z.0 m)) (gather as_prepared z.1)) (by_shard logs)
-                (n, log_in logs n) p (number_there logs n (Prepare p) there)
+            (n, log_in logs n) p (number_there logs n (Prepare p) there)
             (keep_among (λ q. same_id q.txn c.txn && not (nat_eq n m)) (gather as_prepared (log_in logs n)) p
-                (gather_among as_prepared (log_in logs n) (Prepare p) p there refl)
+            (gather_among as_prepared (log_in logs n) (Prepare p) p there refl)
             (and_from (same_id p.txn c.txn) (not (nat_eq n m)) (subst (λ u. same_id u c.txn ≡ true) (sym same) (same_id-refl c.txn))
-                (by_place (nat_eq n m) refl)))) l)
+            (by_place (nat_eq n m) refl)))) l)
           where
             by_place : (b : Bool) → nat_eq n m ≡ b → not b ≡ true
             by_place false e = refl
             by_place true e =
                 let here : IsAmong (log_in logs n) (Commit c) = subst (λ z. IsAmong (log_in logs z) (Commit c)) (sym (eqb-true n m e)) stands in
                 absurd (decided_not_promised (log_in logs n) (is_orderly sc h logs left n (Commit c) here) c p here
-                    (within (Prepare p) (prepared_is front t p g).0) ((prepared_is front t p g).1 ∙ sym named))
+                (within (Prepare p) (prepared_is front t p g).0) ((prepared_is front t p g).1 ∙ sym named))

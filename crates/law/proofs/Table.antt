@@ -143,7 +143,7 @@ module _ (sc : Scene) (log : List Record) (b : Before) where
   preparing_now earliest m asked =
       rooming sc log b _ _
       (choosing sc log b _ _ _ (promising _ earliest m.txn m.coordinator m.reads.keys m.writes asked)
-          (putting sc log b _ m.txn _ (WaitsPrepare m.coordinator m.reads.keys m.writes) _ _ asked tt))
+      (putting sc log b _ m.txn _ (WaitsPrepare m.coordinator m.reads.keys m.writes) _ _ asked tt))
 
   preparing_fresh : (earliest : ℕ) (m : Prepare) (held : List Lock) → PrepareAsked sc.world b.shard m.txn m.coordinator m.reads.keys m.writes →
       PlannedEvidence sc log b.shard (plan_prepare_fresh b earliest m held)
@@ -280,12 +280,12 @@ module _ (sc : Scene) (log : List Record) (b : Before) where
 
   pub ending_by : (n : ℕ) (t : Id) (outcome : Option ℕ) → Sent sc.world b.shard (Message.Outcome (record { from = n; txn = t; outcome = outcome })) →
       ((s : ℕ) → outcome ≡ Some s → s < sc.now) → (st : Standing) → StandingEvidence sc log b.shard t st →
-          PlannedEvidence sc log b.shard (plan_outcome b n t outcome st)
+      PlannedEvidence sc log b.shard (plan_outcome b n t outcome st)
   unfolding plan_outcome
   ending_by n t outcome sent passed (HasRow held (IsPrepared c p)) e =
       tested sc log b (is_outcome_for n c p outcome) _ _
       (λ fits. dropping sc log b t (Record.Outcome t outcome) (raised b.memory.last outcome) []
-          (closing n t outcome c p sent passed e (same_sender n c p outcome fits)) tt)
+      (closing n t outcome c p sent passed e (same_sender n c p outcome fits)) tt)
       (refusing sc log b Stranger)
   ending_by n t None sent passed IsUnknown e = ending sc log b t [] tt
   ending_by n t (Some s) sent passed IsUnknown e = refusing sc log b Stranger
@@ -359,8 +359,13 @@ module _ (sc : Scene) (log : List Record) (b : Before) where
       let passed : s < sc.now = omega (arith, below, honest) in
       let more = log ++ Record.Outcome t (Some s) ∷ [] in
       let stands : HasOutcome more sc.now t s = record {
-        decided = record { parts = e.parts; reads = e.reads; writes = e.writes; among = among_left log (Record.Outcome t (Some s) ∷ [])
-            (decision t s e.parts e.reads e.writes) e.among };
+        decided = record {
+          parts = e.parts;
+          reads = e.reads;
+          writes = e.writes;
+          among = among_left log (Record.Outcome t (Some s) ∷ [])
+              (decision t s e.parts e.reads e.writes) e.among;
+        };
         ended = among_last log (Record.Outcome t (Some s));
         passed = passed;
       } in
@@ -375,8 +380,14 @@ module _ (sc : Scene) (log : List Record) (b : Before) where
     where
       by_tests : (c d : Bool) →
           PlannedEvidence sc log b.shard (cond c (Err Future)
-          (Ok (record { wounded = []; change = Keeps; logged = cond d (Some (Record.Ceiling (min (at + stride) time_limit))) None; last =
-              max b.memory.last at; outbox = [] })))
+          (Ok (record {
+            wounded = [];
+            change = Keeps;
+            logged = cond d (Some (Record.Ceiling (min (at + stride) time_limit))) None;
+            last =
+                max b.memory.last at;
+            outbox = [];
+          })))
       by_tests true d = tt
       by_tests false true = record { logged = tt; change = tt; told = tt }
       by_tests false false = record { logged = tt; change = tt; told = tt }

@@ -67,8 +67,11 @@ at_shard_line : (w : World) (n : ℕ) (k : Bytes) (at : ℕ) (look : Setup → S
     IsAmong (at_shard w n (λ setup s. look_noted w k at (look setup s))).0.lines (Line.Look k at x)
 at_shard_line w n k at look x = by_value (slice_get w.shards n)
   where
-    by_value : (o : Option ShardNow) → (elim o as (λ y. After) [ None ↦ refused w Stranger | Some s ↦
-        look_noted w k at (look (setup_of w.config n) s) ]).1 ≡ Reply.Shows x →
+    by_value : (o : Option ShardNow) → (elim o as (λ y. After) [
+      | None ↦ refused w Stranger
+      | Some s ↦
+          look_noted w k at (look (setup_of w.config n) s)
+    ]).1 ≡ Reply.Shows x →
         IsAmong (elim o as (λ y. After) [ None ↦ refused w Stranger | Some s ↦ look_noted w k at (look (setup_of w.config n) s) ]).0.lines (Line.Look k at x)
     by_value None e = cc
     by_value (Some s) e = noted_line w k at (look (setup_of w.config n) s) x e
@@ -150,7 +153,7 @@ looks_show_acknowledged config es later e logs fair may k at look late t s m lin
   within = let before = acknowledged_before config es e t s m (with_it config es later e fair) line in omega (arith, before, late);
   shown = λ x shows. looks_serially config (es ++ e ∷ later) logs fair may k at x
       (line_of (run config (es ++ e ∷ later)).lines (Line.Look k at x) (own_line config es later e fair (Line.Look k at x)
-          (shown_line config es later e fair k at x look shows)));
+      (shown_line config es later e fair k at x look shows)));
 }
 
 -- ---- one strict order
@@ -187,11 +190,11 @@ commits_are_lines config es fair to t s there =
     let told = told_txn m.scene m.holds logs m.left to t s (subst (λ (w : World). IsAmong w.bag (committed_to to t s)) (sym m.same) there) in
     let line = line_of (run config es).lines (Line.Ack t k.stamp k.event) k.among in
     let ack = ack_of_line m.scene m.holds logs m.left t k.stamp k.event (subst (λ (w : World). IsLine w.lines (Line.Ack t k.stamp k.event))
-        (sym m.same) line) in
+    (sym m.same) line) in
     let first = told_txn m.scene m.holds logs m.left ack.to t k.stamp ack.sent in
     let same : first.txn ≡ told.txn =
     some_txn first.txn told.txn
     (sym (found (history logs) first.txn one first.among) ∙ ap (find_txn (history logs)) (first.named ∙ sym told.named)
-        ∙ found (history logs) told.txn one told.among) in
+    ∙ found (history logs) told.txn one told.among) in
     let stamp : k.stamp ≡ s = sym first.stamp ∙ ap (λ (x : Txn). x.at) same ∙ told.stamp in
     (k.event, subst (λ z. IsLine (run config es).lines (Line.Ack t z k.event)) stamp line)

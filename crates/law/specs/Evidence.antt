@@ -182,8 +182,11 @@ pub record VoteEvidence (log : List Record) (t : Id) (at : ℕ) : Type 0 where
 -- what a shard with this log may say at a time
 abbrev pub Told : List Record → ℕ → ℕ → Address → Message → Type 0
 Told log now n to (Message.Vote v) = elim v.vote [ None ↦ Unit {0} | Some at ↦ (v.from ≡ n) × VoteEvidence log v.txn at ]
-Told log now n to (Message.Outcome o) = elim o.outcome [ None ↦ (o.from ≡ n) × IsAmong log (Record.Abort o.txn) | Some s ↦ (o.from ≡ n)
-    × HasOutcome log now o.txn s ]
+Told log now n to (Message.Outcome o) = elim o.outcome [
+  | None ↦ (o.from ≡ n) × IsAmong log (Record.Abort o.txn)
+  | Some s ↦ (o.from ≡ n)
+      × HasOutcome log now o.txn s
+]
 Told log now n to (Message.Ask a) = (a.from ≡ n) × AskEvidence log to a.txn
 Told log now n to (Message.Done d) = elim d.outcome [ None ↦ IsAmong log (Record.Abort d.txn) | Some s ↦ HasOutcome log now d.txn s ]
 Told log now n to (Message.ReadAnswer a) = Unit {0}

@@ -48,7 +48,7 @@ each_pair-with P e t left right pairs =
     all-with (λ a. AllByRecursion (P a) (with_claim t e)) (λ (c : Claim). c.txn) t e
     (all_of_any (P e) right (with_claim t e))
     (all_gives (λ a. AllByRecursion (P a) t) (λ a. AllByRecursion (P a) (with_claim t e))
-        (λ a row. all-with (P a) (λ (c : Claim). c.txn) t e (left a) row) t pairs)
+    (λ a row. all-with (P a) (λ (c : Claim). c.txn) t e (left a) row) t pairs)
 
 -- where none passes a test, each fails it
 pub all_fail : (p : Claim → Bool) (t : List Claim) → list_any p t ≡ false → AllByRecursion (λ x. p x ≡ false) t

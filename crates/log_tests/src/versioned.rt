@@ -202,7 +202,11 @@ fn in_order_by_key_and_timestamp(rt: HostRuntime) -> Result<(), Fail> {
         }
     }
     for row in &PLACES {
-        let (count, _) = versions.find(&Key::new(&[row.key])?, Stamp::new(row.at)?, &mut Count::none());
+        let (count, _) = versions.find(
+            &Key::new(&[row.key])?,
+            Stamp::new(row.at)?,
+            &mut Count::none(),
+        );
         assert_eq!(rt; count, row.place);
     }
     let (count, probes) = versions.find(&Key::new(b"b")?, Stamp::new(29)?, &mut Count::none());

@@ -36,7 +36,7 @@ put_over rows t needs more us phase up none is =
     let held : held_in left t ≡ [] = ap held_by (find-without_rows rows t us gone ∙ none) in
     ap (λ (l : List Row). with_row l (record { txn = t; held = with_locks (held_in l t) more; phase = phase })) (without_rows-with rows entrant us up gone)
     ∙ ap (λ (o : Option Row). with_row (with_row left entrant) (record { txn = t; held = with_locks (held_by o) more; phase = phase }))
-        (find-with_row left entrant)
+    (find-with_row left entrant)
     ∙ with_row-twice left entrant (record { txn = t; held = with_locks [] more; phase = phase }) refl
     ∙ ap (λ (hs : List Lock). with_row left (record { txn = t; held = with_locks hs more; phase = phase })) (sym held)
 
@@ -47,7 +47,7 @@ put_the_same rows t needs more us phase up is = by_row (find_row rows t) refl
   where
     by_row : (o : Option Row) → find_row rows t ≡ o
         → after_change (Puts t more phase) (without_rows (elim o as (λ _. List Row) [ None ↦ put_row rows t [] Idle | Some r ↦ rows ]) us) ≡
-            after_change (Puts t more phase) (without_rows rows us)
+        after_change (Puts t more phase) (without_rows rows us)
     by_row None e = put_over rows t needs more us phase up e is
     by_row (Some r) e = refl
 
@@ -83,7 +83,7 @@ admitted_twice rows t = by_row (find_row rows t) refl
 
     by_row : (o : Option Row) → find_row rows t ≡ o
         → admitted (elim o as (λ _. List Row) [ None ↦ put_row rows t [] Idle | Some r ↦ rows ]) (Some t) ≡
-            elim o as (λ _. List Row) [ None ↦ put_row rows t [] Idle | Some r ↦ rows ]
+        elim o as (λ _. List Row) [ None ↦ put_row rows t [] Idle | Some r ↦ rows ]
     by_row None e =
         subst (Again (put_row rows t [] Idle)) (sym (find-with_row rows (record { txn = t; held = []; phase = Idle }))) refl
     by_row (Some r) e = subst (Again rows) (sym e) refl
@@ -108,7 +108,7 @@ fits_again rows us needs logged (Decides t) up fits = fits
 
 rows_the_same : (rows : List Row) (us : List Id) (needs : List Lock) (logged : Option Record) (h : Change) → Ascend rows → FitsRows rows us needs logged h
     → after_change (change_of (admitted rows (asker h)) needs logged h) (without_rows (admitted rows (asker h)) us) ≡
-        after_change (change_of rows needs logged h) (without_rows rows us)
+    after_change (change_of rows needs logged h) (without_rows rows us)
 rows_the_same rows us needs logged Keeps up fits = refl
 rows_the_same rows us needs logged (Ends t) up fits = refl
 rows_the_same rows us needs logged (Drops t) up fits = refl

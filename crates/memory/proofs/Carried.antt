@@ -115,12 +115,12 @@ holding_without_rows holds rows (t ∷ ts) up same may =
 pub holding_put : (holds : List ℕ) (rows : List Row) (t : Id) (needs : List Lock) (ts : List Id) (held : List Lock) (phase : Phase) → Ascend rows →
     IsHolding holds rows
     → ts ≡ wounded (claims rows) t needs → has_phase is_reading rows t ≡ true → held_stamp phase ≡ None →
-        IsHolding holds (put_row (without_rows rows ts) t held phase)
+    IsHolding holds (put_row (without_rows rows ts) t held phase)
 holding_put holds rows t needs ts held phase up same is reads none =
     holding_with_none holds (without_rows rows ts) (record { txn = t; held = held; phase = phase }) (by_id-without_rows rows ts up)
     (holding_without_rows holds rows ts up same (may_end_wounded rows t needs ts up is))
     (ap (λ (o : Option Row). follow o (λ r. held_stamp r.phase)) (row_stays rows t ts (others_end rows t needs ts is))
-        ∙ none_held is_reading reading_holds_none rows t reads)
+    ∙ none_held is_reading reading_holds_none rows t reads)
     none
 
 -- ---- the rows
@@ -197,7 +197,7 @@ space_to_hold test none holds rows t up same has few =
 pub holding_stands : (test : Phase → Bool) → ((p : Phase) → test p ≡ true → held_stamp p ≡ None) →
     (holds : List ℕ) (rows next : List Row) (t : Id) (held : List Lock) (phase : Phase) (at : ℕ)
     → Ascend rows → IsHolding holds rows → has_phase test rows t ≡ true → held_stamp phase ≡ Some at → next ≡ put_row rows t held phase →
-        IsHolding (holds ++ at ∷ []) next
+    IsHolding (holds ++ at ∷ []) next
 holding_stands test none holds rows next t held phase at up same has stamp is =
     subst (IsHolding (holds ++ at ∷ [])) (sym is)
     (holding_with holds rows (record { txn = t; held = held; phase = phase }) at up same (none_held test none rows t has) stamp)
@@ -262,8 +262,11 @@ collecting_holds_none (IsPrepared c p) e = absurd (false≢true e)
 collecting_holds_none (IsDecided s ps) e = absurd (false≢true e)
 
 -- the phase with a yes
-counted_by : (n p : ℕ) (q : Phase) → with_yes n p q ≡ elim q as (λ _. Phase) [ Collecting l ps rs ws votes ↦
-    Collecting l ps rs ws (with_vote n p votes) | _ ↦ q ]
+counted_by : (n p : ℕ) (q : Phase) → with_yes n p q ≡ elim q as (λ _. Phase) [
+  | Collecting l ps rs ws votes ↦
+      Collecting l ps rs ws (with_vote n p votes)
+  | _ ↦ q
+]
 counted_by n p Idle = refl
 counted_by n p (WaitsRead k) = refl
 counted_by n p (WaitsPrepare c rs ws) = refl

@@ -69,7 +69,7 @@ installs_left facts (Outcome t (Some at)) is = cc
 pub same_learnt : (ordered : List Install) (facts : Facts) (item : Record) (writes : List Write) (s : ℕ) → outcome_stamp item ≡ Some s →
     CanInstall facts item writes
     → ascends write_before writes ≡ true → SameValues ordered facts.installs → SameValues (all_installed ordered (versions writes s))
-        (learn facts item).installs
+    (learn facts item).installs
 same_learnt ordered facts item writes s is can up same =
     let given = installs_given facts item writes s is can in
     subst (SameValues (all_installed ordered (versions writes s))) (sym given.0) (places_do_not_matter writes s ordered facts.installs up given.1 same)

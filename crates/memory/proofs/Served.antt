@@ -66,7 +66,7 @@ counted_with p (q ∷ qs) r up = by_tests (same_id q.txn r.txn) (older q.txn r.t
         let none : find_row qs r.txn ≡ None =
         none_of qs r.txn (all_gives (λ x. older q.txn x.txn ≡ true) (λ x. same_id x.txn r.txn ≡ false)
         (λ x young. same_id_comm x.txn r.txn ∙ older_not_same r.txn x.txn (older-trans r.txn q.txn x.txn first young)) qs
-            (later_are_younger (λ (x : Row). x.txn) q qs up)) in
+        (later_are_younger (λ (x : Row). x.txn) q qs up)) in
         let nothing : held_by p (stamp_held qs r.txn) ≡ 0 = ap (λ (o : Option Row). held_by p (follow o (λ x. held_stamp x.phase))) none in
         omega (arith, counted_row p r (q ∷ qs), nothing)
 
@@ -97,8 +97,14 @@ holding_with holds rows r at up same none is = record { each = λ n. more n }
     more : (n : ℕ) → count (nat_eq n) (holds ++ at ∷ []) ≡ held_in (nat_eq n) (with_row rows r)
     more n =
         let new : held_by (nat_eq n) (held_stamp r.phase) ≡ count (nat_eq n) (at ∷ []) = ap (held_by (nat_eq n)) is in
-        omega (arith, counted_with (nat_eq n) rows r up, held_none (nat_eq n) _ none, same.each n, (hold_adds_one at holds).each n,
-            counted_one (nat_eq n) at holds)
+        omega (
+          arith,
+          counted_with (nat_eq n) rows r up,
+          held_none (nat_eq n) _ none,
+          same.each n,
+          (hold_adds_one at holds).each n,
+          counted_one (nat_eq n) at holds,
+        )
 
 pub holding_with_none : NoneIsPut
 holding_with_none holds rows r up same none is = record { each = λ n. more n }

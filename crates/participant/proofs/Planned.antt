@@ -39,7 +39,7 @@ pub nudge_none : (b : Before) (t : Id) → find_row b.memory.rows t ≡ None →
 unfolding plan_nudge
 nudge_none b t none =
     ap (plan_nudge b t) (stands-past b t (recorded b.facts t) (has_id b.memory.ended t) none refl refl)
-        ∙ by_status (recorded b.facts t) (has_id b.memory.ended t)
+    ∙ by_status (recorded b.facts t) (has_id b.memory.ended t)
   where
     by_status : (status : Status) (ended : Bool) → plan_nudge b t (standing_by None status ended) ≡ Err Stranger
     by_status HasAborted ended = refl
@@ -145,7 +145,7 @@ pub now_late : (b : Before) (earliest : ℕ) (m : Prepare) → opens b m.txn (ex
 now_late b earliest m free late =
     opened b earliest m free
     ∙ roomed_late (is_crowded b m.txn) (promises_now b earliest m)
-        (promise_late b (in_way b m.txn (exclusive m.writes)) earliest m.txn m.coordinator m.reads.keys m.writes late)
+    (promise_late b (in_way b m.txn (exclusive m.writes)) earliest m.txn m.coordinator m.reads.keys m.writes late)
 
 pub now_crowded : (b : Before) (earliest : ℕ) (m : Prepare) (at : ℕ) → opens b m.txn (exclusive m.writes) ≡ true
     → at ≡ promise_stamp b earliest → at < 2 ^ 62 → is_crowded b m.txn ≡ true → plan_prepare_now b earliest m ≡ Err RowsFull

@@ -62,7 +62,7 @@ above_all installs last at ws h e =
     each_of_any (λ (w : Write). list_all (λ i. nat_lt i.at at) (of_key installs w.key))
     (λ w. above_key installs at w.key
     ∙ each_gives (λ (i : Install). nat_le i.at last) (lower at w.key) (λ i k. or_right (not (same_key i.key w.key)) (nat_lt i.at at)
-        (below_last last at i.at h k)) installs e) ws
+    (below_last last at i.at h k)) installs e) ws
 
 -- no write is of the key
 abbrev none_of_key : List Write → Bytes → Bool
@@ -151,7 +151,7 @@ rows_apart rows t u r q lawful found other differ =
     let others : find_member (λ (c : Claim). c.txn) (claims rows) u ≡ Some (claim_of q) = claims-find_row rows u ∙ ap (option_map claim_of) other in
     let row : AllByRecursion (LockPair (claim_of r)) (claims rows) =
     found_all (λ a. AllByRecursion (LockPair a) (claims rows)) (λ (c : Claim). c.txn) (claims rows) t (claim_of r)
-        ((by_pairs (claims rows) lawful).locks) there in
+    ((by_pairs (claims rows) lawful).locks) there in
     let pair : LockPair (claim_of r) (claim_of q) = found_all (LockPair (claim_of r)) (λ (c : Claim). c.txn) (claims rows) u (claim_of q) row others in
     let own : r.txn ≡ t = same_id-is r.txn t (found_is (λ (z : Row). z.txn) rows t r found) in
     let theirs : q.txn ≡ u = same_id-is q.txn u (found_is (λ (z : Row). z.txn) rows u q other) in

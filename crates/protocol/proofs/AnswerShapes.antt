@@ -82,7 +82,7 @@ pub shaped_outcome : (b : Before) (n : ℕ) (t : Id) (outcome : Option ℕ) (s :
 unfolding plan_outcome
 shaped_outcome b n t outcome (HasRow held (IsPrepared c p)) e =
     shaped_cond b (is_outcome_for n c p outcome) _ _ (λ k. planned b _ (IsClose t n c p held outcome [] (row_at b t held (IsPrepared c p) e) k refl))
-        (λ _. refused b _)
+    (λ _. refused b _)
 shaped_outcome b n t outcome IsUnknown e = shaped_unpromised b t outcome [] (ap is_undecided e)
 shaped_outcome b n t outcome (HasRow held Idle) e = shaped_unpromised b t outcome [] (ap is_undecided e)
 shaped_outcome b n t outcome (HasRow held (WaitsRead k)) e = shaped_unpromised b t outcome [] (ap is_undecided e)

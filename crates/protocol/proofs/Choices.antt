@@ -87,7 +87,7 @@ undecided b t e = undecided_of_loose (stands b t) e
 pub fits_at : (b : Before) (t : Id) (held : List Lock) (phase : Phase) → stands b t ≡ HasRow held phase → all_fit b → fits b.shard (row_as t held phase) ≡ true
 fits_at b t held phase e fit =
     found_all (λ r. fits b.shard r ≡ true) (λ (r : Row). r.txn) b.memory.rows t (row_as t held phase) (all_of_each (fits b.shard) b.memory.rows fit)
-        (row_at b t held phase e)
+    (row_at b t held phase e)
 
 -- those in the way gone, and nobody else there
 pub cleared : (b : Before) (t : Id) (needs : List Lock) → Ascends b → opens b t needs ≡ true → IsCleared b.memory.rows t (in_way b t needs) needs

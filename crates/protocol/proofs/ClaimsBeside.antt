@@ -100,7 +100,7 @@ pub keys_of : (rows : List Row) (t : Id) (o : Option Row) → IsLawfulTable (cla
 keys_of rows t None lawful found = refl
 keys_of rows t (Some r) lawful found =
     found_all HoldsByKey (λ (c : Claim). c.txn) (claims rows) t (claim_of r) ((by_pairs (claims rows) lawful).keys)
-        (claims-find_row rows t ∙ ap (option_map claim_of) found)
+    (claims-find_row rows t ∙ ap (option_map claim_of) found)
 
 -- ---- a grant and a wait
 

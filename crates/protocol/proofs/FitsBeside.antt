@@ -71,7 +71,7 @@ locks_of_rows (e ∷ es) = by_status e.status (locks_of_rows es)
   where
     by_status : (s : Status) → gather (λ e. standing_locks e.status) es ≡ map (λ r. r.held) (gather standing_row es)
         → gather (λ e. standing_locks e.status) (record { txn = e.txn; status = s } ∷ es) ≡
-            map (λ r. r.held) (gather standing_row (record { txn = e.txn; status = s } ∷ es))
+        map (λ r. r.held) (gather standing_row (record { txn = e.txn; status = s } ∷ es))
     by_status (StandsPrepared p) k = ap (λ l. locks_of p.reads p.writes ∷ l) k
     by_status (StandsDecided c) k = ap (λ l. locks_of c.reads c.writes ∷ l) k
     by_status Unrecorded k = k
@@ -98,13 +98,13 @@ pub few_opened : (shard : ℕ) (f : Facts) (m : Memory) → IsSound shard f m �
 few_opened shard f m sound =
     no_more (log_rows f) m.rows (opened_up shard f m sound)
     (all_gives (Backed m) (λ x. has_row m.rows x.txn ≡ true) (λ r x. found_has (λ (q : Row). q.txn) m.rows r.txn x.row x.found) (log_rows f)
-        (opened_backed shard f m sound))
+    (opened_backed shard f m sound))
 
 -- ---- one more record that stands
 
 module _ (shard : ℕ) (f after : Facts) (m later : Memory) (t : Id) (s : Status) (new : Row) (sound : IsSound shard f m) (next : IsSound shard after later)
     (put : after.entries ≡ with_status f.entries t s) (may_stand : standing_row (record { txn = t; status = s }) ≡ Some new)
-        (fresh : recorded f t ≡ Unrecorded) where
+    (fresh : recorded f t ≡ Unrecorded) where
   -- the log had no row of the id
   none_before : find_row (log_rows f) t ≡ None
   none_before = find-gather f.entries t sound.entries (entries_own shard f m sound) ∙ by_entry (find_member (λ (e : Entry). e.txn) f.entries t) fresh
@@ -189,9 +189,9 @@ stands_beside shard log after m later t s at rs ws new sound next room put held 
     ap (list_any (clash (locks_of rs ws))) (standing_is log)
     ∙ none_clashes (locks_of rs ws) (log_rows (facts_of log))
     (subst (λ ls. AllByRecursion (λ (r : Row). clash ls r.held ≡ false) (log_rows (facts_of log))) locks
-        (clear shard (facts_of log) after m later t s new sound next put held fresh)) in
+    (clear shard (facts_of log) after m later t s new sound next put held fresh)) in
     and_from _ _ (and_from _ _ (ap (λ n. nat_lt n most_rows) count ∙ lt-ltb _ _ small) (not_from_false _ free))
-        (subst (λ is. IsTrue (above_versions is at ws)) (installs_are log) above)
+    (subst (λ is. IsTrue (above_versions is at ws)) (installs_are log) above)
 
 -- ---- the records
 
@@ -225,7 +225,7 @@ fits_prepare shard log m later p sound next room follows =
     (record { txn = p.txn; held = locks_of p.reads p.writes; phase = IsPrepared p.coordinator p.at }) sound next room refl refl refl fresh
     (above_promise (facts_of log).installs later.last p (find_row later.rows p.txn)
     (subst (λ s. Agrees (facts_of log).installs later.last s (find_row later.rows p.txn))
-        (status_same (facts_of log).entries p.txn (StandsPrepared p)) (next.agrees p.txn)))
+    (status_same (facts_of log).entries p.txn (StandsPrepared p)) (next.agrees p.txn)))
 
 fits_commit : (shard : ℕ) (log : List Record) (m later : Memory) (c : Committed) → IsSound shard (facts_of log) m →
     IsSound shard (learn (facts_of log) (Record.Commit c)) later
@@ -238,7 +238,7 @@ fits_commit shard log m later c sound next room follows =
     (record { txn = c.txn; held = locks_of c.reads c.writes; phase = IsDecided c.at c.parts }) sound next room refl refl refl fresh
     (above_decision (facts_of log).installs later.last c (find_row later.rows c.txn)
     (subst (λ s. Agrees (facts_of log).installs later.last s (find_row later.rows c.txn))
-        (status_same (facts_of log).entries c.txn (StandsDecided c)) (next.agrees c.txn)))
+    (status_same (facts_of log).entries c.txn (StandsDecided c)) (next.agrees c.txn)))
 
 -- the writes of what an outcome ends
 pub writes_are : (a : Bool) (c : Option Committed) (p : Option Prepared) (e : Option Ended) (s : ℕ) → allows (status_by a c p e) (Some s) ≡ true

@@ -72,11 +72,11 @@ follows b p sound (IsWait t needs phase out w e) = subst (Follows b) (sym e) tt
 follows b p sound (IsPromise t ended c at rs ws out l e) =
     subst (Follows b) (sym e)
     (and_from _ _ (opened b sound) (all_three _ _ _ (stamped b.memory.last at l.above) (ap is_unrecorded (unrecorded b t sound l.undecided))
-        (l.lower sound.fit)))
+    (l.lower sound.fit)))
 follows b p sound (IsDecision t ended needs at ps rs ws out l e) =
     subst (Follows b) (sym e)
     (and_from _ _ (opened b sound) (all_three _ _ _ (stamped b.memory.last at l.above) (ap is_unrecorded (unrecorded b t sound l.undecided))
-        (l.first sound.fit)))
+    (l.first sound.fit)))
 
 follows_ceiling : (b : Before) (stride at : ℕ) → Sound b → LogFollows b (ceiling_for b.facts.floor stride at)
 unfolding follows_facts

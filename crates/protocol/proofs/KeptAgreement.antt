@@ -53,8 +53,16 @@ stands_later : (old new : List Install) (last later : ℕ) (r : Row) (phase : Ph
     → StandsBy old last r phase t at rs ws → StandsBy new later r phase t at rs ws
 stands_later old new last later r phase t at rs ws h stays a =
     let low : at ≤ last = a.assigned in
-    record { phase = a.phase; own = a.own; read = a.read; above_zero = a.above_zero; assigned = omega (arith, low, h); held = a.held; above =
-        stays r at ws refl a.held a.above }
+    record {
+      phase = a.phase;
+      own = a.own;
+      read = a.read;
+      above_zero = a.above_zero;
+      assigned = omega (arith, low, h);
+      held = a.held;
+      above =
+          stays r at ws refl a.held a.above;
+    }
 
 -- a record and its row agree later
 agrees_later : (old new : List Install) (last later : ℕ) (s : Status) (o : Option Row) → last ≤ later → Stays old new o → Agrees old last s o →
@@ -84,7 +92,7 @@ agrees_gone old new last later (HasClosed c o) r loose a = tt
 -- what is left of a transaction once those in the way are gone
 left_agrees : (b : Before) (t v : Id) (ended : List Id) (new : List Install) (later : ℕ) → Sound b → AllByRecursion (IsLooseOther b.memory.rows t) ended
     → b.memory.last ≤ later → Stays b.facts.installs new (find_row b.memory.rows v) → Agrees new later (recorded b.facts v)
-        (find_row (without_rows b.memory.rows ended) v)
+    (find_row (without_rows b.memory.rows ended) v)
 left_agrees b t v ended new later sound gone h stays =
     by_way (find-without_rows (IsLooseOther b.memory.rows t) b.memory.rows ended v gone)
   where
@@ -233,18 +241,18 @@ agreeing b p sound (IsWait t needs phase out w e) =
 agreeing b p sound (IsPromise t ended c at rs ws out l e) =
     subst (KeepsAgreement b) (sym e)
     (recorded_agrees b t ended (granted_to b t ended (exclusive ws)) (IsPrepared c at) at ws
-        (StandsPrepared (record { txn = t; coordinator = c; at = at; reads = rs; writes = ws }))
+    (StandsPrepared (record { txn = t; coordinator = c; at = at; reads = rs; writes = ws }))
     sound l.cleared.gone (stands_now b t _ (IsPrepared c at) at rs ws sound l.above (l.read sound.fit) (holds_exclusive ws _)))
 agreeing b p sound (IsDecision t ended needs at ps rs ws out l e) =
     subst (KeepsAgreement b) (sym e)
     (recorded_agrees b t ended (granted_to b t ended needs) (IsDecided at ps) at ws (StandsDecided
-        (record { txn = t; at = at; parts = ps; reads = rs; writes = ws }))
+    (record { txn = t; at = at; parts = ps; reads = rs; writes = ws }))
     sound l.cleared.gone (stands_now b t _ (IsDecided at ps) at rs ws sound l.above (l.read sound.fit) (l.alone sound.fit)))
 
 -- the facts that agreement speaks of are those before a ceiling
 later_agrees : (b : Before) (later : ℕ) (high : Bool) (at : ℕ) → Sound b → b.memory.last ≤ later
     → AllAgree (facts_after b.facts (cond high (Some (Record.Ceiling at)) None)).installs later
-        (facts_after b.facts (cond high (Some (Record.Ceiling at)) None)).entries b.memory.rows
+    (facts_after b.facts (cond high (Some (Record.Ceiling at)) None)).entries b.memory.rows
 unfolding learn
 later_agrees b later true at sound h v = left_agrees b v v [] b.facts.installs later sound tt h (λ r at ws e k a. a)
 later_agrees b later false at sound h v = left_agrees b v v [] b.facts.installs later sound tt h (λ r at ws e k a. a)

@@ -179,12 +179,12 @@ kept_ceiling : (b : Before) (stride at : ℕ) (rest : Memory) (high : Bool) → 
 unfolding learn
 kept_ceiling b stride at rest true sound fits e same others =
     other_rows _ (record { last = max b.memory.last at; rows = []; ended = b.memory.ended }) rest (sym same) (sym others) (record {
-  opened = sound.opened;
-  entries = sound.entries;
-  ended = sound.ended;
-  under = under_ceiling b.memory.last b.facts.floor at stride sound.under fits;
-  installed = covered_later b.memory.last _ b.facts.installs (le-max_left b.memory.last at) sound.installed;
-})
+      opened = sound.opened;
+      entries = sound.entries;
+      ended = sound.ended;
+      under = under_ceiling b.memory.last b.facts.floor at stride sound.under fits;
+      installed = covered_later b.memory.last _ b.facts.installs (le-max_left b.memory.last at) sound.installed;
+    })
 kept_ceiling b stride at rest false sound fits e same others =
     let below : at ≤ b.facts.floor = ltb-false b.facts.floor at e in
     let under : b.memory.last ≤ b.facts.floor = sound.under in

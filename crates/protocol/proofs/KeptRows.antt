@@ -106,7 +106,7 @@ kept_table b p sound (IsLock t ended needs phase out l e) = subst (KeepsTable b)
 kept_table b p sound (IsWait t needs phase out w e) =
     subst (KeepsTable b) (sym e)
     (lawful-wait (without_rows b.memory.rows (in_way b t needs)) t needs phase (lawful-without_rows b.memory.rows (in_way b t needs) sound.table)
-        (ends_nobody b t needs) w.wants
+    (ends_nobody b t needs) w.wants
     (firms_of b t (in_way b t needs) (is_firm phase) w.gone (or_right (is_firm phase) (is_loose (stands b t)) w.loose)))
 kept_table b p sound (IsPromise t ended c at rs ws out l e) =
     subst (KeepsTable b) (sym e) (grant_of b t ended (exclusive ws) (IsPrepared c at) sound l.cleared refl refl)

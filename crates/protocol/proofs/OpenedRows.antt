@@ -47,7 +47,7 @@ by_id-gather (e ∷ es) up own = by_row (standing_row e) refl (by_id-gather es u
     by_row (Some r) k rest =
         by_id-cons (λ (q : Row). q.txn) r (gather standing_row es)
         (rows_younger r.txn es (subst (λ t. AllByRecursion (λ (f : Entry). older t f.txn ≡ true) es) (sym (own.0 r k))
-            (later_are_younger (λ (f : Entry). f.txn) e es up)) own.1) rest
+        (later_are_younger (λ (f : Entry). f.txn) e es up)) own.1) rest
 
 -- no row is found of an id that all are younger than
 none_younger : (rows : List Row) (t : Id) → AllByRecursion (λ r. older t r.txn ≡ true) rows → find_row rows t ≡ None
@@ -70,7 +70,7 @@ find-gather (e ∷ es) t up own =
     none_behind s =
         let is : e.txn ≡ t = same_id-is e.txn t s in
         none_younger rest t (rows_younger t es (subst (λ u. AllByRecursion (λ (f : Entry). older u f.txn ≡ true) es) is
-            (later_are_younger (λ (f : Entry). f.txn) e es up)) own.1)
+        (later_are_younger (λ (f : Entry). f.txn) e es up)) own.1)
 
     by_row : (o : Option Row) (b : Bool) → standing_row e ≡ o → same_id e.txn t ≡ b → find_row rest t ≡
         follow (find_member (λ (f : Entry). f.txn) es t) standing_row

@@ -53,7 +53,7 @@ pub record Backed (memory : Memory) (r : Row) : Type 0 where
 keys_of_record : (rs : List Bytes) (ws : List Write) (c : Claim) → c.held ≡ locks_of rs ws → HoldsByKey c
 keys_of_record rs ws c same =
     subst (λ ls. HoldsByKey (record c { held = ls })) (sym same) (ascends-with_locks (with_locks [] (shared rs)) (exclusive ws)
-        (ascends-with_locks [] (shared rs) refl))
+    (ascends-with_locks [] (shared rs) refl))
 
 -- what an entry's agreement says of the row that it leaves
 record Left (facts : Facts) (memory : Memory) (e : Entry) (r : Row) : Type 0 where
@@ -65,7 +65,7 @@ record Left (facts : Facts) (memory : Memory) (e : Entry) (r : Row) : Type 0 whe
 backed_by : (memory : Memory) (last : ℕ) (installs : List Install) (t : Id) (q : Row) (phase : Phase) (u : Id) (at : ℕ) (rs : List Bytes)
     (ws : List Write) (r : Row)
     → find_row memory.rows t ≡ Some q → StandsBy installs last q phase u at rs ws → r.txn ≡ t → r.held ≡ locks_of rs ws → (claim_of r).needs ≡ [] →
-        Backed memory r
+    Backed memory r
 backed_by memory last installs t q phase u at rs ws r found a own locks still = record {
   row = q;
   found = ap (find_row memory.rows) own ∙ found;
@@ -140,7 +140,7 @@ lawful_again memory rows lawful up backed = from_pairs (claims rows) (record {
       (λ a x. all_claims (LockPair (claim_of a)) (Backed memory) (λ b y. pair_of memory a b lawful x y) rows backed) rows backed;
   waits = all_claims (λ w. AllByRecursion (WaitPair w) (claims rows)) (Backed memory)
       (λ w x. all_of_any (WaitPair (claim_of w)) (λ c d k. absurd (false≢true (sym (ap (clash c.held) x.still ∙ clash_nil c.held) ∙ k)))
-          (claims rows)) rows backed;
+      (claims rows)) rows backed;
 })
 
 -- ---- an opening

@@ -267,7 +267,7 @@ module _ (setup : Setup) where
   own_resume_row b earliest t (Some r) own e =
       own_go_on b earliest r.txn r.phase
       (found_all (λ q. names_own setup q.phase ≡ true) (λ (q : Row). q.txn) b.memory.rows t r
-          (all_of_each (λ (q : Row). names_own setup q.phase) b.memory.rows own) e)
+      (all_of_each (λ (q : Row). names_own setup q.phase) b.memory.rows own) e)
 
   own_resume_id : (b : Before) (earliest : ℕ) (o : Option Id) → all_own setup b.memory.rows ≡ true → Owned (plan_resume_id b earliest o)
   own_resume_id b earliest None own = owned _ refl refl
@@ -346,7 +346,7 @@ module _ (setup : Setup) where
   own-carried p m e own =
       each_of_all (λ (r : Row). names_own setup r.phase) _
       (own-changed p.change (without_rows m.rows p.wounded) e (own-without_rows m.rows p.wounded
-          (all_of_each (λ (r : Row). names_own setup r.phase) m.rows own)))
+      (all_of_each (λ (r : Row). names_own setup r.phase) m.rows own)))
 
   -- ---- an opening
 

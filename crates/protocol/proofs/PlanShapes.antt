@@ -46,13 +46,13 @@ shaped_go_on b earliest t held (WaitsRead k) e free =
 shaped_go_on b earliest t held (WaitsPrepare c rs ws) e free =
     let fitting : all_fit b → (nat_lt c b.shard && list_all (holds held) rs) ≡ true = fits_at b t held (WaitsPrepare c rs ws) e in
     let read : all_fit b → reads_held b t rs = λ f. ap (λ ls. list_all (holds ls) rs) (held_at b t held (WaitsPrepare c rs ws) e)
-        ∙ (and_parts _ _ (fitting f)).1 in
+    ∙ (and_parts _ _ (fitting f)).1 in
     shaped_promise b [] earliest t c rs ws (clear b t (exclusive ws) free) (ap is_undecided e) (λ f. (and_parts _ _ (fitting f)).0) read
     (room_at b t _ (row_at b t held (WaitsPrepare c rs ws) e))
 shaped_go_on b earliest t held (WaitsCommit l ps rs ws) e free =
     let fitting : all_fit b → (when (nat_eq b.shard) (head ps) && list_all (holds held) rs) ≡ true = fits_at b t held (WaitsCommit l ps rs ws) e in
     let read : all_fit b → reads_held b t rs = λ f. ap (λ ls. list_all (holds ls) rs) (held_at b t held (WaitsCommit l ps rs ws) e)
-        ∙ (and_parts _ _ (fitting f)).1 in
+    ∙ (and_parts _ _ (fitting f)).1 in
     shaped_granted b [] t l ps rs ws (other_parts b.shard ps) (clear b t (exclusive ws) free) (ap is_undecided e) (λ f. (and_parts _ _ (fitting f)).0) read
     (room_at b t _ (row_at b t held (WaitsCommit l ps rs ws) e))
 shaped_go_on b earliest t held Idle e free = shaped_idle b

@@ -33,7 +33,7 @@ holds_shared (k ∷ ks) held =
 pub holds_reads : (rs : List Bytes) (ws : List Write) → list_all (holds (locks_of rs ws)) rs ≡ true
 holds_reads rs ws =
     each_gives (holds (with_locks [] (shared rs))) (holds (locks_of rs ws)) (λ k h. holds_later (exclusive ws) (with_locks [] (shared rs)) k h) rs
-        (holds_shared rs [])
+    (holds_shared rs [])
 
 -- ---- what they conflict with
 

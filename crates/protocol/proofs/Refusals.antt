@@ -109,7 +109,7 @@ unfolding plan_commit_fresh plan_commit_now
 owns_commit_fresh b latest m held =
     owns_cond (still_stand b m.reads.epoch m.reads.keys held) _ (Ok _)
     (owns_timed (latest + 1) _ (owns_roomed _ _ (owns_cond (opens b m.txn (exclusive m.writes)) _ (Ok _)
-        (owns_granted b _ m.txn latest m.parts m.reads.keys m.writes (other_parts b.shard m.parts)) tt))) tt
+    (owns_granted b _ m.txn latest m.parts m.reads.keys m.writes (other_parts b.shard m.parts)) tt))) tt
 
 owns_commit : (b : Before) (latest : ℕ) (m : Commit) (s : Standing) → Owns (plan_commit b latest m s)
 unfolding plan_commit

@@ -78,7 +78,7 @@ above_last last earliest = omega arith
 
 pub shaped_promise : (b : Before) (ended : List Id) (earliest : ℕ) (t : Id) (c : ℕ) (rs : List Bytes) (ws : List Write)
     → IsCleared b.memory.rows t ended (exclusive ws) → is_undecided (stands b t) ≡ true → (all_fit b → nat_lt c b.shard ≡ true) →
-        (all_fit b → reads_held b t rs) → is_crowded b t ≡ false
+    (all_fit b → reads_held b t rs) → is_crowded b t ≡ false
     → Shaped b (plan_promise b ended earliest t c rs ws)
 unfolding plan_promise
 shaped_promise b ended earliest t c rs ws clear fresh lower read room =
@@ -98,7 +98,7 @@ unfolding plan_prepare_now
 shaped_prepare_now b earliest m up loose lower read = shaped_roomed b (is_crowded b m.txn) _ (λ room.
     shaped_cond b (opens b m.txn (exclusive m.writes)) _ _
     (λ free. shaped_promise b _ earliest m.txn m.coordinator m.reads.keys m.writes (cleared b m.txn (exclusive m.writes) up free)
-        (undecided b m.txn loose) (λ _. lower) (λ _. read) room)
+    (undecided b m.txn loose) (λ _. lower) (λ _. read) room)
     (λ _. planned b _ (IsWait m.txn (exclusive m.writes) (WaitsPrepare m.coordinator m.reads.keys m.writes) [] (record {
       loose = loose;
       slack = refl;
@@ -110,11 +110,11 @@ shaped_prepare_now b earliest m up loose lower read = shaped_roomed b (is_crowde
 
 shaped_prepare_fresh : (b : Before) (earliest : ℕ) (m : Prepare) (held : List Lock) → Ascends b
     → is_loose (stands b m.txn) ≡ true → nat_lt m.coordinator b.shard ≡ true → held_in b.memory.rows m.txn ≡ held →
-        Shaped b (plan_prepare_fresh b earliest m held)
+    Shaped b (plan_prepare_fresh b earliest m held)
 unfolding plan_prepare_fresh
 shaped_prepare_fresh b earliest m held up loose lower same =
     shaped_cond b (still_stand b m.reads.epoch m.reads.keys held) _ _ (λ k. shaped_prepare_now b earliest m up loose lower
-        (reads_still b m.txn m.reads.epoch m.reads.keys held same k)) (λ _. planned b _ (IsEnd m.txn _ (undecided b m.txn loose) refl))
+    (reads_still b m.txn m.reads.epoch m.reads.keys held same k)) (λ _. planned b _ (IsEnd m.txn _ (undecided b m.txn loose) refl))
 
 pub shaped_prepare : (b : Before) (earliest : ℕ) (m : Prepare) (s : Standing) → Ascends b → nat_lt m.coordinator b.shard ≡ true
     → stands b m.txn ≡ s → Shaped b (plan_prepare b earliest m s)
@@ -181,7 +181,7 @@ unfolding plan_commit_now
 shaped_commit_now b latest m up loose first read = shaped_roomed b (is_crowded b m.txn) _ (λ room.
     shaped_cond b (opens b m.txn (exclusive m.writes)) _ _
     (λ free. shaped_granted b _ m.txn latest m.parts m.reads.keys m.writes (other_parts b.shard m.parts)
-        (cleared b m.txn (exclusive m.writes) up free) (undecided b m.txn loose) (λ _. first) (λ _. read) room)
+    (cleared b m.txn (exclusive m.writes) up free) (undecided b m.txn loose) (λ _. first) (λ _. read) room)
     (λ _. planned b _ (IsWait m.txn (exclusive m.writes) (WaitsCommit latest m.parts m.reads.keys m.writes) [] (record {
       loose = loose;
       slack = refl;
@@ -193,12 +193,12 @@ shaped_commit_now b latest m up loose first read = shaped_roomed b (is_crowded b
 
 shaped_commit_fresh : (b : Before) (latest : ℕ) (m : Commit) (held : List Lock) → Ascends b
     → is_loose (stands b m.txn) ≡ true → when (nat_eq b.shard) (head m.parts) ≡ true → held_in b.memory.rows m.txn ≡ held →
-        Shaped b (plan_commit_fresh b latest m held)
+    Shaped b (plan_commit_fresh b latest m held)
 unfolding plan_commit_fresh
 shaped_commit_fresh b latest m held up loose first same =
     shaped_cond b (still_stand b m.reads.epoch m.reads.keys held) _ _ (λ k. shaped_err b _ _ _
-        (shaped_commit_now b latest m up loose first (reads_still b m.txn m.reads.epoch m.reads.keys held same k)))
-        (λ _. shaped_abort b m.txn m.parts (undecided b m.txn loose))
+    (shaped_commit_now b latest m up loose first (reads_still b m.txn m.reads.epoch m.reads.keys held same k)))
+    (λ _. shaped_abort b m.txn m.parts (undecided b m.txn loose))
 
 pub shaped_commit : (b : Before) (latest : ℕ) (m : Commit) (s : Standing) → Ascends b
     → when (nat_eq b.shard) (head m.parts) ≡ true → stands b m.txn ≡ s → Shaped b (plan_commit b latest m s)

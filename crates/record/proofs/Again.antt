@@ -91,16 +91,24 @@ unfolding keys_at
 keys_again keys rest h =
     let few : leb (length keys) 128 ≡ true = le-leb _ _ h.few in
     ap keys_at (append_assoc (to_be_bytes w16 (length keys)) (flat_map key_spelling keys) rest)
-    ∙ rw (number_again w16 (2 ^ 16) wide16 (length keys) (flat_map key_spelling keys ++ rest) (omega (arith, h.few)), few,
-        many_again key_at key_spelling IsKey key_again keys rest h.each, h.in_order) refl
+    ∙ rw (
+      number_again w16 (2 ^ 16) wide16 (length keys) (flat_map key_spelling keys ++ rest) (omega (arith, h.few)),
+      few,
+      many_again key_at key_spelling IsKey key_again keys rest h.each,
+      h.in_order,
+    ) refl
 
 pub writes_again : (writes : List (Write)) (rest : List ℕ) → IsWrites writes → writes_at (writes_spelling writes ++ rest) ≡ Some (writes, rest)
 unfolding writes_at
 writes_again writes rest h =
     let few : leb (length writes) 128 ≡ true = le-leb _ _ h.few in
     ap writes_at (append_assoc (to_be_bytes w16 (length writes)) (flat_map write_spelling writes) rest)
-    ∙ rw (number_again w16 (2 ^ 16) wide16 (length writes) (flat_map write_spelling writes ++ rest) (omega (arith, h.few)), few,
-        many_again write_at write_spelling IsWrite write_again writes rest h.each, h.in_order) refl
+    ∙ rw (
+      number_again w16 (2 ^ 16) wide16 (length writes) (flat_map write_spelling writes ++ rest) (omega (arith, h.few)),
+      few,
+      many_again write_at write_spelling IsWrite write_again writes rest h.each,
+      h.in_order,
+    ) refl
 
 five : (a b c d e rest : List ℕ) → ((((a ++ b) ++ c) ++ d) ++ e) ++ rest ≡ a ++ (b ++ (c ++ (d ++ (e ++ rest))))
 five a b c d e rest = simp append_assoc
@@ -142,9 +150,14 @@ prepare_again p rest h =
     let txn = id_spelling p.txn in
     let grouped : prepare_spelling p ++ rest ≡ txn ++ (coordinator ++ (at ++ (reads ++ (writes ++ rest)))) = five txn coordinator at reads writes rest in
     ap prepare_at grouped
-    ∙ rw (id_again p.txn (coordinator ++ (at ++ (reads ++ (writes ++ rest)))) h.txn, shard_again p.coordinator
-        (at ++ (reads ++ (writes ++ rest))) h.coordinator, stamp_again p.at (reads ++ (writes ++ rest)) h.at,
-        keys_again p.reads (writes ++ rest) h.reads, writes_again p.writes rest h.writes) refl
+    ∙ rw (
+      id_again p.txn (coordinator ++ (at ++ (reads ++ (writes ++ rest)))) h.txn,
+      shard_again p.coordinator
+          (at ++ (reads ++ (writes ++ rest))) h.coordinator,
+      stamp_again p.at (reads ++ (writes ++ rest)) h.at,
+      keys_again p.reads (writes ++ rest) h.reads,
+      writes_again p.writes rest h.writes,
+    ) refl
 
 pub commit_again : (c : Committed) (rest : List ℕ) → IsCommit c → commit_at (commit_spelling c ++ rest) ≡ Some (c, rest)
 unfolding commit_at
@@ -156,8 +169,13 @@ commit_again c rest h =
     let txn = id_spelling c.txn in
     let grouped : commit_spelling c ++ rest ≡ txn ++ (at ++ (parts ++ (reads ++ (writes ++ rest)))) = five txn at parts reads writes rest in
     ap commit_at grouped
-    ∙ rw (id_again c.txn (at ++ (parts ++ (reads ++ (writes ++ rest)))) h.txn, stamp_again c.at (parts ++ (reads ++ (writes ++ rest))) h.at,
-        parts_again c.parts (reads ++ (writes ++ rest)) h.parts, keys_again c.reads (writes ++ rest) h.reads, writes_again c.writes rest h.writes) refl
+    ∙ rw (
+      id_again c.txn (at ++ (parts ++ (reads ++ (writes ++ rest)))) h.txn,
+      stamp_again c.at (parts ++ (reads ++ (writes ++ rest))) h.at,
+      parts_again c.parts (reads ++ (writes ++ rest)) h.parts,
+      keys_again c.reads (writes ++ rest) h.reads,
+      writes_again c.writes rest h.writes,
+    ) refl
 
 pub ended_again : (txn : Id) (outcome : Option ℕ) (rest : List ℕ) → IsId txn → IsOutcome outcome →
     ended_at (id_spelling txn ++ outcome_spelling outcome ++ rest) ≡ Some ((txn, outcome), rest)
@@ -240,10 +258,20 @@ pub spelling-most : (r : Record) → IsRecord r → length (spelling r) ≤ 2 ^ 
 spelling-most (records.Opened epoch) h = omega arith
 spelling-most (records.Ceiling at) h = omega arith
 spelling-most (records.Prepare p) h =
-    omega (arith, length-five (id_spelling p.txn) (shard_spelling p.coordinator) (to_be_bytes w64 p.at) (keys_spelling p.reads)
-        (writes_spelling p.writes), keys-most p.reads h.reads, writes-most p.writes h.writes)
+    omega (
+      arith,
+      length-five (id_spelling p.txn) (shard_spelling p.coordinator) (to_be_bytes w64 p.at) (keys_spelling p.reads)
+          (writes_spelling p.writes),
+      keys-most p.reads h.reads,
+      writes-most p.writes h.writes,
+    )
 spelling-most (records.Commit c) h =
-    omega (arith, length-five (id_spelling c.txn) (to_be_bytes w64 c.at) (parts_spelling c.parts) (keys_spelling c.reads) (writes_spelling c.writes),
-        length-parts c.parts, keys-most c.reads h.reads, writes-most c.writes h.writes)
+    omega (
+      arith,
+      length-five (id_spelling c.txn) (to_be_bytes w64 c.at) (parts_spelling c.parts) (keys_spelling c.reads) (writes_spelling c.writes),
+      length-parts c.parts,
+      keys-most c.reads h.reads,
+      writes-most c.writes h.writes,
+    )
 spelling-most (records.Abort txn) h = omega arith
 spelling-most (records.Outcome txn outcome) h = omega (arith, length-append (id_spelling txn) (outcome_spelling outcome), outcome-most outcome)

@@ -192,7 +192,7 @@ all_made log s = weaker _ _ (λ e there. s.closed e.txn (there_first (λ d. same
     each_found [] = refl
     each_found (e ∷ es) =
         ap (λ b. (b || list_any (λ d. same_id d.txn e.txn) es) && list_all (λ x. same_id e.txn x.txn || list_any (λ d. same_id d.txn x.txn) es) es)
-            (same_id-refl e.txn)
+        (same_id-refl e.txn)
         ∙ weaker _ _ (λ x h. or_right (same_id e.txn x.txn) _ h) es (each_found es)
 
 no_single : {A : Type 0} (b : Bool) (x : A) → (b ≡ true → false ≡ true) → first (λ y. b) (x ∷ []) ≡ None
@@ -204,12 +204,16 @@ single_none : (shard : ℕ) (log : List Record) (r : Record) (t : Id) → follow
     (committed_of (r ∷ []) t ≡ None) × (prepared_of (r ∷ []) t ≡ None)
 single_none shard log (Opened e) t h m = (refl, refl)
 single_none shard log (Ceiling at) t h m = (refl, refl)
-single_none shard log (Prepare p) t h m =
-    (refl, no_single (same_id p.txn t) p (λ e. sym (subst (λ v. made log v ≡ false) (same_id-is p.txn t e)
-        ((new_facts log p.txn (prepare_new shard log p h)).1)) ∙ m))
-single_none shard log (Commit c) t h m =
-    (no_single (same_id c.txn t) c (λ e. sym (subst (λ v. made log v ≡ false) (same_id-is c.txn t e)
-        ((new_facts log c.txn (commit_new shard log c h)).1)) ∙ m), refl)
+single_none shard log (Prepare p) t h m = (
+  refl,
+  no_single (same_id p.txn t) p (λ e. sym (subst (λ v. made log v ≡ false) (same_id-is p.txn t e)
+      ((new_facts log p.txn (prepare_new shard log p h)).1)) ∙ m),
+)
+single_none shard log (Commit c) t h m = (
+  no_single (same_id c.txn t) c (λ e. sym (subst (λ v. made log v ≡ false) (same_id-is c.txn t e)
+      ((new_facts log c.txn (commit_new shard log c h)).1)) ∙ m),
+  refl,
+)
 single_none shard log (Abort u) t h m = (refl, refl)
 single_none shard log (Outcome u o) t h m = (refl, refl)
 
@@ -239,7 +243,7 @@ installs_stay : (shard : ℕ) (log : List Record) (r : Record) → Sound log →
 unfolding installs_of
 installs_stay shard log r s h none =
     ap (λ l. flat_map (installed_by (log ++ r ∷ [])) l) (gather_append as_ended log (r ∷ []) ∙ ap (λ l. gather as_ended log ++ l) none
-        ∙ append-nil (gather as_ended log))
+    ∙ append-nil (gather as_ended log))
     ∙ installed_all shard log r s h
 
 none_installed : (s : Status) → installs_at s None ≡ []
@@ -291,19 +295,19 @@ pub learns : (shard : ℕ) (log : List Record) (r : Record) → Sound log → fo
 unfolding facts_of learn entries entries_by epoch_after
 learns shard log (Opened e) s h =
     same_facts _ _ _ _ _ _ _ _ (epoch_more shard log (Opened e) h) (floor_more log (Opened e)) (entries_stay log (Opened e) refl)
-        (installs_stay shard log (Opened e) s h refl)
+    (installs_stay shard log (Opened e) s h refl)
 learns shard log (Ceiling at) s h =
     same_facts _ _ _ _ _ _ _ _ (epoch_more shard log (Ceiling at) h) (floor_more log (Ceiling at)) (entries_stay log (Ceiling at) refl)
-        (installs_stay shard log (Ceiling at) s h refl)
+    (installs_stay shard log (Ceiling at) s h refl)
 learns shard log (Prepare p) s h =
     same_facts _ _ _ _ _ _ _ _ (epoch_more shard log (Prepare p) h) (floor_more log (Prepare p))
     (entries_change log (Prepare p) p.txn (StandsPrepared p) refl
-        (prepared_status log p (new_untouched log p.txn s (new_facts log p.txn (prepare_new shard log p h)))))
+    (prepared_status log p (new_untouched log p.txn s (new_facts log p.txn (prepare_new shard log p h)))))
     (installs_stay shard log (Prepare p) s h refl)
 learns shard log (Commit c) s h =
     same_facts _ _ _ _ _ _ _ _ (epoch_more shard log (Commit c) h) (floor_more log (Commit c))
     (entries_change log (Commit c) c.txn (StandsDecided c) refl
-        (decided_status log c (new_untouched log c.txn s (new_facts log c.txn (commit_new shard log c h)))))
+    (decided_status log c (new_untouched log c.txn s (new_facts log c.txn (commit_new shard log c h)))))
     (installs_stay shard log (Commit c) s h refl)
 learns shard log (Abort t) s h =
     same_facts _ _ _ _ _ _ _ _ (epoch_more shard log (Abort t) h) (floor_more log (Abort t))
@@ -314,7 +318,7 @@ learns shard log (Outcome t o) s h =
     let m : made log t ≡ true = outcome_made log t o ((outcome_follows shard log t o h).1) in
     same_facts _ _ _ _ _ _ _ _ (epoch_more shard log (Outcome t o) h) (floor_more log (Outcome t o))
     (entries_change log (Outcome t o) t _ refl (ended_status log t o none) ∙ ap (λ x. with_status (entries log) t (after_outcome x o))
-        (sym (recorded_is log t)))
+    (sym (recorded_is log t)))
     (installs_change shard log t o s h none m ∙ ap (λ x. installs_of log ++ installs_at x o) (sym (recorded_is log t)))
 
 -- ---- whole lists
@@ -363,7 +367,7 @@ followed_next : (setup : Setup) (before : List Record) (place : ℕ) (log : List
 followed_next setup before place [] e = refl
 followed_next setup before place (r ∷ rs) e =
     let p : ((begins before r && follows setup.shard before r && fits_beside before r) ≡ true)
-        × (taken_from setup (before ++ r ∷ []) (place + 1) rs ≡ Accepted) =
+    × (taken_from setup (before ++ r ∷ []) (place + 1) rs ≡ Accepted) =
     taken_step (not (belongs setup r)) (begins before r && follows setup.shard before r && fits_beside before r) place _ e in
     ap (λ b. b && followed_from setup.shard (before ++ r ∷ []) rs) ((and_parts _ _ p.0).0) ∙ followed_next setup (before ++ r ∷ []) (place + 1) rs p.1
 

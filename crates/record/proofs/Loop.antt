@@ -28,7 +28,7 @@ module _ {A : Type 0} (one : List ℕ → Option (A × List ℕ)) where
   goes_on front count i bytes a after total lt h so_far =
       let k : count - i ≡ suc (count - (i + 1)) = omega arith in
       let step : with_front front (many_at one (count - i) bytes) ≡ with_front (front ++ a ∷ []) (many_at one (count - (i + 1)) after) =
-          rw (k, h) (regroup front a (many_at one (count - (i + 1)) after)) in
+      rw (k, h) (regroup front a (many_at one (count - (i + 1)) after)) in
       sym step ∙ so_far
 
   pub ends : (unread : Unread) (front : List A) (count i : ℕ) (bytes : List ℕ) (total : Option (List A × List ℕ)) → i < count → Fails unread (one bytes)

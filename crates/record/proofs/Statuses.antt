@@ -26,9 +26,9 @@ status_more log r t =
     ap (λ a. status_by a (committed_of (log ++ r ∷ []) t) (prepared_of (log ++ r ∷ []) t) (ended_of (log ++ r ∷ []) t)) (aborted_more log r t)
     ∙ ap (λ c. status_by (is_aborted log t || is_aborted (r ∷ []) t) c (prepared_of (log ++ r ∷ []) t) (ended_of (log ++ r ∷ []) t)) (committed_more log r t)
     ∙ ap (λ p. status_by (is_aborted log t || is_aborted (r ∷ []) t) (or_else (committed_of log t) (committed_of (r ∷ []) t)) p
-        (ended_of (log ++ r ∷ []) t)) (prepared_more log r t)
+    (ended_of (log ++ r ∷ []) t)) (prepared_more log r t)
     ∙ ap (λ e. status_by (is_aborted log t || is_aborted (r ∷ []) t) (or_else (committed_of log t) (committed_of (r ∷ []) t))
-        (or_else (prepared_of log t) (prepared_of (r ∷ []) t)) e) (ended_more log r t)
+    (or_else (prepared_of log t) (prepared_of (r ∷ []) t)) e) (ended_more log r t)
 
 pub or_none : {A : Type 0} (o : Option A) → or_else o None ≡ o
 or_none None = refl
@@ -133,7 +133,7 @@ found f t (u ∷ us) = by_test (same_id u t) refl (found f t us)
     by_test : (b : Bool) → same_id u t ≡ b →
         or_unrecorded (head (filter (λ e. same_id e.txn t) (entries_by f us))) ≡ cond (list_any (same_id t) us) (f t) Unrecorded →
         or_unrecorded (head (cond b (record { txn = u; status = f u } ∷ filter (λ e. same_id e.txn t) (entries_by f us))
-            (filter (λ e. same_id e.txn t) (entries_by f us))))
+        (filter (λ e. same_id e.txn t) (entries_by f us))))
         ≡ cond (same_id t u || list_any (same_id t) us) (f t) Unrecorded
     by_test true e rest = ap f (same_id-is u t e) ∙ sym (ap (λ b. cond (b || list_any (same_id t) us) (f t) Unrecorded) (same_id_comm t u ∙ e))
     by_test false e rest = rest ∙ sym (ap (λ b. cond (b || list_any (same_id t) us) (f t) Unrecorded) (same_id_comm t u ∙ e))
@@ -172,7 +172,7 @@ entries_with f g t same (u ∷ us) h =
         entries_by g (cond a (u ∷ us) (cond b (u ∷ with_id us t) (t ∷ u ∷ us)))
         ≡ cond a (record { txn = t; status = g t } ∷ entries_by f us)
         (cond b (record { txn = u; status = f u } ∷ with_status (entries_by f us) t (g t))
-            (record { txn = t; status = g t } ∷ record { txn = u; status = f u } ∷ entries_by f us))
+        (record { txn = t; status = g t } ∷ record { txn = u; status = f u } ∷ entries_by f us))
     placed true b e k p rest =
         ap (λ v. let x : Entry = record { txn = v; status = g v } in x ∷ entries_by g us) (same_id-is u t e)
         ∙ ap (λ l. let x : Entry = record { txn = t; status = g t } in x ∷ l)

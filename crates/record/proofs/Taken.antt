@@ -67,8 +67,11 @@ exact16 : IsExact w16 (2 ^ 16)
 exact16 = record { back = λ bytes len fits. be_bytes_2 bytes _ len fits refl; below = λ bytes fits. omega (arith, fits 0, fits 1) }
 
 exact64 : IsExact w64 (2 ^ 64)
-exact64 = record { back = λ bytes len fits. be_bytes_8 bytes _ len fits refl; below = λ bytes fits. omega
-    (arith, fits 0, fits 1, fits 2, fits 3, fits 4, fits 5, fits 6, fits 7) }
+exact64 = record {
+  back = λ bytes len fits. be_bytes_8 bytes _ len fits refl;
+  below = λ bytes fits. omega
+      (arith, fits 0, fits 1, fits 2, fits 3, fits 4, fits 5, fits 6, fits 7);
+}
 
 number_reads : (w : Width) (limit : ℕ) → IsExact w limit → Reads (number_at w) (to_be_bytes w) (λ n. n < limit)
 number_reads w limit exact bytes x fits e =
@@ -78,7 +81,7 @@ number_reads w limit exact bytes x fits e =
     let n-is : from_be_bytes w (take count bytes) ≡ x.0 = ap (λ (p : ℕ × List ℕ). p.0) g.1 in
     let rest-is : drop count bytes ≡ x.1 = ap (λ (p : ℕ × List ℕ). p.1) g.1 in
     let front : to_be_bytes w x.0 ≡ take count bytes = ap (to_be_bytes w) (sym n-is) ∙ exact.back (take count bytes)
-        (length-take-le count bytes long) (bytes-take count bytes fits) in (
+    (length-take-le count bytes long) (bytes-take count bytes fits) in (
       record {
         parts = sym (take-append-drop count bytes) ∙ ap (λ (t : List ℕ). t ++ drop count bytes) (sym front)
             ∙ ap (λ (t : List ℕ). to_be_bytes w x.0 ++ t) rest-is;
@@ -92,8 +95,10 @@ unfolding stamp_at
 stamp_reads bytes x fits e =
     let a = bind_some (number_at w64 bytes) (λ n. only_if (ltb n.0 (2 ^ 62)) n) x e in
     let g = only_some (ltb a.0.0 (2 ^ 62)) a.0 x a.2 in
-    subst (λ (y : ℕ × List ℕ). Taken bytes (to_be_bytes w64 y.0) y.1 × IsStamp y.0) g.1 ((number_reads w64 (2 ^ 64) exact64 bytes a.0 fits a.1).0,
-        ltb-true _ _ g.0)
+    subst (λ (y : ℕ × List ℕ). Taken bytes (to_be_bytes w64 y.0) y.1 × IsStamp y.0) g.1 (
+      (number_reads w64 (2 ^ 64) exact64 bytes a.0 fits a.1).0,
+      ltb-true _ _ g.0,
+    )
 
 epoch_reads : Reads epoch_at (to_be_bytes w64) IsEpoch
 unfolding epoch_at
@@ -134,7 +139,7 @@ unfolding value_at
 value_reads [] x fits e = absurd cc
 value_reads (zero ∷ bytes) x fits e =
     subst (λ (y : Option (List ℕ) × List ℕ). Taken (0 ∷ bytes) (value_spelling y.0) y.1 × IsValue y.0) (some_is (None, bytes) x e)
-        (record { parts = refl; rest_fits = bytes-behind 0 bytes fits }, tt)
+    (record { parts = refl; rest_fits = bytes-behind 0 bytes fits }, tt)
 value_reads (suc zero ∷ bytes) x fits e =
     let a = bind_some (number_at w16 bytes) (λ count. (cond (leb count.0 4096) (text_at count.0 count.1) None) >>= λ value. Some (Some value.0, value.1)) x e in
     let b = bind_some (cond (leb a.0.0 4096) (text_at a.0.0 a.0.1) None) (λ value. Some (Some value.0, value.1)) x a.2 in
@@ -143,7 +148,7 @@ value_reads (suc zero ∷ bytes) x fits e =
     let text = text_reads a.0.0 a.0.1 b.0 n.0.rest_fits t.1 in
     let both = taken_then bytes (to_be_bytes w16 a.0.0) a.0.1 b.0.0 b.0.1 n.0 text.0 in
     let sized : Taken bytes (to_be_bytes w16 (length b.0.0) ++ b.0.0) b.0.1 = subst (λ (k : ℕ). Taken bytes (to_be_bytes w16 k ++ b.0.0) b.0.1)
-        (sym text.1) both in
+    (sym text.1) both in
     subst (λ (y : Option (List ℕ) × List ℕ). Taken (1 ∷ bytes) (value_spelling y.0) y.1 × IsValue y.0) (some_is (Some b.0.0, b.0.1) x b.2)
     (behind_byte 1 bytes (to_be_bytes w16 (length b.0.0) ++ b.0.0) b.0.1 sized, omega (arith, text.1, leb-true a.0.0 4096 t.0))
 value_reads (suc (suc other) ∷ bytes) x fits e = absurd cc
@@ -163,14 +168,14 @@ many_read : {A : Type 0} (one : List ℕ → Option (A × List ℕ)) (spell : A 
 unfolding many_at
 many_read {A} one spell Fits reads zero bytes x fits e =
     subst (λ (y : List A × List ℕ). Taken bytes (flat_map spell y.0) y.1 × ((length y.0 ≡ 0) × AllByRecursion Fits y.0)) (some_is ([], bytes) x e)
-        (record { parts = refl; rest_fits = fits }, (refl, tt))
+    (record { parts = refl; rest_fits = fits }, (refl, tt))
 many_read {A} one spell Fits reads (suc count) bytes x fits e =
     let a = bind_some (one bytes) (λ first. many_at one count first.1 >>= λ others. Some (first.0 ∷ others.0, others.1)) x e in
     let b = bind_some (many_at one count a.0.1) (λ others. Some (a.0.0 ∷ others.0, others.1)) x a.2 in
     let first = reads bytes a.0 fits a.1 in
     let others = many_read one spell Fits reads count a.0.1 b.0 first.0.rest_fits b.1 in
     subst (λ (y : List A × List ℕ). Taken bytes (flat_map spell y.0) y.1 × ((length y.0 ≡ suc count) × AllByRecursion Fits y.0))
-        (some_is (a.0.0 ∷ b.0.0, b.0.1) x b.2)
+    (some_is (a.0.0 ∷ b.0.0, b.0.1) x b.2)
     (taken_then bytes (spell a.0.0) a.0.1 (flat_map spell b.0.0) b.0.1 first.0 others.0, (ap suc others.1.0, (first.1, others.1.1)))
 
 -- ---- lists
@@ -179,31 +184,33 @@ keys_read : Reads keys_at keys_spelling IsKeys
 unfolding keys_at
 keys_read bytes x fits e =
     let a = bind_some (number_at w16 bytes) (λ count. (cond (leb count.0 128) (many_at key_at count.0 count.1) None) >>= λ keys. only_if
-        (ascends key_before keys.0) keys) x e in
+    (ascends key_before keys.0) keys) x e in
     let b = bind_some (cond (leb a.0.0 128) (many_at key_at a.0.0 a.0.1) None) (λ keys. only_if (ascends key_before keys.0) keys) x a.2 in
     let t = if_some (leb a.0.0 128) (many_at key_at a.0.0 a.0.1) b.0 b.1 in
     let g = only_some (ascends key_before b.0.0) b.0 x b.2 in
     let n = number_reads w16 (2 ^ 16) exact16 bytes a.0 fits a.1 in
     let many = many_read key_at key_spelling IsKey key_reads a.0.0 a.0.1 b.0 n.0.rest_fits t.1 in
     let both = taken_then bytes (to_be_bytes w16 a.0.0) a.0.1 (flat_map key_spelling b.0.0) b.0.1 n.0 many.0 in
-    subst (λ (y : List (List ℕ) × List ℕ). Taken bytes (keys_spelling y.0) y.1 × IsKeys y.0) g.1
-    (subst (λ (k : ℕ). Taken bytes (to_be_bytes w16 k ++ flat_map key_spelling b.0.0) b.0.1) (sym many.1.0) both,
-        record { few = omega (arith, many.1.0, leb-true a.0.0 128 t.0); in_order = g.0; each = many.1.1 })
+    subst (λ (y : List (List ℕ) × List ℕ). Taken bytes (keys_spelling y.0) y.1 × IsKeys y.0) g.1 (
+      subst (λ (k : ℕ). Taken bytes (to_be_bytes w16 k ++ flat_map key_spelling b.0.0) b.0.1) (sym many.1.0) both,
+      record { few = omega (arith, many.1.0, leb-true a.0.0 128 t.0); in_order = g.0; each = many.1.1 },
+    )
 
 writes_read : Reads writes_at writes_spelling IsWrites
 unfolding writes_at
 writes_read bytes x fits e =
     let a = bind_some (number_at w16 bytes) (λ count. (cond (leb count.0 128) (many_at write_at count.0 count.1) None) >>= λ writes. only_if
-        (ascends write_before writes.0) writes) x e in
+    (ascends write_before writes.0) writes) x e in
     let b = bind_some (cond (leb a.0.0 128) (many_at write_at a.0.0 a.0.1) None) (λ writes. only_if (ascends write_before writes.0) writes) x a.2 in
     let t = if_some (leb a.0.0 128) (many_at write_at a.0.0 a.0.1) b.0 b.1 in
     let g = only_some (ascends write_before b.0.0) b.0 x b.2 in
     let n = number_reads w16 (2 ^ 16) exact16 bytes a.0 fits a.1 in
     let many = many_read write_at write_spelling IsWrite write_reads a.0.0 a.0.1 b.0 n.0.rest_fits t.1 in
     let both = taken_then bytes (to_be_bytes w16 a.0.0) a.0.1 (flat_map write_spelling b.0.0) b.0.1 n.0 many.0 in
-    subst (λ (y : List Write × List ℕ). Taken bytes (writes_spelling y.0) y.1 × IsWrites y.0) g.1
-    (subst (λ (k : ℕ). Taken bytes (to_be_bytes w16 k ++ flat_map write_spelling b.0.0) b.0.1) (sym many.1.0) both,
-        record { few = omega (arith, many.1.0, leb-true a.0.0 128 t.0); in_order = g.0; each = many.1.1 })
+    subst (λ (y : List Write × List ℕ). Taken bytes (writes_spelling y.0) y.1 × IsWrites y.0) g.1 (
+      subst (λ (k : ℕ). Taken bytes (to_be_bytes w16 k ++ flat_map write_spelling b.0.0) b.0.1) (sym many.1.0) both,
+      record { few = omega (arith, many.1.0, leb-true a.0.0 128 t.0); in_order = g.0; each = many.1.1 },
+    )
 
 -- ---- records
 
@@ -247,7 +254,7 @@ unfolding outcome_at
 outcome_reads [] x fits e = absurd cc
 outcome_reads (zero ∷ bytes) x fits e =
     subst (λ (y : Option ℕ × List ℕ). Taken (0 ∷ bytes) (outcome_spelling y.0) y.1 × IsOutcome y.0) (some_is (None, bytes) x e)
-        (record { parts = refl; rest_fits = bytes-behind 0 bytes fits }, tt)
+    (record { parts = refl; rest_fits = bytes-behind 0 bytes fits }, tt)
 outcome_reads (suc zero ∷ bytes) x fits e =
     let a = bind_some (stamp_at bytes) (λ at. Some (Some at.0, at.1)) x e in
     let at = stamp_reads bytes a.0 (bytes-behind 1 bytes fits) a.1 in
@@ -264,9 +271,9 @@ prepare_reads : Reads prepare_at prepare_spelling IsPrepare
 unfolding prepare_at
 prepare_reads bytes x fits e =
     let a = bind_some (id_at bytes) (λ txn. shard_at txn.1 >>= λ coordinator. stamp_at coordinator.1 >>= λ at. keys_at at.1 >>= λ reads. writes_at
-        reads.1 >>= λ writes. Some (made txn.0 coordinator.0 at.0 reads.0 writes)) x e in
+    reads.1 >>= λ writes. Some (made txn.0 coordinator.0 at.0 reads.0 writes)) x e in
     let b = bind_some (shard_at a.0.1) (λ coordinator. stamp_at coordinator.1 >>= λ at. keys_at at.1 >>= λ reads. writes_at reads.1 >>= λ
-        writes. Some (made a.0.0 coordinator.0 at.0 reads.0 writes)) x a.2 in
+    writes. Some (made a.0.0 coordinator.0 at.0 reads.0 writes)) x a.2 in
     let c = bind_some (stamp_at b.0.1) (λ at. keys_at at.1 >>= λ reads. writes_at reads.1 >>= λ writes. Some (made a.0.0 b.0.0 at.0 reads.0 writes)) x b.2 in
     let d = bind_some (keys_at c.0.1) (λ reads. writes_at reads.1 >>= λ writes. Some (made a.0.0 b.0.0 c.0.0 reads.0 writes)) x c.2 in
     let f = bind_some (writes_at d.0.1) (λ writes. Some (made a.0.0 b.0.0 c.0.0 d.0.0 writes)) x d.2 in
@@ -276,9 +283,9 @@ prepare_reads bytes x fits e =
     let reads = keys_read c.0.1 d.0 at.0.rest_fits d.1 in
     let writes = writes_read d.0.1 f.0 reads.0.rest_fits f.1 in
     let all = taken_five bytes (id_spelling a.0.0) a.0.1 (shard_spelling b.0.0) b.0.1 (to_be_bytes w64 c.0.0) c.0.1 (keys_spelling d.0.0) d.0.1
-        (writes_spelling f.0.0) f.0.1 txn.0 coordinator.0 at.0 reads.0 writes.0 in
+    (writes_spelling f.0.0) f.0.1 txn.0 coordinator.0 at.0 reads.0 writes.0 in
     subst (λ (y : Prepared × List ℕ). Taken bytes (prepare_spelling y.0) y.1 × IsPrepare y.0) {x = made a.0.0 b.0.0 c.0.0 d.0.0 f.0}
-        (some_is (made a.0.0 b.0.0 c.0.0 d.0.0 f.0) x f.2)
+    (some_is (made a.0.0 b.0.0 c.0.0 d.0.0 f.0) x f.2)
     (all, record { txn = txn.1; coordinator = coordinator.1; at = at.1; reads = reads.1; writes = writes.1 })
   where
     made : Id → ℕ → ℕ → List Bytes → List Write × List ℕ → Prepared × List ℕ
@@ -288,11 +295,11 @@ commit_reads : Reads commit_at commit_spelling IsCommit
 unfolding commit_at
 commit_reads bytes x fits e =
     let a = bind_some (id_at bytes) (λ txn. stamp_at txn.1 >>= λ at. parts_at at.1 >>= λ parts. keys_at parts.1 >>= λ reads. writes_at reads.1 >>= λ
-        writes. Some (made txn.0 at.0 parts.0 reads.0 writes)) x e in
+    writes. Some (made txn.0 at.0 parts.0 reads.0 writes)) x e in
     let b = bind_some (stamp_at a.0.1) (λ at. parts_at at.1 >>= λ parts. keys_at parts.1 >>= λ reads. writes_at reads.1 >>= λ writes. Some
-        (made a.0.0 at.0 parts.0 reads.0 writes)) x a.2 in
+    (made a.0.0 at.0 parts.0 reads.0 writes)) x a.2 in
     let c = bind_some (parts_at b.0.1) (λ parts. keys_at parts.1 >>= λ reads. writes_at reads.1 >>= λ writes. Some
-        (made a.0.0 b.0.0 parts.0 reads.0 writes)) x b.2 in
+    (made a.0.0 b.0.0 parts.0 reads.0 writes)) x b.2 in
     let d = bind_some (keys_at c.0.1) (λ reads. writes_at reads.1 >>= λ writes. Some (made a.0.0 b.0.0 c.0.0 reads.0 writes)) x c.2 in
     let f = bind_some (writes_at d.0.1) (λ writes. Some (made a.0.0 b.0.0 c.0.0 d.0.0 writes)) x d.2 in
     let txn = id_reads bytes a.0 fits a.1 in
@@ -301,9 +308,9 @@ commit_reads bytes x fits e =
     let reads = keys_read c.0.1 d.0 parts.0.rest_fits d.1 in
     let writes = writes_read d.0.1 f.0 reads.0.rest_fits f.1 in
     let all = taken_five bytes (id_spelling a.0.0) a.0.1 (to_be_bytes w64 b.0.0) b.0.1 (parts_spelling c.0.0) c.0.1 (keys_spelling d.0.0) d.0.1
-        (writes_spelling f.0.0) f.0.1 txn.0 at.0 parts.0 reads.0 writes.0 in
+    (writes_spelling f.0.0) f.0.1 txn.0 at.0 parts.0 reads.0 writes.0 in
     subst (λ (y : Committed × List ℕ). Taken bytes (commit_spelling y.0) y.1 × IsCommit y.0) {x = made a.0.0 b.0.0 c.0.0 d.0.0 f.0}
-        (some_is (made a.0.0 b.0.0 c.0.0 d.0.0 f.0) x f.2)
+    (some_is (made a.0.0 b.0.0 c.0.0 d.0.0 f.0) x f.2)
     (all, record { txn = txn.1; at = at.1; parts = parts.1; reads = reads.1; writes = writes.1 })
   where
     made : Id → ℕ → List ℕ → List Bytes → List Write × List ℕ → Committed × List ℕ
@@ -326,7 +333,7 @@ ended_reads bytes x fits e =
 of_kind : {A : Type 0} (kind byte : ℕ) (one : List ℕ → Option (A × List ℕ)) (spell : A → List ℕ) (Fits : A → Type 0) (make : A → Record)
     (bytes : List ℕ) (x : Record × List ℕ) → IsBytes bytes → Reads one spell Fits → byte ≡ kind
     → ((a : A) → spelling (make a) ≡ kind ∷ spell a) → ((a : A) → Fits a → IsRecord (make a)) → (one bytes >>= λ y. Some (make y.0, y.1)) ≡ Some x →
-        Taken (byte ∷ bytes) (spelling x.0) x.1 × IsRecord x.0
+    Taken (byte ∷ bytes) (spelling x.0) x.1 × IsRecord x.0
 of_kind {A} kind byte one spell Fits make bytes x fits reads is spelled limits e =
     let a = bind_some (one bytes) (λ y. Some (make y.0, y.1)) x e in
     let read = reads bytes a.0 fits a.1 in
@@ -373,7 +380,7 @@ record_reads (kind ∷ bytes) x fits e =
               | inr past5 ↦
                   let outcome = if_some (eqb kind 6) ends x past5.1 in
                   of_kind 6 kind ended_at ended_spelling (λ y. IsId y.0 × IsOutcome y.1) (λ y. records.Outcome y.0 y.1) bytes x rest_fits ended_reads
-                      (eqb-true kind 6 outcome.0) (λ a. refl) (λ a h. h) outcome.1
+                  (eqb-true kind 6 outcome.0) (λ a. refl) (λ a h. h) outcome.1
             ]
           ]
         ]

@@ -144,11 +144,11 @@ order logs lines told t u at m n x acked begun before found =
     let none : first_wrong_order h lines ≡ None = (no_fault _ _ _ _ told).3 in
     let no_pair : option_map (λ j. (begin_place.0, j)) (head (late_acks h (numbered 0 lines) (Line.Begin u n))) ≡ None =
     none_given (λ l. option_map (λ j. (l.0, j)) (head (late_acks h (numbered 0 lines) l.1))) (numbered 0 lines) begun.0
-        (begin_place.0, Line.Begin u n) (head_none _ none) begin_place.1 in
+    (begin_place.0, Line.Begin u n) (head_none _ none) begin_place.1 in
     let no_ack : late_acks h (numbered 0 lines) (Line.Begin u n) ≡ [] = head_none _ (mapped_none _ _ no_pair) in
     let no_ack_of : gather (λ l. cond (is_late_ack n x.at l.1) (Some (l.0)) None) (numbered 0 lines) ≡ [] =
     subst (λ o. (elim o as (λ v. List ℕ) [ None ↦ [] | Some v ↦ gather (λ l. cond (is_late_ack n v.at l.1) (Some (l.0)) None) (numbered 0 lines) ]) ≡
-        []) found no_ack in
+    []) found no_ack in
     let not_this : is_late_ack n x.at (Line.Ack t at m) ≡ false =
     chosen_none _ ack_place.0
     (none_given (λ l. cond (is_late_ack n x.at l.1) (Some (l.0)) None) (numbered 0 lines) acked.0 (ack_place.0, Line.Ack t at m) no_ack_of ack_place.1) in

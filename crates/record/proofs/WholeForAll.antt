@@ -85,7 +85,7 @@ mentioned : (t : Id) (logs : List (List Record)) (ids : List Id) → filter (λ 
 mentioned t logs [] e there = cc
 mentioned t logs (u ∷ us) e there =
     let p : (not (is_whole u logs) ≡ false) × (filter (λ v. not (is_whole v logs)) us ≡ []) =
-        kept_step (not (is_whole u logs)) u (filter (λ v. not (is_whole v logs)) us) e in
+    kept_step (not (is_whole u logs)) u (filter (λ v. not (is_whole v logs)) us) e in
     here_or_later (one_of (same_id t u) (list_any (same_id t) us) there) p.0 (λ later. mentioned t logs us p.1 later)
   where
     here_or_later : (same_id t u ≡ true) ⊎ (list_any (same_id t) us ≡ true) → not (is_whole u logs) ≡ false →

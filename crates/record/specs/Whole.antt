@@ -94,7 +94,7 @@ abbrev pub resolves_by : List (List Record) → Id → List Decision → Type 0
 resolves_by logs t [] = IsTrue (list_all (λ l. not (when (λ s. true) (stands_at logs l t))) logs)
 resolves_by logs t (d ∷ ds) =
     IsTrue (list_all (λ l. cond (has d.commit.parts l.0) (when (nat_eq d.commit.at) (stands_at logs l.1 t))
-        (not (when (λ s. true) (stands_at logs l.1 t)))) (by_shard logs))
+    (not (when (λ s. true) (stands_at logs l.1 t)))) (by_shard logs))
 
 -- an id resolves to all of its parts or to none
 abbrev pub Resolves : List (List Record) → Id → Type 0

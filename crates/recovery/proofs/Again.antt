@@ -72,7 +72,7 @@ stands_again k t s at rs ws phase logged last after p recovered fresh own stands
     let held : with_locks (held_in k.memory.rows t) (shared rs ++ exclusive ws) ≡ locks_of rs ws =
     ap (λ hs. with_locks hs (shared rs ++ exclusive ws)) nothing ∙ with_locks-append [] (shared rs) (exclusive ws) in
     let rows : with_row k.memory.rows (record { txn = t; held = with_locks (held_in k.memory.rows t) (shared rs ++ exclusive ws); phase = phase }) ≡
-        gather standing_row after.entries =
+    gather standing_row after.entries =
     ap (λ ls. with_row k.memory.rows (record { txn = t; held = ls; phase = phase })) held
     ∙ ap (λ rows. with_row rows (record { txn = t; held = locks_of rs ws; phase = phase })) (rows_are k recovered)
     ∙ row_put k.facts.entries t s (record { txn = t; held = locks_of rs ws; phase = phase }) recovered.order recovered.own own stands refl
@@ -80,8 +80,12 @@ stands_again k t s at rs ws phase logged last after p recovered fresh own stands
     let same : last ≡ after.floor = late ∙ ap (λ m. max m.last at) recovered.memory ∙ sym floor in
     let ended : k.memory.ended ≡ [] = ap (λ m. m.ended) recovered.memory in
     ap (λ q. carried q k.memory) plan
-    ∙ ap (λ n. record { last = n; rows = with_row k.memory.rows
-        (record { txn = t; held = with_locks (held_in k.memory.rows t) (shared rs ++ exclusive ws); phase = phase }); ended = k.memory.ended }) same
+    ∙ ap (λ n. record {
+      last = n;
+      rows = with_row k.memory.rows
+          (record { txn = t; held = with_locks (held_in k.memory.rows t) (shared rs ++ exclusive ws); phase = phase });
+      ended = k.memory.ended;
+    }) same
     ∙ ap (λ rs. record { last = after.floor; rows = rs; ended = k.memory.ended }) rows
     ∙ ap (λ ids. record { last = after.floor; rows = gather standing_row after.entries; ended = ids }) ended
 
@@ -123,10 +127,10 @@ fresh_before shard facts r t follows named = by_record r (id_rules shard facts r
     by_record : (r : Record) → id_follows shard facts r ≡ true → names r ≡ Some t → recorded facts t ≡ Unrecorded
     by_record (Record.Prepare p) h k =
         let same : p.txn ≡ t = cc in subst (λ u. recorded facts u ≡ Unrecorded) same (unrecorded_is (recorded facts p.txn)
-            (and_parts _ _ (and_parts _ _ h).0).1)
+        (and_parts _ _ (and_parts _ _ h).0).1)
     by_record (Record.Commit c) h k =
         let same : c.txn ≡ t = cc in subst (λ u. recorded facts u ≡ Unrecorded) same (unrecorded_is (recorded facts c.txn)
-            (and_parts _ _ (and_parts _ _ h).0).1)
+        (and_parts _ _ (and_parts _ _ h).0).1)
     by_record (Record.Abort u) h k = let same : u ≡ t = cc in subst (λ u. recorded facts u ≡ Unrecorded) same (unrecorded_is (recorded facts u) h)
     by_record (Record.Opened epoch) h k = cc
     by_record (Record.Ceiling at) h k = cc
@@ -139,8 +143,14 @@ absent_before k shard r t recovered follows named = fresh_absent k t recovered (
 pub promise_again : (k : Kept) (shard : ℕ) (x : Prepared) (logged : Option Record) (last : ℕ) (p : protocol.Plan) → IsRecovered k →
     follows_facts shard k.facts (Record.Prepare x) ≡ true
     → last ≡ max k.memory.last x.at
-    → p ≡ record { wounded = []; change = protocol.Puts x.txn (shared x.reads ++ exclusive x.writes) (IsPrepared x.coordinator x.at); logged =
-        logged; last = last; outbox = [] }
+    → p ≡ record {
+      wounded = [];
+      change = protocol.Puts x.txn (shared x.reads ++ exclusive x.writes) (IsPrepared x.coordinator x.at);
+      logged =
+          logged;
+      last = last;
+      outbox = [];
+    }
     → carried p k.memory ≡ rebuilt (learn k.facts (Record.Prepare x))
 unfolding learn
 promise_again k shard x logged last p recovered follows late plan =
@@ -150,8 +160,13 @@ promise_again k shard x logged last p recovered follows late plan =
 pub decision_again : (k : Kept) (shard : ℕ) (x : Committed) (logged : Option Record) (last : ℕ) (p : protocol.Plan) → IsRecovered k →
     follows_facts shard k.facts (Record.Commit x) ≡ true
     → last ≡ max k.memory.last x.at
-    → p ≡ record { wounded = []; change = protocol.Puts x.txn (shared x.reads ++ exclusive x.writes) (IsDecided x.at x.parts); logged = logged;
-        last = last; outbox = [] }
+    → p ≡ record {
+      wounded = [];
+      change = protocol.Puts x.txn (shared x.reads ++ exclusive x.writes) (IsDecided x.at x.parts);
+      logged = logged;
+      last = last;
+      outbox = [];
+    }
     → carried p k.memory ≡ rebuilt (learn k.facts (Record.Commit x))
 unfolding learn
 decision_again k shard x logged last p recovered follows late plan =
@@ -191,7 +206,7 @@ outcome_again k shard t o last item out p recovered follows late plan =
     let allowed : allows (recorded k.facts t) o ≡ true = id_rules shard k.facts (Record.Outcome t o) follows in
     drops_again k t (after_outcome (recorded k.facts t) o) last item out (learn k.facts (Record.Outcome t o)) p recovered
     (ended_own t (recorded k.facts t) o allowed) (ended_row t (recorded k.facts t) o allowed) refl
-        (sym (late ∙ ap (λ m. or_floor m.last o) recovered.memory)) plan
+    (sym (late ∙ ap (λ m. or_floor m.last o) recovered.memory)) plan
 
 -- what may be done with the row
 pub may_abort_again : (k : Kept) (shard : ℕ) (t : Id) → IsRecovered k → follows_facts shard k.facts (Record.Abort t) ≡ true →

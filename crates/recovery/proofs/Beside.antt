@@ -61,7 +61,7 @@ opens_are : (k : Kept) (t : Id) (rs : List Bytes) (ws : List Write) → IsRecove
 opens_are k t rs ws recovered absent =
     ap (λ rows. is_free (claims (without_rows rows (wounded (claims rows) t (shared rs ++ exclusive ws)))) t (shared rs ++ exclusive ws)) (rows_are k recovered)
     ∙ ap (λ us. is_free (claims (without_rows (standing_rows k.facts) us)) t (shared rs ++ exclusive ws))
-        (none_wounded (standing_rows k.facts) t (shared rs ++ exclusive ws) (all_still k.facts))
+    (none_wounded (standing_rows k.facts) t (shared rs ++ exclusive ws) (all_still k.facts))
     ∙ locks_free k.facts t rs ws (ap (λ rows. find_row rows t) (sym (rows_are k recovered)) ∙ absent)
 
 -- so it stands beside them by the three tests
@@ -84,7 +84,7 @@ asks_are k t at rs ws recovered absent stands =
     let room : nat_lt (length k.memory.rows) most_rows ≡ true = ap (λ rows. nat_lt (length rows) most_rows) (rows_are k recovered) ∙ p.0 in
     let nobody : wounded (claims k.memory.rows) t (shared rs ++ exclusive ws) ≡ [] =
     ap (λ rows. wounded (claims rows) t (shared rs ++ exclusive ws)) (rows_are k recovered)
-        ∙ none_wounded (standing_rows k.facts) t (shared rs ++ exclusive ws) (all_still k.facts) in
+    ∙ none_wounded (standing_rows k.facts) t (shared rs ++ exclusive ws) (all_still k.facts) in
     let free : is_free (claims k.memory.rows) t (shared rs ++ exclusive ws) ≡ true =
     ap (λ rows. is_free (claims rows) t (shared rs ++ exclusive ws)) (rows_are k recovered)
     ∙ locks_free k.facts t rs ws (ap (λ rows. find_row rows t) (sym (rows_are k recovered)) ∙ absent)

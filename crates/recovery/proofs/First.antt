@@ -67,14 +67,14 @@ pub unfit_next : (setup : Setup) (facts : Facts) (e : Placed) → belongs setup 
     → fault_next setup facts e ≡ Some (Fault.Damaged e.offset)
 unfit_next setup facts e own follows out =
     own_next setup facts e own ∙ ap (λ b. cond (b && fits_facts facts e.item) None (Some (Fault.Damaged e.offset))) follows
-        ∙ ap (λ b. cond {A = Option Fault} b None (Some (Fault.Damaged e.offset))) out
+    ∙ ap (λ b. cond {A = Option Fault} b None (Some (Fault.Damaged e.offset))) out
 
 pub taken_next : (setup : Setup) (facts : Facts) (e : Placed) → belongs setup e.item ≡ true → follows_facts setup.shard facts e.item ≡ true →
     fits_facts facts e.item ≡ true
     → fault_next setup facts e ≡ None
 taken_next setup facts e own follows fits =
     own_next setup facts e own ∙ ap (λ b. cond (b && fits_facts facts e.item) None (Some (Fault.Damaged e.offset))) follows
-        ∙ ap (λ b. cond {A = Option Fault} b None (Some (Fault.Damaged e.offset))) fits
+    ∙ ap (λ b. cond {A = Option Fault} b None (Some (Fault.Damaged e.offset))) fits
 
 pub first_taken : (setup : Setup) (e : Placed) → belongs setup e.item ≡ true → is_first e.item ≡ true → fault_next setup (facts_of []) e ≡ None
 first_taken setup e own first = taken_next setup (facts_of []) e own (first_follows setup.shard e.item ∙ first) (fits_first e.item first)

@@ -125,7 +125,7 @@ free_is rows t needs still apart =
       where
         by_test : (b : Bool) → clash r.held needs ≡ b → list_any (λ c. true) (blockers (claims rs) t needs) ≡ list_any (clash needs) (map (λ r. r.held) rs)
             → list_any (λ c. true) (cond b (claim_of r ∷ blockers (claims rs) t needs) (blockers (claims rs) t needs)) ≡
-                (clash needs r.held || list_any (clash needs) (map (λ r. r.held) rs))
+            (clash needs r.held || list_any (clash needs) (map (λ r. r.held) rs))
         by_test true k rest = sym (ap (λ b. b || list_any (clash needs) (map (λ (r : Row). r.held) rs)) (clash_comm needs r.held ∙ k))
         by_test false k rest = rest ∙ sym (ap (λ b. b || list_any (clash needs) (map (λ (r : Row). r.held) rs)) (clash_comm needs r.held ∙ k))
 

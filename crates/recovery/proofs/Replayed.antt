@@ -56,7 +56,7 @@ memory_again old new p after recovered fit ready law same =
 pub recovered_again : (old new later : Kept) (p : Plan) (item : Record) → IsRecovered old → IsLawfulTable (claims old.memory.rows) →
     follows_facts old.setup.shard old.facts item ≡ true → fits_facts old.facts item ≡ true
     → p.logged ≡ Some item → IsFit old p → HasMemoryFor old new p → AdmissionIsUnseen → carried (plan_of old.memory.rows p) old.memory ≡
-        rebuilt (learn old.facts item)
+    rebuilt (learn old.facts item)
     → later.facts ≡ facts_after new.facts p.logged → later.memory ≡ carried (plan_of new.memory.rows p) new.memory
     → (later.facts ≡ learn old.facts item) × IsRecovered later
 recovered_again old new later p item recovered lawful follows fits logged fit ready law again facts memory =

@@ -40,7 +40,7 @@ use Rattle.recovery.proofs.StandingRows.{found}
 -- each entry of another id keeps what it had
 all_status : (P Q : Entry → Type 0) (es : List Entry) (t : Id) (s : Status) → IsById (λ e. e.txn) es → Q (record { txn = t; status = s })
     → ((e : Entry) → find_member (λ e. e.txn) es e.txn ≡ Some e → same_id t e.txn ≡ false → P e → Q e) → AllByRecursion P es →
-        AllByRecursion Q (with_status es t s)
+    AllByRecursion Q (with_status es t s)
 all_status P Q es t s up new keeps all =
     all_gives (λ (e : Entry). find_member (λ (e : Entry). e.txn) (with_status es t s) e.txn ≡ Some e) Q one (with_status es t s)
     (find_members (λ (e : Entry). e.txn) (with_status es t s) (by_id-status es t s up))
@@ -74,11 +74,11 @@ has_row e x k = by_status e.status k
     by_status (StandsPrepared p) k =
         let same : record { at = p.at; reads = p.reads; writes = p.writes } ≡ x = cc in
         subst (HasRow (record { txn = e.txn; status = StandsPrepared p })) same
-            (record { row = record { txn = p.txn; held = locks_of p.reads p.writes; phase = IsPrepared p.coordinator p.at }; is = refl; held = refl })
+        (record { row = record { txn = p.txn; held = locks_of p.reads p.writes; phase = IsPrepared p.coordinator p.at }; is = refl; held = refl })
     by_status (StandsDecided c) k =
         let same : record { at = c.at; reads = c.reads; writes = c.writes } ≡ x = cc in
         subst (HasRow (record { txn = e.txn; status = StandsDecided c })) same
-            (record { row = record { txn = c.txn; held = locks_of c.reads c.writes; phase = IsDecided c.at c.parts }; is = refl; held = refl })
+        (record { row = record { txn = c.txn; held = locks_of c.reads c.writes; phase = IsDecided c.at c.parts }; is = refl; held = refl })
     by_status Unrecorded k = cc
     by_status HasAborted k = cc
     by_status (HasSettled at ps) k = cc
@@ -171,7 +171,7 @@ installed_good f g t s y at d up own lawful there part put gone installs low goo
           above =
               subst (λ is. IsTrue (above_versions is x.at x.writes)) (sym installs)
               (above_more f.installs x.at at x.writes y.writes (parts_apart f e d x y up own lawful here at_own
-                  (ap (λ u. same_id u e.txn) mine ∙ differ) k part) due.above);
+              (ap (λ u. same_id u e.txn) mine ∙ differ) k part) due.above);
         })
 
 -- ---- each record keeps it
@@ -293,7 +293,7 @@ taken_more shard f (Record.Outcome t (Some s)) up own lawful follows fit taken =
           each_append (λ (i : Install). nat_le i.at (max f.floor s)) f.installs (installs_at (recorded f t) (Some s))
           (covered_later f.floor (max f.floor s) f.installs (up_left f.floor s) taken.covered)
           (subst (λ is. list_all (λ (i : Install). nat_le i.at (max f.floor s)) is ≡ true) (sym (x.installs s))
-              (covered_versions x.part.writes s (max f.floor s) (up_right f.floor s)));
+          (covered_versions x.part.writes s (max f.floor s) (up_right f.floor s)));
     }
 
 -- ---- so it is sound
@@ -368,7 +368,7 @@ recovered_sound shard k recovered lawful = record {
   installed = ap (λ n. list_all (λ (i : Install). nat_le i.at n) k.facts.installs) (last_is k recovered) ∙ recovered.covered;
   fit = ap (list_all (fits shard)) (rows_is k recovered)
       ∙ each_of_all (fits shard) (standing_rows k.facts) (all-gather (λ e. Unit {0}) (λ r. fits shard r ≡ true) (row_fits shard) k.facts.entries
-          (all_unit k.facts.entries));
+      (all_unit k.facts.entries));
   agrees = λ t.
       subst (λ rows. Agrees k.facts.installs k.memory.last (recorded k.facts t) (find_row rows t)) (sym (rows_is k recovered))
       (subst (λ n. Agrees k.facts.installs n (recorded k.facts t) (find_row (standing_rows k.facts) t)) (sym (last_is k recovered))

@@ -36,14 +36,14 @@ stands_is log at rs ws =
     ap (λ n. nat_lt n most_rows && not (list_any (clash (locks_of rs ws)) (locks_standing log)) && above_versions (installs_of log) at ws)
     (ap length (standing_is log) ∙ length-held (standing_rows (facts_of log)))
     ∙ ap (λ hs. nat_lt (length (standing_rows (facts_of log))) most_rows && not (list_any (clash (locks_of rs ws)) hs) && above_versions
-        (installs_of log) at ws) (standing_is log)
+    (installs_of log) at ws) (standing_is log)
     ∙ ap (λ is. nat_lt (length (standing_rows (facts_of log))) most_rows && not (list_any (clash (locks_of rs ws))
-        (map (λ r. r.held) (standing_rows (facts_of log)))) && above_versions is at ws)
+    (map (λ r. r.held) (standing_rows (facts_of log)))) && above_versions is at ws)
     (sym (installs_are log))
 
 installs_is : (shard : ℕ) (log : List Record) (t : Id) (s : ℕ) → follows_facts shard (facts_of log) (Record.Outcome t (Some s)) ≡ true
     → above_versions (installs_of log) s (writes_by (committed_of log t) (prepared_of log t)) ≡
-        above_versions (facts_of log).installs s (writes_standing (recorded (facts_of log) t))
+    above_versions (facts_of log).installs s (writes_standing (recorded (facts_of log) t))
 unfolding follows_facts status_of
 installs_is shard log t s follows =
     let allowed : allows (status_by (is_aborted log t) (committed_of log t) (prepared_of log t) (ended_of log t)) (Some s) ≡ true =
@@ -100,7 +100,7 @@ verdict_here : (setup : Setup) (entries done : List Placed) (e : Placed) (left :
     → taken setup (items entries)
     ≡ cond (not (belongs setup e.item)) (StrangerAt (length done))
     (cond (follows_facts setup.shard facts e.item && fits_facts facts e.item) (taken_from setup (items done ++ e.item ∷ []) (length done + 1)
-        (items left)) (DamagedAt (length done)))
+    (items left)) (DamagedAt (length done)))
 verdict_here setup entries done e left facts may_stand =
     may_stand.verdict
     ∙ ap (λ b. cond (not (belongs setup e.item)) (StrangerAt (length done))
@@ -135,7 +135,7 @@ at_next setup entries done e left facts may_stand none = record {
   verdict =
       verdict_here setup entries done e left facts may_stand
       ∙ ap (λ b. cond (not b) (StrangerAt (length done)) (cond (follows_facts setup.shard facts e.item && fits_facts facts e.item) rest
-          (DamagedAt (length done)))) fit.own
+      (DamagedAt (length done)))) fit.own
       ∙ ap (λ b. cond (b && fits_facts facts e.item) rest (DamagedAt (length done))) fit.follows
       ∙ ap (λ b. cond b rest (DamagedAt (length done))) fit.fits
       ∙ ap (λ rs. taken_from setup rs (length done + 1) (items left)) (sym (items-append done (e ∷ [])))
@@ -165,7 +165,7 @@ at_fault setup entries done e left facts fault may_stand refused =
   where
     by_tests : (a b : Bool) → cond (not a) (Some Fault.Stranger) (cond b None (Some (Fault.Damaged e.offset))) ≡ Some fault
         → fault_in (cond (not a) (StrangerAt (length done)) (cond b (taken_from setup (items done ++ e.item ∷ []) (length done + 1) (items left))
-            (DamagedAt (length done)))) entries ≡ Some fault
+        (DamagedAt (length done)))) entries ≡ Some fault
     by_tests false b k = k
     by_tests true false k =
         ap (λ es. follow (slice_get es (length done)) (λ q. Some (Fault.Damaged q.offset))) may_stand.whole
@@ -201,7 +201,7 @@ fault_first setup entries first rest fault whole refused =
 
 module _ (setup : Setup) (entries : List Placed) (first : Placed) (rest : List Placed) (i : ℕ) (e : Placed) (facts : Facts)
     (whole : entries ≡ first ∷ rest) (lt : i < length rest) (is : e ≡ get_or rest i e) (may_stand : Stands setup entries (take (i + 1) entries)
-        (drop i rest) facts) where
+    (drop i rest) facts) where
   here : Stands setup entries (take (i + 1) entries) (e ∷ drop (i + 1) rest) facts
   here = subst (λ left. Stands setup entries (take (i + 1) entries) left facts) (drop_more rest i e lt ∙ ap (λ q. q ∷ drop (i + 1) rest) (sym is)) may_stand
 
@@ -220,7 +220,7 @@ module _ (setup : Setup) (entries : List Placed) (first : Placed) (rest : List P
   after_next later none learnt =
       subst (λ f. Stands setup entries (take (i + 1 + 1) entries) (drop (i + 1) rest) f) (sym learnt)
       (subst (λ done. Stands setup entries done (drop (i + 1) rest) (learn facts e.item))
-          (sym (take_more entries (i + 1) e (omega (arith, long, lt)) ∙ ap (λ q. take (i + 1) entries ++ q ∷ []) there))
+      (sym (take_more entries (i + 1) e (omega (arith, long, lt)) ∙ ap (λ q. take (i + 1) entries ++ q ∷ []) there))
       (at_next setup entries (take (i + 1) entries) e (drop (i + 1) rest) facts here none))
 
   -- or it is refused

@@ -33,6 +33,6 @@ pub room_fits : (rows : List CodeRow) (table : List Claim) (t : Id) (s : Reading
 room_fits rows table t s seen needs view tied found fits =
     let held : length (held_in_table table s.token.txn) ≡ length (held_in seen.rows t) =
     ap (λ i. length (held_in_table table i)) (found_txn rows t (Reading s) found) ∙ ap length (held_is rows table t tied)
-        ∙ ap (λ (r : RowTable). length (held_in r.rows t)) view in
+    ∙ ap (λ (r : RowTable). length (held_in r.rows t)) view in
     let spare : room seen t ≡ s.token.room = ap (λ (r : RowTable). room r t) (sym view) ∙ room_found rows table t (Reading s) found in
     omega (arith, held, spare, fits)

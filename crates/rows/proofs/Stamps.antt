@@ -17,8 +17,11 @@ gather-paired : (f : Row → Option (Id × ℕ)) (g : CodeRow → Option (Id × 
     → (rows : List CodeRow) (table : List Claim) → gather f (paired rows table) ≡ gather g rows
 gather-paired f g same [] table = refl
 gather-paired f g same (r ∷ rs) table =
-    ap (λ (o : Option (Id × ℕ)). elim o as (λ _. List (Id × ℕ)) [ None ↦ gather f (paired rs (tail table)) | Some x ↦
-        x ∷ gather f (paired rs (tail table)) ]) (same r (held_first table))
+    ap (λ (o : Option (Id × ℕ)). elim o as (λ _. List (Id × ℕ)) [
+      | None ↦ gather f (paired rs (tail table))
+      | Some x ↦
+          x ∷ gather f (paired rs (tail table))
+    ]) (same r (held_first table))
     ∙ ap (λ (l : List (Id × ℕ)). elim (g r) as (λ _. List (Id × ℕ)) [ None ↦ l | Some x ↦ x ∷ l ]) (gather-paired f g same rs (tail table))
 
 -- the two words for one row

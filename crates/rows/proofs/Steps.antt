@@ -57,7 +57,7 @@ pub stepped : (rows mid new : List CodeRow) (table next : List Claim) (t : Id) (
     → IsRowList rows → claims (paired rows table) ≡ table → row_of rows t ≡ Some y
     → mid ≡ without_txn rows t → new ≡ put_in mid z → txn_of z ≡ t → next ≡ change_claim table (txn_of y) f
     → claim_of (record { txn = t; held = held; phase = phase_of z }) ≡
-        f (claim_of (record { txn = t; held = held_in (paired rows table) t; phase = phase_of y }))
+    f (claim_of (record { txn = t; held = held_in (paired rows table) t; phase = phase_of y }))
     → IsMoved new next (put_row (paired rows table) t held (phase_of z))
 stepped rows mid new table next t y z held f laws tied found mid_is new_is same next_is claim =
     changed rows new table next t y z held f laws.order tied found same

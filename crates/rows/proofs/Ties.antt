@@ -126,7 +126,7 @@ pub claim_there : (rows : List CodeRow) (table : List Claim) (t : Id) (y : CodeR
 claim_there rows table t y tied e =
     subst (λ s. has_claim s t ≡ true) tied
     (found_has (λ (c : Claim). c.txn) (claims (paired rows table)) t _ (claims-find_row (paired rows table) t
-        ∙ ap (option_map claim_of) (found_row rows table t y e)))
+    ∙ ap (option_map claim_of) (found_row rows table t y e)))
 
 -- the row that is found is of the id
 pub found_txn : (rows : List CodeRow) (t : Id) (y : CodeRow) → row_of rows t ≡ Some y → txn_of y ≡ t
@@ -163,7 +163,7 @@ with-without {A = A} id (x ∷ xs) y up = by_test (same_id (id x) (id y)) refl (
     by_test true s rest =
         ap (λ l. with_member id l y) (without_none id xs (id y) (later_differ id (id y) x xs s young))
         ∙ with-in_front id xs y (all_gives (λ z. older (id x) (id z) ≡ true) (λ z. older (id y) (id z) ≡ true)
-            (λ z k. sym (older-along (id x) (id y) (id z) s) ∙ k) xs young)
+        (λ z k. sym (older-along (id x) (id y) (id z) s) ∙ k) xs young)
     by_test false s rest = rw s (by_age (older (id x) (id y)) refl s rest)
 
 -- what a method leaves: the claims are those of the rows, and a contract sees these rows
@@ -190,7 +190,7 @@ pub changed : (rows new : List CodeRow) (table next : List Claim) (t : Id) (y z 
     → IsById txn_of rows → claims (paired rows table) ≡ table → row_of rows t ≡ Some y → txn_of z ≡ t
     → new ≡ put_in (without_txn rows t) z → next ≡ change_claim table t f
     → claim_of (record { txn = t; held = held; phase = phase_of z }) ≡
-        f (claim_of (record { txn = t; held = held_in (paired rows table) t; phase = phase_of y }))
+    f (claim_of (record { txn = t; held = held_in (paired rows table) t; phase = phase_of y }))
     → IsMoved new next (put_row (paired rows table) t held (phase_of z))
 changed rows new table next t y z held f up tied found same is next_is claim =
     let seen : List Row = paired rows table in

@@ -39,7 +39,7 @@ prepared rows mid new table next t s z r laws tied idle mine found mid_is new_is
     (ap (λ (x : PreparedState). x.token.txn) z_is ∙ ap (λ (k : Token). k.txn) (prepared_token s.token r) ∙ found_txn rows t (Reading s) found)
     next_is
     (firm_claim t (held_in seen t) (phase_of_wait s.wait) (phase_of (Prepared z)) (idle_is (phase_of_wait s.wait)
-        (found_passes is_idle rows t (Reading s) found idle)) refl refl))
+    (found_passes is_idle rows t (Reading s) found idle)) refl refl))
 
 -- a phase of a transaction that reads
 pub reading_is_open : (w : Option Wait) → is_firm (phase_of_wait w) ≡ false
@@ -93,7 +93,7 @@ decided rows mid new table next t s z r laws tied may mine found mid_is new_is z
     (ap (λ (x : DecidedState). x.token.txn) z_is ∙ ap (λ (k : Token). k.txn) (decided_token s.token r) ∙ found_txn rows t (Reading s) found)
     next_is
     (firm_claim t (held_in seen t) (phase_of_wait s.wait) (phase_of (Decided z)) (reading_decides s.wait
-        (found_passes may_decide rows t (Reading s) found may)) refl refl))
+    (found_passes may_decide rows t (Reading s) found may)) refl refl))
 
 -- and one that collects votes is decided
 pub decided_by_votes : (rows mid new : List CodeRow) (table : List Claim) (t : Id) (s : CollectingState) (z : DecidedState) (r : Record)
@@ -120,7 +120,7 @@ collected rows mid new table next t s z request laws tied idle found mid_is new_
     (ap (λ (x : CollectingState). x.token.txn) z_is ∙ found_txn rows t (Reading s) found)
     next_is
     (firm_claim t (held_in seen t) (phase_of_wait s.wait) (phase_of (Collecting z)) (idle_is (phase_of_wait s.wait)
-        (found_passes is_idle rows t (Reading s) found idle)) refl refl))
+    (found_passes is_idle rows t (Reading s) found idle)) refl refl))
 
 -- what a transaction that reads has is told by what it waits with
 reading_claim : (t : Id) (held : List Lock) (w : Option Wait) → claim_of (record { txn = t; held = held; phase = phase_of_wait w }) ≡
@@ -180,7 +180,7 @@ given_room rows mid new table t s z laws tied found mid_is new_is same wait =
     let seen = paired rows table in
     told new table _ _ (ap (λ (w : Option Wait). put_row seen t (held_in seen t) (phase_of_wait w)) wait
     ∙ with_same seen (record { txn = t; held = held_in seen t; phase = phase_of_wait s.wait }) (by_id-paired rows table laws.order)
-        (found_row rows table t (Reading s) found))
+    (found_row rows table t (Reading s) found))
     (kept rows mid new table t (Reading s) (Reading z) laws tied found mid_is new_is (same ∙ found_txn rows t (Reading s) found)
     (ap (λ (w : Option Wait). needs_of (phase_of_wait w)) wait) (ap (λ (w : Option Wait). is_firm (phase_of_wait w)) wait))
 

@@ -60,7 +60,7 @@ ids-map p (q ∷ rows) = by_test (p (claim_of q)) (ids-map p rows)
   where
     by_test : (b : Bool) → map (λ c. c.txn) (filter p (claims rows)) ≡ map (λ q. q.txn) (filter (λ q. p (claim_of q)) rows)
         → map (λ c. c.txn) (cond b (claim_of q ∷ filter p (claims rows)) (filter p (claims rows))) ≡
-            map (λ r. r.txn) (cond b (q ∷ filter (λ r. p (claim_of r)) rows) (filter (λ r. p (claim_of r)) rows))
+        map (λ r. r.txn) (cond b (q ∷ filter (λ r. p (claim_of r)) rows) (filter (λ r. p (claim_of r)) rows))
     by_test true e = ap (λ l. q.txn ∷ l) e
     by_test false e = e
 

@@ -238,18 +238,31 @@ kept_written taken aw ws w is may = record {
     less n h = grind (arith, nat_tests)
 
     few : (b : Bool) → writes_key ws w.key ≡ b → (nat_le 128 (length ws) && not b) ≡ false → length (with_write ws w) ≤ 128
-    few true e h = omega (arith, is.few_writes, length_insert write_before w (others (λ (v : Write). v.key) ws w.key),
-        fewer_others (λ (v : Write). v.key) ws w.key e)
-    few false e h = omega (arith, less (length ws) h, length_insert write_before w (others (λ (v : Write). v.key) ws w.key),
-        length_keep (λ (v : Write). not (same_key v.key w.key)) ws)
+    few true e h = omega (
+      arith,
+      is.few_writes,
+      length_insert write_before w (others (λ (v : Write). v.key) ws w.key),
+      fewer_others (λ (v : Write). v.key) ws w.key e,
+    )
+    few false e h = omega (
+      arith,
+      less (length ws) h,
+      length_insert write_before w (others (λ (v : Write). v.key) ws w.key),
+      length_keep (λ (v : Write). not (same_key v.key w.key)) ws,
+    )
 
 -- ---- what the tests say
 
 -- the keys that were asked for are below 128
 pub few_asked : (c : Client) → nat_le 128 (length (asked_keys c)) ≡ false → length c.taken + length c.awaited < 128
 few_asked c h =
-    omega (arith, under (length (asked_keys c)) h, length-append (map key_of c.taken ++ option_to_list c.doom) c.awaited,
-        length-append (map key_of c.taken) (option_to_list c.doom), length-map c.taken key_of)
+    omega (
+      arith,
+      under (length (asked_keys c)) h,
+      length-append (map key_of c.taken ++ option_to_list c.doom) c.awaited,
+      length-append (map key_of c.taken) (option_to_list c.doom),
+      length-map c.taken key_of,
+    )
   where
     key_of : Answered → Bytes
     key_of = λ a. a.key

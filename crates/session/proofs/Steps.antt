@@ -24,7 +24,7 @@ reads_by splits k c aw n a b d e =
 
 read_as : (splits : List Bytes) (k : Bytes) (c : Client)
     → reads splits k c ≡ reads_by splits k c (c.awaited ++ k ∷ []) (shard_of splits k) (nat_le 128 (length (asked_keys c))) (was_answered c k)
-        (has_key c.awaited k) (is_doomed c)
+    (has_key c.awaited k) (is_doomed c)
 unfolding reads
 read_as splits k c = refl
 
@@ -94,15 +94,19 @@ Hears n k epoch a c d h = (d ≡ hears n k epoch a c) × (h ≡ heard_as c n k e
 
 pub heard_again : (n : ℕ) (k : Bytes) (epoch : ℕ) (a : Answer) (c : Client) → (has_key c.awaited k && not (is_doomed c)) ≡ false
     → Hears n k epoch a c c Heard.Again
-heard_again n k epoch a c e =
-    (sym (hear_as n k epoch a c ∙ (λ i. cond (e i) (take_answer c n k epoch a) c)), sym (λ i. cond (e i)
-        (taken_as (epochs_agree c.taken n epoch) a) Heard.Again))
+heard_again n k epoch a c e = (
+  sym (hear_as n k epoch a c ∙ (λ i. cond (e i) (take_answer c n k epoch a) c)),
+  sym (λ i. cond (e i)
+      (taken_as (epochs_agree c.taken n epoch) a) Heard.Again),
+)
 
 heard_taken : (n : ℕ) (k : Bytes) (epoch : ℕ) (a : Answer) (c : Client) → (has_key c.awaited k && not (is_doomed c)) ≡ true
     → Hears n k epoch a c (take_answer c n k epoch a) (taken_as (epochs_agree c.taken n epoch) a)
-heard_taken n k epoch a c e =
-    (sym (hear_as n k epoch a c ∙ (λ i. cond (e i) (take_answer c n k epoch a) c)), sym (λ i. cond (e i)
-        (taken_as (epochs_agree c.taken n epoch) a) Heard.Again))
+heard_taken n k epoch a c e = (
+  sym (hear_as n k epoch a c ∙ (λ i. cond (e i) (take_answer c n k epoch a) c)),
+  sym (λ i. cond (e i)
+      (taken_as (epochs_agree c.taken n epoch) a) Heard.Again),
+)
 
 pub heard_refused : (n : ℕ) (k : Bytes) (epoch : ℕ) (a : Answer) (c : Client) → (has_key c.awaited k && not (is_doomed c)) ≡ true
     → a ≡ Refused → Hears n k epoch a c (doomed_by k c) Heard.Doomed
@@ -114,7 +118,7 @@ pub heard_value : (n : ℕ) (k : Bytes) (epoch : ℕ) (a : Answer) (c : Client) 
 heard_value n k epoch a c x e is agree =
     let h = heard_taken n k epoch (Holds x) c e in
     subst (λ b. Hears n k epoch b c (take_answer c n k epoch (Holds x)) (Heard.Value x)) (sym is)
-        (h.0, sym (λ i. cond (agree i) (Heard.Value x) Heard.Doomed) ∙ h.1)
+    (h.0, sym (λ i. cond (agree i) (Heard.Value x) Heard.Doomed) ∙ h.1)
 
 pub heard_second_epoch : (n : ℕ) (k : Bytes) (epoch : ℕ) (a : Answer) (c : Client) (x : Option Bytes) → (has_key c.awaited k && not (is_doomed c)) ≡ true
     → a ≡ Holds x → epochs_agree c.taken n epoch ≡ false → Hears n k epoch a c (doomed_by k c) Heard.Doomed

@@ -133,15 +133,31 @@ writes_at_shard splits c n = filter (λ w. nat_eq (shard_of splits w.key) n) c.w
 -- the message to a part that does not decide
 abbrev pub prepare_for : List Bytes → Client → ℕ → ℕ → Envelope
 prepare_for splits c coordinator n =
-    record { to = Shard n; message = Message.Prepare (record { txn = c.txn; coordinator = coordinator; reads = read_set c n; writes =
-        writes_at_shard splits c n }) }
+    record {
+      to = Shard n;
+      message = Message.Prepare (record {
+        txn = c.txn;
+        coordinator = coordinator;
+        reads = read_set c n;
+        writes =
+            writes_at_shard splits c n;
+      });
+    }
 
 -- the messages of a closing: Commit to the least part, which decides, then Prepare to each other part
 abbrev pub messages_for : List Bytes → Client → List ℕ → List Envelope
 messages_for splits c [] = []
 messages_for splits c (n ∷ ns) =
-    record { to = Shard n; message = Message.Commit (record { txn = c.txn; parts = n ∷ ns; reads = read_set c n; writes =
-        writes_at_shard splits c n }) } ∷ map (prepare_for splits c n) ns
+    record {
+      to = Shard n;
+      message = Message.Commit (record {
+        txn = c.txn;
+        parts = n ∷ ns;
+        reads = read_set c n;
+        writes =
+            writes_at_shard splits c n;
+      });
+    } ∷ map (prepare_for splits c n) ns
 
 -- the messages of the closing, the same each time
 unfoldable pub closing_messages : List Bytes → Client → List Envelope

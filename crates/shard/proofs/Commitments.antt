@@ -34,8 +34,11 @@ module _ (t : Id) (c : Committed) where
       or_unrecorded (entry_for (with_status es u status) t) ≡ StandsDecided c
       → ((same ≡ true) × (status ≡ StandsDecided c)) ⊎ (or_unrecorded (entry_for es t) ≡ StandsDecided c)
   given es u status true is h =
-      inl (refl, sym (ap or_unrecorded (subst (λ v. entry_for (with_status es u status) v ≡ Some (entry u status)) (same_id-is u t is)
-          (entry_same es u status))) ∙ h)
+      inl (
+        refl,
+        sym (ap or_unrecorded (subst (λ v. entry_for (with_status es u status) v ≡ Some (entry u status)) (same_id-is u t is)
+            (entry_same es u status))) ∙ h,
+      )
   given es u status false is h = inr (sym (ap or_unrecorded (entry_other es u t status is)) ∙ h)
 
   not-decided : (status : Status) (outcome : Option ℕ) → after_outcome status outcome ≡ StandsDecided c → ⊥
@@ -63,7 +66,7 @@ module _ (t : Id) (c : Committed) where
   learn-one f (Record.Abort u) h = ⊎_elim (λ same. absurd (cc)) (λ before. inl before) (given f.entries u HasAborted (same_id u t) refl h)
   learn-one f (Record.Outcome u outcome) h =
       ⊎_elim (λ same. absurd (not-decided (recorded f u) outcome same.1)) (λ before. inl before)
-          (given f.entries u (after_outcome (recorded f u) outcome) (same_id u t) refl h)
+      (given f.entries u (after_outcome (recorded f u) outcome) (same_id u t) refl h)
 
   -- a list of records
   learn-all : (f : Facts) (rs : List Record) → recorded (fold learn f rs) t ≡ StandsDecided c → (recorded f t ≡ StandsDecided c)

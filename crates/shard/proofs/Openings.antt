@@ -42,7 +42,7 @@ follows_next shard f = grind (arith, nat_tests)
 -- its plan leaves what the log with it leaves
 pub opened_memory : (k : Kept) (p : protocol.Plan) (last : ℕ) (logged : Option Record) → k.memory ≡ rebuilt k.facts → last ≡ k.memory.last
     → p ≡ record { wounded = []; change = protocol.Keeps; logged = logged; last = last; outbox = [] } →
-        carried p k.memory ≡ rebuilt (learn k.facts (next k.facts))
+    carried p k.memory ≡ rebuilt (learn k.facts (next k.facts))
 unfolding carried after_change ended_by rebuilt learn
 opened_memory k p last logged again same plan =
     ap (λ q. carried q k.memory) plan

@@ -30,7 +30,7 @@ may_follow shard facts (Some r) follows = follows r refl
 
 may_install : (facts : Facts) (logged : Option Record)
     → ((t : Id) (s : ℕ) → logged ≡ Some (Record.Outcome t (Some s)) → MayInstall facts (Some (Record.Outcome t (Some s)))
-        (writes_installed facts (Some (Record.Outcome t (Some s)))))
+    (writes_installed facts (Some (Record.Outcome t (Some s)))))
     → MayInstall facts logged (writes_installed facts logged)
 may_install facts None installs = tt
 may_install facts (Some (Record.Outcome t (Some s))) installs = installs t s refl

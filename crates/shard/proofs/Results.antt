@@ -132,7 +132,7 @@ module _ {D : Type 0} (keeps obeys : Type 0) (file : D → File) (clock : D → 
         → HasStepped keeps obeys file clock since failures plan core (with_known setup facts memory) (Does step_logged after out) (Ok answer)
     served_as setup facts memory step_logged after out answer is_logged is_out is_setup is_facts is_memory =
         restated (with_known setup facts memory) None step_logged after out answer is_logged is_out
-            (served setup facts memory is_setup is_facts after out is_memory)
+        (served setup facts memory is_setup is_facts after out is_memory)
 
     -- a record is logged
     pub logged_as : (new : CoreView D) (r : Record) (step_logged : Option Record) (after : Memory) (out answer : List Envelope) →

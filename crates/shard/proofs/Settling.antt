@@ -101,12 +101,12 @@ module _ (k : Kept) (now : Interval) (p : CodePlan) (sound : ∥ IsSound k.setup
   decision_there records r t done known =
       ∥∥₁_elim sound (HasCommit-prop (and_logged records (Some r)) t done.at) (λ s.
       let there = decided-stands k.facts.installs k.memory.last (recorded k.facts t) t done.held done.at done.parts
-          (find_row k.memory.rows t) done.row (s.agrees t) in
+      (find_row k.memory.rows t) done.row (s.agrees t) in
       subst (HasCommit (and_logged records (Some r)) t) there.2 (has-commit t there.0 records k.facts r known there.1))
 
   durably : (keeps : Type 0) (disk : Surface) (records : Result (List Record) Fault) (t : Id) (result : Result (List Envelope) Fault)
       → Settles (start_of k) t (plan_of k.memory.rows p) → IfOk result (λ out. out ≡ p.outbox) →
-          OnOk result (keeps → KeepsRecords disk (and_logged records p.logged))
+      OnOk result (keeps → KeepsRecords disk (and_logged records p.logged))
       → (keeps → facts_logged records ≡ Some k.facts) → IsDurablySettled keeps disk (Input.Settle t) result
   durably keeps disk records t (Err fault) done out durable known = tt
   durably keeps disk records t (Ok out) done is durable known = (

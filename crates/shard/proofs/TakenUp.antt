@@ -83,7 +83,7 @@ pub room_spent : (rs : List Record) (f : Facts) (gate : ℕ) → f ≡ facts_of 
     → (2 ^ 62 ≤ epoch_of rs + 1) ⊎ IsFull gate (next_opening rs)
 room_spent rs f gate known =
     ⊎_elim (λ spent. inl (subst (λ n. 2 ^ 62 ≤ n + 1) (ap (λ g. g.epoch) known ∙ epoch_is rs) spent))
-        (λ full. inr (subst (IsFull gate) (epoch_of_facts rs f known) full))
+    (λ full. inr (subst (IsFull gate) (epoch_of_facts rs f known) full))
 
 -- a file without a log is a reason
 no_log_is_reason : (fault : Fault) → IsTrue (is_no_log fault) → IsTrue (is_reason fault)
@@ -140,14 +140,14 @@ module _ {D : Type 0} (keeps obeys : Type 0) (file : D → File) (clock : D → 
         → LeavesOnly clock since disk end (LeavesOpening (surface (file disk)))
     leaves keep end second =
         and_then clock since disk mid end (MayLeave (surface (file disk))) (HoldsOldOrWith (records_in (surface (file mid)).seen)
-            (Some (next_opening (items entries))))
+        (Some (next_opening (items entries))))
         (LeavesOpening (surface (file disk))) (found.moment keep) second (λ image left. inl left)
         (λ image held. inr (⊎_elim (λ old. inl (old ∙ same_records keep)) (λ new. inr (new ∙ with_opening keep)) held))
 
     pub opened : (told : Setup) (item : Record) (core : CoreView D) → item ≡ next_opening (items entries) →
         HasAppended keeps obeys file clock since failures plan mid gate item core
         → core.setup ≡ told → core.memory ≡ rebuilt core.facts → taken told (items entries) ≡ Accepted →
-            core.facts ≡ facts_of (items entries ++ next_opening (items entries) ∷ [])
+        core.facts ≡ facts_of (items entries ++ next_opening (items entries) ∷ [])
         → HasOpened keeps obeys file clock since failures plan disk told core
     opened told item core same appended setup memory accepted facts =
         let it = subst (λ r. HasAppended keeps obeys file clock since failures plan mid gate r core) same appended in
@@ -167,7 +167,7 @@ module _ {D : Type 0} (keeps obeys : Type 0) (file : D → File) (clock : D → 
     pub not_opened : (told : Setup) (item : Record) (full : Type 0) (fault : Fault) (back : D) → item ≡ next_opening (items entries)
         → taken told (items entries) ≡ Accepted → (full → (2 ^ 62 ≤ epoch_of (items entries) + 1) ⊎ IsFull gate (next_opening (items entries)))
         → HasNotAppended keeps obeys file clock since failures plan mid item full fault back →
-            HasNotOpened keeps obeys file clock since failures plan disk told fault back
+        HasNotOpened keeps obeys file clock since failures plan disk told fault back
     not_opened told item full fault back same accepted spent refused = record {
       cause = ⊎_elim (λ memory. inl memory) (⊎_elim (λ device. inr (inl (device.0, omega (arith, found.failures_stay, device.1))))
           (λ late. inr (inr (reason late)))) refused.cause;
@@ -176,7 +176,7 @@ module _ {D : Type 0} (keeps obeys : Type 0) (file : D → File) (clock : D → 
       unchanged = ⊎_elim (λ device. inl device) (λ kept. inr (λ keep. ap (λ f. (surface f).seen) kept ∙ ap (λ s. s.seen) (found.clean keep))) refused.unchanged;
       planned = λ obey never.
           ⊎_elim (λ memory. inl memory) (⊎_elim (λ device. absurd (refused.planned obey (found.planned obey never) device.0))
-              (λ late. inr (reason late))) refused.cause;
+          (λ late. inr (reason late))) refused.cause;
     }
       where
         no_room : full → keeps → IsSpent told (surface (file disk)) (items entries) gate
@@ -188,7 +188,7 @@ module _ {D : Type 0} (keeps obeys : Type 0) (file : D → File) (clock : D → 
   -- a file that holds no log is not taken up
   pub no_log : (told : Setup) (disk back : D) (fault : Fault)
       → (fault ≡ WantsMemory) ⊎ (((fault ≡ Device) × (failures disk < failures back)) ⊎ (IsTrue (is_no_log fault)
-          × (keeps → log (surface (file disk)).seen ≡ Err fault)))
+      × (keeps → log (surface (file disk)).seen ≡ Err fault)))
       → (keeps → LeavesOnly clock since disk back (MayLeave (surface (file disk))))
       → (fault ≡ Device) ⊎ (keeps → (surface (file back)).seen ≡ (surface (file disk)).seen)
       → (obeys → plan disk ≡ Never → (fault ≡ WantsMemory) ⊎ (IsTrue (is_no_log fault) × (keeps → log (surface (file disk)).seen ≡ Err fault)))

@@ -66,7 +66,7 @@ IsCause false (Does logged memory outbox) fault full failed = IsLogCause fault f
 abbrev pub StandsAsBefore : {D : Type 0} → (D → File) → CoreView D → CoreView D → Fault → Type 0
 StandsAsBefore file old new fault =
     (new.facts ≡ old.facts) × (new.memory ≡ old.memory) × ((fault ≡ Device) ⊎ ((new.stopped ≡ old.stopped) × (new.gate ≡ old.gate)
-        × (file new.disk ≡ file old.disk)))
+    × (file new.disk ≡ file old.disk)))
 
 module _ {D : Type 0} (keeps obeys : Type 0) (file : D → File) (clock : D → ℕ) (since : D → ℕ → List ℕ → Type 0) (failures : D → ℕ) (plan : D → Plan) where
   -- what holds of a core's disk over a call that logs a record, or nothing, whatever it answers

@@ -14,7 +14,7 @@ replay_push : (changes : List Change) (change : Change) (store bytes : List ℕ)
 replay_push [] change store bytes file stored fits =
     let none : store ≡ [] = nil_from_length store (sym stored) in
     let all : take (size change) (store ++ bytes) ≡ bytes = ap (λ (l : List ℕ). take (size change) (l ++ bytes)) none
-        ∙ take_all (size change) bytes (omega (arith, fits)) in
+    ∙ take_all (size change) bytes (omega (arith, fits)) in
     ap (λ (l : List ℕ). with_made change l file) all
 replay_push (first ∷ changes) change store bytes file stored fits =
     let front : take (size first) (store ++ bytes) ≡ take (size first) store = take-append-le (size first) store bytes (omega arith) in
@@ -22,7 +22,7 @@ replay_push (first ∷ changes) change store bytes file stored fits =
     ap (λ (l : List ℕ). replay (changes ++ change ∷ []) (drop (size first) (store ++ bytes)) (with_made first l file)) front
     ∙ ap (λ (l : List ℕ). replay (changes ++ change ∷ []) l (with_made first (take (size first) store) file)) back
     ∙ replay_push changes change (drop (size first) store) bytes (with_made first (take (size first) store) file)
-        (omega (arith, stored, length-drop (size first) store)) fits
+    (omega (arith, stored, length-drop (size first) store)) fits
 
 total-append : (changes others : List Change) → bytes_in_all (changes ++ others) ≡ bytes_in_all changes + bytes_in_all others
 total-append [] others = omega arith
@@ -37,7 +37,7 @@ module _ (h : History) (change : Change) (bytes : List ℕ) (stored : IsStored h
   pub now : file_of (pushed h change bytes) ≡ with_made change bytes (file_of h)
   now =
       ap (λ (cs : List Change). replay cs (h.store ++ bytes) (settled h.base)) (take_all (length (h.changes ++ change ∷ []))
-          (h.changes ++ change ∷ []) (omega arith))
+      (h.changes ++ change ∷ []) (omega arith))
       ∙ replay_push h.changes change h.store bytes (settled h.base) stored fits
       ∙ ap (λ (cs : List Change). with_made change bytes (replay cs h.store (settled h.base))) (sym (take_all (length h.changes) h.changes (omega arith)))
 
@@ -68,7 +68,7 @@ replay_append [] change store file = refl
 replay_append (first ∷ changes) change store file =
     replay_append changes change (drop (size first) store) (with_made first (take (size first) store) file)
     ∙ ap (λ (l : List ℕ). with_made change (take (size change) l) (replay changes (drop (size first) store)
-        (with_made first (take (size first) store) file))) (drop-drop (bytes_in_all changes) (size first) store)
+    (with_made first (take (size first) store) file))) (drop-drop (bytes_in_all changes) (size first) store)
 
 -- how many bytes one change more has, and that the store has them
 pub total-more : (changes : List Change) (made : ℕ) (d : Change) → made < length changes →
@@ -82,7 +82,7 @@ total-fits changes made d lt = omega (arith, total-more changes made d lt, total
 -- one call more of a history
 pub file-more : (h : History) (made : ℕ) (d : Change) → made < length h.changes
     → file_at h (made + 1) ≡ with_made (get_or h.changes made d) (take (size (get_or h.changes made d)) (drop (bytes_in_all (take made h.changes)) h.store))
-        (file_at h made)
+    (file_at h made)
 file-more h made d lt =
     ap (λ (cs : List Change). replay cs h.store (settled h.base)) (take_more h.changes made d lt)
     ∙ replay_append (take made h.changes) (get_or h.changes made d) h.store (settled h.base)

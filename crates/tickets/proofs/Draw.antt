@@ -20,8 +20,13 @@ total-set f (x ∷ xs) (suc j) v w e = omega (arith, total-set f xs j v w e, sum
 bounded : (views : List Hand) → ((seat : ℕ) (h : Hand) → get_elem? views seat ≡ some h → length h.drawn ≤ 2 ^ 40 * h.drawers) →
     sum_by (λ (h : Hand). length h.drawn) views ≤ 2 ^ 40 * sum_by (λ (h : Hand). h.drawers) views
 bounded [] each = omega arith
-bounded (x ∷ xs) each = omega (arith, sum_by-cons (λ (h : Hand). length h.drawn) x xs, sum_by-cons (λ (h : Hand). h.drawers) x xs, each 0 x refl,
-    bounded xs (λ seat h at. each (suc seat) h at))
+bounded (x ∷ xs) each = omega (
+  arith,
+  sum_by-cons (λ (h : Hand). length h.drawn) x xs,
+  sum_by-cons (λ (h : Hand). h.drawers) x xs,
+  each 0 x refl,
+  bounded xs (λ seat h at. each (suc seat) h at),
+)
 
 -- one more draw of n
 times-snoc : (x n : ℕ) (hand : Hand) → times x record { drawers = hand.drawers; drawn = hand.drawn ++ n ∷ [] } ≡ times x hand + (if nat_eq x n then 1 else 0)
@@ -33,7 +38,7 @@ once_more x n = grind (arith, nat_tests)
 -- whatever the others have drawn, a drawer that may still draw gets the word
 pub draws : (slots seat : ℕ) (hand : Hand) (held : List (ℕ × ℕ)) → length hand.drawn < 2 ^ 40 → hand.drawers ≡ 1
     → Allows IsDrawn slots seat (hand, held) 0 (λ n. (n + 1) % 2 ^ 64) (λ found me. (found ≤ 2 ^ 48)
-        × (me ≡ (record { drawers = hand.drawers; drawn = hand.drawn ++ found ∷ [] }, held)))
+    × (me ≡ (record { drawers = hand.drawers; drawn = hand.drawn ++ found ∷ [] }, held)))
 draws slots seat hand held few one s is homes at fits =
     let n = is.word in
     let more : Hand = record { drawers = hand.drawers; drawn = hand.drawn ++ n ∷ [] } in
@@ -50,14 +55,16 @@ draws slots seat hand held few one s is homes at fits =
         limits = λ j h h_at.
             ⊎_elim
             (λ (t : (j ≡ seat) × (more ≡ h)). subst (λ (k : Hand). length k.drawn ≤ 2 ^ 40 * k.drawers) t.1
-                (omega (arith, length-append hand.drawn (n ∷ []), few, one)))
+            (omega (arith, length-append hand.drawn (n ∷ []), few, one)))
             (λ (t : (j ≢ seat) × (get_elem? s.views j ≡ some h)). is.limits j h t.1)
             (at_set s.views seat j more h h_at);
         counted = omega (arith, total-set (λ (h : Hand). length h.drawn) s.views seat hand more at, is.counted, length-append hand.drawn (n ∷ []));
         once = λ x. omega (arith, total-set (times x) s.views seat hand more at, is.once x, times-snoc x n hand, once_more x n);
       },
-      (subst (λ (k : ℕ). k ≤ 2 ^ 48) (sym here) (omega (arith, low)),
-          ap (λ (k : ℕ). (record { drawers = hand.drawers; drawn = hand.drawn ++ k ∷ [] }, held)) (sym here)),
+      (
+        subst (λ (k : ℕ). k ≤ 2 ^ 48) (sym here) (omega (arith, low)),
+        ap (λ (k : ℕ). (record { drawers = hand.drawers; drawn = hand.drawn ++ k ∷ [] }, held)) (sym here),
+      ),
     )
 
 -- one drawer is cut off
@@ -68,7 +75,7 @@ splits seat hand some_left none_drawn s is at =
     let right : Hand = record { drawers = 1; drawn = [] } in
     let views = set s.views seat left in
     let moved : (f : Hand → ℕ) → sum_by f (views ++ right ∷ []) + f hand ≡ sum_by f s.views + f left + f right =
-        λ f. omega (arith, total-set f s.views seat hand left at, sum_by-append f views (right ∷ []), sum_by-cons f right []) in
+    λ f. omega (arith, total-set f s.views seat hand left at, sum_by-append f views (right ∷ []), sum_by-cons f right []) in
     record {
       word = is.word;
       words = is.words;
@@ -78,7 +85,7 @@ splits seat hand some_left none_drawn s is at =
           (λ (there : get_elem? views j ≡ some h).
           ⊎_elim
           (λ (t : (j ≡ seat) × (left ≡ h)). subst (λ (k : Hand). length k.drawn ≤ 2 ^ 40 * k.drawers) t.1
-              (subst (λ (d : List ℕ). length d ≤ 2 ^ 40 * (hand.drawers - 1)) (sym none_drawn) (omega arith)))
+          (subst (λ (d : List ℕ). length d ≤ 2 ^ 40 * (hand.drawers - 1)) (sym none_drawn) (omega arith)))
           (λ (t : (j ≢ seat) × (get_elem? s.views j ≡ some h)). is.limits j h t.1)
           (at_set s.views seat j left h there))
           (λ (e : right ≡ h). subst (λ (k : Hand). length k.drawn ≤ 2 ^ 40 * k.drawers) e (omega arith))

@@ -54,7 +54,7 @@ sorted_by_id id (x ∷ []) sorted differ = by_id-cons id x [] tt tt
 sorted_by_id id (x ∷ y ∷ xs) sorted differ =
     let rest : IsById id (y ∷ xs) = sorted_by_id id (y ∷ xs) (λ k d low lt.
     subst (λ n. is_lt (by_age (get_or (map id (x ∷ y ∷ xs)) n d) (get_or (map id (y ∷ xs)) k d)) ≡ false) (next k)
-        (sorted (suc k) d (omega arith) (omega arith))) differ.1 in
+    (sorted (suc k) d (omega arith) (omega arith))) differ.1 in
     let before : older (id x) (id y) ≡ true =
     older_total (id y) (id x) (same_id_comm (id y) (id x) ∙ differ.0.0) (sym (less_is_older (id y) (id x)) ∙ sorted 0 (id x) (omega arith) (omega arith)) in
     by_id-cons id x (y ∷ xs) (
@@ -72,7 +72,7 @@ find_lookup {V = V} (e ∷ es) t = rw (same_id_comm t e.0) (by_test (same_id e.0
   where
     by_test : (b : Bool) → same_id e.0 t ≡ b → find_member (λ e. e.0) es t ≡ option_map (λ v. (t, v)) (lookup (same_id t) es)
         → head (cond b (e ∷ filter (λ x. same_id x.0 t) es) (filter (λ x. same_id x.0 t) es)) ≡
-            option_map (λ v. (t, v)) (cond b (Some e.1) (lookup (same_id t) es))
+        option_map (λ v. (t, v)) (cond b (Some e.1) (lookup (same_id t) es))
     by_test true is rest = ap (λ u. let x : Id × V = (u, e.1) in Some x) (same_id-is e.0 t is)
     by_test false is rest = rest
 

@@ -229,7 +229,7 @@ find-first id p (x ∷ xs) y up e = by_test (p x) (λ k. find-first id p xs y up
         rw same (ap (λ z. Some z) is)
     by_test false rest k =
         let other : same_id (id x) (id y) ≡ false = older_not_same (id x) (id y) (first_all (λ z. older (id x) (id z) ≡ true) p xs y
-            (later_are_younger id x xs up) k) in
+        (later_are_younger id x xs up) k) in
         rw other (rest k)
 
 -- and no older member passes it
@@ -245,7 +245,7 @@ first_oldest id p (x ∷ xs) y up e = by_test (p x) refl (λ k. first_oldest id 
           λ o. absurd (false≢true (sym (older_not_same (id x) (id y) o) ∙ ap (λ z. same_id (id x) (id z)) (sym is) ∙ same_id-refl (id x))),
           all_gives (λ z. older (id x) (id z) ≡ true) (λ z. older (id z) (id y) ≡ true → p z ≡ false)
               (λ z young o. absurd (false≢true (sym (older_not_younger (id z) (id y) o) ∙ ap (λ w. older (id w) (id z)) (sym is) ∙ young))) xs
-                  (later_are_younger id x xs up),
+              (later_are_younger id x xs up),
         )
     by_test false s rest k = (λ o. s, rest k)
 
@@ -262,13 +262,13 @@ change_is_with id (x ∷ xs) t f y up e same = by_test (same_id (id x) t) refl (
         let is : x ≡ y = cc in
         let there : same_id (id x) (id (f y)) ≡ true = ap (same_id (id x)) same ∙ ap (λ z. same_id (id x) (id z)) (sym is) ∙ same_id-refl (id x) in
         rw there (ap (λ z. f z ∷ change_member id xs t f) is ∙ ap (λ r. f y ∷ r) (change_none id xs t f
-            (later_differ id t x xs s (later_are_younger id x xs up))))
+        (later_differ id t x xs s (later_are_younger id x xs up))))
     by_test false s rest k =
         let t_is : same_id (id y) t ≡ true = found_is id xs t y k in
         let other : same_id (id x) (id (f y)) ≡ false =
         ap (same_id (id x)) same ∙ same_id_comm (id x) (id y) ∙ same_id-along (id y) t (id x) t_is ∙ same_id_comm t (id x) ∙ s in
         let before : older (id x) (id (f y)) ≡ true = ap (older (id x)) same ∙ found_all (λ z. older (id x) (id z) ≡ true) id xs t y
-            (later_are_younger id x xs up) k in
+        (later_are_younger id x xs up) k in
         rw (other, before) (ap (λ r. x ∷ r) (rest k))
 
 -- the member of another id, where one is taken out
@@ -353,7 +353,7 @@ without-map id of g same (x ∷ xs) t = rw (same x) (by_test (same_id (id x) t) 
   where
     by_test : (b : Bool) → without_member of (map g xs) t ≡ map g (without_member id xs t)
         → cond (not b) (g x ∷ without_member of (map g xs) t) (without_member of (map g xs) t) ≡
-            map g (cond (not b) (x ∷ without_member id xs t) (without_member id xs t))
+        map g (cond (not b) (x ∷ without_member id xs t) (without_member id xs t))
     by_test true e = e
     by_test false e = ap (λ r. g x ∷ r) e
 

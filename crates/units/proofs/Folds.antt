@@ -48,7 +48,7 @@ first_append {A} test (x ∷ xs) ys = by_test (test x) (first_append test xs ys)
   where
     by_test : (b : Bool) → head (filter test (xs ++ ys)) ≡ or_else (head (filter test xs)) (head (filter test ys)) →
         head (cond b (x ∷ filter test (xs ++ ys)) (filter test (xs ++ ys))) ≡ or_else (head (cond b (x ∷ filter test xs) (filter test xs)))
-            (head (filter test ys))
+        (head (filter test ys))
     by_test true e = refl
     by_test false e = e
 

@@ -102,7 +102,7 @@ any_with t u (v ∷ vs) = placed (same_id v u) (older v u) refl (any_with t u vs
         list_any (same_id t) (cond a (v ∷ vs) (cond b (v ∷ with_id vs u) (u ∷ v ∷ vs))) ≡ (same_id t u || (same_id t v || list_any (same_id t) vs))
     placed true b e rest =
         subst (λ w. (same_id t v || list_any (same_id t) vs) ≡ (same_id t w || (same_id t v || list_any (same_id t) vs))) (same_id-is v u e)
-            (twice (same_id t v) _)
+        (twice (same_id t v) _)
     placed false true e rest = ap (λ b. same_id t v || b) rest ∙ swap (same_id t v) (same_id t u) _
     placed false false e rest = refl
 

@@ -74,7 +74,6 @@ pub sorted_once : (ns : List ℕ) → list_all (λ n. nat_lt n 16) ns ≡ true �
 sorted_once [] h = refl
 sorted_once (x ∷ xs) h = by_test (has xs x) refl (sorted_once xs ((and_parts _ _ h).1))
   where
-
     low : nat_lt x 16 ≡ true → x < 0 + 16
     low e = grind (arith, nat_tests)
 
@@ -101,7 +100,7 @@ one_less n h = omega (arith, h)
 -- one more bit is read
 bit_read : (n rest : ℕ) → n < 16
     → shards_from (16 - n) n rest ≡ cond (nat_eq (rest % 2) 1) (n ∷ shards_from (16 - (n + 1)) (n + 1) (rest / 2))
-        (shards_from (16 - (n + 1)) (n + 1) (rest / 2))
+    (shards_from (16 - (n + 1)) (n + 1) (rest / 2))
 bit_read n rest h =
     ap (λ bits. shards_from bits n rest) (sym (one_less n h))
     ∙ ap (λ m. cond (nat_eq (rest % 2) 1) (n ∷ shards_from (16 - (n + 1)) m (rest / 2)) (shards_from (16 - (n + 1)) m (rest / 2))) (next n)
@@ -115,7 +114,7 @@ bit_set n rest v w h one is =
     ap (λ l. l ++ shards_from (16 - (n + 1)) (n + 1) (rest / 2)) is
     ∙ append_assoc v (n ∷ []) (shards_from (16 - (n + 1)) (n + 1) (rest / 2))
     ∙ ap (λ l. v ++ l) (sym (bit_read n rest h ∙ (λ i. cond (tested i) (n ∷ shards_from (16 - (n + 1)) (n + 1) (rest / 2))
-        (shards_from (16 - (n + 1)) (n + 1) (rest / 2)))))
+    (shards_from (16 - (n + 1)) (n + 1) (rest / 2)))))
   where
     tested : nat_eq (rest % 2) 1 ≡ true
     tested = grind (arith, nat_tests)
@@ -124,7 +123,7 @@ pub bit_clear : (n rest : ℕ) (v : List ℕ) → n < 16 → rest % 2 ≢ 1
     → v ++ shards_from (16 - (n + 1)) (n + 1) (rest / 2) ≡ v ++ shards_from (16 - n) n rest
 bit_clear n rest v h none =
     ap (λ l. v ++ l) (sym (bit_read n rest h ∙ (λ i. cond (tested i) (n ∷ shards_from (16 - (n + 1)) (n + 1) (rest / 2))
-        (shards_from (16 - (n + 1)) (n + 1) (rest / 2)))))
+    (shards_from (16 - (n + 1)) (n + 1) (rest / 2)))))
   where
     tested : nat_eq (rest % 2) 1 ≡ false
     tested = grind (arith, nat_tests)

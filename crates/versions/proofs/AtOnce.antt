@@ -48,7 +48,7 @@ still_above : (w : Write) (at : ℕ) (log : List Install) (ws : List Write) → 
 still_above w at log [] up above = refl
 still_above w at log (v ∷ ws) up above =
     and_from _ _ (ap (λ r. list_all (λ i. nat_lt i.at at) r) (keep-last (λ i. same_key i.key v.key) (version w at) log
-        (differs w.key v.key (left _ _ up))) ∙ left _ _ above)
+    (differs w.key v.key (left _ _ up))) ∙ left _ _ above)
     (still_above w at log ws (skipped w v ws up) (right _ _ above))
 
 -- and in order
@@ -57,7 +57,7 @@ above_in_order : (w : Write) (at : ℕ) (ordered : List Install) (ws : List Writ
 above_in_order w at ordered [] up above = refl
 above_in_order w at ordered (v ∷ ws) up above =
     and_from _ _ (ap (λ r. list_all (λ i. nat_lt i.at at) r) (keep-installed (λ i. same_key i.key v.key) (version w at) ordered
-        (differs w.key v.key (left _ _ up))) ∙ left _ _ above)
+    (differs w.key v.key (left _ _ up))) ∙ left _ _ above)
     (above_in_order w at ordered ws (skipped w v ws up) (right _ _ above))
 
 -- when its turn comes, each write is above its key's versions
@@ -66,7 +66,7 @@ pub above_at_turn : (done : List Write) (w : Write) (ws : List Write) (at : ℕ)
 above_at_turn [] w ws at ordered up above = left _ _ above
 above_at_turn (v ∷ done) w ws at ordered up above =
     above_at_turn done w ws at (installed ordered (version v at)) (rest_ascends v (done ++ w ∷ ws) up)
-        (above_in_order v at ordered (done ++ w ∷ ws) up (right _ _ above))
+    (above_in_order v at ordered (done ++ w ∷ ws) up (right _ _ above))
 
 -- one more write is one more version
 pub installed_next : (done : List Write) (w : Write) (at : ℕ) (ordered : List Install)
@@ -83,4 +83,4 @@ places_do_not_matter [] at ordered log up above same = subst (SameValues ordered
 places_do_not_matter (w ∷ ws) at ordered log up above same =
     subst (SameValues (all_installed ordered (versions (w ∷ ws) at))) (append_assoc log (version w at ∷ []) (versions ws at))
     (places_do_not_matter ws at _ (log ++ version w at ∷ []) (rest_ascends w ws up) (still_above w at log ws up (right _ _ above))
-        (place_does_not_matter (version w at) ordered log (left _ _ above) same))
+    (place_does_not_matter (version w at) ordered log (left _ _ above) same))

@@ -14,11 +14,11 @@ pub count_at : (key : List ℕ) (at : ℕ) (t : List Install) (p : ℕ) → p �
 count_at key at [] p le below above = omega arith
 count_at key at (x ∷ t) zero le below above =
     let rest : zero ≡ count_not_after key at t = count_at key at t zero (omega arith) (λ k d lt. absurd (omega arith))
-        (λ k d le lt. above (suc k) d (omega arith) (omega arith)) in
+    (λ k d le lt. above (suc k) d (omega arith) (omega arith)) in
     rw (above zero x (omega arith) (omega arith)) rest
 count_at key at (x ∷ t) (suc p) le below above =
     let rest : p ≡ count_not_after key at t = count_at key at t p (omega arith) (λ k d lt. below (suc k) d (omega arith))
-        (λ k d le lt. above (suc k) d (omega arith) (omega arith)) in
+    (λ k d le lt. above (suc k) d (omega arith) (omega arith)) in
     rw (below zero x (omega arith)) (ap suc rest)
 
 -- for each number of digits that is enough for them all, what is left to search fits the digits that are left
@@ -104,7 +104,7 @@ after_passes key at (x ∷ t) zero up lt here = each
     each zero d le less = here d
     each (suc k) d le less = false_from_ne_true (is_not_after key at (get_or t k d))
         (λ passes. false≢true (sym (here d) ∙ not_after-trans key at x (get_or t k d) (each_at (λ next. version_before x next ≡ true) t k d up.0
-            (omega arith)) passes))
+        (omega arith)) passes))
 after_passes key at (x ∷ t) (suc p) up lt here = each (after_passes key at t p up.1 (omega arith) here)
   where
     each : AllAfter key at t p → AllAfter key at (x ∷ t) (suc p)
@@ -119,4 +119,4 @@ insert_is_installed install [] (suc p) le before after = absurd (omega arith)
 insert_is_installed install (x ∷ t) zero le before after = rw (after 0 x (omega arith) (omega arith)) refl
 insert_is_installed install (x ∷ t) (suc p) le before after =
     rw (before 0 x (omega arith)) (ap (λ r. x ∷ r) (insert_is_installed install t p (omega arith) (λ k d lt. before (suc k) d (omega arith))
-        (λ k d le lt. after (suc k) d (omega arith) (omega arith))))
+    (λ k d le lt. after (suc k) d (omega arith) (omega arith))))

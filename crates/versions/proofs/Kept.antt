@@ -68,9 +68,14 @@ ascending-installed i (x ∷ t) above up =
     by_test : (b : Bool) → is_not_after i.key i.at x ≡ b → AscendsByVersion (installed t i) → AscendsByVersion (cond b (x ∷ installed t i) (i ∷ x ∷ t))
     by_test true k rest = (each-installed (λ next. version_before x next ≡ true) i t (goes_before i x k (above_first i.key i.at x t above)) up.0, rest)
     by_test false k rest =
-        let behind = goes_behind i x k in
-        ((behind, each_gives (λ next. version_before x next ≡ true) (λ next. version_before i next ≡ true)
-            (λ next h. comes_before-trans i x next behind h) t up.0), up)
+        let behind = goes_behind i x k in (
+          (
+            behind,
+            each_gives (λ next. version_before x next ≡ true) (λ next. version_before i next ≡ true)
+                (λ next h. comes_before-trans i x next behind h) t up.0,
+          ),
+          up,
+        )
 
 -- one more version, above its key's others and in time, is kept in order
 pub kept-installed : (greatest : ℕ) (i : Install) (t : List Install) → is_above t i.key i.at ≡ true → i.at ≤ greatest → IsInOrder greatest t →

@@ -129,7 +129,7 @@ last_by key at (x ∷ t) zero y found up lt is before after =
     by_test false k false m none = ap (last_from found) none
 last_by key at (x ∷ t) (suc q) y found up lt is before after =
     by_test (is_by key at x) refl (same_key y.key key) refl (λ f. last_by key at t q y f up.1 (omega arith) is
-        (λ k d less. before (suc k) d (omega arith)) (λ k d le less. after (suc k) d (omega arith) (omega arith)))
+    (λ k d less. before (suc k) d (omega arith)) (λ k d le less. after (suc k) d (omega arith) (omega arith)))
   where
     passes : is_not_after key at y ≡ true
     passes = ap (is_not_after key at) is ∙ before (suc q) y (omega arith)
@@ -160,7 +160,7 @@ of_key_by key at (x ∷ t) = by_tests (nat_le x.at at) (same_key x.key key) refl
   where
     by_tests : (a b : Bool) → same_key x.key key ≡ b → of_key (filter (λ i. nat_le i.at at) t) key ≡ filter (is_by key at) t
         → of_key (cond a (x ∷ filter (λ i. nat_le i.at at) t) (filter (λ i. nat_le i.at at) t)) key ≡
-            cond (b && a) (x ∷ filter (is_by key at) t) (filter (is_by key at) t)
+        cond (b && a) (x ∷ filter (is_by key at) t) (filter (is_by key at) t)
     by_tests true true k rest = rw k (ap (λ r. x ∷ r) rest)
     by_tests true false k rest = rw k rest
     by_tests false true k rest = rest

@@ -128,7 +128,7 @@ each-kept test pass i ordered log same =
         by_place : (p : Bool) → list_all test (filter pass (installed t i)) ≡ cond (pass i) (test i && list_all test (filter pass t))
             (list_all test (filter pass t))
             → list_all test (filter pass (cond p (x ∷ installed t i) (i ∷ x ∷ t))) ≡ cond (pass i) (test i && list_all test (filter pass (x ∷ t)))
-                (list_all test (filter pass (x ∷ t)))
+            (list_all test (filter pass (x ∷ t)))
         by_place true h = next x t (filter pass (installed t i)) h
         by_place false h = as_cond (pass i) i (filter pass (x ∷ t))
 
@@ -163,7 +163,7 @@ same_by test i ordered log h same = by_test (test i) refl
         ap (λ found. follow found (λ i. i.value)) (newest-installed test i ordered k (h k).0 ∙ sym (newest-last test i log k (h k).1))
     by_test false k =
         ap (λ r. follow (newest r) (λ i. i.value)) (keep-installed test i ordered k) ∙ same
-            ∙ sym (ap (λ r. follow (newest r) (λ i. i.value)) (keep-last test i log k))
+        ∙ sym (ap (λ r. follow (newest r) (λ i. i.value)) (keep-last test i log k))
 
 pub place_does_not_matter : PlaceDoesNotMatter
 unfolding latest
@@ -171,8 +171,10 @@ place_does_not_matter i ordered log above same = record {
   now = λ key. same_by (λ x. same_key x.key key) i ordered log (λ k. (along ordered key k above_ordered, along log key k above)) (same.now key);
   at = λ key t.
       at_time_is key t (installed ordered i)
-      ∙ same_by (is_by key t) i ordered log (λ k. (below_by key t i.at ordered (along ordered key (of_the_key key t k) above_ordered),
-          below_by key t i.at log (along log key (of_the_key key t k) above)))
+      ∙ same_by (is_by key t) i ordered log (λ k. (
+        below_by key t i.at ordered (along ordered key (of_the_key key t k) above_ordered),
+        below_by key t i.at log (along log key (of_the_key key t k) above),
+      ))
       (sym (at_time_is key t ordered) ∙ same.at key t ∙ at_time_is key t log)
       ∙ sym (at_time_is key t (log ++ i ∷ []));
   above = λ key t. each-kept (λ x. nat_lt x.at t) (λ x. same_key x.key key) i ordered log (same.above key t);

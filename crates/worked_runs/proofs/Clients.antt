@@ -63,7 +63,7 @@ a_second_epoch_dooms = refl
 abbrev pub refused_read : List Event
 refused_read =
     on 90 (Act.Begin (txn 1)) ∷ on 90 (Act.Begin (txn 2)) ∷ on 91 (Act.Read (txn 2) z) ∷ on 92 (Act.Deliver 0 (clock 90 95)) ∷ on 93
-        (Act.Deliver 1 (clock 90 95))
+    (Act.Deliver 1 (clock 90 95))
     ∷ on 94 (Act.Write (txn 1) z (Some one)) ∷ on 94 (Act.Write (txn 1) a (Some one)) ∷ on 94 (Act.Close (txn 1)) ∷ on 95 (Act.Deliver 3 (clock 90 95))
     ∷ on 96 (Act.Read (txn 2) m) ∷ on 97 (Act.Read (txn 2) a) ∷ on 98 (Act.Deliver 5 (clock 90 105)) ∷ on 99 (Act.Deliver 7 (clock 90 105))
     ∷ on 100 (Act.Read (txn 2) m) ∷ on 100 (Act.Read (txn 2) (110 ∷ [])) ∷ on 100 (Act.Write (txn 2) a (Some one)) ∷ on 100 (Act.Close (txn 2))
@@ -88,7 +88,7 @@ who_is_told = refl
 abbrev pub ended_reader : List Event
 ended_reader =
     on 90 (Act.Begin (txn 3)) ∷ on 90 (Act.Read (txn 3) z) ∷ on 90 (Act.Read (txn 3) m) ∷ on 91 (Act.Deliver 0 (clock 90 95)) ∷ on 92
-        (Act.Deliver 2 (clock 90 95))
+    (Act.Deliver 2 (clock 90 95))
     ∷ on 93 (Act.Begin (txn 1)) ∷ on 93 (Act.Write (txn 1) z (Some one)) ∷ on 93 (Act.Close (txn 1)) ∷ on 94 (Act.Deliver 3 (clock 90 95))
     ∷ on 95 (Act.Deliver 1 (clock 90 95)) ∷ on 96 (Act.Deliver 4 (clock 90 100)) ∷ on 97 (Act.Deliver 4 (clock 90 100))
     ∷ on 98 (Act.Read (txn 3) m) ∷ on 98 (Act.Close (txn 3)) ∷ on 99 (Act.Quit (txn 3)) ∷ []

@@ -61,14 +61,23 @@ pub record Told : Type 0 where
   pub value : Option Bytes
 
 abbrev pub told_of : Envelope → Option Told
-told_of e = elim e.message [ Message.ReadAnswer a ↦ elim a.answer [ Holds x ↦
-    Some (record { from = a.from; txn = a.txn; key = a.key; epoch = a.epoch; value = x }) | _ ↦ None ] | _ ↦ None ]
+told_of e = elim e.message [
+  | Message.ReadAnswer a ↦ elim a.answer [
+    | Holds x ↦
+        Some (record { from = a.from; txn = a.txn; key = a.key; epoch = a.epoch; value = x })
+    | _ ↦ None
+  ]
+  | _ ↦ None
+]
 
 -- where its transaction's promise or decision of that epoch has read the key, the value is the latest before it
 abbrev pub reads_right : Told → List Record → Bool
 reads_right a log =
-    list_all (λ p. elim (claimed p.1) [ None ↦ true | Some c ↦ not (same_id c.txn a.txn && has_key c.reads a.key && nat_eq
-        (epoch_of p.0) a.epoch) || same_value (latest (installs_of p.0) a.key) a.value ]) (places [] log)
+    list_all (λ p. elim (claimed p.1) [
+      | None ↦ true
+      | Some c ↦ not (same_id c.txn a.txn && has_key c.reads a.key && nat_eq
+          (epoch_of p.0) a.epoch) || same_value (latest (installs_of p.0) a.key) a.value
+    ]) (places [] log)
 
 -- in its epoch: a row without a record holds the key, whose latest value it is; who has no row is ended or recorded
 abbrev pub is_held : Told → ShardNow → Bool
@@ -86,8 +95,11 @@ is_held a s =
 abbrev pub told_right : World → Told → Bool
 told_right w a =
     nat_eq (shard_of w.config.splits a.key) a.from
-    && elim (slice_get w.shards a.from) [ None ↦ false | Some s ↦ nat_le a.epoch (epoch_of (read_log s)) && reads_right a s.log && reads_right a
-        (read_log s) && is_held a s ]
+    && elim (slice_get w.shards a.from) [
+      | None ↦ false
+      | Some s ↦ nat_le a.epoch (epoch_of (read_log s)) && reads_right a s.log && reads_right a
+          (read_log s) && is_held a s
+    ]
 
 -- the request behind a promise or a decision has the epoch in which it is logged
 abbrev pub asks : ℕ → Id → List Bytes → ℕ → Envelope → Bool
@@ -103,14 +115,23 @@ asks n t ks epoch e =
 
 abbrev pub was_asked : World → ℕ → List Record → Bool
 was_asked w n log =
-    list_all (λ p. elim (claimed p.1) [ None ↦ true | Some c ↦ elim c.reads [ [] ↦ true | k ∷ ks ↦
-        list_any (asks n c.txn (k ∷ ks) (epoch_of p.0)) w.bag ] ]) (places [] log)
+    list_all (λ p. elim (claimed p.1) [
+      | None ↦ true
+      | Some c ↦ elim c.reads [
+        | [] ↦ true
+        | k ∷ ks ↦
+            list_any (asks n c.txn (k ∷ ks) (epoch_of p.0)) w.bag
+      ]
+    ]) (places [] log)
 
 -- a line of a read is of an answer that its session took
 abbrev pub line_told : World → Line → Bool
 line_told w (Line.Read t k x) =
-    list_any (λ a. same_id a.txn t && same_key a.key k && same_value a.value x && elim (client_of w t) [ None ↦ false | Some c ↦
-        list_any (λ q. same_key q.key k && nat_eq q.shard a.from && nat_eq q.epoch a.epoch && same_value q.value x) c.taken ]) (gather told_of w.bag)
+    list_any (λ a. same_id a.txn t && same_key a.key k && same_value a.value x && elim (client_of w t) [
+      | None ↦ false
+      | Some c ↦
+          list_any (λ q. same_key q.key k && nat_eq q.shard a.from && nat_eq q.epoch a.epoch && same_value q.value x) c.taken
+    ]) (gather told_of w.bag)
 line_told w _ = true
 
 -- what a shard shows is what each later log shows
@@ -156,7 +177,10 @@ unfolding computing
 the_fifth_stand = refl
 
 -- how many answers and how many lines of reads there are
-pub how_many : ◌≡◌ {A = ℕ × ℕ} (length (gather told_of (played 1000 39595).bag), count (λ l. elim l [ Line.Read t k x ↦ true | _ ↦ false ])
-    (played 1000 39595).lines) (52, 20)
+pub how_many : ◌≡◌ {A = ℕ × ℕ} (
+  length (gather told_of (played 1000 39595).bag),
+  count (λ l. elim l [ Line.Read t k x ↦ true | _ ↦ false ])
+      (played 1000 39595).lines,
+) (52, 20)
 unfolding computing
 how_many = refl

@@ -58,8 +58,14 @@ abbrev pub some_row : ℕ → World → ℕ → Id
 some_row r w n =
     elim (slice_get w.shards n) [
       | None ↦ someone r w
-      | Some s ↦ elim s.state [ Runs memory ↦ elim (slice_get memory.rows (pick r (length memory.rows))) [ None ↦ someone r w | Some q ↦
-          q.txn ] | _ ↦ someone r w ]
+      | Some s ↦ elim s.state [
+        | Runs memory ↦ elim (slice_get memory.rows (pick r (length memory.rows))) [
+          | None ↦ someone r w
+          | Some q ↦
+              q.txn
+        ]
+        | _ ↦ someone r w
+      ]
     ]
 
 -- what a shard may do

@@ -38,7 +38,7 @@ effect_steps setup bag s doing m now i goes runs is = by_doing doing goes is
         → elim s.state as (λ x. Stepped) [ Runs k ↦ step_with setup (facts_of s.log) k o | _ ↦ Refuses Stopped ] ≡ step setup (facts_of s.log) m now i
     by_state o e =
         ap (λ st. elim st as (λ x. Stepped) [ Runs k ↦ step_with setup (facts_of s.log) k o | _ ↦ Refuses Stopped ]) runs
-            ∙ ap (step_with setup (facts_of s.log) m) e
+        ∙ ap (step_with setup (facts_of s.log) m) e
 
     by_doing : (d : Doing) → goes_on d ≡ true → input_of bag d ≡ Some (now, i) → effect setup bag s d ≡ step setup (facts_of s.log) m now i
     by_doing (Doing.Take n at) g e = by_state _ e
@@ -58,7 +58,7 @@ effect_refuses setup bag s doing m goes runs is = by_doing doing goes is
         → elim s.state as (λ x. Stepped) [ Runs k ↦ step_with setup (facts_of s.log) k o | _ ↦ Refuses Stopped ] ≡ Refuses Stopped
     by_state o e =
         ap (λ st. elim st as (λ x. Stepped) [ Runs k ↦ step_with setup (facts_of s.log) k o | _ ↦ Refuses Stopped ]) runs
-            ∙ ap (step_with setup (facts_of s.log) m) e
+        ∙ ap (step_with setup (facts_of s.log) m) e
 
     by_doing : (d : Doing) → goes_on d ≡ true → input_of bag d ≡ None → effect setup bag s d ≡ Refuses Stopped
     by_doing (Doing.Take n at) g e = by_state _ e
@@ -105,7 +105,7 @@ module _ (setup : Setup) (used : ℕ) (bag : List Envelope) (s : ShardNow) (doin
 
   pub carries : (st : Stepped) (r : Result (List Envelope) Fault) → effect setup bag s doing ≡ st
       → HasStepped (Unit {0}) (Unit {0}) disk_file disk_clock LeftSince disk_failures disk_plan (seen old.core) (seen new.core) st r →
-          Carries setup used bag s doing new r
+      Carries setup used bag s doing new r
   carries (Refuses why) (Ok out) is k = λ follows. absurd (k.done.2)
   carries (Does logged memory outbox) (Ok out) is k = λ follows. (
     logged,
@@ -148,4 +148,4 @@ pub takes_input : (setup : Setup) (used : ℕ) (bag : List Envelope) (s : ShardN
 takes_input setup used bag s doing old new views h goes now i r found stepped_so =
     carries setup used bag s doing old new views h (step_of (seen old.core) now i) r
     (effect_steps setup bag s doing (seen old.core).memory now i goes h.state found ∙ sym
-        (λ j. step (h.setup_is j) (h.facts j) (seen old.core).memory now i)) stepped_so
+    (λ j. step (h.setup_is j) (h.facts j) (seen old.core).memory now i)) stepped_so

@@ -31,14 +31,14 @@ one_log all t n (r ∷ log) = by_record (one_log all t n log) (as_committed r)
 
     by_least : list_any (λ u. same_id u.txn t) (kept_of all n log) ≡ commits_here t n log → (c : Committed) (b : Bool)
         → list_any (λ u. same_id u.txn t) (elim (cond b (Some (whole_txn all n c)) None) as
-            (λ x. List Txn) [ None ↦ kept_of all n log | Some y ↦ y ∷ kept_of all n log ])
+        (λ x. List Txn) [ None ↦ kept_of all n log | Some y ↦ y ∷ kept_of all n log ])
         ≡ ((same_id c.txn t && b) || commits_here t n log)
     by_least rest c true = λ i. and_true (same_id c.txn t) i || rest i
     by_least rest c false = rest ∙ ap (λ b. b || commits_here t n log) (and_false (same_id c.txn t))
 
     by_record : list_any (λ u. same_id u.txn t) (kept_of all n log) ≡ commits_here t n log → (o : Option Committed)
         → list_any (λ u. same_id u.txn t) (gather (in_least all n)
-            (elim o as (λ x. List Committed) [ None ↦ gather as_committed log | Some y ↦ y ∷ gather as_committed log ]))
+        (elim o as (λ x. List Committed) [ None ↦ gather as_committed log | Some y ↦ y ∷ gather as_committed log ]))
         ≡ (when (λ c. same_id c.txn t && when (nat_eq n) (head c.parts)) o || commits_here t n log)
     by_record rest None = rest
     by_record rest (Some c) = by_least rest c (when (nat_eq n) (head c.parts))
@@ -58,4 +58,4 @@ pub decided_is : (logs : List (List Record)) (t : Id) → when (λ u. true) (fin
 unfolding history
 decided_is logs t =
     is_when (find_txn (flat_map (λ l. kept_of logs l.0 l.1) (numbered 0 logs)) t) ∙ there_first (λ u. same_id u.txn t)
-        (flat_map (λ l. kept_of logs l.0 l.1) (numbered 0 logs)) ∙ all_logs logs t 0 logs
+    (flat_map (λ l. kept_of logs l.0 l.1) (numbered 0 logs)) ∙ all_logs logs t 0 logs

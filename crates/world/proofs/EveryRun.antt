@@ -77,7 +77,7 @@ IsTaken setup log = taken setup log ≡ Accepted
 -- what a step logs is taken
 takes : (setup : Setup) (log : List Record) (m : Memory) (now : Interval) (i : Input) (p : Plan) (r : Record) → IsTaken setup log →
     IsWell setup (facts_of log) m → plan_input setup (start_of_step 1024 setup (facts_of log) m) now i ≡ Ok p → p.logged ≡ Some r →
-        IsTaken setup (log ++ r ∷ [])
+    IsTaken setup (log ++ r ∷ [])
 takes setup log m now i p r h well e logged =
     let so_far : followed setup.shard log ≡ true = accepted_follows setup log h in
     let with_it : followed setup.shard (log ++ r ∷ []) ≡ true =
@@ -91,7 +91,7 @@ takes setup log m now i p r h well e logged =
 
 pub logs : (setup : Setup) (log : List Record) (m : Memory) (now : Interval) (i : Input) (p : Plan) (r : Record) → IsInLimit i → IsTaken setup log →
     IsWell setup (facts_of log) m → plan_input setup (start_of_step 1024 setup (facts_of log) m) now i ≡ Ok p → p.logged ≡ Some r →
-        IsTaken setup (log ++ r ∷ [])
+    IsTaken setup (log ++ r ∷ [])
 logs setup log m now i p r limit h well e logged = takes setup log m now i p r h well e logged
 
 -- the first opening is taken

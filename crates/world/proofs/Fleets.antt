@@ -90,8 +90,11 @@ another config used n i k (x ∷ rs) [] r s h at lt new = absurd h
 another config used n zero k (x ∷ rs) (y ∷ ss) r s h at lt new =
     let here : k ≡ n = omega (arith, at) in
     (subst (λ m. IsRunning (setup_of config m) used r s) here new, h.1)
-another config used n (suc i) k (x ∷ rs) (y ∷ ss) r s h at lt new = (h.0, another config used (suc n) i k rs ss r s h.1 (omega (arith, at))
-    (omega (arith, lt)) new)
+another config used n (suc i) k (x ∷ rs) (y ∷ ss) r s h at lt new = (
+  h.0,
+  another config used (suc n) i k rs ss r s h.1 (omega (arith, at))
+      (omega (arith, lt)) new,
+)
 
 -- one in a place that stands for the same as before
 pub again : (config : Config) (used n i k : ℕ) (rs : List Running) (ss : List ShardNow) (r : Running) (s : ShardNow) →
@@ -125,7 +128,7 @@ one_more_fresh config k rs new r h fresh put =
     let many = as_many config 0 0 rs (replicate k fresh_shard) h in
     let place : k ≡ 0 + length rs = omega (arith, many, length-replicate k fresh_shard) in
     let more : AreRunning config 0 0 (rs ++ r ∷ []) (replicate k fresh_shard ++ fresh_shard ∷ []) =
-        one_more config 0 0 k rs (replicate k fresh_shard) r fresh_shard h place fresh in
+    one_more config 0 0 k rs (replicate k fresh_shard) r fresh_shard h place fresh in
     subst (λ ss. AreRunning config 0 0 new ss) (replicate-append-replicate k 1 fresh_shard)
     (subst (λ l. AreRunning config 0 0 l (replicate k fresh_shard ++ fresh_shard ∷ [])) (sym put) more)
 
@@ -146,7 +149,7 @@ pub looks_there : (config : Config) (used : ℕ) (shards : Shards) (ss : List Sh
     → IfOk result (λ reply. reply ≡ elim (slice_get ss n) as (λ x. Reply) [ None ↦ Reply.Refused Stranger | Some s ↦ f s ])
 looks_there config used shards ss n r result f h there look =
     let p : (s : ShardNow) × (slice_get ss n ≡ Some s) × IsRunning (setup_of config n) used r s =
-        in_place config used 0 n n shards.running.items ss r h.running (omega arith) there in
+    in_place config used 0 n n shards.running.items ss r h.running (omega arith) there in
     subst (λ x. IfOk result (λ reply. reply ≡ x)) (sym (ap (λ o. elim o as (λ x. Reply) [ None ↦ Reply.Refused Stranger | Some s ↦ f s ]) p.1)) (look p.0 p.2)
 
 -- a test of one
@@ -155,7 +158,7 @@ pub tests_there : (config : Config) (used : ℕ) (shards : Shards) (ss : List Sh
     → slice_get shards.running.items n ≡ Some r → ((s : ShardNow) → IsRunning (setup_of config n) used r s → b ≡ f s) → b ≡ when f (slice_get ss n)
 tests_there config used shards ss n r b f h there tested =
     let p : (s : ShardNow) × (slice_get ss n ≡ Some s) × IsRunning (setup_of config n) used r s =
-        in_place config used 0 n n shards.running.items ss r h.running (omega arith) there in
+    in_place config used 0 n n shards.running.items ss r h.running (omega arith) there in
     tested p.0 p.2 ∙ ap (when f) (sym p.1)
 
 pub tests_nowhere : (config : Config) (used : ℕ) (shards : Shards) (ss : List ShardNow) (n : ℕ) (f : ShardNow → Bool) →
@@ -170,8 +173,11 @@ module _ (config : Config) (used : ℕ) (bag : List Envelope) (ss : List ShardNo
     (there : slice_get old.running.items n ≡ Some before) where
   by_shard : (s : ShardNow) → slice_get ss n ≡ Some s → shards_by config bag ss n doing ≡ shards_after ss n s doing (effect (setup_of config n) bag s doing)
   by_shard s is =
-      ap (λ o. elim o as (λ x. Result (List ShardNow × List Envelope) Fault) [ None ↦ Err Stranger | Some t ↦
-          shards_after ss n t doing (effect (setup_of config n) bag t doing) ]) is
+      ap (λ o. elim o as (λ x. Result (List ShardNow × List Envelope) Fault) [
+        | None ↦ Err Stranger
+        | Some t ↦
+            shards_after ss n t doing (effect (setup_of config n) bag t doing)
+      ]) is
 
   pub acts_there : (result : Result (List Envelope) Fault) → ((s : ShardNow) → IsRunning (setup_of config n) used before s →
       Acts (setup_of config n) used bag s doing after result)
@@ -223,9 +229,13 @@ one_taken all left after logs r log is read h = λ config used n ss running. let
         whole ≡ logs ++ map read_log rest
         → (k : ℕ) × (others : List ShardNow) × AreRunning config used k after others × (whole ≡ (logs ++ log ∷ []) ++ map read_log others)
     by_rest config used m [] whole k e = absurd k
-    by_rest config used m (s ∷ rest) whole k e =
-        (suc m, rest, k.1, e ∙ ap (λ l. logs ++ l ∷ map read_log rest) (sym (read (setup_of config m) used s k.0))
-            ∙ sym (append_assoc logs (log ∷ []) (map read_log rest)))
+    by_rest config used m (s ∷ rest) whole k e = (
+      suc m,
+      rest,
+      k.1,
+      e ∙ ap (λ l. logs ++ l ∷ map read_log rest) (sym (read (setup_of config m) used s k.0))
+          ∙ sym (append_assoc logs (log ∷ []) (map read_log rest)),
+    )
 
 -- the first that is left
 pub stands_first : (all left after : List Running) (logs : List (List Record)) (r : Running) (P : Type 0) → left ≡ r ∷ after

@@ -48,8 +48,11 @@ pub reads_keeps : (splits : List Bytes) (k : Bytes) → Keeps (reads splits k)
 unfolding reads
 reads_keeps splits k c =
     after_tests c c.stage ((nat_le 128 (length (asked_keys c)), Many) ∷ (was_answered c k, Again) ∷ (has_key c.awaited k, Awaited) ∷ (is_doomed c, Doomed) ∷ [])
-    (Goes (record c { awaited = c.awaited ++ k ∷ [] }) (record { to = Shard (shard_of splits k); message =
-        Message.Read (record { txn = c.txn; key = k }) } ∷ []))
+    (Goes (record c { awaited = c.awaited ++ k ∷ [] }) (record {
+      to = Shard (shard_of splits k);
+      message =
+          Message.Read (record { txn = c.txn; key = k });
+    } ∷ []))
     (refl, refl)
 
 pub buffers_keeps : (w : Write) → Keeps (buffers w)
@@ -77,8 +80,11 @@ take_keeps c n k epoch (Holds x) =
 pub hears_keeps : (n : ℕ) (k : Bytes) (epoch : ℕ) (a : Answer) (c : Client) → Alike c (hears n k epoch a c)
 unfolding hears
 hears_keeps n k epoch a c =
-    elim (has_key c.awaited k && not (is_doomed c)) as (λ b. Alike c (cond b (take_answer c n k epoch a) c)) [ true ↦
-        take_keeps c n k epoch a | false ↦ (refl, refl) ]
+    elim (has_key c.awaited k && not (is_doomed c)) as (λ b. Alike c (cond b (take_answer c n k epoch a) c)) [
+      | true ↦
+          take_keeps c n k epoch a
+      | false ↦ (refl, refl)
+    ]
 
 -- ---- in which stage it is taken
 
@@ -106,7 +112,7 @@ open_moves f keeps b tx new r is same step splits c begun = by_result r step
         let client : tx.client ≡ c = ap (λ (t : Session). t.client) h.0 in
         let txn : new.client.txn ≡ c.txn = kept.0 ∙ ap (λ (d : Client). d.txn) client in
         let there : new ≡ record { splits = splits; client = new.client } = ap (λ s. record { splits = s; client = new.client })
-            (same ∙ ap (λ (t : Session). t.splits) h.0) in (
+        (same ∙ ap (λ (t : Session). t.splits) h.0) in (
           new.client,
           takes ∙ e,
           txn,
@@ -125,13 +131,13 @@ open_moves f keeps b tx new r is same step splits c begun = by_result r step
 pub close_moves : (b : Begun) (tx new : Session) (out : List Envelope) → b.held ≡ Open tx → new.splits ≡ tx.splits →
     closes tx.splits tx.client ≡ Goes new.client out
     → (splits : List Bytes) (c : Client) → IsBegun splits b c → Moves splits (when_open (closes splits) c)
-        (record { txn = b.txn; held = Closing new }) c (Ok out)
+    (record { txn = b.txn; held = Closing new }) c (Ok out)
 close_moves b tx new out is same step splits c begun =
     let h : IsHeld splits (Open tx) c = subst (λ x. IsHeld splits x c) is begun.held in
     let kept = subst (Leaves tx.client IsClosing) step (closes_closing tx.splits tx.client) in
     let txn : new.client.txn ≡ c.txn = kept.0 ∙ ap (λ (t : Session). t.client.txn) h.0 in
     let there : new ≡ record { splits = splits; client = new.client } = ap (λ s. record { splits = s; client = new.client })
-        (same ∙ ap (λ (t : Session). t.splits) h.0) in (
+    (same ∙ ap (λ (t : Session). t.splits) h.0) in (
       new.client,
       open_takes (closes splits) c h.1 ∙ ap (λ (t : Session). closes t.splits t.client) (sym h.0) ∙ step,
       txn,
@@ -198,7 +204,7 @@ open_hears b tx new a r is same heard line memory splits c begun = by_result r h
         let made : new.client ≡ hears a.from a.key a.epoch a.answer c = is_heard ∙ ap (hears a.from a.key a.epoch a.answer) client in
         let kept = hears_keeps a.from a.key a.epoch a.answer c in
         let there : new ≡ record { splits = splits; client = new.client } = ap (λ s. record { splits = s; client = new.client })
-            (same ∙ ap (λ (t : Session). t.splits) h.0) in (
+        (same ∙ ap (λ (t : Session). t.splits) h.0) in (
           new.client,
           h.1,
           made,
@@ -232,7 +238,7 @@ one_line : (c : Client) (r : Answered) (aw : List Bytes) (k : Bytes) (x : Option
 one_line c r aw k x own new =
     let there : list_any (λ (a : Answered). same_key a.key k) (c.taken ++ r ∷ []) ≡ true =
     any_append (λ (a : Answered). same_key a.key k) c.taken (r ∷ []) ∙ ap (λ b. b || (same_key r.key k || false)) new
-        ∙ ap (λ j. same_key j k || false) own ∙ ap (λ b. b || false) (same_key-refl k) in
+    ∙ ap (λ j. same_key j k || false) own ∙ ap (λ b. b || false) (same_key-refl k) in
     (λ i. cond (sym there i && not (sym new i)) (Line.Read c.txn k x ∷ []) [])
 
 -- what is heard and the line agree
@@ -246,8 +252,11 @@ heard_lines n k epoch a c apart = by_tests (has_key c.awaited k) refl (is_doomed
 
     by_agree : (x : Option Bytes) → has_key c.awaited k ≡ true → (b : Bool)
         → lines_of c.txn k (cond b (Heard.Value x) Heard.Doomed)
-        ≡ read_lines c (cond b (record c { taken = c.taken ++ record { key = k; shard = n; epoch = epoch; value = x } ∷ []; awaited =
-            without_key c.awaited k }) (doomed_by k c)) k (Holds x)
+        ≡ read_lines c (cond b (record c {
+          taken = c.taken ++ record { key = k; shard = n; epoch = epoch; value = x } ∷ [];
+          awaited =
+              without_key c.awaited k;
+        }) (doomed_by k c)) k (Holds x)
     by_agree x is true = one_line c (record { key = k; shard = n; epoch = epoch; value = x }) (without_key c.awaited k) k x refl (new is)
     by_agree x is false = no_line c (doomed_by k c) k (Holds x) refl
 
@@ -258,7 +267,7 @@ heard_lines n k epoch a c apart = by_tests (has_key c.awaited k) refl (is_doomed
 
     by_tests : (b : Bool) → has_key c.awaited k ≡ b → (d : Bool)
         → lines_of c.txn k (cond (b && not d) (taken_as (epochs_agree c.taken n epoch) a) Heard.Again) ≡
-            read_lines c (cond (b && not d) (take_answer c n k epoch a) c) k a
+        read_lines c (cond (b && not d) (take_answer c n k epoch a) c) k a
     by_tests false is d = no_line c c k a refl
     by_tests true is true = no_line c c k a refl
     by_tests true is false = by_answer a is

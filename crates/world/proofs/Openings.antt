@@ -21,7 +21,7 @@ pub opening_follows : (shard : ℕ) (log : List Record) → followed shard log �
 unfolding follows facts_of
 opening_follows shard log h =
     followed_more shard log (Record.Opened ((facts_of log).epoch + 1))
-        ∙ and_from _ _ h (and_from _ _ (first_begins log ((facts_of log).epoch + 1)) (same_number ((facts_of log).epoch + 1)))
+    ∙ and_from _ _ h (and_from _ _ (first_begins log ((facts_of log).epoch + 1)) (same_number ((facts_of log).epoch + 1)))
 
 -- ---- what is taken
 
@@ -50,7 +50,7 @@ more_from setup before place [] r h next =
     taken_again (not (belongs setup r)) _ place _ (not_from_true (belongs setup r) n.own) n.fits refl
 more_from setup before place (q ∷ qs) r h next =
     let p = taken_step (not (belongs setup q)) (begins before q && follows setup.shard before q && fits_beside before q) place
-        (taken_from setup (before ++ q ∷ []) (place + 1) qs) h in
+    (taken_from setup (before ++ q ∷ []) (place + 1) qs) h in
     taken_again (not (belongs setup q)) _ place _ p.0 p.1
     (more_from setup (before ++ q ∷ []) (place + 1) qs r p.2 (subst (λ l. IsNext setup l r) (sym (append_assoc before (q ∷ []) qs)) next))
 

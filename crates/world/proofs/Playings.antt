@@ -98,7 +98,7 @@ module _ (w : World) (e : Event) (number : ℕ) (at : w.event ≡ number) where
   pub happened : (mid new : Run) (reply : Reply) → may_happen w e ≡ true → Comes (number + 1) (acts w e.act) mid (Ok reply) →
       new.sessions ≡ mid.sessions → new.shards ≡ mid.shards
       → new.past.bag ≡ mid.past.bag → new.past.told ≡ mid.past.told → new.past.lines ≡ mid.past.lines → new.past.event ≡ number + 1 →
-          new.time ≡ e.time → Takes w e new (Ok reply)
+      new.time ≡ e.time → Takes w e new (Ok reply)
   unfolding happens
   happened mid new reply may comes sessions shards bag told lines event time =
       let after : World = (acts w e.act).0 in
@@ -111,8 +111,13 @@ module _ (w : World) (e : Event) (number : ℕ) (at : w.event ≡ number) where
             sessions = subst (λ s. Hosts after.config.splits s after.clients) (sym sessions) h.sessions;
             shards = subst (λ n. AreShards after.config (n + 1) new.shards after.shards) (sym at)
                 (subst (λ s. AreShards after.config (number + 1) s after.shards) (sym shards) h.shards);
-            past = record { bag = bag ∙ h.past.bag; told = ap (λ ts. ts.items) told ∙ h.past.told; lines = ap (λ ls. ls.items) lines
-                ∙ h.past.lines; event = omega (arith, event, same, at) };
+            past = record {
+              bag = bag ∙ h.past.bag;
+              told = ap (λ ts. ts.items) told ∙ h.past.told;
+              lines = ap (λ ls. ls.items) lines
+                  ∙ h.past.lines;
+              event = omega (arith, event, same, at);
+            };
             time = time;
           },
         ),
@@ -156,7 +161,7 @@ module _ (config : Config) (es : List Event) (n : ℕ) (e : Event) (lt : n < len
   none_next fault result told is_err f =
       subst (λ x. Plays config es new told x) (sym is_err)
       (subst (λ xs. (fault ≡ Memory) ⊎ IsUnlawful config xs fault) (whole_is es n e lt is)
-          (none_more config (take n es) r new answers h e (drop (suc n) es) fault (taken (Err fault) f)))
+      (none_more config (take n es) r new answers h e (drop (suc n) es) fault (taken (Err fault) f)))
 
 -- ---- the report
 

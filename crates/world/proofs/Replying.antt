@@ -116,8 +116,12 @@ module _ (w : World) (new : Sessions) where
   pub takes_end : (e : Done) (answer : Result (List Envelope) Fault) → MovesIn w.config.splits
       (session_step when_closing (client_of w e.txn)) new w.clients answer → TakesMessage w (Message.Done e) new (no_line answer)
   unfolding to_session
-  takes_end e (Ok out) moves = (moves.0, closing_moves w (client_of w e.txn) ∙ ap (moved w) moves.1
-      ∙ end_taken (client_of w e.txn) moves.0 out moves.1, moves.2)
+  takes_end e (Ok out) moves = (
+    moves.0,
+    closing_moves w (client_of w e.txn) ∙ ap (moved w) moves.1
+        ∙ end_taken (client_of w e.txn) moves.0 out moves.1,
+    moves.2,
+  )
   takes_end e (Err fault) (inl memory) = inl memory
   takes_end e (Err fault) (inr moves) = inr (closing_moves w (client_of w e.txn) ∙ ap (moved w) moves.0, moves.1)
 
@@ -159,8 +163,16 @@ module _ (used : ℕ) (w : World) (old new : Run) (h : IsRun used old w) where
 
   -- nothing happens
   stands_still : IsRun (used + 1) old w
-  stands_still = record { sessions = h.sessions; shards = record { splits_are = h.shards.splits_are; running =
-      all_grow w.config used 0 old.shards.running.items w.shards h.shards.running }; past = h.past; time = h.time }
+  stands_still = record {
+    sessions = h.sessions;
+    shards = record {
+      splits_are = h.shards.splits_are;
+      running =
+          all_grow w.config used 0 old.shards.running.items w.shards h.shards.running;
+    };
+    past = h.past;
+    time = h.time;
+  }
 
   pub nobody_comes : (m : ℕ) (now : Interval) (o : Option Envelope) → o ≡ None → Comes (used + 1) (deliver_to w m now o) old (Ok (Reply.Refused Stranger))
   unfolding deliver_to
@@ -177,7 +189,7 @@ module _ (used : ℕ) (w : World) (old new : Run) (h : IsRun used old w) where
       shards = same_shards shards;
       past = subst (λ n. IsPast new.past (note (Line.Begin t n) (record w { clients = w.clients ++ begun t ∷ [] }))) is
           (look_noted (record w { clients = w.clients ++ begun t ∷ [] })
-              (record { bag = h.past.bag; told = h.past.told; lines = h.past.lines; event = h.past.event }));
+          (record { bag = h.past.bag; told = h.past.told; lines = h.past.lines; event = h.past.event }));
       time = time ∙ h.time;
     },
   )
@@ -186,34 +198,34 @@ module _ (used : ℕ) (w : World) (old new : Run) (h : IsRun used old w) where
   pub session_comes : (m : Moved) (answer : Result (List Envelope) Fault) (result : Result Reply Fault) →
       MovesIn w.config.splits m new.sessions w.clients answer
       → ((v : World) → IsPast old.past v → HasReplied v answer new.past result) → new.shards ≡ old.shards → new.time ≡ old.time →
-          Comes (used + 1) (moved w m) new result
+      Comes (used + 1) (moved w m) new result
   unfolding put_out
   session_comes m (Ok out) (Ok reply) moves replies shards time =
       let r = replies (set_client moves.0 w) (record { bag = h.past.bag; told = h.past.told; lines = h.past.lines; event = h.past.event }) in
       subst (λ n. Comes (used + 1) (moved w n) new (Ok reply)) (sym moves.1)
-          (r.0, record { sessions = moves.2; shards = same_shards shards; past = r.1; time = time ∙ h.time })
+      (r.0, record { sessions = moves.2; shards = same_shards shards; past = r.1; time = time ∙ h.time })
   session_comes m (Ok out) (Err fault) moves replies shards time = replies w h.past
   session_comes m (Err why) (Ok reply) (inl memory) replies shards time = absurd ((replies w h.past).0 memory)
   session_comes m (Err why) (Ok reply) (inr moves) replies shards time =
       let r = replies w h.past in
       subst (λ n. Comes (used + 1) (moved w n) new (Ok reply)) (sym moves.0)
-          (r.1, record { sessions = moves.1; shards = same_shards shards; past = r.2; time = time ∙ h.time })
+      (r.1, record { sessions = moves.1; shards = same_shards shards; past = r.2; time = time ∙ h.time })
   session_comes m (Err why) (Err fault) moves replies shards time = replies w h.past
 
   -- a message that comes to one
   pub message_comes : (m : Message) (answer : Result (Option Line) Fault) (result : Result Reply Fault) → TakesMessage w m new.sessions answer
       → ((v : World) → IsPast old.past v → HasHeard v answer new.past result) → new.shards ≡ old.shards → new.time ≡ old.time →
-          Comes (used + 1) (to_session w m) new result
+      Comes (used + 1) (to_session w m) new result
   message_comes m (Ok line) (Ok reply) takes heard shards time =
       let r = heard (set_client takes.0 w) (record { bag = h.past.bag; told = h.past.told; lines = h.past.lines; event = h.past.event }) in
       subst (λ a. Comes (used + 1) a new (Ok reply)) (sym takes.1)
-          (r.0, record { sessions = takes.2; shards = same_shards shards; past = r.1; time = time ∙ h.time })
+      (r.0, record { sessions = takes.2; shards = same_shards shards; past = r.1; time = time ∙ h.time })
   message_comes m (Ok line) (Err fault) takes heard shards time = heard w h.past
   message_comes m (Err why) (Ok reply) (inl memory) heard shards time = absurd ((heard w h.past).0 memory)
   message_comes m (Err why) (Ok reply) (inr takes) heard shards time =
       let r = heard w h.past in
       subst (λ a. Comes (used + 1) a new (Ok reply)) (sym takes.0)
-          (r.1, record { sessions = takes.1; shards = same_shards shards; past = r.2; time = time ∙ h.time })
+      (r.1, record { sessions = takes.1; shards = same_shards shards; past = r.2; time = time ∙ h.time })
   message_comes m (Err why) (Err fault) takes heard shards time = heard w h.past
 
   -- a look
@@ -221,21 +233,45 @@ module _ (used : ℕ) (w : World) (old new : Run) (h : IsRun used old w) where
       → new.sessions ≡ old.sessions → new.shards ≡ old.shards → new.time ≡ old.time → Comes (used + 1) (look_noted w k at shows) new result
   look_comes k at shows (Err fault) notes sessions shards time = notes w h.past
   look_comes k at (Reply.Shows x) (Ok reply) notes sessions shards time =
-      let r = notes w h.past in
-      (r.0, record { sessions = subst (λ s. Hosts w.config.splits s w.clients) (sym sessions) h.sessions; shards = same_shards shards; past = r.1;
-          time = time ∙ h.time })
+      let r = notes w h.past in (
+        r.0,
+        record {
+          sessions = subst (λ s. Hosts w.config.splits s w.clients) (sym sessions) h.sessions;
+          shards = same_shards shards;
+          past = r.1;
+          time = time ∙ h.time;
+        },
+      )
   look_comes k at (Reply.Refused fault) (Ok reply) notes sessions shards time =
-      let r = notes w h.past in
-      (r.0, record { sessions = subst (λ s. Hosts w.config.splits s w.clients) (sym sessions) h.sessions; shards = same_shards shards; past = r.1;
-          time = time ∙ h.time })
+      let r = notes w h.past in (
+        r.0,
+        record {
+          sessions = subst (λ s. Hosts w.config.splits s w.clients) (sym sessions) h.sessions;
+          shards = same_shards shards;
+          past = r.1;
+          time = time ∙ h.time;
+        },
+      )
   look_comes k at Reply.Done (Ok reply) notes sessions shards time =
-      let r = notes w h.past in
-      (r.0, record { sessions = subst (λ s. Hosts w.config.splits s w.clients) (sym sessions) h.sessions; shards = same_shards shards; past = r.1;
-          time = time ∙ h.time })
+      let r = notes w h.past in (
+        r.0,
+        record {
+          sessions = subst (λ s. Hosts w.config.splits s w.clients) (sym sessions) h.sessions;
+          shards = same_shards shards;
+          past = r.1;
+          time = time ∙ h.time;
+        },
+      )
   look_comes k at Reply.Crashed (Ok reply) notes sessions shards time =
-      let r = notes w h.past in
-      (r.0, record { sessions = subst (λ s. Hosts w.config.splits s w.clients) (sym sessions) h.sessions; shards = same_shards shards; past = r.1;
-          time = time ∙ h.time })
+      let r = notes w h.past in (
+        r.0,
+        record {
+          sessions = subst (λ s. Hosts w.config.splits s w.clients) (sym sessions) h.sessions;
+          shards = same_shards shards;
+          past = r.1;
+          time = time ∙ h.time;
+        },
+      )
 
   -- a step of a shard
   abbrev by_shards : Result (List ShardNow × List Envelope) Fault → After
@@ -261,8 +297,11 @@ module _ (used : ℕ) (w : World) (old new : Run) (h : IsRun used old w) where
     where
       by_place : (o : Option ShardNow)
           → elim o as (λ x. After) [ None ↦ refused w Stranger | Some s ↦ did w n s doing (effect (setup_of w.config n) w.bag s doing) ]
-          ≡ by_shards (elim o as (λ x. Result (List ShardNow × List Envelope) Fault) [ None ↦ Err Stranger | Some s ↦
-              shards_after w.shards n s doing (effect (setup_of w.config n) w.bag s doing) ])
+          ≡ by_shards (elim o as (λ x. Result (List ShardNow × List Envelope) Fault) [
+            | None ↦ Err Stranger
+            | Some s ↦
+                shards_after w.shards n s doing (effect (setup_of w.config n) w.bag s doing)
+          ])
       by_place None = refl
       by_place (Some s) = did_is n s doing (effect (setup_of w.config n) w.bag s doing) goes
 
@@ -271,7 +310,7 @@ module _ (used : ℕ) (w : World) (old new : Run) (h : IsRun used old w) where
   follows_at n doing steady s there r memory out is =
       let sure : s.unsure ≡ Nothing = (of_place w.config used 0 n n old.shards.running.items w.shards s h.shards.running (omega arith) there).2.sure in
       subst (λ log. IsTrue (followed n (log ++ r ∷ []))) (ap (λ u. s.log ++ shown_records u) sure ∙ append-nil s.log)
-          (steady.logged n s doing r memory out there is)
+      (steady.logged n s doing r memory out there is)
 
   pub shard_comes : (n : ℕ) (doing : Doing) (answer : Result (List Envelope) Fault) (result : Result Reply Fault) → goes_on doing ≡ true →
       used < 2 ^ 19 → IsSteady w
@@ -318,8 +357,11 @@ pub looks : (w : World) (n : ℕ) (k : Bytes) (at : ℕ) → at_shard w n (λ se
     look_noted w k at (looked w.config w.shards n k at)
 looks w n k at = by_place (slice_get w.shards n)
   where
-    by_place : (o : Option ShardNow) → elim o as (λ x. After) [ None ↦ refused w Stranger | Some s ↦
-        look_noted w k at (look_shard (setup_of w.config n) s k at) ]
+    by_place : (o : Option ShardNow) → elim o as (λ x. After) [
+      | None ↦ refused w Stranger
+      | Some s ↦
+          look_noted w k at (look_shard (setup_of w.config n) s k at)
+    ]
         ≡ look_noted w k at (elim o as (λ x. Reply) [ None ↦ Reply.Refused Stranger | Some s ↦ look_shard (setup_of w.config n) s k at ])
     by_place None = refl
     by_place (Some s) = refl
@@ -328,8 +370,11 @@ pub looks_back : (w : World) (n v : ℕ) (k : Bytes) (at : ℕ) →
     at_shard w n (λ setup s. look_noted w k at (look_at_view setup (slice_get s.views v) k at)) ≡ look_noted w k at (looked_back w.config w.shards n v k at)
 looks_back w n v k at = by_place (slice_get w.shards n)
   where
-    by_place : (o : Option ShardNow) → elim o as (λ x. After) [ None ↦ refused w Stranger | Some s ↦
-        look_noted w k at (look_at_view (setup_of w.config n) (slice_get s.views v) k at) ]
+    by_place : (o : Option ShardNow) → elim o as (λ x. After) [
+      | None ↦ refused w Stranger
+      | Some s ↦
+          look_noted w k at (look_at_view (setup_of w.config n) (slice_get s.views v) k at)
+    ]
         ≡ look_noted w k at (elim o as (λ x. Reply) [ None ↦ Reply.Refused Stranger | Some s ↦ look_at_view (setup_of w.config n) (slice_get s.views v) k at ])
     by_place None = refl
     by_place (Some s) = refl

@@ -90,8 +90,11 @@ module _ (Allowed : Setup → Input → Type 0) (Sound : Setup → Facts → Mem
   more : (L : Type 0) (setup : Setup) (log : List Record) (r : Record) (m : Memory) → (L → Good setup (log ++ r ∷ [])) →
       (L → Sound setup (learn (facts_of log) r) m) →
       SoundStep L setup (log ++ r ∷ []) m
-  more L setup log r m next sound = record { sound = λ l. subst (λ x. Sound setup x m) (sym
-      (learn_agrees setup.shard log r (follows setup (log ++ r ∷ []) (next l)))) (sound l); good = next }
+  more L setup log r m next sound = record {
+    sound = λ l. subst (λ x. Sound setup x m) (sym
+        (learn_agrees setup.shard log r (follows setup (log ++ r ∷ []) (next l)))) (sound l);
+    good = next;
+  }
 
   -- a step of a running shard
   of_plan : (L : Type 0) (setup : Setup) (log : List Record) (m : Memory) (now : Interval) (i : Input) → (L → Allowed setup i) → Good setup log →
@@ -120,8 +123,11 @@ module _ (Allowed : Setup → Input → Type 0) (Sound : Setup → Facts → Mem
 
     running : (L : Type 0) (o : Option (Interval × Input)) → ((p : Interval × Input) → o ≡ Some p → L → Allowed (setup_of config n) p.1) →
         (st : State) → s.state ≡ st →
-        SteppedSound L (setup_of config n) (read_log s) (elim st as (λ x. Stepped) [ Runs m ↦
-            step_with (setup_of config n) (facts_of s.log) m o | _ ↦ Refuses Stopped ])
+        SteppedSound L (setup_of config n) (read_log s) (elim st as (λ x. Stepped) [
+          | Runs m ↦
+              step_with (setup_of config n) (facts_of s.log) m o
+          | _ ↦ Refuses Stopped
+        ])
     unfolding step_within
     running L o allowed (IsStopped m) is = tt
     running L o allowed IsDown is = tt
@@ -131,7 +137,7 @@ module _ (Allowed : Setup → Input → Type 0) (Sound : Setup → Facts → Mem
         let read_is : read_log s ≡ s.log = ap (λ u. s.log ++ shown_records u) state.1 ∙ append-nil s.log in
         subst (λ l. SteppedSound L (setup_of config n) l (step_with (setup_of config n) (facts_of s.log) m (Some p))) (sym read_is)
         (of_plan L (setup_of config n) s.log m p.0 p.1 (allowed p refl) plain.good state.0
-            (plan_input (setup_of config n) (start_of_step 1024 (setup_of config n) (facts_of s.log) m) p.0 p.1) refl)
+        (plan_input (setup_of config n) (start_of_step 1024 (setup_of config n) (facts_of s.log) m) p.0 p.1) refl)
 
     opened : SteppedSound (Unit {0}) (setup_of config n) (read_log s) (step_of_opening (facts_of (read_log s)))
     unfolding step_of_opening
@@ -143,7 +149,7 @@ module _ (Allowed : Setup → Input → Type 0) (Sound : Setup → Facts → Mem
         by_test true =
             let l = sound.left (read_log s) read_left in
             more (Unit {0}) (setup_of config n) (read_log s) (Record.Opened ((facts_of (read_log s)).epoch + 1)) (rebuilt (facts_of (read_log s)))
-                (λ u. good_opens (setup_of config n) (read_log s) l.good)
+            (λ u. good_opens (setup_of config n) (read_log s) l.good)
             (λ u. opens (setup_of config n) (facts_of (read_log s)) l.memory l.sound)
 
     pub effect_sound : (doing : Doing) → SteppedSound (DoingAllowed Allowed (setup_of config n) bag doing) (setup_of config n) (read_log s)
@@ -249,7 +255,7 @@ module _ (Allowed : Setup → Input → Type 0) (Sound : Setup → Facts → Mem
         by_left log (inr x) =
             let is : r ≡ x.0 = unsure_is (is_read call) (is_left call Fate.New) x.0 x.1 in
             subst (SoundLog (setup_of config n)) (sym x.2) (subst (λ q. SoundLog (setup_of config n) (read_log s ++ q ∷ [])) is
-                (record { memory = memory; sound = e.sound allowed; good = e.good allowed }))
+            (record { memory = memory; sound = e.sound allowed; good = e.good allowed }))
 
   -- ---- a world
 
@@ -270,7 +276,7 @@ module _ (Allowed : Setup → Input → Type 0) (Sound : Setup → Facts → Mem
         by_place : n ≡ m → SoundShard (setup_of w.config m) s
         by_place same =
             let is : new ≡ s = some_same new s (sym (get-replaced_same w.shards n old new there)
-                ∙ subst (λ k. slice_get (replaced w.shards n new) k ≡ Some s) (sym same) e) in
+            ∙ subst (λ k. slice_get (replaced w.shards n new) k ≡ Some s) (sym same) e) in
             subst (λ k. SoundShard (setup_of w.config k) s) same (subst (SoundShard (setup_of w.config n)) is new_sound)
 
     -- a change that touches no shard
@@ -286,8 +292,11 @@ module _ (Allowed : Setup → Input → Type 0) (Sound : Setup → Facts → Mem
           down = set_sound n s (crashed s (read_log s)) there (crashed_sound w.config w.bag n s (sound n s there) (read_log s)
               ((sound n s there).left (read_log s) (read_left w.config w.bag n s (sound n s there))))
 
-          by_state : (st : State) → SoundWorld ((elim st as (λ x. After) [ Runs m ↦ refused w f | _ ↦
-              (set_shard n (crashed s (read_log s)) w, Reply.Refused f) ]).0)
+          by_state : (st : State) → SoundWorld ((elim st as (λ x. After) [
+            | Runs m ↦ refused w f
+            | _ ↦
+                (set_shard n (crashed s (read_log s)) w, Reply.Refused f)
+          ]).0)
           by_state (Runs m) = sound
           by_state (IsStopped m) = down
           by_state IsDown = down
@@ -341,8 +350,11 @@ module _ (Allowed : Setup → Input → Type 0) (Sound : Setup → Facts → Mem
     deliver_sound m now None allowed = sound
     deliver_sound m now (Some e) allowed = by_address e.to refl
       where
-        by_address : (a : Address) → e.to ≡ a → SoundWorld ((elim a as (λ x. After) [ Shard n ↦ do_at w n (Doing.Take m now) | Session t ↦
-            to_session w e.message ]).0)
+        by_address : (a : Address) → e.to ≡ a → SoundWorld ((elim a as (λ x. After) [
+          | Shard n ↦ do_at w n (Doing.Take m now)
+          | Session t ↦
+              to_session w e.message
+        ]).0)
         by_address (Shard n) goes = do_at_sound n (Doing.Take m now) (allowed e n refl goes)
         by_address (Session t) goes = untouched ((to_session w e.message).0) (to_session_keeps w e.message)
 
@@ -363,15 +375,15 @@ module _ (Allowed : Setup → Input → Type 0) (Sound : Setup → Facts → Mem
         (λ s there. untouched ((look_noted w k at (look_shard (setup_of w.config n) s k at)).0) (noted_keeps w k at (look_shard (setup_of w.config n) s k at)))
     acts_sound (Act.View n v k at) allowed =
         at_shard_sound n (λ setup s. look_noted w k at (look_at_view setup (slice_get s.views v) k at))
-            (λ s there. untouched ((look_noted w k at (look_at_view (setup_of w.config n) (slice_get s.views v) k at)).0)
-            (noted_keeps w k at (look_at_view (setup_of w.config n) (slice_get s.views v) k at)))
+        (λ s there. untouched ((look_noted w k at (look_at_view (setup_of w.config n) (slice_get s.views v) k at)).0)
+        (noted_keeps w k at (look_at_view (setup_of w.config n) (slice_get s.views v) k at)))
     acts_sound (Act.Crash n) allowed = at_shard_sound n (λ setup s. (set_shard n (crashed s s.log) w, Reply.Crashed))
         (λ s there. set_sound n s (crashed s s.log) there (crashed_sound w.config w.bag n s (sound n s there) s.log ((sound n s there).left s.log (inl refl))))
     acts_sound (Act.CrashIn n call fate doing) allowed =
         at_shard_sound n (λ setup s. (set_shard n (crashed_in s call fate doing (effect setup w.bag s doing)) w, Reply.Crashed))
         (λ s there. set_sound n s (crashed_in s call fate doing (effect (setup_of w.config n) w.bag s doing)) there
         (crashed_in_sound w.config w.bag n s (sound n s there) (DoingAllowed Allowed (setup_of w.config n) w.bag doing) allowed call fate doing
-            (effect (setup_of w.config n) w.bag s doing) (effect_is_sound n s there doing)))
+        (effect (setup_of w.config n) w.bag s doing) (effect_is_sound n s there doing)))
     acts_sound (Act.FailIn n call doing) allowed = at_shard_sound n (λ setup s. did_with_failure w n s call doing (effect setup w.bag s doing))
         (λ s there. failing_sound n s there call doing allowed _ (effect_is_sound n s there doing))
 

@@ -154,13 +154,13 @@ module _ (w : World) where
       (λ s. let k = noted_keeps k at (look_shard (setup_of w.config n) s k at) in (k.1, k.2))
   acts_settings (Act.View n v k at) =
       at_shard_settings n (λ setup s. look_noted w k at (look_at_view setup (slice_get s.views v) k at))
-          (λ s. let k = noted_keeps k at (look_at_view (setup_of w.config n) (slice_get s.views v) k at) in (k.1, k.2))
+      (λ s. let k = noted_keeps k at (look_at_view (setup_of w.config n) (slice_get s.views v) k at) in (k.1, k.2))
   acts_settings (Act.Crash n) = at_shard_settings n (λ setup s. (set_shard n (crashed s s.log) w, Reply.Crashed)) (λ s. (refl, refl))
   acts_settings (Act.CrashIn n call fate doing) =
       at_shard_settings n (λ setup s. (set_shard n (crashed_in s call fate doing (effect setup w.bag s doing)) w, Reply.Crashed)) (λ s. (refl, refl))
   acts_settings (Act.FailIn n call doing) =
       at_shard_settings n (λ setup s. did_with_failure w n s call doing (effect setup w.bag s doing))
-          (λ s. failing_settings n s call doing (effect (setup_of w.config n) w.bag s doing))
+      (λ s. failing_settings n s call doing (effect (setup_of w.config n) w.bag s doing))
 
 -- nor does a run
 run_from_settings : (w : World) (es : List Event) → (run_from w es).config ≡ w.config

@@ -115,12 +115,12 @@ module _ (setup : Setup) (used : ℕ) (bag : List Envelope) (s : ShardNow) (doin
 
   runs : (new : Running) → new.core ≡ mid.core → new.views.items ≡ mid.views.items ++ views_made (makes_view doing) mid → s.unsure ≡ Nothing
       → (logged : Option Record) (memory : Memory) → IsRunning setup (used + 1) mid (shard_stepped s logged memory) →
-          IsRunning setup (used + 1) new (finished s doing logged memory)
+      IsRunning setup (used + 1) new (finished s doing logged memory)
   unfolding finished
   runs new same put sure logged memory k =
       let log : read_log s ≡ s.log = ap (λ u. s.log ++ shown_records u) sure ∙ append-nil s.log in
       let facts : (seen mid.core).facts ≡ facts_of (read_log s ++ option_to_list logged) = k.facts
-          ∙ ap (λ l. facts_of (l ++ option_to_list logged)) (sym log) in
+      ∙ ap (λ l. facts_of (l ++ option_to_list logged)) (sym log) in
       let memory_is : (seen mid.core).memory ≡ memory = sym (same_memory memory (seen mid.core).memory k.state) in
       let gate : (seen new.core).gate ≡ (seen mid.core).gate = λ i. (seen (same i)).gate in
       record {
@@ -178,7 +178,7 @@ pub looked_at : (setup : Setup) (is : List Install) (vs : List CodeView) (views 
 looked_at setup is vs views n v here k at same there is_here =
     ap (λ b. look_at b (take v.count is) v.safe k at) is_here
     ∙ sym (ap (λ o. look_at_view setup o k at) (ap (λ l. slice_get l n) (sym same) ∙ slice_get-map (shown_view is) vs n
-        ∙ ap (option_map (shown_view is)) there))
+    ∙ ap (option_map (shown_view is)) there))
 
 -- there is none
 pub looked_at_none : (setup : Setup) (is : List Install) (vs : List CodeView) (views : List View) (n : ℕ) (k : Bytes) (at : ℕ)

@@ -49,5 +49,5 @@ Moves splits m new c (Err fault) = (fault ≡ Memory) ⊎ ((m ≡ Denies fault) 
 abbrev pub Hears : List Bytes → ReadAnswer → Begun → Client → Result (Option Line) Fault → Type 0
 Hears splits a new c (Ok line) =
     (d : Client) × (c.stage ≡ IsOpen) × (d ≡ hears a.from a.key a.epoch a.answer c) × (option_to_list line ≡ read_lines c d a.key a.answer)
-        × IsBegun splits new d
+    × IsBegun splits new d
 Hears splits a new c (Err fault) = (fault ≡ Memory) ⊎ ((fault ≡ Stranger) × (when_open finishes c ≡ Denies Stranger) × IsBegun splits new c)

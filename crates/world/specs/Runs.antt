@@ -61,7 +61,7 @@ Follows setup bag s doing = (r : Record) (memory : Kept) (out : List Envelope) �
 abbrev pub Carries : Setup → ℕ → List Envelope → ShardNow → Doing → Running → Result (List Envelope) Fault → Type 0
 Carries setup used bag s doing new (Ok out) =
     Follows setup bag s doing → (logged : Option Record) × (memory : Kept) × (effect setup bag s doing ≡ Does logged memory out)
-        × IsRunning setup (used + 1) new (shard_stepped s logged memory)
+    × IsRunning setup (used + 1) new (shard_stepped s logged memory)
 Carries setup used bag s doing new (Err fault) =
     reach used + 2 ^ 20 + 5 < 2 ^ 40 → (fault ≡ Memory) ⊎ ((effect setup bag s doing ≡ Refuses fault) × IsRunning setup used new s)
 
@@ -69,6 +69,6 @@ Carries setup used bag s doing new (Err fault) =
 abbrev pub Acts : Setup → ℕ → List Envelope → ShardNow → Doing → Running → Result (List Envelope) Fault → Type 0
 Acts setup used bag s doing new (Ok out) =
     Follows setup bag s doing → (logged : Option Record) × (memory : Kept) × (effect setup bag s doing ≡ Does logged memory out)
-        × IsRunning setup (used + 1) new (finished s doing logged memory)
+    × IsRunning setup (used + 1) new (finished s doing logged memory)
 Acts setup used bag s doing new (Err fault) =
     reach used + 2 ^ 20 + 5 < 2 ^ 40 → (fault ≡ Memory) ⊎ ((effect setup bag s doing ≡ Refuses fault) × IsRunning setup used new s)

@@ -174,8 +174,12 @@ look_view setup v k at =
 -- a look at a shard: a stopped one can be looked at, one that is down not
 abbrev pub look_shard : Setup → ShardNow → Bytes → ℕ → Reply
 look_shard setup s k at =
-    elim s.state [ Runs m ↦ look_view setup (view_of (facts_of s.log) m) k at | IsStopped m ↦
-        look_view setup (view_of (facts_of s.log) m) k at | IsDown ↦ Reply.Refused Stopped ]
+    elim s.state [
+      | Runs m ↦ look_view setup (view_of (facts_of s.log) m) k at
+      | IsStopped m ↦
+          look_view setup (view_of (facts_of s.log) m) k at
+      | IsDown ↦ Reply.Refused Stopped
+    ]
 
 -- ---- the world
 

@@ -18,7 +18,7 @@ returns-then-is_crowded-clause-planned c =
     let m = c.args.commit.now in
     refused-by _ _ (decided_crowded (start_of c.args.state.now) c.args.now.now.latest m c.in_ok-at.at c.requires.opens
     c.requires.alone (c.in_ok-at.ensures.0 ∙ ap (λ l. commit_stamp c.args.state.now.memory.last l []) c.latest.ensures.value) c.in_ok-at.ensures.1
-        (sym c.is_crowded.ensures.crowded ∙ c.if-is_crowded.true))
+    (sym c.is_crowded.ensures.crowded ∙ c.if-is_crowded.true))
 
 pub returns-clause-planned : goal.returns-clause-planned
 returns-clause-planned c =
@@ -27,4 +27,4 @@ returns-clause-planned c =
     planned-by k _ _ c.decide_anew.result
     (decided_roomy (start_of k) c.args.now.now.latest m c.in_ok-at.at c.requires.opens c.requires.alone
     (c.in_ok-at.ensures.0 ∙ ap (λ l. commit_stamp c.args.state.now.memory.last l []) c.latest.ensures.value) c.in_ok-at.ensures.1
-        (sym c.is_crowded.ensures.crowded ∙ c.if-is_crowded.false)) c.decide_anew.ensures.plan c.decide_anew.ensures.memory
+    (sym c.is_crowded.ensures.crowded ∙ c.if-is_crowded.false)) c.decide_anew.ensures.plan c.decide_anew.ensures.memory

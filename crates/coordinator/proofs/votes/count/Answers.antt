@@ -10,5 +10,5 @@ returns-clause-planned c =
     let s = c.args.collecting.now in
     planned-by k _ _ c.keep_vote.result
     (count_kept (start_of k) c.args.last.now.shard c.args.txn c.args.last.now.at s.request.latest s.request.parts s.request.reads s.request.writes
-        s.votes _ c.requires.row
+    s.votes _ c.requires.row
     (sym c.have_all_voted.ensures ∙ c.if-have_all_voted.false)) c.keep_vote.ensures.plan c.keep_vote.ensures.memory

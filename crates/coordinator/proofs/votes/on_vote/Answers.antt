@@ -14,4 +14,4 @@ returns-in-None-clause-planned c =
     let k = c.args.state.now in
     let v = c.args.vote.now in
     planned-past k v.txn (plan_vote (start_of k) v.from v.txn v.vote) c.past.result c.vote_without_row.result c.past.ensures.past
-        c.vote_without_row.ensures.planned
+    c.vote_without_row.ensures.planned

@@ -16,7 +16,7 @@ pub returns-in_err-cut-clause-planned : goal.returns-in_err-cut-clause-planned
 returns-in_err-cut-clause-planned g c calls more room never =
     let old = c.args.disk.now in
     let begun = c.in_err-cut.ensures.planned (for_cut calls) (9 + more) (g.met.D.Disk.room_less old (calls + 3) (9 + more) (for_cut calls + 1)
-        (9 + more) (omega arith) (omega arith) room) in
+    (9 + more) (omega arith) (omega arith) room) in
     absurd (false≢true (sym (ap fails never) ∙ planned_err (Unit {0}) (fails (g.D.Disk.plan old)) c.in_err-cut.field-0.0 begun.0))
 
 pub returns-clause-planned : goal.returns-clause-planned
@@ -24,7 +24,7 @@ returns-clause-planned g c calls more room never =
     let old = c.args.disk.now in
     let mid = c.cut.new.self in
     let begun = c.in_ok-cut.ensures.planned (for_cut calls) (9 + more) (g.met.D.Disk.room_less old (calls + 3) (9 + more) (for_cut calls + 1)
-        (9 + more) (omega arith) (omega arith) room) in
+    (9 + more) (omega arith) (omega arith) room) in
     let still : g.D.Disk.plan mid ≡ Never = c.in_ok-cut.ensures.plan ∙ ap next never in
     let ended = c.write_and_sync.ensures.planned calls more begun.1 in
     let ok : IsOk c.write_and_sync.result = subst (λ (p : Plan). IsAsPlanned (fails_in_two p) c.write_and_sync.result) still ended.0 in (

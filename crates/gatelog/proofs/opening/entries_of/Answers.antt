@@ -10,13 +10,16 @@ pub returns-then-image-clause-refused : goal.returns-then-image-clause-refused
 returns-then-image-clause-refused c = inr (too_short c.args.image.now c.if-image.true, refl)
 
 pub returns-then-ne-clause-refused : goal.returns-then-ne-clause-refused
-returns-then-ne-clause-refused c = inr (no_header c.args.image.now (λ e. differ c.split_at.result.0.now c.as_slice.result.now
-    (sym c.if-ne.true ∙ c.ne.ensures) (c.split_at.ensures.front ∙ e ∙ sym c.as_slice.ensures)), refl)
+returns-then-ne-clause-refused c = inr (
+  no_header c.args.image.now (λ e. differ c.split_at.result.0.now c.as_slice.result.now
+      (sym c.if-ne.true ∙ c.ne.ensures) (c.split_at.ensures.front ∙ e ∙ sym c.as_slice.ensures)),
+  refl,
+)
 
 pub loop-at-init : goal.loop-at-init
 loop-at-init c =
     let front : take 8 c.args.image.now ≡ header = sym c.split_at.ensures.front ∙ agree c.split_at.result.0.now c.as_slice.result.now
-        (sym c.if-ne.false ∙ c.ne.ensures) ∙ c.as_slice.ensures in
+    (sym c.if-ne.false ∙ c.ne.ensures) ∙ c.as_slice.ensures in
     let rest = entries_at 8 0 (drop 8 c.args.image.now) in
     record {
       inside = omega (arith, c.if-image.false);
@@ -44,10 +47,16 @@ loop-at-preserved c =
     }
 
 pub returns-in-Ok-None-clause-refused : goal.returns-in-Ok-None-clause-refused
-returns-in-Ok-None-clause-refused c = inr (damaged_there c.args.image.now c.loop-at.entries.items c.loop-at.at
-    (scan c.args.image.now) c.loop-at.invariant.so_far c.loop-at-test.true c.if-image-at.false
-    (sym (ap framed (to_end c.args.image.now (c.loop-at.at + 1))) ∙ c.in-Ok-None.ensures.read ∙ c.in-Ok-None.field-0-is), refl)
+returns-in-Ok-None-clause-refused c = inr (
+  damaged_there c.args.image.now c.loop-at.entries.items c.loop-at.at
+      (scan c.args.image.now) c.loop-at.invariant.so_far c.loop-at-test.true c.if-image-at.false
+      (sym (ap framed (to_end c.args.image.now (c.loop-at.at + 1))) ∙ c.in-Ok-None.ensures.read ∙ c.in-Ok-None.field-0-is),
+  refl,
+)
 
 pub returns-clause-refused : goal.returns-clause-refused
-returns-clause-refused c = inr (ends_there c.args.image.now c.loop-at.entries.items c.loop-at.at
-    (scan c.args.image.now) c.loop-at.invariant.so_far c.loop-at-test.false, refl)
+returns-clause-refused c = inr (
+  ends_there c.args.image.now c.loop-at.entries.items c.loop-at.at
+      (scan c.args.image.now) c.loop-at.invariant.so_far c.loop-at-test.false,
+  refl,
+)

@@ -9,19 +9,19 @@ pub returns-in_err-sync-clause-memory : goal.returns-in_err-sync-clause-memory
 returns-in_err-sync-clause-memory g c obeys never =
     let begun = c.in_err-sync.ensures.planned 7 0 (c.in_ok-reserve.ensures.room obeys) in
     absurd (false≢true (sym (ap fails (c.in_ok-reserve.ensures.plan ∙ never)) ∙ planned_err (Unit {0})
-        (fails (g.D.Disk.plan c.reserve.new.self)) c.in_err-sync.field-0.0 begun.0))
+    (fails (g.D.Disk.plan c.reserve.new.self)) c.in_err-sync.field-0.0 begun.0))
 
 pub returns-in_err-sync-clause-file_either : goal.returns-in_err-sync-clause-file_either
 returns-in_err-sync-clause-file_either g c obeys never =
     let begun = c.in_err-sync.ensures.planned 7 0 (c.in_ok-reserve.ensures.room obeys) in
     absurd (false≢true (sym (ap fails (c.in_ok-reserve.ensures.plan ∙ never)) ∙ planned_err (Unit {0})
-        (fails (g.D.Disk.plan c.reserve.new.self)) c.in_err-sync.field-0.0 begun.0))
+    (fails (g.D.Disk.plan c.reserve.new.self)) c.in_err-sync.field-0.0 begun.0))
 
 pub returns-in_err-image-clause-file_either : goal.returns-in_err-image-clause-file_either
 returns-in_err-image-clause-file_either g c obeys never =
     let begun = c.in_ok-sync.ensures.planned 7 0 (c.in_ok-reserve.ensures.room obeys) in
     inr (synced_unless (fails (g.D.Disk.plan c.reserve.new.self)) (g.D.Disk.file c.args.disk.now) (g.D.Disk.file c.reserve.new.self)
-        (g.D.Disk.file c.sync.new.self) (ap fails (c.in_ok-reserve.ensures.plan ∙ never)) c.in_ok-reserve.ensures.same begun.2)
+    (g.D.Disk.file c.sync.new.self) (ap fails (c.in_ok-reserve.ensures.plan ∙ never)) c.in_ok-reserve.ensures.same begun.2)
 
 pub returns-in_err-read_at-clause-memory : goal.returns-in_err-read_at-clause-memory
 returns-in_err-read_at-clause-memory g c obeys never =
@@ -33,19 +33,19 @@ pub returns-in_err-read_at-clause-file_either : goal.returns-in_err-read_at-clau
 returns-in_err-read_at-clause-file_either g c obeys never =
     let begun = c.in_ok-sync.ensures.planned 7 0 (c.in_ok-reserve.ensures.room obeys) in
     inr (c.in_err-read_at.ensures.same ∙ synced_unless (fails (g.D.Disk.plan c.reserve.new.self)) (g.D.Disk.file c.args.disk.now)
-        (g.D.Disk.file c.reserve.new.self) (g.D.Disk.file c.sync.new.self) (ap fails (c.in_ok-reserve.ensures.plan ∙ never))
-        c.in_ok-reserve.ensures.same begun.2)
+    (g.D.Disk.file c.reserve.new.self) (g.D.Disk.file c.sync.new.self) (ap fails (c.in_ok-reserve.ensures.plan ∙ never))
+    c.in_ok-reserve.ensures.same begun.2)
 
 pub returns-clause-file : goal.returns-clause-file
 returns-clause-file g c obeys never =
     let begun = c.in_ok-sync.ensures.planned 7 0 (c.in_ok-reserve.ensures.room obeys) in
     c.in_ok-read_at.ensures.same ∙ synced_unless (fails (g.D.Disk.plan c.reserve.new.self)) (g.D.Disk.file c.args.disk.now)
-        (g.D.Disk.file c.reserve.new.self) (g.D.Disk.file c.sync.new.self) (ap fails (c.in_ok-reserve.ensures.plan ∙ never))
-        c.in_ok-reserve.ensures.same begun.2
+    (g.D.Disk.file c.reserve.new.self) (g.D.Disk.file c.sync.new.self) (ap fails (c.in_ok-reserve.ensures.plan ∙ never))
+    c.in_ok-reserve.ensures.same begun.2
 
 pub returns-clause-file_either : goal.returns-clause-file_either
 returns-clause-file_either g c obeys never =
     let begun = c.in_ok-sync.ensures.planned 7 0 (c.in_ok-reserve.ensures.room obeys) in
     inr (c.in_ok-read_at.ensures.same ∙ synced_unless (fails (g.D.Disk.plan c.reserve.new.self)) (g.D.Disk.file c.args.disk.now)
-        (g.D.Disk.file c.reserve.new.self) (g.D.Disk.file c.sync.new.self) (ap fails (c.in_ok-reserve.ensures.plan ∙ never))
-        c.in_ok-reserve.ensures.same begun.2)
+    (g.D.Disk.file c.reserve.new.self) (g.D.Disk.file c.sync.new.self) (ap fails (c.in_ok-reserve.ensures.plan ∙ never))
+    c.in_ok-reserve.ensures.same begun.2)

@@ -8,5 +8,8 @@ use Rattle.locks.proofs.entry.place.Goals as goal
 
 pub unreachable-requires : goal.unreachable-requires
 unreachable-requires c =
-    omega (arith, place_within (λ (e : Claim). e.txn) c.args.table.now c.args.txn c.requires,
-        at_drop_all (position_or_len (is_of c.args.txn)) c.args.table.now c.loop-at.at (omega arith))
+    omega (
+      arith,
+      place_within (λ (e : Claim). e.txn) c.args.table.now c.args.txn c.requires,
+      at_drop_all (position_or_len (is_of c.args.txn)) c.args.table.now c.loop-at.at (omega arith),
+    )

@@ -22,17 +22,17 @@ pub returns-in-Ok-clause-holding : goal.returns-in-Ok-clause-holding
 returns-in-Ok-clause-holding c =
     let none : find_row c.args.rows.now.rows c.args.txn ≡ None = none_found c.find.result _ _ c.find.ensures (sym c.is_some.ensures ∙ c.if-is_some.false) in
     λ holds same. holding_admitted holds c.args.rows.now.rows c.make_room-2.new.self.rows c.args.txn c.laws.ensures.order same none
-        (c.make_room-2.ensures.rows ∙ c.in_ok-admit.ensures.ok)
+    (c.make_room-2.ensures.rows ∙ c.in_ok-admit.ensures.ok)
 
 pub returns-in-Err-clause-kept : goal.returns-in-Err-clause-kept
 returns-in-Err-clause-kept c =
     let none : find_row c.args.rows.now.rows c.args.txn ≡ None = none_found c.find.result _ _ c.find.ensures (sym c.is_some.ensures ∙ c.if-is_some.false) in
     c.end.ensures.rows ∙ put_and_gone c.args.rows.now.rows c.make_room-2.new.self.rows c.args.txn _ _
-        (c.make_room-2.ensures.rows ∙ c.in_ok-admit.ensures.ok) none
+    (c.make_room-2.ensures.rows ∙ c.in_ok-admit.ensures.ok) none
 
 pub returns-in-Err-clause-holding : goal.returns-in-Err-clause-holding
 returns-in-Err-clause-holding c =
     let none : find_row c.args.rows.now.rows c.args.txn ≡ None = none_found c.find.result _ _ c.find.ensures (sym c.is_some.ensures ∙ c.if-is_some.false) in
     let back = c.end.ensures.rows ∙ put_and_gone c.args.rows.now.rows c.make_room-2.new.self.rows c.args.txn _ _
-        (c.make_room-2.ensures.rows ∙ c.in_ok-admit.ensures.ok) none in
+    (c.make_room-2.ensures.rows ∙ c.in_ok-admit.ensures.ok) none in
     λ holds same. subst (IsHolding holds) (sym back) same

@@ -7,6 +7,6 @@ use Rattle.memory.proofs.carry.learn.Goals as goal
 pub returns-in-Some-clause-opened : goal.returns-in-Some-clause-opened
 returns-in-Some-clause-opened c =
     let follows : MayFollow c.args.ledger.now.shard c.args.ledger.now.facts (Some c.in-Some.item) =
-        subst (MayFollow c.args.ledger.now.shard c.args.ledger.now.facts) c.in-Some.is c.requires.follows in
+    subst (MayFollow c.args.ledger.now.shard c.args.ledger.now.facts) c.in-Some.is c.requires.follows in
     subst (λ (f : Facts). 0 < f.epoch) (sym c.learn.ensures.facts)
-        (stays_opened c.args.ledger.now.shard c.args.ledger.now.facts c.in-Some.item c.requires.opened follows)
+    (stays_opened c.args.ledger.now.shard c.args.ledger.now.facts c.in-Some.item c.requires.opened follows)

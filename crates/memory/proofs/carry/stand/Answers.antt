@@ -13,22 +13,22 @@ use Rattle.memory.proofs.carry.stand.Goals as goal
 pub hold-requires-clause-room : goal.hold-requires-clause-room
 hold-requires-clause-room c =
     let can : CanStand c.args.rows.now.rows c.args.txn (Prepare c.in-Prepare.prepared) = subst (CanStand c.args.rows.now.rows c.args.txn)
-        (sym c.item.ensures ∙ c.in-Prepare.is) c.requires.stands in
+    (sym c.item.ensures ∙ c.in-Prepare.is) c.requires.stands in
     space_to_hold is_idle idle_holds_none c.args.times.now.holds c.args.rows.now.rows c.args.txn c.laws.ensures.order c.requires.holding can.1
-        c.laws.ensures.few
+    c.laws.ensures.few
 
 pub hold-requires-in-Commit-clause-room : goal.hold-requires-in-Commit-clause-room
 hold-requires-in-Commit-clause-room c =
     let can : CanStand c.args.rows.now.rows c.args.txn (Commit c.in-Commit.committed) = subst (CanStand c.args.rows.now.rows c.args.txn)
-        (sym c.item.ensures ∙ c.in-Commit.is) c.requires.stands in
+    (sym c.item.ensures ∙ c.in-Commit.is) c.requires.stands in
     space_to_hold may_decide deciding_holds_none c.args.times.now.holds c.args.rows.now.rows c.args.txn c.laws.ensures.order c.requires.holding can.1
-        c.laws.ensures.few
+    c.laws.ensures.few
 
 pub returns-in-Prepare-clause-holding : goal.returns-in-Prepare-clause-holding
 returns-in-Prepare-clause-holding c =
     let is : c.args.logged ≡ Prepare c.in-Prepare.prepared = sym c.item.ensures ∙ c.in-Prepare.is in
     let can : CanStand c.args.rows.now.rows c.args.txn (Prepare c.in-Prepare.prepared) = subst
-        (CanStand c.args.rows.now.rows c.args.txn) is c.requires.stands in
+    (CanStand c.args.rows.now.rows c.args.txn) is c.requires.stands in
     subst (λ (times : Times). IsHolding times.holds c.prepare.new.self.rows) (sym c.hold.ensures)
     (holding_stands is_idle idle_holds_none c.args.times.now.holds c.args.rows.now.rows c.prepare.new.self.rows c.args.txn _ _ c.in-Prepare.prepared.at
     c.laws.ensures.order c.requires.holding can.1 (ap (λ (r : Record). held_stamp (phase_by r)) is) c.prepare.ensures.rows)

@@ -10,4 +10,4 @@ returns-clause-place c =
     let ids = c.args.ids.now in
     point_is_front (λ id. older id txn) ids _ c.partition_point.ensures.bound
     (IsPartitionPoint-from_clause (λ id. older id txn) _ _ c.partition_point.ensures.partitioned (older_partitioned (λ id. id) ids txn c.requires)
-        (λ a r q k. search rules))
+    (λ a r q k. search rules))

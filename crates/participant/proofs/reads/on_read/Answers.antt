@@ -14,4 +14,4 @@ returns-in-None-clause-planned c =
     let k = c.args.state.now in
     let read = c.args.read.now in
     planned-past k read.txn (plan_read (start_of k) read.txn read.key) c.past.result c.read_without_row.result c.past.ensures.past
-        c.read_without_row.ensures.planned
+    c.read_without_row.ensures.planned

@@ -23,5 +23,5 @@ returns-clause-planned c =
     let k = c.args.state.now in
     subst (λ q. IsPlanned k q c.read_now.result)
     (sym (read_asked (start_of k) c.args.txn c.args.key.now (held_in k.memory.rows c.args.txn) c.args.waits
-        (sym c.holds.ensures ∙ c.if-holds.false) c.if-waits.false))
+    (sym c.holds.ensures ∙ c.if-holds.false) c.if-waits.false))
     c.read_now.ensures.planned

@@ -7,7 +7,7 @@ pub returns-clause-ok : goal.returns-clause-ok
 returns-clause-ok c =
     let committed = c.args.c.now in
     five_put c.args.out.now.items (id_spelling committed.txn) (to_be_bytes w64 committed.at) (parts_spelling committed.parts)
-        (keys_spelling committed.reads) (writes_spelling committed.writes)
+    (keys_spelling committed.reads) (writes_spelling committed.writes)
     c.put_id.new.out.items c.put_u64.new.out.items c.put_parts.new.out.items c.put_keys.new.out.items c.put_writes.new.out.items
     c.in_ok-put_id.ensures.ok
     (put_same (to_be_bytes w64) c.put_id.new.out.items c.put_u64.new.out.items c.micros.result committed.at c.micros.ensures.same c.in_ok-put_u64.ensures.ok)

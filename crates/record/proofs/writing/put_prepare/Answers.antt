@@ -7,7 +7,7 @@ pub returns-clause-ok : goal.returns-clause-ok
 returns-clause-ok c =
     let prepared = c.args.p.now in
     five_put c.args.out.now.items (id_spelling prepared.txn) (shard_spelling prepared.coordinator) (to_be_bytes w64 prepared.at)
-        (keys_spelling prepared.reads) (writes_spelling prepared.writes)
+    (keys_spelling prepared.reads) (writes_spelling prepared.writes)
     c.put_id.new.out.items c.push.new.self.items c.put_u64.new.out.items c.put_keys.new.out.items c.put_writes.new.out.items
     c.in_ok-put_id.ensures.ok
     (put_same shard_spelling c.put_id.new.out.items c.push.new.self.items c.number.result prepared.coordinator c.number.ensures.same c.in_ok-push.ensures.items)

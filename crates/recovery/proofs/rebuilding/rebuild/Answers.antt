@@ -18,11 +18,11 @@ pub returns-in_err-state-clause-refused : goal.returns-in_err-state-clause-refus
 returns-in_err-state-clause-refused c =
     by_fault c.from_residual.result (search rules)
     (or_fault _ _ _ (fault_first c.args.setup.now c.args.entries.now c.in-Some.first.now c.in-Some.rest.now c.in_err-state.field-0.0
-        c.in-Some.ensures.cases.0) c.in_err-state.ensures.refused)
+    c.in-Some.ensures.cases.0) c.in_err-state.ensures.refused)
   where
     by_fault : {A : Type 0} (r : Result A Fault) → r ≡ Err c.in_err-state.field-0.0
         → (c.in_err-state.field-0.0 ≡ Fault.Memory) ⊎ (fault_in (taken c.args.setup.now (items c.args.entries.now)) c.args.entries.now ≡
-            Some c.in_err-state.field-0.0)
+        Some c.in_err-state.field-0.0)
         → IfErr r (λ fault. (fault ≡ Fault.Memory) ⊎ (fault_in (taken c.args.setup.now (items c.args.entries.now)) c.args.entries.now ≡ Some fault))
     by_fault r is h = subst (λ q. IfErr q (λ fault. (fault ≡ Fault.Memory)
         ⊎ (fault_in (taken c.args.setup.now (items c.args.entries.now)) c.args.entries.now ≡ Some fault))) (sym is) h
@@ -53,7 +53,7 @@ loop-entry-preserved c =
       recovered = c.in-Ok.ensures.recovered;
       stands =
           after_next c.args.setup.now c.args.entries.now c.in-Some.first.now c.in-Some.rest.now c.loop-entry.entry-index c.entry-item.result
-              c.loop-entry.state.facts
+          c.loop-entry.state.facts
           c.in-Some.ensures.cases.0 c.loop-entry-test.true c.entry-item.is i.stands c.take.new.state.facts
           (ap (λ (s : Setup). fault_next s c.loop-entry.state.facts c.entry-item.result) (sym i.setup) ∙ c.in-Ok.ensures.next) c.in-Ok.ensures.facts;
     }
@@ -66,5 +66,5 @@ returns-clause-found c =
     subst (λ (left : List Placed). Stands c.args.setup.now c.args.entries.now (take (c.loop-entry.entry-index + 1) c.args.entries.now) left k.facts)
     (drop_of_length-le c.in-Some.rest.now c.loop-entry-test.false) i.stands in
     let known : k.facts ≡ facts_of (items c.args.entries.now) = all_known c.args.setup.now c.args.entries.now
-        (take (c.loop-entry.entry-index + 1) c.args.entries.now) k.facts done in
+    (take (c.loop-entry.entry-index + 1) c.args.entries.now) k.facts done in
     (i.setup, known, i.recovered.memory ∙ ap rebuilt known, recovered_sound c.args.setup.now.shard k i.recovered c.laws.ensures)

@@ -7,5 +7,8 @@ use Rattle.rows.specs.CodeRows.{txn_of}
 use Rattle.rows.proofs.list.place.Goals as goal
 
 pub unreachable-requires : goal.unreachable-requires
-unreachable-requires c = omega (arith, place_within txn_of c.args.rows.now c.args.txn c.requires,
-    at_drop_all (position_or_len (λ r. same_id (txn_of r) c.args.txn)) c.args.rows.now c.loop-at.at (omega arith))
+unreachable-requires c = omega (
+  arith,
+  place_within txn_of c.args.rows.now c.args.txn c.requires,
+  at_drop_all (position_or_len (λ r. same_id (txn_of r) c.args.txn)) c.args.rows.now c.loop-at.at (omega arith),
+)

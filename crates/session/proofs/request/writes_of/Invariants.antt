@@ -6,4 +6,4 @@ use Rattle.session.proofs.request.writes_of.Given as goal
 abbrev pub invariant-loop-write : goal.invariant-loop-write
 invariant-loop-write l =
     l.part.items ++ filter (λ w. nat_eq (shard_of l.splits w.key) l.shard) (drop l.write-index l.writes) ≡
-        filter (λ w. nat_eq (shard_of l.splits w.key) l.shard) l.writes
+    filter (λ w. nat_eq (shard_of l.splits w.key) l.shard) l.writes

@@ -39,12 +39,12 @@ pub returns-clause-durable : goal.returns-clause-durable
 returns-clause-durable g c keeps image may =
     let same = c.in_ok-staged.ensures.same in
     logged-is (g.D.Disk.file (disk_of c.args.gate_log.now)) (g.D.Disk.file (disk_of c.stage.new.self)) same.2 c.in_ok-staged.staged c.args.item.now
-        c.in_ok-staged.ensures.staged.1
+    c.in_ok-staged.ensures.staged.1
     image (c.in_ok-logged.ensures.durable keeps image may)
 
 pub returns-clause-read : goal.returns-clause-read
 returns-clause-read g c keeps =
     let same = c.in_ok-staged.ensures.same in
     logged-is (g.D.Disk.file (disk_of c.args.gate_log.now)) (g.D.Disk.file (disk_of c.stage.new.self)) same.2 c.in_ok-staged.staged c.args.item.now
-        c.in_ok-staged.ensures.staged.1
+    c.in_ok-staged.ensures.staged.1
     (surface (g.D.Disk.file (disk_of c.append.new.self))).seen (c.in_ok-logged.ensures.read keeps)

@@ -39,8 +39,14 @@ pub split_at-requires : goal.split_at-requires
 split_at-requires c =
     let changes = c.args.changes.now in
     let at = c.loop-made.made in
-    omega (arith, c.count.ensures, c.requires.stored, ap length c.loop-made.invariant.rest, length-drop (bytes_in_all (take at changes)) c.args.store.now,
-        total-fits changes at none c.loop-made-test.true)
+    omega (
+      arith,
+      c.count.ensures,
+      c.requires.stored,
+      ap length c.loop-made.invariant.rest,
+      length-drop (bytes_in_all (take at changes)) c.args.store.now,
+      total-fits changes at none c.loop-made-test.true,
+    )
 
 pub change_by_fate-requires : goal.change_by_fate-requires
 change_by_fate-requires c =
@@ -65,7 +71,7 @@ loop-made-preserved c =
     c.split_at.ensures.front ∙ ap (λ (n : ℕ). take n c.loop-made.rest.now) c.count.ensures ∙ ap (λ (l : List ℕ). take (size change) l) rest in
     let more : with_made change text file ≡ file_at h (at + 1) = ap (λ (l : List ℕ). with_made change l file) bytes ∙ sym (file-more h at none lt) in
     let place : c.fate_of-fate.result ≡ fate_at fates (length file.changes) change = c.fate_of-fate.ensures
-        ∙ ap (λ (n : ℕ). fate_at fates n change) (sym (count-at h at (omega (arith, lt)))) in
+    ∙ ap (λ (n : ℕ). fate_at fates n change) (sym (count-at h at (omega (arith, lt)))) in
     record {
       image = c.change_by_fate.ensures.image
           ∙ ap (λ (t : Fate). by_fate t (made change text) c.loop-made.image.items) place

@@ -21,7 +21,7 @@ loop-low-preserved-then-is_not_after c =
           (omega (arith, i.end, length_arranged c.args.installs.now c.args.places.now)) (λ d.
           ap (is_not_after c.args.key.now c.args.at)
           (arranged_at c.args.installs.now c.args.places.now middle c.index-installs-place.result d c.requires.within
-              (omega (arith, i.end)) c.index-installs-place.is)
+          (omega (arith, i.end)) c.index-installs-place.is)
           ∙ sym c.is_not_after.ensures.value ∙ c.if-is_not_after.true);
       after = i.after;
       all = i.all;
@@ -44,7 +44,7 @@ loop-low-preserved c =
           (omega (arith, i.end, length_arranged c.args.installs.now c.args.places.now)) (λ d.
           ap (is_not_after c.args.key.now c.args.at)
           (arranged_at c.args.installs.now c.args.places.now middle c.index-installs-place.result d c.requires.within
-              (omega (arith, i.end)) c.index-installs-place.is)
+          (omega (arith, i.end)) c.index-installs-place.is)
           ∙ sym c.is_not_after.ensures.value ∙ c.if-is_not_after.false);
       all = i.all;
       fits = half_fits _ (c.loop-low.high - c.loop-low.low) c.loop-low.probes _ i.fits (omega arith) (omega arith);
@@ -56,7 +56,7 @@ pub returns-clause-count : goal.returns-clause-count
 returns-clause-count c =
     let i = c.loop-low.invariant in
     count_at c.args.key.now c.args.at (arranged c.args.installs.now c.args.places.now) c.loop-low.low
-        (omega (arith, i.within, i.end, length_arranged c.args.installs.now c.args.places.now)) i.before (λ k d le lt. i.after k d (omega arith) lt)
+    (omega (arith, i.within, i.end, length_arranged c.args.installs.now c.args.places.now)) i.before (λ k d le lt. i.after k d (omega arith) lt)
 
 pub returns-clause-before : goal.returns-clause-before
 returns-clause-before c = c.loop-low.invariant.before

@@ -8,7 +8,7 @@ use Rattle.versions.proofs.search.newest_by.Goals as goal
 pub returns-then-count-eq0 : goal.returns-then-count-eq0
 returns-then-count-eq0 c =
     sym (newest_none c.args.key.now c.args.at (arranged c.args.installs.now c.args.places.now)
-        (λ k d le lt. c.find-count.ensures.after k d (omega (arith, c.if-count-eq0.true)) lt))
+    (λ k d le lt. c.find-count.ensures.after k d (omega (arith, c.if-count-eq0.true)) lt))
 
 pub returns-then-is : goal.returns-then-is
 returns-then-is c =
@@ -20,7 +20,7 @@ returns-then-is c =
     sym (newest_at c.args.key.now c.args.at t (found - 1) last c.requires.order (omega (arith, lt, long))
     (sym (arranged_at c.args.installs.now c.args.places.now (found - 1) last last c.requires.within lt c.index-installs-place.is))
     (λ k d lt. c.find-count.ensures.before k d (omega (arith, c.if-count-eq0.false))) (λ k d le lt. c.find-count.ensures.after k d
-        (omega (arith, c.if-count-eq0.false)) lt)
+    (omega (arith, c.if-count-eq0.false)) lt)
     ∙ ap (λ b. cond {A = Option Install} b (Some last) None) (sym c.is.ensures ∙ c.if-is.true))
 
 pub returns-else-is : goal.returns-else-is
@@ -33,5 +33,5 @@ returns-else-is c =
     sym (newest_at c.args.key.now c.args.at t (found - 1) last c.requires.order (omega (arith, lt, long))
     (sym (arranged_at c.args.installs.now c.args.places.now (found - 1) last last c.requires.within lt c.index-installs-place.is))
     (λ k d lt. c.find-count.ensures.before k d (omega (arith, c.if-count-eq0.false))) (λ k d le lt. c.find-count.ensures.after k d
-        (omega (arith, c.if-count-eq0.false)) lt)
+    (omega (arith, c.if-count-eq0.false)) lt)
     ∙ ap (λ b. cond {A = Option Install} b (Some last) None) (sym c.is.ensures ∙ c.if-is.false))

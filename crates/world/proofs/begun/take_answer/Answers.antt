@@ -6,7 +6,7 @@ pub returns-in-Ok-Value-clause-line : goal.returns-in-Ok-Value-clause-line
 returns-in-Ok-Value-clause-line c own =
     let k = rw c.in-Ok-Value.field-0-is at c.in-Ok-Value.ensures.step in
     line_heard c.args.tx.now.client c.answered.new.self.client c.args.answer.now c.args.txn
-        (Heard.Value c.in-Ok-Value.value) c.awaits_only_new.ensures k.1 k.2 own
+    (Heard.Value c.in-Ok-Value.value) c.awaits_only_new.ensures k.1 k.2 own
 
 pub returns-in-Ok-Again-clause-line : goal.returns-in-Ok-Again-clause-line
 returns-in-Ok-Again-clause-line c own =

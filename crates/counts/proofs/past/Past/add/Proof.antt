@@ -34,16 +34,16 @@ add_spec 𝓤 𝓛 𝓜 𝓡 wired E L =
     let b : ℕ = a.0.ref_ptr.0 in let o : ℕ = a.0.ref_ptr.1 in let me : Row.Denot = a.0.now in
     let new : Row.Denot = record me { entries = a.1.0.now ∷ me.entries } in
     let y : (walk_of 𝓛 En hs c).Ghost = ((κs, qs, bounds, a, (vptr b o ∷ [], (vptr a.1.0.ref_ptr.0 a.1.0.ref_ptr.1 ∷ [], tt))), gh) in
-        let Post : Val → SProp 𝓤 = (walk_of 𝓛 En hs c).post y in
+    let Post : Val → SProp 𝓤 = (walk_of 𝓛 En hs c).post y in
     let toks : Fml = fsep (flft κs.0 qs.0) (fsep (flft κs.1.0 qs.1.0) (fsep (flft κs.1.1.0 qs.1.1.0) ftrue)) in
     qed 𝓛 ((‵ toks ⊛ ‵ (owns (types_at En.signature.params κs) a y.0.4)) ∷ raw ((c κs a).requires gh) ∷ []) ∵ keep ! (0 ∷ []) $ split ! $
     fsplit ! $ move ! (2 ∷ []) $ fsplit ! $ fsplit3 ! $ keep ! (1 ∷ 2 ∷ 4 ∷ 5 ∷ []) $
     enter ! 𝓣.C 𝓣.Λ fn (vptr b o ∷ vptr a.1.0.ref_ptr.0 a.1.0.ref_ptr.1 ∷ []) Post $ alloc_all ! (λ l. pass_all ! refl ((tt, tt), ((tt, tt), tt)) $
     opens ! tt Row b o (λ vs. move ! (1 ∷ []) $ use1 𝓛 (‵ (Row.own_val new vs)) (id⊢ 𝓤 _) $
     move ! (1 ∷ 0 ∷ 2 ∷ 3 ∷ 4 ∷ []) $ closes ! tt Row new vs b o $ sets ! (of_opd ! (unit_lit !)) refl (tt, tt) $ feq_i ! (List Val) (vunit ∷ [])
-        (vunit ∷ []) refl $
+    (vunit ∷ []) refl $
     move ! (3 ∷ 4 ∷ []) $ fjoin ! $ nothing ! $ nothing ! $ fjoin ! $ feq_i ! (List Val) (vptr b o ∷ []) (vptr b o ∷ []) refl $ move !
-        (0 ∷ 4 ∷ 5 ∷ []) $ fjoin3 ! $ fjoin ! $
+    (0 ∷ 4 ∷ 5 ∷ []) $ fjoin3 ! $ fjoin ! $
     returns ! (look_at ! 0 refl) $ free_all ! refl $ keep ! (1 ∷ 0 ∷ 2 ∷ []) $
     suffices ! _ (ends_at 𝓛 En hs c y vunit tt (new, (tt, tt)) (tt, (tt, tt))) $ says ! refl $ move ! (1 ∷ 2 ∷ []) $ join ! $ move !
-        (1 ∷ 0 ∷ []) $ join ! $ done !)))
+    (1 ∷ 0 ∷ []) $ join ! $ done !)))

@@ -26,7 +26,7 @@ write_and_sync-requires g c keeps =
     let inside = c.staged.inside in
     let gate-is : inside.gate ≡ old.gate = ap (λ (e : Placed). e.offset) c.staged.view_is ∙ c.requires in
     let whole : IsTrue (ends_at (surface (g.D.Disk.file old.disk)).seen inside.gate) = subst
-        (λ (n : ℕ). IsTrue (ends_at (surface (g.D.Disk.file old.disk)).seen n)) (sym gate-is) (old.whole c.if-self.false keeps) in
+    (λ (n : ℕ). IsTrue (ends_at (surface (g.D.Disk.file old.disk)).seen n)) (sym gate-is) (old.whole c.if-self.false keeps) in
     let found = ends_found (scan (surface (g.D.Disk.file old.disk)).seen) inside.gate whole in
     omega (arith, (gate_within (surface (g.D.Disk.file old.disk)).seen found.0 inside.gate found.1).1)
 
@@ -37,12 +37,12 @@ returns-in_err-write_and_sync-clause-any_moment g c running keeps =
     let inside = c.staged.inside in
     let gate-is : inside.gate ≡ old.gate = ap (λ (e : Placed). e.offset) c.staged.view_is ∙ c.requires in
     let whole : IsTrue (ends_at (surface (g.D.Disk.file old.disk)).seen inside.gate) = subst
-        (λ (n : ℕ). IsTrue (ends_at (surface (g.D.Disk.file old.disk)).seen n)) (sym gate-is) (old.whole running keeps) in
+    (λ (n : ℕ). IsTrue (ends_at (surface (g.D.Disk.file old.disk)).seen n)) (sym gate-is) (old.whole running keeps) in
     let bytes-is : c.deref.result.now ≡ staged_bytes inside.item = c.deref.ensures.value ∙ c.staged.invariant.0 in
     let run = first_run (λ d. surface (g.D.Disk.file d)) g.D.Disk.clock g.D.Disk.since old.disk inside.gate inside.item
-        (old.synced running keeps) whole c.staged.invariant.1 c.deref.result.now bytes-is c.write_and_sync.new.disk (c.write_and_sync.ensures.crash keeps) in
+    (old.synced running keeps) whole c.staged.invariant.1 c.deref.result.now bytes-is c.write_and_sync.new.disk (c.write_and_sync.ensures.crash keeps) in
     subst (λ (e : Placed). LeavesOnly g.D.Disk.clock g.D.Disk.since old.disk c.write_and_sync.new.disk
-        (IsOldOrWith (log (surface (g.D.Disk.file old.disk)).seen) e)) c.staged.view_is run
+    (IsOldOrWith (log (surface (g.D.Disk.file old.disk)).seen) e)) c.staged.view_is run
 
 pub write_and_sync-requires-2 : goal.write_and_sync-requires-2
 write_and_sync-requires-2 g c keeps =
@@ -51,15 +51,15 @@ write_and_sync-requires-2 g c keeps =
     let inside = c.staged.inside in
     let gate-is : inside.gate ≡ old.gate = ap (λ (e : Placed). e.offset) c.staged.view_is ∙ c.requires in
     let whole : IsTrue (ends_at (surface (g.D.Disk.file old.disk)).seen inside.gate) = subst
-        (λ (n : ℕ). IsTrue (ends_at (surface (g.D.Disk.file old.disk)).seen n)) (sym gate-is) (old.whole c.if-self.false before) in
+    (λ (n : ℕ). IsTrue (ends_at (surface (g.D.Disk.file old.disk)).seen n)) (sym gate-is) (old.whole c.if-self.false before) in
     let bytes-is : c.deref.result.now ≡ staged_bytes inside.item = c.deref.ensures.value ∙ c.staged.invariant.0 in
     let mid-is : surface (g.D.Disk.file c.write_and_sync.new.disk) ≡ after_sync (after_write (inside.gate + 1) c.deref.result.now
-        (surface (g.D.Disk.file old.disk))) = c.in_ok-write_and_sync.ensures.done before in
+    (surface (g.D.Disk.file old.disk))) = c.in_ok-write_and_sync.ensures.done before in
     let long = staged_long (surface (g.D.Disk.file old.disk)) inside.gate inside.item (old.synced c.if-self.false before) whole c.staged.invariant.1 in
     let size : length (surface (g.D.Disk.file c.write_and_sync.new.disk)).seen ≡ length (with_bytes (inside.gate + 1) (staged_bytes inside.item)
-        (surface (g.D.Disk.file old.disk)).seen) =
+    (surface (g.D.Disk.file old.disk)).seen) =
     ap (λ (f : Surface). length f.seen) mid-is ∙ ap (λ (l : List ℕ). length (with_bytes (inside.gate + 1) l (surface (g.D.Disk.file old.disk)).seen))
-        bytes-is in
+    bytes-is in
     omega (arith, size, long)
 
 -- the second leaves it so, or with the record
@@ -69,15 +69,15 @@ returns-in_err-write_and_sync-2-clause-any_moment g c running keeps =
     let inside = c.staged.inside in
     let gate-is : inside.gate ≡ old.gate = ap (λ (e : Placed). e.offset) c.staged.view_is ∙ c.requires in
     let whole : IsTrue (ends_at (surface (g.D.Disk.file old.disk)).seen inside.gate) = subst
-        (λ (n : ℕ). IsTrue (ends_at (surface (g.D.Disk.file old.disk)).seen n)) (sym gate-is) (old.whole running keeps) in
+    (λ (n : ℕ). IsTrue (ends_at (surface (g.D.Disk.file old.disk)).seen n)) (sym gate-is) (old.whole running keeps) in
     let bytes-is : c.deref.result.now ≡ staged_bytes inside.item = c.deref.ensures.value ∙ c.staged.invariant.0 in
     let mid-is : surface (g.D.Disk.file c.write_and_sync.new.disk) ≡ after_sync (after_write (inside.gate + 1) c.deref.result.now
-        (surface (g.D.Disk.file old.disk))) = c.in_ok-write_and_sync.ensures.done keeps in
+    (surface (g.D.Disk.file old.disk))) = c.in_ok-write_and_sync.ensures.done keeps in
     let run = both_runs (λ d. surface (g.D.Disk.file d)) g.D.Disk.clock g.D.Disk.since old.disk inside.gate inside.item
-        (old.synced running keeps) whole c.staged.invariant.1 c.deref.result.now bytes-is c.write_and_sync.new.disk c.write_and_sync-2.new.disk
-        (c.write_and_sync.ensures.crash keeps) mid-is (c.write_and_sync-2.ensures.crash keeps) in
+    (old.synced running keeps) whole c.staged.invariant.1 c.deref.result.now bytes-is c.write_and_sync.new.disk c.write_and_sync-2.new.disk
+    (c.write_and_sync.ensures.crash keeps) mid-is (c.write_and_sync-2.ensures.crash keeps) in
     subst (λ (e : Placed). LeavesOnly g.D.Disk.clock g.D.Disk.since old.disk c.write_and_sync-2.new.disk
-        (IsOldOrWith (log (surface (g.D.Disk.file old.disk)).seen) e)) c.staged.view_is run
+    (IsOldOrWith (log (surface (g.D.Disk.file old.disk)).seen) e)) c.staged.view_is run
 
 pub returns-clause-any_moment : goal.returns-clause-any_moment
 returns-clause-any_moment g c running keeps =
@@ -85,15 +85,15 @@ returns-clause-any_moment g c running keeps =
     let inside = c.staged.inside in
     let gate-is : inside.gate ≡ old.gate = ap (λ (e : Placed). e.offset) c.staged.view_is ∙ c.requires in
     let whole : IsTrue (ends_at (surface (g.D.Disk.file old.disk)).seen inside.gate) = subst
-        (λ (n : ℕ). IsTrue (ends_at (surface (g.D.Disk.file old.disk)).seen n)) (sym gate-is) (old.whole running keeps) in
+    (λ (n : ℕ). IsTrue (ends_at (surface (g.D.Disk.file old.disk)).seen n)) (sym gate-is) (old.whole running keeps) in
     let bytes-is : c.deref.result.now ≡ staged_bytes inside.item = c.deref.ensures.value ∙ c.staged.invariant.0 in
     let mid-is : surface (g.D.Disk.file c.write_and_sync.new.disk) ≡ after_sync (after_write (inside.gate + 1) c.deref.result.now
-        (surface (g.D.Disk.file old.disk))) = c.in_ok-write_and_sync.ensures.done keeps in
+    (surface (g.D.Disk.file old.disk))) = c.in_ok-write_and_sync.ensures.done keeps in
     let run = both_runs (λ d. surface (g.D.Disk.file d)) g.D.Disk.clock g.D.Disk.since old.disk inside.gate inside.item
-        (old.synced running keeps) whole c.staged.invariant.1 c.deref.result.now bytes-is c.write_and_sync.new.disk c.write_and_sync-2.new.disk
-        (c.write_and_sync.ensures.crash keeps) mid-is (c.write_and_sync-2.ensures.crash keeps) in
+    (old.synced running keeps) whole c.staged.invariant.1 c.deref.result.now bytes-is c.write_and_sync.new.disk c.write_and_sync-2.new.disk
+    (c.write_and_sync.ensures.crash keeps) mid-is (c.write_and_sync-2.ensures.crash keeps) in
     subst (λ (e : Placed). LeavesOnly g.D.Disk.clock g.D.Disk.since old.disk c.write_and_sync-2.new.disk
-        (IsOldOrWith (log (surface (g.D.Disk.file old.disk)).seen) e)) c.staged.view_is run
+    (IsOldOrWith (log (surface (g.D.Disk.file old.disk)).seen) e)) c.staged.view_is run
 
 pub invariant_of-self-2-clause-small : goal.invariant_of-self-2-clause-small
 invariant_of-self-2-clause-small g c =
@@ -105,7 +105,7 @@ pub invariant_of-self-2-clause-synced : goal.invariant_of-self-2-clause-synced
 invariant_of-self-2-clause-synced g c running keeps =
     let mid-keeps = keeps in
     let new-is : surface (g.D.Disk.file c.write_and_sync-2.new.disk) ≡ after_sync (after_write c.staged.inside.gate (open_gate ∷ [])
-        (surface (g.D.Disk.file c.write_and_sync.new.disk))) = c.in_ok-write_and_sync-2.ensures.done mid-keeps in
+    (surface (g.D.Disk.file c.write_and_sync.new.disk))) = c.in_ok-write_and_sync-2.ensures.done mid-keeps in
     subst IsSynced (sym new-is) (record { whole = refl; none = refl; synced = refl })
 
 -- and then the record is on the disk
@@ -117,21 +117,25 @@ invariant_of-self-2-clause-whole g c running keeps =
     let inside = c.staged.inside in
     let gate-is : inside.gate ≡ old.gate = ap (λ (e : Placed). e.offset) c.staged.view_is ∙ c.requires in
     let whole : IsTrue (ends_at (surface (g.D.Disk.file old.disk)).seen inside.gate) = subst
-        (λ (n : ℕ). IsTrue (ends_at (surface (g.D.Disk.file old.disk)).seen n)) (sym gate-is) (old.whole c.if-self.false before) in
+    (λ (n : ℕ). IsTrue (ends_at (surface (g.D.Disk.file old.disk)).seen n)) (sym gate-is) (old.whole c.if-self.false before) in
     let bytes-is : c.deref.result.now ≡ staged_bytes inside.item = c.deref.ensures.value ∙ c.staged.invariant.0 in
     let mid-is : surface (g.D.Disk.file c.write_and_sync.new.disk) ≡ after_sync (after_write (inside.gate + 1) c.deref.result.now
-        (surface (g.D.Disk.file old.disk))) = c.in_ok-write_and_sync.ensures.done before in
+    (surface (g.D.Disk.file old.disk))) = c.in_ok-write_and_sync.ensures.done before in
     let new-is : surface (g.D.Disk.file c.write_and_sync-2.new.disk) ≡ after_sync (after_write inside.gate (open_gate ∷ [])
-        (surface (g.D.Disk.file c.write_and_sync.new.disk))) = c.in_ok-write_and_sync-2.ensures.done mid-keeps in
+    (surface (g.D.Disk.file c.write_and_sync.new.disk))) = c.in_ok-write_and_sync-2.ensures.done mid-keeps in
     let end = end_is (λ d. surface (g.D.Disk.file d)) g.D.Disk.clock g.D.Disk.since old.disk inside.gate inside.item
-        (old.synced c.if-self.false before) whole c.staged.invariant.1 c.deref.result.now bytes-is c.write_and_sync.new.disk
-        c.write_and_sync-2.new.disk mid-is new-is in
+    (old.synced c.if-self.false before) whole c.staged.invariant.1 c.deref.result.now bytes-is c.write_and_sync.new.disk
+    c.write_and_sync-2.new.disk mid-is new-is in
     let ends = ends-opened (surface (g.D.Disk.file old.disk)) inside.gate inside.item (old.synced c.if-self.false before) whole c.staged.invariant.1 in
-    let gate : next_gate inside.gate inside.item ≡ inside.gate + c.len.result = omega (arith, bytes-size inside.gate inside.item,
-        ap length c.staged.invariant.0, c.len.ensures) in
+    let gate : next_gate inside.gate inside.item ≡ inside.gate + c.len.result = omega (
+      arith,
+      bytes-size inside.gate inside.item,
+      ap length c.staged.invariant.0,
+      c.len.ensures,
+    ) in
     ap (λ (f : Surface). ends_at f.seen (inside.gate + c.len.result)) end
-        ∙ subst (λ (n : ℕ). IsTrue (ends_at (with_bytes inside.gate (open_gate ∷ []) (with_bytes (inside.gate + 1) (staged_bytes inside.item)
-        (surface (g.D.Disk.file old.disk)).seen)) n)) gate ends
+    ∙ subst (λ (n : ℕ). IsTrue (ends_at (with_bytes inside.gate (open_gate ∷ []) (with_bytes (inside.gate + 1) (staged_bytes inside.item)
+    (surface (g.D.Disk.file old.disk)).seen)) n)) gate ends
 
 pub returns-clause-durable : goal.returns-clause-durable
 returns-clause-durable g c before image may =
@@ -140,20 +144,20 @@ returns-clause-durable g c before image may =
     let inside = c.staged.inside in
     let gate-is : inside.gate ≡ old.gate = ap (λ (e : Placed). e.offset) c.staged.view_is ∙ c.requires in
     let whole : IsTrue (ends_at (surface (g.D.Disk.file old.disk)).seen inside.gate) = subst
-        (λ (n : ℕ). IsTrue (ends_at (surface (g.D.Disk.file old.disk)).seen n)) (sym gate-is) (old.whole c.if-self.false before) in
+    (λ (n : ℕ). IsTrue (ends_at (surface (g.D.Disk.file old.disk)).seen n)) (sym gate-is) (old.whole c.if-self.false before) in
     let bytes-is : c.deref.result.now ≡ staged_bytes inside.item = c.deref.ensures.value ∙ c.staged.invariant.0 in
     let mid-is : surface (g.D.Disk.file c.write_and_sync.new.disk) ≡ after_sync (after_write (inside.gate + 1) c.deref.result.now
-        (surface (g.D.Disk.file old.disk))) = c.in_ok-write_and_sync.ensures.done before in
+    (surface (g.D.Disk.file old.disk))) = c.in_ok-write_and_sync.ensures.done before in
     let new-is : surface (g.D.Disk.file c.write_and_sync-2.new.disk) ≡ after_sync (after_write inside.gate (open_gate ∷ [])
-        (surface (g.D.Disk.file c.write_and_sync.new.disk))) = c.in_ok-write_and_sync-2.ensures.done mid-keeps in
+    (surface (g.D.Disk.file c.write_and_sync.new.disk))) = c.in_ok-write_and_sync-2.ensures.done mid-keeps in
     let end = end_is (λ d. surface (g.D.Disk.file d)) g.D.Disk.clock g.D.Disk.since old.disk inside.gate inside.item
-        (old.synced c.if-self.false before) whole c.staged.invariant.1 c.deref.result.now bytes-is c.write_and_sync.new.disk
-        c.write_and_sync-2.new.disk mid-is new-is in
+    (old.synced c.if-self.false before) whole c.staged.invariant.1 c.deref.result.now bytes-is c.write_and_sync.new.disk
+    c.write_and_sync-2.new.disk mid-is new-is in
     let stands = log-opened (surface (g.D.Disk.file old.disk)) inside.gate inside.item (old.synced c.if-self.false before) whole c.staged.invariant.1 in
     let synced : IsSynced (surface (g.D.Disk.file c.write_and_sync-2.new.disk)) = subst IsSynced (sym new-is)
-        (record { whole = refl; none = refl; synced = refl }) in
+    (record { whole = refl; none = refl; synced = refl }) in
     ap log (may.unchanged synced.synced ∙ ap (λ (f : Surface). f.seen) end) ∙ stands ∙ ap
-        (λ (e : Placed). and_entry (log (surface (g.D.Disk.file old.disk)).seen) e) c.staged.view_is
+    (λ (e : Placed). and_entry (log (surface (g.D.Disk.file old.disk)).seen) e) c.staged.view_is
 
 pub returns-clause-read : goal.returns-clause-read
 returns-clause-read g c keeps = returns-clause-durable g c keeps (surface (g.D.Disk.file c.write_and_sync-2.new.disk)).seen
@@ -169,23 +173,23 @@ pub returns-in_err-write_and_sync-clause-planned : goal.returns-in_err-write_and
 returns-in_err-write_and_sync-clause-planned g c running room =
     let inside = c.staged.inside in
     let bytes-is : c.deref.result.now ≡ staged_bytes c.args.staged.item = c.deref.ensures.value ∙ c.staged.invariant.0
-        ∙ ap (λ (e : Placed). staged_bytes e.item) c.staged.view_is in
+    ∙ ap (λ (e : Placed). staged_bytes e.item) c.staged.view_is in
     let gate-is : inside.gate ≡ c.args.staged.offset = ap (λ (e : Placed). e.offset) c.staged.view_is in
     let disk = c.args.self.now.disk in
     let plan = g.D.Disk.plan disk in
     let begun = c.in_err-write_and_sync.ensures.planned 2 1 (subst (λ (l : List ℕ). g.D.Disk.has_room disk 4 (length l + 1)) (sym bytes-is) room) in
     let failed = planned_err (Unit {0}) (fails_in_two plan) c.in_err-write_and_sync.field-0.0 begun.0 in
     let is = begun.2 ∙ ap (λ (n : ℕ). two_made plan (n + 1) c.deref.result.now (g.D.Disk.file disk)) gate-is
-        ∙ ap (λ (l : List ℕ). two_made plan (c.args.staged.offset + 1) l (g.D.Disk.file disk)) bytes-is in
+    ∙ ap (λ (l : List ℕ). two_made plan (c.args.staged.offset + 1) l (g.D.Disk.file disk)) bytes-is in
     first_half c.from_residual.result (fails_in_two plan) (fails_in_two (after_two plan)) (g.D.Disk.file c.write_and_sync.new.disk)
-        (two_made plan (c.args.staged.offset + 1) (staged_bytes c.args.staged.item) (g.D.Disk.file disk))
+    (two_made plan (c.args.staged.offset + 1) (staged_bytes c.args.staged.item) (g.D.Disk.file disk))
     (two_made (after_two plan) c.args.staged.offset (open_gate ∷ []) (two_made plan (c.args.staged.offset + 1) (staged_bytes c.args.staged.item)
-        (g.D.Disk.file disk))) failed c.from_residual.ensures.0 is
+    (g.D.Disk.file disk))) failed c.from_residual.ensures.0 is
 
 module _ {D : Type 0} (has_room : D → ℕ → ℕ → Type 0) (plan_of : D → Plan) (file_of : D → File) (old mid new : D) (gate inside : ℕ)
     (bytes text : List ℕ) (gate-is : inside ≡ gate) (bytes-is : text ≡ bytes)
     (first : IsAsPlanned {T = Unit {0}} {E = Fault} (fails_in_two (plan_of old)) (Ok tt))
-        (mid-is : file_of mid ≡ two_made (plan_of old) (inside + 1) text (file_of old)) (plan-is : plan_of mid ≡ after_two (plan_of old)) where
+    (mid-is : file_of mid ≡ two_made (plan_of old) (inside + 1) text (file_of old)) (plan-is : plan_of mid ≡ after_two (plan_of old)) where
   none_failed : fails_in_two (plan_of old) ≡ false
   none_failed = planned_ok Fault (fails_in_two (plan_of old)) tt first
 
@@ -198,17 +202,17 @@ module _ {D : Type 0} (has_room : D → ℕ → ℕ → Type 0) (plan_of : D →
       → IsAsPlanned (fails_in_append (plan_of old)) result × (file_of new ≡ appended (plan_of old) gate bytes (file_of old))
   whole result planned new-is =
       second_half result (fails_in_two (plan_of old)) (fails_in_two (after_two (plan_of old))) (file_of new)
-          (two_made (plan_of old) (gate + 1) bytes (file_of old))
+      (two_made (plan_of old) (gate + 1) bytes (file_of old))
       (two_made (after_two (plan_of old)) gate (open_gate ∷ []) (two_made (plan_of old) (gate + 1) bytes (file_of old))) none_failed
       (subst (λ (p : Plan). IsAsPlanned (fails_in_two p) result) plan-is planned)
       (new-is ∙ ap (λ (p : Plan). two_made p inside (open_gate ∷ []) (file_of mid)) plan-is
-          ∙ ap (λ (n : ℕ). two_made (after_two (plan_of old)) n (open_gate ∷ []) (file_of mid)) gate-is
+      ∙ ap (λ (n : ℕ). two_made (after_two (plan_of old)) n (open_gate ∷ []) (file_of mid)) gate-is
       ∙ ap (λ (f : File). two_made (after_two (plan_of old)) gate (open_gate ∷ []) f) half)
 
 pub returns-in_err-write_and_sync-2-clause-planned : goal.returns-in_err-write_and_sync-2-clause-planned
 returns-in_err-write_and_sync-2-clause-planned g c running room =
     let bytes-is : c.deref.result.now ≡ staged_bytes c.args.staged.item = c.deref.ensures.value ∙ c.staged.invariant.0
-        ∙ ap (λ (e : Placed). staged_bytes e.item) c.staged.view_is in
+    ∙ ap (λ (e : Placed). staged_bytes e.item) c.staged.view_is in
     let gate-is : c.staged.inside.gate ≡ c.args.staged.offset = ap (λ (e : Placed). e.offset) c.staged.view_is in
     let disk = c.args.self.now.disk in
     let begun = c.in_ok-write_and_sync.ensures.planned 2 1 (subst (λ (l : List ℕ). g.D.Disk.has_room disk 4 (length l + 1)) (sym bytes-is) room) in
@@ -216,14 +220,14 @@ returns-in_err-write_and_sync-2-clause-planned g c running room =
     let mid = c.write_and_sync.new.disk in
     let failed = planned_err (Unit {0}) (fails_in_two (g.D.Disk.plan mid)) c.in_err-write_and_sync-2.field-0.0 ended.0 in
     whole g.D.Disk.has_room g.D.Disk.plan g.D.Disk.file disk mid c.write_and_sync-2.new.disk c.args.staged.offset c.staged.inside.gate
-        (staged_bytes c.args.staged.item) c.deref.result.now gate-is bytes-is begun.0 begun.2 c.in_ok-write_and_sync.ensures.plan
+    (staged_bytes c.args.staged.item) c.deref.result.now gate-is bytes-is begun.0 begun.2 c.in_ok-write_and_sync.ensures.plan
     c.from_residual-in_err-write_and_sync-2.result (as_err c.from_residual-in_err-write_and_sync-2.result
-        (fails_in_two (g.D.Disk.plan mid)) failed c.from_residual-in_err-write_and_sync-2.ensures.0) ended.2
+    (fails_in_two (g.D.Disk.plan mid)) failed c.from_residual-in_err-write_and_sync-2.ensures.0) ended.2
 
 pub returns-clause-planned : goal.returns-clause-planned
 returns-clause-planned g c running room =
     let bytes-is : c.deref.result.now ≡ staged_bytes c.args.staged.item = c.deref.ensures.value ∙ c.staged.invariant.0
-        ∙ ap (λ (e : Placed). staged_bytes e.item) c.staged.view_is in
+    ∙ ap (λ (e : Placed). staged_bytes e.item) c.staged.view_is in
     let gate-is : c.staged.inside.gate ≡ c.args.staged.offset = ap (λ (e : Placed). e.offset) c.staged.view_is in
     let disk = c.args.self.now.disk in
     let begun = c.in_ok-write_and_sync.ensures.planned 2 1 (subst (λ (l : List ℕ). g.D.Disk.has_room disk 4 (length l + 1)) (sym bytes-is) room) in
@@ -231,7 +235,7 @@ returns-clause-planned g c running room =
     let mid = c.write_and_sync.new.disk in
     let fine = planned_ok Fault (fails_in_two (g.D.Disk.plan mid)) tt ended.0 in
     whole g.D.Disk.has_room g.D.Disk.plan g.D.Disk.file disk mid c.write_and_sync-2.new.disk c.args.staged.offset c.staged.inside.gate
-        (staged_bytes c.args.staged.item) c.deref.result.now gate-is bytes-is begun.0 begun.2 c.in_ok-write_and_sync.ensures.plan
+    (staged_bytes c.args.staged.item) c.deref.result.now gate-is bytes-is begun.0 begun.2 c.in_ok-write_and_sync.ensures.plan
     (Ok c.new.result) (as_ok Fault (fails_in_two (g.D.Disk.plan mid)) c.new.result fine) ended.2
 
 -- the same for an armed call, in terms of the log
@@ -243,8 +247,8 @@ module _ (file new : File) (plan : Plan) (at inside : ℕ) (item : Record) (entr
       → IsAsPlanned (nat_lt call 4) result × IsArmed call (log (surface file).seen) entry new
   armed_by_plan result call plan-is planned new-is =
       let is : new ≡ appended (AfterWrite call) inside (staged_bytes item) file = new-is ∙ ap
-          (λ (p : Plan). appended p entry.offset (staged_bytes entry.item) file) plan-is ∙ ap
-          (λ (e : Placed). appended (AfterWrite call) e.offset (staged_bytes e.item) file) (sym entry-is) in
+      (λ (p : Plan). appended p entry.offset (staged_bytes entry.item) file) plan-is ∙ ap
+      (λ (e : Placed). appended (AfterWrite call) e.offset (staged_bytes e.item) file) (sym entry-is) in
       let there : IsTrue (ends_at (surface file).seen inside) = subst (λ (n : ℕ). IsTrue (ends_at (surface file).seen n)) (sym at-is) whole in
       let armed = armed_is file inside item synced there fits call in (
         subst (λ (b : Bool). IsAsPlanned b result) (ap fails_in_append plan-is ∙ fails_by_call call) planned,
@@ -259,7 +263,7 @@ returns-in_err-write_and_sync-clause-armed g c call running keeps room plan-is =
     let gate-is : inside.gate ≡ old.gate = ap (λ (e : Placed). e.offset) c.staged.view_is ∙ c.requires in
     let planned = returns-in_err-write_and_sync-clause-planned g c running room in
     armed_by_plan (g.D.Disk.file old.disk) (g.D.Disk.file c.write_and_sync.new.disk) (g.D.Disk.plan old.disk) old.gate inside.gate inside.item
-        c.args.staged c.staged.view_is (old.synced running keeps) (old.whole running keeps) gate-is c.staged.invariant.1
+    c.args.staged c.staged.view_is (old.synced running keeps) (old.whole running keeps) gate-is c.staged.invariant.1
     c.from_residual.result call plan-is planned.0 planned.1
 
 pub returns-in_err-write_and_sync-2-clause-armed : goal.returns-in_err-write_and_sync-2-clause-armed
@@ -269,7 +273,7 @@ returns-in_err-write_and_sync-2-clause-armed g c call running keeps room plan-is
     let gate-is : inside.gate ≡ old.gate = ap (λ (e : Placed). e.offset) c.staged.view_is ∙ c.requires in
     let planned = returns-in_err-write_and_sync-2-clause-planned g c running room in
     armed_by_plan (g.D.Disk.file old.disk) (g.D.Disk.file c.write_and_sync-2.new.disk) (g.D.Disk.plan old.disk) old.gate inside.gate inside.item
-        c.args.staged c.staged.view_is (old.synced running keeps) (old.whole running keeps) gate-is c.staged.invariant.1
+    c.args.staged c.staged.view_is (old.synced running keeps) (old.whole running keeps) gate-is c.staged.invariant.1
     c.from_residual-in_err-write_and_sync-2.result call plan-is planned.0 planned.1
 
 pub returns-clause-armed : goal.returns-clause-armed
@@ -279,7 +283,7 @@ returns-clause-armed g c call running keeps room plan-is =
     let gate-is : inside.gate ≡ old.gate = ap (λ (e : Placed). e.offset) c.staged.view_is ∙ c.requires in
     let planned = returns-clause-planned g c running room in
     armed_by_plan (g.D.Disk.file old.disk) (g.D.Disk.file c.write_and_sync-2.new.disk) (g.D.Disk.plan old.disk) old.gate inside.gate inside.item
-        c.args.staged c.staged.view_is (old.synced running keeps) (old.whole running keeps) gate-is c.staged.invariant.1
+    c.args.staged c.staged.view_is (old.synced running keeps) (old.whole running keeps) gate-is c.staged.invariant.1
     (Ok c.new.result) call plan-is planned.0 planned.1
 
 pub returns-in_err-write_and_sync-clause-read_either : goal.returns-in_err-write_and_sync-clause-read_either
@@ -287,8 +291,8 @@ returns-in_err-write_and_sync-clause-read_either g c running keeps =
     let new = c.write_and_sync.new.disk in
     let image = (surface (g.D.Disk.file new)).seen in
     read_now g.D.Disk.clock g.D.Disk.since c.args.self.now.disk new
-        (IsOldOrWith (log (surface (g.D.Disk.file c.args.self.now.disk)).seen) c.args.staged) image
-        (returns-in_err-write_and_sync-clause-any_moment g c running keeps)
+    (IsOldOrWith (log (surface (g.D.Disk.file c.args.self.now.disk)).seen) c.args.staged) image
+    (returns-in_err-write_and_sync-clause-any_moment g c running keeps)
     (λ later. g.met.D.Disk.counts_now new (g.D.Disk.clock c.args.self.now.disk) image later (g.met.D.Disk.reads_now new))
 
 pub returns-in_err-write_and_sync-2-clause-read_either : goal.returns-in_err-write_and_sync-2-clause-read_either
@@ -296,8 +300,8 @@ returns-in_err-write_and_sync-2-clause-read_either g c running keeps =
     let new = c.write_and_sync-2.new.disk in
     let image = (surface (g.D.Disk.file new)).seen in
     read_now g.D.Disk.clock g.D.Disk.since c.args.self.now.disk new
-        (IsOldOrWith (log (surface (g.D.Disk.file c.args.self.now.disk)).seen) c.args.staged) image
-        (returns-in_err-write_and_sync-2-clause-any_moment g c running keeps)
+    (IsOldOrWith (log (surface (g.D.Disk.file c.args.self.now.disk)).seen) c.args.staged) image
+    (returns-in_err-write_and_sync-2-clause-any_moment g c running keeps)
     (λ later. g.met.D.Disk.counts_now new (g.D.Disk.clock c.args.self.now.disk) image later (g.met.D.Disk.reads_now new))
 
 pub returns-clause-read_either : goal.returns-clause-read_either
@@ -305,5 +309,5 @@ returns-clause-read_either g c running keeps =
     let new = c.write_and_sync-2.new.disk in
     let image = (surface (g.D.Disk.file new)).seen in
     read_now g.D.Disk.clock g.D.Disk.since c.args.self.now.disk new
-        (IsOldOrWith (log (surface (g.D.Disk.file c.args.self.now.disk)).seen) c.args.staged) image (returns-clause-any_moment g c running keeps)
+    (IsOldOrWith (log (surface (g.D.Disk.file c.args.self.now.disk)).seen) c.args.staged) image (returns-clause-any_moment g c running keeps)
     (λ later. g.met.D.Disk.counts_now new (g.D.Disk.clock c.args.self.now.disk) image later (g.met.D.Disk.reads_now new))

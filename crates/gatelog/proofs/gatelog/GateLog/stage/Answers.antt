@@ -11,4 +11,4 @@ pub returns-clause-room : goal.returns-clause-room
 returns-clause-room g c obeys =
     let size : length (spelling c.args.record.now) ≡ c.encoded_len-size.result = sym c.encoded_len-size.ensures.value in
     g.met.D.Disk.room_less c.reserve.new.self 8 (c.encoded_len-size.result + 6) 4 (length (staged_bytes c.args.record.now) + 1) (omega arith)
-        (omega (arith, size, bytes-size 0 c.args.record.now)) (c.in_ok-reserve.ensures.room obeys)
+    (omega (arith, size, bytes-size 0 c.args.record.now)) (c.in_ok-reserve.ensures.room obeys)

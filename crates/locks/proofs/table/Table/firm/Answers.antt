@@ -10,7 +10,7 @@ pub invariant_of-self : goal.invariant_of-self
 invariant_of-self c =
     let items = c.self.inside.entries.items in
     let is = put_is_change made_firm c.held.inside.txn items c.self.invariant c.place-at.result _ _ (cc)
-        (omega arith) c.index_mut.ensures.value c.make_firm.ensures in
+    (omega arith) c.index_mut.ensures.value c.make_firm.ensures in
     subst IsLawfulTable (sym is) (lawful-firm items c.held.inside.txn c.self.invariant)
 
 pub returns : goal.returns
@@ -18,4 +18,4 @@ returns c =
     let items = c.self.inside.entries.items in
     put_is_change made_firm c.held.inside.txn items c.self.invariant c.place-at.result _ _ (cc) (omega arith) c.index_mut.ensures.value c.make_firm.ensures
     ∙ ap (λ (t : List Claim). change_claim t c.held.inside.txn made_firm) c.self.view_is ∙ ap
-        (λ (h : Token). change_claim c.args.self.now h.txn made_firm) c.held.view_is
+    (λ (h : Token). change_claim c.args.self.now h.txn made_firm) c.held.view_is

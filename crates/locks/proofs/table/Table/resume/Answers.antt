@@ -10,16 +10,16 @@ use Rattle.locks.proofs.table.Table.resume.Goals as goal
 pub place-at-requires : goal.place-at-requires
 place-at-requires c =
     let is_ready : ready c.self.inside.entries.items ≡ Some c.held.inside.txn = ap ready c.self.view_is ∙ c.requires
-        ∙ ap (λ (h : Token). Some h.txn) (sym c.held.view_is) in
+    ∙ ap (λ (h : Token). Some h.txn) (sym c.held.view_is) in
     subst (λ (t : List Claim). has_claim t c.held.inside.txn ≡ true) (sym c.deref.ensures.value)
-        (ready_is_there c.self.inside.entries.items c.held.inside.txn is_ready)
+    (ready_is_there c.self.inside.entries.items c.held.inside.txn is_ready)
 
 pub invariant_of-self : goal.invariant_of-self
 invariant_of-self c =
     let items = c.self.inside.entries.items in
     let id = c.held.inside.txn in
     let is = put_is_change resumed id items c.self.invariant c.place-at.result c.index_mut.result.now c.resume.new.self (cc)
-        (omega arith) c.index_mut.ensures.value c.resume.ensures in
+    (omega arith) c.index_mut.ensures.value c.resume.ensures in
     let is_ready : ready items ≡ Some id = ap ready c.self.view_is ∙ c.requires ∙ ap (λ (h : Token). Some h.txn) (sym c.held.view_is) in
     subst IsLawfulTable (sym is) (lawful-resumed items id c.self.invariant is_ready)
 
@@ -27,9 +27,9 @@ pub returns-clause-ok : goal.returns-clause-ok
 returns-clause-ok c =
     let items = c.self.inside.entries.items in
     put_is_change resumed c.held.inside.txn items c.self.invariant c.place-at.result c.index_mut.result.now c.resume.new.self (cc)
-        (omega arith) c.index_mut.ensures.value c.resume.ensures
+    (omega arith) c.index_mut.ensures.value c.resume.ensures
     ∙ ap (λ (t : List Claim). change_claim t c.held.inside.txn resumed) c.self.view_is ∙ ap
-        (λ (h : Token). change_claim c.args.self.now h.txn resumed) c.held.view_is
+    (λ (h : Token). change_claim c.args.self.now h.txn resumed) c.held.view_is
 
 pub returns-in_err-make_room-clause-succeeds : goal.returns-in_err-make_room-clause-succeeds
 returns-in_err-make_room-clause-succeeds c = λ fits.

@@ -19,8 +19,12 @@ pub returns-clause-memory : goal.returns-clause-memory
 returns-clause-memory c =
     let p = c.args.plan in
     let m : Memory = record { last = c.self.inside.times.last; rows = c.self.inside.rows.rows; ended = c.self.inside.ended.ids } in
-    let next : Memory = record { last = c.make_change-item.new.times.last; rows = c.make_change-item.new.rows.rows; ended =
-        c.make_change-item.new.ended.ids } in
+    let next : Memory = record {
+      last = c.make_change-item.new.times.last;
+      rows = c.make_change-item.new.rows.rows;
+      ended =
+          c.make_change-item.new.ended.ids;
+    } in
     let low : m.last ≤ p.last = subst (λ (k : Kept). k.memory.last ≤ p.last) (sym c.self.view_is) c.requires.ready.fit.1 in
     let last : next.last ≡ p.last = c.make_change-item.ensures.last ∙ ap (λ (t : Times). t.last) c.raise.ensures ∙ raised_to m.last p.last low in
     let us : List Id = c.as_slice.result.now in

@@ -16,9 +16,10 @@ invariant_of-self c =
     ∙ ap (λ (i : Id). position_or_len (λ r. older i (txn_of r)) c.deref.result.now) c.txn.ensures
     ∙ ap (position_or_len (λ r. older (txn_of c.args.row) (txn_of r))) c.deref.ensures.value in
     let room : length items < most_rows = subst (λ (t : List Row). length t < most_rows) (sym c.self.view_is) c.requires.room in
-    let is = insert_is_with txn_of items c.args.row c.place_for-at.result absent at in
-    (subst IsRowList (sym (c.in-Ok.ensures.items ∙ is)) (row_list-put items c.args.row room c.self.invariant.0),
-        omega (arith, c.in-Ok.ensures.capacity, c.self.invariant.1))
+    let is = insert_is_with txn_of items c.args.row c.place_for-at.result absent at in (
+      subst IsRowList (sym (c.in-Ok.ensures.items ∙ is)) (row_list-put items c.args.row room c.self.invariant.0),
+      omega (arith, c.in-Ok.ensures.capacity, c.self.invariant.1),
+    )
 
 pub returns : goal.returns
 returns c =

@@ -12,7 +12,7 @@ use Rattle.rows.proofs.rows.Rows.admit.Goals as goal
 pub enter-requires : goal.enter-requires
 enter-requires c =
     absent_claim c.self.inside.rows c.self.inside.locks c.args.txn c.self.invariant (ap (λ (t : RowTable). find_row t.rows c.args.txn) c.self.view_is
-        ∙ c.requires.absent)
+    ∙ c.requires.absent)
 
 pub put-requires-clause-absent : goal.put-requires-clause-absent
 put-requires-clause-absent c =
@@ -22,7 +22,7 @@ put-requires-clause-absent c =
 pub put-requires-clause-room : goal.put-requires-clause-room
 put-requires-clause-room c =
     subst (λ (n : ℕ). n < most_rows) (ap (λ (t : RowTable). length t.rows) (sym c.self.view_is)
-        ∙ length-paired c.self.inside.rows c.self.inside.locks) c.requires.room
+    ∙ length-paired c.self.inside.rows c.self.inside.locks) c.requires.room
 
 pub invariant_of-self-2 : goal.invariant_of-self-2
 invariant_of-self-2 c =

@@ -34,14 +34,14 @@ block-reading-requires-clause-blocked c = ap (λ (i : Id). is_free c.self.inside
 pub block-reading-requires-clause-room : goal.block-reading-requires-clause-room
 block-reading-requires-clause-room c =
     room_fits c.self.inside.rows c.self.inside.locks c.args.txn c.take_reading-reading.result c.args.self.now c.args.needs.now c.self.view_is
-        c.self.invariant c.take_reading-reading.ensures.row c.requires.room
+    c.self.invariant c.take_reading-reading.ensures.row c.requires.room
 
 pub put-requires-clause-absent : goal.put-requires-clause-absent
 put-requires-clause-absent c =
     ap (has_txn c.take_reading-reading.new.self) (c.block-reading.ensures.txn
-        ∙ (found_txn c.self.inside.rows c.args.txn (Reading c.take_reading-reading.result) c.take_reading-reading.ensures.row))
-        ∙ (taken c.self.inside.rows c.take_reading-reading.new.self c.args.txn (Reading c.take_reading-reading.result)
-        c.take_reading-reading.ensures.laws c.take_reading-reading.ensures.row c.take_reading-reading.ensures.rest).absent
+    ∙ (found_txn c.self.inside.rows c.args.txn (Reading c.take_reading-reading.result) c.take_reading-reading.ensures.row))
+    ∙ (taken c.self.inside.rows c.take_reading-reading.new.self c.args.txn (Reading c.take_reading-reading.result)
+    c.take_reading-reading.ensures.laws c.take_reading-reading.ensures.row c.take_reading-reading.ensures.rest).absent
 
 pub put-requires-clause-room : goal.put-requires-clause-room
 put-requires-clause-room c = (taken c.self.inside.rows c.take_reading-reading.new.self c.args.txn
@@ -50,14 +50,14 @@ put-requires-clause-room c = (taken c.self.inside.rows c.take_reading-reading.ne
 pub invariant_of-self : goal.invariant_of-self
 invariant_of-self c =
     (waits_with c.self.inside.rows c.take_reading-reading.new.self c.put.new.self c.self.inside.locks c.block-reading.new.table c.args.txn
-        c.take_reading-reading.result c.block-reading.result c.args.wait c.args.needs.now c.take_reading-reading.ensures.laws c.self.invariant
-        c.take_reading-reading.ensures.row c.take_reading-reading.ensures.rest c.put.ensures
+    c.take_reading-reading.result c.block-reading.result c.args.wait c.args.needs.now c.take_reading-reading.ensures.laws c.self.invariant
+    c.take_reading-reading.ensures.row c.take_reading-reading.ensures.rest c.put.ensures
     c.block-reading.ensures.txn c.block-reading.ensures.wait c.requires.needs c.block-reading.ensures.table).tied
 
 pub returns : goal.returns
 returns c =
     (waits_with c.self.inside.rows c.take_reading-reading.new.self c.put.new.self c.self.inside.locks c.block-reading.new.table c.args.txn
-        c.take_reading-reading.result c.block-reading.result c.args.wait c.args.needs.now c.take_reading-reading.ensures.laws c.self.invariant
-        c.take_reading-reading.ensures.row c.take_reading-reading.ensures.rest c.put.ensures
+    c.take_reading-reading.result c.block-reading.result c.args.wait c.args.needs.now c.take_reading-reading.ensures.laws c.self.invariant
+    c.take_reading-reading.ensures.row c.take_reading-reading.ensures.rest c.put.ensures
     c.block-reading.ensures.txn c.block-reading.ensures.wait c.requires.needs c.block-reading.ensures.table).rows_are
     ∙ ap (λ (t : RowTable). put_row t.rows c.args.txn (held_in t.rows c.args.txn) (phase_of_wait (Some c.args.wait))) c.self.view_is

@@ -21,9 +21,9 @@ collect-collecting-requires c = has_its_claim c.self.inside.rows c.self.inside.l
 pub put-requires-clause-absent : goal.put-requires-clause-absent
 put-requires-clause-absent c =
     ap (has_txn c.take_reading-reading.new.self) (ap (λ (z : CollectingState). z.token.txn) c.collect-collecting.ensures.state
-        ∙ (found_txn c.self.inside.rows c.args.txn (Reading c.take_reading-reading.result) c.take_reading-reading.ensures.row))
-        ∙ (taken c.self.inside.rows c.take_reading-reading.new.self c.args.txn (Reading c.take_reading-reading.result)
-        c.take_reading-reading.ensures.laws c.take_reading-reading.ensures.row c.take_reading-reading.ensures.rest).absent
+    ∙ (found_txn c.self.inside.rows c.args.txn (Reading c.take_reading-reading.result) c.take_reading-reading.ensures.row))
+    ∙ (taken c.self.inside.rows c.take_reading-reading.new.self c.args.txn (Reading c.take_reading-reading.result)
+    c.take_reading-reading.ensures.laws c.take_reading-reading.ensures.row c.take_reading-reading.ensures.rest).absent
 
 pub put-requires-clause-room : goal.put-requires-clause-room
 put-requires-clause-room c = (taken c.self.inside.rows c.take_reading-reading.new.self c.args.txn
@@ -32,19 +32,19 @@ put-requires-clause-room c = (taken c.self.inside.rows c.take_reading-reading.ne
 pub invariant_of-self : goal.invariant_of-self
 invariant_of-self c =
     (collected c.self.inside.rows c.take_reading-reading.new.self c.put.new.self c.self.inside.locks c.collect-collecting.new.table c.args.txn
-        c.take_reading-reading.result c.collect-collecting.result c.args.gathering c.take_reading-reading.ensures.laws c.self.invariant
+    c.take_reading-reading.result c.collect-collecting.result c.args.gathering c.take_reading-reading.ensures.laws c.self.invariant
     (sym (has_phase-is is_idle c.self.inside.rows c.self.inside.locks c.args.txn)
-        ∙ ap (λ (t : RowTable). has_phase is_idle t.rows c.args.txn) c.self.view_is ∙ c.requires) c.take_reading-reading.ensures.row
-        c.take_reading-reading.ensures.rest c.put.ensures
+    ∙ ap (λ (t : RowTable). has_phase is_idle t.rows c.args.txn) c.self.view_is ∙ c.requires) c.take_reading-reading.ensures.row
+    c.take_reading-reading.ensures.rest c.put.ensures
     c.collect-collecting.ensures.state c.collect-collecting.ensures.table).tied
 
 pub returns : goal.returns
 returns c =
     (collected c.self.inside.rows c.take_reading-reading.new.self c.put.new.self c.self.inside.locks c.collect-collecting.new.table c.args.txn
-        c.take_reading-reading.result c.collect-collecting.result c.args.gathering c.take_reading-reading.ensures.laws c.self.invariant
+    c.take_reading-reading.result c.collect-collecting.result c.args.gathering c.take_reading-reading.ensures.laws c.self.invariant
     (sym (has_phase-is is_idle c.self.inside.rows c.self.inside.locks c.args.txn)
-        ∙ ap (λ (t : RowTable). has_phase is_idle t.rows c.args.txn) c.self.view_is ∙ c.requires) c.take_reading-reading.ensures.row
-        c.take_reading-reading.ensures.rest c.put.ensures
+    ∙ ap (λ (t : RowTable). has_phase is_idle t.rows c.args.txn) c.self.view_is ∙ c.requires) c.take_reading-reading.ensures.row
+    c.take_reading-reading.ensures.rest c.put.ensures
     c.collect-collecting.ensures.state c.collect-collecting.ensures.table).rows_are
     ∙ ap (λ (t : RowTable). put_row t.rows c.args.txn (held_in t.rows c.args.txn)
-        (Rattle.protocol.specs.Rows.Collecting c.args.gathering.latest c.args.gathering.parts c.args.gathering.reads c.args.gathering.writes [])) c.self.view_is
+    (Rattle.protocol.specs.Rows.Collecting c.args.gathering.latest c.args.gathering.parts c.args.gathering.reads c.args.gathering.writes [])) c.self.view_is

@@ -34,8 +34,8 @@ put-requires-clause-absent c =
     ap (λ (z : DecidedState). has_txn c.take.new.self z.token.txn) c.decide-decided.ensures.state
     ∙ ap (λ (k : Token). has_txn c.take.new.self k.txn) (decided_token c.in-Reading.reading.token c.args.logged)
     ∙ ap (has_txn c.take.new.self) (found_txn c.self.inside.rows c.args.txn (Reading c.in-Reading.reading) c.in-Reading.ensures.row)
-        ∙ (taken c.self.inside.rows c.take.new.self c.args.txn (Reading c.in-Reading.reading) c.in-Reading.ensures.laws c.in-Reading.ensures.row
-        c.in-Reading.ensures.rest).absent
+    ∙ (taken c.self.inside.rows c.take.new.self c.args.txn (Reading c.in-Reading.reading) c.in-Reading.ensures.laws c.in-Reading.ensures.row
+    c.in-Reading.ensures.rest).absent
 
 pub put-requires-clause-room : goal.put-requires-clause-room
 put-requires-clause-room c = (taken c.self.inside.rows c.take.new.self c.args.txn (Reading c.in-Reading.reading) c.in-Reading.ensures.laws
@@ -54,7 +54,7 @@ returns-in-Reading-clause-rows c = (decided c.self.inside.rows c.take.new.self c
     (sym (has_phase-is may_decide c.self.inside.rows c.self.inside.locks c.args.txn) ∙ ap
     (λ (t : RowTable). has_phase may_decide t.rows c.args.txn) c.self.view_is ∙ c.requires.may) c.requires.mine
     c.in-Reading.ensures.row c.in-Reading.ensures.rest c.put.ensures c.decide-decided.ensures.state c.decide-decided.ensures.table).rows_are
-        ∙ ap (λ (t : RowTable). put_row t.rows c.args.txn (held_in t.rows c.args.txn) (phase_by c.args.logged)) c.self.view_is
+    ∙ ap (λ (t : RowTable). put_row t.rows c.args.txn (held_in t.rows c.args.txn) (phase_by c.args.logged)) c.self.view_is
 
 pub decide-decided-requires-in-Collecting : goal.decide-decided-requires-in-Collecting
 decide-decided-requires-in-Collecting c = ap (λ (i : Id). is_commit_of i c.args.logged) (found_txn c.self.inside.rows c.args.txn
@@ -65,8 +65,8 @@ put-requires-in-Collecting-clause-absent c =
     ap (λ (z : DecidedState). has_txn c.take.new.self z.token.txn) c.decide-decided-in-Collecting.ensures.state
     ∙ ap (λ (k : Token). has_txn c.take.new.self k.txn) (decided_token c.in-Collecting.collecting.token c.args.logged)
     ∙ ap (has_txn c.take.new.self) (found_txn c.self.inside.rows c.args.txn (Collecting c.in-Collecting.collecting) c.in-Collecting.ensures.row)
-        ∙ (taken c.self.inside.rows c.take.new.self c.args.txn (Collecting c.in-Collecting.collecting) c.in-Collecting.ensures.laws
-        c.in-Collecting.ensures.row c.in-Collecting.ensures.rest).absent
+    ∙ (taken c.self.inside.rows c.take.new.self c.args.txn (Collecting c.in-Collecting.collecting) c.in-Collecting.ensures.laws
+    c.in-Collecting.ensures.row c.in-Collecting.ensures.rest).absent
 
 pub put-requires-in-Collecting-clause-room : goal.put-requires-in-Collecting-clause-room
 put-requires-in-Collecting-clause-room c = (taken c.self.inside.rows c.take.new.self c.args.txn
@@ -81,4 +81,4 @@ pub returns-in-Collecting-clause-rows : goal.returns-in-Collecting-clause-rows
 returns-in-Collecting-clause-rows c = (decided_by_votes c.self.inside.rows c.take.new.self c.put-in-Collecting.new.self c.self.inside.locks
     c.args.txn c.in-Collecting.collecting c.decide-decided-in-Collecting.result.0 c.args.logged c.in-Collecting.ensures.laws c.self.invariant c.requires.mine
     c.in-Collecting.ensures.row c.in-Collecting.ensures.rest c.put-in-Collecting.ensures c.decide-decided-in-Collecting.ensures.state).rows_are
-        ∙ ap (λ (t : RowTable). put_row t.rows c.args.txn (held_in t.rows c.args.txn) (phase_by c.args.logged)) c.self.view_is
+    ∙ ap (λ (t : RowTable). put_row t.rows c.args.txn (held_in t.rows c.args.txn) (phase_by c.args.logged)) c.self.view_is

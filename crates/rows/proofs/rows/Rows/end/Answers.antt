@@ -10,7 +10,7 @@ use Rattle.rows.proofs.rows.Rows.end.Goals as goal
 pub take_reading-state-requires : goal.take_reading-state-requires
 take_reading-state-requires c =
     sym (has_phase-is is_reading c.self.inside.rows c.self.inside.locks c.args.txn)
-        ∙ ap (λ (t : RowTable). has_phase is_reading t.rows c.args.txn) c.self.view_is ∙ c.requires
+    ∙ ap (λ (t : RowTable). has_phase is_reading t.rows c.args.txn) c.self.view_is ∙ c.requires
 
 pub invariant_of-self : goal.invariant_of-self
 invariant_of-self c =
@@ -26,4 +26,4 @@ returns-clause-rows c =
 pub returns-clause-tokens : goal.returns-clause-tokens
 returns-clause-tokens c =
     ap (map token_of) c.take_reading-state.ensures.rest ∙ tokens-without c.self.inside.rows c.args.txn
-        ∙ ap (λ (t : RowTable). without_token t.tokens c.args.txn) c.self.view_is
+    ∙ ap (λ (t : RowTable). without_token t.tokens c.args.txn) c.self.view_is

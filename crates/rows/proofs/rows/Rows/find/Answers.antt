@@ -10,5 +10,5 @@ pub returns : goal.returns
 returns c =
     let t = c.args.txn in
     subst (λ (s : RowTable). MatchOption c.find.result (find_row s.rows t ≡ None) (λ row. find_row s.rows t ≡
-        Some (record { txn = t; held = held_in s.rows t; phase = phase_of row.now })))
+    Some (record { txn = t; held = held_in s.rows t; phase = phase_of row.now })))
     c.self.view_is (matched c.find.result c.self.inside.rows c.self.inside.locks t c.find.ensures)

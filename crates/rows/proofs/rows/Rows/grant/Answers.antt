@@ -18,7 +18,7 @@ grant_free-requires-clause-reading c =
     let t = c.args.txn in
     let differ = others_end rows t c.args.needs.now c.args.ended.now c.requires.ended in
     let same : find_row c.end_each.new.self.rows t ≡ find_row rows t = ap (λ (l : List Row). find_row l t) c.end_each.ensures.rows
-        ∙ row_stays rows t c.args.ended.now differ in
+    ∙ row_stays rows t c.args.ended.now differ in
     ap (when (λ (r : Row). is_reading r.phase)) same ∙ c.requires.reading
 
 pub grant_free-requires-clause-room : goal.grant_free-requires-clause-room
@@ -27,11 +27,11 @@ grant_free-requires-clause-room c =
     let t = c.args.txn in
     let differ = others_end rows t c.args.needs.now c.args.ended.now c.requires.ended in
     let same : find_row c.end_each.new.self.rows t ≡ find_row rows t = ap (λ (l : List Row). find_row l t) c.end_each.ensures.rows
-        ∙ row_stays rows t c.args.ended.now differ in
+    ∙ row_stays rows t c.args.ended.now differ in
     let held : length (held_in c.end_each.new.self.rows t) ≡ length (held_in rows t) = ap (λ (o : Option Row). length (held_by o)) same in
     let spare : room c.end_each.new.self t ≡ room c.args.self.now t =
     ap room_by (ap (λ (l : List Token). find_member (λ k. k.txn) l t) c.end_each.ensures.tokens
-        ∙ token_stays c.args.self.now.tokens t c.args.ended.now differ) in
+    ∙ token_stays c.args.self.now.tokens t c.args.ended.now differ) in
     omega (arith, held, spare, c.requires.room)
 
 pub returns : goal.returns
@@ -40,7 +40,7 @@ returns c =
     let t = c.args.txn in
     let differ = others_end rows t c.args.needs.now c.args.ended.now c.requires.ended in
     let same : find_row c.end_each.new.self.rows t ≡ find_row rows t = ap (λ (l : List Row). find_row l t) c.end_each.ensures.rows
-        ∙ row_stays rows t c.args.ended.now differ in
+    ∙ row_stays rows t c.args.ended.now differ in
     c.grant_free.ensures
     ∙ ap (λ (o : Option Row). put_row c.end_each.new.self.rows t (with_locks (held_by o) c.args.needs.now) Idle) same
     ∙ ap (λ (l : List Row). put_row l t (with_locks (held_in rows t) c.args.needs.now) Idle) c.end_each.ensures.rows

@@ -28,14 +28,14 @@ grant-reading-requires-clause-free c = ap (λ (i : Id). is_free c.self.inside.lo
 pub grant-reading-requires-clause-room : goal.grant-reading-requires-clause-room
 grant-reading-requires-clause-room c =
     room_fits c.self.inside.rows c.self.inside.locks c.args.txn c.take_reading-reading.result c.args.self.now c.args.needs.now c.self.view_is
-        c.self.invariant c.take_reading-reading.ensures.row c.requires.room
+    c.self.invariant c.take_reading-reading.ensures.row c.requires.room
 
 pub put-requires-clause-absent : goal.put-requires-clause-absent
 put-requires-clause-absent c =
     ap (has_txn c.take_reading-reading.new.self) (c.grant-reading.ensures.txn
-        ∙ (found_txn c.self.inside.rows c.args.txn (Reading c.take_reading-reading.result) c.take_reading-reading.ensures.row))
-        ∙ (taken c.self.inside.rows c.take_reading-reading.new.self c.args.txn (Reading c.take_reading-reading.result)
-        c.take_reading-reading.ensures.laws c.take_reading-reading.ensures.row c.take_reading-reading.ensures.rest).absent
+    ∙ (found_txn c.self.inside.rows c.args.txn (Reading c.take_reading-reading.result) c.take_reading-reading.ensures.row))
+    ∙ (taken c.self.inside.rows c.take_reading-reading.new.self c.args.txn (Reading c.take_reading-reading.result)
+    c.take_reading-reading.ensures.laws c.take_reading-reading.ensures.row c.take_reading-reading.ensures.rest).absent
 
 pub put-requires-clause-room : goal.put-requires-clause-room
 put-requires-clause-room c = (taken c.self.inside.rows c.take_reading-reading.new.self c.args.txn
@@ -44,14 +44,14 @@ put-requires-clause-room c = (taken c.self.inside.rows c.take_reading-reading.ne
 pub invariant_of-self : goal.invariant_of-self
 invariant_of-self c =
     (granted_more c.self.inside.rows c.take_reading-reading.new.self c.put.new.self c.self.inside.locks c.grant-reading.new.table c.args.txn
-        c.take_reading-reading.result c.grant-reading.result c.args.needs.now c.take_reading-reading.ensures.laws c.self.invariant
-        c.take_reading-reading.ensures.row c.take_reading-reading.ensures.rest c.put.ensures
+    c.take_reading-reading.result c.grant-reading.result c.args.needs.now c.take_reading-reading.ensures.laws c.self.invariant
+    c.take_reading-reading.ensures.row c.take_reading-reading.ensures.rest c.put.ensures
     c.grant-reading.ensures.txn c.grant-reading.ensures.wait c.grant-reading.ensures.table).tied
 
 pub returns : goal.returns
 returns c =
     (granted_more c.self.inside.rows c.take_reading-reading.new.self c.put.new.self c.self.inside.locks c.grant-reading.new.table c.args.txn
-        c.take_reading-reading.result c.grant-reading.result c.args.needs.now c.take_reading-reading.ensures.laws c.self.invariant
-        c.take_reading-reading.ensures.row c.take_reading-reading.ensures.rest c.put.ensures
+    c.take_reading-reading.result c.grant-reading.result c.args.needs.now c.take_reading-reading.ensures.laws c.self.invariant
+    c.take_reading-reading.ensures.row c.take_reading-reading.ensures.rest c.put.ensures
     c.grant-reading.ensures.txn c.grant-reading.ensures.wait c.grant-reading.ensures.table).rows_are
     ∙ ap (λ (t : RowTable). put_row t.rows c.args.txn (with_locks (held_in t.rows c.args.txn) c.args.needs.now) Idle) c.self.view_is

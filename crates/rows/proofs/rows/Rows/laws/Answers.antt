@@ -10,7 +10,7 @@ use Rattle.rows.proofs.rows.Rows.laws.Goals as goal
 pub returns-clause-few : goal.returns-clause-few
 returns-clause-few c =
     subst (λ (n : ℕ). n ≤ most_rows) (sym (length-paired c.self.inside.rows c.self.inside.locks)
-        ∙ ap (λ (t : RowTable). length t.rows) c.self.view_is) c.laws-2.ensures.few
+    ∙ ap (λ (t : RowTable). length t.rows) c.self.view_is) c.laws-2.ensures.few
 
 pub returns-clause-order : goal.returns-clause-order
 returns-clause-order c =

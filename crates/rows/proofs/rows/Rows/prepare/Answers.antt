@@ -15,12 +15,12 @@ pub take_reading-reading-requires : goal.take_reading-reading-requires
 take_reading-reading-requires c =
     idle_reads c.self.inside.rows c.args.txn
     (sym (has_phase-is is_idle c.self.inside.rows c.self.inside.locks c.args.txn)
-        ∙ ap (λ (t : RowTable). has_phase is_idle t.rows c.args.txn) c.self.view_is ∙ c.requires.idle)
+    ∙ ap (λ (t : RowTable). has_phase is_idle t.rows c.args.txn) c.self.view_is ∙ c.requires.idle)
 
 pub prepare-prepared-requires-clause-mine : goal.prepare-prepared-requires-clause-mine
 prepare-prepared-requires-clause-mine c =
     ap (λ (i : Id). is_prepare_of i c.args.logged) (found_txn c.self.inside.rows c.args.txn
-        (Reading c.take_reading-reading.result) c.take_reading-reading.ensures.row) ∙ c.requires.mine
+    (Reading c.take_reading-reading.result) c.take_reading-reading.ensures.row) ∙ c.requires.mine
 
 pub prepare-prepared-requires-clause-claim : goal.prepare-prepared-requires-clause-claim
 prepare-prepared-requires-clause-claim c =
@@ -44,20 +44,20 @@ invariant_of-self c =
     let s = c.take_reading-reading in
     let idle : passes is_idle c.self.inside.rows c.args.txn ≡ true =
     sym (has_phase-is is_idle c.self.inside.rows c.self.inside.locks c.args.txn)
-        ∙ ap (λ (t : RowTable). has_phase is_idle t.rows c.args.txn) c.self.view_is ∙ c.requires.idle in
+    ∙ ap (λ (t : RowTable). has_phase is_idle t.rows c.args.txn) c.self.view_is ∙ c.requires.idle in
     (prepared c.self.inside.rows s.new.self c.put.new.self c.self.inside.locks c.prepare-prepared.new.table c.args.txn s.result
-        c.prepare-prepared.result.0 c.args.logged
+    c.prepare-prepared.result.0 c.args.logged
     s.ensures.laws c.self.invariant idle c.requires.mine s.ensures.row s.ensures.rest c.put.ensures c.prepare-prepared.ensures.state
-        c.prepare-prepared.ensures.table).tied
+    c.prepare-prepared.ensures.table).tied
 
 pub returns-clause-rows : goal.returns-clause-rows
 returns-clause-rows c =
     let s = c.take_reading-reading in
     let idle : passes is_idle c.self.inside.rows c.args.txn ≡ true =
     sym (has_phase-is is_idle c.self.inside.rows c.self.inside.locks c.args.txn)
-        ∙ ap (λ (t : RowTable). has_phase is_idle t.rows c.args.txn) c.self.view_is ∙ c.requires.idle in
+    ∙ ap (λ (t : RowTable). has_phase is_idle t.rows c.args.txn) c.self.view_is ∙ c.requires.idle in
     (prepared c.self.inside.rows s.new.self c.put.new.self c.self.inside.locks c.prepare-prepared.new.table c.args.txn s.result
-        c.prepare-prepared.result.0 c.args.logged
+    c.prepare-prepared.result.0 c.args.logged
     s.ensures.laws c.self.invariant idle c.requires.mine s.ensures.row s.ensures.rest c.put.ensures c.prepare-prepared.ensures.state
-        c.prepare-prepared.ensures.table).rows_are
+    c.prepare-prepared.ensures.table).rows_are
     ∙ ap (λ (t : RowTable). put_row t.rows c.args.txn (held_in t.rows c.args.txn) (phase_by c.args.logged)) c.self.view_is

@@ -17,9 +17,9 @@ take-requires c = passes_there is_collecting c.self.inside.rows c.args.txn
 pub put-requires-clause-absent : goal.put-requires-clause-absent
 put-requires-clause-absent c =
     ap (λ (z : CollectingState). has_txn c.take.new.self z.token.txn) c.vote.ensures ∙ ap (has_txn c.take.new.self)
-        (found_txn c.self.inside.rows c.args.txn (Collecting c.in-Collecting.collecting) c.in-Collecting.ensures.row)
-        ∙ (taken c.self.inside.rows c.take.new.self c.args.txn (Collecting c.in-Collecting.collecting) c.in-Collecting.ensures.laws
-        c.in-Collecting.ensures.row c.in-Collecting.ensures.rest).absent
+    (found_txn c.self.inside.rows c.args.txn (Collecting c.in-Collecting.collecting) c.in-Collecting.ensures.row)
+    ∙ (taken c.self.inside.rows c.take.new.self c.args.txn (Collecting c.in-Collecting.collecting) c.in-Collecting.ensures.laws
+    c.in-Collecting.ensures.row c.in-Collecting.ensures.rest).absent
 
 pub put-requires-clause-room : goal.put-requires-clause-room
 put-requires-clause-room c = (taken c.self.inside.rows c.take.new.self c.args.txn (Collecting c.in-Collecting.collecting)

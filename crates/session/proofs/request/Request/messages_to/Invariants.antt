@@ -6,5 +6,5 @@ use Rattle.session.proofs.request.Request.messages_to.Given as goal
 abbrev pub invariant-loop-shard : goal.invariant-loop-shard
 invariant-loop-shard l =
     l.envelopes.items ++ map (prepare_for l.self.splits.now (closing_client l.self.txn l.self.taken.now l.self.writes.now) l.coordinator)
-        (drop l.shard-index l.others)
+    (drop l.shard-index l.others)
     ≡ messages_for l.self.splits.now (closing_client l.self.txn l.self.taken.now l.self.writes.now) (l.coordinator ∷ l.others)

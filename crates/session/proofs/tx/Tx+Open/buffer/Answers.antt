@@ -30,9 +30,9 @@ invariant_of-self-2 c =
     subst (λ (t : Session). (nat_le 128 (length t.client.writes) && not (writes_key t.client.writes w.key)) ≡ false) (sym c.self.view_is) may.0 in
     let written : c.insert_write.new.writes.items ≡ with_write i.writes.items w =
     c.insert_write.ensures ∙ ap (insert write_before w) (c.drop_write.ensures.same
-        ∙ ap (λ ws. filter (λ (v : Write). not (same_key v.key w.key)) ws) c.in_ok-reserve.ensures.items) in
+    ∙ ap (λ ws. filter (λ (v : Write). not (same_key v.key w.key)) ws) c.in_ok-reserve.ensures.items) in
     subst (λ ws. IsWithinLimits i.taken.items i.awaited.items ws) (sym written)
-        (kept_written i.taken.items i.awaited.items i.writes.items w c.self.invariant room)
+    (kept_written i.taken.items i.awaited.items i.writes.items w c.self.invariant room)
 
 pub returns-clause-step : goal.returns-clause-step
 returns-clause-step c =

@@ -33,7 +33,7 @@ invariant_of-self-2 c =
     let pushed : c.push_reserved.new.self.items ≡ i.awaited.items ++ k ∷ [] =
     c.push_reserved.ensures.items ∙ ap (λ l. l ++ k ∷ []) c.in_ok-reserve.ensures.items in
     subst (λ aw. IsWithinLimits i.taken.items aw i.writes.items) (sym pushed)
-        (kept_read i.taken.items i.awaited.items i.writes.items k c.self.invariant few new)
+    (kept_read i.taken.items i.awaited.items i.writes.items k c.self.invariant few new)
 
 pub returns-clause-step : goal.returns-clause-step
 returns-clause-step c =
@@ -47,4 +47,4 @@ returns-clause-step c =
     let at : n ≡ shard_of s.splits k = c.shard_of-shard.ensures ∙ ap (λ (t : Session). shard_of t.splits k) c.self.view_is in
     reads_goes s.splits k s.client aw n may.0 may.1 may.2 may.3 pushed at
     ∙ ap (λ (t : Session). Goes (record t.client { awaited = aw })
-        (record { to = Shard n; message = Message.Read (record { txn = t.client.txn; key = k }) } ∷ [])) (sym c.self.view_is)
+    (record { to = Shard n; message = Message.Read (record { txn = t.client.txn; key = k }) } ∷ [])) (sym c.self.view_is)

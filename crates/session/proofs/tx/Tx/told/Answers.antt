@@ -11,7 +11,7 @@ returns-then-is_closing-clause-none g c =
     let e = c.request.ensures in
     subst (λ ns. IfOk c.parts.result (λ parts. IfNone parts (ns ≡ [])))
     ((λ i. parts_of (e.splits i) (closing_client (e.txn i) (e.taken i) (e.writes i))) ∙ told_closing s.splits s.client s.client.stage refl
-        (sym c.is_closing.ensures ∙ c.if-is_closing.true))
+    (sym c.is_closing.ensures ∙ c.if-is_closing.true))
     c.parts.ensures.none
 
 pub returns-then-is_closing-clause-some : goal.returns-then-is_closing-clause-some
@@ -20,7 +20,7 @@ returns-then-is_closing-clause-some g c =
     let e = c.request.ensures in
     subst (λ told. IfOk c.parts.result (λ parts. IfSome parts (λ ns. ns ≡ told)))
     ((λ i. parts_of (e.splits i) (closing_client (e.txn i) (e.taken i) (e.writes i))) ∙ told_closing s.splits s.client s.client.stage refl
-        (sym c.is_closing.ensures ∙ c.if-is_closing.true))
+    (sym c.is_closing.ensures ∙ c.if-is_closing.true))
     c.parts.ensures.some
 
 pub returns-else-is_closing-clause-none : goal.returns-else-is_closing-clause-none

@@ -30,10 +30,10 @@ returns-in-Ok-clause-stepped g c =
 pub returns-in-Ok-clause-settled : goal.returns-in-Ok-clause-settled
 returns-in-Ok-clause-settled g c =
     durably_settled c.args.self.now.state c.args.now.now c.in-Ok.plan c.args.self.now.sound g.D.Disk.keeps_model
-        (surface (g.D.Disk.file (disk_of c.carry_out.new.self.gate_log)))
+    (surface (g.D.Disk.file (disk_of c.carry_out.new.self.gate_log)))
     (records_in (surface (g.D.Disk.file (disk_of c.args.self.now.gate_log))).seen) c.args.input.now c.carry_out.result c.in-Ok.ensures.planned
     (outbox_of (seen c.args.self.now) (seen c.carry_out.new.self) c.in-Ok.plan.logged (carried
-        (plan_of c.args.self.now.state.memory.rows c.in-Ok.plan) c.args.self.now.state.memory)
+    (plan_of c.args.self.now.state.memory.rows c.in-Ok.plan) c.args.self.now.state.memory)
     c.in-Ok.plan.outbox c.carry_out.result c.carry_out.ensures.done)
     c.carry_out.ensures.written.durable
     (c.args.self.now.agrees (sym c.if-is_stopped.ensures.value))

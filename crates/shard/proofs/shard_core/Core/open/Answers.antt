@@ -19,15 +19,15 @@ returns-in_err-gate_log-clause-refused g c =
     let back = c.in_err-gate_log.field-0.0 in
     let same : c.from_residual.result ≡ Err back = (search rules) in
     subst (λ r. IfErr r (λ refused. HasNotOpened g.D.Disk.keeps_model g.D.Disk.obeys g.D.Disk.file g.D.Disk.clock g.D.Disk.since g.D.Disk.failures
-        g.D.Disk.plan c.args.disk c.args.setup refused.0 refused.1)) (sym same)
+    g.D.Disk.plan c.args.disk c.args.setup refused.0 refused.1)) (sym same)
     (no_log g.D.Disk.keeps_model g.D.Disk.obeys g.D.Disk.file g.D.Disk.clock g.D.Disk.since g.D.Disk.failures g.D.Disk.plan c.args.setup c.args.disk
-        back.1 back.0 c.in_err-gate_log.ensures.cause c.in_err-gate_log.ensures.refused_moment c.in_err-gate_log.ensures.unchanged
+    back.1 back.0 c.in_err-gate_log.ensures.cause c.in_err-gate_log.ensures.refused_moment c.in_err-gate_log.ensures.unchanged
     (λ obey never. (c.in_err-gate_log.ensures.refused_planned obey never).1))
 
 pub take_up-requires-clause-known : goal.take_up-requires-clause-known
 take_up-requires-clause-known g c = λ keep.
     let found : Found g.D.Disk.keeps_model g.D.Disk.obeys g.D.Disk.file g.D.Disk.clock g.D.Disk.since g.D.Disk.failures g.D.Disk.plan c.args.disk
-        (disk_of c.in_ok-gate_log.gate_log) (gate_at c.in_ok-gate_log.gate_log) c.deref.result.now = record {
+    (disk_of c.in_ok-gate_log.gate_log) (gate_at c.in_ok-gate_log.gate_log) c.deref.result.now = record {
       entries_are = λ keep. c.in_ok-gate_log.ensures.entries keep ∙ ap Ok (sym c.deref.ensures.value);
       ends = c.in_ok-gate_log.ensures.gate;
       clean = c.in_ok-gate_log.ensures.synced;
@@ -36,17 +36,17 @@ take_up-requires-clause-known g c = λ keep.
       planned = λ obey never. (c.in_ok-gate_log.ensures.planned obey never).0;
     } in
     let rebuilt_as : IsRebuilt c.args.setup (items c.deref.result.now) (Some c.in-Ok-Some.state) =
-        subst (IsRebuilt c.args.setup (items c.deref.result.now)) c.in-Ok-Some.field-0-is c.in-Ok-Some.ensures.found in
+    subst (IsRebuilt c.args.setup (items c.deref.result.now)) c.in-Ok-Some.field-0-is c.in-Ok-Some.ensures.found in
     ap facts_logged (same_records g.D.Disk.keeps_model g.D.Disk.obeys g.D.Disk.file g.D.Disk.clock g.D.Disk.since g.D.Disk.failures g.D.Disk.plan
-        c.args.disk _ _ c.deref.result.now found keep ∙ records_are g.D.Disk.keeps_model g.D.Disk.obeys g.D.Disk.file g.D.Disk.clock g.D.Disk.since
-        g.D.Disk.failures g.D.Disk.plan c.args.disk _ _ c.deref.result.now found keep)
+    c.args.disk _ _ c.deref.result.now found keep ∙ records_are g.D.Disk.keeps_model g.D.Disk.obeys g.D.Disk.file g.D.Disk.clock g.D.Disk.since
+    g.D.Disk.failures g.D.Disk.plan c.args.disk _ _ c.deref.result.now found keep)
     ∙ facts_are c.learnt_agrees.ensures c.accepted_follows.ensures c.args.setup (items c.deref.result.now) c.in-Ok-Some.state.facts
-        c.in-Ok-Some.ensures.accepted rebuilt_as.1
+    c.in-Ok-Some.ensures.accepted rebuilt_as.1
 
 pub returns-in-Ok-Some-clause-opened : goal.returns-in-Ok-Some-clause-opened
 returns-in-Ok-Some-clause-opened g c =
     let found : Found g.D.Disk.keeps_model g.D.Disk.obeys g.D.Disk.file g.D.Disk.clock g.D.Disk.since g.D.Disk.failures g.D.Disk.plan c.args.disk
-        (disk_of c.in_ok-gate_log.gate_log) (gate_at c.in_ok-gate_log.gate_log) c.deref.result.now = record {
+    (disk_of c.in_ok-gate_log.gate_log) (gate_at c.in_ok-gate_log.gate_log) c.deref.result.now = record {
       entries_are = λ keep. c.in_ok-gate_log.ensures.entries keep ∙ ap Ok (sym c.deref.ensures.value);
       ends = c.in_ok-gate_log.ensures.gate;
       clean = c.in_ok-gate_log.ensures.synced;
@@ -55,22 +55,22 @@ returns-in-Ok-Some-clause-opened g c =
       planned = λ obey never. (c.in_ok-gate_log.ensures.planned obey never).0;
     } in
     let rebuilt_as : IsRebuilt c.args.setup (items c.deref.result.now) (Some c.in-Ok-Some.state) =
-        subst (IsRebuilt c.args.setup (items c.deref.result.now)) c.in-Ok-Some.field-0-is c.in-Ok-Some.ensures.found in
+    subst (IsRebuilt c.args.setup (items c.deref.result.now)) c.in-Ok-Some.field-0-is c.in-Ok-Some.ensures.found in
     let k = c.in-Ok-Some.state in
     let rs = items c.deref.result.now in
     from_four c.take_up.result _ _ _ _ _
     (λ core setup facts memory appended.
     opened g.D.Disk.keeps_model g.D.Disk.obeys g.D.Disk.file g.D.Disk.clock g.D.Disk.since g.D.Disk.failures g.D.Disk.plan c.args.disk
-        (disk_of c.in_ok-gate_log.gate_log) (gate_at c.in_ok-gate_log.gate_log) c.deref.result.now found
+    (disk_of c.in_ok-gate_log.gate_log) (gate_at c.in_ok-gate_log.gate_log) c.deref.result.now found
     c.args.setup (Record.Opened (k.facts.epoch + 1)) (seen core) (epoch_of_facts rs k.facts rebuilt_as.1) appended (setup ∙ rebuilt_as.0)
-        (memory ∙ ap rebuilt (sym facts)) c.in-Ok-Some.ensures.accepted
+    (memory ∙ ap rebuilt (sym facts)) c.in-Ok-Some.ensures.accepted
     (facts ∙ facts_then c.learn_agrees.ensures c.accepted_follows.ensures c.args.setup rs k.facts c.in-Ok-Some.ensures.accepted rebuilt_as.1))
     c.take_up.ensures.setup c.take_up.ensures.facts c.take_up.ensures.memory c.take_up.ensures.appended
 
 pub returns-in-Ok-Some-clause-refused : goal.returns-in-Ok-Some-clause-refused
 returns-in-Ok-Some-clause-refused g c =
     let found : Found g.D.Disk.keeps_model g.D.Disk.obeys g.D.Disk.file g.D.Disk.clock g.D.Disk.since g.D.Disk.failures g.D.Disk.plan c.args.disk
-        (disk_of c.in_ok-gate_log.gate_log) (gate_at c.in_ok-gate_log.gate_log) c.deref.result.now = record {
+    (disk_of c.in_ok-gate_log.gate_log) (gate_at c.in_ok-gate_log.gate_log) c.deref.result.now = record {
       entries_are = λ keep. c.in_ok-gate_log.ensures.entries keep ∙ ap Ok (sym c.deref.ensures.value);
       ends = c.in_ok-gate_log.ensures.gate;
       clean = c.in_ok-gate_log.ensures.synced;
@@ -79,21 +79,21 @@ returns-in-Ok-Some-clause-refused g c =
       planned = λ obey never. (c.in_ok-gate_log.ensures.planned obey never).0;
     } in
     let rebuilt_as : IsRebuilt c.args.setup (items c.deref.result.now) (Some c.in-Ok-Some.state) =
-        subst (IsRebuilt c.args.setup (items c.deref.result.now)) c.in-Ok-Some.field-0-is c.in-Ok-Some.ensures.found in
+    subst (IsRebuilt c.args.setup (items c.deref.result.now)) c.in-Ok-Some.field-0-is c.in-Ok-Some.ensures.found in
     let k = c.in-Ok-Some.state in
     let rs = items c.deref.result.now in
     IfErr-weaker c.take_up.result _ _
     (λ refused h.
     not_opened g.D.Disk.keeps_model g.D.Disk.obeys g.D.Disk.file g.D.Disk.clock g.D.Disk.since g.D.Disk.failures g.D.Disk.plan c.args.disk
-        (disk_of c.in_ok-gate_log.gate_log) (gate_at c.in_ok-gate_log.gate_log) c.deref.result.now found
+    (disk_of c.in_ok-gate_log.gate_log) (gate_at c.in_ok-gate_log.gate_log) c.deref.result.now found
     c.args.setup (Record.Opened (k.facts.epoch + 1)) _ refused.0 refused.1 (epoch_of_facts rs k.facts rebuilt_as.1) c.in-Ok-Some.ensures.accepted
-        (room_spent rs k.facts (gate_at c.in_ok-gate_log.gate_log) rebuilt_as.1) h)
+    (room_spent rs k.facts (gate_at c.in_ok-gate_log.gate_log) rebuilt_as.1) h)
     c.take_up.ensures.refused
 
 pub returns-in-Ok-None-clause-opened : goal.returns-in-Ok-None-clause-opened
 returns-in-Ok-None-clause-opened g c =
     let found : Found g.D.Disk.keeps_model g.D.Disk.obeys g.D.Disk.file g.D.Disk.clock g.D.Disk.since g.D.Disk.failures g.D.Disk.plan c.args.disk
-        (disk_of c.in_ok-gate_log.gate_log) (gate_at c.in_ok-gate_log.gate_log) c.deref.result.now = record {
+    (disk_of c.in_ok-gate_log.gate_log) (gate_at c.in_ok-gate_log.gate_log) c.deref.result.now = record {
       entries_are = λ keep. c.in_ok-gate_log.ensures.entries keep ∙ ap Ok (sym c.deref.ensures.value);
       ends = c.in_ok-gate_log.ensures.gate;
       clean = c.in_ok-gate_log.ensures.synced;
@@ -106,7 +106,7 @@ returns-in-Ok-None-clause-opened g c =
     from_four c.begin.result _ _ _ _ _
     (λ core setup facts memory appended.
     opened g.D.Disk.keeps_model g.D.Disk.obeys g.D.Disk.file g.D.Disk.clock g.D.Disk.since g.D.Disk.failures g.D.Disk.plan c.args.disk
-        (disk_of c.in_ok-gate_log.gate_log) (gate_at c.in_ok-gate_log.gate_log) c.deref.result.now found
+    (disk_of c.in_ok-gate_log.gate_log) (gate_at c.in_ok-gate_log.gate_log) c.deref.result.now found
     c.args.setup (Record.Opened 1) (seen core) first appended setup (memory ∙ first_memory (seen core).facts facts) c.in-Ok-None.ensures.accepted
     (facts ∙ ap facts_of (first_records (items c.deref.result.now) empty)))
     c.begin.ensures.setup c.begin.ensures.facts c.begin.ensures.memory c.begin.ensures.appended
@@ -114,7 +114,7 @@ returns-in-Ok-None-clause-opened g c =
 pub returns-in-Ok-None-clause-refused : goal.returns-in-Ok-None-clause-refused
 returns-in-Ok-None-clause-refused g c =
     let found : Found g.D.Disk.keeps_model g.D.Disk.obeys g.D.Disk.file g.D.Disk.clock g.D.Disk.since g.D.Disk.failures g.D.Disk.plan c.args.disk
-        (disk_of c.in_ok-gate_log.gate_log) (gate_at c.in_ok-gate_log.gate_log) c.deref.result.now = record {
+    (disk_of c.in_ok-gate_log.gate_log) (gate_at c.in_ok-gate_log.gate_log) c.deref.result.now = record {
       entries_are = λ keep. c.in_ok-gate_log.ensures.entries keep ∙ ap Ok (sym c.deref.ensures.value);
       ends = c.in_ok-gate_log.ensures.gate;
       clean = c.in_ok-gate_log.ensures.synced;
@@ -127,7 +127,7 @@ returns-in-Ok-None-clause-refused g c =
     IfErr-weaker c.begin.result _ _
     (λ refused h.
     not_opened g.D.Disk.keeps_model g.D.Disk.obeys g.D.Disk.file g.D.Disk.clock g.D.Disk.since g.D.Disk.failures g.D.Disk.plan c.args.disk
-        (disk_of c.in_ok-gate_log.gate_log) (gate_at c.in_ok-gate_log.gate_log) c.deref.result.now found
+    (disk_of c.in_ok-gate_log.gate_log) (gate_at c.in_ok-gate_log.gate_log) c.deref.result.now found
     c.args.setup (Record.Opened 1) _ refused.0 refused.1 first c.in-Ok-None.ensures.accepted
-        (λ full. inr (subst (IsFull (gate_at c.in_ok-gate_log.gate_log)) first full)) h)
+    (λ full. inr (subst (IsFull (gate_at c.in_ok-gate_log.gate_log)) first full)) h)
     c.begin.ensures.refused

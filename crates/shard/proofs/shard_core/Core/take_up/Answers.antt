@@ -10,9 +10,15 @@ carry_out-requires-clause-due g c =
     let k = c.args.state in
     let epoch : c.in-Ok.epoch ≡ k.facts.epoch + 1 = c.in-Ok.ensures.0 ∙ ap (λ n. n + 1) c.epoch.ensures in
     opening_due c.opening_keeps_sound.ensures k c.serves-plan.result c.last-last.result c.requires.rebuilt c.requires.sound c.last-last.ensures
-        c.serves-plan.ensures.fit
-    (c.serves-plan.ensures.plan ∙ ap (λ n. record { wounded = []; change = protocol.Keeps; logged = Some (Record.Opened n); last =
-        c.last-last.result; outbox = [] }) epoch)
+    c.serves-plan.ensures.fit
+    (c.serves-plan.ensures.plan ∙ ap (λ n. record {
+      wounded = [];
+      change = protocol.Keeps;
+      logged = Some (Record.Opened n);
+      last =
+          c.last-last.result;
+      outbox = [];
+    }) epoch)
 
 pub returns-clause-memory : goal.returns-clause-memory
 returns-clause-memory g c =

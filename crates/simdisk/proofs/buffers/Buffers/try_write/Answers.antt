@@ -16,7 +16,7 @@ invariant_of-self c =
     let is : new ≡ pushed h change bytes = then_pushed h new.changes new.store change bytes c.keep.ensures.changes c.keep.ensures.store in
     let file = file_new h new change bytes ready.stored refl is in
     let far : furthest new.changes ≡ max (furthest h.changes) (c.args.at + length bytes) = ap furthest c.keep.ensures.changes
-        ∙ furthest-push h.changes change in
+    ∙ furthest-push h.changes change in
     let fits = c.in_ok-make_ready.ensures.ready in
     record {
       stored = stored_new h new change bytes ready.stored refl is;

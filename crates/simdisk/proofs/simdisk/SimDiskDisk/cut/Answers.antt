@@ -10,5 +10,5 @@ returns-in-Ok-clause-planned c calls more room =
     let old = held_file c.args.self.now.buffers in
     let new = c.cut.new.self in
     subst (λ (failed : Bool). IsAsPlanned {T = Unit {0}} {E = Fault} failed (Ok tt) × HasRoomFor new calls more
-        × (held_file new ≡ (if failed then old else with_change (cut c.args.len) old))) c.if-call.ensures.fails
+    × (held_file new ≡ (if failed then old else with_change (cut c.args.len) old))) c.if-call.ensures.fails
     (refl, (c.in-Ok.ensures.room calls more room).1, c.in-Ok.ensures.ok)

@@ -16,7 +16,7 @@ returns-in-Ok-clause-planned c calls more room =
     let new = c.write-2.new.self in
     let bytes = c.args.bytes.now in
     subst (λ (failed : Bool). IsAsPlanned {T = Unit {0}} {E = Fault} failed (Ok tt) × HasRoomFor new calls more
-        × (held_file new ≡ with_change (if failed then tried c.args.at bytes else wrote c.args.at bytes) old)) c.if-write.ensures.fails
+    × (held_file new ≡ with_change (if failed then tried c.args.at bytes else wrote c.args.at bytes) old)) c.if-write.ensures.fails
     (refl, (c.in-Ok.ensures.room calls more room).1, c.in-Ok.ensures.ok)
 
 pub returns-then-write-clause-planned : goal.returns-then-write-clause-planned
@@ -26,7 +26,7 @@ returns-then-write-clause-planned c calls more room =
     let bytes = c.args.bytes.now in
     let kept = c.try_write.ensures.room calls more room in
     subst (λ (failed : Bool). IsAsPlanned {T = Unit {0}} {E = Fault} failed (Err Device) × HasRoomFor new calls more
-        × (held_file new ≡ with_change (if failed then tried c.args.at bytes else wrote c.args.at bytes) old)) c.if-write.ensures.fails
+    × (held_file new ≡ with_change (if failed then tried c.args.at bytes else wrote c.args.at bytes) old)) c.if-write.ensures.fails
     (refl, kept.1, ok_of c.try_write.result kept.0 c.try_write.ensures.ok)
 
 pub returns-in-Ok-clause-crash : goal.returns-in-Ok-clause-crash

@@ -12,4 +12,4 @@ pub returns : goal.returns
 returns c =
     let k = c.number-number.result in
     ap shards_of_mask (bit-kept k c.number-number.ensures.limit) ∙ shards_of-bit k c.number-number.ensures.limit
-        ∙ ap (λ (n : ℕ). n ∷ []) c.number-number.ensures.same
+    ∙ ap (λ (n : ℕ). n ∷ []) c.number-number.ensures.same

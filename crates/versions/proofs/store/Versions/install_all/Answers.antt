@@ -16,10 +16,10 @@ install-requires-clause-above c =
     let rest = c.next.new.self.rest.items in
     let turn : done ++ w ∷ rest ≡ c.args.writes = ap (λ r. done ++ r) (sym c.in-Some.ensures.steps.0) ∙ c.loop-write.invariant.whole in
     let up = subst (λ (ws : List Write). ascends write_before ws ≡ true) (c.into_vec-write-items.ensures.same
-        ∙ sym turn) c.into_vec-write-items.ensures.ascending in
+    ∙ sym turn) c.into_vec-write-items.ensures.ascending in
     let above = subst (λ (ws : List Write). above_versions c.args.self.now.installs c.args.at ws ≡ true) (sym turn) c.requires.above in
     subst (λ (t : List Install). is_above t w.key c.args.at ≡ true) (sym c.loop-write.invariant.installs)
-        (above_at_turn done w rest c.args.at c.args.self.now.installs up above)
+    (above_at_turn done w rest c.args.at c.args.self.now.installs up above)
 
 pub loop-write-preserved : goal.loop-write-preserved
 loop-write-preserved c =

@@ -5,4 +5,4 @@ pub returns-in-Open : goal.returns-in-Open
 returns-in-Open c =
     let made = c.take_answer-line in
     open_hears c.args.self c.in-Open.tx made.new.tx c.args.answer.now made.result c.in-Open.is made.ensures.splits made.ensures.client
-        made.ensures.line made.ensures.memory
+    made.ensures.line made.ensures.memory

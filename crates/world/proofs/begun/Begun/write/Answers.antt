@@ -7,4 +7,4 @@ pub returns-in-Open : goal.returns-in-Open
 returns-in-Open c =
     let w : Write = record { key = c.args.key; value = c.args.value } in
     open_moves (λ splits. buffers w) (λ splits. buffers_keeps w) c.args.self c.in-Open.tx c.buffer-out.new.tx c.buffer-out.result c.in-Open.is
-        c.buffer-out.ensures.splits c.buffer-out.ensures.step
+    c.buffer-out.ensures.splits c.buffer-out.ensures.step

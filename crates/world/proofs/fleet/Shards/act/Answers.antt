@@ -25,7 +25,7 @@ returns c config used ss h =
     let lt : c.number-at.result < length s.running.items = omega (arith, c.if-at-len.false, c.len.ensures, s.running.ok.0) in
     let there : slice_get s.running.items c.args.shard ≡ Some before =
     ap (λ n. slice_get s.running.items n) (sym c.number-at.ensures.same)
-        ∙ slice_get_read s.running.items _ c.number-at.result before refl lt c.index_mut.ensures.value in
+    ∙ slice_get_read s.running.items _ c.number-at.result before refl lt c.index_mut.ensures.value in
     acts_there config used c.args.bag.now ss c.args.shard c.args.doing.now s new before c.act.new.self h refl
     (ap (λ n. set s.running.items n c.act.new.self) c.number-at.ensures.same) there c.act.result
     (λ t is. c.act.ensures (setup_of config c.args.shard) used t is)

@@ -10,7 +10,7 @@ returns-in-Some c config used ss h =
     let r = c.in-Some.running.now in
     let there : slice_get s.running.items c.args.shard ≡ Some r =
     (λ i. slice_get (sym c.deref.ensures.value i) (sym c.number.ensures.same i))
-        ∙ slice_get_read c.deref.result.now _ c.number.result r refl c.in-Some.ensures.lookup.3.0 c.in-Some.ensures.lookup.1 in
+    ∙ slice_get_read c.deref.result.now _ c.number.result r refl c.in-Some.ensures.lookup.3.0 c.in-Some.ensures.lookup.1 in
     tests_there config used s ss c.args.shard r (nat_lt c.args.number c.views.result) (λ t. nat_lt c.args.number (length t.views)) h there
     (λ t is. ap (λ n. nat_lt c.args.number n) (c.views.ensures (setup_of config c.args.shard) used t is))
 

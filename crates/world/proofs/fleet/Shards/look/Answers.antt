@@ -13,11 +13,11 @@ returns-in-Some-clause-shown c config used ss h =
     let r = c.in-Some.running.now in
     let there : slice_get s.running.items c.args.shard ≡ Some r =
     (λ i. slice_get (sym c.deref.ensures.value i) (sym c.number-3.ensures.same i))
-        ∙ slice_get_read c.deref.result.now _ c.number-3.result r refl c.in-Some.ensures.lookup.3.0 c.in-Some.ensures.lookup.1 in
+    ∙ slice_get_read c.deref.result.now _ c.number-3.result r refl c.in-Some.ensures.lookup.3.0 c.in-Some.ensures.lookup.1 in
     let place : c.number.result ≡ shard_of config.splits c.args.key.now = c.number.ensures.same ∙ c.shard_of.ensures
-        ∙ ap (λ ks. shard_of ks c.args.key.now) h.splits_are in
+    ∙ ap (λ ks. shard_of ks c.args.key.now) h.splits_are in
     let here : nat_eq c.number.result c.number-2.result ≡ nat_eq (shard_of config.splits c.args.key.now) c.args.shard =
-        λ i. nat_eq (place i) (c.number-2.ensures.same i) in
+    λ i. nat_eq (place i) (c.number-2.ensures.same i) in
     looks_there config used s ss c.args.shard r c.look.result (λ t. look_shard (setup_of config c.args.shard) t c.args.key.now c.args.at) h there
     (λ t is. c.look.ensures.shown (setup_of config c.args.shard) used t is here)
 

@@ -24,7 +24,7 @@ returns-in-Read c used time w few h steady may =
     let f = reads w.config.splits c.in-Read.key in
     subst (λ a. Comes (used + 1) a new c.reply.result) (sym (ap (acts w) c.in-Read.is ∙ open_moves w (client_of w t) f))
     (session_comes used w old new h (session_step (when_open f) (client_of w t)) c.read-moved.result c.reply.result
-        (c.read-moved.ensures w.config.splits w.clients h.sessions) c.reply.ensures refl refl)
+    (c.read-moved.ensures w.config.splits w.clients h.sessions) c.reply.ensures refl refl)
 
 pub returns-in_ok-value-in-Write : goal.returns-in_ok-value-in-Write
 unfolding acts
@@ -35,7 +35,7 @@ returns-in_ok-value-in-Write c used time w few h steady may =
     let f = buffers (record { key = c.in-Write.key; value = c.in_ok-value-in-Write.value }) in
     subst (λ a. Comes (used + 1) a new c.reply-in-Write.result)
     (sym (ap (acts w) c.in-Write.is ∙ ap (λ x. if_open w (client_of w t) (buffers (record { key = c.in-Write.key; value = x })))
-        (sym c.in_ok-value-in-Write.ensures.same) ∙ open_moves w (client_of w t) f))
+    (sym c.in_ok-value-in-Write.ensures.same) ∙ open_moves w (client_of w t) f))
     (session_comes used w old new h (session_step (when_open f) (client_of w t)) c.write-moved.result c.reply-in-Write.result
     (c.write-moved.ensures w.config.splits w.clients h.sessions) c.reply-in-Write.ensures refl refl)
 
@@ -89,5 +89,5 @@ returns-in_ok-reply-in-View c used time w few h steady may =
     let v = c.in-View in
     let shown = c.in_ok-reply-in-View.ensures.shown w.config used w.shards h.shards in
     subst (λ a. Comes (used + 1) a new c.note_look-in-View.result) (sym (ap (acts w) v.is ∙ looks_back w v.shard v.number v.key v.at
-        ∙ ap (look_noted w v.key v.at) (sym shown)))
+    ∙ ap (look_noted w v.key v.at) (sym shown)))
     (look_comes used w old new h v.key v.at c.in_ok-reply-in-View.reply c.note_look-in-View.result c.note_look-in-View.ensures refl refl refl)

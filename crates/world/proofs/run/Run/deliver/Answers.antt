@@ -25,4 +25,4 @@ returns-in-Session c used w few h steady =
     (sym (for_session w c.args.number c.in-Session.field-0 c.args.now c.in-Some.envelope.now
     (ap (λ b. slice_get b c.args.number) (sym h.past.bag) ∙ sym c.nth.ensures ∙ ap option_copied c.in-Some.is) c.in-Session.is))
     (message_comes used w old new h c.in-Some.envelope.now.message c.take_message-heard.result c.reply_line.result
-        (c.take_message-heard.ensures w h.sessions) c.reply_line.ensures refl refl)
+    (c.take_message-heard.ensures w h.sessions) c.reply_line.ensures refl refl)

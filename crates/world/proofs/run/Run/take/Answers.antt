@@ -11,7 +11,17 @@ returns c w at h steady =
     let yes : c.may_happen.result ≡ true = cc in
     let may : may_happen w e ≡ true = sym (c.may_happen.ensures number w h) ∙ yes in
     let mid : Run = c.act.new.self in
-    let new : Run = record { sessions = mid.sessions; shards = mid.shards; past = record { bag = mid.past.bag; told = mid.past.told; lines =
-        mid.past.lines; event = number + 1 }; time = e.time } in
+    let new : Run = record {
+      sessions = mid.sessions;
+      shards = mid.shards;
+      past = record {
+        bag = mid.past.bag;
+        told = mid.past.told;
+        lines =
+            mid.past.lines;
+        event = number + 1;
+      };
+      time = e.time;
+    } in
     happened w e number at mid new c.in_ok-reply.reply may (c.in_ok-reply.ensures number e.time w c.requires.few h steady
-        (acts_may w e number at may)) refl refl refl refl refl refl refl
+    (acts_may w e number at may)) refl refl refl refl refl refl refl

@@ -32,4 +32,4 @@ returns c setup used s h =
           ∙ ap (λ b. mid.views.items ++ views_made b mid) (sym w.if-makes_view.false ∙ c.makes_view.ensures)
     ] in
     acted setup used c.args.bag.now s c.args.doing.now mid c.if-makes_view.self core views h.sure c.in_ok-out.out
-        (c.in_ok-out.ensures.carried setup used s there)
+    (c.in_ok-out.ensures.carried setup used s there)

@@ -14,6 +14,9 @@ returns-in-Ok-clause-carried c setup used s h =
 pub returns-in-Err-clause-carried : goal.returns-in-Err-clause-carried
 returns-in-Err-clause-carried c setup used s h room = elim c.in-Err.ensures.cause [
   | inl memory ↦ inl memory
-  | inr gone ↦ inr (effect_refuses setup c.args.bag.now s c.args.doing.now (seen c.args.self.now.core).memory c.requires h.state gone.1
-      ∙ ap (λ f. Refuses f) (sym gone.0), h)
+  | inr gone ↦ inr (
+    effect_refuses setup c.args.bag.now s c.args.doing.now (seen c.args.self.now.core).memory c.requires h.state gone.1
+        ∙ ap (λ f. Refuses f) (sym gone.0),
+    h,
+  )
 ]

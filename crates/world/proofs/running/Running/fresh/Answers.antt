@@ -19,7 +19,7 @@ returns-in-Ok-clause-fresh c =
     let core = c.in-Ok.core in
     let memory = made.empty ∙ first_memory in
     let views = c.push_reserved.ensures.items ∙ ap (λ vs. vs ++ c.of.result ∷ []) (c.in_ok-reserve.ensures.items ∙ c.new-views.ensures.items)
-        ∙ ap (λ v. v ∷ []) c.of.ensures in
+    ∙ ap (λ v. v ∷ []) c.of.ensures in
     let new : Running = record { core = core; views = c.push_reserved.new.self } in
     record {
       setup_is = made.made.0;
