@@ -32,7 +32,7 @@ put_alike (w ∷ ws) m n k e = put_alike ws (put w m) (put w n) k (ap (λ x. con
 pub put_elsewhere : (ws : List Write) (m : Map) (k : Bytes) → writes_key ws k ≡ false → put_all ws m k ≡ m k
 put_elsewhere [] m k e = refl
 put_elsewhere (w ∷ ws) m k e =
-    let p = neither (same_key w.key k) (writes_key ws k) e in
+    let p = or_parts (same_key w.key k) (writes_key ws k) e in
     put_elsewhere ws (put w m) k p.1 ∙ ap (λ b. cond b w.value (m k)) (same_key_comm k w.key ∙ p.0)
 
 -- a written key has a value that the map does not matter to
