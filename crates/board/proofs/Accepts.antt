@@ -3,7 +3,7 @@ use Rattle.std.proofs.Common.{◌≡◌, true, List, [], ◌∷◌, ◌++◌, Re
 use Rattle.std.proofs.lemmas.List.{append-nil}
 use mathlib.Core.Bool.{true≢false}
 use mathlib.Core.List.{IsPrefix}
-use Rattle.board.specs.declared.entry.Entry.{Entry}
+use Rattle.board.specs.declared.entry.BoardEntry.{BoardEntry}
 use Rattle.units.specs.declared.fault.Fault.{Fault}
 use Rattle.units.specs.declared.fault.Fault.TheVariants.{Memory}
 use Rattle.board.specs.Board.{is_board}
@@ -15,25 +15,25 @@ use Rattle.board.specs.Views.{Published}
 use Rattle.board.specs.Publications.{IsRefused, IsPublished, IsFinished}
 use Rattle.board.proofs.Steps.{all_ahead, same_pending}
 
-quiet_more : (changes : List BoardChange) (e : Entry) → is_quiet changes ≡ true → is_quiet (changes ++ Prepare e ∷ []) ≡ true
+quiet_more : (changes : List BoardChange) (e : BoardEntry) → is_quiet changes ≡ true → is_quiet (changes ++ Prepare e ∷ []) ≡ true
 quiet_more [] e h = refl
 quiet_more (Prepare d ∷ changes) e h = quiet_more changes e h
 quiet_more (Commit ∷ changes) e h = absurd (true≢false (sym h))
 
-prepared_snoc : (changes : List BoardChange) (e : Entry) → prepared_by (changes ++ Prepare e ∷ []) ≡ prepared_by changes ++ e ∷ []
+prepared_snoc : (changes : List BoardChange) (e : BoardEntry) → prepared_by (changes ++ Prepare e ∷ []) ≡ prepared_by changes ++ e ∷ []
 prepared_snoc [] e = refl
 prepared_snoc (Prepare d ∷ changes) e = ap (λ es. d ∷ es) (prepared_snoc changes e)
 prepared_snoc (Commit ∷ changes) e = prepared_snoc changes e
 
-pending_snoc : (x : Page) (changes : List BoardChange) (e : Entry) → pending_of x (changes ++ Prepare e ∷ []) ≡ pending_of x changes ++ e ∷ []
+pending_snoc : (x : Page) (changes : List BoardChange) (e : BoardEntry) → pending_of x (changes ++ Prepare e ∷ []) ≡ pending_of x changes ++ e ∷ []
 pending_snoc x changes e = ap (λ es. drop (length x.list) x.ahead ++ es) (prepared_snoc changes e) ∙ sym
     (append_assoc (drop (length x.list) x.ahead) (prepared_by changes) (e ∷ []))
 
 -- the change of an entry was taken in, or came back
-abbrev pub Accepts : {A : Type 0} → List BoardChange → List BoardChange → Entry → Result A BoardChange → Type 0
+abbrev pub Accepts : {A : Type 0} → List BoardChange → List BoardChange → BoardEntry → Result A BoardChange → Type 0
 Accepts changes changes' e result = MatchResult result (λ _. changes' ≡ changes ++ Prepare e ∷ []) (λ c. (c ≡ Prepare e) × (changes' ≡ changes))
 
-module _ {A : Type 0} (x : Page) (changes changes' : List BoardChange) (e : Entry) where
+module _ {A : Type 0} (x : Page) (changes changes' : List BoardChange) (e : BoardEntry) where
   pub accepted_quiet : (result : Result A BoardChange) → Accepts changes changes' e result → is_quiet changes ≡ true → is_quiet changes' ≡ true
   accepted_quiet (Ok u) h quiet = ap is_quiet h ∙ quiet_more changes e quiet
   accepted_quiet (Err c) h quiet = ap is_quiet h.1 ∙ quiet
@@ -46,7 +46,7 @@ module _ {A : Type 0} (x : Page) (changes changes' : List BoardChange) (e : Entr
       (ap is_board (sym (append_assoc x.list (pending_of x changes) (e ∷ []))) ∙ more))
   accepted_lawful (Err c) h lawful more = ap (λ cs. is_board (x.list ++ pending_of x cs)) h.1 ∙ lawful
 
-pub pending_more : (x : Page) (changes changes' : List BoardChange) (e : Entry) → changes' ≡ changes ++ Prepare e ∷ []
+pub pending_more : (x : Page) (changes changes' : List BoardChange) (e : BoardEntry) → changes' ≡ changes ++ Prepare e ∷ []
     → pending_of x changes' ≡ pending_of x changes ++ e ∷ []
 pending_more x changes changes' e h = ap (pending_of x) h ∙ pending_snoc x changes e
 
@@ -60,7 +60,7 @@ prepared_twice x y z cs ds es p q = ((q.0.0 ∙ p.0.0, q.0.1 ∙ p.0.1), (q.1.0 
 
 module _ (x z : Page) (changes changes' : List BoardChange) (p : HasPrepared x z changes changes') (longer : IsPrefix x.list x.ahead) where
   pub still_longer : IsPrefix z.list z.ahead
-  still_longer = subst (λ (l : List Entry). IsPrefix l z.ahead) (sym p.0.0) (prefix_trans x.list x.ahead z.ahead longer p.1.1)
+  still_longer = subst (λ (l : List BoardEntry). IsPrefix l z.ahead) (sym p.0.0) (prefix_trans x.list x.ahead z.ahead longer p.1.1)
 
   pub refused : is_quiet changes' ≡ true → IsRefused x changes Memory z changes'
   refused quiet = record {

@@ -1,7 +1,7 @@
 -- What a look tells.
 use Rattle.std.proofs.Common.{◌≡◌, ℕ, ◌≤◌, true, List, [], ◌∷◌, length, Result, Err, IsOk, ap, sym, subst, arith, ◌∙◌}
 use mathlib.Core.List.{IsPrefix}
-use Rattle.board.specs.declared.entry.Entry.{Entry}
+use Rattle.board.specs.declared.entry.BoardEntry.{BoardEntry}
 use Rattle.units.specs.declared.fault.Fault.{Fault}
 use Rattle.units.specs.declared.fault.Fault.TheVariants.{NotYet}
 use Rattle.units.specs.declared.line.Seen.{Seen}
@@ -18,7 +18,7 @@ module _ (viewer : Viewing) (page : Page) (key : List ℕ) (t : ℕ) (buffer : L
       → result ≡ look_answer viewer.home page.list key t (length buffer) → buffer' ≡ look_buffer viewer.home page.list key t buffer
       → LookedBy viewer key t buffer result (record viewer { seen = newest_of known }) buffer'
   looked known buffer' is later told fair answered filled =
-      subst (λ (list : List Entry). LookedBy viewer key t buffer result (record viewer { seen = list }) buffer') (sym (ap newest_of is)) record {
+      subst (λ (list : List BoardEntry). LookedBy viewer key t buffer result (record viewer { seen = list }) buffer') (sym (ap newest_of is)) record {
         later = later;
         told = told;
         lawful = fair.list;

@@ -6,7 +6,7 @@ use mathlib.Core.Option.{some, some-injective, some-ne-none}
 use lib.ListN.{get_elem?}
 use Rattle.crossbeam_utils.specs.Register.{Admits, TurnsAt, Forks, Merges}
 use Rattle.atomic_table.proofs.Lists.{at_set, at_snoc}
-use Rattle.board.specs.declared.entry.Entry.{Entry}
+use Rattle.board.specs.declared.entry.BoardEntry.{BoardEntry}
 use Rattle.board.specs.Board.{is_board, has_safe}
 use Rattle.board.proofs.Longer.{has_safe-more}
 use Rattle.growing.proofs.Prefixes.{prefix_self, prefix_trans}
@@ -94,11 +94,11 @@ merges seat known other told x views kept at apart there =
     )
 
 -- where nothing is shown, the entries are prepared one after the other
-pub fold_quiet : (list ahead : List Entry) (board : BoardId) (changes : List BoardChange) → is_quiet changes ≡ true → fold after_board_change
+pub fold_quiet : (list ahead : List BoardEntry) (board : BoardId) (changes : List BoardChange) → is_quiet changes ≡ true → fold after_board_change
     (list, ahead, board) changes ≡ (list, ahead ++ prepared_by changes, board)
-fold_quiet list ahead board [] quiet = ap (λ (l : List Entry). (list, l, board)) (sym (append-nil ahead))
+fold_quiet list ahead board [] quiet = ap (λ (l : List BoardEntry). (list, l, board)) (sym (append-nil ahead))
 fold_quiet list ahead board (Prepare e ∷ changes) quiet = fold_quiet list (ahead ++ e ∷ []) board changes quiet ∙ ap
-    (λ (l : List Entry). (list, l, board)) (append_assoc ahead (e ∷ []) (prepared_by changes))
+    (λ (l : List BoardEntry). (list, l, board)) (append_assoc ahead (e ∷ []) (prepared_by changes))
 fold_quiet list ahead board (Commit ∷ changes) quiet = absurd (true≢false (sym quiet))
 
 -- where one thread knows of nothing
@@ -141,7 +141,7 @@ commits_on seat known x next changes is commit longer =
     goes_on seat known x next (subst (IsPrefix x.list) (sym list) longer, sym (ap (λ (s : BoardState). s.2) all))
     (λ fair. (ap is_board list ∙ fair.ahead, ap is_board ahead ∙ fair.ahead))
 
-drop_front : (xs ys : List Entry) → drop (length xs) (xs ++ ys) ≡ ys
+drop_front : (xs ys : List BoardEntry) → drop (length xs) (xs ++ ys) ≡ ys
 drop_front [] ys = refl
 drop_front (x ∷ xs) ys = drop_front xs ys
 

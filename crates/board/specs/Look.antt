@@ -5,7 +5,7 @@ use Rattle.units.specs.declared.fault.Fault.{Fault}
 use Rattle.units.specs.declared.fault.Fault.TheVariants.{NotYet, Room, Stranger}
 use Rattle.units.specs.declared.line.Seen.{Seen}
 use Rattle.units.specs.declared.line.Seen.TheVariants.{Absent, Value}
-use Rattle.board.specs.declared.entry.Entry.{Entry}
+use Rattle.board.specs.declared.entry.BoardEntry.{BoardEntry}
 use Rattle.board.specs.declared.home.Home.{Home}
 use Rattle.board.specs.Board.{safe_on, shown_at, is_board}
 
@@ -31,12 +31,12 @@ abbrev pub look_buffer_with : Bool → ℕ → Option Bytes → ℕ → List ℕ
 look_buffer_with here safe value at buffer = if here then (if nat_lt safe at then buffer else buffer_filled value buffer) else buffer
 
 -- a look for a key at a timestamp: the answer, and the buffer afterwards
-abbrev pub look_answer : Home → List Entry → Bytes → ℕ → ℕ → Result Seen Fault
+abbrev pub look_answer : Home → List BoardEntry → Bytes → ℕ → ℕ → Result Seen Fault
 look_answer home entries key at room = look_answer_with (is_at_home home key) (safe_on entries) (shown_at entries key at) at room
 
-abbrev pub look_buffer : Home → List Entry → Bytes → ℕ → List ℕ → List ℕ
+abbrev pub look_buffer : Home → List BoardEntry → Bytes → ℕ → List ℕ → List ℕ
 look_buffer home entries key at buffer = look_buffer_with (is_at_home home key) (safe_on entries) (shown_at entries key at) at buffer
 
 -- every longer list of the board gives the same value of the key at the timestamp
-abbrev pub AnswerStays : Bytes → ℕ → List Entry → Type 0
-AnswerStays key at entries = (more : List Entry) → is_board (entries ++ more) ≡ true → shown_at (entries ++ more) key at ≡ shown_at entries key at
+abbrev pub AnswerStays : Bytes → ℕ → List BoardEntry → Type 0
+AnswerStays key at entries = (more : List BoardEntry) → is_board (entries ++ more) ≡ true → shown_at (entries ++ more) key at ≡ shown_at entries key at

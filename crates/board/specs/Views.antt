@@ -1,7 +1,7 @@
 -- What a contract sees of a viewer, of a publisher and of news.
 use Rattle.std.specs.Prelude.{◌≡◌, ℕ, true, List, [], ◌∷◌, ◌++◌, length, All, Result, MatchResult, IsOk}
 use mathlib.Core.List.{IsPrefix}
-use Rattle.board.specs.declared.entry.Entry.{Entry}
+use Rattle.board.specs.declared.entry.BoardEntry.{BoardEntry}
 use Rattle.board.specs.declared.home.Home.{Home}
 use Rattle.units.specs.declared.fault.Fault.{Fault}
 use Rattle.units.specs.declared.fault.Fault.TheVariants.{Memory}
@@ -15,23 +15,23 @@ use Rattle.board.specs.OneList.{SeenStates}
 -- A new viewer has the list that the board began with for both.
 pub record Viewing : Type 0 where
   pub board : BoardId
-  pub seen : List Entry
-  pub told : List Entry
+  pub seen : List BoardEntry
+  pub told : List BoardEntry
   pub home : Home
 
 -- a viewer that knows of a list, and of no longer one
-abbrev pub new_viewer : BoardId → List Entry → Home → Viewing
+abbrev pub new_viewer : BoardId → List BoardEntry → Home → Viewing
 new_viewer board list home = record { board = board; seen = list; told = list; home = home }
 
 -- so many viewers, all alike
 abbrev pub AreViewers : ℕ → Viewing → List Viewing → Type 0
 AreViewers n viewer viewers = (length viewers ≡ n) × All (λ v. v ≡ viewer) viewers
 
-abbrev pub newest_of : SeenStates → List Entry
+abbrev pub newest_of : SeenStates → List BoardEntry
 newest_of [] = []
 newest_of (s ∷ ss) = s.0
 
-abbrev pub ahead_of : SeenStates → List Entry
+abbrev pub ahead_of : SeenStates → List BoardEntry
 ahead_of [] = []
 ahead_of (s ∷ ss) = s.1
 
@@ -53,15 +53,15 @@ pub record LookedBy
 -- What a contract sees of a publisher: the board, the list that viewers see, and the entries that were accepted since.
 pub record Publishing : Type 0 where
   pub board : BoardId
-  pub published : List Entry
-  pub pending : List Entry
+  pub published : List BoardEntry
+  pub pending : List BoardEntry
 
 -- the entry may be accepted: the list with it is a board's
-abbrev pub MayAccept : Publishing → Entry → Type 0
+abbrev pub MayAccept : Publishing → BoardEntry → Type 0
 MayAccept p entry = is_board (p.published ++ p.pending ++ entry ∷ []) ≡ true
 
 -- one more entry is accepted
-abbrev pub accepting : Publishing → Entry → Publishing
+abbrev pub accepting : Publishing → BoardEntry → Publishing
 accepting p entry = record p { pending = p.pending ++ entry ∷ [] }
 
 -- all that was accepted is published
@@ -71,7 +71,7 @@ publishing_all p = record p { published = p.published ++ p.pending; pending = []
 -- What a contract sees of news: the board and a list that it has published.
 pub record Published : Type 0 where
   pub board : BoardId
-  pub list : List Entry
+  pub list : List BoardEntry
 
 -- the news of what is published
 abbrev pub news_of : Publishing → Published

@@ -7,7 +7,7 @@ ghost use Rattle.board.specs.State.{AddsVersion, Takes};
 ghost use Rattle.units.specs.Versions.{at_time};
 
 use crate::change::BoardChange;
-use crate::entry::{Entry, copy_install};
+use crate::entry::{BoardEntry, copy_install};
 use crate::home::Home;
 use growing::{Beginning, Growing};
 use left_right::Absorb;
@@ -19,9 +19,9 @@ use versions::{Versions, place_does_not_matter};
 /// What readers see. The list of entries itself exists in proofs alone.
 #[derive(Drop)]
 pub struct BoardCopy {
-    list: Growing<Entry>,
+    list: Growing<BoardEntry>,
     // The list with the entries that are prepared.
-    ahead: Growing<Entry>,
+    ahead: Growing<BoardEntry>,
     second: bool,
     // The versions of that list. Those that are only prepared are above each timestamp at which it is looked.
     versions: Versions,
@@ -49,7 +49,7 @@ impl Absorb<BoardChange> for BoardCopy {
     ghost use Rattle.board.specs.State.{board_state, after_board_change};
 
     // A clause reads an array as a list, of any length.
-    type State = ([Entry; 0], [Entry; 0], (u64, u64));
+    type State = ([BoardEntry; 0], [BoardEntry; 0], (u64, u64));
 
     ghost state = { board_state };
 
@@ -72,8 +72,8 @@ impl Absorb<BoardChange> for BoardCopy {
 impl BoardCopy {
     pub(crate) fn new(
         alloc: Global,
-        list: Growing<Entry>,
-        ahead: Growing<Entry>,
+        list: Growing<BoardEntry>,
+        ahead: Growing<BoardEntry>,
         second: bool,
     ) -> BoardCopy
         requires { (list.entries ≡ []) × (ahead.entries ≡ []) × (list.second ≡ second) }
@@ -91,15 +91,15 @@ impl BoardCopy {
     }
 
     /// Prepares a copy of the entry. One that breaks the rule of boards is not taken.
-    pub(crate) fn prepare(&mut self, entry: &Entry) -> Result<(), Fault>
+    pub(crate) fn prepare(&mut self, entry: &BoardEntry) -> Result<(), Fault>
         ensures { Takes self.old (record self.old { ahead = self.old.ahead ++ entry.now ∷ [] }) result self.new }
     {
         match entry {
-            Entry::Installed(install) => {
+            BoardEntry::Installed(install) => {
                 add_version(&mut self.versions, self.alloc, install)?;
                 self.ahead.add(entry);
             }
-            Entry::Safe(at) => {
+            BoardEntry::Safe(at) => {
                 self.prepared_safe = *at;
                 self.ahead.add(entry);
             }
@@ -124,10 +124,10 @@ impl BoardCopy {
     {
         let alloc = self.alloc;
         for install in installs {
-            let entry = Entry::Installed(copy_install(install, alloc)?);
+            let entry = BoardEntry::Installed(copy_install(install, alloc)?);
             self.prepare(&entry)?;
         }
-        self.prepare(&Entry::Safe(safe))?;
+        self.prepare(&BoardEntry::Safe(safe))?;
         self.commit();
         Ok(self)
     }
@@ -146,14 +146,14 @@ impl BoardCopy {
     }
 
     /// The list so far.
-    pub(crate) fn so_far(&self) -> Beginning<Entry>
+    pub(crate) fn so_far(&self) -> Beginning<BoardEntry>
         ensures { (result.entries ≡ self.now.list) × (result.names ≡ self.now.board) × (result.second ≡ self.now.second) }
     {
         self.list.so_far()
     }
 
     /// The list begins with a list that both copies of the board have had.
-    pub(crate) fn begins_with(&self, first: &Beginning<Entry>, second: &Beginning<Entry>)
+    pub(crate) fn begins_with(&self, first: &Beginning<BoardEntry>, second: &Beginning<BoardEntry>)
         requires sides { (first.now.second ≡ false) × (second.now.second ≡ true) }
         requires same { (second.now.names ≡ first.now.names) × (second.now.entries ≡ first.now.entries) }
         requires board { first.now.names ≡ self.now.board }

@@ -9,7 +9,7 @@ ghost use Rattle.board.specs.Publications.{IsPublished, IsFinished};
 
 use crate::board_copy::BoardCopy;
 use crate::change::BoardChange;
-use crate::entry::Entry;
+use crate::entry::BoardEntry;
 use crate::rule::{OneList, SeenStates, SeesList};
 use crate::told::Told;
 use left_right::writer::Writer;
@@ -148,7 +148,7 @@ impl Press {
     }
 
     /// Accepts an entry, which viewers see once it is published.
-    pub(crate) fn add(&mut self, entry: Entry) -> Result<(), Fault>
+    pub(crate) fn add(&mut self, entry: BoardEntry) -> Result<(), Fault>
         requires { MayAccept self.old entry }
         ensures { Takes self.old (accepting self.old entry) result self.new }
     {

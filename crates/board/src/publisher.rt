@@ -3,7 +3,7 @@ ghost use Rattle.std.specs.Prelude.{◌≡◌};
 ghost use Rattle.board.specs.State.{Takes};
 ghost use Rattle.board.specs.Views.{MayAccept, accepting, PublishesAll};
 
-use crate::entry::Entry;
+use crate::entry::BoardEntry;
 use crate::press::Press;
 use crate::told::Told;
 use std::marker::Model;
@@ -47,7 +47,7 @@ impl<R: Wait + Drop> Publisher<R> {
     }
 
     /// Accepts an entry, which viewers see once it is published.
-    fn add(&mut self, entry: Entry) -> Result<(), Fault>
+    fn add(&mut self, entry: BoardEntry) -> Result<(), Fault>
         requires { MayAccept self.old entry }
         ensures { Takes self.old (accepting self.old entry) result self.new }
     {
@@ -59,18 +59,18 @@ impl<R: Wait + Drop> Publisher<R> {
 
     /// Accepts a version.
     pub fn install(&mut self, install: Install) -> Result<(), Fault>
-        requires { MayAccept self.old (Entry.Installed install) }
-        ensures { Takes self.old (accepting self.old (Entry.Installed install)) result self.new }
+        requires { MayAccept self.old (BoardEntry.Installed install) }
+        ensures { Takes self.old (accepting self.old (BoardEntry.Installed install)) result self.new }
     {
-        self.add(Entry::Installed(install))
+        self.add(BoardEntry::Installed(install))
     }
 
     /// Accepts a timestamp up to which looks are answered.
     pub fn safe(&mut self, at: Stamp) -> Result<(), Fault>
-        requires { MayAccept self.old (Entry.Safe at) }
-        ensures { Takes self.old (accepting self.old (Entry.Safe at)) result self.new }
+        requires { MayAccept self.old (BoardEntry.Safe at) }
+        ensures { Takes self.old (accepting self.old (BoardEntry.Safe at)) result self.new }
     {
-        self.add(Entry::Safe(at))
+        self.add(BoardEntry::Safe(at))
     }
 
     /// Shows viewers the accepted entries too, all at one step. It waits for viewers that still look at the former list.

@@ -1,12 +1,12 @@
 //! The rule of a board, and what its steps tell.
 use crate::board_copy::BoardCopy;
-use crate::entry::Entry;
+use crate::entry::BoardEntry;
 use atomic_table::{Join, Split};
 use crossbeam_utils::rule::{Outcome, Protocol};
 
 /// The states of the board that a thread knows of: a list of entries, that list with what is prepared, and which board it is.
 /// No value of it is made: a clause reads an array as a list, of any length.
-pub type SeenStates = [([Entry; 0], [Entry; 0], (u64, u64)); 0];
+pub type SeenStates = [([BoardEntry; 0], [BoardEntry; 0], (u64, u64)); 0];
 
 /// A board has one list, which only grows.
 pub struct OneList;

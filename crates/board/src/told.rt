@@ -2,7 +2,7 @@
 ghost use Rattle.std.specs.Prelude.{◌≡◌, true, false};
 ghost use Rattle.board.specs.Board.{safe_on};
 
-use crate::entry::Entry;
+use crate::entry::BoardEntry;
 use growing::Beginning;
 use std::marker::Model;
 use units::Stamp;
@@ -10,8 +10,8 @@ use units::Stamp;
 /// A list that a publisher has published, as both copies of the board have had it. It takes no room for the list.
 #[derive(Drop)]
 pub struct Told {
-    pub(crate) first: Beginning<Entry>,
-    pub(crate) second: Beginning<Entry>,
+    pub(crate) first: Beginning<BoardEntry>,
+    pub(crate) second: Beginning<BoardEntry>,
     safe: Stamp,
 }
 
@@ -29,7 +29,7 @@ impl Model for Told {
 }
 
 impl Told {
-    pub(crate) fn of(first: Beginning<Entry>, second: Beginning<Entry>, safe: Stamp) -> Told
+    pub(crate) fn of(first: Beginning<BoardEntry>, second: Beginning<BoardEntry>, safe: Stamp) -> Told
         requires sides { (first.second ≡ false) × (second.second ≡ true) }
         requires same { (second.names ≡ first.names) × (second.entries ≡ first.entries) }
         requires safe { safe ≡ safe_on first.entries }

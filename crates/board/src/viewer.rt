@@ -8,7 +8,7 @@ ghost use Rattle.std.specs.Arc.{arc_value};
 ghost use Rattle.left_right.specs.Sides.{view};
 
 use crate::board_copy::BoardCopy;
-use crate::entry::Entry;
+use crate::entry::BoardEntry;
 use crate::home::Home;
 use crate::rule::{OneList, SeenStates, SeesList};
 use crate::told::Told;
@@ -25,8 +25,8 @@ pub struct Viewer {
     reader: Option<Reader<BoardCopy, SeenStates, OneList>>,
     home: Arc<Home, Global>,
     // The longest list that was told, as the two copies have had it.
-    first: Beginning<Entry>,
-    second: Beginning<Entry>,
+    first: Beginning<BoardEntry>,
+    second: Beginning<BoardEntry>,
 }
 
 impl Model for Viewer {

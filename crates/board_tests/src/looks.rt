@@ -1,6 +1,6 @@
 //! What viewers are answered, by a publisher beside them.
 ghost use Rattle.std.specs.Prelude.{◌≡◌, [], ◌∷◌, IfOk};
-ghost use Rattle.board.specs.declared.entry.Entry.TheVariants.{Safe};
+ghost use Rattle.board.specs.declared.entry.BoardEntry.TheVariants.{Safe};
 
 use board::{Publisher, Viewer, start};
 use std::alloc::Global;

@@ -1,6 +1,6 @@
 use Rattle.std.proofs.Common.{ap, map, ◌∙◌}
 use Rattle.board.specs.Board.{has_safe, is_board}
-use Rattle.board.specs.declared.entry.Entry.TheVariants.{Installed}
+use Rattle.board.specs.declared.entry.BoardEntry.TheVariants.{Installed}
 use Rattle.board.proofs.Longer.{has_safe-snoc}
 use Rattle.board.specs.State.{board_state}
 use Rattle.board.proofs.Steps.{knows_nothing}

@@ -1,5 +1,5 @@
 use Rattle.std.proofs.Common.{◌≡◌, map, take}
-use Rattle.board.specs.declared.entry.Entry.TheVariants.{Installed}
+use Rattle.board.specs.declared.entry.BoardEntry.TheVariants.{Installed}
 use Rattle.board.proofs.board_copy.BoardCopy.open.Given as goal
 
 -- the installs so far
