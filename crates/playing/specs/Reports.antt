@@ -9,7 +9,7 @@ use Rattle.world.specs.Lawful.{first_unlawful_from, lawful}
 use Rattle.world.specs.declared.event.Config.{Config}
 use Rattle.world.specs.declared.event.Event.{Event}
 use Rattle.world.specs.declared.event.Reply.{Reply}
-use Rattle.world.specs.declared.playing.Report.{Report}
+use Rattle.playing.specs.declared.plays.Report.{Report}
 use Rattle.world.specs.declared.run.Run.{Run}
 
 -- the events are lawful, and the report has the replies, the messages, the logs and the lines of their run

@@ -1,6 +1,6 @@
 use Rattle.std.proofs.Common.{◌<◌, length, arith, rules}
-use Rattle.world.proofs.Playings.{next_played, none_next, none_played}
-use Rattle.world.proofs.playing.play_all.Goals as goal
+use Rattle.playing.proofs.Playings.{next_played, none_next, none_played}
+use Rattle.playing.proofs.plays.play_all.Goals as goal
 
 pub loop-number-init : goal.loop-number-init
 loop-number-init c config h = none_played config c.args.run.now c.args.replies.now.items h c.requires.none

@@ -1,7 +1,7 @@
 use Rattle.std.proofs.Common.{sym, ◌∙◌, ap}
 use Rattle.units.specs.declared.fault.Fault.TheVariants.{BadRequest}
-use Rattle.world.proofs.Playings.{not_fair}
-use Rattle.world.proofs.playing.lawful.Goals as goal
+use Rattle.playing.proofs.Playings.{not_fair}
+use Rattle.playing.proofs.plays.lawful.Goals as goal
 
 pub returns-in-Err-BadRequest-Unlawful-clause-answer : goal.returns-in-Err-BadRequest-Unlawful-clause-answer
 returns-in-Err-BadRequest-Unlawful-clause-answer c =

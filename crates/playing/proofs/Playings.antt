@@ -13,13 +13,13 @@ use Rattle.world.specs.Steady.{IsSteady}
 use Rattle.world.specs.Comes.{Comes, IsRun, Takes}
 use Rattle.world.specs.Fleet.{AreShards}
 use Rattle.world.specs.Hosts.{Hosts}
-use Rattle.world.specs.Reports.{IsNoReport, IsReport, IsUnlawful, Plays, Reports}
+use Rattle.playing.specs.Reports.{IsNoReport, IsReport, IsUnlawful, Plays, Reports}
 use Rattle.world.proofs.EveryRun.{is_steady}
 use Rattle.world.proofs.Untouched.{counts_one, same_event}
 use Rattle.world.specs.declared.event.Config.{Config}
 use Rattle.world.specs.declared.event.Event.{Event}
 use Rattle.world.specs.declared.event.Reply.{Reply}
-use Rattle.world.specs.declared.playing.Report.{Report}
+use Rattle.playing.specs.declared.plays.Report.{Report}
 use Rattle.world.specs.declared.run.Run.{Run}
 
 run_more : (w : World) (es : List Event) (e : Event) → run_from w (es ++ e ∷ []) ≡ (happens (run_from w es) e).0
@@ -92,42 +92,6 @@ module _ (config : Config) (es : List Event) (r new : Run) (answers : List Reply
   unfolding run lawful
   none_more e rest fault (inl memory) = inl memory
   none_more e rest fault (inr t) = inr ((run config es).event, t.0, unlawful_at (start config) es e rest h.fair t.1)
-
--- an event that may happen has happened
-module _ (w : World) (e : Event) (number : ℕ) (at : w.event ≡ number) where
-  pub happened : (mid new : Run) (reply : Reply) → may_happen w e ≡ true → Comes (number + 1) (acts w e.act) mid (Ok reply) →
-      new.sessions ≡ mid.sessions → new.shards ≡ mid.shards
-      → new.past.bag ≡ mid.past.bag → new.past.told ≡ mid.past.told → new.past.lines ≡ mid.past.lines → new.past.event ≡ number + 1 →
-      new.time ≡ e.time → Takes w e new (Ok reply)
-  unfolding happens
-  happened mid new reply may comes sessions shards bag told lines event time =
-      let after : World = (acts w e.act).0 in
-      let h = comes.1 in
-      let same = same_event w e.act in (
-        may,
-        (
-          comes.0,
-          record {
-            sessions = subst (λ s. Hosts after.config.splits s after.clients) (sym sessions) h.sessions;
-            shards = subst (λ n. AreShards after.config (n + 1) new.shards after.shards) (sym at)
-                (subst (λ s. AreShards after.config (number + 1) s after.shards) (sym shards) h.shards);
-            past = record {
-              bag = bag ∙ h.past.bag;
-              told = ap (λ ts. ts.items) told ∙ h.past.told;
-              lines = ap (λ ls. ls.items) lines
-                  ∙ h.past.lines;
-              event = omega (arith, event, same, at);
-            };
-            time = time;
-          },
-        ),
-      )
-
-  pub refused_here : (new : Run) → may_happen w e ≡ false → Takes w e new (Err (BadRequest (Unlawful number)))
-  refused_here new may = inr (ap (λ n. BadRequest (Unlawful n)) (sym at), may)
-
-  pub acts_may : may_happen w e ≡ true → may_act w e.time e.act ≡ true
-  acts_may may = (and_parts (nat_le w.time e.time) (may_act w e.time e.act) may).1
 
 -- ---- the events before a place, and the one there
 

@@ -5,7 +5,8 @@ ghost use Rattle.world.specs.Crashless.{are_crashless, is_crashless};
 use crate::steps::{Timed, events};
 use std::alloc::Global;
 use units::{Fault, Key, Splits, Stride};
-use world::{Act, Config, Doing, Event, Report, lawful, play};
+use playing::{Report, lawful, play};
+use world::{Act, Config, Doing, Event};
 
 // Neither a crash, nor a failing call, nor an opening.
 fn is_crashless(act: &Act) -> bool

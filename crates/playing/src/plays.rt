@@ -4,16 +4,14 @@ ghost use Rattle.world.specs.World.{World, start};
 ghost use Rattle.world.specs.Lawful.{lawful};
 ghost use Rattle.world.specs.Crashless.{are_crashless};
 ghost use Rattle.world.specs.Comes.{IsRun};
-ghost use Rattle.world.specs.Reports.{IsNoReport, IsReport, Plays, Reports};
+ghost use Rattle.playing.specs.Reports.{IsNoReport, IsReport, Plays, Reports};
 ghost use Rattle.world.specs.declared.event.Config.{Config};
 
-use crate::counting::counted;
-use crate::run::Run;
-use crate::{Config, Event, Reply};
 use bag::Bag;
 use record::Record;
 use std::alloc::Global;
 use units::{Fault, Line, Reason};
+use world::{Config, Event, Reply, Run, counted};
 
 /// The number of events from which on a list is refused: so many might fill a log.
 const LIMIT: usize = 1 << 19;
