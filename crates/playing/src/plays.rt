@@ -18,7 +18,7 @@ const LIMIT: usize = 1 << 19;
 
 /// What a run comes to: the reply to each event, every message that was put out, the log of each shard as a read of its disk
 /// gives it, and the lines that count. A line of a read counts where its transaction committed.
-#[derive(Debug, Drop)]
+#[derive(Drop)]
 pub struct Report {
     pub replies: Vec<Reply>,
     pub bag: Bag,
