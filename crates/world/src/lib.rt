@@ -8,7 +8,7 @@ mod event;
 mod fleet;
 mod hosting;
 mod lawfulness;
-mod past;
+mod output;
 mod playing;
 mod run;
 mod running;
