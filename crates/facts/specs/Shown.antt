@@ -23,7 +23,7 @@ meant None = Unrecorded
 meant (Some s) = meaning s
 
 -- the entries that are meant
-abbrev pub shown_entries : List (Id × Status) → List facts.Entry
+abbrev pub shown_entries : List (Id × Status) → List facts.TxnStatus
 shown_entries es = map (λ e. record { txn = e.0; status = meaning e.1 }) es
 
 -- each id is older than all behind it
@@ -31,5 +31,5 @@ abbrev pub AscendsById : List (Id × Status) → Type 0
 AscendsById es = IsById (λ e. e.0) es
 
 -- the status of an id among some entries
-abbrev pub status_in : List facts.Entry → Id → records.Status
+abbrev pub status_in : List facts.TxnStatus → Id → records.Status
 status_in es t = facts.or_unrecorded (first (λ e. same_id e.txn t) es)

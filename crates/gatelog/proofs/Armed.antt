@@ -5,8 +5,8 @@ use Rattle.std.specs.Prelude.{IsTrue, OnOk, IsOk, IsErr, nat_le, nat_lt}
 use Rattle.std.proofs.lemmas.Bool.{cases_eq, eq-eqb, ne_eqb, false≢true, le-leb, lt-leb, le-ltb}
 use Rattle.record.specs.declared.record.Record.{Record}
 use Rattle.record.specs.Grammar.{IsRecord}
-use Rattle.disk.specs.declared.plan.Plan.{Plan}
-use Rattle.disk.specs.declared.plan.Plan.TheVariants.{Never, After, AfterWrite}
+use Rattle.disk.specs.declared.plan.FailurePlan.{FailurePlan}
+use Rattle.disk.specs.declared.plan.FailurePlan.TheVariants.{Never, After, AfterWrite}
 use Rattle.disk.specs.declared.plan.Fate.{Fate}
 use Rattle.disk.specs.declared.plan.Fate.TheVariants.{Old, New, Filled}
 use Rattle.disk.specs.Image.{MayLeave, IsSynced, with_bytes, tried_write}
@@ -119,7 +119,7 @@ late_file call gate bytes file le =
     let late = late_calls call le in
     let half = two_made (AfterWrite call) (gate + 1) bytes file in
     ap (λ (b : Bool). if b then half else two_made (after_two (AfterWrite call)) gate (open_gate ∷ []) half) late.0
-    ∙ ap (λ (p : Plan). two_made p gate (open_gate ∷ []) half) late.1
+    ∙ ap (λ (p : FailurePlan). two_made p gate (open_gate ∷ []) half) late.1
     ∙ two_whole (call - 1 - 1) gate (open_gate ∷ []) half (omega (arith, le))
     ∙ ap (λ (f : File). synced (with_change (wrote gate (open_gate ∷ [])) f)) (two_whole call (gate + 1) bytes file (omega (arith, le)))
 

@@ -3,7 +3,7 @@
 ghost use Rattle.std.specs.Prelude.{◌≡◌, ◌⊎◌, ◌+◌, ◌≤◌, ◌<◌, ◌^◌, [], length, IsTrue, IsFalse, IfOk, IfErr, IsOk, OnOk, ℕ, nat_lt, Ok, Err};
 ghost use Rattle.disk.specs.Image.{MayLeave, IsSynced, after_sync};
 ghost use Rattle.disk.specs.File.{surface, synced};
-ghost use Rattle.disk.specs.declared.plan.Plan.TheVariants.{Never, AfterWrite};
+ghost use Rattle.disk.specs.declared.plan.FailurePlan.TheVariants.{Never, AfterWrite};
 ghost use Rattle.disk.specs.Planned.{IsAsPlanned, armed};
 ghost use Rattle.disk.specs.Moments.{LeavesOnly, HasCause};
 ghost use Rattle.gatelog.specs.Armed.{fails_in_append, appended, IsArmed};

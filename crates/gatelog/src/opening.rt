@@ -1,7 +1,7 @@
 //! Reading a log from its file.
 ghost use Rattle.std.specs.Prelude.{◌≡◌, ◌⊎◌, ◌<◌, ◌≤◌, ◌+◌, Ok, Err, length, IsTrue, IfOk, IfErr, IfSome, OnOk, MatchResult};
 ghost use Rattle.disk.specs.Image.{MayLeave, after_sync};
-ghost use Rattle.disk.specs.declared.plan.Plan.TheVariants.{Never};
+ghost use Rattle.disk.specs.declared.plan.FailurePlan.TheVariants.{Never};
 ghost use Rattle.disk.specs.File.{surface, synced};
 ghost use Rattle.disk.specs.Moments.{LeavesOnly};
 ghost use Rattle.gatelog.specs.Log.{framed, scan, is_no_log};

@@ -10,10 +10,10 @@ ghost use Rattle.memory.specs.Carry.{IsFit, MayTurn, may_end};
 ghost use Rattle.memory.specs.Kept.{start_of, standing_of, IsPlanned};
 ghost use Rattle.memory.specs.Plans.{plan_of};
 
-use memory::{Past, Plan, State, ask_to};
+use memory::{PastStanding, Plan, State, ask_to};
 use message::Outcome;
 use record::Record;
-use rows::{Prepared, Row, Wait};
+use rows::{Row, RowPrepared, Wait};
 use std::alloc::Global;
 use units::{Fault, TxnId};
 
@@ -73,24 +73,24 @@ fn outcome_without_row(
     state: &State,
     alloc: Global,
     told: &Outcome,
-    past: Past,
+    past: PastStanding,
 ) -> Result<Plan, Fault>
     requires { may_end state.now.memory.rows told.now.txn ≡ true }
     ensures planned { IsPlanned state.now (plan_outcome (start_of state.now) told.now.from told.now.txn told.now.outcome (standing_of past)) result }
     ensures fit { IfOk result (IsFit state.now) }
 {
     match past {
-        Past::Unknown => match told.outcome {
+        PastStanding::Unknown => match told.outcome {
             Some(_) => Err(Fault::Stranger),
             None => state.ends_reading(alloc, told.txn, None),
         },
-        Past::Ended | Past::Closed { .. } => Ok(state.idles(alloc)),
-        Past::Aborted | Past::Settled { .. } => Err(Fault::Stranger),
+        PastStanding::Ended | PastStanding::Closed { .. } => Ok(state.idles(alloc)),
+        PastStanding::Aborted | PastStanding::Settled { .. } => Err(Fault::Stranger),
     }
 }
 
 // The outcome comes from the promise's coordinator, and is not below its timestamp.
-fn is_outcome_for(prepared: &Prepared, told: &Outcome) -> bool
+fn is_outcome_for(prepared: &RowPrepared, told: &Outcome) -> bool
     ensures { result ≡ is_outcome_for told.now.from prepared.now.coordinator prepared.now.at told.now.outcome }
 {
     if told.from != prepared.coordinator() {

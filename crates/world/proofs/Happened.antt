@@ -17,7 +17,7 @@ use Rattle.world.specs.declared.run.Run.{Run}
 module _ (w : World) (e : Event) (number : ℕ) (at : w.event ≡ number) where
   pub happened : (mid new : Run) (reply : Reply) → may_happen w e ≡ true → Comes (number + 1) (acts w e.act) mid (Ok reply) →
       new.sessions ≡ mid.sessions → new.shards ≡ mid.shards
-      → new.past.bag ≡ mid.past.bag → new.past.told ≡ mid.past.told → new.past.lines ≡ mid.past.lines → new.past.event ≡ number + 1 →
+      → new.output.bag ≡ mid.output.bag → new.output.told ≡ mid.output.told → new.output.lines ≡ mid.output.lines → new.output.event ≡ number + 1 →
       new.time ≡ e.time → Takes w e new (Ok reply)
   unfolding happens
   happened mid new reply may comes sessions shards bag told lines event time =
@@ -31,11 +31,11 @@ module _ (w : World) (e : Event) (number : ℕ) (at : w.event ≡ number) where
             sessions = subst (λ s. Hosts after.config.splits s after.clients) (sym sessions) h.sessions;
             shards = subst (λ n. AreShards after.config (n + 1) new.shards after.shards) (sym at)
                 (subst (λ s. AreShards after.config (number + 1) s after.shards) (sym shards) h.shards);
-            past = record {
-              bag = bag ∙ h.past.bag;
-              told = ap (λ ts. ts.items) told ∙ h.past.told;
+            output = record {
+              bag = bag ∙ h.output.bag;
+              told = ap (λ ts. ts.items) told ∙ h.output.told;
               lines = ap (λ ls. ls.items) lines
-                  ∙ h.past.lines;
+                  ∙ h.output.lines;
               event = omega (arith, event, same, at);
             };
             time = time;

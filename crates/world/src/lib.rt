@@ -8,7 +8,7 @@ mod event;
 mod fleet;
 mod hosting;
 mod lawfulness;
-mod past;
+mod output;
 mod run;
 mod running;
 mod view;

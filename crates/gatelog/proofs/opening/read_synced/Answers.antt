@@ -1,6 +1,6 @@
 use Rattle.std.proofs.Common.{◌≡◌, inr, sym, ◌∙◌, ap}
 use Rattle.std.proofs.lemmas.Bool.{false≢true}
-use Rattle.disk.specs.declared.plan.Plan.TheVariants.{Never}
+use Rattle.disk.specs.declared.plan.FailurePlan.TheVariants.{Never}
 use Rattle.disk.specs.Planned.{fails, next}
 use Rattle.gatelog.proofs.Armed.{planned_err, synced_unless}
 use Rattle.gatelog.proofs.opening.read_synced.Goals as goal

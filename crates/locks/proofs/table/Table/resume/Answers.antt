@@ -36,6 +36,6 @@ returns-in_err-make_room-clause-succeeds c = λ fits.
     let items = c.self.inside.entries.items in
     let most = ap (λ (t : List Claim). most_held t c.args.held.now.txn (needs_in_table t c.args.held.now.txn)) (sym c.self.view_is)
     ∙ ap (λ (h : Token). most_held items h.txn (needs_in_table items h.txn)) (sym c.held.view_is)
-    ∙ resumed_at_place c.held.inside.txn items c.place-at.result c.index-entry.result.now (cc) (omega arith) c.index-entry.ensures in
+    ∙ resumed_at_place c.held.inside.txn items c.place-at.result c.index-claim.result.now (cc) (omega arith) c.index-claim.ensures in
     let spare = ap (λ (h : Token). h.room) c.held.view_is in
     absurd (false≢true (c.in_err-make_room.ensures.succeeds (omega (arith, c.held_count.ensures, c.needs_count.ensures, most, spare, fits))))

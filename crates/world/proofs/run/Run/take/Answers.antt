@@ -14,11 +14,11 @@ returns c w at h steady =
     let new : Run = record {
       sessions = mid.sessions;
       shards = mid.shards;
-      past = record {
-        bag = mid.past.bag;
-        told = mid.past.told;
+      output = record {
+        bag = mid.output.bag;
+        told = mid.output.told;
         lines =
-            mid.past.lines;
+            mid.output.lines;
         event = number + 1;
       };
       time = e.time;

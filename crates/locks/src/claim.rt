@@ -14,14 +14,14 @@ use units::{Key, Lock, TxnId};
 
 /// A transaction in the table: what it holds, what it waits for, and whether it is firm.
 #[derive(Drop)]
-pub struct Entry {
+pub struct Claim {
     txn: TxnId,
     held: Vec<Lock>,
     needs: Vec<Lock>,
     firm: bool,
 }
 
-impl Model for Entry {
+impl Model for Claim {
     ghost use Rattle.units.specs.Locks.{Claim};
 
     ghost Value = { Claim };
@@ -29,11 +29,11 @@ impl Model for Entry {
     ghost view = { λ e. record { txn = e.txn; held = e.held.items; needs = e.needs.items; firm = e.firm } };
 }
 
-impl Entry {
-    pub fn new(alloc: Global, txn: TxnId) -> Entry
+impl Claim {
+    pub fn new(alloc: Global, txn: TxnId) -> Claim
         ensures { result ≡ entrant txn }
     {
-        Entry {
+        Claim {
             txn,
             held: Vec::new(alloc),
             needs: Vec::new(alloc),
@@ -97,7 +97,7 @@ impl Entry {
     }
 
     /// It waits, and its wait would be granted now.
-    pub fn can_go(&self, table: &[Entry]) -> bool
+    pub fn can_go(&self, table: &[Claim]) -> bool
         ensures { result ≡ can_go table.now self.now }
     {
         self.is_waiting() && !is_blocked(table, self.txn, &self.needs)
@@ -146,30 +146,30 @@ impl Entry {
 }
 
 /// Whether a request has to wait for some claim.
-pub fn is_blocked(table: &[Entry], txn: TxnId, needs: &[Lock]) -> bool
+pub fn is_blocked(table: &[Claim], txn: TxnId, needs: &[Lock]) -> bool
     ensures { result ≡ is_blocked txn needs.now table.now }
 {
-    table.iter().any(|entry| entry.stands_in_way(txn, needs))
+    table.iter().any(|claim| claim.stands_in_way(txn, needs))
 }
 
 /// Whether a request ends some transaction.
-pub fn is_wounding(table: &[Entry], txn: TxnId, needs: &[Lock]) -> bool
+pub fn is_wounding(table: &[Claim], txn: TxnId, needs: &[Lock]) -> bool
     ensures { result ≡ is_wounding txn needs.now table.now }
 {
-    table.iter().any(|entry| entry.gives_way(txn, needs))
+    table.iter().any(|claim| claim.gives_way(txn, needs))
 }
 
 /// Whether a request waits for some claim of one that it does not end.
-pub fn is_kept_out(table: &[Entry], txn: TxnId, needs: &[Lock]) -> bool
+pub fn is_kept_out(table: &[Claim], txn: TxnId, needs: &[Lock]) -> bool
     ensures { result ≡ is_kept_out txn needs.now table.now }
 {
-    table.iter().any(|entry| entry.keeps_out(txn, needs))
+    table.iter().any(|claim| claim.keeps_out(txn, needs))
 }
 
 /// Whom a request ends, the oldest first.
 pub fn wounded(
     alloc: Global,
-    table: &[Entry],
+    table: &[Claim],
     txn: TxnId,
     needs: &[Lock],
 ) -> Result<Vec<TxnId>, AllocError>
@@ -177,28 +177,28 @@ pub fn wounded(
 {
     table
         .iter()
-        .filter(|entry| entry.gives_way(txn, needs))
-        .map(|entry| entry.txn())
+        .filter(|claim| claim.gives_way(txn, needs))
+        .map(|claim| claim.txn())
         .collect(alloc)
 }
 
 /// The oldest that waits and would be granted now.
-pub fn ready(table: &[Entry]) -> Option<TxnId>
+pub fn ready(table: &[Claim]) -> Option<TxnId>
     ensures { result ≡ first_to_go table.now }
 {
     table
         .iter()
-        .find(|entry| entry.can_go(table))
-        .map(|entry| entry.txn())
+        .find(|claim| claim.can_go(table))
+        .map(|claim| claim.txn())
 }
 
 /// Whether a transaction holds a key.
-pub fn holds(table: &[Entry], txn: TxnId, key: &Key) -> bool
+pub fn holds(table: &[Claim], txn: TxnId, key: &Key) -> bool
     ensures { result ≡ holds (held_in_table table.now txn) key.now }
 {
-    for entry in table {
-        if entry.is_of(txn) {
-            return is_held(&entry.held, key);
+    for claim in table {
+        if claim.is_of(txn) {
+            return is_held(&claim.held, key);
         }
     }
     false
@@ -217,13 +217,13 @@ fn is_held(locks: &[Lock], key: &Key) -> bool
 }
 
 /// Where the transaction's claim stands.
-pub fn place(table: &[Entry], txn: TxnId) -> usize
+pub fn place(table: &[Claim], txn: TxnId) -> usize
     requires { has_claim table.now txn ≡ true }
     ensures within { result < length table.now }
     ensures place { result ≡ position_or_len (is_of txn) table.now }
 {
-    for (at, entry) in table.iter().enumerate() {
-        if entry.is_of(txn) {
+    for (at, claim) in table.iter().enumerate() {
+        if claim.is_of(txn) {
             return at;
         }
     }
@@ -231,12 +231,12 @@ pub fn place(table: &[Entry], txn: TxnId) -> usize
 }
 
 /// Where the transaction's claim would go.
-pub fn place_for(table: &[Entry], txn: TxnId) -> usize
+pub fn place_for(table: &[Claim], txn: TxnId) -> usize
     ensures within { result ≤ length table.now }
     ensures place { result ≡ position_or_len (is_younger txn) table.now }
 {
-    for (at, entry) in table.iter().enumerate() {
-        if txn.is_older_than(entry.txn) {
+    for (at, claim) in table.iter().enumerate() {
+        if txn.is_older_than(claim.txn) {
             return at;
         }
     }

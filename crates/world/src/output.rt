@@ -12,23 +12,23 @@ use units::{Fault, Key, Line, Stamp, TxnId, Value};
 /// The messages and the lines so far, the transactions whose commit was told to their sessions, each as often as it was, and
 /// the number of the event that is under way.
 #[derive(Drop)]
-pub struct Past {
+pub struct RunOutput {
     pub bag: Bag,
     pub told: Vec<TxnId>,
     pub lines: Vec<Line>,
     pub event: u64,
 }
 
-impl Past {
+impl RunOutput {
     ghost use Rattle.world.specs.World.{World, put_out, note};
-    ghost use Rattle.world.specs.Passed.{IsPast};
+    ghost use Rattle.world.specs.Passed.{IsOutput};
     ghost use Rattle.world.specs.Comes.{HasHeard, HasReplied, Notes};
 
     /// Nothing was put out.
-    pub fn new(alloc: Global) -> Past
+    pub fn new(alloc: Global) -> RunOutput
         ensures { (result.bag ≡ []) × (result.told.items ≡ []) × (result.lines.items ≡ []) × (result.event ≡ 0) }
     {
-        Past {
+        RunOutput {
             bag: Bag::new(alloc),
             told: Vec::new(alloc),
             lines: Vec::new(alloc),
@@ -38,7 +38,7 @@ impl Past {
 
     /// Messages are put out, or a refusal is the reply.
     pub fn reply(&mut self, answer: Result<Outbox, Fault>) -> Result<Reply, Fault>
-        ensures { (w : World) → IsPast self.old w → HasReplied w answer self.new result }
+        ensures { (w : World) → IsOutput self.old w → HasReplied w answer self.new result }
     {
         match answer {
             Ok(out) => {
@@ -52,7 +52,7 @@ impl Past {
 
     /// A line is written where there is one, or a refusal is the reply.
     pub fn reply_line(&mut self, answer: Result<Option<Line>, Fault>) -> Result<Reply, Fault>
-        ensures { (w : World) → IsPast self.old w → HasHeard w answer self.new result }
+        ensures { (w : World) → IsOutput self.old w → HasHeard w answer self.new result }
     {
         match answer {
             Ok(Some(line)) => {
@@ -73,7 +73,7 @@ impl Past {
         at: Stamp,
         reply: Reply,
     ) -> Result<Reply, Fault>
-        ensures { (w : World) → IsPast self.old w → Notes w key at reply self.new result }
+        ensures { (w : World) → IsOutput self.old w → Notes w key at reply self.new result }
     {
         if let Reply::Shows(value) = &reply {
             self.note(Line::Look(key, at, copied(alloc, value)?))?;
@@ -83,7 +83,7 @@ impl Past {
 
     /// Messages are put out. Each that is the first to tell a session that it committed is a line.
     pub fn put_out(&mut self, out: Outbox) -> Result<(), Fault>
-        ensures put { (w : World) → IsPast self.old w → OnOk result (IsPast self.new (put_out out w)) }
+        ensures put { (w : World) → IsOutput self.old w → OnOk result (IsOutput self.new (put_out out w)) }
         ensures memory { IfErr result (λ fault. fault ≡ Fault.Memory) }
     {
         push_acknowledged(&mut self.lines, &self.told, self.event, out.as_slice())?;
@@ -93,7 +93,7 @@ impl Past {
 
     /// A line is written.
     pub fn note(&mut self, line: Line) -> Result<(), Fault>
-        ensures noted { (w : World) → IsPast self.old w → OnOk result (IsPast self.new (note line w)) }
+        ensures noted { (w : World) → IsOutput self.old w → OnOk result (IsOutput self.new (note line w)) }
         ensures memory { IfErr result (λ fault. fault ≡ Fault.Memory) }
     {
         self.lines.push(line)?;

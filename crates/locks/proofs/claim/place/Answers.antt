@@ -4,7 +4,7 @@ use Rattle.std.proofs.lemmas.List.{at_drop_all}
 use Rattle.units.specs.Locks.{Claim}
 use Rattle.units.proofs.ByIdLaws.{place_within}
 use Rattle.locks.specs.Ways.{is_of}
-use Rattle.locks.proofs.entry.place.Goals as goal
+use Rattle.locks.proofs.claim.place.Goals as goal
 
 pub unreachable-requires : goal.unreachable-requires
 unreachable-requires c =

@@ -1,7 +1,7 @@
 use Rattle.std.proofs.Common.{◌++◌, refl, ◌∙◌, flat_map}
 use Rattle.world.specs.Told.{ack_in, told_in}
 use Rattle.world.proofs.Puts.{on_ok, puts}
-use Rattle.world.proofs.past.Past.put_out.Goals as goal
+use Rattle.world.proofs.output.RunOutput.put_out.Goals as goal
 
 pub returns-clause-put : goal.returns-clause-put
 returns-clause-put c w h =
