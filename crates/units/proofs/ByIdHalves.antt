@@ -1,11 +1,11 @@
 -- The place of a member of a list that ascends by id, found by halves.
 use Rattle.std.proofs.Common.{◌≡◌, ℕ, zero, suc, ◌<◌, ◌≤◌, cond, ◌||◌, is_some, Bool, true, false, not, List, [], ◌∷◌, length, get_or, Some, None}
 use Rattle.std.proofs.Common.{refl, sym, ap, ◌∙◌, arith, filter}
-use Rattle.std.specs.List.{position_or_len, AllByRecursion, find}
+use Rattle.std.specs.List.{position_or_len, AllByRecursion}
 use Rattle.std.specs.List.Sorted.{IsPartitionedBy, IsPartitionPoint}
 use Rattle.std.proofs.lemmas.Bool.{false≢true}
 use Rattle.std.proofs.lemmas.Bool.Decides.{nat_tests}
-use Rattle.units.specs.Lists.{first, head}
+use Rattle.units.specs.Lists.{head}
 use Rattle.units.specs.Ids.{Id, same_id, older}
 use Rattle.units.specs.ById.{IsById, has_member, find_member, without_member}
 use Rattle.units.proofs.IdLaws.{older_not_same, older_total, older-trans, same_id_comm}
@@ -113,15 +113,6 @@ none_by_halves id (x ∷ xs) t zero up differs w =
 none_by_halves id (x ∷ xs) t (suc i) up differs w =
     let other : same_id (id x) t ≡ false = older_not_same (id x) t (w.0 0 x (omega arith) (omega arith)) in
     rw other (none_by_halves id xs t i up.1 (λ y lt at. differs y (omega arith) at) (parted_behind x xs (λ z. older (id z) t) i w))
-
--- the member of an id is the first that passes the test, as the library has it
-pub found_as_first : {A : Type 0} (p : A → Bool) (xs : List A) → first p xs ≡ find p xs
-found_as_first p [] = refl
-found_as_first p (x ∷ xs) = by_test (p x) (found_as_first p xs)
-  where
-    by_test : (b : Bool) → first p xs ≡ find p xs → head (cond b (x ∷ filter p xs) (filter p xs)) ≡ cond b (Some x) (find p xs)
-    by_test true e = refl
-    by_test false e = e
 
 -- whether a member is found
 pub found_or_not : {A : Type 0} (id : A → Id) (xs : List A) (t : Id) → is_some (find_member id xs t) ≡ has_member id xs t
