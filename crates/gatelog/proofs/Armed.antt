@@ -51,7 +51,7 @@ of_ok A (Ok value) ok a = a
 of_ok A (Err error) ok a = absurd (false≢true ok)
 
 -- what waits for a write does not fail before, and goes on waiting
-pub waits_on : (plan : Plan) → waits plan ≡ true → (fails plan ≡ false) × (next plan ≡ plan)
+pub waits_on : (plan : FailurePlan) → waits plan ≡ true → (fails plan ≡ false) × (next plan ≡ plan)
 waits_on Never is = (refl, refl)
 waits_on (After calls) is = absurd (false≢true is)
 waits_on (AfterWrite calls) is = (refl, refl)
