@@ -3,12 +3,14 @@ ghost use Rattle.std.specs.Prelude.{◌≡◌, [], ◌∷◌, IfOk};
 ghost use Rattle.board.specs.declared.entry.BoardEntry.TheVariants.{Safe};
 
 use board::{Publisher, Viewer, start};
+use snapshot::Snapshot;
 use std::alloc::Global;
 use std::process::Abort;
 use std::sync::Wait;
 use std::test::Fail;
 use std::thread;
 use std::thread::Threads;
+use truetime::Reading;
 use units::{Fault, Install, Key, Reason, Seen, Splits, Stamp, Value};
 
 // A look for a key of one byte, in a buffer of so many bytes.
@@ -135,6 +137,28 @@ fn looks_change_with_the_publication(rt: HostRuntime) -> Result<(), Fail> {
     answered(&rt, &mut viewer, &AT_FIRST)?;
     assert_eq!(rt; publisher.publish()?.safe().micros(), 9);
     answered(&rt, &mut viewer, &AFTER_ONE)
+}
+
+#[test]
+fn a_snapshot_is_answered_once_its_timestamp_is_served(rt: HostRuntime) -> Result<(), Fail> {
+    let alloc: Global = rt.alloc();
+    let (mut publisher, mut viewers) = new_board(&rt, alloc, 1)?;
+    let mut viewer = viewers.pop().ok_or("a viewer")?;
+    let snapshot = Snapshot::start(&Reading::new(Stamp::new(6)?, Stamp::new(9)?)?);
+    let a = Key::new(b"a")?;
+    let mut buffer = [0u8; 3];
+    assert_eq!(rt;
+        snapshot.look(&mut viewer, &a, &mut buffer),
+        Err(Fault::NotYet)
+    );
+    accept(alloc, &mut publisher)?;
+    publisher.publish()?;
+    assert_eq!(rt;
+        snapshot.look(&mut viewer, &a, &mut buffer),
+        Ok(Seen::Value(3))
+    );
+    assert_eq!(rt; buffer, *b"xyz");
+    Ok(())
 }
 
 #[test]
