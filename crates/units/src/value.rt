@@ -51,3 +51,14 @@ impl Value {
         Ok(Value { bytes })
     }
 }
+
+/// An equal value with memory of its own, where there is one.
+pub fn copy_value(alloc: Global, value: &Option<Value>) -> Result<Option<Value>, Fault>
+    ensures same { IfOk result (λ copy. copy ≡ value.now) }
+    ensures memory { IfErr result (λ fault. fault ≡ Fault.Memory) }
+{
+    match value {
+        None => Ok(None),
+        Some(value) => Ok(Some(value.copy(alloc)?)),
+    }
+}

@@ -3,7 +3,7 @@ ghost use Rattle.std.specs.Prelude.{◌≡◌, ◌≤◌, ◌<◌, ◌⊎◌, Is
 ghost use Rattle.units.specs.Keys.{write_before, writes_key};
 ghost use Rattle.units.specs.Lists.{ascends};
 
-use crate::{Fault, Key, Stamp, Value};
+use crate::{Fault, Key, Stamp, Value, copy_value};
 use std::alloc::Global;
 use std::marker::Model;
 
@@ -20,13 +20,9 @@ impl Write {
         ensures same { IfOk result (λ write. write ≡ self.now) }
         ensures memory { IfErr result (λ fault. fault ≡ Fault.Memory) }
     {
-        let value = match &self.value {
-            None => None,
-            Some(value) => Some(value.copy(alloc)?),
-        };
         Ok(Write {
             key: self.key,
-            value,
+            value: copy_value(alloc, &self.value)?,
         })
     }
 }
