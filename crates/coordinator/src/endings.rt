@@ -14,7 +14,6 @@ ghost use Rattle.memory.specs.Plans.{plan_of};
 use crate::parts::is_of_part;
 use memory::{PastStanding, Plan, State, done_to, outcome_to};
 use message::{Ask, Envelope, GiveUp, Outcome};
-use participant::end_reading;
 use record::Record;
 use rows::{Row, RowDecided, Wait};
 use std::alloc::Global;
@@ -41,7 +40,7 @@ fn give_up_with_row(state: &State, alloc: Global, given: &GiveUp, row: &Row) -> 
     ensures fit { IfOk result (IsFit state.now) }
 {
     match row {
-        Row::Reading(reading) => end_reading(state, alloc, given.txn, reading.wait()),
+        Row::Reading(reading) => state.ends_reading(alloc, given.txn, reading.wait()),
         Row::Collecting(collecting) => {
             state.aborts(alloc, given.txn, collecting.request().parts)
         }
@@ -62,11 +61,11 @@ fn give_up_without_row(
     ensures fit { IfOk result (IsFit state.now) }
 {
     match past {
-        PastStanding::Unknown => end_reading(state, alloc, given.txn, None),
+        PastStanding::Unknown => state.ends_reading(alloc, given.txn, None),
         PastStanding::Ended
         | PastStanding::Aborted
         | PastStanding::Settled { .. }
-        | PastStanding::Closed { .. } => { Ok(state.idles(alloc)) }
+        | PastStanding::Closed { .. } => Ok(state.idles(alloc)),
     }
 }
 

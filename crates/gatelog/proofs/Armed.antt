@@ -18,7 +18,7 @@ use Rattle.gatelog.specs.Placed.{Placed}
 use Rattle.gatelog.specs.Frames.{staged_bytes}
 use Rattle.gatelog.specs.Gates.{open_gate, is_read, opens_gate}
 use Rattle.gatelog.specs.Log.{log, scan, ends_at, and_entry}
-use Rattle.gatelog.specs.Armed.{fails_in_two, after_two, two_made, fails_in_append, appended, with_if, IsArmed}
+use Rattle.gatelog.specs.Armed.{fails_in_two, after_two, two_made, fails_in_append, appended, waits, with_if, IsArmed}
 use Rattle.gatelog.proofs.Scan.{gate_within}
 use Rattle.gatelog.proofs.Images.{ends_found, staged_long, log-staged, log-shut, log-opened, log-staging}
 
@@ -49,6 +49,12 @@ on_err A (Err error) err = tt
 pub of_ok : {T E : Type 0} (A : Type 0) (result : Result T E) → IsOk result → OnOk result A → A
 of_ok A (Ok value) ok a = a
 of_ok A (Err error) ok a = absurd (false≢true ok)
+
+-- what waits for a write does not fail before, and goes on waiting
+pub waits_on : (plan : FailurePlan) → waits plan ≡ true → (fails plan ≡ false) × (next plan ≡ plan)
+waits_on Never is = (refl, refl)
+waits_on (After calls) is = absurd (false≢true is)
+waits_on (AfterWrite calls) is = (refl, refl)
 
 -- a sync that does not fail
 pub synced_unless : (failed : Bool) (old mid new : File) → failed ≡ false → mid ≡ old → new ≡ (if failed then mid else synced mid) → new ≡ synced old

@@ -1,14 +1,21 @@
 -- What an append does where a call of the disk is to fail.
-use Rattle.std.specs.Prelude.{◌≡◌, ℕ, ◌+◌, ◌||◌, ◌==◌, nat_le, Bool, true, false, if◌then◌else◌, List, [], ◌∷◌, get_or, Result}
+use Rattle.std.specs.Prelude.{◌≡◌, ℕ, ◌+◌, ◌||◌, Bool, true, false, if◌then◌else◌, List, [], ◌∷◌, get_or, Result}
 use Rattle.units.specs.declared.fault.Fault.{Fault}
 use Rattle.disk.specs.declared.plan.FailurePlan.{FailurePlan}
+use Rattle.disk.specs.declared.plan.FailurePlan.TheVariants.{Never, After, AfterWrite}
 use Rattle.disk.specs.declared.plan.Fate.{Fate}
-use Rattle.disk.specs.declared.plan.Fate.TheVariants.{Old, New, Filled}
+use Rattle.disk.specs.declared.plan.Fate.TheVariants.{Old}
 use Rattle.disk.specs.File.{File, wrote, tried, with_change, synced, surface, crash_leaves}
 use Rattle.disk.specs.Planned.{fails, next, at_write}
 use Rattle.gatelog.specs.Placed.{Placed}
 use Rattle.gatelog.specs.Gates.{open_gate, is_left, is_read}
 use Rattle.gatelog.specs.Log.{log, and_entry}
+
+-- no call is to fail before the next write
+abbrev pub waits : FailurePlan → Bool
+waits Never = true
+waits (After calls) = false
+waits (AfterWrite calls) = true
 
 -- one of a write and the sync behind it fails
 abbrev pub fails_in_two : FailurePlan → Bool

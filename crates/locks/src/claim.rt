@@ -1,6 +1,10 @@
 //! The claims of a table, and who is in the way of whom.
-ghost use Rattle.std.specs.Prelude.{◌≡◌, ◌+◌, ◌<◌, ◌≤◌, true, IfOk, length, vec_capacity};
+ghost use Rattle.std.specs.Prelude.{◌≡◌, ◌+◌, ◌<◌, ◌≤◌, true, false, IfOk, length, vec_capacity};
 ghost use Rattle.std.specs.List.{position_or_len};
+ghost use Rattle.std.specs.List.Sorted.{IsPartitionPoint};
+ghost use Rattle.std.specs.Option.{option_copied};
+ghost use Rattle.units.specs.ById.{IsById, find_member};
+ghost use Rattle.units.specs.Ids.{older};
 ghost use Rattle.units.specs.Locks.{holds, is_waiting};
 ghost use Rattle.locks.specs.Table.{has_claim, held_in_table, entrant, made_firm, granted, waiting, resumed, withdrawn};
 ghost use Rattle.locks.specs.Ways.{is_of, is_younger, gives_way, is_wounding, ids_in_way, stands_in_way, is_blocked, can_go, first_to_go, keeps_out, is_kept_out};
@@ -53,6 +57,18 @@ impl Claim {
         self.txn.is(txn)
     }
 
+    pub fn is_older(&self, txn: TxnId) -> bool
+        ensures { result ≡ older self.now.txn txn }
+    {
+        self.txn.is_older_than(txn)
+    }
+
+    pub fn is_younger(&self, txn: TxnId) -> bool
+        ensures { result ≡ is_younger txn self.now }
+    {
+        txn.is_older_than(self.txn)
+    }
+
     /// A requester ends it: it is younger, not firm, and holds in conflict.
     pub fn gives_way(&self, txn: TxnId, needs: &[Lock]) -> bool
         ensures { result ≡ gives_way txn needs.now self.now }
@@ -73,7 +89,13 @@ impl Claim {
     pub fn keeps_out(&self, txn: TxnId, needs: &[Lock]) -> bool
         ensures { result ≡ keeps_out txn needs.now self.now }
     {
-        self.stands_in_way(txn, needs) && !self.gives_way(txn, needs)
+        if self.txn.is(txn) {
+            return false;
+        }
+        if txn.is_older_than(self.txn) {
+            return self.firm && clash(&self.held, needs);
+        }
+        clash(&self.held, needs) || clash(&self.needs, needs)
     }
 
     /// How many locks it holds.
@@ -194,14 +216,33 @@ pub fn ready(table: &[Claim]) -> Option<TxnId>
 
 /// Whether a transaction holds a key.
 pub fn holds(table: &[Claim], txn: TxnId, key: &Key) -> bool
+    requires { IsById (λ c. c.txn) table.now }
     ensures { result ≡ holds (held_in_table table.now txn) key.now }
 {
-    for claim in table {
-        if claim.is_of(txn) {
-            return is_held(&claim.held, key);
-        }
+    match found(table, txn) {
+        Some(claim) => is_held(&claim.held, key),
+        None => false,
     }
-    false
+}
+
+/// Whether a transaction has a claim.
+pub fn has(table: &[Claim], txn: TxnId) -> bool
+    requires { IsById (λ c. c.txn) table.now }
+    ensures { result ≡ has_claim table.now txn }
+{
+    found(table, txn).is_some()
+}
+
+// The transaction's claim.
+fn found(table: &[Claim], txn: TxnId) -> Option<&Claim>
+    requires { IsById (λ c. c.txn) table.now }
+    ensures { option_copied result ≡ find_member (λ c. c.txn) table.now txn }
+{
+    let at = first_from(table, txn);
+    if at < table.len() && table[at].is_of(txn) {
+        return Some(&table[at]);
+    }
+    None
 }
 
 // Some lock is of the key.
@@ -218,27 +259,28 @@ fn is_held(locks: &[Lock], key: &Key) -> bool
 
 /// Where the transaction's claim stands.
 pub fn place(table: &[Claim], txn: TxnId) -> usize
-    requires { has_claim table.now txn ≡ true }
+    requires order { IsById (λ c. c.txn) table.now }
+    requires claim { has_claim table.now txn ≡ true }
     ensures within { result < length table.now }
     ensures place { result ≡ position_or_len (is_of txn) table.now }
 {
-    for (at, claim) in table.iter().enumerate() {
-        if claim.is_of(txn) {
-            return at;
-        }
-    }
-    unreachable!()
+    first_from(table, txn)
+}
+
+// The first that is not older than the transaction.
+fn first_from(table: &[Claim], txn: TxnId) -> usize
+    requires { IsById (λ c. c.txn) table.now }
+    ensures within { result ≤ length table.now }
+    ensures parted { IsPartitionPoint (λ c. older c.txn txn ≡ true) (λ c. older c.txn txn ≡ false) table.now result }
+{
+    table.partition_point(|claim| claim.is_older(txn))
 }
 
 /// Where the transaction's claim would go.
 pub fn place_for(table: &[Claim], txn: TxnId) -> usize
+    requires { IsById (λ c. c.txn) table.now }
     ensures within { result ≤ length table.now }
     ensures place { result ≡ position_or_len (is_younger txn) table.now }
 {
-    for (at, claim) in table.iter().enumerate() {
-        if txn.is_older_than(claim.txn) {
-            return at;
-        }
-    }
-    table.len()
+    table.partition_point(|claim| !claim.is_younger(txn))
 }

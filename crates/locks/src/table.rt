@@ -6,7 +6,7 @@ ghost use Rattle.locks.specs.Ways.{is_wounding};
 ghost use Rattle.locks.specs.Table.{has_claim, with_claim, without_claim, without_claims, change_claim, entrant, made_firm, granted, waiting, resumed, withdrawn, after_request, held_in_table, needs_in_table, most_held, KeepsRoom, ReleaseMakesWay};
 
 use crate::buffer::make_room;
-use crate::claim::{Claim, holds, is_kept_out, is_wounding, place, place_for, ready, wounded};
+use crate::claim::{Claim, has, holds, is_kept_out, is_wounding, place, place_for, ready, wounded};
 use crate::held::Held;
 use std::alloc::Global;
 use std::marker::Model;
@@ -219,6 +219,9 @@ impl Table {
         ensures { self.new ≡ without_claim self.old held.txn }
     {
         let Held { txn, buffer: _ } = held;
-        self.entries.retain(|claim| !claim.is_of(txn));
+        if has(&self.entries, txn) {
+            let at = place(&self.entries, txn);
+            let _ = self.entries.remove(at);
+        }
     }
 }

@@ -7,8 +7,8 @@ use Rattle.locks.proofs.Changes.{put_is_change, resumed_at_place}
 use Rattle.locks.proofs.TableLaws.{lawful-resumed, ready_is_there}
 use Rattle.locks.proofs.table.Table.resume.Goals as goal
 
-pub place-at-requires : goal.place-at-requires
-place-at-requires c =
+pub place-at-requires-clause-claim : goal.place-at-requires-clause-claim
+place-at-requires-clause-claim c =
     let is_ready : ready c.self.inside.entries.items ≡ Some c.held.inside.txn = ap ready c.self.view_is ∙ c.requires
     ∙ ap (λ (h : Token). Some h.txn) (sym c.held.view_is) in
     subst (λ (t : List Claim). has_claim t c.held.inside.txn ≡ true) (sym c.deref.ensures.value)

@@ -1,7 +1,7 @@
 use Rattle.std.proofs.Common.{◌≡◌, ◌+◌, true, refl, sym, ◌∙◌}
 use Rattle.world.specs.Lawful.{may_happen}
 use Rattle.world.specs.declared.run.Run.{Run}
-use Rattle.world.proofs.Playings.{acts_may, happened}
+use Rattle.world.proofs.Happened.{acts_may, happened}
 use Rattle.world.proofs.run.Run.take.Goals as goal
 
 pub returns : goal.returns
