@@ -60,7 +60,8 @@ impl CommitRequest {
         reads: &Keys,
         writes: &Writes,
     ) -> Result<CommitRequest, Fault>
-        ensures told { IfOk result (λ request. (request.latest ≡ latest) × (request.parts ≡ parts)) }
+        ensures told { IfOk result
+            (λ request. (request.latest ≡ latest) × (request.parts ≡ parts)) }
         ensures reads { IfOk result (λ request. request.reads ≡ reads.now) }
         ensures writes { IfOk result (λ request. request.writes ≡ writes.now) }
         ensures memory { IfErr result (λ fault. fault ≡ Fault.Memory) }

@@ -20,10 +20,13 @@ impl Tx<'_, Open> {
         value: &Option<Value>,
     ) -> Result<Heard, Fault>
         requires awaited { has_key self.old.client.awaited answer.now.key ≡ true }
-        requires agree { epochs_agree self.old.client.taken answer.now.from answer.now.epoch ≡ true }
+        requires agree { epochs_agree self.old.client.taken
+            answer.now.from answer.now.epoch ≡ true }
         ensures splits { self.new.splits ≡ self.old.splits }
         ensures step { MatchResult result
-            (λ heard. (self.new.client ≡ take_answer self.old.client answer.now.from answer.now.key answer.now.epoch (Answer.Holds value.now)) × (heard ≡ Heard.Value value.now))
+            (λ heard. (self.new.client ≡
+            take_answer self.old.client answer.now.from answer.now.key answer.now.epoch
+            (Answer.Holds value.now)) × (heard ≡ Heard.Value value.now))
             (λ fault. (self.new.client ≡ self.old.client) × (fault ≡ Fault.Memory)) }
     {
         let shown = copy_value(alloc, value)?;

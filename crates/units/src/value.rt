@@ -25,7 +25,8 @@ impl Value {
     /// The value with these bytes.
     pub fn new(alloc: Global, bytes: &[u8]) -> Result<Value, Fault>
         ensures { MatchResult result (λ value. (value ≡ bytes.now) × (length bytes.now ≤ 4096))
-            (λ fault. ((fault ≡ Fault.Memory) × (length bytes.now ≤ 4096)) ⊎ ((fault ≡ Fault.BadRequest Reason.Value) × (4096 < length bytes.now))) }
+            (λ fault. ((fault ≡ Fault.Memory) × (length bytes.now ≤ 4096))
+            ⊎ ((fault ≡ Fault.BadRequest Reason.Value) × (4096 < length bytes.now))) }
     {
         if bytes.len() > 4096 {
             return Err(Fault::BadRequest(Reason::Value));
