@@ -30,7 +30,12 @@ impl Model for Claim {
 
     ghost Value = { Claim };
 
-    ghost view = { λ e. record { txn = e.txn; held = e.held.items; needs = e.needs.items; firm = e.firm } };
+    ghost view = { λ e. record {
+      txn = e.txn;
+      held = e.held.items;
+      needs = e.needs.items;
+      firm = e.firm;
+    } };
 }
 
 impl Claim {
@@ -271,7 +276,8 @@ pub fn place(table: &[Claim], txn: TxnId) -> usize
 fn first_from(table: &[Claim], txn: TxnId) -> usize
     requires { IsById (λ c. c.txn) table.now }
     ensures within { result ≤ length table.now }
-    ensures parted { IsPartitionPoint (λ c. older c.txn txn ≡ true) (λ c. older c.txn txn ≡ false) table.now result }
+    ensures parted { IsPartitionPoint (λ c. older c.txn txn ≡ true) (λ c. older c.txn txn ≡ false)
+        table.now result }
 {
     table.partition_point(|claim| claim.is_older(txn))
 }

@@ -91,7 +91,8 @@ impl Table {
 
     /// Whether a request is granted once those that it ends are released: nobody else is in its way.
     pub fn opens(&self, txn: TxnId, needs: &[Lock]) -> bool
-        ensures { result ≡ is_free (without_claims self.now (wounded self.now txn needs.now)) txn needs.now }
+        ensures { result ≡
+            is_free (without_claims self.now (wounded self.now txn needs.now)) txn needs.now }
     {
         !is_kept_out(&self.entries, txn, needs)
     }
@@ -100,9 +101,11 @@ impl Table {
     pub fn make_room(&self, held: &mut Held, more: usize) -> Result<(), Fault>
         requires { has_claim self.now held.old.txn ≡ true }
         ensures txn { held.new.txn ≡ held.old.txn }
-        ensures room { OnOk result (length (held_in_table self.now held.old.txn) + more ≤ held.new.room) }
+        ensures room { OnOk result
+            (length (held_in_table self.now held.old.txn) + more ≤ held.new.room) }
         ensures memory { IfErr result (λ fault. fault ≡ Fault.Memory) }
-        ensures succeeds { length (held_in_table self.now held.old.txn) + more ≤ held.old.room → IsOk result }
+        ensures succeeds { length (held_in_table self.now held.old.txn) + more ≤ held.old.room
+            → IsOk result }
     {
         let at = place(&self.entries, held.txn);
         make_room(&mut held.buffer, self.entries[at].held_count(), more)
@@ -118,11 +121,13 @@ impl Table {
     ) -> Result<Asked, Fault>
         requires { has_claim self.old held.old.txn ≡ true }
         ensures asked { IfOk result (λ answer. answer ≡ asked self.old held.old.txn needs.now) }
-        ensures ok { IfOk result (λ answer. self.new ≡ after_request answer self.old held.old.txn needs.now) }
+        ensures ok { IfOk result
+            (λ answer. self.new ≡ after_request answer self.old held.old.txn needs.now) }
         ensures err { OnErr result (self.new ≡ self.old) }
         ensures memory { IfErr result (λ fault. fault ≡ Fault.Memory) }
         ensures txn { held.new.txn ≡ held.old.txn }
-        ensures room { IfOk result (λ answer. KeepsRoom answer (most_held self.old held.old.txn needs.now) held.new.room) }
+        ensures room { IfOk result
+            (λ answer. KeepsRoom answer (most_held self.old held.old.txn needs.now) held.new.room) }
         ensures succeeds { wounded self.old held.old.txn needs.now ≡ []
             → most_held self.old held.old.txn needs.now ≤ held.old.room → IsOk result }
     {
@@ -205,7 +210,8 @@ impl Table {
         ensures err { OnErr result (self.new ≡ self.old) }
         ensures memory { IfErr result (λ fault. fault ≡ Fault.Memory) }
         ensures txn { held.new.txn ≡ held.old.txn }
-        ensures succeeds { most_held self.old held.old.txn (needs_in_table self.old held.old.txn) ≤ held.old.room → IsOk result }
+        ensures succeeds { most_held self.old held.old.txn
+            (needs_in_table self.old held.old.txn) ≤ held.old.room → IsOk result }
     {
         let at = place(&self.entries, held.txn);
         let claim = &self.entries[at];
