@@ -7,6 +7,7 @@ mod conflict;
 mod entry;
 mod held;
 mod table;
+mod tally;
 
 pub use held::Held;
 pub use table::Table;
