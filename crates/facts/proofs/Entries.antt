@@ -14,7 +14,7 @@ use Rattle.facts.specs.declared.entry.Status.{Status}
 use Rattle.facts.specs.Shown.{meaning, meant, shown_entries, by_id, status_in}
 
 -- the entry that is meant by one
-shown_one : Id × Status → facts.Entry
+shown_one : Id × Status → facts.TxnStatus
 shown_one e = record { txn = e.0; status = meaning e.1 }
 
 -- what is looked up is the status
@@ -22,24 +22,24 @@ pub looked_up : (es : List (Id × Status)) (t : Id) → meant (lookup (same_id t
 unfolding shown_one
 looked_up es t =
     by_found (lookup (same_id t) es)
-    ∙ sym (ap or_unrecorded (find-map (λ e. e.0) (λ (e : facts.Entry). e.txn) shown_one (λ e. refl) es t ∙ ap (option_map shown_one) (find_lookup es t)))
+    ∙ sym (ap or_unrecorded (find-map (λ e. e.0) (λ (e : facts.TxnStatus). e.txn) shown_one (λ e. refl) es t ∙ ap (option_map shown_one) (find_lookup es t)))
   where
     by_found : (o : Option Status) → meant o ≡ or_unrecorded (option_map shown_one (option_map (λ s. (t, s)) o))
     by_found None = refl
     by_found (Some s) = refl
 
 -- a status is given anew as a member is
-with_status_is : (es : List facts.Entry) (t : Id) (s : records.Status) → with_status es t s ≡ with_member (λ e. e.txn) es (record { txn = t; status = s })
+with_status_is : (es : List facts.TxnStatus) (t : Id) (s : records.Status) → with_status es t s ≡ with_member (λ e. e.txn) es (record { txn = t; status = s })
 with_status_is [] t s = refl
 with_status_is (e ∷ es) t s =
-    let one : facts.Entry = record { txn = t; status = s } in
+    let one : facts.TxnStatus = record { txn = t; status = s } in
     ap (λ l. cond (same_id e.txn t) (one ∷ es) (cond (older e.txn t) (e ∷ l) (one ∷ e ∷ es))) (with_status_is es t s)
 
 -- an entry given anew
 pub shown_with : (es : List (Id × Status)) (t : Id) (s : Status) → shown_entries (with_member (λ e. e.0) es (t, s)) ≡
     with_status (shown_entries es) t (meaning s)
 unfolding shown_one
-shown_with es t s = sym (with_status_is (shown_entries es) t (meaning s) ∙ with-map (λ e. e.0) (λ (e : facts.Entry). e.txn) shown_one (λ e. refl) es (t, s))
+shown_with es t s = sym (with_status_is (shown_entries es) t (meaning s) ∙ with-map (λ e. e.0) (λ (e : facts.TxnStatus). e.txn) shown_one (λ e. refl) es (t, s))
 
 -- whatever the order in which the entries came, they are by id
 pub by_id_ascends : (es : List (Id × Status)) → IsById (λ e. e.0) (by_id es)

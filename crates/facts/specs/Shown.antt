@@ -23,7 +23,7 @@ meant None = Unrecorded
 meant (Some s) = meaning s
 
 -- the entries that are meant
-abbrev pub shown_entries : List (Id × Status) → List facts.Entry
+abbrev pub shown_entries : List (Id × Status) → List facts.TxnStatus
 shown_entries es = map (λ e. record { txn = e.0; status = meaning e.1 }) es
 
 -- the entries by ascending id
@@ -32,5 +32,5 @@ by_id [] = []
 by_id (e ∷ es) = with_member (λ x. x.0) (by_id es) e
 
 -- the status of an id among some entries
-abbrev pub status_in : List facts.Entry → Id → records.Status
+abbrev pub status_in : List facts.TxnStatus → Id → records.Status
 status_in es t = facts.or_unrecorded (first (λ e. same_id e.txn t) es)

@@ -8,7 +8,9 @@ mod record;
 mod unread;
 mod writing;
 
-pub use laws::{a_yes_is_sound, accepted_follows, learn_agrees, learnt_agrees};
+pub use laws::{
+    a_yes_is_sound, accepted_follows, each_no_is_right, learn_agrees, learnt_agrees, sound_is_yes,
+};
 pub use length::encoded_len;
 pub use reading::decode;
 pub use record::{Committed, Prepared, Record};

@@ -9,7 +9,7 @@ ghost use Rattle.units.specs.Lists.{gather};
 ghost use Rattle.rows.specs.CodeRows.{txn_of, has_txn, row_of, passes, is_reading, stamp_if_prepared, stamp_if_decided, without_txn, put_in, IsRowList};
 
 use crate::row::Row;
-use crate::states::Reading;
+use crate::states::RowReading;
 use locks::Table;
 use std::alloc::Global;
 use std::marker::Model;
@@ -91,7 +91,7 @@ impl RowList {
     }
 
     /// Takes out the row of a transaction that reads.
-    pub fn take_reading(&mut self, txn: TxnId) -> Reading
+    pub fn take_reading(&mut self, txn: TxnId) -> RowReading
         requires { passes is_reading self.old txn ≡ true }
         ensures row { row_of self.old txn ≡ Some (Row.Reading result) }
         ensures rest { self.new ≡ without_txn self.old txn }

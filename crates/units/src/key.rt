@@ -10,7 +10,7 @@ use std::cmp::Ordering;
 use std::marker::Model;
 
 /// A key of 1 to 64 bytes. It is a plain value, so a copy of it takes no memory. Keys are ordered by their bytes.
-#[derive(Clone, Copy, Debug)]
+#[derive(Clone, Copy)]
 pub struct Key {
     bytes: [u8; 64],
     len: usize,

@@ -25,7 +25,7 @@ invariant_of-self c =
     let id = c.held.inside.txn in
     let needs = c.args.needs.now in
     let is = put_is_change (granted needs) id items c.self.invariant.0 c.place-spot.result _ _ (cc) (omega arith)
-    c.index_mut.ensures.value c.grant.ensures.entry in
+    c.index_mut.ensures.value c.grant.ensures.claim in
     let told : is_free items id needs ≡ true = ap (λ (t : List Claim). is_free t id needs) c.self.view_is
     ∙ ap (λ (h : Token). is_free c.args.self.now h.txn needs) c.held.view_is ∙ c.requires.free in (
       subst IsLawfulTable (sym is) (lawful-granted items id needs c.self.invariant.0 (free_blocked items id needs told)),
@@ -37,6 +37,6 @@ returns-clause-table c =
     let items = c.self.inside.entries.items in
     let needs = c.args.needs.now in
     put_is_change (granted needs) c.held.inside.txn items c.self.invariant.0 c.place-spot.result _ _ (cc) (omega arith)
-    c.index_mut.ensures.value c.grant.ensures.entry
+    c.index_mut.ensures.value c.grant.ensures.claim
     ∙ ap (λ (t : List Claim). change_claim t c.held.inside.txn (granted needs)) c.self.view_is
     ∙ ap (λ (h : Token). change_claim c.args.self.now h.txn (granted needs)) c.held.view_is

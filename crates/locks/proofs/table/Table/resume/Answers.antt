@@ -20,7 +20,7 @@ invariant_of-self c =
     let items = c.self.inside.entries.items in
     let id = c.held.inside.txn in
     let is = put_is_change resumed id items c.self.invariant.0 c.place-at.result c.index_mut.result.now c.resume.new.self (cc)
-    (omega arith) c.index_mut.ensures.value c.resume.ensures.entry in
+    (omega arith) c.index_mut.ensures.value c.resume.ensures.claim in
     let is_ready : ready items ≡ Some id = ap ready c.self.view_is ∙ c.requires ∙ ap (λ (h : Token). Some h.txn) (sym c.held.view_is) in (
       subst IsLawfulTable (sym is) (lawful-resumed items id c.self.invariant.0 is_ready),
       tally-set c.self.inside.tally _ items c.place-at.result _ _ c.self.invariant.1 (omega arith) c.index_mut.ensures.value c.resume.ensures.tally,
@@ -30,7 +30,7 @@ pub returns-clause-ok : goal.returns-clause-ok
 returns-clause-ok c =
     let items = c.self.inside.entries.items in
     put_is_change resumed c.held.inside.txn items c.self.invariant.0 c.place-at.result c.index_mut.result.now c.resume.new.self (cc)
-    (omega arith) c.index_mut.ensures.value c.resume.ensures.entry
+    (omega arith) c.index_mut.ensures.value c.resume.ensures.claim
     ∙ ap (λ (t : List Claim). change_claim t c.held.inside.txn resumed) c.self.view_is ∙ ap
     (λ (h : Token). change_claim c.args.self.now h.txn resumed) c.held.view_is
 
@@ -39,6 +39,6 @@ returns-in_err-make_room-clause-succeeds c = λ fits.
     let items = c.self.inside.entries.items in
     let most = ap (λ (t : List Claim). most_held t c.args.held.now.txn (needs_in_table t c.args.held.now.txn)) (sym c.self.view_is)
     ∙ ap (λ (h : Token). most_held items h.txn (needs_in_table items h.txn)) (sym c.held.view_is)
-    ∙ resumed_at_place c.held.inside.txn items c.place-at.result c.index-entry.result.now (cc) (omega arith) c.index-entry.ensures in
+    ∙ resumed_at_place c.held.inside.txn items c.place-at.result c.index-claim.result.now (cc) (omega arith) c.index-claim.ensures in
     let spare = ap (λ (h : Token). h.room) c.held.view_is in
     absurd (false≢true (c.in_err-make_room.ensures.succeeds (omega (arith, c.held_count.ensures, c.needs_count.ensures, most, spare, fits))))

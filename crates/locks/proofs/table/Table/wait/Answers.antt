@@ -25,7 +25,7 @@ invariant_of-self c =
     let id = c.held.inside.txn in
     let needs = c.args.needs.now in
     let is = put_is_change (waiting needs) id items c.self.invariant.0 c.place-spot.result _ _ (cc) (omega arith)
-    c.index_mut.ensures.value c.wait.ensures.entry in
+    c.index_mut.ensures.value c.wait.ensures.claim in
     let told : wounded items id needs ≡ [] = ap (λ (t : List Claim). wounded t id needs) c.self.view_is
     ∙ ap (λ (h : Token). wounded c.args.self.now h.txn needs) c.held.view_is ∙ c.requires.quiet in (
       subst IsLawfulTable (sym is) (lawful-waiting items id needs c.self.invariant.0 (quiet_wounding items id needs told)),
@@ -37,6 +37,6 @@ returns-clause-table c =
     let items = c.self.inside.entries.items in
     let needs = c.args.needs.now in
     put_is_change (waiting needs) c.held.inside.txn items c.self.invariant.0 c.place-spot.result _ _ (cc) (omega arith)
-    c.index_mut.ensures.value c.wait.ensures.entry
+    c.index_mut.ensures.value c.wait.ensures.claim
     ∙ ap (λ (t : List Claim). change_claim t c.held.inside.txn (waiting needs)) c.self.view_is
     ∙ ap (λ (h : Token). change_claim c.args.self.now h.txn (waiting needs)) c.held.view_is

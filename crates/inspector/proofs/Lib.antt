@@ -1,0 +1,2 @@
+pub mod AgeLaws
+pub mod FoldLaws

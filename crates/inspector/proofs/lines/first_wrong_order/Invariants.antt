@@ -1,0 +1,9 @@
+use Rattle.std.specs.Prelude.{option_map}
+use Rattle.std.proofs.Common.{◌≡◌, ℕ, ◌+◌, drop, map, Option, Some, None, cond, not, ◌++◌, ◌&&◌, [], nat_eq, nat_le, nat_lt}
+use Rattle.units.specs.Lists.{first, gather, head, numbered, sorted, has, when}
+use Rattle.record.specs.Verdict.{first_lost, first_wrong_order, first_wrong_read, is_late_ack, line_reads_right, lost_by}
+use Rattle.inspector.specs.Places.{first_late}
+use Rattle.inspector.proofs.lines.first_wrong_order.Given as goal
+
+abbrev pub invariant-loop-place : goal.invariant-loop-place
+invariant-loop-place l = head (gather (λ q. option_map (λ j. (q.0, j)) (first_late l.history l.lines q.1)) (numbered l.place (drop l.place l.lines))) ≡ first_wrong_order l.history l.lines

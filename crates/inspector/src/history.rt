@@ -1,0 +1,191 @@
+//! The transactions of the logs.
+ghost use Rattle.std.specs.List.{list_any};
+ghost use Rattle.std.specs.Prelude.{flat_map};
+ghost use Rattle.std.specs.Prelude.{◌≡◌, ◌≤◌, ◌++◌, ◌&&◌, length, IfOk, IfErr, OnOk, map, nat_eq};
+ghost use Rattle.std.specs.Option.{option_copied};
+ghost use Rattle.units.specs.Ids.{same_id};
+ghost use Rattle.units.specs.Lists.{insert};
+ghost use Rattle.units.specs.Fronts.{front};
+ghost use Rattle.record.specs.History.{serial_before, find_txn, history, serial, whole_txn};
+ghost use Rattle.inspector.specs.Decided.{decided_here, promised_in};
+
+use record::{Committed, Record};
+use std::alloc::Global;
+use std::marker::Model;
+use units::{Fault, Stamp, TxnId, Write};
+
+/// A transaction: its id, its timestamp, and its writes in the order in which they are applied.
+#[derive(Drop)]
+pub struct Transaction {
+    pub txn: TxnId,
+    pub at: Stamp,
+    pub writes: Vec<Write>,
+}
+
+impl Model for Transaction {
+    ghost use Rattle.record.specs.History.{Txn};
+
+    ghost Value = { Txn };
+
+    ghost view = { λ t. record { txn = t.txn; at = t.at; writes = t.writes.items } };
+}
+
+impl Transaction {
+    /// It comes before another in the serial order.
+    pub fn comes_before(&self, other: &Transaction) -> bool
+        ensures { result ≡ serial_before self.now other.now }
+    {
+        self.at.micros() < other.at.micros()
+            || (self.at.micros() == other.at.micros() && self.txn.is_older_than(other.txn))
+    }
+}
+
+/// The transactions of the logs, each with its writes of all shards.
+#[tactic(auto, unfolding(record::specs::History::history))]
+pub fn history_of(alloc: Global, logs: &[Vec<Record>]) -> Result<Vec<Transaction>, Fault>
+    ensures history { IfOk result (λ found. found.items ≡ history (map (λ log. log.items) logs.now)) }
+    ensures memory { IfErr result (λ fault. fault ≡ Fault.Memory) }
+{
+    let mut found = Vec::new(alloc);
+    for (shard, log) in logs.iter().enumerate() {
+        add_decided(alloc, &mut found, logs, shard, log)?;
+    }
+    Ok(found)
+}
+
+// Puts in the transactions that one log decides as the log of the least part.
+fn add_decided(
+    alloc: Global,
+    found: &mut Vec<Transaction>,
+    logs: &[Vec<Record>],
+    shard: usize,
+    log: &[Record],
+) -> Result<(), Fault>
+    ensures found { OnOk result (found.new.items ≡ found.old.items ++ decided_here (map (λ log. log.items) logs.now) (shard, log.now)) }
+    ensures memory { IfErr result (λ fault. fault ≡ Fault.Memory) }
+{
+    for item in log {
+        if let Record::Commit(committed) = item {
+            if shard == committed.parts.least().number() as usize {
+                found.push(whole(alloc, logs, shard, committed)?)?;
+            }
+        }
+    }
+    Ok(())
+}
+
+// The transaction of a decision.
+fn whole(
+    alloc: Global,
+    logs: &[Vec<Record>],
+    shard: usize,
+    commit: &Committed,
+) -> Result<Transaction, Fault>
+    ensures whole { IfOk result (λ t. t ≡ whole_txn (map (λ log. log.items) logs.now) shard commit.now) }
+    ensures memory { IfErr result (λ fault. fault ≡ Fault.Memory) }
+{
+    let mut writes = Vec::new(alloc);
+    add_copies(alloc, &mut writes, commit.writes.as_slice())?;
+    for (number, log) in logs.iter().enumerate() {
+        add_promised(alloc, &mut writes, log, number, commit.txn, shard)?;
+    }
+    Ok(Transaction {
+        txn: commit.txn,
+        at: commit.at,
+        writes,
+    })
+}
+
+// Puts in what the log of a shard promises to write, where it is not a given shard.
+fn add_promised(
+    alloc: Global,
+    writes: &mut Vec<Write>,
+    log: &[Record],
+    number: usize,
+    txn: TxnId,
+    shard: usize,
+) -> Result<(), Fault>
+    ensures writes { OnOk result (writes.new.items ≡ writes.old.items ++ flat_map (λ p. p.writes) (promised_in txn shard (number, log.now))) }
+    ensures memory { IfErr result (λ fault. fault ≡ Fault.Memory) }
+{
+    for item in log {
+        if let Record::Prepare(prepared) = item {
+            if prepared.txn.is(txn) && number != shard {
+                add_copies(alloc, writes, prepared.writes.as_slice())?;
+            }
+        }
+    }
+    Ok(())
+}
+
+// Puts in equal writes.
+fn add_copies(alloc: Global, writes: &mut Vec<Write>, more: &[Write]) -> Result<(), Fault>
+    ensures writes { OnOk result (writes.new.items ≡ writes.old.items ++ more.now) }
+    ensures memory { IfErr result (λ fault. fault ≡ Fault.Memory) }
+{
+    for write in more {
+        writes.push(write.copy(alloc)?)?;
+    }
+    Ok(())
+}
+
+/// The transactions in the serial order.
+#[tactic(auto, using(crate::proofs::FoldLaws::put_onto_none, crate::proofs::FoldLaws::put_onto_last))]
+pub fn in_order(alloc: Global, mut found: Vec<Transaction>) -> Result<Vec<Transaction>, Fault>
+    ensures serial { IfOk result (λ ordered. ordered.items ≡ serial found.items) }
+    ensures memory { IfErr result (λ fault. fault ≡ Fault.Memory) }
+{
+    let mut ordered = Vec::new(alloc);
+    while let Some(last) = found.pop() {
+        put(&mut ordered, last)?;
+    }
+    Ok(ordered)
+}
+
+// Puts a transaction in its place.
+#[tactic(auto, using(crate::proofs::FoldLaws::insert_front))]
+fn put(ordered: &mut Vec<Transaction>, transaction: Transaction) -> Result<(), Fault>
+    ensures ordered { OnOk result (ordered.new.items ≡ insert serial_before transaction ordered.old.items) }
+    ensures memory { IfErr result (λ fault. fault ≡ Fault.Memory) }
+{
+    let place = place_of(ordered, &transaction);
+    ordered.insert(place, transaction)?;
+    Ok(())
+}
+
+// How many stand before a transaction.
+fn place_of(ordered: &[Transaction], transaction: &Transaction) -> usize
+    ensures place { result ≡ front (λ t. serial_before t transaction.now) ordered.now }
+    ensures limit { result ≤ length ordered.now }
+{
+    for (place, other) in ordered.iter().enumerate() {
+        if !other.comes_before(transaction) {
+            return place;
+        }
+    }
+    ordered.len()
+}
+
+/// The transaction of an id.
+pub fn find(found: &[Transaction], txn: TxnId) -> Option<&Transaction>
+    ensures { option_copied result ≡ find_txn found.now txn }
+{
+    for transaction in found {
+        if transaction.txn.is(txn) {
+            return Some(transaction);
+        }
+    }
+    None
+}
+
+/// The id is there at this timestamp.
+pub fn is_in_at(found: &[Transaction], txn: TxnId, at: Stamp) -> bool
+    ensures { result ≡ list_any (λ u. same_id u.txn txn && nat_eq u.at at) found.now }
+{
+    for transaction in found {
+        if transaction.txn.is(txn) && transaction.at.micros() == at.micros() {
+            return true;
+        }
+    }
+    false
+}

@@ -1,0 +1,12 @@
+//! The verdict on the logs of all shards and the lines of a report.
+#![tactic(auto)]
+
+mod ages;
+mod history;
+mod lines;
+mod torn;
+mod values;
+mod verdict;
+mod whole;
+
+pub use verdict::inspect;
