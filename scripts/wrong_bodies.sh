@@ -8,17 +8,23 @@ jobs=${JOBS:-$(nproc)}
 copy=$(mktemp -d)
 trap 'rm -rf "$copy"' EXIT
 
-(cd "$root" && tar -cf - crates crates.txt HANDLES) | tar -xf - -C "$copy"
-rm -rf "$copy"/crates/*/must-fail
 if [ $# -eq 0 ]; then
     set -- $(cd "$root/wrong-bodies" && ls)
 fi
+(cd "$root" && tar -cf - --exclude='crates/*/out' --exclude='crates/*/must-fail' crates crates.txt HANDLES) | tar -xf - -C "$copy"
 for name; do
     if ! ls "$root/wrong-bodies/$name"/*.edit >/dev/null 2>&1; then
         echo "wrong bodies: there are none of a crate '$name'" >&2
         exit 2
     fi
     cp -r "$root/wrong-bodies/$name" "$copy/crates/$name/must-fail"
+    # What is proved of the crates below is taken as it stands; what has changed since is proved again.
+    for below in $("$root/scripts/crates_below.sh" "$name"); do
+        if [ -d "$root/crates/$below/out/rlib" ] && [ ! -d "$copy/crates/$below/out" ]; then
+            mkdir "$copy/crates/$below/out"
+            cp -a "$root/crates/$below/out/rlib" "$copy/crates/$below/out/"
+        fi
+    done
 done
 
 # Says of each wrong body of a crate that it was refused, and why, or that it was not.

@@ -11,7 +11,7 @@ use units::Fault;
 
 /// The messages that were put out, each with its number, from 0. A network may deliver each never, once or again, in any
 /// order, so none is ever taken out or altered.
-#[derive(Debug, Drop)]
+#[derive(Drop)]
 pub struct Bag {
     envelopes: Vec<Envelope>,
 }

@@ -3,4 +3,4 @@
 
 mod entry;
 
-pub use entry::Entry;
+pub use entry::BoardEntry;

@@ -7,7 +7,7 @@ ghost use Rattle.cli.specs.Failures.{FailsFor};
 ghost use Rattle.cli.specs.Replies.{commit_line, first_stamp, done_line, once_reply};
 ghost use Rattle.cli.specs.Shards.{HasLog, IsLogged, new_log, log_after};
 ghost use Rattle.cli.specs.Streams.{failures_of, writer_of};
-ghost use Rattle.disk.specs.declared.plan.Plan.TheVariants.{Never};
+ghost use Rattle.disk.specs.declared.plan.FailurePlan.TheVariants.{Never};
 ghost use Rattle.simdisk.specs.State.{disk_plan};
 ghost use Rattle.shard.specs.Core.{seen};
 

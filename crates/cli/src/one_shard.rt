@@ -4,7 +4,7 @@ ghost use Rattle.truetime.specs.Reading.{surely_after};
 ghost use Rattle.units.specs.declared.fault.Fault.TheVariants.{Memory};
 ghost use Rattle.cli.specs.Replies.{first_stamp, only_txn};
 ghost use Rattle.cli.specs.Shards.{HasLog, only_setup, only_write, only_commit, new_log, decided_log, log_after};
-ghost use Rattle.disk.specs.declared.plan.Plan.TheVariants.{Never};
+ghost use Rattle.disk.specs.declared.plan.FailurePlan.TheVariants.{Never};
 ghost use Rattle.shard.specs.Core.{seen};
 ghost use Rattle.simdisk.specs.State.{disk_plan};
 

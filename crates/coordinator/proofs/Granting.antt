@@ -18,7 +18,7 @@ use Rattle.protocol.specs.Cells.{commit_stamp, other_parts, still_stand, plan_ab
 use Rattle.protocol.specs.Cells.{plan_commit_granted}
 use Rattle.memory.specs.Kept.{Kept, start_of, standing_of, IsPlanned}
 use Rattle.memory.specs.declared.plan.Plan.{Plan}
-use Rattle.memory.specs.declared.state.Past.{Past}
+use Rattle.memory.specs.declared.state.PastStanding.{PastStanding}
 use Rattle.coordinator.specs.Granted.{decides, collects, waits}
 
 -- ---- time
@@ -113,8 +113,8 @@ fresh_gone b latest m held e =
     ap (λ a. cond a (timed (latest + 1) (plan_commit_now b latest m)) (Ok (plan_abort b m.txn m.parts))) e
 
 -- a transaction that is not known holds nothing
-pub commit_unknown : (k : Kept) (latest : ℕ) (m : Commit) (past : Past) (result : Result Plan Fault)
-    → find_row k.memory.rows m.txn ≡ None → past ≡ Past.Unknown
+pub commit_unknown : (k : Kept) (latest : ℕ) (m : Commit) (past : PastStanding) (result : Result Plan Fault)
+    → find_row k.memory.rows m.txn ≡ None → past ≡ PastStanding.Unknown
     → IsPlanned k (plan_commit_fresh (start_of k) latest m (held_in k.memory.rows m.txn)) result
     → IsPlanned k (plan_commit (start_of k) latest m (standing_of past)) result
 unfolding plan_commit

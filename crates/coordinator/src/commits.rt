@@ -13,7 +13,7 @@ ghost use Rattle.memory.specs.Kept.{start_of, standing_of, IsPlanned};
 ghost use Rattle.memory.specs.Plans.{plan_of};
 ghost use Rattle.coordinator.specs.Granted.{decides, collects, waits};
 
-use memory::{Change, Past, Plan, Request, State, done_to, exclusive, reads_stand};
+use memory::{Change, PastStanding, Plan, Request, State, done_to, exclusive, reads_stand};
 use message::Commit;
 use record::{Committed, Record};
 use rows::{CommitRequest, Gathering, Row, Wait};
@@ -86,7 +86,7 @@ fn commit_without_row(
     alloc: Global,
     now: &Reading,
     commit: &Commit,
-    past: Past,
+    past: PastStanding,
 ) -> Result<Plan, Fault>
     requires none { find_row state.now.memory.rows commit.now.txn ≡ None }
     requires ends { may_end state.now.memory.rows commit.now.txn ≡ true }
@@ -95,11 +95,11 @@ fn commit_without_row(
     ensures fit { IfOk result (IsFit state.now) }
 {
     match past {
-        Past::Unknown => commit_fresh(state, alloc, now, commit),
-        Past::Ended => state.aborts(alloc, commit.txn, commit.parts),
-        Past::Aborted => state.reply(alloc, done_to(commit.txn, None)),
-        Past::Settled { at, parts: _ } => state.reply(alloc, done_to(commit.txn, Some(at))),
-        Past::Closed { .. } => Err(Fault::Stranger),
+        PastStanding::Unknown => commit_fresh(state, alloc, now, commit),
+        PastStanding::Ended => state.aborts(alloc, commit.txn, commit.parts),
+        PastStanding::Aborted => state.reply(alloc, done_to(commit.txn, None)),
+        PastStanding::Settled { at, parts: _ } => state.reply(alloc, done_to(commit.txn, Some(at))),
+        PastStanding::Closed { .. } => Err(Fault::Stranger),
     }
 }
 

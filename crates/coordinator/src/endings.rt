@@ -12,11 +12,10 @@ ghost use Rattle.memory.specs.Kept.{start_of, standing_of, IsPlanned};
 ghost use Rattle.memory.specs.Plans.{plan_of};
 
 use crate::parts::is_of_part;
-use memory::{Past, Plan, State, done_to, outcome_to};
+use memory::{PastStanding, Plan, State, done_to, outcome_to};
 use message::{Ask, Envelope, GiveUp, Outcome};
-use participant::end_reading;
 use record::Record;
-use rows::{Decided, Row, Wait};
+use rows::{Row, RowDecided, Wait};
 use std::alloc::Global;
 use truetime::Reading;
 use units::{Fault, Stamp, TxnId};
@@ -41,7 +40,7 @@ fn give_up_with_row(state: &State, alloc: Global, given: &GiveUp, row: &Row) -> 
     ensures fit { IfOk result (IsFit state.now) }
 {
     match row {
-        Row::Reading(reading) => end_reading(state, alloc, given.txn, reading.wait()),
+        Row::Reading(reading) => state.ends_reading(alloc, given.txn, reading.wait()),
         Row::Collecting(collecting) => {
             state.aborts(alloc, given.txn, collecting.request().parts)
         }
@@ -55,17 +54,18 @@ fn give_up_without_row(
     state: &State,
     alloc: Global,
     given: &GiveUp,
-    past: Past,
+    past: PastStanding,
 ) -> Result<Plan, Fault>
     requires { may_end state.now.memory.rows given.now.txn ≡ true }
     ensures planned { IsPlanned state.now (Ok (plan_give_up (start_of state.now) given.now.txn (standing_of past))) result }
     ensures fit { IfOk result (IsFit state.now) }
 {
     match past {
-        Past::Unknown => end_reading(state, alloc, given.txn, None),
-        Past::Ended | Past::Aborted | Past::Settled { .. } | Past::Closed { .. } => {
-            Ok(state.idles(alloc))
-        }
+        PastStanding::Unknown => state.ends_reading(alloc, given.txn, None),
+        PastStanding::Ended
+        | PastStanding::Aborted
+        | PastStanding::Settled { .. }
+        | PastStanding::Closed { .. } => Ok(state.idles(alloc)),
     }
 }
 
@@ -115,21 +115,26 @@ fn ask_with_wait(
 
 // A question about a transaction that has no row.
 #[tactic(auto, unfolding(protocol::specs::Cells::plan_ask))]
-fn ask_without_row(state: &State, alloc: Global, ask: &Ask, past: Past) -> Result<Plan, Fault>
+fn ask_without_row(
+    state: &State,
+    alloc: Global,
+    ask: &Ask,
+    past: PastStanding,
+) -> Result<Plan, Fault>
     requires { may_drop state.now.memory.rows ask.now.txn ≡ true }
     ensures planned { IsPlanned state.now (plan_ask (start_of state.now) ask.now.from ask.now.txn (standing_of past)) result }
     ensures fit { IfOk result (IsFit state.now) }
 {
     match past {
-        Past::Unknown | Past::Ended => abort_for(state, alloc, ask),
-        Past::Aborted => answer(state, alloc, ask, None),
-        Past::Settled { at, parts } => {
+        PastStanding::Unknown | PastStanding::Ended => abort_for(state, alloc, ask),
+        PastStanding::Aborted => answer(state, alloc, ask, None),
+        PastStanding::Settled { at, parts } => {
             if !is_of_part(state, parts, ask.from) {
                 return Err(Fault::Stranger);
             }
             answer(state, alloc, ask, Some(at))
         }
-        Past::Closed { .. } => Err(Fault::Stranger),
+        PastStanding::Closed { .. } => Err(Fault::Stranger),
     }
 }
 
@@ -204,7 +209,7 @@ fn settle_decided(
     alloc: Global,
     now: &Reading,
     txn: TxnId,
-    decided: &Decided,
+    decided: &RowDecided,
 ) -> Result<Plan, Fault>
     requires { has_phase may_close state.now.memory.rows txn ≡ true }
     ensures planned { IsPlanned state.now (plan_settle (start_of state.now) now.now.earliest txn (HasRow (held_in state.now.memory.rows txn) (IsDecided decided.now.at decided.now.parts))) result }

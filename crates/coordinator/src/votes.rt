@@ -17,9 +17,9 @@ ghost use Rattle.coordinator.specs.Granted.{decides, more_votes};
 
 use crate::commits::{commit_time, decision_of};
 use crate::parts::is_of_part;
-use memory::{Change, Past, Plan, Request, State, outcome_to};
+use memory::{Change, PastStanding, Plan, Request, State, outcome_to};
 use message::{Outcome, Vote};
-use rows::{Collecting, Row, Voted, Wait};
+use rows::{Row, RowCollecting, Voted, Wait};
 use std::alloc::Global;
 use units::{Fault, Ids, ShardNo, Stamp, TxnId};
 
@@ -69,20 +69,25 @@ fn vote_with_wait(
 
 // A vote for a transaction that has no row.
 #[tactic(auto, unfolding(protocol::specs::Cells::plan_vote))]
-fn vote_without_row(state: &State, alloc: Global, vote: &Vote, past: Past) -> Result<Plan, Fault>
+fn vote_without_row(
+    state: &State,
+    alloc: Global,
+    vote: &Vote,
+    past: PastStanding,
+) -> Result<Plan, Fault>
     ensures planned { IsPlanned state.now (plan_vote (start_of state.now) vote.now.from vote.now.txn vote.now.vote (standing_of past)) result }
     ensures fit { IfOk result (IsFit state.now) }
 {
     match past {
-        Past::Unknown | Past::Ended => Ok(state.idles(alloc)),
-        Past::Aborted => tell(state, alloc, vote, None),
-        Past::Settled { at, parts } => {
+        PastStanding::Unknown | PastStanding::Ended => Ok(state.idles(alloc)),
+        PastStanding::Aborted => tell(state, alloc, vote, None),
+        PastStanding::Settled { at, parts } => {
             if !is_of_part(state, parts, vote.from) {
                 return Err(Fault::Stranger);
             }
             tell(state, alloc, vote, Some(at))
         }
-        Past::Closed { .. } => Err(Fault::Stranger),
+        PastStanding::Closed { .. } => Err(Fault::Stranger),
     }
 }
 
@@ -112,7 +117,7 @@ fn vote_collected(
     state: &State,
     alloc: Global,
     vote: &Vote,
-    collecting: &Collecting,
+    collecting: &RowCollecting,
 ) -> Result<Plan, Fault>
     requires row { find_row state.now.memory.rows vote.now.txn ≡ Some (record { txn = vote.now.txn; held = held_in state.now.memory.rows vote.now.txn; phase = CollectsVotes collecting.now.request.latest collecting.now.request.parts collecting.now.request.reads collecting.now.request.writes collecting.now.votes }) }
     requires collects { has_phase is_collecting state.now.memory.rows vote.now.txn ≡ true }
@@ -140,7 +145,7 @@ fn vote_collected(
 fn count(
     state: &State,
     alloc: Global,
-    collecting: &Collecting,
+    collecting: &RowCollecting,
     txn: TxnId,
     last: &Voted,
 ) -> Result<Plan, Fault>
@@ -159,7 +164,7 @@ fn count(
 fn decide_last(
     state: &State,
     alloc: Global,
-    collecting: &Collecting,
+    collecting: &RowCollecting,
     txn: TxnId,
     last: &Voted,
 ) -> Result<Plan, Fault>
@@ -194,7 +199,7 @@ fn decide_counted(
     alloc: Global,
     txn: TxnId,
     at: Stamp,
-    collecting: &Collecting,
+    collecting: &RowCollecting,
 ) -> Result<Plan, Fault>
     requires { has_phase is_collecting state.now.memory.rows txn ≡ true }
     ensures plan { IfOk result (λ plan. plan_of state.now.memory.rows plan ≡ decides (start_of state.now) [] txn [] at collecting.now.request.parts collecting.now.request.reads collecting.now.request.writes) }
@@ -214,7 +219,7 @@ fn decide_counted(
 
 // Each of the other parts has voted, once this vote is counted too.
 #[tactic(auto, unfolding(crate::specs::Granted::more_votes))]
-fn have_all_voted(state: &State, collecting: &Collecting, last: &Voted) -> bool
+fn have_all_voted(state: &State, collecting: &RowCollecting, last: &Voted) -> bool
     ensures { result ≡ all_voted (other_parts state.now.setup.shard collecting.now.request.parts) (with_vote last.now.shard last.now.at collecting.now.votes) }
 {
     let mask = collecting.request().parts.mask();
@@ -273,7 +278,7 @@ fn greatest_vote(votes: &[Voted]) -> Stamp
 }
 
 // The timestamp of the decision, once this vote is counted too.
-fn decision_time(state: &State, collecting: &Collecting, last: &Voted) -> Result<Stamp, Fault>
+fn decision_time(state: &State, collecting: &RowCollecting, last: &Voted) -> Result<Stamp, Fault>
     ensures { MatchResult result
         (λ at. (at ≡ commit_stamp state.now.memory.last collecting.now.request.latest (with_vote last.now.shard last.now.at collecting.now.votes)) × (at < 2 ^ 62))
         (λ fault. (fault ≡ Fault.TimeSpent) × (2 ^ 62 ≤ commit_stamp state.now.memory.last collecting.now.request.latest (with_vote last.now.shard last.now.at collecting.now.votes))) }

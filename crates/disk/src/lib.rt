@@ -3,7 +3,7 @@
 
 ghost use Rattle.std.specs.Prelude.{◌≡◌, ◌≤◌, ◌+◌, List, ℕ, length, take, drop, OnOk, OnErr, IfErr, IsErr, IsTrue, if◌then◌else◌};
 ghost use Rattle.units.specs.declared.fault.Fault.TheVariants.{Memory};
-ghost use Rattle.disk.specs.declared.plan.Plan.{Plan};
+ghost use Rattle.disk.specs.declared.plan.FailurePlan.{FailurePlan};
 ghost use Rattle.disk.specs.Image.{MayLeave, after_write, after_cut, after_sync, tried_write, tried_cut, IsWithin};
 ghost use Rattle.disk.specs.File.{File, wrote, tried, cut, surface, with_change, synced};
 ghost use Rattle.disk.specs.Planned.{fails, next, at_write, armed, IsAsPlanned};
@@ -11,7 +11,7 @@ ghost use Rattle.disk.specs.Moments.{Elapses, HasCause};
 
 mod plan;
 
-pub use plan::{Fate, Plan};
+pub use plan::{FailurePlan, Fate};
 use units::Fault;
 
 /// One file on a device, with what a crash may leave of it. Every refusal but that of `reserve` is `Fault::Device`.
@@ -35,7 +35,7 @@ pub trait Disk {
     ghost failures: { Self → ℕ };
 
     /// Which call is to fail.
-    ghost plan: { Self → Plan };
+    ghost plan: { Self → FailurePlan };
 
     /// That many more changes and syncs, of that many bytes in all, need no memory.
     ghost has_room: { Self → ℕ → ℕ → Type 0 };

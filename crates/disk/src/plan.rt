@@ -4,7 +4,7 @@ ghost use Rattle.disk.specs.Planned.{fails, next, at_write, armed};
 
 /// Which of the calls `read_at`, `write_at`, `cut` and `sync` is to fail.
 #[derive(Clone, Copy, Debug, PartialEq, Eq)]
-pub enum Plan {
+pub enum FailurePlan {
     /// No call.
     Never,
     /// The call that comes so many calls from now: 0 is the next.
@@ -13,20 +13,20 @@ pub enum Plan {
     AfterWrite(u64),
 }
 
-impl Plan {
+impl FailurePlan {
     /// A call is made that is no write. Answers whether it fails.
     pub fn call(&mut self) -> bool
         ensures fails { result ≡ fails self.old }
         ensures next { self.new ≡ next self.old }
     {
         match *self {
-            Plan::Never | Plan::AfterWrite(_) => false,
-            Plan::After(0) => {
-                *self = Plan::Never;
+            FailurePlan::Never | FailurePlan::AfterWrite(_) => false,
+            FailurePlan::After(0) => {
+                *self = FailurePlan::Never;
                 true
             }
-            Plan::After(calls) => {
-                *self = Plan::After(calls - 1);
+            FailurePlan::After(calls) => {
+                *self = FailurePlan::After(calls - 1);
                 false
             }
         }
@@ -37,19 +37,19 @@ impl Plan {
         ensures fails { result ≡ fails (at_write self.old) }
         ensures next { self.new ≡ next (at_write self.old) }
     {
-        if let Plan::AfterWrite(calls) = *self {
-            *self = Plan::After(calls);
+        if let FailurePlan::AfterWrite(calls) = *self {
+            *self = FailurePlan::After(calls);
         }
         self.call()
     }
 
     /// The plan that `Disk::arm` makes.
-    pub fn armed(call: Option<u64>) -> Plan
+    pub fn armed(call: Option<u64>) -> FailurePlan
         ensures { result ≡ armed call }
     {
         match call {
-            None => Plan::Never,
-            Some(calls) => Plan::AfterWrite(calls),
+            None => FailurePlan::Never,
+            Some(calls) => FailurePlan::AfterWrite(calls),
         }
     }
 }

@@ -1,7 +1,7 @@
 -- The entries of the code, as the definition of the facts has them.
-use Rattle.std.specs.Prelude.{List, map, Option, Some, None}
+use Rattle.std.specs.Prelude.{List, [], ◌∷◌, map, Option, Some, None}
 use Rattle.units.specs.Ids.{Id, same_id}
-use Rattle.units.specs.ById.{IsById}
+use Rattle.units.specs.ById.{with_member}
 use Rattle.units.specs.Lists.{first}
 use Rattle.record.specs.Records.{Unrecorded, StandsPrepared, StandsDecided, HasAborted, HasSettled, HasClosed}
 use Rattle.record.specs.Records as records
@@ -23,13 +23,14 @@ meant None = Unrecorded
 meant (Some s) = meaning s
 
 -- the entries that are meant
-abbrev pub shown_entries : List (Id × Status) → List facts.Entry
+abbrev pub shown_entries : List (Id × Status) → List facts.TxnStatus
 shown_entries es = map (λ e. record { txn = e.0; status = meaning e.1 }) es
 
--- each id is older than all behind it
-abbrev pub AscendsById : List (Id × Status) → Type 0
-AscendsById es = IsById (λ e. e.0) es
+-- the entries by ascending id
+abbrev pub by_id : List (Id × Status) → List (Id × Status)
+by_id [] = []
+by_id (e ∷ es) = with_member (λ x. x.0) (by_id es) e
 
 -- the status of an id among some entries
-abbrev pub status_in : List facts.Entry → Id → records.Status
+abbrev pub status_in : List facts.TxnStatus → Id → records.Status
 status_in es t = facts.or_unrecorded (first (λ e. same_id e.txn t) es)

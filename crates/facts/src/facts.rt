@@ -5,12 +5,11 @@ ghost use Rattle.units.specs.declared.fault.Fault.TheVariants.{Memory, Damaged};
 ghost use Rattle.record.specs.Facts.{facts_of, learn, recorded, after_outcome};
 ghost use Rattle.facts.specs.Readers.{standing_promise, standing_decision, has_abort, outcome_in};
 ghost use Rattle.facts.specs.Rules.{follows_facts, is_unrecorded, allows};
-ghost use Rattle.facts.specs.Shown.{meaning, meant, shown_entries, AscendsById};
+ghost use Rattle.facts.specs.Shown.{meaning, meant};
 
 use crate::Status;
 use crate::table::{install, put};
 use indexmap::IndexMap;
-use indexmap::map::Slice;
 use record::{Committed, Prepared, Record};
 use std::alloc::Global;
 use std::marker::Model;
@@ -23,6 +22,7 @@ pub struct Facts {
     shard: ShardNo,
     epoch: u64,
     floor: Stamp,
+    // In the order in which the transactions came.
     statuses: IndexMap<TxnId, Status>,
     installs: Vec<Install>,
 }
@@ -31,18 +31,18 @@ impl Model for Facts {
     ghost use Rattle.std.specs.Prelude.{◌<◌, ◌^◌, ◌-◌, vec_len, vec_capacity};
     ghost use Rattle.indexmap.specs.IndexMap.{spare};
     ghost use Rattle.facts.specs.Known.{Known, room_for};
-    ghost use Rattle.facts.specs.Shown.{shown_entries, AscendsById};
+    ghost use Rattle.facts.specs.Shown.{shown_entries, by_id};
     ghost use Rattle.record.specs.Facts.{facts_with};
 
     ghost Value = { Known };
 
     ghost view = { λ f. record {
       shard = f.shard;
-      facts = facts_with f.epoch f.floor (shown_entries f.statuses.entries) f.installs.items;
+      facts = facts_with f.epoch f.floor (shown_entries (by_id f.statuses.entries)) f.installs.items;
       room = room_for (spare f.statuses) (vec_capacity f.installs - vec_len f.installs);
     } };
 
-    ghost invariant = { λ f. (f.epoch < 2 ^ 62) × AscendsById f.statuses.entries };
+    ghost invariant = { λ f. f.epoch < 2 ^ 62 };
 }
 
 impl Facts {
@@ -128,15 +128,6 @@ impl Facts {
         ensures { result ≡ outcome_in (recorded self.now.facts txn) }
     {
         self.status(txn)?.outcome()
-    }
-
-    /// The transactions that have a record, by ascending id, each with how it stands. The slice is gone over by `for`, or read
-    /// by place with `len` and `get_index`.
-    pub fn entries(&self) -> Slice<'_, TxnId, Status>
-        ensures entries { shown_entries result ≡ self.now.facts.entries }
-        ensures ascending { AscendsById result }
-    {
-        self.statuses.as_slice()
     }
 
     /// The versions, in the log's order.

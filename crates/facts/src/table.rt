@@ -1,9 +1,9 @@
-//! The transactions that have a record, by ascending id, and the versions.
+//! The transactions that have a record, in the order in which they came, and the versions.
 ghost use Rattle.std.specs.Prelude.{◌≡◌, ◌+◌, ◌<◌, ◌≤◌, ◌++◌, Some, vec_len, vec_capacity};
 ghost use Rattle.indexmap.specs.IndexMap.{spare};
 ghost use Rattle.units.specs.Versions.{versions};
 ghost use Rattle.record.specs.Facts.{with_status, installs_at};
-ghost use Rattle.facts.specs.Shown.{meaning, meant, shown_entries, status_in, AscendsById};
+ghost use Rattle.facts.specs.Shown.{meaning, meant, shown_entries, by_id, status_in};
 
 use crate::Status;
 use indexmap::IndexMap;
@@ -11,14 +11,12 @@ use units::{Install, Stamp, TxnId, Write, Writes};
 
 /// Sets how a transaction stands, and hands back how it stood. It takes no memory.
 pub fn put(statuses: &mut IndexMap<TxnId, Status>, txn: TxnId, status: Status) -> Option<Status>
-    requires order { AscendsById statuses.old.entries }
-    requires room { 1 ≤ spare statuses.old }
-    ensures entries { shown_entries statuses.new.entries ≡ with_status (shown_entries statuses.old.entries) txn (meaning status) }
-    ensures former { meant result ≡ status_in (shown_entries statuses.old.entries) txn }
-    ensures order { AscendsById statuses.new.entries }
+    requires { 1 ≤ spare statuses.old }
+    ensures entries { shown_entries (by_id statuses.new.entries) ≡ with_status (shown_entries (by_id statuses.old.entries)) txn (meaning status) }
+    ensures former { meant result ≡ status_in (shown_entries (by_id statuses.old.entries)) txn }
 {
-    match statuses.insert_sorted(txn, status) {
-        Ok((_, former)) => former,
+    match statuses.insert(txn, status) {
+        Ok(former) => former,
         Err(_) => unreachable!(),
     }
 }

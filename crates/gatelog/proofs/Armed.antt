@@ -5,8 +5,8 @@ use Rattle.std.specs.Prelude.{IsTrue, OnOk, IsOk, IsErr, nat_le, nat_lt}
 use Rattle.std.proofs.lemmas.Bool.{cases_eq, eq-eqb, ne_eqb, false≢true, le-leb, lt-leb, le-ltb}
 use Rattle.record.specs.declared.record.Record.{Record}
 use Rattle.record.specs.Grammar.{IsRecord}
-use Rattle.disk.specs.declared.plan.Plan.{Plan}
-use Rattle.disk.specs.declared.plan.Plan.TheVariants.{Never, After, AfterWrite}
+use Rattle.disk.specs.declared.plan.FailurePlan.{FailurePlan}
+use Rattle.disk.specs.declared.plan.FailurePlan.TheVariants.{Never, After, AfterWrite}
 use Rattle.disk.specs.declared.plan.Fate.{Fate}
 use Rattle.disk.specs.declared.plan.Fate.TheVariants.{Old, New, Filled}
 use Rattle.disk.specs.Image.{MayLeave, IsSynced, with_bytes, tried_write}
@@ -18,7 +18,7 @@ use Rattle.gatelog.specs.Placed.{Placed}
 use Rattle.gatelog.specs.Frames.{staged_bytes}
 use Rattle.gatelog.specs.Gates.{open_gate, is_read, opens_gate}
 use Rattle.gatelog.specs.Log.{log, scan, ends_at, and_entry}
-use Rattle.gatelog.specs.Armed.{fails_in_two, after_two, two_made, fails_in_append, appended, with_if, IsArmed}
+use Rattle.gatelog.specs.Armed.{fails_in_two, after_two, two_made, fails_in_append, appended, waits, with_if, IsArmed}
 use Rattle.gatelog.proofs.Scan.{gate_within}
 use Rattle.gatelog.proofs.Images.{ends_found, staged_long, log-staged, log-shut, log-opened, log-staging}
 
@@ -49,6 +49,12 @@ on_err A (Err error) err = tt
 pub of_ok : {T E : Type 0} (A : Type 0) (result : Result T E) → IsOk result → OnOk result A → A
 of_ok A (Ok value) ok a = a
 of_ok A (Err error) ok a = absurd (false≢true ok)
+
+-- what waits for a write does not fail before, and goes on waiting
+pub waits_on : (plan : FailurePlan) → waits plan ≡ true → (fails plan ≡ false) × (next plan ≡ plan)
+waits_on Never is = (refl, refl)
+waits_on (After calls) is = absurd (false≢true is)
+waits_on (AfterWrite calls) is = (refl, refl)
 
 -- a sync that does not fail
 pub synced_unless : (failed : Bool) (old mid new : File) → failed ≡ false → mid ≡ old → new ≡ (if failed then mid else synced mid) → new ≡ synced old
@@ -119,7 +125,7 @@ late_file call gate bytes file le =
     let late = late_calls call le in
     let half = two_made (AfterWrite call) (gate + 1) bytes file in
     ap (λ (b : Bool). if b then half else two_made (after_two (AfterWrite call)) gate (open_gate ∷ []) half) late.0
-    ∙ ap (λ (p : Plan). two_made p gate (open_gate ∷ []) half) late.1
+    ∙ ap (λ (p : FailurePlan). two_made p gate (open_gate ∷ []) half) late.1
     ∙ two_whole (call - 1 - 1) gate (open_gate ∷ []) half (omega (arith, le))
     ∙ ap (λ (f : File). synced (with_change (wrote gate (open_gate ∷ [])) f)) (two_whole call (gate + 1) bytes file (omega (arith, le)))
 

@@ -2,7 +2,7 @@
 ghost use Rattle.std.specs.Prelude.{◌≡◌, ◌≤◌, ◌<◌, length, OnOk, ℕ, ◌+◌};
 ghost use Rattle.disk.specs.Image.{MayLeave, after_write, after_sync, tried_write};
 ghost use Rattle.disk.specs.File.{surface};
-ghost use Rattle.disk.specs.declared.plan.Plan.TheVariants.{Never};
+ghost use Rattle.disk.specs.declared.plan.FailurePlan.TheVariants.{Never};
 ghost use Rattle.disk.specs.Planned.{IsAsPlanned};
 ghost use Rattle.gatelog.specs.Armed.{fails_in_two, after_two, two_made};
 ghost use Rattle.disk.specs.Moments.{LeavesOnly, HasCause};

@@ -1,14 +1,14 @@
 //! The log. A closed gate stands behind the last frame, on the disk before anything is written behind it. It is opened by
 //! a write of its own, once the frame behind it is on the disk.
-ghost use Rattle.std.specs.Prelude.{◌≡◌, ◌⊎◌, ◌+◌, ◌≤◌, ◌<◌, ◌^◌, [], length, IsTrue, IsFalse, IfOk, IfErr, IsOk, OnOk, ℕ, nat_lt, Ok, Err};
+ghost use Rattle.std.specs.Prelude.{◌≡◌, ◌⊎◌, ◌+◌, ◌≤◌, ◌<◌, ◌^◌, [], length, IsTrue, IsFalse, IfOk, IfErr, IsOk, OnOk, ℕ, nat_lt, map, true, Ok, Err};
 ghost use Rattle.disk.specs.Image.{MayLeave, IsSynced, after_sync};
 ghost use Rattle.disk.specs.File.{surface, synced};
-ghost use Rattle.disk.specs.declared.plan.Plan.TheVariants.{Never, AfterWrite};
+ghost use Rattle.disk.specs.declared.plan.FailurePlan.TheVariants.{Never, AfterWrite};
 ghost use Rattle.disk.specs.Planned.{IsAsPlanned, armed};
 ghost use Rattle.disk.specs.Moments.{LeavesOnly, HasCause};
-ghost use Rattle.gatelog.specs.Armed.{fails_in_append, appended, IsArmed};
+ghost use Rattle.gatelog.specs.Armed.{fails_in_append, appended, waits, IsArmed};
 ghost use Rattle.gatelog.specs.Crash.{Stands, IsOldOrWith};
-ghost use Rattle.gatelog.specs.Frames.{next_gate, staged_bytes, IsFull};
+ghost use Rattle.gatelog.specs.Frames.{end_of, next_gate, staged_bytes, IsFull};
 ghost use Rattle.gatelog.specs.Gates.{first_gate};
 ghost use Rattle.gatelog.specs.Log.{log, and_entry, ends_at, is_no_log};
 
@@ -130,6 +130,7 @@ impl<D: Disk> GateLog<D> {
     pub fn open(alloc: Global, disk: D) -> Result<(GateLog<D>, Vec<Entry>), (Fault, D)>
         ensures entries { IfOk result (λ opened. D.keeps_model → log (surface (D.file disk)).seen ≡ Ok opened.1.items) }
         ensures gate { IfOk result (λ opened. D.keeps_model → IsTrue (ends_at (surface (D.file disk)).seen (gate_at opened.0))) }
+        ensures end { IfOk result (λ opened. gate_at opened.0 ≡ end_of (map (λ e. e.item) opened.1.items)) }
         ensures running { IfOk result (λ opened. IsFalse (is_stopped opened.0)) }
         ensures synced { IfOk result (λ opened. D.keeps_model → surface (D.file (disk_of opened.0)) ≡ after_sync (surface (D.file disk))) }
         // A crash at any moment of the call leaves no more than one before it.
@@ -142,9 +143,15 @@ impl<D: Disk> GateLog<D> {
         ensures unchanged { IfErr result (λ refused. (refused.0 ≡ Fault.Device) ⊎ (D.keeps_model → (surface (D.file refused.1)).seen ≡ (surface (D.file disk)).seen)) }
         ensures failures_stay { IfOk result (λ opened. D.failures disk ≤ D.failures (disk_of opened.0)) }
 
-        // With no call armed, the device does not fail.
-        ensures planned { D.obeys → D.plan disk ≡ Never → IfOk result (λ opened. (D.plan (disk_of opened.0) ≡ Never) × (D.file (disk_of opened.0) ≡ synced (D.file disk))) }
-        ensures refused_planned { D.obeys → D.plan disk ≡ Never → IfErr result (λ refused. ((D.file refused.1 ≡ D.file disk) ⊎ (D.file refused.1 ≡ synced (D.file disk)))
+        // Refused, but for `Memory` and `Device`, the file is synced.
+        ensures refused_synced { IfErr result (λ refused. (refused.0 ≡ Fault.Memory) ⊎ ((refused.0 ≡ Fault.Device)
+            ⊎ (D.keeps_model → surface (D.file refused.1) ≡ after_sync (surface (D.file disk))))) }
+
+        // With no call to fail before the next write, the device does not fail.
+        ensures planned { D.obeys → waits (D.plan disk) ≡ true
+            → IfOk result (λ opened. (D.plan (disk_of opened.0) ≡ D.plan disk) × (D.file (disk_of opened.0) ≡ synced (D.file disk))) }
+        ensures refused_planned { D.obeys → waits (D.plan disk) ≡ true
+            → IfErr result (λ refused. ((D.file refused.1 ≡ D.file disk) ⊎ (D.file refused.1 ≡ synced (D.file disk)))
             × ((refused.0 ≡ Fault.Memory) ⊎ (IsTrue (is_no_log refused.0) × (D.keeps_model → log (surface (D.file disk)).seen ≡ Err refused.0)))) }
     {
         let mut disk = disk;

@@ -1,10 +1,12 @@
 //! Reading a log from its file.
-ghost use Rattle.std.specs.Prelude.{◌≡◌, ◌⊎◌, ◌<◌, ◌≤◌, ◌+◌, Ok, Err, length, IsTrue, IfOk, IfErr, IfSome, OnOk, MatchResult};
+ghost use Rattle.std.specs.Prelude.{◌≡◌, ◌⊎◌, ◌<◌, ◌≤◌, ◌+◌, Ok, Err, length, IsTrue, IfOk, IfErr, IfSome, OnOk, MatchResult, map, true};
 ghost use Rattle.disk.specs.Image.{MayLeave, after_sync};
-ghost use Rattle.disk.specs.declared.plan.Plan.TheVariants.{Never};
 ghost use Rattle.disk.specs.File.{surface, synced};
 ghost use Rattle.disk.specs.Moments.{LeavesOnly};
+ghost use Rattle.gatelog.specs.Armed.{waits};
+ghost use Rattle.gatelog.specs.Frames.{end_of};
 ghost use Rattle.gatelog.specs.Log.{framed, scan, is_no_log};
+ghost use Rattle.record.specs.Grammar.{spelling};
 
 use crate::frame::{FIRST_GATE, HEADER, OPEN_GATE};
 use crate::token::Entry;
@@ -19,6 +21,7 @@ use units::Fault;
 fn frame_of(alloc: Global, bytes: &[u8]) -> Result<Option<(Record, usize)>, Fault>
     ensures read { MatchResult result (λ found. framed bytes.now ≡ found) (λ fault. fault ≡ Fault.Memory) }
     ensures fits { IfOk result (λ found. IfSome found (λ frame. frame.1 ≤ length bytes.now)) }
+    ensures size { IfOk result (λ found. IfSome found (λ frame. frame.1 ≡ 4 + length (spelling frame.0))) }
 {
     if bytes.len() < 4 {
         return Ok(None);
@@ -39,6 +42,7 @@ fn frame_of(alloc: Global, bytes: &[u8]) -> Result<Option<(Record, usize)>, Faul
 /// The entries of a file, and the offset of its closed gate.
 pub fn entries_of(alloc: Global, image: &[u8]) -> Result<(Vec<Entry>, u64), Fault>
     ensures found { IfOk result (λ found. scan image.now ≡ Ok (found.0.items, found.1)) }
+    ensures end { IfOk result (λ found. found.1 ≡ end_of (map (λ e. e.item) found.0.items)) }
     ensures refused { IfErr result (λ fault. (fault ≡ Fault.Memory) ⊎ ((scan image.now ≡ Err fault) × IsTrue (is_no_log fault))) }
 {
     if image.len() < FIRST_GATE as usize {
@@ -73,11 +77,11 @@ pub fn read_synced<D: Disk>(alloc: Global, disk: &mut D) -> Result<Vec<u8>, Faul
     ensures bytes { IfOk result (λ image. D.keeps_model → image.items ≡ (surface (D.file disk.old)).seen) }
     ensures crash { D.keeps_model → LeavesOnly D.clock D.since disk.old disk.new (MayLeave (surface (D.file disk.old))) }
     ensures unchanged { IfErr result (λ fault. (fault ≡ Fault.Device) ⊎ (D.keeps_model → (surface (D.file disk.new)).seen ≡ (surface (D.file disk.old)).seen)) }
-    // With no call armed, only memory is refused.
-    ensures memory { D.obeys → D.plan disk.old ≡ Never → IfErr result (λ fault. fault ≡ Fault.Memory) }
-    ensures plan { D.obeys → D.plan disk.old ≡ Never → D.plan disk.new ≡ Never }
-    ensures file { D.obeys → D.plan disk.old ≡ Never → OnOk result (D.file disk.new ≡ synced (D.file disk.old)) }
-    ensures file_either { D.obeys → D.plan disk.old ≡ Never → (D.file disk.new ≡ D.file disk.old) ⊎ (D.file disk.new ≡ synced (D.file disk.old)) }
+    // With no call to fail before the next write, only memory is refused.
+    ensures memory { D.obeys → waits (D.plan disk.old) ≡ true → IfErr result (λ fault. fault ≡ Fault.Memory) }
+    ensures plan { D.obeys → waits (D.plan disk.old) ≡ true → D.plan disk.new ≡ D.plan disk.old }
+    ensures file { D.obeys → waits (D.plan disk.old) ≡ true → OnOk result (D.file disk.new ≡ synced (D.file disk.old)) }
+    ensures file_either { D.obeys → waits (D.plan disk.old) ≡ true → (D.file disk.new ≡ D.file disk.old) ⊎ (D.file disk.new ≡ synced (D.file disk.old)) }
     ensures failures_stay { D.failures disk.old ≤ D.failures disk.new }
     ensures cause { IfErr result (λ fault. (fault ≡ Fault.Memory) ⊎ ((fault ≡ Fault.Device) × (D.failures disk.old < D.failures disk.new))) }
 {

@@ -10,7 +10,7 @@ use Rattle.units.specs.declared.setup.Setup.{Setup}
 use Rattle.units.specs.declared.writes.Write.{Write}
 use Rattle.truetime.specs.Interval.{Interval}
 use Rattle.record.specs.Accepted.{Accepted, taken, followed}
-use Rattle.record.specs.Facts.{Entry, Facts, facts_of, learn}
+use Rattle.record.specs.Facts.{TxnStatus, Facts, facts_of, learn}
 use Rattle.record.specs.Installs.{installs_of}
 use Rattle.record.specs.Records.{Status, Unrecorded, StandsPrepared, StandsDecided, HasAborted, HasSettled, HasClosed}
 use Rattle.record.specs.declared.record.Record.{Record}
@@ -32,7 +32,8 @@ use Rattle.law.proofs.Stamps.{last_split}
 use Rattle.world.proofs.EveryRun.{IsWell, keeps, opens, logs}
 
 -- a row that an opening finds waits for nothing
-no_reads : (entries : List Entry) (t : Id) (k : Bytes) (row : Row) → find_row (gather standing_row entries) t ≡ Some row → IsAmong (reads_of row.phase) k → ⊥
+no_reads : (entries : List TxnStatus) (t : Id) (k : Bytes) (row : Row) → find_row (gather standing_row entries) t ≡ Some row
+    → IsAmong (reads_of row.phase) k → ⊥
 no_reads entries t k row found there =
     let s = among_gather standing_row entries row (among_first (λ (r : Row). same_id r.txn t) (gather standing_row entries) row found) in
     by_status s.from.txn s.from.status s.gives

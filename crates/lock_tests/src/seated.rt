@@ -100,6 +100,26 @@ fn gathering(alloc: Global) -> Result<Gathering, Fault> {
     Gathering::new(alloc, request)
 }
 
+// 1.1 came at 105, and has the vote at 108 alone.
+fn collects_one(rows: &Rows) -> bool {
+    let Some(Row::Collecting(state)) = rows.find(id(1)) else {
+        return false;
+    };
+    let votes = state.votes().as_slice();
+    state.txn() == id(1)
+        && state.request().latest.micros() == 105
+        && votes.len() == 1
+        && votes[0].at.micros() == 108
+}
+
+// 1.1 alone is decided, at a timestamp.
+fn is_decided_at(rows: &Rows, at: u64) -> bool {
+    match rows.nth_decided(0) {
+        Some((txn, decided)) => txn == id(1) && decided.micros() == at,
+        None => false,
+    }
+}
+
 // 1.1 collects a vote of shard 1, whose first counts, is decided at 111 and closed.
 fn decision_kept(rows: &mut Rows, alloc: Global) -> Result<bool, Fault>
     requires { rows.old.rows ≡ idle_row (record { run = 1; number = 1 }) ∷ [] }
@@ -107,19 +127,10 @@ fn decision_kept(rows: &mut Rows, alloc: Global) -> Result<bool, Fault>
     rows.collect(id(1), gathering(alloc)?);
     rows.vote(id(1), shard(1), Stamp::new(108)?);
     rows.vote(id(1), shard(1), Stamp::new(109)?);
-    let collects = match rows.find(id(1)) {
-        Some(Row::Collecting(state)) => {
-            let votes = state.votes().as_slice();
-            state.txn() == id(1)
-                && state.request().latest == Stamp::new(105)?
-                && votes.len() == 1
-                && votes[0].at == Stamp::new(108)?
-        }
-        _ => false,
-    };
+    let collects = collects_one(rows);
     let spent = rows.decide(id(1), logged(alloc, decision(alloc)?)?);
     let decided = matches!(spent, Record::Commit(_))
-        && rows.nth_decided(0) == Some((id(1), Stamp::new(111)?))
+        && is_decided_at(rows, 111)
         && rows.nth_prepared(0).is_none();
     let outcome = Record::Outcome {
         txn: id(1),

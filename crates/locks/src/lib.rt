@@ -3,8 +3,8 @@
 #![tactic(auto)]
 
 mod buffer;
+mod claim;
 mod conflict;
-mod entry;
 mod held;
 mod table;
 

@@ -6,7 +6,7 @@ ghost use Rattle.locks.specs.Ways.{is_wounding};
 ghost use Rattle.locks.specs.Table.{has_claim, with_claim, without_claim, without_claims, change_claim, entrant, made_firm, granted, waiting, resumed, withdrawn, after_request, held_in_table, needs_in_table, most_held, KeepsRoom, ReleaseMakesWay};
 
 use crate::buffer::make_room;
-use crate::entry::{Entry, holds, is_kept_out, is_wounding, place, place_for, ready, wounded};
+use crate::claim::{Claim, has, holds, is_kept_out, is_wounding, place, place_for, ready, wounded};
 use crate::held::Held;
 use std::alloc::Global;
 use std::marker::Model;
@@ -20,7 +20,7 @@ use units::{Asked, Fault, Ids, Key, Lock, TxnId};
 /// call's condition follows, and no token of another table, and no second one of the same id, can meet it.
 #[derive(Drop)]
 pub struct Table {
-    entries: Vec<Entry>,
+    entries: Vec<Claim>,
 }
 
 impl Model for Table {
@@ -66,7 +66,7 @@ impl Table {
         ensures memory { IfErr result (λ fault. fault ≡ Fault.Memory) }
     {
         let at = place_for(&self.entries, txn);
-        self.entries.insert(at, Entry::new(alloc, txn))?;
+        self.entries.insert(at, Claim::new(alloc, txn))?;
         Ok(Held {
             txn,
             buffer: Vec::new(alloc),
@@ -208,8 +208,8 @@ impl Table {
         ensures succeeds { most_held self.old held.old.txn (needs_in_table self.old held.old.txn) ≤ held.old.room → IsOk result }
     {
         let at = place(&self.entries, held.txn);
-        let entry = &self.entries[at];
-        make_room(&mut held.buffer, entry.held_count(), entry.needs_count())?;
+        let claim = &self.entries[at];
+        make_room(&mut held.buffer, claim.held_count(), claim.needs_count())?;
         self.entries[at].resume(&mut held.buffer);
         Ok(())
     }
@@ -219,6 +219,9 @@ impl Table {
         ensures { self.new ≡ without_claim self.old held.txn }
     {
         let Held { txn, buffer: _ } = held;
-        self.entries.retain(|entry| !entry.is_of(txn));
+        if has(&self.entries, txn) {
+            let at = place(&self.entries, txn);
+            let _ = self.entries.remove(at);
+        }
     }
 }

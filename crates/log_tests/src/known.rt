@@ -40,8 +40,7 @@ const UNKNOWN: Known = Known {
     settled: false,
 };
 
-// What the log of a shard determines. An install is its timestamp and the letter of its key; the ids ascend, whatever the
-// turn in which the records come.
+// What the log of a shard determines, whatever the turn of the ids in it. An install is its timestamp and the letter of its key.
 #[derive(Clone, Copy)]
 struct Determined {
     shard: u8,
@@ -49,7 +48,6 @@ struct Determined {
     epoch: u64,
     floor: u64,
     installs: &'static [(u64, u8)],
-    ids: &'static [u64],
     known: &'static [Known],
 }
 
@@ -60,7 +58,6 @@ static DETERMINED: [Determined; 5] = [
         epoch: 1,
         floor: 111,
         installs: &[],
-        ids: &[1],
         known: &[Known {
             number: 1,
             decided: Some(111),
@@ -77,7 +74,6 @@ static DETERMINED: [Determined; 5] = [
         epoch: 1,
         floor: 111,
         installs: &[(111, b'a')],
-        ids: &[1],
         known: &[Known {
             number: 1,
             outcome: Some(Some(111)),
@@ -100,7 +96,6 @@ static DETERMINED: [Determined; 5] = [
         epoch: 2,
         floor: 300,
         installs: &[(250, b'a')],
-        ids: &[2, 3],
         known: &[
             Known {
                 number: 2,
@@ -128,7 +123,6 @@ static DETERMINED: [Determined; 5] = [
         epoch: 1,
         floor: 300,
         installs: &[],
-        ids: &[1, 3, 5, 7, 9],
         known: &[
             Known {
                 number: 3,
@@ -144,6 +138,21 @@ static DETERMINED: [Determined; 5] = [
                 number: 4,
                 ..UNKNOWN
             },
+            Known {
+                number: 5,
+                aborted: true,
+                ..UNKNOWN
+            },
+            Known {
+                number: 7,
+                aborted: true,
+                ..UNKNOWN
+            },
+            Known {
+                number: 9,
+                aborted: true,
+                ..UNKNOWN
+            },
         ],
     },
     Determined {
@@ -156,7 +165,6 @@ static DETERMINED: [Determined; 5] = [
         epoch: 1,
         floor: 200,
         installs: &[],
-        ids: &[2, 9],
         known: &[
             Known {
                 number: 2,
@@ -224,17 +232,6 @@ fn are_known(facts: &Facts, rows: &[Known]) -> Result<bool, Fail> {
     Ok(true)
 }
 
-fn has_ids(facts: &Facts, ids: &[u64]) -> bool {
-    let entries = facts.entries();
-    for (place, number) in ids.iter().enumerate() {
-        match entries.get_index(place) {
-            Some((txn, _)) if txn.number() == *number => {}
-            _ => return false,
-        }
-    }
-    entries.len() == ids.len()
-}
-
 fn has_installs(facts: &Facts, rows: &[(u64, u8)]) -> bool {
     for (install, row) in facts.installs().iter().zip(rows.iter()) {
         if install.at.micros() != row.0 || install.key.as_bytes() != [row.1].as_slice() {
@@ -254,9 +251,9 @@ fn what_logs_determine(rt: HostRuntime) -> Result<(), Fail> {
             facts.floor().micros(),
         );
         assert_eq!(rt; ends, (row.shard, row.epoch, row.floor));
-        let has_lists = has_ids(&facts, row.ids) && has_installs(&facts, row.installs);
+        let has_installs = has_installs(&facts, row.installs);
         assert!(rt;
-            has_lists && are_known(&facts, row.known)?,
+            has_installs && are_known(&facts, row.known)?,
             "{:?}",
             row.lines
         );

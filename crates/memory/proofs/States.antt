@@ -22,7 +22,7 @@ use Rattle.rows.proofs.Steps.{claims-without_rows}
 use Rattle.memory.specs.Kept.{Kept, start_of, StandsAs, IsPlanned, IsRefusal, standing_of}
 use Rattle.memory.specs.Plans.{plan_of}
 use Rattle.memory.specs.declared.plan.Plan.{Plan as CodePlan}
-use Rattle.memory.specs.declared.state.Past.{Past}
+use Rattle.memory.specs.declared.state.PastStanding.{PastStanding}
 use Rattle.locks.proofs.OpensEach.{opens_in, opens-none, opens-more}
 
 -- ---- how a transaction stands
@@ -39,12 +39,12 @@ stands-past b t status ended e recorded_so ended_so =
     ∙ ap (λ s. standing_by None s (has_id b.memory.ended t)) recorded_so
     ∙ ap (standing_by None status) ended_so
 
-is_past : (standing : Standing) (past : Past) → StandsAs standing past → standing ≡ standing_of past
-is_past standing Past.Unknown e = e
-is_past standing Past.Ended e = e
-is_past standing Past.Aborted e = e
-is_past standing (Past.Settled at parts) e = e
-is_past standing (Past.Closed outcome) e = e
+is_past : (standing : Standing) (past : PastStanding) → StandsAs standing past → standing ≡ standing_of past
+is_past standing PastStanding.Unknown e = e
+is_past standing PastStanding.Ended e = e
+is_past standing PastStanding.Aborted e = e
+is_past standing (PastStanding.Settled at parts) e = e
+is_past standing (PastStanding.Closed outcome) e = e
 
 -- ---- plans by how a transaction stands
 
@@ -72,7 +72,8 @@ pub planned-row : (k : Kept) (t : Id) (plan : Standing → Planned) (r : Row) (r
 planned-row k t plan r result e made = subst (λ s. IsPlanned k (plan s) result) (sym (stands-row (start_of k) t r e)) made
 
 -- by what is told of one that has no row
-pub planned-past : (k : Kept) (t : Id) (plan : Standing → Planned) (past : Past) (result : Result CodePlan Fault) → StandsAs (stands (start_of k) t) past
+pub planned-past : (k : Kept) (t : Id) (plan : Standing → Planned) (past : PastStanding) (result : Result CodePlan Fault)
+    → StandsAs (stands (start_of k) t) past
     → IsPlanned k (plan (standing_of past)) result → IsPlanned k (plan (stands (start_of k) t)) result
 planned-past k t plan past result e made = subst (λ s. IsPlanned k (plan s) result) (sym (is_past (stands (start_of k) t) past e)) made
 

@@ -3,6 +3,6 @@ use Rattle.std.specs.Prelude.{ℕ, List}
 use Rattle.units.specs.Ids.{Id}
 
 -- the ids, ascending, and for how many more there is room
-pub record Past : Type 0 where
+pub record EndedIds : Type 0 where
   pub ids : List Id
   pub room : ℕ

@@ -9,7 +9,7 @@ use Rattle.protocol.specs.Rows.{Memory, Standing, IsUnknown, WasEnded, WasAborte
 use Rattle.protocol.specs.Plan as protocol
 use Rattle.memory.specs.Plans.{plan_of}
 use Rattle.memory.specs.declared.plan.Plan.{Plan}
-use Rattle.memory.specs.declared.state.Past.{Past}
+use Rattle.memory.specs.declared.state.PastStanding.{PastStanding}
 
 -- what a shard was told, the facts of its log and the rest; and for what it has memory: to learn so many records, to end so
 -- many transactions, and to grant each transaction what its token has room for
@@ -26,12 +26,12 @@ abbrev pub start_of : Kept → protocol.Before
 start_of k = protocol.start_of_step most_rows k.setup k.facts k.memory
 
 -- how a transaction stands that has no row
-abbrev pub StandsAs : Standing → Past → Type 0
-StandsAs standing Past.Unknown = standing ≡ IsUnknown
-StandsAs standing Past.Ended = standing ≡ WasEnded
-StandsAs standing Past.Aborted = standing ≡ WasAborted
-StandsAs standing (Past.Settled at parts) = standing ≡ WasSettled at parts
-StandsAs standing (Past.Closed outcome) = standing ≡ WasClosed outcome
+abbrev pub StandsAs : Standing → PastStanding → Type 0
+StandsAs standing PastStanding.Unknown = standing ≡ IsUnknown
+StandsAs standing PastStanding.Ended = standing ≡ WasEnded
+StandsAs standing PastStanding.Aborted = standing ≡ WasAborted
+StandsAs standing (PastStanding.Settled at parts) = standing ≡ WasSettled at parts
+StandsAs standing (PastStanding.Closed outcome) = standing ≡ WasClosed outcome
 
 -- the plan's own refusal; or, where there is a plan, want of memory
 abbrev pub IsRefusal : protocol.Planned → Fault → Type 0
@@ -44,9 +44,9 @@ IsPlanned k planned result =
     MatchResult result (λ plan. planned ≡ Ok (plan_of k.memory.rows plan)) (IsRefusal planned)
 
 -- how a transaction stands, by what is told of one that has no row
-abbrev pub standing_of : Past → Standing
-standing_of Past.Unknown = IsUnknown
-standing_of Past.Ended = WasEnded
-standing_of Past.Aborted = WasAborted
-standing_of (Past.Settled at parts) = WasSettled at parts
-standing_of (Past.Closed outcome) = WasClosed outcome
+abbrev pub standing_of : PastStanding → Standing
+standing_of PastStanding.Unknown = IsUnknown
+standing_of PastStanding.Ended = WasEnded
+standing_of PastStanding.Aborted = WasAborted
+standing_of (PastStanding.Settled at parts) = WasSettled at parts
+standing_of (PastStanding.Closed outcome) = WasClosed outcome

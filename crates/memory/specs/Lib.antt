@@ -5,3 +5,4 @@ pub mod Ledger
 pub mod Plans
 pub mod Served
 pub mod ServedLaws
+pub mod Votes

@@ -18,9 +18,9 @@ pub struct Ended {
 impl Model for Ended {
     ghost use Rattle.std.specs.Prelude.{◌-◌, vec_capacity, vec_len};
     ghost use Rattle.units.specs.ById.{IsById};
-    ghost use Rattle.memory.specs.Ended.{Past};
+    ghost use Rattle.memory.specs.Ended.{EndedIds};
 
-    ghost Value = { Past };
+    ghost Value = { EndedIds };
 
     ghost view = { λ e. record { ids = e.ids.items; room = vec_capacity e.ids - vec_len e.ids } };
 

@@ -19,4 +19,4 @@ pub use laws::holds_follow_rows;
 pub use ledger::Ledger;
 pub use plan::{Change, Plan, Request};
 pub use planning::{exclusive, reads_stand};
-pub use state::{Past, State};
+pub use state::{PastStanding, State};

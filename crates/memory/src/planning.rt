@@ -1,5 +1,6 @@
 //! The plans of which every step is one.
 ghost use Rattle.std.specs.List.{list_all};
+ghost use Rattle.std.specs.Option.{option_copied};
 ghost use Rattle.std.specs.Prelude.{◌≡◌, ◌≤◌, ◌++◌, ◌∷◌, [], true, Some, None, Ok, IfOk, IfErr, MatchResult, option_to_list};
 ghost use Rattle.units.specs.Locks.{exclusive};
 ghost use Rattle.protocol.specs.Rows.{find_row, held_in};
@@ -9,6 +10,7 @@ ghost use Rattle.protocol.specs.Cells.{other_parts, answers, tells, plan_abort, 
 ghost use Rattle.memory.specs.Carry.{FitsRows, IsFit, IsServing, MayDrop, may_drop, may_end};
 ghost use Rattle.memory.specs.Kept.{start_of};
 ghost use Rattle.memory.specs.Plans.{change_of, plan_of, refusal};
+ghost use Rattle.memory.specs.Votes.{refused_by};
 
 use crate::envelopes::{answer_to, done_to, outcome_to, vote_to};
 use crate::plan::{Change, Plan, Request};
@@ -101,6 +103,20 @@ impl State {
             last: self.last(),
             outbox: Outbox::from_vec(out),
         }
+    }
+
+    /// A transaction that reads, or is not known, is ended; a prepare that it waits with is refused.
+    pub fn ends_reading(&self, alloc: Global, txn: TxnId, wait: Option<&Wait>) -> Result<Plan, Fault>
+        requires { may_end self.now.memory.rows txn ≡ true }
+        ensures plan { IfOk result (λ plan. plan_of self.now.memory.rows plan ≡ ends (start_of self.now) txn (refused_by self.now.setup.shard txn (option_copied wait.entry))) }
+        ensures fit { IfOk result (IsFit self.now) }
+        ensures memory { IfErr result (λ fault. fault ≡ Fault.Memory) }
+    {
+        let mut out = Vec::new(alloc);
+        if let Some(Wait::Prepare(request)) = wait {
+            out.push(vote_to(self.setup().shard, request.coordinator, txn, None))?;
+        }
+        Ok(self.ends(alloc, txn, out))
     }
 
     /// The row goes by a record.

@@ -59,7 +59,7 @@ impl Model for State {
 
 /// How a transaction stands that has no row.
 #[derive(Clone, Copy)]
-pub enum Past {
+pub enum PastStanding {
     Unknown,
     Ended,
     Aborted,
@@ -166,7 +166,7 @@ impl State {
     }
 
     /// How a transaction stands that has no row.
-    pub fn past(&self, txn: TxnId) -> Past
+    pub fn past(&self, txn: TxnId) -> PastStanding
         requires { find_row self.now.memory.rows txn ≡ None }
         ensures past { StandsAs (stands (start_of self.now) txn) result }
         ensures ends { may_end self.now.memory.rows txn ≡ true }
@@ -240,12 +240,12 @@ impl State {
 }
 
 // How a transaction stands that has no row, by its recorded status and by whether it was ended.
-fn past_by(status: Option<&Status>, ended: bool) -> Past
+fn past_by(status: Option<&Status>, ended: bool) -> PastStanding
     ensures { StandsAs (standing_by None (meant (option_copied status.entry)) ended) result }
 {
     match status {
-        Some(Status::Aborted) => Past::Aborted,
-        Some(Status::Settled { at, parts }) => Past::Settled {
+        Some(Status::Aborted) => PastStanding::Aborted,
+        Some(Status::Settled { at, parts }) => PastStanding::Settled {
             at: *at,
             parts: *parts,
         },
@@ -254,9 +254,13 @@ fn past_by(status: Option<&Status>, ended: bool) -> Past
                 coordinator: _,
                 outcome,
             },
-        ) => Past::Closed { outcome: *outcome },
+        ) => PastStanding::Closed { outcome: *outcome },
         Some(Status::Prepared(_)) | Some(Status::Decided(_)) | None => {
-            if ended { Past::Ended } else { Past::Unknown }
+            if ended {
+                PastStanding::Ended
+            } else {
+                PastStanding::Unknown
+            }
         }
     }
 }

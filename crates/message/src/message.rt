@@ -3,14 +3,14 @@ use crate::Reads;
 use units::{Epoch, Key, Parts, ShardNo, Stamp, TxnId, Value, Writes};
 
 /// A session asks for the value of a key.
-#[derive(Clone, Copy, Debug)]
+#[derive(Clone, Copy)]
 pub struct Read {
     pub txn: TxnId,
     pub key: Key,
 }
 
 /// A session asks a part to promise its share; the coordinator decides.
-#[derive(Debug, Drop)]
+#[derive(Drop)]
 pub struct Prepare {
     pub txn: TxnId,
     pub coordinator: ShardNo,
@@ -19,7 +19,7 @@ pub struct Prepare {
 }
 
 /// A session asks the coordinator, which is the least of the parts, to commit.
-#[derive(Debug, Drop)]
+#[derive(Drop)]
 pub struct Commit {
     pub txn: TxnId,
     pub parts: Parts,
@@ -28,13 +28,13 @@ pub struct Commit {
 }
 
 /// A session gives a transaction up.
-#[derive(Clone, Copy, Debug)]
+#[derive(Clone, Copy)]
 pub struct GiveUp {
     pub txn: TxnId,
 }
 
 /// A part's vote to the coordinator: yes at a timestamp, or `None` for refused.
-#[derive(Clone, Copy, Debug)]
+#[derive(Clone, Copy)]
 pub struct Vote {
     pub from: ShardNo,
     pub txn: TxnId,
@@ -42,7 +42,7 @@ pub struct Vote {
 }
 
 /// The coordinator tells a part how a transaction ended: at a timestamp, or `None` for aborted.
-#[derive(Clone, Copy, Debug)]
+#[derive(Clone, Copy)]
 pub struct Outcome {
     pub from: ShardNo,
     pub txn: TxnId,
@@ -50,21 +50,21 @@ pub struct Outcome {
 }
 
 /// A part asks the coordinator how a transaction ended.
-#[derive(Clone, Copy, Debug)]
+#[derive(Clone, Copy)]
 pub struct Ask {
     pub from: ShardNo,
     pub txn: TxnId,
 }
 
 /// What a read gave: the latest value, `None` where there is none, or a refusal.
-#[derive(Debug, Drop)]
+#[derive(Drop)]
 pub enum Answer {
     Holds(Option<Value>),
     Refused,
 }
 
 /// A shard answers a read, in its epoch.
-#[derive(Debug, Drop)]
+#[derive(Drop)]
 pub struct ReadAnswer {
     pub from: ShardNo,
     pub txn: TxnId,
@@ -74,14 +74,14 @@ pub struct ReadAnswer {
 }
 
 /// The coordinator tells a session how its transaction ended: at a timestamp, or `None` for aborted.
-#[derive(Clone, Copy, Debug)]
+#[derive(Clone, Copy)]
 pub struct Done {
     pub txn: TxnId,
     pub outcome: Option<Stamp>,
 }
 
 /// A message. Each names its transaction.
-#[derive(Debug, Drop)]
+#[derive(Drop)]
 pub enum Message {
     Read(Read),
     Prepare(Prepare),
@@ -95,14 +95,14 @@ pub enum Message {
 }
 
 /// Where a message goes.
-#[derive(Clone, Copy, Debug)]
+#[derive(Clone, Copy)]
 pub enum Address {
     Shard(ShardNo),
     Session(TxnId),
 }
 
 /// A message that was put out.
-#[derive(Debug, Drop)]
+#[derive(Drop)]
 pub struct Envelope {
     pub to: Address,
     pub message: Message,

@@ -8,7 +8,7 @@ use units::{Epoch, Fault, Keys};
 
 /// The keys that a transaction read at a shard, with the epoch of the shard in which it read them. The epoch is 0 exactly
 /// where there is no key.
-#[derive(Debug, Drop)]
+#[derive(Drop)]
 pub struct Reads {
     epoch: u64,
     keys: Keys,

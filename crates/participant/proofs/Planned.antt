@@ -21,7 +21,7 @@ use Rattle.rows.specs.CodeRows.{phase_of_wait}
 use Rattle.rows.specs.declared.wait.Wait.{Wait}
 use Rattle.memory.specs.Kept.{Kept, start_of, standing_of, IsPlanned}
 use Rattle.memory.specs.declared.plan.Plan.{Plan}
-use Rattle.memory.specs.declared.state.Past.{Past}
+use Rattle.memory.specs.declared.state.PastStanding.{PastStanding}
 use Rattle.memory.proofs.States.{stands-past}
 use Rattle.participant.specs.Asks.{read_asks, promised_by}
 
@@ -121,8 +121,8 @@ unfolding plan_prepare_fresh
 fresh_gone b earliest m held e = ap (λ a. cond a (plan_prepare_now b earliest m) (Ok (ends b m.txn (refuses b m.txn m.coordinator ∷ [])))) e
 
 -- a transaction that is not known holds nothing
-pub prepare_unknown : (k : Kept) (earliest : ℕ) (m : Prepare) (past : Past) (result : Result Plan Fault)
-    → find_row k.memory.rows m.txn ≡ None → past ≡ Past.Unknown
+pub prepare_unknown : (k : Kept) (earliest : ℕ) (m : Prepare) (past : PastStanding) (result : Result Plan Fault)
+    → find_row k.memory.rows m.txn ≡ None → past ≡ PastStanding.Unknown
     → IsPlanned k (plan_prepare_fresh (start_of k) earliest m (held_in k.memory.rows m.txn)) result
     → IsPlanned k (plan_prepare (start_of k) earliest m (standing_of past)) result
 unfolding plan_prepare

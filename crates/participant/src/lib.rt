@@ -6,6 +6,6 @@ mod outcomes;
 mod prepares;
 mod reads;
 
-pub use outcomes::{end_reading, on_nudge, on_outcome};
+pub use outcomes::{on_nudge, on_outcome};
 pub use prepares::{on_prepare, resume_prepare};
 pub use reads::{on_read, resume_read};

@@ -2,19 +2,18 @@
 ghost use Rattle.std.specs.Prelude.{◌≡◌, ◌∷◌, [], true, Some, None, Ok, IfOk, IfErr};
 ghost use Rattle.std.specs.Option.{option_copied};
 ghost use Rattle.protocol.specs.Rows.{HasRow, held_in};
-ghost use Rattle.protocol.specs.Plan.{drops, ends, stands};
+ghost use Rattle.protocol.specs.Plan.{drops, stands};
 ghost use Rattle.protocol.specs.Cells.{is_outcome_for, plan_outcome, plan_nudge, raised};
 ghost use Rattle.rows.specs.CodeRows.{may_close, phase_of, phase_of_wait};
 ghost use Rattle.rows.specs.RowTable.{has_phase};
 ghost use Rattle.memory.specs.Carry.{IsFit, MayTurn, may_end};
 ghost use Rattle.memory.specs.Kept.{start_of, standing_of, IsPlanned};
 ghost use Rattle.memory.specs.Plans.{plan_of};
-ghost use Rattle.participant.specs.Votes.{refused_by};
 
-use memory::{Past, Plan, State, ask_to, vote_to};
+use memory::{PastStanding, Plan, State, ask_to};
 use message::Outcome;
 use record::Record;
-use rows::{Prepared, Row, Wait};
+use rows::{Row, RowPrepared, Wait};
 use std::alloc::Global;
 use units::{Fault, TxnId};
 
@@ -64,7 +63,7 @@ fn outcome_with_wait(
     match (wait, told.outcome) {
         (Some(Wait::Commit(_)), _) => Err(Fault::Stranger),
         (_, Some(_)) => Err(Fault::Stranger),
-        (wait, None) => end_reading(state, alloc, told.txn, wait),
+        (wait, None) => state.ends_reading(alloc, told.txn, wait),
     }
 }
 
@@ -74,24 +73,24 @@ fn outcome_without_row(
     state: &State,
     alloc: Global,
     told: &Outcome,
-    past: Past,
+    past: PastStanding,
 ) -> Result<Plan, Fault>
     requires { may_end state.now.memory.rows told.now.txn ≡ true }
     ensures planned { IsPlanned state.now (plan_outcome (start_of state.now) told.now.from told.now.txn told.now.outcome (standing_of past)) result }
     ensures fit { IfOk result (IsFit state.now) }
 {
     match past {
-        Past::Unknown => match told.outcome {
+        PastStanding::Unknown => match told.outcome {
             Some(_) => Err(Fault::Stranger),
-            None => end_reading(state, alloc, told.txn, None),
+            None => state.ends_reading(alloc, told.txn, None),
         },
-        Past::Ended | Past::Closed { .. } => Ok(state.idles(alloc)),
-        Past::Aborted | Past::Settled { .. } => Err(Fault::Stranger),
+        PastStanding::Ended | PastStanding::Closed { .. } => Ok(state.idles(alloc)),
+        PastStanding::Aborted | PastStanding::Settled { .. } => Err(Fault::Stranger),
     }
 }
 
 // The outcome comes from the promise's coordinator, and is not below its timestamp.
-fn is_outcome_for(prepared: &Prepared, told: &Outcome) -> bool
+fn is_outcome_for(prepared: &RowPrepared, told: &Outcome) -> bool
     ensures { result ≡ is_outcome_for told.now.from prepared.now.coordinator prepared.now.at told.now.outcome }
 {
     if told.from != prepared.coordinator() {
@@ -118,25 +117,6 @@ fn close(state: &State, alloc: Global, told: &Outcome) -> Plan
         outcome: told.outcome,
     };
     state.drops(alloc, told.txn, outcome, last, Vec::new(alloc))
-}
-
-/// A transaction that reads, or is not known, is ended; a prepare that it waits with is refused.
-pub fn end_reading(
-    state: &State,
-    alloc: Global,
-    txn: TxnId,
-    wait: Option<&Wait>,
-) -> Result<Plan, Fault>
-    requires { may_end state.now.memory.rows txn ≡ true }
-    ensures plan { IfOk result (λ plan. plan_of state.now.memory.rows plan ≡ ends (start_of state.now) txn (refused_by state.now.setup.shard txn (option_copied wait.entry))) }
-    ensures fit { IfOk result (IsFit state.now) }
-    ensures memory { IfErr result (λ fault. fault ≡ Fault.Memory) }
-{
-    let mut out = Vec::new(alloc);
-    if let Some(Wait::Prepare(request)) = wait {
-        out.push(vote_to(state.setup().shard, request.coordinator, txn, None))?;
-    }
-    Ok(state.ends(alloc, txn, out))
 }
 
 /// A prepared transaction's coordinator is asked how it ended.

@@ -12,7 +12,7 @@ ghost use Rattle.memory.specs.Kept.{start_of, standing_of, IsPlanned};
 ghost use Rattle.memory.specs.Plans.{plan_of};
 ghost use Rattle.participant.specs.Asks.{promised_by};
 
-use memory::{Change, Past, Plan, Request, State, exclusive, reads_stand, vote_to};
+use memory::{Change, PastStanding, Plan, Request, State, exclusive, reads_stand, vote_to};
 use message::Prepare;
 use record::{Prepared, Record};
 use rows::{PrepareRequest, Row, Wait};
@@ -84,7 +84,7 @@ fn prepare_without_row(
     alloc: Global,
     now: &Reading,
     prepare: &Prepare,
-    past: Past,
+    past: PastStanding,
 ) -> Result<Plan, Fault>
     requires row { find_row state.now.memory.rows prepare.now.txn ≡ None }
     requires ends { may_end state.now.memory.rows prepare.now.txn ≡ true }
@@ -92,11 +92,11 @@ fn prepare_without_row(
     ensures fit { IfOk result (IsFit state.now) }
 {
     match past {
-        Past::Unknown => prepare_fresh(state, alloc, now, prepare),
-        Past::Ended => vote(state, alloc, prepare, None),
-        Past::Closed { outcome: None } => vote(state, alloc, prepare, None),
-        Past::Closed { outcome: Some(_) } => Ok(state.idles(alloc)),
-        Past::Aborted | Past::Settled { .. } => Err(Fault::Stranger),
+        PastStanding::Unknown => prepare_fresh(state, alloc, now, prepare),
+        PastStanding::Ended => vote(state, alloc, prepare, None),
+        PastStanding::Closed { outcome: None } => vote(state, alloc, prepare, None),
+        PastStanding::Closed { outcome: Some(_) } => Ok(state.idles(alloc)),
+        PastStanding::Aborted | PastStanding::Settled { .. } => Err(Fault::Stranger),
     }
 }
 

@@ -11,7 +11,7 @@ ghost use Rattle.memory.specs.Kept.{start_of, standing_of, IsPlanned};
 ghost use Rattle.memory.specs.Plans.{plan_of};
 ghost use Rattle.participant.specs.Asks.{read_asks};
 
-use memory::{Change, Past, Plan, Request, State, answer_to};
+use memory::{Change, PastStanding, Plan, Request, State, answer_to};
 use message::{Answer, Read};
 use rows::{Row, Wait};
 use std::alloc::Global;
@@ -46,16 +46,22 @@ fn read_with_row(state: &State, alloc: Global, read: &Read, row: &Row) -> Result
 
 // A read of a transaction that has no row.
 #[tactic(auto, unfolding(protocol::specs::Cells::plan_read))]
-fn read_without_row(state: &State, alloc: Global, read: &Read, past: Past) -> Result<Plan, Fault>
+fn read_without_row(
+    state: &State,
+    alloc: Global,
+    read: &Read,
+    past: PastStanding,
+) -> Result<Plan, Fault>
     requires { may_end state.now.memory.rows read.now.txn ≡ true }
     ensures planned { IsPlanned state.now (plan_read (start_of state.now) read.now.txn read.now.key (standing_of past)) result }
     ensures fit { IfOk result (IsFit state.now) }
 {
     match past {
-        Past::Unknown => read_now(state, alloc, read.txn, &read.key),
-        Past::Ended | Past::Aborted | Past::Settled { .. } | Past::Closed { .. } => {
-            refuse(state, alloc, read.txn, &read.key)
-        }
+        PastStanding::Unknown => read_now(state, alloc, read.txn, &read.key),
+        PastStanding::Ended
+        | PastStanding::Aborted
+        | PastStanding::Settled { .. }
+        | PastStanding::Closed { .. } => { refuse(state, alloc, read.txn, &read.key) }
     }
 }
 

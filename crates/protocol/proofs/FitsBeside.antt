@@ -22,7 +22,7 @@ use Rattle.units.proofs.IdLaws.{same_id_comm}
 use Rattle.units.proofs.ListLaws.{all_gives}
 use Rattle.truetime.specs.Interval.{Interval}
 use Rattle.record.specs.Accepted.{fits_beside, may_stand, locks_standing, standing_locks}
-use Rattle.record.specs.Facts.{Entry, Facts, facts_of, learn, or_unrecorded, recorded, with_status}
+use Rattle.record.specs.Facts.{TxnStatus, Facts, facts_of, learn, or_unrecorded, recorded, with_status}
 use Rattle.record.specs.Installs.{installs_of, writes_by}
 use Rattle.record.specs.Records.{Ended, Status, Unrecorded, StandsPrepared, StandsDecided, HasAborted, HasSettled, HasClosed, status_by, status_of}
 use Rattle.record.specs.Records.{ids_of, is_aborted, committed_of, prepared_of, ended_of}
@@ -65,7 +65,7 @@ gather-map {C = C} f g (x ∷ xs) = by_value (f (g x)) (gather-map f g xs)
 abbrev pub log_rows : Facts → List Row
 log_rows f = gather standing_row f.entries
 
-locks_of_rows : (es : List Entry) → gather (λ e. standing_locks e.status) es ≡ map (λ r. r.held) (gather standing_row es)
+locks_of_rows : (es : List TxnStatus) → gather (λ e. standing_locks e.status) es ≡ map (λ r. r.held) (gather standing_row es)
 locks_of_rows [] = refl
 locks_of_rows (e ∷ es) = by_status e.status (locks_of_rows es)
   where
@@ -82,7 +82,7 @@ locks_of_rows (e ∷ es) = by_status e.status (locks_of_rows es)
 pub standing_is : (log : List Record) → locks_standing log ≡ map (λ r. r.held) (log_rows (facts_of log))
 unfolding facts_of
 standing_is log =
-    gather-map (λ (e : Entry). standing_locks e.status) (λ t. record { txn = t; status = status_of log t }) (ids_of log)
+    gather-map (λ (e : TxnStatus). standing_locks e.status) (λ t. record { txn = t; status = status_of log t }) (ids_of log)
     ∙ locks_of_rows (facts_of log).entries
 
 pub length-held : (rows : List Row) → length (map (λ (r : Row). r.held) rows) ≡ length rows
@@ -107,9 +107,9 @@ module _ (shard : ℕ) (f after : Facts) (m later : Memory) (t : Id) (s : Status
     (fresh : recorded f t ≡ Unrecorded) where
   -- the log had no row of the id
   none_before : find_row (log_rows f) t ≡ None
-  none_before = find-gather f.entries t sound.entries (entries_own shard f m sound) ∙ by_entry (find_member (λ (e : Entry). e.txn) f.entries t) fresh
+  none_before = find-gather f.entries t sound.entries (entries_own shard f m sound) ∙ by_entry (find_member (λ (e : TxnStatus). e.txn) f.entries t) fresh
     where
-      by_status : (e : Entry) (q : Status) → q ≡ Unrecorded → follow (Some (record { txn = e.txn; status = q })) standing_row ≡ None
+      by_status : (e : TxnStatus) (q : Status) → q ≡ Unrecorded → follow (Some (record { txn = e.txn; status = q })) standing_row ≡ None
       by_status e Unrecorded k = refl
       by_status e HasAborted k = refl
       by_status e (HasSettled at ps) k = refl
@@ -117,7 +117,7 @@ module _ (shard : ℕ) (f after : Facts) (m later : Memory) (t : Id) (s : Status
       by_status e (StandsPrepared p) k = cc
       by_status e (StandsDecided c) k = cc
 
-      by_entry : (o : Option Entry) → or_unrecorded o ≡ Unrecorded → follow o standing_row ≡ None
+      by_entry : (o : Option TxnStatus) → or_unrecorded o ≡ Unrecorded → follow o standing_row ≡ None
       by_entry None k = refl
       by_entry (Some e) k = by_status e e.status k
 
@@ -127,14 +127,14 @@ module _ (shard : ℕ) (f after : Facts) (m later : Memory) (t : Id) (s : Status
   found_new : find_row (log_rows after) t ≡ Some new
   found_new =
       find-gather after.entries t next.entries (entries_own shard after later next)
-      ∙ ap (λ es. follow (find_member (λ (e : Entry). e.txn) es t) standing_row) put
+      ∙ ap (λ es. follow (find_member (λ (e : TxnStatus). e.txn) es t) standing_row) put
       ∙ ap (λ o. follow o standing_row) (entry_same f.entries t s)
       ∙ may_stand
 
   found_old : (r : Row) → find_row (log_rows f) r.txn ≡ Some r → same_id r.txn t ≡ false → find_row (log_rows after) r.txn ≡ Some r
   found_old r found apart =
       find-gather after.entries r.txn next.entries (entries_own shard after later next)
-      ∙ ap (λ es. follow (find_member (λ (e : Entry). e.txn) es r.txn) standing_row) put
+      ∙ ap (λ es. follow (find_member (λ (e : TxnStatus). e.txn) es r.txn) standing_row) put
       ∙ ap (λ o. follow o standing_row) (entry_other f.entries t r.txn s (same_id_comm t r.txn ∙ apart))
       ∙ sym (find-gather f.entries r.txn sound.entries (entries_own shard f m sound))
       ∙ found

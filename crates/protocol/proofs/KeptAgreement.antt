@@ -15,7 +15,7 @@ use Rattle.units.specs.declared.writes.Install.{Install}
 use Rattle.units.specs.declared.writes.Write.{Write}
 use Rattle.units.proofs.IdLaws.{same_id-is}
 use Rattle.record.specs.Records.{Status, Unrecorded, StandsPrepared, StandsDecided, HasAborted, HasSettled, HasClosed}
-use Rattle.record.specs.Facts.{Entry, learn, recorded, installs_at, with_status}
+use Rattle.record.specs.Facts.{TxnStatus, learn, recorded, installs_at, with_status}
 use Rattle.record.specs.declared.record.Record.{Record}
 use Rattle.message.specs.declared.message.Input.{Input}
 use Rattle.protocol.specs.Rows.{Row, Phase, Idle, WaitsRead, WaitsPrepare, WaitsCommit, Collecting, IsPrepared, IsDecided, find_row, is_firm}
@@ -34,7 +34,7 @@ use Rattle.protocol.proofs.Shapes.{Shape, Answers, IsEnd, IsAbort, IsClose, IsSe
 use Rattle.protocol.proofs.Shapes.{IsLooseOther, is_undecided, granted_to}
 
 -- each transaction's record and its row agree
-abbrev pub AllAgree : List Install → ℕ → List Entry → List Row → Type 0
+abbrev pub AllAgree : List Install → ℕ → List TxnStatus → List Row → Type 0
 AllAgree installs last es rows = (t : Id) → Agrees installs last (status_in es t) (find_row rows t)
 
 unfoldable pub KeepsAgreement : Before → Plan → Type 0
@@ -121,11 +121,11 @@ by_own P t own others v = by_test (same_id t v) refl
     by_test false e = others v e
 
 -- the statuses of all but one are as they were
-abbrev OthersKept : Before → Id → List Entry → Type 0
+abbrev OthersKept : Before → Id → List TxnStatus → Type 0
 OthersKept b t es = (v : Id) → same_id t v ≡ false → status_in es v ≡ recorded b.facts v
 
 -- a row is put
-put_agrees : (b : Before) (t : Id) (ended : List Id) (held : List Lock) (phase : Phase) (later : ℕ) (es : List Entry) → Sound b
+put_agrees : (b : Before) (t : Id) (ended : List Id) (held : List Lock) (phase : Phase) (later : ℕ) (es : List TxnStatus) → Sound b
     → AllByRecursion (IsLooseOther b.memory.rows t) ended → b.memory.last ≤ later → OthersKept b t es
     → Agrees b.facts.installs later (status_in es t) (Some (row_as t held phase))
     → AllAgree b.facts.installs later es (with_row (without_rows b.memory.rows ended) (row_as t held phase))
@@ -140,7 +140,7 @@ put_agrees b t ended held phase later es sound gone h others own =
     (left_agrees b t v ended b.facts.installs later sound gone h (λ r at ws e k a. a))))
 
 -- a row goes
-drop_agrees : (b : Before) (t : Id) (new : List Install) (later : ℕ) (es : List Entry) → Sound b → b.memory.last ≤ later → OthersKept b t es
+drop_agrees : (b : Before) (t : Id) (new : List Install) (later : ℕ) (es : List TxnStatus) → Sound b → b.memory.last ≤ later → OthersKept b t es
     → ((v : Id) → same_id t v ≡ false → Stays b.facts.installs new (find_row b.memory.rows v)) → Agrees new later (status_in es t) None
     → AllAgree new later es (without_row b.memory.rows t)
 drop_agrees b t new later es sound h others stays own =

@@ -19,7 +19,7 @@ use Rattle.locks.proofs.Clashes.{ascends-with_locks, clash_comm, clash_nil}
 use Rattle.locks.proofs.Pairs.{HoldsByKey, LockPair, WaitPair, from_pairs}
 use Rattle.locks.proofs.TableLaws.{all_of_any}
 use Rattle.record.specs.Records.{Status, Unrecorded, StandsPrepared, StandsDecided, HasAborted, HasSettled, HasClosed}
-use Rattle.record.specs.Facts.{Entry, Facts, learn, or_unrecorded, recorded}
+use Rattle.record.specs.Facts.{TxnStatus, Facts, learn, or_unrecorded, recorded}
 use Rattle.protocol.specs.Rows.{Memory, Row, Phase, IsPrepared, IsDecided, claim_of, claims, find_row, rebuilt, standing_row}
 use Rattle.protocol.specs.Sound.{Agrees, IsSound, OpeningKeepsSound, StandsBy, fits, holds_writes}
 use Rattle.protocol.proofs.AboveVersions.{rows_apart}
@@ -31,14 +31,14 @@ use Rattle.protocol.proofs.RowChanges.{find_members}
 use Rattle.protocol.proofs.RowTable.{claims-by_id}
 
 -- an entry agrees with the row that its id had before the crash
-abbrev Known : Facts → Memory → Entry → Type 0
+abbrev Known : Facts → Memory → TxnStatus → Type 0
 Known facts memory e = Agrees facts.installs memory.last e.status (find_row memory.rows e.txn)
 
 all_known : (shard : ℕ) (facts : Facts) (memory : Memory) → IsSound shard facts memory → AllByRecursion (Known facts memory) facts.entries
 all_known shard facts memory sound =
-    all_gives (λ (e : Entry). find_member (λ e. e.txn) facts.entries e.txn ≡ Some e) (Known facts memory)
+    all_gives (λ (e : TxnStatus). find_member (λ e. e.txn) facts.entries e.txn ≡ Some e) (Known facts memory)
     (λ e found. subst (λ s. Agrees facts.installs memory.last s (find_row memory.rows e.txn)) (ap or_unrecorded found) (sound.agrees e.txn))
-    facts.entries (find_members (λ (e : Entry). e.txn) facts.entries sound.entries)
+    facts.entries (find_members (λ (e : TxnStatus). e.txn) facts.entries sound.entries)
 
 -- ---- a row from its entry
 
@@ -56,7 +56,7 @@ keys_of_record rs ws c same =
     (ascends-with_locks [] (shared rs) refl))
 
 -- what an entry's agreement says of the row that it leaves
-record Left (facts : Facts) (memory : Memory) (e : Entry) (r : Row) : Type 0 where
+record Left (facts : Facts) (memory : Memory) (e : TxnStatus) (r : Row) : Type 0 where
   own : r.txn ≡ e.txn
   backed : Backed memory r
   agrees : (last : ℕ) → memory.last ≤ last → Agrees facts.installs last e.status (Some r)
@@ -116,7 +116,7 @@ left_by facts memory t HasAborted o r found a e = cc
 left_by facts memory t (HasSettled at ps) o r found a e = cc
 left_by facts memory t (HasClosed c p) o r found a e = cc
 
-left_of : (facts : Facts) (memory : Memory) (e : Entry) (r : Row) → standing_row e ≡ Some r → Known facts memory e → Left facts memory e r
+left_of : (facts : Facts) (memory : Memory) (e : TxnStatus) (r : Row) → standing_row e ≡ Some r → Known facts memory e → Left facts memory e r
 left_of facts memory e r k a = left_by facts memory e.txn e.status (find_row memory.rows e.txn) r refl a k
 
 -- ---- the lock table
@@ -145,14 +145,14 @@ lawful_again memory rows lawful up backed = from_pairs (claims rows) (record {
 
 -- ---- an opening
 
-agrees_again : (facts : Facts) (memory : Memory) (last : ℕ) (t : Id) (o : Option Entry) → memory.last ≤ last → find_member (λ e. e.txn) facts.entries t ≡ o
+agrees_again : (facts : Facts) (memory : Memory) (last : ℕ) (t : Id) (o : Option TxnStatus) → memory.last ≤ last → find_member (λ e. e.txn) facts.entries t ≡ o
     → AllByRecursion (Known facts memory) facts.entries → Agrees facts.installs last (or_unrecorded o) (follow o standing_row)
 agrees_again facts memory last t None h found known = tt
 agrees_again facts memory last t (Some e) h found known =
     by_status e.status refl (standing_row e) refl
   where
     mine : Known facts memory e
-    mine = found_all (Known facts memory) (λ (f : Entry). f.txn) facts.entries t e known found
+    mine = found_all (Known facts memory) (λ (f : TxnStatus). f.txn) facts.entries t e known found
 
     by_status : (s : Status) → e.status ≡ s → (q : Option Row) → standing_row e ≡ q → Agrees facts.installs last e.status q
     by_status s k (Some r) there = (left_of facts memory e r there mine).agrees last h
@@ -195,7 +195,7 @@ module _ (shard : ℕ) (facts : Facts) (memory : Memory) (sound : IsSound shard 
   opened_agrees : (t : Id) → Agrees facts.installs facts.floor (recorded facts t) (find_row (gather standing_row facts.entries) t)
   opened_agrees t =
       subst (Agrees facts.installs facts.floor (recorded facts t)) (sym (find-gather facts.entries t sound.entries entries_own))
-      (agrees_again facts memory facts.floor t (find_member (λ (e : Entry). e.txn) facts.entries t) sound.under refl known)
+      (agrees_again facts memory facts.floor t (find_member (λ (e : TxnStatus). e.txn) facts.entries t) sound.under refl known)
 
 pub opening_keeps_sound : OpeningKeepsSound
 unfolding learn rebuilt

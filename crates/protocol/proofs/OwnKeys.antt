@@ -16,7 +16,7 @@ use Rattle.units.proofs.ByIdLaws.{all-with, found_all}
 use Rattle.units.proofs.ListLaws.{all_of_each, each_of_all, all-keep}
 use Rattle.truetime.specs.Interval.{Interval}
 use Rattle.record.specs.Accepted.{belongs, keys_belong}
-use Rattle.record.specs.Facts.{Entry, Facts}
+use Rattle.record.specs.Facts.{TxnStatus, Facts}
 use Rattle.record.specs.Records.{Status, Unrecorded, StandsPrepared, StandsDecided, HasAborted, HasSettled, HasClosed}
 use Rattle.record.specs.declared.record.Record.{Record}
 use Rattle.message.specs.declared.message.Envelope.{Envelope}
@@ -350,7 +350,7 @@ module _ (setup : Setup) where
 
   -- ---- an opening
 
-  own-left : (es : List Entry) → all_own setup (gather standing_row es) ≡ true
+  own-left : (es : List TxnStatus) → all_own setup (gather standing_row es) ≡ true
   own-left [] = refl
   own-left (e ∷ es) = by_status e.status (own-left es)
     where

@@ -12,7 +12,7 @@ use Rattle.units.specs.declared.writes.Write.{Write}
 use Rattle.units.proofs.IdLaws.{older_total}
 use Rattle.units.proofs.ByIdLaws.{find-with_same, find-with_other, by_id-with}
 use Rattle.record.specs.Records.{Status, StandsPrepared}
-use Rattle.record.specs.Facts.{Entry, or_unrecorded, recorded, with_status, after_outcome, installs_at}
+use Rattle.record.specs.Facts.{TxnStatus, or_unrecorded, recorded, with_status, after_outcome, installs_at}
 use Rattle.protocol.specs.Rows.{Row, IsPrepared, IsDecided, find_row}
 use Rattle.protocol.specs.Plan.{Before, with_ids}
 use Rattle.protocol.specs.Sound.{Agrees, holds_writes}
@@ -21,37 +21,37 @@ use Rattle.protocol.proofs.RowChanges.{row_as}
 
 -- ---- one status given anew
 
-entry_of : Id → Status → Entry
+entry_of : Id → Status → TxnStatus
 entry_of t s = record { txn = t; status = s }
 
-with_status-is : (es : List Entry) (t : Id) (s : Status) → with_status es t s ≡ with_member (λ e. e.txn) es (entry_of t s)
+with_status-is : (es : List TxnStatus) (t : Id) (s : Status) → with_status es t s ≡ with_member (λ e. e.txn) es (entry_of t s)
 unfolding entry_of
 with_status-is [] t s = refl
 with_status-is (e ∷ es) t s =
     ap (λ rest. cond (same_id e.txn t) (entry_of t s ∷ es) (cond (older e.txn t) (e ∷ rest) (entry_of t s ∷ e ∷ es))) (with_status-is es t s)
 
 -- the status of an id among some entries
-abbrev pub status_in : List Entry → Id → Status
+abbrev pub status_in : List TxnStatus → Id → Status
 status_in es t = or_unrecorded (first (λ e. same_id e.txn t) es)
 
-pub entry_same : (es : List Entry) (t : Id) (s : Status) → first (λ e. same_id e.txn t) (with_status es t s) ≡ Some (record { txn = t; status = s })
+pub entry_same : (es : List TxnStatus) (t : Id) (s : Status) → first (λ e. same_id e.txn t) (with_status es t s) ≡ Some (record { txn = t; status = s })
 unfolding entry_of
-entry_same es t s = ap (first (λ (e : Entry). same_id e.txn t)) (with_status-is es t s) ∙ find-with_same (λ (e : Entry). e.txn) es (entry_of t s)
+entry_same es t s = ap (first (λ (e : TxnStatus). same_id e.txn t)) (with_status-is es t s) ∙ find-with_same (λ (e : TxnStatus). e.txn) es (entry_of t s)
 
-pub entry_other : (es : List Entry) (t u : Id) (s : Status) → same_id t u ≡ false → first (λ e. same_id e.txn u) (with_status es t s) ≡
+pub entry_other : (es : List TxnStatus) (t u : Id) (s : Status) → same_id t u ≡ false → first (λ e. same_id e.txn u) (with_status es t s) ≡
     first (λ e. same_id e.txn u) es
 unfolding entry_of
-entry_other es t u s differ = ap (first (λ (e : Entry). same_id e.txn u)) (with_status-is es t s)
-    ∙ find-with_other (λ (e : Entry). e.txn) es (entry_of t s) u differ
+entry_other es t u s differ = ap (first (λ (e : TxnStatus). same_id e.txn u)) (with_status-is es t s)
+    ∙ find-with_other (λ (e : TxnStatus). e.txn) es (entry_of t s) u differ
 
-pub status_same : (es : List Entry) (t : Id) (s : Status) → status_in (with_status es t s) t ≡ s
+pub status_same : (es : List TxnStatus) (t : Id) (s : Status) → status_in (with_status es t s) t ≡ s
 status_same es t s = ap or_unrecorded (entry_same es t s)
 
-pub status_other : (es : List Entry) (t u : Id) (s : Status) → same_id t u ≡ false → status_in (with_status es t s) u ≡ status_in es u
+pub status_other : (es : List TxnStatus) (t u : Id) (s : Status) → same_id t u ≡ false → status_in (with_status es t s) u ≡ status_in es u
 status_other es t u s differ = ap or_unrecorded (entry_other es t u s differ)
 
-pub by_id-status : (es : List Entry) (t : Id) (s : Status) → IsById (λ e. e.txn) es → IsById (λ e. e.txn) (with_status es t s)
-by_id-status es t s up = subst (IsById (λ (e : Entry). e.txn)) (sym (with_status-is es t s)) (by_id-with (λ (e : Entry). e.txn) es (entry_of t s) up)
+pub by_id-status : (es : List TxnStatus) (t : Id) (s : Status) → IsById (λ e. e.txn) es → IsById (λ e. e.txn) (with_status es t s)
+by_id-status es t s up = subst (IsById (λ (e : TxnStatus). e.txn)) (sym (with_status-is es t s)) (by_id-with (λ (e : TxnStatus). e.txn) es (entry_of t s) up)
 
 -- ---- ids in order
 

@@ -5,7 +5,7 @@ use Rattle.units.specs.Lists.{gather, first, least_with}
 use Rattle.units.specs.Ids.{Id, same_id, older, has_id}
 use Rattle.units.specs.Keys.{Bytes}
 use Rattle.record.specs.Records.{Status, StandsPrepared, StandsDecided, HasAborted, HasSettled, HasClosed}
-use Rattle.record.specs.Facts.{Facts, Entry, recorded}
+use Rattle.record.specs.Facts.{Facts, TxnStatus, recorded}
 use Rattle.units.specs.Locks.{Claim, exclusive, locks_of}
 use Rattle.units.specs.declared.lock.Lock.{Lock}
 use Rattle.units.specs.declared.lock.Mode.TheVariants.{Shared}
@@ -127,7 +127,7 @@ unfoldable pub standing : Facts → Memory → Id → Standing
 standing facts memory t = standing_by (find_row memory.rows t) (recorded facts t) (has_id memory.ended t)
 
 -- the row that a promise or a decision leaves after a crash: prepared or decided, with the locks of its record
-abbrev pub standing_row : Entry → Option Row
+abbrev pub standing_row : TxnStatus → Option Row
 standing_row e =
     elim e.status [
       | StandsPrepared p ↦ Some (record { txn = p.txn; held = locks_of p.reads p.writes; phase = IsPrepared p.coordinator p.at })

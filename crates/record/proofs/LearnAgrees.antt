@@ -14,7 +14,7 @@ use Rattle.units.proofs.Folds.{or_else, is_there, gather_append, greatest_append
 use Rattle.units.proofs.IdLaws.{same_id-is, same_id-refl}
 use Rattle.units.proofs.IdOrder.{once_more, rises_once}
 use Rattle.record.specs.Accepted.{Taken, Accepted, DamagedAt, StrangerAt, taken, taken_from, belongs, begins, follows, fits_beside, followed, followed_from}
-use Rattle.record.specs.Facts.{Facts, Entry, facts_of, learn, with_status, after_outcome, installs_at, or_floor}
+use Rattle.record.specs.Facts.{Facts, TxnStatus, facts_of, learn, with_status, after_outcome, installs_at, or_floor}
 use Rattle.record.specs.FactLaws.{LearnAgrees, LearntAgrees, AcceptedFollows, learnt}
 use Rattle.record.specs.Installs.{installs_of, installed_by, writes_by}
 use Rattle.record.specs.Records.{Ended, Status, Unrecorded, StandsPrepared, StandsDecided, HasAborted, HasSettled, HasClosed, as_opened, as_ended}
@@ -65,7 +65,7 @@ floor_more log r =
 
 -- ---- the entries
 
-entries : List Record → List Entry
+entries : List Record → List TxnStatus
 entries log = entries_by (λ t. status_of log t) (ids_of log)
 
 -- a record of no id
@@ -283,7 +283,7 @@ installs_change shard log t o s h none m =
 
 -- ---- all facts
 
-same_facts : (e f : ℕ) (es : List Entry) (is : List Install) (g h : ℕ) (gs : List Entry) (js : List Install) → e ≡ g → f ≡ h → es ≡ gs → is ≡ js →
+same_facts : (e f : ℕ) (es : List TxnStatus) (is : List Install) (g h : ℕ) (gs : List TxnStatus) (js : List Install) → e ≡ g → f ≡ h → es ≡ gs → is ≡ js →
     (let x : Facts = record { epoch = e; floor = f; entries = es; installs = is } in x) ≡ record { epoch = g; floor = h; entries = gs; installs = js }
 same_facts e f es is g h gs js p q r s = λ i. record { epoch = p i; floor = q i; entries = r i; installs = s i }
 

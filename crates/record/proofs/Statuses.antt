@@ -8,7 +8,7 @@ use Rattle.units.specs.Ids.{Id, same_id, older, with_id}
 use Rattle.units.proofs.Folds.{or_else}
 use Rattle.units.proofs.IdLaws.{same_id-is, same_id_comm, older_not_same, older_total}
 use Rattle.units.proofs.IdOrder.{above_more, rises, any_once}
-use Rattle.record.specs.Facts.{Entry, facts_of, recorded, or_unrecorded, with_status}
+use Rattle.record.specs.Facts.{TxnStatus, facts_of, recorded, or_unrecorded, with_status}
 use Rattle.record.specs.Records.{Ended, Status, Unrecorded, id_in, ids_of, prepared_of, committed_of, is_aborted, ended_of, status_by, status_of}
 use Rattle.record.specs.declared.record.Committed.{Committed}
 use Rattle.record.specs.declared.record.Prepared.{Prepared}
@@ -121,7 +121,7 @@ none_recorded t log e =
 -- ---- the status that the facts give
 
 -- the entries of some ids
-unfoldable pub entries_by : (Id → Status) → List Id → List Entry
+unfoldable pub entries_by : (Id → Status) → List Id → List TxnStatus
 entries_by f ids = map (λ t. record { txn = t; status = f t }) ids
 
 found : (f : Id → Status) (t : Id) (ids : List Id) →
@@ -156,8 +156,8 @@ entries_same f g t same [] h = refl
 entries_same f g t same (u ∷ us) h =
     let p : (older t u ≡ true) × (list_all (older t) us ≡ true) = and_parts _ _ h in
     let apart : same_id u t ≡ false = same_id_comm u t ∙ older_not_same t u p.0 in
-    ap (λ s. let e : Entry = record { txn = u; status = s } in e ∷ entries_by g us) (same u apart)
-    ∙ ap (λ l. let e : Entry = record { txn = u; status = f u } in e ∷ l) (entries_same f g t same us p.1)
+    ap (λ s. let e : TxnStatus = record { txn = u; status = s } in e ∷ entries_by g us) (same u apart)
+    ∙ ap (λ l. let e : TxnStatus = record { txn = u; status = f u } in e ∷ l) (entries_same f g t same us p.1)
 
 -- an id put in its place with its status, where all others keep theirs
 pub entries_with : (f g : Id → Status) (t : Id) → ((u : Id) → same_id u t ≡ false → g u ≡ f u) → (us : List Id) → rises us ≡ true →
@@ -174,13 +174,13 @@ entries_with f g t same (u ∷ us) h =
         (cond b (record { txn = u; status = f u } ∷ with_status (entries_by f us) t (g t))
         (record { txn = t; status = g t } ∷ record { txn = u; status = f u } ∷ entries_by f us))
     placed true b e k p rest =
-        ap (λ v. let x : Entry = record { txn = v; status = g v } in x ∷ entries_by g us) (same_id-is u t e)
-        ∙ ap (λ l. let x : Entry = record { txn = t; status = g t } in x ∷ l)
+        ap (λ v. let x : TxnStatus = record { txn = v; status = g v } in x ∷ entries_by g us) (same_id-is u t e)
+        ∙ ap (λ l. let x : TxnStatus = record { txn = t; status = g t } in x ∷ l)
         (entries_same f g t same us (subst (λ v. list_all (older v) us ≡ true) (same_id-is u t e) p.0))
     placed false true e k p rest =
-        ap (λ s. let x : Entry = record { txn = u; status = s } in x ∷ entries_by g (with_id us t)) (same u e)
-        ∙ ap (λ l. let x : Entry = record { txn = u; status = f u } in x ∷ l) rest
+        ap (λ s. let x : TxnStatus = record { txn = u; status = s } in x ∷ entries_by g (with_id us t)) (same u e)
+        ∙ ap (λ l. let x : TxnStatus = record { txn = u; status = f u } in x ∷ l) rest
     placed false false e k p rest =
         let below : older t u ≡ true = older_total u t e k in
-        ap (λ l. let x : Entry = record { txn = t; status = g t } in x ∷ l)
+        ap (λ l. let x : TxnStatus = record { txn = t; status = g t } in x ∷ l)
         (entries_same f g t same (u ∷ us) (and_from _ _ below (above_more t u us below p.0)))

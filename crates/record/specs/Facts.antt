@@ -11,7 +11,7 @@ use Rattle.record.specs.declared.record.Record.{Record}
 use Rattle.record.specs.declared.record.Record.TheVariants.{Opened, Ceiling, Prepare, Commit, Abort, Outcome}
 
 -- an id and its status
-pub record Entry : Type 0 where
+pub record TxnStatus : Type 0 where
   pub txn : Id
   pub status : Status
 
@@ -20,11 +20,11 @@ pub record Entry : Type 0 where
 pub record Facts : Type 0 where
   pub epoch : ℕ
   pub floor : ℕ
-  pub entries : List Entry
+  pub entries : List TxnStatus
   pub installs : List Install
 
 -- facts, by their parts
-abbrev pub facts_with : ℕ → ℕ → List Entry → List Install → Facts
+abbrev pub facts_with : ℕ → ℕ → List TxnStatus → List Install → Facts
 facts_with epoch floor entries installs = record { epoch = epoch; floor = floor; entries = entries; installs = installs }
 
 -- the facts before any record
@@ -42,7 +42,7 @@ facts_of log =
     }
 
 -- the status of an id
-abbrev pub or_unrecorded : Option Entry → Status
+abbrev pub or_unrecorded : Option TxnStatus → Status
 or_unrecorded None = Unrecorded
 or_unrecorded (Some e) = e.status
 
@@ -51,7 +51,7 @@ abbrev pub recorded : Facts → Id → Status
 recorded facts t = or_unrecorded (first (λ e. same_id e.txn t) facts.entries)
 
 -- the entries with the status of an id given anew, by ascending id
-abbrev pub with_status : List Entry → Id → Status → List Entry
+abbrev pub with_status : List TxnStatus → Id → Status → List TxnStatus
 with_status [] t status = record { txn = t; status = status } ∷ []
 with_status (e ∷ es) t status =
     cond (same_id e.txn t) (record { txn = t; status = status } ∷ es)

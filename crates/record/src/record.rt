@@ -5,7 +5,7 @@ use std::alloc::Global;
 use units::{Epoch, Fault, Keys, Parts, ShardNo, Stamp, TxnId, Writes};
 
 /// A transaction's part that a shard has promised at a timestamp, and the shard that decides.
-#[derive(Debug, Drop)]
+#[derive(Drop)]
 pub struct Prepared {
     pub txn: TxnId,
     pub coordinator: ShardNo,
@@ -16,7 +16,7 @@ pub struct Prepared {
 
 /// A commit decision at a timestamp, with the shards that take part and what was read and written at this one. It stands
 /// in the log of the least of its parts.
-#[derive(Debug, Drop)]
+#[derive(Drop)]
 pub struct Committed {
     pub txn: TxnId,
     pub at: Stamp,
@@ -27,7 +27,7 @@ pub struct Committed {
 
 /// A record of a shard's log: an opening with its epoch, a ceiling of the served time, a promise, a commit decision, an
 /// abort decision, or how a transaction ended at this shard (at a timestamp, or `None` for aborted).
-#[derive(Debug, Drop)]
+#[derive(Drop)]
 pub enum Record {
     Opened { epoch: Epoch },
     Ceiling { at: Stamp },

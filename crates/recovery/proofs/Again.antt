@@ -8,7 +8,7 @@ use Rattle.units.specs.ById.{IsById, find_member}
 use Rattle.units.specs.Keys.{Bytes}
 use Rattle.units.specs.Locks.{exclusive, locks_of, shared, with_locks}
 use Rattle.units.specs.declared.writes.Write.{Write}
-use Rattle.record.specs.Facts.{Entry, Facts, after_outcome, learn, or_floor, or_unrecorded, recorded, with_status}
+use Rattle.record.specs.Facts.{TxnStatus, Facts, after_outcome, learn, or_floor, or_unrecorded, recorded, with_status}
 use Rattle.record.specs.Records.{Status, Unrecorded, StandsPrepared, StandsDecided, HasAborted, HasSettled, HasClosed}
 use Rattle.record.specs.declared.record.Committed.{Committed}
 use Rattle.record.specs.declared.record.Prepared.{Prepared}
@@ -223,7 +223,7 @@ may_close_again k shard t o recovered follows = (
   refl,
   ap (λ rows. when (λ r. may_close r.phase) (find_row rows t)) (rows_are k recovered)
       ∙ ap (when (λ r. may_close r.phase)) (found k.facts.entries t recovered.order recovered.own)
-      ∙ by_entry (find_member (λ (e : Entry). e.txn) k.facts.entries t) (id_rules shard k.facts (Record.Outcome t o) follows),
+      ∙ by_entry (find_member (λ (e : TxnStatus). e.txn) k.facts.entries t) (id_rules shard k.facts (Record.Outcome t o) follows),
 )
   where
     by_status : (u : Id) (s : Status) → allows s o ≡ true → when (λ r. may_close r.phase) (standing_row (record { txn = u; status = s })) ≡ true
@@ -234,7 +234,7 @@ may_close_again k shard t o recovered follows = (
     by_status u (HasSettled at ps) k = absurd (false≢true k)
     by_status u (HasClosed c q) k = absurd (false≢true k)
 
-    by_entry : (e : Option Entry) → allows (or_unrecorded e) o ≡ true → when (λ r. may_close r.phase) (follow e standing_row) ≡ true
+    by_entry : (e : Option TxnStatus) → allows (or_unrecorded e) o ≡ true → when (λ r. may_close r.phase) (follow e standing_row) ≡ true
     by_entry None h = absurd (false≢true h)
     by_entry (Some e) h = by_status e.txn e.status h
 

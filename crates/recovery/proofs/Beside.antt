@@ -11,7 +11,7 @@ use Rattle.units.specs.Locks.{clash, exclusive, is_free, locks_of, shared, wound
 use Rattle.units.specs.Versions.{above_versions}
 use Rattle.units.specs.declared.writes.Write.{Write}
 use Rattle.units.proofs.ByIdLaws.{first_none}
-use Rattle.record.specs.Facts.{Entry, or_unrecorded, recorded}
+use Rattle.record.specs.Facts.{TxnStatus, or_unrecorded, recorded}
 use Rattle.record.specs.Records.{Status, Unrecorded, StandsPrepared, StandsDecided, HasAborted, HasSettled, HasClosed}
 use Rattle.protocol.specs.Rows.{without_rows, Row, claims, find_row, rebuilt, standing_row}
 use Rattle.protocol.specs.Plan.{is_crowded, opens}
@@ -27,7 +27,7 @@ unfolding rebuilt
 rows_are k recovered = ap (λ m. m.rows) recovered.memory
 
 -- nothing of it stands where there is no promise, decision or abort
-pub none_standing : (e : Entry) → or_unrecorded (Some e) ≡ Unrecorded → standing_row e ≡ None
+pub none_standing : (e : TxnStatus) → or_unrecorded (Some e) ≡ Unrecorded → standing_row e ≡ None
 none_standing e fresh = by_status e.status fresh
   where
     by_status : (s : Status) → s ≡ Unrecorded → standing_row (record { txn = e.txn; status = s }) ≡ None

@@ -8,7 +8,7 @@ use Rattle.units.specs.ById.{IsById}
 use Rattle.units.specs.declared.fault.Fault.{Fault}
 use Rattle.units.specs.declared.setup.Setup.{Setup}
 use Rattle.record.specs.Accepted.{belongs, followed}
-use Rattle.record.specs.Facts.{Entry, Facts, facts_of, learn}
+use Rattle.record.specs.Facts.{TxnStatus, Facts, facts_of, learn}
 use Rattle.record.specs.declared.record.Record.{Record}
 use Rattle.facts.specs.Rules.{follows_facts}
 use Rattle.facts.proofs.Known.{follows_as_known}
@@ -96,6 +96,6 @@ first_recovered k facts memory = record {
   opened = subst (λ (f : Facts). 0 < f.epoch) (sym facts) (omega arith);
   good = subst (λ (f : Facts). AllByRecursion (IsGood f) f.entries) (sym facts) tt;
   covered = subst (λ (f : Facts). IsTrue (list_all (λ i. nat_le i.at f.floor) f.installs)) (sym facts) no_installs;
-  order = subst (λ (f : Facts). IsById (λ (e : Entry). e.txn) f.entries) (sym facts) tt;
+  order = subst (λ (f : Facts). IsById (λ (e : TxnStatus). e.txn) f.entries) (sym facts) tt;
   own = subst (λ (f : Facts). AllByRecursion IsOwn f.entries) (sym facts) tt;
 }

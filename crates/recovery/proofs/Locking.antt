@@ -11,7 +11,7 @@ use Rattle.units.specs.declared.writes.Write.{Write}
 use Rattle.units.proofs.ByIdLaws.{first_none}
 use Rattle.units.proofs.ListLaws.{all-keep, all_gives}
 use Rattle.locks.proofs.Clashes.{clash-with_locks, clash_comm}
-use Rattle.record.specs.Facts.{Entry, Facts}
+use Rattle.record.specs.Facts.{TxnStatus, Facts}
 use Rattle.record.specs.Records.{Status, Unrecorded, StandsPrepared, StandsDecided, HasAborted, HasSettled, HasClosed}
 use Rattle.protocol.specs.Rows.{Row, claim_of, claims, find_row, is_firm, needs_of, standing_row}
 use Rattle.protocol.proofs.InWay.{holds_exclusive}
@@ -56,7 +56,7 @@ needs_clash rs ws ms = by_tests (clash (shared rs ++ exclusive ws) ms) (clash (l
 abbrev pub IsStill : Row → Type 0
 IsStill r = (is_firm r.phase ≡ true) × (needs_of r.phase ≡ [])
 
-still_row : (e : Entry) (r : Row) → standing_row e ≡ Some r → Unit {0} → IsStill r
+still_row : (e : TxnStatus) (r : Row) → standing_row e ≡ Some r → Unit {0} → IsStill r
 still_row e r k u = by_status e.status k
   where
     by_status : (s : Status) → standing_row (record { txn = e.txn; status = s }) ≡ Some r → IsStill r
@@ -73,7 +73,7 @@ still_row e r k u = by_status e.status k
     by_status (HasSettled at ps) k = cc
     by_status (HasClosed c o) k = cc
 
-all_unit : (es : List Entry) → AllByRecursion (λ e. Unit {0}) es
+all_unit : (es : List TxnStatus) → AllByRecursion (λ e. Unit {0}) es
 all_unit [] = tt
 all_unit (e ∷ es) = (tt, all_unit es)
 

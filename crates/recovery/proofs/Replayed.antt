@@ -6,7 +6,7 @@ use Rattle.std.specs.List.{AllByRecursion, list_all}
 use Rattle.units.specs.ById.{IsById}
 use Rattle.units.specs.Versions.{above_versions}
 use Rattle.units.specs.declared.writes.Write.{Write}
-use Rattle.record.specs.Facts.{Entry, Facts, learn}
+use Rattle.record.specs.Facts.{TxnStatus, Facts, learn}
 use Rattle.record.specs.declared.record.Record.{Record}
 use Rattle.facts.specs.Rules.{follows_facts}
 use Rattle.protocol.specs.Rows.{Memory, Row, claims, rebuilt}
@@ -68,7 +68,7 @@ recovered_again old new later p item recovered lawful follows fits logged fit re
       record {
         memory = memory_again old new p later.memory recovered fit ready law memory ∙ again ∙ ap rebuilt (sym then);
         opened = subst (λ (f : Facts). 0 < f.epoch) (sym then) taken.opened;
-        order = subst (λ (f : Facts). IsById (λ (e : Entry). e.txn) f.entries) (sym then) (learn_order old.facts item recovered.order);
+        order = subst (λ (f : Facts). IsById (λ (e : TxnStatus). e.txn) f.entries) (sym then) (learn_order old.facts item recovered.order);
         own = subst (λ (f : Facts). AllByRecursion IsOwn f.entries) (sym then) (learn_own old.setup.shard old.facts item follows recovered.own);
         good = subst (λ (f : Facts). AllByRecursion (IsGood f) f.entries) (sym then) taken.good;
         covered = subst (λ (f : Facts). IsTrue (list_all (λ i. nat_le i.at f.floor) f.installs)) (sym then) taken.covered;

@@ -17,7 +17,7 @@ use Rattle.units.specs.declared.writes.Install.{Install}
 use Rattle.units.proofs.ByIdLaws.{found_all, found_is}
 use Rattle.units.proofs.IdLaws.{same_id-is}
 use Rattle.units.proofs.ListLaws.{all_gives, each_of_all}
-use Rattle.record.specs.Facts.{Entry, Facts, after_outcome, installs_at, learn, or_floor, or_unrecorded, recorded, with_status}
+use Rattle.record.specs.Facts.{TxnStatus, Facts, after_outcome, installs_at, learn, or_floor, or_unrecorded, recorded, with_status}
 use Rattle.record.specs.Records.{Status, Unrecorded, StandsPrepared, StandsDecided, HasAborted, HasSettled, HasClosed, stamp_in}
 use Rattle.record.specs.declared.record.Record.{Record}
 use Rattle.facts.specs.Rules.{allows, follows_facts}
@@ -38,36 +38,36 @@ use Rattle.recovery.proofs.StandingRows.{found}
 -- ---- entries, where one is given anew
 
 -- each entry of another id keeps what it had
-all_status : (P Q : Entry → Type 0) (es : List Entry) (t : Id) (s : Status) → IsById (λ e. e.txn) es → Q (record { txn = t; status = s })
-    → ((e : Entry) → find_member (λ e. e.txn) es e.txn ≡ Some e → same_id t e.txn ≡ false → P e → Q e) → AllByRecursion P es →
+all_status : (P Q : TxnStatus → Type 0) (es : List TxnStatus) (t : Id) (s : Status) → IsById (λ e. e.txn) es → Q (record { txn = t; status = s })
+    → ((e : TxnStatus) → find_member (λ e. e.txn) es e.txn ≡ Some e → same_id t e.txn ≡ false → P e → Q e) → AllByRecursion P es →
     AllByRecursion Q (with_status es t s)
 all_status P Q es t s up new keeps all =
-    all_gives (λ (e : Entry). find_member (λ (e : Entry). e.txn) (with_status es t s) e.txn ≡ Some e) Q one (with_status es t s)
-    (find_members (λ (e : Entry). e.txn) (with_status es t s) (by_id-status es t s up))
+    all_gives (λ (e : TxnStatus). find_member (λ (e : TxnStatus). e.txn) (with_status es t s) e.txn ≡ Some e) Q one (with_status es t s)
+    (find_members (λ (e : TxnStatus). e.txn) (with_status es t s) (by_id-status es t s up))
   where
-    one : (e : Entry) → find_member (λ (e : Entry). e.txn) (with_status es t s) e.txn ≡ Some e → Q e
+    one : (e : TxnStatus) → find_member (λ (e : TxnStatus). e.txn) (with_status es t s) e.txn ≡ Some e → Q e
     one e there = by_id (same_id t e.txn) refl
       where
         by_id : (b : Bool) → same_id t e.txn ≡ b → Q e
         by_id true k =
             let is : t ≡ e.txn = same_id-is t e.txn k in
-            let here : find_member (λ (e : Entry). e.txn) (with_status es t s) e.txn ≡ Some (record { txn = t; status = s }) =
-            subst (λ u. find_member (λ (e : Entry). e.txn) (with_status es t s) u ≡ Some (record { txn = t; status = s })) is (entry_same es t s) in
-            let both : ◌≡◌ {A = Option Entry} (Some (record { txn = t; status = s })) (Some e) = sym here ∙ there in
+            let here : find_member (λ (e : TxnStatus). e.txn) (with_status es t s) e.txn ≡ Some (record { txn = t; status = s }) =
+            subst (λ u. find_member (λ (e : TxnStatus). e.txn) (with_status es t s) u ≡ Some (record { txn = t; status = s })) is (entry_same es t s) in
+            let both : ◌≡◌ {A = Option TxnStatus} (Some (record { txn = t; status = s })) (Some e) = sym here ∙ there in
             let same : record { txn = t; status = s } ≡ e = cc in
             subst Q same new
         by_id false k =
-            let old : find_member (λ (e : Entry). e.txn) es e.txn ≡ Some e = sym (entry_other es t e.txn s k) ∙ there in
-            keeps e old k (found_all P (λ (e : Entry). e.txn) es e.txn e all old)
+            let old : find_member (λ (e : TxnStatus). e.txn) es e.txn ≡ Some e = sym (entry_other es t e.txn s k) ∙ there in
+            keeps e old k (found_all P (λ (e : TxnStatus). e.txn) es e.txn e all old)
 
 -- ---- a row of what stands
 
-record HasRow (e : Entry) (x : Part) : Type 0 where
+record HasRow (e : TxnStatus) (x : Part) : Type 0 where
   row : Row
   is : standing_row e ≡ Some row
   held : row.held ≡ locks_of x.reads x.writes
 
-has_row : (e : Entry) (x : Part) → part_of e.status ≡ Some x → HasRow e x
+has_row : (e : TxnStatus) (x : Part) → part_of e.status ≡ Some x → HasRow e x
 has_row e x k = by_status e.status k
   where
     by_status : (s : Status) → part_of s ≡ Some x → HasRow (record { txn = e.txn; status = s }) x
@@ -85,7 +85,8 @@ has_row e x k = by_status e.status k
     by_status (HasClosed c o) k = cc
 
 -- what two of them write are different keys
-parts_apart : (f : Facts) (e d : Entry) (x y : Part) → IsById (λ e. e.txn) f.entries → AllByRecursion IsOwn f.entries → IsLawfulTable (claims (standing_rows f))
+parts_apart : (f : Facts) (e d : TxnStatus) (x y : Part) → IsById (λ e. e.txn) f.entries → AllByRecursion IsOwn f.entries
+    → IsLawfulTable (claims (standing_rows f))
     → find_member (λ e. e.txn) f.entries e.txn ≡ Some e → find_member (λ e. e.txn) f.entries d.txn ≡ Some d → same_id d.txn e.txn ≡ false
     → part_of e.status ≡ Some x → part_of d.status ≡ Some y
     → list_all (λ w. list_all (λ v. not (same_key v.key w.key)) y.writes) x.writes ≡ true
@@ -109,14 +110,14 @@ due_later f g x low same due = record {
   above = subst (λ is. IsTrue (above_versions is x.at x.writes)) same due.above;
 }
 
-good_by : (f g : Facts) (e : Entry) → ((x : Part) → part_of e.status ≡ Some x → MayStandNext f x → MayStandNext g x) → IsGood f e → IsGood g e
+good_by : (f g : Facts) (e : TxnStatus) → ((x : Part) → part_of e.status ≡ Some x → MayStandNext f x → MayStandNext g x) → IsGood f e → IsGood g e
 good_by f g e h good = by_part (part_of e.status) refl good
   where
     by_part : (o : Option Part) → part_of e.status ≡ o → IsGoodPart f o → IsGoodPart g o
     by_part None k good = tt
     by_part (Some x) k good = h x k good
 
-good_later : (f g : Facts) (e : Entry) → f.floor ≤ g.floor → f.installs ≡ g.installs → IsGood f e → IsGood g e
+good_later : (f g : Facts) (e : TxnStatus) → f.floor ≤ g.floor → f.installs ≡ g.installs → IsGood f e → IsGood g e
 good_later f g e low same = good_by f g e (λ x k. due_later f g x low same)
 
 up_left : (a b : ℕ) → a ≤ max a b
@@ -148,7 +149,7 @@ noted_good f g t s up put installs low new good =
     (all_status (IsGood f) (IsGood g) f.entries t s up new (λ e here differ h. good_later f g e low installs h) good)
 
 -- an outcome of what stands: the others write other keys
-installed_good : (f g : Facts) (t : Id) (s : Status) (y : Part) (at : ℕ) (d : Entry) → IsById (λ e. e.txn) f.entries →
+installed_good : (f g : Facts) (t : Id) (s : Status) (y : Part) (at : ℕ) (d : TxnStatus) → IsById (λ e. e.txn) f.entries →
     AllByRecursion IsOwn f.entries → IsLawfulTable (claims (standing_rows f))
     → find_member (λ e. e.txn) f.entries t ≡ Some d → part_of d.status ≡ Some y → g.entries ≡ with_status f.entries t s → part_of s ≡ None
     → g.installs ≡ f.installs ++ versions y.writes at → f.floor ≤ g.floor → AllByRecursion (IsGood f) f.entries → AllByRecursion (IsGood g) g.entries
@@ -157,12 +158,12 @@ installed_good f g t s y at d up own lawful there part put gone installs low goo
     (all_status (IsGood f) (IsGood g) f.entries t s up (subst (IsGoodPart g) (sym gone) tt) keeps good)
   where
     mine : d.txn ≡ t
-    mine = same_id-is d.txn t (found_is (λ (e : Entry). e.txn) f.entries t d there)
+    mine = same_id-is d.txn t (found_is (λ (e : TxnStatus). e.txn) f.entries t d there)
 
     at_own : find_member (λ e. e.txn) f.entries d.txn ≡ Some d
-    at_own = ap (find_member (λ (e : Entry). e.txn) f.entries) mine ∙ there
+    at_own = ap (find_member (λ (e : TxnStatus). e.txn) f.entries) mine ∙ there
 
-    keeps : (e : Entry) → find_member (λ e. e.txn) f.entries e.txn ≡ Some e → same_id t e.txn ≡ false → IsGood f e → IsGood g e
+    keeps : (e : TxnStatus) → find_member (λ e. e.txn) f.entries e.txn ≡ Some e → same_id t e.txn ≡ false → IsGood f e → IsGood g e
     keeps e here differ =
         good_by f g e
         (λ x k due. record {
@@ -195,7 +196,7 @@ lt-of n h = grind (arith, nat_tests)
 
 -- what stands under the id of an outcome, and what the outcome makes of it
 record Outcomes (f : Facts) (t : Id) : Type 0 where
-  entry : Entry
+  entry : TxnStatus
   part : Part
   there : find_member (λ e. e.txn) f.entries t ≡ Some entry
   is : part_of entry.status ≡ Some part
@@ -204,9 +205,9 @@ record Outcomes (f : Facts) (t : Id) : Type 0 where
   none : installs_at (recorded f t) None ≡ []
 
 standing_entry : (f : Facts) (t : Id) (o : Option ℕ) → allows (recorded f t) o ≡ true → Outcomes f t
-standing_entry f t o allowed = by_entry (find_member (λ (e : Entry). e.txn) f.entries t) refl allowed
+standing_entry f t o allowed = by_entry (find_member (λ (e : TxnStatus). e.txn) f.entries t) refl allowed
   where
-    by_status : (d : Entry) (s : Status) → d.status ≡ s → find_member (λ (e : Entry). e.txn) f.entries t ≡ Some d → allows s o ≡ true → Outcomes f t
+    by_status : (d : TxnStatus) (s : Status) → d.status ≡ s → find_member (λ (e : TxnStatus). e.txn) f.entries t ≡ Some d → allows s o ≡ true → Outcomes f t
     by_status d (StandsPrepared p) k found h = record {
       entry = d;
       part = record { at = p.at; reads = p.reads; writes = p.writes };
@@ -230,7 +231,7 @@ standing_entry f t o allowed = by_entry (find_member (λ (e : Entry). e.txn) f.e
     by_status d (HasSettled at ps) k found h = absurd (false≢true h)
     by_status d (HasClosed c q) k found h = absurd (false≢true h)
 
-    by_entry : (e : Option Entry) → find_member (λ (e : Entry). e.txn) f.entries t ≡ e → allows (or_unrecorded e) o ≡ true → Outcomes f t
+    by_entry : (e : Option TxnStatus) → find_member (λ (e : TxnStatus). e.txn) f.entries t ≡ e → allows (or_unrecorded e) o ≡ true → Outcomes f t
     by_entry None k h = absurd (false≢true h)
     by_entry (Some d) k h = by_status d d.status refl k h
 
@@ -311,7 +312,7 @@ unfolding rebuilt
 ended_is k recovered = ap (λ m. m.ended) recovered.memory
 
 -- a row that a log holds neither waits nor collects
-row_fits : (shard : ℕ) (e : Entry) (r : Row) → standing_row e ≡ Some r → Unit {0} → fits shard r ≡ true
+row_fits : (shard : ℕ) (e : TxnStatus) (r : Row) → standing_row e ≡ Some r → Unit {0} → fits shard r ≡ true
 row_fits shard e r k u = by_status e.status k
   where
     some_fits : (q : Row) → Some q ≡ Some r → fits shard q ≡ true → fits shard r ≡ true
@@ -325,12 +326,13 @@ row_fits shard e r k u = by_status e.status k
     by_status (HasSettled at ps) k = cc
     by_status (HasClosed c o) k = cc
 
-all_unit : (es : List Entry) → AllByRecursion (λ e. Unit {0}) es
+all_unit : (es : List TxnStatus) → AllByRecursion (λ e. Unit {0}) es
 all_unit [] = tt
 all_unit (e ∷ es) = (tt, all_unit es)
 
 -- a record and its row agree
-entry_agrees : (f : Facts) (o : Option Entry) → ((e : Entry) → o ≡ Some e → IsGood f e) → Agrees f.installs f.floor (or_unrecorded o) (follow o standing_row)
+entry_agrees : (f : Facts) (o : Option TxnStatus) → ((e : TxnStatus) → o ≡ Some e → IsGood f e)
+    → Agrees f.installs f.floor (or_unrecorded o) (follow o standing_row)
 entry_agrees f None good = tt
 entry_agrees f (Some e) good = by_status e.status (good e refl)
   where
@@ -373,6 +375,6 @@ recovered_sound shard k recovered lawful = record {
       subst (λ rows. Agrees k.facts.installs k.memory.last (recorded k.facts t) (find_row rows t)) (sym (rows_is k recovered))
       (subst (λ n. Agrees k.facts.installs n (recorded k.facts t) (find_row (standing_rows k.facts) t)) (sym (last_is k recovered))
       (subst (Agrees k.facts.installs k.facts.floor (recorded k.facts t)) (sym (found k.facts.entries t recovered.order recovered.own))
-      (entry_agrees k.facts (find_member (λ (e : Entry). e.txn) k.facts.entries t)
-      (λ e there. found_all (IsGood k.facts) (λ (e : Entry). e.txn) k.facts.entries t e recovered.good there))));
+      (entry_agrees k.facts (find_member (λ (e : TxnStatus). e.txn) k.facts.entries t)
+      (λ e there. found_all (IsGood k.facts) (λ (e : TxnStatus). e.txn) k.facts.entries t e recovered.good there))));
 }

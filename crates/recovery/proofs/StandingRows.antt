@@ -7,7 +7,7 @@ use Rattle.units.specs.ById.{IsById, find_member}
 use Rattle.units.proofs.IdLaws.{same_id-is}
 use Rattle.units.proofs.ByIdLaws.{same_members}
 use Rattle.units.proofs.ListLaws.{all_gives}
-use Rattle.record.specs.Facts.{Entry, with_status}
+use Rattle.record.specs.Facts.{TxnStatus, with_status}
 use Rattle.record.specs.Records.{Status, Unrecorded, StandsPrepared, StandsDecided, HasAborted, HasSettled, HasClosed}
 use Rattle.protocol.specs.Rows.{Row, find_row, standing_row, with_row, without_row}
 use Rattle.protocol.proofs.OpenedRows as opened
@@ -17,10 +17,10 @@ use Rattle.protocol.proofs.StatusChanges.{by_id-status, entry_other, entry_same}
 use Rattle.recovery.specs.Recovered.{IsOwn}
 
 -- the row of an entry has its id
-some_txn : (e : Entry) (r : Row) (o : Option Row) → (elim o [ Some q ↦ q.txn | None ↦ e.txn ]) ≡ e.txn → o ≡ Some r → r.txn ≡ e.txn
+some_txn : (e : TxnStatus) (r : Row) (o : Option Row) → (elim o [ Some q ↦ q.txn | None ↦ e.txn ]) ≡ e.txn → o ≡ Some r → r.txn ≡ e.txn
 some_txn e r o own k = sym (ap (λ o. elim o [ Some q ↦ q.txn | None ↦ e.txn ]) k) ∙ own
 
-own_row : (e : Entry) → IsOwn e → opened.IsOwn e
+own_row : (e : TxnStatus) → IsOwn e → opened.IsOwn e
 own_row e own = λ r k. some_txn e r (standing_row e) (by_status e.status own) k
   where
     by_status : (s : Status) → IsOwn (record { txn = e.txn; status = s }) →
@@ -32,10 +32,10 @@ own_row e own = λ r k. some_txn e r (standing_row e) (by_status e.status own) k
     by_status (HasSettled at ps) h = refl
     by_status (HasClosed c o) h = refl
 
-pub own_rows : (es : List Entry) → AllByRecursion IsOwn es → AllByRecursion opened.IsOwn es
+pub own_rows : (es : List TxnStatus) → AllByRecursion IsOwn es → AllByRecursion opened.IsOwn es
 own_rows es own = all_gives IsOwn opened.IsOwn own_row es own
 
-pub own-status : (es : List Entry) (t : Id) (s : Status) → IsOwn (record { txn = t; status = s }) → AllByRecursion IsOwn es →
+pub own-status : (es : List TxnStatus) (t : Id) (s : Status) → IsOwn (record { txn = t; status = s }) → AllByRecursion IsOwn es →
     AllByRecursion IsOwn (with_status es t s)
 own-status [] t s new own = (new, tt)
 own-status (e ∷ es) t s new own = by_place (same_id e.txn t) (older e.txn t) (own-status es t s new own.1)
@@ -47,21 +47,21 @@ own-status (e ∷ es) t s new own = by_place (same_id e.txn t) (older e.txn t) (
     by_place false false rest = (new, own)
 
 -- the row of an id, by its entry
-pub found : (es : List Entry) (t : Id) → IsById (λ e. e.txn) es → AllByRecursion IsOwn es →
+pub found : (es : List TxnStatus) (t : Id) → IsById (λ e. e.txn) es → AllByRecursion IsOwn es →
     find_row (gather standing_row es) t ≡ follow (find_member (λ e. e.txn) es t) standing_row
 found es t up own = opened.find-gather es t up (own_rows es own)
 
 -- an id of which nothing stands has no row
-pub no_row : (es : List Entry) (t : Id) → IsById (λ e. e.txn) es → AllByRecursion IsOwn es
-    → ((e : Entry) → find_member (λ e. e.txn) es t ≡ Some e → standing_row e ≡ None) → find_row (gather standing_row es) t ≡ None
-no_row es t up own none = found es t up own ∙ by_entry (find_member (λ (e : Entry). e.txn) es t) refl
+pub no_row : (es : List TxnStatus) (t : Id) → IsById (λ e. e.txn) es → AllByRecursion IsOwn es
+    → ((e : TxnStatus) → find_member (λ e. e.txn) es t ≡ Some e → standing_row e ≡ None) → find_row (gather standing_row es) t ≡ None
+no_row es t up own none = found es t up own ∙ by_entry (find_member (λ (e : TxnStatus). e.txn) es t) refl
   where
-    by_entry : (o : Option Entry) → find_member (λ (e : Entry). e.txn) es t ≡ o → follow o standing_row ≡ None
+    by_entry : (o : Option TxnStatus) → find_member (λ (e : TxnStatus). e.txn) es t ≡ o → follow o standing_row ≡ None
     by_entry None k = refl
     by_entry (Some e) k = none e k
 
 -- with a status under which a row stands, the row is put
-pub row_put : (es : List Entry) (t : Id) (s : Status) (r : Row) → IsById (λ e. e.txn) es → AllByRecursion IsOwn es → IsOwn (record { txn = t; status = s })
+pub row_put : (es : List TxnStatus) (t : Id) (s : Status) (r : Row) → IsById (λ e. e.txn) es → AllByRecursion IsOwn es → IsOwn (record { txn = t; status = s })
     → standing_row (record { txn = t; status = s }) ≡ Some r → r.txn ≡ t → with_row (gather standing_row es) r ≡ gather standing_row (with_status es t s)
 row_put es t s r up own new stands its =
     same_members (λ (q : Row). q.txn) (with_row (gather standing_row es) r) (gather standing_row (with_status es t s))
@@ -88,7 +88,7 @@ row_put es t s r up own new stands its =
         ∙ sym (found (with_status es t s) u up_after own_after)
 
 -- with any other, the row goes
-pub row_gone : (es : List Entry) (t : Id) (s : Status) → IsById (λ e. e.txn) es → AllByRecursion IsOwn es → IsOwn (record { txn = t; status = s })
+pub row_gone : (es : List TxnStatus) (t : Id) (s : Status) → IsById (λ e. e.txn) es → AllByRecursion IsOwn es → IsOwn (record { txn = t; status = s })
     → standing_row (record { txn = t; status = s }) ≡ None → without_row (gather standing_row es) t ≡ gather standing_row (with_status es t s)
 row_gone es t s up own new stands =
     same_members (λ (q : Row). q.txn) (without_row (gather standing_row es) t) (gather standing_row (with_status es t s))

@@ -12,7 +12,7 @@ use Rattle.units.specs.declared.fault.Fault.{Fault}
 use Rattle.units.specs.declared.setup.Setup.{Setup}
 use Rattle.units.specs.declared.writes.Write.{Write}
 use Rattle.record.specs.Accepted.{Taken, Accepted, DamagedAt, StrangerAt, belongs}
-use Rattle.record.specs.Facts.{Entry, Facts, facts_of, recorded}
+use Rattle.record.specs.Facts.{TxnStatus, Facts, facts_of, recorded}
 use Rattle.record.specs.Records.{Status, StandsPrepared, StandsDecided, as_opened}
 use Rattle.record.specs.declared.record.Record.{Record}
 use Rattle.facts.specs.Rules.{follows_facts}
@@ -64,7 +64,7 @@ fault_in (DamagedAt place) entries = follow (slice_get entries place) (λ e. Som
 fault_in (StrangerAt place) entries = Some Fault.Stranger
 
 -- a promise or a decision stands under its own id
-abbrev pub IsOwn : Entry → Type 0
+abbrev pub IsOwn : TxnStatus → Type 0
 IsOwn e = elim e.status [ StandsPrepared p ↦ p.txn ≡ e.txn | StandsDecided c ↦ c.txn ≡ e.txn | _ ↦ Unit {0} ]
 
 -- what a promise or a decision that stands is about
@@ -88,7 +88,7 @@ abbrev pub IsGoodPart : Facts → Option Part → Type 0
 IsGoodPart facts None = Unit {0}
 IsGoodPart facts (Some x) = MayStandNext facts x
 
-abbrev pub IsGood : Facts → Entry → Type 0
+abbrev pub IsGood : Facts → TxnStatus → Type 0
 IsGood facts e = IsGoodPart facts (part_of e.status)
 
 -- the memory is what the log's facts leave of it, and the facts are those of a log that was opened and taken

@@ -12,6 +12,6 @@ mod wait;
 
 pub use row::Row;
 pub use rows::Rows;
-pub use states::{Collecting, Decided, Prepared, Reading};
+pub use states::{RowCollecting, RowDecided, RowPrepared, RowReading};
 pub use votes::{Gathering, Voted, Votes};
 pub use wait::{CommitRequest, PrepareRequest, Wait};

@@ -2,12 +2,14 @@
 ghost use Rattle.std.specs.Prelude.{◌≡◌, ◌+◌, ◌<◌, ◌≤◌, [], true, false, Some, IfOk, IfErr, length, slice_get, vec_capacity};
 ghost use Rattle.std.specs.List.{find, position_or_len};
 ghost use Rattle.std.specs.Option.{option_copied};
+ghost use Rattle.std.specs.List.Sorted.{IsPartitionPoint};
+ghost use Rattle.units.specs.ById.{IsById};
 ghost use Rattle.units.specs.Ids.{same_id, older};
 ghost use Rattle.units.specs.Lists.{gather};
 ghost use Rattle.rows.specs.CodeRows.{txn_of, has_txn, row_of, passes, is_reading, stamp_if_prepared, stamp_if_decided, without_txn, put_in, IsRowList};
 
 use crate::row::Row;
-use crate::states::Reading;
+use crate::states::RowReading;
 use locks::Table;
 use std::alloc::Global;
 use std::marker::Model;
@@ -89,7 +91,7 @@ impl RowList {
     }
 
     /// Takes out the row of a transaction that reads.
-    pub fn take_reading(&mut self, txn: TxnId) -> Reading
+    pub fn take_reading(&mut self, txn: TxnId) -> RowReading
         requires { passes is_reading self.old txn ≡ true }
         ensures row { row_of self.old txn ≡ Some (Row.Reading result) }
         ensures rest { self.new ≡ without_txn self.old txn }
@@ -128,9 +130,23 @@ impl RowList {
 
 // The transaction's row.
 fn found(rows: &[Row], txn: TxnId) -> Option<&Row>
+    requires { IsById txn_of rows.now }
     ensures { option_copied result ≡ find (λ r. same_id (txn_of r) txn) rows.now }
 {
-    rows.iter().find(|row| row.is_of(txn))
+    let at = first_from(rows, txn);
+    if at < rows.len() && rows[at].is_of(txn) {
+        return Some(&rows[at]);
+    }
+    None
+}
+
+// The first that is not older than the transaction.
+fn first_from(rows: &[Row], txn: TxnId) -> usize
+    requires { IsById txn_of rows.now }
+    ensures within { result ≤ length rows.now }
+    ensures parted { IsPartitionPoint (λ r. older (txn_of r) txn ≡ true) (λ r. older (txn_of r) txn ≡ false) rows.now result }
+{
+    rows.partition_point(|row| row.txn().is_older_than(txn))
 }
 
 // The n-th prepared transaction.
@@ -167,27 +183,19 @@ fn nth_decided(rows: &[Row], n: usize) -> Option<(TxnId, Stamp)>
 
 // Where the transaction's row stands.
 fn place(rows: &[Row], txn: TxnId) -> usize
-    requires { has_txn rows.now txn ≡ true }
+    requires order { IsById txn_of rows.now }
+    requires row { has_txn rows.now txn ≡ true }
     ensures within { result < length rows.now }
     ensures place { result ≡ position_or_len (λ r. same_id (txn_of r) txn) rows.now }
 {
-    for (at, row) in rows.iter().enumerate() {
-        if row.is_of(txn) {
-            return at;
-        }
-    }
-    unreachable!()
+    first_from(rows, txn)
 }
 
 // Where the transaction's row would go.
 fn place_for(rows: &[Row], txn: TxnId) -> usize
+    requires { IsById txn_of rows.now }
     ensures within { result ≤ length rows.now }
     ensures place { result ≡ position_or_len (λ r. older txn (txn_of r)) rows.now }
 {
-    for (at, row) in rows.iter().enumerate() {
-        if txn.is_older_than(row.txn()) {
-            return at;
-        }
-    }
-    rows.len()
+    rows.partition_point(|row| !txn.is_older_than(row.txn()))
 }

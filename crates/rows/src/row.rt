@@ -4,16 +4,16 @@ ghost use Rattle.units.specs.Ids.{same_id};
 ghost use Rattle.rows.specs.CodeRows.{txn_of, phase_of, is_reading, stamp_if_prepared, stamp_if_decided};
 ghost use Rattle.locks.specs.Table.{without_claim};
 
-use crate::states::{Collecting, Decided, Prepared, Reading};
+use crate::states::{RowCollecting, RowDecided, RowPrepared, RowReading};
 use locks::Table;
 use units::{Stamp, TxnId};
 
 /// A transaction of a shard, in its state.
 pub enum Row {
-    Reading(Reading),
-    Collecting(Collecting),
-    Prepared(Prepared),
-    Decided(Decided),
+    Reading(RowReading),
+    Collecting(RowCollecting),
+    Prepared(RowPrepared),
+    Decided(RowDecided),
 }
 
 impl Row {

@@ -10,7 +10,7 @@ ghost use Rattle.rows.specs.RowTable.{has_phase, put_row, nth_prepared, nth_deci
 
 use crate::list::RowList;
 use crate::row::Row;
-use crate::states::Reading;
+use crate::states::RowReading;
 use locks::Table;
 use std::alloc::Global;
 use std::marker::Model;
@@ -149,7 +149,7 @@ impl Rows {
         ensures memory { IfErr result (λ fault. fault ≡ Fault.Memory) }
     {
         let held = self.locks.enter(alloc, txn)?;
-        self.rows.put(Row::Reading(Reading::new(held)));
+        self.rows.put(Row::Reading(RowReading::new(held)));
         Ok(())
     }
 

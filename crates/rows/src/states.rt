@@ -15,12 +15,12 @@ use std::marker::Model;
 use units::{Fault, Lock, Parts, ShardNo, Stamp, TxnId};
 
 /// It reads: it is idle, or waits with a read, a prepare or a commit.
-pub struct Reading {
+pub struct RowReading {
     held: Held,
     wait: Option<Wait>,
 }
 
-impl Model for Reading {
+impl Model for RowReading {
     ghost use Rattle.rows.specs.States.{ReadingState};
 
     ghost Value = { ReadingState };
@@ -29,13 +29,13 @@ impl Model for Reading {
 }
 
 /// The coordinator, while it waits for votes.
-pub struct Collecting {
+pub struct RowCollecting {
     held: Held,
     request: CommitRequest,
     votes: Votes,
 }
 
-impl Model for Collecting {
+impl Model for RowCollecting {
     ghost use Rattle.rows.specs.States.{CollectingState};
 
     ghost Value = { CollectingState };
@@ -44,13 +44,13 @@ impl Model for Collecting {
 }
 
 /// A participant that has promised.
-pub struct Prepared {
+pub struct RowPrepared {
     held: Held,
     coordinator: ShardNo,
     at: Stamp,
 }
 
-impl Model for Prepared {
+impl Model for RowPrepared {
     ghost use Rattle.rows.specs.States.{PreparedState};
 
     ghost Value = { PreparedState };
@@ -59,13 +59,13 @@ impl Model for Prepared {
 }
 
 /// The coordinator, once its decision is logged.
-pub struct Decided {
+pub struct RowDecided {
     held: Held,
     at: Stamp,
     parts: Parts,
 }
 
-impl Model for Decided {
+impl Model for RowDecided {
     ghost use Rattle.rows.specs.States.{DecidedState};
 
     ghost Value = { DecidedState };
@@ -73,12 +73,12 @@ impl Model for Decided {
     ghost view = { λ s. record { token = s.held; at = s.at; parts = s.parts } };
 }
 
-impl Reading {
+impl RowReading {
     /// A transaction that is new.
-    pub(crate) fn new(held: Held) -> Reading
+    pub(crate) fn new(held: Held) -> RowReading
         ensures { result ≡ reading_state held None }
     {
-        Reading { held, wait: None }
+        RowReading { held, wait: None }
     }
 
     /// Whose state it is.
@@ -107,7 +107,7 @@ impl Reading {
     }
 
     // A request that nobody is in the way of is granted. It waits no longer.
-    pub(crate) fn grant(self, needs: &[Lock], table: &mut Table) -> Reading
+    pub(crate) fn grant(self, needs: &[Lock], table: &mut Table) -> RowReading
         requires claim { has_claim table.old self.token.txn ≡ true }
         requires free { is_free table.old self.token.txn needs.now ≡ true }
         requires room { most_held table.old self.token.txn needs.now ≤ self.token.room }
@@ -115,13 +115,13 @@ impl Reading {
         ensures wait { result.wait ≡ None }
         ensures table { table.new ≡ change_claim table.old self.token.txn (granted needs.now) }
     {
-        let Reading { mut held, wait: _ } = self;
+        let RowReading { mut held, wait: _ } = self;
         table.grant(&mut held, needs);
-        Reading { held, wait: None }
+        RowReading { held, wait: None }
     }
 
     // It waits with something that needs these locks.
-    pub(crate) fn block(self, needs: &[Lock], wait: Wait, table: &mut Table) -> Reading
+    pub(crate) fn block(self, needs: &[Lock], wait: Wait, table: &mut Table) -> RowReading
         requires claim { has_claim table.old self.token.txn ≡ true }
         requires quiet { wounded table.old self.token.txn needs.now ≡ [] }
         requires blocked { is_free table.old self.token.txn needs.now ≡ false }
@@ -130,24 +130,24 @@ impl Reading {
         ensures wait { result.wait ≡ Some wait }
         ensures table { table.new ≡ change_claim table.old self.token.txn (waiting needs.now) }
     {
-        let Reading { mut held, wait: _ } = self;
+        let RowReading { mut held, wait: _ } = self;
         table.wait(&mut held, needs);
-        Reading {
+        RowReading {
             held,
             wait: Some(wait),
         }
     }
 
     // The coordinator of several shards begins to wait for their votes.
-    pub(crate) fn collect(self, gathering: Gathering, table: &mut Table) -> Collecting
+    pub(crate) fn collect(self, gathering: Gathering, table: &mut Table) -> RowCollecting
         requires { has_claim table.old self.token.txn ≡ true }
         ensures state { result ≡ collecting_of self.token gathering }
         ensures table { table.new ≡ change_claim table.old self.token.txn made_firm }
     {
-        let Reading { held, wait: _ } = self;
+        let RowReading { held, wait: _ } = self;
         table.firm(&held);
         let Gathering { request, votes } = gathering;
-        Collecting {
+        RowCollecting {
             held,
             request,
             votes,
@@ -155,19 +155,19 @@ impl Reading {
     }
 
     // A logged promise is spent.
-    pub(crate) fn prepare(self, logged: Logged, table: &mut Table) -> (Prepared, Record)
+    pub(crate) fn prepare(self, logged: Logged, table: &mut Table) -> (RowPrepared, Record)
         requires mine { is_prepare_of self.token.txn logged ≡ true }
         requires claim { has_claim table.old self.token.txn ≡ true }
         ensures state { result.0 ≡ prepared_by self.token logged }
         ensures record { result.1 ≡ logged }
         ensures table { table.new ≡ change_claim table.old self.token.txn made_firm }
     {
-        let Reading { held, wait: _ } = self;
+        let RowReading { held, wait: _ } = self;
         table.firm(&held);
         let record = logged.spend();
         match &record {
             Record::Prepare(prepared) => {
-                let state = Prepared {
+                let state = RowPrepared {
                     held,
                     coordinator: prepared.coordinator,
                     at: prepared.at,
@@ -180,14 +180,14 @@ impl Reading {
     }
 
     // A logged decision is spent.
-    pub(crate) fn decide(self, logged: Logged, table: &mut Table) -> (Decided, Record)
+    pub(crate) fn decide(self, logged: Logged, table: &mut Table) -> (RowDecided, Record)
         requires mine { is_commit_of self.token.txn logged ≡ true }
         requires claim { has_claim table.old self.token.txn ≡ true }
         ensures state { result.0 ≡ decided_by self.token logged }
         ensures record { result.1 ≡ logged }
         ensures table { table.new ≡ change_claim table.old self.token.txn made_firm }
     {
-        let Reading { held, wait: _ } = self;
+        let RowReading { held, wait: _ } = self;
         table.firm(&held);
         decide(held, logged)
     }
@@ -206,23 +206,23 @@ impl Reading {
     pub(crate) fn end(self, table: &mut Table)
         ensures { table.new ≡ without_claim table.old self.token.txn }
     {
-        let Reading { held, wait: _ } = self;
+        let RowReading { held, wait: _ } = self;
         table.release(held);
     }
 }
 
-impl Collecting {
+impl RowCollecting {
     // A yes of a shard comes. Its first is kept.
-    pub(crate) fn vote(self, from: ShardNo, at: Stamp) -> Collecting
+    pub(crate) fn vote(self, from: ShardNo, at: Stamp) -> RowCollecting
         ensures { result ≡ collecting_with_yes from at self }
     {
-        let Collecting {
+        let RowCollecting {
             held,
             request,
             mut votes,
         } = self;
         votes.add(from, at);
-        Collecting {
+        RowCollecting {
             held,
             request,
             votes,
@@ -251,12 +251,12 @@ impl Collecting {
     }
 
     // A logged decision is spent.
-    pub(crate) fn decide(self, logged: Logged) -> (Decided, Record)
+    pub(crate) fn decide(self, logged: Logged) -> (RowDecided, Record)
         requires { is_commit_of self.token.txn logged ≡ true }
         ensures state { result.0 ≡ decided_by self.token logged }
         ensures record { result.1 ≡ logged }
     {
-        let Collecting {
+        let RowCollecting {
             held,
             request: _,
             votes: _,
@@ -278,7 +278,7 @@ impl Collecting {
     pub(crate) fn release(self, table: &mut Table)
         ensures { table.new ≡ without_claim table.old self.token.txn }
     {
-        let Collecting {
+        let RowCollecting {
             held,
             request: _,
             votes: _,
@@ -287,7 +287,7 @@ impl Collecting {
     }
 }
 
-impl Prepared {
+impl RowPrepared {
     /// Whose state it is.
     pub fn txn(&self) -> TxnId
         ensures { result ≡ self.now.token.txn }
@@ -323,7 +323,7 @@ impl Prepared {
     pub(crate) fn release(self, table: &mut Table)
         ensures { table.new ≡ without_claim table.old self.token.txn }
     {
-        let Prepared {
+        let RowPrepared {
             held,
             coordinator: _,
             at: _,
@@ -332,7 +332,7 @@ impl Prepared {
     }
 }
 
-impl Decided {
+impl RowDecided {
     /// Whose state it is.
     pub fn txn(&self) -> TxnId
         ensures { result ≡ self.now.token.txn }
@@ -368,7 +368,7 @@ impl Decided {
     pub(crate) fn release(self, table: &mut Table)
         ensures { table.new ≡ without_claim table.old self.token.txn }
     {
-        let Decided {
+        let RowDecided {
             held,
             at: _,
             parts: _,
@@ -378,7 +378,7 @@ impl Decided {
 }
 
 // The state after a logged decision.
-fn decide(held: Held, logged: Logged) -> (Decided, Record)
+fn decide(held: Held, logged: Logged) -> (RowDecided, Record)
     requires { is_commit_of held.txn logged ≡ true }
     ensures state { result.0 ≡ decided_by held logged }
     ensures record { result.1 ≡ logged }
@@ -386,7 +386,7 @@ fn decide(held: Held, logged: Logged) -> (Decided, Record)
     let record = logged.spend();
     match &record {
         Record::Commit(committed) => {
-            let state = Decided {
+            let state = RowDecided {
                 held,
                 at: committed.at,
                 parts: committed.parts,

@@ -1,11 +1,11 @@
 //! What a run is to come to, and what it comes to.
-use crate::playing::run;
+use crate::runs::run;
 use crate::steps::Timed;
 use crate::texts::{joined, line_texts, log_texts, message_texts, reply_texts};
 use std::alloc::Global;
 use std::process::Abort;
 use std::test::Fail;
-use world::Report;
+use playing::Report;
 
 // What a run is to come to. Of the replies those are listed that are more than `Done`.
 pub struct Wanted<'a> {

@@ -1,11 +1,12 @@
 //! Lawful lists of events are drawn from a seed. What was put out so far is found by playing the list so far.
-use crate::playing::run;
+use crate::runs::run;
 use crate::steps::{Step, Timed};
 use message::{Address, Envelope, Message};
+use playing::Report;
 use record::{Committed, Record};
 use std::alloc::Global;
 use units::TxnId;
-use world::{Reply, Report};
+use world::Reply;
 
 // A linear congruential generator modulo 2^64, with the multiplier 6364136223846793005 and the increment
 // 1442695040888963407. Its upper 31 bits are drawn.

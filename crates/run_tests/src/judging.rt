@@ -1,9 +1,10 @@
 //! Checks of a report by itself: what the logs, the messages and the lines say of each transaction is one history.
 use message::Message;
+use playing::Report;
 use record::{Committed, Prepared, Record};
 use std::alloc::Global;
 use units::{Fault, Key, Line, Stamp, TxnId, Value, Writes};
-use world::{Reply, Report};
+use world::Reply;
 
 // A place in the history: a timestamp, then the number of the transaction.
 type Place = (u64, u64);

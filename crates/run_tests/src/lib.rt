@@ -14,7 +14,7 @@ mod judging;
 #[cfg(test)]
 mod long;
 #[cfg(test)]
-mod playing;
+mod runs;
 #[cfg(test)]
 mod schedules;
 #[cfg(test)]

@@ -1,7 +1,7 @@
 //! A long run over four shards, at the splits `g`, `m` and `s`: transactions of two writes each, one after the other.
 ghost use Rattle.std.specs.Prelude.{◌<◌, ◌^◌};
 
-use crate::playing::run;
+use crate::runs::run;
 use crate::steps::{Step, Timed};
 use std::alloc::Global;
 use std::test::Fail;

@@ -1,9 +1,10 @@
 //! What a run comes to as texts: a line each.
 use message::{Address, Answer, Envelope, Message, ReadAnswer, Reads};
+use playing::Report;
 use record::Record;
 use std::alloc::Global;
 use units::{Fault, Key, Keys, Line, Parts, ShardNo, Stamp, TxnId, Value, Writes};
-use world::{Reply, Report};
+use world::Reply;
 
 fn push_bytes(text: &mut String, bytes: &[u8]) -> Result<(), Fault> {
     for byte in bytes {

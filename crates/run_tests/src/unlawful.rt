@@ -1,5 +1,5 @@
 //! Lists of events that may not happen.
-use crate::playing::{is_lawful, played};
+use crate::runs::{is_lawful, played};
 use crate::schedules::{ONE_SHARD, TWO_SHARDS};
 use crate::steps::{Step, Timed};
 use std::alloc::Global;

@@ -11,16 +11,16 @@ use Rattle.units.proofs.IdLaws.{same_id-is}
 use Rattle.record.specs.declared.record.Committed.{Committed}
 use Rattle.record.specs.declared.record.Record.{Record}
 use Rattle.record.specs.Records.{Status, Unrecorded, StandsPrepared, StandsDecided, HasAborted, HasSettled, HasClosed}
-use Rattle.record.specs.Facts.{Facts, Entry, learn, recorded, or_unrecorded, with_status, after_outcome, no_facts}
+use Rattle.record.specs.Facts.{Facts, TxnStatus, learn, recorded, or_unrecorded, with_status, after_outcome, no_facts}
 use Rattle.shard.specs.Logs.{and_logged, facts_logged, learned}
 use Rattle.shard.specs.Settled.{is_commit, HasCommit}
 use Rattle.protocol.proofs.StatusChanges.{entry_same, entry_other}
 
 -- the entry of an id
-abbrev entry_for : List Entry → Id → Option Entry
+abbrev entry_for : List TxnStatus → Id → Option TxnStatus
 entry_for es t = first (λ e. same_id e.txn t) es
 
-abbrev entry : Id → Status → Entry
+abbrev entry : Id → Status → TxnStatus
 entry t status = record { txn = t; status = status }
 
 -- the timestamp of a decision that stands
@@ -30,7 +30,7 @@ decided_stamp _ = 0
 
 module _ (t : Id) (c : Committed) where
   -- an entry given anew for an id
-  given : (es : List Entry) (u : Id) (status : Status) (same : Bool) → same_id u t ≡ same →
+  given : (es : List TxnStatus) (u : Id) (status : Status) (same : Bool) → same_id u t ≡ same →
       or_unrecorded (entry_for (with_status es u status) t) ≡ StandsDecided c
       → ((same ≡ true) × (status ≡ StandsDecided c)) ⊎ (or_unrecorded (entry_for es t) ≡ StandsDecided c)
   given es u status true is h =

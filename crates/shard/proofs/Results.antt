@@ -5,8 +5,8 @@ use Rattle.std.proofs.lemmas.Bool.{false≢true}
 use Rattle.units.specs.declared.fault.Fault.{Fault}
 use Rattle.units.specs.declared.fault.Fault.TheVariants.{Device, Memory as WantsMemory}
 use Rattle.units.specs.declared.setup.Setup.{Setup}
-use Rattle.disk.specs.declared.plan.Plan.{Plan}
-use Rattle.disk.specs.declared.plan.Plan.TheVariants.{Never}
+use Rattle.disk.specs.declared.plan.FailurePlan.{FailurePlan}
+use Rattle.disk.specs.declared.plan.FailurePlan.TheVariants.{Never}
 use Rattle.gatelog.specs.Frames.{next_gate}
 use Rattle.disk.specs.Image.{MayLeave}
 use Rattle.disk.specs.File.{File, surface}
@@ -42,7 +42,7 @@ pub outbox_of : {D : Type 0} (old new : CoreView D) (logged : Option Record) (af
 outbox_of old new logged after outbox (Ok out) h = h.2.2
 outbox_of old new logged after outbox (Err fault) h = tt
 
-module _ {D : Type 0} (keeps obeys : Type 0) (file : D → File) (clock : D → ℕ) (since : D → ℕ → List ℕ → Type 0) (failures : D → ℕ) (plan : D → Plan)
+module _ {D : Type 0} (keeps obeys : Type 0) (file : D → File) (clock : D → ℕ) (since : D → ℕ → List ℕ → Type 0) (failures : D → ℕ) (plan : D → FailurePlan)
     (only_now : (d : D) (image : List ℕ) → since d (clock d) image → MayLeave (surface (file d)) image) where
   module _ (core : CoreView D) (running : IsFalse core.stopped) (stands : keeps → KeepsRecords (surface (file core.disk))
       (records_in (surface (file core.disk)).seen)) where

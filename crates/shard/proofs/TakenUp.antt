@@ -7,8 +7,8 @@ use Rattle.units.specs.Lists.{follow, when}
 use Rattle.units.specs.declared.fault.Fault.{Fault}
 use Rattle.units.specs.declared.fault.Fault.TheVariants.{Memory as WantsMemory, Device, TimeSpent, NotALog, Damaged}
 use Rattle.units.specs.declared.setup.Setup.{Setup}
-use Rattle.disk.specs.declared.plan.Plan.{Plan}
-use Rattle.disk.specs.declared.plan.Plan.TheVariants.{Never}
+use Rattle.disk.specs.declared.plan.FailurePlan.{FailurePlan}
+use Rattle.disk.specs.declared.plan.FailurePlan.TheVariants.{Never}
 use Rattle.disk.specs.File.{File, surface}
 use Rattle.disk.specs.Image.{MayLeave, after_sync}
 use Rattle.disk.specs.Moments.{LeavesOnly}
@@ -107,7 +107,8 @@ pub from_four : {T E : Type 0} (r : Result T E) (A B C G Z : T → Type 0) → (
 from_four (Ok x) A B C G Z h a b c g = h x a b c g
 from_four (Err e) A B C G Z h a b c g = tt
 
-module _ {D : Type 0} (keeps obeys : Type 0) (file : D → File) (clock : D → ℕ) (since : D → ℕ → List ℕ → Type 0) (failures : D → ℕ) (plan : D → Plan) where
+module _ {D : Type 0} (keeps obeys : Type 0) (file : D → File) (clock : D → ℕ) (since : D → ℕ → List ℕ → Type 0) (failures : D → ℕ)
+    (plan : D → FailurePlan) where
   -- what was read, and what reading it did to the disk
   pub record Found (disk mid : D) (gate : ℕ) (entries : List Placed) : Type 0 where
     pub entries_are : keeps → log (surface (file disk)).seen ≡ Ok entries

@@ -3,8 +3,8 @@ use Rattle.std.specs.Prelude.{◌≡◌, ◌≢◌, ◌⊎◌, ℕ, ◌+◌, ◌
 use Rattle.units.specs.declared.fault.Fault.{Fault}
 use Rattle.units.specs.declared.fault.Fault.TheVariants.{Memory as WantsMemory, Device, Stopped, TimeSpent}
 use Rattle.units.specs.declared.setup.Setup.{Setup}
-use Rattle.disk.specs.declared.plan.Plan.{Plan}
-use Rattle.disk.specs.declared.plan.Plan.TheVariants.{Never}
+use Rattle.disk.specs.declared.plan.FailurePlan.{FailurePlan}
+use Rattle.disk.specs.declared.plan.FailurePlan.TheVariants.{Never}
 use Rattle.disk.specs.File.{File, surface}
 use Rattle.disk.specs.Moments.{LeavesOnly}
 use Rattle.record.specs.declared.record.Record.{Record}
@@ -68,7 +68,8 @@ StandsAsBefore file old new fault =
     (new.facts ≡ old.facts) × (new.memory ≡ old.memory) × ((fault ≡ Device) ⊎ ((new.stopped ≡ old.stopped) × (new.gate ≡ old.gate)
     × (file new.disk ≡ file old.disk)))
 
-module _ {D : Type 0} (keeps obeys : Type 0) (file : D → File) (clock : D → ℕ) (since : D → ℕ → List ℕ → Type 0) (failures : D → ℕ) (plan : D → Plan) where
+module _ {D : Type 0} (keeps obeys : Type 0) (file : D → File) (clock : D → ℕ) (since : D → ℕ → List ℕ → Type 0) (failures : D → ℕ)
+    (plan : D → FailurePlan) where
   -- what holds of a core's disk over a call that logs a record, or nothing, whatever it answers
   pub record HasWritten {T : Type 0} (old new : CoreView D) (logged : Option Record) (result : Result T Fault) : Type 0 where
     pub setup : new.setup ≡ old.setup

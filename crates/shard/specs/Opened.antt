@@ -4,8 +4,8 @@ use Rattle.std.specs.Prelude.{Result, Ok, Err}
 use Rattle.units.specs.declared.fault.Fault.{Fault}
 use Rattle.units.specs.declared.fault.Fault.TheVariants.{Memory as WantsMemory, Device, TimeSpent, Damaged, NotALog, Stranger}
 use Rattle.units.specs.declared.setup.Setup.{Setup}
-use Rattle.disk.specs.declared.plan.Plan.{Plan}
-use Rattle.disk.specs.declared.plan.Plan.TheVariants.{Never}
+use Rattle.disk.specs.declared.plan.FailurePlan.{FailurePlan}
+use Rattle.disk.specs.declared.plan.FailurePlan.TheVariants.{Never}
 use Rattle.disk.specs.File.{File, surface}
 use Rattle.disk.specs.Image.{Surface, MayLeave}
 use Rattle.disk.specs.Moments.{LeavesOnly}
@@ -69,7 +69,8 @@ is_reason _ = false
 abbrev pub IsToldReason : Type 0 → Setup → Surface → Fault → Type 0
 IsToldReason keeps setup disk fault = IsTrue (is_reason fault) × (keeps → IsReason setup disk fault)
 
-module _ {D : Type 0} (keeps obeys : Type 0) (file : D → File) (clock : D → ℕ) (since : D → ℕ → List ℕ → Type 0) (failures : D → ℕ) (plan : D → Plan) where
+module _ {D : Type 0} (keeps obeys : Type 0) (file : D → File) (clock : D → ℕ) (since : D → ℕ → List ℕ → Type 0) (failures : D → ℕ)
+    (plan : D → FailurePlan) where
   -- a record was added to a log that ended at this gate
   pub record HasAppended (disk : D) (before : ℕ) (item : Record) (core : CoreView D) : Type 0 where
     pub running : IsFalse core.stopped

@@ -1,7 +1,7 @@
 -- What contracts see of a disk in memory.
 use Rattle.std.specs.Prelude.{ℕ, List, ◌∷◌, length, map}
 use Rattle.disk.specs.File.{File}
-use Rattle.disk.specs.declared.plan.Plan.{Plan}
+use Rattle.disk.specs.declared.plan.FailurePlan.{FailurePlan}
 use Rattle.simdisk.specs.Held.{held_file, HasRoomFor}
 use Rattle.simdisk.specs.Moments.{Left}
 use Rattle.simdisk.specs.declared.simdisk.SimDisk.{SimDisk}
@@ -15,7 +15,7 @@ abbrev pub disk_past : SimDisk → List File
 disk_past d = map held_file d.past.entries
 
 -- which call is to fail
-abbrev pub disk_plan : SimDisk → Plan
+abbrev pub disk_plan : SimDisk → FailurePlan
 disk_plan d = d.plan
 
 -- how often the disk has failed

@@ -4,7 +4,7 @@ ghost use Rattle.std.specs.Prelude.{◌≡◌, ◌+◌, ℕ, [], ◌∷◌, leng
 use crate::buffers::Buffers;
 use crate::choice::Choice;
 use counts::{Count, Past};
-use disk::{Disk, Plan};
+use disk::{Disk, FailurePlan};
 use std::alloc::Global;
 use units::Fault;
 
@@ -13,12 +13,12 @@ use units::Fault;
 pub struct SimDisk {
     buffers: Buffers,
     past: Past<Buffers>,
-    plan: Plan,
+    plan: FailurePlan,
     failures: Count,
 }
 
 impl SimDisk {
-    ghost use Rattle.disk.specs.declared.plan.Plan.TheVariants.{Never, After};
+    ghost use Rattle.disk.specs.declared.plan.FailurePlan.TheVariants.{Never, After};
     ghost use Rattle.disk.specs.Image.{MayLeave};
     ghost use Rattle.disk.specs.File.{File, surface, crash_leaves};
     ghost use Rattle.disk.specs.Moments.{Elapses};
@@ -28,13 +28,13 @@ impl SimDisk {
     /// An empty file.
     pub fn new(alloc: Global) -> SimDisk
         ensures empty { disk_file result ≡ settled [] }
-        ensures plan { disk_plan result ≡ Plan.Never }
+        ensures plan { disk_plan result ≡ FailurePlan.Never }
         ensures failures { disk_failures result ≡ 0 }
     {
         SimDisk {
             buffers: Buffers::new(alloc),
             past: Past::none(),
-            plan: Plan::Never,
+            plan: FailurePlan::Never,
             failures: Count::none(),
         }
     }
@@ -43,7 +43,7 @@ impl SimDisk {
     pub fn crash(self, choice: &Choice) -> SimDisk
         ensures image { disk_file result ≡ settled (crash_leaves choice.now (disk_file self)) }
         ensures may { MayLeave (surface (disk_file self)) (crash_leaves choice.now (disk_file self)) }
-        ensures plan { disk_plan result ≡ Plan.Never }
+        ensures plan { disk_plan result ≡ FailurePlan.Never }
         ensures failures { disk_failures result ≡ disk_failures self }
         ensures time { Elapses disk_file disk_clock LeftSince disk_failures self result }
     {
@@ -58,7 +58,7 @@ impl SimDisk {
         SimDisk {
             buffers,
             past,
-            plan: Plan::Never,
+            plan: FailurePlan::Never,
             failures,
         }
     }
@@ -66,13 +66,13 @@ impl SimDisk {
     /// For tests: of the calls `read_at`, `write_at`, `cut` and `sync`, the one that comes that many calls from now fails
     /// once; 0 is the next.
     pub fn fail_next(&mut self, calls: u64)
-        ensures plan { disk_plan self.new ≡ Plan.After calls }
+        ensures plan { disk_plan self.new ≡ FailurePlan.After calls }
         ensures same { disk_file self.new ≡ disk_file self.old }
         ensures failures { disk_failures self.new ≡ disk_failures self.old }
         ensures room { (more bytes : ℕ) → DiskHasRoom self.old more bytes → DiskHasRoom self.new more bytes }
         ensures time { Elapses disk_file disk_clock LeftSince disk_failures self.old self.new }
     {
-        self.plan = Plan::After(calls);
+        self.plan = FailurePlan::After(calls);
     }
 }
 
@@ -173,6 +173,6 @@ impl Disk for SimDisk {
     }
 
     fn arm(&mut self, call: Option<u64>) {
-        self.plan = Plan::armed(call);
+        self.plan = FailurePlan::armed(call);
     }
 }

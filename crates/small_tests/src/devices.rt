@@ -1,5 +1,5 @@
 //! Disks in memory: which calls fail, what is read, and what a crash leaves.
-use disk::{Disk, Fate, Plan};
+use disk::{Disk, FailurePlan, Fate};
 use simdisk::{Choice, SimDisk};
 use std::alloc::Global;
 use std::process::Abort;
@@ -16,14 +16,14 @@ enum Call {
 // A plan, and calls with whether each fails. Then no call is to fail any more.
 #[derive(Clone, Copy)]
 struct Failing {
-    plan: Plan,
+    plan: FailurePlan,
     calls: &'static [(Call, bool)],
 }
 
 static FAILING: [Failing; 3] = [
     // The third call fails.
     Failing {
-        plan: Plan::After(2),
+        plan: FailurePlan::After(2),
         calls: &[
             (Call::Other, false),
             (Call::Write, false),
@@ -32,7 +32,7 @@ static FAILING: [Failing; 3] = [
     },
     // What is armed waits for a write.
     Failing {
-        plan: Plan::AfterWrite(1),
+        plan: FailurePlan::AfterWrite(1),
         calls: &[
             (Call::Other, false),
             (Call::Other, false),
@@ -41,15 +41,15 @@ static FAILING: [Failing; 3] = [
         ],
     },
     Failing {
-        plan: Plan::Never,
+        plan: FailurePlan::Never,
         calls: &[(Call::Write, false)],
     },
 ];
 
 #[test]
 fn calls_that_fail(rt: HostRuntime) {
-    assert_eq!(rt; Plan::armed(Some(1)), Plan::AfterWrite(1));
-    assert_eq!(rt; Plan::armed(None), Plan::Never);
+    assert_eq!(rt; FailurePlan::armed(Some(1)), FailurePlan::AfterWrite(1));
+    assert_eq!(rt; FailurePlan::armed(None), FailurePlan::Never);
     for row in &FAILING {
         let mut plan = row.plan;
         for (call, fails) in row.calls {
@@ -59,7 +59,7 @@ fn calls_that_fail(rt: HostRuntime) {
             };
             assert_eq!(rt; failed, *fails, "{call:?} by {:?}", row.plan);
         }
-        assert_eq!(rt; plan, Plan::Never);
+        assert_eq!(rt; plan, FailurePlan::Never);
         assert!(rt; !plan.write());
     }
 }

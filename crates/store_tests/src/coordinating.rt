@@ -1,7 +1,7 @@
 //! Shards that decide for transactions of several parts.
 use crate::answers::Told;
 use crate::given::Given;
-use crate::stories::{Moment, Past, Shows, Story, tell};
+use crate::stories::{Moment, Origin, Shows, Story, tell};
 use std::test::Fail;
 
 static COORDINATING: [Story; 4] = [
@@ -9,7 +9,7 @@ static COORDINATING: [Story; 4] = [
         name: "a vote that comes before its commit changes nothing; the same vote again decides",
         shard: 0,
         stride: 0,
-        past: Past::New,
+        origin: Origin::New,
         exchanges: &[
             (100, 110, Given::Vote(2, 200), Told::Nothing),
             (100, 110, Given::CommitOfBoth(2, b"a", b"1"), Told::Nothing),
@@ -40,7 +40,7 @@ static COORDINATING: [Story; 4] = [
         name: "a transaction that is given up before it is known is aborted when it comes",
         shard: 0,
         stride: 0,
-        past: Past::New,
+        origin: Origin::New,
         exchanges: &[
             (100, 110, Given::GiveUp(4), Told::Nothing),
             (
@@ -60,7 +60,7 @@ static COORDINATING: [Story; 4] = [
         name: "a question about a transaction that is not known aborts it, once",
         shard: 0,
         stride: 0,
-        past: Past::New,
+        origin: Origin::New,
         exchanges: &[
             (100, 110, Given::Ask(9), Told::One((b'o', 1, 9, 0))),
             (
@@ -80,7 +80,7 @@ static COORDINATING: [Story; 4] = [
         name: "here it is written, and decided above the clock",
         shard: 0,
         stride: 0,
-        past: Past::New,
+        origin: Origin::New,
         exchanges: &[
             (100, 110, Given::CommitOfBoth(3, b"a", b"1"), Told::Nothing),
             (100, 110, Given::Vote(3, 90), Told::Nothing),

@@ -1,7 +1,7 @@
 //! Commits of one part.
 use crate::answers::Told;
 use crate::given::{Given, LAST};
-use crate::stories::{Moment, Past, Shows, Story, tell};
+use crate::stories::{Moment, Origin, Shows, Story, tell};
 use std::test::Fail;
 use units::Fault;
 
@@ -14,7 +14,7 @@ static COMMITS: [Story; 4] = [
         name: "one commit and its log",
         shard: 0,
         stride: 0,
-        past: Past::New,
+        origin: Origin::New,
         exchanges: &[
             (112, 121, Given::Settle(1), Told::Refused(Fault::Stranger)),
             (100, 110, A, Told::Nothing),
@@ -56,7 +56,7 @@ static COMMITS: [Story; 4] = [
         name: "commits that are refused",
         shard: 0,
         stride: 0,
-        past: Past::New,
+        origin: Origin::New,
         exchanges: &[
             (
                 100,
@@ -85,7 +85,7 @@ static COMMITS: [Story; 4] = [
         name: "a commit of another key is decided beside the first",
         shard: 0,
         stride: 0,
-        past: Past::New,
+        origin: Origin::New,
         exchanges: &[
             (100, 110, A, Told::Nothing),
             (100, 110, Given::Commit(2, 0, b"b", b"1"), Told::Nothing),
@@ -122,7 +122,7 @@ static COMMITS: [Story; 4] = [
         name: "a key of 64 bytes and a value of 4,096 are committed",
         shard: 0,
         stride: 0,
-        past: Past::New,
+        origin: Origin::New,
         exchanges: &[
             (
                 100,
@@ -149,7 +149,7 @@ const FAILS: Story = Story {
     name: "a failing device stops the core",
     shard: 0,
     stride: 0,
-    past: Past::Failing(7),
+    origin: Origin::Failing(7),
     exchanges: &[
         (100, 110, A, Told::Refused(Fault::Device)),
         (100, 110, A, Told::Refused(Fault::Stopped)),
@@ -164,15 +164,15 @@ const FAILS: Story = Story {
 static FAILING: [Story; 4] = [
     FAILS,
     Story {
-        past: Past::Failing(8),
+        origin: Origin::Failing(8),
         ..FAILS
     },
     Story {
-        past: Past::Failing(9),
+        origin: Origin::Failing(9),
         ..FAILS
     },
     Story {
-        past: Past::Failing(10),
+        origin: Origin::Failing(10),
         ..FAILS
     },
 ];

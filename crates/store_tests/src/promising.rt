@@ -1,7 +1,7 @@
 //! Shards that take part in transactions which another decides.
 use crate::answers::Told;
 use crate::given::Given;
-use crate::stories::{Moment, Past, Shows, Story, tell};
+use crate::stories::{Moment, Origin, Shows, Story, tell};
 use std::test::Fail;
 use units::{Fault, Seen};
 
@@ -10,7 +10,7 @@ static PROMISING: [Story; 5] = [
         name: "a promise holds the served time",
         shard: 1,
         stride: 0,
-        past: Past::New,
+        origin: Origin::New,
         exchanges: &[(
             200,
             210,
@@ -33,7 +33,7 @@ static PROMISING: [Story; 5] = [
         name: "an outcome is logged once",
         shard: 1,
         stride: 0,
-        past: Past::New,
+        origin: Origin::New,
         exchanges: &[
             (
                 200,
@@ -61,7 +61,7 @@ static PROMISING: [Story; 5] = [
         name: "an older prepare ends a younger reader",
         shard: 1,
         stride: 0,
-        past: Past::New,
+        origin: Origin::New,
         exchanges: &[
             (200, 210, Given::Read(2, b"z"), Told::One((b'r', 9, 2, 1))),
             (
@@ -87,7 +87,7 @@ static PROMISING: [Story; 5] = [
         name: "a younger prepare waits for an older reader",
         shard: 1,
         stride: 0,
-        past: Past::New,
+        origin: Origin::New,
         exchanges: &[
             (200, 210, Given::Read(1, b"z"), Told::One((b'r', 9, 1, 1))),
             (200, 210, Given::Prepare(2, b"z", b"2"), Told::Nothing),
@@ -111,7 +111,7 @@ static PROMISING: [Story; 5] = [
         name: "a promise of what was read closes without a version",
         shard: 1,
         stride: 0,
-        past: Past::New,
+        origin: Origin::New,
         exchanges: &[
             (90, 95, Given::Read(3, b"z"), Told::One((b'r', 9, 3, 1))),
             (

@@ -1,7 +1,7 @@
 //! Shards whose disks crash and are opened again.
 use crate::answers::Told;
 use crate::given::Given;
-use crate::stories::{Exchange, Moment, Past, Shows, Story, disk_behind, fresh, setup, tell};
+use crate::stories::{Exchange, Moment, Origin, Shows, Story, disk_behind, fresh, setup, tell};
 use shard::Core;
 use simdisk::SimDisk;
 use std::alloc::Global;
@@ -42,7 +42,7 @@ static REOPENED: [Story; 5] = [
         name: "a ceiling outlives a crash",
         shard: 1,
         stride: 50,
-        past: Past::Crashed(SERVED),
+        origin: Origin::Crashed(SERVED),
         exchanges: &[(
             160,
             170,
@@ -65,7 +65,7 @@ static REOPENED: [Story; 5] = [
         name: "a read does not outlive a crash",
         shard: 1,
         stride: 0,
-        past: Past::Crashed(HAS_READ),
+        origin: Origin::Crashed(HAS_READ),
         exchanges: &[(
             200,
             210,
@@ -82,7 +82,7 @@ static REOPENED: [Story; 5] = [
         name: "a decision that is logged and not settled is settled after the opening",
         shard: 0,
         stride: 0,
-        past: Past::Crashed(DECIDED),
+        origin: Origin::Crashed(DECIDED),
         exchanges: &[
             (105, 112, Given::Settle(1), Told::Refused(Fault::Early)),
             (112, 121, Given::Settle(1), Told::One((b'd', 9, 1, 111))),
@@ -111,7 +111,7 @@ static REOPENED: [Story; 5] = [
         name: "a promise outlives a crash",
         shard: 1,
         stride: 0,
-        past: Past::Crashed(PROMISED),
+        origin: Origin::Crashed(PROMISED),
         exchanges: &[
             (210, 220, Given::Read(3, b"z"), Told::Nothing),
             (210, 220, Given::Nudge(2), Told::One((b'a', 0, 2, 0))),
@@ -125,7 +125,7 @@ static REOPENED: [Story; 5] = [
         name: "a promise is closed after the opening",
         shard: 1,
         stride: 0,
-        past: Past::Crashed(PROMISED),
+        origin: Origin::Crashed(PROMISED),
         exchanges: &[(210, 220, Given::Outcome(2, 200), Told::Nothing)],
         moments: &[Moment {
             after: 1,
@@ -144,7 +144,7 @@ const HIDDEN: Story = Story {
     name: "a failing call stops the core",
     shard: 0,
     stride: 0,
-    past: Past::Armed(0, FAILS),
+    origin: Origin::Armed(0, FAILS),
     exchanges: &[],
     moments: &[Moment {
         after: 0,
@@ -155,15 +155,15 @@ const HIDDEN: Story = Story {
 static ARMED: [Story; 4] = [
     HIDDEN,
     Story {
-        past: Past::Armed(1, FAILS),
+        origin: Origin::Armed(1, FAILS),
         ..HIDDEN
     },
     Story {
-        past: Past::Armed(2, FAILS),
+        origin: Origin::Armed(2, FAILS),
         ..HIDDEN
     },
     Story {
-        past: Past::Armed(3, FAILS),
+        origin: Origin::Armed(3, FAILS),
         // Two openings, a commit of 42 bytes between them, and a closed gate.
         moments: &[Moment {
             after: 0,

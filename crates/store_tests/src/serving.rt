@@ -1,7 +1,7 @@
 //! Served time and looks.
 use crate::answers::Told;
 use crate::given::{Given, LAST};
-use crate::stories::{Exchange, Moment, Past, Shows, Story, tell};
+use crate::stories::{Exchange, Moment, Origin, Shows, Story, tell};
 use std::test::Fail;
 use units::{Fault, Seen};
 
@@ -16,7 +16,7 @@ static SERVING: [Story; 6] = [
         name: "advances",
         shard: 0,
         stride: 0,
-        past: Past::New,
+        origin: Origin::New,
         exchanges: &[
             (100, 110, Given::Advance(111), Told::Refused(Fault::Future)),
             (100, 110, Given::Advance(110), Told::Nothing),
@@ -45,7 +45,7 @@ static SERVING: [Story; 6] = [
         name: "a ceiling stands a stride ahead",
         shard: 0,
         stride: 50,
-        past: Past::New,
+        origin: Origin::New,
         exchanges: &[
             (150, 160, Given::Advance(150), Told::Nothing),
             (150, 160, Given::Advance(160), Told::Nothing),
@@ -63,7 +63,7 @@ static SERVING: [Story; 6] = [
         name: "a ceiling near the greatest timestamp",
         shard: 0,
         stride: 50,
-        past: Past::New,
+        origin: Origin::New,
         exchanges: &[(
             0,
             LAST,
@@ -79,7 +79,7 @@ static SERVING: [Story; 6] = [
         name: "looks before and after settling",
         shard: 0,
         stride: 0,
-        past: Past::New,
+        origin: Origin::New,
         exchanges: COMMITTED,
         moments: &[
             Moment {
@@ -103,7 +103,7 @@ static SERVING: [Story; 6] = [
         name: "looks with little room and elsewhere",
         shard: 0,
         stride: 0,
-        past: Past::New,
+        origin: Origin::New,
         exchanges: &[
             (100, 110, Given::Commit(1, 0, b"a", b"abc"), Told::Nothing),
             (112, 121, Given::Settle(1), Told::One((b'd', 9, 1, 111))),
@@ -122,7 +122,7 @@ static SERVING: [Story; 6] = [
         name: "a stopped core is looked at",
         shard: 0,
         stride: 0,
-        past: Past::Failing(7),
+        origin: Origin::Failing(7),
         exchanges: &[
             (100, 110, Given::Advance(110), Told::Refused(Fault::Device)),
             (100, 110, Given::Advance(110), Told::Refused(Fault::Stopped)),

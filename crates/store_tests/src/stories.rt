@@ -14,7 +14,7 @@ pub type Exchange = (u64, u64, Given, Told);
 
 // How the core came to be.
 #[derive(Clone, Copy, Debug)]
-pub enum Past {
+pub enum Origin {
     // It is new.
     New,
     // It is new, on a disk of which a call fails, counted from its first.
@@ -58,7 +58,7 @@ pub struct Story {
     pub name: &'static str,
     pub shard: u8,
     pub stride: u64,
-    pub past: Past,
+    pub origin: Origin,
     pub exchanges: &'static [Exchange],
     pub moments: &'static [Moment],
 }
@@ -140,17 +140,17 @@ fn disk_behind_armed(
 
 fn begun(alloc: Global, story: &Story) -> Option<Core<SimDisk>> {
     let mut disk = SimDisk::new(alloc);
-    match story.past {
-        Past::New => return fresh(alloc, disk, story.shard, story.stride),
-        Past::Failing(call) => {
+    match story.origin {
+        Origin::New => return fresh(alloc, disk, story.shard, story.stride),
+        Origin::Failing(call) => {
             disk.fail_next(call);
             return fresh(alloc, disk, story.shard, story.stride);
         }
-        Past::Crashed(exchanges) => {
+        Origin::Crashed(exchanges) => {
             let core = fresh(alloc, disk, story.shard, story.stride)?;
             disk = disk_behind(core, alloc, exchanges)?.crash(&Choice::none(alloc));
         }
-        Past::Armed(call, exchanges) => {
+        Origin::Armed(call, exchanges) => {
             disk = disk_behind_armed(alloc, story, call, exchanges)?;
         }
     }

@@ -6,7 +6,7 @@ use units::{Fault, Reason, Stamp};
 
 /// An interval of a clock, `earliest` at most `latest`, that holds the true time at which it was asked (TrueTime's
 /// `TT.now()`). It is honest where it really does.
-#[derive(Clone, Copy, Debug)]
+#[derive(Clone, Copy)]
 pub struct Reading {
     earliest: Stamp,
     latest: Stamp,

@@ -9,3 +9,5 @@ pub mod KeyLaws
 pub mod ListLaws
 pub mod Short
 pub mod Marked
+pub mod KeyOrder
+pub mod ByIdHalves

@@ -1,13 +1,16 @@
 //! Keys.
 ghost use Rattle.std.specs.Prelude.{◌≡◌, ℕ, List, ◌<◌, ◌≤◌, ◌++◌, ◌⊎◌, length, MatchResult, take};
 ghost use Rattle.units.specs.Padded.{zeros_behind};
+ghost use Rattle.std.specs.Cmp.Lexicographic.{slice_cmp};
+ghost use Rattle.std.specs.Ordering.{nat_cmp};
 ghost use Rattle.units.specs.Keys.{same_key, key_before};
 
 use crate::{Fault, Reason};
+use std::cmp::Ordering;
 use std::marker::Model;
 
 /// A key of 1 to 64 bytes. It is a plain value, so a copy of it takes no memory. Keys are ordered by their bytes.
-#[derive(Clone, Copy, Debug)]
+#[derive(Clone, Copy)]
 pub struct Key {
     bytes: [u8; 64],
     len: usize,
@@ -69,19 +72,19 @@ impl Key {
     {
         come_before(self.as_bytes(), other.as_bytes())
     }
+
+    /// How it stands to another key in their order, by one comparison.
+    pub fn compare(&self, other: &Key) -> Ordering
+        ensures { result ≡ slice_cmp nat_cmp self.now other.now }
+    {
+        self.as_bytes().cmp(other.as_bytes())
+    }
 }
 
-// Compares byte by byte.
 fn come_before(a: &[u8], b: &[u8]) -> bool
     ensures { result ≡ key_before a.now b.now }
 {
-    match (a.split_first(), b.split_first()) {
-        (Some((x, more)), Some((y, others))) => {
-            *x < *y || (*x == *y && come_before(more, others))
-        }
-        (None, Some(_)) => true,
-        (_, None) => false,
-    }
+    a.cmp(b).is_lt()
 }
 
 // Puts the bytes at the front of a row of zeros.

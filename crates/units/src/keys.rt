@@ -8,7 +8,7 @@ use std::alloc::Global;
 use std::marker::Model;
 
 /// At most 128 keys, strictly ascending by bytes.
-#[derive(Debug, Drop)]
+#[derive(Drop)]
 pub struct Keys {
     keys: Vec<Key>,
 }

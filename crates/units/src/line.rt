@@ -9,7 +9,7 @@ pub enum Seen {
 }
 
 /// A line of a report, in the order of events. The last number of `Begin` and `Ack` is the event's.
-#[derive(Debug, Drop)]
+#[derive(Drop)]
 pub enum Line {
     Begin(TxnId, u64),
     Ack(TxnId, Stamp, u64),

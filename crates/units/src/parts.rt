@@ -10,7 +10,7 @@ use std::marker::Model;
 
 /// The shards that take part in a transaction, at least one. Shard n is the bit 2^n; a contract sees the numbers in
 /// ascending order.
-#[derive(Clone, Copy, Debug)]
+#[derive(Clone, Copy)]
 pub struct Parts {
     mask: u16,
 }

@@ -9,7 +9,7 @@ use std::alloc::Global;
 use std::marker::Model;
 
 /// The keys that part the shards, at most 15, strictly ascending. There is one shard more than splits.
-#[derive(Debug, Drop)]
+#[derive(Drop)]
 pub struct Splits {
     keys: Vec<Key>,
 }

@@ -6,7 +6,7 @@ use std::alloc::Global;
 use std::marker::Model;
 
 /// A value of at most 4,096 bytes.
-#[derive(Debug, Drop)]
+#[derive(Drop)]
 pub struct Value {
     bytes: Vec<u8>,
 }

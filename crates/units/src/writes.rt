@@ -8,7 +8,7 @@ use std::alloc::Global;
 use std::marker::Model;
 
 /// A write of a key: a value, or `None` for an erasure.
-#[derive(Debug, Drop)]
+#[derive(Drop)]
 pub struct Write {
     pub key: Key,
     pub value: Option<Value>,
@@ -40,7 +40,7 @@ pub struct Install {
 }
 
 /// At most 128 writes, by strictly ascending keys.
-#[derive(Debug, Drop)]
+#[derive(Drop)]
 pub struct Writes {
     writes: Vec<Write>,
 }

@@ -4,3 +4,4 @@ pub mod Newest
 pub mod Kept
 pub mod Places
 pub mod AtOnce
+pub mod Pieces

@@ -3,3 +3,4 @@ pub mod Halves
 pub mod Ordered
 pub mod Places
 pub mod Store
+pub mod Pieces

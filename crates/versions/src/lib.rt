@@ -1,8 +1,10 @@
 //! The versions of a shard's keys, in order by key and timestamp.
 #![tactic(auto)]
 
+mod chunk;
 mod laws;
 mod search;
+mod sequence;
 mod store;
 
 pub use laws::place_does_not_matter;

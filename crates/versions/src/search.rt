@@ -6,7 +6,9 @@ ghost use Rattle.versions.specs.Arranged.{arranged, AreWithin};
 ghost use Rattle.versions.specs.Halves.{AllUpTo, AllAfter};
 ghost use Rattle.versions.specs.Ordered.{is_by, is_not_after, count_not_after, installed, AscendsByVersion, IsInOrder};
 
+use crate::sequence::Places;
 use counts::Count;
+use std::cmp::Ordering;
 use units::{Install, Key, Stamp};
 
 // The version is of this key and the timestamp, in microseconds, or it comes before them. Each comparison is counted.
@@ -15,25 +17,29 @@ fn is_not_after(install: &Install, key: &Key, at: u64, compared: &mut Count) -> 
     ensures counted { compared.new.number ≡ compared.old.number + 1 }
 {
     compared.rise();
-    install.key.is_before(key) || (install.key.is(key) && install.at.micros() <= at)
+    match install.key.compare(key) {
+        Ordering::Less => true,
+        Ordering::Equal => install.at.micros() <= at,
+        Ordering::Greater => false,
+    }
 }
 
 /// How many versions are not after the key and the timestamp, in microseconds, and how many were compared to find that.
 pub fn find(
     installs: &[Install],
-    places: &[usize],
+    places: &Places,
     key: &Key,
     at: u64,
     compared: &mut Count,
 ) -> (usize, u32)
-    requires within { AreWithin places.now (length installs.now) }
-    requires order { AscendsByVersion (arranged installs.now places.now) }
-    ensures count { result.0 ≡ count_not_after key.now at (arranged installs.now places.now) }
-    ensures before { AllUpTo key.now at (arranged installs.now places.now) result.0 }
-    ensures after { AllAfter key.now at (arranged installs.now places.now) result.0 }
-    ensures bound { result.0 ≤ length places.now }
-    ensures probes { (digits : ℕ) → length places.now < 2 ^ digits → result.1 ≤ digits }
-    ensures fewest { (digits : ℕ) → 2 ^ digits ≤ length places.now + 1 → digits ≤ result.1 }
+    requires within { AreWithin places.now.places (length installs.now) }
+    requires order { AscendsByVersion (arranged installs.now places.now.places) }
+    ensures count { result.0 ≡ count_not_after key.now at (arranged installs.now places.now.places) }
+    ensures before { AllUpTo key.now at (arranged installs.now places.now.places) result.0 }
+    ensures after { AllAfter key.now at (arranged installs.now places.now.places) result.0 }
+    ensures bound { result.0 ≤ length places.now.places }
+    ensures probes { (digits : ℕ) → length places.now.places < 2 ^ digits → result.1 ≤ digits }
+    ensures fewest { (digits : ℕ) → 2 ^ digits ≤ length places.now.places + 1 → digits ≤ result.1 }
     ensures counted { compared.new.number ≡ compared.old.number + result.1 }
 {
     let mut low = 0;
@@ -41,7 +47,7 @@ pub fn find(
     let mut probes: u32 = 0;
     while low < high {
         let middle = low + (high - low) / 2;
-        let place = places[middle];
+        let place = places.get(middle);
         probes += 1;
         if is_not_after(&installs[place], key, at, compared) {
             low = middle + 1;
@@ -55,43 +61,43 @@ pub fn find(
 /// The newest version of the key at the timestamp, in microseconds, or before.
 pub fn newest_by<'a>(
     installs: &'a [Install],
-    places: &[usize],
+    places: &Places,
     key: &Key,
     at: u64,
 ) -> Option<&'a Install>
-    requires within { AreWithin places.now (length installs.now) }
-    requires order { AscendsByVersion (arranged installs.now places.now) }
-    ensures { option_copied result ≡ newest (filter (is_by key.now at) (arranged installs.now places.now)) }
+    requires within { AreWithin places.now.places (length installs.now) }
+    requires order { AscendsByVersion (arranged installs.now places.now.places) }
+    ensures { option_copied result ≡ newest (filter (is_by key.now at) (arranged installs.now places.now.places)) }
 {
     let (count, _) = find(installs, places, key, at, &mut Count::none());
     if count == 0 {
         return None;
     }
-    let place = places[count - 1];
+    let place = places.get(count - 1);
     let last = &installs[place];
     if last.key.is(key) { Some(last) } else { None }
 }
 
 /// The newest version of the key.
 #[tactic(auto, using(crate::proofs::Newest::newest_is))]
-pub fn newest_of<'a>(installs: &'a [Install], places: &[usize], key: &Key) -> Option<&'a Install>
-    requires within { AreWithin places.now (length installs.now) }
-    requires kept { IsInOrder Stamp.MAX (arranged installs.now places.now) }
-    ensures { option_copied result ≡ newest (of_key (arranged installs.now places.now) key.now) }
+pub fn newest_of<'a>(installs: &'a [Install], places: &Places, key: &Key) -> Option<&'a Install>
+    requires within { AreWithin places.now.places (length installs.now) }
+    requires kept { IsInOrder Stamp.MAX (arranged installs.now places.now.places) }
+    ensures { option_copied result ≡ newest (of_key (arranged installs.now places.now.places) key.now) }
 {
     newest_by(installs, places, key, Stamp::MAX)
 }
 
 /// Adds a version, and puts in its place. There is room.
-pub fn install(installs: &mut Vec<Install>, places: &mut Vec<usize>, new: Install)
-    requires within { AreWithin places.old.items (length installs.old.items) }
-    requires order { AscendsByVersion (arranged installs.old.items places.old.items) }
-    requires room { (vec_len installs.old < vec_capacity installs.old) × (vec_len places.old < vec_capacity places.old) }
-    ensures items { arranged installs.new.items places.new.items ≡ installed (arranged installs.old.items places.old.items) new }
-    ensures within { AreWithin places.new.items (length installs.new.items) }
-    ensures len { (vec_len installs.new ≡ vec_len installs.old + 1) × (vec_len places.new ≡ vec_len places.old + 1) }
+pub fn install(installs: &mut Vec<Install>, places: &mut Places, new: Install)
+    requires within { AreWithin places.old.places (length installs.old.items) }
+    requires order { AscendsByVersion (arranged installs.old.items places.old.places) }
+    requires room { (vec_len installs.old < vec_capacity installs.old) × (0 < places.old.room) }
+    ensures items { arranged installs.new.items places.new.places ≡ installed (arranged installs.old.items places.old.places) new }
+    ensures within { AreWithin places.new.places (length installs.new.items) }
+    ensures len { (vec_len installs.new ≡ vec_len installs.old + 1) × (places.new.room + 1 ≡ places.old.room) }
     ensures in_time { new.at < 2 ^ 62 }
-    ensures capacity { (vec_capacity installs.new ≡ vec_capacity installs.old) × (vec_capacity places.new ≡ vec_capacity places.old) }
+    ensures capacity { vec_capacity installs.new ≡ vec_capacity installs.old }
 {
     let (count, _) = find(
         installs,
@@ -100,9 +106,6 @@ pub fn install(installs: &mut Vec<Install>, places: &mut Vec<usize>, new: Instal
         new.at.micros(),
         &mut Count::none(),
     );
-    match places.insert(count, installs.len()) {
-        Ok(()) => {}
-        Err(_) => unreachable!(),
-    }
+    places.insert(count, installs.len());
     installs.push_reserved(new);
 }

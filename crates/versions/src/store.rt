@@ -7,6 +7,7 @@ ghost use Rattle.units.specs.Lists.{ascends};
 ghost use Rattle.versions.specs.Ordered.{installed, all_installed, count_not_after, is_above};
 
 use crate::search::{find, install, newest_by, newest_of};
+use crate::sequence::Places;
 use counts::Count;
 use std::alloc::Global;
 use std::marker::Model;
@@ -18,7 +19,7 @@ pub struct Versions {
     // As they were installed.
     installs: Vec<Install>,
     // Their places there, ascending by key and timestamp. One more moves places, not versions.
-    places: Vec<usize>,
+    places: Places,
     // For how many more both have room.
     room: usize,
 }
@@ -30,10 +31,10 @@ impl Model for Versions {
 
     ghost Value = { Store };
 
-    ghost view = { λ a. record { installs = arranged a.installs.items a.places.items; room = a.room } };
+    ghost view = { λ a. record { installs = arranged a.installs.items a.places.places; room = a.room } };
 
-    ghost invariant = { λ a. IsPlaced a.installs.items a.places.items a.room
-        (vec_capacity a.installs - vec_len a.installs) (vec_capacity a.places - vec_len a.places) };
+    ghost invariant = { λ a. IsPlaced a.installs.items a.places.places a.room
+        (vec_capacity a.installs - vec_len a.installs) a.places.room };
 }
 
 impl Versions {
@@ -43,7 +44,7 @@ impl Versions {
     {
         Versions {
             installs: Vec::new(alloc),
-            places: Vec::new(alloc),
+            places: Places::none(alloc),
             room: 0,
         }
     }

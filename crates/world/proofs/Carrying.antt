@@ -8,7 +8,7 @@ use Rattle.units.specs.declared.fault.Fault.TheVariants.{Device, Memory as Wants
 use Rattle.units.specs.declared.setup.Setup.{Setup}
 use Rattle.truetime.specs.Interval.{Interval}
 use Rattle.disk.specs.File.{surface}
-use Rattle.disk.specs.declared.plan.Plan.{Plan}
+use Rattle.disk.specs.declared.plan.FailurePlan.{FailurePlan}
 use Rattle.record.specs.Accepted.{followed}
 use Rattle.record.specs.Facts.{facts_of}
 use Rattle.record.specs.declared.record.Record.{Record}
@@ -87,7 +87,7 @@ module _ (setup : Setup) (used : ℕ) (bag : List Envelope) (s : ShardNow) (doin
   abbrev Failed : Type 0
   Failed = (disk_failures (seen old.core).disk < disk_failures (seen new.core).disk) × IsTrue (seen new.core).stopped
 
-  stays : (fault : Fault) → StandsAsBefore disk_file (seen old.core) (seen new.core) fault → fault ≢ Device → disk_plan (seen new.core).disk ≡ Plan.Never
+  stays : (fault : Fault) → StandsAsBefore disk_file (seen old.core) (seen new.core) fault → fault ≢ Device → disk_plan (seen new.core).disk ≡ FailurePlan.Never
       → (seen new.core).setup ≡ (seen old.core).setup → IsRunning setup used new s
   stays fault (facts, memory, inl device) other never setup_same = absurd (other device)
   stays fault (facts, memory, inr same) other never setup_same = record {

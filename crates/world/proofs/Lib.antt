@@ -2,12 +2,12 @@ pub mod Carrying
 pub mod Decides
 pub mod EveryRun
 pub mod Fleets
+pub mod Happened
 pub mod HeldSteps
 pub mod Hosted
 pub mod Newest
 pub mod Openings
 pub mod Places
-pub mod Playings
 pub mod Puts
 pub mod Replying
 pub mod Sounds

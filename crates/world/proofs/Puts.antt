@@ -12,8 +12,8 @@ use Rattle.message.specs.declared.message.Envelope.{Envelope}
 use Rattle.message.specs.declared.message.Message.{Message}
 use Rattle.world.specs.World.{World, ack_of, acks_of, commit_told, put_out}
 use Rattle.world.specs.Told.{ack_by, ack_in, told_in, was_told}
-use Rattle.world.specs.Passed.{IsPast}
-use Rattle.world.specs.declared.past.Past.{Past}
+use Rattle.world.specs.Passed.{IsOutput}
+use Rattle.world.specs.declared.output.RunOutput.{RunOutput}
 
 pub on_ok : {T E : Type 0} {P Q : Type 0} (r : Result T E) → OnOk r P → (P → Q) → OnOk r Q
 on_ok (Ok x) h f = f h
@@ -76,10 +76,10 @@ acks_same : (w : World) (es : List Envelope) → flat_map (ack_in (flat_map told
 acks_same w [] = refl
 acks_same w (e ∷ es) = (λ i. by_message w e.message i ++ acks_same w es i)
 
-pub puts : (p : Past) (w : World) (new : Past) (out : List Envelope) → IsPast p w → new.bag ≡ p.bag ++ out →
+pub puts : (p : RunOutput) (w : World) (new : RunOutput) (out : List Envelope) → IsOutput p w → new.bag ≡ p.bag ++ out →
     new.told.items ≡ p.told.items ++ flat_map told_in out
     → new.lines.items ≡ p.lines.items ++ flat_map (ack_in p.told.items p.event) out
-    → new.event ≡ p.event → IsPast new (put_out out w)
+    → new.event ≡ p.event → IsOutput new (put_out out w)
 unfolding put_out
 puts p w new out h bag told lines event = record {
   bag = bag ∙ ap (λ b. b ++ out) h.bag;

@@ -25,7 +25,7 @@ use Rattle.world.specs.Lawful.{may_act}
 use Rattle.world.specs.Steady.{IsSteady}
 use Rattle.world.specs.Held.{when_closing, when_not_over, when_open}
 use Rattle.world.specs.Hosts.{Hosts, HearsIn, MovesIn, session_step, with_client}
-use Rattle.world.specs.Passed.{IsPast}
+use Rattle.world.specs.Passed.{IsOutput}
 use Rattle.world.specs.Fleet.{ActsAt, AreShards, FollowsAt, looked, looked_back, shards_after, shards_by}
 use Rattle.world.specs.Comes.{Comes, HasHeard, HasReplied, IsRun, Notes, TakesMessage, no_line, with_line}
 use Rattle.world.proofs.Fleets.{all_grow, of_place}
@@ -170,7 +170,7 @@ module _ (used : ℕ) (w : World) (old new : Run) (h : IsRun used old w) where
       running =
           all_grow w.config used 0 old.shards.running.items w.shards h.shards.running;
     };
-    past = h.past;
+    output = h.output;
     time = h.time;
   }
 
@@ -180,16 +180,16 @@ module _ (used : ℕ) (w : World) (old new : Run) (h : IsRun used old w) where
 
   -- a session begins
   pub begin_comes : (t : Id) (number : ℕ) → number ≡ w.event → Hosts w.config.splits new.sessions (w.clients ++ begun t ∷ []) →
-      ((v : World) → IsPast old.past v → IsPast new.past (note (Line.Begin t number) v))
+      ((v : World) → IsOutput old.output v → IsOutput new.output (note (Line.Begin t number) v))
       → new.shards ≡ old.shards → new.time ≡ old.time → Comes (used + 1) (begin t w, Reply.Done) new (Ok Reply.Done)
   begin_comes t number is hosts look_noted shards time = (
     refl,
     record {
       sessions = hosts;
       shards = same_shards shards;
-      past = subst (λ n. IsPast new.past (note (Line.Begin t n) (record w { clients = w.clients ++ begun t ∷ [] }))) is
+      output = subst (λ n. IsOutput new.output (note (Line.Begin t n) (record w { clients = w.clients ++ begun t ∷ [] }))) is
           (look_noted (record w { clients = w.clients ++ begun t ∷ [] })
-          (record { bag = h.past.bag; told = h.past.told; lines = h.past.lines; event = h.past.event }));
+          (record { bag = h.output.bag; told = h.output.told; lines = h.output.lines; event = h.output.event }));
       time = time ∙ h.time;
     },
   )
@@ -197,78 +197,79 @@ module _ (used : ℕ) (w : World) (old new : Run) (h : IsRun used old w) where
   -- a step of a session
   pub session_comes : (m : Moved) (answer : Result (List Envelope) Fault) (result : Result Reply Fault) →
       MovesIn w.config.splits m new.sessions w.clients answer
-      → ((v : World) → IsPast old.past v → HasReplied v answer new.past result) → new.shards ≡ old.shards → new.time ≡ old.time →
+      → ((v : World) → IsOutput old.output v → HasReplied v answer new.output result) → new.shards ≡ old.shards → new.time ≡ old.time →
       Comes (used + 1) (moved w m) new result
   unfolding put_out
   session_comes m (Ok out) (Ok reply) moves replies shards time =
-      let r = replies (set_client moves.0 w) (record { bag = h.past.bag; told = h.past.told; lines = h.past.lines; event = h.past.event }) in
+      let r = replies (set_client moves.0 w) (record { bag = h.output.bag; told = h.output.told; lines = h.output.lines; event = h.output.event }) in
       subst (λ n. Comes (used + 1) (moved w n) new (Ok reply)) (sym moves.1)
-      (r.0, record { sessions = moves.2; shards = same_shards shards; past = r.1; time = time ∙ h.time })
-  session_comes m (Ok out) (Err fault) moves replies shards time = replies w h.past
-  session_comes m (Err why) (Ok reply) (inl memory) replies shards time = absurd ((replies w h.past).0 memory)
+      (r.0, record { sessions = moves.2; shards = same_shards shards; output = r.1; time = time ∙ h.time })
+  session_comes m (Ok out) (Err fault) moves replies shards time = replies w h.output
+  session_comes m (Err why) (Ok reply) (inl memory) replies shards time = absurd ((replies w h.output).0 memory)
   session_comes m (Err why) (Ok reply) (inr moves) replies shards time =
-      let r = replies w h.past in
+      let r = replies w h.output in
       subst (λ n. Comes (used + 1) (moved w n) new (Ok reply)) (sym moves.0)
-      (r.1, record { sessions = moves.1; shards = same_shards shards; past = r.2; time = time ∙ h.time })
-  session_comes m (Err why) (Err fault) moves replies shards time = replies w h.past
+      (r.1, record { sessions = moves.1; shards = same_shards shards; output = r.2; time = time ∙ h.time })
+  session_comes m (Err why) (Err fault) moves replies shards time = replies w h.output
 
   -- a message that comes to one
   pub message_comes : (m : Message) (answer : Result (Option Line) Fault) (result : Result Reply Fault) → TakesMessage w m new.sessions answer
-      → ((v : World) → IsPast old.past v → HasHeard v answer new.past result) → new.shards ≡ old.shards → new.time ≡ old.time →
+      → ((v : World) → IsOutput old.output v → HasHeard v answer new.output result) → new.shards ≡ old.shards → new.time ≡ old.time →
       Comes (used + 1) (to_session w m) new result
   message_comes m (Ok line) (Ok reply) takes heard shards time =
-      let r = heard (set_client takes.0 w) (record { bag = h.past.bag; told = h.past.told; lines = h.past.lines; event = h.past.event }) in
+      let r = heard (set_client takes.0 w) (record { bag = h.output.bag; told = h.output.told; lines = h.output.lines; event = h.output.event }) in
       subst (λ a. Comes (used + 1) a new (Ok reply)) (sym takes.1)
-      (r.0, record { sessions = takes.2; shards = same_shards shards; past = r.1; time = time ∙ h.time })
-  message_comes m (Ok line) (Err fault) takes heard shards time = heard w h.past
-  message_comes m (Err why) (Ok reply) (inl memory) heard shards time = absurd ((heard w h.past).0 memory)
+      (r.0, record { sessions = takes.2; shards = same_shards shards; output = r.1; time = time ∙ h.time })
+  message_comes m (Ok line) (Err fault) takes heard shards time = heard w h.output
+  message_comes m (Err why) (Ok reply) (inl memory) heard shards time = absurd ((heard w h.output).0 memory)
   message_comes m (Err why) (Ok reply) (inr takes) heard shards time =
-      let r = heard w h.past in
+      let r = heard w h.output in
       subst (λ a. Comes (used + 1) a new (Ok reply)) (sym takes.0)
-      (r.1, record { sessions = takes.1; shards = same_shards shards; past = r.2; time = time ∙ h.time })
-  message_comes m (Err why) (Err fault) takes heard shards time = heard w h.past
+      (r.1, record { sessions = takes.1; shards = same_shards shards; output = r.2; time = time ∙ h.time })
+  message_comes m (Err why) (Err fault) takes heard shards time = heard w h.output
 
   -- a look
-  pub look_comes : (k : Bytes) (at : ℕ) (shows : Reply) (result : Result Reply Fault) → ((v : World) → IsPast old.past v → Notes v k at shows new.past result)
+  pub look_comes : (k : Bytes) (at : ℕ) (shows : Reply) (result : Result Reply Fault)
+      → ((v : World) → IsOutput old.output v → Notes v k at shows new.output result)
       → new.sessions ≡ old.sessions → new.shards ≡ old.shards → new.time ≡ old.time → Comes (used + 1) (look_noted w k at shows) new result
-  look_comes k at shows (Err fault) notes sessions shards time = notes w h.past
+  look_comes k at shows (Err fault) notes sessions shards time = notes w h.output
   look_comes k at (Reply.Shows x) (Ok reply) notes sessions shards time =
-      let r = notes w h.past in (
+      let r = notes w h.output in (
         r.0,
         record {
           sessions = subst (λ s. Hosts w.config.splits s w.clients) (sym sessions) h.sessions;
           shards = same_shards shards;
-          past = r.1;
+          output = r.1;
           time = time ∙ h.time;
         },
       )
   look_comes k at (Reply.Refused fault) (Ok reply) notes sessions shards time =
-      let r = notes w h.past in (
+      let r = notes w h.output in (
         r.0,
         record {
           sessions = subst (λ s. Hosts w.config.splits s w.clients) (sym sessions) h.sessions;
           shards = same_shards shards;
-          past = r.1;
+          output = r.1;
           time = time ∙ h.time;
         },
       )
   look_comes k at Reply.Done (Ok reply) notes sessions shards time =
-      let r = notes w h.past in (
+      let r = notes w h.output in (
         r.0,
         record {
           sessions = subst (λ s. Hosts w.config.splits s w.clients) (sym sessions) h.sessions;
           shards = same_shards shards;
-          past = r.1;
+          output = r.1;
           time = time ∙ h.time;
         },
       )
   look_comes k at Reply.Crashed (Ok reply) notes sessions shards time =
-      let r = notes w h.past in (
+      let r = notes w h.output in (
         r.0,
         record {
           sessions = subst (λ s. Hosts w.config.splits s w.clients) (sym sessions) h.sessions;
           shards = same_shards shards;
-          past = r.1;
+          output = r.1;
           time = time ∙ h.time;
         },
       )
@@ -314,18 +315,18 @@ module _ (used : ℕ) (w : World) (old new : Run) (h : IsRun used old w) where
 
   pub shard_comes : (n : ℕ) (doing : Doing) (answer : Result (List Envelope) Fault) (result : Result Reply Fault) → goes_on doing ≡ true →
       used < 2 ^ 19 → IsSteady w
-      → ActsAt w.config used w.bag w.shards n doing new.shards answer → ((v : World) → IsPast old.past v → HasReplied v answer new.past result)
+      → ActsAt w.config used w.bag w.shards n doing new.shards answer → ((v : World) → IsOutput old.output v → HasReplied v answer new.output result)
       → new.sessions ≡ old.sessions → new.time ≡ old.time → Comes (used + 1) (do_at w n doing) new result
   unfolding put_out
   shard_comes n doing (Ok out) (Ok reply) goes few steady acts replies sessions time =
       let a = acts (follows_at n doing steady) in
-      let r = replies (record w { shards = a.0 }) (record { bag = h.past.bag; told = h.past.told; lines = h.past.lines; event = h.past.event }) in
+      let r = replies (record w { shards = a.0 }) (record { bag = h.output.bag; told = h.output.told; lines = h.output.lines; event = h.output.event }) in
       subst (λ x. Comes (used + 1) x new (Ok reply)) (sym (done_at n doing goes ∙ ap by_shards a.1))
-      (r.0, record { sessions = subst (λ s. Hosts w.config.splits s w.clients) (sym sessions) h.sessions; shards = a.2; past = r.1; time = time ∙ h.time })
-  shard_comes n doing (Ok out) (Err fault) goes few steady acts replies sessions time = replies w h.past
-  shard_comes n doing (Err why) (Err fault) goes few steady acts replies sessions time = replies w h.past
+      (r.0, record { sessions = subst (λ s. Hosts w.config.splits s w.clients) (sym sessions) h.sessions; shards = a.2; output = r.1; time = time ∙ h.time })
+  shard_comes n doing (Ok out) (Err fault) goes few steady acts replies sessions time = replies w h.output
+  shard_comes n doing (Err why) (Err fault) goes few steady acts replies sessions time = replies w h.output
   shard_comes n doing (Err why) (Ok reply) goes few steady acts replies sessions time =
-      let r = replies w h.past in
+      let r = replies w h.output in
       elim (acts (omega (arith, few))) [
         | inl memory ↦ absurd (r.0 memory)
         | inr same ↦ subst (λ x. Comes (used + 1) x new (Ok reply)) (sym (done_at n doing goes ∙ ap by_shards same.0)) (
@@ -333,7 +334,7 @@ module _ (used : ℕ) (w : World) (old new : Run) (h : IsRun used old w) where
           record {
             sessions = subst (λ s. Hosts w.config.splits s w.clients) (sym sessions) h.sessions;
             shards = record { splits_are = same.1.splits_are; running = all_grow w.config used 0 new.shards.running.items w.shards same.1.running };
-            past = r.2;
+            output = r.2;
             time = time ∙ h.time;
           },
         )

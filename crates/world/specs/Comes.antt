@@ -12,18 +12,18 @@ use Rattle.world.specs.World.{World, After, happens, look_noted, put_out, refuse
 use Rattle.world.specs.Lawful.{may_happen}
 use Rattle.world.specs.Fleet.{AreShards}
 use Rattle.world.specs.Hosts.{Hosts, with_client}
-use Rattle.world.specs.Passed.{IsPast}
+use Rattle.world.specs.Passed.{IsOutput}
 use Rattle.world.specs.declared.event.Event.{Event}
 use Rattle.world.specs.declared.event.Reply.{Reply}
 use Rattle.world.specs.declared.hosting.Sessions.{Sessions}
-use Rattle.world.specs.declared.past.Past.{Past}
+use Rattle.world.specs.declared.output.RunOutput.{RunOutput}
 use Rattle.world.specs.declared.run.Run.{Run}
 
 -- its sessions, its shards with no more than so many records each, what was put out, and its time
 pub record IsRun (used : ℕ) (r : Run) (w : World) : Type 0 where
   pub sessions : Hosts w.config.splits r.sessions w.clients
   pub shards : AreShards w.config used r.shards w.shards
-  pub past : IsPast r.past w
+  pub output : IsOutput r.output w
   pub time : r.time ≡ w.time
 
 -- the run is the world after an event, with its reply; or memory was refused
@@ -32,9 +32,9 @@ Comes used after new (Ok reply) = (reply ≡ after.1) × IsRun used new after.0
 Comes used after new (Err fault) = fault ≡ Memory
 
 -- messages are put out, or a refusal is the reply
-abbrev pub HasReplied : World → Result (List Envelope) Fault → Past → Result Reply Fault → Type 0
-HasReplied w (Ok out) new (Ok reply) = (reply ≡ Reply.Done) × IsPast new (put_out out w)
-HasReplied w (Err fault) new (Ok reply) = (fault ≢ Memory) × (reply ≡ Reply.Refused fault) × IsPast new w
+abbrev pub HasReplied : World → Result (List Envelope) Fault → RunOutput → Result Reply Fault → Type 0
+HasReplied w (Ok out) new (Ok reply) = (reply ≡ Reply.Done) × IsOutput new (put_out out w)
+HasReplied w (Err fault) new (Ok reply) = (fault ≢ Memory) × (reply ≡ Reply.Refused fault) × IsOutput new w
 HasReplied w answer new (Err fault) = fault ≡ Memory
 
 -- with a line more, where there is one
@@ -42,14 +42,14 @@ abbrev pub with_line : Option Line → World → World
 with_line line w = record w { lines = w.lines ++ option_to_list line }
 
 -- a line is written, or a refusal is the reply
-abbrev pub HasHeard : World → Result (Option Line) Fault → Past → Result Reply Fault → Type 0
-HasHeard w (Ok line) new (Ok reply) = (reply ≡ Reply.Done) × IsPast new (with_line line w)
-HasHeard w (Err fault) new (Ok reply) = (fault ≢ Memory) × (reply ≡ Reply.Refused fault) × IsPast new w
+abbrev pub HasHeard : World → Result (Option Line) Fault → RunOutput → Result Reply Fault → Type 0
+HasHeard w (Ok line) new (Ok reply) = (reply ≡ Reply.Done) × IsOutput new (with_line line w)
+HasHeard w (Err fault) new (Ok reply) = (fault ≢ Memory) × (reply ≡ Reply.Refused fault) × IsOutput new w
 HasHeard w answer new (Err fault) = fault ≡ Memory
 
 -- an answered look is a line
-abbrev pub Notes : World → Bytes → ℕ → Reply → Past → Result Reply Fault → Type 0
-Notes w k at shows new (Ok reply) = (reply ≡ (look_noted w k at shows).1) × IsPast new (look_noted w k at shows).0
+abbrev pub Notes : World → Bytes → ℕ → Reply → RunOutput → Result Reply Fault → Type 0
+Notes w k at shows new (Ok reply) = (reply ≡ (look_noted w k at shows).1) × IsOutput new (look_noted w k at shows).0
 Notes w k at shows new (Err fault) = fault ≡ Memory
 
 -- an end is no line

@@ -11,7 +11,6 @@ pub mod Lawful
 pub mod Looks
 pub mod Newer
 pub mod Passed
-pub mod Reports
 pub mod Runs
 pub mod Steady
 pub mod Told

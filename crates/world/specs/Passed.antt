@@ -2,10 +2,10 @@
 use Rattle.std.specs.Prelude.{◌≡◌, flat_map}
 use Rattle.world.specs.Told.{told_in}
 use Rattle.world.specs.World.{World}
-use Rattle.world.specs.declared.past.Past.{Past}
+use Rattle.world.specs.declared.output.RunOutput.{RunOutput}
 
 -- the same messages, lines and number; what was told is read off the messages
-pub record IsPast (p : Past) (w : World) : Type 0 where
+pub record IsOutput (p : RunOutput) (w : World) : Type 0 where
   pub bag : p.bag ≡ w.bag
   pub told : p.told.items ≡ flat_map told_in w.bag
   pub lines : p.lines.items ≡ w.lines

@@ -7,7 +7,7 @@ use Rattle.units.specs.declared.fault.Fault.TheVariants.{Memory}
 use Rattle.units.specs.declared.setup.Setup.{Setup}
 use Rattle.units.specs.declared.writes.Install.{Install}
 use Rattle.disk.specs.File.{surface}
-use Rattle.disk.specs.declared.plan.Plan.{Plan}
+use Rattle.disk.specs.declared.plan.FailurePlan.{FailurePlan}
 use Rattle.record.specs.Accepted.{followed}
 use Rattle.record.specs.Facts.{facts_of}
 use Rattle.record.specs.declared.record.Record.{Record}
@@ -38,7 +38,7 @@ reach used = (used + 1) * (2 ^ 20 + 5) + 8
 pub record IsRunning (setup : Setup) (used : ℕ) (r : Running) (s : ShardNow) : Type 0 where
   pub setup_is : (seen r.core).setup ≡ setup
   pub up : (seen r.core).stopped ≡ false
-  pub never : disk_plan (seen r.core).disk ≡ Plan.Never
+  pub never : disk_plan (seen r.core).disk ≡ FailurePlan.Never
   pub read : records_in (surface (disk_file (seen r.core).disk)).seen ≡ Ok s.log
   pub facts : (seen r.core).facts ≡ facts_of s.log
   pub sure : s.unsure ≡ Nothing

@@ -4,14 +4,14 @@ use truetime::Reading;
 use units::{Fault, Key, ShardNo, Splits, Stamp, Stride, TxnId, Value};
 
 /// The shards of a run: one more than there are splits, all with one stride.
-#[derive(Debug, Drop)]
+#[derive(Drop)]
 pub struct Config {
     pub splits: Splits,
     pub stride: Stride,
 }
 
 /// What a shard does at an event. `Take` is the delivery of a message, by its number from 0.
-#[derive(Clone, Copy, Debug)]
+#[derive(Clone, Copy)]
 pub enum Doing {
     Take(u64, Reading),
     Resume(Reading),
@@ -22,7 +22,7 @@ pub enum Doing {
 }
 
 /// What happens.
-#[derive(Debug, Drop)]
+#[derive(Drop)]
 pub enum Act {
     /// The session of this id begins.
     Begin(TxnId),
@@ -48,14 +48,14 @@ pub enum Act {
 }
 
 /// An event, with its true time in microseconds.
-#[derive(Debug, Drop)]
+#[derive(Drop)]
 pub struct Event {
     pub time: u64,
     pub act: Act,
 }
 
 /// The reply to an event. A look shows a value, or none.
-#[derive(Debug, Drop)]
+#[derive(Drop)]
 pub enum Reply {
     Done,
     Refused(Fault),

@@ -6,11 +6,11 @@ ghost use Rattle.world.specs.World.{World};
 ghost use Rattle.world.specs.Lawful.{can_come, goes_to, may_do};
 ghost use Rattle.world.specs.Crashless.{goes_on};
 ghost use Rattle.world.specs.Hosts.{Hosts};
-ghost use Rattle.world.specs.Passed.{IsPast};
+ghost use Rattle.world.specs.Passed.{IsOutput};
 
 use crate::Doing;
 use crate::hosting::Sessions;
-use crate::past::Past;
+use crate::output::RunOutput;
 use message::{Address, Envelope};
 use truetime::Reading;
 use units::{ShardNo, Stamp};
@@ -45,29 +45,29 @@ fn can_come(sessions: &Sessions<'_>, envelope: &Envelope) -> bool
 /// The message of a number may be delivered.
 pub fn may_deliver(
     sessions: &Sessions<'_>,
-    past: &Past,
+    output: &RunOutput,
     time: u64,
     number: u64,
     now: &Reading,
 ) -> bool
-    ensures { (w : World) → Hosts w.config.splits sessions.now w.clients → IsPast past.now w → result ≡ (is_honest time now.now && when (can_come w) (slice_get w.bag number)) }
+    ensures { (w : World) → Hosts w.config.splits sessions.now w.clients → IsOutput output.now w → result ≡ (is_honest time now.now && when (can_come w) (slice_get w.bag number)) }
 {
     is_honest(time, now)
-        && match past.bag.nth(number) {
+        && match output.bag.nth(number) {
             Some(envelope) => can_come(sessions, envelope),
             None => false,
         }
 }
 
 /// A shard may do this.
-pub fn may_do(past: &Past, time: u64, shard: ShardNo, doing: &Doing) -> bool
+pub fn may_do(output: &RunOutput, time: u64, shard: ShardNo, doing: &Doing) -> bool
     requires { goes_on doing.now ≡ true }
-    ensures { (w : World) → IsPast past.now w → result ≡ may_do w time shard doing.now }
+    ensures { (w : World) → IsOutput output.now w → result ≡ may_do w time shard doing.now }
 {
     match doing {
         Doing::Take(number, now) => {
             is_honest(time, now)
-                && match past.bag.nth(*number) {
+                && match output.bag.nth(*number) {
                     Some(envelope) => goes_to(shard, envelope),
                     None => false,
                 }

@@ -1,5 +1,5 @@
 //! Whole runs of the store: sessions, shards, a network that loses nothing, crashes. The events, the definitions, and code
-//! for the parts of a run. The laws of whole runs stand in the crate above.
+//! for the parts of a run. The laws of whole runs, and the code that plays them, stand in crates above.
 #![tactic(auto)]
 
 mod begun;
@@ -8,11 +8,11 @@ mod event;
 mod fleet;
 mod hosting;
 mod lawfulness;
-mod past;
-mod playing;
+mod output;
 mod run;
 mod running;
 mod view;
 
+pub use counting::counted;
 pub use event::{Act, Config, Doing, Event, Reply};
-pub use playing::{Report, lawful, play};
+pub use run::Run;

@@ -9,7 +9,7 @@ ghost use Rattle.world.specs.Comes.{Comes, IsRun, Takes};
 use crate::fleet::Shards;
 use crate::hosting::Sessions;
 use crate::lawfulness::{may_deliver, may_do};
-use crate::past::{Past, copied};
+use crate::output::{RunOutput, copied};
 use crate::{Act, Config, Doing, Event, Reply};
 use bag::Bag;
 use message::Address;
@@ -22,7 +22,7 @@ use units::{Fault, Line, Reason, ShardNo, TxnId};
 pub struct Run<'s> {
     pub sessions: Sessions<'s>,
     pub shards: Shards<'s>,
-    pub past: Past,
+    pub output: RunOutput,
     pub time: u64,
 }
 
@@ -35,7 +35,7 @@ impl<'s> Run<'s> {
         Ok(Run {
             shards: Shards::start(alloc, config)?,
             sessions: Sessions::none(alloc, &config.splits),
-            past: Past::new(alloc),
+            output: RunOutput::new(alloc),
             time: 0,
         })
     }
@@ -61,10 +61,10 @@ impl<'s> Run<'s> {
             Act::Close(txn) => self.sessions.has(*txn),
             Act::Quit(txn) => self.sessions.has(*txn),
             Act::Deliver(number, now) => {
-                may_deliver(&self.sessions, &self.past, time, *number, now)
+                may_deliver(&self.sessions, &self.output, time, *number, now)
             }
             Act::At(shard, doing) => {
-                self.shards.has(*shard) && may_do(&self.past, time, *shard, doing)
+                self.shards.has(*shard) && may_do(&self.output, time, *shard, doing)
             }
             Act::Look(shard, _, _) => self.shards.has(*shard),
             Act::View(shard, number, _, _) => self.shards.has_view(*shard, *number),
@@ -82,7 +82,7 @@ impl<'s> Run<'s> {
             return Err(Fault::BadRequest(Reason::Unlawful(number)));
         }
         let reply = self.act(alloc, &event.act)?;
-        self.past.event = number + 1;
+        self.output.event = number + 1;
         self.time = event.time;
         Ok(reply)
     }
@@ -96,30 +96,30 @@ impl<'s> Run<'s> {
             Act::Begin(txn) => self.begin(alloc, *txn),
             Act::Read(txn, key) => {
                 let moved = self.sessions.read(alloc, *txn, *key);
-                self.past.reply(moved)
+                self.output.reply(moved)
             }
             Act::Write(txn, key, value) => {
                 let value = copied(alloc, value)?;
                 let moved = self.sessions.write(alloc, *txn, *key, value);
-                self.past.reply(moved)
+                self.output.reply(moved)
             }
             Act::Close(txn) => {
                 let moved = self.sessions.close(alloc, *txn);
-                self.past.reply(moved)
+                self.output.reply(moved)
             }
             Act::Quit(txn) => {
                 let moved = self.sessions.quit(alloc, *txn);
-                self.past.reply(moved)
+                self.output.reply(moved)
             }
             Act::Deliver(number, now) => self.deliver(alloc, *number, *now),
             Act::At(shard, doing) => self.act_at(alloc, *shard, doing),
             Act::Look(shard, key, at) => {
                 let reply = self.shards.look(alloc, *shard, key, *at)?;
-                self.past.note_look(alloc, *key, *at, reply)
+                self.output.note_look(alloc, *key, *at, reply)
             }
             Act::View(shard, number, key, at) => {
                 let reply = self.shards.look_back(alloc, *shard, *number, key, *at)?;
-                self.past.note_look(alloc, *key, *at, reply)
+                self.output.note_look(alloc, *key, *at, reply)
             }
             _ => unreachable!(),
         }
@@ -129,9 +129,9 @@ impl<'s> Run<'s> {
     fn begin(&mut self, alloc: Global, txn: TxnId) -> Result<Reply, Fault>
         ensures { (used : ℕ) (w : World) → IsRun used self.old w → client_of w txn ≡ None → Comes (used + 1) (begin txn w, Reply.Done) self.new result }
     {
-        let number = self.past.event;
+        let number = self.output.event;
         self.sessions.begin(alloc, txn)?;
-        self.past.note(Line::Begin(txn, number))?;
+        self.output.note(Line::Begin(txn, number))?;
         Ok(Reply::Done)
     }
 
@@ -139,14 +139,14 @@ impl<'s> Run<'s> {
     fn deliver(&mut self, alloc: Global, number: u64, now: Reading) -> Result<Reply, Fault>
         ensures { (used : ℕ) (w : World) → used < 2 ^ 19 → IsRun used self.old w → IsSteady w → Comes (used + 1) (deliver_to w number now (slice_get w.bag number)) self.new result }
     {
-        let Some(envelope) = self.past.bag.nth(number) else {
+        let Some(envelope) = self.output.bag.nth(number) else {
             return Ok(Reply::Refused(Fault::Stranger));
         };
         match envelope.to {
             Address::Shard(shard) => self.act_at(alloc, shard, &Doing::Take(number, now)),
             Address::Session(_) => {
                 let heard = self.sessions.take_message(alloc, &envelope.message);
-                self.past.reply_line(heard)
+                self.output.reply_line(heard)
             }
         }
     }
@@ -158,8 +158,8 @@ impl<'s> Run<'s> {
     {
         let done = self
             .shards
-            .act(alloc, self.past.bag.as_slice(), shard, doing);
-        self.past.reply(done)
+            .act(alloc, self.output.bag.as_slice(), shard, doing);
+        self.output.reply(done)
     }
 
     /// Ends the run: its messages, the logs as reads of the disks give them, and all lines.
@@ -170,17 +170,17 @@ impl<'s> Run<'s> {
         let Run {
             sessions,
             shards,
-            past,
+            output,
             time: _,
         } = self;
         sessions.spend();
         let logs = shards.logs(alloc)?;
-        let Past {
+        let RunOutput {
             bag,
             told: _,
             lines,
             event: _,
-        } = past;
+        } = output;
         Ok((bag, logs, lines))
     }
 
@@ -189,7 +189,7 @@ impl<'s> Run<'s> {
         let Run {
             sessions,
             shards,
-            past: _,
+            output: _,
             time: _,
         } = self;
         sessions.spend();

@@ -15,7 +15,7 @@ use units::{Fault, Install, Key, Stamp, Value};
 
 /// A moment of a shard: how many versions there were, and the time that was served. No version is ever taken back, so those
 /// of the moment are the first of those that there are now.
-#[derive(Clone, Copy, Debug)]
+#[derive(Clone, Copy)]
 pub struct View {
     pub count: usize,
     pub safe: Stamp,

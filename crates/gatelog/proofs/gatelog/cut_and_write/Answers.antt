@@ -1,8 +1,8 @@
 use Rattle.std.proofs.Common.{◌≡◌, ◌+◌, ℕ, sym, ◌∙◌, ap, subst, arith}
 use Rattle.std.specs.Prelude.{IsOk}
 use Rattle.std.proofs.lemmas.Bool.{false≢true}
-use Rattle.disk.specs.declared.plan.Plan.{Plan}
-use Rattle.disk.specs.declared.plan.Plan.TheVariants.{Never}
+use Rattle.disk.specs.declared.plan.FailurePlan.{FailurePlan}
+use Rattle.disk.specs.declared.plan.FailurePlan.TheVariants.{Never}
 use Rattle.disk.specs.Planned.{fails, next, IsAsPlanned}
 use Rattle.gatelog.specs.Armed.{fails_in_two, after_two}
 use Rattle.gatelog.proofs.Armed.{planned_err, of_ok}
@@ -27,7 +27,7 @@ returns-clause-planned g c calls more room never =
     (9 + more) (omega arith) (omega arith) room) in
     let still : g.D.Disk.plan mid ≡ Never = c.in_ok-cut.ensures.plan ∙ ap next never in
     let ended = c.write_and_sync.ensures.planned calls more begun.1 in
-    let ok : IsOk c.write_and_sync.result = subst (λ (p : Plan). IsAsPlanned (fails_in_two p) c.write_and_sync.result) still ended.0 in (
+    let ok : IsOk c.write_and_sync.result = subst (λ (p : FailurePlan). IsAsPlanned (fails_in_two p) c.write_and_sync.result) still ended.0 in (
       ok,
       of_ok (g.D.Disk.plan c.write_and_sync.new.disk ≡ after_two (g.D.Disk.plan mid)) c.write_and_sync.result ok c.write_and_sync.ensures.plan
           ∙ ap after_two still,

@@ -1,9 +1,11 @@
-use Rattle.std.proofs.Common.{◌≡◌, inr, refl, ◌+◌, ◌++◌, ◌∷◌, [], List, take, drop, sym, ap, ◌∙◌, arith}
+use Rattle.std.proofs.Common.{◌≡◌, inr, refl, ◌+◌, ◌++◌, ◌∷◌, [], List, map, length, subst, take, drop, sym, ap, ◌∙◌, arith}
 use Rattle.gatelog.specs.Placed.{Placed}
-use Rattle.gatelog.specs.Frames.{header}
+use Rattle.std.specs.Prelude.{IfSome}
+use Rattle.record.specs.Grammar.{spelling}
+use Rattle.gatelog.specs.Frames.{end_of, header}
 use Rattle.gatelog.specs.Log.{scan, framed, entries_at}
 use Rattle.gatelog.proofs.Scan.{with_entries, with_entries-nil, scan_from}
-use Rattle.gatelog.proofs.Reading.{no_header, too_short, to_end, differ, agree, closed_there, damaged_there, still_inside, goes_on_behind, ends_there}
+use Rattle.gatelog.proofs.Reading.{no_header, too_short, to_end, differ, agree, closed_there, damaged_there, still_inside, goes_on_behind, frame_more, ends_there}
 use Rattle.gatelog.proofs.opening.entries_of.Goals as goal
 
 pub returns-then-image-clause-refused : goal.returns-then-image-clause-refused
@@ -23,6 +25,7 @@ loop-at-init c =
     let rest = entries_at 8 0 (drop 8 c.args.image.now) in
     record {
       inside = omega (arith, c.if-image.false);
+      counted = ap (λ (es : List Placed). end_of (map (λ e. e.item) es)) (sym c.new-entries.ensures.items);
       so_far = ap (λ (es : List Placed). with_entries es rest) c.new-entries.ensures.items ∙ with_entries-nil rest ∙ sym (scan_from c.args.image.now front);
     }
 
@@ -40,6 +43,10 @@ loop-at-preserved c =
     record {
       inside = still_inside image es at (scan image) c.loop-at.invariant.so_far c.loop-at-test.true c.if-image-at.false c.in-Ok-Some.item
           c.in-Ok-Some.count (sym (ap framed (to_end c.args.image.now (c.loop-at.at + 1))) ∙ c.in-Ok-Some.ensures.read ∙ c.in-Ok-Some.field-0-is);
+      counted = frame_more es entry at c.in-Ok-Some.count c.loop-at.invariant.counted
+          (subst (λ o. IfSome o (λ frame. frame.1 ≡ 4 + length (spelling frame.0))) c.in-Ok-Some.field-0-is c.in-Ok-Some.ensures.size)
+          ∙ ap (λ (e : Placed). end_of (map (λ p. p.item) (es ++ e ∷ []))) (sym c.new.ensures)
+          ∙ ap (λ (l : List Placed). end_of (map (λ p. p.item) l)) (sym c.in_ok-push-in-Ok-Some.ensures.items);
       so_far = ap (λ (l : List Placed). with_entries l rest) c.in_ok-push-in-Ok-Some.ensures.items
           ∙ ap (λ (e : Placed). with_entries (es ++ e ∷ []) rest) c.new.ensures ∙ goes_on_behind image es at
           (scan image) c.loop-at.invariant.so_far c.loop-at-test.true c.if-image-at.false c.in-Ok-Some.item c.in-Ok-Some.count

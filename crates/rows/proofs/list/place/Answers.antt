@@ -1,14 +1,15 @@
 use Rattle.std.proofs.Common.{arith}
-use Rattle.std.specs.List.{position_or_len}
-use Rattle.std.proofs.lemmas.List.{at_drop_all}
-use Rattle.units.specs.Ids.{same_id}
-use Rattle.units.proofs.ByIdLaws.{place_within}
+use Rattle.rows.specs.declared.row.Row.{Row}
 use Rattle.rows.specs.CodeRows.{txn_of}
+use Rattle.units.proofs.ByIdLaws.{place_within}
+use Rattle.units.proofs.ByIdHalves.{place_by_halves}
 use Rattle.rows.proofs.list.place.Goals as goal
 
-pub unreachable-requires : goal.unreachable-requires
-unreachable-requires c = omega (
-  arith,
-  place_within txn_of c.args.rows.now c.args.txn c.requires,
-  at_drop_all (position_or_len (λ r. same_id (txn_of r) c.args.txn)) c.args.rows.now c.loop-at.at (omega arith),
-)
+pub returns-clause-place : goal.returns-clause-place
+returns-clause-place c = place_by_halves txn_of c.args.rows.now c.args.txn c.first_from.result
+    c.requires.order c.requires.row c.first_from.ensures.parted
+
+pub returns-clause-within : goal.returns-clause-within
+returns-clause-within c =
+    let at = returns-clause-place c in
+    omega (arith, at, place_within txn_of c.args.rows.now c.args.txn c.requires.row)

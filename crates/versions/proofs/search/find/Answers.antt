@@ -1,4 +1,4 @@
-use Rattle.std.proofs.Common.{◌∙◌, ◌+◌, ◌-◌, ◌/◌, ◌<◌, sym, ap, arith}
+use Rattle.std.proofs.Common.{ℕ, get_or, ◌∙◌, ◌+◌, ◌-◌, ◌/◌, ◌<◌, sym, ap, arith}
 use Rattle.versions.specs.Arranged.{arranged}
 use Rattle.versions.specs.Ordered.{is_not_after}
 use Rattle.versions.proofs.Arranged.{arranged_at, length_arranged}
@@ -11,17 +11,18 @@ overflow_add-probes c = omega (arith, (c.loop-low.invariant.fits 64 c.loop-low.i
 pub loop-low-preserved-then-is_not_after : goal.loop-low-preserved-then-is_not_after
 loop-low-preserved-then-is_not_after c =
     let i = c.loop-low.invariant in
-    let t = arranged c.args.installs.now c.args.places.now in
+    let t = arranged c.args.installs.now c.args.places.now.places in
     let middle = c.loop-low.low + (c.loop-low.high - c.loop-low.low) / 2 in
     let within : middle < c.loop-low.high = omega arith in
     record {
       within = omega arith;
       end = i.end;
       before = before_passes c.args.key.now c.args.at t middle c.requires.order
-          (omega (arith, i.end, length_arranged c.args.installs.now c.args.places.now)) (λ d.
+          (omega (arith, i.end, length_arranged c.args.installs.now c.args.places.now.places)) (λ d.
           ap (is_not_after c.args.key.now c.args.at)
-          (arranged_at c.args.installs.now c.args.places.now middle c.index-installs-place.result d c.requires.within
-          (omega (arith, i.end)) c.index-installs-place.is)
+          (arranged_at c.args.installs.now c.args.places.now.places middle c.index-installs-place.result d c.requires.within
+          (omega (arith, i.end))
+          (c.index-installs-place.is ∙ ap (λ (p : ℕ). get_or c.args.installs.now p c.index-installs-place.result) c.get-place.ensures))
           ∙ sym c.is_not_after.ensures.value ∙ c.if-is_not_after.true);
       after = i.after;
       all = i.all;
@@ -33,7 +34,7 @@ loop-low-preserved-then-is_not_after c =
 pub loop-low-preserved : goal.loop-low-preserved
 loop-low-preserved c =
     let i = c.loop-low.invariant in
-    let t = arranged c.args.installs.now c.args.places.now in
+    let t = arranged c.args.installs.now c.args.places.now.places in
     let middle = c.loop-low.low + (c.loop-low.high - c.loop-low.low) / 2 in
     let within : middle < c.loop-low.high = omega arith in
     record {
@@ -41,10 +42,11 @@ loop-low-preserved c =
       end = omega (arith, i.end);
       before = i.before;
       after = after_passes c.args.key.now c.args.at t middle c.requires.order
-          (omega (arith, i.end, length_arranged c.args.installs.now c.args.places.now)) (λ d.
+          (omega (arith, i.end, length_arranged c.args.installs.now c.args.places.now.places)) (λ d.
           ap (is_not_after c.args.key.now c.args.at)
-          (arranged_at c.args.installs.now c.args.places.now middle c.index-installs-place.result d c.requires.within
-          (omega (arith, i.end)) c.index-installs-place.is)
+          (arranged_at c.args.installs.now c.args.places.now.places middle c.index-installs-place.result d c.requires.within
+          (omega (arith, i.end))
+          (c.index-installs-place.is ∙ ap (λ (p : ℕ). get_or c.args.installs.now p c.index-installs-place.result) c.get-place.ensures))
           ∙ sym c.is_not_after.ensures.value ∙ c.if-is_not_after.false);
       all = i.all;
       fits = half_fits _ (c.loop-low.high - c.loop-low.low) c.loop-low.probes _ i.fits (omega arith) (omega arith);
@@ -55,8 +57,8 @@ loop-low-preserved c =
 pub returns-clause-count : goal.returns-clause-count
 returns-clause-count c =
     let i = c.loop-low.invariant in
-    count_at c.args.key.now c.args.at (arranged c.args.installs.now c.args.places.now) c.loop-low.low
-    (omega (arith, i.within, i.end, length_arranged c.args.installs.now c.args.places.now)) i.before (λ k d le lt. i.after k d (omega arith) lt)
+    count_at c.args.key.now c.args.at (arranged c.args.installs.now c.args.places.now.places) c.loop-low.low
+    (omega (arith, i.within, i.end, length_arranged c.args.installs.now c.args.places.now.places)) i.before (λ k d le lt. i.after k d (omega arith) lt)
 
 pub returns-clause-before : goal.returns-clause-before
 returns-clause-before c = c.loop-low.invariant.before

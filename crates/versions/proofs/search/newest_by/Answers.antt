@@ -1,4 +1,4 @@
-use Rattle.std.proofs.Common.{◌∙◌, ◌-◌, ◌<◌, length, sym, ap, arith, cond, Option, Some, None}
+use Rattle.std.proofs.Common.{ℕ, get_or, ◌∙◌, ◌-◌, ◌<◌, length, sym, ap, arith, cond, Option, Some, None}
 use Rattle.units.specs.declared.writes.Install.{Install}
 use Rattle.versions.specs.Arranged.{arranged}
 use Rattle.versions.proofs.Arranged.{arranged_at, length_arranged}
@@ -7,18 +7,19 @@ use Rattle.versions.proofs.search.newest_by.Goals as goal
 
 pub returns-then-count-eq0 : goal.returns-then-count-eq0
 returns-then-count-eq0 c =
-    sym (newest_none c.args.key.now c.args.at (arranged c.args.installs.now c.args.places.now)
+    sym (newest_none c.args.key.now c.args.at (arranged c.args.installs.now c.args.places.now.places)
     (λ k d le lt. c.find-count.ensures.after k d (omega (arith, c.if-count-eq0.true)) lt))
 
 pub returns-then-is : goal.returns-then-is
 returns-then-is c =
     let found = c.find-count.result.0 in
     let last = c.index-installs-place.result in
-    let t = arranged c.args.installs.now c.args.places.now in
-    let long = length_arranged c.args.installs.now c.args.places.now in
-    let lt : found - 1 < length c.args.places.now = omega (arith, c.find-count.ensures.bound, c.if-count-eq0.false) in
+    let t = arranged c.args.installs.now c.args.places.now.places in
+    let long = length_arranged c.args.installs.now c.args.places.now.places in
+    let lt : found - 1 < length c.args.places.now.places = omega (arith, c.find-count.ensures.bound, c.if-count-eq0.false) in
     sym (newest_at c.args.key.now c.args.at t (found - 1) last c.requires.order (omega (arith, lt, long))
-    (sym (arranged_at c.args.installs.now c.args.places.now (found - 1) last last c.requires.within lt c.index-installs-place.is))
+    (sym (arranged_at c.args.installs.now c.args.places.now.places (found - 1) last last c.requires.within lt
+    (c.index-installs-place.is ∙ ap (λ (p : ℕ). get_or c.args.installs.now p last) c.get-place.ensures)))
     (λ k d lt. c.find-count.ensures.before k d (omega (arith, c.if-count-eq0.false))) (λ k d le lt. c.find-count.ensures.after k d
     (omega (arith, c.if-count-eq0.false)) lt)
     ∙ ap (λ b. cond {A = Option Install} b (Some last) None) (sym c.is.ensures ∙ c.if-is.true))
@@ -27,11 +28,12 @@ pub returns-else-is : goal.returns-else-is
 returns-else-is c =
     let found = c.find-count.result.0 in
     let last = c.index-installs-place.result in
-    let t = arranged c.args.installs.now c.args.places.now in
-    let long = length_arranged c.args.installs.now c.args.places.now in
-    let lt : found - 1 < length c.args.places.now = omega (arith, c.find-count.ensures.bound, c.if-count-eq0.false) in
+    let t = arranged c.args.installs.now c.args.places.now.places in
+    let long = length_arranged c.args.installs.now c.args.places.now.places in
+    let lt : found - 1 < length c.args.places.now.places = omega (arith, c.find-count.ensures.bound, c.if-count-eq0.false) in
     sym (newest_at c.args.key.now c.args.at t (found - 1) last c.requires.order (omega (arith, lt, long))
-    (sym (arranged_at c.args.installs.now c.args.places.now (found - 1) last last c.requires.within lt c.index-installs-place.is))
+    (sym (arranged_at c.args.installs.now c.args.places.now.places (found - 1) last last c.requires.within lt
+    (c.index-installs-place.is ∙ ap (λ (p : ℕ). get_or c.args.installs.now p last) c.get-place.ensures)))
     (λ k d lt. c.find-count.ensures.before k d (omega (arith, c.if-count-eq0.false))) (λ k d le lt. c.find-count.ensures.after k d
     (omega (arith, c.if-count-eq0.false)) lt)
     ∙ ap (λ b. cond {A = Option Install} b (Some last) None) (sym c.is.ensures ∙ c.if-is.false))

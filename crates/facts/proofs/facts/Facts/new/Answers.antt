@@ -1,4 +1,4 @@
-use Rattle.facts.specs.Shown.{shown_entries}
+use Rattle.facts.specs.Shown.{shown_entries, by_id}
 use Rattle.record.specs.Facts.{facts_of}
 use Rattle.record.specs.Installs.{installs_of}
 use Rattle.facts.proofs.facts.Facts.new.Goals as goal
@@ -8,6 +8,6 @@ unfolding facts_of installs_of
 returns-clause-facts c = λ i. record {
   epoch = 0;
   floor = c.zero.ensures i;
-  entries = shown_entries (c.new.ensures.empty i);
+  entries = shown_entries (by_id (c.new.ensures.empty i));
   installs = c.new-2.ensures.items i;
 }

@@ -6,8 +6,8 @@ use Rattle.disk.specs.Moments.{LeavesOnly}
 use Rattle.units.specs.declared.fault.Fault.{Fault}
 use Rattle.record.specs.declared.record.Record.{Record}
 use Rattle.record.specs.Grammar.{IsRecord}
-use Rattle.disk.specs.declared.plan.Plan.{Plan}
-use Rattle.disk.specs.declared.plan.Plan.TheVariants.{AfterWrite}
+use Rattle.disk.specs.declared.plan.FailurePlan.{FailurePlan}
+use Rattle.disk.specs.declared.plan.FailurePlan.TheVariants.{AfterWrite}
 use Rattle.disk.specs.Planned.{IsAsPlanned}
 use Rattle.gatelog.specs.Placed.{Placed}
 use Rattle.gatelog.specs.Armed.{fails_in_two, after_two, two_made, fails_in_append, appended, IsArmed}
@@ -186,7 +186,7 @@ returns-in_err-write_and_sync-clause-planned g c running room =
     (two_made (after_two plan) c.args.staged.offset (open_gate ∷ []) (two_made plan (c.args.staged.offset + 1) (staged_bytes c.args.staged.item)
     (g.D.Disk.file disk))) failed c.from_residual.ensures.0 is
 
-module _ {D : Type 0} (has_room : D → ℕ → ℕ → Type 0) (plan_of : D → Plan) (file_of : D → File) (old mid new : D) (gate inside : ℕ)
+module _ {D : Type 0} (has_room : D → ℕ → ℕ → Type 0) (plan_of : D → FailurePlan) (file_of : D → File) (old mid new : D) (gate inside : ℕ)
     (bytes text : List ℕ) (gate-is : inside ≡ gate) (bytes-is : text ≡ bytes)
     (first : IsAsPlanned {T = Unit {0}} {E = Fault} (fails_in_two (plan_of old)) (Ok tt))
     (mid-is : file_of mid ≡ two_made (plan_of old) (inside + 1) text (file_of old)) (plan-is : plan_of mid ≡ after_two (plan_of old)) where
@@ -204,8 +204,8 @@ module _ {D : Type 0} (has_room : D → ℕ → ℕ → Type 0) (plan_of : D →
       second_half result (fails_in_two (plan_of old)) (fails_in_two (after_two (plan_of old))) (file_of new)
       (two_made (plan_of old) (gate + 1) bytes (file_of old))
       (two_made (after_two (plan_of old)) gate (open_gate ∷ []) (two_made (plan_of old) (gate + 1) bytes (file_of old))) none_failed
-      (subst (λ (p : Plan). IsAsPlanned (fails_in_two p) result) plan-is planned)
-      (new-is ∙ ap (λ (p : Plan). two_made p inside (open_gate ∷ []) (file_of mid)) plan-is
+      (subst (λ (p : FailurePlan). IsAsPlanned (fails_in_two p) result) plan-is planned)
+      (new-is ∙ ap (λ (p : FailurePlan). two_made p inside (open_gate ∷ []) (file_of mid)) plan-is
       ∙ ap (λ (n : ℕ). two_made (after_two (plan_of old)) n (open_gate ∷ []) (file_of mid)) gate-is
       ∙ ap (λ (f : File). two_made (after_two (plan_of old)) gate (open_gate ∷ []) f) half)
 
@@ -239,7 +239,7 @@ returns-clause-planned g c running room =
     (Ok c.new.result) (as_ok Fault (fails_in_two (g.D.Disk.plan mid)) c.new.result fine) ended.2
 
 -- the same for an armed call, in terms of the log
-module _ (file new : File) (plan : Plan) (at inside : ℕ) (item : Record) (entry : Placed)
+module _ (file new : File) (plan : FailurePlan) (at inside : ℕ) (item : Record) (entry : Placed)
     (entry-is : ◌≡◌ {A = Placed} (record { offset = inside; item = item }) entry) (synced : IsSynced (surface file))
     (whole : IsTrue (ends_at (surface file).seen at)) (at-is : inside ≡ at) (fits : IsRecord item) where
   armed_by_plan : {T : Type 0} (result : Result T Fault) (call : ℕ) → plan ≡ AfterWrite call → IsAsPlanned (fails_in_append plan) result →
@@ -247,7 +247,7 @@ module _ (file new : File) (plan : Plan) (at inside : ℕ) (item : Record) (entr
       → IsAsPlanned (nat_lt call 4) result × IsArmed call (log (surface file).seen) entry new
   armed_by_plan result call plan-is planned new-is =
       let is : new ≡ appended (AfterWrite call) inside (staged_bytes item) file = new-is ∙ ap
-      (λ (p : Plan). appended p entry.offset (staged_bytes entry.item) file) plan-is ∙ ap
+      (λ (p : FailurePlan). appended p entry.offset (staged_bytes entry.item) file) plan-is ∙ ap
       (λ (e : Placed). appended (AfterWrite call) e.offset (staged_bytes e.item) file) (sym entry-is) in
       let there : IsTrue (ends_at (surface file).seen inside) = subst (λ (n : ℕ). IsTrue (ends_at (surface file).seen n)) (sym at-is) whole in
       let armed = armed_is file inside item synced there fits call in (

@@ -1,19 +1,30 @@
-use Rattle.std.proofs.Common.{◌≡◌, sym, ap, ◌∙◌, subst, not, rules}
-use Rattle.std.proofs.lemmas.Fn.{filter_same}
+use Rattle.std.proofs.Common.{◌≡◌, sym, ap, ◌∙◌, subst, arith, false, List}
 use Rattle.units.specs.Locks.{Claim}
 use Rattle.units.specs.LockLaws.{IsLawfulTable}
-use Rattle.locks.specs.Table.{without_claim}
-use Rattle.locks.specs.Ways.{is_of}
+use Rattle.units.proofs.ByIdLaws.{remove_is_without}
+use Rattle.units.proofs.ByIdHalves.{without_absent}
+use Rattle.locks.specs.Table.{Token, has_claim, without_claim}
 use Rattle.locks.proofs.TableLaws.{lawful-without}
 use Rattle.locks.proofs.table.Table.release.Goals as goal
 
 pub invariant_of-self : goal.invariant_of-self
 invariant_of-self c =
-    let is : c.retain.new.self.items ≡ without_claim c.self.inside.entries.items c.args.held.txn =
-    filter_same _ (λ (e : Claim). not (is_of c.args.held.txn e)) _ (λ x b f' k. search rules) _ _ c.retain.ensures.filtered in
-    subst IsLawfulTable (sym is) (lawful-without c.self.inside.entries.items c.args.held.txn c.self.invariant)
+    let items = c.self.inside.entries.items in
+    let is = remove_is_without (λ (e : Claim). e.txn) items c.held.inside.txn c.place-at.result c.self.invariant.order (cc) (omega arith) in
+    subst IsLawfulTable (sym (c.remove.ensures.items ∙ is)) (lawful-without items c.held.inside.txn c.self.invariant)
 
-pub returns : goal.returns
-returns c =
-    filter_same _ (λ (e : Claim). not (is_of c.args.held.txn e)) _ (λ x b f' k. search rules) _ _ c.retain.ensures.filtered
-    ∙ ap (λ t. without_claim t c.args.held.txn) c.self.view_is
+pub returns-then-has : goal.returns-then-has
+returns-then-has c =
+    let items = c.self.inside.entries.items in
+    let is = remove_is_without (λ (e : Claim). e.txn) items c.held.inside.txn c.place-at.result c.self.invariant.order (cc) (omega arith) in
+    c.remove.ensures.items ∙ is ∙ ap (λ (t : List Claim). without_claim t c.held.inside.txn) c.self.view_is
+    ∙ ap (λ (h : Token). without_claim c.args.self.now h.txn) c.held.view_is
+
+pub returns-else-has : goal.returns-else-has
+returns-else-has c =
+    let items = c.self.inside.entries.items in
+    let absent : has_claim items c.held.inside.txn ≡ false =
+    ap (λ t. has_claim t c.held.inside.txn) (sym c.deref.ensures.value) ∙ sym c.has.ensures ∙ c.if-has.false in
+    let is = without_absent (λ (e : Claim). e.txn) items c.held.inside.txn absent in
+    sym c.self.view_is ∙ sym is ∙ ap (λ (t : List Claim). without_claim t c.held.inside.txn) c.self.view_is
+    ∙ ap (λ (h : Token). without_claim c.args.self.now h.txn) c.held.view_is

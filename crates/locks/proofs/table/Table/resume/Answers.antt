@@ -7,8 +7,8 @@ use Rattle.locks.proofs.Changes.{put_is_change, resumed_at_place}
 use Rattle.locks.proofs.TableLaws.{lawful-resumed, ready_is_there}
 use Rattle.locks.proofs.table.Table.resume.Goals as goal
 
-pub place-at-requires : goal.place-at-requires
-place-at-requires c =
+pub place-at-requires-clause-claim : goal.place-at-requires-clause-claim
+place-at-requires-clause-claim c =
     let is_ready : ready c.self.inside.entries.items ≡ Some c.held.inside.txn = ap ready c.self.view_is ∙ c.requires
     ∙ ap (λ (h : Token). Some h.txn) (sym c.held.view_is) in
     subst (λ (t : List Claim). has_claim t c.held.inside.txn ≡ true) (sym c.deref.ensures.value)
@@ -36,6 +36,6 @@ returns-in_err-make_room-clause-succeeds c = λ fits.
     let items = c.self.inside.entries.items in
     let most = ap (λ (t : List Claim). most_held t c.args.held.now.txn (needs_in_table t c.args.held.now.txn)) (sym c.self.view_is)
     ∙ ap (λ (h : Token). most_held items h.txn (needs_in_table items h.txn)) (sym c.held.view_is)
-    ∙ resumed_at_place c.held.inside.txn items c.place-at.result c.index-entry.result.now (cc) (omega arith) c.index-entry.ensures in
+    ∙ resumed_at_place c.held.inside.txn items c.place-at.result c.index-claim.result.now (cc) (omega arith) c.index-claim.ensures in
     let spare = ap (λ (h : Token). h.room) c.held.view_is in
     absurd (false≢true (c.in_err-make_room.ensures.succeeds (omega (arith, c.held_count.ensures, c.needs_count.ensures, most, spare, fits))))

@@ -19,7 +19,7 @@ pub returns-in-Read : goal.returns-in-Read
 unfolding acts
 returns-in-Read c used time w few h steady may =
     let old : Run = c.args.self.now in
-    let new : Run = record { sessions = c.read-moved.new.self; shards = old.shards; past = c.reply.new.self; time = old.time } in
+    let new : Run = record { sessions = c.read-moved.new.self; shards = old.shards; output = c.reply.new.self; time = old.time } in
     let t = c.in-Read.txn in
     let f = reads w.config.splits c.in-Read.key in
     subst (λ a. Comes (used + 1) a new c.reply.result) (sym (ap (acts w) c.in-Read.is ∙ open_moves w (client_of w t) f))
@@ -30,7 +30,7 @@ pub returns-in_ok-value-in-Write : goal.returns-in_ok-value-in-Write
 unfolding acts
 returns-in_ok-value-in-Write c used time w few h steady may =
     let old : Run = c.args.self.now in
-    let new : Run = record { sessions = c.write-moved.new.self; shards = old.shards; past = c.reply-in-Write.new.self; time = old.time } in
+    let new : Run = record { sessions = c.write-moved.new.self; shards = old.shards; output = c.reply-in-Write.new.self; time = old.time } in
     let t = c.in-Write.txn in
     let f = buffers (record { key = c.in-Write.key; value = c.in_ok-value-in-Write.value }) in
     subst (λ a. Comes (used + 1) a new c.reply-in-Write.result)
@@ -43,7 +43,7 @@ pub returns-in-Close : goal.returns-in-Close
 unfolding acts
 returns-in-Close c used time w few h steady may =
     let old : Run = c.args.self.now in
-    let new : Run = record { sessions = c.close-moved.new.self; shards = old.shards; past = c.reply-in-Close.new.self; time = old.time } in
+    let new : Run = record { sessions = c.close-moved.new.self; shards = old.shards; output = c.reply-in-Close.new.self; time = old.time } in
     let t = c.in-Close.txn in
     let f = closes w.config.splits in
     subst (λ a. Comes (used + 1) a new c.reply-in-Close.result) (sym (ap (acts w) c.in-Close.is ∙ open_moves w (client_of w t) f))
@@ -54,7 +54,7 @@ pub returns-in-Quit : goal.returns-in-Quit
 unfolding acts
 returns-in-Quit c used time w few h steady may =
     let old : Run = c.args.self.now in
-    let new : Run = record { sessions = c.quit-moved.new.self; shards = old.shards; past = c.reply-in-Quit.new.self; time = old.time } in
+    let new : Run = record { sessions = c.quit-moved.new.self; shards = old.shards; output = c.reply-in-Quit.new.self; time = old.time } in
     let t = c.in-Quit.txn in
     let f = gives_up w.config.splits in
     subst (λ a. Comes (used + 1) a new c.reply-in-Quit.result) (sym (ap (acts w) c.in-Quit.is ∙ not_over_moves w (client_of w t) f))
@@ -75,7 +75,7 @@ pub returns-in_ok-reply-in-Look : goal.returns-in_ok-reply-in-Look
 unfolding acts
 returns-in_ok-reply-in-Look c used time w few h steady may =
     let old : Run = c.args.self.now in
-    let new : Run = record { sessions = old.sessions; shards = old.shards; past = c.note_look.new.self; time = old.time } in
+    let new : Run = record { sessions = old.sessions; shards = old.shards; output = c.note_look.new.self; time = old.time } in
     let v = c.in-Look in
     let shown = c.in_ok-reply-in-Look.ensures.shown w.config used w.shards h.shards in
     subst (λ a. Comes (used + 1) a new c.note_look.result) (sym (ap (acts w) v.is ∙ looks w v.shard v.key v.at ∙ ap (look_noted w v.key v.at) (sym shown)))
@@ -85,7 +85,7 @@ pub returns-in_ok-reply-in-View : goal.returns-in_ok-reply-in-View
 unfolding acts
 returns-in_ok-reply-in-View c used time w few h steady may =
     let old : Run = c.args.self.now in
-    let new : Run = record { sessions = old.sessions; shards = old.shards; past = c.note_look-in-View.new.self; time = old.time } in
+    let new : Run = record { sessions = old.sessions; shards = old.shards; output = c.note_look-in-View.new.self; time = old.time } in
     let v = c.in-View in
     let shown = c.in_ok-reply-in-View.ensures.shown w.config used w.shards h.shards in
     subst (λ a. Comes (used + 1) a new c.note_look-in-View.result) (sym (ap (acts w) v.is ∙ looks_back w v.shard v.number v.key v.at

@@ -7,7 +7,7 @@ use Rattle.world.proofs.run.Run.act_at.Goals as goal
 pub returns : goal.returns
 returns c used w few h steady =
     let old : Run = c.args.self.now in
-    let new : Run = record { sessions = old.sessions; shards = c.act-done.new.self; past = c.reply.new.self; time = old.time } in
+    let new : Run = record { sessions = old.sessions; shards = c.act-done.new.self; output = c.reply.new.self; time = old.time } in
     shard_comes used w old new h c.args.shard c.args.doing.now c.act-done.result c.reply.result c.requires few steady
-    (subst (λ bag. ActsAt w.config used bag w.shards c.args.shard c.args.doing.now new.shards c.act-done.result) (c.as_slice.ensures ∙ h.past.bag)
+    (subst (λ bag. ActsAt w.config used bag w.shards c.args.shard c.args.doing.now new.shards c.act-done.result) (c.as_slice.ensures ∙ h.output.bag)
     (c.act-done.ensures w.config used w.shards h.shards)) c.reply.ensures refl refl

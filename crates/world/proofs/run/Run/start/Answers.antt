@@ -7,6 +7,6 @@ unfolding start
 returns-clause-started c = record {
   sessions = c.none.ensures;
   shards = c.in_ok-start.ensures.started;
-  past = record { bag = c.new.ensures.0; told = c.new.ensures.1; lines = c.new.ensures.2; event = c.new.ensures.3 };
+  output = record { bag = c.new.ensures.0; told = c.new.ensures.1; lines = c.new.ensures.2; event = c.new.ensures.3 };
   time = refl;
 }

@@ -1,7 +1,7 @@
 use Rattle.std.proofs.Common.{◌≡◌, ◌+◌, true, refl, sym, ◌∙◌}
 use Rattle.world.specs.Lawful.{may_happen}
 use Rattle.world.specs.declared.run.Run.{Run}
-use Rattle.world.proofs.Playings.{acts_may, happened}
+use Rattle.world.proofs.Happened.{acts_may, happened}
 use Rattle.world.proofs.run.Run.take.Goals as goal
 
 pub returns : goal.returns
@@ -14,11 +14,11 @@ returns c w at h steady =
     let new : Run = record {
       sessions = mid.sessions;
       shards = mid.shards;
-      past = record {
-        bag = mid.past.bag;
-        told = mid.past.told;
+      output = record {
+        bag = mid.output.bag;
+        told = mid.output.told;
         lines =
-            mid.past.lines;
+            mid.output.lines;
         event = number + 1;
       };
       time = e.time;

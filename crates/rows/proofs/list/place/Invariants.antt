@@ -1,8 +1,0 @@
-use Rattle.std.proofs.Common.{◌≡◌, ◌+◌, drop}
-use Rattle.std.specs.List.{position_or_len}
-use Rattle.units.specs.Ids.{same_id}
-use Rattle.rows.specs.CodeRows.{txn_of}
-use Rattle.rows.proofs.list.place.Given as goal
-
-abbrev pub invariant-loop-at : goal.invariant-loop-at
-invariant-loop-at l = l.at + position_or_len (λ r. same_id (txn_of r) l.txn) (drop l.at l.rows) ≡ position_or_len (λ r. same_id (txn_of r) l.txn) l.rows

@@ -1,0 +1,12 @@
+use Rattle.std.proofs.Common.{◌++◌, refl, ◌∙◌, flat_map}
+use Rattle.world.specs.Told.{ack_in, told_in}
+use Rattle.world.proofs.Puts.{on_ok, puts}
+use Rattle.world.proofs.output.RunOutput.put_out.Goals as goal
+
+pub returns-clause-put : goal.returns-clause-put
+returns-clause-put c w h =
+    let p = c.args.self.now in
+    on_ok c.put_all.result c.put_all.ensures.all
+    (λ all. puts p w (record { bag = c.put_all.new.bag; told = c.push_told.new.told; lines = c.push_acknowledged.new.lines; event = p.event }) c.args.out h all
+    (c.in_ok-push_told.ensures.told ∙ (λ i. p.told.items ++ flat_map told_in (c.as_slice-2.ensures i)))
+    (c.in_ok-push_acknowledged.ensures.lines ∙ (λ i. p.lines.items ++ flat_map (ack_in (c.deref.ensures.value i) p.event) (c.as_slice.ensures i))) refl)

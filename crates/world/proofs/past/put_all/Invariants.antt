@@ -1,5 +1,0 @@
-use Rattle.std.proofs.Common.{◌≡◌, ◌++◌}
-use Rattle.world.proofs.past.put_all.Given as goal
-
-abbrev pub invariant-loop-envelope : goal.invariant-loop-envelope
-invariant-loop-envelope l = l.bag ≡ l.initial.bag ++ l.yielded

@@ -1,0 +1,199 @@
+//! What a run has put out: its messages, and the lines of its report.
+ghost use Rattle.std.specs.Prelude.{◌≡◌, ◌++◌, ◌∷◌, [], IfOk, IfErr, OnOk, true, flat_map, option_to_list};
+ghost use Rattle.message.specs.declared.message.Envelope.{Envelope};
+ghost use Rattle.world.specs.Told.{ack_in, told_in, was_told};
+
+use crate::Reply;
+use bag::Bag;
+use message::{Envelope, Message, Outbox};
+use std::alloc::Global;
+use units::{Fault, Key, Line, Stamp, TxnId, Value};
+
+/// The messages and the lines so far, the transactions whose commit was told to their sessions, each as often as it was, and
+/// the number of the event that is under way.
+#[derive(Drop)]
+pub struct RunOutput {
+    pub bag: Bag,
+    pub told: Vec<TxnId>,
+    pub lines: Vec<Line>,
+    pub event: u64,
+}
+
+impl RunOutput {
+    ghost use Rattle.world.specs.World.{World, put_out, note};
+    ghost use Rattle.world.specs.Passed.{IsOutput};
+    ghost use Rattle.world.specs.Comes.{HasHeard, HasReplied, Notes};
+
+    /// Nothing was put out.
+    pub fn new(alloc: Global) -> RunOutput
+        ensures { (result.bag ≡ []) × (result.told.items ≡ []) × (result.lines.items ≡ []) × (result.event ≡ 0) }
+    {
+        RunOutput {
+            bag: Bag::new(alloc),
+            told: Vec::new(alloc),
+            lines: Vec::new(alloc),
+            event: 0,
+        }
+    }
+
+    /// Messages are put out, or a refusal is the reply.
+    pub fn reply(&mut self, answer: Result<Outbox, Fault>) -> Result<Reply, Fault>
+        ensures { (w : World) → IsOutput self.old w → HasReplied w answer self.new result }
+    {
+        match answer {
+            Ok(out) => {
+                self.put_out(out)?;
+                Ok(Reply::Done)
+            }
+            Err(Fault::Memory) => Err(Fault::Memory),
+            Err(fault) => Ok(Reply::Refused(fault)),
+        }
+    }
+
+    /// A line is written where there is one, or a refusal is the reply.
+    pub fn reply_line(&mut self, answer: Result<Option<Line>, Fault>) -> Result<Reply, Fault>
+        ensures { (w : World) → IsOutput self.old w → HasHeard w answer self.new result }
+    {
+        match answer {
+            Ok(Some(line)) => {
+                self.note(line)?;
+                Ok(Reply::Done)
+            }
+            Ok(None) => Ok(Reply::Done),
+            Err(Fault::Memory) => Err(Fault::Memory),
+            Err(fault) => Ok(Reply::Refused(fault)),
+        }
+    }
+
+    /// An answered look is a line.
+    pub fn note_look(
+        &mut self,
+        alloc: Global,
+        key: Key,
+        at: Stamp,
+        reply: Reply,
+    ) -> Result<Reply, Fault>
+        ensures { (w : World) → IsOutput self.old w → Notes w key at reply self.new result }
+    {
+        if let Reply::Shows(value) = &reply {
+            self.note(Line::Look(key, at, copied(alloc, value)?))?;
+        }
+        Ok(reply)
+    }
+
+    /// Messages are put out. Each that is the first to tell a session that it committed is a line.
+    pub fn put_out(&mut self, out: Outbox) -> Result<(), Fault>
+        ensures put { (w : World) → IsOutput self.old w → OnOk result (IsOutput self.new (put_out out w)) }
+        ensures memory { IfErr result (λ fault. fault ≡ Fault.Memory) }
+    {
+        push_acknowledged(&mut self.lines, &self.told, self.event, out.as_slice())?;
+        push_told(&mut self.told, out.as_slice())?;
+        put_all(&mut self.bag, out)
+    }
+
+    /// A line is written.
+    pub fn note(&mut self, line: Line) -> Result<(), Fault>
+        ensures noted { (w : World) → IsOutput self.old w → OnOk result (IsOutput self.new (note line w)) }
+        ensures memory { IfErr result (λ fault. fault ≡ Fault.Memory) }
+    {
+        self.lines.push(line)?;
+        Ok(())
+    }
+}
+
+// Each message goes behind the others.
+fn put_all(bag: &mut Bag, out: Outbox) -> Result<(), Fault>
+    ensures all { OnOk result (bag.new ≡ bag.old ++ out) }
+    ensures memory { IfErr result (λ fault. fault ≡ Fault.Memory) }
+{
+    for envelope in out.into_vec() {
+        bag.put(envelope)?;
+    }
+    Ok(())
+}
+
+// The acknowledgements among new messages.
+fn push_acknowledged(
+    lines: &mut Vec<Line>,
+    told: &[TxnId],
+    event: u64,
+    out: &[Envelope],
+) -> Result<(), Fault>
+    ensures lines { OnOk result (lines.new.items ≡ lines.old.items ++ flat_map (ack_in told.now event) out.now) }
+    ensures memory { IfErr result (λ fault. fault ≡ Fault.Memory) }
+{
+    for envelope in out {
+        if let Some(line) = acknowledged(told, event, envelope) {
+            lines.push(line)?;
+        }
+    }
+    Ok(())
+}
+
+// The transactions whose commit new messages tell.
+fn push_told(told: &mut Vec<TxnId>, out: &[Envelope]) -> Result<(), Fault>
+    ensures told { OnOk result (told.new.items ≡ told.old.items ++ flat_map told_in out.now) }
+    ensures memory { IfErr result (λ fault. fault ≡ Fault.Memory) }
+{
+    for envelope in out {
+        if let Some(txn) = told_in(envelope) {
+            told.push(txn)?;
+        }
+    }
+    Ok(())
+}
+
+// The acknowledgement that a message is: the first that tells a session that it committed.
+fn acknowledged(told: &[TxnId], event: u64, envelope: &Envelope) -> Option<Line>
+    ensures { option_to_list result ≡ ack_in told.now event envelope.now }
+{
+    match &envelope.message {
+        Message::Done(done) => match done.outcome {
+            Some(at) => {
+                if was_told(told, done.txn) {
+                    None
+                } else {
+                    Some(Line::Ack(done.txn, at, event))
+                }
+            }
+            None => None,
+        },
+        _ => None,
+    }
+}
+
+// A session was told that it committed.
+fn was_told(told: &[TxnId], txn: TxnId) -> bool
+    ensures { result ≡ was_told told.now txn }
+{
+    for one in told {
+        if one.is(txn) {
+            return true;
+        }
+    }
+    false
+}
+
+// The transaction whose commit a message tells to its session.
+fn told_in(envelope: &Envelope) -> Option<TxnId>
+    ensures { option_to_list result ≡ told_in envelope.now }
+{
+    match &envelope.message {
+        Message::Done(done) => match done.outcome {
+            Some(_) => Some(done.txn),
+            None => None,
+        },
+        _ => None,
+    }
+}
+
+/// An equal value with memory of its own.
+pub fn copied(alloc: Global, value: &Option<Value>) -> Result<Option<Value>, Fault>
+    ensures same { IfOk result (λ copied. copied ≡ value.now) }
+    ensures memory { IfErr result (λ fault. fault ≡ Fault.Memory) }
+{
+    match value {
+        None => Ok(None),
+        Some(value) => Ok(Some(value.copy(alloc)?)),
+    }
+}
