@@ -1,3 +1,4 @@
+pub mod HistoryByEntries
 pub mod TornLaws
 pub mod WholeByEntries
 pub mod Numbers

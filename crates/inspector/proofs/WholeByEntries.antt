@@ -33,7 +33,7 @@ log_at_append n (e ∷ es) fs = by_test (nat_eq n e.shard) (log_at_append n es f
     by_test true rest = ap (λ l. e.item ∷ l) rest
     by_test false rest = rest
 
-of_txn_append : (t : Id) (es fs : List About) → of_txn t (es ++ fs) ≡ of_txn t es ++ of_txn t fs
+pub of_txn_append : (t : Id) (es fs : List About) → of_txn t (es ++ fs) ≡ of_txn t es ++ of_txn t fs
 of_txn_append t [] fs = refl
 of_txn_append t (e ∷ es) fs = by_test (same_id t e.txn) (of_txn_append t es fs)
   where
