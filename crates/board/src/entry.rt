@@ -12,7 +12,7 @@ pub enum BoardEntry {
 }
 
 /// An equal version with memory of its own.
-pub(crate) fn copy_install(install: &Install, alloc: Global) -> Result<Install, Fault>
+pub fn copy_install(install: &Install, alloc: Global) -> Result<Install, Fault>
     ensures same { IfOk result (λ copy. copy ≡ install.now) }
     ensures memory { IfErr result (λ fault. fault ≡ Fault.Memory) }
 {

@@ -12,7 +12,7 @@ mod rule;
 mod told;
 mod viewer;
 
-pub use entry::BoardEntry;
+pub use entry::{BoardEntry, copy_install};
 pub use home::Home;
 pub use making::{MOST_VIEWERS, start};
 pub use publisher::Publisher;
