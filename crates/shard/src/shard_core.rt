@@ -309,6 +309,30 @@ impl<D: Disk> Core<D> {
     }
 }
 
+// What a core says of itself.
+impl<D: Disk> Core<D> {
+    ghost use Rattle.shard.specs.Core.{seen};
+
+    /// What the shard was told when it was opened.
+    pub fn setup(&self) -> &Setup
+        ensures { result.now ≡ (seen self.now).setup }
+    {
+        self.state.setup()
+    }
+
+    /// Its device failed, so that each input is refused.
+    pub fn is_stopped(&self) -> bool
+        ensures { result ≡ (seen self.now).stopped }
+    {
+        self.gate_log.is_stopped()
+    }
+
+    /// Its rows, facts and locks agree. It does nothing.
+    pub fn is_sound(&self)
+        ensures { ∥ IsSound (seen self.now).setup.shard (seen self.now).facts (seen self.now).memory ∥₁ }
+    {}
+}
+
 // Puts some bytes at the front of a buffer, where they have room.
 fn put_in_front(bytes: &[u8], buffer: &mut [u8]) -> Result<Seen, Fault>
     ensures done { IfOk result (λ seen. IsSeen (Some bytes.now) buffer.old buffer.new seen) }
