@@ -1,3 +1,5 @@
+pub mod SerialOrder
+pub mod SortedLists
 pub mod HistoryByEntries
 pub mod TornLaws
 pub mod WholeByEntries
