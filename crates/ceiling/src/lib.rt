@@ -9,7 +9,8 @@ use units::{Stamp, Stride};
 /// The record that has to be logged before `to` is served, where the log's greatest timestamp is `floor`. It stands a
 /// stride ahead, so that the next advances need none, and no later than the greatest timestamp.
 pub fn needed(floor: Stamp, to: Stamp, stride: Stride) -> Option<Record>
-    ensures { result ≡ (if nat_lt floor to then Some (Record.Ceiling (min (to + stride) Stamp.MAX)) else None) }
+    ensures { result ≡
+        (if nat_lt floor to then Some (Record.Ceiling (min (to + stride) Stamp.MAX)) else None) }
 {
     if to <= floor {
         return None;

@@ -21,13 +21,6 @@ names_same : {Z : Type 0} (o : Option (Box SubCommand Z))
 names_same None = refl
 names_same (Some b) = refl
 
-named_as : (m : ArgMatches) (line : CommandLine) (name : Word) → subcommand_rows_of m ≡ Some (entry_of line)
-    → subcommand_name_of m ≡ Some name → (entry_of line).0 ≡ name
-named_as m line name e n =
-    let both : Some (entry_of line).0 ≡ Some name =
-    sym (ap (option_map (λ (p : Text × List Row). p.0)) e) ∙ names_same (out-ArgMatches m).subcommand ∙ n in
-    cc
-
 rows_are : (m : ArgMatches) (line : CommandLine) (inner : Found) → subcommand_rows_of m ≡ Some (entry_of line)
     → option_map (λ (p : Text × List Row). p.1) (subcommand_rows_of m) ≡ Some (rows_of inner) → rows_of inner ≡ (entry_of line).1
 rows_are m line inner e r =
@@ -60,17 +53,6 @@ once_found m (once k v a b c d) inner key value e1 l1 e2 l2 e n r rk rv ra rb rc
     let ec = reads_row inner _ (codes "e2") e2 c rows rc refl in
     let ed = reads_row inner _ (codes "l2") l2 d rows rd refl in
     λ i. once (ek i) (ev i) (ea i) (eb i) (ec i) (ed i)
-
--- a line has one of the names
-pub no_name : (m : ArgMatches) (line : CommandLine) → subcommand_rows_of m ≡ Some (entry_of line)
-    → (subcommand_name_of m ≡ Some (codes "once") → ⊥) → ⊥
-no_name m line e a =
-    let named : subcommand_name_of m ≡ Some (entry_of line).0 =
-    sym (names_same (out-ArgMatches m).subcommand) ∙ ap (option_map (λ (p : Text × List Row). p.0)) e in
-    go line named
-  where
-    go : (l : CommandLine) → subcommand_name_of m ≡ Some (entry_of l).0 → ⊥
-    go (once _ _ _ _ _ _) n = a n
 
 -- a line that was read is the line
 pub line_read : {E : Type 0} (r : Result Line E) (line : CommandLine) (expected : Option CommandLine) (Refused : E → Type 0) → expected ≡ Some line

@@ -42,16 +42,20 @@ pub fn answer<'a, O: Write, E: Write>(
     ensures logged { are_plain (map (λ w. w.now) words.entry.now) ≡ true → result.0 ≢ 2
         → LogsTo (command_of (map (λ w. w.now) words.entry.now)) result.0 result.1 }
     ensures refused { are_plain (map (λ w. w.now) words.entry.now) ≡ true → (fault : Fault)
-        → reply_to (map (λ w. w.now) words.entry.now) ≡ Err fault → (result.0 ≡ 2) × (out.new ≡ out.old) }
+        → reply_to (map (λ w. w.now) words.entry.now) ≡ Err fault → (result.0 ≡ 2)
+        × (out.new ≡ out.old) }
     ensures helped { asks_help (map (λ w. w.now) words.entry.now) ≡ true → result.0 ≢ 2
-        → (result.0 ≡ 0) × Appends (O.contents (writer_of out.old)) (O.contents (writer_of out.new)) USAGE.now }
+        → (result.0 ≡ 0)
+        × Appends (O.contents (writer_of out.old)) (O.contents (writer_of out.new)) USAGE.now }
     ensures quiet { result.0 ≢ 2 → err.new ≡ err.old }
     // A status of 2 has a reason: a write to standard output that failed, or a fault, whose line is on standard error.
     ensures told { are_plain (map (λ w. w.now) words.entry.now) ≡ true → result.0 ≡ 2
         → (failures_of out.old < failures_of out.new)
-        ⊎ ((fault : Fault) × ((fault ≡ Memory) ⊎ (reply_to (map (λ w. w.now) words.entry.now) ≡ Err fault))
+        ⊎ ((fault : Fault) × ((fault ≡ Memory)
+        ⊎ (reply_to (map (λ w. w.now) words.entry.now) ≡ Err fault))
         × ((failures_of err.old < failures_of err.new)
-        ⊎ Appends (E.contents (writer_of err.old)) (E.contents (writer_of err.new)) (fault_line fault))) }
+        ⊎ Appends (E.contents (writer_of err.old)) (E.contents (writer_of err.new))
+        (fault_line fault))) }
 {
     let (done, disk) = carry_out(alloc, words, disk, out);
     match done {
@@ -72,17 +76,21 @@ fn carry_out<'a, O: Write>(
 ) -> (Result<u8, Failure>, SimDisk)
     requires { disk_plan disk ≡ Never }
     ensures status { IfOk result.0 (λ status. (status ≡ 0) ⊎ (status ≡ 1)) }
-    ensures printed { are_plain (map (λ w. w.now) words.entry.now) ≡ true → IfOk result.0 (λ status. (text : List ℕ)
+    ensures printed { are_plain (map (λ w. w.now) words.entry.now) ≡ true
+        → IfOk result.0 (λ status. (text : List ℕ)
         × (reply_to (map (λ w. w.now) words.entry.now) ≡ Ok (text, status))
         × Appends (O.contents (writer_of out.old)) (O.contents (writer_of out.new)) text) }
     ensures logged { are_plain (map (λ w. w.now) words.entry.now) ≡ true → IfOk result.0 (λ status.
         LogsTo (command_of (map (λ w. w.now) words.entry.now)) status result.1) }
     ensures refused { are_plain (map (λ w. w.now) words.entry.now) ≡ true → (fault : Fault)
         → reply_to (map (λ w. w.now) words.entry.now) ≡ Err fault → out.new ≡ out.old }
-    ensures helped { asks_help (map (λ w. w.now) words.entry.now) ≡ true → IfOk result.0 (λ status. (status ≡ 0)
+    ensures helped { asks_help (map (λ w. w.now) words.entry.now) ≡ true
+        → IfOk result.0 (λ status. (status ≡ 0)
         × Appends (O.contents (writer_of out.old)) (O.contents (writer_of out.new)) USAGE.now) }
-    ensures failures { are_plain (map (λ w. w.now) words.entry.now) ≡ true → IfErr result.0 (λ failure.
-        FailsFor (failures_of out.old < failures_of out.new) failure (reply_to (map (λ w. w.now) words.entry.now))) }
+    ensures failures { are_plain (map (λ w. w.now) words.entry.now) ≡ true
+        → IfErr result.0 (λ failure.
+        FailsFor (failures_of out.old < failures_of out.new) failure
+        (reply_to (map (λ w. w.now) words.entry.now))) }
 {
     match command(alloc, words) {
         Ok(asked) => run(alloc, asked, disk, out),
@@ -99,7 +107,8 @@ fn run<O: Write>(
 ) -> (Result<u8, Failure>, SimDisk)
     requires { disk_plan disk ≡ Never }
     ensures status { IfOk result.0 (λ status. (status ≡ 0) ⊎ (status ≡ 1)) }
-    ensures printed { IfOk result.0 (λ status. (text : List ℕ) × (reply_of asked ≡ Ok (text, status))
+    ensures printed { IfOk result.0
+        (λ status. (text : List ℕ) × (reply_of asked ≡ Ok (text, status))
         × Appends (O.contents (writer_of out.old)) (O.contents (writer_of out.new)) text) }
     ensures logged { IfOk result.0 (λ status. LogsCommand asked status result.1) }
     ensures helped { asked ≡ Help → IfOk result.0 (λ status. (status ≡ 0)

@@ -63,7 +63,8 @@ fn found_line<'a>(matches: &ArgMatches<'a>) -> Result<Line<'a>, Fault>
 
 // The word that the argument was given, and the empty word where it was given none.
 fn word<'a>(matches: &ArgMatches<'a>, id: &str) -> &'a str
-    ensures { (text : Word) → first_value (found_of matches.now) id.now ≡ Some text → result.now ≡ text }
+    ensures { (text : Word) → first_value (found_of matches.now) id.now ≡ Some text
+        → result.now ≡ text }
 {
     match matches.get_str(id) {
         Some(text) => text,
@@ -102,7 +103,8 @@ fn with_word<'a>(
     command: Command<'a>,
     id: &'a str,
 ) -> Result<Command<'a>, AllocError>
-    ensures app { IfOk result (λ c. app_of c ≡ with_rule (app_of command.entry) (needed id.entry.now)) }
+    ensures app { IfOk result
+        (λ c. app_of c ≡ with_rule (app_of command.entry) (needed id.entry.now)) }
     ensures local { (fields_of command.entry).has_globals ≡ false
         → IfOk result (λ c. (fields_of c).has_globals ≡ false) }
 {

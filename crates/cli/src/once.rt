@@ -34,12 +34,15 @@ pub fn once<O: Write>(
 ) -> (Result<u8, Failure>, SimDisk)
     requires { disk_plan disk ≡ Never }
     ensures status { IfOk result.0 (λ status. (status ≡ 0) ⊎ (status ≡ 1)) }
-    ensures printed { IfOk result.0 (λ status. (text : List ℕ) × (once_reply first.now second.now ≡ Ok (text, status))
+    ensures printed { IfOk result.0
+        (λ status. (text : List ℕ) × (once_reply first.now second.now ≡ Ok (text, status))
         × Appends (O.contents (writer_of out.old)) (O.contents (writer_of out.new)) text) }
     ensures logged { IfOk result.0 (λ status. IsLogged key value first.now status result.1) }
-    ensures refused { (fault : Fault) → once_reply first.now second.now ≡ Err fault → out.new ≡ out.old }
+    ensures refused { (fault : Fault) → once_reply first.now second.now ≡ Err fault
+        → out.new ≡ out.old }
     ensures failures { IfErr result.0 (λ failure.
-        FailsFor (failures_of out.old < failures_of out.new) failure (once_reply first.now second.now)) }
+        FailsFor (failures_of out.old < failures_of out.new) failure
+        (once_reply first.now second.now)) }
 {
     let mut core = match open_new(alloc, disk) {
         Ok(core) => core,
@@ -60,13 +63,16 @@ fn commit_and_settle<O: Write>(
 ) -> Result<u8, Failure>
     requires { HasLog new_log (seen core.old) }
     ensures status { IfOk result (λ status. (status ≡ 0) ⊎ (status ≡ 1)) }
-    ensures printed { IfOk result (λ status. (text : List ℕ) × (once_reply first.now second.now ≡ Ok (text, status))
+    ensures printed { IfOk result
+        (λ status. (text : List ℕ) × (once_reply first.now second.now ≡ Ok (text, status))
         × Appends (O.contents (writer_of out.old)) (O.contents (writer_of out.new)) text) }
-    ensures refused { (fault : Fault) → once_reply first.now second.now ≡ Err fault → out.new ≡ out.old }
+    ensures refused { (fault : Fault) → once_reply first.now second.now ≡ Err fault
+        → out.new ≡ out.old }
     ensures log { IfOk result (λ status. (stamp : ℕ) × (first_stamp first.now ≡ Ok stamp)
         × HasLog (log_after (nat_eq status 0) key value stamp) (seen core.new)) }
     ensures failures { IfErr result (λ failure.
-        FailsFor (failures_of out.old < failures_of out.new) failure (once_reply first.now second.now)) }
+        FailsFor (failures_of out.old < failures_of out.new) failure
+        (once_reply first.now second.now)) }
 {
     let stamp = commit(alloc, core, key, value, first)?;
     out.print(&committed(alloc, stamp)?)?;

@@ -42,7 +42,8 @@ pub fn commit(
     at: &Reading,
 ) -> Result<Stamp, Fault>
     requires { HasLog new_log (seen core.old) }
-    ensures { MatchResult result (λ stamp. (first_stamp at.now ≡ Ok stamp) × HasLog (decided_log key value stamp) (seen core.new))
+    ensures { MatchResult result (λ stamp. (first_stamp at.now ≡ Ok stamp)
+        × HasLog (decided_log key value stamp) (seen core.new))
         (λ fault. (fault ≡ Memory) ⊎ (first_stamp at.now ≡ Err fault)) }
 {
     let asked = only_commit(alloc, key, value)?;
@@ -57,9 +58,11 @@ pub fn commit(
 
 /// Settles it at a reading: not before its timestamp has surely passed.
 pub fn settle(alloc: Global, core: &mut Core<SimDisk>, at: &Reading) -> Result<bool, Fault>
-    ensures { (key value : List ℕ) (stamp : ℕ) → HasLog (decided_log key value stamp) (seen core.old)
+    ensures { (key value : List ℕ) (stamp : ℕ)
+        → HasLog (decided_log key value stamp) (seen core.old)
         → MatchResult result
-        (λ done. (done ≡ surely_after at.now stamp) × HasLog (log_after done key value stamp) (seen core.new))
+        (λ done. (done ≡ surely_after at.now stamp)
+        × HasLog (log_after done key value stamp) (seen core.new))
         (λ fault. fault ≡ Memory) }
 {
     match core.on(alloc, at, &Input::Settle(only_txn())) {

@@ -42,7 +42,8 @@ impl<W: Write> Stream<W> {
 
     /// Prints a text.
     pub(crate) fn print(&mut self, text: &str) -> Result<(), Failure>
-        ensures printed { OnOk result (Appends (W.contents (writer_of self.old)) (W.contents (writer_of self.new)) text.now) }
+        ensures printed { OnOk result
+            (Appends (W.contents (writer_of self.old)) (W.contents (writer_of self.new)) text.now) }
         ensures unwritten { IfErr result (λ failure. failure ≡ Unwritten) }
         ensures failed { IfErr result (λ _. failures_of self.new ≡ failures_of self.old + 1) }
         ensures kept { failures_of self.old ≤ failures_of self.new }
@@ -58,7 +59,9 @@ impl<W: Write> Stream<W> {
 
     /// Prints the line of a fault, piece by piece, so that it needs no memory.
     pub(crate) fn print_fault(&mut self, fault: Fault) -> Result<(), Failure>
-        ensures printed { OnOk result (Appends (W.contents (writer_of self.old)) (W.contents (writer_of self.new)) (fault_line fault)) }
+        ensures printed { OnOk result
+            (Appends (W.contents (writer_of self.old)) (W.contents (writer_of self.new))
+            (fault_line fault)) }
         ensures unwritten { IfErr result (λ failure. failure ≡ Unwritten) }
         ensures failed { IfErr result (λ _. failures_of self.new ≡ failures_of self.old + 1) }
         ensures kept { failures_of self.old ≤ failures_of self.new }

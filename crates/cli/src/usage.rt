@@ -45,8 +45,10 @@ pub fn asks_help(words: &[&str]) -> bool
 /// Prints the usage, and gives status 0.
 pub fn help<O: Write>(out: &mut Stream<O>) -> Result<u8, Failure>
     ensures status { IfOk result (λ status. status ≡ 0) }
-    ensures printed { OnOk result (Appends (O.contents (writer_of out.old)) (O.contents (writer_of out.new)) USAGE.now) }
-    ensures unwritten { IfErr result (λ failure. (failure ≡ Unwritten) × (failures_of out.old < failures_of out.new)) }
+    ensures printed { OnOk result
+        (Appends (O.contents (writer_of out.old)) (O.contents (writer_of out.new)) USAGE.now) }
+    ensures unwritten { IfErr result
+        (λ failure. (failure ≡ Unwritten) × (failures_of out.old < failures_of out.new)) }
 {
     out.print(USAGE)?;
     Ok(0)

@@ -30,7 +30,8 @@ pub fn command<'a>(alloc: Global, words: &'a [&'a str]) -> Result<Command, Fault
 fn read_command<'a>(alloc: Global, words: &'a [&'a str]) -> Result<Command, Fault>
     ensures { are_plain (map (λ w. w.now) words.entry.now) ≡ true → MatchResult result
         (λ c. command_or_refusal (line_of (map (λ w. w.now) words.entry.now)) ≡ Ok c)
-        (λ f. (f ≡ Memory) ⊎ (command_or_refusal (line_of (map (λ w. w.now) words.entry.now)) ≡ Err f)) }
+        (λ f. (f ≡ Memory)
+        ⊎ (command_or_refusal (line_of (map (λ w. w.now) words.entry.now)) ≡ Err f)) }
 {
     let Line::Once {
         key,
@@ -59,7 +60,8 @@ fn read_key(word: &str) -> Result<Key, Fault>
 }
 
 fn read_value(alloc: Global, word: &str) -> Result<Value, Fault>
-    ensures { MatchResult result (λ v. value_of word.now ≡ Ok v) (λ f. (f ≡ Memory) ⊎ (value_of word.now ≡ Err f)) }
+    ensures { MatchResult result (λ v. value_of word.now ≡ Ok v)
+        (λ f. (f ≡ Memory) ⊎ (value_of word.now ≡ Err f)) }
 {
     Value::new(alloc, word.as_bytes())
 }

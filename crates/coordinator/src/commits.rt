@@ -177,7 +177,8 @@ fn decide_anew(
     ensures fit { IfOk result (IsFit state.now) }
     ensures memory { IfErr result (λ fault. fault ≡ Fault.Memory) }
 {
-    let request = request_of(alloc, now, commit)?;
+    let (reads, writes) = (commit.reads.keys(), &commit.writes);
+    let request = CommitRequest::copied(alloc, now.latest(), commit.parts, reads, writes)?;
     let needs = exclusive(alloc, &request.writes)?;
     let wounded = state.in_way(alloc, commit.txn, &needs)?;
     decide(state, alloc, wounded, needs, commit.txn, at, request)
@@ -206,7 +207,8 @@ fn collect_anew(state: &State, alloc: Global, now: &Reading, commit: &Commit) ->
     ensures fit { IfOk result (IsFit state.now) }
     ensures memory { IfErr result (λ fault. fault ≡ Fault.Memory) }
 {
-    let request = request_of(alloc, now, commit)?;
+    let (reads, writes) = (commit.reads.keys(), &commit.writes);
+    let request = CommitRequest::copied(alloc, now.latest(), commit.parts, reads, writes)?;
     let needs = exclusive(alloc, &request.writes)?;
     let wounded = state.in_way(alloc, commit.txn, &needs)?;
     collect(state, alloc, wounded, needs, commit.txn, request)
@@ -234,7 +236,8 @@ fn wait_in_row(state: &State, alloc: Global, now: &Reading, commit: &Commit) -> 
     ensures fit { IfOk result (IsFit state.now) }
     ensures memory { IfErr result (λ fault. fault ≡ Fault.Memory) }
 {
-    let request = request_of(alloc, now, commit)?;
+    let (reads, writes) = (commit.reads.keys(), &commit.writes);
+    let request = CommitRequest::copied(alloc, now.latest(), commit.parts, reads, writes)?;
     let needs = exclusive(alloc, &request.writes)?;
     let wounded = state.in_way(alloc, commit.txn, &needs)?;
     let asked = Request {
@@ -275,7 +278,8 @@ fn collect_alone(
     ensures fit { IfOk result (IsFit state.now) }
     ensures memory { IfErr result (λ fault. fault ≡ Fault.Memory) }
 {
-    let copy = request.copy(alloc)?;
+    let (reads, writes) = (&request.reads, &request.writes);
+    let copy = CommitRequest::copied(alloc, request.latest, request.parts, reads, writes)?;
     let needs = exclusive(alloc, &copy.writes)?;
     let nobody = Ids::from_vec(Vec::new(alloc));
     collect(state, alloc, nobody, needs, txn, copy)
@@ -294,7 +298,8 @@ fn decide_alone(
     ensures fit { IfOk result (IsFit state.now) }
     ensures memory { IfErr result (λ fault. fault ≡ Fault.Memory) }
 {
-    let copy = request.copy(alloc)?;
+    let (reads, writes) = (&request.reads, &request.writes);
+    let copy = CommitRequest::copied(alloc, request.latest, request.parts, reads, writes)?;
     let needs = exclusive(alloc, &copy.writes)?;
     let nobody = Ids::from_vec(Vec::new(alloc));
     decide(state, alloc, nobody, needs, txn, at, copy)
@@ -371,17 +376,4 @@ fn collect(
         change: Change::Collects(txn, gathering),
     };
     state.puts(alloc, asked, None, state.last(), None)
-}
-
-// The request of a commit, with memory of its own.
-fn request_of(alloc: Global, now: &Reading, commit: &Commit) -> Result<CommitRequest, Fault>
-    ensures same { IfOk result (λ request. (request.latest ≡ now.now.latest) × (request.parts ≡ commit.now.parts) × (request.reads ≡ commit.now.reads.keys) × (request.writes ≡ commit.now.writes)) }
-    ensures memory { IfErr result (λ fault. fault ≡ Fault.Memory) }
-{
-    Ok(CommitRequest {
-        latest: now.latest(),
-        parts: commit.parts,
-        reads: commit.reads.keys().copy(alloc)?,
-        writes: commit.writes.copy(alloc)?,
-    })
 }

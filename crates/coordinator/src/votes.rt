@@ -19,7 +19,7 @@ use crate::commits::{commit_time, decision_of};
 use crate::parts::is_of_part;
 use memory::{Change, PastStanding, Plan, Request, State, outcome_to};
 use message::{Outcome, Vote};
-use rows::{Row, RowCollecting, Voted, Wait};
+use rows::{CommitRequest, Row, RowCollecting, Voted, Wait};
 use std::alloc::Global;
 use units::{Fault, Ids, ShardNo, Stamp, TxnId};
 
@@ -206,7 +206,9 @@ fn decide_counted(
     ensures fit { IfOk result (IsFit state.now) }
     ensures memory { IfErr result (λ fault. fault ≡ Fault.Memory) }
 {
-    let request = collecting.request().copy(alloc)?;
+    let held = collecting.request();
+    let (reads, writes) = (&held.reads, &held.writes);
+    let request = CommitRequest::copied(alloc, held.latest, held.parts, reads, writes)?;
     let asked = Request {
         wounded: Ids::from_vec(Vec::new(alloc)),
         needs: Vec::new(alloc),

@@ -57,8 +57,11 @@ pub trait Disk {
         requires { keeps_model → at + length buffer.old ≤ length (surface (file self.old)).seen }
         ensures planned { obeys → IsAsPlanned (fails (plan self.old)) result }
         ensures plan { plan self.new ≡ next (plan self.old) }
-        ensures room { (calls bytes : ℕ) → has_room self.old calls bytes → has_room self.new calls bytes }
-        ensures bytes { OnOk result (keeps_model → buffer.new ≡ take (length buffer.old) (drop at (surface (file self.old)).seen)) }
+        ensures room { (calls bytes : ℕ) → has_room self.old calls bytes
+            → has_room self.new calls bytes }
+        ensures bytes { OnOk result
+            (keeps_model → buffer.new ≡
+            take (length buffer.old) (drop at (surface (file self.old)).seen)) }
         ensures same { file self.new ≡ file self.old }
         ensures time { Elapses file clock since failures self.old self.new }
         ensures cause { HasCause (failures self.old) (failures self.new) result };
@@ -66,14 +69,23 @@ pub trait Disk {
     /// Writes over what is there, and past the end. The offset is at most the length.
     fn write_at(&mut self, at: u64, bytes: &[u8]) -> Result<(), Fault>
         requires { keeps_model → at ≤ length (surface (file self.old)).seen }
-        ensures planned { (calls more : ℕ) → has_room self.old (calls + 1) (length bytes.now + more) →
+        ensures planned { (calls more : ℕ)
+            → has_room self.old (calls + 1) (length bytes.now + more) →
             IsAsPlanned (fails (at_write (plan self.old))) result × has_room self.new calls more
-            × (file self.new ≡ with_change (if fails (at_write (plan self.old)) then tried at bytes.now else wrote at bytes.now) (file self.old)) }
+            × (file self.new ≡
+            with_change (if fails (at_write (plan self.old)) then tried at bytes.now
+            else wrote at bytes.now)
+            (file self.old)) }
         ensures plan { plan self.new ≡ next (at_write (plan self.old)) }
         ensures fails { obeys → IsTrue (fails (at_write (plan self.old))) → IsErr result }
-        ensures failed { obeys → OnErr result ((surface (file self.new)).seen ≡ (surface (file self.old)).seen) }
-        ensures written { OnOk result (keeps_model → surface (file self.new) ≡ after_write at bytes.now (surface (file self.old))) }
-        ensures crash { keeps_model → IsWithin (tried_write at (length bytes.now) (surface (file self.old))) (surface (file self.new)) }
+        ensures failed { obeys
+            → OnErr result ((surface (file self.new)).seen ≡ (surface (file self.old)).seen) }
+        ensures written { OnOk result
+            (keeps_model → surface (file self.new) ≡
+            after_write at bytes.now (surface (file self.old))) }
+        ensures crash { keeps_model
+            → IsWithin (tried_write at (length bytes.now) (surface (file self.old)))
+            (surface (file self.new)) }
         ensures time { Elapses file clock since failures self.old self.new }
         ensures cause { HasCause (failures self.old) (failures self.new) result };
 
@@ -82,12 +94,16 @@ pub trait Disk {
         requires { keeps_model → len ≤ length (surface (file self.old)).seen }
         ensures planned { (calls more : ℕ) → has_room self.old (calls + 1) more →
             IsAsPlanned (fails (plan self.old)) result × has_room self.new calls more
-            × (file self.new ≡ (if fails (plan self.old) then file self.old else with_change (cut len) (file self.old))) }
+            × (file self.new ≡
+            (if fails (plan self.old) then file self.old
+            else with_change (cut len) (file self.old))) }
         ensures plan { plan self.new ≡ next (plan self.old) }
         ensures fails { obeys → IsTrue (fails (plan self.old)) → IsErr result }
         ensures failed { obeys → OnErr result (file self.new ≡ file self.old) }
-        ensures done { OnOk result (keeps_model → surface (file self.new) ≡ after_cut len (surface (file self.old))) }
-        ensures crash { keeps_model → IsWithin (tried_cut len (surface (file self.old))) (surface (file self.new)) }
+        ensures done { OnOk result
+            (keeps_model → surface (file self.new) ≡ after_cut len (surface (file self.old))) }
+        ensures crash { keeps_model → IsWithin (tried_cut len (surface (file self.old)))
+            (surface (file self.new)) }
         ensures time { Elapses file clock since failures self.old self.new }
         ensures cause { HasCause (failures self.old) (failures self.new) result };
 
@@ -95,11 +111,13 @@ pub trait Disk {
     fn sync(&mut self) -> Result<(), Fault>
         ensures planned { (calls more : ℕ) → has_room self.old (calls + 1) more →
             IsAsPlanned (fails (plan self.old)) result × has_room self.new calls more
-            × (file self.new ≡ (if fails (plan self.old) then file self.old else synced (file self.old))) }
+            × (file self.new ≡
+            (if fails (plan self.old) then file self.old else synced (file self.old))) }
         ensures plan { plan self.new ≡ next (plan self.old) }
         ensures fails { obeys → IsTrue (fails (plan self.old)) → IsErr result }
         ensures failed { obeys → OnErr result (file self.new ≡ file self.old) }
-        ensures durable { OnOk result (keeps_model → surface (file self.new) ≡ after_sync (surface (file self.old))) }
+        ensures durable { OnOk result
+            (keeps_model → surface (file self.new) ≡ after_sync (surface (file self.old))) }
         ensures crash { keeps_model → IsWithin (surface (file self.old)) (surface (file self.new)) }
         ensures time { Elapses file clock since failures self.old self.new }
         ensures cause { HasCause (failures self.old) (failures self.new) result };
@@ -108,20 +126,24 @@ pub trait Disk {
     /// (which is 0) fails once; with `None` none does. It does nothing on a real file.
     fn arm(&mut self, call: Option<u64>)
         ensures plan { obeys → plan self.new ≡ armed call }
-        ensures room { (calls bytes : ℕ) → has_room self.old calls bytes → has_room self.new calls bytes }
+        ensures room { (calls bytes : ℕ) → has_room self.old calls bytes
+            → has_room self.new calls bytes }
         ensures same { file self.new ≡ file self.old }
         ensures failures { failures self.new ≡ failures self.old }
         ensures time { Elapses file clock since failures self.old self.new };
 
     /// What is enough for more is enough for less.
-    ghost room_less: { (disk : Self) (calls bytes fewer less : ℕ) → fewer ≤ calls → less ≤ bytes → has_room disk calls bytes → has_room disk fewer less };
+    ghost room_less: { (disk : Self) (calls bytes fewer less : ℕ) → fewer ≤ calls → less ≤ bytes
+        → has_room disk calls bytes → has_room disk fewer less };
 
     /// This moment is one of those since an earlier one.
-    ghost counts_now: { (disk : Self) (moment : ℕ) (image : List ℕ) → moment ≤ clock disk → MayLeave (surface (file disk)) image → since disk moment image };
+    ghost counts_now: { (disk : Self) (moment : ℕ) (image : List ℕ) → moment ≤ clock disk
+        → MayLeave (surface (file disk)) image → since disk moment image };
 
     /// What a read gives is one of them.
     ghost reads_now: { (disk : Self) → MayLeave (surface (file disk)) (surface (file disk)).seen };
 
     /// Since this moment there is no other.
-    ghost only_now: { (disk : Self) (image : List ℕ) → since disk (clock disk) image → MayLeave (surface (file disk)) image };
+    ghost only_now: { (disk : Self) (image : List ℕ) → since disk (clock disk) image
+        → MayLeave (surface (file disk)) image };
 }

@@ -30,4 +30,8 @@ id_follows shard facts (Outcome t outcome) = allows (recorded facts t) outcome
 -- the rules of the openings, the first of which comes before all else, and of one id
 unfoldable pub follows_facts : ℕ → Facts → Record → Bool
 follows_facts shard facts (Opened epoch) = nat_eq epoch (facts.epoch + 1)
-follows_facts shard facts r = nat_lt 0 facts.epoch && id_follows shard facts r
+follows_facts shard facts (Ceiling at) = nat_lt 0 facts.epoch && id_follows shard facts (Ceiling at)
+follows_facts shard facts (Prepare p) = nat_lt 0 facts.epoch && id_follows shard facts (Prepare p)
+follows_facts shard facts (Commit c) = nat_lt 0 facts.epoch && id_follows shard facts (Commit c)
+follows_facts shard facts (Abort t) = nat_lt 0 facts.epoch && id_follows shard facts (Abort t)
+follows_facts shard facts (Outcome t outcome) = nat_lt 0 facts.epoch && id_follows shard facts (Outcome t outcome)

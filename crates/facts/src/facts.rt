@@ -38,7 +38,8 @@ impl Model for Facts {
 
     ghost view = { λ f. record {
       shard = f.shard;
-      facts = facts_with f.epoch f.floor (shown_entries (by_id f.statuses.entries)) f.installs.items;
+      facts = facts_with f.epoch f.floor
+          (shown_entries (by_id f.statuses.entries)) f.installs.items;
       room = room_for (spare f.statuses) (vec_capacity f.installs - vec_len f.installs);
     } };
 
@@ -188,7 +189,8 @@ impl Facts {
         ensures shard { self.new.shard ≡ self.old.shard }
         ensures damaged { IfErr result (λ refused. refused ≡ (Damaged offset, item)) }
         ensures same { OnErr result (self.new ≡ self.old) }
-        ensures strange { OnErr result (IsFalse (follows_facts self.old.shard self.old.facts item)) }
+        ensures strange { OnErr result
+            (IsFalse (follows_facts self.old.shard self.old.facts item)) }
     {
         if !self.follows(&item) {
             return Err((Fault::Damaged { offset }, item));
@@ -238,7 +240,8 @@ impl Facts {
     #[tactic(auto, unfolding(record::specs::Facts::learn, crate::specs::Rules::follows_facts))]
     fn end(&mut self, txn: TxnId, outcome: Option<Stamp>)
         requires room { 1 ≤ self.old.room }
-        requires follows { IsTrue (follows_facts self.old.shard self.old.facts (Record.Outcome txn outcome)) }
+        requires follows { IsTrue
+            (follows_facts self.old.shard self.old.facts (Record.Outcome txn outcome)) }
         ensures facts { self.new.facts ≡ learn self.old.facts (Record.Outcome txn outcome) }
         ensures shard { self.new.shard ≡ self.old.shard }
     {

@@ -12,7 +12,8 @@ use units::{Install, Stamp, TxnId, Write, Writes};
 /// Sets how a transaction stands, and hands back how it stood. It takes no memory.
 pub fn put(statuses: &mut IndexMap<TxnId, Status>, txn: TxnId, status: Status) -> Option<Status>
     requires { 1 ≤ spare statuses.old }
-    ensures entries { shown_entries (by_id statuses.new.entries) ≡ with_status (shown_entries (by_id statuses.old.entries)) txn (meaning status) }
+    ensures entries { shown_entries (by_id statuses.new.entries) ≡
+        with_status (shown_entries (by_id statuses.old.entries)) txn (meaning status) }
     ensures former { meant result ≡ status_in (shown_entries (by_id statuses.old.entries)) txn }
 {
     match statuses.insert(txn, status) {

@@ -50,7 +50,15 @@ fn one(alloc: Global) -> Option<Rows>
 }
 
 fn promise(alloc: Global) -> Result<Record, Fault>
-    ensures { IfOk result (λ promise. promise ≡ Record.Prepare (record { txn = record { run = 1; number = 1 }; coordinator = 0; at = 107; reads = []; writes = [] })) }
+    ensures { IfOk result
+        (λ promise. promise ≡
+        Record.Prepare (record {
+          txn = record { run = 1; number = 1 };
+          coordinator = 0;
+          at = 107;
+          reads = [];
+          writes = [];
+        })) }
 {
     Ok(Record::Prepare(Prepared {
         txn: id(1),
@@ -62,7 +70,15 @@ fn promise(alloc: Global) -> Result<Record, Fault>
 }
 
 fn decision(alloc: Global) -> Result<Record, Fault>
-    ensures { IfOk result (λ decision. decision ≡ Record.Commit (record { txn = record { run = 1; number = 1 }; at = 111; parts = 0 ∷ []; reads = []; writes = [] })) }
+    ensures { IfOk result
+        (λ decision. decision ≡
+        Record.Commit (record {
+          txn = record { run = 1; number = 1 };
+          at = 111;
+          parts = 0 ∷ [];
+          reads = [];
+          writes = [];
+        })) }
 {
     Ok(Record::Commit(Committed {
         txn: id(1),

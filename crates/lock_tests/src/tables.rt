@@ -67,7 +67,9 @@ fn wait_for_sharers(alloc: Global, key: Key) -> Option<bool> {
 
 // The tokens of 1.1 and 1.2, in a table of their own.
 fn enter_two(alloc: Global) -> Option<(Table, Held, Held)>
-    ensures claims { IfSome result (λ both. both.0 ≡ entrant (record { run = 1; number = 1 }) ∷ entrant (record { run = 1; number = 2 }) ∷ []) }
+    ensures claims { IfSome result
+        (λ both. both.0 ≡ entrant (record { run = 1; number = 1 })
+        ∷ entrant (record { run = 1; number = 2 }) ∷ []) }
     ensures first { IfSome result (λ both. both.1.txn ≡ record { run = 1; number = 1 }) }
     ensures second { IfSome result (λ both. both.2.txn ≡ record { run = 1; number = 2 }) }
 {

@@ -117,18 +117,6 @@ quiet_wounding table t needs e = by_test (is_wounding t needs table) (none_wound
     by_test true h = absurd (false≢true (h refl))
     by_test false h = refl
 
-pub asked-waits : (table : List Claim) (t : Id) (needs : List Lock) → is_wounding t needs table ≡ false → is_blocked t needs table ≡ true →
-    asked table t needs ≡ Waits
-unfolding asked
-asked-waits table t needs h k =
-    ap (λ ids. asked_by ids (is_free table t needs)) (wounds_none table t needs h) ∙ ap (asked_by []) (is_free-is table t needs ∙ ap not k)
-
-pub asked-granted : (table : List Claim) (t : Id) (needs : List Lock) → is_wounding t needs table ≡ false → is_blocked t needs table ≡ false →
-    asked table t needs ≡ Granted
-unfolding asked
-asked-granted table t needs h k =
-    ap (λ ids. asked_by ids (is_free table t needs)) (wounds_none table t needs h) ∙ ap (asked_by []) (is_free-is table t needs ∙ ap not k)
-
 pub ready-is : (table : List Claim) → ready table ≡ first_to_go table
 unfolding ready
 ready-is table =

@@ -42,7 +42,11 @@ fn settle(alloc: Global, ledger: &mut Ledger) -> Result<(), Fail> {
 fn learn_line(alloc: Global, ledger: &mut Ledger, line: Line) -> Result<(), Fail> {
     match record_of(alloc, line)? {
         Record::Outcome { .. } => Err("no outcome".into()),
-        item => learn(alloc, ledger, item),
+        Record::Opened { epoch } => learn(alloc, ledger, Record::Opened { epoch }),
+        Record::Ceiling { at } => learn(alloc, ledger, Record::Ceiling { at }),
+        Record::Prepare(promise) => learn(alloc, ledger, Record::Prepare(promise)),
+        Record::Commit(commit) => learn(alloc, ledger, Record::Commit(commit)),
+        Record::Abort { txn } => learn(alloc, ledger, Record::Abort { txn }),
     }
 }
 

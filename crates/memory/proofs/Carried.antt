@@ -352,16 +352,3 @@ undone m now next (Some u) true t e f admits is gone =
     let rows : next ≡ m.rows =
     gone ∙ ap (without_row now.rows) same ∙ put_and_gone m.rows now.rows u [] Idle (ap (λ (k : Memory). k.rows) is ∙ taken_rows m.rows u none) none in
     λ i. record { last = last i; rows = rows i; ended = ended i }
-
--- the asker of a plan that fits may ask
-pub fits_asks : (rows : List Row) (us : List Id) (needs : List Lock) (logged : Option Record) (h : Change) → FitsRows rows us needs logged h →
-    MayAsk rows (asker h)
-fits_asks rows us needs logged Change.Keeps fits = tt
-fits_asks rows us needs logged (Change.Ends t) fits = tt
-fits_asks rows us needs logged (Change.Drops t) fits = tt
-fits_asks rows us needs logged (Change.Reads t) fits = fits.0.0
-fits_asks rows us needs logged (Change.Waits t w) fits = fits.0.0
-fits_asks rows us needs logged (Change.Collects t c) fits = fits.0.0
-fits_asks rows us needs logged (Change.Counts t n p) fits = tt
-fits_asks rows us needs logged (Change.Stands t) fits = fits.0.0
-fits_asks rows us needs logged (Change.Decides t) fits = tt

@@ -127,7 +127,10 @@ fn writes_for(ledger: &Ledger, alloc: Global, plan: &Plan) -> Result<Writes, Fau
                 outcome: Some(_),
             },
         ) => ledger.copy_of_writes(alloc, *txn),
-        _ => Ok(Writes::none(alloc)),
+        Some(Record::Outcome { outcome: None, .. }) | None => Ok(Writes::none(alloc)),
+        Some(Record::Opened { .. }) | Some(Record::Ceiling { .. }) => Ok(Writes::none(alloc)),
+        Some(Record::Prepare(_)) | Some(Record::Commit(_)) => Ok(Writes::none(alloc)),
+        Some(Record::Abort { .. }) => Ok(Writes::none(alloc)),
     }
 }
 

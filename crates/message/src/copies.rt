@@ -3,37 +3,7 @@ ghost use Rattle.std.specs.Prelude.{◌≡◌, IfOk, IfErr};
 
 use crate::{Answer, Commit, Message, Prepare, ReadAnswer};
 use std::alloc::Global;
-use units::Fault;
-
-impl Prepare {
-    /// An equal one with memory of its own.
-    pub fn copy(&self, alloc: Global) -> Result<Prepare, Fault>
-        ensures same { IfOk result (λ copied. copied ≡ self.now) }
-        ensures memory { IfErr result (λ fault. fault ≡ Fault.Memory) }
-    {
-        Ok(Prepare {
-            txn: self.txn,
-            coordinator: self.coordinator,
-            reads: self.reads.copy(alloc)?,
-            writes: self.writes.copy(alloc)?,
-        })
-    }
-}
-
-impl Commit {
-    /// An equal one with memory of its own.
-    pub fn copy(&self, alloc: Global) -> Result<Commit, Fault>
-        ensures same { IfOk result (λ copied. copied ≡ self.now) }
-        ensures memory { IfErr result (λ fault. fault ≡ Fault.Memory) }
-    {
-        Ok(Commit {
-            txn: self.txn,
-            parts: self.parts,
-            reads: self.reads.copy(alloc)?,
-            writes: self.writes.copy(alloc)?,
-        })
-    }
-}
+use units::{Fault, copy_value};
 
 impl Answer {
     /// An equal one with memory of its own.
@@ -42,8 +12,7 @@ impl Answer {
         ensures memory { IfErr result (λ fault. fault ≡ Fault.Memory) }
     {
         match self {
-            Answer::Holds(None) => Ok(Answer::Holds(None)),
-            Answer::Holds(Some(value)) => Ok(Answer::Holds(Some(value.copy(alloc)?))),
+            Answer::Holds(value) => Ok(Answer::Holds(copy_value(alloc, value)?)),
             Answer::Refused => Ok(Answer::Refused),
         }
     }
@@ -73,8 +42,18 @@ impl Message {
     {
         match self {
             Message::Read(read) => Ok(Message::Read(*read)),
-            Message::Prepare(prepare) => Ok(Message::Prepare(prepare.copy(alloc)?)),
-            Message::Commit(commit) => Ok(Message::Commit(commit.copy(alloc)?)),
+            Message::Prepare(prepare) => Ok(Message::Prepare(Prepare {
+                txn: prepare.txn,
+                coordinator: prepare.coordinator,
+                reads: prepare.reads.copy(alloc)?,
+                writes: prepare.writes.copy(alloc)?,
+            })),
+            Message::Commit(commit) => Ok(Message::Commit(Commit {
+                txn: commit.txn,
+                parts: commit.parts,
+                reads: commit.reads.copy(alloc)?,
+                writes: commit.writes.copy(alloc)?,
+            })),
             Message::GiveUp(given) => Ok(Message::GiveUp(*given)),
             Message::Vote(vote) => Ok(Message::Vote(*vote)),
             Message::Outcome(told) => Ok(Message::Outcome(*told)),

@@ -38,7 +38,8 @@ impl Reads {
 
     /// The keys that were read in this epoch. An empty list is handed back.
     pub fn new(epoch: Epoch, keys: Keys) -> Result<Reads, Keys>
-        ensures { MatchResult result (λ reads. (reads.epoch ≡ epoch) × (reads.keys ≡ keys) × (keys ≢ []))
+        ensures { MatchResult result (λ reads. (reads.epoch ≡ epoch) × (reads.keys ≡ keys)
+            × (keys ≢ []))
             (λ back. (back ≡ keys) × (keys ≡ [])) }
     {
         if keys.as_slice().is_empty() {

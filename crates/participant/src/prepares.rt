@@ -186,7 +186,8 @@ fn promise_anew(state: &State, alloc: Global, prepare: &Prepare, at: Stamp) -> R
     ensures fit { IfOk result (IsFit state.now) }
     ensures memory { IfErr result (λ fault. fault ≡ Fault.Memory) }
 {
-    let request = request_of(alloc, prepare)?;
+    let (reads, writes) = (prepare.reads.keys(), &prepare.writes);
+    let request = PrepareRequest::copied(alloc, prepare.coordinator, reads, writes)?;
     let needs = exclusive(alloc, &request.writes)?;
     let wounded = state.in_way(alloc, prepare.txn, &needs)?;
     promise_at(state, alloc, wounded, needs, prepare.txn, at, request)
@@ -214,7 +215,8 @@ fn wait_in_row(state: &State, alloc: Global, prepare: &Prepare) -> Result<Plan, 
     ensures fit { IfOk result (IsFit state.now) }
     ensures memory { IfErr result (λ fault. fault ≡ Fault.Memory) }
 {
-    let request = request_of(alloc, prepare)?;
+    let (reads, writes) = (prepare.reads.keys(), &prepare.writes);
+    let request = PrepareRequest::copied(alloc, prepare.coordinator, reads, writes)?;
     let needs = exclusive(alloc, &request.writes)?;
     let wounded = state.in_way(alloc, prepare.txn, &needs)?;
     let waits = Request {
@@ -254,7 +256,8 @@ fn promise_alone(
     ensures fit { IfOk result (IsFit state.now) }
     ensures memory { IfErr result (λ fault. fault ≡ Fault.Memory) }
 {
-    let copy = request.copy(alloc)?;
+    let (reads, writes) = (&request.reads, &request.writes);
+    let copy = PrepareRequest::copied(alloc, request.coordinator, reads, writes)?;
     let needs = exclusive(alloc, &copy.writes)?;
     let nobody = Ids::from_vec(Vec::new(alloc));
     promise_at(state, alloc, nobody, needs, txn, at, copy)
@@ -301,16 +304,4 @@ fn promise_at(
     };
     let last = state.last().later(at);
     state.puts(alloc, stands, Some(promise), last, Some(yes))
-}
-
-// The request of a prepare, with memory of its own.
-fn request_of(alloc: Global, prepare: &Prepare) -> Result<PrepareRequest, Fault>
-    ensures same { IfOk result (λ request. (request.coordinator ≡ prepare.now.coordinator) × (request.reads ≡ prepare.now.reads.keys) × (request.writes ≡ prepare.now.writes)) }
-    ensures memory { IfErr result (λ fault. fault ≡ Fault.Memory) }
-{
-    Ok(PrepareRequest {
-        coordinator: prepare.coordinator,
-        reads: prepare.reads.keys().copy(alloc)?,
-        writes: prepare.writes.copy(alloc)?,
-    })
 }

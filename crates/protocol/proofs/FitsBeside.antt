@@ -265,7 +265,11 @@ fits_outcome shard log t s follows above =
 -- the record is a ceiling
 abbrev is_ceiling : Record → Bool
 is_ceiling (Record.Ceiling at) = true
-is_ceiling _ = false
+is_ceiling (Record.Opened epoch) = false
+is_ceiling (Record.Prepare p) = false
+is_ceiling (Record.Commit c) = false
+is_ceiling (Record.Abort t) = false
+is_ceiling (Record.Outcome t outcome) = false
 
 -- the plan of an advance
 abbrev advanced : Bool → Bool → (ceiling last : ℕ) → Planned

@@ -20,7 +20,13 @@ use Rattle.protocol.proofs.AboveVersions.{above_later}
 -- what is installed by a record that is logged is above
 abbrev LogAbove : Before → Option Record → Type 0
 LogAbove b (Some (Record.Outcome t (Some s))) = IsTrue (above_versions b.facts.installs s (writes_standing (recorded b.facts t)))
-LogAbove b _ = Unit {0}
+LogAbove b (Some (Record.Outcome t None)) = Unit {0}
+LogAbove b (Some (Record.Opened epoch)) = Unit {0}
+LogAbove b (Some (Record.Ceiling at)) = Unit {0}
+LogAbove b (Some (Record.Prepare p)) = Unit {0}
+LogAbove b (Some (Record.Commit c)) = Unit {0}
+LogAbove b (Some (Record.Abort t)) = Unit {0}
+LogAbove b None = Unit {0}
 
 Above : Before → Plan → Type 0
 Above b p = LogAbove b p.logged

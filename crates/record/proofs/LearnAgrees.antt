@@ -40,7 +40,11 @@ max_next n e h = omega (arith, h)
 
 epoch_after : ℕ → Record → ℕ
 epoch_after n (Opened e) = e
-epoch_after n r = n
+epoch_after n (Ceiling at) = n
+epoch_after n (Prepare p) = n
+epoch_after n (Commit c) = n
+epoch_after n (Abort t) = n
+epoch_after n (Outcome t outcome) = n
 
 epoch_more : (shard : ℕ) (log : List Record) (r : Record) → follows shard log r ≡ true → epoch_of (log ++ r ∷ []) ≡ epoch_after (epoch_of log) r
 unfolding epoch_after

@@ -358,7 +358,8 @@ fn record_of(alloc: Global, bytes: &[u8]) -> Result<(Record, &[u8]), Unread>
 // The record that all of the bytes are.
 #[tactic(auto, unfolding(crate::specs::Reading::read_record))]
 fn whole_record(alloc: Global, bytes: &[u8]) -> Result<Option<Record>, Fault>
-    ensures { MatchResult result (λ found. read_record bytes.now ≡ found) (λ fault. fault ≡ Fault.Memory) }
+    ensures { MatchResult result (λ found. read_record bytes.now ≡ found)
+        (λ fault. fault ≡ Fault.Memory) }
 {
     match record_of(alloc, bytes) {
         Ok((record, [])) => Ok(Some(record)),

@@ -37,38 +37,6 @@ pub enum Record {
     Outcome { txn: TxnId, outcome: Option<Stamp> },
 }
 
-impl Prepared {
-    /// An equal one with memory of its own.
-    pub fn copy(&self, alloc: Global) -> Result<Prepared, Fault>
-        ensures same { IfOk result (λ copied. copied ≡ self.now) }
-        ensures memory { IfErr result (λ fault. fault ≡ Fault.Memory) }
-    {
-        Ok(Prepared {
-            txn: self.txn,
-            coordinator: self.coordinator,
-            at: self.at,
-            reads: self.reads.copy(alloc)?,
-            writes: self.writes.copy(alloc)?,
-        })
-    }
-}
-
-impl Committed {
-    /// An equal one with memory of its own.
-    pub fn copy(&self, alloc: Global) -> Result<Committed, Fault>
-        ensures same { IfOk result (λ copied. copied ≡ self.now) }
-        ensures memory { IfErr result (λ fault. fault ≡ Fault.Memory) }
-    {
-        Ok(Committed {
-            txn: self.txn,
-            at: self.at,
-            parts: self.parts,
-            reads: self.reads.copy(alloc)?,
-            writes: self.writes.copy(alloc)?,
-        })
-    }
-}
-
 impl Record {
     /// An equal record with memory of its own.
     pub fn copy(&self, alloc: Global) -> Result<Record, Fault>
@@ -78,8 +46,20 @@ impl Record {
         match self {
             Record::Opened { epoch } => Ok(Record::Opened { epoch: *epoch }),
             Record::Ceiling { at } => Ok(Record::Ceiling { at: *at }),
-            Record::Prepare(prepared) => Ok(Record::Prepare(prepared.copy(alloc)?)),
-            Record::Commit(committed) => Ok(Record::Commit(committed.copy(alloc)?)),
+            Record::Prepare(prepared) => Ok(Record::Prepare(Prepared {
+                txn: prepared.txn,
+                coordinator: prepared.coordinator,
+                at: prepared.at,
+                reads: prepared.reads.copy(alloc)?,
+                writes: prepared.writes.copy(alloc)?,
+            })),
+            Record::Commit(committed) => Ok(Record::Commit(Committed {
+                txn: committed.txn,
+                at: committed.at,
+                parts: committed.parts,
+                reads: committed.reads.copy(alloc)?,
+                writes: committed.writes.copy(alloc)?,
+            })),
             Record::Abort { txn } => Ok(Record::Abort { txn: *txn }),
             Record::Outcome { txn, outcome } => Ok(Record::Outcome {
                 txn: *txn,

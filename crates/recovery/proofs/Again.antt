@@ -33,7 +33,9 @@ abbrev pub names : Record → Option Id
 names (Record.Prepare p) = Some p.txn
 names (Record.Commit c) = Some c.txn
 names (Record.Abort t) = Some t
-names _ = None
+names (Record.Opened epoch) = None
+names (Record.Ceiling at) = None
+names (Record.Outcome t outcome) = None
 
 -- ---- records that change no row
 

@@ -47,11 +47,6 @@ first_facts = learn_agrees 0 [] (Record.Opened 1) (follows_as_known 0 [] (Record
 pub learnt_first : (r : Record) → is_first r ≡ true → facts_of (Record.Opened 1 ∷ []) ≡ learn (facts_of []) r
 learnt_first r h = first_facts ∙ ap (learn (facts_of [])) (sym (first_is r h))
 
--- a record of another shard is refused, whatever it follows
-pub stranger_next : (setup : Setup) (facts : Facts) (e : Placed) → belongs setup e.item ≡ false → fault_next setup facts e ≡ Some Fault.Stranger
-stranger_next setup facts e foreign = ap (λ b. cond (not b) (Some Fault.Stranger)
-    (cond (follows_facts setup.shard facts e.item && fits_facts facts e.item) None (Some (Fault.Damaged e.offset)))) foreign
-
 -- one of this shard, by its place
 own_next : (setup : Setup) (facts : Facts) (e : Placed) → belongs setup e.item ≡ true
     → fault_next setup facts e ≡ cond (follows_facts setup.shard facts e.item && fits_facts facts e.item) None (Some (Fault.Damaged e.offset))
@@ -61,13 +56,6 @@ own_next setup facts e own = ap (λ b. cond (not b) (Some Fault.Stranger)
 pub unfollowing_next : (setup : Setup) (facts : Facts) (e : Placed) → belongs setup e.item ≡ true → follows_facts setup.shard facts e.item ≡ false →
     fault_next setup facts e ≡ Some (Fault.Damaged e.offset)
 unfollowing_next setup facts e own out = own_next setup facts e own ∙ ap (λ b. cond (b && fits_facts facts e.item) None (Some (Fault.Damaged e.offset))) out
-
-pub unfit_next : (setup : Setup) (facts : Facts) (e : Placed) → belongs setup e.item ≡ true → follows_facts setup.shard facts e.item ≡ true →
-    fits_facts facts e.item ≡ false
-    → fault_next setup facts e ≡ Some (Fault.Damaged e.offset)
-unfit_next setup facts e own follows out =
-    own_next setup facts e own ∙ ap (λ b. cond (b && fits_facts facts e.item) None (Some (Fault.Damaged e.offset))) follows
-    ∙ ap (λ b. cond {A = Option Fault} b None (Some (Fault.Damaged e.offset))) out
 
 pub taken_next : (setup : Setup) (facts : Facts) (e : Placed) → belongs setup e.item ≡ true → follows_facts setup.shard facts e.item ≡ true →
     fits_facts facts e.item ≡ true

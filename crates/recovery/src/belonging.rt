@@ -29,7 +29,8 @@ pub fn owns_all(setup: &Setup, reads: &Keys, writes: &Writes) -> bool
 
 // Each of the keys is of this shard.
 fn owns_keys(setup: &Setup, keys: &Keys) -> bool
-    ensures { result ≡ list_all (λ k. nat_eq (shard_of setup.now.splits k) setup.now.shard) keys.now }
+    ensures { result ≡
+        list_all (λ k. nat_eq (shard_of setup.now.splits k) setup.now.shard) keys.now }
 {
     for key in keys.as_slice() {
         if !setup.owns(key) {

@@ -20,7 +20,9 @@ use units::{Fault, Setup};
 pub fn rebuild(alloc: Global, entries: &[Entry], setup: &Setup) -> Result<Option<State>, Fault>
     ensures found { IfOk result (λ found. IsRebuilt setup.now (items entries.now) found) }
     ensures accepted { OnOk result (taken setup.now (items entries.now) ≡ Accepted) }
-    ensures refused { IfErr result (λ fault. (fault ≡ Fault.Memory) ⊎ (fault_in (taken setup.now (items entries.now)) entries.now ≡ Some fault)) }
+    ensures refused { IfErr result
+        (λ fault. (fault ≡ Fault.Memory)
+        ⊎ (fault_in (taken setup.now (items entries.now)) entries.now ≡ Some fault)) }
 {
     let Some((first, rest)) = entries.split_first() else {
         return Ok(None);
@@ -45,7 +47,9 @@ fn begin(alloc: Global, entry: &Entry, setup: &Setup) -> Result<State, Fault>
     ensures next { OnOk result (fault_next setup.now (facts_of []) entry.now ≡ None) }
     ensures facts { IfOk result (λ state. state.facts ≡ learn (facts_of []) entry.now.item) }
     ensures recovered { IfOk result IsRecovered }
-    ensures refused { IfErr result (λ fault. (fault ≡ Fault.Memory) ⊎ (fault_next setup.now (facts_of []) entry.now ≡ Some fault)) }
+    ensures refused { IfErr result
+        (λ fault. (fault ≡ Fault.Memory)
+        ⊎ (fault_next setup.now (facts_of []) entry.now ≡ Some fault)) }
 {
     if !belongs(setup, entry.item()) {
         return Err(Fault::Stranger);
@@ -87,7 +91,9 @@ fn take(state: &mut State, alloc: Global, entry: &Entry) -> Result<(), Fault>
     ensures next { OnOk result (fault_next state.old.setup state.old.facts entry.now ≡ None) }
     ensures facts { OnOk result (state.new.facts ≡ learn state.old.facts entry.now.item) }
     ensures recovered { OnOk result (IsRecovered state.new) }
-    ensures refused { IfErr result (λ fault. (fault ≡ Fault.Memory) ⊎ (fault_next state.old.setup state.old.facts entry.now ≡ Some fault)) }
+    ensures refused { IfErr result
+        (λ fault. (fault ≡ Fault.Memory)
+        ⊎ (fault_next state.old.setup state.old.facts entry.now ≡ Some fault)) }
 {
     let item = entry.item();
     if !belongs(state.setup(), item) {

@@ -42,7 +42,8 @@ pub fn replay(state: &mut State, alloc: Global, logged: Logged) -> Result<(), Fa
     requires follows { follows_facts state.old.setup.shard state.old.facts logged ≡ true }
     requires fits { fits_facts state.old.facts logged ≡ true }
     ensures setup { state.new.setup ≡ state.old.setup }
-    ensures ok { OnOk result ((state.new.facts ≡ learn state.old.facts logged) × IsRecovered state.new) }
+    ensures ok { OnOk result ((state.new.facts ≡ learn state.old.facts logged)
+        × IsRecovered state.new) }
     ensures memory { IfErr result (λ fault. fault ≡ Fault.Memory) }
 {
     ready_plans_can_be_carried();
@@ -73,7 +74,9 @@ fn plan_again(state: &State, alloc: Global, item: &Record) -> Result<Plan, Fault
     requires fits { fits_facts state.now.facts item.now ≡ true }
     ensures logged { IfOk result (λ plan. plan.logged ≡ Some item.now) }
     ensures fit { IfOk result (IsFit state.now) }
-    ensures memory_after { IfOk result (λ plan. carried (plan_of state.now.memory.rows plan) state.now.memory ≡ rebuilt (learn state.now.facts item.now)) }
+    ensures memory_after { IfOk result
+        (λ plan. carried (plan_of state.now.memory.rows plan) state.now.memory ≡
+        rebuilt (learn state.now.facts item.now)) }
     ensures memory { IfErr result (λ fault. fault ≡ Fault.Memory) }
 {
     let copy = item.copy(alloc)?;
@@ -147,7 +150,8 @@ fn stands_beside(
 ) -> Result<bool, Fault>
     requires recovered { IsRecovered state.now }
     requires absent { find_row state.now.memory.rows txn ≡ None }
-    ensures stands { IfOk result (λ stands. stands ≡ stands_in state.now.facts at reads.now writes.now) }
+    ensures stands { IfOk result
+        (λ stands. stands ≡ stands_in state.now.facts at reads.now writes.now) }
     ensures memory { IfErr result (λ fault. fault ≡ Fault.Memory) }
 {
     let needs = locks_for(alloc, reads, writes)?;

@@ -16,7 +16,8 @@ impl Rows {
     /// The coordinator of several shards begins to wait for their votes, with what it holds. It takes no memory.
     pub fn collect(&mut self, txn: TxnId, gathering: Gathering)
         requires { has_phase is_idle self.old.rows txn ≡ true }
-        ensures { self.new.rows ≡ put_row self.old.rows txn (held_in self.old.rows txn) (Collecting gathering.latest gathering.parts gathering.reads gathering.writes []) }
+        ensures { self.new.rows ≡ put_row self.old.rows txn (held_in self.old.rows txn)
+            (Collecting gathering.latest gathering.parts gathering.reads gathering.writes []) }
     {
         let reading = self.rows.take_reading(txn);
         let collecting = reading.collect(gathering, &mut self.locks);
@@ -26,7 +27,8 @@ impl Rows {
     /// A yes of a shard comes to the coordinator. The first of each shard is kept. It takes no memory.
     pub fn vote(&mut self, txn: TxnId, from: ShardNo, at: Stamp)
         requires { has_phase is_collecting self.old.rows txn ≡ true }
-        ensures { self.new.rows ≡ put_row self.old.rows txn (held_in self.old.rows txn) (with_yes from at (phase_in self.old.rows txn)) }
+        ensures { self.new.rows ≡ put_row self.old.rows txn (held_in self.old.rows txn)
+            (with_yes from at (phase_in self.old.rows txn)) }
     {
         match self.rows.take(txn) {
             Row::Collecting(collecting) => {
@@ -40,7 +42,8 @@ impl Rows {
     pub fn prepare(&mut self, txn: TxnId, logged: Logged) -> Record
         requires idle { has_phase is_idle self.old.rows txn ≡ true }
         requires mine { is_prepare_of txn logged ≡ true }
-        ensures rows { self.new.rows ≡ put_row self.old.rows txn (held_in self.old.rows txn) (phase_by logged) }
+        ensures rows { self.new.rows ≡ put_row self.old.rows txn (held_in self.old.rows txn)
+            (phase_by logged) }
         ensures record { result ≡ logged }
     {
         let reading = self.rows.take_reading(txn);
@@ -53,7 +56,8 @@ impl Rows {
     pub fn decide(&mut self, txn: TxnId, logged: Logged) -> Record
         requires may { has_phase may_decide self.old.rows txn ≡ true }
         requires mine { is_commit_of txn logged ≡ true }
-        ensures rows { self.new.rows ≡ put_row self.old.rows txn (held_in self.old.rows txn) (phase_by logged) }
+        ensures rows { self.new.rows ≡ put_row self.old.rows txn (held_in self.old.rows txn)
+            (phase_by logged) }
         ensures record { result ≡ logged }
     {
         match self.rows.take(txn) {

@@ -144,7 +144,8 @@ fn found(rows: &[Row], txn: TxnId) -> Option<&Row>
 fn first_from(rows: &[Row], txn: TxnId) -> usize
     requires { IsById txn_of rows.now }
     ensures within { result ≤ length rows.now }
-    ensures parted { IsPartitionPoint (λ r. older (txn_of r) txn ≡ true) (λ r. older (txn_of r) txn ≡ false) rows.now result }
+    ensures parted { IsPartitionPoint (λ r. older (txn_of r) txn ≡ true)
+        (λ r. older (txn_of r) txn ≡ false) rows.now result }
 {
     rows.partition_point(|row| row.txn().is_older_than(txn))
 }

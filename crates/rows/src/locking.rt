@@ -28,9 +28,11 @@ impl Rows {
     pub fn grant(&mut self, txn: TxnId, ended: &[TxnId], needs: &[Lock])
         requires reading { has_phase is_reading self.old.rows txn ≡ true }
         requires ended { ended.now ≡ wounded (claims self.old.rows) txn needs.now }
-        requires free { is_free (claims (without_rows self.old.rows ended.now)) txn needs.now ≡ true }
+        requires free { is_free (claims (without_rows self.old.rows ended.now))
+            txn needs.now ≡ true }
         requires room { length (held_in self.old.rows txn) + length needs.now ≤ room self.old txn }
-        ensures { self.new.rows ≡ put_row (without_rows self.old.rows ended.now) txn (with_locks (held_in self.old.rows txn) needs.now) Idle }
+        ensures { self.new.rows ≡ put_row (without_rows self.old.rows ended.now) txn
+            (with_locks (held_in self.old.rows txn) needs.now) Idle }
     {
         self.laws();
         self.end_each(ended);
@@ -41,10 +43,12 @@ impl Rows {
     pub fn wait(&mut self, txn: TxnId, ended: &[TxnId], needs: &[Lock], wait: Wait)
         requires reading { has_phase is_reading self.old.rows txn ≡ true }
         requires ended { ended.now ≡ wounded (claims self.old.rows) txn needs.now }
-        requires blocked { is_free (claims (without_rows self.old.rows ended.now)) txn needs.now ≡ false }
+        requires blocked { is_free (claims (without_rows self.old.rows ended.now))
+            txn needs.now ≡ false }
         requires needs { needs.now ≡ needs_of (phase_of_wait (Some wait)) }
         requires room { length (held_in self.old.rows txn) + length needs.now ≤ room self.old txn }
-        ensures { self.new.rows ≡ put_row (without_rows self.old.rows ended.now) txn (held_in self.old.rows txn) (phase_of_wait (Some wait)) }
+        ensures { self.new.rows ≡ put_row (without_rows self.old.rows ended.now) txn
+            (held_in self.old.rows txn) (phase_of_wait (Some wait)) }
     {
         self.laws();
         self.end_each(ended);
@@ -67,7 +71,8 @@ impl Rows {
         requires reading { has_phase is_reading self.old.rows txn ≡ true }
         requires free { is_free (claims self.old.rows) txn needs.now ≡ true }
         requires room { length (held_in self.old.rows txn) + length needs.now ≤ room self.old txn }
-        ensures { self.new.rows ≡ put_row self.old.rows txn (with_locks (held_in self.old.rows txn) needs.now) Idle }
+        ensures { self.new.rows ≡
+            put_row self.old.rows txn (with_locks (held_in self.old.rows txn) needs.now) Idle }
     {
         let reading = self.rows.take_reading(txn);
         let reading = reading.grant(needs, &mut self.locks);
@@ -81,7 +86,8 @@ impl Rows {
         requires blocked { is_free (claims self.old.rows) txn needs.now ≡ false }
         requires needs { needs.now ≡ needs_of (phase_of_wait (Some wait)) }
         requires room { length (held_in self.old.rows txn) + length needs.now ≤ room self.old txn }
-        ensures { self.new.rows ≡ put_row self.old.rows txn (held_in self.old.rows txn) (phase_of_wait (Some wait)) }
+        ensures { self.new.rows ≡ put_row self.old.rows txn (held_in self.old.rows txn)
+            (phase_of_wait (Some wait)) }
     {
         let reading = self.rows.take_reading(txn);
         let reading = reading.block(needs, wait, &mut self.locks);

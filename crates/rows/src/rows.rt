@@ -70,7 +70,12 @@ impl Rows {
     /// The row of a transaction.
     pub fn find(&self, txn: TxnId) -> Option<&Row>
         ensures { MatchOption result (find_row self.now.rows txn ≡ None)
-            (λ row. find_row self.now.rows txn ≡ Some (record { txn = txn; held = held_in self.now.rows txn; phase = phase_of row.now })) }
+            (λ row. find_row self.now.rows txn ≡
+            Some (record {
+              txn = txn;
+              held = held_in self.now.rows txn;
+              phase = phase_of row.now;
+            })) }
     {
         self.rows.find(txn)
     }
@@ -114,7 +119,9 @@ impl Rows {
 
     /// Whether a request is granted once those that it ends are gone.
     pub fn opens(&self, txn: TxnId, needs: &[Lock]) -> bool
-        ensures { result ≡ is_free (claims (without_rows self.now.rows (wounded (claims self.now.rows) txn needs.now))) txn needs.now }
+        ensures { result ≡
+            is_free (claims (without_rows self.now.rows
+            (wounded (claims self.now.rows) txn needs.now))) txn needs.now }
     {
         self.locks.opens(txn, needs)
     }

@@ -100,7 +100,8 @@ impl RowReading {
         requires { has_claim table.now self.old.token.txn ≡ true }
         ensures txn { self.new.token.txn ≡ self.old.token.txn }
         ensures wait { self.new.wait ≡ self.old.wait }
-        ensures room { OnOk result (length (held_in_table table.now self.old.token.txn) + more ≤ self.new.token.room) }
+        ensures room { OnOk result
+            (length (held_in_table table.now self.old.token.txn) + more ≤ self.new.token.room) }
         ensures memory { IfErr result (λ fault. fault ≡ Fault.Memory) }
     {
         table.make_room(&mut self.held, more)

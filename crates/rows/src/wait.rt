@@ -31,30 +31,46 @@ pub enum Wait {
 }
 
 impl PrepareRequest {
-    /// The same request, with memory of its own.
-    pub fn copy(&self, alloc: Global) -> Result<PrepareRequest, Fault>
-        ensures same { IfOk result (λ copy. copy ≡ self.now) }
+    /// The request with these reads and writes, in memory of its own.
+    pub fn copied(
+        alloc: Global,
+        coordinator: ShardNo,
+        reads: &Keys,
+        writes: &Writes,
+    ) -> Result<PrepareRequest, Fault>
+        ensures coordinator { IfOk result (λ request. request.coordinator ≡ coordinator) }
+        ensures reads { IfOk result (λ request. request.reads ≡ reads.now) }
+        ensures writes { IfOk result (λ request. request.writes ≡ writes.now) }
         ensures memory { IfErr result (λ fault. fault ≡ Fault.Memory) }
     {
         Ok(PrepareRequest {
-            coordinator: self.coordinator,
-            reads: self.reads.copy(alloc)?,
-            writes: self.writes.copy(alloc)?,
+            coordinator,
+            reads: reads.copy(alloc)?,
+            writes: writes.copy(alloc)?,
         })
     }
 }
 
 impl CommitRequest {
-    /// The same request, with memory of its own.
-    pub fn copy(&self, alloc: Global) -> Result<CommitRequest, Fault>
-        ensures same { IfOk result (λ copy. copy ≡ self.now) }
+    /// The request with these reads and writes, in memory of its own.
+    pub fn copied(
+        alloc: Global,
+        latest: Stamp,
+        parts: Parts,
+        reads: &Keys,
+        writes: &Writes,
+    ) -> Result<CommitRequest, Fault>
+        ensures told { IfOk result
+            (λ request. (request.latest ≡ latest) × (request.parts ≡ parts)) }
+        ensures reads { IfOk result (λ request. request.reads ≡ reads.now) }
+        ensures writes { IfOk result (λ request. request.writes ≡ writes.now) }
         ensures memory { IfErr result (λ fault. fault ≡ Fault.Memory) }
     {
         Ok(CommitRequest {
-            latest: self.latest,
-            parts: self.parts,
-            reads: self.reads.copy(alloc)?,
-            writes: self.writes.copy(alloc)?,
+            latest,
+            parts,
+            reads: reads.copy(alloc)?,
+            writes: writes.copy(alloc)?,
         })
     }
 }

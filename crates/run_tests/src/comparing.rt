@@ -2,10 +2,10 @@
 use crate::runs::run;
 use crate::steps::Timed;
 use crate::texts::{joined, line_texts, log_texts, message_texts, reply_texts};
+use playing::Report;
 use std::alloc::Global;
 use std::process::Abort;
 use std::test::Fail;
-use playing::Report;
 
 // What a run is to come to. Of the replies those are listed that are more than `Done`.
 pub struct Wanted<'a> {

@@ -1,4 +1,5 @@
 //! Lawful lists of events are drawn from a seed. What was put out so far is found by playing the list so far.
+use crate::judging::decision_of;
 use crate::runs::run;
 use crate::steps::{Step, Timed};
 use message::{Address, Envelope, Message};
@@ -123,7 +124,8 @@ fn for_part(envelope: &Envelope) -> Option<(u8, TxnId)> {
 fn settles(item: &Record, txn: TxnId) -> bool {
     match item {
         Record::Outcome { txn: other, .. } => *other == txn,
-        _ => false,
+        Record::Opened { .. } | Record::Ceiling { .. } | Record::Prepare(_) => false,
+        Record::Commit(_) | Record::Abort { .. } => false,
     }
 }
 
@@ -139,10 +141,9 @@ fn is_settled(log: &[Record], txn: TxnId) -> bool {
 // The first transaction that a log has decided to commit and not settled.
 fn unsettled_in(log: &[Record]) -> Option<&Committed> {
     for item in log {
-        if let Record::Commit(committed) = item {
-            if !is_settled(log, committed.txn) {
-                return Some(committed);
-            }
+        match decision_of(item) {
+            Some(committed) if !is_settled(log, committed.txn) => return Some(committed),
+            Some(_) | None => {}
         }
     }
     None

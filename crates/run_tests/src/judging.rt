@@ -19,13 +19,21 @@ fn place_of(committed: &Committed) -> Place {
 
 // ---- decisions
 
+// The commit decision that a record is.
+pub fn decision_of(item: &Record) -> Option<&Committed> {
+    match item {
+        Record::Commit(committed) => Some(committed),
+        Record::Opened { .. } | Record::Ceiling { .. } | Record::Prepare(_) => None,
+        Record::Abort { .. } | Record::Outcome { .. } => None,
+    }
+}
+
 // The commit decision of a transaction that a log has.
 fn decision_in(log: &[Record], txn: TxnId) -> Option<&Committed> {
     for item in log {
-        if let Record::Commit(committed) = item {
-            if committed.txn == txn {
-                return Some(committed);
-            }
+        match decision_of(item) {
+            Some(committed) if committed.txn == txn => return Some(committed),
+            Some(_) | None => {}
         }
     }
     None
@@ -71,7 +79,7 @@ fn agrees(logs: &[Vec<Record>], shard: usize, item: &Record) -> bool {
         Record::Outcome { txn, outcome } => decided_at(logs, *txn) == *outcome,
         Record::Abort { txn } => decided_at(logs, *txn).is_none(),
         Record::Prepare(promise) => is_kept(logs, promise),
-        _ => true,
+        Record::Opened { .. } | Record::Ceiling { .. } => true,
     }
 }
 
@@ -91,7 +99,8 @@ fn all_agree(logs: &[Vec<Record>]) -> bool {
 fn is_promise_of(item: &Record, txn: TxnId) -> bool {
     match item {
         Record::Prepare(promise) => promise.txn == txn,
-        _ => false,
+        Record::Opened { .. } | Record::Ceiling { .. } | Record::Commit(_) => false,
+        Record::Abort { .. } | Record::Outcome { .. } => false,
     }
 }
 
@@ -101,7 +110,8 @@ fn is_abort_of(item: &Record, txn: TxnId) -> bool {
             txn: other,
             outcome,
         } => *other == txn && outcome.is_none(),
-        _ => false,
+        Record::Opened { .. } | Record::Ceiling { .. } | Record::Prepare(_) => false,
+        Record::Commit(_) | Record::Abort { .. } => false,
     }
 }
 
@@ -186,7 +196,8 @@ fn newer_of<'a>(
             Some(committed) => newer(newest, bound, place_of(committed), &promise.writes, key),
             None => newest,
         },
-        _ => newest,
+        Record::Opened { .. } | Record::Ceiling { .. } => newest,
+        Record::Abort { .. } | Record::Outcome { .. } => newest,
     }
 }
 

@@ -3,9 +3,9 @@ ghost use Rattle.std.specs.Prelude.{◌≡◌};
 ghost use Rattle.world.specs.Crashless.{are_crashless, is_crashless};
 
 use crate::steps::{Timed, events};
+use playing::{Report, lawful, play};
 use std::alloc::Global;
 use units::{Fault, Key, Splits, Stride};
-use playing::{Report, lawful, play};
 use world::{Act, Config, Doing, Event};
 
 // Neither a crash, nor a failing call, nor an opening.

@@ -1,7 +1,7 @@
 //! What a run comes to as texts: a line each.
 use message::{Address, Answer, Envelope, Message, ReadAnswer, Reads};
 use playing::Report;
-use record::Record;
+use record::{Committed, Prepared, Record};
 use std::alloc::Global;
 use units::{Fault, Key, Keys, Line, Parts, ShardNo, Stamp, TxnId, Value, Writes};
 use world::Reply;
@@ -175,36 +175,32 @@ fn push_reply(text: &mut String, reply: &Reply) -> Result<(), Fault> {
     Ok(())
 }
 
-// A promise or a decision.
-fn push_promise(text: &mut String, alloc: Global, item: &Record) -> Result<(), Fault> {
-    match item {
-        Record::Prepare(promise) => {
-            let (txn, coordinator, at) = (promise.txn, promise.coordinator, promise.at);
-            write!(text, "prepare {txn} coordinator {coordinator} at {at}")?;
-            push_keys(text, &promise.reads)?;
-            push_writes(text, &promise.writes)
-        }
-        Record::Commit(commit) => {
-            let (txn, at) = (commit.txn, commit.at);
-            write!(text, "commit {txn} at {at}")?;
-            push_parts(text, alloc, commit.parts)?;
-            push_keys(text, &commit.reads)?;
-            push_writes(text, &commit.writes)
-        }
-        _ => Ok(()),
-    }
+fn push_promise(text: &mut String, promise: &Prepared) -> Result<(), Fault> {
+    let (txn, coordinator, at) = (promise.txn, promise.coordinator, promise.at);
+    write!(text, "prepare {txn} coordinator {coordinator} at {at}")?;
+    push_keys(text, &promise.reads)?;
+    push_writes(text, &promise.writes)
+}
+
+fn push_decision(text: &mut String, alloc: Global, commit: &Committed) -> Result<(), Fault> {
+    let (txn, at) = (commit.txn, commit.at);
+    write!(text, "commit {txn} at {at}")?;
+    push_parts(text, alloc, commit.parts)?;
+    push_keys(text, &commit.reads)?;
+    push_writes(text, &commit.writes)
 }
 
 fn push_record(text: &mut String, alloc: Global, item: &Record) -> Result<(), Fault> {
     match item {
         Record::Opened { epoch } => write!(text, "opened {epoch}")?,
         Record::Ceiling { at } => write!(text, "ceiling {at}")?,
+        Record::Prepare(promise) => push_promise(text, promise)?,
+        Record::Commit(commit) => push_decision(text, alloc, commit)?,
         Record::Abort { txn } => write!(text, "abort {txn}")?,
         Record::Outcome { txn, outcome } => {
             write!(text, "outcome {txn}")?;
             push_outcome(text, *outcome)?;
         }
-        _ => push_promise(text, alloc, item)?,
     }
     Ok(())
 }

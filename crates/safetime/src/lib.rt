@@ -29,7 +29,8 @@ impl Model for SafeTime {
 
     ghost view = { λ a. record { last = a.last; holds = a.holds.items } };
 
-    ghost invariant = { λ a. All (λ at. 0 < at) a.holds.items × (most_rows ≤ vec_capacity a.holds) };
+    ghost invariant = { λ a. All (λ at. 0 < at) a.holds.items
+        × (most_rows ≤ vec_capacity a.holds) };
 }
 
 impl SafeTime {

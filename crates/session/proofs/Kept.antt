@@ -188,9 +188,6 @@ keyed_self (j ∷ js) k = ap (λ b. b || keyed (λ i. i) js k) (same_key_comm j 
 
 -- ---- the steps
 
-pub kept_begun : IsWithinLimits [] [] []
-kept_begun = record { few_keys = omega arith; once = refl; apart = refl; few_writes = omega arith; ascending = refl }
-
 pub kept_read : (taken : List Answered) (aw : List Bytes) (ws : List Write) (k : Bytes) → IsWithinLimits taken aw ws
     → length taken + length aw < 128 → has_key (taken_keys taken) k ≡ false → IsWithinLimits taken (aw ++ k ∷ []) ws
 kept_read taken aw ws k is few new = record {

@@ -32,7 +32,8 @@ impl<'s> Tx<'s, Open> {
     // The messages of the closing, where it may close.
     fn requests(&self, alloc: Global) -> Result<Outbox, Fault>
         ensures { MatchResult result
-            (λ out. closes self.now.splits self.now.client ≡ Goes (record self.now.client { stage = IsClosing }) out)
+            (λ out. closes self.now.splits self.now.client ≡
+            Goes (record self.now.client { stage = IsClosing }) out)
             (λ fault. IsRefused (closes self.now.splits self.now.client) fault) }
     {
         self.may_close()?;
@@ -42,7 +43,9 @@ impl<'s> Tx<'s, Open> {
     // It may close.
     fn may_close(&self) -> Result<(), Fault>
         ensures { MatchResult result
-            (λ _. closes self.now.splits self.now.client ≡ Goes (record self.now.client { stage = IsClosing }) (closing_messages self.now.splits self.now.client))
+            (λ _. closes self.now.splits self.now.client ≡
+            Goes (record self.now.client { stage = IsClosing })
+            (closing_messages self.now.splits self.now.client))
             (λ fault. closes self.now.splits self.now.client ≡ Denies fault) }
     {
         if self.is_blank() {
@@ -59,7 +62,8 @@ impl<'s> Tx<'s, Open> {
 
     // It has no read and no write.
     fn is_blank(&self) -> bool
-        ensures { result ≡ (is_none (asked_keys self.now.client) && is_none self.now.client.writes) }
+        ensures { result ≡ (is_none (asked_keys self.now.client)
+            && is_none self.now.client.writes) }
     {
         self.asked() == 0 && self.writes.is_empty()
     }
@@ -110,8 +114,10 @@ impl<'s> Tx<'s, Closing> {
     /// Hears the end of the transaction, and spends it. The end of another is a `Stranger`.
     pub fn take(self, done: &Done) -> Result<Finished, (Fault, Tx<'s, Closing>)>
         ensures { MatchResult result
-            (λ finished. (same_id self.entry.client.txn done.now.txn ≡ true) × (finished ≡ finished_as done.now.outcome))
-            (λ r. (r.1 ≡ self.entry) × (r.0 ≡ Fault.Stranger) × (same_id self.entry.client.txn done.now.txn ≡ false)) }
+            (λ finished. (same_id self.entry.client.txn done.now.txn ≡ true)
+            × (finished ≡ finished_as done.now.outcome))
+            (λ r. (r.1 ≡ self.entry) × (r.0 ≡ Fault.Stranger)
+            × (same_id self.entry.client.txn done.now.txn ≡ false)) }
     {
         if !self.is_of(done.txn) {
             return Err((Fault::Stranger, self));
@@ -130,7 +136,8 @@ impl<'s, S: Phase> Tx<'s, S> {
     #[tactic(auto, unfolding(crate::specs::Sessions::gives_up))]
     pub fn give_up(self, alloc: Global) -> Result<Outbox, (Fault, Tx<'s, S>)>
         ensures { MatchResult result
-            (λ out. gives_up self.entry.splits self.entry.client ≡ Goes (record self.entry.client { stage = IsOver }) out)
+            (λ out. gives_up self.entry.splits self.entry.client ≡
+            Goes (record self.entry.client { stage = IsOver }) out)
             (λ r. (r.1 ≡ self.entry) × (r.0 ≡ Fault.Memory)) }
     {
         match self.farewells(alloc) {
@@ -144,7 +151,9 @@ impl<'s, S: Phase> Tx<'s, S> {
 
     // What the shards are told.
     fn farewells(&self, alloc: Global) -> Result<Outbox, Fault>
-        ensures same { IfOk result (λ out. out ≡ map (give_up_to self.now.client.txn) (shards_told self.now.splits self.now.client)) }
+        ensures same { IfOk result
+            (λ out. out ≡ map (give_up_to self.now.client.txn)
+            (shards_told self.now.splits self.now.client)) }
         ensures memory { IfErr result (λ fault. fault ≡ Fault.Memory) }
     {
         let shards = match self.told(alloc)? {
@@ -156,8 +165,10 @@ impl<'s, S: Phase> Tx<'s, S> {
 
     // The shards that are told.
     fn told(&self, alloc: Global) -> Result<Option<Parts>, Fault>
-        ensures none { IfOk result (λ parts. IfNone parts (shards_told self.now.splits self.now.client ≡ [])) }
-        ensures some { IfOk result (λ parts. IfSome parts (λ ns. ns ≡ shards_told self.now.splits self.now.client)) }
+        ensures none { IfOk result
+            (λ parts. IfNone parts (shards_told self.now.splits self.now.client ≡ [])) }
+        ensures some { IfOk result
+            (λ parts. IfSome parts (λ ns. ns ≡ shards_told self.now.splits self.now.client)) }
         ensures memory { IfErr result (λ fault. fault ≡ Fault.Memory) }
     {
         if self.is_closing() {
@@ -177,8 +188,10 @@ impl<'s, S: Phase> Tx<'s, S> {
 
     // The shards that were asked.
     fn asked_parts(&self, alloc: Global) -> Result<Option<Parts>, Fault>
-        ensures none { IfOk result (λ parts. IfNone parts (asked_shards self.now.splits self.now.client ≡ [])) }
-        ensures some { IfOk result (λ parts. IfSome parts (λ ns. ns ≡ asked_shards self.now.splits self.now.client)) }
+        ensures none { IfOk result
+            (λ parts. IfNone parts (asked_shards self.now.splits self.now.client ≡ [])) }
+        ensures some { IfOk result
+            (λ parts. IfSome parts (λ ns. ns ≡ asked_shards self.now.splits self.now.client)) }
         ensures memory { IfErr result (λ fault. fault ≡ Fault.Memory) }
     {
         let mut shards = Vec::new(alloc);

@@ -25,7 +25,9 @@ impl Request<'_> {
     /// The messages: Commit to the least part, then Prepare to each other part.
     #[tactic(auto, unfolding(crate::specs::Sessions::closing_messages))]
     pub fn messages(&self, alloc: Global) -> Result<Outbox, Fault>
-        ensures same { IfOk result (λ out. out ≡ closing_messages self.now.splits.now (closing_client self.now.txn self.now.taken.now self.now.writes.now)) }
+        ensures same { IfOk result
+            (λ out. out ≡ closing_messages self.now.splits.now
+            (closing_client self.now.txn self.now.taken.now self.now.writes.now)) }
         ensures memory { IfErr result (λ fault. fault ≡ Fault.Memory) }
     {
         match self.parts(alloc)? {
@@ -36,8 +38,14 @@ impl Request<'_> {
 
     // The shards that were read or written.
     pub fn parts(&self, alloc: Global) -> Result<Option<Parts>, Fault>
-        ensures none { IfOk result (λ parts. IfNone parts (parts_of self.now.splits.now (closing_client self.now.txn self.now.taken.now self.now.writes.now) ≡ [])) }
-        ensures some { IfOk result (λ parts. IfSome parts (λ ns. ns ≡ parts_of self.now.splits.now (closing_client self.now.txn self.now.taken.now self.now.writes.now))) }
+        ensures none { IfOk result
+            (λ parts. IfNone parts
+            (parts_of self.now.splits.now
+            (closing_client self.now.txn self.now.taken.now self.now.writes.now) ≡ [])) }
+        ensures some { IfOk result
+            (λ parts. IfSome parts
+            (λ ns. ns ≡ parts_of self.now.splits.now
+            (closing_client self.now.txn self.now.taken.now self.now.writes.now))) }
         ensures memory { IfErr result (λ fault. fault ≡ Fault.Memory) }
     {
         let mut shards = Vec::new(alloc);
@@ -47,7 +55,9 @@ impl Request<'_> {
     }
 
     fn messages_to(&self, alloc: Global, parts: Parts) -> Result<Outbox, Fault>
-        ensures same { IfOk result (λ out. out ≡ messages_for self.now.splits.now (closing_client self.now.txn self.now.taken.now self.now.writes.now) parts) }
+        ensures same { IfOk result
+            (λ out. out ≡ messages_for self.now.splits.now
+            (closing_client self.now.txn self.now.taken.now self.now.writes.now) parts) }
         ensures memory { IfErr result (λ fault. fault ≡ Fault.Memory) }
     {
         let shards = parts.shards(alloc)?;
@@ -68,8 +78,10 @@ impl Request<'_> {
           message = Message.Commit (record {
             txn = self.now.txn;
             parts = parts;
-            reads = read_set (closing_client self.now.txn self.now.taken.now self.now.writes.now) shard;
-            writes = writes_at_shard self.now.splits.now (closing_client self.now.txn self.now.taken.now self.now.writes.now) shard;
+            reads = read_set
+                (closing_client self.now.txn self.now.taken.now self.now.writes.now) shard;
+            writes = writes_at_shard self.now.splits.now
+                (closing_client self.now.txn self.now.taken.now self.now.writes.now) shard;
           });
         }) }
         ensures memory { IfErr result (λ fault. fault ≡ Fault.Memory) }
@@ -92,7 +104,10 @@ impl Request<'_> {
         coordinator: ShardNo,
         shard: ShardNo,
     ) -> Result<Envelope, Fault>
-        ensures same { IfOk result (λ e. e ≡ prepare_for self.now.splits.now (closing_client self.now.txn self.now.taken.now self.now.writes.now) coordinator shard) }
+        ensures same { IfOk result
+            (λ e. e ≡ prepare_for self.now.splits.now
+            (closing_client self.now.txn self.now.taken.now self.now.writes.now) coordinator
+            shard) }
         ensures memory { IfErr result (λ fault. fault ≡ Fault.Memory) }
     {
         Ok(Envelope {
@@ -108,7 +123,9 @@ impl Request<'_> {
 
     // What was read at a shard.
     fn reads_at(&self, alloc: Global, shard: ShardNo) -> Result<Reads, Fault>
-        ensures same { IfOk result (λ reads. reads ≡ read_set (closing_client self.now.txn self.now.taken.now self.now.writes.now) shard) }
+        ensures same { IfOk result
+            (λ reads. reads ≡ read_set
+            (closing_client self.now.txn self.now.taken.now self.now.writes.now) shard) }
         ensures memory { IfErr result (λ fault. fault ≡ Fault.Memory) }
     {
         let keys = match Keys::from_vec(keys_read_at(alloc, self.taken, shard)?) {
@@ -126,7 +143,9 @@ impl Request<'_> {
 
     // The writes of a shard.
     fn writes_at(&self, alloc: Global, shard: ShardNo) -> Result<Writes, Fault>
-        ensures same { IfOk result (λ writes. writes ≡ writes_at_shard self.now.splits.now (closing_client self.now.txn self.now.taken.now self.now.writes.now) shard) }
+        ensures same { IfOk result
+            (λ writes. writes ≡ writes_at_shard self.now.splits.now
+            (closing_client self.now.txn self.now.taken.now self.now.writes.now) shard) }
         ensures memory { IfErr result (λ fault. fault ≡ Fault.Memory) }
     {
         match Writes::from_vec(writes_of(alloc, self.splits, self.writes, shard)?) {
@@ -138,7 +157,8 @@ impl Request<'_> {
 
 /// Adds the shards of some answers to a list.
 pub fn push_taken(shards: &mut Vec<ShardNo>, taken: &[Answered]) -> Result<(), Fault>
-    ensures same { IfOk result (λ _. shards.new.items ≡ shards.old.items ++ map (λ a. a.shard) taken.now) }
+    ensures same { IfOk result
+        (λ _. shards.new.items ≡ shards.old.items ++ map (λ a. a.shard) taken.now) }
     ensures memory { IfErr result (λ fault. fault ≡ Fault.Memory) }
 {
     for answered in taken {
@@ -149,7 +169,8 @@ pub fn push_taken(shards: &mut Vec<ShardNo>, taken: &[Answered]) -> Result<(), F
 
 /// Adds the shards of some keys to a list.
 pub fn push_asked(shards: &mut Vec<ShardNo>, splits: &Splits, keys: &[Key]) -> Result<(), Fault>
-    ensures same { IfOk result (λ _. shards.new.items ≡ shards.old.items ++ map (shard_of splits.now) keys.now) }
+    ensures same { IfOk result
+        (λ _. shards.new.items ≡ shards.old.items ++ map (shard_of splits.now) keys.now) }
     ensures memory { IfErr result (λ fault. fault ≡ Fault.Memory) }
 {
     for key in keys {
@@ -160,7 +181,9 @@ pub fn push_asked(shards: &mut Vec<ShardNo>, splits: &Splits, keys: &[Key]) -> R
 
 // Adds the shards of some writes to a list.
 fn push_written(shards: &mut Vec<ShardNo>, splits: &Splits, writes: &[Write]) -> Result<(), Fault>
-    ensures same { IfOk result (λ _. shards.new.items ≡ shards.old.items ++ map (λ w. shard_of splits.now w.key) writes.now) }
+    ensures same { IfOk result
+        (λ _. shards.new.items ≡ shards.old.items ++ map (λ w. shard_of splits.now w.key)
+        writes.now) }
     ensures memory { IfErr result (λ fault. fault ≡ Fault.Memory) }
 {
     for write in writes {
@@ -188,7 +211,9 @@ fn first_read_at(taken: &[Answered], shard: ShardNo) -> Option<&Answered>
 
 // The keys that were read at a shard, ascending.
 fn keys_read_at(alloc: Global, taken: &[Answered], shard: ShardNo) -> Result<Vec<Key>, Fault>
-    ensures same { IfOk result (λ keys. keys.items ≡ sorted key_before (map (λ a. a.key) (filter (λ a. nat_eq a.shard shard) taken.now))) }
+    ensures same { IfOk result
+        (λ keys. keys.items ≡
+        sorted key_before (map (λ a. a.key) (filter (λ a. nat_eq a.shard shard) taken.now))) }
     ensures memory { IfErr result (λ fault. fault ≡ Fault.Memory) }
 {
     match taken.split_first() {
@@ -210,7 +235,8 @@ fn writes_of(
     writes: &[Write],
     shard: ShardNo,
 ) -> Result<Vec<Write>, Fault>
-    ensures same { IfOk result (λ part. part.items ≡ filter (λ w. nat_eq (shard_of splits.now w.key) shard) writes.now) }
+    ensures same { IfOk result
+        (λ part. part.items ≡ filter (λ w. nat_eq (shard_of splits.now w.key) shard) writes.now) }
     ensures memory { IfErr result (λ fault. fault ≡ Fault.Memory) }
 {
     let mut part = Vec::new(alloc);

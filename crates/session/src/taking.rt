@@ -1,5 +1,5 @@
 //! What an answer that is awaited does.
-ghost use Rattle.std.specs.Prelude.{◌≡◌, true, false, Some, MatchResult, IfOk, IfErr};
+ghost use Rattle.std.specs.Prelude.{◌≡◌, true, false, Some, MatchResult};
 ghost use Rattle.units.specs.Keys.{has_key};
 ghost use Rattle.session.specs.Sessions.{doomed_by, take_answer, epochs_agree};
 ghost use Rattle.session.specs.declared.answered.Heard.{Heard};
@@ -9,7 +9,7 @@ use crate::lists::drop_key;
 use crate::{Answered, Heard, Open, Tx};
 use message::ReadAnswer;
 use std::alloc::Global;
-use units::{Fault, Key, Value};
+use units::{Fault, Key, Value, copy_value};
 
 impl Tx<'_, Open> {
     /// Takes the value of an answer that is awaited, of the epoch of the shard's other answers.
@@ -20,10 +20,13 @@ impl Tx<'_, Open> {
         value: &Option<Value>,
     ) -> Result<Heard, Fault>
         requires awaited { has_key self.old.client.awaited answer.now.key ≡ true }
-        requires agree { epochs_agree self.old.client.taken answer.now.from answer.now.epoch ≡ true }
+        requires agree { epochs_agree self.old.client.taken
+            answer.now.from answer.now.epoch ≡ true }
         ensures splits { self.new.splits ≡ self.old.splits }
         ensures step { MatchResult result
-            (λ heard. (self.new.client ≡ take_answer self.old.client answer.now.from answer.now.key answer.now.epoch (Answer.Holds value.now)) × (heard ≡ Heard.Value value.now))
+            (λ heard. (self.new.client ≡
+            take_answer self.old.client answer.now.from answer.now.key answer.now.epoch
+            (Answer.Holds value.now)) × (heard ≡ Heard.Value value.now))
             (λ fault. (self.new.client ≡ self.old.client) × (fault ≡ Fault.Memory)) }
     {
         let shown = copy_value(alloc, value)?;
@@ -46,16 +49,5 @@ impl Tx<'_, Open> {
     {
         drop_key(&mut self.awaited, &key);
         self.doom = Some(key);
-    }
-}
-
-// An equal value with memory of its own.
-fn copy_value(alloc: Global, value: &Option<Value>) -> Result<Option<Value>, Fault>
-    ensures same { IfOk result (λ copy. copy ≡ value.now) }
-    ensures memory { IfErr result (λ fault. fault ≡ Fault.Memory) }
-{
-    match value {
-        None => Ok(None),
-        Some(value) => Ok(Some(value.copy(alloc)?)),
     }
 }

@@ -61,7 +61,17 @@ impl<'s, S: Phase> Model for Tx<'s, S> {
 
     ghost Value = { Session };
 
-    ghost view = { λ t. record { splits = t.splits.now; client = record { txn = t.txn; stage = S.stage; doom = t.doom; taken = t.taken.items; awaited = t.awaited.items; writes = t.writes.items } } };
+    ghost view = { λ t. record {
+      splits = t.splits.now;
+      client = record {
+        txn = t.txn;
+        stage = S.stage;
+        doom = t.doom;
+        taken = t.taken.items;
+        awaited = t.awaited.items;
+        writes = t.writes.items;
+      };
+    } };
 
     ghost invariant = { λ t. IsWithinLimits t.taken.items t.awaited.items t.writes.items };
 }
@@ -94,10 +104,12 @@ impl<'s> Tx<'s, Open> {
         requires { drawer.old.source ≡ tickets.now }
         ensures source { drawer.new.source ≡ drawer.old.source }
         ensures splits { IfOk result (λ tx. tx.splits ≡ splits.now) }
-        ensures begun { IfOk result (λ tx. tx.client ≡ begun (record { run = run; number = tx.client.txn.number })) }
+        ensures begun { IfOk result
+            (λ tx. tx.client ≡ begun (record { run = run; number = tx.client.txn.number })) }
         ensures drawn { MatchResult result
             (λ tx. drawer.new.drawn ≡ drawer.old.drawn ++ tx.client.txn.number ∷ [])
-            (λ fault. (fault ≡ Fault.TimeSpent) × (length drawer.old.drawn ≡ 2 ^ 40) × (drawer.new.drawn ≡ drawer.old.drawn)) }
+            (λ fault. (fault ≡ Fault.TimeSpent) × (length drawer.old.drawn ≡ 2 ^ 40)
+            × (drawer.new.drawn ≡ drawer.old.drawn)) }
     {
         let number = tickets.draw(drawer)?;
         match TxnId::new(run.number(), number) {
@@ -111,8 +123,10 @@ impl<'s> Tx<'s, Open> {
     pub fn read(&mut self, key: Key) -> Result<Envelope, Fault>
         ensures splits { self.new.splits ≡ self.old.splits }
         ensures step { MatchResult result
-            (λ envelope. reads self.old.splits key self.old.client ≡ Goes self.new.client (envelope ∷ []))
-            (λ fault. (self.new.client ≡ self.old.client) × IsRefused (reads self.old.splits key self.old.client) fault) }
+            (λ envelope. reads self.old.splits key self.old.client ≡
+            Goes self.new.client (envelope ∷ []))
+            (λ fault. (self.new.client ≡ self.old.client)
+            × IsRefused (reads self.old.splits key self.old.client) fault) }
     {
         self.may_read(&key)?;
         self.awaited.reserve(1)?;
@@ -129,10 +143,13 @@ impl<'s> Tx<'s, Open> {
         ensures splits { self.new.splits ≡ self.old.splits }
         ensures step { MatchResult result
             (λ heard. (same_id self.old.client.txn answer.now.txn ≡ true)
-            × (self.new.client ≡ hears answer.now.from answer.now.key answer.now.epoch answer.now.answer self.old.client)
-            × (heard ≡ heard_as self.old.client answer.now.from answer.now.key answer.now.epoch answer.now.answer))
+            × (self.new.client ≡
+            hears answer.now.from answer.now.key answer.now.epoch answer.now.answer self.old.client)
+            × (heard ≡ heard_as self.old.client answer.now.from answer.now.key answer.now.epoch
+            answer.now.answer))
             (λ fault. (self.new.client ≡ self.old.client)
-            × (((fault ≡ Fault.Stranger) × (same_id self.old.client.txn answer.now.txn ≡ false)) ⊎ ((fault ≡ Fault.Memory) × (same_id self.old.client.txn answer.now.txn ≡ true)))) }
+            × (((fault ≡ Fault.Stranger) × (same_id self.old.client.txn answer.now.txn ≡ false))
+            ⊎ ((fault ≡ Fault.Memory) × (same_id self.old.client.txn answer.now.txn ≡ true)))) }
     {
         if !self.is_of(answer.txn) {
             return Err(Fault::Stranger);
@@ -161,8 +178,10 @@ impl<'s> Tx<'s, Open> {
     pub fn buffer(&mut self, key: Key, value: Option<Value>) -> Result<(), Fault>
         ensures splits { self.new.splits ≡ self.old.splits }
         ensures step { MatchResult result
-            (λ _. buffers (record { key = key; value = value }) self.old.client ≡ Goes self.new.client [])
-            (λ fault. (self.new.client ≡ self.old.client) × IsRefused (buffers (record { key = key; value = value }) self.old.client) fault) }
+            (λ _. buffers (record { key = key; value = value }) self.old.client ≡
+            Goes self.new.client [])
+            (λ fault. (self.new.client ≡ self.old.client)
+            × IsRefused (buffers (record { key = key; value = value }) self.old.client) fault) }
     {
         self.may_buffer(&key)?;
         self.writes.reserve(1)?;
@@ -173,7 +192,8 @@ impl<'s> Tx<'s, Open> {
 
     /// No key that is awaited was taken before.
     pub fn awaits_only_new(&self)
-        ensures { (key : Bytes) → has_key self.now.client.awaited key ≡ true → was_taken self.now.client key ≡ false }
+        ensures { (key : Bytes) → has_key self.now.client.awaited key ≡ true
+            → was_taken self.now.client key ≡ false }
     {
         let _awaited = &self.awaited;
     }
@@ -218,7 +238,8 @@ impl<'s> Tx<'s, Open> {
 
     // The key's answer is to be taken.
     fn expects(&self, key: &Key) -> bool
-        ensures { result ≡ (has_key self.now.client.awaited key.now && not (is_doomed self.now.client)) }
+        ensures { result ≡ (has_key self.now.client.awaited key.now
+            && not (is_doomed self.now.client)) }
     {
         self.awaits(key) && !self.is_doomed()
     }
@@ -233,8 +254,10 @@ impl<'s> Tx<'s, Open> {
     // The key may be asked for.
     fn may_read(&self, key: &Key) -> Result<(), Fault>
         ensures { MatchResult result
-            (λ _. (nat_le 128 (length (asked_keys self.now.client)) ≡ false) × (was_answered self.now.client key.now ≡ false)
-            × (has_key self.now.client.awaited key.now ≡ false) × (is_doomed self.now.client ≡ false))
+            (λ _. (nat_le 128 (length (asked_keys self.now.client)) ≡ false)
+            × (was_answered self.now.client key.now ≡ false)
+            × (has_key self.now.client.awaited key.now ≡ false)
+            × (is_doomed self.now.client ≡ false))
             (λ fault. reads self.now.splits key.now self.now.client ≡ Denies fault) }
     {
         if self.asked() >= 128 {
@@ -254,7 +277,8 @@ impl<'s> Tx<'s, Open> {
 
     // There are as many writes as there may be, and none of the key.
     fn is_full_for(&self, key: &Key) -> bool
-        ensures { result ≡ (nat_le 128 (length self.now.client.writes) && not (writes_key self.now.client.writes key.now)) }
+        ensures { result ≡ (nat_le 128 (length self.now.client.writes)
+            && not (writes_key self.now.client.writes key.now)) }
     {
         self.writes.len() >= 128 && !is_written(self.writes.as_slice(), key)
     }
@@ -262,8 +286,11 @@ impl<'s> Tx<'s, Open> {
     // The key may be written.
     fn may_buffer(&self, key: &Key) -> Result<(), Fault>
         ensures { MatchResult result
-            (λ _. ((nat_le 128 (length self.now.client.writes) && not (writes_key self.now.client.writes key.now)) ≡ false) × (is_doomed self.now.client ≡ false))
-            (λ fault. (value : Option Bytes) → buffers (record { key = key.now; value = value }) self.now.client ≡ Denies fault) }
+            (λ _. ((nat_le 128 (length self.now.client.writes)
+            && not (writes_key self.now.client.writes key.now)) ≡ false)
+            × (is_doomed self.now.client ≡ false))
+            (λ fault. (value : Option Bytes)
+            → buffers (record { key = key.now; value = value }) self.now.client ≡ Denies fault) }
     {
         if self.is_full_for(key) {
             return Err(Fault::BadRequest(Reason::Many));

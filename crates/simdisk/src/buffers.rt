@@ -19,7 +19,8 @@ pub struct Buffers {
     /// What a read gives.
     pub seen: Vec<u8>,
     ghost stored: { bytes_in_all changes.items ≡ length store.items },
-    ghost replayed: { seen.items ≡ (surface (file_of (kept durable.items changes.items store.items))).seen },
+    ghost replayed: { seen.items ≡
+        (surface (file_of (kept durable.items changes.items store.items))).seen },
     ghost durable_fits: { furthest changes.items ≤ vec_capacity durable },
     ghost seen_fits: { furthest changes.items ≤ vec_capacity seen },
     ghost copy_fits: { vec_len durable ≤ vec_capacity seen },
@@ -57,9 +58,11 @@ impl Buffers {
     /// Takes the memory that a write needs.
     fn make_ready(&mut self, at: usize, count: usize) -> Result<(), AllocError>
         requires { at ≤ length self.old.seen.items }
-        ensures same { (held self.new ≡ held self.old) × (self.new.seen.items ≡ self.old.seen.items) }
+        ensures same { (held self.new ≡ held self.old)
+            × (self.new.seen.items ≡ self.old.seen.items) }
         ensures ready { OnOk result (IsReadyForWrite self.new at count) }
-        ensures room { (calls more : ℕ) → HasRoomFor self.old (calls + 1) (count + more) → IsOk result × HasRoomFor self.new (calls + 1) (count + more) }
+        ensures room { (calls more : ℕ) → HasRoomFor self.old (calls + 1) (count + more)
+            → IsOk result × HasRoomFor self.new (calls + 1) (count + more) }
     {
         let over = count.min(self.seen.len() - at);
         self.changes.reserve(1)?;
@@ -74,9 +77,11 @@ impl Buffers {
     /// A write that is seen.
     pub fn write(&mut self, at: usize, bytes: &[u8]) -> Result<(), AllocError>
         requires { at ≤ length self.old.seen.items }
-        ensures ok { OnOk result (held_file self.new ≡ with_change (wrote at bytes.now) (held_file self.old)) }
+        ensures ok { OnOk result
+            (held_file self.new ≡ with_change (wrote at bytes.now) (held_file self.old)) }
         ensures err { OnErr result (held_file self.new ≡ held_file self.old) }
-        ensures room { (calls more : ℕ) → HasRoomFor self.old (calls + 1) (length bytes.now + more) → IsOk result × HasRoomFor self.new calls more }
+        ensures room { (calls more : ℕ) → HasRoomFor self.old (calls + 1) (length bytes.now + more)
+            → IsOk result × HasRoomFor self.new calls more }
     {
         self.make_ready(at, bytes.len())?;
         let change = Change::Write {
@@ -91,9 +96,11 @@ impl Buffers {
     /// A write that failed: a read does not see it.
     pub fn try_write(&mut self, at: usize, bytes: &[u8]) -> Result<(), AllocError>
         requires { at ≤ length self.old.seen.items }
-        ensures ok { OnOk result (held_file self.new ≡ with_change (tried at bytes.now) (held_file self.old)) }
+        ensures ok { OnOk result
+            (held_file self.new ≡ with_change (tried at bytes.now) (held_file self.old)) }
         ensures err { OnErr result (held_file self.new ≡ held_file self.old) }
-        ensures room { (calls more : ℕ) → HasRoomFor self.old (calls + 1) (length bytes.now + more) → IsOk result × HasRoomFor self.new calls more }
+        ensures room { (calls more : ℕ) → HasRoomFor self.old (calls + 1) (length bytes.now + more)
+            → IsOk result × HasRoomFor self.new calls more }
     {
         self.make_ready(at, bytes.len())?;
         let change = Change::Tried {
@@ -108,7 +115,8 @@ impl Buffers {
     pub fn cut(&mut self, len: u64) -> Result<(), AllocError>
         ensures ok { OnOk result (held_file self.new ≡ with_change (cut len) (held_file self.old)) }
         ensures err { OnErr result (held_file self.new ≡ held_file self.old) }
-        ensures room { (calls more : ℕ) → HasRoomFor self.old (calls + 1) more → IsOk result × HasRoomFor self.new calls more }
+        ensures room { (calls more : ℕ) → HasRoomFor self.old (calls + 1) more
+            → IsOk result × HasRoomFor self.new calls more }
     {
         self.changes.reserve(1)?;
         keep(&mut self.changes, &mut self.store, Change::Cut { len }, &[]);
@@ -120,7 +128,8 @@ impl Buffers {
     pub fn sync(&mut self) -> Result<(), AllocError>
         ensures ok { OnOk result (held_file self.new ≡ synced (held_file self.old)) }
         ensures err { OnErr result (held_file self.new ≡ held_file self.old) }
-        ensures room { (calls more : ℕ) → HasRoomFor self.old (calls + 1) more → IsOk result × HasRoomFor self.new calls more }
+        ensures room { (calls more : ℕ) → HasRoomFor self.old (calls + 1) more
+            → IsOk result × HasRoomFor self.new calls more }
     {
         make_changes(&mut self.durable, &self.changes, &self.store, Fates::AsSeen);
         forget(&mut self.changes, &mut self.store);

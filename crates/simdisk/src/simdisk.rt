@@ -42,7 +42,8 @@ impl SimDisk {
     /// A crash now. Each change that is not synced comes out by its fate in the choice. No call is to fail any more.
     pub fn crash(self, choice: &Choice) -> SimDisk
         ensures image { disk_file result ≡ settled (crash_leaves choice.now (disk_file self)) }
-        ensures may { MayLeave (surface (disk_file self)) (crash_leaves choice.now (disk_file self)) }
+        ensures may { MayLeave (surface (disk_file self))
+            (crash_leaves choice.now (disk_file self)) }
         ensures plan { disk_plan result ≡ FailurePlan.Never }
         ensures failures { disk_failures result ≡ disk_failures self }
         ensures time { Elapses disk_file disk_clock LeftSince disk_failures self result }
@@ -69,7 +70,8 @@ impl SimDisk {
         ensures plan { disk_plan self.new ≡ FailurePlan.After calls }
         ensures same { disk_file self.new ≡ disk_file self.old }
         ensures failures { disk_failures self.new ≡ disk_failures self.old }
-        ensures room { (more bytes : ℕ) → DiskHasRoom self.old more bytes → DiskHasRoom self.new more bytes }
+        ensures room { (more bytes : ℕ) → DiskHasRoom self.old more bytes
+            → DiskHasRoom self.new more bytes }
         ensures time { Elapses disk_file disk_clock LeftSince disk_failures self.old self.new }
     {
         self.plan = FailurePlan::After(calls);
@@ -99,7 +101,8 @@ impl Disk for SimDisk {
 
     ghost has_room = { λ d calls bytes. DiskHasRoom d calls bytes };
 
-    ghost room_less = { λ d calls bytes fewer less few small room. room_less d.buffers calls bytes fewer less few small room };
+    ghost room_less = { λ d calls bytes fewer less few small room.
+        room_less d.buffers calls bytes fewer less few small room };
 
     ghost counts_now = { λ d moment image le may. inl (le, may) };
 

@@ -108,7 +108,8 @@ fn fate_of(fates: Fates<'_>, place: usize, change: Change) -> Fate
 pub fn make_changes(image: &mut Vec<u8>, changes: &[Change], store: &[u8], fates: Fates<'_>)
     requires stored { bytes_in_all changes.now ≡ length store.now }
     requires room { furthest changes.now ≤ vec_capacity image.old }
-    ensures image { image.new.items ≡ made_by fates.entry (file_of (kept image.old.items changes.now store.now)) }
+    ensures image { image.new.items ≡
+        made_by fates.entry (file_of (kept image.old.items changes.now store.now)) }
     ensures len { vec_len image.new ≤ max (vec_len image.old) (furthest changes.now) }
     ensures capacity { vec_capacity image.old ≤ vec_capacity image.new }
 {

@@ -149,7 +149,9 @@ fn ceilings(rt: HostRuntime) -> Result<(), Fail> {
         let found = needed(Stamp::new(row.floor)?, Stamp::new(row.to)?, stride);
         let ceiling = match &found {
             Some(Record::Ceiling { at }) => Some(at.micros()),
-            _ => None,
+            Some(Record::Opened { .. }) | Some(Record::Prepare(_)) => None,
+            Some(Record::Commit(_)) | Some(Record::Abort { .. }) => None,
+            Some(Record::Outcome { .. }) | None => None,
         };
         assert_eq!(rt; ceiling, row.ceiling);
     }

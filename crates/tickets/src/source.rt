@@ -41,7 +41,8 @@ impl Model for Drawer {
 
     ghost view = { λ d. record { source = d.seat.table_id; drawn = d.seat.me.0.drawn } };
 
-    ghost invariant = { λ d. (d.draws ≡ length d.seat.me.0.drawn) × (d.draws ≤ 2 ^ 40) × (d.seat.me.0.drawers ≡ 1) × (d.seat.me.1 ≡ []) };
+    ghost invariant = { λ d. (d.draws ≡ length d.seat.me.0.drawn) × (d.draws ≤ 2 ^ 40)
+        × (d.seat.me.0.drawers ≡ 1) × (d.seat.me.1 ≡ []) };
 }
 
 impl Drawer {
@@ -104,7 +105,10 @@ impl Tickets {
         requires { me.old.source ≡ self.now }
         ensures source { me.new.source ≡ me.old.source }
         ensures limit { IfOk result (λ n. n ≤ 2 ^ 48) }
-        ensures drawn { MatchResult result (λ n. (length me.old.drawn < 2 ^ 40) × (me.new.drawn ≡ me.old.drawn ++ n ∷ [])) (λ e. (e ≡ Fault.TimeSpent) × (length me.old.drawn ≡ 2 ^ 40) × (me.new.drawn ≡ me.old.drawn)) }
+        ensures drawn { MatchResult result
+            (λ n. (length me.old.drawn < 2 ^ 40) × (me.new.drawn ≡ me.old.drawn ++ n ∷ []))
+            (λ e. (e ≡ Fault.TimeSpent) × (length me.old.drawn ≡ 2 ^ 40)
+            × (me.new.drawn ≡ me.old.drawn)) }
     {
         if me.draws >= Drawer::DRAWS {
             return Err(Fault::TimeSpent);

@@ -28,7 +28,8 @@ impl Model for Reading {
 impl Reading {
     /// The interval between two timestamps. One whose first end is above its second is refused as `stamp`.
     pub fn new(earliest: Stamp, latest: Stamp) -> Result<Reading, Fault>
-        ensures { MatchResult result (λ now. (now.earliest ≡ earliest) × (now.latest ≡ latest) × (earliest ≤ latest))
+        ensures { MatchResult result (λ now. (now.earliest ≡ earliest) × (now.latest ≡ latest)
+            × (earliest ≤ latest))
             (λ fault. (fault ≡ Fault.BadRequest Reason.Stamp) × (latest < earliest)) }
     {
         if earliest.micros() <= latest.micros() {

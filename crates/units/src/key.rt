@@ -30,14 +30,17 @@ impl Model for Key {
 
     ghost inverse = { λ b. record { bytes = b ++ zeros_behind (length b); len = length b } };
 
-    ghost inverse_ok = { λ a h. ap (λ (p : List ℕ × ℕ). record { bytes = p.0; len = p.1 }) (λ i. (padded_again a.bytes a.len h i, length-take-le a.len a.bytes h.whole i)) };
+    ghost inverse_ok = { λ a h. ap (λ (p : List ℕ × ℕ). record { bytes = p.0; len = p.1 })
+        (λ i. (padded_again a.bytes a.len h i, length-take-le a.len a.bytes h.whole i)) };
 }
 
 impl Key {
     /// The key with these bytes.
     pub fn new(bytes: &[u8]) -> Result<Key, Fault>
-        ensures { MatchResult result (λ key. (key ≡ bytes.now) × (1 ≤ length bytes.now) × (length bytes.now ≤ 64))
-            (λ fault. (fault ≡ Fault.BadRequest Reason.Key) × ((length bytes.now ≡ 0) ⊎ (64 < length bytes.now))) }
+        ensures { MatchResult result (λ key. (key ≡ bytes.now) × (1 ≤ length bytes.now)
+            × (length bytes.now ≤ 64))
+            (λ fault. (fault ≡ Fault.BadRequest Reason.Key)
+            × ((length bytes.now ≡ 0) ⊎ (64 < length bytes.now))) }
     {
         if bytes.is_empty() || bytes.len() > 64 {
             return Err(Fault::BadRequest(Reason::Key));

@@ -22,7 +22,8 @@ impl Model for Keys {
 
     ghost view = { λ k. k.keys.items };
 
-    ghost invariant = { λ k. (length k.keys.items ≤ 128) × IsTrue (ascends key_before k.keys.items) };
+    ghost invariant = { λ k. (length k.keys.items ≤ 128)
+        × IsTrue (ascends key_before k.keys.items) };
 }
 
 impl Keys {
@@ -37,8 +38,10 @@ impl Keys {
 
     /// The keys of a list, which is handed back where they do not ascend or are more than 128.
     pub fn from_vec(keys: Vec<Key>) -> Result<Keys, Vec<Key>>
-        ensures { MatchResult result (λ taken. (taken ≡ keys.items) × (length keys.items ≤ 128) × IsTrue (ascends key_before keys.items))
-            (λ back. (back.items ≡ keys.items) × ((128 < length keys.items) ⊎ IsFalse (ascends key_before keys.items))) }
+        ensures { MatchResult result (λ taken. (taken ≡ keys.items) × (length keys.items ≤ 128)
+            × IsTrue (ascends key_before keys.items))
+            (λ back. (back.items ≡ keys.items)
+            × ((128 < length keys.items) ⊎ IsFalse (ascends key_before keys.items))) }
     {
         if keys.len() > 128 || !ascend(keys.as_slice()) {
             return Err(keys);

@@ -27,5 +27,5 @@ pub use shard::ShardNo;
 pub use splits::Splits;
 pub use stamp::{Epoch, Stamp};
 pub use txn::{Run, TxnId};
-pub use value::Value;
+pub use value::{Value, copy_value};
 pub use writes::{Install, Write, Writes};

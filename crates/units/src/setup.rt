@@ -74,7 +74,8 @@ impl Setup {
 
     /// Each key that is written belongs to this shard.
     pub fn owns_writes(&self, writes: &Writes) -> bool
-        ensures { result ≡ list_all (λ w. nat_eq (shard_of self.now.splits w.key) self.now.shard) writes.now }
+        ensures { result ≡
+            list_all (λ w. nat_eq (shard_of self.now.splits w.key) self.now.shard) writes.now }
     {
         for write in writes.as_slice() {
             if !self.owns(&write.key) {

@@ -23,7 +23,8 @@ impl Model for Splits {
 
     ghost view = { λ s. s.keys.items };
 
-    ghost invariant = { λ s. (length s.keys.items ≤ 15) × IsTrue (ascends key_before s.keys.items) };
+    ghost invariant = { λ s. (length s.keys.items ≤ 15)
+        × IsTrue (ascends key_before s.keys.items) };
 }
 
 impl Splits {

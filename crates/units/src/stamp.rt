@@ -32,7 +32,8 @@ impl Stamp {
 
     /// The timestamp at this many microseconds.
     pub fn new(micros: u64) -> Result<Stamp, Fault>
-        ensures { result ≡ (if nat_lt micros (2 ^ 62) then Ok micros else Err (BadRequest stamp_reason)) }
+        ensures { result ≡
+            (if nat_lt micros (2 ^ 62) then Ok micros else Err (BadRequest stamp_reason)) }
     {
         if micros <= Stamp::MAX {
             Ok(Stamp { micros })
@@ -50,7 +51,8 @@ impl Stamp {
 
     /// The next timestamp.
     pub fn above(stamp: Stamp) -> Result<Stamp, Fault>
-        ensures { MatchResult result (λ next. (next ≡ stamp + 1) × (stamp + 1 < 2 ^ 62)) (λ fault. (fault ≡ TimeSpent) × (2 ^ 62 ≤ stamp + 1)) }
+        ensures { MatchResult result (λ next. (next ≡ stamp + 1) × (stamp + 1 < 2 ^ 62))
+            (λ fault. (fault ≡ TimeSpent) × (2 ^ 62 ≤ stamp + 1)) }
     {
         if stamp.micros < Stamp::MAX {
             Ok(Stamp {
@@ -130,7 +132,8 @@ impl Epoch {
 
     /// The epoch of the next opening.
     pub fn next(self) -> Result<Epoch, Fault>
-        ensures { MatchResult result (λ next. (next ≡ self + 1) × (self + 1 < 2 ^ 62)) (λ fault. (fault ≡ TimeSpent) × (2 ^ 62 ≤ self + 1)) }
+        ensures { MatchResult result (λ next. (next ≡ self + 1) × (self + 1 < 2 ^ 62))
+            (λ fault. (fault ≡ TimeSpent) × (2 ^ 62 ≤ self + 1)) }
     {
         if self.number < Stamp::MAX {
             Ok(Epoch {

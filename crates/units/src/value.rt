@@ -25,7 +25,8 @@ impl Value {
     /// The value with these bytes.
     pub fn new(alloc: Global, bytes: &[u8]) -> Result<Value, Fault>
         ensures { MatchResult result (λ value. (value ≡ bytes.now) × (length bytes.now ≤ 4096))
-            (λ fault. ((fault ≡ Fault.Memory) × (length bytes.now ≤ 4096)) ⊎ ((fault ≡ Fault.BadRequest Reason.Value) × (4096 < length bytes.now))) }
+            (λ fault. ((fault ≡ Fault.Memory) × (length bytes.now ≤ 4096))
+            ⊎ ((fault ≡ Fault.BadRequest Reason.Value) × (4096 < length bytes.now))) }
     {
         if bytes.len() > 4096 {
             return Err(Fault::BadRequest(Reason::Value));
@@ -49,5 +50,16 @@ impl Value {
     {
         let bytes = self.bytes.to_vec(alloc)?;
         Ok(Value { bytes })
+    }
+}
+
+/// An equal value with memory of its own, where there is one.
+pub fn copy_value(alloc: Global, value: &Option<Value>) -> Result<Option<Value>, Fault>
+    ensures same { IfOk result (λ copy. copy ≡ value.now) }
+    ensures memory { IfErr result (λ fault. fault ≡ Fault.Memory) }
+{
+    match value {
+        None => Ok(None),
+        Some(value) => Ok(Some(value.copy(alloc)?)),
     }
 }

@@ -3,7 +3,7 @@ ghost use Rattle.std.specs.Prelude.{◌≡◌, ◌≤◌, ◌<◌, ◌⊎◌, Is
 ghost use Rattle.units.specs.Keys.{write_before, writes_key};
 ghost use Rattle.units.specs.Lists.{ascends};
 
-use crate::{Fault, Key, Stamp, Value};
+use crate::{Fault, Key, Stamp, Value, copy_value};
 use std::alloc::Global;
 use std::marker::Model;
 
@@ -20,13 +20,9 @@ impl Write {
         ensures same { IfOk result (λ write. write ≡ self.now) }
         ensures memory { IfErr result (λ fault. fault ≡ Fault.Memory) }
     {
-        let value = match &self.value {
-            None => None,
-            Some(value) => Some(value.copy(alloc)?),
-        };
         Ok(Write {
             key: self.key,
-            value,
+            value: copy_value(alloc, &self.value)?,
         })
     }
 }
@@ -55,7 +51,8 @@ impl Model for Writes {
 
     ghost view = { λ w. w.writes.items };
 
-    ghost invariant = { λ w. (length w.writes.items ≤ 128) × IsTrue (ascends write_before w.writes.items) };
+    ghost invariant = { λ w. (length w.writes.items ≤ 128)
+        × IsTrue (ascends write_before w.writes.items) };
 }
 
 impl Writes {
@@ -70,8 +67,10 @@ impl Writes {
 
     /// The writes of a list, which is handed back where their keys do not ascend or they are more than 128.
     pub fn from_vec(writes: Vec<Write>) -> Result<Writes, Vec<Write>>
-        ensures { MatchResult result (λ taken. (taken ≡ writes.items) × (length writes.items ≤ 128) × IsTrue (ascends write_before writes.items))
-            (λ back. (back.items ≡ writes.items) × ((128 < length writes.items) ⊎ IsFalse (ascends write_before writes.items))) }
+        ensures { MatchResult result (λ taken. (taken ≡ writes.items) × (length writes.items ≤ 128)
+            × IsTrue (ascends write_before writes.items))
+            (λ back. (back.items ≡ writes.items)
+            × ((128 < length writes.items) ⊎ IsFalse (ascends write_before writes.items))) }
     {
         if writes.len() > 128 || !ascend(writes.as_slice()) {
             return Err(writes);

@@ -34,7 +34,8 @@ pub fn find(
 ) -> (usize, u32)
     requires within { AreWithin places.now.places (length installs.now) }
     requires order { AscendsByVersion (arranged installs.now places.now.places) }
-    ensures count { result.0 ≡ count_not_after key.now at (arranged installs.now places.now.places) }
+    ensures count { result.0 ≡
+        count_not_after key.now at (arranged installs.now places.now.places) }
     ensures before { AllUpTo key.now at (arranged installs.now places.now.places) result.0 }
     ensures after { AllAfter key.now at (arranged installs.now places.now.places) result.0 }
     ensures bound { result.0 ≤ length places.now.places }
@@ -67,7 +68,8 @@ pub fn newest_by<'a>(
 ) -> Option<&'a Install>
     requires within { AreWithin places.now.places (length installs.now) }
     requires order { AscendsByVersion (arranged installs.now places.now.places) }
-    ensures { option_copied result ≡ newest (filter (is_by key.now at) (arranged installs.now places.now.places)) }
+    ensures { option_copied result ≡
+        newest (filter (is_by key.now at) (arranged installs.now places.now.places)) }
 {
     let (count, _) = find(installs, places, key, at, &mut Count::none());
     if count == 0 {
@@ -83,7 +85,8 @@ pub fn newest_by<'a>(
 pub fn newest_of<'a>(installs: &'a [Install], places: &Places, key: &Key) -> Option<&'a Install>
     requires within { AreWithin places.now.places (length installs.now) }
     requires kept { IsInOrder Stamp.MAX (arranged installs.now places.now.places) }
-    ensures { option_copied result ≡ newest (of_key (arranged installs.now places.now.places) key.now) }
+    ensures { option_copied result ≡
+        newest (of_key (arranged installs.now places.now.places) key.now) }
 {
     newest_by(installs, places, key, Stamp::MAX)
 }
@@ -93,9 +96,11 @@ pub fn install(installs: &mut Vec<Install>, places: &mut Places, new: Install)
     requires within { AreWithin places.old.places (length installs.old.items) }
     requires order { AscendsByVersion (arranged installs.old.items places.old.places) }
     requires room { (vec_len installs.old < vec_capacity installs.old) × (0 < places.old.room) }
-    ensures items { arranged installs.new.items places.new.places ≡ installed (arranged installs.old.items places.old.places) new }
+    ensures items { arranged installs.new.items places.new.places ≡
+        installed (arranged installs.old.items places.old.places) new }
     ensures within { AreWithin places.new.places (length installs.new.items) }
-    ensures len { (vec_len installs.new ≡ vec_len installs.old + 1) × (places.new.room + 1 ≡ places.old.room) }
+    ensures len { (vec_len installs.new ≡ vec_len installs.old + 1)
+        × (places.new.room + 1 ≡ places.old.room) }
     ensures in_time { new.at < 2 ^ 62 }
     ensures capacity { vec_capacity installs.new ≡ vec_capacity installs.old }
 {

@@ -26,7 +26,8 @@ impl Model for Places {
 
     ghost view = { λ p. record { places = joined p.pieces.items; room = p.space - p.len } };
 
-    ghost invariant = { λ p. IsLaid p.pieces.items × (p.len ≡ length (joined p.pieces.items)) × (p.space ≡ 8192 * length p.pieces.items) × (p.len ≤ p.space) };
+    ghost invariant = { λ p. IsLaid p.pieces.items × (p.len ≡ length (joined p.pieces.items))
+        × (p.space ≡ 8192 * length p.pieces.items) × (p.len ≤ p.space) };
 }
 
 impl Places {

@@ -31,7 +31,10 @@ impl Model for Versions {
 
     ghost Value = { Store };
 
-    ghost view = { λ a. record { installs = arranged a.installs.items a.places.places; room = a.room } };
+    ghost view = { λ a. record {
+      installs = arranged a.installs.items a.places.places;
+      room = a.room;
+    } };
 
     ghost invariant = { λ a. IsPlaced a.installs.items a.places.places a.room
         (vec_capacity a.installs - vec_len a.installs) a.places.room };
@@ -78,7 +81,8 @@ impl Versions {
     pub fn install(&mut self, key: Key, at: Stamp, value: Option<Value>)
         requires room { 0 < self.old.room }
         requires above { IsTrue (is_above self.old.installs key at) }
-        ensures installs { self.new.installs ≡ installed self.old.installs (record { key = key; at = at; value = value }) }
+        ensures installs { self.new.installs ≡
+            installed self.old.installs (record { key = key; at = at; value = value }) }
         ensures room { self.new.room + 1 ≡ self.old.room }
     {
         self.room -= 1;
@@ -90,7 +94,8 @@ impl Versions {
     pub fn install_all(&mut self, writes: Writes, at: Stamp)
         requires room { length writes ≤ self.old.room }
         requires above { IsTrue (above_versions self.old.installs at writes) }
-        ensures installs { self.new.installs ≡ all_installed self.old.installs (versions writes at) }
+        ensures installs { self.new.installs ≡ all_installed self.old.installs
+            (versions writes at) }
         ensures order { IsTrue (ascends write_before writes) }
         ensures room { self.new.room + length writes ≡ self.old.room }
     {
@@ -123,7 +128,8 @@ impl Versions {
     pub fn find(&self, key: &Key, at: Stamp, compared: &mut Count) -> (usize, u32)
         ensures count { result.0 ≡ count_not_after key.now at self.now.installs }
         ensures probes { (digits : ℕ) → length self.now.installs < 2 ^ digits → result.1 ≤ digits }
-        ensures fewest { (digits : ℕ) → 2 ^ digits ≤ length self.now.installs + 1 → digits ≤ result.1 }
+        ensures fewest { (digits : ℕ) → 2 ^ digits ≤ length self.now.installs + 1
+            → digits ≤ result.1 }
         ensures counted { compared.new.number ≡ compared.old.number + result.1 }
     {
         find(&self.installs, &self.places, key, at.micros(), compared)

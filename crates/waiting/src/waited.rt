@@ -37,7 +37,8 @@ impl Waited {
 
 /// The word that a timestamp has passed by this reading, whose earliest end is above it; else it is `Early`.
 pub fn pass(at: Stamp, now: &Reading) -> Result<Waited, Fault>
-    ensures { MatchResult result (λ waited. (waited ≡ at) × (at < now.now.earliest)) (λ fault. (fault ≡ Fault.Early) × (now.now.earliest ≤ at)) }
+    ensures { MatchResult result (λ waited. (waited ≡ at) × (at < now.now.earliest))
+        (λ fault. (fault ≡ Fault.Early) × (now.now.earliest ≤ at)) }
 {
     if now.after(at) {
         Ok(Waited { at })

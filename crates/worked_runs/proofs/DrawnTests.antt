@@ -42,7 +42,10 @@ pub record Claimed : Type 0 where
 abbrev pub claimed : Record → Option Claimed
 claimed (Record.Prepare p) = Some (record { txn = p.txn; at = p.at; reads = p.reads })
 claimed (Record.Commit c) = Some (record { txn = c.txn; at = c.at; reads = c.reads })
-claimed _ = None
+claimed (Record.Opened epoch) = None
+claimed (Record.Ceiling at) = None
+claimed (Record.Abort t) = None
+claimed (Record.Outcome t outcome) = None
 
 -- the timestamps of the outcomes
 abbrev pub ended_at : List Record → List ℕ

@@ -74,6 +74,7 @@ fn commits(item: &Record, txn: TxnId, shard: usize) -> bool
         Record::Commit(committed) => {
             committed.txn.is(txn) && shard == committed.parts.least().number() as usize
         }
-        _ => false,
+        Record::Opened { .. } | Record::Ceiling { .. } | Record::Prepare(_) => false,
+        Record::Abort { .. } | Record::Outcome { .. } => false,
     }
 }

@@ -1,5 +1,5 @@
 //! What a run has put out: its messages, and the lines of its report.
-ghost use Rattle.std.specs.Prelude.{◌≡◌, ◌++◌, ◌∷◌, [], IfOk, IfErr, OnOk, true, flat_map, option_to_list};
+ghost use Rattle.std.specs.Prelude.{◌≡◌, ◌++◌, ◌∷◌, [], IfErr, OnOk, true, flat_map, option_to_list};
 ghost use Rattle.message.specs.declared.message.Envelope.{Envelope};
 ghost use Rattle.world.specs.Told.{ack_in, told_in, was_told};
 
@@ -7,7 +7,7 @@ use crate::Reply;
 use bag::Bag;
 use message::{Envelope, Message, Outbox};
 use std::alloc::Global;
-use units::{Fault, Key, Line, Stamp, TxnId, Value};
+use units::{Fault, Key, Line, Stamp, TxnId, copy_value};
 
 /// The messages and the lines so far, the transactions whose commit was told to their sessions, each as often as it was, and
 /// the number of the event that is under way.
@@ -76,7 +76,7 @@ impl RunOutput {
         ensures { (w : World) → IsOutput self.old w → Notes w key at reply self.new result }
     {
         if let Reply::Shows(value) = &reply {
-            self.note(Line::Look(key, at, copied(alloc, value)?))?;
+            self.note(Line::Look(key, at, copy_value(alloc, value)?))?;
         }
         Ok(reply)
     }
@@ -184,16 +184,5 @@ fn told_in(envelope: &Envelope) -> Option<TxnId>
             None => None,
         },
         _ => None,
-    }
-}
-
-/// An equal value with memory of its own.
-pub fn copied(alloc: Global, value: &Option<Value>) -> Result<Option<Value>, Fault>
-    ensures same { IfOk result (λ copied. copied ≡ value.now) }
-    ensures memory { IfErr result (λ fault. fault ≡ Fault.Memory) }
-{
-    match value {
-        None => Ok(None),
-        Some(value) => Ok(Some(value.copy(alloc)?)),
     }
 }

@@ -9,14 +9,14 @@ ghost use Rattle.world.specs.Comes.{Comes, IsRun, Takes};
 use crate::fleet::Shards;
 use crate::hosting::Sessions;
 use crate::lawfulness::{may_deliver, may_do};
-use crate::output::{RunOutput, copied};
+use crate::output::RunOutput;
 use crate::{Act, Config, Doing, Event, Reply};
 use bag::Bag;
 use message::Address;
 use record::Record;
 use std::alloc::Global;
 use truetime::Reading;
-use units::{Fault, Line, Reason, ShardNo, TxnId};
+use units::{Fault, Line, Reason, ShardNo, TxnId, copy_value};
 
 /// A run so far: its sessions, its shards, what was put out, and the true time in microseconds. It has to be spent.
 pub struct Run<'s> {
@@ -99,7 +99,7 @@ impl<'s> Run<'s> {
                 self.output.reply(moved)
             }
             Act::Write(txn, key, value) => {
-                let value = copied(alloc, value)?;
+                let value = copy_value(alloc, value)?;
                 let moved = self.sessions.write(alloc, *txn, *key, value);
                 self.output.reply(moved)
             }

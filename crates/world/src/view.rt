@@ -11,7 +11,7 @@ use crate::Reply;
 use shard::Core;
 use simdisk::SimDisk;
 use std::alloc::Global;
-use units::{Fault, Install, Key, Stamp, Value};
+use units::{Fault, Install, Key, Stamp, Value, copy_value};
 
 /// A moment of a shard: how many versions there were, and the time that was served. No version is ever taken back, so those
 /// of the moment are the first of those that there are now.
@@ -99,9 +99,6 @@ fn value_at(
 {
     match newest_at(installs, key, at) {
         None => Ok(None),
-        Some(install) => match &install.value {
-            None => Ok(None),
-            Some(value) => Ok(Some(value.copy(alloc)?)),
-        },
+        Some(install) => copy_value(alloc, &install.value),
     }
 }

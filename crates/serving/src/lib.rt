@@ -1,0 +1,6 @@
+//! What holds of the steps of a shard so that its versions may be put on a board. Laws alone; no function does anything.
+#![tactic(auto)]
+
+mod laws;
+
+pub use laws::{fresh_is_showable, step_keeps_showable, writes_ascend};
