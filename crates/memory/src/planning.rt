@@ -106,7 +106,12 @@ impl State {
     }
 
     /// A transaction that reads, or is not known, is ended; a prepare that it waits with is refused.
-    pub fn ends_reading(&self, alloc: Global, txn: TxnId, wait: Option<&Wait>) -> Result<Plan, Fault>
+    pub fn ends_reading(
+        &self,
+        alloc: Global,
+        txn: TxnId,
+        wait: Option<&Wait>,
+    ) -> Result<Plan, Fault>
         requires { may_end self.now.memory.rows txn ≡ true }
         ensures plan { IfOk result (λ plan. plan_of self.now.memory.rows plan ≡ ends (start_of self.now) txn (refused_by self.now.setup.shard txn (option_copied wait.entry))) }
         ensures fit { IfOk result (IsFit self.now) }
