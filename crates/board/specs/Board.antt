@@ -1,6 +1,6 @@
 -- A board: a list of entries that only grows. What it shows is the fold of its list.
 use Rattle.std.specs.List.{list_all}
-use Rattle.std.specs.Prelude.{ℕ, Bool, true, ◌&&◌, nat_lt, nat_le, List, [], ◌∷◌, ◌++◌, map, Option, Some, None}
+use Rattle.std.specs.Prelude.{ℕ, Bool, true, false, ◌&&◌, nat_lt, nat_le, List, [], ◌∷◌, ◌++◌, map, Option, Some, None}
 use Rattle.units.specs.Lists.{gather}
 use Rattle.units.specs.Keys.{Bytes}
 use Rattle.units.specs.Versions.{of_key, at_time}
@@ -24,6 +24,12 @@ safe_from safe (Safe t ∷ es) = safe_from t es
 
 abbrev pub safe_on : List BoardEntry → ℕ
 safe_on entries = safe_from 0 entries
+
+-- there is a timestamp up to which looks are answered
+abbrev pub has_safe : List BoardEntry → Bool
+has_safe [] = false
+has_safe (Installed i ∷ es) = has_safe es
+has_safe (Safe t ∷ es) = true
 
 -- the value that a key has at a timestamp: that of its version with the greatest timestamp that is not above it
 abbrev pub shown_at : List BoardEntry → Bytes → ℕ → Option Bytes

@@ -1,1 +1,6 @@
 pub mod Board
+pub mod Look
+pub mod State
+pub mod OneList
+pub mod Views
+pub mod Publications

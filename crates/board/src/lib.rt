@@ -1,6 +1,20 @@
-//! The board of a shard: what looks see while the shard goes on. So far the entries and the definitions; no running code.
+//! The board of a shard: what looks see while the shard goes on. One publisher shows it; viewers look without waiting.
 #![tactic(auto)]
 
+mod board_copy;
+mod change;
 mod entry;
+mod home;
+mod making;
+mod press;
+mod publisher;
+mod rule;
+mod told;
+mod viewer;
 
 pub use entry::BoardEntry;
+pub use home::Home;
+pub use making::{MOST_VIEWERS, start};
+pub use publisher::Publisher;
+pub use told::Told;
+pub use viewer::Viewer;

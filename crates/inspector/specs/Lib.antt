@@ -1,3 +1,5 @@
+pub mod Ascending
+pub mod Entries
 pub mod Decided
 pub mod Folds
 pub mod Places

@@ -3,12 +3,14 @@ ghost use Rattle.std.specs.List.{list_any};
 ghost use Rattle.std.specs.Prelude.{flat_map};
 ghost use Rattle.std.specs.Prelude.{◌≡◌, ◌≤◌, ◌++◌, ◌&&◌, length, IfOk, IfErr, OnOk, map, nat_eq};
 ghost use Rattle.std.specs.Option.{option_copied};
-ghost use Rattle.units.specs.Ids.{same_id};
-ghost use Rattle.units.specs.Lists.{insert};
+ghost use Rattle.units.specs.Ids.{Id, same_id};
+ghost use Rattle.units.specs.Lists.{insert, numbered};
 ghost use Rattle.units.specs.Fronts.{front};
 ghost use Rattle.record.specs.History.{serial_before, find_txn, history, serial, whole_txn};
-ghost use Rattle.inspector.specs.Decided.{decided_here, promised_in};
+ghost use Rattle.inspector.specs.Decided.{decided_in, promised_in, whole_in};
+ghost use Rattle.inspector.specs.Entries.{AscendsByTxn, entries, of_txn};
 
+use crate::entries::{Entry, run_of};
 use record::{Committed, Record};
 use std::alloc::Global;
 use std::marker::Model;
@@ -41,14 +43,32 @@ impl Transaction {
 }
 
 /// The transactions of the logs, each with its writes of all shards.
-#[tactic(auto, unfolding(record::specs::History::history))]
-pub fn history_of(alloc: Global, logs: &[Vec<Record>]) -> Result<Vec<Transaction>, Fault>
+pub fn history_of(
+    alloc: Global,
+    logs: &[Vec<Record>],
+    about: &[Entry<'_>],
+) -> Result<Vec<Transaction>, Fault>
+    requires order { AscendsByTxn about.now }
+    requires same { (t : Id) → of_txn t about.now ≡ of_txn t (entries (map (λ log. log.items) logs.now)) }
     ensures history { IfOk result (λ found. found.items ≡ history (map (λ log. log.items) logs.now)) }
+    ensures memory { IfErr result (λ fault. fault ≡ Fault.Memory) }
+{
+    decided(alloc, logs, about)
+}
+
+// The transactions that the logs decide.
+fn decided(
+    alloc: Global,
+    logs: &[Vec<Record>],
+    about: &[Entry<'_>],
+) -> Result<Vec<Transaction>, Fault>
+    requires order { AscendsByTxn about.now }
+    ensures found { IfOk result (λ found. found.items ≡ flat_map (decided_in about.now) (numbered 0 (map (λ log. log.items) logs.now))) }
     ensures memory { IfErr result (λ fault. fault ≡ Fault.Memory) }
 {
     let mut found = Vec::new(alloc);
     for (shard, log) in logs.iter().enumerate() {
-        add_decided(alloc, &mut found, logs, shard, log)?;
+        add_decided(alloc, &mut found, about, shard, log)?;
     }
     Ok(found)
 }
@@ -57,38 +77,38 @@ pub fn history_of(alloc: Global, logs: &[Vec<Record>]) -> Result<Vec<Transaction
 fn add_decided(
     alloc: Global,
     found: &mut Vec<Transaction>,
-    logs: &[Vec<Record>],
+    about: &[Entry<'_>],
     shard: usize,
     log: &[Record],
 ) -> Result<(), Fault>
-    ensures found { OnOk result (found.new.items ≡ found.old.items ++ decided_here (map (λ log. log.items) logs.now) (shard, log.now)) }
+    requires order { AscendsByTxn about.now }
+    ensures found { OnOk result (found.new.items ≡ found.old.items ++ decided_in about.now (shard, log.now)) }
     ensures memory { IfErr result (λ fault. fault ≡ Fault.Memory) }
 {
     for item in log {
         if let Record::Commit(committed) = item {
             if shard == committed.parts.least().number() as usize {
-                found.push(whole(alloc, logs, shard, committed)?)?;
+                let run = run_of(about, committed.txn);
+                found.push(whole(alloc, run, shard, committed)?)?;
             }
         }
     }
     Ok(())
 }
 
-// The transaction of a decision.
+// The transaction of a decision, with the records about it.
 fn whole(
     alloc: Global,
-    logs: &[Vec<Record>],
+    run: &[Entry<'_>],
     shard: usize,
     commit: &Committed,
 ) -> Result<Transaction, Fault>
-    ensures whole { IfOk result (λ t. t ≡ whole_txn (map (λ log. log.items) logs.now) shard commit.now) }
+    ensures whole { IfOk result (λ t. t ≡ whole_in shard commit.now run.now) }
     ensures memory { IfErr result (λ fault. fault ≡ Fault.Memory) }
 {
     let mut writes = Vec::new(alloc);
     add_copies(alloc, &mut writes, commit.writes.as_slice())?;
-    for (number, log) in logs.iter().enumerate() {
-        add_promised(alloc, &mut writes, log, number, commit.txn, shard)?;
-    }
+    add_promised(alloc, &mut writes, run, shard)?;
     Ok(Transaction {
         txn: commit.txn,
         at: commit.at,
@@ -96,21 +116,19 @@ fn whole(
     })
 }
 
-// Puts in what the log of a shard promises to write, where it is not a given shard.
+// Puts in what others than a given shard promised to write.
 fn add_promised(
     alloc: Global,
     writes: &mut Vec<Write>,
-    log: &[Record],
-    number: usize,
-    txn: TxnId,
+    run: &[Entry<'_>],
     shard: usize,
 ) -> Result<(), Fault>
-    ensures writes { OnOk result (writes.new.items ≡ writes.old.items ++ flat_map (λ p. p.writes) (promised_in txn shard (number, log.now))) }
+    ensures writes { OnOk result (writes.new.items ≡ writes.old.items ++ flat_map (λ p. p.writes) (promised_in shard run.now)) }
     ensures memory { IfErr result (λ fault. fault ≡ Fault.Memory) }
 {
-    for item in log {
-        if let Record::Prepare(prepared) = item {
-            if prepared.txn.is(txn) && number != shard {
+    for entry in run {
+        if entry.shard != shard {
+            if let Record::Prepare(prepared) = entry.item {
                 add_copies(alloc, writes, prepared.writes.as_slice())?;
             }
         }

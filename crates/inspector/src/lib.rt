@@ -2,6 +2,7 @@
 #![tactic(auto)]
 
 mod ages;
+mod entries;
 mod history;
 mod lines;
 mod torn;

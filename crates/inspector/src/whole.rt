@@ -1,13 +1,15 @@
 //! Whether a transaction is whole over all logs.
-ghost use Rattle.std.specs.List.{list_all, list_any};
-ghost use Rattle.std.specs.Prelude.{◌≡◌, IfOk, IfErr, ◌&&◌, not, length, map, nat_eq, nat_le, nat_lt, true, false};
+ghost use Rattle.std.specs.Prelude.{◌≡◌, IfOk, IfErr, ◌&&◌, not, length, nat_eq, nat_le, nat_lt, true, false};
+ghost use Rattle.std.specs.List.{list_any, list_all};
 ghost use Rattle.units.specs.Ids.{same_id};
 ghost use Rattle.units.specs.Lists.{gather, has, numbered, when};
 ghost use Rattle.record.specs.Records.{as_ended, is_aborted};
 ghost use Rattle.record.specs.Whole.{decisions, fits_decision, is_promise_for, promises_of, turns_down, outcomes_fit, is_whole};
 ghost use Rattle.inspector.specs.declared.whole.Tally.TheVariants.{Never};
+ghost use Rattle.inspector.specs.Entries.{log_at, logs_from};
 ghost use Rattle.inspector.specs.Folds.{after, decisions_here, fits_all};
 
+use crate::entries::Entry;
 use record::{Committed, Prepared, Record};
 use std::alloc::Global;
 use units::{Fault, ShardNo, Stamp, TxnId};
@@ -20,28 +22,32 @@ pub enum Tally {
     Again,
 }
 
-/// The transaction is whole over all logs.
+/// The transaction is whole over a number of logs, of which these are the records.
 #[tactic(auto, using(crate::proofs::FoldLaws::whole_is_settled), unfolding(record::specs::Whole::is_whole))]
-pub fn is_whole(alloc: Global, logs: &[Vec<Record>], txn: TxnId) -> Result<bool, Fault>
-    ensures whole { IfOk result (λ whole. whole ≡ is_whole txn (map (λ log. log.items) logs.now)) }
+pub fn is_whole(
+    alloc: Global,
+    count: usize,
+    entries: &[Entry<'_>],
+    txn: TxnId,
+) -> Result<bool, Fault>
+    ensures whole { IfOk result (λ whole. whole ≡ is_whole txn (logs_from count 0 entries.now)) }
     ensures memory { IfErr result (λ fault. fault ≡ Fault.Memory) }
 {
-    match tally_of(alloc, logs, txn)? {
-        Tally::Never => Ok(never_ends(logs, txn)),
+    match tally_of(alloc, count, entries, txn)? {
+        Tally::Never => Ok(never_ends(count, entries, txn)),
         Tally::Once(fits) => Ok(fits),
         Tally::Again => Ok(false),
     }
 }
 
 // The decisions of all logs.
-#[tactic(auto, using(crate::proofs::FoldLaws::after_append))]
-fn tally_of(alloc: Global, logs: &[Vec<Record>], txn: TxnId) -> Result<Tally, Fault>
-    ensures tally { IfOk result (λ tally. tally ≡ after (fits_all (map (λ log. log.items) logs.now) txn) Never (decisions (map (λ log. log.items) logs.now) txn)) }
+fn tally_of(alloc: Global, count: usize, entries: &[Entry<'_>], txn: TxnId) -> Result<Tally, Fault>
+    ensures tally { IfOk result (λ tally. tally ≡ after (fits_all (logs_from count 0 entries.now) txn) Never (decisions (logs_from count 0 entries.now) txn)) }
     ensures memory { IfErr result (λ fault. fault ≡ Fault.Memory) }
 {
     let mut tally = Tally::Never;
-    for (shard, log) in logs.iter().enumerate() {
-        tally = tally_log(alloc, tally, logs, txn, shard, log)?;
+    for number in 0..count {
+        tally = tally_log(alloc, tally, count, entries, txn, number)?;
     }
     Ok(tally)
 }
@@ -50,21 +56,25 @@ fn tally_of(alloc: Global, logs: &[Vec<Record>], txn: TxnId) -> Result<Tally, Fa
 fn tally_log(
     alloc: Global,
     mut tally: Tally,
-    logs: &[Vec<Record>],
+    count: usize,
+    entries: &[Entry<'_>],
     txn: TxnId,
-    shard: usize,
-    log: &[Record],
+    number: usize,
 ) -> Result<Tally, Fault>
-    ensures after { IfOk result (λ found. found ≡ after (fits_all (map (λ log. log.items) logs.now) txn) tally (decisions_here txn shard log.now)) }
+    ensures after { IfOk result (λ found. found ≡ after (fits_all (logs_from count 0 entries.now) txn) tally (decisions_here txn number (log_at number entries.now))) }
     ensures memory { IfErr result (λ fault. fault ≡ Fault.Memory) }
 {
-    for item in log {
-        if let Record::Commit(committed) = item {
-            if txn.is(committed.txn) {
-                tally = match tally {
-                    Tally::Never => Tally::Once(fits(alloc, logs, txn, shard, committed)?),
-                    _ => Tally::Again,
-                };
+    for entry in entries {
+        if number == entry.shard {
+            if let Record::Commit(committed) = entry.item {
+                if txn.is(committed.txn) {
+                    tally = match tally {
+                        Tally::Never => {
+                            Tally::Once(fits(alloc, count, entries, txn, number, committed)?)
+                        }
+                        _ => Tally::Again,
+                    };
+                }
             }
         }
     }
@@ -72,21 +82,23 @@ fn tally_log(
 }
 
 // Every log fits the decision, and it stands in its least part's log.
+#[tactic(auto, using(crate::proofs::Numbers::from_length))]
 fn fits(
     alloc: Global,
-    logs: &[Vec<Record>],
+    count: usize,
+    entries: &[Entry<'_>],
     txn: TxnId,
     shard: usize,
     commit: &Committed,
 ) -> Result<bool, Fault>
-    ensures fits { IfOk result (λ fits. fits ≡ fits_all (map (λ log. log.items) logs.now) txn (record { shard = shard; commit = commit.now })) }
+    ensures fits { IfOk result (λ fits. fits ≡ fits_all (logs_from count 0 entries.now) txn (record { shard = shard; commit = commit.now })) }
     ensures memory { IfErr result (λ fault. fault ≡ Fault.Memory) }
 {
     let parts = commit.parts.shards(alloc)?;
     Ok(
         shard == commit.parts.least().number() as usize
-            && exist(&parts, logs.len())
-            && each_fits(logs, txn, shard, commit, &parts),
+            && exist(&parts, count)
+            && each_fits(count, entries, txn, shard, commit, &parts),
     )
 }
 
@@ -104,17 +116,18 @@ fn exist(parts: &[ShardNo], count: usize) -> bool
 
 // Each log fits the decision.
 fn each_fits(
-    logs: &[Vec<Record>],
+    count: usize,
+    entries: &[Entry<'_>],
     txn: TxnId,
     shard: usize,
     commit: &Committed,
     parts: &[ShardNo],
 ) -> bool
     requires { parts.now ≡ commit.now.parts }
-    ensures { result ≡ list_all (fits_decision txn (record { shard = shard; commit = commit.now })) (numbered 0 (map (λ log. log.items) logs.now)) }
+    ensures { result ≡ list_all (fits_decision txn (record { shard = shard; commit = commit.now })) (numbered 0 (logs_from count 0 entries.now)) }
 {
-    for (number, log) in logs.iter().enumerate() {
-        if !log_fits(number, log, txn, shard, commit, parts) {
+    for number in 0..count {
+        if !log_fits(number, entries, txn, shard, commit, parts) {
             return false;
         }
     }
@@ -124,25 +137,25 @@ fn each_fits(
 // One log beside the decision.
 fn log_fits(
     number: usize,
-    log: &[Record],
+    entries: &[Entry<'_>],
     txn: TxnId,
     shard: usize,
     commit: &Committed,
     parts: &[ShardNo],
 ) -> bool
     requires { parts.now ≡ commit.now.parts }
-    ensures { result ≡ fits_decision txn (record { shard = shard; commit = commit.now }) (number, log.now) }
+    ensures { result ≡ fits_decision txn (record { shard = shard; commit = commit.now }) (number, log_at number entries.now) }
 {
-    if is_turned_down(log, txn) || !ends_at(log, txn, commit.at) {
+    if is_turned_down(number, entries, txn) || !ends_at(number, entries, txn, commit.at) {
         return false;
     }
     if number == shard {
         return true;
     }
     if is_part(parts, number) {
-        has_promise(log, txn, shard, commit)
+        has_promise(number, entries, txn, shard, commit)
     } else {
-        has_no_promise(log, txn)
+        has_no_promise(number, entries, txn)
     }
 }
 
@@ -159,36 +172,40 @@ fn is_part(parts: &[ShardNo], number: usize) -> bool
 }
 
 // The log has an abort of the transaction, or its outcome aborted.
-fn is_turned_down(log: &[Record], txn: TxnId) -> bool
-    ensures { result ≡ turns_down log.now txn }
+fn is_turned_down(number: usize, entries: &[Entry<'_>], txn: TxnId) -> bool
+    ensures { result ≡ turns_down (log_at number entries.now) txn }
 {
-    is_aborted(log, txn) || ends_aborted(log, txn)
+    is_aborted(number, entries, txn) || ends_aborted(number, entries, txn)
 }
 
-fn is_aborted(log: &[Record], txn: TxnId) -> bool
-    ensures { result ≡ is_aborted log.now txn }
+fn is_aborted(number: usize, entries: &[Entry<'_>], txn: TxnId) -> bool
+    ensures { result ≡ is_aborted (log_at number entries.now) txn }
 {
-    for item in log {
-        if let Record::Abort { txn: aborted } = item {
-            if txn.is(*aborted) {
-                return true;
+    for entry in entries {
+        if number == entry.shard {
+            if let Record::Abort { txn: aborted } = entry.item {
+                if txn.is(*aborted) {
+                    return true;
+                }
             }
         }
     }
     false
 }
 
-fn ends_aborted(log: &[Record], txn: TxnId) -> bool
-    ensures { result ≡ list_any (λ e. same_id e.txn txn && not (when (λ s. true) e.outcome)) (gather as_ended log.now) }
+fn ends_aborted(number: usize, entries: &[Entry<'_>], txn: TxnId) -> bool
+    ensures { result ≡ list_any (λ e. same_id e.txn txn && not (when (λ s. true) e.outcome)) (gather as_ended (log_at number entries.now)) }
 {
-    for item in log {
-        if let Record::Outcome {
-            txn: ended,
-            outcome,
-        } = item
-        {
-            if ended.is(txn) && outcome.is_none() {
-                return true;
+    for entry in entries {
+        if number == entry.shard {
+            if let Record::Outcome {
+                txn: ended,
+                outcome,
+            } = entry.item
+            {
+                if ended.is(txn) && outcome.is_none() {
+                    return true;
+                }
             }
         }
     }
@@ -196,17 +213,19 @@ fn ends_aborted(log: &[Record], txn: TxnId) -> bool
 }
 
 // The log's outcomes of the transaction at a timestamp all have this one.
-fn ends_at(log: &[Record], txn: TxnId, at: Stamp) -> bool
-    ensures { result ≡ outcomes_fit log.now txn (nat_eq at) }
+fn ends_at(number: usize, entries: &[Entry<'_>], txn: TxnId, at: Stamp) -> bool
+    ensures { result ≡ outcomes_fit (log_at number entries.now) txn (nat_eq at) }
 {
-    for item in log {
-        if let Record::Outcome {
-            txn: ended,
-            outcome: Some(other),
-        } = item
-        {
-            if txn.is(*ended) && at.micros() != other.micros() {
-                return false;
+    for entry in entries {
+        if number == entry.shard {
+            if let Record::Outcome {
+                txn: ended,
+                outcome: Some(other),
+            } = entry.item
+            {
+                if txn.is(*ended) && at.micros() != other.micros() {
+                    return false;
+                }
             }
         }
     }
@@ -214,11 +233,11 @@ fn ends_at(log: &[Record], txn: TxnId, at: Stamp) -> bool
 }
 
 // No log ends the transaction at a timestamp.
-fn never_ends(logs: &[Vec<Record>], txn: TxnId) -> bool
-    ensures { result ≡ list_all (λ l. outcomes_fit l txn (λ s. false)) (map (λ log. log.items) logs.now) }
+fn never_ends(count: usize, entries: &[Entry<'_>], txn: TxnId) -> bool
+    ensures { result ≡ list_all (λ l. outcomes_fit l txn (λ s. false)) (logs_from count 0 entries.now) }
 {
-    for log in logs {
-        if ends(log, txn) {
+    for number in 0..count {
+        if ends(number, entries, txn) {
             return false;
         }
     }
@@ -226,17 +245,19 @@ fn never_ends(logs: &[Vec<Record>], txn: TxnId) -> bool
 }
 
 // The log ends the transaction at a timestamp.
-fn ends(log: &[Record], txn: TxnId) -> bool
-    ensures { result ≡ not (outcomes_fit log.now txn (λ s. false)) }
+fn ends(number: usize, entries: &[Entry<'_>], txn: TxnId) -> bool
+    ensures { result ≡ not (outcomes_fit (log_at number entries.now) txn (λ s. false)) }
 {
-    for item in log {
-        if let Record::Outcome {
-            txn: ended,
-            outcome: Some(_),
-        } = item
-        {
-            if txn.is(*ended) {
-                return true;
+    for entry in entries {
+        if number == entry.shard {
+            if let Record::Outcome {
+                txn: ended,
+                outcome: Some(_),
+            } = entry.item
+            {
+                if txn.is(*ended) {
+                    return true;
+                }
             }
         }
     }
@@ -245,17 +266,25 @@ fn ends(log: &[Record], txn: TxnId) -> bool
 
 // The log has exactly one promise of the transaction, which fits the decision at a shard.
 #[tactic(auto, using(crate::proofs::FoldLaws::sole_promise))]
-fn has_promise(log: &[Record], txn: TxnId, shard: usize, commit: &Committed) -> bool
-    ensures { result ≡ is_promise_for (record { shard = shard; commit = commit.now }) (promises_of log.now txn) }
+fn has_promise(
+    number: usize,
+    entries: &[Entry<'_>],
+    txn: TxnId,
+    shard: usize,
+    commit: &Committed,
+) -> bool
+    ensures { result ≡ is_promise_for (record { shard = shard; commit = commit.now }) (promises_of (log_at number entries.now) txn) }
 {
     let mut fits = None;
-    for item in log {
-        if let Record::Prepare(prepared) = item {
-            if prepared.txn.is(txn) {
-                if fits.is_some() {
-                    return false;
+    for entry in entries {
+        if number == entry.shard {
+            if let Record::Prepare(prepared) = entry.item {
+                if prepared.txn.is(txn) {
+                    if fits.is_some() {
+                        return false;
+                    }
+                    fits = Some(promise_fits(prepared, shard, commit));
                 }
-                fits = Some(promise_fits(prepared, shard, commit));
             }
         }
     }
@@ -270,13 +299,15 @@ fn promise_fits(prepared: &Prepared, shard: usize, commit: &Committed) -> bool
 }
 
 // The log has no promise of the transaction.
-fn has_no_promise(log: &[Record], txn: TxnId) -> bool
-    ensures { result ≡ nat_eq (length (promises_of log.now txn)) 0 }
+fn has_no_promise(number: usize, entries: &[Entry<'_>], txn: TxnId) -> bool
+    ensures { result ≡ nat_eq (length (promises_of (log_at number entries.now) txn)) 0 }
 {
-    for item in log {
-        if let Record::Prepare(prepared) = item {
-            if prepared.txn.is(txn) {
-                return false;
+    for entry in entries {
+        if number == entry.shard {
+            if let Record::Prepare(prepared) = entry.item {
+                if prepared.txn.is(txn) {
+                    return false;
+                }
             }
         }
     }

@@ -9,3 +9,5 @@ pub mod Places
 pub mod Release
 pub mod TableLaws
 pub mod WayLaws
+pub mod Tallies
+pub mod Clear

@@ -2,8 +2,10 @@
 ghost use Rattle.std.specs.Prelude.{◌≡◌, ◌+◌, ◌≤◌, ◌<◌, IsOk, IfErr, OnOk, length, vec_len, vec_capacity};
 ghost use Rattle.units.specs.Locks.{with_lock, with_locks};
 ghost use Rattle.locks.specs.Ways.{lock_place};
+ghost use Rattle.locks.specs.Tally.{MovesLocks};
 
 use crate::conflict::stronger;
+use crate::tally::Tally;
 use units::{Fault, Lock};
 
 /// Makes room for so many locks and so many more.
@@ -34,14 +36,15 @@ pub fn copy(buffer: &mut Vec<Lock>, locks: &[Lock])
     }
 }
 
-/// The buffer becomes the locks with all that are needed.
-pub fn fill(buffer: &mut Vec<Lock>, locks: &[Lock], needs: &[Lock])
+/// The buffer becomes the locks with all that are needed, and those that are new are counted.
+pub fn fill(buffer: &mut Vec<Lock>, locks: &[Lock], needs: &[Lock], tally: &mut Tally)
     requires { length locks.now + length needs.now ≤ vec_capacity buffer.old }
-    ensures { buffer.new.items ≡ with_locks locks.now needs.now }
+    ensures items { buffer.new.items ≡ with_locks locks.now needs.now }
+    ensures tally { MovesLocks locks.now buffer.new.items tally.old tally.new }
 {
     copy(buffer, locks);
     for need in needs {
-        add(buffer, *need);
+        add(buffer, *need, tally);
     }
 }
 
@@ -58,12 +61,13 @@ fn place(locks: &[Lock], lock: &Lock) -> usize
     locks.len()
 }
 
-// Adds one lock at its place.
-fn add(locks: &mut Vec<Lock>, lock: Lock)
+// Adds one lock at its place. It is counted where its key is new.
+fn add(locks: &mut Vec<Lock>, lock: Lock, tally: &mut Tally)
     requires { vec_len locks.old < vec_capacity locks.old }
     ensures items { locks.new.items ≡ with_lock locks.old.items lock }
     ensures capacity { vec_capacity locks.new ≡ vec_capacity locks.old }
     ensures len { vec_len locks.new ≤ vec_len locks.old + 1 }
+    ensures tally { MovesLocks locks.old.items locks.new.items tally.old tally.new }
 {
     let at = place(locks, &lock);
     if at < locks.len() {
@@ -76,6 +80,7 @@ fn add(locks: &mut Vec<Lock>, lock: Lock)
             return;
         }
     }
+    tally.add(&lock);
     match locks.insert(at, lock) {
         Ok(()) => {}
         Err(_) => unreachable!(),

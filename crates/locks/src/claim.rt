@@ -1,5 +1,5 @@
 //! The claims of a table, and who is in the way of whom.
-ghost use Rattle.std.specs.Prelude.{◌≡◌, ◌+◌, ◌<◌, ◌≤◌, true, false, IfOk, length, vec_capacity};
+ghost use Rattle.std.specs.Prelude.{◌≡◌, ◌+◌, ◌<◌, ◌≤◌, true, false, IfOk, MatchOption, length, vec_capacity};
 ghost use Rattle.std.specs.List.{position_or_len};
 ghost use Rattle.std.specs.List.Sorted.{IsPartitionPoint};
 ghost use Rattle.std.specs.Option.{option_copied};
@@ -7,10 +7,12 @@ ghost use Rattle.units.specs.ById.{IsById, find_member};
 ghost use Rattle.units.specs.Ids.{older};
 ghost use Rattle.units.specs.Locks.{holds, is_waiting};
 ghost use Rattle.locks.specs.Table.{has_claim, held_in_table, entrant, made_firm, granted, waiting, resumed, withdrawn};
+ghost use Rattle.locks.specs.Tally.{seems_alone, seems_clear, MovesClaim};
 ghost use Rattle.locks.specs.Ways.{is_of, is_younger, gives_way, is_wounding, ids_in_way, stands_in_way, is_blocked, can_go, first_to_go, keeps_out, is_kept_out};
 
 use crate::buffer::{copy, fill};
 use crate::conflict::clash;
+use crate::tally::Tally;
 use std::alloc::{AllocError, Global};
 use std::marker::Model;
 use std::mem::swap;
@@ -123,60 +125,81 @@ impl Claim {
         !self.needs.is_empty()
     }
 
-    /// It waits, and its wait would be granted now.
-    pub fn can_go(&self, table: &[Claim]) -> bool
-        ensures { result ≡ can_go table.now self.now }
-    {
-        self.is_waiting() && !is_blocked(table, self.txn, &self.needs)
-    }
-
     pub fn make_firm(&mut self)
         ensures { self.new ≡ made_firm self.old }
     {
         self.firm = true;
     }
 
-    pub fn withdraw(&mut self)
-        ensures { self.new ≡ withdrawn self.old }
+    pub fn withdraw(&mut self, tally: &mut Tally)
+        ensures claim { self.new ≡ withdrawn self.old }
+        ensures tally { MovesClaim self.old self.new tally.old tally.new }
     {
+        tally.remove_all(&self.needs);
         self.needs.clear();
     }
 
-    /// Grants it what it needs. The buffer has the room, and is left with what the claim had.
-    pub fn grant(&mut self, buffer: &mut Vec<Lock>, needs: &[Lock])
-        requires { length self.old.held + length needs.now ≤ vec_capacity buffer.old }
-        ensures { self.new ≡ granted needs.now self.old }
+    /// None of its locks is counted any more.
+    pub fn leave(&self, tally: &mut Tally)
+        ensures { MovesClaim self.now (entrant self.now.txn) tally.old tally.new }
     {
-        fill(buffer, &self.held, needs);
+        tally.remove_all(&self.held);
+        tally.remove_all(&self.needs);
+    }
+
+    /// Grants it what it needs. The buffer has the room, and is left with what the claim had.
+    pub fn grant(&mut self, buffer: &mut Vec<Lock>, needs: &[Lock], tally: &mut Tally)
+        requires { length self.old.held + length needs.now ≤ vec_capacity buffer.old }
+        ensures claim { self.new ≡ granted needs.now self.old }
+        ensures tally { MovesClaim self.old self.new tally.old tally.new }
+    {
+        tally.remove_all(&self.needs);
+        fill(buffer, &self.held, needs, tally);
         swap(buffer, &mut self.held);
         self.needs.clear();
     }
 
     /// Keeps what it waits for.
-    pub fn wait(&mut self, buffer: &mut Vec<Lock>, needs: &[Lock])
+    pub fn wait(&mut self, buffer: &mut Vec<Lock>, needs: &[Lock], tally: &mut Tally)
         requires { length needs.now ≤ vec_capacity buffer.old }
-        ensures { self.new ≡ waiting needs.now self.old }
+        ensures claim { self.new ≡ waiting needs.now self.old }
+        ensures tally { MovesClaim self.old self.new tally.old tally.new }
     {
+        tally.remove_all(&self.needs);
+        tally.add_all(needs);
         copy(buffer, needs);
         swap(buffer, &mut self.needs);
     }
 
     /// Grants it what it waits for.
-    pub fn resume(&mut self, buffer: &mut Vec<Lock>)
+    pub fn resume(&mut self, buffer: &mut Vec<Lock>, tally: &mut Tally)
         requires { length self.old.held + length self.old.needs ≤ vec_capacity buffer.old }
-        ensures { self.new ≡ resumed self.old }
+        ensures claim { self.new ≡ resumed self.old }
+        ensures tally { MovesClaim self.old self.new tally.old tally.new }
     {
-        fill(buffer, &self.held, &self.needs);
+        tally.remove_all(&self.needs);
+        fill(buffer, &self.held, &self.needs, tally);
         swap(buffer, &mut self.held);
         self.needs.clear();
     }
 }
 
-/// Whether a request has to wait for some claim.
-pub fn is_blocked(table: &[Claim], txn: TxnId, needs: &[Lock]) -> bool
-    ensures { result ≡ is_blocked txn needs.now table.now }
+/// By the numbers of locks nobody else has a lock of a key that is needed. It may be so where this says no.
+pub fn seems_clear(tally: &Tally, table: &[Claim], txn: TxnId, needs: &[Lock]) -> bool
+    requires { IsById (λ c. c.txn) table.now }
+    ensures { result ≡ seems_clear tally.now table.now txn needs.now }
 {
-    table.iter().any(|claim| claim.stands_in_way(txn, needs))
+    needs
+        .iter()
+        .all(|need| seems_alone(tally, table, txn, &need.key))
+}
+
+fn seems_alone(tally: &Tally, table: &[Claim], txn: TxnId, key: &Key) -> bool
+    requires { IsById (λ c. c.txn) table.now }
+    ensures { result ≡ seems_alone tally.now table.now txn key.now }
+{
+    let count = tally.count(key);
+    count == 0 || (count == 1 && holds(table, txn, key))
 }
 
 /// Whether a request ends some transaction.
@@ -209,14 +232,41 @@ pub fn wounded(
         .collect(alloc)
 }
 
-/// The oldest that waits and would be granted now.
+/// The oldest that waits and would be granted now. Many may wait for one, so who stood in the way of one waiter is asked
+/// first for the next.
 pub fn ready(table: &[Claim]) -> Option<TxnId>
     ensures { result ≡ first_to_go table.now }
 {
-    table
-        .iter()
-        .find(|claim| claim.can_go(table))
-        .map(|claim| claim.txn())
+    let mut before = 0;
+    for claim in table {
+        if claim.is_waiting() && !is_blocked_by(table, before, claim) {
+            match first_in_way(table, claim) {
+                Some(at) => before = at,
+                None => return Some(claim.txn()),
+            }
+        }
+    }
+    None
+}
+
+// The claim at a place, if there is one, stands in the way of a waiter.
+fn is_blocked_by(table: &[Claim], at: usize, waiter: &Claim) -> bool
+    ensures { result ≡ true → is_blocked waiter.now.txn waiter.now.needs table.now ≡ true }
+{
+    at < table.len() && table[at].stands_in_way(waiter.txn, &waiter.needs)
+}
+
+// The first claim that stands in the way of a waiter.
+fn first_in_way(table: &[Claim], waiter: &Claim) -> Option<usize>
+    ensures { MatchOption result (is_blocked waiter.now.txn waiter.now.needs table.now ≡ false)
+        (λ at. is_blocked waiter.now.txn waiter.now.needs table.now ≡ true) }
+{
+    for (at, claim) in table.iter().enumerate() {
+        if claim.stands_in_way(waiter.txn, &waiter.needs) {
+            return Some(at);
+        }
+    }
+    None
 }
 
 /// Whether a transaction holds a key.

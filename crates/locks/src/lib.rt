@@ -7,6 +7,7 @@ mod claim;
 mod conflict;
 mod held;
 mod table;
+mod tally;
 
 pub use held::Held;
 pub use table::Table;

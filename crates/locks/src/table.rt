@@ -3,11 +3,15 @@ ghost use Rattle.std.specs.Prelude.{◌≡◌, ◌+◌, ◌≤◌, [], Some, tru
 ghost use Rattle.units.specs.LockLaws.{IsLawfulTable, IsOldestReady};
 ghost use Rattle.units.specs.Locks.{asked, holds, is_free, ready, wounded};
 ghost use Rattle.locks.specs.Ways.{is_wounding};
+ghost use Rattle.locks.specs.Tally.{IsClear};
 ghost use Rattle.locks.specs.Table.{has_claim, with_claim, without_claim, without_claims, change_claim, entrant, made_firm, granted, waiting, resumed, withdrawn, after_request, held_in_table, needs_in_table, most_held, KeepsRoom, ReleaseMakesWay};
 
 use crate::buffer::make_room;
-use crate::claim::{Claim, has, holds, is_kept_out, is_wounding, place, place_for, ready, wounded};
+use crate::claim::{
+    Claim, has, holds, is_kept_out, is_wounding, place, place_for, ready, seems_clear, wounded,
+};
 use crate::held::Held;
+use crate::tally::Tally;
 use std::alloc::Global;
 use std::marker::Model;
 use units::{Asked, Fault, Ids, Key, Lock, TxnId};
@@ -21,18 +25,21 @@ use units::{Asked, Fault, Ids, Key, Lock, TxnId};
 #[derive(Drop)]
 pub struct Table {
     entries: Vec<Claim>,
+    // Of all that they hold or wait for.
+    tally: Tally,
 }
 
 impl Model for Table {
     ghost use Rattle.std.specs.Prelude.{List};
     ghost use Rattle.units.specs.Locks.{Claim};
     ghost use Rattle.units.specs.LockLaws.{IsLawfulTable};
+    ghost use Rattle.locks.specs.Tally.{IsTally};
 
     ghost Value = { List Claim };
 
     ghost view = { λ t. t.entries.items };
 
-    ghost invariant = { λ t. IsLawfulTable t.entries.items };
+    ghost invariant = { λ t. IsLawfulTable t.entries.items × IsTally t.tally t.entries.items };
 }
 
 impl Table {
@@ -42,6 +49,7 @@ impl Table {
     {
         Table {
             entries: Vec::new(alloc),
+            tally: Tally::unknown(alloc),
         }
     }
 
@@ -65,12 +73,24 @@ impl Table {
         ensures err { OnErr result (self.new ≡ self.old) }
         ensures memory { IfErr result (λ fault. fault ≡ Fault.Memory) }
     {
+        self.begin_tally(alloc)?;
         let at = place_for(&self.entries, txn);
         self.entries.insert(at, Claim::new(alloc, txn))?;
         Ok(Held {
             txn,
             buffer: Vec::new(alloc),
         })
+    }
+
+    // Where there is nothing to count, counting begins.
+    fn begin_tally(&mut self, alloc: Global) -> Result<(), Fault>
+        ensures same { self.new ≡ self.old }
+        ensures memory { IfErr result (λ fault. fault ≡ Fault.Memory) }
+    {
+        if self.entries.is_empty() && self.tally.is_unknown() {
+            self.tally = Tally::none(alloc)?;
+        }
+        Ok(())
     }
 
     /// Whether a transaction holds a key. One that has no claim holds nothing.
@@ -85,6 +105,9 @@ impl Table {
         ensures ok { IfOk result (λ ids. ids ≡ wounded self.now txn needs.now) }
         ensures memory { IfErr result (λ fault. fault ≡ Fault.Memory) }
     {
+        if self.is_clear(txn, needs) {
+            return Ok(Ids::from_vec(Vec::new(alloc)));
+        }
         let ids = wounded(alloc, &self.entries, txn, needs)?;
         Ok(Ids::from_vec(ids))
     }
@@ -94,7 +117,7 @@ impl Table {
         ensures { result ≡
             is_free (without_claims self.now (wounded self.now txn needs.now)) txn needs.now }
     {
-        !is_kept_out(&self.entries, txn, needs)
+        self.is_clear(txn, needs) || !is_kept_out(&self.entries, txn, needs)
     }
 
     /// Takes the memory for so many locks more than the transaction holds. It is refused for want of memory alone.
@@ -148,7 +171,14 @@ impl Table {
     fn is_wounding(&self, txn: TxnId, needs: &[Lock]) -> bool
         ensures { result ≡ is_wounding txn needs.now self.now }
     {
-        is_wounding(&self.entries, txn, needs)
+        !self.is_clear(txn, needs) && is_wounding(&self.entries, txn, needs)
+    }
+
+    // Nobody is in the way of a request, told without going over the claims. It may be so where this says no.
+    fn is_clear(&self, txn: TxnId, needs: &[Lock]) -> bool
+        ensures { result ≡ true → IsClear self.now txn needs.now }
+    {
+        seems_clear(&self.tally, &self.entries, txn, needs)
     }
 
     /// Grants a request that nobody is in the way of, with the room that its token has. It takes no memory.
@@ -160,7 +190,7 @@ impl Table {
         ensures txn { held.new.txn ≡ held.old.txn }
     {
         let spot = place(&self.entries, held.txn);
-        self.entries[spot].grant(&mut held.buffer, needs);
+        self.entries[spot].grant(&mut held.buffer, needs, &mut self.tally);
     }
 
     /// Keeps a request that has to wait and ends nobody, with the room that its token has. It takes no memory.
@@ -173,7 +203,7 @@ impl Table {
         ensures txn { held.new.txn ≡ held.old.txn }
     {
         let spot = place(&self.entries, held.txn);
-        self.entries[spot].wait(&mut held.buffer, needs);
+        self.entries[spot].wait(&mut held.buffer, needs, &mut self.tally);
     }
 
     /// From now on nobody ends it.
@@ -191,7 +221,7 @@ impl Table {
         ensures { self.new ≡ change_claim self.old held.now.txn withdrawn }
     {
         let at = place(&self.entries, held.txn);
-        self.entries[at].withdraw();
+        self.entries[at].withdraw(&mut self.tally);
     }
 
     /// The oldest waiter that would be granted now.
@@ -216,7 +246,7 @@ impl Table {
         let at = place(&self.entries, held.txn);
         let claim = &self.entries[at];
         make_room(&mut held.buffer, claim.held_count(), claim.needs_count())?;
-        self.entries[at].resume(&mut held.buffer);
+        self.entries[at].resume(&mut held.buffer, &mut self.tally);
         Ok(())
     }
 
@@ -227,6 +257,7 @@ impl Table {
         let Held { txn, buffer: _ } = held;
         if has(&self.entries, txn) {
             let at = place(&self.entries, txn);
+            self.entries[at].leave(&mut self.tally);
             let _ = self.entries.remove(at);
         }
     }

@@ -1,7 +1,12 @@
-use Rattle.std.proofs.Common.{◌≡◌, ℕ, ◌+◌, drop, map, Option, Some, None, cond, not, ◌++◌, ◌&&◌, [], nat_eq, nat_le, nat_lt}
-use Rattle.units.specs.Lists.{first, gather, head, numbered, sorted, has, when}
-use Rattle.record.specs.Whole.{decisions, is_whole, fits_decision, is_promise_for, promises_of, outcomes_fit, all_ids}
+use Rattle.std.proofs.Common.{◌≡◌, drop, map, not, true, IfSome}
+use Rattle.units.specs.Lists.{first}
+use Rattle.record.specs.Whole.{is_whole}
+use Rattle.inspector.specs.Entries.{logs_from, of_txn}
 use Rattle.inspector.proofs.torn.first_among.Given as goal
 
-abbrev pub invariant-loop-txn : goal.invariant-loop-txn
-invariant-loop-txn l = first (λ t. not (is_whole t (map (λ log. log.items) l.logs))) (drop l.txn-index l.ids) ≡ first (λ t. not (is_whole t (map (λ log. log.items) l.logs))) l.ids
+abbrev pub invariant-loop-entry : goal.invariant-loop-entry
+invariant-loop-entry l = record {
+  rest : first (λ t. not (is_whole t (logs_from l.count 0 (of_txn t l.found)))) (map (λ e. e.txn) (drop l.entry-index l.found))
+      ≡ first (λ t. not (is_whole t (logs_from l.count 0 (of_txn t l.found)))) (map (λ e. e.txn) l.found);
+  known : IfSome l.last (λ t. is_whole t (logs_from l.count 0 (of_txn t l.found)) ≡ true);
+}

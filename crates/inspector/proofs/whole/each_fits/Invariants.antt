@@ -1,8 +1,13 @@
-use Rattle.std.specs.List.{list_all}
-use Rattle.std.proofs.Common.{◌≡◌, ℕ, ◌+◌, drop, map, Option, Some, None, cond, not, ◌++◌, ◌&&◌, [], nat_eq, nat_le, nat_lt}
-use Rattle.units.specs.Lists.{first, gather, head, numbered, sorted, has, when}
-use Rattle.record.specs.Whole.{decisions, is_whole, fits_decision, is_promise_for, promises_of, outcomes_fit, all_ids}
+use Rattle.std.specs.List.{list_all, list_any}
+use Rattle.std.proofs.Common.{◌≡◌, ℕ, ◌-◌, drop, not, ◌&&◌, nat_eq, nat_le, nat_lt, length, true, false, None, flat_map}
+use Rattle.units.specs.Lists.{gather, has, numbered, when}
+use Rattle.units.specs.Ids.{same_id}
+use Rattle.record.specs.Records.{as_ended, is_aborted}
+use Rattle.record.specs.Whole.{decisions, fits_decision, promises_of, outcomes_fit}
+use Rattle.inspector.specs.declared.whole.Tally.TheVariants.{Never}
+use Rattle.inspector.specs.Entries.{log_at, logs_from}
+use Rattle.inspector.specs.Folds.{after, decisions_here, fits_all, sole}
 use Rattle.inspector.proofs.whole.each_fits.Given as goal
 
 abbrev pub invariant-loop-number : goal.invariant-loop-number
-invariant-loop-number l = list_all (fits_decision l.txn (record { shard = l.shard; commit = l.commit })) (numbered l.number (map (λ log. log.items) (drop l.number l.logs))) ≡ list_all (fits_decision l.txn (record { shard = l.shard; commit = l.commit })) (numbered 0 (map (λ log. log.items) l.logs))
+invariant-loop-number l = list_all (fits_decision l.txn (record { shard = l.shard; commit = l.commit })) (numbered l.number (logs_from (l.count - l.number) l.number l.entries)) ≡ list_all (fits_decision l.txn (record { shard = l.shard; commit = l.commit })) (numbered 0 (logs_from l.count 0 l.entries))

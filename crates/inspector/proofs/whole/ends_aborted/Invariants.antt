@@ -1,9 +1,13 @@
-use Rattle.std.specs.List.{list_any}
-use Rattle.std.proofs.Common.{◌≡◌, ℕ, ◌+◌, drop, map, Option, Some, None, cond, not, ◌++◌, ◌&&◌, [], nat_eq, nat_le, nat_lt, true}
-use Rattle.units.specs.Lists.{first, gather, head, numbered, sorted, has, when}
+use Rattle.std.specs.List.{list_all, list_any}
+use Rattle.std.proofs.Common.{◌≡◌, ℕ, ◌-◌, drop, not, ◌&&◌, nat_eq, nat_le, nat_lt, length, true, false, None, flat_map}
+use Rattle.units.specs.Lists.{gather, has, numbered, when}
 use Rattle.units.specs.Ids.{same_id}
-use Rattle.record.specs.Records.{id_in, as_ended, as_aborted, as_prepared, is_aborted}
+use Rattle.record.specs.Records.{as_ended, is_aborted}
+use Rattle.record.specs.Whole.{decisions, fits_decision, promises_of, outcomes_fit}
+use Rattle.inspector.specs.declared.whole.Tally.TheVariants.{Never}
+use Rattle.inspector.specs.Entries.{log_at, logs_from}
+use Rattle.inspector.specs.Folds.{after, decisions_here, fits_all, sole}
 use Rattle.inspector.proofs.whole.ends_aborted.Given as goal
 
-abbrev pub invariant-loop-item : goal.invariant-loop-item
-invariant-loop-item l = list_any (λ e. same_id e.txn l.txn && not (when (λ s. true) e.outcome)) (gather as_ended (drop l.item-index l.log)) ≡ list_any (λ e. same_id e.txn l.txn && not (when (λ s. true) e.outcome)) (gather as_ended l.log)
+abbrev pub invariant-loop-entry : goal.invariant-loop-entry
+invariant-loop-entry l = list_any (λ e. same_id e.txn l.txn && not (when (λ s. true) e.outcome)) (gather as_ended (log_at l.number (drop l.entry-index l.entries))) ≡ list_any (λ e. same_id e.txn l.txn && not (when (λ s. true) e.outcome)) (gather as_ended (log_at l.number l.entries))

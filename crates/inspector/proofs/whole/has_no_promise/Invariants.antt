@@ -1,6 +1,13 @@
-use Rattle.std.proofs.Common.{◌≡◌, ℕ, ◌+◌, drop, map, Option, Some, None, cond, not, ◌++◌, ◌&&◌, [], nat_eq, nat_le, nat_lt, length}
-use Rattle.record.specs.Whole.{decisions, is_whole, fits_decision, is_promise_for, promises_of, outcomes_fit, all_ids}
+use Rattle.std.specs.List.{list_all, list_any}
+use Rattle.std.proofs.Common.{◌≡◌, ℕ, ◌-◌, drop, not, ◌&&◌, nat_eq, nat_le, nat_lt, length, true, false, None, flat_map}
+use Rattle.units.specs.Lists.{gather, has, numbered, when}
+use Rattle.units.specs.Ids.{same_id}
+use Rattle.record.specs.Records.{as_ended, is_aborted}
+use Rattle.record.specs.Whole.{decisions, fits_decision, promises_of, outcomes_fit}
+use Rattle.inspector.specs.declared.whole.Tally.TheVariants.{Never}
+use Rattle.inspector.specs.Entries.{log_at, logs_from}
+use Rattle.inspector.specs.Folds.{after, decisions_here, fits_all, sole}
 use Rattle.inspector.proofs.whole.has_no_promise.Given as goal
 
-abbrev pub invariant-loop-item : goal.invariant-loop-item
-invariant-loop-item l = nat_eq (length (promises_of (drop l.item-index l.log) l.txn)) 0 ≡ nat_eq (length (promises_of l.log l.txn)) 0
+abbrev pub invariant-loop-entry : goal.invariant-loop-entry
+invariant-loop-entry l = nat_eq (length (promises_of (log_at l.number (drop l.entry-index l.entries)) l.txn)) 0 ≡ nat_eq (length (promises_of (log_at l.number l.entries) l.txn)) 0

@@ -13,5 +13,5 @@ returns c =
     record {
       value = is;
       oldest = subst (IsOldestReady c.args.self.now) (sym is) (subst (λ t. IsOldestReady t (ready t)) c.self.view_is
-          (ready_is_oldest items c.self.invariant.order));
+          (ready_is_oldest items c.self.invariant.0.order));
     }

@@ -1,0 +1,95 @@
+-- What the acceptance and the publishing of entries come to.
+use Rattle.std.proofs.Common.{◌≡◌, true, List, [], ◌∷◌, ◌++◌, Result, Ok, Err, MatchResult, drop, length, refl, ap, sym, subst, ◌∙◌, append_assoc}
+use Rattle.std.proofs.lemmas.List.{append-nil}
+use mathlib.Core.Bool.{true≢false}
+use mathlib.Core.List.{IsPrefix}
+use Rattle.board.specs.declared.entry.BoardEntry.{BoardEntry}
+use Rattle.units.specs.declared.fault.Fault.{Fault}
+use Rattle.units.specs.declared.fault.Fault.TheVariants.{Memory}
+use Rattle.board.specs.Board.{is_board}
+use Rattle.growing.proofs.Prefixes.{prefix_trans}
+use Rattle.board.specs.declared.change.BoardChange.{BoardChange}
+use Rattle.board.specs.declared.change.BoardChange.TheVariants.{Prepare, Commit}
+use Rattle.board.specs.State.{Page, is_quiet, prepared_by, pending_of}
+use Rattle.board.specs.Views.{Published}
+use Rattle.board.specs.Publications.{IsRefused, IsPublished, IsFinished}
+use Rattle.board.proofs.Steps.{all_ahead, same_pending}
+
+quiet_more : (changes : List BoardChange) (e : BoardEntry) → is_quiet changes ≡ true → is_quiet (changes ++ Prepare e ∷ []) ≡ true
+quiet_more [] e h = refl
+quiet_more (Prepare d ∷ changes) e h = quiet_more changes e h
+quiet_more (Commit ∷ changes) e h = absurd (true≢false (sym h))
+
+prepared_snoc : (changes : List BoardChange) (e : BoardEntry) → prepared_by (changes ++ Prepare e ∷ []) ≡ prepared_by changes ++ e ∷ []
+prepared_snoc [] e = refl
+prepared_snoc (Prepare d ∷ changes) e = ap (λ es. d ∷ es) (prepared_snoc changes e)
+prepared_snoc (Commit ∷ changes) e = prepared_snoc changes e
+
+pending_snoc : (x : Page) (changes : List BoardChange) (e : BoardEntry) → pending_of x (changes ++ Prepare e ∷ []) ≡ pending_of x changes ++ e ∷ []
+pending_snoc x changes e = ap (λ es. drop (length x.list) x.ahead ++ es) (prepared_snoc changes e) ∙ sym
+    (append_assoc (drop (length x.list) x.ahead) (prepared_by changes) (e ∷ []))
+
+-- the change of an entry was taken in, or came back
+abbrev pub Accepts : {A : Type 0} → List BoardChange → List BoardChange → BoardEntry → Result A BoardChange → Type 0
+Accepts changes changes' e result = MatchResult result (λ _. changes' ≡ changes ++ Prepare e ∷ []) (λ c. (c ≡ Prepare e) × (changes' ≡ changes))
+
+module _ {A : Type 0} (x : Page) (changes changes' : List BoardChange) (e : BoardEntry) where
+  pub accepted_quiet : (result : Result A BoardChange) → Accepts changes changes' e result → is_quiet changes ≡ true → is_quiet changes' ≡ true
+  accepted_quiet (Ok u) h quiet = ap is_quiet h ∙ quiet_more changes e quiet
+  accepted_quiet (Err c) h quiet = ap is_quiet h.1 ∙ quiet
+
+  pub accepted_lawful : (result : Result A BoardChange) → Accepts changes changes' e result → is_board (x.list ++ pending_of x changes) ≡ true
+      → is_board (x.list ++ pending_of x changes ++ e ∷ []) ≡ true
+      → is_board (x.list ++ pending_of x changes') ≡ true
+  accepted_lawful (Ok u) h lawful more = ap (λ cs. is_board (x.list ++ pending_of x cs)) h ∙
+      (ap (λ es. is_board (x.list ++ es)) (pending_snoc x changes e) ∙
+      (ap is_board (sym (append_assoc x.list (pending_of x changes) (e ∷ []))) ∙ more))
+  accepted_lawful (Err c) h lawful more = ap (λ cs. is_board (x.list ++ pending_of x cs)) h.1 ∙ lawful
+
+pub pending_more : (x : Page) (changes changes' : List BoardChange) (e : BoardEntry) → changes' ≡ changes ++ Prepare e ∷ []
+    → pending_of x changes' ≡ pending_of x changes ++ e ∷ []
+pending_more x changes changes' e h = ap (pending_of x) h ∙ pending_snoc x changes e
+
+-- entries were prepared, and the list stayed
+abbrev pub HasPrepared : Page → Page → List BoardChange → List BoardChange → Type 0
+HasPrepared x y changes changes' = ((y.list ≡ x.list) × (y.board ≡ x.board)) ×
+    ((y.ahead ++ prepared_by changes' ≡ x.ahead ++ prepared_by changes) × IsPrefix x.ahead y.ahead)
+
+pub prepared_twice : (x y z : Page) (cs ds es : List BoardChange) → HasPrepared x y cs ds → HasPrepared y z ds es → HasPrepared x z cs es
+prepared_twice x y z cs ds es p q = ((q.0.0 ∙ p.0.0, q.0.1 ∙ p.0.1), (q.1.0 ∙ p.1.0, prefix_trans x.ahead y.ahead z.ahead p.1.1 q.1.1))
+
+module _ (x z : Page) (changes changes' : List BoardChange) (p : HasPrepared x z changes changes') (longer : IsPrefix x.list x.ahead) where
+  pub still_longer : IsPrefix z.list z.ahead
+  still_longer = subst (λ (l : List BoardEntry). IsPrefix l z.ahead) (sym p.0.0) (prefix_trans x.list x.ahead z.ahead longer p.1.1)
+
+  pub refused : is_quiet changes' ≡ true → IsRefused x changes Memory z changes'
+  refused quiet = record {
+    memory = refl;
+    list = p.0.0;
+    board = p.0.1;
+    pending = same_pending x z changes changes' longer still_longer p.0.0 p.1.0;
+    quiet = quiet;
+    longer = still_longer;
+  }
+
+  -- all that was accepted is prepared
+  pub all_prepared : changes' ≡ [] → z.ahead ≡ x.list ++ pending_of x changes
+  all_prepared none = sym (append-nil z.ahead) ∙ (ap (λ cs. z.ahead ++ prepared_by cs) (sym none) ∙ (p.1.0 ∙ sym (all_ahead x changes longer)))
+
+  pub finished : (result : Result Published Fault) (w : Page) (last : List BoardChange) → changes' ≡ [] → IsFinished z result w last
+      → IsPublished x changes result w last
+  finished (Ok told) w last none v =
+      let all = all_prepared none in record {
+        shows = v.0 ∙ (λ i. (all i, all i, p.0.1 i));
+        none = v.1;
+        news = v.2 ∙ (λ i. record { board = p.0.1 i; list = all i });
+      }
+  finished (Err fault) w last none v =
+      let same = refused (ap is_quiet none) in record {
+        memory = v.0;
+        list = ap (λ (y : Page). y.list) v.1 ∙ same.list;
+        board = ap (λ (y : Page). y.board) v.1 ∙ same.board;
+        pending = (λ i. pending_of (v.1 i) ((v.2 ∙ sym none) i)) ∙ same.pending;
+        quiet = ap is_quiet v.2;
+        longer = subst (λ (y : Page). IsPrefix y.list y.ahead) (sym v.1) same.longer;
+      }

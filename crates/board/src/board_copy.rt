@@ -1,0 +1,229 @@
+//! One of the two copies of a board.
+ghost use Rattle.std.specs.Prelude.{◌≡◌, true, false, Some, [], ◌∷◌, ◌++◌, length, MatchResult, IfOk, IfErr, OnOk};
+ghost use mathlib.Core.List.{IsPrefix};
+ghost use Rattle.board.specs.Board.{safe_on, has_safe, first_entries, is_board};
+ghost use Rattle.board.specs.Look.{look_answer, look_buffer, value_seen, buffer_filled};
+ghost use Rattle.board.specs.State.{AddsVersion, Takes};
+ghost use Rattle.units.specs.Versions.{at_time};
+
+use crate::change::BoardChange;
+use crate::entry::{BoardEntry, copy_install};
+use crate::home::Home;
+use growing::{Beginning, Growing};
+use left_right::Absorb;
+use std::alloc::{AllocError, Global};
+use std::marker::Model;
+use units::{Fault, Install, Key, Seen, Stamp};
+use versions::{Versions, place_does_not_matter};
+
+/// What readers see. The list of entries itself exists in proofs alone.
+#[derive(Drop)]
+pub struct BoardCopy {
+    list: Growing<BoardEntry>,
+    // The list with the entries that are prepared.
+    ahead: Growing<BoardEntry>,
+    second: bool,
+    // The versions of that list. Those that are only prepared are above each timestamp at which it is looked.
+    versions: Versions,
+    safe: Stamp,
+    prepared_safe: Stamp,
+    alloc: Global,
+}
+
+impl Model for BoardCopy {
+    ghost use Rattle.std.specs.Prelude.{◌≡◌, length};
+    ghost use mathlib.Core.List.{IsPrefix};
+    ghost use Rattle.versions.specs.Places.{SameValues};
+    ghost use Rattle.board.specs.Board.{versions_on, safe_on};
+    ghost use Rattle.board.specs.State.{Page};
+
+    ghost Value = { Page };
+
+    ghost view = { λ s. record { board = s.list.names; second = s.list.second; list = s.list.entries; ahead = s.ahead.entries } };
+
+    ghost invariant = { λ s. (s.second ≡ s.list.second) × IsPrefix s.list.entries s.ahead.entries
+        × SameValues s.versions.installs (versions_on s.ahead.entries) × (s.safe ≡ safe_on s.list.entries) × (s.prepared_safe ≡ safe_on s.ahead.entries) };
+}
+
+impl Absorb<BoardChange> for BoardCopy {
+    ghost use Rattle.board.specs.State.{board_state, after_board_change};
+
+    // A clause reads an array as a list, of any length.
+    type State = ([BoardEntry; 0], [BoardEntry; 0], (u64, u64));
+
+    ghost state = { board_state };
+
+    ghost applied = { after_board_change };
+
+    fn absorb_first(&mut self, change: &BoardChange, _other: &BoardCopy) -> Result<(), AllocError> {
+        match change {
+            BoardChange::Prepare(entry) => match self.prepare(entry) {
+                Ok(()) => Ok(()),
+                Err(_) => Err(AllocError),
+            },
+            BoardChange::Commit => {
+                self.commit();
+                Ok(())
+            }
+        }
+    }
+}
+
+impl BoardCopy {
+    pub(crate) fn new(
+        alloc: Global,
+        list: Growing<BoardEntry>,
+        ahead: Growing<BoardEntry>,
+        second: bool,
+    ) -> BoardCopy
+        requires { (list.entries ≡ []) × (ahead.entries ≡ []) × (list.second ≡ second) }
+        ensures { result ≡ record { board = list.names; second = second; list = []; ahead = [] } }
+    {
+        BoardCopy {
+            list,
+            ahead,
+            second,
+            versions: Versions::none(alloc),
+            safe: Stamp::zero(),
+            prepared_safe: Stamp::zero(),
+            alloc,
+        }
+    }
+
+    /// Prepares a copy of the entry. One that breaks the rule of boards is not taken.
+    pub(crate) fn prepare(&mut self, entry: &BoardEntry) -> Result<(), Fault>
+        ensures { Takes self.old (record self.old { ahead = self.old.ahead ++ entry.now ∷ [] }) result self.new }
+    {
+        match entry {
+            BoardEntry::Installed(install) => {
+                add_version(&mut self.versions, self.alloc, install)?;
+                self.ahead.add(entry);
+            }
+            BoardEntry::Safe(at) => {
+                self.prepared_safe = *at;
+                self.ahead.add(entry);
+            }
+        }
+        Ok(())
+    }
+
+    /// Shows what is prepared. This takes no memory.
+    pub(crate) fn commit(&mut self)
+        ensures { self.new ≡ record self.old { list = self.old.ahead } }
+    {
+        self.safe = self.prepared_safe;
+        self.list.follow(&self.ahead);
+    }
+
+    /// Adds copies of the installs, and then the safe timestamp.
+    pub(crate) fn open(mut self, installs: &[Install], safe: Stamp) -> Result<BoardCopy, Fault>
+        requires { self.ahead ≡ [] }
+        ensures list { IfOk result (λ s.
+            s ≡ record self { list = first_entries installs.now safe; ahead = first_entries installs.now safe }) }
+        ensures memory { IfErr result (λ fault. fault ≡ Fault.Memory) }
+    {
+        let alloc = self.alloc;
+        for install in installs {
+            let entry = BoardEntry::Installed(copy_install(install, alloc)?);
+            self.prepare(&entry)?;
+        }
+        self.prepare(&BoardEntry::Safe(safe))?;
+        self.commit();
+        Ok(self)
+    }
+
+    pub(crate) fn is_second(&self) -> bool
+        ensures { result ≡ self.now.second }
+    {
+        self.second
+    }
+
+    /// The last safe timestamp.
+    pub(crate) fn safe(&self) -> Stamp
+        ensures { result ≡ safe_on self.now.list }
+    {
+        self.safe
+    }
+
+    /// The list so far.
+    pub(crate) fn so_far(&self) -> Beginning<BoardEntry>
+        ensures { (result.entries ≡ self.now.list) × (result.names ≡ self.now.board) × (result.second ≡ self.now.second) }
+    {
+        self.list.so_far()
+    }
+
+    /// The list begins with a list that both copies of the board have had.
+    pub(crate) fn begins_with(&self, first: &Beginning<BoardEntry>, second: &Beginning<BoardEntry>)
+        requires sides { (first.now.second ≡ false) × (second.now.second ≡ true) }
+        requires same { (second.now.names ≡ first.now.names) × (second.now.entries ≡ first.now.entries) }
+        requires board { first.now.names ≡ self.now.board }
+        ensures { IsPrefix first.now.entries self.now.list }
+    {
+        if self.second {
+            self.list.begins_with(second);
+        } else {
+            self.list.begins_with(first);
+        }
+    }
+
+    /// The value of a key at a timestamp goes to the front of the buffer.
+    pub(crate) fn look(
+        &self,
+        home: &Home,
+        key: &Key,
+        at: Stamp,
+        buffer: &mut [u8],
+    ) -> Result<Seen, Fault>
+        requires lawful { is_board self.now.ahead ≡ true }
+        requires safe { has_safe self.now.list ≡ true }
+        ensures answer { result ≡ look_answer home.now self.now.list key.now at (length buffer.old) }
+        ensures buffer { buffer.new ≡ look_buffer home.now self.now.list key.now at buffer.old }
+    {
+        if !home.has(key) {
+            return Err(Fault::Stranger);
+        }
+        if self.safe.micros() < at.micros() {
+            return Err(Fault::NotYet);
+        }
+        read(&self.versions, key, at, buffer)
+    }
+}
+
+// Adds a copy of a version, which is above its key's others.
+fn add_version(versions: &mut Versions, alloc: Global, install: &Install) -> Result<(), Fault>
+    ensures added { OnOk result (AddsVersion versions.old.installs versions.new.installs install.now) }
+    ensures refused { IfErr result (λ fault. (fault ≡ Fault.Memory) × (versions.new.installs ≡ versions.old.installs)) }
+{
+    place_does_not_matter();
+    let Install { key, at, value } = copy_install(install, alloc)?;
+    versions.reserve(1)?;
+    if !versions.takes(&key, at) {
+        return Err(Fault::Memory);
+    }
+    versions.install(key, at, value);
+    Ok(())
+}
+
+// Puts the value of a key at a timestamp at the front of a buffer.
+fn read(versions: &Versions, key: &Key, at: Stamp, buffer: &mut [u8]) -> Result<Seen, Fault>
+    ensures answer { result ≡ value_seen (at_time versions.now.installs key.now at) (length buffer.old) }
+    ensures buffer { buffer.new ≡ buffer_filled (at_time versions.now.installs key.now at) buffer.old }
+{
+    match versions.at(key, at) {
+        None => Ok(Seen::Absent),
+        Some(value) => put_in_front(value.as_bytes(), buffer),
+    }
+}
+
+// Puts some bytes at the front of a buffer, where they have room.
+fn put_in_front(bytes: &[u8], buffer: &mut [u8]) -> Result<Seen, Fault>
+    ensures answer { result ≡ value_seen (Some bytes.now) (length buffer.old) }
+    ensures buffer { buffer.new ≡ buffer_filled (Some bytes.now) buffer.old }
+{
+    let size = bytes.len();
+    if buffer.len() < size {
+        return Err(Fault::Room);
+    }
+    buffer[..size].copy_from_slice(bytes);
+    Ok(Seen::Value(size))
+}

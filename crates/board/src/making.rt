@@ -1,0 +1,125 @@
+//! A new board.
+ghost use Rattle.std.specs.Prelude.{◌≡◌, ◌<◌, ◌≤◌, true, [], ◌∷◌, length, drop, All, IfOk, ◌⊎◌, IfErr};
+ghost use Rattle.std.specs.Arc.{arc_value};
+ghost use Rattle.board.specs.Board.{first_entries, is_board};
+ghost use Rattle.board.specs.State.{HasList};
+ghost use Rattle.board.specs.Views.{new_viewer, AreViewers};
+ghost use Rattle.left_right.specs.Sides.{view};
+
+use crate::board_copy::BoardCopy;
+use crate::home::Home;
+use crate::press::{BoardWriter, Press, settle};
+use crate::publisher::Publisher;
+use crate::rule::Note;
+use crate::told::Told;
+use crate::viewer::Viewer;
+use growing::Growing;
+use left_right::writer::Writer;
+use std::alloc::{AllocError, Global};
+use std::sync::{Arc, Wait};
+use units::{Fault, Install, Reason, ShardNo, Splits, Stamp};
+
+/// The most viewers of a board.
+pub const MOST_VIEWERS: usize = 64;
+
+// A viewer that knows of what the writer knows of.
+fn viewer(
+    writer: &mut BoardWriter,
+    home: &Arc<Home, Global>,
+    told: &Told,
+) -> Result<Viewer, AllocError>
+    requires { view writer.old.desk.place ≡ (told.now.list, told.now.list, told.now.board) ∷ [] }
+    ensures viewer { IfOk result (λ v. v ≡ new_viewer told.now.board told.now.list (arc_value home.now)) }
+    ensures writer { (writer.new.desk.shown ≡ writer.old.desk.shown) × (writer.new.log ≡ writer.old.log)
+        × (writer.new.behind ≡ writer.old.behind) × (view writer.new.desk.place ≡ view writer.old.desk.place) }
+{
+    let mut reader = writer.factory().reader()?;
+    let home = Arc::try_clone(home)?;
+    reader.learn::<Note>(writer.tell::<Note>());
+    Ok(Viewer::over(reader, home, told))
+}
+
+fn viewers(
+    writer: &mut BoardWriter,
+    alloc: Global,
+    home: &Arc<Home, Global>,
+    told: &Told,
+    n: usize,
+) -> Result<Vec<Viewer>, AllocError>
+    requires { view writer.old.desk.place ≡ (told.now.list, told.now.list, told.now.board) ∷ [] }
+    ensures viewers { IfOk result (λ v.
+        AreViewers n (new_viewer told.now.board told.now.list (arc_value home.now)) v.items) }
+    ensures writer { (writer.new.desk.shown ≡ writer.old.desk.shown) × (writer.new.log ≡ writer.old.log)
+        × (writer.new.behind ≡ writer.old.behind) }
+{
+    let mut viewers = Vec::new(alloc);
+    for _made in 0..n {
+        viewers.push(viewer(writer, home, told)?)?;
+    }
+    Ok(viewers)
+}
+
+/// A board with these installs and this safe timestamp, for the keys of one shard, with so many viewers.
+pub fn start<R: Wait + Drop>(
+    rt: R,
+    alloc: Global,
+    installs: &[Install],
+    safe: Stamp,
+    splits: Splits,
+    shard: ShardNo,
+    n: usize,
+) -> Result<(Publisher<R>, Vec<Viewer>), Fault>
+    requires { is_board (first_entries installs.now safe) ≡ true }
+    ensures publisher { IfOk result (λ r. (r.0.published ≡ first_entries installs.now safe) × (r.0.pending ≡ [])) }
+    ensures viewers { IfOk result (λ r. AreViewers n (new_viewer r.0.board (first_entries installs.now safe)
+        (record { splits = splits; shard = shard })) r.1.items) }
+    ensures many { (n ≡ 0) ⊎ (64 < n) → result ≡ Err (Fault.BadRequest Reason.Many) }
+    ensures refused { (0 < n) × (n ≤ 64) → IfErr result (λ e. e ≡ Fault.Memory) }
+{
+    if n == 0 || n > MOST_VIEWERS {
+        return Err(Fault::BadRequest(Reason::Many));
+    }
+    let home = Home { splits, shard };
+    make(rt, alloc, installs, safe, home, n)
+}
+
+fn copies(alloc: Global, installs: &[Install], safe: Stamp) -> Result<(BoardCopy, BoardCopy), Fault>
+    ensures memory { IfErr result (λ fault. fault ≡ Fault.Memory) }
+    ensures first { IfOk result (λ c. HasList c.0 (first_entries installs.now safe)) }
+    ensures second { IfOk result (λ c. HasList c.1 (first_entries installs.now safe)) }
+    ensures board { IfOk result (λ c. c.1.board ≡ c.0.board) }
+{
+    let (first, second) = Growing::twins();
+    let (one, other) = Growing::twins();
+    let first = BoardCopy::new(alloc, first, one, false).open(installs, safe)?;
+    let second = BoardCopy::new(alloc, second, other, true).open(installs, safe)?;
+    Ok((first, second))
+}
+
+fn make<R: Wait + Drop>(
+    rt: R,
+    alloc: Global,
+    installs: &[Install],
+    safe: Stamp,
+    home: Home,
+    n: usize,
+) -> Result<(Publisher<R>, Vec<Viewer>), Fault>
+    requires lawful { is_board (first_entries installs.now safe) ≡ true }
+    requires count { (0 < n) × (n ≤ 64) }
+    ensures memory { IfErr result (λ fault. fault ≡ Fault.Memory) }
+    ensures publisher { IfOk result (λ r. (r.0.published ≡ first_entries installs.now safe) × (r.0.pending ≡ [])) }
+    ensures viewers { IfOk result (λ r.
+        AreViewers n (new_viewer r.0.board (first_entries installs.now safe) home) r.1.items) }
+{
+    let home = Arc::new(alloc, home)?;
+    let (first, second) = copies(alloc, installs, safe)?;
+    let writer = Writer::new(alloc, first, second, n)?;
+    let (mut writer, told) = settle(&rt, writer);
+    match viewers(&mut writer, alloc, &home, &told, n) {
+        Ok(viewers) => Ok((Publisher::over(rt, Press::over(writer)), viewers)),
+        Err(_) => {
+            writer.take(&rt);
+            Err(Fault::Memory)
+        }
+    }
+}

@@ -1,0 +1,51 @@
+//! Published of a board's list.
+ghost use Rattle.std.specs.Prelude.{◌≡◌, true, false};
+ghost use Rattle.board.specs.Board.{safe_on};
+
+use crate::entry::BoardEntry;
+use growing::Beginning;
+use std::marker::Model;
+use units::Stamp;
+
+/// A list that a publisher has published, as both copies of the board have had it. It takes no room for the list.
+#[derive(Drop)]
+pub struct Told {
+    pub(crate) first: Beginning<BoardEntry>,
+    pub(crate) second: Beginning<BoardEntry>,
+    safe: Stamp,
+}
+
+impl Model for Told {
+    ghost use Rattle.std.specs.Prelude.{◌≡◌, true, false};
+    ghost use Rattle.board.specs.Board.{safe_on};
+    ghost use Rattle.board.specs.Views.{Published};
+
+    ghost Value = { Published };
+
+    ghost view = { λ t. record { board = t.first.names; list = t.first.entries } };
+
+    ghost invariant = { λ t. (t.first.second ≡ false) × (t.second.second ≡ true) × (t.second.names ≡ t.first.names)
+        × (t.second.entries ≡ t.first.entries) × (t.safe ≡ safe_on t.first.entries) };
+}
+
+impl Told {
+    pub(crate) fn of(first: Beginning<BoardEntry>, second: Beginning<BoardEntry>, safe: Stamp) -> Told
+        requires sides { (first.second ≡ false) × (second.second ≡ true) }
+        requires same { (second.names ≡ first.names) × (second.entries ≡ first.entries) }
+        requires safe { safe ≡ safe_on first.entries }
+        ensures { result ≡ record { board = first.names; list = first.entries } }
+    {
+        Told {
+            first,
+            second,
+            safe,
+        }
+    }
+
+    /// The last safe timestamp of the list.
+    pub fn safe(&self) -> Stamp
+        ensures { result ≡ safe_on self.now.list }
+    {
+        self.safe
+    }
+}

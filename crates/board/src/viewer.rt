@@ -1,0 +1,102 @@
+//! A reader of a board, which never waits.
+ghost use Rattle.std.specs.Prelude.{◌≡◌, ◌≢◌, ◌≤◌, [], ◌∷◌, Err};
+ghost use mathlib.Core.List.{IsPrefix};
+ghost use Rattle.board.specs.Board.{safe_on};
+ghost use Rattle.growing.specs.Owns.{longer_of};
+ghost use Rattle.board.specs.Views.{LookedBy, new_viewer};
+ghost use Rattle.std.specs.Arc.{arc_value};
+ghost use Rattle.left_right.specs.Sides.{view};
+
+use crate::board_copy::BoardCopy;
+use crate::entry::BoardEntry;
+use crate::home::Home;
+use crate::rule::{OneList, SeenStates, SeesList};
+use crate::told::Told;
+use growing::Beginning;
+use left_right::reader::Reader;
+use std::alloc::Global;
+use std::marker::Model;
+use std::sync::Arc;
+use units::{Fault, Key, Seen, Stamp};
+
+/// One who looks at a board.
+#[derive(Drop)]
+pub struct Viewer {
+    reader: Option<Reader<BoardCopy, SeenStates, OneList>>,
+    home: Arc<Home, Global>,
+    // The longest list that was told, as the two copies have had it.
+    first: Beginning<BoardEntry>,
+    second: Beginning<BoardEntry>,
+}
+
+impl Model for Viewer {
+    ghost use Rattle.std.specs.Prelude.{◌≡◌, true, false, [], unwrap_or, option_map, IsSome};
+    ghost use Rattle.std.specs.Arc.{arc_value};
+    ghost use Rattle.left_right.specs.Sides.{view as knowledge};
+    ghost use Rattle.board.specs.Views as views;
+
+    ghost Value = { views.Viewing };
+
+    ghost view = { λ v. record {
+      board = v.first.names;
+      told = v.first.entries;
+      home = arc_value v.home;
+      seen = views.newest_of (unwrap_or (option_map (λ r. knowledge r.place) v.reader) []);
+    } };
+
+    ghost invariant = { λ v. IsSome v.reader
+        × views.IsOneState (unwrap_or (option_map (λ r. knowledge r.place) v.reader) []) v.first.names
+        × (v.first.second ≡ false) × (v.second.second ≡ true)
+        × (v.second.names ≡ v.first.names) × (v.second.entries ≡ v.first.entries) };
+}
+
+impl Viewer {
+    pub(crate) fn over(
+        reader: Reader<BoardCopy, SeenStates, OneList>,
+        home: Arc<Home, Global>,
+        told: &Told,
+    ) -> Viewer
+        requires { view reader.place ≡ (told.now.list, told.now.list, told.now.board) ∷ [] }
+        ensures { result ≡ new_viewer told.now.board told.now.list (arc_value home) }
+    {
+        Viewer {
+            reader: Some(reader),
+            home,
+            first: told.first.again(),
+            second: told.second.again(),
+        }
+    }
+
+    /// From now on a look sees a list that begins with what was told.
+    pub fn learn(&mut self, told: &Told)
+        requires { told.now.board ≡ self.old.board }
+        ensures new { self.new ≡ record self.old { told = longer_of self.old.told told.now.list } }
+        ensures begins { IsPrefix self.old.told self.new.told × IsPrefix told.now.list self.new.told }
+    {
+        self.first = self.first.longer(&told.first);
+        self.second = self.second.longer(&told.second);
+    }
+
+    /// The value of a key at a timestamp, by the board's list at one step. It is stopped only where the board gives no entry.
+    pub fn look(&mut self, key: &Key, at: Stamp, buffer: &mut [u8]) -> Result<Seen, Fault>
+        ensures same { (self.new.board ≡ self.old.board) × (self.new.home ≡ self.old.home) × (self.new.told ≡ self.old.told) }
+        ensures answer { result ≢ Err Fault.Stopped → LookedBy self.old key.now at buffer.old result self.new buffer.new }
+        ensures stopped { result ≡ Err Fault.Stopped → (self.new ≡ self.old) × (buffer.new ≡ buffer.old) }
+        ensures told { at ≤ safe_on self.old.told → result ≢ Err Fault.NotYet }
+    {
+        let reader = self.reader.take().unwrap();
+        match reader.enter_as::<SeesList>() {
+            Ok(reading) => {
+                let shown = reading.get();
+                shown.begins_with(&self.first, &self.second);
+                let seen = shown.look(&self.home, key, at, buffer);
+                self.reader = Some(reading.leave());
+                seen
+            }
+            Err(reader) => {
+                self.reader = Some(reader);
+                Err(Fault::Stopped)
+            }
+        }
+    }
+}
