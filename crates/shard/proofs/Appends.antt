@@ -7,6 +7,14 @@ use Rattle.gatelog.specs.Placed.{Placed}
 use Rattle.gatelog.specs.Crash.{IsOldOrWith}
 use Rattle.gatelog.specs.Log.{log, and_entry}
 use Rattle.shard.specs.Logs.{items_of, records_in, and_logged, HoldsOldOrWith}
+use Rattle.std.specs.Prelude.{Bool, true, false, get_or, nat_lt}
+use Rattle.disk.specs.declared.plan.Fate.TheVariants.{Old}
+use Rattle.disk.specs.Planned.{IsAsPlanned}
+use Rattle.gatelog.specs.Armed.{IsArmed}
+use Rattle.gatelog.specs.Gates.{is_read, is_left}
+use Rattle.gatelog.specs.Armed as gates
+use Rattle.gatelog.proofs.Armed.{planned_err}
+use Rattle.shard.specs.Armed.{AreArmed, FailsIn, HasPlace, with_if}
 
 items-append : (es : List Placed) (e : Placed) → map (λ p. p.item) (es ++ e ∷ []) ≡ map (λ p. p.item) es ++ e.item ∷ []
 items-append [] e = refl
@@ -34,3 +42,22 @@ module _ (before now : File) (same : now ≡ before) (staged : Placed) (item : R
   pub old_or_with : (image : List ℕ) → IsOldOrWith (log (surface now).seen) staged image → HoldsOldOrWith (records_in (surface before).seen) (Some item) image
   old_or_with image (inl old) = inl (ap items_of old ∙ ap (λ (f : File). records_in (surface f).seen) same)
   old_or_with image (inr with) = inr (logged-is image with)
+
+  with-if : (b : Bool) → items_of (gates.with_if b (log (surface now).seen) staged) ≡ with_if b (records_in (surface before).seen) item
+  with-if true =
+      items-and_entry (log (surface now).seen) staged
+      ∙ ap (λ (r : Record). and_logged (records_in (surface now).seen) (Some r)) is
+      ∙ ap (λ (f : File). and_logged (records_in (surface f).seen) (Some item)) same
+  with-if false = ap (λ (f : File). records_in (surface f).seen) same
+
+  -- what a call that is to fail leaves of the records
+  pub armed_as : (call : ℕ) (file : File) → IsArmed call (log (surface now).seen) staged file → AreArmed call (records_in (surface before).seen) item file
+  armed_as call file armed = record {
+    read = ap items_of armed.read ∙ with-if (is_read call);
+    left = λ fates. ap items_of (armed.left fates) ∙ with-if (is_left call (get_or fates 0 Old));
+  }
+
+  pub fails_in : (T : Type 0) (call gate : ℕ) (file : File) (error : Fault) → HasPlace gate (Some item)
+      → IsAsPlanned {T = T} (nat_lt call 4) (Err error) × IsArmed call (log (surface now).seen) staged file
+      → FailsIn call gate (records_in (surface before).seen) (Some item) file error
+  fails_in T call gate file error place h device = (planned_err T (nat_lt call 4) error h.0, place, armed_as call file h.1)

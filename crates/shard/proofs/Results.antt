@@ -1,12 +1,12 @@
 -- What an input that is refused, or that logs nothing, leaves of a core.
-use Rattle.std.proofs.Common.{◌∙◌, ◌≡◌, inl, inr, ℕ, ◌+◌, ◌^◌, ◌≤◌, ◌<◌, true, IsTrue, IsFalse, List, Option, Some, None, Result, Ok, Err, IfOk, refl}
+use Rattle.std.proofs.Common.{◌∙◌, ◌≡◌, inl, inr, ℕ, ◌+◌, ◌^◌, ◌≤◌, ◌<◌, nat_lt, true, IsTrue, IsFalse, List, Option, Some, None, Result, Ok, Err, IfOk, refl}
 use Rattle.std.proofs.Common.{sym, subst, arith}
 use Rattle.std.proofs.lemmas.Bool.{false≢true}
 use Rattle.units.specs.declared.fault.Fault.{Fault}
 use Rattle.units.specs.declared.fault.Fault.TheVariants.{Device, Memory as WantsMemory}
 use Rattle.units.specs.declared.setup.Setup.{Setup}
 use Rattle.disk.specs.declared.plan.FailurePlan.{FailurePlan}
-use Rattle.disk.specs.declared.plan.FailurePlan.TheVariants.{Never}
+use Rattle.disk.specs.declared.plan.FailurePlan.TheVariants.{Never, AfterWrite}
 use Rattle.gatelog.specs.Frames.{next_gate}
 use Rattle.disk.specs.Image.{MayLeave}
 use Rattle.disk.specs.File.{File, surface}
@@ -20,6 +20,7 @@ use Rattle.protocol.specs.Step.{Stepped, Refuses, Does, facts_after, stepped}
 use Rattle.protocol.specs.Refusals.{Owns, is_own}
 use Rattle.memory.specs.Kept.{IsRefusal}
 use Rattle.shard.specs.Logs.{records_in, and_logged, KeepsRecords, HoldsOldOrWith}
+use Rattle.shard.specs.Armed.{FailsIn}
 use Rattle.shard.specs.On.{CoreView, IsCause, IsDone, IsLogFull, HasWritten, HasStepped}
 
 abbrev no_answer : Fault → Result (List Envelope) Fault
@@ -35,6 +36,12 @@ pub refusal_is_no_device : (planned : Planned) (fault : Fault) → Owns planned 
 refusal_is_no_device (Ok p) fault own refusal device = cc
 refusal_is_no_device (Err why) fault own refusal device =
     absurd (false≢true (subst (λ (f : Fault). is_own f ≡ true) (sym refusal ∙ device) own))
+
+-- where the device does not fail, no call that is armed does
+pub fails_not : (call gate : ℕ) (records : Result (List Record) Fault) (logged : Option Record) (file : File) (fault : Fault)
+    → (fault ≡ Device → ⊥) → FailsIn call gate records logged file fault
+fails_not call gate records None file fault other = other
+fails_not call gate records (Some r) file fault other = λ device. absurd (other device)
 
 -- what is put out
 pub outbox_of : {D : Type 0} (old new : CoreView D) (logged : Option Record) (after : Memory) (outbox : List Envelope) (result : Result (List Envelope) Fault)
@@ -69,8 +76,10 @@ module _ {D : Type 0} (keeps obeys : Type 0) (file : D → File) (clock : D → 
         durable = tt;
         read = tt;
         gate = tt;
+        place = tt;
         kept = (is_facts, is_memory, inr (refl, refl, refl));
         planned = λ obey never. (never, other);
+        armed = λ call run obey keep is. (tt, fails_not call core.gate (records_in (surface (file core.disk)).seen) logged (file core.disk) fault other);
       }
 
       -- a refusal of a plan; or want of memory, where there is one
@@ -111,8 +120,10 @@ module _ {D : Type 0} (keeps obeys : Type 0) (file : D → File) (clock : D → 
               (sym (and-none (records_in (surface (file core.disk)).seen))) (stands keep);
           read = λ keep. sym (and-none (records_in (surface (file core.disk)).seen));
           gate = (refl, omega arith);
+          place = tt;
           kept = tt;
           planned = λ obey never. (never, tt);
+          armed = λ call run obey keep is. (tt, tt);
         };
         done = (running, running, (is_facts, is_memory, refl));
         cause = tt;
@@ -141,9 +152,11 @@ module _ {D : Type 0} (keeps obeys : Type 0) (file : D → File) (clock : D → 
         → (IsFalse core.stopped → keeps → LeavesOnly clock since core.disk new.disk (HoldsOldOrWith (records_in (surface (file core.disk)).seen) (Some r)))
         → (keeps → KeepsRecords (surface (file new.disk)) (and_logged (records_in (surface (file core.disk)).seen) (Some r)))
         → (keeps → records_in (surface (file new.disk)).seen ≡ and_logged (records_in (surface (file core.disk)).seen) (Some r))
-        → (new.gate ≡ next_gate core.gate r) × (new.gate ≤ core.gate + 2 ^ 20 + 5) → (obeys → plan core.disk ≡ Never → plan new.disk ≡ Never)
+        → (new.gate ≡ next_gate core.gate r) × (new.gate ≤ core.gate + 2 ^ 20 + 5) → next_gate core.gate r + 1 ≤ 2 ^ 40
+        → (obeys → plan core.disk ≡ Never → plan new.disk ≡ Never)
+        → ((call : ℕ) → IsFalse core.stopped → obeys → keeps → plan core.disk ≡ AfterWrite call → IsFalse (nat_lt call 4))
         → HasStepped keeps obeys file clock since failures plan core new (Does step_logged after out) (Ok answer)
-    logged_as new r step_logged after out answer is_logged is_out setup facts memory runs stay moments durable read gate never =
+    logged_as new r step_logged after out answer is_logged is_out setup facts memory runs stay moments durable read gate place never past =
         restated new (Some r) step_logged after out answer is_logged is_out (record {
           written = record {
             setup = setup;
@@ -152,8 +165,10 @@ module _ {D : Type 0} (keeps obeys : Type 0) (file : D → File) (clock : D → 
             durable = durable;
             read = read;
             gate = gate;
+            place = place;
             kept = tt;
             planned = λ obey armed. (never obey armed, tt);
+            armed = λ call run obey keep is. (past call run obey keep is, tt);
           };
           done = (running, runs, (facts, memory, refl));
           cause = tt;

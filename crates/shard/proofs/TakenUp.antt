@@ -8,7 +8,6 @@ use Rattle.units.specs.declared.fault.Fault.{Fault}
 use Rattle.units.specs.declared.fault.Fault.TheVariants.{Memory as WantsMemory, Device, TimeSpent, NotALog, Damaged}
 use Rattle.units.specs.declared.setup.Setup.{Setup}
 use Rattle.disk.specs.declared.plan.FailurePlan.{FailurePlan}
-use Rattle.disk.specs.declared.plan.FailurePlan.TheVariants.{Never}
 use Rattle.disk.specs.File.{File, surface}
 use Rattle.disk.specs.Image.{MayLeave, after_sync}
 use Rattle.disk.specs.Moments.{LeavesOnly}
@@ -21,14 +20,16 @@ use Rattle.record.specs.Records.{epoch_of}
 use Rattle.record.specs.declared.record.Record.{Record}
 use Rattle.facts.specs.Rules.{follows_facts}
 use Rattle.facts.proofs.Known.{follows_as_known}
-use Rattle.gatelog.specs.Frames.{IsFull}
-use Rattle.gatelog.specs.Log.{ends_at, log, is_no_log}
+use Rattle.gatelog.specs.Armed.{waits}
+use Rattle.gatelog.specs.Frames.{IsFull, end_of, next_gate}
+use Rattle.gatelog.specs.Log.{log, is_no_log}
 use Rattle.gatelog.specs.Placed.{Placed}
 use Rattle.protocol.specs.Rows.{rebuilt}
 use Rattle.recovery.specs.Recovered.{fault_in, items}
+use Rattle.shard.specs.Armed.{FailsIn, HasPlace}
 use Rattle.shard.specs.Logs.{records_in, and_logged, facts_logged, items_of, KeepsRecords, HoldsOldOrWith}
-use Rattle.shard.specs.On.{CoreView, gate_behind}
-use Rattle.shard.specs.Opened.{HasAppended, HasNotAppended, HasNotOpened, HasOpened, IsSpent, IsTaken, IsToldReason, is_reason, LeavesOpening}
+use Rattle.shard.specs.On.{CoreView}
+use Rattle.shard.specs.Opened.{HasAppended, HasNotAppended, HasNotOpened, HasOpened, IsEpoch, IsSpent, IsTaken, IsToldReason, is_reason, LeavesOpening}
 use Rattle.shard.specs.Opened.{fault_of, next_opening, opening_of}
 use Rattle.shard.proofs.Openings.{follows_next}
 
@@ -112,11 +113,11 @@ module _ {D : Type 0} (keeps obeys : Type 0) (file : D → File) (clock : D → 
   -- what was read, and what reading it did to the disk
   pub record Found (disk mid : D) (gate : ℕ) (entries : List Placed) : Type 0 where
     pub entries_are : keeps → log (surface (file disk)).seen ≡ Ok entries
-    pub ends : keeps → IsTrue (ends_at (surface (file disk)).seen gate)
+    pub ends : gate ≡ end_of (items entries)
     pub clean : keeps → surface (file mid) ≡ after_sync (surface (file disk))
     pub moment : keeps → LeavesOnly clock since disk mid (MayLeave (surface (file disk)))
     pub failures_stay : failures disk ≤ failures mid
-    pub planned : obeys → plan disk ≡ Never → plan mid ≡ Never
+    pub planned : obeys → waits (plan disk) ≡ true → plan mid ≡ plan disk
 
   module _ (disk mid : D) (gate : ℕ) (entries : List Placed) (found : Found disk mid gate entries) where
     -- it reads as before
@@ -160,14 +161,23 @@ module _ {D : Type 0} (keeps obeys : Type 0) (file : D → File) (clock : D → 
           any_moment = λ keep. leaves keep core.disk (it.any_moment keep);
           durable = λ keep. subst (KeepsRecords (surface (file core.disk))) (with_opening keep) (it.durable keep);
           read = λ keep. it.read keep ∙ with_opening keep;
-          gate = λ keep. (gate, found.ends keep, it.gate ∙ ap (gate_behind gate) (sym (opening_is keep)));
+          gate = λ records keep read.
+              let all : Ok (items entries) ≡ Ok records = sym (records_are keep) ∙ read in
+              let these : items entries ≡ records = cc in
+              subst (λ rs. (core.gate ≡ next_gate (end_of rs) (next_opening rs)) × HasPlace (end_of rs) (Some (next_opening rs))) these
+              (subst (λ g. (core.gate ≡ next_gate g (next_opening (items entries))) × HasPlace g (Some (next_opening (items entries)))) found.ends it.gate);
+          epoch = λ records keep read.
+              let all : Ok (items entries) ≡ Ok records = sym (records_are keep) ∙ read in
+              let these : items entries ≡ records = cc in
+              subst (λ rs. epoch_of rs + 1 < 2 ^ 62) these it.epoch;
           failures_stay = omega (arith, found.failures_stay, it.failures_stay);
-          planned = λ obey never. it.planned obey (found.planned obey never);
+          planned = λ obey never. it.planned obey (found.planned obey (ap waits never) ∙ never);
+          armed = λ call obey keep is. it.armed call obey keep (found.planned obey (ap waits is) ∙ is);
         }
 
     pub not_opened : (told : Setup) (item : Record) (full : Type 0) (fault : Fault) (back : D) → item ≡ next_opening (items entries)
         → taken told (items entries) ≡ Accepted → (full → (2 ^ 62 ≤ epoch_of (items entries) + 1) ⊎ IsFull gate (next_opening (items entries)))
-        → HasNotAppended keeps obeys file clock since failures plan mid item full fault back →
+        → HasNotAppended keeps obeys file clock since failures plan mid gate item full fault back →
         HasNotOpened keeps obeys file clock since failures plan disk told fault back
     not_opened told item full fault back same accepted spent refused = record {
       cause = ⊎_elim (λ memory. inl memory) (⊎_elim (λ device. inr (inl (device.0, omega (arith, found.failures_stay, device.1))))
@@ -175,16 +185,53 @@ module _ {D : Type 0} (keeps obeys : Type 0) (file : D → File) (clock : D → 
       any_moment = λ keep. leaves keep back (subst (λ r. LeavesOnly clock since mid back (HoldsOldOrWith (records_in (surface (file mid)).seen)
           (Some r))) same (refused.any_moment keep));
       unchanged = ⊎_elim (λ device. inl device) (λ kept. inr (λ keep. ap (λ f. (surface f).seen) kept ∙ ap (λ s. s.seen) (found.clean keep))) refused.unchanged;
+      synced = ⊎_elim (λ device. inr (inl device)) (λ kept. inr (inr (λ keep. ap surface kept ∙ found.clean keep))) refused.unchanged;
+      armed = λ call records obey keep is read.
+          let all : Ok (items entries) ≡ Ok records = sym (records_are keep) ∙ read in
+          let these : items entries ≡ records = cc in (
+            subst (λ rs. FailsIn call (end_of rs) (Ok rs) (Some (next_opening rs)) (file back) fault) these
+                (subst (λ g. FailsIn call g (Ok (items entries)) (Some (next_opening (items entries))) (file back) fault) found.ends
+                (subst (λ rs. FailsIn call gate rs (Some (next_opening (items entries))) (file back) fault) (same_records keep ∙ records_are keep)
+                (subst (λ r. FailsIn call gate (records_in (surface (file mid)).seen) (Some r) (file back) fault) same
+                (refused.armed call obey keep (found.planned obey (ap waits is) ∙ is))))),
+            λ device. subst (λ rs. epoch_of rs + 1 < 2 ^ 62) these (subst IsEpoch same (refused.epoch device)),
+          );
       planned = λ obey never.
-          ⊎_elim (λ memory. inl memory) (⊎_elim (λ device. absurd (refused.planned obey (found.planned obey never) device.0))
+          ⊎_elim (λ memory. inl memory) (⊎_elim (λ device. absurd (refused.planned obey (found.planned obey (ap waits never) ∙ never) device.0))
           (λ late. inr (reason late))) refused.cause;
     }
       where
-        no_room : full → keeps → IsSpent told (surface (file disk)) (items entries) gate
-        no_room late keep = record { read = records_are keep; taken = accepted; ends = found.ends keep; spent = spent late }
+        no_room : full → keeps → IsSpent told (surface (file disk)) (items entries)
+        no_room late keep = record {
+          read = records_are keep;
+          taken = accepted;
+          spent = subst (λ g. (2 ^ 62 ≤ epoch_of (items entries) + 1) ⊎ IsFull g (next_opening (items entries))) found.ends (spent late);
+        }
 
         reason : (fault ≡ TimeSpent) × full → IsToldReason keeps told (surface (file disk)) fault
-        reason late = (ap is_reason late.0, λ keep. inr (late.0, (items entries, gate, no_room late.1 keep)))
+        reason late = (ap is_reason late.0, λ keep. inr (late.0, (items entries, no_room late.1 keep)))
+
+    -- nor is a log that the verdict refuses, or for which memory was wanting
+    pub not_rebuilt : (told : Setup) (fault : Fault) (back : D) → back ≡ mid →
+        (fault ≡ WantsMemory) ⊎ (fault_in (taken told (items entries)) entries ≡ Some fault) →
+        HasNotOpened keeps obeys file clock since failures plan disk told fault back
+    not_rebuilt told fault back same why = record {
+      cause = ⊎_elim (λ memory. inl memory) (λ is. inr (inr (reason is))) why;
+      any_moment = λ keep. subst (λ d. LeavesOnly clock since disk d (LeavesOpening (surface (file disk)))) (sym same)
+          (weaker clock since disk mid (MayLeave (surface (file disk))) (LeavesOpening (surface (file disk))) (found.moment keep) (λ image left. inl left));
+      unchanged = inr (λ keep. ap (λ d. (surface (file d)).seen) same ∙ ap (λ s. s.seen) (found.clean keep));
+      synced = inr (inr (λ keep. ap (λ d. surface (file d)) same ∙ found.clean keep));
+      armed = λ call records obey keep is read. (λ device. absurd (no_device device why), λ device. absurd (no_device device why));
+      planned = λ obey never. ⊎_elim (λ memory. inl memory) (λ is. inr (reason is)) why;
+    }
+      where
+        reason : fault_in (taken told (items entries)) entries ≡ Some fault → IsToldReason keeps told (surface (file disk)) fault
+        reason is = (verdict_is_reason (taken told (items entries)) entries fault is, λ keep. inl (ap (fault_of told) (found.entries_are keep) ∙ is))
+
+        no_device : fault ≡ Device → (fault ≡ WantsMemory) ⊎ (fault_in (taken told (items entries)) entries ≡ Some fault) → ⊥
+        no_device device (inl memory) = cc
+        no_device device (inr is) =
+            false≢true (subst (λ f. IsTrue (is_reason f)) device (verdict_is_reason (taken told (items entries)) entries fault is))
 
   -- a file that holds no log is not taken up
   pub no_log : (told : Setup) (disk back : D) (fault : Fault)
@@ -192,15 +239,27 @@ module _ {D : Type 0} (keeps obeys : Type 0) (file : D → File) (clock : D → 
       × (keeps → log (surface (file disk)).seen ≡ Err fault)))
       → (keeps → LeavesOnly clock since disk back (MayLeave (surface (file disk))))
       → (fault ≡ Device) ⊎ (keeps → (surface (file back)).seen ≡ (surface (file disk)).seen)
-      → (obeys → plan disk ≡ Never → (fault ≡ WantsMemory) ⊎ (IsTrue (is_no_log fault) × (keeps → log (surface (file disk)).seen ≡ Err fault)))
+      → (fault ≡ WantsMemory) ⊎ ((fault ≡ Device) ⊎ (keeps → surface (file back) ≡ after_sync (surface (file disk))))
+      → (obeys → waits (plan disk) ≡ true → (fault ≡ WantsMemory) ⊎ (IsTrue (is_no_log fault) × (keeps → log (surface (file disk)).seen ≡ Err fault)))
       → HasNotOpened keeps obeys file clock since failures plan disk told fault back
-  no_log told disk back fault cause moment unchanged planned = record {
+  no_log told disk back fault cause moment unchanged synced planned = record {
     cause = ⊎_elim (λ memory. inl memory) (⊎_elim (λ device. inr (inl device)) (λ none. inr (inr (reason none)))) cause;
     any_moment = λ keep. weaker clock since disk back (MayLeave (surface (file disk))) (LeavesOpening (surface (file disk))) (moment keep)
         (λ image left. inl left);
     unchanged = unchanged;
-    planned = λ obey never. ⊎_elim (λ memory. inl memory) (λ none. inr (reason none)) (planned obey never);
+    synced = synced;
+    armed = λ call records obey keep is read. (
+      λ device. absurd (no_device records keep read device (planned obey (ap waits is))),
+      λ device. absurd (no_device records keep read device (planned obey (ap waits is))),
+    );
+    planned = λ obey never. ⊎_elim (λ memory. inl memory) (λ none. inr (reason none)) (planned obey (ap waits never));
   }
     where
       reason : IsTrue (is_no_log fault) × (keeps → log (surface (file disk)).seen ≡ Err fault) → IsToldReason keeps told (surface (file disk)) fault
       reason none = (no_log_is_reason fault none.0, λ keep. inl (ap (fault_of told) (none.1 keep)))
+
+      no_device : (records : List Record) → keeps → records_in (surface (file disk)).seen ≡ Ok records → fault ≡ Device
+          → (fault ≡ WantsMemory) ⊎ (IsTrue (is_no_log fault) × (keeps → log (surface (file disk)).seen ≡ Err fault))
+          → ⊥
+      no_device records keep read device (inl memory) = cc
+      no_device records keep read device (inr none) = let two : Err fault ≡ Ok records = sym (ap items_of (none.1 keep)) ∙ read in cc

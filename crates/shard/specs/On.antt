@@ -4,7 +4,7 @@ use Rattle.units.specs.declared.fault.Fault.{Fault}
 use Rattle.units.specs.declared.fault.Fault.TheVariants.{Memory as WantsMemory, Device, Stopped, TimeSpent}
 use Rattle.units.specs.declared.setup.Setup.{Setup}
 use Rattle.disk.specs.declared.plan.FailurePlan.{FailurePlan}
-use Rattle.disk.specs.declared.plan.FailurePlan.TheVariants.{Never}
+use Rattle.disk.specs.declared.plan.FailurePlan.TheVariants.{Never, AfterWrite}
 use Rattle.disk.specs.File.{File, surface}
 use Rattle.disk.specs.Moments.{LeavesOnly}
 use Rattle.record.specs.declared.record.Record.{Record}
@@ -16,6 +16,7 @@ use Rattle.protocol.specs.Rows.{Memory}
 use Rattle.protocol.specs.Step.{Stepped, Refuses, Does, step, facts_after}
 use Rattle.gatelog.specs.Frames.{next_gate, IsFull}
 use Rattle.shard.specs.Logs.{records_in, and_logged, KeepsRecords, HoldsOldOrWith}
+use Rattle.shard.specs.Armed.{FailsIn, GoesPast, HasPlace}
 
 -- what a contract sees of a core: its disk, where its log ends there, whether its device failed, what it was told when it
 -- was opened, the facts of its log, and what it keeps in memory beside them
@@ -81,9 +82,13 @@ module _ {D : Type 0} (keeps obeys : Type 0) (file : D → File) (clock : D → 
     pub durable : OnOk result (keeps → KeepsRecords (surface (file new.disk)) (and_logged (records_in (surface (file old.disk)).seen) logged))
     pub read : OnOk result (keeps → records_in (surface (file new.disk)).seen ≡ and_logged (records_in (surface (file old.disk)).seen) logged)
     pub gate : OnOk result ((new.gate ≡ gate_behind old.gate logged) × (new.gate ≤ old.gate + 2 ^ 20 + 5))
+    pub place : OnOk result (HasPlace old.gate logged)
     pub kept : IfErr result (StandsAsBefore file old new)
     -- with no call armed the device does not fail
     pub planned : obeys → plan old.disk ≡ Never → (plan new.disk ≡ Never) × IfErr result (λ fault. fault ≢ Device)
+    -- with a call armed, counted from 0: it fails where it is one of the append's, and leaves this
+    pub armed : (call : ℕ) → IsFalse old.stopped → obeys → keeps → plan old.disk ≡ AfterWrite call →
+        OnOk result (GoesPast call logged) × IfErr result (FailsIn call old.gate (records_in (surface (file old.disk)).seen) logged (file new.disk))
 
   -- an input was taken, or refused
   pub record HasStepped (old new : CoreView D) (step : Stepped) (result : Result (List Envelope) Fault) : Type 0 where

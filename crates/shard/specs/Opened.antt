@@ -1,25 +1,26 @@
 -- What an opening finds on a disk, and what it leaves.
-use Rattle.std.specs.Prelude.{◌≡◌, ◌≢◌, ◌⊎◌, ℕ, ◌+◌, ◌<◌, ◌≤◌, ◌^◌, Bool, true, false, IsTrue, IsFalse, List, [], ◌∷◌, ◌++◌, Option, Some, None}
+use Rattle.std.specs.Prelude.{◌≡◌, ◌≢◌, ◌⊎◌, ℕ, ◌+◌, ◌<◌, ◌≤◌, ◌^◌, nat_lt, Bool, true, false, IsTrue, IsFalse, List, [], ◌∷◌, ◌++◌, Option, Some, None}
 use Rattle.std.specs.Prelude.{Result, Ok, Err}
 use Rattle.units.specs.declared.fault.Fault.{Fault}
 use Rattle.units.specs.declared.fault.Fault.TheVariants.{Memory as WantsMemory, Device, TimeSpent, Damaged, NotALog, Stranger}
 use Rattle.units.specs.declared.setup.Setup.{Setup}
 use Rattle.disk.specs.declared.plan.FailurePlan.{FailurePlan}
-use Rattle.disk.specs.declared.plan.FailurePlan.TheVariants.{Never}
+use Rattle.disk.specs.declared.plan.FailurePlan.TheVariants.{Never, AfterWrite}
 use Rattle.disk.specs.File.{File, surface}
-use Rattle.disk.specs.Image.{Surface, MayLeave}
+use Rattle.disk.specs.Image.{Surface, MayLeave, after_sync}
 use Rattle.disk.specs.Moments.{LeavesOnly}
 use Rattle.record.specs.Accepted.{Accepted, taken}
 use Rattle.record.specs.Records.{epoch_of}
 use Rattle.record.specs.Facts.{Facts, facts_of}
 use Rattle.record.specs.declared.record.Record.{Record}
-use Rattle.gatelog.specs.Frames.{IsFull, next_gate}
-use Rattle.gatelog.specs.Log.{ends_at, log}
+use Rattle.gatelog.specs.Frames.{IsFull, end_of, next_gate}
+use Rattle.gatelog.specs.Log.{log}
 use Rattle.gatelog.specs.Placed.{Placed}
 use Rattle.protocol.specs.Rows.{rebuilt}
 use Rattle.recovery.specs.Recovered.{fault_in, items}
 use Rattle.shard.specs.Logs.{records_in, and_logged, KeepsRecords, HoldsOldOrWith}
-use Rattle.shard.specs.On.{CoreView, gate_behind}
+use Rattle.shard.specs.On.{CoreView}
+use Rattle.shard.specs.Armed.{FailsIn, GoesPast, HasPlace}
 
 -- the opening that comes next behind some records
 abbrev pub next_opening : List Record → Record
@@ -34,6 +35,11 @@ abbrev pub IsTaken : Setup → Result (List Record) Fault → Facts → Type 0
 IsTaken setup (Ok records) facts = (taken setup records ≡ Accepted) × (facts ≡ facts_of (records ++ next_opening records ∷ []))
 IsTaken setup (Err fault) facts = ⊥
 
+-- the epoch of an opening is below the limit
+abbrev pub IsEpoch : Record → Type 0
+IsEpoch (Record.Opened epoch) = epoch < 2 ^ 62
+IsEpoch _ = Unit {0}
+
 -- why a log is not taken up: it is none, or its first record that has no place
 abbrev pub fault_of : Setup → Result (List Placed) Fault → Option Fault
 fault_of setup (Ok entries) = fault_in (taken setup (items entries)) entries
@@ -44,14 +50,13 @@ abbrev pub LeavesOpening : Surface → List ℕ → Type 0
 LeavesOpening disk image = MayLeave disk image ⊎ HoldsOldOrWith (records_in disk.seen) (opening_of (records_in disk.seen)) image
 
 -- the records are taken, but the opening has no room: epochs are at their limit, or the log is full
-pub record IsSpent (setup : Setup) (disk : Surface) (records : List Record) (gate : ℕ) : Type 0 where
+pub record IsSpent (setup : Setup) (disk : Surface) (records : List Record) : Type 0 where
   pub read : records_in disk.seen ≡ Ok records
   pub taken : taken setup records ≡ Accepted
-  pub ends : IsTrue (ends_at disk.seen gate)
-  pub spent : (2 ^ 62 ≤ epoch_of records + 1) ⊎ IsFull gate (next_opening records)
+  pub spent : (2 ^ 62 ≤ epoch_of records + 1) ⊎ IsFull (end_of records) (next_opening records)
 
 abbrev pub HasNoRoom : Setup → Surface → Type 0
-HasNoRoom setup disk = (records : List Record) × (gate : ℕ) × IsSpent setup disk records gate
+HasNoRoom setup disk = (records : List Record) × IsSpent setup disk records
 
 -- why it is not taken up, where the device did not fail and memory was there
 abbrev pub IsReason : Setup → Surface → Fault → Type 0
@@ -77,16 +82,21 @@ module _ {D : Type 0} (keeps obeys : Type 0) (file : D → File) (clock : D → 
     pub any_moment : keeps → LeavesOnly clock since disk core.disk (HoldsOldOrWith (records_in (surface (file disk)).seen) (Some item))
     pub durable : keeps → KeepsRecords (surface (file core.disk)) (and_logged (records_in (surface (file disk)).seen) (Some item))
     pub read : keeps → records_in (surface (file core.disk)).seen ≡ and_logged (records_in (surface (file disk)).seen) (Some item)
-    pub gate : core.gate ≡ next_gate before item
+    pub gate : (core.gate ≡ next_gate before item) × HasPlace before (Some item)
+    pub epoch : IsEpoch item
     pub failures_stay : failures disk ≤ failures core.disk
     pub planned : obeys → plan disk ≡ Never → plan core.disk ≡ Never
+    pub armed : (call : ℕ) → obeys → keeps → plan disk ≡ AfterWrite call → GoesPast call (Some item)
 
   -- it was not, and the disk is given back
-  pub record HasNotAppended (disk : D) (item : Record) (full : Type 0) (fault : Fault) (back : D) : Type 0 where
+  pub record HasNotAppended (disk : D) (before : ℕ) (item : Record) (full : Type 0) (fault : Fault) (back : D) : Type 0 where
     pub cause : (fault ≡ WantsMemory) ⊎ (((fault ≡ Device) × (failures disk < failures back)) ⊎ ((fault ≡ TimeSpent) × full))
     pub any_moment : keeps → LeavesOnly clock since disk back (HoldsOldOrWith (records_in (surface (file disk)).seen) (Some item))
     pub unchanged : (fault ≡ Device) ⊎ (file back ≡ file disk)
+    pub epoch : fault ≡ Device → IsEpoch item
     pub planned : obeys → plan disk ≡ Never → fault ≢ Device
+    pub armed : (call : ℕ) → obeys → keeps → plan disk ≡ AfterWrite call
+        → FailsIn call before (records_in (surface (file disk)).seen) (Some item) (file back) fault
 
   -- the log of a disk was taken up, and the next opening is logged
   pub record HasOpened (disk : D) (told : Setup) (core : CoreView D) : Type 0 where
@@ -102,10 +112,13 @@ module _ {D : Type 0} (keeps obeys : Type 0) (file : D → File) (clock : D → 
         (opening_of (records_in (surface (file disk)).seen)))
     pub read : keeps → records_in (surface (file core.disk)).seen ≡ and_logged (records_in (surface (file disk)).seen)
         (opening_of (records_in (surface (file disk)).seen))
-    pub gate : keeps → (gate : ℕ) × IsTrue (ends_at (surface (file disk)).seen gate) × (core.gate ≡
-        gate_behind gate (opening_of (records_in (surface (file disk)).seen)))
+    pub gate : (records : List Record) → keeps → records_in (surface (file disk)).seen ≡ Ok records
+        → (core.gate ≡ next_gate (end_of records) (next_opening records)) × HasPlace (end_of records) (Some (next_opening records))
+    pub epoch : (records : List Record) → keeps → records_in (surface (file disk)).seen ≡ Ok records → epoch_of records + 1 < 2 ^ 62
     pub failures_stay : failures disk ≤ failures core.disk
     pub planned : obeys → plan disk ≡ Never → plan core.disk ≡ Never
+    -- with a call armed, counted from 0 in the append of the opening: it is none of its four
+    pub armed : (call : ℕ) → obeys → keeps → plan disk ≡ AfterWrite call → IsFalse (nat_lt call 4)
 
   -- it was not, and the disk is given back
   pub record HasNotOpened (disk : D) (told : Setup) (fault : Fault) (back : D) : Type 0 where
@@ -113,5 +126,11 @@ module _ {D : Type 0} (keeps obeys : Type 0) (file : D → File) (clock : D → 
     pub any_moment : keeps → LeavesOnly clock since disk back (LeavesOpening (surface (file disk)))
     -- but for a device that failed, the file reads as it did
     pub unchanged : (fault ≡ Device) ⊎ (keeps → (surface (file back)).seen ≡ (surface (file disk)).seen)
+    -- but for memory and a device that failed, the file is synced
+    pub synced : (fault ≡ WantsMemory) ⊎ ((fault ≡ Device) ⊎ (keeps → surface (file back) ≡ after_sync (surface (file disk))))
+    -- with a call armed, counted from 0 in the append of the opening: it fails there, and leaves this
+    pub armed : (call : ℕ) (records : List Record) → obeys → keeps → plan disk ≡ AfterWrite call → records_in (surface (file disk)).seen ≡ Ok records
+        → FailsIn call (end_of records) (Ok records) (Some (next_opening records)) (file back) fault
+        × (fault ≡ Device → epoch_of records + 1 < 2 ^ 62)
     -- with no call armed, it is for want of memory or for that reason
     pub planned : obeys → plan disk ≡ Never → (fault ≡ WantsMemory) ⊎ IsToldReason keeps told (surface (file disk)) fault

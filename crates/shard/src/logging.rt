@@ -1,10 +1,11 @@
 //! One record is staged and appended.
-ghost use Rattle.std.specs.Prelude.{◌≡◌, ◌≢◌, ◌⊎◌, ◌+◌, ◌<◌, ◌≤◌, ◌^◌, Some, IsTrue, IsFalse, IfOk, IfErr, OnOk};
+ghost use Rattle.std.specs.Prelude.{◌≡◌, ◌≢◌, ◌⊎◌, ◌+◌, ◌<◌, ◌≤◌, ◌^◌, ℕ, Some, IsTrue, IsFalse, IfOk, IfErr, OnOk};
 ghost use Rattle.disk.specs.File.{surface};
-ghost use Rattle.disk.specs.declared.plan.FailurePlan.TheVariants.{Never};
+ghost use Rattle.disk.specs.declared.plan.FailurePlan.TheVariants.{Never, AfterWrite};
 ghost use Rattle.disk.specs.Moments.{LeavesOnly};
 ghost use Rattle.gatelog.specs.Frames.{next_gate, IsFull};
 ghost use Rattle.gatelog.specs.Shown.{disk_of, gate_at, is_stopped};
+ghost use Rattle.shard.specs.Armed.{FailsIn, GoesPast};
 ghost use Rattle.shard.specs.Logs.{records_in, and_logged, KeepsRecords, HoldsOldOrWith};
 
 use disk::Disk;
@@ -22,7 +23,9 @@ pub fn append_record<D: Disk>(
     ensures item { IfOk result (λ logged. logged ≡ item.now) }
     ensures failures_stay { D.failures (disk_of gate_log.old) ≤ D.failures (disk_of gate_log.new) }
     ensures running { OnOk result (IsFalse (is_stopped gate_log.old) × IsFalse (is_stopped gate_log.new)) }
-    ensures gate { OnOk result ((gate_at gate_log.new ≡ next_gate (gate_at gate_log.old) item.now) × (gate_at gate_log.new ≤ gate_at gate_log.old + 2 ^ 20 + 5)) }
+    ensures gate { OnOk result ((gate_at gate_log.new ≡ next_gate (gate_at gate_log.old) item.now)
+        × (gate_at gate_log.new ≤ gate_at gate_log.old + 2 ^ 20 + 5)) }
+    ensures place { OnOk result (next_gate (gate_at gate_log.old) item.now + 1 ≤ 2 ^ 40) }
     ensures cause { IfErr result (λ fault. ((fault ≡ Fault.Stopped) × IsTrue (is_stopped gate_log.old))
         ⊎ (((fault ≡ Fault.Memory) × IsFalse (is_stopped gate_log.old))
         ⊎ (((fault ≡ Fault.TimeSpent) × IsFalse (is_stopped gate_log.old) × IsFull (gate_at gate_log.old) item.now)
@@ -37,6 +40,12 @@ pub fn append_record<D: Disk>(
         records_in (surface (D.file (disk_of gate_log.new))).seen ≡ and_logged (records_in (surface (D.file (disk_of gate_log.old))).seen) (Some item.now)) }
     // With no call armed the device does not fail.
     ensures planned { D.obeys → D.plan (disk_of gate_log.old) ≡ Never → (D.plan (disk_of gate_log.new) ≡ Never) × IfErr result (λ fault. fault ≢ Fault.Device) }
+    // With a call armed, counted from 0: it fails where it is one of the append's, and leaves this.
+    ensures armed { (call : ℕ) → IsFalse (is_stopped gate_log.old) → D.obeys → D.keeps_model
+        → D.plan (disk_of gate_log.old) ≡ AfterWrite call
+        → OnOk result (GoesPast call (Some item.now))
+        × IfErr result (FailsIn call (gate_at gate_log.old) (records_in (surface (D.file (disk_of gate_log.old))).seen) (Some item.now)
+        (D.file (disk_of gate_log.new))) }
 {
     if gate_log.is_stopped() {
         return Err(Fault::Stopped);

@@ -164,7 +164,8 @@ impl<D: Disk> Core<D> {
         ensures facts { IfOk result (λ core. (seen core).facts ≡ facts_of (Record.Opened 1 ∷ [])) }
         ensures memory { IfOk result (λ core. (seen core).memory ≡ record { last = 0; rows = []; ended = [] }) }
         ensures appended { IfOk result (λ core. HasAppended D.keeps_model D.obeys D.file D.clock D.since D.failures D.plan (disk_of gate_log) (gate_at gate_log) (Record.Opened 1) (seen core)) }
-        ensures refused { IfErr result (λ refused. HasNotAppended D.keeps_model D.obeys D.file D.clock D.since D.failures D.plan (disk_of gate_log) (Record.Opened 1) (IsFull (gate_at gate_log) (Record.Opened 1)) refused.0 refused.1) }
+        ensures refused { IfErr result (λ refused. HasNotAppended D.keeps_model D.obeys D.file D.clock D.since D.failures D.plan (disk_of gate_log) (gate_at gate_log)
+            (Record.Opened 1) (IsFull (gate_at gate_log) (Record.Opened 1)) refused.0 refused.1) }
     {
         fresh_is_sound();
         let state = match State::fresh(alloc, setup) {
@@ -198,8 +199,8 @@ impl<D: Disk> Core<D> {
         ensures facts { IfOk result (λ core. (seen core).facts ≡ learn state.facts (Record.Opened (state.facts.epoch + 1))) }
         ensures memory { IfOk result (λ core. (seen core).memory ≡ rebuilt (learn state.facts (Record.Opened (state.facts.epoch + 1)))) }
         ensures appended { IfOk result (λ core. HasAppended D.keeps_model D.obeys D.file D.clock D.since D.failures D.plan (disk_of gate_log) (gate_at gate_log) (Record.Opened (state.facts.epoch + 1)) (seen core)) }
-        ensures refused { IfErr result (λ refused. HasNotAppended D.keeps_model D.obeys D.file D.clock D.since D.failures D.plan (disk_of gate_log) (Record.Opened (state.facts.epoch + 1))
-            ((2 ^ 62 ≤ state.facts.epoch + 1) ⊎ IsFull (gate_at gate_log) (Record.Opened (state.facts.epoch + 1))) refused.0 refused.1) }
+        ensures refused { IfErr result (λ refused. HasNotAppended D.keeps_model D.obeys D.file D.clock D.since D.failures D.plan (disk_of gate_log) (gate_at gate_log)
+            (Record.Opened (state.facts.epoch + 1)) ((2 ^ 62 ≤ state.facts.epoch + 1) ⊎ IsFull (gate_at gate_log) (Record.Opened (state.facts.epoch + 1))) refused.0 refused.1) }
     {
         opening_keeps_sound();
         let epoch = match state.epoch().next() {

@@ -3,7 +3,9 @@ use Rattle.std.specs.Prelude.{IfErr}
 use Rattle.std.proofs.lemmas.Result.{IfErr-weaker}
 use Rattle.record.specs.Facts.{facts_of}
 use Rattle.record.specs.declared.record.Record.{Record}
-use Rattle.gatelog.specs.Frames.{IsFull}
+use Rattle.std.specs.Prelude.{List}
+use Rattle.gatelog.specs.Placed.{Placed}
+use Rattle.gatelog.specs.Frames.{IsFull, end_of}
 use Rattle.gatelog.specs.Shown.{disk_of, gate_at}
 use Rattle.protocol.specs.Rows.{rebuilt}
 use Rattle.recovery.specs.Recovered.{IsRebuilt, items}
@@ -11,7 +13,7 @@ use Rattle.shard.specs.Core.{seen}
 use Rattle.shard.specs.Logs.{facts_logged}
 use Rattle.shard.specs.Opened.{HasNotOpened, next_opening}
 use Rattle.shard.proofs.TakenUp.{Found, epoch_of_facts, facts_are, facts_then, first_is, first_memory, first_records, from_four, room_spent, no_log}
-use Rattle.shard.proofs.TakenUp.{not_opened, opened, records_are, same_records}
+use Rattle.shard.proofs.TakenUp.{not_opened, not_rebuilt, opened, records_are, same_records}
 use Rattle.shard.proofs.shard_core.Core.open.Goals as goal
 
 pub returns-in_err-gate_log-clause-refused : goal.returns-in_err-gate_log-clause-refused
@@ -22,14 +24,14 @@ returns-in_err-gate_log-clause-refused g c =
     g.D.Disk.plan c.args.disk c.args.setup refused.0 refused.1)) (sym same)
     (no_log g.D.Disk.keeps_model g.D.Disk.obeys g.D.Disk.file g.D.Disk.clock g.D.Disk.since g.D.Disk.failures g.D.Disk.plan c.args.setup c.args.disk
     back.1 back.0 c.in_err-gate_log.ensures.cause c.in_err-gate_log.ensures.refused_moment c.in_err-gate_log.ensures.unchanged
-    (λ obey never. (c.in_err-gate_log.ensures.refused_planned obey never).1))
+    c.in_err-gate_log.ensures.refused_synced (λ obey waits. (c.in_err-gate_log.ensures.refused_planned obey waits).1))
 
 pub take_up-requires-clause-known : goal.take_up-requires-clause-known
 take_up-requires-clause-known g c = λ keep.
     let found : Found g.D.Disk.keeps_model g.D.Disk.obeys g.D.Disk.file g.D.Disk.clock g.D.Disk.since g.D.Disk.failures g.D.Disk.plan c.args.disk
     (disk_of c.in_ok-gate_log.gate_log) (gate_at c.in_ok-gate_log.gate_log) c.deref.result.now = record {
       entries_are = λ keep. c.in_ok-gate_log.ensures.entries keep ∙ ap Ok (sym c.deref.ensures.value);
-      ends = c.in_ok-gate_log.ensures.gate;
+      ends = c.in_ok-gate_log.ensures.end ∙ ap (λ (es : List Placed). end_of (items es)) (sym c.deref.ensures.value);
       clean = c.in_ok-gate_log.ensures.synced;
       moment = c.in_ok-gate_log.ensures.any_moment;
       failures_stay = c.in_ok-gate_log.ensures.failures_stay;
@@ -48,7 +50,7 @@ returns-in-Ok-Some-clause-opened g c =
     let found : Found g.D.Disk.keeps_model g.D.Disk.obeys g.D.Disk.file g.D.Disk.clock g.D.Disk.since g.D.Disk.failures g.D.Disk.plan c.args.disk
     (disk_of c.in_ok-gate_log.gate_log) (gate_at c.in_ok-gate_log.gate_log) c.deref.result.now = record {
       entries_are = λ keep. c.in_ok-gate_log.ensures.entries keep ∙ ap Ok (sym c.deref.ensures.value);
-      ends = c.in_ok-gate_log.ensures.gate;
+      ends = c.in_ok-gate_log.ensures.end ∙ ap (λ (es : List Placed). end_of (items es)) (sym c.deref.ensures.value);
       clean = c.in_ok-gate_log.ensures.synced;
       moment = c.in_ok-gate_log.ensures.any_moment;
       failures_stay = c.in_ok-gate_log.ensures.failures_stay;
@@ -72,7 +74,7 @@ returns-in-Ok-Some-clause-refused g c =
     let found : Found g.D.Disk.keeps_model g.D.Disk.obeys g.D.Disk.file g.D.Disk.clock g.D.Disk.since g.D.Disk.failures g.D.Disk.plan c.args.disk
     (disk_of c.in_ok-gate_log.gate_log) (gate_at c.in_ok-gate_log.gate_log) c.deref.result.now = record {
       entries_are = λ keep. c.in_ok-gate_log.ensures.entries keep ∙ ap Ok (sym c.deref.ensures.value);
-      ends = c.in_ok-gate_log.ensures.gate;
+      ends = c.in_ok-gate_log.ensures.end ∙ ap (λ (es : List Placed). end_of (items es)) (sym c.deref.ensures.value);
       clean = c.in_ok-gate_log.ensures.synced;
       moment = c.in_ok-gate_log.ensures.any_moment;
       failures_stay = c.in_ok-gate_log.ensures.failures_stay;
@@ -95,7 +97,7 @@ returns-in-Ok-None-clause-opened g c =
     let found : Found g.D.Disk.keeps_model g.D.Disk.obeys g.D.Disk.file g.D.Disk.clock g.D.Disk.since g.D.Disk.failures g.D.Disk.plan c.args.disk
     (disk_of c.in_ok-gate_log.gate_log) (gate_at c.in_ok-gate_log.gate_log) c.deref.result.now = record {
       entries_are = λ keep. c.in_ok-gate_log.ensures.entries keep ∙ ap Ok (sym c.deref.ensures.value);
-      ends = c.in_ok-gate_log.ensures.gate;
+      ends = c.in_ok-gate_log.ensures.end ∙ ap (λ (es : List Placed). end_of (items es)) (sym c.deref.ensures.value);
       clean = c.in_ok-gate_log.ensures.synced;
       moment = c.in_ok-gate_log.ensures.any_moment;
       failures_stay = c.in_ok-gate_log.ensures.failures_stay;
@@ -116,7 +118,7 @@ returns-in-Ok-None-clause-refused g c =
     let found : Found g.D.Disk.keeps_model g.D.Disk.obeys g.D.Disk.file g.D.Disk.clock g.D.Disk.since g.D.Disk.failures g.D.Disk.plan c.args.disk
     (disk_of c.in_ok-gate_log.gate_log) (gate_at c.in_ok-gate_log.gate_log) c.deref.result.now = record {
       entries_are = λ keep. c.in_ok-gate_log.ensures.entries keep ∙ ap Ok (sym c.deref.ensures.value);
-      ends = c.in_ok-gate_log.ensures.gate;
+      ends = c.in_ok-gate_log.ensures.end ∙ ap (λ (es : List Placed). end_of (items es)) (sym c.deref.ensures.value);
       clean = c.in_ok-gate_log.ensures.synced;
       moment = c.in_ok-gate_log.ensures.any_moment;
       failures_stay = c.in_ok-gate_log.ensures.failures_stay;
@@ -131,3 +133,18 @@ returns-in-Ok-None-clause-refused g c =
     c.args.setup (Record.Opened 1) _ refused.0 refused.1 first c.in-Ok-None.ensures.accepted
     (λ full. inr (subst (IsFull (gate_at c.in_ok-gate_log.gate_log)) first full)) h)
     c.begin.ensures.refused
+
+pub returns-in-Err-clause-refused : goal.returns-in-Err-clause-refused
+returns-in-Err-clause-refused g c =
+    let found : Found g.D.Disk.keeps_model g.D.Disk.obeys g.D.Disk.file g.D.Disk.clock g.D.Disk.since g.D.Disk.failures g.D.Disk.plan c.args.disk
+    (disk_of c.in_ok-gate_log.gate_log) (gate_at c.in_ok-gate_log.gate_log) c.deref.result.now = record {
+      entries_are = λ keep. c.in_ok-gate_log.ensures.entries keep ∙ ap Ok (sym c.deref.ensures.value);
+      ends = c.in_ok-gate_log.ensures.end ∙ ap (λ (es : List Placed). end_of (items es)) (sym c.deref.ensures.value);
+      clean = c.in_ok-gate_log.ensures.synced;
+      moment = c.in_ok-gate_log.ensures.any_moment;
+      failures_stay = c.in_ok-gate_log.ensures.failures_stay;
+      planned = λ obey never. (c.in_ok-gate_log.ensures.planned obey never).0;
+    } in
+    not_rebuilt g.D.Disk.keeps_model g.D.Disk.obeys g.D.Disk.file g.D.Disk.clock g.D.Disk.since g.D.Disk.failures g.D.Disk.plan c.args.disk
+    (disk_of c.in_ok-gate_log.gate_log) (gate_at c.in_ok-gate_log.gate_log) c.deref.result.now found c.args.setup c.in-Err.fault c.into_disk.result
+    c.into_disk.ensures c.in-Err.ensures.refused
