@@ -1,2 +1,1 @@
-pub mod ByMessage
 pub mod Granted

@@ -1,2 +1,1 @@
 pub mod Asks
-pub mod ByMessage

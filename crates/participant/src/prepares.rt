@@ -2,15 +2,15 @@
 ghost use Rattle.std.specs.Prelude.{◌≡◌, ℕ, true, false, ◌+◌, ◌<◌, ◌≤◌, ◌^◌, max, IfOk, IfErr, MatchResult, [], ◌∷◌, Some, None, Ok, Err};
 ghost use Rattle.std.specs.Option.{option_copied};
 ghost use Rattle.units.specs.Locks.{exclusive};
-ghost use Rattle.protocol.specs.Rows.{held_in, WaitsPrepare, find_row};
+ghost use Rattle.protocol.specs.Rows.{held_in, HasRow, WaitsPrepare, find_row};
 ghost use Rattle.protocol.specs.Outputs.{vote_to};
-ghost use Rattle.protocol.specs.Plan.{opens, in_way, ends, puts, stands};
-ghost use Rattle.protocol.specs.Cells.{plan_prepare_fresh};
+ghost use Rattle.protocol.specs.Plan.{opens, in_way, ends, puts, replies, stands};
+ghost use Rattle.protocol.specs.Cells.{plan_prepare, plan_prepare_fresh, plan_prepare_now, plan_promise};
 ghost use Rattle.rows.specs.CodeRows.{phase_of, phase_of_wait};
 ghost use Rattle.memory.specs.Carry.{Asks, IsFit, MayTurn, may_ask, may_end};
 ghost use Rattle.memory.specs.Kept.{start_of, standing_of, IsPlanned};
-ghost use Rattle.memory.specs.Standings.{standing_in, standing_by_row, opens_writes, MakesPlan, MakesReply};
-ghost use Rattle.participant.specs.ByMessage.{PlansPrepare, PlansPrepareNow, PlansPromise, MakesPromise, MakesPromiseAnew};
+ghost use Rattle.memory.specs.Plans.{plan_of};
+ghost use Rattle.participant.specs.Asks.{promised_by};
 
 use memory::{Change, PastStanding, Plan, Request, State, exclusive, reads_stand, vote_to};
 use message::Prepare;
@@ -28,8 +28,7 @@ pub fn on_prepare(
     now: &Reading,
     prepare: &Prepare,
 ) -> Result<Plan, Fault>
-    ensures planned { PlansPrepare state.now now.now.earliest prepare.now
-        (standing_in state.now prepare.now.txn) result }
+    ensures planned { IsPlanned state.now (plan_prepare (start_of state.now) now.now.earliest prepare.now (stands (start_of state.now) prepare.now.txn)) result }
     ensures fit { IfOk result (IsFit state.now) }
 {
     match state.row(prepare.txn) {
@@ -48,8 +47,7 @@ fn prepare_with_row(
     row: &Row,
 ) -> Result<Plan, Fault>
     requires turn { MayTurn state.now.memory.rows prepare.now.txn row.now }
-    ensures planned { PlansPrepare state.now now.now.earliest prepare.now
-        (standing_by_row state.now prepare.now.txn (phase_of row.now)) result }
+    ensures planned { IsPlanned state.now (plan_prepare (start_of state.now) now.now.earliest prepare.now (HasRow (held_in state.now.memory.rows prepare.now.txn) (phase_of row.now))) result }
     ensures fit { IfOk result (IsFit state.now) }
 {
     match row {
@@ -69,9 +67,7 @@ fn prepare_with_wait(
     wait: Option<&Wait>,
 ) -> Result<Plan, Fault>
     requires { may_end state.now.memory.rows prepare.now.txn ≡ true }
-    ensures planned { PlansPrepare state.now now.now.earliest prepare.now
-        (standing_by_row state.now prepare.now.txn (phase_of_wait (option_copied wait.entry)))
-        result }
+    ensures planned { IsPlanned state.now (plan_prepare (start_of state.now) now.now.earliest prepare.now (HasRow (held_in state.now.memory.rows prepare.now.txn) (phase_of_wait (option_copied wait.entry)))) result }
     ensures fit { IfOk result (IsFit state.now) }
 {
     match wait {
@@ -92,8 +88,7 @@ fn prepare_without_row(
 ) -> Result<Plan, Fault>
     requires row { find_row state.now.memory.rows prepare.now.txn ≡ None }
     requires ends { may_end state.now.memory.rows prepare.now.txn ≡ true }
-    ensures planned { PlansPrepare state.now now.now.earliest prepare.now
-        (standing_of past) result }
+    ensures planned { IsPlanned state.now (plan_prepare (start_of state.now) now.now.earliest prepare.now (standing_of past)) result }
     ensures fit { IfOk result (IsFit state.now) }
 {
     match past {
@@ -107,8 +102,7 @@ fn prepare_without_row(
 
 // The vote, to the coordinator that the prepare names.
 fn vote(state: &State, alloc: Global, prepare: &Prepare, vote: Option<Stamp>) -> Result<Plan, Fault>
-    ensures plan { MakesReply state.now
-        (vote_to state.now.setup.shard prepare.now.coordinator prepare.now.txn vote) result }
+    ensures plan { IfOk result (λ plan. plan_of state.now.memory.rows plan ≡ replies (start_of state.now) (vote_to state.now.setup.shard prepare.now.coordinator prepare.now.txn vote ∷ [])) }
     ensures fit { IfOk result (IsFit state.now) }
     ensures memory { IfErr result (λ fault. fault ≡ Fault.Memory) }
 {
@@ -124,9 +118,7 @@ fn prepare_fresh(
     prepare: &Prepare,
 ) -> Result<Plan, Fault>
     requires { may_end state.now.memory.rows prepare.now.txn ≡ true }
-    ensures planned { IsPlanned state.now
-        (plan_prepare_fresh (start_of state.now) now.now.earliest prepare.now
-        (held_in state.now.memory.rows prepare.now.txn)) result }
+    ensures planned { IsPlanned state.now (plan_prepare_fresh (start_of state.now) now.now.earliest prepare.now (held_in state.now.memory.rows prepare.now.txn)) result }
     ensures fit { IfOk result (IsFit state.now) }
 {
     if reads_stand(state, prepare.txn, &prepare.reads) {
@@ -138,10 +130,7 @@ fn prepare_fresh(
 // The vote is refused, and the transaction ended.
 fn refuse(state: &State, alloc: Global, prepare: &Prepare) -> Result<Plan, Fault>
     requires { may_end state.now.memory.rows prepare.now.txn ≡ true }
-    ensures plan { MakesPlan state.now
-        (ends (start_of state.now) prepare.now.txn
-        (vote_to state.now.setup.shard prepare.now.coordinator prepare.now.txn None ∷ []))
-        result }
+    ensures plan { IfOk result (λ plan. plan_of state.now.memory.rows plan ≡ ends (start_of state.now) prepare.now.txn (vote_to state.now.setup.shard prepare.now.coordinator prepare.now.txn None ∷ [])) }
     ensures fit { IfOk result (IsFit state.now) }
     ensures memory { IfErr result (λ fault. fault ≡ Fault.Memory) }
 {
@@ -159,7 +148,7 @@ fn prepare_now(
     prepare: &Prepare,
 ) -> Result<Plan, Fault>
     requires { may_end state.now.memory.rows prepare.now.txn ≡ true }
-    ensures planned { PlansPrepareNow state.now now.now.earliest prepare.now result }
+    ensures planned { IsPlanned state.now (plan_prepare_now (start_of state.now) now.now.earliest prepare.now) result }
     ensures fit { IfOk result (IsFit state.now) }
 {
     if state.opens_writes(prepare.txn, &prepare.writes) {
@@ -176,9 +165,9 @@ fn promise_now(
     now: &Reading,
     prepare: &Prepare,
 ) -> Result<Plan, Fault>
-    requires opens { opens_writes state.now prepare.now.txn prepare.now.writes ≡ true }
+    requires opens { opens (start_of state.now) prepare.now.txn (exclusive prepare.now.writes) ≡ true }
     requires ends { may_end state.now.memory.rows prepare.now.txn ≡ true }
-    ensures planned { PlansPrepareNow state.now now.now.earliest prepare.now result }
+    ensures planned { IsPlanned state.now (plan_prepare_now (start_of state.now) now.now.earliest prepare.now) result }
     ensures fit { IfOk result (IsFit state.now) }
 {
     let at = promise_time(state, now)?;
@@ -190,9 +179,10 @@ fn promise_now(
 
 // Whoever is in the way is ended, and the promise logged.
 fn promise_anew(state: &State, alloc: Global, prepare: &Prepare, at: Stamp) -> Result<Plan, Fault>
-    requires opens { opens_writes state.now prepare.now.txn prepare.now.writes ≡ true }
+    requires opens { opens (start_of state.now) prepare.now.txn (exclusive prepare.now.writes) ≡ true }
     requires asks { may_ask state.now.memory.rows prepare.now.txn ≡ true }
-    ensures plan { MakesPromiseAnew state.now at prepare.now result }
+    ensures plan { IfOk result (λ plan. plan_of state.now.memory.rows plan ≡
+        promised_by (start_of state.now) (in_way (start_of state.now) prepare.now.txn (exclusive prepare.now.writes)) prepare.now.txn at prepare.now.coordinator prepare.now.reads.keys prepare.now.writes) }
     ensures fit { IfOk result (IsFit state.now) }
     ensures memory { IfErr result (λ fault. fault ≡ Fault.Memory) }
 {
@@ -205,9 +195,9 @@ fn promise_anew(state: &State, alloc: Global, prepare: &Prepare, at: Stamp) -> R
 
 // The transaction waits with its prepare.
 fn wait(state: &State, alloc: Global, prepare: &Prepare) -> Result<Plan, Fault>
-    requires opens { opens_writes state.now prepare.now.txn prepare.now.writes ≡ false }
+    requires opens { opens (start_of state.now) prepare.now.txn (exclusive prepare.now.writes) ≡ false }
     requires ends { may_end state.now.memory.rows prepare.now.txn ≡ true }
-    ensures planned { (earliest : ℕ) → PlansPrepareNow state.now earliest prepare.now result }
+    ensures planned { (earliest : ℕ) → IsPlanned state.now (plan_prepare_now (start_of state.now) earliest prepare.now) result }
     ensures fit { IfOk result (IsFit state.now) }
 {
     if state.is_crowded(prepare.txn) {
@@ -218,13 +208,10 @@ fn wait(state: &State, alloc: Global, prepare: &Prepare) -> Result<Plan, Fault>
 
 // Whoever is in the way and may be ended is ended, and the row waits.
 fn wait_in_row(state: &State, alloc: Global, prepare: &Prepare) -> Result<Plan, Fault>
-    requires opens { opens_writes state.now prepare.now.txn prepare.now.writes ≡ false }
+    requires opens { opens (start_of state.now) prepare.now.txn (exclusive prepare.now.writes) ≡ false }
     requires asks { may_ask state.now.memory.rows prepare.now.txn ≡ true }
-    ensures plan { MakesPlan state.now
-        (puts (start_of state.now)
-        (in_way (start_of state.now) prepare.now.txn (exclusive prepare.now.writes))
-        prepare.now.txn [] (WaitsPrepare prepare.now.coordinator prepare.now.reads.keys
-        prepare.now.writes) None state.now.memory.last []) result }
+    ensures plan { IfOk result (λ plan. plan_of state.now.memory.rows plan ≡
+        puts (start_of state.now) (in_way (start_of state.now) prepare.now.txn (exclusive prepare.now.writes)) prepare.now.txn [] (WaitsPrepare prepare.now.coordinator prepare.now.reads.keys prepare.now.writes) None state.now.memory.last []) }
     ensures fit { IfOk result (IsFit state.now) }
     ensures memory { IfErr result (λ fault. fault ≡ Fault.Memory) }
 {
@@ -249,7 +236,7 @@ pub fn resume_prepare(
     request: &PrepareRequest,
 ) -> Result<Plan, Fault>
     requires { Asks state.now.memory.rows txn [] (exclusive request.now.writes) true }
-    ensures planned { PlansPromise state.now now.now.earliest txn request.now result }
+    ensures planned { IsPlanned state.now (plan_promise (start_of state.now) [] now.now.earliest txn request.now.coordinator request.now.reads request.now.writes) result }
     ensures fit { IfOk result (IsFit state.now) }
 {
     let at = promise_time(state, now)?;
@@ -265,7 +252,7 @@ fn promise_alone(
     request: &PrepareRequest,
 ) -> Result<Plan, Fault>
     requires { Asks state.now.memory.rows txn [] (exclusive request.now.writes) true }
-    ensures plan { MakesPromise state.now [] txn at request.now result }
+    ensures plan { IfOk result (λ plan. plan_of state.now.memory.rows plan ≡ promised_by (start_of state.now) [] txn at request.now.coordinator request.now.reads request.now.writes) }
     ensures fit { IfOk result (IsFit state.now) }
     ensures memory { IfErr result (λ fault. fault ≡ Fault.Memory) }
 {
@@ -280,8 +267,7 @@ fn promise_alone(
 fn promise_time(state: &State, now: &Reading) -> Result<Stamp, Fault>
     ensures { MatchResult result
         (λ at. (at ≡ max (state.now.memory.last + 1) now.now.earliest) × (at < 2 ^ 62))
-        (λ fault. (fault ≡ Fault.TimeSpent)
-        × (2 ^ 62 ≤ max (state.now.memory.last + 1) now.now.earliest)) }
+        (λ fault. (fault ≡ Fault.TimeSpent) × (2 ^ 62 ≤ max (state.now.memory.last + 1) now.now.earliest)) }
 {
     let above = Stamp::above(state.last())?;
     Ok(above.later(now.earliest()))
@@ -299,7 +285,7 @@ fn promise_at(
 ) -> Result<Plan, Fault>
     requires needs { needs.items ≡ exclusive request.writes }
     requires asks { Asks state.now.memory.rows txn wounded (exclusive request.writes) true }
-    ensures plan { MakesPromise state.now wounded txn at request result }
+    ensures plan { IfOk result (λ plan. plan_of state.now.memory.rows plan ≡ promised_by (start_of state.now) wounded txn at request.coordinator request.reads request.writes) }
     ensures fit { IfOk result (IsFit state.now) }
     ensures memory { IfErr result (λ fault. fault ≡ Fault.Memory) }
 {
