@@ -2,6 +2,7 @@
 use Rattle.std.proofs.Common.{◌≡◌, ℕ, suc, ◌+◌, Bool, true, false, cond, nat_lt, List, [], ◌++◌, Option, Some, None, refl, sym, ap, subst, ◌∙◌, arith}
 use Rattle.std.specs.Prelude.{Ok, Err, option_to_list}
 use Rattle.std.proofs.lemmas.List.{append-nil}
+use Rattle.units.specs.Limits.{most_rows}
 use Rattle.units.specs.Ids.{Id}
 use Rattle.units.specs.Keys.{Bytes}
 use Rattle.units.specs.declared.fault.Fault.TheVariants.{Stopped, TimeSpent}
@@ -58,15 +59,15 @@ away_fair k e (Input.Nudge u) = tt
 
 -- each value in the outbox of a plan is told fairly
 told_fairly : (setup : Setup) (f : Facts) (m : Memory) (now : Interval) (i : Input) (p : Plan) (to : Address) (a : ReadAnswer) (x : Option Bytes) →
-    plan_input setup (start_of_step 1024 setup f m) now i ≡ Ok p →
-    IsAmong p.outbox (record { to = to; message = Message.ReadAnswer a }) → a.answer ≡ Holds x → AnswerFair (start_of_step 1024 setup f m) p a x
+    plan_input setup (start_of_step most_rows setup f m) now i ≡ Ok p →
+    IsAmong p.outbox (record { to = to; message = Message.ReadAnswer a }) → a.answer ≡ Holds x → AnswerFair (start_of_step most_rows setup f m) p a x
 unfolding Fair
 told_fairly setup f m now i p to a x is there holds =
-    let fair : PlanFair (away i) [] f.epoch (start_of_step 1024 setup f m) p =
-    subst (λ z. Fair (away i) [] f.epoch (start_of_step 1024 setup f m) z) is (fairly (away i) [] f.epoch (start_of_step 1024 setup f m)
+    let fair : PlanFair (away i) [] f.epoch (start_of_step most_rows setup f m) p =
+    subst (λ z. Fair (away i) [] f.epoch (start_of_step most_rows setup f m) z) is (fairly (away i) [] f.epoch (start_of_step most_rows setup f m)
     (λ u held phase st same in_it. refl) setup now i (away_fair [] f.epoch i)) in
-    subst (λ z. elim z as (λ q. Type 0) [ Holds y ↦ AnswerFair (start_of_step 1024 setup f m) p a y | Refused ↦ Unit {0} ]) holds
-    (all_at (λ (e : Envelope). MessageFair (start_of_step 1024 setup f m) p e.message) p.outbox
+    subst (λ z. elim z as (λ q. Type 0) [ Holds y ↦ AnswerFair (start_of_step most_rows setup f m) p a y | Refused ↦ Unit {0} ]) holds
+    (all_at (λ (e : Envelope). MessageFair (start_of_step most_rows setup f m) p e.message) p.outbox
     (record { to = to; message = Message.ReadAnswer a }) fair.told there)
 
 -- a shard that runs holds a read, by an open row of the reader
@@ -96,14 +97,14 @@ step_holds setup log unsure (IsStopped m) views o doing logged memory out to a x
 step_holds setup log unsure IsDown views o doing logged memory out to a x well e there holds = cc
 step_holds setup log unsure (Runs m) views None doing logged memory out to a x well e there holds = cc
 step_holds setup log unsure (Runs m) views (Some q) doing logged memory out to a x well e there holds =
-    by_plan (plan_input setup (start_of_step 1024 setup (facts_of log) m) q.0 q.1) refl e
+    by_plan (plan_input setup (start_of_step most_rows setup (facts_of log) m) q.0 q.1) refl e
   where
-    by_plan : (pl : Planned) → plan_input setup (start_of_step 1024 setup (facts_of log) m) q.0 q.1 ≡ pl → stepped m pl ≡ Does logged memory out →
+    by_plan : (pl : Planned) → plan_input setup (start_of_step most_rows setup (facts_of log) m) q.0 q.1 ≡ pl → stepped m pl ≡ Does logged memory out →
         (a.from ≡ setup.shard) × HoldsRead (finished (shard_with log unsure (Runs m) views) doing logged memory) a x
     by_plan (Err f) is k = cc
     by_plan (Ok p) is k =
         let same = parts_of_does p.logged logged (carried p m) memory p.outbox out k in
-        let fair : AnswerFair (start_of_step 1024 setup (facts_of log) m) p a x = told_fairly setup (facts_of log) m q.0 q.1 p to a x is
+        let fair : AnswerFair (start_of_step most_rows setup (facts_of log) m) p a x = told_fairly setup (facts_of log) m q.0 q.1 p to a x is
         (subst (λ l. IsAmong l (record { to = to; message = Message.ReadAnswer a })) (sym same.2) there) holds in
         let row = told_row setup (facts_of log) m p a x fair in
         let none : logged ≡ None = sym same.0 ∙ row.3 in

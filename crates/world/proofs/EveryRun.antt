@@ -4,6 +4,7 @@ use Rattle.std.proofs.Common.{slice_get, refl, sym, ap, subst, ◌∙◌, arith}
 use Rattle.std.specs.Prelude.{Ok, Err, option_map}
 use Rattle.std.proofs.lemmas.Bool.{leb-true, and_from, and_parts}
 use Rattle.std.proofs.lemmas.List.{append-nil}
+use Rattle.units.specs.Limits.{most_rows}
 use Rattle.units.specs.ById.{IsById}
 use Rattle.units.specs.declared.fault.Fault.TheVariants.{Stopped, TimeSpent}
 use Rattle.units.specs.declared.setup.Setup.{Setup}
@@ -45,17 +46,17 @@ use Rattle.world.proofs.Sounds.{ActAllowed, DoingAllowed, SoundShard, SoundWorld
 pub record IsWell (setup : Setup) (f : Facts) (m : Memory) : Type 0 where
   pub sound : IsSound setup.shard f m
   pub own : all_own setup m.rows ≡ true
-  pub few : length m.rows ≤ 1024
+  pub few : length m.rows ≤ most_rows
 
 pub up : (setup : Setup) (f : Facts) (m : Memory) → IsWell setup f m → IsById (λ r. r.txn) m.rows
 up setup f m well = by_id-claims m.rows well.sound.table.order
 
 pub keeps : (setup : Setup) (f : Facts) (m : Memory) (now : Interval) (i : Input) (p : Plan) → IsInLimit i → IsWell setup f m →
-    plan_input setup (start_of_step 1024 setup f m) now i ≡ Ok p → IsWell setup (facts_after f p.logged) (carried p m)
+    plan_input setup (start_of_step most_rows setup f m) now i ≡ Ok p → IsWell setup (facts_after f p.logged) (carried p m)
 keeps setup f m now i p limit well e = record {
-  sound = step_keeps_sound 1024 setup f m now i p limit well.sound e;
-  own = step_keeps_own 1024 setup f m now i p well.own e;
-  few = stays_within 1024 setup f m now i p (up setup f m well) well.few e;
+  sound = step_keeps_sound most_rows setup f m now i p limit well.sound e;
+  own = step_keeps_own most_rows setup f m now i p well.own e;
+  few = stays_within most_rows setup f m now i p (up setup f m well) well.few e;
 }
 
 pub opens : (setup : Setup) (f : Facts) (m : Memory) → IsWell setup f m → IsWell setup (learn f (Record.Opened (f.epoch + 1))) (rebuilt f)
@@ -76,21 +77,21 @@ IsTaken setup log = taken setup log ≡ Accepted
 
 -- what a step logs is taken
 takes : (setup : Setup) (log : List Record) (m : Memory) (now : Interval) (i : Input) (p : Plan) (r : Record) → IsTaken setup log →
-    IsWell setup (facts_of log) m → plan_input setup (start_of_step 1024 setup (facts_of log) m) now i ≡ Ok p → p.logged ≡ Some r →
+    IsWell setup (facts_of log) m → plan_input setup (start_of_step most_rows setup (facts_of log) m) now i ≡ Ok p → p.logged ≡ Some r →
     IsTaken setup (log ++ r ∷ [])
 takes setup log m now i p r h well e logged =
     let so_far : followed setup.shard log ≡ true = accepted_follows setup log h in
     let with_it : followed setup.shard (log ++ r ∷ []) ≡ true =
-    follows_as_known setup.shard log r so_far ∙ logged_follows 1024 setup (facts_of log) m now i p r well.sound e logged in
+    follows_as_known setup.shard log r so_far ∙ logged_follows most_rows setup (facts_of log) m now i p r well.sound e logged in
     let next = and_parts (followed setup.shard log) (begins log r && follows setup.shard log r) (sym (followed_more setup.shard log r) ∙ with_it) in
     taken_more setup log r h (record {
-      own = logged_belongs 1024 setup (facts_of log) m now i p r well.own e logged;
+      own = logged_belongs most_rows setup (facts_of log) m now i p r well.own e logged;
       fits = and_from (begins log r && follows setup.shard log r) (fits_beside log r) next.1
           (logged_fits_beside setup log m now i p r well.sound well.few e logged);
     })
 
 pub logs : (setup : Setup) (log : List Record) (m : Memory) (now : Interval) (i : Input) (p : Plan) (r : Record) → IsInLimit i → IsTaken setup log →
-    IsWell setup (facts_of log) m → plan_input setup (start_of_step 1024 setup (facts_of log) m) now i ≡ Ok p → p.logged ≡ Some r →
+    IsWell setup (facts_of log) m → plan_input setup (start_of_step most_rows setup (facts_of log) m) now i ≡ Ok p → p.logged ≡ Some r →
     IsTaken setup (log ++ r ∷ [])
 logs setup log m now i p r limit h well e logged = takes setup log m now i p r h well e logged
 
@@ -184,12 +185,12 @@ step_logs setup log unsure (IsStopped m) views o r memory out well e = cc
 step_logs setup log unsure IsDown views o r memory out well e = cc
 step_logs setup log unsure (Runs m) views None r memory out well e = cc
 step_logs setup log unsure (Runs m) views (Some q) r memory out well e =
-    by_plan (plan_input setup (start_of_step 1024 setup (facts_of log) m) q.0 q.1) refl e
+    by_plan (plan_input setup (start_of_step most_rows setup (facts_of log) m) q.0 q.1) refl e
   where
     log_is : log ++ shown_records unsure ≡ log
     log_is = ap (λ u. log ++ shown_records u) well.state.1 ∙ append-nil log
 
-    by_plan : (p : Planned) → plan_input setup (start_of_step 1024 setup (facts_of log) m) q.0 q.1 ≡ p → stepped m p ≡ Does (Some r) memory out →
+    by_plan : (p : Planned) → plan_input setup (start_of_step most_rows setup (facts_of log) m) q.0 q.1 ≡ p → stepped m p ≡ Does (Some r) memory out →
         IsTaken setup ((log ++ shown_records unsure) ++ r ∷ [])
     by_plan (Err f) is k = cc
     by_plan (Ok p) is k =

@@ -5,6 +5,7 @@ use Rattle.std.proofs.Common.{None, slice_get, refl, sym, ap, subst, ◌∙◌}
 use Rattle.std.specs.Prelude.{Ok, Err, option_to_list}
 use Rattle.std.proofs.lemmas.Bool.{cases_eq, and_parts}
 use Rattle.std.proofs.lemmas.List.{append-nil}
+use Rattle.units.specs.Limits.{most_rows}
 use Rattle.units.specs.Lists.{replaced}
 use Rattle.units.specs.declared.fault.Fault.{Fault}
 use Rattle.units.specs.declared.fault.Fault.TheVariants.{Stopped, Stranger, Device, TimeSpent}
@@ -54,11 +55,12 @@ ActAllowed Allowed w _ = Unit {0}
 
 module _ (Allowed : Setup → Input → Type 0) (Sound : Setup → Facts → Memory → Type 0) (Good : Setup → List Record → Type 0)
     (keeps : (setup : Setup) (f : Facts) (m : Memory) (now : Interval) (i : Input) (p : Plan) → Allowed setup i → Sound setup f m →
-    plan_input setup (start_of_step 1024 setup f m) now i ≡ Ok p → Sound setup (facts_after f p.logged) (carried p m))
+    plan_input setup (start_of_step most_rows setup f m) now i ≡ Ok p → Sound setup (facts_after f p.logged) (carried p m))
     (opens : (setup : Setup) (f : Facts) (m : Memory) → Sound setup f m → Sound setup (learn f (Record.Opened (f.epoch + 1))) (rebuilt f))
     (follows : (setup : Setup) (log : List Record) → Good setup log → followed setup.shard log ≡ true)
     (logs : (setup : Setup) (log : List Record) (m : Memory) (now : Interval) (i : Input) (p : Plan) (r : Record) → Allowed setup i → Good setup log →
-    Sound setup (facts_of log) m → plan_input setup (start_of_step 1024 setup (facts_of log) m) now i ≡ Ok p → p.logged ≡ Some r → Good setup (log ++ r ∷ []))
+    Sound setup (facts_of log) m → plan_input setup (start_of_step most_rows setup (facts_of log) m) now i ≡ Ok p → p.logged ≡ Some r
+    → Good setup (log ++ r ∷ []))
     (good_opens : (setup : Setup) (log : List Record) → Good setup log → Good setup (log ++ Record.Opened ((facts_of log).epoch + 1) ∷ [])) where
   -- ---- one shard
 
@@ -99,7 +101,7 @@ module _ (Allowed : Setup → Input → Type 0) (Sound : Setup → Facts → Mem
   -- a step of a running shard
   of_plan : (L : Type 0) (setup : Setup) (log : List Record) (m : Memory) (now : Interval) (i : Input) → (L → Allowed setup i) → Good setup log →
       Sound setup (facts_of log) m →
-      (p : Planned) → plan_input setup (start_of_step 1024 setup (facts_of log) m) now i ≡ p → SteppedSound L setup log (stepped m p)
+      (p : Planned) → plan_input setup (start_of_step most_rows setup (facts_of log) m) now i ≡ p → SteppedSound L setup log (stepped m p)
   of_plan L setup log m now i allowed good sound (Err f) e = tt
   of_plan L setup log m now i allowed good sound (Ok p) e = by_record p.logged refl (λ l. keeps setup (facts_of log) m now i p (allowed l) sound e)
     where
@@ -137,7 +139,7 @@ module _ (Allowed : Setup → Input → Type 0) (Sound : Setup → Facts → Mem
         let read_is : read_log s ≡ s.log = ap (λ u. s.log ++ shown_records u) state.1 ∙ append-nil s.log in
         subst (λ l. SteppedSound L (setup_of config n) l (step_with (setup_of config n) (facts_of s.log) m (Some p))) (sym read_is)
         (of_plan L (setup_of config n) s.log m p.0 p.1 (allowed p refl) plain.good state.0
-        (plan_input (setup_of config n) (start_of_step 1024 (setup_of config n) (facts_of s.log) m) p.0 p.1) refl)
+        (plan_input (setup_of config n) (start_of_step most_rows (setup_of config n) (facts_of s.log) m) p.0 p.1) refl)
 
     opened : SteppedSound (Unit {0}) (setup_of config n) (read_log s) (step_of_opening (facts_of (read_log s)))
     unfolding step_of_opening
