@@ -57,7 +57,10 @@ use Rattle.law.proofs.Standing.{Wrote, installed, written}
 abbrev pub Claims : Record → Id → ℕ → List Bytes → List Write → Type 0
 Claims (Prepare p) t at ks ws = (p.txn ≡ t) × (p.at ≡ at) × (p.reads ≡ ks) × (p.writes ≡ ws)
 Claims (Commit c) t at ks ws = (c.txn ≡ t) × (c.at ≡ at) × (c.reads ≡ ks) × (c.writes ≡ ws)
-Claims _ t at ks ws = ⊥
+Claims (Record.Opened epoch) t at ks ws = ⊥
+Claims (Record.Ceiling s) t at ks ws = ⊥
+Claims (Record.Abort u) t at ks ws = ⊥
+Claims (Record.Outcome u o) t at ks ws = ⊥
 
 -- the timestamp at which an id ended at a shard
 abbrev pub end_stamp : Status → Option ℕ
