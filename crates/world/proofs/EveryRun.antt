@@ -15,6 +15,7 @@ use Rattle.record.specs.Facts.{Facts, facts_of, learn}
 use Rattle.record.specs.declared.record.Record.{Record}
 use Rattle.record.proofs.LearnAgrees.{accepted_follows, followed_more}
 use Rattle.facts.proofs.Known.{follows_as_known}
+use Rattle.gatelog.specs.Frames.{end_of}
 use Rattle.message.specs.declared.message.Envelope.{Envelope}
 use Rattle.message.specs.declared.message.Input.{Input}
 use Rattle.protocol.specs.Rows.{Memory, rebuilt}
@@ -32,12 +33,13 @@ use Rattle.protocol.proofs.WithinLimit.{stays_within}
 use Rattle.world.specs.Lawful.{lawful, may_act, may_crash, may_do, may_happen}
 use Rattle.world.specs.Steady.{AlwaysSteady}
 use Rattle.world.specs.World.{World, ShardNow, State, Runs, IsStopped, IsDown, Unsure, View, shown_records, read_log, setup_of, step_of_opening}
-use Rattle.world.specs.World.{input_of, step_with, effect, fresh_log, run}
+use Rattle.world.specs.World.{input_of, step_with, effect, wanted, fresh_log, run}
 use Rattle.world.specs.declared.event.Act.{Act}
 use Rattle.world.specs.declared.event.Config.{Config}
 use Rattle.world.specs.declared.event.Doing.{Doing}
 use Rattle.world.specs.declared.event.Event.{Event}
 use Rattle.world.proofs.Openings.{opening_taken, taken_more}
+use Rattle.world.proofs.Rooms.{done_wanted}
 use Rattle.world.proofs.Sounds.{ActAllowed, DoingAllowed, SoundShard, SoundWorld, always_sound, read_left}
 
 -- ---- one shard
@@ -216,10 +218,10 @@ module _ (config : Config) (bag : List Envelope) (n : ℕ) (s : ShardNow) (well 
           (logged_is (Some (Record.Opened ((facts_of (read_log s)).epoch + 1))) (Some r) (rebuilt (facts_of (read_log s))) memory [] out k))
           (opening_taken (setup_of config n) (read_log s) good)
 
-  doing_logs : (doing : Doing) (r : Record) (memory : Memory) (out : List Envelope) → effect (setup_of config n) bag s doing ≡ Does (Some r) memory out →
+  wanted_logs : (doing : Doing) (r : Record) (memory : Memory) (out : List Envelope) → wanted (setup_of config n) bag s doing ≡ Does (Some r) memory out →
       IsTaken (setup_of config n) (read_log s ++ r ∷ [])
-  unfolding effect
-  doing_logs Doing.Open r memory out e = by_state s.state e
+  unfolding wanted
+  wanted_logs Doing.Open r memory out e = by_state s.state e
     where
       by_state : (st : State) → (elim st as (λ x. Stepped) [ Runs m ↦ Refuses Stopped | _ ↦ step_of_opening (facts_of (read_log s)) ]) ≡
           Does (Some r) memory out →
@@ -227,16 +229,22 @@ module _ (config : Config) (bag : List Envelope) (n : ℕ) (s : ShardNow) (well 
       by_state (Runs m) k = cc
       by_state (IsStopped m) k = opening_logs r memory out k
       by_state IsDown k = opening_logs r memory out k
-  doing_logs (Doing.Take m now) r memory out e = step_logs (setup_of config n) s.log s.unsure s.state s.views
+  wanted_logs (Doing.Take m now) r memory out e = step_logs (setup_of config n) s.log s.unsure s.state s.views
       (input_of bag (Doing.Take m now)) r memory out well e
-  doing_logs (Doing.Resume now) r memory out e = step_logs (setup_of config n) s.log s.unsure s.state s.views
+  wanted_logs (Doing.Resume now) r memory out e = step_logs (setup_of config n) s.log s.unsure s.state s.views
       (input_of bag (Doing.Resume now)) r memory out well e
-  doing_logs (Doing.Settle t now) r memory out e = step_logs (setup_of config n) s.log s.unsure s.state s.views
+  wanted_logs (Doing.Settle t now) r memory out e = step_logs (setup_of config n) s.log s.unsure s.state s.views
       (input_of bag (Doing.Settle t now)) r memory out well e
-  doing_logs (Doing.Advance at now) r memory out e = step_logs (setup_of config n) s.log s.unsure s.state s.views
+  wanted_logs (Doing.Advance at now) r memory out e = step_logs (setup_of config n) s.log s.unsure s.state s.views
       (input_of bag (Doing.Advance at now)) r memory out well e
-  doing_logs (Doing.Nudge t now) r memory out e = step_logs (setup_of config n) s.log s.unsure s.state s.views
+  wanted_logs (Doing.Nudge t now) r memory out e = step_logs (setup_of config n) s.log s.unsure s.state s.views
       (input_of bag (Doing.Nudge t now)) r memory out well e
+
+  doing_logs : (doing : Doing) (r : Record) (memory : Memory) (out : List Envelope) → effect (setup_of config n) bag s doing ≡ Does (Some r) memory out →
+      IsTaken (setup_of config n) (read_log s ++ r ∷ [])
+  unfolding effect
+  doing_logs doing r memory out e =
+      wanted_logs doing r memory out (done_wanted (end_of (read_log s)) (wanted (setup_of config n) bag s doing) (Some r) memory out e)
 
 -- every lawful run is steady
 pub is_steady : AlwaysSteady

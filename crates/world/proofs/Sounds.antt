@@ -25,9 +25,11 @@ use Rattle.protocol.specs.Plan.{time_limit, Plan, Planned, start_of_step, carrie
 use Rattle.protocol.specs.Step.{step_within, Stepped, Refuses, Does, facts_after, plan_input, stepped}
 use Rattle.world.specs.Lawful.{lawful, lawful_from, may_happen, may_act}
 use Rattle.session.specs.Sessions.{reads, buffers, closes, gives_up}
+use Rattle.gatelog.specs.Frames.{end_of}
 use Rattle.gatelog.specs.Gates.{is_left, is_read, opens_gate}
 use Rattle.world.specs.World.{World, ShardNow, State, Runs, IsStopped, IsDown, Unsure, Nothing, Shown, Hidden, shown_records, read_log, setup_of}
-use Rattle.world.specs.World.{step_of_opening, input_of, step_with, effect, finished, crashed, crashed_in, failed_in, left_of, left_by_refused}
+use Rattle.world.specs.World.{step_of_opening, input_of, step_with, effect, wanted, where_room, has_room, finished, crashed, crashed_in, failed_in}
+use Rattle.world.specs.World.{left_of, left_by_refused}
 use Rattle.world.specs.World.{stopped, set_shard, fresh_log, fresh_shard, After, client_of, put_out, refused, if_open}
 use Rattle.world.specs.World.{if_not_over, to_session, refused_doing, did, did_with_failure, at_shard, do_at, deliver_to, look_noted, look_shard}
 use Rattle.world.specs.World.{look_at_view, acts, happens, start, run, run_from}
@@ -154,10 +156,10 @@ module _ (Allowed : Setup → Input → Type 0) (Sound : Setup → Facts → Mem
             (λ u. good_opens (setup_of config n) (read_log s) l.good)
             (λ u. opens (setup_of config n) (facts_of (read_log s)) l.memory l.sound)
 
-    pub effect_sound : (doing : Doing) → SteppedSound (DoingAllowed Allowed (setup_of config n) bag doing) (setup_of config n) (read_log s)
-        (effect (setup_of config n) bag s doing)
-    unfolding effect
-    effect_sound Doing.Open = by_state s.state
+    wanted_sound : (doing : Doing) → SteppedSound (DoingAllowed Allowed (setup_of config n) bag doing) (setup_of config n) (read_log s)
+        (wanted (setup_of config n) bag s doing)
+    unfolding wanted
+    wanted_sound Doing.Open = by_state s.state
       where
         opened_so : (st : Stepped) → SteppedSound (Unit {0}) (setup_of config n) (read_log s) st →
             SteppedSound (DoingAllowed Allowed (setup_of config n) bag Doing.Open) (setup_of config n) (read_log s) st
@@ -169,16 +171,32 @@ module _ (Allowed : Setup → Input → Type 0) (Sound : Setup → Facts → Mem
         by_state (Runs m) = tt
         by_state (IsStopped m) = opened_so (step_of_opening (facts_of (read_log s))) opened
         by_state IsDown = opened_so (step_of_opening (facts_of (read_log s))) opened
-    effect_sound (Doing.Take m now) = running (DoingAllowed Allowed (setup_of config n) bag (Doing.Take m now)) (input_of bag (Doing.Take m now))
+    wanted_sound (Doing.Take m now) = running (DoingAllowed Allowed (setup_of config n) bag (Doing.Take m now)) (input_of bag (Doing.Take m now))
         (λ p e l. l p e) s.state refl
-    effect_sound (Doing.Resume now) = running (DoingAllowed Allowed (setup_of config n) bag (Doing.Resume now)) (input_of bag (Doing.Resume now))
+    wanted_sound (Doing.Resume now) = running (DoingAllowed Allowed (setup_of config n) bag (Doing.Resume now)) (input_of bag (Doing.Resume now))
         (λ p e l. l p e) s.state refl
-    effect_sound (Doing.Settle t now) = running (DoingAllowed Allowed (setup_of config n) bag (Doing.Settle t now))
+    wanted_sound (Doing.Settle t now) = running (DoingAllowed Allowed (setup_of config n) bag (Doing.Settle t now))
         (input_of bag (Doing.Settle t now)) (λ p e l. l p e) s.state refl
-    effect_sound (Doing.Advance at now) = running (DoingAllowed Allowed (setup_of config n) bag (Doing.Advance at now))
+    wanted_sound (Doing.Advance at now) = running (DoingAllowed Allowed (setup_of config n) bag (Doing.Advance at now))
         (input_of bag (Doing.Advance at now)) (λ p e l. l p e) s.state refl
-    effect_sound (Doing.Nudge t now) = running (DoingAllowed Allowed (setup_of config n) bag (Doing.Nudge t now)) (input_of bag (Doing.Nudge t now))
+    wanted_sound (Doing.Nudge t now) = running (DoingAllowed Allowed (setup_of config n) bag (Doing.Nudge t now)) (input_of bag (Doing.Nudge t now))
         (λ p e l. l p e) s.state refl
+
+    by_room : (L : Type 0) (gate : ℕ) (st : Stepped) → SteppedSound L (setup_of config n) (read_log s) st →
+        SteppedSound L (setup_of config n) (read_log s) (where_room gate st)
+    by_room L gate (Refuses f) k = tt
+    by_room L gate (Does None memory out) k = k
+    by_room L gate (Does (Some r) memory out) k = by_test (has_room gate r)
+      where
+        by_test : (b : Bool) → SteppedSound L (setup_of config n) (read_log s) (cond b (Does (Some r) memory out) (Refuses TimeSpent))
+        by_test true = k
+        by_test false = tt
+
+    pub effect_sound : (doing : Doing) → SteppedSound (DoingAllowed Allowed (setup_of config n) bag doing) (setup_of config n) (read_log s)
+        (effect (setup_of config n) bag s doing)
+    unfolding effect
+    effect_sound doing = by_room (DoingAllowed Allowed (setup_of config n) bag doing) (end_of (read_log s)) (wanted (setup_of config n) bag s doing)
+        (wanted_sound doing)
 
     -- ---- the shard after it
 
