@@ -7,6 +7,7 @@ mod history;
 mod lines;
 mod torn;
 mod values;
+mod versions;
 mod verdict;
 mod whole;
 
