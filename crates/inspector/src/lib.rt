@@ -7,8 +7,8 @@ mod history;
 mod lines;
 mod torn;
 mod values;
-mod versions;
 mod verdict;
+mod versions;
 mod whole;
 
 pub use verdict::inspect;

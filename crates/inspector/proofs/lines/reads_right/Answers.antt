@@ -27,4 +27,3 @@ returns-in-Look c =
     c.is_same-in-Look.ensures
     ∙ (λ i. same_value (value i) (c.as_ref-in-Look.ensures.value i))
     ∙ ap (λ l. line_reads_right h l) (sym c.in-Look.is)
-
