@@ -1,3 +1,5 @@
+pub mod ValueLaws
+pub mod VersionLaws
 pub mod SerialOrder
 pub mod SortedLists
 pub mod HistoryByEntries
