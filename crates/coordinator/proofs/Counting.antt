@@ -6,7 +6,7 @@ use Rattle.std.proofs.lemmas.Bool.Decides.{nat_tests}
 use Rattle.units.specs.Lists.{greatest}
 use Rattle.units.specs.Ids.{Id}
 use Rattle.units.specs.Keys.{Bytes}
-use Rattle.units.specs.Parts.{shards_from}
+use Rattle.units.specs.Masks.{shards_from}
 use Rattle.units.specs.declared.fault.Fault.TheVariants.{TimeSpent}
 use Rattle.units.specs.declared.lock.Lock.{Lock}
 use Rattle.units.specs.declared.writes.Write.{Write}

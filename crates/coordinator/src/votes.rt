@@ -3,7 +3,7 @@ ghost use Rattle.std.specs.List.{list_any};
 ghost use Rattle.std.specs.Prelude.{◌≡◌, ◌+◌, ◌<◌, ◌≤◌, ◌^◌, nat_eq, map, true, false, [], ◌∷◌, Some, None, Ok, IfOk, IfErr, MatchResult};
 ghost use Rattle.std.specs.Option.{option_copied};
 ghost use Rattle.units.specs.Lists.{greatest};
-ghost use Rattle.units.specs.Parts.{shards_from};
+ghost use Rattle.units.specs.Masks.{shards_from};
 ghost use Rattle.protocol.specs.Rows.{with_vote};
 ghost use Rattle.protocol.specs.Cells.{all_voted, commit_stamp, other_parts, plan_tell};
 ghost use Rattle.rows.specs.CodeRows.{is_collecting, phase_of, phase_of_wait};

@@ -5,7 +5,7 @@ use Rattle.std.specs.Int.{w16, w64, to_be_bytes}
 use Rattle.units.specs.Ids.{Id}
 use Rattle.units.specs.Keys.{Bytes, key_before, write_before}
 use Rattle.units.specs.Lists.{ascends}
-use Rattle.units.specs.Parts.{mask_of, shards_of_mask}
+use Rattle.units.specs.Masks.{mask_of, shards_of_mask}
 use Rattle.units.specs.declared.writes.Write.{Write}
 use Rattle.record.specs.declared.record.Committed.{Committed}
 use Rattle.record.specs.declared.record.Prepared.{Prepared}

@@ -4,7 +4,7 @@ use Rattle.std.specs.Int.{Width, w16, w64, byte_len, from_be_bytes}
 use Rattle.units.specs.Ids.{Id}
 use Rattle.units.specs.Keys.{Bytes, key_before, write_before}
 use Rattle.units.specs.Lists.{ascends}
-use Rattle.units.specs.Parts.{shards_of_mask}
+use Rattle.units.specs.Masks.{shards_of_mask}
 use Rattle.units.specs.declared.writes.Write.{Write}
 use Rattle.record.specs.declared.record.Committed.{Committed}
 use Rattle.record.specs.declared.record.Prepared.{Prepared}

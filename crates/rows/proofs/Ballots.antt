@@ -5,7 +5,7 @@ use Rattle.std.proofs.Common.{refl, sym, ap, ◌∙◌, arith}
 use Rattle.std.proofs.lemmas.Bool.Decides.{nat_tests}
 use Rattle.std.proofs.lemmas.Bool.{or_parts}
 use Rattle.units.specs.Lists.{has, once, insert, sorted}
-use Rattle.units.specs.Parts.{marked}
+use Rattle.units.specs.Masks.{marked}
 use Rattle.units.proofs.Marked.{sorted_once}
 use Rattle.protocol.specs.Rows.{with_vote}
 use Rattle.rows.specs.States.{voted_of, has_voted, AreVotes, most_votes}

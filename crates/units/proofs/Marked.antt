@@ -7,7 +7,7 @@ use Rattle.std.proofs.lemmas.Bool.Decides.{nat_tests}
 use Rattle.std.proofs.Math.Nat.{pow-suc}
 use Rattle.std.proofs.lemmas.Bool.{and_parts}
 use Rattle.units.specs.Lists.{has, once, insert, sorted}
-use Rattle.units.specs.Parts.{marked, shards_from, shards_of_mask}
+use Rattle.units.specs.Masks.{marked, shards_from, shards_of_mask}
 
 -- tests that agree from n on mark the same
 marked_same : (f g : ℕ → Bool) (bits n : ℕ) → ((k : ℕ) → n ≤ k → f k ≡ g k) → marked f bits n ≡ marked g bits n

@@ -8,6 +8,7 @@ pub mod Lists
 pub mod LockLaws
 pub mod Locks
 pub mod Padded
+pub mod Masks
 pub mod Parts
 pub mod Texts
 pub mod Versions

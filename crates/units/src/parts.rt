@@ -2,7 +2,7 @@
 ghost use Rattle.std.specs.List.{list_any, list_all};
 ghost use Rattle.std.specs.Prelude.{◌≡◌, ◌+◌, ◌<◌, ◌^◌, [], ◌∷◌, Some, None, IfSome, IfNone, IfOk, IfErr, if◌then◌else◌, nat_eq, nat_lt, not, true};
 ghost use Rattle.units.specs.Lists.{has, head, once, sorted};
-ghost use Rattle.units.specs.Parts.{shards_of_mask, shards_from, mask_of, marked};
+ghost use Rattle.units.specs.Masks.{shards_of_mask, shards_from, mask_of, marked};
 
 use crate::{Fault, ShardNo};
 use std::alloc::Global;
@@ -18,7 +18,8 @@ pub struct Parts {
 impl Model for Parts {
     ghost use Rattle.std.specs.Prelude.{ℕ, List, ◌<◌, ◌^◌};
     ghost use Rattle.std.proofs.Common.{ap};
-    ghost use Rattle.units.specs.Parts.{shards_of_mask, mask_of, mask_again};
+    ghost use Rattle.units.specs.Masks.{shards_of_mask, mask_of};
+    ghost use Rattle.units.specs.Parts.{mask_again};
 
     ghost Value = { List ℕ };
 

@@ -1,7 +1,7 @@
 use Rattle.std.specs.List.{list_any}
 use Rattle.std.proofs.Common.{ap, ◌∙◌}
 use Rattle.std.specs.Prelude.{not, nat_eq}
-use Rattle.units.specs.Parts.{shards_of_mask}
+use Rattle.units.specs.Masks.{shards_of_mask}
 use Rattle.units.proofs.parts.Parts.has_others.Goals as goal
 
 pub returns : goal.returns

@@ -1,7 +1,7 @@
 use Rattle.std.proofs.Common.{◌≡◌, ℕ, zero, suc, ◌+◌, ◌*◌, ◌/◌, ◌%◌, ◌^◌, ◌<◌, nat_eq, cond, List, ◌∷◌, Some, sym, ap, ◌∙◌, subst, arith, add-one, refl}
 use Rattle.std.proofs.Math.Nat.{pow-suc}
 use Rattle.units.specs.Lists.{head}
-use Rattle.units.specs.Parts.{shards_from}
+use Rattle.units.specs.Masks.{shards_from}
 use Rattle.units.proofs.parts.Parts.least.Invariants.{Left}
 use Rattle.units.proofs.parts.Parts.least.Goals as goal
 

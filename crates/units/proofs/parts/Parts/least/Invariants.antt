@@ -1,5 +1,5 @@
 use Rattle.std.proofs.Common.{◌≡◌, ℕ, List, ◌+◌, ◌^◌, ◌<◌}
-use Rattle.units.specs.Parts.{shards_from}
+use Rattle.units.specs.Masks.{shards_from}
 use Rattle.units.proofs.parts.Parts.least.Given as goal
 
 -- the shards of the bits that are left

@@ -1,5 +1,6 @@
 use Rattle.std.proofs.Common.{sym, ap, ◌∙◌}
-use Rattle.units.specs.Parts.{mask_of, mask_again}
+use Rattle.units.specs.Masks.{mask_of}
+use Rattle.units.specs.Parts.{mask_again}
 use Rattle.units.proofs.parts.Parts.mask.Goals as goal
 
 pub returns-clause-value : goal.returns-clause-value

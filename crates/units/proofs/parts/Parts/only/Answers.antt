@@ -1,7 +1,8 @@
 use Rattle.std.proofs.Common.{◌≡◌, ℕ, [], ◌∷◌, ◌*◌, ◌%◌, ◌^◌, ap, ◌∙◌, ◌<◌}
 use Rattle.std.proofs.Math.Nat.{one-mul, mod-eq_of_lt}
 use Rattle.std.proofs.Math.Pow.{pow-lt}
-use Rattle.units.specs.Parts.{shards_of_mask, shards_of-bit}
+use Rattle.units.specs.Masks.{shards_of_mask}
+use Rattle.units.specs.Parts.{shards_of-bit}
 use Rattle.units.proofs.parts.Parts.only.Goals as goal
 
 -- a bit of 16 is not cut off

@@ -1,5 +1,5 @@
 use Rattle.std.proofs.Common.{◌++◌, [], ◌∷◌, ◌-◌, ◌+◌, ◌/◌, ap, ◌∙◌}
-use Rattle.units.specs.Parts.{shards_from}
+use Rattle.units.specs.Masks.{shards_from}
 use Rattle.units.proofs.Marked.{bit_set, bit_clear}
 use Rattle.units.proofs.parts.Parts.shards.Goals.{then-rest-eq1+in_ok-push, else-rest-eq1}
 use Rattle.units.proofs.parts.Parts.shards.Goals as goal

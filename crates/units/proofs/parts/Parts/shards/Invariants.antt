@@ -1,5 +1,5 @@
 use Rattle.std.proofs.Common.{◌≡◌, ◌-◌, ◌++◌}
-use Rattle.units.specs.Parts.{shards_from}
+use Rattle.units.specs.Masks.{shards_from}
 use Rattle.units.proofs.parts.Parts.shards.Given as goal
 
 abbrev pub invariant-loop-number : goal.invariant-loop-number
