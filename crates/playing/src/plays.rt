@@ -2,7 +2,7 @@
 ghost use Rattle.std.specs.Prelude.{◌≡◌, [], true, IfOk, IfErr};
 ghost use Rattle.world.specs.World.{World, start};
 ghost use Rattle.world.specs.Lawful.{lawful};
-ghost use Rattle.world.specs.Crashless.{are_crashless};
+ghost use Rattle.world.specs.Crashless.{are_crashless, is_crashless};
 ghost use Rattle.world.specs.Comes.{IsRun};
 ghost use Rattle.playing.specs.Reports.{IsNoReport, IsReport, Plays, Reports};
 ghost use Rattle.world.specs.declared.event.Config.{Config};
@@ -11,7 +11,7 @@ use bag::Bag;
 use record::Record;
 use std::alloc::Global;
 use units::{Fault, Line, Reason};
-use world::{Config, Event, Reply, Run, counted};
+use world::{Act, Config, Doing, Event, Reply, Run, counted};
 
 /// What a run comes to: the reply to each event, every message that was put out, the log of each shard as a read of its disk
 /// gives it, and the lines that count. A line of a read counts where its transaction committed.
@@ -53,6 +53,31 @@ pub fn lawful(alloc: Global, config: &Config, events: &[Event]) -> Result<bool, 
         Ok(_report) => Ok(true),
         Err(Fault::BadRequest(Reason::Unlawful(_))) => Ok(false),
         Err(fault) => Err(fault),
+    }
+}
+
+/// Whether no event is a crash, a failing call or an opening: these lists are played.
+pub fn are_crashless(events: &[Event]) -> bool
+    ensures { result ≡ are_crashless events.now }
+{
+    for event in events {
+        if !is_crashless(&event.act) {
+            return false;
+        }
+    }
+    true
+}
+
+// Neither a crash, nor a failing call, nor an opening.
+fn is_crashless(act: &Act) -> bool
+    ensures { result ≡ is_crashless act.now }
+{
+    match act {
+        Act::At(_, Doing::Open) => false,
+        Act::Crash(_) => false,
+        Act::CrashIn(_, _, _, _) => false,
+        Act::FailIn(_, _, _) => false,
+        _ => true,
     }
 }
 

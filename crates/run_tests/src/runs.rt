@@ -1,37 +1,10 @@
 //! Steps are played over shards that are split at single letters.
-ghost use Rattle.std.specs.Prelude.{◌≡◌};
-ghost use Rattle.world.specs.Crashless.{are_crashless, is_crashless};
 
 use crate::steps::{Timed, events};
-use playing::{Report, lawful, play};
+use playing::{Report, are_crashless, lawful, play};
 use std::alloc::Global;
 use units::{Fault, Key, Splits, Stride};
-use world::{Act, Config, Doing, Event};
-
-// Neither a crash, nor a failing call, nor an opening.
-fn is_crashless(act: &Act) -> bool
-    ensures { result ≡ is_crashless act.now }
-{
-    match act {
-        Act::At(_, Doing::Open) => false,
-        Act::Crash(_) => false,
-        Act::CrashIn(_, _, _, _) => false,
-        Act::FailIn(_, _, _) => false,
-        _ => true,
-    }
-}
-
-// So is each event.
-fn are_crashless(events: &[Event]) -> bool
-    ensures { result ≡ are_crashless events.now }
-{
-    for event in events {
-        if !is_crashless(&event.act) {
-            return false;
-        }
-    }
-    true
-}
+use world::Config;
 
 // The shards that are split at these letters, with no stride.
 fn config(alloc: Global, splits: &[u8]) -> Option<Config> {

@@ -1,17 +1,25 @@
 //! Schedules that are played, and their reports.
-use playing::play;
+use playing::{Report, are_crashless, play};
 use script::{report, schedule};
 use std::alloc::Global;
 use std::test::Fail;
 use world::{Config, Event};
+
+// The run of these events, of which none is a crash, a failing call or an opening.
+fn played(alloc: Global, config: &Config, events: &[Event]) -> Result<Report, Fail> {
+    if !are_crashless(events) {
+        return Err("a crash".into());
+    }
+    Ok(play(alloc, config, events)?)
+}
 
 // How many messages each event put out.
 fn counts(alloc: Global, config: &Config, events: &[Event]) -> Result<Vec<usize>, Fail> {
     let mut counts = Vec::new(alloc);
     let mut before = 0;
     for last in 0..events.len() {
-        let played = play(alloc, config, &events[..last + 1])?;
-        let after = played.bag.as_slice().len();
+        let run = played(alloc, config, &events[..last + 1])?;
+        let after = run.bag.as_slice().len();
         counts.push(after - before)?;
         before = after;
     }
@@ -116,7 +124,7 @@ fn schedules_are_played(rt: HostRuntime) -> Result<(), Fail> {
     for case in &CASES {
         let (config, events) = schedule(alloc, case.schedule)?;
         let counts = counts(alloc, &config, &events)?;
-        let text = report(alloc, &play(alloc, &config, &events)?, &counts)?;
+        let text = report(alloc, &played(alloc, &config, &events)?, &counts)?;
         assert_eq!(rt; text.as_str(), case.report);
     }
     Ok(())
