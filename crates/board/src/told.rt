@@ -29,7 +29,11 @@ impl Model for Told {
 }
 
 impl Told {
-    pub(crate) fn of(first: Beginning<BoardEntry>, second: Beginning<BoardEntry>, safe: Stamp) -> Told
+    pub(crate) fn of(
+        first: Beginning<BoardEntry>,
+        second: Beginning<BoardEntry>,
+        safe: Stamp,
+    ) -> Told
         requires sides { (first.second ≡ false) × (second.second ≡ true) }
         requires same { (second.names ≡ first.names) × (second.entries ≡ first.entries) }
         requires safe { safe ≡ safe_on first.entries }

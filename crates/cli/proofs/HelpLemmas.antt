@@ -3,6 +3,7 @@ use Rattle.std.proofs.Common.{◌≡◌, ◌∙◌, ◌||◌, Bool, true, false,
 use Rattle.std.specs.List.{list_any, take_while}
 use Rattle.std.proofs.lemmas.List.Sums.{take_while-cons}
 use Rattle.std.specs.Prelude.{Ok, if◌then◌else◌}
+use Rattle.std.proofs.Math.Bool.{or-false}
 use Rattle.cli.specs.Lines.{Word, are_covered, are_plain, asks_help, is_ahead, is_help, line_of}
 use Rattle.cli.specs.Commands.{command_of, command_or_refusal}
 use Rattle.cli.specs.declared.commands.Command.TheVariants as code
@@ -27,13 +28,9 @@ asks_as_seen (w ∷ ws) =
 
 -- ---- words that do not ask for help
 
-or_false : (b : Bool) → (b || false) ≡ b
-or_false true = refl
-or_false false = refl
-
 -- they are plain, where they are covered
 pub plain_then : (words : List Word) → asks_help words ≡ false → are_covered words ≡ true → are_plain words ≡ true
-plain_then words quiet covered = sym (or_false (are_plain words)) ∙ ap (λ b. are_plain words || b) (sym quiet) ∙ covered
+plain_then words quiet covered = sym (or-false (are_plain words)) ∙ ap (λ b. are_plain words || b) (sym quiet) ∙ covered
 
 -- and their command is that of the line that they are
 pub read_then : (words : List Word) → asks_help words ≡ false → command_of words ≡ command_or_refusal (line_of words)

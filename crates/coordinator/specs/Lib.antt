@@ -1,1 +1,2 @@
+pub mod ByMessage
 pub mod Granted

@@ -3,15 +3,16 @@ ghost use Rattle.std.specs.List.{list_any};
 ghost use Rattle.std.specs.Prelude.{◌≡◌, ℕ, true, false, not, nat_eq, ◌+◌, ◌<◌, ◌≤◌, ◌^◌, IfOk, IfErr, MatchResult, [], ◌∷◌, Some, None, Ok, Err};
 ghost use Rattle.std.specs.Option.{option_copied};
 ghost use Rattle.units.specs.Locks.{exclusive};
-ghost use Rattle.protocol.specs.Rows.{HasRow, find_row, held_in};
+ghost use Rattle.protocol.specs.Rows.{find_row, held_in};
 ghost use Rattle.protocol.specs.Outputs.{decision};
-ghost use Rattle.protocol.specs.Plan.{timed, opens, in_way, stands};
-ghost use Rattle.protocol.specs.Cells.{commit_stamp, other_parts, plan_commit, plan_commit_fresh, plan_commit_now, plan_commit_granted};
+ghost use Rattle.protocol.specs.Plan.{timed, opens};
+ghost use Rattle.protocol.specs.Cells.{commit_stamp, plan_commit_fresh, plan_commit_now};
 ghost use Rattle.rows.specs.CodeRows.{phase_of, phase_of_wait};
 ghost use Rattle.memory.specs.Carry.{Asks, IsFit, MayTurn, may_ask, may_drop, may_end};
 ghost use Rattle.memory.specs.Kept.{start_of, standing_of, IsPlanned};
-ghost use Rattle.memory.specs.Plans.{plan_of};
-ghost use Rattle.coordinator.specs.Granted.{decides, collects, waits};
+ghost use Rattle.coordinator.specs.Granted.{waits};
+ghost use Rattle.memory.specs.Standings.{standing_in, standing_by_row, opens_writes, MakesPlan};
+ghost use Rattle.coordinator.specs.ByMessage.{PlansCommit, PlansCommitNow, PlansGranted, MakesDecision, MakesCollecting, MakesDecisionAnew, MakesCollectingAnew};
 
 use memory::{Change, PastStanding, Plan, Request, State, done_to, exclusive, reads_stand};
 use message::Commit;
@@ -29,7 +30,8 @@ pub fn on_commit(
     now: &Reading,
     commit: &Commit,
 ) -> Result<Plan, Fault>
-    ensures planned { IsPlanned state.now (plan_commit (start_of state.now) now.now.latest commit.now (stands (start_of state.now) commit.now.txn)) result }
+    ensures planned { PlansCommit state.now now.now.latest commit.now
+        (standing_in state.now commit.now.txn) result }
     ensures fit { IfOk result (IsFit state.now) }
 {
     match state.row(commit.txn) {
@@ -48,7 +50,8 @@ fn commit_with_row(
     row: &Row,
 ) -> Result<Plan, Fault>
     requires turn { MayTurn state.now.memory.rows commit.now.txn row.now }
-    ensures planned { IsPlanned state.now (plan_commit (start_of state.now) now.now.latest commit.now (HasRow (held_in state.now.memory.rows commit.now.txn) (phase_of row.now))) result }
+    ensures planned { PlansCommit state.now now.now.latest commit.now
+        (standing_by_row state.now commit.now.txn (phase_of row.now)) result }
     ensures fit { IfOk result (IsFit state.now) }
 {
     match row {
@@ -69,7 +72,9 @@ fn commit_with_wait(
 ) -> Result<Plan, Fault>
     requires ends { may_end state.now.memory.rows commit.now.txn ≡ true }
     requires drops { may_drop state.now.memory.rows commit.now.txn ≡ true }
-    ensures planned { IsPlanned state.now (plan_commit (start_of state.now) now.now.latest commit.now (HasRow (held_in state.now.memory.rows commit.now.txn) (phase_of_wait (option_copied wait.entry)))) result }
+    ensures planned { PlansCommit state.now now.now.latest commit.now
+        (standing_by_row state.now commit.now.txn (phase_of_wait (option_copied wait.entry)))
+        result }
     ensures fit { IfOk result (IsFit state.now) }
 {
     match wait {
@@ -91,7 +96,7 @@ fn commit_without_row(
     requires none { find_row state.now.memory.rows commit.now.txn ≡ None }
     requires ends { may_end state.now.memory.rows commit.now.txn ≡ true }
     requires drops { may_drop state.now.memory.rows commit.now.txn ≡ true }
-    ensures planned { IsPlanned state.now (plan_commit (start_of state.now) now.now.latest commit.now (standing_of past)) result }
+    ensures planned { PlansCommit state.now now.now.latest commit.now (standing_of past) result }
     ensures fit { IfOk result (IsFit state.now) }
 {
     match past {
@@ -107,7 +112,9 @@ fn commit_without_row(
 fn commit_fresh(state: &State, alloc: Global, now: &Reading, commit: &Commit) -> Result<Plan, Fault>
     requires ends { may_end state.now.memory.rows commit.now.txn ≡ true }
     requires drops { may_drop state.now.memory.rows commit.now.txn ≡ true }
-    ensures planned { IsPlanned state.now (plan_commit_fresh (start_of state.now) now.now.latest commit.now (held_in state.now.memory.rows commit.now.txn)) result }
+    ensures planned { IsPlanned state.now
+        (plan_commit_fresh (start_of state.now) now.now.latest commit.now
+        (held_in state.now.memory.rows commit.now.txn)) result }
     ensures fit { IfOk result (IsFit state.now) }
 {
     if reads_stand(state, commit.txn, &commit.reads) {
@@ -124,7 +131,9 @@ fn commit_in_time(
     commit: &Commit,
 ) -> Result<Plan, Fault>
     requires ends { may_end state.now.memory.rows commit.now.txn ≡ true }
-    ensures planned { IsPlanned state.now (timed (now.now.latest + 1) (plan_commit_now (start_of state.now) now.now.latest commit.now)) result }
+    ensures planned { IsPlanned state.now
+        (timed (now.now.latest + 1)
+        (plan_commit_now (start_of state.now) now.now.latest commit.now)) result }
     ensures fit { IfOk result (IsFit state.now) }
 {
     Stamp::above(now.latest())?;
@@ -134,7 +143,7 @@ fn commit_in_time(
 // Exclusive locks of what is written, and so on; or a wait.
 fn commit_now(state: &State, alloc: Global, now: &Reading, commit: &Commit) -> Result<Plan, Fault>
     requires ends { may_end state.now.memory.rows commit.now.txn ≡ true }
-    ensures planned { IsPlanned state.now (plan_commit_now (start_of state.now) now.now.latest commit.now) result }
+    ensures planned { PlansCommitNow state.now now.now.latest commit.now result }
     ensures fit { IfOk result (IsFit state.now) }
 {
     if !state.opens_writes(commit.txn, &commit.writes) {
@@ -149,10 +158,10 @@ fn commit_now(state: &State, alloc: Global, now: &Reading, commit: &Commit) -> R
 
 // The locks are granted, and no other shard takes part.
 fn decide_now(state: &State, alloc: Global, now: &Reading, commit: &Commit) -> Result<Plan, Fault>
-    requires opens { opens (start_of state.now) commit.now.txn (exclusive commit.now.writes) ≡ true }
+    requires opens { opens_writes state.now commit.now.txn commit.now.writes ≡ true }
     requires alone { list_any (λ n. not (nat_eq n state.now.setup.shard)) commit.now.parts ≡ false }
     requires ends { may_end state.now.memory.rows commit.now.txn ≡ true }
-    ensures planned { IsPlanned state.now (plan_commit_now (start_of state.now) now.now.latest commit.now) result }
+    ensures planned { PlansCommitNow state.now now.now.latest commit.now result }
     ensures fit { IfOk result (IsFit state.now) }
 {
     let at = commit_time(state, now.latest())?;
@@ -170,10 +179,9 @@ fn decide_anew(
     commit: &Commit,
     at: Stamp,
 ) -> Result<Plan, Fault>
-    requires opens { opens (start_of state.now) commit.now.txn (exclusive commit.now.writes) ≡ true }
+    requires opens { opens_writes state.now commit.now.txn commit.now.writes ≡ true }
     requires asks { may_ask state.now.memory.rows commit.now.txn ≡ true }
-    ensures plan { IfOk result (λ plan. plan_of state.now.memory.rows plan ≡
-        decides (start_of state.now) (in_way (start_of state.now) commit.now.txn (exclusive commit.now.writes)) commit.now.txn (exclusive commit.now.writes) at commit.now.parts commit.now.reads.keys commit.now.writes) }
+    ensures plan { MakesDecisionAnew state.now at commit.now result }
     ensures fit { IfOk result (IsFit state.now) }
     ensures memory { IfErr result (λ fault. fault ≡ Fault.Memory) }
 {
@@ -186,10 +194,10 @@ fn decide_anew(
 
 // The locks are granted, and other shards take part.
 fn collect_now(state: &State, alloc: Global, now: &Reading, commit: &Commit) -> Result<Plan, Fault>
-    requires opens { opens (start_of state.now) commit.now.txn (exclusive commit.now.writes) ≡ true }
+    requires opens { opens_writes state.now commit.now.txn commit.now.writes ≡ true }
     requires others { list_any (λ n. not (nat_eq n state.now.setup.shard)) commit.now.parts ≡ true }
     requires ends { may_end state.now.memory.rows commit.now.txn ≡ true }
-    ensures planned { IsPlanned state.now (plan_commit_now (start_of state.now) now.now.latest commit.now) result }
+    ensures planned { PlansCommitNow state.now now.now.latest commit.now result }
     ensures fit { IfOk result (IsFit state.now) }
 {
     if state.is_crowded(commit.txn) {
@@ -200,10 +208,9 @@ fn collect_now(state: &State, alloc: Global, now: &Reading, commit: &Commit) -> 
 
 // Whoever is in the way is ended, and votes are collected.
 fn collect_anew(state: &State, alloc: Global, now: &Reading, commit: &Commit) -> Result<Plan, Fault>
-    requires opens { opens (start_of state.now) commit.now.txn (exclusive commit.now.writes) ≡ true }
+    requires opens { opens_writes state.now commit.now.txn commit.now.writes ≡ true }
     requires asks { may_ask state.now.memory.rows commit.now.txn ≡ true }
-    ensures plan { IfOk result (λ plan. plan_of state.now.memory.rows plan ≡
-        collects (start_of state.now) (in_way (start_of state.now) commit.now.txn (exclusive commit.now.writes)) commit.now.txn now.now.latest commit.now.parts commit.now.reads.keys commit.now.writes) }
+    ensures plan { MakesCollectingAnew state.now now.now.latest commit.now result }
     ensures fit { IfOk result (IsFit state.now) }
     ensures memory { IfErr result (λ fault. fault ≡ Fault.Memory) }
 {
@@ -216,9 +223,9 @@ fn collect_anew(state: &State, alloc: Global, now: &Reading, commit: &Commit) ->
 
 // The transaction waits with its commit.
 fn wait(state: &State, alloc: Global, now: &Reading, commit: &Commit) -> Result<Plan, Fault>
-    requires shut { opens (start_of state.now) commit.now.txn (exclusive commit.now.writes) ≡ false }
+    requires shut { opens_writes state.now commit.now.txn commit.now.writes ≡ false }
     requires ends { may_end state.now.memory.rows commit.now.txn ≡ true }
-    ensures planned { IsPlanned state.now (plan_commit_now (start_of state.now) now.now.latest commit.now) result }
+    ensures planned { PlansCommitNow state.now now.now.latest commit.now result }
     ensures fit { IfOk result (IsFit state.now) }
 {
     if state.is_crowded(commit.txn) {
@@ -229,10 +236,10 @@ fn wait(state: &State, alloc: Global, now: &Reading, commit: &Commit) -> Result<
 
 // Whoever is in the way and may be ended is ended, and the row waits.
 fn wait_in_row(state: &State, alloc: Global, now: &Reading, commit: &Commit) -> Result<Plan, Fault>
-    requires shut { opens (start_of state.now) commit.now.txn (exclusive commit.now.writes) ≡ false }
+    requires shut { opens_writes state.now commit.now.txn commit.now.writes ≡ false }
     requires asks { may_ask state.now.memory.rows commit.now.txn ≡ true }
-    ensures plan { IfOk result (λ plan. plan_of state.now.memory.rows plan ≡
-        waits (start_of state.now) now.now.latest commit.now) }
+    ensures plan { MakesPlan state.now (waits (start_of state.now) now.now.latest commit.now)
+        result }
     ensures fit { IfOk result (IsFit state.now) }
     ensures memory { IfErr result (λ fault. fault ≡ Fault.Memory) }
 {
@@ -256,7 +263,7 @@ pub fn resume_commit(
     request: &CommitRequest,
 ) -> Result<Plan, Fault>
     requires { Asks state.now.memory.rows txn [] (exclusive request.now.writes) true }
-    ensures planned { IsPlanned state.now (plan_commit_granted (start_of state.now) [] txn request.now.latest request.now.parts request.now.reads request.now.writes (other_parts state.now.setup.shard request.now.parts)) result }
+    ensures planned { PlansGranted state.now txn request.now result }
     ensures fit { IfOk result (IsFit state.now) }
 {
     if request.parts.has_others(state.setup().shard) {
@@ -274,7 +281,7 @@ fn collect_alone(
     request: &CommitRequest,
 ) -> Result<Plan, Fault>
     requires { Asks state.now.memory.rows txn [] (exclusive request.now.writes) true }
-    ensures plan { IfOk result (λ plan. plan_of state.now.memory.rows plan ≡ collects (start_of state.now) [] txn request.now.latest request.now.parts request.now.reads request.now.writes) }
+    ensures plan { MakesCollecting state.now [] txn request.now result }
     ensures fit { IfOk result (IsFit state.now) }
     ensures memory { IfErr result (λ fault. fault ≡ Fault.Memory) }
 {
@@ -294,7 +301,8 @@ fn decide_alone(
     request: &CommitRequest,
 ) -> Result<Plan, Fault>
     requires { Asks state.now.memory.rows txn [] (exclusive request.now.writes) true }
-    ensures plan { IfOk result (λ plan. plan_of state.now.memory.rows plan ≡ decides (start_of state.now) [] txn (exclusive request.now.writes) at request.now.parts request.now.reads request.now.writes) }
+    ensures plan { MakesDecision state.now [] txn (exclusive request.now.writes) at request.now
+        result }
     ensures fit { IfOk result (IsFit state.now) }
     ensures memory { IfErr result (λ fault. fault ≡ Fault.Memory) }
 {
@@ -309,7 +317,8 @@ fn decide_alone(
 pub(crate) fn commit_time(state: &State, latest: Stamp) -> Result<Stamp, Fault>
     ensures { MatchResult result
         (λ at. (at ≡ commit_stamp state.now.memory.last latest []) × (at < 2 ^ 62))
-        (λ fault. (fault ≡ Fault.TimeSpent) × (2 ^ 62 ≤ commit_stamp state.now.memory.last latest [])) }
+        (λ fault. (fault ≡ Fault.TimeSpent)
+        × (2 ^ 62 ≤ commit_stamp state.now.memory.last latest [])) }
 {
     let arrived = Stamp::above(latest)?;
     let served = Stamp::above(state.last())?;
@@ -327,7 +336,7 @@ fn decide(
     request: CommitRequest,
 ) -> Result<Plan, Fault>
     requires { Asks state.now.memory.rows txn wounded needs.items true }
-    ensures plan { IfOk result (λ plan. plan_of state.now.memory.rows plan ≡ decides (start_of state.now) wounded txn needs.items at request.parts request.reads request.writes) }
+    ensures plan { MakesDecision state.now wounded txn needs.items at request result }
     ensures fit { IfOk result (IsFit state.now) }
     ensures memory { IfErr result (λ fault. fault ≡ Fault.Memory) }
 {
@@ -365,7 +374,7 @@ fn collect(
 ) -> Result<Plan, Fault>
     requires locks { needs.items ≡ exclusive request.writes }
     requires asks { Asks state.now.memory.rows txn wounded needs.items true }
-    ensures plan { IfOk result (λ plan. plan_of state.now.memory.rows plan ≡ collects (start_of state.now) wounded txn request.latest request.parts request.reads request.writes) }
+    ensures plan { MakesCollecting state.now wounded txn request result }
     ensures fit { IfOk result (IsFit state.now) }
     ensures memory { IfErr result (λ fault. fault ≡ Fault.Memory) }
 {

@@ -1,15 +1,15 @@
 //! How a transaction that this shard decides ends: given up, asked for, or settled.
 ghost use Rattle.std.specs.Prelude.{◌≡◌, true, [], ◌∷◌, Some, None, Ok, IfOk, IfErr};
 ghost use Rattle.std.specs.Option.{option_copied};
-ghost use Rattle.protocol.specs.Rows.{HasRow, IsDecided, held_in};
+ghost use Rattle.protocol.specs.Rows.{IsDecided};
 ghost use Rattle.protocol.specs.Outputs.{outcome_to};
-ghost use Rattle.protocol.specs.Plan.{replies, stands};
-ghost use Rattle.protocol.specs.Cells.{plan_give_up, plan_ask, plan_abort_for, plan_settle};
+ghost use Rattle.protocol.specs.Cells.{plan_abort_for};
 ghost use Rattle.rows.specs.CodeRows.{may_close, phase_of, phase_of_wait};
 ghost use Rattle.rows.specs.RowTable.{has_phase};
 ghost use Rattle.memory.specs.Carry.{IsFit, MayTurn, may_drop, may_end};
-ghost use Rattle.memory.specs.Kept.{start_of, standing_of, IsPlanned};
-ghost use Rattle.memory.specs.Plans.{plan_of};
+ghost use Rattle.memory.specs.Kept.{start_of, standing_of};
+ghost use Rattle.memory.specs.Standings.{standing_in, standing_by_row, MakesPlan, MakesReply};
+ghost use Rattle.coordinator.specs.ByMessage.{PlansGiveUp, PlansAsk, PlansSettle};
 
 use crate::parts::is_of_part;
 use memory::{PastStanding, Plan, State, done_to, outcome_to};
@@ -23,7 +23,8 @@ use waiting::pass;
 
 /// A giving up: a transaction that reads is ended, and one that collects votes is aborted; any other goes on.
 pub fn give_up(state: &State, alloc: Global, given: &GiveUp) -> Result<Plan, Fault>
-    ensures planned { IsPlanned state.now (Ok (plan_give_up (start_of state.now) given.now.txn (stands (start_of state.now) given.now.txn))) result }
+    ensures planned { PlansGiveUp state.now given.now.txn (standing_in state.now given.now.txn)
+        result }
     ensures fit { IfOk result (IsFit state.now) }
 {
     match state.row(given.txn) {
@@ -36,7 +37,8 @@ pub fn give_up(state: &State, alloc: Global, given: &GiveUp) -> Result<Plan, Fau
 #[tactic(auto, unfolding(protocol::specs::Cells::plan_give_up))]
 fn give_up_with_row(state: &State, alloc: Global, given: &GiveUp, row: &Row) -> Result<Plan, Fault>
     requires { MayTurn state.now.memory.rows given.now.txn row.now }
-    ensures planned { IsPlanned state.now (Ok (plan_give_up (start_of state.now) given.now.txn (HasRow (held_in state.now.memory.rows given.now.txn) (phase_of row.now)))) result }
+    ensures planned { PlansGiveUp state.now given.now.txn
+        (standing_by_row state.now given.now.txn (phase_of row.now)) result }
     ensures fit { IfOk result (IsFit state.now) }
 {
     match row {
@@ -57,7 +59,7 @@ fn give_up_without_row(
     past: PastStanding,
 ) -> Result<Plan, Fault>
     requires { may_end state.now.memory.rows given.now.txn ≡ true }
-    ensures planned { IsPlanned state.now (Ok (plan_give_up (start_of state.now) given.now.txn (standing_of past))) result }
+    ensures planned { PlansGiveUp state.now given.now.txn (standing_of past) result }
     ensures fit { IfOk result (IsFit state.now) }
 {
     match past {
@@ -71,7 +73,7 @@ fn give_up_without_row(
 
 /// The question how a transaction ended. One that is not known, or only reads, is aborted before it is answered.
 pub fn on_ask(state: &State, alloc: Global, ask: &Ask) -> Result<Plan, Fault>
-    ensures planned { IsPlanned state.now (plan_ask (start_of state.now) ask.now.from ask.now.txn (stands (start_of state.now) ask.now.txn)) result }
+    ensures planned { PlansAsk state.now ask.now (standing_in state.now ask.now.txn) result }
     ensures fit { IfOk result (IsFit state.now) }
 {
     match state.row(ask.txn) {
@@ -84,7 +86,8 @@ pub fn on_ask(state: &State, alloc: Global, ask: &Ask) -> Result<Plan, Fault>
 #[tactic(auto, unfolding(protocol::specs::Cells::plan_ask))]
 fn ask_with_row(state: &State, alloc: Global, ask: &Ask, row: &Row) -> Result<Plan, Fault>
     requires { MayTurn state.now.memory.rows ask.now.txn row.now }
-    ensures planned { IsPlanned state.now (plan_ask (start_of state.now) ask.now.from ask.now.txn (HasRow (held_in state.now.memory.rows ask.now.txn) (phase_of row.now))) result }
+    ensures planned { PlansAsk state.now ask.now
+        (standing_by_row state.now ask.now.txn (phase_of row.now)) result }
     ensures fit { IfOk result (IsFit state.now) }
 {
     match row {
@@ -103,7 +106,8 @@ fn ask_with_wait(
     wait: Option<&Wait>,
 ) -> Result<Plan, Fault>
     requires { may_drop state.now.memory.rows ask.now.txn ≡ true }
-    ensures planned { IsPlanned state.now (plan_ask (start_of state.now) ask.now.from ask.now.txn (HasRow (held_in state.now.memory.rows ask.now.txn) (phase_of_wait (option_copied wait.entry)))) result }
+    ensures planned { PlansAsk state.now ask.now
+        (standing_by_row state.now ask.now.txn (phase_of_wait (option_copied wait.entry))) result }
     ensures fit { IfOk result (IsFit state.now) }
 {
     match wait {
@@ -122,7 +126,7 @@ fn ask_without_row(
     past: PastStanding,
 ) -> Result<Plan, Fault>
     requires { may_drop state.now.memory.rows ask.now.txn ≡ true }
-    ensures planned { IsPlanned state.now (plan_ask (start_of state.now) ask.now.from ask.now.txn (standing_of past)) result }
+    ensures planned { PlansAsk state.now ask.now (standing_of past) result }
     ensures fit { IfOk result (IsFit state.now) }
 {
     match past {
@@ -152,7 +156,8 @@ fn told(state: &State, ask: &Ask, outcome: Option<Stamp>) -> Envelope
 
 // The shard that asked is told the outcome.
 fn answer(state: &State, alloc: Global, ask: &Ask, outcome: Option<Stamp>) -> Result<Plan, Fault>
-    ensures plan { IfOk result (λ plan. plan_of state.now.memory.rows plan ≡ replies (start_of state.now) (outcome_to state.now.setup.shard ask.now.txn outcome ask.now.from ∷ [])) }
+    ensures plan { MakesReply state.now
+        (outcome_to state.now.setup.shard ask.now.txn outcome ask.now.from) result }
     ensures fit { IfOk result (IsFit state.now) }
     ensures memory { IfErr result (λ fault. fault ≡ Fault.Memory) }
 {
@@ -162,7 +167,8 @@ fn answer(state: &State, alloc: Global, ask: &Ask, outcome: Option<Stamp>) -> Re
 // The transaction is aborted, and the shard that asked is told.
 fn abort_for(state: &State, alloc: Global, ask: &Ask) -> Result<Plan, Fault>
     requires { may_drop state.now.memory.rows ask.now.txn ≡ true }
-    ensures plan { IfOk result (λ plan. plan_of state.now.memory.rows plan ≡ plan_abort_for (start_of state.now) ask.now.from ask.now.txn) }
+    ensures plan { MakesPlan state.now
+        (plan_abort_for (start_of state.now) ask.now.from ask.now.txn) result }
     ensures fit { IfOk result (IsFit state.now) }
     ensures memory { IfErr result (λ fault. fault ≡ Fault.Memory) }
 {
@@ -174,7 +180,8 @@ fn abort_for(state: &State, alloc: Global, ask: &Ask) -> Result<Plan, Fault>
 
 /// A decided transaction is settled, once its timestamp has surely passed: its session and the other parts are told.
 pub fn settle(state: &State, alloc: Global, now: &Reading, txn: TxnId) -> Result<Plan, Fault>
-    ensures planned { IsPlanned state.now (plan_settle (start_of state.now) now.now.earliest txn (stands (start_of state.now) txn)) result }
+    ensures planned { PlansSettle state.now now.now.earliest txn (standing_in state.now txn)
+        result }
     ensures fit { IfOk result (IsFit state.now) }
 {
     match state.row(txn) {
@@ -193,7 +200,8 @@ fn settle_with_row(
     row: &Row,
 ) -> Result<Plan, Fault>
     requires { MayTurn state.now.memory.rows txn row.now }
-    ensures planned { IsPlanned state.now (plan_settle (start_of state.now) now.now.earliest txn (HasRow (held_in state.now.memory.rows txn) (phase_of row.now))) result }
+    ensures planned { PlansSettle state.now now.now.earliest txn
+        (standing_by_row state.now txn (phase_of row.now)) result }
     ensures fit { IfOk result (IsFit state.now) }
 {
     match row {
@@ -212,7 +220,8 @@ fn settle_decided(
     decided: &RowDecided,
 ) -> Result<Plan, Fault>
     requires { has_phase may_close state.now.memory.rows txn ≡ true }
-    ensures planned { IsPlanned state.now (plan_settle (start_of state.now) now.now.earliest txn (HasRow (held_in state.now.memory.rows txn) (IsDecided decided.now.at decided.now.parts))) result }
+    ensures planned { PlansSettle state.now now.now.earliest txn
+        (standing_by_row state.now txn (IsDecided decided.now.at decided.now.parts)) result }
     ensures fit { IfOk result (IsFit state.now) }
 {
     let at = pass(decided.at(), now)?.spend();

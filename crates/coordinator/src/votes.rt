@@ -1,19 +1,19 @@
 //! Votes.
 ghost use Rattle.std.specs.List.{list_any};
-ghost use Rattle.std.specs.Prelude.{◌≡◌, ◌+◌, ◌<◌, ◌≤◌, ◌^◌, nat_eq, not, map, max, true, false, [], ◌∷◌, Some, None, Ok, IfOk, IfErr, MatchResult};
+ghost use Rattle.std.specs.Prelude.{◌≡◌, ◌+◌, ◌<◌, ◌≤◌, ◌^◌, nat_eq, map, true, false, [], ◌∷◌, Some, None, Ok, IfOk, IfErr, MatchResult};
 ghost use Rattle.std.specs.Option.{option_copied};
 ghost use Rattle.units.specs.Lists.{greatest};
 ghost use Rattle.units.specs.Parts.{shards_from};
-ghost use Rattle.protocol.specs.Rows.{Collecting as CollectsVotes, HasRow, find_row, with_vote, held_in};
-ghost use Rattle.protocol.specs.Plan.{puts, stands};
-ghost use Rattle.protocol.specs.Cells.{all_voted, commit_stamp, other_parts, plan_vote, plan_count, plan_tell, of_part};
+ghost use Rattle.protocol.specs.Rows.{with_vote};
+ghost use Rattle.protocol.specs.Cells.{all_voted, commit_stamp, other_parts, plan_tell};
 ghost use Rattle.rows.specs.CodeRows.{is_collecting, phase_of, phase_of_wait};
 ghost use Rattle.rows.specs.RowTable.{has_phase};
 ghost use Rattle.rows.specs.States.{voted_of};
 ghost use Rattle.memory.specs.Carry.{IsFit, MayTurn, may_drop};
 ghost use Rattle.memory.specs.Kept.{start_of, standing_of, IsPlanned};
-ghost use Rattle.memory.specs.Plans.{counted, plan_of};
-ghost use Rattle.coordinator.specs.Granted.{decides, more_votes};
+ghost use Rattle.coordinator.specs.Granted.{more_votes};
+ghost use Rattle.memory.specs.Standings.{standing_in, standing_by_row, HasRowIn, MakesPlan};
+ghost use Rattle.coordinator.specs.ByMessage.{MakesVoteKept, stamp_with_vote, PlansVote, vote_counted, PlansPartVote, MakesDecision};
 
 use crate::commits::{commit_time, decision_of};
 use crate::parts::is_of_part;
@@ -25,7 +25,7 @@ use units::{Fault, Ids, ShardNo, Stamp, TxnId};
 
 /// A vote: a yes is kept, and the last one decides; a no aborts. Who votes for a transaction that ended here is told how.
 pub fn on_vote(state: &State, alloc: Global, vote: &Vote) -> Result<Plan, Fault>
-    ensures planned { IsPlanned state.now (plan_vote (start_of state.now) vote.now.from vote.now.txn vote.now.vote (stands (start_of state.now) vote.now.txn)) result }
+    ensures planned { PlansVote state.now vote.now (standing_in state.now vote.now.txn) result }
     ensures fit { IfOk result (IsFit state.now) }
 {
     match state.row(vote.txn) {
@@ -37,9 +37,10 @@ pub fn on_vote(state: &State, alloc: Global, vote: &Vote) -> Result<Plan, Fault>
 // A vote for a transaction that has a row.
 #[tactic(auto, unfolding(protocol::specs::Cells::plan_vote))]
 fn vote_with_row(state: &State, alloc: Global, vote: &Vote, row: &Row) -> Result<Plan, Fault>
-    requires row { find_row state.now.memory.rows vote.now.txn ≡ Some (record { txn = vote.now.txn; held = held_in state.now.memory.rows vote.now.txn; phase = phase_of row.now }) }
+    requires row { HasRowIn state.now vote.now.txn (phase_of row.now) }
     requires turn { MayTurn state.now.memory.rows vote.now.txn row.now }
-    ensures planned { IsPlanned state.now (plan_vote (start_of state.now) vote.now.from vote.now.txn vote.now.vote (HasRow (held_in state.now.memory.rows vote.now.txn) (phase_of row.now))) result }
+    ensures planned { PlansVote state.now vote.now
+        (standing_by_row state.now vote.now.txn (phase_of row.now)) result }
     ensures fit { IfOk result (IsFit state.now) }
 {
     match row {
@@ -58,7 +59,8 @@ fn vote_with_wait(
     vote: &Vote,
     wait: Option<&Wait>,
 ) -> Result<Plan, Fault>
-    ensures planned { IsPlanned state.now (plan_vote (start_of state.now) vote.now.from vote.now.txn vote.now.vote (HasRow (held_in state.now.memory.rows vote.now.txn) (phase_of_wait (option_copied wait.entry)))) result }
+    ensures planned { PlansVote state.now vote.now
+        (standing_by_row state.now vote.now.txn (phase_of_wait (option_copied wait.entry))) result }
     ensures fit { IfOk result (IsFit state.now) }
 {
     match wait {
@@ -75,7 +77,7 @@ fn vote_without_row(
     vote: &Vote,
     past: PastStanding,
 ) -> Result<Plan, Fault>
-    ensures planned { IsPlanned state.now (plan_vote (start_of state.now) vote.now.from vote.now.txn vote.now.vote (standing_of past)) result }
+    ensures planned { PlansVote state.now vote.now (standing_of past) result }
     ensures fit { IfOk result (IsFit state.now) }
 {
     match past {
@@ -94,7 +96,8 @@ fn vote_without_row(
 // Who voted yes is told the outcome.
 #[tactic(auto, unfolding(protocol::specs::Cells::plan_tell))]
 fn tell(state: &State, alloc: Global, vote: &Vote, outcome: Option<Stamp>) -> Result<Plan, Fault>
-    ensures plan { IfOk result (λ plan. plan_of state.now.memory.rows plan ≡ plan_tell (start_of state.now) vote.now.from vote.now.txn outcome vote.now.vote) }
+    ensures plan { MakesPlan state.now
+        (plan_tell (start_of state.now) vote.now.from vote.now.txn outcome vote.now.vote) result }
     ensures fit { IfOk result (IsFit state.now) }
     ensures memory { IfErr result (λ fault. fault ≡ Fault.Memory) }
 {
@@ -119,10 +122,10 @@ fn vote_collected(
     vote: &Vote,
     collecting: &RowCollecting,
 ) -> Result<Plan, Fault>
-    requires row { find_row state.now.memory.rows vote.now.txn ≡ Some (record { txn = vote.now.txn; held = held_in state.now.memory.rows vote.now.txn; phase = CollectsVotes collecting.now.request.latest collecting.now.request.parts collecting.now.request.reads collecting.now.request.writes collecting.now.votes }) }
+    requires row { HasRowIn state.now vote.now.txn (phase_of (Row.Collecting collecting.now)) }
     requires collects { has_phase is_collecting state.now.memory.rows vote.now.txn ≡ true }
     requires drops { may_drop state.now.memory.rows vote.now.txn ≡ true }
-    ensures planned { IsPlanned state.now (of_part (start_of state.now) vote.now.from collecting.now.request.parts (plan_count (start_of state.now) vote.now.from vote.now.txn vote.now.vote collecting.now.request.latest collecting.now.request.parts collecting.now.request.reads collecting.now.request.writes collecting.now.votes)) result }
+    ensures planned { PlansPartVote state.now vote.now collecting.now result }
     ensures fit { IfOk result (IsFit state.now) }
 {
     let parts = collecting.request().parts;
@@ -149,9 +152,11 @@ fn count(
     txn: TxnId,
     last: &Voted,
 ) -> Result<Plan, Fault>
-    requires row { find_row state.now.memory.rows txn ≡ Some (record { txn = txn; held = held_in state.now.memory.rows txn; phase = CollectsVotes collecting.now.request.latest collecting.now.request.parts collecting.now.request.reads collecting.now.request.writes collecting.now.votes }) }
+    requires row { HasRowIn state.now txn (phase_of (Row.Collecting collecting.now)) }
     requires collects { has_phase is_collecting state.now.memory.rows txn ≡ true }
-    ensures planned { IsPlanned state.now (plan_count (start_of state.now) last.now.shard txn (Some last.now.at) collecting.now.request.latest collecting.now.request.parts collecting.now.request.reads collecting.now.request.writes collecting.now.votes) result }
+    ensures planned { IsPlanned state.now
+        (vote_counted (start_of state.now) last.now.shard txn (Some last.now.at) collecting.now)
+        result }
     ensures fit { IfOk result (IsFit state.now) }
 {
     if have_all_voted(state, collecting, last) {
@@ -168,9 +173,12 @@ fn decide_last(
     txn: TxnId,
     last: &Voted,
 ) -> Result<Plan, Fault>
-    requires all { all_voted (other_parts state.now.setup.shard collecting.now.request.parts) (with_vote last.now.shard last.now.at collecting.now.votes) ≡ true }
+    requires all { all_voted (other_parts state.now.setup.shard collecting.now.request.parts)
+        (with_vote last.now.shard last.now.at collecting.now.votes) ≡ true }
     requires collects { has_phase is_collecting state.now.memory.rows txn ≡ true }
-    ensures planned { IsPlanned state.now (plan_count (start_of state.now) last.now.shard txn (Some last.now.at) collecting.now.request.latest collecting.now.request.parts collecting.now.request.reads collecting.now.request.writes collecting.now.votes) result }
+    ensures planned { IsPlanned state.now
+        (vote_counted (start_of state.now) last.now.shard txn (Some last.now.at) collecting.now)
+        result }
     ensures fit { IfOk result (IsFit state.now) }
 {
     let at = decision_time(state, collecting, last)?;
@@ -180,8 +188,7 @@ fn decide_last(
 // A yes is kept.
 fn keep_vote(state: &State, alloc: Global, txn: TxnId, last: &Voted) -> Result<Plan, Fault>
     requires { has_phase is_collecting state.now.memory.rows txn ≡ true }
-    ensures plan { IfOk result (λ plan. plan_of state.now.memory.rows plan ≡
-        puts (start_of state.now) [] txn [] (counted last.now.shard last.now.at (find_row state.now.memory.rows txn)) None state.now.memory.last []) }
+    ensures plan { MakesVoteKept state.now txn last.now result }
     ensures fit { IfOk result (IsFit state.now) }
     ensures memory { IfErr result (λ fault. fault ≡ Fault.Memory) }
 {
@@ -202,7 +209,7 @@ fn decide_counted(
     collecting: &RowCollecting,
 ) -> Result<Plan, Fault>
     requires { has_phase is_collecting state.now.memory.rows txn ≡ true }
-    ensures plan { IfOk result (λ plan. plan_of state.now.memory.rows plan ≡ decides (start_of state.now) [] txn [] at collecting.now.request.parts collecting.now.request.reads collecting.now.request.writes) }
+    ensures plan { MakesDecision state.now [] txn [] at collecting.now.request result }
     ensures fit { IfOk result (IsFit state.now) }
     ensures memory { IfErr result (λ fault. fault ≡ Fault.Memory) }
 {
@@ -222,7 +229,8 @@ fn decide_counted(
 // Each of the other parts has voted, once this vote is counted too.
 #[tactic(auto, unfolding(crate::specs::Granted::more_votes))]
 fn have_all_voted(state: &State, collecting: &RowCollecting, last: &Voted) -> bool
-    ensures { result ≡ all_voted (other_parts state.now.setup.shard collecting.now.request.parts) (with_vote last.now.shard last.now.at collecting.now.votes) }
+    ensures { result ≡ all_voted (other_parts state.now.setup.shard collecting.now.request.parts)
+        (with_vote last.now.shard last.now.at collecting.now.votes) }
 {
     let mask = collecting.request().parts.mask();
     let votes = collecting.votes().as_slice();
@@ -240,7 +248,8 @@ fn have_marked_voted(
     last: &Voted,
 ) -> bool
     requires { bits + n ≡ 16 }
-    ensures { result ≡ all_voted (other_parts except (shards_from bits n mask)) (more_votes last.now.shard last.now.at votes.now) }
+    ensures { result ≡ all_voted (other_parts except (shards_from bits n mask))
+        (more_votes last.now.shard last.now.at votes.now) }
 {
     if bits == 0 {
         return true;
@@ -264,7 +273,8 @@ fn has_voted(votes: &[Voted], number: u8) -> bool
 
 // The shard of a number has voted, once this vote is counted too.
 fn has_voted_with(votes: &[Voted], number: u8, last: &Voted) -> bool
-    ensures { result ≡ list_any (λ v. nat_eq v.shard number) (more_votes last.now.shard last.now.at votes.now) }
+    ensures { result ≡ list_any (λ v. nat_eq v.shard number)
+        (more_votes last.now.shard last.now.at votes.now) }
 {
     has_voted(votes, number) || last.shard.number() == number
 }
@@ -282,8 +292,9 @@ fn greatest_vote(votes: &[Voted]) -> Stamp
 // The timestamp of the decision, once this vote is counted too.
 fn decision_time(state: &State, collecting: &RowCollecting, last: &Voted) -> Result<Stamp, Fault>
     ensures { MatchResult result
-        (λ at. (at ≡ commit_stamp state.now.memory.last collecting.now.request.latest (with_vote last.now.shard last.now.at collecting.now.votes)) × (at < 2 ^ 62))
-        (λ fault. (fault ≡ Fault.TimeSpent) × (2 ^ 62 ≤ commit_stamp state.now.memory.last collecting.now.request.latest (with_vote last.now.shard last.now.at collecting.now.votes))) }
+        (λ at. (at ≡ stamp_with_vote state.now collecting.now last.now) × (at < 2 ^ 62))
+        (λ fault. (fault ≡ Fault.TimeSpent)
+        × (2 ^ 62 ≤ stamp_with_vote state.now collecting.now last.now)) }
 {
     time_by(
         state,
@@ -297,8 +308,11 @@ fn decision_time(state: &State, collecting: &RowCollecting, last: &Voted) -> Res
 #[tactic(auto, using(crate::proofs::Counting::stamp_late, crate::proofs::Counting::stamp_again, crate::proofs::Counting::stamp_with))]
 fn time_by(state: &State, latest: Stamp, votes: &[Voted], last: &Voted) -> Result<Stamp, Fault>
     ensures { MatchResult result
-        (λ at. (at ≡ commit_stamp state.now.memory.last latest (with_vote last.now.shard last.now.at (map voted_of votes.now))) × (at < 2 ^ 62))
-        (λ fault. (fault ≡ Fault.TimeSpent) × (2 ^ 62 ≤ commit_stamp state.now.memory.last latest (with_vote last.now.shard last.now.at (map voted_of votes.now)))) }
+        (λ at. (at ≡ commit_stamp state.now.memory.last latest
+        (with_vote last.now.shard last.now.at (map voted_of votes.now))) × (at < 2 ^ 62))
+        (λ fault. (fault ≡ Fault.TimeSpent)
+        × (2 ^ 62 ≤ commit_stamp state.now.memory.last latest
+        (with_vote last.now.shard last.now.at (map voted_of votes.now)))) }
 {
     let least = commit_time(state, latest)?;
     let voted = least.later(greatest_vote(votes));

@@ -1,10 +1,11 @@
 -- What each record that follows keeps of a log: no id is both promised and decided, a decision's outcome is at its
 -- timestamp, and only an opening comes first.
 use Rattle.std.proofs.Common.{refl, sym, ◌∙◌, ap, subst, arith}
-use Rattle.std.proofs.lemmas.Bool.{eqb-true, or_parts, and_parts}
+use Rattle.std.proofs.lemmas.Bool.{eqb-true, or_parts, and_parts, true≢false}
 use Rattle.std.proofs.lemmas.Bool.Decides.{nat_tests}
 use Rattle.std.specs.Prelude.{ℕ, ◌+◌, ◌≡◌, Bool, true, false, cond, ◌&&◌, ◌||◌, nat_lt, List, [], ◌∷◌, ◌++◌, Option, Some, None}
 use Rattle.std.proofs.lemmas.List.{append-nil}
+use Rattle.std.proofs.Math.Bool.{or-false, and-false, or-true}
 use Rattle.units.specs.Lists.{head}
 use Rattle.units.specs.Ids.{Id, same_id}
 use Rattle.units.proofs.Folds.{or_else, is_there, there_or_else}
@@ -39,17 +40,13 @@ pub record Kept (log : List Record) : Type 0 where
 
 -- ---- no id is both promised and decided
 
-or_false : (a : Bool) → (a || false) ≡ a
-or_false true = refl
-or_false false = refl
-
 -- a promise or a decision comes of an id of which nothing is made
 made_fresh : (shard : ℕ) (log : List Record) (r : Record) (t : Id) → follows shard log r ≡ true → made (r ∷ []) t ≡ true → made log t ≡ false
 unfolding made
 made_fresh shard log (Opened e) t h there = cc
 made_fresh shard log (Ceiling at) t h there = cc
 made_fresh shard log (Prepare p) t h there =
-    let same : p.txn ≡ t = same_id-is p.txn t (sym (single (same_id p.txn t) p) ∙ (sym (or_false _) ∙ there)) in
+    let same : p.txn ≡ t = same_id-is p.txn t (sym (single (same_id p.txn t) p) ∙ (sym (or-false _) ∙ there)) in
     subst (λ v. made log v ≡ false) same ((new_facts log p.txn (prepare_new shard log p h)).1)
 made_fresh shard log (Commit c) t h there =
     let same : c.txn ≡ t = same_id-is c.txn t (sym (single (same_id c.txn t) c) ∙ there) in
@@ -57,30 +54,19 @@ made_fresh shard log (Commit c) t h there =
 made_fresh shard log (Abort u) t h there = cc
 made_fresh shard log (Outcome u o) t h there = cc
 
-and_false : (a : Bool) → (a && false) ≡ false
-and_false true = refl
-and_false false = refl
-
 one_single : (r : Record) (t : Id) → (is_there (prepared_of (r ∷ []) t) && is_there (committed_of (r ∷ []) t)) ≡ false
 one_single (Opened e) t = refl
 one_single (Ceiling at) t = refl
-one_single (Prepare p) t = and_false _
+one_single (Prepare p) t = and-false _
 one_single (Commit c) t = refl
 one_single (Abort u) t = refl
 one_single (Outcome u o) t = refl
 
-not_true : ¬ (true ≡ false)
-not_true e = cc
-
 one_by : (p c q d : Bool) → (p && c) ≡ false → (q && d) ≡ false → ((q || d) ≡ true → (p || c) ≡ false) → ((p || q) && (c || d)) ≡ false
 one_by true true q d h k fresh = cc
-one_by true false q true h k fresh = absurd (not_true (fresh (or_true q)))
-  where
-    or_true : (b : Bool) → (b || true) ≡ true
-    or_true true = refl
-    or_true false = refl
+one_by true false q true h k fresh = absurd (true≢false (fresh (or-true q)))
 one_by true false q false h k fresh = refl
-one_by false true true d h k fresh = absurd (not_true (fresh refl))
+one_by false true true d h k fresh = absurd (true≢false (fresh refl))
 one_by false true false d h k fresh = refl
 one_by false false q d h k fresh = k
 
@@ -106,7 +92,7 @@ decided : (b : Bool) (c : Option Committed) (e : Option Ended) (new : Committed)
     → Settles (or_else c (head (cond b (new ∷ []) []))) (or_else e None)
 decided b (Some c) (Some e) new h fresh = h
 decided b (Some c) None new h fresh = tt
-decided true None (Some e) new h fresh = absurd (not_true ((fresh refl).1))
+decided true None (Some e) new h fresh = absurd (true≢false ((fresh refl).1))
 decided true None None new h fresh = tt
 decided false None e new h fresh = tt
 
@@ -130,7 +116,7 @@ unended : (log : List Record) (t : Id) → Sound log → made log t ≡ false �
 unended log t s m = by_test (is_there (ended_of log t)) refl
   where
     by_test : (b : Bool) → is_there (ended_of log t) ≡ b → is_there (ended_of log t) ≡ false
-    by_test true e = absurd (not_true (sym (s.closed t e) ∙ m))
+    by_test true e = absurd (true≢false (sym (s.closed t e) ∙ m))
     by_test false e = e
 
 settles_by : (shard : ℕ) (log : List Record) (r : Record) → Kept log → follows shard log r ≡ true → (t : Id) →

@@ -1,8 +1,9 @@
 -- What the facts alone tell of a log.
 use Rattle.std.proofs.Common.{refl, sym, ◌∙◌, ap}
 use Rattle.std.specs.Prelude.{ℕ, ◌+◌, ◌≡◌, Bool, true, false, not, cond, ◌&&◌, ◌||◌, nat_eq, nat_lt, List, [], ◌∷◌, ◌++◌, Option, Some, None, option_map}
-use Rattle.std.proofs.lemmas.Bool.{and_parts}
+use Rattle.std.proofs.lemmas.Bool.{and_parts, true≢false}
 use Rattle.std.proofs.lemmas.List.{append-nil}
+use Rattle.std.proofs.Math.Bool.{or-false, and-false}
 use Rattle.units.specs.Lists.{head, when}
 use Rattle.units.specs.Ids.{Id}
 use Rattle.units.proofs.Folds.{is_there}
@@ -36,14 +37,6 @@ new_by (HasClosed coordinator outcome) = refl
 new_known : (log : List Record) (t : Id) → is_new log t ≡ is_unrecorded (recorded (facts_of log) t)
 new_known log t = new_by (status_of log t) ∙ ap is_unrecorded (sym (recorded_is log t))
 
-or_false : (a : Bool) → (a || false) ≡ a
-or_false true = refl
-or_false false = refl
-
-and_false : (a : Bool) → (a && false) ≡ false
-and_false true = refl
-and_false false = refl
-
 no_fit : (o : Option ℕ) → outcome_fits None None o ≡ false
 no_fit None = refl
 no_fit (Some s) = refl
@@ -56,16 +49,10 @@ none_allowed a (Some s) e = refl
 allowed_by : (a : Bool) (c : Option Committed) (p : Option Prepared) (e : Option Ended) (o : Option ℕ)
     → (a ≡ true → (is_there p || is_there c) ≡ false) → (is_there p && is_there c) ≡ false
     → (not (is_there e) && outcome_fits p c o) ≡ allows (status_by a c p e) o
-allowed_by true (Some c) None e o apart one = absurd (not_true (apart refl))
-  where
-    not_true : true ≡ false → ⊥
-    not_true h = cc
-allowed_by true c (Some p) e o apart one = absurd (not_true (apart refl))
-  where
-    not_true : true ≡ false → ⊥
-    not_true h = cc
-allowed_by true None None e None apart one = and_false (not (is_there e))
-allowed_by true None None e (Some s) apart one = and_false (not (is_there e))
+allowed_by true (Some c) None e o apart one = absurd (true≢false (apart refl))
+allowed_by true c (Some p) e o apart one = absurd (true≢false (apart refl))
+allowed_by true None None e None apart one = and-false (not (is_there e))
+allowed_by true None None e (Some s) apart one = and-false (not (is_there e))
 allowed_by false (Some c) (Some p) e o apart one = cc
 allowed_by false (Some c) None (Some e) None apart one = refl
 allowed_by false (Some c) None (Some e) (Some s) apart one = refl
@@ -74,9 +61,9 @@ allowed_by false (Some c) None None (Some s) apart one = refl
 allowed_by false None (Some p) (Some e) None apart one = refl
 allowed_by false None (Some p) (Some e) (Some s) apart one = refl
 allowed_by false None (Some p) None None apart one = refl
-allowed_by false None (Some p) None (Some s) apart one = or_false _
-allowed_by false None None e None apart one = and_false (not (is_there e))
-allowed_by false None None e (Some s) apart one = and_false (not (is_there e))
+allowed_by false None (Some p) None (Some s) apart one = or-false _
+allowed_by false None None e None apart one = and-false (not (is_there e))
+allowed_by false None None e (Some s) apart one = and-false (not (is_there e))
 
 allowed_known : (log : List Record) (t : Id) (o : Option ℕ) → Kept log →
     (not (is_there (ended_of log t)) && outcome_fits (prepared_of log t) (committed_of log t) o) ≡ allows (recorded (facts_of log) t) o
@@ -135,12 +122,9 @@ learnt_as_followed shard log = learnt_by shard [] log kept_empty
 
 -- ---- what the facts still say
 
-not_true : true ≡ false → ⊥
-not_true h = cc
-
 promise_by : (a : Bool) (c : Option Committed) (p : Option Prepared) (e : Option Ended) → (a ≡ true → (is_there p || is_there c) ≡ false)
     → (is_there p && is_there c) ≡ false → e ≡ None → standing_promise (status_by a c p e) ≡ p
-promise_by true c (Some p) e apart one none = absurd (not_true (apart refl))
+promise_by true c (Some p) e apart one none = absurd (true≢false (apart refl))
 promise_by true c None e apart one none = refl
 promise_by false (Some c) (Some p) e apart one none = cc
 promise_by false (Some c) None (Some e) apart one none = refl
@@ -152,8 +136,8 @@ promise_by false None None e apart one none = refl
 decision_by : (a : Bool) (c : Option Committed) (p : Option Prepared) (e : Option Ended) → (a ≡ true → (is_there p || is_there c) ≡ false)
     → e ≡ None → standing_decision (status_by a c p e) ≡ c
 decision_by true None p e apart none = refl
-decision_by true (Some c) None e apart none = absurd (not_true (apart refl))
-decision_by true (Some c) (Some p) e apart none = absurd (not_true (apart refl))
+decision_by true (Some c) None e apart none = absurd (true≢false (apart refl))
+decision_by true (Some c) (Some p) e apart none = absurd (true≢false (apart refl))
 decision_by false (Some c) p (Some e) apart none = cc
 decision_by false (Some c) p None apart none = refl
 decision_by false None (Some p) (Some e) apart none = refl
@@ -170,13 +154,13 @@ abort_by false None None e = refl
 
 outcome_by : (a : Bool) (c : Option Committed) (p : Option Prepared) (e : Option Ended) → (a ≡ true → (is_there p || is_there c) ≡ false)
     → (is_there e ≡ true → (is_there p || is_there c) ≡ true) → Settles c e → outcome_in (status_by a c p e) ≡ option_map (λ x. x.outcome) e
-outcome_by true c p (Some e) apart closed settles = absurd (not_true (sym (closed refl) ∙ apart refl))
+outcome_by true c p (Some e) apart closed settles = absurd (true≢false (sym (closed refl) ∙ apart refl))
 outcome_by true c p None apart closed settles = refl
 outcome_by false (Some c) p (Some e) apart closed settles = ap (λ o. Some o) (sym settles)
 outcome_by false (Some c) p None apart closed settles = refl
 outcome_by false None (Some p) (Some e) apart closed settles = refl
 outcome_by false None (Some p) None apart closed settles = refl
-outcome_by false None None (Some e) apart closed settles = absurd (not_true (sym (closed refl)))
+outcome_by false None None (Some e) apart closed settles = absurd (true≢false (sym (closed refl)))
 outcome_by false None None None apart closed settles = refl
 
 says : (log : List Record) → Kept log → (t : Id) → SaysOf log t

@@ -1,3 +1,7 @@
+pub mod ValueLaws
+pub mod VersionLaws
+pub mod SerialOrder
+pub mod SortedLists
 pub mod HistoryByEntries
 pub mod TornLaws
 pub mod WholeByEntries

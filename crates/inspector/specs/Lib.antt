@@ -3,3 +3,4 @@ pub mod Entries
 pub mod Decided
 pub mod Folds
 pub mod Places
+pub mod Versions

@@ -147,41 +147,13 @@ fn add_copies(alloc: Global, writes: &mut Vec<Write>, more: &[Write]) -> Result<
     Ok(())
 }
 
-/// The transactions in the serial order.
-#[tactic(auto, using(crate::proofs::FoldLaws::put_onto_none, crate::proofs::FoldLaws::put_onto_last))]
-pub fn in_order(alloc: Global, mut found: Vec<Transaction>) -> Result<Vec<Transaction>, Fault>
-    ensures serial { IfOk result (λ ordered. ordered.items ≡ serial found.items) }
+/// Puts transactions into the serial order.
+pub fn put_in_order(found: &mut Vec<Transaction>) -> Result<(), Fault>
+    ensures serial { OnOk result (found.new.items ≡ serial found.old.items) }
     ensures memory { IfErr result (λ fault. fault ≡ Fault.Memory) }
 {
-    let mut ordered = Vec::new(alloc);
-    while let Some(last) = found.pop() {
-        put(&mut ordered, last)?;
-    }
-    Ok(ordered)
-}
-
-// Puts a transaction in its place.
-#[tactic(auto, using(crate::proofs::FoldLaws::insert_front))]
-fn put(ordered: &mut Vec<Transaction>, transaction: Transaction) -> Result<(), Fault>
-    ensures ordered { OnOk result (ordered.new.items ≡ insert serial_before transaction ordered.old.items) }
-    ensures memory { IfErr result (λ fault. fault ≡ Fault.Memory) }
-{
-    let place = place_of(ordered, &transaction);
-    ordered.insert(place, transaction)?;
+    found.sort_by_key(|transaction| (transaction.at, transaction.txn))?;
     Ok(())
-}
-
-// How many stand before a transaction.
-fn place_of(ordered: &[Transaction], transaction: &Transaction) -> usize
-    ensures place { result ≡ front (λ t. serial_before t transaction.now) ordered.now }
-    ensures limit { result ≤ length ordered.now }
-{
-    for (place, other) in ordered.iter().enumerate() {
-        if !other.comes_before(transaction) {
-            return place;
-        }
-    }
-    ordered.len()
 }
 
 /// The transaction of an id.

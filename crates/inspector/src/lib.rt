@@ -8,6 +8,7 @@ mod lines;
 mod torn;
 mod values;
 mod verdict;
+mod versions;
 mod whole;
 
 pub use verdict::inspect;

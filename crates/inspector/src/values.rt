@@ -4,55 +4,45 @@ ghost use Rattle.std.specs.Option.{option_copied};
 ghost use Rattle.units.specs.Lists.{same_numbers};
 ghost use Rattle.record.specs.History.{serial_before};
 ghost use Rattle.record.specs.Verdict.{same_value};
-ghost use Rattle.inspector.specs.Folds.{shown, written};
+ghost use Rattle.units.specs.Keys.{Bytes};
+ghost use Rattle.inspector.specs.Ascending.{AscendsBy};
+ghost use Rattle.inspector.specs.Folds.{shown};
+ghost use Rattle.inspector.specs.Versions.{AscendsByKey, of_key, placed_from};
 
 use crate::history::Transaction;
-use units::{Key, Stamp, Value, Write};
+use crate::versions::{Version, value_before_place};
+use units::{Key, Stamp, Value};
 
 /// A key's value of the transactions before one, in the serial order.
 pub fn value_before<'t>(
-    ordered: &'t [Transaction],
+    ordered: &[Transaction],
+    versions: &[Version<'t>],
     reader: &Transaction,
     key: &Key,
 ) -> Option<&'t Value>
+    requires serial { AscendsBy serial_before ordered.now }
+    requires order { AscendsByKey versions.now }
+    requires same { (k : Bytes) → of_key k versions.now ≡ of_key k (placed_from 0 ordered.now) }
     ensures { option_copied result ≡ shown (λ t. serial_before t reader.now) ordered.now key.now None }
 {
-    let mut value = None;
-    for transaction in ordered {
-        if transaction.comes_before(reader) {
-            value = value_after(transaction.writes.as_slice(), key, value);
-        }
-    }
-    value
+    let place = ordered.partition_point(|transaction| transaction.comes_before(reader));
+    value_before_place(versions, key, place)
 }
 
 /// A key's value of the transactions up to a timestamp, in the serial order.
-pub fn value_up_to<'t>(ordered: &'t [Transaction], at: Stamp, key: &Key) -> Option<&'t Value>
+pub fn value_up_to<'t>(
+    ordered: &[Transaction],
+    versions: &[Version<'t>],
+    at: Stamp,
+    key: &Key,
+) -> Option<&'t Value>
+    requires serial { AscendsBy serial_before ordered.now }
+    requires order { AscendsByKey versions.now }
+    requires same { (k : Bytes) → of_key k versions.now ≡ of_key k (placed_from 0 ordered.now) }
     ensures { option_copied result ≡ shown (λ t. nat_le t.at at) ordered.now key.now None }
 {
-    let mut value = None;
-    for transaction in ordered {
-        if transaction.at.micros() <= at.micros() {
-            value = value_after(transaction.writes.as_slice(), key, value);
-        }
-    }
-    value
-}
-
-// A key's value after some writes, from what it was.
-fn value_after<'t>(
-    writes: &'t [Write],
-    key: &Key,
-    mut value: Option<&'t Value>,
-) -> Option<&'t Value>
-    ensures { option_copied result ≡ written writes.now key.now (option_copied value.entry) }
-{
-    for write in writes {
-        if key.is(&write.key) {
-            value = write.value.as_ref();
-        }
-    }
-    value
+    let place = ordered.partition_point(|transaction| transaction.at.micros() <= at.micros());
+    value_before_place(versions, key, place)
 }
 
 /// The two values are one, or neither is there.

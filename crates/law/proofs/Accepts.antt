@@ -170,7 +170,11 @@ OneValue is = (i j : Install) → IsAmong is i → IsAmong is j → i.key ≡ j.
 -- what one more record installs
 abbrev installs_by : List Record → Record → List Install
 installs_by log (Outcome t o) = installs_at (recorded (facts_of log) t) o
-installs_by log _ = []
+installs_by log (Record.Opened epoch) = []
+installs_by log (Record.Ceiling s) = []
+installs_by log (Record.Prepare p) = []
+installs_by log (Record.Commit c) = []
+installs_by log (Record.Abort u) = []
 
 installs_more : (shard : ℕ) (log : List Record) (r : Record) → followed shard (log ++ r ∷ []) ≡ true →
     installs_of (log ++ r ∷ []) ≡ installs_of log ++ installs_by log r

@@ -2,6 +2,7 @@
 use Rattle.std.proofs.Common.{◌≡◌, inl, inr, ℕ, Bool, true, false, List, [], ◌∷◌, Option, Some, None, slice_get, refl, sym, ap, subst, ◌∙◌, arith}
 use Rattle.std.proofs.lemmas.Bool.{cases_eq}
 use Rattle.std.proofs.lemmas.Bool.Decides.{nat_tests}
+use Rattle.units.specs.Limits.{most_rows}
 use Rattle.units.specs.Ids.{Id}
 use Rattle.protocol.specs.Cells.{to_read}
 use Rattle.world.proofs.EveryRun.{WellShard, WellWorld, shard_with}
@@ -48,12 +49,12 @@ holds_lock (h ∷ hs) k m = grind (arith, nat_tests, holds_lock hs k m, same_key
 
 -- who was told the value of a key holds it, and the value is the latest
 pub told_is_held : (setup : Setup) (f : Facts) (m : Memory) (p : Plan) (a : ReadAnswer) (x : Option Bytes) →
-    AnswerFair (start_of_step 1024 setup f m) p a x → Held a.txn a.key a.epoch x (facts_after f p.logged) (carried p m)
+    AnswerFair (start_of_step most_rows setup f m) p a x → Held a.txn a.key a.epoch x (facts_after f p.logged) (carried p m)
 unfolding carried after_change
 told_is_held setup f m p a x fair = by_answer fair.held
   where
     b : Before
-    b = start_of_step 1024 setup f m
+    b = start_of_step most_rows setup f m
 
     same_facts : p.logged ≡ None → facts_after f p.logged ≡ f
     same_facts e = ap (facts_after f) e
@@ -68,11 +69,11 @@ told_is_held setup f m p a x fair = by_answer fair.held
           held = λ now. Reads row found opened there (ap (λ (g : Facts). latest g.installs a.key) (same_facts none) ∙ fair.value);
         }
 
-    by_answer : Answered (start_of_step 1024 setup f m) p a.txn a.key → Held a.txn a.key a.epoch x (facts_after f p.logged) (carried p m)
+    by_answer : Answered (start_of_step most_rows setup f m) p a.txn a.key → Held a.txn a.key a.epoch x (facts_after f p.logged) (carried p m)
     by_answer (OfRow change wounded logged held phase is opened there) =
         made logged (row_as a.txn held phase)
         (ap (λ c. find_row (after_change c (without_rows m.rows p.wounded)) a.txn) change ∙ ap (λ l. find_row (without_rows m.rows l) a.txn) wounded
-        ∙ row_at (start_of_step 1024 setup f m) a.txn held phase is) opened there
+        ∙ row_at (start_of_step most_rows setup f m) a.txn held phase is) opened there
     by_answer (OfLock change logged) =
         made logged (row_as a.txn (with_locks (held_in (without_rows m.rows p.wounded) a.txn) (to_read a.key)) Idle)
         (ap (λ c. find_row (after_change c (without_rows m.rows p.wounded)) a.txn) change
@@ -82,17 +83,17 @@ told_is_held setup f m p a x fair = by_answer fair.held
 
 -- its row is open
 pub told_row : (setup : Setup) (f : Facts) (m : Memory) (p : Plan) (a : ReadAnswer) (x : Option Bytes) →
-    AnswerFair (start_of_step 1024 setup f m) p a x → (row : Row) × (find_row (carried p m).rows a.txn ≡ Some row) × (is_open row.phase ≡ true)
+    AnswerFair (start_of_step most_rows setup f m) p a x → (row : Row) × (find_row (carried p m).rows a.txn ≡ Some row) × (is_open row.phase ≡ true)
     × (p.logged ≡ None)
 unfolding carried after_change
 told_row setup f m p a x fair = by_answer fair.held
   where
-    by_answer : Answered (start_of_step 1024 setup f m) p a.txn a.key → (row : Row) × (find_row (carried p m).rows a.txn ≡ Some row)
+    by_answer : Answered (start_of_step most_rows setup f m) p a.txn a.key → (row : Row) × (find_row (carried p m).rows a.txn ≡ Some row)
         × (is_open row.phase ≡ true) × (p.logged ≡ None)
     by_answer (OfRow change wounded logged held phase is opened there) = (
       row_as a.txn held phase,
       ap (λ c. find_row (after_change c (without_rows m.rows p.wounded)) a.txn) change ∙ ap (λ l. find_row (without_rows m.rows l) a.txn) wounded
-          ∙ row_at (start_of_step 1024 setup f m) a.txn held phase is,
+          ∙ row_at (start_of_step most_rows setup f m) a.txn held phase is,
       opened,
       logged,
     )

@@ -4,6 +4,7 @@ use Rattle.std.proofs.Common.{Option, Some, None, slice_get, refl, sym, ap, subs
 use Rattle.std.specs.Prelude.{Ok, Err, option_map}
 use Rattle.std.specs.List.{AllByRecursion}
 use Rattle.std.proofs.lemmas.Bool.{leb-true, eqb-true, and_parts}
+use Rattle.units.specs.Limits.{most_rows}
 use Rattle.units.specs.Lists.{when}
 use Rattle.units.specs.Ids.{Id}
 use Rattle.units.specs.Keys.{Bytes}
@@ -150,7 +151,7 @@ module _ (sc : Scene) (h : Holds sc) (n : ℕ) (s : ShardNow) (there : slice_get
   step_evidence m runs orderly None given_none = tt
   step_evidence m runs orderly (Some p) heard =
       let setup = setup_of sc.world.config n in
-      let start = start_of_step 1024 setup (facts_of s.log) m in
+      let start = start_of_step most_rows setup (facts_of s.log) m in
       let evidence = h.shards n s there in
       let state : StateEvidence sc s n (Runs m) = subst (λ x. StateEvidence sc s n x) runs evidence.state in
       let knows : Knows sc s.log start p.0 = record {

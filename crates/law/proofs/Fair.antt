@@ -139,7 +139,11 @@ module _ (t : Id) (k : Bytes) (e : ℕ) (b : Before) where
   abbrev pub LoggedFair : Option Record → Type 0
   LoggedFair (Some (Record.Prepare p)) = Asked p.txn p.reads
   LoggedFair (Some (Record.Commit c)) = Asked c.txn c.reads
-  LoggedFair _ = Unit {0}
+  LoggedFair (Some (Record.Opened epoch)) = Unit {0}
+  LoggedFair (Some (Record.Ceiling s)) = Unit {0}
+  LoggedFair (Some (Record.Abort u)) = Unit {0}
+  LoggedFair (Some (Record.Outcome u o)) = Unit {0}
+  LoggedFair None = Unit {0}
 
   pub record PlanFair (p : Plan) : Type 0 where
     pub change : ChangeFair p.change

@@ -6,6 +6,7 @@ use Rattle.std.specs.Prelude.{Ok}
 use Rattle.std.specs.List.{AllByRecursion}
 use Rattle.std.proofs.lemmas.Bool.{or_left, or_right}
 use Rattle.std.proofs.lemmas.List.{append-nil}
+use Rattle.units.specs.Limits.{most_rows}
 use Rattle.units.specs.Ids.{Id, same_id, older, has_id, with_id}
 use Rattle.protocol.specs.Outputs.{promise, decision}
 use Rattle.protocol.specs.Cells.{raised}
@@ -353,11 +354,11 @@ module _ (t : Id) (k : Bytes) (e : ℕ) (x : Option Bytes) where
 
   -- a step keeps it
   pub held_keeps : (setup : Setup) (f : Facts) (m : Memory) (now : Interval) (i : Input) (p : Plan) → IsSound setup.shard f m →
-      plan_input setup (start_of_step 1024 setup f m) now i ≡ Ok p →
-      PlanFair t k e (start_of_step 1024 setup f m) p → Held f m → Held (facts_after f p.logged) (carried p m)
+      plan_input setup (start_of_step most_rows setup f m) now i ≡ Ok p →
+      PlanFair t k e (start_of_step most_rows setup f m) p → Held f m → Held (facts_after f p.logged) (carried p m)
   unfolding HeldNext
   held_keeps setup f m now i p sound is fair h =
-      next_of (start_of_step 1024 setup f m) i p sound (shape_of 1024 setup f m now i p (by_id-claims m.rows sound.table.order) is) fair h
+      next_of (start_of_step most_rows setup f m) i p sound (shape_of most_rows setup f m now i p (by_id-claims m.rows sound.table.order) is) fair h
 
   -- ---- what is logged
 
@@ -415,9 +416,9 @@ module _ (t : Id) (k : Bytes) (e : ℕ) (x : Option Bytes) where
 
   -- a reader's promise or decision is logged while the value that it was told is the latest
   pub held_logs : (setup : Setup) (f : Facts) (m : Memory) (now : Interval) (i : Input) (p : Plan) → IsSound setup.shard f m →
-      plan_input setup (start_of_step 1024 setup f m) now i ≡ Ok p →
-      PlanFair t k e (start_of_step 1024 setup f m) p → Held f m → (r : Record) (at : ℕ) (ks : List Bytes) (ws : List Write) → p.logged ≡ Some r →
+      plan_input setup (start_of_step most_rows setup f m) now i ≡ Ok p →
+      PlanFair t k e (start_of_step most_rows setup f m) p → Held f m → (r : Record) (at : ℕ) (ks : List Bytes) (ws : List Write) → p.logged ≡ Some r →
       Claims r t at ks ws → IsAmong ks k → latest f.installs k ≡ x
   unfolding ReadsRight
   held_logs setup f m now i p sound is fair h =
-      right_of (start_of_step 1024 setup f m) i p sound (shape_of 1024 setup f m now i p (by_id-claims m.rows sound.table.order) is) fair h
+      right_of (start_of_step most_rows setup f m) i p sound (shape_of most_rows setup f m now i p (by_id-claims m.rows sound.table.order) is) fair h

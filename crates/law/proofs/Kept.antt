@@ -3,6 +3,7 @@ use Rattle.std.proofs.Common.{◌≡◌, inl, inr, ℕ, ◌+◌, ◌-◌, ◌<�
 use Rattle.std.proofs.Common.{sym, ap, subst, ◌∙◌, arith}
 use Rattle.std.specs.Prelude.{Ok}
 use Rattle.std.proofs.lemmas.Bool.{cases_eq}
+use Rattle.units.specs.Limits.{most_rows}
 use Rattle.units.specs.Ids.{Id, same_id}
 use Rattle.units.specs.Keys.{Bytes}
 use Rattle.units.specs.Lists.{gather, least_with}
@@ -73,12 +74,12 @@ module _ (n : ℕ) (v : View) where
     pub shown : setup.shard ≡ n → IsShown log v
 
   rises : (setup : Setup) (f : Facts) (m : Memory) (now : Interval) (i : Input) (p : Plan) →
-      plan_input setup (start_of_step 1024 setup f m) now i ≡ Ok p → v.safe ≤ m.last → (v.safe ≤ p.last) × LoggedAbove v.safe p.logged
+      plan_input setup (start_of_step most_rows setup f m) now i ≡ Ok p → v.safe ≤ m.last → (v.safe ≤ p.last) × LoggedAbove v.safe p.logged
   unfolding Rises
-  rises setup f m now i p e low = subst (λ q. Rises v.safe q) e (rising v.safe (start_of_step 1024 setup f m) low setup now i)
+  rises setup f m now i p e low = subst (λ q. Rises v.safe q) e (rising v.safe (start_of_step most_rows setup f m) low setup now i)
 
   pub serves_keeps : (setup : Setup) (f : Facts) (m : Memory) (now : Interval) (i : Input) (p : Plan) → IsInLimit i → Serves setup f m →
-      plan_input setup (start_of_step 1024 setup f m) now i ≡ Ok p → Serves setup (facts_after f p.logged) (carried p m)
+      plan_input setup (start_of_step most_rows setup f m) now i ≡ Ok p → Serves setup (facts_after f p.logged) (carried p m)
   unfolding carried
   serves_keeps setup f m now i p limit s e = record {
     well = keeps setup f m now i p limit s.well e;
@@ -97,7 +98,7 @@ module _ (n : ℕ) (v : View) where
 
   pub shows_logs : (setup : Setup) (log : List Record) (m : Memory) (now : Interval) (i : Input) (p : Plan) (r : Record) → IsInLimit i →
       Shows setup log → Serves setup (facts_of log) m →
-      plan_input setup (start_of_step 1024 setup (facts_of log) m) now i ≡ Ok p → p.logged ≡ Some r → Shows setup (log ++ r ∷ [])
+      plan_input setup (start_of_step most_rows setup (facts_of log) m) now i ≡ Ok p → p.logged ≡ Some r → Shows setup (log ++ r ∷ [])
   shows_logs setup log m now i p r limit shows serves e logged =
       let more = logs setup log m now i p r limit shows.accepted serves.well e logged in
       record {

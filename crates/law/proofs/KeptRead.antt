@@ -1,6 +1,7 @@
 -- A value that was told is kept: by steps that are asked fairly, by crashes, failing calls and openings.
 use Rattle.std.proofs.Common.{◌≡◌, inl, inr, ℕ, ◌+◌, true, List, [], ◌∷◌, ◌++◌, Option, Some, sym, subst, arith}
 use Rattle.std.specs.Prelude.{Ok}
+use Rattle.units.specs.Limits.{most_rows}
 use Rattle.units.specs.Ids.{Id, same_id}
 use Rattle.units.specs.Keys.{Bytes}
 use Rattle.units.specs.Lists.{gather}
@@ -69,19 +70,19 @@ module _ (n : ℕ) (t : Id) (k : Bytes) (e : ℕ) (x : Option Bytes) where
     pub right : setup.shard ≡ n → ReadsRightly log
 
   fair_plan : (setup : Setup) (f : Facts) (m : Memory) (now : Interval) (i : Input) (p : Plan) → IsFairInput t k e i → Held t k e x f m →
-      plan_input setup (start_of_step 1024 setup f m) now i ≡ Ok p → PlanFair t k e (start_of_step 1024 setup f m) p
+      plan_input setup (start_of_step most_rows setup f m) now i ≡ Ok p → PlanFair t k e (start_of_step most_rows setup f m) p
   unfolding Fair
   fair_plan setup f m now i p fair h is =
-      subst (λ z. Fair t k e (start_of_step 1024 setup f m) z) is (fairly t k e (start_of_step 1024 setup f m) rows setup now i fair)
+      subst (λ z. Fair t k e (start_of_step most_rows setup f m) z) is (fairly t k e (start_of_step most_rows setup f m) rows setup now i fair)
     where
-      rows : (u : Id) (held : List Lock) (phase : Phase) → stands (start_of_step 1024 setup f m) u ≡ HasRow held phase → u ≡ t →
+      rows : (u : Id) (held : List Lock) (phase : Phase) → stands (start_of_step most_rows setup f m) u ≡ HasRow held phase → u ≡ t →
           IsAmong (reads_of phase) k → f.epoch ≡ e
       rows u held phase st same there = h.asked (record { txn = u; held = held; phase = phase })
           (subst (λ z. find_row m.rows z ≡ Some (record { txn = u; held = held; phase = phase })) same
-          (row_at (start_of_step 1024 setup f m) u held phase st)) there
+          (row_at (start_of_step most_rows setup f m) u held phase st)) there
 
   pub tells_keeps : (setup : Setup) (f : Facts) (m : Memory) (now : Interval) (i : Input) (p : Plan) → IsAllowed setup i → Tells setup f m →
-      plan_input setup (start_of_step 1024 setup f m) now i ≡ Ok p → Tells setup (facts_after f p.logged) (carried p m)
+      plan_input setup (start_of_step most_rows setup f m) now i ≡ Ok p → Tells setup (facts_after f p.logged) (carried p m)
   tells_keeps setup f m now i p allowed s is = record {
     well = keeps setup f m now i p allowed.limit s.well is;
     held = λ here. held_keeps t k e x setup f m now i p s.well.sound is (fair_plan setup f m now i p (allowed.fair here) (s.held here) is) (s.held here);
@@ -106,7 +107,7 @@ module _ (n : ℕ) (t : Id) (k : Bytes) (e : ℕ) (x : Option Bytes) where
 
   pub told_logs : (setup : Setup) (log : List Record) (m : Memory) (now : Interval) (i : Input) (p : Plan) (r : Record) → IsAllowed setup i →
       Told setup log → Tells setup (facts_of log) m →
-      plan_input setup (start_of_step 1024 setup (facts_of log) m) now i ≡ Ok p → p.logged ≡ Some r → Told setup (log ++ r ∷ [])
+      plan_input setup (start_of_step most_rows setup (facts_of log) m) now i ≡ Ok p → p.logged ≡ Some r → Told setup (log ++ r ∷ [])
   unfolding facts_of
   told_logs setup log m now i p r allowed good s is logged = record {
     accepted = logs setup log m now i p r allowed.limit good.accepted s.well is logged;

@@ -21,7 +21,9 @@ abbrev pub is_claim : Id → Record → Bool
 is_claim t (Prepare p) = same_id p.txn t
 is_claim t (Commit c) = same_id c.txn t
 is_claim t (Abort u) = same_id t u
-is_claim t _ = false
+is_claim t (Record.Opened epoch) = false
+is_claim t (Record.Ceiling s) = false
+is_claim t (Record.Outcome u o) = false
 
 -- those of an id
 abbrev pub claims_of : List Record → Id → List Record

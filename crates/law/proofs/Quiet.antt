@@ -42,7 +42,10 @@ pub record IsQuiet (log : List Record) (at : ℕ) : Type 0 where
 abbrev pub IsAbove : ℕ → Record → Type 0
 IsAbove at (Prepare p) = at < p.at
 IsAbove at (Commit c) = at < c.at
-IsAbove at _ = Unit {0}
+IsAbove at (Record.Opened epoch) = Unit {0}
+IsAbove at (Record.Ceiling s) = Unit {0}
+IsAbove at (Record.Abort u) = Unit {0}
+IsAbove at (Record.Outcome u o) = Unit {0}
 
 -- ---- one more record keeps the quiet
 

@@ -4,6 +4,7 @@ use Rattle.std.proofs.Common.{◌≡◌, ◌⊎◌, inl, inr, ℕ, ◌<◌, ◌�
 use Rattle.std.proofs.Common.{Option, Some, None, refl, sym, ap, subst, ◌∙◌, arith}
 use Rattle.std.proofs.lemmas.Bool.{and_parts, or_right, or_left}
 use Rattle.std.proofs.lemmas.Bool.Decides.{nat_tests}
+use Rattle.units.specs.Limits.{most_rows}
 use Rattle.units.specs.Ids.{Id, same_id, older, ids_once}
 use Rattle.units.specs.Keys.{Bytes, same_key, shard_of}
 use Rattle.units.specs.Lists.{gather}
@@ -56,7 +57,10 @@ use Rattle.law.proofs.Standing.{Wrote, installed, written}
 abbrev pub Claims : Record → Id → ℕ → List Bytes → List Write → Type 0
 Claims (Prepare p) t at ks ws = (p.txn ≡ t) × (p.at ≡ at) × (p.reads ≡ ks) × (p.writes ≡ ws)
 Claims (Commit c) t at ks ws = (c.txn ≡ t) × (c.at ≡ at) × (c.reads ≡ ks) × (c.writes ≡ ws)
-Claims _ t at ks ws = ⊥
+Claims (Record.Opened epoch) t at ks ws = ⊥
+Claims (Record.Ceiling s) t at ks ws = ⊥
+Claims (Record.Abort u) t at ks ws = ⊥
+Claims (Record.Outcome u o) t at ks ws = ⊥
 
 -- the timestamp at which an id ended at a shard
 abbrev pub end_stamp : Status → Option ℕ
@@ -286,11 +290,11 @@ free_beside : (front : List Record) (q : Record) (t : Id) (at : ℕ) (ks : List 
     fits_beside front q ≡ true → list_any (clash (locks_of ks ws)) (locks_standing front) ≡ false
 unfolding fits_beside
 free_beside front (Prepare p) t at ks ws c e =
-    let a = and_parts (nat_lt (length (locks_standing front)) 1024 && not (list_any (clash (locks_of p.reads p.writes)) (locks_standing front))) _ e in
+    let a = and_parts (nat_lt (length (locks_standing front)) most_rows && not (list_any (clash (locks_of p.reads p.writes)) (locks_standing front))) _ e in
     subst (λ l. list_any (clash (locks_of ks l)) (locks_standing front) ≡ false) c.3 (subst
     (λ l. list_any (clash (locks_of l p.writes)) (locks_standing front) ≡ false) c.2 (not_any _ (and_parts _ _ a.0).1))
 free_beside front (Commit p) t at ks ws c e =
-    let a = and_parts (nat_lt (length (locks_standing front)) 1024 && not (list_any (clash (locks_of p.reads p.writes)) (locks_standing front))) _ e in
+    let a = and_parts (nat_lt (length (locks_standing front)) most_rows && not (list_any (clash (locks_of p.reads p.writes)) (locks_standing front))) _ e in
     subst (λ l. list_any (clash (locks_of ks l)) (locks_standing front) ≡ false) c.3 (subst
     (λ l. list_any (clash (locks_of l p.writes)) (locks_standing front) ≡ false) c.2 (not_any _ (and_parts _ _ a.0).1))
 free_beside front (Opened x) t at ks ws c e = absurd c

@@ -3,7 +3,7 @@ use Rattle.std.proofs.Common.{◌≡◌, inl, inr, ℕ, Bool, true, false, cond,
 use Rattle.std.proofs.Common.{sym, ap, subst, ◌∙◌, arith, option_to_list}
 use Rattle.std.proofs.lemmas.List.{append-nil}
 use Rattle.units.specs.declared.fault.Fault.{Fault}
-use Rattle.units.specs.declared.fault.Fault.TheVariants.{Stopped, Device}
+use Rattle.units.specs.declared.fault.Fault.TheVariants.{Stopped, Device, TimeSpent}
 use Rattle.units.proofs.ListLaws.{all_gives}
 use Rattle.truetime.specs.Interval.{Interval}
 use Rattle.disk.specs.declared.plan.Fate.{Fate}
@@ -15,9 +15,10 @@ use Rattle.message.specs.declared.message.Input.{Input}
 use Rattle.message.specs.declared.message.Message.{Message}
 use Rattle.protocol.specs.Rows.{Memory}
 use Rattle.protocol.specs.Step.{Stepped, Refuses, Does}
+use Rattle.gatelog.specs.Frames.{end_of}
 use Rattle.gatelog.specs.Gates.{is_left, is_read, opens_gate}
 use Rattle.world.specs.World.{After, ShardNow, State, Runs, IsStopped, IsDown, Unsure, Nothing, Shown, Hidden, shown_records, read_log, setup_of}
-use Rattle.world.specs.World.{step_of_opening, input_of, step_with, effect, finished, crashed, crashed_in, failed_in, left_of, left_unsure}
+use Rattle.world.specs.World.{step_of_opening, input_of, step_with, effect, wanted, where_room, has_room, finished, crashed, crashed_in, failed_in, left_of, left_unsure}
 use Rattle.world.specs.World.{left_by_refused, stopped, set_shard, did, did_with_failure, refused_doing, refused}
 use Rattle.world.specs.declared.event.Doing.{Doing}
 use Rattle.world.specs.declared.event.Reply.{Reply}
@@ -106,21 +107,35 @@ module _ (sc : Scene) (h : Holds sc) (steady : IsSteady sc.world) (present : sli
   running o heard (IsStopped m) is = tt
   running o heard IsDown is = tt
 
-  pub effect_evidence : (doing : Doing) → Given sc n (input_of sc.world.bag doing) → SteppedEvidence sc n (read_log s)
-      (effect (setup_of sc.world.config n) sc.world.bag s doing)
-  unfolding effect
-  effect_evidence Doing.Open heard = by_state s.state
+  wanted_evidence : (doing : Doing) → Given sc n (input_of sc.world.bag doing) → SteppedEvidence sc n (read_log s)
+      (wanted (setup_of sc.world.config n) sc.world.bag s doing)
+  unfolding wanted
+  wanted_evidence Doing.Open heard = by_state s.state
     where
       by_state : (st : State) → SteppedEvidence sc n (read_log s)
           (elim st as (λ x. Stepped) [ Runs m ↦ Refuses Stopped | _ ↦ step_of_opening (facts_of (read_log s)) ])
       by_state (Runs m) = tt
       by_state (IsStopped m) = opening_evidence sc h n s there
       by_state IsDown = opening_evidence sc h n s there
-  effect_evidence (Doing.Take m now) heard = running (input_of sc.world.bag (Doing.Take m now)) heard s.state refl
-  effect_evidence (Doing.Resume now) heard = running (input_of sc.world.bag (Doing.Resume now)) heard s.state refl
-  effect_evidence (Doing.Settle t now) heard = running (input_of sc.world.bag (Doing.Settle t now)) heard s.state refl
-  effect_evidence (Doing.Advance at now) heard = running (input_of sc.world.bag (Doing.Advance at now)) heard s.state refl
-  effect_evidence (Doing.Nudge t now) heard = running (input_of sc.world.bag (Doing.Nudge t now)) heard s.state refl
+  wanted_evidence (Doing.Take m now) heard = running (input_of sc.world.bag (Doing.Take m now)) heard s.state refl
+  wanted_evidence (Doing.Resume now) heard = running (input_of sc.world.bag (Doing.Resume now)) heard s.state refl
+  wanted_evidence (Doing.Settle t now) heard = running (input_of sc.world.bag (Doing.Settle t now)) heard s.state refl
+  wanted_evidence (Doing.Advance at now) heard = running (input_of sc.world.bag (Doing.Advance at now)) heard s.state refl
+  wanted_evidence (Doing.Nudge t now) heard = running (input_of sc.world.bag (Doing.Nudge t now)) heard s.state refl
+
+  by_room : (gate : ℕ) (st : Stepped) → SteppedEvidence sc n (read_log s) st → SteppedEvidence sc n (read_log s) (where_room gate st)
+  by_room gate (Refuses f) k = tt
+  by_room gate (Does None memory out) k = k
+  by_room gate (Does (Some r) memory out) k = by_test (has_room gate r)
+    where
+      by_test : (b : Bool) → SteppedEvidence sc n (read_log s) (cond b (Does (Some r) memory out) (Refuses TimeSpent))
+      by_test true = k
+      by_test false = tt
+
+  pub effect_evidence : (doing : Doing) → Given sc n (input_of sc.world.bag doing) → SteppedEvidence sc n (read_log s)
+      (effect (setup_of sc.world.config n) sc.world.bag s doing)
+  unfolding effect
+  effect_evidence doing heard = by_room (end_of (read_log s)) (wanted (setup_of sc.world.config n) sc.world.bag s doing) (wanted_evidence doing heard)
 
   -- ---- the shard after it
 

@@ -2,11 +2,13 @@
 use Rattle.std.proofs.Common.{◌≡◌, ℕ, suc, ◌+◌, Bool, true, false, cond, nat_lt, List, [], ◌++◌, Option, Some, None, refl, sym, ap, subst, ◌∙◌, arith}
 use Rattle.std.specs.Prelude.{Ok, Err, option_to_list}
 use Rattle.std.proofs.lemmas.List.{append-nil}
+use Rattle.units.specs.Limits.{most_rows}
 use Rattle.units.specs.Ids.{Id}
 use Rattle.units.specs.Keys.{Bytes}
 use Rattle.units.specs.declared.fault.Fault.TheVariants.{Stopped, TimeSpent}
 use Rattle.units.specs.declared.setup.Setup.{Setup}
 use Rattle.truetime.specs.Interval.{Interval}
+use Rattle.gatelog.specs.Frames.{end_of}
 use Rattle.record.specs.Facts.{Facts, facts_of}
 use Rattle.record.specs.declared.record.Record.{Record}
 use Rattle.message.specs.declared.message.Address.{Address}
@@ -17,11 +19,12 @@ use Rattle.message.specs.declared.message.Message.{Message}
 use Rattle.message.specs.declared.message.ReadAnswer.{ReadAnswer}
 use Rattle.protocol.specs.Plan.{time_limit, Plan, Planned, start_of_step, carried}
 use Rattle.world.proofs.EveryRun.{WellShard, shard_with}
+use Rattle.world.proofs.Rooms.{done_wanted}
 use Rattle.protocol.specs.Rows.{Memory, Row, find_row, rebuilt}
 use Rattle.protocol.specs.Step.{step_within, Stepped, Refuses, Does, plan_input, stepped, facts_after}
 use Rattle.law.specs.Among.{IsAmong}
 use Rattle.world.specs.World.{ShardNow, State, View, Unsure, Runs, IsStopped, IsDown, read_log, shown_records, step_of_opening, input_of, step_with}
-use Rattle.world.specs.World.{effect, finished}
+use Rattle.world.specs.World.{effect, wanted, finished}
 use Rattle.world.specs.declared.event.Doing.{Doing}
 use Rattle.law.proofs.Members.{all_at}
 use Rattle.protocol.specs.Sound.{is_open}
@@ -58,15 +61,15 @@ away_fair k e (Input.Nudge u) = tt
 
 -- each value in the outbox of a plan is told fairly
 told_fairly : (setup : Setup) (f : Facts) (m : Memory) (now : Interval) (i : Input) (p : Plan) (to : Address) (a : ReadAnswer) (x : Option Bytes) →
-    plan_input setup (start_of_step 1024 setup f m) now i ≡ Ok p →
-    IsAmong p.outbox (record { to = to; message = Message.ReadAnswer a }) → a.answer ≡ Holds x → AnswerFair (start_of_step 1024 setup f m) p a x
+    plan_input setup (start_of_step most_rows setup f m) now i ≡ Ok p →
+    IsAmong p.outbox (record { to = to; message = Message.ReadAnswer a }) → a.answer ≡ Holds x → AnswerFair (start_of_step most_rows setup f m) p a x
 unfolding Fair
 told_fairly setup f m now i p to a x is there holds =
-    let fair : PlanFair (away i) [] f.epoch (start_of_step 1024 setup f m) p =
-    subst (λ z. Fair (away i) [] f.epoch (start_of_step 1024 setup f m) z) is (fairly (away i) [] f.epoch (start_of_step 1024 setup f m)
+    let fair : PlanFair (away i) [] f.epoch (start_of_step most_rows setup f m) p =
+    subst (λ z. Fair (away i) [] f.epoch (start_of_step most_rows setup f m) z) is (fairly (away i) [] f.epoch (start_of_step most_rows setup f m)
     (λ u held phase st same in_it. refl) setup now i (away_fair [] f.epoch i)) in
-    subst (λ z. elim z as (λ q. Type 0) [ Holds y ↦ AnswerFair (start_of_step 1024 setup f m) p a y | Refused ↦ Unit {0} ]) holds
-    (all_at (λ (e : Envelope). MessageFair (start_of_step 1024 setup f m) p e.message) p.outbox
+    subst (λ z. elim z as (λ q. Type 0) [ Holds y ↦ AnswerFair (start_of_step most_rows setup f m) p a y | Refused ↦ Unit {0} ]) holds
+    (all_at (λ (e : Envelope). MessageFair (start_of_step most_rows setup f m) p e.message) p.outbox
     (record { to = to; message = Message.ReadAnswer a }) fair.told there)
 
 -- a shard that runs holds a read, by an open row of the reader
@@ -96,14 +99,14 @@ step_holds setup log unsure (IsStopped m) views o doing logged memory out to a x
 step_holds setup log unsure IsDown views o doing logged memory out to a x well e there holds = cc
 step_holds setup log unsure (Runs m) views None doing logged memory out to a x well e there holds = cc
 step_holds setup log unsure (Runs m) views (Some q) doing logged memory out to a x well e there holds =
-    by_plan (plan_input setup (start_of_step 1024 setup (facts_of log) m) q.0 q.1) refl e
+    by_plan (plan_input setup (start_of_step most_rows setup (facts_of log) m) q.0 q.1) refl e
   where
-    by_plan : (pl : Planned) → plan_input setup (start_of_step 1024 setup (facts_of log) m) q.0 q.1 ≡ pl → stepped m pl ≡ Does logged memory out →
+    by_plan : (pl : Planned) → plan_input setup (start_of_step most_rows setup (facts_of log) m) q.0 q.1 ≡ pl → stepped m pl ≡ Does logged memory out →
         (a.from ≡ setup.shard) × HoldsRead (finished (shard_with log unsure (Runs m) views) doing logged memory) a x
     by_plan (Err f) is k = cc
     by_plan (Ok p) is k =
         let same = parts_of_does p.logged logged (carried p m) memory p.outbox out k in
-        let fair : AnswerFair (start_of_step 1024 setup (facts_of log) m) p a x = told_fairly setup (facts_of log) m q.0 q.1 p to a x is
+        let fair : AnswerFair (start_of_step most_rows setup (facts_of log) m) p a x = told_fairly setup (facts_of log) m q.0 q.1 p to a x is
         (subst (λ l. IsAmong l (record { to = to; message = Message.ReadAnswer a })) (sym same.2) there) holds in
         let row = told_row setup (facts_of log) m p a x fair in
         let none : logged ≡ None = sym same.0 ∙ row.3 in
@@ -132,25 +135,34 @@ opening_tells f logged memory out e is there = by_test (nat_lt f.epoch time_limi
     by_test true k = subst (λ l. IsAmong l e) (sym (parts_of_does (Some (Record.Opened (f.epoch + 1))) logged (rebuilt f) memory [] out k).2) there
     by_test false k = cc
 
-pub doing_holds : (setup : Setup) (bag : List Envelope) (s : ShardNow) (doing : Doing) (logged : Option Record) (memory : Memory)
+wanted_holds : (setup : Setup) (bag : List Envelope) (s : ShardNow) (doing : Doing) (logged : Option Record) (memory : Memory)
     (out : List Envelope) (to : Address) (a : ReadAnswer) (x : Option Bytes) →
-    WellShard setup s → effect setup bag s doing ≡ Does logged memory out → IsAmong out (record { to = to; message = Message.ReadAnswer a }) →
+    WellShard setup s → wanted setup bag s doing ≡ Does logged memory out → IsAmong out (record { to = to; message = Message.ReadAnswer a }) →
     a.answer ≡ Holds x → (a.from ≡ setup.shard) × HoldsRead (finished s doing logged memory) a x
-unfolding effect
-doing_holds setup bag s Doing.Open logged memory out to a x well e there holds = absurd (by_state s.state e)
+unfolding wanted
+wanted_holds setup bag s Doing.Open logged memory out to a x well e there holds = absurd (by_state s.state e)
   where
     by_state : (st : State) → (elim st as (λ z. Stepped) [ Runs m ↦ Refuses Stopped | _ ↦ step_of_opening (facts_of (read_log s)) ]) ≡
         Does logged memory out → ⊥
     by_state (Runs m) k = cc
     by_state (IsStopped m) k = opening_tells (facts_of (read_log s)) logged memory out (record { to = to; message = Message.ReadAnswer a }) k there
     by_state IsDown k = opening_tells (facts_of (read_log s)) logged memory out (record { to = to; message = Message.ReadAnswer a }) k there
-doing_holds setup bag s (Doing.Take m now) logged memory out to a x well e there holds = step_holds setup s.log s.unsure s.state s.views
+wanted_holds setup bag s (Doing.Take m now) logged memory out to a x well e there holds = step_holds setup s.log s.unsure s.state s.views
     (input_of bag (Doing.Take m now)) (Doing.Take m now) logged memory out to a x well e there holds
-doing_holds setup bag s (Doing.Resume now) logged memory out to a x well e there holds = step_holds setup s.log s.unsure s.state s.views
+wanted_holds setup bag s (Doing.Resume now) logged memory out to a x well e there holds = step_holds setup s.log s.unsure s.state s.views
     (input_of bag (Doing.Resume now)) (Doing.Resume now) logged memory out to a x well e there holds
-doing_holds setup bag s (Doing.Settle t now) logged memory out to a x well e there holds =
+wanted_holds setup bag s (Doing.Settle t now) logged memory out to a x well e there holds =
     step_holds setup s.log s.unsure s.state s.views (input_of bag (Doing.Settle t now)) (Doing.Settle t now) logged memory out to a x well e there holds
-doing_holds setup bag s (Doing.Advance at now) logged memory out to a x well e there holds =
+wanted_holds setup bag s (Doing.Advance at now) logged memory out to a x well e there holds =
     step_holds setup s.log s.unsure s.state s.views (input_of bag (Doing.Advance at now)) (Doing.Advance at now) logged memory out to a x well e there holds
-doing_holds setup bag s (Doing.Nudge t now) logged memory out to a x well e there holds =
+wanted_holds setup bag s (Doing.Nudge t now) logged memory out to a x well e there holds =
     step_holds setup s.log s.unsure s.state s.views (input_of bag (Doing.Nudge t now)) (Doing.Nudge t now) logged memory out to a x well e there holds
+
+pub doing_holds : (setup : Setup) (bag : List Envelope) (s : ShardNow) (doing : Doing) (logged : Option Record) (memory : Memory)
+    (out : List Envelope) (to : Address) (a : ReadAnswer) (x : Option Bytes) →
+    WellShard setup s → effect setup bag s doing ≡ Does logged memory out → IsAmong out (record { to = to; message = Message.ReadAnswer a }) →
+    a.answer ≡ Holds x → (a.from ≡ setup.shard) × HoldsRead (finished s doing logged memory) a x
+unfolding effect
+doing_holds setup bag s doing logged memory out to a x well e there holds =
+    wanted_holds setup bag s doing logged memory out to a x well
+    (done_wanted (end_of (read_log s)) (wanted setup bag s doing) logged memory out e) there holds

@@ -3,6 +3,7 @@ use Rattle.std.proofs.Common.{◌≡◌, ◌⊎◌, inl, inr, ℕ, ◌+◌, ◌<
 use Rattle.std.proofs.Common.{Some, None, refl, sym, ap, subst, ◌∙◌, arith, slice_get}
 use Rattle.std.specs.Prelude.{Ok}
 use Rattle.std.proofs.lemmas.Bool.{leb-true}
+use Rattle.units.specs.Limits.{most_rows}
 use Rattle.protocol.specs.Outputs.{promise, decision}
 use Rattle.protocol.specs.Cells.{raised}
 use Rattle.units.specs.Ids.{Id, same_id}
@@ -150,11 +151,12 @@ pub record Stamped (setup : Setup) (log : List Record) : Type 0 where
   pub stamped : IsStamped log
 
 pub stamps_keeps : (setup : Setup) (f : Facts) (m : Memory) (now : Interval) (i : Input) (p : Plan) → IsInLimit i → Stamps setup f m →
-    plan_input setup (start_of_step 1024 setup f m) now i ≡ Ok p → Stamps setup (facts_after f p.logged) (carried p m)
+    plan_input setup (start_of_step most_rows setup f m) now i ≡ Ok p → Stamps setup (facts_after f p.logged) (carried p m)
 unfolding carried EndsNext
 stamps_keeps setup f m now i p limit s e = record {
   well = keeps setup f m now i p limit s.well e;
-  ends = next_of (start_of_step 1024 setup f m) i p s.well.sound (shape_of 1024 setup f m now i p (by_id-claims m.rows s.well.sound.table.order) e) s.ends;
+  ends = next_of (start_of_step most_rows setup f m) i p s.well.sound
+      (shape_of most_rows setup f m now i p (by_id-claims m.rows s.well.sound.table.order) e) s.ends;
 }
 
 pub stamps_opens : (setup : Setup) (f : Facts) (m : Memory) → Stamps setup f m → Stamps setup (learn f (Record.Opened (f.epoch + 1))) (rebuilt f)
@@ -180,7 +182,7 @@ claim_above (Outcome x y) t at ks ws low c h = absurd c
 
 pub stamped_logs : (setup : Setup) (log : List Record) (m : Memory) (now : Interval) (i : Input) (p : Plan) (r : Record) → IsInLimit i →
     Stamped setup log → Stamps setup (facts_of log) m →
-    plan_input setup (start_of_step 1024 setup (facts_of log) m) now i ≡ Ok p → p.logged ≡ Some r → Stamped setup (log ++ r ∷ [])
+    plan_input setup (start_of_step most_rows setup (facts_of log) m) now i ≡ Ok p → p.logged ≡ Some r → Stamped setup (log ++ r ∷ [])
 unfolding facts_of Rises
 stamped_logs setup log m now i p r limit good s e logged = record {
   accepted = logs setup log m now i p r limit good.accepted s.well e logged;
@@ -191,7 +193,7 @@ stamped_logs setup log m now i p r limit good s e logged = record {
 }
   where
     above : IsAbove m.last r
-    above = subst (LoggedAbove m.last) logged (subst (λ z. Rises m.last z) e (rising m.last (start_of_step 1024 setup (facts_of log) m)
+    above = subst (LoggedAbove m.last) logged (subst (λ z. Rises m.last z) e (rising m.last (start_of_step most_rows setup (facts_of log) m)
         (omega arith) setup now i)).1
 
     here : (q : Record) (t : Id) (at : ℕ) (ks : List Bytes) (ws : List Write) → IsAbove m.last q → Claims q t at ks ws → IsAboveAll log at

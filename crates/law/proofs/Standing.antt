@@ -40,7 +40,10 @@ use Rattle.law.proofs.Serial.{Writes, IsInstalled}
 abbrev pub Wrote : Record → Txn → Write → Type 0
 Wrote (Prepare p) x w = (p.txn ≡ x.txn) × (p.at ≤ x.at) × IsAmong p.writes w
 Wrote (Commit c) x w = (c.txn ≡ x.txn) × (c.at ≡ x.at) × IsAmong c.writes w
-Wrote _ x w = ⊥
+Wrote (Record.Opened epoch) x w = ⊥
+Wrote (Record.Ceiling s) x w = ⊥
+Wrote (Record.Abort u) x w = ⊥
+Wrote (Record.Outcome u o) x w = ⊥
 
 -- in an orderly log it is the one that counts
 wrote_by : (log : List Record) → IsOrderly log → (r : Record) (x : Txn) (w : Write) → IsAmong log r → Wrote r x w →

@@ -2,6 +2,8 @@
 #![tactic(auto)]
 
 #[cfg(test)]
+mod drawn;
+#[cfg(test)]
 mod ids;
 #[cfg(test)]
 mod seated;

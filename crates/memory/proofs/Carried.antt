@@ -21,9 +21,8 @@ use Rattle.rows.specs.CodeRows.{is_reading, is_collecting, is_idle, may_decide, 
 use Rattle.rows.specs.declared.wait.Wait.{Wait}
 use Rattle.rows.specs.RowTable.{has_phase, phase_of_row, put_row, with_yes, MayEnd}
 use Rattle.rows.proofs.Wounds.{may_end_wounded, others_end, row_stays}
-use Rattle.memory.specs.Carry.{Admits, MayUndo, MayAsk, FitsRows, admitted_to, asker, may_ask, may_end, admitted, MayStand, IsDated, CanStand}
+use Rattle.memory.specs.Carry.{Admits, MayUndo, admitted_to, may_ask, may_end, admitted, MayStand, IsDated, CanStand}
 use Rattle.memory.specs.Plans.{counted}
-use Rattle.memory.specs.declared.plan.Change.{Change}
 use Rattle.memory.specs.Served.{IsHolding, stamp_held}
 use Rattle.memory.proofs.Served.{holding_with, holding_with_none, holding_without, holding_without_none, holds_few}
 

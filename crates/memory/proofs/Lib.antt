@@ -1,5 +1,6 @@
 pub mod Admission
 pub mod Carried
+pub mod Changing
 pub mod Fits
 pub mod Learns
 pub mod Logged

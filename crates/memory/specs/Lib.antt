@@ -5,4 +5,5 @@ pub mod Ledger
 pub mod Plans
 pub mod Served
 pub mod ServedLaws
+pub mod Standings
 pub mod Votes

@@ -1,11 +1,10 @@
 //! Carrying out a plan: first all memory is taken; then, once its record is logged, nothing can fail.
 ghost use Rattle.std.specs.Prelude.{◌≡◌, ◌≤◌, ◌<◌, ◌+◌, Some, None, true, false, OnOk, OnErr, IfOk, IfErr, IsSome, length, List, ℕ};
-ghost use Rattle.units.specs.Locks.{with_locks};
-ghost use Rattle.protocol.specs.Rows.{Memory, Idle, find_row, without_row, held_in, without_rows};
+ghost use Rattle.protocol.specs.Rows.{Memory, without_row, held_in, without_rows};
 ghost use Rattle.protocol.specs.Plan.{carried, after_change, ended_by, with_ids};
 ghost use Rattle.protocol.specs.Step.{facts_after};
 ghost use Rattle.rows.specs.RowTable.{put_row, phase_by, room};
-ghost use Rattle.memory.specs.Carry.{AdmissionIsUnseen, ReadyIsCarriable, IsFit, MayAsk, HasMemoryFor, IsCarriable, IsDated, Admits, MayUndo, MayDrop, MayFollow, MayInstall, CanStand, FitsRows, Asks, AskerHasRoom, asker, admitted, admitted_to, writes_installed, may_ask, may_end};
+ghost use Rattle.memory.specs.Carry.{AdmissionIsUnseen, ReadyIsCarriable, IsFit, MayAsk, HasMemoryFor, IsCarriable, IsDated, Admits, MayUndo, MayDrop, MayFollow, MayInstall, CanStand, FitsRows, AskerHasRoom, asker, admitted, admitted_to, writes_installed, may_ask, may_end};
 ghost use Rattle.memory.specs.Plans.{plan_of, change_of};
 ghost use Rattle.memory.specs.Served.{IsHolding, stamp_held};
 
@@ -49,10 +48,15 @@ impl State {
     pub fn make_ready(&mut self, alloc: Global, plan: &Plan) -> Result<Ready, Fault>
         requires { IsFit self.old plan.now }
         ensures ready { OnOk result (HasMemoryFor self.old self.new plan.now) }
-        ensures writes { IfOk result (λ ready. ready.writes ≡ writes_installed self.old.facts plan.now.logged) }
-        ensures admits { IfOk result (λ ready. Admits self.old.memory.rows (asker plan.now.change) ready.admitted) }
-        ensures undo { IfOk result (λ ready. MayUndo self.new.memory.rows (asker plan.now.change) ready.admitted) }
-        ensures kept { OnErr result ((self.new.setup ≡ self.old.setup) × (self.new.facts ≡ self.old.facts) × (self.new.memory ≡ self.old.memory)) }
+        ensures writes { IfOk result
+            (λ ready. ready.writes ≡ writes_installed self.old.facts plan.now.logged) }
+        ensures admits { IfOk result
+            (λ ready. Admits self.old.memory.rows (asker plan.now.change) ready.admitted) }
+        ensures undo { IfOk result
+            (λ ready. MayUndo self.new.memory.rows (asker plan.now.change) ready.admitted) }
+        ensures kept { OnErr result
+            ((self.new.setup ≡ self.old.setup) × (self.new.facts ≡ self.old.facts)
+            × (self.new.memory ≡ self.old.memory)) }
         ensures memory { IfErr result (λ fault. fault ≡ Fault.Memory) }
     {
         self.ledger.reserve()?;
@@ -67,7 +71,8 @@ impl State {
         requires { MayUndo self.old.memory.rows (asker plan.now.change) ready.admitted }
         ensures setup { self.new.setup ≡ self.old.setup }
         ensures facts { self.new.facts ≡ self.old.facts }
-        ensures memory { (m : Memory) → Admits m.rows (asker plan.now.change) ready.admitted → self.old.memory ≡ admitted_to m (asker plan.now.change) → self.new.memory ≡ m }
+        ensures memory { (m : Memory) → Admits m.rows (asker plan.now.change) ready.admitted
+            → self.old.memory ≡ admitted_to m (asker plan.now.change) → self.new.memory ≡ m }
     {
         self.rows.laws();
         match plan.change.asker() {
@@ -82,7 +87,8 @@ impl State {
         requires logged { logged ≡ plan.logged }
         ensures setup { self.new.setup ≡ self.old.setup }
         ensures facts { self.new.facts ≡ facts_after self.old.facts plan.logged }
-        ensures memory { self.new.memory ≡ carried (plan_of self.old.memory.rows plan) self.old.memory }
+        ensures memory { self.new.memory ≡
+            carried (plan_of self.old.memory.rows plan) self.old.memory }
         ensures outbox { result ≡ plan.outbox }
     {
         let Plan {
@@ -117,7 +123,8 @@ pub fn ready_plans_can_be_carried()
 
 // A copy of the writes that the record of a plan installs.
 fn writes_for(ledger: &Ledger, alloc: Global, plan: &Plan) -> Result<Writes, Fault>
-    ensures writes { IfOk result (λ writes. writes ≡ writes_installed ledger.now.facts plan.now.logged) }
+    ensures writes { IfOk result
+        (λ writes. writes ≡ writes_installed ledger.now.facts plan.now.logged) }
     ensures memory { IfErr result (λ fault. fault ≡ Fault.Memory) }
 {
     match &plan.logged {
@@ -146,7 +153,8 @@ fn admit_asker(
     ensures room { OnOk result (AskerHasRoom rows.new asker more) }
     ensures admits { IfOk result (λ taken. Admits rows.old.rows asker taken) }
     ensures undo { IfOk result (λ taken. MayUndo rows.new.rows asker taken) }
-    ensures holding { (holds : List ℕ) → IsHolding holds rows.old.rows → IsHolding holds rows.new.rows }
+    ensures holding { (holds : List ℕ) → IsHolding holds rows.old.rows
+        → IsHolding holds rows.new.rows }
     ensures kept { OnErr result (rows.new.rows ≡ rows.old.rows) }
     ensures memory { IfErr result (λ fault. fault ≡ Fault.Memory) }
 {
@@ -163,7 +171,8 @@ fn admit(rows: &mut Rows, alloc: Global, txn: TxnId, more: usize) -> Result<bool
     ensures room { OnOk result (length (held_in rows.new.rows txn) + more ≤ room rows.new txn) }
     ensures admits { IfOk result (λ taken. Admits rows.old.rows (Some txn) taken) }
     ensures undo { IfOk result (λ taken. MayUndo rows.new.rows (Some txn) taken) }
-    ensures holding { (holds : List ℕ) → IsHolding holds rows.old.rows → IsHolding holds rows.new.rows }
+    ensures holding { (holds : List ℕ) → IsHolding holds rows.old.rows
+        → IsHolding holds rows.new.rows }
     ensures kept { OnErr result (rows.new.rows ≡ rows.old.rows) }
     ensures memory { IfErr result (λ fault. fault ≡ Fault.Memory) }
 {
@@ -200,8 +209,10 @@ fn make_change(
     requires dated { IsDated logged }
     ensures holding { IsHolding times.new.holds rows.new.rows }
     ensures last { times.new.last ≡ times.old.last }
-    ensures rows { rows.new.rows ≡ after_change (change_of rows.old.rows needs.now logged change) (without_rows rows.old.rows wounded.now) }
-    ensures ended { ended.new.ids ≡ ended_by (change_of rows.old.rows needs.now logged change) (with_ids ended.old.ids wounded.now) }
+    ensures rows { rows.new.rows ≡ after_change (change_of rows.old.rows needs.now logged change)
+        (without_rows rows.old.rows wounded.now) }
+    ensures ended { ended.new.ids ≡ ended_by (change_of rows.old.rows needs.now logged change)
+        (with_ids ended.old.ids wounded.now) }
     ensures record { result ≡ logged }
 {
     rows.laws();
@@ -288,7 +299,8 @@ fn stand(rows: &mut Rows, times: &mut SafeTime, txn: TxnId, logged: Logged) -> R
     requires stands { CanStand rows.old.rows txn logged }
     ensures holding { IsHolding times.new.holds rows.new.rows }
     ensures last { times.new.last ≡ times.old.last }
-    ensures rows { rows.new.rows ≡ put_row rows.old.rows txn (held_in rows.old.rows txn) (phase_by logged) }
+    ensures rows { rows.new.rows ≡ put_row rows.old.rows txn (held_in rows.old.rows txn)
+        (phase_by logged) }
     ensures record { result ≡ logged }
 {
     rows.laws();

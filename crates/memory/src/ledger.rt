@@ -31,7 +31,11 @@ impl Model for Ledger {
 
     ghost Value = { Known };
 
-    ghost view = { λ l. record { shard = l.facts.shard; facts = l.facts.facts; room = room_for l.facts.room l.versions.room } };
+    ghost view = { λ l. record {
+      shard = l.facts.shard;
+      facts = l.facts.facts;
+      room = room_for l.facts.room l.versions.room;
+    } };
 
     ghost invariant = { λ l. SameValues l.versions.installs l.facts.facts.installs };
 }
@@ -114,7 +118,8 @@ impl Ledger {
 
     /// The timestamp is above all versions of the keys that a promise or decision of the transaction writes, where one stands.
     pub fn takes_standing(&self, txn: TxnId, at: Stamp) -> bool
-        ensures { result ≡ above_versions self.now.facts.installs at (writes_standing (recorded self.now.facts txn)) }
+        ensures { result ≡ above_versions self.now.facts.installs at
+            (writes_standing (recorded self.now.facts txn)) }
     {
         match self.status(txn) {
             Some(Status::Prepared(prepared)) => self.takes(&prepared.writes, at),
@@ -139,7 +144,8 @@ impl Ledger {
     /// The writes of the promise or the decision of a transaction that stands, with memory of their own. There are none
     /// where nothing stands.
     pub fn copy_of_writes(&self, alloc: Global, txn: TxnId) -> Result<Writes, Fault>
-        ensures writes { IfOk result (λ writes. writes ≡ writes_standing (recorded self.now.facts txn)) }
+        ensures writes { IfOk result
+            (λ writes. writes ≡ writes_standing (recorded self.now.facts txn)) }
         ensures memory { IfErr result (λ fault. fault ≡ Fault.Memory) }
     {
         match self.status(txn) {

@@ -1,7 +1,6 @@
 //! The plans of which every step is one.
-ghost use Rattle.std.specs.List.{list_all};
 ghost use Rattle.std.specs.Option.{option_copied};
-ghost use Rattle.std.specs.Prelude.{◌≡◌, ◌≤◌, ◌++◌, ◌∷◌, [], true, Some, None, Ok, IfOk, IfErr, MatchResult, option_to_list};
+ghost use Rattle.std.specs.Prelude.{◌≡◌, ◌≤◌, ◌++◌, ◌∷◌, [], true, Some, None, Ok, IfOk, IfErr, option_to_list};
 ghost use Rattle.units.specs.Locks.{exclusive};
 ghost use Rattle.protocol.specs.Rows.{find_row, held_in};
 ghost use Rattle.protocol.specs.Outputs.{refused_vote};
@@ -11,6 +10,7 @@ ghost use Rattle.memory.specs.Carry.{FitsRows, IsFit, IsServing, MayDrop, may_dr
 ghost use Rattle.memory.specs.Kept.{start_of};
 ghost use Rattle.memory.specs.Plans.{change_of, plan_of, refusal};
 ghost use Rattle.memory.specs.Votes.{refused_by};
+ghost use Rattle.memory.specs.Standings.{MakesPlan, MakesReply};
 
 use crate::envelopes::{answer_to, done_to, outcome_to, vote_to};
 use crate::plan::{Change, Plan, Request};
@@ -48,7 +48,9 @@ pub fn other_parts(alloc: Global, shard: ShardNo, parts: Parts) -> Result<Vec<Sh
 
 /// The reads of a transaction still stand: there are none, or their epoch is the present one and each of their keys is held.
 pub fn reads_stand(state: &State, txn: TxnId, reads: &Reads) -> bool
-    ensures { result ≡ still_stand (start_of state.now) reads.now.epoch reads.now.keys (held_in state.now.memory.rows txn) }
+    ensures { result ≡
+        still_stand (start_of state.now) reads.now.epoch reads.now.keys
+        (held_in state.now.memory.rows txn) }
 {
     if reads.keys().as_slice().is_empty() {
         return true;
@@ -82,7 +84,7 @@ impl State {
 
     /// One message.
     pub fn reply(&self, alloc: Global, envelope: Envelope) -> Result<Plan, Fault>
-        ensures plan { IfOk result (λ plan. plan_of self.now.memory.rows plan ≡ replies (start_of self.now) (envelope ∷ [])) }
+        ensures plan { MakesReply self.now envelope result }
         ensures fit { IfOk result (IsFit self.now) }
         ensures memory { IfErr result (λ fault. fault ≡ Fault.Memory) }
     {
@@ -92,7 +94,8 @@ impl State {
     /// The transaction is ended.
     pub fn ends(&self, alloc: Global, txn: TxnId, out: Vec<Envelope>) -> Plan
         requires { may_end self.now.memory.rows txn ≡ true }
-        ensures plan { plan_of self.now.memory.rows result ≡ ends (start_of self.now) txn out.items }
+        ensures plan { plan_of self.now.memory.rows result ≡
+            ends (start_of self.now) txn out.items }
         ensures fit { IsFit self.now result }
     {
         Plan {
@@ -106,9 +109,16 @@ impl State {
     }
 
     /// A transaction that reads, or is not known, is ended; a prepare that it waits with is refused.
-    pub fn ends_reading(&self, alloc: Global, txn: TxnId, wait: Option<&Wait>) -> Result<Plan, Fault>
+    pub fn ends_reading(
+        &self,
+        alloc: Global,
+        txn: TxnId,
+        wait: Option<&Wait>,
+    ) -> Result<Plan, Fault>
         requires { may_end self.now.memory.rows txn ≡ true }
-        ensures plan { IfOk result (λ plan. plan_of self.now.memory.rows plan ≡ ends (start_of self.now) txn (refused_by self.now.setup.shard txn (option_copied wait.entry))) }
+        ensures plan { MakesPlan self.now
+            (ends (start_of self.now) txn
+            (refused_by self.now.setup.shard txn (option_copied wait.entry))) result }
         ensures fit { IfOk result (IsFit self.now) }
         ensures memory { IfErr result (λ fault. fault ≡ Fault.Memory) }
     {
@@ -147,7 +157,8 @@ impl State {
     pub fn serves(&self, alloc: Global, ceiling: Option<Record>, last: Stamp) -> Plan
         requires ceiling { IsServing ceiling }
         requires last { self.now.memory.last ≤ last }
-        ensures plan { plan_of self.now.memory.rows result ≡ record { wounded = []; change = Keeps; logged = ceiling; last = last; outbox = [] } }
+        ensures plan { plan_of self.now.memory.rows result ≡
+            record { wounded = []; change = Keeps; logged = ceiling; last = last; outbox = [] } }
         ensures fit { IsFit self.now result }
     {
         Plan {
@@ -164,7 +175,7 @@ impl State {
     #[tactic(auto, unfolding(protocol::specs::Cells::plan_abort))]
     pub fn aborts(&self, alloc: Global, txn: TxnId, parts: Parts) -> Result<Plan, Fault>
         requires { may_drop self.now.memory.rows txn ≡ true }
-        ensures plan { IfOk result (λ plan. plan_of self.now.memory.rows plan ≡ plan_abort (start_of self.now) txn parts) }
+        ensures plan { MakesPlan self.now (plan_abort (start_of self.now) txn parts) result }
         ensures fit { IfOk result (IsFit self.now) }
         ensures memory { IfErr result (λ fault. fault ≡ Fault.Memory) }
     {
@@ -181,7 +192,9 @@ impl State {
         outcome: Option<Stamp>,
         parts: Parts,
     ) -> Result<Vec<Envelope>, Fault>
-        ensures out { IfOk result (λ out. out.items ≡ first ∷ tells (start_of self.now) txn outcome (other_parts self.now.setup.shard parts)) }
+        ensures out { IfOk result
+            (λ out. out.items ≡ first ∷ tells (start_of self.now) txn outcome
+            (other_parts self.now.setup.shard parts)) }
         ensures memory { IfErr result (λ fault. fault ≡ Fault.Memory) }
     {
         let from = self.setup().shard;
@@ -203,15 +216,17 @@ impl State {
         last: Stamp,
         reply: Option<Envelope>,
     ) -> Result<Plan, Fault>
-        requires fits { FitsRows self.now.memory.rows request.wounded request.needs.items logged request.change }
+        requires fits { FitsRows self.now.memory.rows request.wounded
+            request.needs.items logged request.change }
         requires last { self.now.memory.last ≤ last }
-        ensures plan { IfOk result (λ plan. plan_of self.now.memory.rows plan ≡ record {
+        ensures plan { MakesPlan self.now (record {
           wounded = request.wounded;
           change = change_of self.now.memory.rows request.needs.items logged request.change;
           logged = logged;
           last = last;
-          outbox = votes_of self.now.setup.shard self.now.memory.rows request.wounded ++ option_to_list reply;
-        }) }
+          outbox = votes_of self.now.setup.shard self.now.memory.rows request.wounded
+              ++ option_to_list reply;
+        }) result }
         ensures fit { IfOk result (IsFit self.now) }
         ensures memory { IfErr result (λ fault. fault ≡ Fault.Memory) }
     {
@@ -236,7 +251,8 @@ impl State {
 
     // The refused votes of those that are ended while they wait with a prepare.
     fn votes_of(&self, alloc: Global, wounded: &Ids) -> Result<Vec<Envelope>, Fault>
-        ensures votes { IfOk result (λ out. out.items ≡ votes_of self.now.setup.shard self.now.memory.rows wounded.now) }
+        ensures votes { IfOk result
+            (λ out. out.items ≡ votes_of self.now.setup.shard self.now.memory.rows wounded.now) }
         ensures memory { IfErr result (λ fault. fault ≡ Fault.Memory) }
     {
         let mut out = Vec::new(alloc);
@@ -250,7 +266,8 @@ impl State {
 
     // The coordinator of the prepare that a transaction waits with.
     fn awaits_vote(&self, txn: TxnId) -> Option<ShardNo>
-        ensures { refused_vote self.now.setup.shard (find_row self.now.memory.rows txn) ≡ refusal self.now.setup.shard txn result }
+        ensures { refused_vote self.now.setup.shard (find_row self.now.memory.rows txn) ≡
+            refusal self.now.setup.shard txn result }
     {
         match self.row(txn) {
             Some(Row::Reading(reading)) => match reading.wait() {
@@ -263,7 +280,8 @@ impl State {
 
     /// The answer to a read: the latest value, with the epoch.
     pub fn answer(&self, alloc: Global, txn: TxnId, key: &Key) -> Result<Envelope, Fault>
-        ensures answer { IfOk result (λ envelope. envelope ≡ answers (start_of self.now) txn key.now) }
+        ensures answer { IfOk result
+            (λ envelope. envelope ≡ answers (start_of self.now) txn key.now) }
         ensures memory { IfErr result (λ fault. fault ≡ Fault.Memory) }
     {
         let value = match self.latest(key) {

@@ -9,12 +9,13 @@ ghost use Rattle.facts.specs.Rules.{follows_facts};
 ghost use Rattle.facts.specs.Shown.{meant};
 ghost use Rattle.record.specs.Facts.{recorded};
 ghost use Rattle.protocol.specs.Rows.{safe, claims, find_row, standing_by, held_in};
-ghost use Rattle.protocol.specs.Plan.{stands, in_way, opens, is_crowded};
+ghost use Rattle.protocol.specs.Plan.{in_way, opens, is_crowded};
 ghost use Rattle.rows.specs.CodeRows.{phase_of};
 ghost use Rattle.rows.specs.RowTable.{needs_in};
 ghost use Rattle.memory.specs.Carry.{Asks, MayTurn, may_ask, may_drop, may_end};
 ghost use Rattle.memory.specs.Kept.{start_of, StandsAs};
 ghost use Rattle.protocol.specs.Sound.{writes_standing};
+ghost use Rattle.memory.specs.Standings.{standing_in, HasRowIn};
 
 use crate::ended::Ended;
 use crate::ledger::Ledger;
@@ -54,7 +55,8 @@ impl Model for State {
       tokens = s.rows.tokens;
     } };
 
-    ghost invariant = { λ s. (0 < s.ledger.facts.epoch) × (s.ledger.shard ≡ s.setup.shard) × IsHolding s.times.holds s.rows.rows };
+    ghost invariant = { λ s. (0 < s.ledger.facts.epoch) × (s.ledger.shard ≡ s.setup.shard)
+        × IsHolding s.times.holds s.rows.rows };
 }
 
 /// How a transaction stands that has no row.
@@ -144,7 +146,8 @@ impl State {
 
     /// The timestamp is above all versions of the keys that a promise or decision of the transaction writes, where one stands.
     pub fn takes_standing(&self, txn: TxnId, at: Stamp) -> bool
-        ensures { result ≡ above_versions self.now.facts.installs at (writes_standing (recorded self.now.facts txn)) }
+        ensures { result ≡ above_versions self.now.facts.installs at
+            (writes_standing (recorded self.now.facts txn)) }
     {
         self.ledger.takes_standing(txn, at)
     }
@@ -159,7 +162,7 @@ impl State {
     /// The row of a transaction.
     pub fn row(&self, txn: TxnId) -> Option<&Row>
         ensures row { MatchOption result (find_row self.now.memory.rows txn ≡ None)
-            (λ row. find_row self.now.memory.rows txn ≡ Some (record { txn = txn; held = held_in self.now.memory.rows txn; phase = phase_of row.now })) }
+            (λ row. HasRowIn self.now txn (phase_of row.now)) }
         ensures turn { IfSome result (λ row. MayTurn self.now.memory.rows txn row.now) }
     {
         self.rows.find(txn)
@@ -168,7 +171,7 @@ impl State {
     /// How a transaction stands that has no row.
     pub fn past(&self, txn: TxnId) -> PastStanding
         requires { find_row self.now.memory.rows txn ≡ None }
-        ensures past { StandsAs (stands (start_of self.now) txn) result }
+        ensures past { StandsAs (standing_in self.now txn) result }
         ensures ends { may_end self.now.memory.rows txn ≡ true }
         ensures drops { may_drop self.now.memory.rows txn ≡ true }
     {
@@ -224,7 +227,8 @@ impl State {
     /// The transaction has no row, and there is no room for one.
     pub fn is_crowded(&self, txn: TxnId) -> bool
         ensures crowded { result ≡ is_crowded (start_of self.now) txn }
-        ensures asks { result ≡ false → may_end self.now.memory.rows txn ≡ true → may_ask self.now.memory.rows txn ≡ true }
+        ensures asks { result ≡ false → may_end self.now.memory.rows txn ≡ true
+            → may_ask self.now.memory.rows txn ≡ true }
     {
         self.rows.is_full() && self.row(txn).is_none()
     }
@@ -232,7 +236,8 @@ impl State {
     /// The oldest waiter that would be granted now.
     pub fn ready(&self) -> Option<TxnId>
         ensures oldest { result ≡ ready (claims self.now.memory.rows) }
-        ensures asks { IfSome result (λ txn. Asks self.now.memory.rows txn [] (needs_in self.now.memory.rows txn) true) }
+        ensures asks { IfSome result
+            (λ txn. Asks self.now.memory.rows txn [] (needs_in self.now.memory.rows txn) true) }
     {
         self.rows.laws();
         self.rows.ready()

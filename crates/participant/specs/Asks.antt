@@ -9,11 +9,15 @@ use Rattle.protocol.specs.Outputs.{promise, vote_to}
 use Rattle.protocol.specs.Plan.{Before, Plan, puts, opens, in_way}
 use Rattle.protocol.specs.Cells.{to_read, answers}
 
+-- a shared lock is granted, and the read answered
+abbrev pub granted_read : Before → List Id → Id → Bytes → Plan
+granted_read b ended t k = puts b ended t (to_read k) Idle None b.memory.last (answers b t k ∷ [])
+
 -- a shared lock and the answer, or a wait
 abbrev pub read_asks : Before → Id → Bytes → Plan
 read_asks b t k =
     cond (opens b t (to_read k))
-    (puts b (in_way b t (to_read k)) t (to_read k) Idle None b.memory.last (answers b t k ∷ []))
+    (granted_read b (in_way b t (to_read k)) t k)
     (puts b (in_way b t (to_read k)) t [] (WaitsRead k) None b.memory.last [])
 
 -- the promise at a timestamp, and the vote

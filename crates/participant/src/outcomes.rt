@@ -1,14 +1,15 @@
 //! Outcomes, and what a participant does until they come.
-ghost use Rattle.std.specs.Prelude.{◌≡◌, ◌∷◌, [], true, Some, None, Ok, IfOk, IfErr};
+ghost use Rattle.std.specs.Prelude.{◌≡◌, ◌∷◌, [], true, Some, None, Ok, IfOk};
 ghost use Rattle.std.specs.Option.{option_copied};
-ghost use Rattle.protocol.specs.Rows.{HasRow, held_in};
-ghost use Rattle.protocol.specs.Plan.{drops, stands};
-ghost use Rattle.protocol.specs.Cells.{is_outcome_for, plan_outcome, plan_nudge, raised};
+ghost use Rattle.protocol.specs.Plan.{drops};
+ghost use Rattle.protocol.specs.Cells.{is_outcome_for, raised};
 ghost use Rattle.rows.specs.CodeRows.{may_close, phase_of, phase_of_wait};
 ghost use Rattle.rows.specs.RowTable.{has_phase};
 ghost use Rattle.memory.specs.Carry.{IsFit, MayTurn, may_end};
-ghost use Rattle.memory.specs.Kept.{start_of, standing_of, IsPlanned};
+ghost use Rattle.memory.specs.Kept.{standing_of};
 ghost use Rattle.memory.specs.Plans.{plan_of};
+ghost use Rattle.memory.specs.Standings.{standing_in, standing_by_row};
+ghost use Rattle.participant.specs.ByMessage.{PlansOutcome, PlansNudge};
 
 use memory::{PastStanding, Plan, State, ask_to};
 use message::Outcome;
@@ -20,7 +21,7 @@ use units::{Fault, TxnId};
 /// The outcome of a transaction. A promise is closed by it, where it comes from the coordinator and is not below the
 /// promise; a transaction that made none here may be aborted, and never committed.
 pub fn on_outcome(state: &State, alloc: Global, told: &Outcome) -> Result<Plan, Fault>
-    ensures planned { IsPlanned state.now (plan_outcome (start_of state.now) told.now.from told.now.txn told.now.outcome (stands (start_of state.now) told.now.txn)) result }
+    ensures planned { PlansOutcome state.now told.now (standing_in state.now told.now.txn) result }
     ensures fit { IfOk result (IsFit state.now) }
 {
     match state.row(told.txn) {
@@ -33,7 +34,8 @@ pub fn on_outcome(state: &State, alloc: Global, told: &Outcome) -> Result<Plan, 
 #[tactic(auto, unfolding(protocol::specs::Cells::plan_outcome))]
 fn outcome_with_row(state: &State, alloc: Global, told: &Outcome, row: &Row) -> Result<Plan, Fault>
     requires turn { MayTurn state.now.memory.rows told.now.txn row.now }
-    ensures planned { IsPlanned state.now (plan_outcome (start_of state.now) told.now.from told.now.txn told.now.outcome (HasRow (held_in state.now.memory.rows told.now.txn) (phase_of row.now))) result }
+    ensures planned { PlansOutcome state.now told.now
+        (standing_by_row state.now told.now.txn (phase_of row.now)) result }
     ensures fit { IfOk result (IsFit state.now) }
 {
     match row {
@@ -57,7 +59,8 @@ fn outcome_with_wait(
     wait: Option<&Wait>,
 ) -> Result<Plan, Fault>
     requires { may_end state.now.memory.rows told.now.txn ≡ true }
-    ensures planned { IsPlanned state.now (plan_outcome (start_of state.now) told.now.from told.now.txn told.now.outcome (HasRow (held_in state.now.memory.rows told.now.txn) (phase_of_wait (option_copied wait.entry)))) result }
+    ensures planned { PlansOutcome state.now told.now
+        (standing_by_row state.now told.now.txn (phase_of_wait (option_copied wait.entry))) result }
     ensures fit { IfOk result (IsFit state.now) }
 {
     match (wait, told.outcome) {
@@ -76,7 +79,7 @@ fn outcome_without_row(
     past: PastStanding,
 ) -> Result<Plan, Fault>
     requires { may_end state.now.memory.rows told.now.txn ≡ true }
-    ensures planned { IsPlanned state.now (plan_outcome (start_of state.now) told.now.from told.now.txn told.now.outcome (standing_of past)) result }
+    ensures planned { PlansOutcome state.now told.now (standing_of past) result }
     ensures fit { IfOk result (IsFit state.now) }
 {
     match past {
@@ -91,7 +94,8 @@ fn outcome_without_row(
 
 // The outcome comes from the promise's coordinator, and is not below its timestamp.
 fn is_outcome_for(prepared: &RowPrepared, told: &Outcome) -> bool
-    ensures { result ≡ is_outcome_for told.now.from prepared.now.coordinator prepared.now.at told.now.outcome }
+    ensures { result ≡
+        is_outcome_for told.now.from prepared.now.coordinator prepared.now.at told.now.outcome }
 {
     if told.from != prepared.coordinator() {
         return false;
@@ -105,7 +109,9 @@ fn is_outcome_for(prepared: &RowPrepared, told: &Outcome) -> bool
 // The promise is closed.
 fn close(state: &State, alloc: Global, told: &Outcome) -> Plan
     requires { has_phase may_close state.now.memory.rows told.now.txn ≡ true }
-    ensures plan { plan_of state.now.memory.rows result ≡ drops told.now.txn (Record.Outcome told.now.txn told.now.outcome) (raised state.now.memory.last told.now.outcome) [] }
+    ensures plan { plan_of state.now.memory.rows result ≡
+        drops told.now.txn (Record.Outcome told.now.txn told.now.outcome)
+        (raised state.now.memory.last told.now.outcome) [] }
     ensures fit { IsFit state.now result }
 {
     let last = match told.outcome {
@@ -121,7 +127,7 @@ fn close(state: &State, alloc: Global, told: &Outcome) -> Plan
 
 /// A prepared transaction's coordinator is asked how it ended.
 pub fn on_nudge(state: &State, alloc: Global, txn: TxnId) -> Result<Plan, Fault>
-    ensures planned { IsPlanned state.now (plan_nudge (start_of state.now) txn (stands (start_of state.now) txn)) result }
+    ensures planned { PlansNudge state.now txn (standing_in state.now txn) result }
     ensures fit { IfOk result (IsFit state.now) }
 {
     match state.row(txn) {
@@ -133,7 +139,8 @@ pub fn on_nudge(state: &State, alloc: Global, txn: TxnId) -> Result<Plan, Fault>
 // A nudge of a transaction that has a row.
 #[tactic(auto, unfolding(protocol::specs::Cells::plan_nudge))]
 fn nudge_with_row(state: &State, alloc: Global, txn: TxnId, row: &Row) -> Result<Plan, Fault>
-    ensures planned { IsPlanned state.now (plan_nudge (start_of state.now) txn (HasRow (held_in state.now.memory.rows txn) (phase_of row.now))) result }
+    ensures planned { PlansNudge state.now txn
+        (standing_by_row state.now txn (phase_of row.now)) result }
     ensures fit { IfOk result (IsFit state.now) }
 {
     match row {

@@ -2,15 +2,15 @@
 ghost use Rattle.std.specs.Prelude.{◌≡◌, ℕ, true, false, ◌+◌, ◌<◌, ◌≤◌, ◌^◌, max, IfOk, IfErr, MatchResult, [], ◌∷◌, Some, None, Ok, Err};
 ghost use Rattle.std.specs.Option.{option_copied};
 ghost use Rattle.units.specs.Locks.{exclusive};
-ghost use Rattle.protocol.specs.Rows.{held_in, HasRow, WaitsPrepare, find_row};
+ghost use Rattle.protocol.specs.Rows.{held_in, WaitsPrepare, find_row};
 ghost use Rattle.protocol.specs.Outputs.{vote_to};
-ghost use Rattle.protocol.specs.Plan.{opens, in_way, ends, puts, replies, stands};
-ghost use Rattle.protocol.specs.Cells.{plan_prepare, plan_prepare_fresh, plan_prepare_now, plan_promise};
+ghost use Rattle.protocol.specs.Plan.{opens, in_way, ends, puts, stands};
+ghost use Rattle.protocol.specs.Cells.{plan_prepare_fresh};
 ghost use Rattle.rows.specs.CodeRows.{phase_of, phase_of_wait};
 ghost use Rattle.memory.specs.Carry.{Asks, IsFit, MayTurn, may_ask, may_end};
 ghost use Rattle.memory.specs.Kept.{start_of, standing_of, IsPlanned};
-ghost use Rattle.memory.specs.Plans.{plan_of};
-ghost use Rattle.participant.specs.Asks.{promised_by};
+ghost use Rattle.memory.specs.Standings.{standing_in, standing_by_row, opens_writes, MakesPlan, MakesReply};
+ghost use Rattle.participant.specs.ByMessage.{PlansPrepare, PlansPrepareNow, PlansPromise, MakesPromise, MakesPromiseAnew};
 
 use memory::{Change, PastStanding, Plan, Request, State, exclusive, reads_stand, vote_to};
 use message::Prepare;
@@ -28,7 +28,8 @@ pub fn on_prepare(
     now: &Reading,
     prepare: &Prepare,
 ) -> Result<Plan, Fault>
-    ensures planned { IsPlanned state.now (plan_prepare (start_of state.now) now.now.earliest prepare.now (stands (start_of state.now) prepare.now.txn)) result }
+    ensures planned { PlansPrepare state.now now.now.earliest prepare.now
+        (standing_in state.now prepare.now.txn) result }
     ensures fit { IfOk result (IsFit state.now) }
 {
     match state.row(prepare.txn) {
@@ -47,7 +48,8 @@ fn prepare_with_row(
     row: &Row,
 ) -> Result<Plan, Fault>
     requires turn { MayTurn state.now.memory.rows prepare.now.txn row.now }
-    ensures planned { IsPlanned state.now (plan_prepare (start_of state.now) now.now.earliest prepare.now (HasRow (held_in state.now.memory.rows prepare.now.txn) (phase_of row.now))) result }
+    ensures planned { PlansPrepare state.now now.now.earliest prepare.now
+        (standing_by_row state.now prepare.now.txn (phase_of row.now)) result }
     ensures fit { IfOk result (IsFit state.now) }
 {
     match row {
@@ -67,7 +69,9 @@ fn prepare_with_wait(
     wait: Option<&Wait>,
 ) -> Result<Plan, Fault>
     requires { may_end state.now.memory.rows prepare.now.txn ≡ true }
-    ensures planned { IsPlanned state.now (plan_prepare (start_of state.now) now.now.earliest prepare.now (HasRow (held_in state.now.memory.rows prepare.now.txn) (phase_of_wait (option_copied wait.entry)))) result }
+    ensures planned { PlansPrepare state.now now.now.earliest prepare.now
+        (standing_by_row state.now prepare.now.txn (phase_of_wait (option_copied wait.entry)))
+        result }
     ensures fit { IfOk result (IsFit state.now) }
 {
     match wait {
@@ -88,7 +92,8 @@ fn prepare_without_row(
 ) -> Result<Plan, Fault>
     requires row { find_row state.now.memory.rows prepare.now.txn ≡ None }
     requires ends { may_end state.now.memory.rows prepare.now.txn ≡ true }
-    ensures planned { IsPlanned state.now (plan_prepare (start_of state.now) now.now.earliest prepare.now (standing_of past)) result }
+    ensures planned { PlansPrepare state.now now.now.earliest prepare.now
+        (standing_of past) result }
     ensures fit { IfOk result (IsFit state.now) }
 {
     match past {
@@ -102,7 +107,8 @@ fn prepare_without_row(
 
 // The vote, to the coordinator that the prepare names.
 fn vote(state: &State, alloc: Global, prepare: &Prepare, vote: Option<Stamp>) -> Result<Plan, Fault>
-    ensures plan { IfOk result (λ plan. plan_of state.now.memory.rows plan ≡ replies (start_of state.now) (vote_to state.now.setup.shard prepare.now.coordinator prepare.now.txn vote ∷ [])) }
+    ensures plan { MakesReply state.now
+        (vote_to state.now.setup.shard prepare.now.coordinator prepare.now.txn vote) result }
     ensures fit { IfOk result (IsFit state.now) }
     ensures memory { IfErr result (λ fault. fault ≡ Fault.Memory) }
 {
@@ -118,7 +124,9 @@ fn prepare_fresh(
     prepare: &Prepare,
 ) -> Result<Plan, Fault>
     requires { may_end state.now.memory.rows prepare.now.txn ≡ true }
-    ensures planned { IsPlanned state.now (plan_prepare_fresh (start_of state.now) now.now.earliest prepare.now (held_in state.now.memory.rows prepare.now.txn)) result }
+    ensures planned { IsPlanned state.now
+        (plan_prepare_fresh (start_of state.now) now.now.earliest prepare.now
+        (held_in state.now.memory.rows prepare.now.txn)) result }
     ensures fit { IfOk result (IsFit state.now) }
 {
     if reads_stand(state, prepare.txn, &prepare.reads) {
@@ -130,7 +138,10 @@ fn prepare_fresh(
 // The vote is refused, and the transaction ended.
 fn refuse(state: &State, alloc: Global, prepare: &Prepare) -> Result<Plan, Fault>
     requires { may_end state.now.memory.rows prepare.now.txn ≡ true }
-    ensures plan { IfOk result (λ plan. plan_of state.now.memory.rows plan ≡ ends (start_of state.now) prepare.now.txn (vote_to state.now.setup.shard prepare.now.coordinator prepare.now.txn None ∷ [])) }
+    ensures plan { MakesPlan state.now
+        (ends (start_of state.now) prepare.now.txn
+        (vote_to state.now.setup.shard prepare.now.coordinator prepare.now.txn None ∷ []))
+        result }
     ensures fit { IfOk result (IsFit state.now) }
     ensures memory { IfErr result (λ fault. fault ≡ Fault.Memory) }
 {
@@ -148,7 +159,7 @@ fn prepare_now(
     prepare: &Prepare,
 ) -> Result<Plan, Fault>
     requires { may_end state.now.memory.rows prepare.now.txn ≡ true }
-    ensures planned { IsPlanned state.now (plan_prepare_now (start_of state.now) now.now.earliest prepare.now) result }
+    ensures planned { PlansPrepareNow state.now now.now.earliest prepare.now result }
     ensures fit { IfOk result (IsFit state.now) }
 {
     if state.opens_writes(prepare.txn, &prepare.writes) {
@@ -165,9 +176,9 @@ fn promise_now(
     now: &Reading,
     prepare: &Prepare,
 ) -> Result<Plan, Fault>
-    requires opens { opens (start_of state.now) prepare.now.txn (exclusive prepare.now.writes) ≡ true }
+    requires opens { opens_writes state.now prepare.now.txn prepare.now.writes ≡ true }
     requires ends { may_end state.now.memory.rows prepare.now.txn ≡ true }
-    ensures planned { IsPlanned state.now (plan_prepare_now (start_of state.now) now.now.earliest prepare.now) result }
+    ensures planned { PlansPrepareNow state.now now.now.earliest prepare.now result }
     ensures fit { IfOk result (IsFit state.now) }
 {
     let at = promise_time(state, now)?;
@@ -179,10 +190,9 @@ fn promise_now(
 
 // Whoever is in the way is ended, and the promise logged.
 fn promise_anew(state: &State, alloc: Global, prepare: &Prepare, at: Stamp) -> Result<Plan, Fault>
-    requires opens { opens (start_of state.now) prepare.now.txn (exclusive prepare.now.writes) ≡ true }
+    requires opens { opens_writes state.now prepare.now.txn prepare.now.writes ≡ true }
     requires asks { may_ask state.now.memory.rows prepare.now.txn ≡ true }
-    ensures plan { IfOk result (λ plan. plan_of state.now.memory.rows plan ≡
-        promised_by (start_of state.now) (in_way (start_of state.now) prepare.now.txn (exclusive prepare.now.writes)) prepare.now.txn at prepare.now.coordinator prepare.now.reads.keys prepare.now.writes) }
+    ensures plan { MakesPromiseAnew state.now at prepare.now result }
     ensures fit { IfOk result (IsFit state.now) }
     ensures memory { IfErr result (λ fault. fault ≡ Fault.Memory) }
 {
@@ -195,9 +205,9 @@ fn promise_anew(state: &State, alloc: Global, prepare: &Prepare, at: Stamp) -> R
 
 // The transaction waits with its prepare.
 fn wait(state: &State, alloc: Global, prepare: &Prepare) -> Result<Plan, Fault>
-    requires opens { opens (start_of state.now) prepare.now.txn (exclusive prepare.now.writes) ≡ false }
+    requires opens { opens_writes state.now prepare.now.txn prepare.now.writes ≡ false }
     requires ends { may_end state.now.memory.rows prepare.now.txn ≡ true }
-    ensures planned { (earliest : ℕ) → IsPlanned state.now (plan_prepare_now (start_of state.now) earliest prepare.now) result }
+    ensures planned { (earliest : ℕ) → PlansPrepareNow state.now earliest prepare.now result }
     ensures fit { IfOk result (IsFit state.now) }
 {
     if state.is_crowded(prepare.txn) {
@@ -208,10 +218,13 @@ fn wait(state: &State, alloc: Global, prepare: &Prepare) -> Result<Plan, Fault>
 
 // Whoever is in the way and may be ended is ended, and the row waits.
 fn wait_in_row(state: &State, alloc: Global, prepare: &Prepare) -> Result<Plan, Fault>
-    requires opens { opens (start_of state.now) prepare.now.txn (exclusive prepare.now.writes) ≡ false }
+    requires opens { opens_writes state.now prepare.now.txn prepare.now.writes ≡ false }
     requires asks { may_ask state.now.memory.rows prepare.now.txn ≡ true }
-    ensures plan { IfOk result (λ plan. plan_of state.now.memory.rows plan ≡
-        puts (start_of state.now) (in_way (start_of state.now) prepare.now.txn (exclusive prepare.now.writes)) prepare.now.txn [] (WaitsPrepare prepare.now.coordinator prepare.now.reads.keys prepare.now.writes) None state.now.memory.last []) }
+    ensures plan { MakesPlan state.now
+        (puts (start_of state.now)
+        (in_way (start_of state.now) prepare.now.txn (exclusive prepare.now.writes))
+        prepare.now.txn [] (WaitsPrepare prepare.now.coordinator prepare.now.reads.keys
+        prepare.now.writes) None state.now.memory.last []) result }
     ensures fit { IfOk result (IsFit state.now) }
     ensures memory { IfErr result (λ fault. fault ≡ Fault.Memory) }
 {
@@ -236,7 +249,7 @@ pub fn resume_prepare(
     request: &PrepareRequest,
 ) -> Result<Plan, Fault>
     requires { Asks state.now.memory.rows txn [] (exclusive request.now.writes) true }
-    ensures planned { IsPlanned state.now (plan_promise (start_of state.now) [] now.now.earliest txn request.now.coordinator request.now.reads request.now.writes) result }
+    ensures planned { PlansPromise state.now now.now.earliest txn request.now result }
     ensures fit { IfOk result (IsFit state.now) }
 {
     let at = promise_time(state, now)?;
@@ -252,7 +265,7 @@ fn promise_alone(
     request: &PrepareRequest,
 ) -> Result<Plan, Fault>
     requires { Asks state.now.memory.rows txn [] (exclusive request.now.writes) true }
-    ensures plan { IfOk result (λ plan. plan_of state.now.memory.rows plan ≡ promised_by (start_of state.now) [] txn at request.now.coordinator request.now.reads request.now.writes) }
+    ensures plan { MakesPromise state.now [] txn at request.now result }
     ensures fit { IfOk result (IsFit state.now) }
     ensures memory { IfErr result (λ fault. fault ≡ Fault.Memory) }
 {
@@ -267,7 +280,8 @@ fn promise_alone(
 fn promise_time(state: &State, now: &Reading) -> Result<Stamp, Fault>
     ensures { MatchResult result
         (λ at. (at ≡ max (state.now.memory.last + 1) now.now.earliest) × (at < 2 ^ 62))
-        (λ fault. (fault ≡ Fault.TimeSpent) × (2 ^ 62 ≤ max (state.now.memory.last + 1) now.now.earliest)) }
+        (λ fault. (fault ≡ Fault.TimeSpent)
+        × (2 ^ 62 ≤ max (state.now.memory.last + 1) now.now.earliest)) }
 {
     let above = Stamp::above(state.last())?;
     Ok(above.later(now.earliest()))
@@ -285,7 +299,7 @@ fn promise_at(
 ) -> Result<Plan, Fault>
     requires needs { needs.items ≡ exclusive request.writes }
     requires asks { Asks state.now.memory.rows txn wounded (exclusive request.writes) true }
-    ensures plan { IfOk result (λ plan. plan_of state.now.memory.rows plan ≡ promised_by (start_of state.now) wounded txn at request.coordinator request.reads request.writes) }
+    ensures plan { MakesPromise state.now wounded txn at request result }
     ensures fit { IfOk result (IsFit state.now) }
     ensures memory { IfErr result (λ fault. fault ≡ Fault.Memory) }
 {

@@ -1,15 +1,15 @@
 //! Reads.
 ghost use Rattle.std.specs.Prelude.{◌≡◌, ℕ, true, IfOk, IfErr, [], ◌∷◌, None};
 ghost use Rattle.message.specs.declared.message.Answer.TheVariants.{Refused};
-ghost use Rattle.protocol.specs.Rows.{Idle, WaitsRead, HasRow, held_in};
+ghost use Rattle.protocol.specs.Rows.{WaitsRead, held_in};
 ghost use Rattle.protocol.specs.Outputs.{answer_to};
-ghost use Rattle.protocol.specs.Plan.{puts, replies, stands};
-ghost use Rattle.protocol.specs.Cells.{plan_read, plan_read_row, plan_read_now, plan_go_on, answers, to_read};
+ghost use Rattle.protocol.specs.Cells.{plan_read_row, plan_read_now, plan_go_on, answers, to_read};
 ghost use Rattle.rows.specs.CodeRows.{phase_of};
 ghost use Rattle.memory.specs.Carry.{Asks, IsFit, MayTurn, may_ask, may_end};
 ghost use Rattle.memory.specs.Kept.{start_of, standing_of, IsPlanned};
-ghost use Rattle.memory.specs.Plans.{plan_of};
 ghost use Rattle.participant.specs.Asks.{read_asks};
+ghost use Rattle.memory.specs.Standings.{standing_in, standing_by_row, MakesPlan, MakesReply};
+ghost use Rattle.participant.specs.ByMessage.{PlansRead, MakesGrantedRead};
 
 use memory::{Change, PastStanding, Plan, Request, State, answer_to};
 use message::{Answer, Read};
@@ -19,7 +19,7 @@ use units::{Fault, Ids, Key, Lock, Mode, TxnId};
 
 /// A read: a key that is held is answered at once; else a shared lock is asked for, and the answer comes once it is held.
 pub fn on_read(state: &State, alloc: Global, read: &Read) -> Result<Plan, Fault>
-    ensures planned { IsPlanned state.now (plan_read (start_of state.now) read.now.txn read.now.key (stands (start_of state.now) read.now.txn)) result }
+    ensures planned { PlansRead state.now read.now (standing_in state.now read.now.txn) result }
     ensures fit { IfOk result (IsFit state.now) }
 {
     match state.row(read.txn) {
@@ -32,7 +32,8 @@ pub fn on_read(state: &State, alloc: Global, read: &Read) -> Result<Plan, Fault>
 #[tactic(auto, unfolding(protocol::specs::Cells::plan_read))]
 fn read_with_row(state: &State, alloc: Global, read: &Read, row: &Row) -> Result<Plan, Fault>
     requires turn { MayTurn state.now.memory.rows read.now.txn row.now }
-    ensures planned { IsPlanned state.now (plan_read (start_of state.now) read.now.txn read.now.key (HasRow (held_in state.now.memory.rows read.now.txn) (phase_of row.now))) result }
+    ensures planned { PlansRead state.now read.now
+        (standing_by_row state.now read.now.txn (phase_of row.now)) result }
     ensures fit { IfOk result (IsFit state.now) }
 {
     match row {
@@ -53,7 +54,7 @@ fn read_without_row(
     past: PastStanding,
 ) -> Result<Plan, Fault>
     requires { may_end state.now.memory.rows read.now.txn ≡ true }
-    ensures planned { IsPlanned state.now (plan_read (start_of state.now) read.now.txn read.now.key (standing_of past)) result }
+    ensures planned { PlansRead state.now read.now (standing_of past) result }
     ensures fit { IfOk result (IsFit state.now) }
 {
     match past {
@@ -68,7 +69,9 @@ fn read_without_row(
 // A key that is held is answered at once; a row that waits stays as it is.
 fn read_row(state: &State, alloc: Global, txn: TxnId, key: &Key, waits: bool) -> Result<Plan, Fault>
     requires { may_end state.now.memory.rows txn ≡ true }
-    ensures planned { IsPlanned state.now (plan_read_row (start_of state.now) txn key.now (held_in state.now.memory.rows txn) waits) result }
+    ensures planned { IsPlanned state.now
+        (plan_read_row (start_of state.now) txn key.now (held_in state.now.memory.rows txn) waits)
+        result }
     ensures fit { IfOk result (IsFit state.now) }
 {
     if state.holds(txn, key) {
@@ -82,7 +85,7 @@ fn read_row(state: &State, alloc: Global, txn: TxnId, key: &Key, waits: bool) ->
 
 // A key that is held is answered.
 fn answer_held(state: &State, alloc: Global, txn: TxnId, key: &Key) -> Result<Plan, Fault>
-    ensures plan { IfOk result (λ plan. plan_of state.now.memory.rows plan ≡ replies (start_of state.now) (answers (start_of state.now) txn key.now ∷ [])) }
+    ensures plan { MakesReply state.now (answers (start_of state.now) txn key.now) result }
     ensures fit { IfOk result (IsFit state.now) }
     ensures memory { IfErr result (λ fault. fault ≡ Fault.Memory) }
 {
@@ -105,7 +108,7 @@ fn read_now(state: &State, alloc: Global, txn: TxnId, key: &Key) -> Result<Plan,
 // A shared lock and the answer, or a wait.
 fn ask_for_key(state: &State, alloc: Global, txn: TxnId, key: &Key) -> Result<Plan, Fault>
     requires { may_ask state.now.memory.rows txn ≡ true }
-    ensures plan { IfOk result (λ plan. plan_of state.now.memory.rows plan ≡ read_asks (start_of state.now) txn key.now) }
+    ensures plan { MakesPlan state.now (read_asks (start_of state.now) txn key.now) result }
     ensures fit { IfOk result (IsFit state.now) }
     ensures memory { IfErr result (λ fault. fault ≡ Fault.Memory) }
 {
@@ -126,7 +129,9 @@ fn ask_for_key(state: &State, alloc: Global, txn: TxnId, key: &Key) -> Result<Pl
 /// The read that a transaction waits with, once its lock is granted.
 pub fn resume_read(state: &State, alloc: Global, txn: TxnId, key: &Key) -> Result<Plan, Fault>
     requires { Asks state.now.memory.rows txn [] (to_read key.now) true }
-    ensures planned { (earliest : ℕ) → IsPlanned state.now (plan_go_on (start_of state.now) earliest txn (WaitsRead key.now)) result }
+    ensures planned { (earliest : ℕ)
+        → IsPlanned state.now (plan_go_on (start_of state.now) earliest txn (WaitsRead key.now))
+        result }
     ensures fit { IfOk result (IsFit state.now) }
 {
     grant_alone(state, alloc, txn, key)
@@ -135,7 +140,7 @@ pub fn resume_read(state: &State, alloc: Global, txn: TxnId, key: &Key) -> Resul
 // The lock is granted with nobody ended, and the read answered.
 fn grant_alone(state: &State, alloc: Global, txn: TxnId, key: &Key) -> Result<Plan, Fault>
     requires { Asks state.now.memory.rows txn [] (to_read key.now) true }
-    ensures plan { IfOk result (λ plan. plan_of state.now.memory.rows plan ≡ puts (start_of state.now) [] txn (to_read key.now) Idle None state.now.memory.last (answers (start_of state.now) txn key.now ∷ [])) }
+    ensures plan { MakesGrantedRead state.now [] txn key.now result }
     ensures fit { IfOk result (IsFit state.now) }
     ensures memory { IfErr result (λ fault. fault ≡ Fault.Memory) }
 {
@@ -155,7 +160,7 @@ fn grant(
 ) -> Result<Plan, Fault>
     requires needs { needs.items ≡ to_read key.now }
     requires asks { Asks state.now.memory.rows txn wounded (to_read key.now) true }
-    ensures plan { IfOk result (λ plan. plan_of state.now.memory.rows plan ≡ puts (start_of state.now) wounded txn (to_read key.now) Idle None state.now.memory.last (answers (start_of state.now) txn key.now ∷ [])) }
+    ensures plan { MakesGrantedRead state.now wounded txn key.now result }
     ensures fit { IfOk result (IsFit state.now) }
     ensures memory { IfErr result (λ fault. fault ≡ Fault.Memory) }
 {
@@ -170,7 +175,8 @@ fn grant(
 
 // The read is refused.
 fn refuse(state: &State, alloc: Global, txn: TxnId, key: &Key) -> Result<Plan, Fault>
-    ensures plan { IfOk result (λ plan. plan_of state.now.memory.rows plan ≡ replies (start_of state.now) (answer_to state.now.setup.shard txn key.now state.now.facts.epoch Refused ∷ [])) }
+    ensures plan { MakesReply state.now
+        (answer_to state.now.setup.shard txn key.now state.now.facts.epoch Refused) result }
     ensures fit { IfOk result (IsFit state.now) }
     ensures memory { IfErr result (λ fault. fault ≡ Fault.Memory) }
 {

@@ -6,7 +6,7 @@ use Rattle.std.proofs.Math.Seq.{drop-cons}
 use Rattle.std.proofs.lemmas.List.{length-take-le, take-append-drop, take_more, length_push}
 use Rattle.units.specs.declared.fault.Fault.{Fault}
 use Rattle.units.specs.declared.fault.Fault.TheVariants.{Memory, BadRequest}
-use Rattle.units.specs.declared.fault.Reason.TheVariants.{Many, Unlawful}
+use Rattle.units.specs.declared.fault.Reason.TheVariants.{Unlawful}
 use Rattle.world.specs.World.{World, acts, happens, replies_of_run, replies_from, run, run_from, start}
 use Rattle.world.specs.Lawful.{first_unlawful_from, lawful, lawful_from, may_act, may_happen}
 use Rattle.world.specs.Steady.{IsSteady}
@@ -61,10 +61,10 @@ unlawful config es fault h = not_lawful (start config) es h.0 h.2
 pub record HasPlayed (config : Config) (es : List Event) (r : Run) (answers : List Reply) : Type 0 where
   pub fair : lawful config es ≡ true
   pub event : (run config es).event ≡ length es
-  pub stands : IsRun (length es) r (run config es)
+  pub stands : IsRun r (run config es)
   pub told : answers ≡ replies_of_run config es
 
-pub none_played : (config : Config) (r : Run) (answers : List Reply) → IsRun 0 r (start config) → answers ≡ [] → HasPlayed config [] r answers
+pub none_played : (config : Config) (r : Run) (answers : List Reply) → IsRun r (start config) → answers ≡ [] → HasPlayed config [] r answers
 unfolding run lawful replies_of_run start
 none_played config r answers h none = record { fair = refl; event = refl; stands = h; told = none }
 
@@ -82,8 +82,7 @@ module _ (config : Config) (es : List Event) (r new : Run) (answers : List Reply
       record {
         fair = lawful_more (start config) es e h.fair t.0;
         event = ap (λ w. w.event) same ∙ counts_one (run config es) e ∙ long_event;
-        stands = subst (λ w. IsRun (length (es ++ e ∷ [])) new w) (sym same) (subst (λ n. IsRun n new ((happens (run config es) e).0))
-            (ap (λ n. n + 1) h.event ∙ sym long) t.1.1);
+        stands = subst (λ w. IsRun new w) (sym same) t.1.1;
         told = (λ i. h.told i ++ t.1.0 i ∷ []) ∙ sym (replies_more (start config) es e);
       }
 
@@ -107,12 +106,11 @@ module _ (config : Config) (es : List Event) (n : ℕ) (e : Event) (lt : n < len
   so_many : length (take n es) ≡ n
   so_many = length-take-le n es (omega (arith, lt))
 
-  taken : (result : Result Reply Fault) → ((w : World) → w.event ≡ n → IsRun n r w → IsSteady w → Takes w e new result) →
+  taken : (result : Result Reply Fault) → ((w : World) → w.event ≡ n → IsRun r w → IsSteady w → Takes w e new result) →
       Takes (run config (take n es)) e new result
-  taken result f = f (run config (take n es)) (h.event ∙ so_many) (subst (λ k. IsRun k r (run config (take n es))) so_many h.stands)
-      (steady config (take n es) r r answers h)
+  taken result f = f (run config (take n es)) (h.event ∙ so_many) h.stands (steady config (take n es) r r answers h)
 
-  pub next_played : (reply : Reply) (told : List Reply) → told ≡ answers ++ reply ∷ [] → ((w : World) → w.event ≡ n → IsRun n r w → IsSteady w →
+  pub next_played : (reply : Reply) (told : List Reply) → told ≡ answers ++ reply ∷ [] → ((w : World) → w.event ≡ n → IsRun r w → IsSteady w →
       Takes w e new (Ok reply))
       → HasPlayed config (take (n + 1) es) new told
   next_played reply told are f =
@@ -120,7 +118,7 @@ module _ (config : Config) (es : List Event) (n : ℕ) (e : Event) (lt : n < len
       (subst (λ rs. HasPlayed config (take n es ++ e ∷ []) new rs) (sym are) (one_played config (take n es) r new answers h e reply (taken (Ok reply) f)))
 
   pub none_next : (fault : Fault) (result : Result (Unit {0}) Fault) (told : List Reply) → result ≡ Err fault →
-      ((w : World) → w.event ≡ n → IsRun n r w → IsSteady w → Takes w e new (Err fault))
+      ((w : World) → w.event ≡ n → IsRun r w → IsSteady w → Takes w e new (Err fault))
       → Plays config es new told result
   none_next fault result told is_err f =
       subst (λ x. Plays config es new told x) (sym is_err)
@@ -131,23 +129,21 @@ module _ (config : Config) (es : List Event) (n : ℕ) (e : Event) (lt : n < len
 
 pub reported : (config : Config) (es : List Event) (r : Run) (answers : List Reply) (result : Result Report Fault)
     (played : Result (Unit {0}) Fault) → played ≡ Ok tt → Plays config es r answers played
-    → ((used : ℕ) (w : World) → IsRun used r w → IfOk result (λ report. Reports w answers report)) → IfOk result (λ report. IsReport config es report)
+    → ((w : World) → IsRun r w → IfOk result (λ report. Reports w answers report)) → IfOk result (λ report. IsReport config es report)
 reported config es r answers (Err fault) played is plays h = tt
 reported config es r answers (Ok report) played is plays h =
     let all = subst (λ x. Plays config es r answers x) is plays in
-    let p = h all.2.0 (run config es) all.2.1 in
+    let p = h (run config es) all.2 in
     record { fair = all.0; replies = p.replies ∙ all.1; bag = p.bag; logs = p.logs; lines = p.lines }
 
 -- a list that is refused as unlawful is not lawful
 pub not_fair : (config : Config) (es : List Event) (fault : Fault) (n : ℕ) → IsNoReport config es fault → fault ≡ BadRequest (Unlawful n) →
     lawful config es ≡ false
 not_fair config es fault n (inl memory) is = absurd (cc)
-not_fair config es fault n (inr (inl many)) is = absurd (cc)
-not_fair config es fault n (inr (inr not)) is = unlawful config es fault not
+not_fair config es fault n (inr not) is = unlawful config es fault not
 
--- any other is refused for memory, or since there are too many
+-- any other is refused for memory
 pub other_cause : (config : Config) (es : List Event) (fault : Fault) → IsNoReport config es fault → ((n : ℕ) → fault ≡ BadRequest (Unlawful n) → ⊥)
-    → (fault ≡ Memory) ⊎ ((fault ≡ BadRequest Many) × (2 ^ 19 ≤ length es))
-other_cause config es fault (inl memory) other = inl memory
-other_cause config es fault (inr (inl many)) other = inr many
-other_cause config es fault (inr (inr not)) other = absurd (other not.0 not.1)
+    → fault ≡ Memory
+other_cause config es fault (inl memory) other = memory
+other_cause config es fault (inr not) other = absurd (other not.0 not.1)

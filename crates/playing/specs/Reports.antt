@@ -1,8 +1,8 @@
 -- What a report of a run says, and why there is none.
-use Rattle.std.specs.Prelude.{ℕ, ◌≡◌, ◌⊎◌, ◌≤◌, ◌^◌, IsTrue, List, length, map, Some, Result, Ok, Err}
+use Rattle.std.specs.Prelude.{ℕ, ◌≡◌, ◌⊎◌, IsTrue, List, map, Some, Result, Ok, Err}
 use Rattle.units.specs.declared.fault.Fault.{Fault}
 use Rattle.units.specs.declared.fault.Fault.TheVariants.{Memory, BadRequest}
-use Rattle.units.specs.declared.fault.Reason.TheVariants.{Many, Unlawful}
+use Rattle.units.specs.declared.fault.Reason.TheVariants.{Unlawful}
 use Rattle.world.specs.World.{World, counted_lines, logs_of, replies_of_run, run, start}
 use Rattle.world.specs.Comes.{IsRun}
 use Rattle.world.specs.Lawful.{first_unlawful_from, lawful}
@@ -24,13 +24,13 @@ pub record IsReport (config : Config) (es : List Event) (r : Report) : Type 0 wh
 abbrev pub IsUnlawful : Config → List Event → Fault → Type 0
 IsUnlawful config es fault = (n : ℕ) × (fault ≡ BadRequest (Unlawful n)) × (first_unlawful_from (start config) es ≡ Some n)
 
--- memory was refused, or there are too many events, or they are not lawful
+-- memory was refused, or they are not lawful
 abbrev pub IsNoReport : Config → List Event → Fault → Type 0
-IsNoReport config es fault = (fault ≡ Memory) ⊎ (((fault ≡ BadRequest Many) × (2 ^ 19 ≤ length es)) ⊎ IsUnlawful config es fault)
+IsNoReport config es fault = (fault ≡ Memory) ⊎ IsUnlawful config es fault
 
 -- all events were played; or one of them may not happen; or memory was refused
 abbrev pub Plays : Config → List Event → Run → List Reply → Result (Unit {0}) Fault → Type 0
-Plays config es new answers (Ok done) = IsTrue (lawful config es) × (answers ≡ replies_of_run config es) × ((used : ℕ) × IsRun used new (run config es))
+Plays config es new answers (Ok done) = IsTrue (lawful config es) × (answers ≡ replies_of_run config es) × IsRun new (run config es)
 Plays config es new answers (Err fault) = (fault ≡ Memory) ⊎ IsUnlawful config es fault
 
 -- the report of a world, with some replies

@@ -1,5 +1,5 @@
 //! Whole runs.
-ghost use Rattle.std.specs.Prelude.{◌≡◌, ◌⊎◌, ◌<◌, ◌≤◌, ◌^◌, ℕ, [], true, length, IfOk, IfErr};
+ghost use Rattle.std.specs.Prelude.{◌≡◌, [], true, IfOk, IfErr};
 ghost use Rattle.world.specs.World.{World, start};
 ghost use Rattle.world.specs.Lawful.{lawful};
 ghost use Rattle.world.specs.Crashless.{are_crashless};
@@ -13,9 +13,6 @@ use std::alloc::Global;
 use units::{Fault, Line, Reason};
 use world::{Config, Event, Reply, Run, counted};
 
-/// The number of events from which on a list is refused: so many might fill a log.
-const LIMIT: usize = 1 << 19;
-
 /// What a run comes to: the reply to each event, every message that was put out, the log of each shard as a read of its disk
 /// gives it, and the lines that count. A line of a read counts where its transaction committed.
 #[derive(Drop)]
@@ -27,16 +24,13 @@ pub struct Report {
 }
 
 /// Plays the events over shards on disks in memory: each step of a shard is a call of its core, each step of a session one of
-/// its transaction. Events that are not lawful are refused with the number of the first that may not happen, and 2^19 events
-/// or more with `Many`, since a log might pass its limit. Events of crashes, failing calls and openings are not played yet.
+/// its transaction. Events that are not lawful are refused with the number of the first that may not happen. Events of
+/// crashes, failing calls and openings are not played yet.
 pub fn play(alloc: Global, config: &Config, events: &[Event]) -> Result<Report, Fault>
     requires { are_crashless events.now ≡ true }
     ensures report { IfOk result (λ report. IsReport config.now events.now report) }
     ensures refused { IfErr result (λ fault. IsNoReport config.now events.now fault) }
 {
-    if events.len() >= LIMIT {
-        return Err(Fault::BadRequest(Reason::Many));
-    }
     let mut replies = Vec::new(alloc);
     let mut run = Run::start(alloc, config)?;
     match play_all(&mut run, alloc, events, &mut replies) {
@@ -49,11 +43,11 @@ pub fn play(alloc: Global, config: &Config, events: &[Event]) -> Result<Report, 
 }
 
 /// Whether each event may happen after those before it: true times do not fall, readings hold them, messages were put out
-/// before they come, and sessions, shards and views exist. Of 2^19 events or more it is not known, which is `Many`.
+/// before they come, and sessions, shards and views exist.
 pub fn lawful(alloc: Global, config: &Config, events: &[Event]) -> Result<bool, Fault>
     requires { are_crashless events.now ≡ true }
     ensures answer { IfOk result (λ fair. fair ≡ lawful config.now events.now) }
-    ensures refused { IfErr result (λ fault. (fault ≡ Fault.Memory) ⊎ ((fault ≡ Fault.BadRequest Reason.Many) × (2 ^ 19 ≤ length events.now))) }
+    ensures memory { IfErr result (λ fault. fault ≡ Fault.Memory) }
 {
     match play(alloc, config, events) {
         Ok(_report) => Ok(true),
@@ -70,9 +64,8 @@ fn play_all(
     replies: &mut Vec<Reply>,
 ) -> Result<(), Fault>
     requires crashless { are_crashless events.now ≡ true }
-    requires few { length events.now < 2 ^ 19 }
     requires none { replies.old.items ≡ [] }
-    ensures { (config : Config) → IsRun 0 run.old (start config) → Plays config events.now run.new replies.new.items result }
+    ensures { (config : Config) → IsRun run.old (start config) → Plays config events.now run.new replies.new.items result }
 {
     for (number, event) in events.iter().enumerate() {
         let reply = run.take(alloc, number as u64, event)?;
@@ -83,8 +76,8 @@ fn play_all(
 
 // The report of a run that is over.
 fn report_of(run: Run<'_>, alloc: Global, replies: Vec<Reply>) -> Result<Report, Fault>
-    ensures report { (used : ℕ) (w : World) → IsRun used run.entry w → IfOk result (λ report. Reports w replies.items report) }
-    ensures memory { (used : ℕ) (w : World) → IsRun used run.entry w → IfErr result (λ fault. fault ≡ Fault.Memory) }
+    ensures report { (w : World) → IsRun run.entry w → IfOk result (λ report. Reports w replies.items report) }
+    ensures memory { (w : World) → IsRun run.entry w → IfErr result (λ fault. fault ≡ Fault.Memory) }
 {
     let (bag, logs, lines) = run.finish(alloc)?;
     let lines = counted(alloc, &logs, lines)?;

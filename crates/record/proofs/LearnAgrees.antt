@@ -1,10 +1,11 @@
 -- The facts that are learnt record by record are those that are read from the set of all records.
 use Rattle.std.specs.List.{list_any, list_all}
 use Rattle.std.proofs.Common.{refl, sym, ◌∙◌, ap, subst, arith}
-use Rattle.std.proofs.lemmas.Bool.{eqb-true, or_right, and_parts, or_parts}
+use Rattle.std.proofs.lemmas.Bool.{eqb-true, or_right, and_parts, or_parts, false≢true}
 use Rattle.std.specs.Prelude.{ℕ, ◌+◌, ◌≡◌, max, Bool, true, false, not, cond, ◌&&◌, ◌||◌, List, [], ◌∷◌, ◌++◌, Option, Some, None, flat_map}
 use Rattle.std.proofs.lemmas.List.{append-nil}
 use Rattle.std.proofs.lemmas.Grind.{flat_map-append}
+use Rattle.std.proofs.Math.Bool.{or-false}
 use Rattle.units.specs.Lists.{gather, first, greatest}
 use Rattle.units.specs.Ids.{Id, same_id, with_id, ids_once}
 use Rattle.units.specs.Versions.{versions}
@@ -101,11 +102,8 @@ is_none : {A : Type 0} (o : Option A) → is_there o ≡ false → o ≡ None
 is_none None e = refl
 is_none (Some x) e = cc
 
-not_true : ¬ (false ≡ true)
-not_true e = cc
-
 not_there : (b : Bool) → ((b ≡ true) → false ≡ true) → b ≡ false
-not_there true h = absurd (not_true (h refl))
+not_there true h = absurd (false≢true (h refl))
 not_there false h = refl
 
 -- nothing is there of an id that is new
@@ -167,16 +165,12 @@ ended_by false (Some c) p t o = refl
 ended_by false None (Some p) t o = refl
 ended_by false None None t o = refl
 
-or_false : (a : Bool) → (a || false) ≡ a
-or_false true = refl
-or_false false = refl
-
 ended_status : (log : List Record) (t : Id) (o : Option ℕ) → ended_of log t ≡ None → status_of (log ++ Outcome t o ∷ []) t ≡ after_outcome (status_of log t) o
 unfolding status_of
 ended_status log t o none =
     status_more log (Outcome t o) t
     ∙ by_parts _ (is_aborted log t) _ (committed_of log t) _ (prepared_of log t) _ (Some (record { txn = t; outcome = o }))
-    (or_false (is_aborted log t)) (or_none (committed_of log t)) (or_none (prepared_of log t))
+    (or-false (is_aborted log t)) (or_none (committed_of log t)) (or_none (prepared_of log t))
     (ap (λ e. or_else e (ended_of (Outcome t o ∷ []) t)) none ∙ found_one (same_id t t) (record { txn = t; outcome = o }) (same_id-refl t))
     ∙ ended_by (is_aborted log t) (committed_of log t) (prepared_of log t) t o
     ∙ ap (λ e. after_outcome (status_by (is_aborted log t) (committed_of log t) (prepared_of log t) e) o) (sym none)
@@ -200,7 +194,7 @@ all_made log s = weaker _ _ (λ e there. s.closed e.txn (there_first (λ d. same
         ∙ weaker _ _ (λ x h. or_right (same_id e.txn x.txn) _ h) es (each_found es)
 
 no_single : {A : Type 0} (b : Bool) (x : A) → (b ≡ true → false ≡ true) → first (λ y. b) (x ∷ []) ≡ None
-no_single true x h = absurd (not_true (h refl))
+no_single true x h = absurd (false≢true (h refl))
 no_single false x h = refl
 
 -- what is promised or decided of an id stands before any further record of it

@@ -3,7 +3,8 @@
 use Rattle.std.specs.List.{list_any}
 use Rattle.std.proofs.Common.{refl, sym, ◌∙◌, ap, subst}
 use Rattle.std.specs.Prelude.{ℕ, ◌+◌, ◌≡◌, Bool, true, false, not, cond, ◌&&◌, ◌||◌, nat_eq, List, [], ◌∷◌, ◌++◌, Option, Some, None}
-use Rattle.std.proofs.lemmas.Bool.{and_parts}
+use Rattle.std.proofs.lemmas.Bool.{and_parts, false≢true}
+use Rattle.std.proofs.Math.Bool.{or-false}
 use Rattle.units.specs.Lists.{gather, first, head}
 use Rattle.units.specs.Ids.{Id, same_id}
 use Rattle.units.proofs.Folds.{or_else, is_there, there_or_else, gather_append, first_append, any_append}
@@ -118,10 +119,6 @@ pub single : {A : Type 0} (b : Bool) (x : A) → is_there (head (cond b (x ∷ [
 single true x = refl
 single false x = refl
 
-or_false : (a : Bool) → (a || false) ≡ a
-or_false true = refl
-or_false false = refl
-
 -- the outcome of an id follows its promise or decision
 ended_made : (shard : ℕ) (log : List Record) (r : Record) (t : Id) → follows shard log r ≡ true → is_there (ended_of (r ∷ []) t) ≡ true → made log t ≡ true
 ended_made shard log (Opened e) t h there = cc
@@ -142,7 +139,7 @@ aborted_unmade shard log (Ceiling at) t h there = cc
 aborted_unmade shard log (Prepare p) t h there = cc
 aborted_unmade shard log (Commit c) t h there = cc
 aborted_unmade shard log (Abort u) t h there =
-    let same : t ≡ u = same_id-is t u (sym (or_false (same_id t u)) ∙ there) in
+    let same : t ≡ u = same_id-is t u (sym (or-false (same_id t u)) ∙ there) in
     (subst (λ v. made log v ≡ false) (sym same) ((new_facts log u (abort_new shard log u h)).1), refl)
 aborted_unmade shard log (Outcome u o) t h there = cc
 
@@ -152,7 +149,7 @@ unfolding made
 made_unaborted shard log (Opened e) t h there = cc
 made_unaborted shard log (Ceiling at) t h there = cc
 made_unaborted shard log (Prepare p) t h there =
-    let same : p.txn ≡ t = same_id-is p.txn t (sym (single (same_id p.txn t) p) ∙ (sym (or_false _) ∙ there)) in
+    let same : p.txn ≡ t = same_id-is p.txn t (sym (single (same_id p.txn t) p) ∙ (sym (or-false _) ∙ there)) in
     subst (λ v. is_aborted log v ≡ false) same ((new_facts log p.txn (prepare_new shard log p h)).0)
 made_unaborted shard log (Commit c) t h there =
     let same : c.txn ≡ t = same_id-is c.txn t (sym (single (same_id c.txn t) c) ∙ there) in
@@ -160,17 +157,14 @@ made_unaborted shard log (Commit c) t h there =
 made_unaborted shard log (Abort u) t h there = cc
 made_unaborted shard log (Outcome u o) t h there = cc
 
-not_true : ¬ (false ≡ true)
-not_true e = cc
-
 closed_by : (e f m n : Bool) → (e ≡ true → m ≡ true) → (f ≡ true → m ≡ true) → (e || f) ≡ true → (m || n) ≡ true
 closed_by e f true n g h k = refl
-closed_by true f false n g h k = absurd (not_true (g refl))
-closed_by false true false n g h k = absurd (not_true (h refl))
+closed_by true f false n g h k = absurd (false≢true (g refl))
+closed_by false true false n g h k = absurd (false≢true (h refl))
 closed_by false false false n g h k = cc
 
 apart_by : (a b m n : Bool) → (a ≡ true → m ≡ false) → (b ≡ true → (m ≡ false) × (n ≡ false)) → (n ≡ true → a ≡ false) → (a || b) ≡ true → (m || n) ≡ false
-apart_by true b m true g h k there = absurd (not_true (sym (k refl)))
+apart_by true b m true g h k there = absurd (false≢true (sym (k refl)))
 apart_by true b m false g h k there = ap (λ x. x || false) (g refl)
 apart_by false true m n g h k there = ap (λ x. x || n) ((h refl).0) ∙ (h refl).1
 apart_by false false m n g h k there = cc

@@ -3,6 +3,7 @@ use Rattle.std.specs.List.{list_any, list_all}
 use Rattle.std.proofs.Common.{refl, sym, ◌∙◌, ap, subst}
 use Rattle.std.specs.Prelude.{◌≡◌, Bool, true, false, cond, ◌||◌, List, [], ◌∷◌, ◌++◌, map, Option, Some, None, filter}
 use Rattle.std.proofs.lemmas.Bool.{and_from, or_parts, and_parts}
+use Rattle.std.proofs.Math.Bool.{or-false}
 use Rattle.units.specs.Lists.{gather, first, head}
 use Rattle.units.specs.Ids.{Id, same_id, older, with_id}
 use Rattle.units.proofs.Folds.{or_else}
@@ -34,17 +35,13 @@ pub or_none : {A : Type 0} (o : Option A) → or_else o None ≡ o
 or_none None = refl
 or_none (Some x) = refl
 
-or_false : (a : Bool) → (a || false) ≡ a
-or_false true = refl
-or_false false = refl
-
 -- with nothing of the id in the record
 as_before : (a : Bool) (c : Option Committed) (p : Option Prepared) (e : Option Ended) (b : Bool) (d : Option Committed) (q : Option Prepared)
     (f : Option Ended) →
     b ≡ false → d ≡ None → q ≡ None → f ≡ None → status_by (a || b) (or_else c d) (or_else p q) (or_else e f) ≡ status_by a c p e
 as_before a c p e b d q f g h k l =
     ap (λ x. status_by (a || x) (or_else c d) (or_else p q) (or_else e f)) g
-    ∙ ap (λ x. status_by x (or_else c d) (or_else p q) (or_else e f)) (or_false a)
+    ∙ ap (λ x. status_by x (or_else c d) (or_else p q) (or_else e f)) (or-false a)
     ∙ ap (λ x. status_by a (or_else c x) (or_else p q) (or_else e f)) h
     ∙ ap (λ x. status_by a x (or_else p q) (or_else e f)) (or_none c)
     ∙ ap (λ x. status_by a c (or_else p x) (or_else e f)) k
@@ -57,7 +54,7 @@ no_single true x e = cc
 no_single false x e = refl
 
 apart_single : (t u : Id) → (same_id t u || false) ≡ false → same_id u t ≡ false
-apart_single t u e = same_id_comm u t ∙ (sym (or_false (same_id t u)) ∙ e)
+apart_single t u e = same_id_comm u t ∙ (sym (or-false (same_id t u)) ∙ e)
 
 -- the status of an id that the record is not about
 pub status_same : (log : List Record) (r : Record) (t : Id) → list_any (same_id t) (gather id_in (r ∷ [])) ≡ false →

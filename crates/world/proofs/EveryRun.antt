@@ -4,6 +4,7 @@ use Rattle.std.proofs.Common.{slice_get, refl, sym, ap, subst, ◌∙◌, arith}
 use Rattle.std.specs.Prelude.{Ok, Err, option_map}
 use Rattle.std.proofs.lemmas.Bool.{leb-true, and_from, and_parts}
 use Rattle.std.proofs.lemmas.List.{append-nil}
+use Rattle.units.specs.Limits.{most_rows}
 use Rattle.units.specs.ById.{IsById}
 use Rattle.units.specs.declared.fault.Fault.TheVariants.{Stopped, TimeSpent}
 use Rattle.units.specs.declared.setup.Setup.{Setup}
@@ -14,6 +15,7 @@ use Rattle.record.specs.Facts.{Facts, facts_of, learn}
 use Rattle.record.specs.declared.record.Record.{Record}
 use Rattle.record.proofs.LearnAgrees.{accepted_follows, followed_more}
 use Rattle.facts.proofs.Known.{follows_as_known}
+use Rattle.gatelog.specs.Frames.{end_of}
 use Rattle.message.specs.declared.message.Envelope.{Envelope}
 use Rattle.message.specs.declared.message.Input.{Input}
 use Rattle.protocol.specs.Rows.{Memory, rebuilt}
@@ -31,12 +33,13 @@ use Rattle.protocol.proofs.WithinLimit.{stays_within}
 use Rattle.world.specs.Lawful.{lawful, may_act, may_crash, may_do, may_happen}
 use Rattle.world.specs.Steady.{AlwaysSteady}
 use Rattle.world.specs.World.{World, ShardNow, State, Runs, IsStopped, IsDown, Unsure, View, shown_records, read_log, setup_of, step_of_opening}
-use Rattle.world.specs.World.{input_of, step_with, effect, fresh_log, run}
+use Rattle.world.specs.World.{input_of, step_with, effect, wanted, fresh_log, run}
 use Rattle.world.specs.declared.event.Act.{Act}
 use Rattle.world.specs.declared.event.Config.{Config}
 use Rattle.world.specs.declared.event.Doing.{Doing}
 use Rattle.world.specs.declared.event.Event.{Event}
 use Rattle.world.proofs.Openings.{opening_taken, taken_more}
+use Rattle.world.proofs.Rooms.{done_wanted}
 use Rattle.world.proofs.Sounds.{ActAllowed, DoingAllowed, SoundShard, SoundWorld, always_sound, read_left}
 
 -- ---- one shard
@@ -45,17 +48,17 @@ use Rattle.world.proofs.Sounds.{ActAllowed, DoingAllowed, SoundShard, SoundWorld
 pub record IsWell (setup : Setup) (f : Facts) (m : Memory) : Type 0 where
   pub sound : IsSound setup.shard f m
   pub own : all_own setup m.rows ≡ true
-  pub few : length m.rows ≤ 1024
+  pub few : length m.rows ≤ most_rows
 
 pub up : (setup : Setup) (f : Facts) (m : Memory) → IsWell setup f m → IsById (λ r. r.txn) m.rows
 up setup f m well = by_id-claims m.rows well.sound.table.order
 
 pub keeps : (setup : Setup) (f : Facts) (m : Memory) (now : Interval) (i : Input) (p : Plan) → IsInLimit i → IsWell setup f m →
-    plan_input setup (start_of_step 1024 setup f m) now i ≡ Ok p → IsWell setup (facts_after f p.logged) (carried p m)
+    plan_input setup (start_of_step most_rows setup f m) now i ≡ Ok p → IsWell setup (facts_after f p.logged) (carried p m)
 keeps setup f m now i p limit well e = record {
-  sound = step_keeps_sound 1024 setup f m now i p limit well.sound e;
-  own = step_keeps_own 1024 setup f m now i p well.own e;
-  few = stays_within 1024 setup f m now i p (up setup f m well) well.few e;
+  sound = step_keeps_sound most_rows setup f m now i p limit well.sound e;
+  own = step_keeps_own most_rows setup f m now i p well.own e;
+  few = stays_within most_rows setup f m now i p (up setup f m well) well.few e;
 }
 
 pub opens : (setup : Setup) (f : Facts) (m : Memory) → IsWell setup f m → IsWell setup (learn f (Record.Opened (f.epoch + 1))) (rebuilt f)
@@ -76,21 +79,21 @@ IsTaken setup log = taken setup log ≡ Accepted
 
 -- what a step logs is taken
 takes : (setup : Setup) (log : List Record) (m : Memory) (now : Interval) (i : Input) (p : Plan) (r : Record) → IsTaken setup log →
-    IsWell setup (facts_of log) m → plan_input setup (start_of_step 1024 setup (facts_of log) m) now i ≡ Ok p → p.logged ≡ Some r →
+    IsWell setup (facts_of log) m → plan_input setup (start_of_step most_rows setup (facts_of log) m) now i ≡ Ok p → p.logged ≡ Some r →
     IsTaken setup (log ++ r ∷ [])
 takes setup log m now i p r h well e logged =
     let so_far : followed setup.shard log ≡ true = accepted_follows setup log h in
     let with_it : followed setup.shard (log ++ r ∷ []) ≡ true =
-    follows_as_known setup.shard log r so_far ∙ logged_follows 1024 setup (facts_of log) m now i p r well.sound e logged in
+    follows_as_known setup.shard log r so_far ∙ logged_follows most_rows setup (facts_of log) m now i p r well.sound e logged in
     let next = and_parts (followed setup.shard log) (begins log r && follows setup.shard log r) (sym (followed_more setup.shard log r) ∙ with_it) in
     taken_more setup log r h (record {
-      own = logged_belongs 1024 setup (facts_of log) m now i p r well.own e logged;
+      own = logged_belongs most_rows setup (facts_of log) m now i p r well.own e logged;
       fits = and_from (begins log r && follows setup.shard log r) (fits_beside log r) next.1
           (logged_fits_beside setup log m now i p r well.sound well.few e logged);
     })
 
 pub logs : (setup : Setup) (log : List Record) (m : Memory) (now : Interval) (i : Input) (p : Plan) (r : Record) → IsInLimit i → IsTaken setup log →
-    IsWell setup (facts_of log) m → plan_input setup (start_of_step 1024 setup (facts_of log) m) now i ≡ Ok p → p.logged ≡ Some r →
+    IsWell setup (facts_of log) m → plan_input setup (start_of_step most_rows setup (facts_of log) m) now i ≡ Ok p → p.logged ≡ Some r →
     IsTaken setup (log ++ r ∷ [])
 logs setup log m now i p r limit h well e logged = takes setup log m now i p r h well e logged
 
@@ -184,12 +187,12 @@ step_logs setup log unsure (IsStopped m) views o r memory out well e = cc
 step_logs setup log unsure IsDown views o r memory out well e = cc
 step_logs setup log unsure (Runs m) views None r memory out well e = cc
 step_logs setup log unsure (Runs m) views (Some q) r memory out well e =
-    by_plan (plan_input setup (start_of_step 1024 setup (facts_of log) m) q.0 q.1) refl e
+    by_plan (plan_input setup (start_of_step most_rows setup (facts_of log) m) q.0 q.1) refl e
   where
     log_is : log ++ shown_records unsure ≡ log
     log_is = ap (λ u. log ++ shown_records u) well.state.1 ∙ append-nil log
 
-    by_plan : (p : Planned) → plan_input setup (start_of_step 1024 setup (facts_of log) m) q.0 q.1 ≡ p → stepped m p ≡ Does (Some r) memory out →
+    by_plan : (p : Planned) → plan_input setup (start_of_step most_rows setup (facts_of log) m) q.0 q.1 ≡ p → stepped m p ≡ Does (Some r) memory out →
         IsTaken setup ((log ++ shown_records unsure) ++ r ∷ [])
     by_plan (Err f) is k = cc
     by_plan (Ok p) is k =
@@ -215,10 +218,10 @@ module _ (config : Config) (bag : List Envelope) (n : ℕ) (s : ShardNow) (well 
           (logged_is (Some (Record.Opened ((facts_of (read_log s)).epoch + 1))) (Some r) (rebuilt (facts_of (read_log s))) memory [] out k))
           (opening_taken (setup_of config n) (read_log s) good)
 
-  doing_logs : (doing : Doing) (r : Record) (memory : Memory) (out : List Envelope) → effect (setup_of config n) bag s doing ≡ Does (Some r) memory out →
+  wanted_logs : (doing : Doing) (r : Record) (memory : Memory) (out : List Envelope) → wanted (setup_of config n) bag s doing ≡ Does (Some r) memory out →
       IsTaken (setup_of config n) (read_log s ++ r ∷ [])
-  unfolding effect
-  doing_logs Doing.Open r memory out e = by_state s.state e
+  unfolding wanted
+  wanted_logs Doing.Open r memory out e = by_state s.state e
     where
       by_state : (st : State) → (elim st as (λ x. Stepped) [ Runs m ↦ Refuses Stopped | _ ↦ step_of_opening (facts_of (read_log s)) ]) ≡
           Does (Some r) memory out →
@@ -226,16 +229,22 @@ module _ (config : Config) (bag : List Envelope) (n : ℕ) (s : ShardNow) (well 
       by_state (Runs m) k = cc
       by_state (IsStopped m) k = opening_logs r memory out k
       by_state IsDown k = opening_logs r memory out k
-  doing_logs (Doing.Take m now) r memory out e = step_logs (setup_of config n) s.log s.unsure s.state s.views
+  wanted_logs (Doing.Take m now) r memory out e = step_logs (setup_of config n) s.log s.unsure s.state s.views
       (input_of bag (Doing.Take m now)) r memory out well e
-  doing_logs (Doing.Resume now) r memory out e = step_logs (setup_of config n) s.log s.unsure s.state s.views
+  wanted_logs (Doing.Resume now) r memory out e = step_logs (setup_of config n) s.log s.unsure s.state s.views
       (input_of bag (Doing.Resume now)) r memory out well e
-  doing_logs (Doing.Settle t now) r memory out e = step_logs (setup_of config n) s.log s.unsure s.state s.views
+  wanted_logs (Doing.Settle t now) r memory out e = step_logs (setup_of config n) s.log s.unsure s.state s.views
       (input_of bag (Doing.Settle t now)) r memory out well e
-  doing_logs (Doing.Advance at now) r memory out e = step_logs (setup_of config n) s.log s.unsure s.state s.views
+  wanted_logs (Doing.Advance at now) r memory out e = step_logs (setup_of config n) s.log s.unsure s.state s.views
       (input_of bag (Doing.Advance at now)) r memory out well e
-  doing_logs (Doing.Nudge t now) r memory out e = step_logs (setup_of config n) s.log s.unsure s.state s.views
+  wanted_logs (Doing.Nudge t now) r memory out e = step_logs (setup_of config n) s.log s.unsure s.state s.views
       (input_of bag (Doing.Nudge t now)) r memory out well e
+
+  doing_logs : (doing : Doing) (r : Record) (memory : Memory) (out : List Envelope) → effect (setup_of config n) bag s doing ≡ Does (Some r) memory out →
+      IsTaken (setup_of config n) (read_log s ++ r ∷ [])
+  unfolding effect
+  doing_logs doing r memory out e =
+      wanted_logs doing r memory out (done_wanted (end_of (read_log s)) (wanted (setup_of config n) bag s doing) (Some r) memory out e)
 
 -- every lawful run is steady
 pub is_steady : AlwaysSteady

@@ -15,7 +15,7 @@ use Rattle.world.specs.declared.run.Run.{Run}
 
 -- an event that may happen has happened
 module _ (w : World) (e : Event) (number : ℕ) (at : w.event ≡ number) where
-  pub happened : (mid new : Run) (reply : Reply) → may_happen w e ≡ true → Comes (number + 1) (acts w e.act) mid (Ok reply) →
+  pub happened : (mid new : Run) (reply : Reply) → may_happen w e ≡ true → Comes (acts w e.act) mid (Ok reply) →
       new.sessions ≡ mid.sessions → new.shards ≡ mid.shards
       → new.output.bag ≡ mid.output.bag → new.output.told ≡ mid.output.told → new.output.lines ≡ mid.output.lines → new.output.event ≡ number + 1 →
       new.time ≡ e.time → Takes w e new (Ok reply)
@@ -29,8 +29,7 @@ module _ (w : World) (e : Event) (number : ℕ) (at : w.event ≡ number) where
           comes.0,
           record {
             sessions = subst (λ s. Hosts after.config.splits s after.clients) (sym sessions) h.sessions;
-            shards = subst (λ n. AreShards after.config (n + 1) new.shards after.shards) (sym at)
-                (subst (λ s. AreShards after.config (number + 1) s after.shards) (sym shards) h.shards);
+            shards = subst (λ s. AreShards after.config s after.shards) (sym shards) h.shards;
             output = record {
               bag = bag ∙ h.output.bag;
               told = ap (λ ts. ts.items) told ∙ h.output.told;

@@ -10,6 +10,7 @@ pub mod Openings
 pub mod Places
 pub mod Puts
 pub mod Replying
+pub mod Rooms
 pub mod Sounds
 pub mod Untouched
 pub mod Viewed

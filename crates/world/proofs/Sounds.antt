@@ -5,6 +5,7 @@ use Rattle.std.proofs.Common.{None, slice_get, refl, sym, ap, subst, ◌∙◌}
 use Rattle.std.specs.Prelude.{Ok, Err, option_to_list}
 use Rattle.std.proofs.lemmas.Bool.{cases_eq, and_parts}
 use Rattle.std.proofs.lemmas.List.{append-nil}
+use Rattle.units.specs.Limits.{most_rows}
 use Rattle.units.specs.Lists.{replaced}
 use Rattle.units.specs.declared.fault.Fault.{Fault}
 use Rattle.units.specs.declared.fault.Fault.TheVariants.{Stopped, Stranger, Device, TimeSpent}
@@ -24,9 +25,11 @@ use Rattle.protocol.specs.Plan.{time_limit, Plan, Planned, start_of_step, carrie
 use Rattle.protocol.specs.Step.{step_within, Stepped, Refuses, Does, facts_after, plan_input, stepped}
 use Rattle.world.specs.Lawful.{lawful, lawful_from, may_happen, may_act}
 use Rattle.session.specs.Sessions.{reads, buffers, closes, gives_up}
+use Rattle.gatelog.specs.Frames.{end_of}
 use Rattle.gatelog.specs.Gates.{is_left, is_read, opens_gate}
 use Rattle.world.specs.World.{World, ShardNow, State, Runs, IsStopped, IsDown, Unsure, Nothing, Shown, Hidden, shown_records, read_log, setup_of}
-use Rattle.world.specs.World.{step_of_opening, input_of, step_with, effect, finished, crashed, crashed_in, failed_in, left_of, left_by_refused}
+use Rattle.world.specs.World.{step_of_opening, input_of, step_with, effect, wanted, where_room, has_room, finished, crashed, crashed_in, failed_in}
+use Rattle.world.specs.World.{left_of, left_by_refused}
 use Rattle.world.specs.World.{stopped, set_shard, fresh_log, fresh_shard, After, client_of, put_out, refused, if_open}
 use Rattle.world.specs.World.{if_not_over, to_session, refused_doing, did, did_with_failure, at_shard, do_at, deliver_to, look_noted, look_shard}
 use Rattle.world.specs.World.{look_at_view, acts, happens, start, run, run_from}
@@ -54,11 +57,12 @@ ActAllowed Allowed w _ = Unit {0}
 
 module _ (Allowed : Setup → Input → Type 0) (Sound : Setup → Facts → Memory → Type 0) (Good : Setup → List Record → Type 0)
     (keeps : (setup : Setup) (f : Facts) (m : Memory) (now : Interval) (i : Input) (p : Plan) → Allowed setup i → Sound setup f m →
-    plan_input setup (start_of_step 1024 setup f m) now i ≡ Ok p → Sound setup (facts_after f p.logged) (carried p m))
+    plan_input setup (start_of_step most_rows setup f m) now i ≡ Ok p → Sound setup (facts_after f p.logged) (carried p m))
     (opens : (setup : Setup) (f : Facts) (m : Memory) → Sound setup f m → Sound setup (learn f (Record.Opened (f.epoch + 1))) (rebuilt f))
     (follows : (setup : Setup) (log : List Record) → Good setup log → followed setup.shard log ≡ true)
     (logs : (setup : Setup) (log : List Record) (m : Memory) (now : Interval) (i : Input) (p : Plan) (r : Record) → Allowed setup i → Good setup log →
-    Sound setup (facts_of log) m → plan_input setup (start_of_step 1024 setup (facts_of log) m) now i ≡ Ok p → p.logged ≡ Some r → Good setup (log ++ r ∷ []))
+    Sound setup (facts_of log) m → plan_input setup (start_of_step most_rows setup (facts_of log) m) now i ≡ Ok p → p.logged ≡ Some r
+    → Good setup (log ++ r ∷ []))
     (good_opens : (setup : Setup) (log : List Record) → Good setup log → Good setup (log ++ Record.Opened ((facts_of log).epoch + 1) ∷ [])) where
   -- ---- one shard
 
@@ -99,7 +103,7 @@ module _ (Allowed : Setup → Input → Type 0) (Sound : Setup → Facts → Mem
   -- a step of a running shard
   of_plan : (L : Type 0) (setup : Setup) (log : List Record) (m : Memory) (now : Interval) (i : Input) → (L → Allowed setup i) → Good setup log →
       Sound setup (facts_of log) m →
-      (p : Planned) → plan_input setup (start_of_step 1024 setup (facts_of log) m) now i ≡ p → SteppedSound L setup log (stepped m p)
+      (p : Planned) → plan_input setup (start_of_step most_rows setup (facts_of log) m) now i ≡ p → SteppedSound L setup log (stepped m p)
   of_plan L setup log m now i allowed good sound (Err f) e = tt
   of_plan L setup log m now i allowed good sound (Ok p) e = by_record p.logged refl (λ l. keeps setup (facts_of log) m now i p (allowed l) sound e)
     where
@@ -137,7 +141,7 @@ module _ (Allowed : Setup → Input → Type 0) (Sound : Setup → Facts → Mem
         let read_is : read_log s ≡ s.log = ap (λ u. s.log ++ shown_records u) state.1 ∙ append-nil s.log in
         subst (λ l. SteppedSound L (setup_of config n) l (step_with (setup_of config n) (facts_of s.log) m (Some p))) (sym read_is)
         (of_plan L (setup_of config n) s.log m p.0 p.1 (allowed p refl) plain.good state.0
-        (plan_input (setup_of config n) (start_of_step 1024 (setup_of config n) (facts_of s.log) m) p.0 p.1) refl)
+        (plan_input (setup_of config n) (start_of_step most_rows (setup_of config n) (facts_of s.log) m) p.0 p.1) refl)
 
     opened : SteppedSound (Unit {0}) (setup_of config n) (read_log s) (step_of_opening (facts_of (read_log s)))
     unfolding step_of_opening
@@ -152,10 +156,10 @@ module _ (Allowed : Setup → Input → Type 0) (Sound : Setup → Facts → Mem
             (λ u. good_opens (setup_of config n) (read_log s) l.good)
             (λ u. opens (setup_of config n) (facts_of (read_log s)) l.memory l.sound)
 
-    pub effect_sound : (doing : Doing) → SteppedSound (DoingAllowed Allowed (setup_of config n) bag doing) (setup_of config n) (read_log s)
-        (effect (setup_of config n) bag s doing)
-    unfolding effect
-    effect_sound Doing.Open = by_state s.state
+    wanted_sound : (doing : Doing) → SteppedSound (DoingAllowed Allowed (setup_of config n) bag doing) (setup_of config n) (read_log s)
+        (wanted (setup_of config n) bag s doing)
+    unfolding wanted
+    wanted_sound Doing.Open = by_state s.state
       where
         opened_so : (st : Stepped) → SteppedSound (Unit {0}) (setup_of config n) (read_log s) st →
             SteppedSound (DoingAllowed Allowed (setup_of config n) bag Doing.Open) (setup_of config n) (read_log s) st
@@ -167,16 +171,32 @@ module _ (Allowed : Setup → Input → Type 0) (Sound : Setup → Facts → Mem
         by_state (Runs m) = tt
         by_state (IsStopped m) = opened_so (step_of_opening (facts_of (read_log s))) opened
         by_state IsDown = opened_so (step_of_opening (facts_of (read_log s))) opened
-    effect_sound (Doing.Take m now) = running (DoingAllowed Allowed (setup_of config n) bag (Doing.Take m now)) (input_of bag (Doing.Take m now))
+    wanted_sound (Doing.Take m now) = running (DoingAllowed Allowed (setup_of config n) bag (Doing.Take m now)) (input_of bag (Doing.Take m now))
         (λ p e l. l p e) s.state refl
-    effect_sound (Doing.Resume now) = running (DoingAllowed Allowed (setup_of config n) bag (Doing.Resume now)) (input_of bag (Doing.Resume now))
+    wanted_sound (Doing.Resume now) = running (DoingAllowed Allowed (setup_of config n) bag (Doing.Resume now)) (input_of bag (Doing.Resume now))
         (λ p e l. l p e) s.state refl
-    effect_sound (Doing.Settle t now) = running (DoingAllowed Allowed (setup_of config n) bag (Doing.Settle t now))
+    wanted_sound (Doing.Settle t now) = running (DoingAllowed Allowed (setup_of config n) bag (Doing.Settle t now))
         (input_of bag (Doing.Settle t now)) (λ p e l. l p e) s.state refl
-    effect_sound (Doing.Advance at now) = running (DoingAllowed Allowed (setup_of config n) bag (Doing.Advance at now))
+    wanted_sound (Doing.Advance at now) = running (DoingAllowed Allowed (setup_of config n) bag (Doing.Advance at now))
         (input_of bag (Doing.Advance at now)) (λ p e l. l p e) s.state refl
-    effect_sound (Doing.Nudge t now) = running (DoingAllowed Allowed (setup_of config n) bag (Doing.Nudge t now)) (input_of bag (Doing.Nudge t now))
+    wanted_sound (Doing.Nudge t now) = running (DoingAllowed Allowed (setup_of config n) bag (Doing.Nudge t now)) (input_of bag (Doing.Nudge t now))
         (λ p e l. l p e) s.state refl
+
+    by_room : (L : Type 0) (gate : ℕ) (st : Stepped) → SteppedSound L (setup_of config n) (read_log s) st →
+        SteppedSound L (setup_of config n) (read_log s) (where_room gate st)
+    by_room L gate (Refuses f) k = tt
+    by_room L gate (Does None memory out) k = k
+    by_room L gate (Does (Some r) memory out) k = by_test (has_room gate r)
+      where
+        by_test : (b : Bool) → SteppedSound L (setup_of config n) (read_log s) (cond b (Does (Some r) memory out) (Refuses TimeSpent))
+        by_test true = k
+        by_test false = tt
+
+    pub effect_sound : (doing : Doing) → SteppedSound (DoingAllowed Allowed (setup_of config n) bag doing) (setup_of config n) (read_log s)
+        (effect (setup_of config n) bag s doing)
+    unfolding effect
+    effect_sound doing = by_room (DoingAllowed Allowed (setup_of config n) bag doing) (end_of (read_log s)) (wanted (setup_of config n) bag s doing)
+        (wanted_sound doing)
 
     -- ---- the shard after it
 

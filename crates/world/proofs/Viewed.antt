@@ -13,6 +13,7 @@ use Rattle.units.specs.declared.setup.Setup.{Setup}
 use Rattle.units.specs.declared.writes.Install.{Install}
 use Rattle.record.specs.Facts.{Facts, facts_of, installs_at, learn, recorded}
 use Rattle.record.specs.declared.record.Record.{Record}
+use Rattle.gatelog.specs.Frames.{end_of}
 use Rattle.message.specs.declared.message.Envelope.{Envelope}
 use Rattle.protocol.specs.Rows.{Memory, safe}
 use Rattle.protocol.specs.Step.{facts_after}
@@ -101,7 +102,7 @@ same_memory : (m n : Memory) → Runs m ≡ Runs n → m ≡ n
 same_memory m n e = ap (λ st. elim st as (λ x. Memory) [ Runs k ↦ k | _ ↦ m ]) e
 
 -- the same shard with the view that a doing makes
-module _ (setup : Setup) (used : ℕ) (bag : List Envelope) (s : ShardNow) (doing : Doing) (mid : Running) where
+module _ (setup : Setup) (bag : List Envelope) (s : ShardNow) (doing : Doing) (mid : Running) where
   made_within : (made : Bool) → list_all (is_within (seen mid.core).facts.installs) (views_made made mid) ≡ true
   made_within true = ap (λ b. b && true) (is_counted (seen mid.core).facts.installs (view_now mid) (omega arith))
   made_within false = refl
@@ -114,15 +115,14 @@ module _ (setup : Setup) (used : ℕ) (bag : List Envelope) (s : ShardNow) (doin
       ap (λ v. v ∷ []) (now ∙ (λ i. record { installs = (facts i).installs; safe = safe memory }))
 
   runs : (new : Running) → new.core ≡ mid.core → new.views.items ≡ mid.views.items ++ views_made (makes_view doing) mid → s.unsure ≡ Nothing
-      → (logged : Option Record) (memory : Memory) → IsRunning setup (used + 1) mid (shard_stepped s logged memory) →
-      IsRunning setup (used + 1) new (finished s doing logged memory)
+      → (logged : Option Record) (memory : Memory) → IsRunning setup mid (shard_stepped s logged memory) →
+      IsRunning setup new (finished s doing logged memory)
   unfolding finished
   runs new same put sure logged memory k =
       let log : read_log s ≡ s.log = ap (λ u. s.log ++ shown_records u) sure ∙ append-nil s.log in
       let facts : (seen mid.core).facts ≡ facts_of (read_log s ++ option_to_list logged) = k.facts
       ∙ ap (λ l. facts_of (l ++ option_to_list logged)) (sym log) in
       let memory_is : (seen mid.core).memory ≡ memory = sym (same_memory memory (seen mid.core).memory k.state) in
-      let gate : (seen new.core).gate ≡ (seen mid.core).gate = λ i. (seen (same i)).gate in
       record {
         setup_is = (λ i. (seen (same i)).setup) ∙ k.setup_is;
         up = (λ i. (seen (same i)).stopped) ∙ k.up;
@@ -136,20 +136,19 @@ module _ (setup : Setup) (used : ℕ) (bag : List Envelope) (s : ShardNow) (doin
             ∙ (λ i. k.views i ++ made_shown (read_log s ++ option_to_list logged) memory facts memory_is (makes_view doing) i);
         within = (λ i. list_all (is_within (seen (same i)).facts.installs) (put i))
             ∙ within_more (seen mid.core).facts.installs mid.views.items (views_made (makes_view doing) mid) k.within (made_within (makes_view doing));
-        room = omega (arith, gate, k.room);
+        gate = (λ i. (seen (same i)).gate) ∙ k.gate ∙ ap (λ l. end_of (l ++ option_to_list logged)) (sym log);
       }
 
   pub acted : (new : Running) → new.core ≡ mid.core → new.views.items ≡ mid.views.items ++ views_made (makes_view doing) mid → s.unsure ≡ Nothing
-      → (out : List Envelope) → Carries setup used bag s doing mid (Ok out) → Acts setup used bag s doing new (Ok out)
+      → (out : List Envelope) → Carries setup bag s doing mid (Ok out) → Acts setup bag s doing new (Ok out)
   acted new same put sure out carried = λ follows.
       let p = carried follows in
       (p.0, p.1, p.2, runs new same put sure p.0 p.1 p.3)
 
 -- a shard with the same views elsewhere
-pub same_running : (setup : Setup) (used : ℕ) (s : ShardNow) (old new : Running) → new.core ≡ old.core → new.views.items ≡ old.views.items →
-    IsRunning setup used old s → IsRunning setup used new s
-same_running setup used s old new same views h =
-    let gate : (seen new.core).gate ≡ (seen old.core).gate = λ i. (seen (same i)).gate in
+pub same_running : (setup : Setup) (s : ShardNow) (old new : Running) → new.core ≡ old.core → new.views.items ≡ old.views.items →
+    IsRunning setup old s → IsRunning setup new s
+same_running setup s old new same views h =
     record {
       setup_is = (λ i. (seen (same i)).setup) ∙ h.setup_is;
       up = (λ i. (seen (same i)).stopped) ∙ h.up;
@@ -160,14 +159,14 @@ same_running setup used s old new same views h =
       state = h.state ∙ (λ i. Runs (seen (sym same i)).memory);
       views = (λ i. map (shown_view (seen (same i)).facts.installs) (views i)) ∙ h.views;
       within = (λ i. list_all (is_within (seen (same i)).facts.installs) (views i)) ∙ h.within;
-      room = omega (arith, gate, h.room);
+      gate = (λ i. (seen (same i)).gate) ∙ h.gate;
     }
 
 -- a refusal is passed on
-pub acted_not : (setup : Setup) (used : ℕ) (bag : List Envelope) (s : ShardNow) (doing : Doing) (new : Running) (r : Result (List Envelope) Fault)
+pub acted_not : (setup : Setup) (bag : List Envelope) (s : ShardNow) (doing : Doing) (new : Running) (r : Result (List Envelope) Fault)
     (fault : Fault) → r ≡ Err fault
-    → Carries setup used bag s doing new (Err fault) → Acts setup used bag s doing new r
-acted_not setup used bag s doing new r fault is carried = subst (λ (x : Result (List Envelope) Fault). Acts setup used bag s doing new x) (sym is) carried
+    → Carries setup bag s doing new (Err fault) → Acts setup bag s doing new r
+acted_not setup bag s doing new r fault is carried = subst (λ (x : Result (List Envelope) Fault). Acts setup bag s doing new x) (sym is) carried
 
 -- ---- looks at views
 

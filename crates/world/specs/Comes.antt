@@ -1,5 +1,5 @@
 -- How a run in the code stands for a world of the definitions, and what its parts answer.
-use Rattle.std.specs.Prelude.{ℕ, ◌≡◌, ◌≢◌, ◌⊎◌, ◌+◌, true, false, List, ◌++◌, Option, None, Result, Ok, Err, option_to_list}
+use Rattle.std.specs.Prelude.{ℕ, ◌≡◌, ◌≢◌, ◌⊎◌, true, false, List, ◌++◌, Option, None, Result, Ok, Err, option_to_list}
 use Rattle.units.specs.Keys.{Bytes}
 use Rattle.units.specs.declared.fault.Fault.{Fault}
 use Rattle.units.specs.declared.fault.Fault.TheVariants.{Memory, BadRequest}
@@ -19,17 +19,17 @@ use Rattle.world.specs.declared.hosting.Sessions.{Sessions}
 use Rattle.world.specs.declared.output.RunOutput.{RunOutput}
 use Rattle.world.specs.declared.run.Run.{Run}
 
--- its sessions, its shards with no more than so many records each, what was put out, and its time
-pub record IsRun (used : ℕ) (r : Run) (w : World) : Type 0 where
+-- its sessions, its shards, what was put out, and its time
+pub record IsRun (r : Run) (w : World) : Type 0 where
   pub sessions : Hosts w.config.splits r.sessions w.clients
-  pub shards : AreShards w.config used r.shards w.shards
+  pub shards : AreShards w.config r.shards w.shards
   pub output : IsOutput r.output w
   pub time : r.time ≡ w.time
 
 -- the run is the world after an event, with its reply; or memory was refused
-abbrev pub Comes : ℕ → After → Run → Result Reply Fault → Type 0
-Comes used after new (Ok reply) = (reply ≡ after.1) × IsRun used new after.0
-Comes used after new (Err fault) = fault ≡ Memory
+abbrev pub Comes : After → Run → Result Reply Fault → Type 0
+Comes after new (Ok reply) = (reply ≡ after.1) × IsRun new after.0
+Comes after new (Err fault) = fault ≡ Memory
 
 -- messages are put out, or a refusal is the reply
 abbrev pub HasReplied : World → Result (List Envelope) Fault → RunOutput → Result Reply Fault → Type 0
@@ -65,5 +65,5 @@ TakesMessage w m new (Err fault) = (fault ≡ Memory) ⊎ ((to_session w m ≡ r
 
 -- the event may happen, and the run is the world after it; or it may not; or memory was refused
 abbrev pub Takes : World → Event → Run → Result Reply Fault → Type 0
-Takes w e new (Ok reply) = (may_happen w e ≡ true) × Comes (w.event + 1) (happens w e) new (Ok reply)
+Takes w e new (Ok reply) = (may_happen w e ≡ true) × Comes (happens w e) new (Ok reply)
 Takes w e new (Err fault) = (fault ≡ Memory) ⊎ ((fault ≡ BadRequest (Unlawful w.event)) × (may_happen w e ≡ false))

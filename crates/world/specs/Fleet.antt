@@ -1,5 +1,5 @@
 -- How the running shards of a run in the code stand for those of the definitions.
-use Rattle.std.specs.Prelude.{ℕ, suc, ◌≡◌, ◌⊎◌, ◌+◌, ◌<◌, ◌^◌, List, [], ◌∷◌, length, replicate, slice_get, Some, None, Result, Ok, Err}
+use Rattle.std.specs.Prelude.{ℕ, suc, ◌≡◌, ◌⊎◌, List, [], ◌∷◌, length, replicate, slice_get, Some, None, Result, Ok, Err}
 use Rattle.units.specs.Keys.{Bytes}
 use Rattle.units.specs.Lists.{replaced}
 use Rattle.units.specs.declared.fault.Fault.{Fault}
@@ -7,7 +7,7 @@ use Rattle.units.specs.declared.fault.Fault.TheVariants.{Memory, Stranger}
 use Rattle.message.specs.declared.message.Envelope.{Envelope}
 use Rattle.protocol.specs.Step.{Stepped, Refuses, Does}
 use Rattle.world.specs.World.{ShardNow, effect, finished, fresh_shard, look_at_view, look_shard, setup_of}
-use Rattle.world.specs.Runs.{Follows, IsRunning, reach}
+use Rattle.world.specs.Runs.{Follows, IsRunning}
 use Rattle.world.specs.declared.event.Config.{Config}
 use Rattle.world.specs.declared.event.Doing.{Doing}
 use Rattle.world.specs.declared.event.Reply.{Reply}
@@ -15,15 +15,15 @@ use Rattle.world.specs.declared.running.Running.{Running}
 use Rattle.world.specs.declared.fleet.Shards.{Shards}
 
 -- one by one, from one number on
-abbrev pub AreRunning : Config → ℕ → ℕ → List Running → List ShardNow → Type 0
-AreRunning config used n [] [] = Unit {0}
-AreRunning config used n (r ∷ rs) (s ∷ ss) = IsRunning (setup_of config n) used r s × AreRunning config used (suc n) rs ss
-AreRunning config used n _ _ = ⊥
+abbrev pub AreRunning : Config → ℕ → List Running → List ShardNow → Type 0
+AreRunning config n [] [] = Unit {0}
+AreRunning config n (r ∷ rs) (s ∷ ss) = IsRunning (setup_of config n) r s × AreRunning config (suc n) rs ss
+AreRunning config n _ _ = ⊥
 
 -- the shards of a run
-pub record AreShards (config : Config) (used : ℕ) (shards : Shards) (ss : List ShardNow) : Type 0 where
+pub record AreShards (config : Config) (shards : Shards) (ss : List ShardNow) : Type 0 where
   pub splits_are : shards.splits.now ≡ config.splits
-  pub running : AreRunning config used 0 shards.running.items ss
+  pub running : AreRunning config 0 shards.running.items ss
 
 -- before the first event
 abbrev pub are_fresh : Config → List ShardNow
@@ -43,11 +43,11 @@ abbrev pub FollowsAt : Config → List Envelope → List ShardNow → ℕ → Do
 FollowsAt config bag ss n doing = (s : ShardNow) → slice_get ss n ≡ Some s → Follows (setup_of config n) bag s doing
 
 -- the doing is done, or refused for its own reason; or memory was refused
-abbrev pub ActsAt : Config → ℕ → List Envelope → List ShardNow → ℕ → Doing → Shards → Result (List Envelope) Fault → Type 0
-ActsAt config used bag ss n doing new (Ok out) =
-    FollowsAt config bag ss n doing → (after : List ShardNow) × (shards_by config bag ss n doing ≡ Ok (after, out)) × AreShards config (used + 1) new after
-ActsAt config used bag ss n doing new (Err fault) =
-    reach used + 2 ^ 20 + 5 < 2 ^ 40 → (fault ≡ Memory) ⊎ ((shards_by config bag ss n doing ≡ Err fault) × AreShards config used new ss)
+abbrev pub ActsAt : Config → List Envelope → List ShardNow → ℕ → Doing → Shards → Result (List Envelope) Fault → Type 0
+ActsAt config bag ss n doing new (Ok out) =
+    FollowsAt config bag ss n doing → (after : List ShardNow) × (shards_by config bag ss n doing ≡ Ok (after, out)) × AreShards config new after
+ActsAt config bag ss n doing new (Err fault) =
+    (fault ≡ Memory) ⊎ ((shards_by config bag ss n doing ≡ Err fault) × AreShards config new ss)
 
 -- the reply to a look at a shard, where it exists
 abbrev pub looked : Config → List ShardNow → ℕ → Bytes → ℕ → Reply

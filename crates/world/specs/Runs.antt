@@ -1,6 +1,6 @@
 -- How a running shard in the code stands for one of the definitions.
 use Rattle.std.specs.List.{list_all}
-use Rattle.std.specs.Prelude.{◌≡◌, ◌⊎◌, ℕ, ◌+◌, ◌*◌, ◌^◌, ◌≤◌, ◌<◌, Bool, true, false, IsTrue, nat_le, List, [], ◌∷◌, ◌++◌, length, map, take, Option}
+use Rattle.std.specs.Prelude.{◌≡◌, ◌⊎◌, Bool, true, false, IsTrue, nat_le, List, [], ◌∷◌, ◌++◌, length, map, take, Option}
 use Rattle.std.specs.Prelude.{Some, Result, Ok, Err, option_to_list}
 use Rattle.units.specs.declared.fault.Fault.{Fault}
 use Rattle.units.specs.declared.fault.Fault.TheVariants.{Memory}
@@ -8,6 +8,7 @@ use Rattle.units.specs.declared.setup.Setup.{Setup}
 use Rattle.units.specs.declared.writes.Install.{Install}
 use Rattle.disk.specs.File.{surface}
 use Rattle.disk.specs.declared.plan.FailurePlan.{FailurePlan}
+use Rattle.gatelog.specs.Frames.{end_of}
 use Rattle.record.specs.Accepted.{followed}
 use Rattle.record.specs.Facts.{facts_of}
 use Rattle.record.specs.declared.record.Record.{Record}
@@ -30,12 +31,8 @@ shown_view installs v = record { installs = take v.count installs; safe = v.safe
 abbrev pub is_within : List Install → CodeView → Bool
 is_within installs v = nat_le v.count (length installs)
 
--- how far a log may reach after some events
-abbrev pub reach : ℕ → ℕ
-reach used = (used + 1) * (2 ^ 20 + 5) + 8
-
--- the shard runs on a disk that holds its log and that is not to fail
-pub record IsRunning (setup : Setup) (used : ℕ) (r : Running) (s : ShardNow) : Type 0 where
+-- the shard runs on a disk that holds its log and that is not to fail; its log ends where its records end
+pub record IsRunning (setup : Setup) (r : Running) (s : ShardNow) : Type 0 where
   pub setup_is : (seen r.core).setup ≡ setup
   pub up : (seen r.core).stopped ≡ false
   pub never : disk_plan (seen r.core).disk ≡ FailurePlan.Never
@@ -45,7 +42,7 @@ pub record IsRunning (setup : Setup) (used : ℕ) (r : Running) (s : ShardNow) :
   pub state : s.state ≡ Runs (seen r.core).memory
   pub views : map (shown_view (seen r.core).facts.installs) r.views.items ≡ s.views
   pub within : list_all (is_within (seen r.core).facts.installs) r.views.items ≡ true
-  pub room : (seen r.core).gate ≤ reach used
+  pub gate : (seen r.core).gate ≡ end_of s.log
 
 -- a shard after a doing but for the view that it makes
 abbrev pub shard_stepped : ShardNow → Option Record → Kept → ShardNow
@@ -56,19 +53,18 @@ abbrev pub Follows : Setup → List Envelope → ShardNow → Doing → Type 0
 Follows setup bag s doing = (r : Record) (memory : Kept) (out : List Envelope) → effect setup bag s doing ≡ Does (Some r) memory out →
     IsTrue (followed setup.shard (s.log ++ r ∷ []))
 
--- a doing is done, or it is refused for its own reason; or memory was refused. The log has room for some two hundred
--- thousand records of the greatest size
-abbrev pub Carries : Setup → ℕ → List Envelope → ShardNow → Doing → Running → Result (List Envelope) Fault → Type 0
-Carries setup used bag s doing new (Ok out) =
+-- a doing is done, or it is refused for its own reason; or memory was refused
+abbrev pub Carries : Setup → List Envelope → ShardNow → Doing → Running → Result (List Envelope) Fault → Type 0
+Carries setup bag s doing new (Ok out) =
     Follows setup bag s doing → (logged : Option Record) × (memory : Kept) × (effect setup bag s doing ≡ Does logged memory out)
-    × IsRunning setup (used + 1) new (shard_stepped s logged memory)
-Carries setup used bag s doing new (Err fault) =
-    reach used + 2 ^ 20 + 5 < 2 ^ 40 → (fault ≡ Memory) ⊎ ((effect setup bag s doing ≡ Refuses fault) × IsRunning setup used new s)
+    × IsRunning setup new (shard_stepped s logged memory)
+Carries setup bag s doing new (Err fault) =
+    (fault ≡ Memory) ⊎ ((effect setup bag s doing ≡ Refuses fault) × IsRunning setup new s)
 
 -- so with the view that the doing makes
-abbrev pub Acts : Setup → ℕ → List Envelope → ShardNow → Doing → Running → Result (List Envelope) Fault → Type 0
-Acts setup used bag s doing new (Ok out) =
+abbrev pub Acts : Setup → List Envelope → ShardNow → Doing → Running → Result (List Envelope) Fault → Type 0
+Acts setup bag s doing new (Ok out) =
     Follows setup bag s doing → (logged : Option Record) × (memory : Kept) × (effect setup bag s doing ≡ Does logged memory out)
-    × IsRunning setup (used + 1) new (finished s doing logged memory)
-Acts setup used bag s doing new (Err fault) =
-    reach used + 2 ^ 20 + 5 < 2 ^ 40 → (fault ≡ Memory) ⊎ ((effect setup bag s doing ≡ Refuses fault) × IsRunning setup used new s)
+    × IsRunning setup new (finished s doing logged memory)
+Acts setup bag s doing new (Err fault) =
+    (fault ≡ Memory) ⊎ ((effect setup bag s doing ≡ Refuses fault) × IsRunning setup new s)

@@ -1,7 +1,7 @@
 -- The world: sessions, shards, every message ever put out, and the lines of the report. An event changes it by a step of a
 -- session, by a step of a shard, by a crash or by an opening.
 use Rattle.std.specs.List.{list_any}
-use Rattle.std.specs.Prelude.{ℕ, suc, ◌+◌, Bool, true, false, not, cond, ◌&&◌, ◌||◌, nat_eq, nat_lt, nat_le, List, [], ◌∷◌, ◌++◌, length, map}
+use Rattle.std.specs.Prelude.{ℕ, suc, ◌+◌, ◌^◌, Bool, true, false, not, cond, ◌&&◌, ◌||◌, nat_eq, nat_lt, nat_le, List, [], ◌∷◌, ◌++◌, length, map}
 use Rattle.std.specs.Prelude.{replicate, slice_get, Option, Some, None, filter, flat_map, option_map, option_to_list}
 use Rattle.units.specs.Lists.{first, replaced, when}
 use Rattle.units.specs.Ids.{Id, same_id}
@@ -21,6 +21,7 @@ use Rattle.units.specs.declared.setup.Setup.{Setup}
 use Rattle.units.specs.declared.setup.Book.TheVariants.{Off}
 use Rattle.units.specs.declared.line.Line.{Line}
 use Rattle.record.specs.declared.record.Record.{Record}
+use Rattle.gatelog.specs.Frames.{end_of, next_gate}
 use Rattle.gatelog.specs.Gates.{is_left, is_read, opens_gate}
 use Rattle.message.specs.declared.message.Message.{Message}
 use Rattle.message.specs.declared.message.Envelope.{Envelope}
@@ -109,11 +110,25 @@ abbrev pub step_with : Setup → Facts → Memory → Option (Interval × Input)
 step_with setup facts memory None = Refuses Stopped
 step_with setup facts memory (Some p) = step setup facts memory p.0 p.1
 
--- what a doing comes to: a step of a shard that runs, or an opening of one that does not
-unfoldable pub effect : Setup → List Envelope → ShardNow → Doing → Stepped
-effect setup bag s Doing.Open = elim s.state [ Runs m ↦ Refuses Stopped | _ ↦ step_of_opening (facts_of (read_log s)) ]
-effect setup bag s doing =
+-- what a doing asks for: a step of a shard that runs, or an opening of one that does not
+unfoldable pub wanted : Setup → List Envelope → ShardNow → Doing → Stepped
+wanted setup bag s Doing.Open = elim s.state [ Runs m ↦ Refuses Stopped | _ ↦ step_of_opening (facts_of (read_log s)) ]
+wanted setup bag s doing =
     elim s.state [ Runs m ↦ step_with setup (facts_of s.log) m (input_of bag doing) | _ ↦ Refuses Stopped ]
+
+-- a log that ends at a gate has room for a record and for the closed gate behind it
+abbrev pub has_room : ℕ → Record → Bool
+has_room gate r = nat_le (next_gate gate r + 1) (2 ^ 40)
+
+-- a step whose record has no room is refused
+abbrev pub where_room : ℕ → Stepped → Stepped
+where_room gate (Refuses f) = Refuses f
+where_room gate (Does None memory out) = Does None memory out
+where_room gate (Does (Some r) memory out) = cond (has_room gate r) (Does (Some r) memory out) (Refuses TimeSpent)
+
+-- what a doing comes to: it is done where its record has room
+unfoldable pub effect : Setup → List Envelope → ShardNow → Doing → Stepped
+effect setup bag s doing = where_room (end_of (read_log s)) (wanted setup bag s doing)
 
 -- a view is made by each opening and each accepted advance
 abbrev pub makes_view : Doing → Bool

@@ -25,7 +25,7 @@ impl<'s> Shards<'s> {
 
     /// All shards on new disks.
     pub fn start(alloc: Global, config: &'s Config) -> Result<Shards<'s>, Fault>
-        ensures started { IfOk result (λ shards. AreShards config.now 0 shards (are_fresh config.now)) }
+        ensures started { IfOk result (λ shards. AreShards config.now shards (are_fresh config.now)) }
         ensures memory { IfErr result (λ fault. fault ≡ Fault.Memory) }
     {
         let mut running = Vec::new(alloc);
@@ -43,14 +43,14 @@ impl<'s> Shards<'s> {
 
     /// There is a shard of this number.
     pub fn has(&self, shard: ShardNo) -> bool
-        ensures { (config : Config) (used : ℕ) (ss : List ShardNow) → AreShards config used self.now ss → result ≡ nat_lt shard (length ss) }
+        ensures { (config : Config) (ss : List ShardNow) → AreShards config self.now ss → result ≡ nat_lt shard (length ss) }
     {
         (shard.number() as usize) < self.running.len()
     }
 
     /// There is a shard of this number, and a view of that number of it.
     pub fn has_view(&self, shard: ShardNo, number: u64) -> bool
-        ensures { (config : Config) (used : ℕ) (ss : List ShardNow) → AreShards config used self.now ss → result ≡ when (λ s. nat_lt number (length s.views)) (slice_get ss shard) }
+        ensures { (config : Config) (ss : List ShardNow) → AreShards config self.now ss → result ≡ when (λ s. nat_lt number (length s.views)) (slice_get ss shard) }
     {
         match self.running.get(shard.number() as usize) {
             Some(running) => number < running.views(),
@@ -67,7 +67,7 @@ impl<'s> Shards<'s> {
         doing: &Doing,
     ) -> Result<Outbox, Fault>
         requires { goes_on doing.now ≡ true }
-        ensures { (config : Config) (used : ℕ) (ss : List ShardNow) → AreShards config used self.old ss → ActsAt config used bag.now ss shard doing.now self.new result }
+        ensures { (config : Config) (ss : List ShardNow) → AreShards config self.old ss → ActsAt config bag.now ss shard doing.now self.new result }
     {
         let at = shard.number() as usize;
         if at >= self.running.len() {
@@ -78,7 +78,7 @@ impl<'s> Shards<'s> {
 
     /// A look at what a shard shows now.
     pub fn look(&self, alloc: Global, shard: ShardNo, key: &Key, at: Stamp) -> Result<Reply, Fault>
-        ensures shown { (config : Config) (used : ℕ) (ss : List ShardNow) → AreShards config used self.now ss → IfOk result (λ reply. reply ≡ looked config ss shard key.now at) }
+        ensures shown { (config : Config) (ss : List ShardNow) → AreShards config self.now ss → IfOk result (λ reply. reply ≡ looked config ss shard key.now at) }
         ensures memory { IfErr result (λ fault. fault ≡ Fault.Memory) }
     {
         let is_here = self.splits.shard_of(key).number() == shard.number();
@@ -97,7 +97,7 @@ impl<'s> Shards<'s> {
         key: &Key,
         at: Stamp,
     ) -> Result<Reply, Fault>
-        ensures shown { (config : Config) (used : ℕ) (ss : List ShardNow) → AreShards config used self.now ss → IfOk result (λ reply. reply ≡ looked_back config ss shard number key.now at) }
+        ensures shown { (config : Config) (ss : List ShardNow) → AreShards config self.now ss → IfOk result (λ reply. reply ≡ looked_back config ss shard number key.now at) }
         ensures memory { IfErr result (λ fault. fault ≡ Fault.Memory) }
     {
         let is_here = self.splits.shard_of(key).number() == shard.number();
@@ -109,8 +109,8 @@ impl<'s> Shards<'s> {
 
     /// Ends them, and reads each log off its disk.
     pub fn logs(self, alloc: Global) -> Result<Vec<Vec<Record>>, Fault>
-        ensures logs { (config : Config) (used : ℕ) (ss : List ShardNow) → AreShards config used self.entry ss → IfOk result (λ logs. map (λ log. log.items) logs.items ≡ map read_log ss) }
-        ensures memory { (config : Config) (used : ℕ) (ss : List ShardNow) → AreShards config used self.entry ss → IfErr result (λ fault. fault ≡ Fault.Memory) }
+        ensures logs { (config : Config) (ss : List ShardNow) → AreShards config self.entry ss → IfOk result (λ logs. map (λ log. log.items) logs.items ≡ map read_log ss) }
+        ensures memory { (config : Config) (ss : List ShardNow) → AreShards config self.entry ss → IfErr result (λ fault. fault ≡ Fault.Memory) }
     {
         let Shards {
             splits: _,
@@ -131,7 +131,7 @@ impl<'s> Shards<'s> {
 // One shard after another on a new disk.
 fn fill(running: &mut Vec<Running>, alloc: Global, config: &Config) -> Result<(), Fault>
     requires { running.old.items ≡ [] }
-    ensures filled { OnOk result (AreRunning config.now 0 0 running.new.items (are_fresh config.now)) }
+    ensures filled { OnOk result (AreRunning config.now 0 running.new.items (are_fresh config.now)) }
     ensures memory { IfErr result (λ fault. fault ≡ Fault.Memory) }
 {
     for number in 0..config.splits.as_slice().len() + 1 {
@@ -161,8 +161,8 @@ fn setup_of(alloc: Global, config: &Config, number: usize) -> Result<Setup, Faul
 
 // Takes the shards from the front, and reads each log.
 fn take_logs(running: &mut Vec<Running>, alloc: Global) -> Result<Vec<Vec<Record>>, Fault>
-    ensures logs { (config : Config) (used n : ℕ) (ss : List ShardNow) → AreRunning config used n running.old.items ss → IfOk result (λ logs. map (λ log. log.items) logs.items ≡ map read_log ss) }
-    ensures memory { (config : Config) (used n : ℕ) (ss : List ShardNow) → AreRunning config used n running.old.items ss → IfErr result (λ fault. fault ≡ Fault.Memory) }
+    ensures logs { (config : Config) (n : ℕ) (ss : List ShardNow) → AreRunning config n running.old.items ss → IfOk result (λ logs. map (λ log. log.items) logs.items ≡ map read_log ss) }
+    ensures memory { (config : Config) (n : ℕ) (ss : List ShardNow) → AreRunning config n running.old.items ss → IfErr result (λ fault. fault ≡ Fault.Memory) }
 {
     let mut logs = Vec::new(alloc);
     while !running.is_empty() {

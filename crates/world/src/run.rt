@@ -1,5 +1,5 @@
 //! A run of events.
-ghost use Rattle.std.specs.Prelude.{◌≡◌, ◌<◌, ◌+◌, ◌^◌, ℕ, None, true, map, slice_get, IfOk, IfErr};
+ghost use Rattle.std.specs.Prelude.{◌≡◌, ◌<◌, ◌-◌, ◌^◌, ℕ, None, true, map, slice_get, IfOk, IfErr};
 ghost use Rattle.world.specs.World.{World, acts, begin, client_of, deliver_to, do_at, logs_of, start};
 ghost use Rattle.world.specs.Lawful.{may_act, may_happen};
 ghost use Rattle.world.specs.Crashless.{goes_on, is_crashless};
@@ -29,7 +29,7 @@ pub struct Run<'s> {
 impl<'s> Run<'s> {
     /// A run before its first event.
     pub fn start(alloc: Global, config: &'s Config) -> Result<Run<'s>, Fault>
-        ensures started { IfOk result (λ run. IsRun 0 run (start config.now)) }
+        ensures started { IfOk result (λ run. IsRun run (start config.now)) }
         ensures memory { IfErr result (λ fault. fault ≡ Fault.Memory) }
     {
         Ok(Run {
@@ -43,7 +43,7 @@ impl<'s> Run<'s> {
     // The event may happen now.
     fn may_happen(&self, event: &Event) -> bool
         requires { is_crashless event.now.act ≡ true }
-        ensures { (used : ℕ) (w : World) → IsRun used self.now w → result ≡ may_happen w event.now }
+        ensures { (w : World) → IsRun self.now w → result ≡ may_happen w event.now }
     {
         self.time <= event.time && self.may_act(event.time, &event.act)
     }
@@ -52,7 +52,7 @@ impl<'s> Run<'s> {
     #[tactic(auto, unfolding(crate::specs::Lawful::may_act))]
     fn may_act(&self, time: u64, act: &Act) -> bool
         requires { is_crashless act.now ≡ true }
-        ensures { (used : ℕ) (w : World) → IsRun used self.now w → result ≡ may_act w time act.now }
+        ensures { (w : World) → IsRun self.now w → result ≡ may_act w time act.now }
     {
         match act {
             Act::Begin(txn) => !self.sessions.has(*txn),
@@ -75,8 +75,8 @@ impl<'s> Run<'s> {
     /// The event of a number, from 0, happens, where it may. The reply to it is answered.
     pub fn take(&mut self, alloc: Global, number: u64, event: &Event) -> Result<Reply, Fault>
         requires crashless { is_crashless event.now.act ≡ true }
-        requires few { number < 2 ^ 19 }
-        ensures { (w : World) → w.event ≡ number → IsRun number self.old w → IsSteady w → Takes w event.now self.new result }
+        requires counted { number < 2 ^ 64 - 1 }
+        ensures { (w : World) → w.event ≡ number → IsRun self.old w → IsSteady w → Takes w event.now self.new result }
     {
         if !self.may_happen(event) {
             return Err(Fault::BadRequest(Reason::Unlawful(number)));
@@ -90,7 +90,7 @@ impl<'s> Run<'s> {
     // The act is done.
     fn act(&mut self, alloc: Global, act: &Act) -> Result<Reply, Fault>
         requires { is_crashless act.now ≡ true }
-        ensures { (used time : ℕ) (w : World) → used < 2 ^ 19 → IsRun used self.old w → IsSteady w → may_act w time act.now ≡ true → Comes (used + 1) (acts w act.now) self.new result }
+        ensures { (time : ℕ) (w : World) → IsRun self.old w → IsSteady w → may_act w time act.now ≡ true → Comes (acts w act.now) self.new result }
     {
         match act {
             Act::Begin(txn) => self.begin(alloc, *txn),
@@ -127,7 +127,7 @@ impl<'s> Run<'s> {
 
     // A session begins.
     fn begin(&mut self, alloc: Global, txn: TxnId) -> Result<Reply, Fault>
-        ensures { (used : ℕ) (w : World) → IsRun used self.old w → client_of w txn ≡ None → Comes (used + 1) (begin txn w, Reply.Done) self.new result }
+        ensures { (w : World) → IsRun self.old w → client_of w txn ≡ None → Comes (begin txn w, Reply.Done) self.new result }
     {
         let number = self.output.event;
         self.sessions.begin(alloc, txn)?;
@@ -137,7 +137,7 @@ impl<'s> Run<'s> {
 
     // A message comes to the shard or to the session that it was put out for.
     fn deliver(&mut self, alloc: Global, number: u64, now: Reading) -> Result<Reply, Fault>
-        ensures { (used : ℕ) (w : World) → used < 2 ^ 19 → IsRun used self.old w → IsSteady w → Comes (used + 1) (deliver_to w number now (slice_get w.bag number)) self.new result }
+        ensures { (w : World) → IsRun self.old w → IsSteady w → Comes (deliver_to w number now (slice_get w.bag number)) self.new result }
     {
         let Some(envelope) = self.output.bag.nth(number) else {
             return Ok(Reply::Refused(Fault::Stranger));
@@ -154,7 +154,7 @@ impl<'s> Run<'s> {
     // A shard does something.
     fn act_at(&mut self, alloc: Global, shard: ShardNo, doing: &Doing) -> Result<Reply, Fault>
         requires { goes_on doing.now ≡ true }
-        ensures { (used : ℕ) (w : World) → used < 2 ^ 19 → IsRun used self.old w → IsSteady w → Comes (used + 1) (do_at w shard doing.now) self.new result }
+        ensures { (w : World) → IsRun self.old w → IsSteady w → Comes (do_at w shard doing.now) self.new result }
     {
         let done = self
             .shards
@@ -164,8 +164,8 @@ impl<'s> Run<'s> {
 
     /// Ends the run: its messages, the logs as reads of the disks give them, and all lines.
     pub fn finish(self, alloc: Global) -> Result<(Bag, Vec<Vec<Record>>, Vec<Line>), Fault>
-        ensures done { (used : ℕ) (w : World) → IsRun used self.entry w → IfOk result (λ r. (r.0 ≡ w.bag) × (map (λ log. log.items) r.1.items ≡ logs_of w) × (r.2.items ≡ w.lines)) }
-        ensures memory { (used : ℕ) (w : World) → IsRun used self.entry w → IfErr result (λ fault. fault ≡ Fault.Memory) }
+        ensures done { (w : World) → IsRun self.entry w → IfOk result (λ r. (r.0 ≡ w.bag) × (map (λ log. log.items) r.1.items ≡ logs_of w) × (r.2.items ≡ w.lines)) }
+        ensures memory { (w : World) → IsRun self.entry w → IfErr result (λ fault. fault ≡ Fault.Memory) }
     {
         let Run {
             sessions,

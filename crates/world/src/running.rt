@@ -30,7 +30,7 @@ impl Running {
 
     /// A shard on a new disk, with its first view.
     pub fn fresh(alloc: Global, setup: Setup) -> Result<Running, Fault>
-        ensures fresh { IfOk result (λ running. IsRunning setup 0 running fresh_shard) }
+        ensures fresh { IfOk result (λ running. IsRunning setup running fresh_shard) }
         ensures memory { IfErr result (λ fault. fault ≡ Fault.Memory) }
     {
         let mut views = Vec::new(alloc);
@@ -47,7 +47,7 @@ impl Running {
     /// Carries out what a shard does, but for an opening.
     pub fn act(&mut self, alloc: Global, bag: &[Envelope], doing: &Doing) -> Result<Outbox, Fault>
         requires { goes_on doing.now ≡ true }
-        ensures { (setup : Setup) (used : ℕ) (s : ShardNow) → IsRunning setup used self.old s → Acts setup used bag.now s doing.now self.new result }
+        ensures { (setup : Setup) (s : ShardNow) → IsRunning setup self.old s → Acts setup bag.now s doing.now self.new result }
     {
         self.views.reserve(1)?;
         let out = self.carry(alloc, bag, doing)?;
@@ -61,7 +61,7 @@ impl Running {
     fn carry(&mut self, alloc: Global, bag: &[Envelope], doing: &Doing) -> Result<Outbox, Fault>
         requires { goes_on doing.now ≡ true }
         ensures views { self.new.views ≡ self.old.views }
-        ensures carried { (setup : Setup) (used : ℕ) (s : ShardNow) → IsRunning setup used self.old s → Carries setup used bag.now s doing.now self.new result }
+        ensures carried { (setup : Setup) (s : ShardNow) → IsRunning setup self.old s → Carries setup bag.now s doing.now self.new result }
     {
         match input_of(alloc, bag, doing) {
             Ok((now, input)) => self.core.on(alloc, &now, &input),
@@ -71,7 +71,7 @@ impl Running {
 
     /// A look at what it shows now.
     pub fn look(&self, alloc: Global, is_here: bool, key: &Key, at: Stamp) -> Result<Reply, Fault>
-        ensures shown { (setup : Setup) (used : ℕ) (s : ShardNow) → IsRunning setup used self.now s → is_here ≡ nat_eq (shard_of setup.splits key.now) setup.shard → IfOk result (λ reply. reply ≡ look_shard setup s key.now at) }
+        ensures shown { (setup : Setup) (s : ShardNow) → IsRunning setup self.now s → is_here ≡ nat_eq (shard_of setup.splits key.now) setup.shard → IfOk result (λ reply. reply ≡ look_shard setup s key.now at) }
         ensures memory { IfErr result (λ fault. fault ≡ Fault.Memory) }
     {
         View::of(&self.core).look(alloc, self.core.installs(), is_here, key, at)
@@ -86,7 +86,7 @@ impl Running {
         key: &Key,
         at: Stamp,
     ) -> Result<Reply, Fault>
-        ensures shown { (setup : Setup) (used : ℕ) (s : ShardNow) → IsRunning setup used self.now s → is_here ≡ nat_eq (shard_of setup.splits key.now) setup.shard → IfOk result (λ reply. reply ≡ look_at_view setup (slice_get s.views number) key.now at) }
+        ensures shown { (setup : Setup) (s : ShardNow) → IsRunning setup self.now s → is_here ≡ nat_eq (shard_of setup.splits key.now) setup.shard → IfOk result (λ reply. reply ≡ look_at_view setup (slice_get s.views number) key.now at) }
         ensures memory { IfErr result (λ fault. fault ≡ Fault.Memory) }
     {
         match self.views.get(number as usize) {
@@ -97,14 +97,14 @@ impl Running {
 
     /// How many views it has made.
     pub fn views(&self) -> u64
-        ensures { (setup : Setup) (used : ℕ) (s : ShardNow) → IsRunning setup used self.now s → result ≡ length s.views }
+        ensures { (setup : Setup) (s : ShardNow) → IsRunning setup self.now s → result ≡ length s.views }
     {
         self.views.len() as u64
     }
 
     /// Ends it, and reads its log off its disk.
     pub fn log(self, alloc: Global) -> Result<Vec<Record>, Fault>
-        ensures { (setup : Setup) (used : ℕ) (s : ShardNow) → IsRunning setup used self s → IfOk result (λ log. log.items ≡ read_log s) × IfErr result (λ fault. fault ≡ Fault.Memory) }
+        ensures { (setup : Setup) (s : ShardNow) → IsRunning setup self s → IfOk result (λ log. log.items ≡ read_log s) × IfErr result (λ fault. fault ≡ Fault.Memory) }
     {
         let Running { core, views: _ } = self;
         match GateLog::open(alloc, core.stop()) {

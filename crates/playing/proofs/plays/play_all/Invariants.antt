@@ -6,4 +6,4 @@ use Rattle.playing.proofs.Playings.{HasPlayed}
 use Rattle.playing.proofs.plays.play_all.Given as goal
 
 abbrev pub invariant-loop-number : goal.invariant-loop-number
-invariant-loop-number l = (config : Config) → IsRun 0 l.fn.run (start config) → HasPlayed config (take l.number l.events) l.run l.replies.items
+invariant-loop-number l = (config : Config) → IsRun l.fn.run (start config) → HasPlayed config (take l.number l.events) l.run l.replies.items

@@ -9,7 +9,7 @@ pub loop-number-preserved : goal.loop-number-preserved
 loop-number-preserved c =
     one_more_fresh c.args.config.now c.loop-number.number c.loop-number.running.items c.push_reserved.new.self.items c.in_ok-fresh.field-0
     c.loop-number.invariant
-    (subst (λ setup. IsRunning setup 0 c.in_ok-fresh.field-0 fresh_shard) c.in_ok-setup.ensures.same c.in_ok-fresh.ensures.fresh)
+    (subst (λ setup. IsRunning setup c.in_ok-fresh.field-0 fresh_shard) c.in_ok-setup.ensures.same c.in_ok-fresh.ensures.fresh)
     (c.push_reserved.ensures.items ∙ ap (λ rs. rs ++ c.in_ok-fresh.field-0 ∷ []) c.in_ok-reserve.ensures.items)
 
 pub returns-clause-filled : goal.returns-clause-filled
@@ -21,4 +21,4 @@ returns-clause-filled c =
       c.loop-number.auto.number-end,
       ap length c.as_slice.ensures.same,
     ) in
-    subst (λ n. AreRunning config 0 0 c.loop-number.running.items (replicate n fresh_shard)) all c.loop-number.invariant
+    subst (λ n. AreRunning config 0 c.loop-number.running.items (replicate n fresh_shard)) all c.loop-number.invariant

@@ -9,16 +9,16 @@ use Rattle.world.proofs.Fleets.{nowhere, acts_there}
 use Rattle.world.proofs.fleet.Shards.act.Goals as goal
 
 pub returns-then-at-len : goal.returns-then-at-len
-returns-then-at-len c config used ss h room =
+returns-then-at-len c config ss h =
     let s = c.args.self.now in
     let bag = c.args.bag.now in
     let n = c.args.shard in
     let doing = c.args.doing.now in
     let over : length s.running.items ≤ n = omega (arith, c.if-at-len.true, c.number-at.ensures.same, c.len.ensures, s.running.ok.0) in
-    inr (nowhere config used s ss n (Err Stranger) (λ t. shards_after ss n t doing (effect (setup_of config n) bag t doing)) h over, h)
+    inr (nowhere config s ss n (Err Stranger) (λ t. shards_after ss n t doing (effect (setup_of config n) bag t doing)) h over, h)
 
 pub returns : goal.returns
-returns c config used ss h =
+returns c config ss h =
     let s = c.args.self.now in
     let new : Shards = record { splits = s.splits; running = with_item s.running c.number-at.result c.act.new.self } in
     let before = c.index_mut.result.now in
@@ -26,6 +26,6 @@ returns c config used ss h =
     let there : slice_get s.running.items c.args.shard ≡ Some before =
     ap (λ n. slice_get s.running.items n) (sym c.number-at.ensures.same)
     ∙ slice_get_read s.running.items _ c.number-at.result before refl lt c.index_mut.ensures.value in
-    acts_there config used c.args.bag.now ss c.args.shard c.args.doing.now s new before c.act.new.self h refl
+    acts_there config c.args.bag.now ss c.args.shard c.args.doing.now s new before c.act.new.self h refl
     (ap (λ n. set s.running.items n c.act.new.self) c.number-at.ensures.same) there c.act.result
-    (λ t is. c.act.ensures (setup_of config c.args.shard) used t is)
+    (λ t is. c.act.ensures (setup_of config c.args.shard) t is)

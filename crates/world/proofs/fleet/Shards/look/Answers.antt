@@ -8,7 +8,7 @@ use Rattle.world.proofs.Fleets.{nowhere, looks_there}
 use Rattle.world.proofs.fleet.Shards.look.Goals as goal
 
 pub returns-in-Some-clause-shown : goal.returns-in-Some-clause-shown
-returns-in-Some-clause-shown c config used ss h =
+returns-in-Some-clause-shown c config ss h =
     let s = c.args.self.now in
     let r = c.in-Some.running.now in
     let there : slice_get s.running.items c.args.shard ≡ Some r =
@@ -18,11 +18,11 @@ returns-in-Some-clause-shown c config used ss h =
     ∙ ap (λ ks. shard_of ks c.args.key.now) h.splits_are in
     let here : nat_eq c.number.result c.number-2.result ≡ nat_eq (shard_of config.splits c.args.key.now) c.args.shard =
     λ i. nat_eq (place i) (c.number-2.ensures.same i) in
-    looks_there config used s ss c.args.shard r c.look.result (λ t. look_shard (setup_of config c.args.shard) t c.args.key.now c.args.at) h there
-    (λ t is. c.look.ensures.shown (setup_of config c.args.shard) used t is here)
+    looks_there config s ss c.args.shard r c.look.result (λ t. look_shard (setup_of config c.args.shard) t c.args.key.now c.args.at) h there
+    (λ t is. c.look.ensures.shown (setup_of config c.args.shard) t is here)
 
 pub returns-in-None-clause-shown : goal.returns-in-None-clause-shown
-returns-in-None-clause-shown c config used ss h =
+returns-in-None-clause-shown c config ss h =
     let s = c.args.self.now in
     let over : length s.running.items ≤ c.args.shard = omega (arith, c.in-None.ensures.lookup.3, c.number-3.ensures.same, ap length c.deref.ensures.value) in
-    sym (nowhere config used s ss c.args.shard (Reply.Refused Stranger) (λ t. look_shard (setup_of config c.args.shard) t c.args.key.now c.args.at) h over)
+    sym (nowhere config s ss c.args.shard (Reply.Refused Stranger) (λ t. look_shard (setup_of config c.args.shard) t c.args.key.now c.args.at) h over)

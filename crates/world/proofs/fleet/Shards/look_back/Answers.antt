@@ -8,7 +8,7 @@ use Rattle.world.proofs.Fleets.{nowhere, looks_there}
 use Rattle.world.proofs.fleet.Shards.look_back.Goals as goal
 
 pub returns-in-Some-clause-shown : goal.returns-in-Some-clause-shown
-returns-in-Some-clause-shown c config used ss h =
+returns-in-Some-clause-shown c config ss h =
     let s = c.args.self.now in
     let r = c.in-Some.running.now in
     let there : slice_get s.running.items c.args.shard ≡ Some r =
@@ -18,13 +18,13 @@ returns-in-Some-clause-shown c config used ss h =
     ∙ ap (λ ks. shard_of ks c.args.key.now) h.splits_are in
     let here : nat_eq c.number.result c.number-2.result ≡ nat_eq (shard_of config.splits c.args.key.now) c.args.shard =
     λ i. nat_eq (place i) (c.number-2.ensures.same i) in
-    looks_there config used s ss c.args.shard r c.look_back.result (λ t. look_at_view (setup_of config c.args.shard)
+    looks_there config s ss c.args.shard r c.look_back.result (λ t. look_at_view (setup_of config c.args.shard)
     (slice_get t.views c.args.number) c.args.key.now c.args.at) h there
-    (λ t is. c.look_back.ensures.shown (setup_of config c.args.shard) used t is here)
+    (λ t is. c.look_back.ensures.shown (setup_of config c.args.shard) t is here)
 
 pub returns-in-None-clause-shown : goal.returns-in-None-clause-shown
-returns-in-None-clause-shown c config used ss h =
+returns-in-None-clause-shown c config ss h =
     let s = c.args.self.now in
     let over : length s.running.items ≤ c.args.shard = omega (arith, c.in-None.ensures.lookup.3, c.number-3.ensures.same, ap length c.deref.ensures.value) in
-    sym (nowhere config used s ss c.args.shard (Reply.Refused Stranger) (λ t. look_at_view (setup_of config c.args.shard)
+    sym (nowhere config s ss c.args.shard (Reply.Refused Stranger) (λ t. look_at_view (setup_of config c.args.shard)
     (slice_get t.views c.args.number) c.args.key.now c.args.at) h over)

@@ -5,9 +5,9 @@ use Rattle.world.proofs.Replying.{shard_comes}
 use Rattle.world.proofs.run.Run.act_at.Goals as goal
 
 pub returns : goal.returns
-returns c used w few h steady =
+returns c w h steady =
     let old : Run = c.args.self.now in
     let new : Run = record { sessions = old.sessions; shards = c.act-done.new.self; output = c.reply.new.self; time = old.time } in
-    shard_comes used w old new h c.args.shard c.args.doing.now c.act-done.result c.reply.result c.requires few steady
-    (subst (λ bag. ActsAt w.config used bag w.shards c.args.shard c.args.doing.now new.shards c.act-done.result) (c.as_slice.ensures ∙ h.output.bag)
-    (c.act-done.ensures w.config used w.shards h.shards)) c.reply.ensures refl refl
+    shard_comes w old new h c.args.shard c.args.doing.now c.act-done.result c.reply.result c.requires steady
+    (subst (λ bag. ActsAt w.config bag w.shards c.args.shard c.args.doing.now new.shards c.act-done.result) (c.as_slice.ensures ∙ h.output.bag)
+    (c.act-done.ensures w.config w.shards h.shards)) c.reply.ensures refl refl

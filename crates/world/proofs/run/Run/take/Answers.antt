@@ -9,7 +9,7 @@ returns c w at h steady =
     let e = c.args.event.now in
     let number = c.args.number in
     let yes : c.may_happen.result ≡ true = cc in
-    let may : may_happen w e ≡ true = sym (c.may_happen.ensures number w h) ∙ yes in
+    let may : may_happen w e ≡ true = sym (c.may_happen.ensures w h) ∙ yes in
     let mid : Run = c.act.new.self in
     let new : Run = record {
       sessions = mid.sessions;
@@ -23,5 +23,5 @@ returns c w at h steady =
       };
       time = e.time;
     } in
-    happened w e number at mid new c.in_ok-reply.reply may (c.in_ok-reply.ensures number e.time w c.requires.few h steady
+    happened w e number at mid new c.in_ok-reply.reply may (c.in_ok-reply.ensures e.time w h steady
     (acts_may w e number at may)) refl refl refl refl refl refl refl

@@ -8,16 +8,16 @@ use Rattle.world.proofs.running.Running.act.Goals.{then-makes_view, else-makes_v
 use Rattle.world.proofs.running.Running.act.Goals as goal
 
 pub returns-in_err-out : goal.returns-in_err-out
-returns-in_err-out c setup used s h =
+returns-in_err-out c setup s h =
     let ready : Running = record { core = c.args.self.now.core; views = c.reserve.new.self } in
-    let there : IsRunning setup used ready s = same_running setup used s c.args.self.now ready refl c.in_ok-reserve.ensures.items h in
-    acted_not setup used c.args.bag.now s c.args.doing.now c.carry.new.self c.from_residual-in_err-out.result c.in_err-out.field-0.0 (search rules)
-    (c.in_err-out.ensures.carried setup used s there)
+    let there : IsRunning setup ready s = same_running setup s c.args.self.now ready refl c.in_ok-reserve.ensures.items h in
+    acted_not setup c.args.bag.now s c.args.doing.now c.carry.new.self c.from_residual-in_err-out.result c.in_err-out.field-0.0 (search rules)
+    (c.in_err-out.ensures.carried setup s there)
 
 pub returns : goal.returns
-returns c setup used s h =
+returns c setup s h =
     let ready : Running = record { core = c.args.self.now.core; views = c.reserve.new.self } in
-    let there : IsRunning setup used ready s = same_running setup used s c.args.self.now ready refl c.in_ok-reserve.ensures.items h in
+    let there : IsRunning setup ready s = same_running setup s c.args.self.now ready refl c.in_ok-reserve.ensures.items h in
     let mid : Running = c.carry.new.self in
     let core : c.if-makes_view.self.core ≡ mid.core =
     elim c.if-makes_view.branch [
@@ -31,5 +31,5 @@ returns c setup used s h =
       | else-makes_view w ↦ ap (λ (r : Running). r.views.items) w.self-is ∙ sym (append-nil mid.views.items)
           ∙ ap (λ b. mid.views.items ++ views_made b mid) (sym w.if-makes_view.false ∙ c.makes_view.ensures)
     ] in
-    acted setup used c.args.bag.now s c.args.doing.now mid c.if-makes_view.self core views h.sure c.in_ok-out.out
-    (c.in_ok-out.ensures.carried setup used s there)
+    acted setup c.args.bag.now s c.args.doing.now mid c.if-makes_view.self core views h.sure c.in_ok-out.out
+    (c.in_ok-out.ensures.carried setup s there)

@@ -31,5 +31,5 @@ returns-in-Ok-clause-fresh c =
       state = ap (λ m. Runs m) (sym memory);
       views = one_shown new fresh_log (rebuilt (facts_of fresh_log)) made.made.1 memory views;
       within = one_within new views;
-      room = omega (arith, made.gate);
+      gate = made.gate;
     }

@@ -6,7 +6,7 @@ use Rattle.world.proofs.Viewed.{looked_at, looked_at_none}
 use Rattle.world.proofs.running.Running.look_back.Goals as goal
 
 pub returns-in-Some-clause-shown : goal.returns-in-Some-clause-shown
-returns-in-Some-clause-shown c setup used s h here =
+returns-in-Some-clause-shown c setup s h here =
     let r = c.args.self.now in
     let v = c.in-Some.view.now in
     let found = c.in-Some.ensures.lookup in
@@ -18,7 +18,7 @@ returns-in-Some-clause-shown c setup used s h here =
     c.look.ensures.shown
 
 pub returns-in-None-clause-shown : goal.returns-in-None-clause-shown
-returns-in-None-clause-shown c setup used s h here =
+returns-in-None-clause-shown c setup s h here =
     let r = c.args.self.now in
     looked_at_none setup (seen r.core).facts.installs r.views.items s.views c.args.number c.args.key.now c.args.at h.views
     (ap (λ vs. slice_get vs c.args.number) (sym c.deref.ensures.value) ∙ slice_get_past c.deref.result.now c.args.number c.in-None.ensures.lookup.3)

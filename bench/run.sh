@@ -1,0 +1,53 @@
+#!/bin/sh
+# Times the store as it stands here, and as it stood at each revision that is named, side by side: bench/run.sh [REVISION..]
+# [-- SCENE..]. It needs rustc and python3, proves nothing, and leaves all that it makes in a new folder, which it names.
+set -eu
+here=$(cd "$(dirname "$0")" && pwd)
+top=$(dirname "$here")
+made=$(mktemp -d "${TMPDIR:-/tmp}/bench.XXXXXX")
+
+# The crates that the core of a shard stands on, the lowest first.
+crates="units truetime counts waiting disk simdisk record gatelog message protocol locks facts versions safetime rows memory
+participant coordinator ceiling recovery shard"
+
+externs() {
+    for library in "$1"/lib*.rlib; do
+        name=$(basename "$library" .rlib)
+        printf ' --extern %s=%s' "${name#lib}" "$library"
+    done
+}
+
+# The program over the crates of a tree.
+build() {
+    tree=$1 to=$2
+    mkdir -p "$to"
+    rustc --edition 2021 -O --crate-type rlib --crate-name shim "$here/shim.rs" -o "$to/libshim.rlib"
+    for crate in $crates; do
+        python3 "$here/plain.py" "$tree/crates/$crate/src" "$to/$crate"
+        # shellcheck disable=SC2046
+        rustc --edition 2021 -O -A warnings --crate-type rlib --crate-name "$crate" "$to/$crate/lib.rs" $(externs "$to") \
+            -L "$to" -o "$to/lib$crate.rlib"
+    done
+    # shellcheck disable=SC2046
+    rustc --edition 2021 -C opt-level=3 -C lto=fat -C codegen-units=1 --crate-name store "$here/store.rs" $(externs "$to") \
+        -L "$to" -o "$to/store"
+}
+
+revisions=
+while [ $# -gt 0 ] && [ "$1" != -- ]; do
+    revisions="$revisions $1"
+    shift
+done
+[ $# -eq 0 ] || shift
+
+build "$top" "$made/here"
+for revision in $revisions; do
+    mkdir -p "$made/$revision/tree"
+    git -C "$top" archive "$revision" crates | tar -x -C "$made/$revision/tree"
+    build "$made/$revision/tree" "$made/$revision"
+done
+echo "$made"
+for place in here $revisions; do
+    echo "== $place"
+    "$made/$place/store" "$@"
+done

@@ -1,0 +1,262 @@
+//! What the crates use of their library, over Rust's own.
+pub use std::{cmp, fmt, marker, mem, ops, option, result};
+
+pub mod alloc {
+    #[derive(Clone, Copy, Debug)]
+    pub struct Global;
+    #[derive(Clone, Copy, Debug)]
+    pub struct AllocError;
+    #[derive(Debug)]
+    pub struct AllocFailed<T>(pub AllocError, pub T);
+}
+
+pub mod collections {
+    use crate::alloc::{AllocError, Global};
+    pub struct VecDeque<T>(std::collections::VecDeque<T>);
+    impl<T> VecDeque<T> {
+        pub fn with_capacity(_: Global, n: usize) -> Result<Self, AllocError> {
+            Ok(VecDeque(std::collections::VecDeque::with_capacity(n)))
+        }
+        pub fn insert(&mut self, at: usize, x: T) -> Result<(), AllocError> {
+            self.0.insert(at, x);
+            Ok(())
+        }
+    }
+    impl<T> std::ops::Deref for VecDeque<T> {
+        type Target = std::collections::VecDeque<T>;
+        fn deref(&self) -> &Self::Target {
+            &self.0
+        }
+    }
+    impl<T> std::ops::DerefMut for VecDeque<T> {
+        fn deref_mut(&mut self) -> &mut Self::Target {
+            &mut self.0
+        }
+    }
+}
+
+pub mod prelude {
+    pub use super::{CollectIn, ToVecIn, Vec};
+}
+
+use alloc::{AllocError, Global};
+
+#[derive(Debug)]
+pub struct Vec<T>(pub std::vec::Vec<T>);
+
+impl<T> Vec<T> {
+    pub fn new(_: Global) -> Self {
+        Vec(std::vec::Vec::new())
+    }
+    pub fn with_capacity(_: Global, n: usize) -> Result<Self, AllocError> {
+        Ok(Vec(std::vec::Vec::with_capacity(n)))
+    }
+    pub fn from_elem(_: Global, x: T, n: usize) -> Result<Self, AllocError>
+    where
+        T: Clone,
+    {
+        Ok(Vec(vec![x; n]))
+    }
+    pub fn allocator(&self) -> &Global {
+        &Global
+    }
+    pub fn push(&mut self, x: T) -> Result<(), AllocError> {
+        self.0.push(x);
+        Ok(())
+    }
+    pub fn push_reserved(&mut self, x: T) {
+        self.0.push(x);
+    }
+    pub fn insert(&mut self, at: usize, x: T) -> Result<(), AllocError> {
+        self.0.insert(at, x);
+        Ok(())
+    }
+    pub fn remove(&mut self, at: usize) -> T {
+        self.0.remove(at)
+    }
+    pub fn pop(&mut self) -> Option<T> {
+        self.0.pop()
+    }
+    pub fn clear(&mut self) {
+        self.0.clear();
+    }
+    pub fn truncate(&mut self, n: usize) {
+        self.0.truncate(n);
+    }
+    pub fn reserve(&mut self, n: usize) -> Result<(), AllocError> {
+        self.0.try_reserve(n).map_err(|_| AllocError)
+    }
+    pub fn resize(&mut self, n: usize, x: T) -> Result<(), AllocError>
+    where
+        T: Clone,
+    {
+        self.0.resize(n, x);
+        Ok(())
+    }
+    pub fn extend_from_slice(&mut self, xs: &[T]) -> Result<(), AllocError>
+    where
+        T: Clone,
+    {
+        self.0.extend_from_slice(xs);
+        Ok(())
+    }
+    pub fn retain(&mut self, keeps: impl FnMut(&T) -> bool) {
+        self.0.retain(keeps);
+    }
+    pub fn as_slice(&self) -> &[T] {
+        &self.0
+    }
+    pub fn as_mut_slice(&mut self) -> &mut [T] {
+        &mut self.0
+    }
+    pub fn capacity(&self) -> usize {
+        self.0.capacity()
+    }
+    pub fn destroy_empty(self) {}
+}
+
+impl<T> std::ops::Deref for Vec<T> {
+    type Target = [T];
+    fn deref(&self) -> &[T] {
+        &self.0
+    }
+}
+
+impl<T> std::ops::DerefMut for Vec<T> {
+    fn deref_mut(&mut self) -> &mut [T] {
+        &mut self.0
+    }
+}
+
+impl<T> IntoIterator for Vec<T> {
+    type Item = T;
+    type IntoIter = std::vec::IntoIter<T>;
+    fn into_iter(self) -> Self::IntoIter {
+        self.0.into_iter()
+    }
+}
+
+impl<'a, T> IntoIterator for &'a Vec<T> {
+    type Item = &'a T;
+    type IntoIter = std::slice::Iter<'a, T>;
+    fn into_iter(self) -> Self::IntoIter {
+        self.0.iter()
+    }
+}
+
+impl<'a, T> IntoIterator for &'a mut Vec<T> {
+    type Item = &'a mut T;
+    type IntoIter = std::slice::IterMut<'a, T>;
+    fn into_iter(self) -> Self::IntoIter {
+        self.0.iter_mut()
+    }
+}
+
+pub trait CollectIn: Iterator + Sized {
+    fn collect_in(self, _: Global) -> Result<Vec<Self::Item>, AllocError> {
+        Ok(Vec(self.collect()))
+    }
+}
+
+impl<I: Iterator> CollectIn for I {}
+
+pub trait ToVecIn<T> {
+    fn to_vec_in(&self, alloc: Global) -> Result<Vec<T>, AllocError>;
+}
+
+impl<T: Clone> ToVecIn<T> for [T] {
+    fn to_vec_in(&self, _: Global) -> Result<Vec<T>, AllocError> {
+        Ok(Vec(<[T]>::to_vec(self)))
+    }
+}
+
+pub mod byteorder {
+    pub trait ByteOrder {
+        fn read_u16(b: &[u8]) -> u16;
+        fn read_u32(b: &[u8]) -> u32;
+        fn read_u64(b: &[u8]) -> u64;
+        fn write_u16(b: &mut [u8], n: u16);
+        fn write_u32(b: &mut [u8], n: u32);
+        fn write_u64(b: &mut [u8], n: u64);
+    }
+    pub struct BigEndian;
+    impl ByteOrder for BigEndian {
+        fn read_u16(b: &[u8]) -> u16 {
+            u16::from_be_bytes([b[0], b[1]])
+        }
+        fn read_u32(b: &[u8]) -> u32 {
+            u32::from_be_bytes([b[0], b[1], b[2], b[3]])
+        }
+        fn read_u64(b: &[u8]) -> u64 {
+            u64::from_be_bytes([b[0], b[1], b[2], b[3], b[4], b[5], b[6], b[7]])
+        }
+        fn write_u16(b: &mut [u8], n: u16) {
+            b[..2].copy_from_slice(&n.to_be_bytes());
+        }
+        fn write_u32(b: &mut [u8], n: u32) {
+            b[..4].copy_from_slice(&n.to_be_bytes());
+        }
+        fn write_u64(b: &mut [u8], n: u64) {
+            b[..8].copy_from_slice(&n.to_be_bytes());
+        }
+    }
+}
+
+pub mod indexmap {
+    use crate::alloc::{AllocError, Global};
+    use std::collections::HashMap;
+    use std::hash::Hash;
+
+    /// A map in the order of its entries.
+    pub struct IndexMap<K, V> {
+        places: HashMap<K, usize>,
+        entries: Vec<(K, V)>,
+    }
+
+    pub mod map {
+        pub struct Slice<'a, K, V>(pub &'a [(K, V)]);
+    }
+
+    impl<K: Hash + Ord + Copy, V> IndexMap<K, V> {
+        pub fn new(_: Global) -> Self {
+            IndexMap {
+                places: HashMap::new(),
+                entries: Vec::new(),
+            }
+        }
+        pub fn reserve(&mut self, n: usize) -> Result<(), AllocError> {
+            self.places.reserve(n);
+            self.entries.reserve(n);
+            Ok(())
+        }
+        pub fn get(&self, k: &K) -> Option<&V> {
+            Some(&self.entries[*self.places.get(k)?].1)
+        }
+        pub fn as_slice(&self) -> map::Slice<'_, K, V> {
+            map::Slice(&self.entries)
+        }
+        pub fn insert(&mut self, k: K, v: V) -> Result<Option<V>, AllocError> {
+            if let Some(at) = self.places.get(&k) {
+                return Ok(Some(std::mem::replace(&mut self.entries[*at].1, v)));
+            }
+            self.places.insert(k, self.entries.len());
+            self.entries.push((k, v));
+            Ok(None)
+        }
+        pub fn insert_sorted(&mut self, k: K, v: V) -> Result<(usize, Option<V>), AllocError> {
+            match self.entries.binary_search_by(|e| e.0.cmp(&k)) {
+                Ok(at) => Ok((at, Some(std::mem::replace(&mut self.entries[at].1, v)))),
+                Err(at) => {
+                    if at < self.entries.len() {
+                        for place in self.places.values_mut() {
+                            *place += usize::from(*place >= at);
+                        }
+                    }
+                    self.places.insert(k, at);
+                    self.entries.insert(at, (k, v));
+                    Ok((at, None))
+                }
+            }
+        }
+    }
+}

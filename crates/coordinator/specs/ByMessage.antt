@@ -1,0 +1,79 @@
+-- What a coordinator plans for each message, by how its transaction stands.
+use Rattle.std.specs.Prelude.{ℕ, List, [], Ok, None, Option, Result}
+use Rattle.units.specs.Ids.{Id}
+use Rattle.units.specs.Locks.{exclusive}
+use Rattle.units.specs.declared.fault.Fault.{Fault}
+use Rattle.units.specs.declared.lock.Lock.{Lock}
+use Rattle.message.specs.declared.message.Ask.{Ask}
+use Rattle.message.specs.declared.message.Commit.{Commit}
+use Rattle.message.specs.declared.message.Vote.{Vote}
+use Rattle.rows.specs.States.{CollectingState}
+use Rattle.rows.specs.declared.votes.Voted.{Voted as CastVote}
+use Rattle.rows.specs.declared.wait.CommitRequest.{CommitRequest}
+use Rattle.protocol.specs.Rows.{Standing, find_row, with_vote}
+use Rattle.protocol.specs.Plan.{Before, Planned, in_way, puts}
+use Rattle.protocol.specs.Cells.{commit_stamp, of_part, other_parts, plan_ask, plan_commit, plan_commit_granted, plan_commit_now, plan_count}
+use Rattle.protocol.specs.Cells.{plan_give_up, plan_settle, plan_vote}
+use Rattle.memory.specs.Kept.{Kept, start_of, IsPlanned}
+use Rattle.memory.specs.Plans.{counted}
+use Rattle.memory.specs.Standings.{MakesPlan}
+use Rattle.memory.specs.declared.plan.Plan.{Plan}
+use Rattle.coordinator.specs.Granted.{collects, decides}
+
+abbrev pub PlansCommit : Kept → ℕ → Commit → Standing → Result Plan Fault → Type 0
+PlansCommit k latest m standing result = IsPlanned k (plan_commit (start_of k) latest m standing) result
+
+-- the reads still stand
+abbrev pub PlansCommitNow : Kept → ℕ → Commit → Result Plan Fault → Type 0
+PlansCommitNow k latest m result = IsPlanned k (plan_commit_now (start_of k) latest m) result
+
+abbrev pub PlansGiveUp : Kept → Id → Standing → Result Plan Fault → Type 0
+PlansGiveUp k t standing result = IsPlanned k (Ok (plan_give_up (start_of k) t standing)) result
+
+abbrev pub PlansAsk : Kept → Ask → Standing → Result Plan Fault → Type 0
+PlansAsk k m standing result = IsPlanned k (plan_ask (start_of k) m.from m.txn standing) result
+
+abbrev pub PlansSettle : Kept → ℕ → Id → Standing → Result Plan Fault → Type 0
+PlansSettle k earliest t standing result = IsPlanned k (plan_settle (start_of k) earliest t standing) result
+
+abbrev pub PlansVote : Kept → Vote → Standing → Result Plan Fault → Type 0
+PlansVote k m standing result = IsPlanned k (plan_vote (start_of k) m.from m.txn m.vote standing) result
+
+-- a vote for a transaction that collects votes
+abbrev pub vote_counted : Before → ℕ → Id → Option ℕ → CollectingState → Planned
+vote_counted b n t vote s = plan_count b n t vote s.request.latest s.request.parts s.request.reads s.request.writes s.votes
+
+-- such a vote, which counts where it is of a part
+abbrev pub PlansPartVote : Kept → Vote → CollectingState → Result Plan Fault → Type 0
+PlansPartVote k m s result = IsPlanned k (of_part (start_of k) m.from s.request.parts (vote_counted (start_of k) m.from m.txn m.vote s)) result
+
+-- the timestamp of a decision, once one more vote is counted
+abbrev pub stamp_with_vote : Kept → CollectingState → CastVote → ℕ
+stamp_with_vote k s v = commit_stamp k.memory.last s.request.latest (with_vote v.shard v.at s.votes)
+
+-- one more vote is kept
+abbrev pub MakesVoteKept : Kept → Id → CastVote → Result Plan Fault → Type 0
+MakesVoteKept k t v result = MakesPlan k (puts (start_of k) [] t [] (counted v.shard v.at (find_row k.memory.rows t)) None k.memory.last []) result
+
+-- a request whose locks are granted
+abbrev pub PlansGranted : Kept → Id → CommitRequest → Result Plan Fault → Type 0
+PlansGranted k t r result =
+    IsPlanned k (plan_commit_granted (start_of k) [] t r.latest r.parts r.reads r.writes (other_parts k.setup.shard r.parts)) result
+
+-- the decision of a request, at a timestamp
+abbrev pub MakesDecision : Kept → List Id → Id → List Lock → ℕ → CommitRequest → Result Plan Fault → Type 0
+MakesDecision k ended t needs at r result = MakesPlan k (decides (start_of k) ended t needs at r.parts r.reads r.writes) result
+
+-- the votes of a request are collected
+abbrev pub MakesCollecting : Kept → List Id → Id → CommitRequest → Result Plan Fault → Type 0
+MakesCollecting k ended t r result = MakesPlan k (collects (start_of k) ended t r.latest r.parts r.reads r.writes) result
+
+-- whoever is in the way is ended, and the decision made
+abbrev pub MakesDecisionAnew : Kept → ℕ → Commit → Result Plan Fault → Type 0
+MakesDecisionAnew k at m result =
+    MakesPlan k (decides (start_of k) (in_way (start_of k) m.txn (exclusive m.writes)) m.txn (exclusive m.writes) at m.parts m.reads.keys m.writes) result
+
+-- whoever is in the way is ended, and votes are collected
+abbrev pub MakesCollectingAnew : Kept → ℕ → Commit → Result Plan Fault → Type 0
+MakesCollectingAnew k latest m result =
+    MakesPlan k (collects (start_of k) (in_way (start_of k) m.txn (exclusive m.writes)) m.txn latest m.parts m.reads.keys m.writes) result

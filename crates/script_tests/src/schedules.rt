@@ -1,0 +1,103 @@
+//! Schedules that are read, and lines that are refused.
+use script::schedule;
+use std::test::Fail;
+use units::{Fault, Reason};
+
+struct Refused {
+    text: &'static str,
+    reason: Reason,
+}
+
+static REFUSED: [Refused; 12] = [
+    Refused {
+        text: "",
+        reason: Reason::Syntax(1),
+    },
+    Refused {
+        text: "shards 0\nstride 0\n",
+        reason: Reason::Syntax(1),
+    },
+    Refused {
+        text: "shards 17\n",
+        reason: Reason::Syntax(1),
+    },
+    Refused {
+        text: "shards 2\nsplit m\n",
+        reason: Reason::Syntax(3),
+    },
+    Refused {
+        text: "shards 3\nsplit m\nsplit m\nstride 0\n",
+        reason: Reason::Splits,
+    },
+    Refused {
+        text: "shards 1\nstride 0\n0100 begin 1.1\n",
+        reason: Reason::Syntax(3),
+    },
+    Refused {
+        text: "shards 1\nstride 0\n100 begin 1.1",
+        reason: Reason::Syntax(3),
+    },
+    Refused {
+        text: "shards 1\nstride 0\n100  begin 1.1\n",
+        reason: Reason::Syntax(3),
+    },
+    Refused {
+        text: "shards 1\nstride 0\n100 deliver 0 111 110\n",
+        reason: Reason::Syntax(3),
+    },
+    Refused {
+        text: "shards 1\nstride 0\n100 crash 0 2 0g open 0\n",
+        reason: Reason::Syntax(3),
+    },
+    Refused {
+        text: "shards 1\nstride 0\n1 open 0\n2 crash 0 1 old begin 1.1\n",
+        reason: Reason::Syntax(4),
+    },
+    Refused {
+        text: "shards 1\nstride 0\n1 open 16\n",
+        reason: Reason::Syntax(3),
+    },
+];
+
+#[test]
+fn other_lines_are_refused(rt: HostRuntime) -> Result<(), Fail> {
+    for refused in &REFUSED {
+        match schedule(rt.alloc(), refused.text) {
+            Err(fault) => assert_eq!(rt; fault, Fault::BadRequest(refused.reason)),
+            Ok(_) => return Err("it is read".into()),
+        }
+    }
+    Ok(())
+}
+
+const EACH_KIND: &str = "shards 2
+split m
+stride 7
+1 begin 1.1
+1 read 1.1 a
+1 write 1.1 a 1
+1 erase 1.1 z
+1 close 1.1
+1 quit 1.1
+1 deliver 0 1 9
+1 resume 0 1 9
+1 settle 1 1.1 1 9
+1 advance 0 5 1 9
+1 nudge 1 1.1 1 9
+1 look 0 a 5
+1 view 0 3 a 5
+2 crash 0
+3 open 0
+4 crash 0 2 fF deliver 0 1 9
+4 crash 0 2 old resume 0 1 9
+4 crash 1 2 new settle 1 1.1 1 9
+4 fail 0 3 open 0
+4 fail 0 3 advance 0 5 1 9
+";
+
+#[test]
+fn each_kind_of_event_is_read(rt: HostRuntime) -> Result<(), Fail> {
+    let (_config, events) = schedule(rt.alloc(), EACH_KIND)?;
+    assert_eq!(rt; events.len(), 20);
+    Ok(())
+}

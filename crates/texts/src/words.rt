@@ -1,0 +1,95 @@
+//! The words of a line, each read as a value. What is not such a word is refused.
+ghost use Rattle.std.specs.Prelude.{◌<◌, IfOk};
+
+use disk::Fate;
+use std::alloc::Global;
+use truetime::Reading;
+use units::{Fault, Key, Reason, ShardNo, Stamp, TxnId, Value};
+
+/// What a word is refused with, before its line is known.
+pub const NO_WORD: Fault = Fault::BadRequest(Reason::Command);
+
+/// A decimal number without leading zeros.
+pub fn number(word: &str) -> Result<u64, Fault> {
+    let bytes = word.as_bytes();
+    let is_decimal = bytes.iter().all(|byte| byte.is_ascii_digit());
+    if !is_decimal || (bytes.len() > 1 && bytes[0] == b'0') {
+        return Err(NO_WORD);
+    }
+    word.parse::<u64>().map_err(|_error| NO_WORD)
+}
+
+/// A shard, by its number.
+pub fn shard(word: &str) -> Result<ShardNo, Fault> {
+    let number = u8::try_from(number(word)?).map_err(|_error| NO_WORD)?;
+    ShardNo::new(number).ok_or(NO_WORD)
+}
+
+/// A timestamp in microseconds.
+pub fn stamp(word: &str) -> Result<Stamp, Fault> {
+    Stamp::new(number(word)?)
+}
+
+/// A reading between two words.
+pub fn reading(earliest: &str, latest: &str) -> Result<Reading, Fault> {
+    Reading::new(stamp(earliest)?, stamp(latest)?)
+}
+
+/// An id: two numbers with a dot between them.
+pub fn txn(word: &str) -> Result<TxnId, Fault> {
+    let (run, count) = word.split_once('.').ok_or(NO_WORD)?;
+    TxnId::new(number(run)?, number(count)?).ok_or(NO_WORD)
+}
+
+/// A key of ASCII letters, digits and underlines.
+pub fn key(word: &str) -> Result<Key, Fault> {
+    Key::new(plain(word)?)
+}
+
+/// A value of ASCII letters, digits and underlines.
+pub fn value(alloc: Global, word: &str) -> Result<Value, Fault> {
+    Value::new(alloc, plain(word)?)
+}
+
+/// What a look or a read shows: `none`, or `=` and a value.
+pub fn shown(alloc: Global, word: &str) -> Result<Option<Value>, Fault> {
+    match word.strip_prefix('=') {
+        Some(word) => Ok(Some(value(alloc, word)?)),
+        None if word == "none" => Ok(None),
+        None => Err(NO_WORD),
+    }
+}
+
+/// What a crash makes of a change: `old`, `new`, or a byte in two hexadecimal digits of either case.
+pub fn fate(word: &str) -> Result<Fate, Fault> {
+    match word.as_bytes() {
+        b"old" => Ok(Fate::Old),
+        b"new" => Ok(Fate::New),
+        [high, low] => Ok(Fate::Filled(digit(*high)? * 16 + digit(*low)?)),
+        _ => Err(NO_WORD),
+    }
+}
+
+// A hexadecimal digit.
+fn digit(byte: u8) -> Result<u8, Fault>
+    ensures { IfOk result (λ digit. digit < 16) }
+{
+    match byte {
+        b'0'..=b'9' => Ok(byte - b'0'),
+        b'a'..=b'f' => Ok(byte - b'a' + 10),
+        b'A'..=b'F' => Ok(byte - b'A' + 10),
+        _ => Err(NO_WORD),
+    }
+}
+
+// Some ASCII letters, digits and underlines.
+fn plain(word: &str) -> Result<&[u8], Fault> {
+    let bytes = word.as_bytes();
+    let is_plain = bytes
+        .iter()
+        .all(|byte| byte.is_ascii_alphanumeric() || *byte == b'_');
+    if bytes.is_empty() || !is_plain {
+        return Err(NO_WORD);
+    }
+    Ok(bytes)
+}
