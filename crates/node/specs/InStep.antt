@@ -4,7 +4,7 @@ use Rattle.units.specs.declared.fault.Fault.{Fault}
 use Rattle.units.specs.declared.fault.Fault.TheVariants.{Memory as WantsMemory, BadRequest}
 use Rattle.units.specs.declared.fault.Reason.TheVariants.{Many}
 use Rattle.units.specs.declared.writes.Install.{Install}
-use Rattle.disk.specs.declared.plan.Plan.{Plan}
+use Rattle.disk.specs.declared.plan.FailurePlan.{FailurePlan}
 use Rattle.disk.specs.File.{File}
 use Rattle.message.specs.declared.message.Envelope.{Envelope}
 use Rattle.message.specs.declared.message.Input.{Input}
@@ -65,7 +65,7 @@ abbrev pub WhyNot : Result (List Envelope) Fault → Fault → Type 0
 WhyNot (Ok out) fault = fault ≡ WantsMemory
 WhyNot (Err own) fault = fault ≡ own
 
-module _ {D : Type 0} (keeps obeys : Type 0) (file : D → File) (clock : D → ℕ) (since : D → ℕ → List ℕ → Type 0) (failures : D → ℕ) (plan : D → Plan) where
+module _ {D : Type 0} (keeps obeys : Type 0) (file : D → File) (clock : D → ℕ) (since : D → ℕ → List ℕ → Type 0) (failures : D → ℕ) (plan : D → FailurePlan) where
   -- the core took an input, and put out these messages, or refused it
   abbrev pub HasTaken : CoreView D → CoreView D → Interval → Input → Result (List Envelope) Fault → Type 0
   HasTaken old new now i result = HasStepped keeps obeys file clock since failures plan old new (step_of old now i) result

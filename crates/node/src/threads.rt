@@ -64,13 +64,13 @@ impl<D: Disk + Drop, R: Wait + Drop> Node<D, R> {
     // up to its reading's latest.
     fn tend<W: Wait, P: Post, C: Clock>(&self, rt: &W, post: &mut P, clock: &mut C) {
         self.act(rt, post, clock, &Input::Resume);
-        let mut unsettled = 0;
+        let mut unsettled: usize = 0;
         for _row in 0..MOST_ROWS {
             let Some(txn) = self.decided(rt, unsettled) else {
                 break;
             };
             if !self.act(rt, post, clock, &Input::Settle(txn)) {
-                unsettled += 1;
+                unsettled = unsettled.saturating_add(1);
             }
         }
         for row in 0..MOST_ROWS {
@@ -92,7 +92,7 @@ pub struct Served<'a, D: Disk + Drop, R: Wait + Drop, P, C> {
     pub clock: C,
 }
 
-/// KeepsShowable list_all node on a thread of its own, until list_all has ended. Where a thread does not start, the others are served.
+/// Serves each node on a thread of its own, until all have ended. Where a thread does not start, the others are served.
 pub fn start<
     D: Disk + Drop + Send,
     R: Wait + Drop + Send,
