@@ -110,7 +110,7 @@ news_follow a b s served (i ∷ news) alike past above h =
     (news_follow (i ∷ a) (i ∷ b) s served news (alike_more a b i alike) past ((and_parts _ _ above).1) parts.2)
 
 -- new versions come on a board that has the others
-board_news : (xs : List BoardEntry) (installs news : List Install) (served : ℕ) → is_board xs ≡ true → versions_on xs ≡ installs → safe_on xs ≤ served
+pub board_news : (xs : List BoardEntry) (installs news : List Install) (served : ℕ) → is_board xs ≡ true → versions_on xs ≡ installs → safe_on xs ≤ served
     → list_all (λ i. nat_lt served i.at) news ≡ true → may_follow installs None (as_entries news) ≡ true → is_board (xs ++ as_entries news) ≡ true
 board_news xs installs news served lawful same low above order =
     follow_end [] None xs (as_entries news) lawful

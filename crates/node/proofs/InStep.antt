@@ -1,0 +1,147 @@
+-- What a desk keeps of its core and its board.
+use Rattle.std.proofs.Common.{Result, Ok, Err, IfOk, ◌≡◌, ℕ, ◌+◌, ◌<◌, ◌≤◌, Bool, true, List, [], ◌∷◌, ◌++◌, map, length, take, drop, get_or, Option, Some, None}
+use Rattle.std.proofs.Common.{nat_lt, refl, ap, sym, ◌∙◌, subst, arith, append_assoc, length-append, drop_of_length-le}
+use Rattle.std.specs.List.{list_all}
+use Rattle.std.proofs.lemmas.List.{append-nil, take_more, drop_more, drop-append-le, take-append-le, take_all}
+use Rattle.units.specs.declared.fault.Fault.{Fault}
+use Rattle.units.specs.declared.writes.Install.{Install}
+use Rattle.board.specs.declared.entry.BoardEntry.{BoardEntry}
+use Rattle.board.specs.declared.entry.BoardEntry.TheVariants.{Installed, Safe}
+use Rattle.board.specs.Board.{versions_on, safe_on, may_follow, is_board, first_entries}
+use Rattle.board.specs.State.{BoardId}
+use Rattle.board.specs.Views.{Publishing, Published, PublishesAll}
+use Rattle.board.proofs.Longer.{front_is_board, versions_on-more, safe_from-install, safe_from-safe}
+use Rattle.shard.specs.On.{CoreView}
+use Rattle.shard.specs.Look.{safe_at}
+use Rattle.serving.specs.Showable.{as_entries}
+use Rattle.serving.proofs.Follow.{board_news, board_safe, opening_is_board, as_entries-more, versions_on-entries, safe_from-more_entries, take_drop}
+use Rattle.node.specs.InStep.{InStep, ShowsCore, DeskView}
+
+pub opened_in_step : (installs : List Install) (t : ℕ) → may_follow [] None (as_entries installs) ≡ true → InStep installs t (length installs)
+    (first_entries installs t ++ [])
+opened_in_step installs t order =
+    let none : drop (length installs) installs ≡ [] = drop_of_length-le installs (omega arith) in
+    let all : first_entries installs t ++ [] ≡ first_entries installs t = append-nil (first_entries installs t) in
+    record {
+      count = omega arith;
+      same = ap versions_on all ∙ (versions_on-more (as_entries installs) (Safe t ∷ []) ∙
+          (append-nil (versions_on (as_entries installs)) ∙
+          (versions_on-entries installs ∙ sym (take_all (length installs) installs (omega arith)))));
+      lawful = ap (λ (rest : List Install). is_board ((first_entries installs t ++ []) ++ as_entries rest)) none ∙
+          (ap is_board (append-nil (first_entries installs t ++ []) ∙ all) ∙ opening_is_board installs t order);
+      safe = omega (arith, ap safe_on all, safe_from-safe 0 (as_entries installs) t);
+    }
+
+-- the next version of the core is handed over
+module _ (installs : List Install) (served handed : ℕ) (es : List BoardEntry) (i d : Install) (step : InStep installs served handed es)
+    (left : handed < length installs) (is : get_or installs handed d ≡ i) where
+  rest_split : es ++ as_entries (drop handed installs) ≡ (es ++ Installed i ∷ []) ++ as_entries (drop (handed + 1) installs)
+  rest_split =
+      let rest = drop (handed + 1) installs in
+      let split : drop handed installs ≡ i ∷ rest = drop_more installs handed d left ∙ ap (λ (x : Install). x ∷ rest) is in
+      ap (λ (l : List Install). es ++ as_entries l) split ∙ sym (append_assoc es (Installed i ∷ []) (as_entries rest))
+
+  pub one_handed : InStep installs served (handed + 1) (es ++ Installed i ∷ [])
+  one_handed = record {
+    count = omega (arith, left);
+    same = versions_on-more es (Installed i ∷ []) ∙ (ap (λ (l : List Install). l ++ i ∷ []) step.same ∙ sym
+        (take_more installs handed d left ∙ ap (λ (x : Install). take handed installs ++ x ∷ []) is));
+    lawful = ap is_board (sym rest_split) ∙ step.lawful;
+    safe = omega (arith, step.safe, safe_from-install 0 es i);
+  }
+
+  pub one_lawful : is_board (es ++ Installed i ∷ []) ≡ true
+  one_lawful = front_is_board (es ++ Installed i ∷ []) (as_entries (drop (handed + 1) installs)) (ap is_board (sym rest_split) ∙ step.lawful)
+
+-- where all versions are handed over, the served time may follow
+module _ (installs : List Install) (served handed : ℕ) (es : List BoardEntry) (step : InStep installs served handed es) (all : handed ≡ length installs) where
+  all_gone : drop handed installs ≡ []
+  all_gone = drop_of_length-le installs (omega (arith, all))
+
+  pub all_lawful : is_board es ≡ true
+  all_lawful = ap is_board (sym (ap (λ (l : List Install). es ++ as_entries l) all_gone ∙ append-nil es)) ∙ step.lawful
+
+  pub safe_lawful : is_board (es ++ Safe served ∷ []) ≡ true
+  safe_lawful = board_safe es served all_lawful step.safe
+
+  pub safe_handed : InStep installs served handed (es ++ Safe served ∷ [])
+  safe_handed = record {
+    count = step.count;
+    same = versions_on-more es (Safe served ∷ []) ∙ (append-nil (versions_on es) ∙ step.same);
+    lawful = ap (λ (l : List Install). is_board ((es ++ Safe served ∷ []) ++ as_entries l)) all_gone ∙
+        (ap is_board (append-nil (es ++ Safe served ∷ [])) ∙ safe_lawful);
+    safe = omega (arith, safe_from-safe 0 es served);
+  }
+
+  pub all_shown : versions_on (es ++ Safe served ∷ []) ≡ installs
+  all_shown = safe_handed.same ∙ take_all handed installs (omega (arith, all))
+
+-- new versions of the core
+module _ (installs news more : List Install) (handed : ℕ) (es : List BoardEntry) (behind : more ≡ installs ++ news) (count : handed ≤ length installs)
+    (same : versions_on es ≡ take handed installs) where
+  pub count_kept : handed ≤ length more
+  count_kept = omega (arith, count, length-append installs news, ap length behind)
+
+  pub same_kept : versions_on es ≡ take handed more
+  same_kept = same ∙ (sym (take-append-le handed installs news count) ∙ ap (take handed) (sym behind))
+
+  pub lawful_kept : (served : ℕ) → is_board (es ++ as_entries (drop handed installs)) ≡ true → safe_on es ≤ served
+      → list_all (λ i. nat_lt served i.at) news ≡ true → may_follow installs None (as_entries news) ≡ true → is_board
+      (es ++ as_entries (drop handed more)) ≡ true
+  lawful_kept served lawful safe above order =
+      let xs = es ++ as_entries (drop handed installs) in
+      let grown : drop handed more ≡ drop handed installs ++ news = ap (drop handed) behind ∙ drop-append-le handed installs news count in
+      let split : es ++ as_entries (drop handed more) ≡ xs ++ as_entries news =
+      ap (λ (l : List Install). es ++ as_entries l) grown ∙
+      (ap (λ (l : List BoardEntry). es ++ l) (as_entries-more (drop handed installs) news) ∙ sym
+      (append_assoc es (as_entries (drop handed installs)) (as_entries news))) in
+      let all : versions_on xs ≡ installs = versions_on-more es (as_entries (drop handed installs)) ∙
+      ((λ j. same j ++ versions_on-entries (drop handed installs) j) ∙ take_drop handed installs) in
+      let low : safe_on xs ≤ served = omega (arith, safe, safe_from-more_entries 0 es (drop handed installs)) in
+      ap is_board split ∙ board_news xs installs news served lawful all low above order
+
+-- ---- publishing
+
+-- a publication leaves all entries
+pub all_published : (result : Result Published Fault) (old new : Publishing) → PublishesAll old result new
+    → new.published ++ new.pending ≡ old.published ++ old.pending
+all_published (Ok told) old new is = ap (λ (s : Publishing). s.published ++ s.pending) is.0 ∙ append-nil (old.published ++ old.pending)
+all_published (Err fault) old new is = ap (λ (s : Publishing). s.published ++ s.pending) is.1
+
+-- the entries that are published are those of a core, and its served time
+module _ (installs : List Install) (served handed : ℕ) (one two new : Publishing)
+    (step : InStep installs served handed (one.published ++ one.pending)) (all : handed ≡ length installs)
+    (ends : two ≡ record one { pending = one.pending ++ Safe served ∷ [] }) where
+  with_safe : two.published ++ two.pending ≡ (one.published ++ one.pending) ++ Safe served ∷ []
+  with_safe = ap (λ (s : Publishing). s.published ++ s.pending) ends ∙ sym (append_assoc one.published one.pending (Safe served ∷ []))
+
+  pub published_in_step : (result : Result Published Fault) → PublishesAll two result new → InStep installs served handed (new.published ++ new.pending)
+  published_in_step result is =
+      subst (λ (l : List BoardEntry). InStep installs served handed l) (sym (all_published result two new is ∙ with_safe))
+      (safe_handed installs served handed (one.published ++ one.pending) step all)
+
+  pub published_shown : {D : Type 0} (core : CoreView D) (old : Publishing) (result : Result Published Fault) → core.facts.installs ≡ installs
+      → safe_at core ≡ served → one.board ≡ old.board → PublishesAll two result new
+      → IfOk result (λ told. ShowsCore (record { core = core; board = old }) (record { core = core; board = new }) told)
+  published_shown core old (Ok told) same safe board is =
+      let list : new.published ≡ (one.published ++ one.pending) ++ Safe served ∷ [] = ap (λ (s : Publishing). s.published) is.0 ∙ with_safe in
+      let at : new.board ≡ old.board = ap (λ (s : Publishing). s.board) is.0 ∙ (ap (λ (s : Publishing). s.board) ends ∙ board) in
+      record {
+        installs = ap versions_on list ∙ (all_shown installs served handed (one.published ++ one.pending) step all ∙ sym same);
+        ends = (one.published ++ one.pending, list ∙ ap (λ (t : ℕ). (one.published ++ one.pending) ++ Safe t ∷ []) (sym safe));
+        same = at;
+        told = is.1 ∙ (λ i. record {
+          board = (ap (λ (s : Publishing). s.board) ends ∙ board) i;
+          list = sym (ap (λ (s : Publishing). s.published) is.0) i;
+        });
+      }
+  published_shown core old (Err fault) same safe board is = tt
+
+-- a new board is in step
+pub opened_desk : (installs given held : List Install) (t at : ℕ) (published pending : List BoardEntry) → may_follow [] None
+    (as_entries installs) ≡ true → held ≡ installs → given ≡ installs → at ≡ t
+    → published ≡ first_entries given at → pending ≡ [] → InStep installs t (length held) (published ++ pending)
+opened_desk installs given held t at published pending order same also then shown none =
+    subst (λ (n : ℕ). InStep installs t n (published ++ pending)) (sym (ap length same))
+    (subst (λ (l : List BoardEntry). InStep installs t (length installs) l) (sym (λ i. (shown ∙ (λ j. first_entries (also j) (then j))) i ++ none i))
+    (opened_in_step installs t order))

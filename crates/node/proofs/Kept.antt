@@ -1,0 +1,86 @@
+-- A step of the core keeps its desk in step.
+use Rattle.std.proofs.Common.{◌≡◌, ℕ, ◌≤◌, true, List, ◌++◌, Result, Ok, Err, IfOk, IfErr, refl, ap, sym, subst, ◌∙◌, ◌⊎◌, inl, inr, arith}
+use Rattle.std.specs.Prelude.{IsFalse, IsTrue}
+use Rattle.std.proofs.Math.Logic.{∥∥₁_elim, ∥∥₁_map}
+use Rattle.std.proofs.Props.{props}
+use Rattle.disk.specs.File.{File}
+use Rattle.truetime.specs.Interval.{Interval}
+use Rattle.units.specs.declared.fault.Fault.{Fault}
+use Rattle.units.specs.declared.writes.Install.{Install}
+use Rattle.message.specs.declared.message.Envelope.{Envelope}
+use Rattle.message.specs.declared.message.Input.{Input}
+use Rattle.record.specs.Facts.{Facts}
+use Rattle.protocol.specs.Rows.{Memory, safe}
+use Rattle.units.specs.Limits.{most_rows}
+use Rattle.protocol.specs.Plan.{Plan, Planned, start_of_step, carried}
+use Rattle.protocol.specs.Sound.{IsSound}
+use Rattle.protocol.specs.Step.{IsInLimit, facts_after, plan_input, step_within, stepped}
+use Rattle.shard.specs.On.{CoreView, IsDone, StandsAsBefore, step_of}
+use Rattle.shard.specs.Look.{safe_at}
+use Rattle.board.specs.declared.entry.BoardEntry.{BoardEntry}
+use Rattle.serving.specs.Showable.{IsShowable, WritesAscend, KeepsShowable, StepKeepsShowable, added}
+use Rattle.node.specs.InStep.{InStep}
+use Rattle.node.proofs.InStep.{count_kept, same_kept, lawful_kept}
+use Rattle.serving.proofs.Serves.{grows}
+
+module _ {D : Type 0} (file : D → File) (old new : CoreView D) (now : Interval) (i : Input) (law : StepKeepsShowable) (limit : IsInLimit i)
+    (ordered : WritesAscend i)
+    (sound : ∥ IsSound old.setup.shard old.facts old.memory ∥₁) (orderly : IsShowable old.facts old.memory) where
+  -- nothing changed, or a plan was carried out
+  abbrev Went : Type 0
+  Went = ((new.facts ≡ old.facts) × (new.memory ≡ old.memory))
+      ⊎ ((p : Plan) × (plan_input old.setup (start_of_step most_rows old.setup old.facts old.memory) now i ≡ Ok p) ×
+      (new.facts ≡ facts_after old.facts p.logged) × (new.memory ≡ carried p old.memory))
+
+  by_plan : (plan : Planned) (out : List Envelope) → plan_input old.setup (start_of_step most_rows old.setup old.facts old.memory) now i ≡ plan
+      → IsDone (stepped old.memory plan) old new out → Went
+  by_plan (Err fault) out e done = absurd done
+  by_plan (Ok p) out e done = inr (p, e, done.0, done.1)
+
+  went : (result : Result (List Envelope) Fault) → IfOk result (λ out. IsFalse old.stopped × IsFalse new.stopped × IsDone (step_of old now i) old new out)
+      → IfErr result (StandsAsBefore file old new) → Went
+  unfolding step_within
+  went (Err fault) done kept = inl (kept.0, kept.1)
+  went (Ok out) done kept = by_plan (plan_input old.setup (start_of_step most_rows old.setup old.facts old.memory) now i) out refl done.2
+
+  serves : (p : Plan) → plan_input old.setup (start_of_step most_rows old.setup old.facts old.memory) now i ≡ Ok p
+      → ∥ KeepsShowable old.facts old.memory p.logged (carried p old.memory) ∥₁
+  serves p e = ∥∥₁_map sound (λ s. law most_rows old.setup old.facts old.memory now i p limit ordered s orderly e)
+
+  orderly_after : Went → IsShowable new.facts new.memory
+  orderly_after (inl same) = subst (λ (f : Facts). IsShowable f new.memory) (sym same.0) (subst (λ (m : Memory). IsShowable old.facts m) (sym same.1) orderly)
+  orderly_after (inr w) =
+      let s = serves w.0 w.1 in
+      subst (λ (f : Facts). IsShowable f new.memory) (sym w.2) (subst (λ (m : Memory). IsShowable (facts_after old.facts w.0.logged) m) (sym w.3) record {
+        entries = ∥∥₁_elim s (hlevel props) (λ x. x.orderly.entries);
+        rows = ∥∥₁_elim s (hlevel props) (λ x. x.orderly.rows);
+        installs = ∥∥₁_elim s (hlevel props) (λ x. x.orderly.installs);
+      })
+
+  in_step_after : (handed : ℕ) (es : List BoardEntry) → InStep old.facts.installs (safe old.memory) handed es → Went → InStep new.facts.installs
+      (safe new.memory) handed es
+  in_step_after handed es step (inl same) =
+      subst (λ (f : Facts). InStep f.installs (safe new.memory) handed es) (sym same.0)
+      (subst (λ (m : Memory). InStep old.facts.installs (safe m) handed es) (sym same.1) step)
+  in_step_after handed es step (inr w) =
+      let s = serves w.0 w.1 in
+      let news = added old.facts w.0.logged in
+      let behind : new.facts.installs ≡ old.facts.installs ++ news = ap (λ (f : Facts). f.installs) w.2 ∙ grows old.facts w.0.logged in
+      let up : safe old.memory ≤ safe new.memory = subst (λ (m : Memory). safe old.memory ≤ safe m) (sym w.3) (∥∥₁_elim s (hlevel props) (λ x. x.rises)) in
+      record {
+        count = count_kept old.facts.installs news new.facts.installs handed es behind step.count step.same;
+        same = same_kept old.facts.installs news new.facts.installs handed es behind step.count step.same;
+        lawful = lawful_kept old.facts.installs news new.facts.installs handed es behind step.count step.same (safe old.memory) step.lawful step.safe
+            (∥∥₁_elim s (hlevel props) (λ x. x.above)) (∥∥₁_elim s (hlevel props) (λ x. x.order));
+        safe = omega (arith, step.safe, up);
+      }
+
+  pub kept_orderly : (result : Result (List Envelope) Fault) → IfOk result
+      (λ out. IsFalse old.stopped × IsFalse new.stopped × IsDone (step_of old now i) old new out) → IfErr result (StandsAsBefore file old new)
+      → IsShowable new.facts new.memory
+  kept_orderly result done kept = orderly_after (went result done kept)
+
+  pub kept_in_step : (result : Result (List Envelope) Fault) (handed : ℕ) (es : List BoardEntry) → IfOk result
+      (λ out. IsFalse old.stopped × IsFalse new.stopped × IsDone (step_of old now i) old new out) → IfErr result (StandsAsBefore file old new)
+      → InStep old.facts.installs (safe_at old) handed es → InStep new.facts.installs (safe_at new) handed es
+  kept_in_step result handed es done kept step = in_step_after handed es step (went result done kept)

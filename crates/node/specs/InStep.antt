@@ -1,0 +1,85 @@
+-- What a desk keeps of its core and its board.
+use Rattle.std.specs.Prelude.{◌≡◌, ◌⊎◌, ℕ, ◌<◌, ◌≤◌, IsTrue, All, List, [], ◌∷◌, ◌++◌, take, drop, length, Result, Ok, Err}
+use Rattle.units.specs.declared.fault.Fault.{Fault}
+use Rattle.units.specs.declared.fault.Fault.TheVariants.{Memory as WantsMemory, BadRequest}
+use Rattle.units.specs.declared.fault.Reason.TheVariants.{Many}
+use Rattle.units.specs.declared.writes.Install.{Install}
+use Rattle.disk.specs.declared.plan.FailurePlan.{FailurePlan}
+use Rattle.disk.specs.File.{File}
+use Rattle.message.specs.declared.message.Envelope.{Envelope}
+use Rattle.message.specs.declared.message.Input.{Input}
+use Rattle.truetime.specs.Interval.{Interval}
+use Rattle.shard.specs.On.{CoreView, HasStepped, step_of}
+use Rattle.shard.specs.Look.{safe_at}
+use Rattle.board.specs.declared.entry.BoardEntry.{BoardEntry}
+use Rattle.board.specs.declared.entry.BoardEntry.TheVariants.{Safe}
+use Rattle.board.specs.Board.{is_board, versions_on, safe_on}
+use Rattle.board.specs.State.{BoardId}
+use Rattle.board.specs.Views.{Publishing, Published, Viewing}
+use Rattle.serving.specs.Showable.{as_entries}
+
+-- The board was handed the first versions of the core, and may be handed the others; its served time is at most the core's.
+pub record InStep (installs : List Install) (served handed : ℕ) (entries : List BoardEntry) : Type 0 where
+  pub count : handed ≤ length installs
+  pub same : versions_on entries ≡ take handed installs
+  pub lawful : IsTrue (is_board (entries ++ as_entries (drop handed installs)))
+  pub safe : safe_on entries ≤ served
+
+abbrev pub IsInStep : {D : Type 0} → CoreView D → ℕ → Publishing → Type 0
+IsInStep core handed p = InStep core.facts.installs (safe_at core) handed (p.published ++ p.pending)
+
+-- the board shows these entries, and none is pending
+abbrev pub IsNewBoard : Publishing → List BoardEntry → Type 0
+IsNewBoard p entries = (p.published ≡ entries) × (p.pending ≡ [])
+
+-- so many viewers, each of the board, which have seen and were told its list
+abbrev pub AreOnBoard : ℕ → Publishing → List Viewing → Type 0
+AreOnBoard n p viewers = (length viewers ≡ n) × All (λ v. (v.board ≡ p.board) × (v.seen ≡ p.published) × (v.told ≡ p.published)) viewers
+
+-- why there is no desk: want of memory, or a number of viewers that no board has
+abbrev pub IsNoDesk : ℕ → Fault → Type 0
+IsNoDesk n fault = (fault ≡ WantsMemory) ⊎ ((fault ≡ BadRequest Many) × ((n ≡ 0) ⊎ (64 < n)))
+
+-- viewers see what they saw, on the same board
+abbrev pub StillShows : Publishing → Publishing → Type 0
+StillShows old new = (new.published ≡ old.published) × (new.board ≡ old.board)
+
+-- what a contract sees of a desk
+pub record DeskView (D : Type 0) : Type 0 where
+  pub core : CoreView D
+  pub board : Publishing
+
+-- the last entry is this served time
+abbrev pub EndsSafe : List BoardEntry → ℕ → Type 0
+EndsSafe entries t = (before : List BoardEntry) × (entries ≡ before ++ Safe t ∷ [])
+
+-- The board shows all versions of the core, in order, and then its served time. The news is of that list.
+pub record ShowsCore {D : Type 0} (old new : DeskView D) (news : Published) : Type 0 where
+  pub installs : versions_on new.board.published ≡ old.core.facts.installs
+  pub ends : EndsSafe new.board.published (safe_at old.core)
+  pub same : new.board.board ≡ old.board.board
+  pub told : news ≡ record { board = old.board.board; list = new.board.published }
+
+-- the core's own refusal, or want of memory
+abbrev pub WhyNot : Result (List Envelope) Fault → Fault → Type 0
+WhyNot (Ok out) fault = fault ≡ WantsMemory
+WhyNot (Err own) fault = fault ≡ own
+
+module _ {D : Type 0} (keeps obeys : Type 0) (file : D → File) (clock : D → ℕ) (since : D → ℕ → List ℕ → Type 0) (failures : D → ℕ) (plan : D → FailurePlan) where
+  -- the core took an input, and put out these messages, or refused it
+  abbrev pub HasTaken : CoreView D → CoreView D → Interval → Input → Result (List Envelope) Fault → Type 0
+  HasTaken old new now i result = HasStepped keeps obeys file clock since failures plan old new (step_of old now i) result
+
+  -- The core took the advance, and its board shows all its versions, in order, and then its served time. The news is of that list.
+  pub record HasAdvanced (old new : DeskView D) (now : Interval) (to : ℕ) (news : Published) : Type 0 where
+    pub out : List Envelope
+    pub stepped : HasTaken old.core new.core now (Input.Advance to) (Ok out)
+    pub shown : ShowsCore (record { core = new.core; board = old.board }) new news
+
+  -- The core refused the advance; or it took it, and memory for the board was refused. The board shows what it showed.
+  pub record HasNotAdvanced (old new : DeskView D) (now : Interval) (to : ℕ) (fault : Fault) : Type 0 where
+    pub result : Result (List Envelope) Fault
+    pub stepped : HasTaken old.core new.core now (Input.Advance to) result
+    pub why : WhyNot result fault
+    pub published : new.board.published ≡ old.board.published
+    pub board : new.board.board ≡ old.board.board

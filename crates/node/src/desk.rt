@@ -1,0 +1,180 @@
+//! What lies under a node's lock: the core of a shard, and the publisher of its board.
+ghost use Rattle.std.specs.Prelude.{◌≡◌, ◌<◌, ◌+◌, length, IfOk, IfErr, OnOk};
+ghost use Rattle.board.specs.Board.{first_entries};
+ghost use Rattle.node.specs.InStep.{IsInStep, IsNewBoard, AreOnBoard, IsNoDesk, StillShows, ShowsCore, HasAdvanced, HasNotAdvanced, HasTaken};
+ghost use Rattle.serving.specs.Showable.{IsShowable};
+ghost use Rattle.shard.specs.Core.{seen};
+ghost use Rattle.shard.specs.Look.{safe_at};
+
+use board::{Publisher, Told, Viewer, copy_install, start};
+use disk::Disk;
+use message::{Input, Outbox};
+use serving::{step_keeps_showable, writes_ascend};
+use shard::Core;
+use std::alloc::Global;
+use std::sync::Wait;
+use truetime::Reading;
+use units::{Fault, Stamp};
+
+/// A core, the publisher of its board, and how many of its versions the board was handed: the first ones. The board's served
+/// time is at most the core's. The handle is for the publisher, which waits for viewers.
+pub struct Desk<D: Disk + Drop, R: Wait + Drop> {
+    alloc: Global,
+    core: Core<D>,
+    publisher: Publisher<R>,
+    handed: usize,
+    ghost in_step: { IsInStep (seen core) handed publisher },
+    ghost orderly: { IsShowable (seen core).facts (seen core).memory },
+}
+
+impl<D: Disk + Drop, R: Wait + Drop> Drop for Desk<D, R> {
+    fn drop(self) {
+        let Desk {
+            alloc: _,
+            core,
+            publisher,
+            handed: _,
+        } = self;
+        drop(publisher);
+        drop(core.stop());
+    }
+}
+
+impl<D: Disk + Drop, R: Wait + Drop> Desk<D, R> {
+    ghost use Rattle.node.specs.Seen.{seen_desk};
+
+    /// A desk for a core, and so many viewers of its board, which shows the core's versions and served time.
+    pub fn new(
+        rt: R,
+        alloc: Global,
+        core: Core<D>,
+        n: usize,
+    ) -> Result<(Desk<D, R>, Vec<Viewer>), (Fault, Core<D>)>
+        requires orderly { IsShowable (seen core).facts (seen core).memory }
+        ensures core { IfOk result (λ made. (seen_desk made.0).core ≡ seen core) }
+        ensures board { IfOk result (λ made.
+            IsNewBoard (seen_desk made.0).board (first_entries (seen core).facts.installs (safe_at (seen core)))) }
+        ensures viewers { IfOk result (λ made. AreOnBoard n (seen_desk made.0).board made.1.items) }
+        ensures refused { IfErr result (λ refused. IsNoDesk n refused.0 × (seen refused.1 ≡ seen core)) }
+    {
+        let splits = match core.setup().splits.copy(alloc) {
+            Ok(splits) => splits,
+            Err(fault) => return Err((fault, core)),
+        };
+        let shard = core.setup().shard;
+        let handed = core.installs().len();
+        match start(rt, alloc, core.installs(), core.safe(), splits, shard, n) {
+            Ok((publisher, viewers)) => Ok((
+                Desk {
+                    alloc,
+                    core,
+                    publisher,
+                    handed,
+                },
+                viewers,
+            )),
+            Err(fault) => Err((fault, core)),
+        }
+    }
+
+    /// Exactly the step of the core. The board stays.
+    pub fn deliver(&mut self, now: &Reading, input: &Input) -> Result<Outbox, Fault>
+        ensures stepped { HasTaken D.keeps_model D.obeys D.file D.clock D.since D.failures D.plan
+            (seen_desk self.old).core (seen_desk self.new).core now.now input.now result }
+        ensures board { (seen_desk self.new).board ≡ (seen_desk self.old).board }
+    {
+        step_keeps_showable();
+        writes_ascend(input);
+        self.core.is_sound();
+        self.core.on(self.alloc, now, input)
+    }
+
+    /// Advances the core, and publishes its new versions and its served time. Where memory for the board is refused, the
+    /// core has advanced, and the board shows what it showed.
+    pub fn advance(&mut self, now: &Reading, to: Stamp) -> Result<Told, Fault>
+        ensures advanced { IfOk result (HasAdvanced D.keeps_model D.obeys D.file D.clock D.since D.failures D.plan
+            (seen_desk self.old) (seen_desk self.new) now.now to) }
+        ensures refused { IfErr result (HasNotAdvanced D.keeps_model D.obeys D.file D.clock D.since D.failures D.plan
+            (seen_desk self.old) (seen_desk self.new) now.now to) }
+    {
+        let _ = self.deliver(now, &Input::Advance(to))?;
+        self.show()
+    }
+
+    // Hands the board the versions that it lacks and the served time, and publishes them.
+    fn show(&mut self) -> Result<Told, Fault>
+        ensures core { (seen_desk self.new).core ≡ (seen_desk self.old).core }
+        ensures shown { IfOk result (λ told. ShowsCore (seen_desk self.old) (seen_desk self.new) told) }
+        ensures refused { IfErr result (λ fault.
+            (fault ≡ Fault.Memory) × StillShows (seen_desk self.old).board (seen_desk self.new).board) }
+    {
+        hand_over(
+            &self.core,
+            &mut self.publisher,
+            &mut self.handed,
+            self.alloc,
+        )?;
+        self.publisher.safe(self.core.safe())?;
+        self.publisher.publish()
+    }
+
+    /// The core, to be read.
+    pub(crate) fn core(&self) -> &Core<D>
+        ensures { seen result.now ≡ (seen_desk self.now).core }
+    {
+        &self.core
+    }
+
+    /// Ends the desk and its board, and gives the disk back as it is.
+    pub fn close(self) -> D
+        ensures { result ≡ (seen_desk self).core.disk }
+    {
+        let Desk {
+            alloc: _,
+            core,
+            publisher,
+            handed: _,
+        } = self;
+        drop(publisher);
+        core.stop()
+    }
+}
+
+// Hands the versions to the board that it was not handed yet.
+fn hand_over<D: Disk, R: Wait + Drop>(
+    core: &Core<D>,
+    publisher: &mut Publisher<R>,
+    handed: &mut usize,
+    alloc: Global,
+) -> Result<(), Fault>
+    requires { IsInStep (seen core.now) handed.old publisher.old }
+    ensures step { IsInStep (seen core.now) handed.new publisher.new }
+    ensures published { StillShows publisher.old publisher.new }
+    ensures all { OnOk result (handed.new ≡ length (seen core.now).facts.installs) }
+    ensures memory { IfErr result (λ fault. fault ≡ Fault.Memory) }
+{
+    let installs = core.installs();
+    while *handed < installs.len() {
+        hand_one(core, publisher, handed, alloc)?;
+    }
+    Ok(())
+}
+
+fn hand_one<D: Disk, R: Wait + Drop>(
+    core: &Core<D>,
+    publisher: &mut Publisher<R>,
+    handed: &mut usize,
+    alloc: Global,
+) -> Result<(), Fault>
+    requires step { IsInStep (seen core.now) handed.old publisher.old }
+    requires left { handed.old < length (seen core.now).facts.installs }
+    ensures step { IsInStep (seen core.now) handed.new publisher.new }
+    ensures published { StillShows publisher.old publisher.new }
+    ensures count { OnOk result (handed.new ≡ handed.old + 1) }
+    ensures memory { IfErr result (λ fault. fault ≡ Fault.Memory) }
+{
+    let install = copy_install(&core.installs()[*handed], alloc)?;
+    publisher.install(install)?;
+    *handed += 1;
+    Ok(())
+}
