@@ -212,7 +212,7 @@ fn promise(alloc: Global, number: u64) -> Result<Record, Fail> {
         coordinator: ShardNo::new(0).ok_or("a shard")?,
         at: Stamp::new(200)?,
         reads: Keys::none(alloc),
-        writes: Writes::from_vec(writes)?,
+        writes: Writes::from_vec(writes).ok().ok_or("ascending keys")?,
     }))
 }
 

@@ -34,7 +34,7 @@ fn one_write(alloc: Global, key: u8) -> Result<Writes, Fail> {
     };
     let mut writes = Vec::new(alloc);
     writes.push(write)?;
-    Ok(Writes::from_vec(writes)?)
+    Ok(Writes::from_vec(writes).ok().ok_or("ascending keys")?)
 }
 
 fn outcome(number: u64, outcome: Option<Stamp>) -> Result<Record, Fail> {
