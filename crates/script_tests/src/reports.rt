@@ -20,7 +20,7 @@ fn counts(alloc: Global, config: &Config, events: &[Event]) -> Result<Vec<usize>
     for last in 0..events.len() {
         let run = played(alloc, config, &events[..last + 1])?;
         let after = run.bag.as_slice().len();
-        counts.push(after - before)?;
+        counts.push(after.saturating_sub(before))?;
         before = after;
     }
     Ok(counts)
