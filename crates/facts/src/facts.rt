@@ -8,7 +8,7 @@ ghost use Rattle.facts.specs.Rules.{follows_facts, is_unrecorded, allows};
 ghost use Rattle.facts.specs.Shown.{meaning, meant};
 
 use crate::Status;
-use crate::table::{install, put};
+use crate::table::{install, put, set};
 use indexmap::IndexMap;
 use record::{Committed, Prepared, Record};
 use std::alloc::Global;
@@ -212,15 +212,13 @@ impl Facts {
             Record::Ceiling { at } => self.floor = self.floor.later(at),
             Record::Prepare(p) => {
                 self.floor = self.floor.later(p.at);
-                put(&mut self.statuses, p.txn, Status::Prepared(p));
+                set(&mut self.statuses, p.txn, Status::Prepared(p));
             }
             Record::Commit(c) => {
                 self.floor = self.floor.later(c.at);
-                put(&mut self.statuses, c.txn, Status::Decided(c));
+                set(&mut self.statuses, c.txn, Status::Decided(c));
             }
-            Record::Abort { txn } => {
-                put(&mut self.statuses, txn, Status::Aborted);
-            }
+            Record::Abort { txn } => set(&mut self.statuses, txn, Status::Aborted),
             Record::Outcome { txn, outcome } => self.end(txn, outcome),
         }
     }

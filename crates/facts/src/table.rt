@@ -22,6 +22,15 @@ pub fn put(statuses: &mut IndexMap<TxnId, Status>, txn: TxnId, status: Status) -
     }
 }
 
+/// Sets how a transaction stands. It takes no memory.
+pub fn set(statuses: &mut IndexMap<TxnId, Status>, txn: TxnId, status: Status)
+    requires { 1 ≤ spare statuses.old }
+    ensures { shown_entries (by_id statuses.new.entries) ≡
+        with_status (shown_entries (by_id statuses.old.entries)) txn (meaning status) }
+{
+    put(statuses, txn, status);
+}
+
 /// Installs what was promised or decided at a timestamp. It takes no memory.
 pub fn install(installs: &mut Vec<Install>, former: Option<Status>, at: Stamp)
     requires { vec_len installs.old + 128 ≤ vec_capacity installs.old }

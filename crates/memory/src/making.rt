@@ -10,7 +10,7 @@ use record::Record;
 use rows::Rows;
 use safetime::SafeTime;
 use std::alloc::Global;
-use units::{Epoch, Fault, Setup, Stamp, TxnId, Writes};
+use units::{Epoch, Fault, Setup, ShardNo, Stamp, TxnId, Writes};
 
 impl State {
     /// What a shard keeps once its first opening is logged. It is refused for want of memory alone.
@@ -20,12 +20,7 @@ impl State {
         ensures empty { IfOk result (λ s. s.memory ≡ record { last = 0; rows = []; ended = [] }) }
         ensures memory { IfErr result (λ fault. fault ≡ Fault.Memory) }
     {
-        let mut ledger = Ledger::new(alloc, setup.shard);
-        ledger.reserve()?;
-        let opened = Record::Opened {
-            epoch: Epoch::first(),
-        };
-        ledger.learn(opened, Writes::none(alloc));
+        let ledger = opened_ledger(alloc, setup.shard)?;
         let times = SafeTime::new(alloc, Stamp::zero())?;
         let rows = Rows::new(alloc)?;
         Ok(State {
@@ -62,4 +57,19 @@ impl State {
     {
         self.rows.nth_decided(n)
     }
+}
+
+// The ledger of a log that holds its first opening alone.
+fn opened_ledger(alloc: Global, shard: ShardNo) -> Result<Ledger, Fault>
+    ensures shard { IfOk result (λ ledger. ledger.shard ≡ shard) }
+    ensures facts { IfOk result (λ ledger. ledger.facts ≡ facts_of (Record.Opened 1 ∷ [])) }
+    ensures memory { IfErr result (λ fault. fault ≡ Fault.Memory) }
+{
+    let mut ledger = Ledger::new(alloc, shard);
+    ledger.reserve()?;
+    let first = Record::Opened {
+        epoch: Epoch::first(),
+    };
+    ledger.learn(first, Writes::none(alloc));
+    Ok(ledger)
 }

@@ -230,23 +230,38 @@ impl State {
         ensures fit { IfOk result (IsFit self.now) }
         ensures memory { IfErr result (λ fault. fault ≡ Fault.Memory) }
     {
+        let outbox = self.votes_and(alloc, &request.wounded, reply)?;
         let Request {
             wounded,
             needs,
             change,
         } = request;
-        let mut out = self.votes_of(alloc, &wounded)?;
-        if let Some(reply) = reply {
-            out.push(reply)?;
-        }
         Ok(Plan {
             wounded,
             needs,
             change,
             logged,
             last,
-            outbox: Outbox::from_vec(out),
+            outbox,
         })
+    }
+
+    // The refused votes of those that are ended while they wait with a prepare, and then the reply.
+    fn votes_and(
+        &self,
+        alloc: Global,
+        wounded: &Ids,
+        reply: Option<Envelope>,
+    ) -> Result<Outbox, Fault>
+        ensures votes { IfOk result (λ out. out ≡ votes_of self.now.setup.shard
+            self.now.memory.rows wounded.now ++ option_to_list reply) }
+        ensures memory { IfErr result (λ fault. fault ≡ Fault.Memory) }
+    {
+        let mut out = self.votes_of(alloc, wounded)?;
+        if let Some(reply) = reply {
+            out.push(reply)?;
+        }
+        Ok(Outbox::from_vec(out))
     }
 
     // The refused votes of those that are ended while they wait with a prepare.

@@ -1,53 +1,21 @@
-use Rattle.std.proofs.Common.{◌≡◌, ℕ, List, [], ◌∷◌, true, refl, sym, ap, ◌∙◌, subst, arith}
+use Rattle.std.proofs.Common.{◌≡◌, ℕ, List, [], ◌∷◌, refl, sym, ap, ◌∙◌, subst, arith}
 use Rattle.record.specs.declared.record.Record.{Record}
-use Rattle.record.specs.Facts.{Facts, facts_of, learn}
-use Rattle.record.specs.Installs.{installs_of}
-use Rattle.facts.specs.Rules.{follows_facts}
+use Rattle.record.specs.Facts.{Facts, facts_of}
 use Rattle.protocol.specs.Rows.{Row}
 use Rattle.safetime.specs.Laws.{SameHolds}
 use Rattle.safetime.specs.Safe.{Times}
 use Rattle.memory.specs.Served.{stamps_held}
 use Rattle.memory.proofs.state.State.fresh.Goals as goal
 
--- an opening is the first record
-first_follows : (shard : ℕ) → follows_facts shard (facts_of []) (Record.Opened 1) ≡ true
-unfolding facts_of follows_facts
-first_follows shard = refl
-
--- one opening is learnt as an opening finds it
-first_learnt : learn (facts_of []) (Record.Opened 1) ≡ facts_of (Record.Opened 1 ∷ [])
-unfolding facts_of installs_of learn
-first_learnt = refl
-
 first_epoch : (facts_of (Record.Opened 1 ∷ [])).epoch ≡ 1
 unfolding facts_of
 first_epoch = refl
 
-pub learn-requires-clause-follows : goal.learn-requires-clause-follows
-learn-requires-clause-follows c =
-    let empty = c.in_ok-reserve.ensures.same.0 ∙ c.new-ledger.ensures.facts in
-    ap (λ (f : Facts). follows_facts c.reserve.new.self.shard f (Record.Opened c.first.result)) empty
-    ∙ ap (λ (n : ℕ). follows_facts c.reserve.new.self.shard (facts_of []) (Record.Opened n)) c.first.ensures
-    ∙ first_follows c.reserve.new.self.shard
-
-pub returns-clause-facts : goal.returns-clause-facts
-returns-clause-facts c =
-    let empty = c.in_ok-reserve.ensures.same.0 ∙ c.new-ledger.ensures.facts in
-    c.learn.ensures.facts
-    ∙ ap (λ (f : Facts). learn f (Record.Opened c.first.result)) empty
-    ∙ ap (λ (n : ℕ). learn (facts_of []) (Record.Opened n)) c.first.ensures
-    ∙ first_learnt
-
 pub invariant_of-result : goal.invariant_of-result
 invariant_of-result c =
-    let empty = c.in_ok-reserve.ensures.same.0 ∙ c.new-ledger.ensures.facts in
-    let opened = c.learn.ensures.facts
-    ∙ ap (λ (f : Facts). learn f (Record.Opened c.first.result)) empty
-    ∙ ap (λ (n : ℕ). learn (facts_of []) (Record.Opened n)) c.first.ensures
-    ∙ first_learnt in
-    let epoch : c.learn.new.self.facts.epoch ≡ 1 = ap (λ (f : Facts). f.epoch) opened ∙ first_epoch in (
+    let epoch : c.in_ok-ledger.ledger.facts.epoch ≡ 1 = ap (λ (f : Facts). f.epoch) c.in_ok-ledger.ensures.facts ∙ first_epoch in (
       omega (arith, epoch),
-      c.learn.ensures.shard ∙ c.in_ok-reserve.ensures.same.1 ∙ c.new-ledger.ensures.shard,
+      c.in_ok-ledger.ensures.shard,
       subst (λ (rows : List Row). SameHolds c.in_ok-times.times.holds (stamps_held rows)) (sym c.in_ok-rows.ensures.none)
           (subst (λ (times : Times). SameHolds times.holds (stamps_held [])) (sym c.in_ok-times.ensures.times) (record { each = λ at. refl })),
     )
