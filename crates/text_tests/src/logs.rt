@@ -3,7 +3,7 @@ use record::{Committed, Prepared, Record};
 use std::alloc::Global;
 use std::test::Fail;
 use texts::{LineReader, key, number, shard, stamp, txn, value};
-use units::{Epoch, Keys, Parts, Stamp, Write, Writes};
+use units::{Epoch, Keys, Parts, ShardNo, Stamp, TxnId, Write, Writes};
 
 /// The records of a text, one a line.
 pub fn log_of(alloc: Global, text: &str) -> Result<Vec<Record>, Fail> {
@@ -20,25 +20,16 @@ pub fn log_of(alloc: Global, text: &str) -> Result<Vec<Record>, Fail> {
 
 fn record_of(alloc: Global, words: &[&str]) -> Result<Record, Fail> {
     match words {
-        ["opened", epoch] => {
-            let epoch = Epoch::new(number(epoch)?).ok_or("an epoch")?;
-            Ok(Record::Opened { epoch })
-        }
+        ["opened", epoch] => opened(epoch),
         ["ceiling", at] => Ok(Record::Ceiling { at: stamp(at)? }),
-        ["prepare", id, coordinator, at, reads, writes] => Ok(Record::Prepare(Prepared {
-            txn: txn(id)?,
-            coordinator: shard(coordinator)?,
-            at: stamp(at)?,
-            reads: keys_of(alloc, reads)?,
-            writes: writes_of(alloc, writes)?,
-        })),
-        ["commit", id, at, parts, reads, writes] => Ok(Record::Commit(Committed {
-            txn: txn(id)?,
-            at: stamp(at)?,
-            parts: parts_of(alloc, parts)?,
-            reads: keys_of(alloc, reads)?,
-            writes: writes_of(alloc, writes)?,
-        })),
+        ["prepare", id, coordinator, at, reads, writes] => {
+            let promise = (txn(id)?, shard(coordinator)?, stamp(at)?);
+            prepare_of(alloc, promise, reads, writes)
+        }
+        ["commit", id, at, parts, reads, writes] => {
+            let decision = (txn(id)?, stamp(at)?, parts_of(alloc, parts)?);
+            commit_of(alloc, decision, reads, writes)
+        }
         ["abort", id] => Ok(Record::Abort { txn: txn(id)? }),
         ["outcome", id, outcome @ ..] => Ok(Record::Outcome {
             txn: txn(id)?,
@@ -46,6 +37,47 @@ fn record_of(alloc: Global, words: &[&str]) -> Result<Record, Fail> {
         }),
         _ => Err("no record".into()),
     }
+}
+
+fn opened(word: &str) -> Result<Record, Fail> {
+    let epoch = Epoch::new(number(word)?).ok_or("an epoch")?;
+    Ok(Record::Opened { epoch })
+}
+
+// A promise, by its transaction, its coordinator and its timestamp.
+fn prepare_of(
+    alloc: Global,
+    (txn, coordinator, at): (TxnId, ShardNo, Stamp),
+    reads: &str,
+    writes: &str,
+) -> Result<Record, Fail> {
+    let reads = keys_of(alloc, reads)?;
+    let writes = writes_of(alloc, writes)?;
+    Ok(Record::Prepare(Prepared {
+        txn,
+        coordinator,
+        at,
+        reads,
+        writes,
+    }))
+}
+
+// A decision, by its transaction, its timestamp and its parts.
+fn commit_of(
+    alloc: Global,
+    (txn, at, parts): (TxnId, Stamp, Parts),
+    reads: &str,
+    writes: &str,
+) -> Result<Record, Fail> {
+    let reads = keys_of(alloc, reads)?;
+    let writes = writes_of(alloc, writes)?;
+    Ok(Record::Commit(Committed {
+        txn,
+        at,
+        parts,
+        reads,
+        writes,
+    }))
 }
 
 fn outcome_of(words: &[&str]) -> Result<Option<Stamp>, Fail> {

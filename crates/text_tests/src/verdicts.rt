@@ -1,6 +1,8 @@
 //! Verdicts on logs and lines.
 use crate::logs::log_of;
 use inspector::inspect;
+use record::Record;
+use std::alloc::Global;
 use std::test::Fail;
 use texts::{Text, lines};
 
@@ -193,18 +195,29 @@ static CASES: [Case; 24] = [
     },
 ];
 
+// The logs of all shards.
+fn logs_of(alloc: Global, texts: &[&str]) -> Result<Vec<Vec<Record>>, Fail> {
+    let mut logs = Vec::new(alloc);
+    for text in texts {
+        logs.push(log_of(alloc, text)?)?;
+    }
+    Ok(logs)
+}
+
+// The verdict on a case, behind its name.
+fn verdict_on(alloc: Global, case: &Case) -> Result<String, Fail> {
+    let logs = logs_of(alloc, case.logs)?;
+    let lines = lines(alloc, case.lines)?;
+    let verdict = inspect(alloc, &logs, &lines)?;
+    Ok(format!(in alloc; "{}: {}", case.name, Text(&verdict))?)
+}
+
 #[test]
 fn verdicts_are_given(rt: HostRuntime) -> Result<(), Fail> {
     let alloc = rt.alloc();
     for case in &CASES {
-        let mut logs = Vec::new(alloc);
-        for text in case.logs {
-            logs.push(log_of(alloc, text)?)?;
-        }
-        let verdict = inspect(alloc, &logs, &lines(alloc, case.lines)?)?;
-        let printed = format!(in alloc; "{}: {}", case.name, Text(&verdict))?;
         let wanted = format!(in alloc; "{}: {}", case.name, case.verdict)?;
-        assert_eq!(rt; printed.as_str(), wanted.as_str());
+        assert_eq!(rt; verdict_on(alloc, case)?.as_str(), wanted.as_str());
     }
     Ok(())
 }
