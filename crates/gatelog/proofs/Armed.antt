@@ -1,7 +1,7 @@
 -- An append on a disk that fails by a plan.
 use Rattle.std.proofs.Common.{◌≡◌, ◌⊎◌, inl, inr, ◌+◌, ◌-◌, ◌≤◌, ◌||◌, ℕ, zero, suc, eqb, Bool, true, false, if◌then◌else◌, List, [], ◌∷◌, length}
 use Rattle.std.proofs.Common.{get_or, Result, Ok, Err, refl, sym, subst, ap, ◌∙◌, arith}
-use Rattle.std.specs.Prelude.{IsTrue, OnOk, IsOk, IsErr, nat_le, nat_lt}
+use Rattle.std.specs.Prelude.{IsTrue, IfErr, OnOk, IsOk, IsErr, nat_le, nat_lt}
 use Rattle.std.proofs.lemmas.Bool.{cases_eq, eq-eqb, ne_eqb, false≢true, le-leb, lt-leb, le-ltb}
 use Rattle.record.specs.declared.record.Record.{Record}
 use Rattle.record.specs.Grammar.{IsRecord}
@@ -29,6 +29,16 @@ planned_ok E false value is = refl
 pub planned_err : (T : Type 0) {E : Type 0} (failed : Bool) (error : E) → IsAsPlanned {T = T} {E = E} failed (Err error) → failed ≡ true
 planned_err T true error is = refl
 planned_err T false error is = absurd (false≢true is)
+
+-- a call that is not to fail refuses nothing
+pub no_err : {T E : Type 0} (failed : Bool) (result : Result T E) (Q : E → Type 0) → IsAsPlanned failed result → failed ≡ false → IfErr result Q
+no_err failed (Ok value) Q planned is = tt
+no_err {T = T} failed (Err error) Q planned is = absurd (false≢true (sym is ∙ planned_err T failed error planned))
+
+-- what holds anyway holds after Ok
+pub on_any : {T E : Type 0} (result : Result T E) (P : Type 0) → P → OnOk result P
+on_any (Ok value) P holds = holds
+on_any (Err error) P holds = tt
 
 pub as_ok : (E : Type 0) {T : Type 0} (failed : Bool) (value : T) → failed ≡ false → IsAsPlanned {T = T} {E = E} failed (Ok value)
 as_ok E true value is = absurd (false≢true (sym is))

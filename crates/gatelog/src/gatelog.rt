@@ -90,13 +90,13 @@ impl<D: Disk> GateLog<D> {
     {
         let mut disk = disk;
         let size = encoded_len(first) + 6;
+        if let Err(fault) = disk.reserve(9 + size) {
+            return Err((fault, disk));
+        }
         let staged = match Staged::at(alloc, FIRST_GATE, first) {
             Ok(staged) => staged,
             Err(fault) => return Err((fault, disk)),
         };
-        if let Err(fault) = disk.reserve(9 + size) {
-            return Err((fault, disk));
-        }
         match GateLog::laid_out(disk) {
             Ok(log) => Ok((log, staged)),
             Err(refused) => Err(refused),
@@ -203,9 +203,8 @@ impl<D: Disk> GateLog<D> {
         if self.gate > 1 << 40 || size > (1 << 40) - self.gate {
             return Err(Fault::TimeSpent);
         }
-        let staged = Staged::at(alloc, self.gate, record)?;
         self.disk.reserve(size)?;
-        Ok(staged)
+        Staged::at(alloc, self.gate, record)
     }
 
     /// Puts a record that was staged behind the last one. It takes no memory. After a refusal the log is stopped.

@@ -85,8 +85,44 @@ pub fn read_synced<D: Disk>(alloc: Global, disk: &mut D) -> Result<Vec<u8>, Faul
     ensures failures_stay { D.failures disk.old ≤ D.failures disk.new }
     ensures cause { IfErr result (λ fault. (fault ≡ Fault.Memory) ⊎ ((fault ≡ Fault.Device) × (D.failures disk.old < D.failures disk.new))) }
 {
+    sync_first(disk)?;
+    bytes_of(alloc, disk)
+}
+
+// Syncs a file before it is read.
+fn sync_first<D: Disk>(disk: &mut D) -> Result<(), Fault>
+    ensures synced { OnOk result
+        (D.keeps_model → surface (D.file disk.new) ≡ after_sync (surface (D.file disk.old))) }
+    ensures crash { D.keeps_model →
+        LeavesOnly D.clock D.since disk.old disk.new (MayLeave (surface (D.file disk.old))) }
+    ensures failures_stay { D.failures disk.old ≤ D.failures disk.new }
+    ensures cause { IfErr result
+        (λ fault. ((fault ≡ Fault.Memory) × (D.file disk.new ≡ D.file disk.old))
+        ⊎ ((fault ≡ Fault.Device) × (D.failures disk.old < D.failures disk.new))) }
+    // With no call to fail before the next write, only memory is refused.
+    ensures waits { D.obeys → waits (D.plan disk.old) ≡ true →
+        IfErr result (λ fault. (fault ≡ Fault.Memory) × (D.file disk.new ≡ D.file disk.old))
+        × OnOk result (D.file disk.new ≡ synced (D.file disk.old))
+        × (D.plan disk.new ≡ D.plan disk.old) }
+{
     disk.reserve(0)?;
-    disk.sync()?;
+    disk.sync()
+}
+
+// The bytes of a file.
+fn bytes_of<D: Disk>(alloc: Global, disk: &mut D) -> Result<Vec<u8>, Fault>
+    ensures bytes { IfOk result
+        (λ image. D.keeps_model → image.items ≡ (surface (D.file disk.old)).seen) }
+    ensures same { D.file disk.new ≡ D.file disk.old }
+    ensures crash { D.keeps_model →
+        LeavesOnly D.clock D.since disk.old disk.new (MayLeave (surface (D.file disk.old))) }
+    ensures failures_stay { D.failures disk.old ≤ D.failures disk.new }
+    ensures cause { IfErr result (λ fault. (fault ≡ Fault.Memory)
+        ⊎ ((fault ≡ Fault.Device) × (D.failures disk.old < D.failures disk.new))) }
+    // With no call to fail before the next write, only memory is refused.
+    ensures waits { D.obeys → waits (D.plan disk.old) ≡ true →
+        IfErr result (λ fault. fault ≡ Fault.Memory) × (D.plan disk.new ≡ D.plan disk.old) }
+{
     let mut image = Vec::from_elem(alloc, 0, disk.len() as usize)?;
     disk.read_at(0, &mut image)?;
     Ok(image)

@@ -1,7 +1,8 @@
 //! What a log hands out.
-ghost use Rattle.std.specs.Prelude.{◌≡◌, ◌<◌, ◌≤◌, ◌+◌, ◌^◌, ◌++◌, ◌∷◌, [], length, IfOk, IfErr};
+ghost use Rattle.std.specs.Prelude.{◌≡◌, ◌<◌, ◌≤◌, ◌+◌, ◌^◌, ◌++◌, ◌∷◌, [], length, IfOk, IfErr, OnOk};
 ghost use Rattle.std.specs.Int.{w32, to_be_bytes};
-ghost use Rattle.gatelog.specs.Frames.{next_gate};
+ghost use Rattle.gatelog.specs.Frames.{next_gate, staged_bytes};
+ghost use Rattle.record.specs.Grammar.{IsRecord};
 
 use byteorder::{BigEndian, ByteOrder};
 use record::{Record, encode};
@@ -85,14 +86,23 @@ impl Staged {
         ensures staged { IfOk result (λ staged. (staged.offset ≡ gate) × (staged.item ≡ «record».now)) }
         ensures memory { IfErr result (λ fault. fault ≡ Fault.Memory) }
     {
-        let body = encode(alloc, record)?;
-        let bytes = bytes_behind(alloc, &body)?;
+        let bytes = bytes_for(alloc, record)?;
         let item = record.copy(alloc)?;
         Ok(Staged { gate, item, bytes })
     }
 }
 
-// What an append writes behind the closed gate.
+// What an append of a record writes behind the closed gate.
+fn bytes_for(alloc: Global, item: &Record) -> Result<Vec<u8>, Fault>
+    ensures bytes { IfOk result (λ bytes. bytes.items ≡ staged_bytes item.now) }
+    ensures fits { OnOk result (IsRecord item.now) }
+    ensures memory { IfErr result (λ fault. fault ≡ Fault.Memory) }
+{
+    let body = encode(alloc, item)?;
+    bytes_behind(alloc, &body)
+}
+
+// The length of a body, the body, and a closed gate.
 fn bytes_behind(alloc: Global, body: &[u8]) -> Result<Vec<u8>, Fault>
     requires { length body.now < 2 ^ 32 }
     ensures bytes { IfOk result (λ bytes. bytes.items ≡ (to_be_bytes w32 (length body.now) ++ body.now) ++ 0 ∷ []) }

@@ -1,6 +1,7 @@
 use Rattle.std.proofs.Common.{◌≡◌, ◌+◌, length, sym, arith}
 use Rattle.record.specs.Grammar.{spelling}
 use Rattle.gatelog.specs.Frames.{staged_bytes}
+use Rattle.gatelog.proofs.Armed.{on_any}
 use Rattle.gatelog.proofs.Images.{bytes-size}
 use Rattle.gatelog.proofs.gatelog.GateLog.stage.Goals as goal
 
@@ -8,7 +9,7 @@ pub at-requires : goal.at-requires
 at-requires g c = omega (arith, c.encoded_len-size.ensures.value, c.if-size-self.false)
 
 pub returns-clause-room : goal.returns-clause-room
-returns-clause-room g c obeys =
+returns-clause-room g c = on_any c.at.result _ (λ obeys.
     let size : length (spelling c.args.record.now) ≡ c.encoded_len-size.result = sym c.encoded_len-size.ensures.value in
     g.met.D.Disk.room_less c.reserve.new.self 8 (c.encoded_len-size.result + 6) 4 (length (staged_bytes c.args.record.now) + 1) (omega arith)
-    (omega (arith, size, bytes-size 0 c.args.record.now)) (c.in_ok-reserve.ensures.room obeys)
+    (omega (arith, size, bytes-size 0 c.args.record.now)) (c.in_ok-reserve.ensures.room obeys))
