@@ -14,7 +14,8 @@ ghost use Rattle.coordinator.specs.Granted.{waits};
 ghost use Rattle.memory.specs.Standings.{standing_in, standing_by_row, opens_writes, MakesPlan};
 ghost use Rattle.coordinator.specs.ByMessage.{PlansCommit, PlansCommitNow, PlansGranted, MakesDecision, MakesCollecting, MakesDecisionAnew, MakesCollectingAnew};
 
-use memory::{Change, PastStanding, Plan, Request, State, done_to, exclusive, reads_stand};
+use locks::exclusive;
+use memory::{Change, PastStanding, Plan, Request, State, done_to, reads_stand};
 use message::Commit;
 use record::{Committed, Record};
 use rows::{CommitRequest, Gathering, Row, Wait};

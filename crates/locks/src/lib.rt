@@ -6,8 +6,10 @@ mod buffer;
 mod claim;
 mod conflict;
 mod held;
+mod needs;
 mod table;
 mod tally;
 
 pub use held::Held;
+pub use needs::{exclusive, shared_and_exclusive};
 pub use table::Table;

@@ -18,5 +18,5 @@ pub use envelopes::{answer_to, ask_to, done_to, outcome_to, vote_to};
 pub use laws::holds_follow_rows;
 pub use ledger::Ledger;
 pub use plan::{Change, Plan, Request};
-pub use planning::{exclusive, reads_stand};
+pub use planning::reads_stand;
 pub use state::{PastStanding, State};

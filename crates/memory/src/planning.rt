@@ -1,7 +1,6 @@
 //! The plans of which every step is one.
 ghost use Rattle.std.specs.Option.{option_copied};
 ghost use Rattle.std.specs.Prelude.{◌≡◌, ◌≤◌, ◌++◌, ◌∷◌, [], true, Some, None, Ok, IfOk, IfErr, option_to_list};
-ghost use Rattle.units.specs.Locks.{exclusive};
 ghost use Rattle.protocol.specs.Rows.{find_row, held_in};
 ghost use Rattle.protocol.specs.Outputs.{refused_vote};
 ghost use Rattle.protocol.specs.Plan.{Keeps, replies, ends, drops, votes_of};
@@ -20,21 +19,6 @@ use record::Record;
 use rows::{Row, Wait};
 use std::alloc::Global;
 use units::{Fault, Ids, Key, Lock, Mode, Parts, ShardNo, Stamp, TxnId, Writes};
-
-/// An exclusive lock of each key that is written.
-pub fn exclusive(alloc: Global, writes: &Writes) -> Result<Vec<Lock>, Fault>
-    ensures locks { IfOk result (λ locks. locks.items ≡ exclusive writes.now) }
-    ensures memory { IfErr result (λ fault. fault ≡ Fault.Memory) }
-{
-    let mut locks = Vec::new(alloc);
-    for write in writes.as_slice() {
-        locks.push(Lock {
-            key: write.key,
-            mode: Mode::Exclusive,
-        })?;
-    }
-    Ok(locks)
-}
 
 /// The shards of a transaction other than one.
 pub fn other_parts(alloc: Global, shard: ShardNo, parts: Parts) -> Result<Vec<ShardNo>, Fault>

@@ -12,7 +12,8 @@ ghost use Rattle.memory.specs.Kept.{start_of, standing_of, IsPlanned};
 ghost use Rattle.memory.specs.Standings.{standing_in, standing_by_row, opens_writes, MakesPlan, MakesReply};
 ghost use Rattle.participant.specs.ByMessage.{PlansPrepare, PlansPrepareNow, PlansPromise, MakesPromise, MakesPromiseAnew};
 
-use memory::{Change, PastStanding, Plan, Request, State, exclusive, reads_stand, vote_to};
+use locks::exclusive;
+use memory::{Change, PastStanding, Plan, Request, State, reads_stand, vote_to};
 use message::Prepare;
 use record::{Prepared, Record};
 use rows::{PrepareRequest, Row, Wait};

@@ -1,20 +1,20 @@
 //! One record of a log, as if it were logged once more.
 ghost use Rattle.std.specs.Prelude.{◌≡◌, ◌++◌, [], true, max, Some, None, OnOk, IfOk, IfErr};
-ghost use Rattle.units.specs.Locks.{shared, exclusive};
 ghost use Rattle.record.specs.Facts.{learn, or_floor};
 ghost use Rattle.facts.specs.Rules.{follows_facts};
 ghost use Rattle.protocol.specs.Rows.{rebuilt, find_row};
 ghost use Rattle.protocol.specs.Plan.{Puts, carried};
-ghost use Rattle.memory.specs.Carry.{Asks, IsFit, MayStand};
+ghost use Rattle.memory.specs.Carry.{Asks, HasMemoryFor, IsFit, MayStand, writes_installed};
 ghost use Rattle.memory.specs.Plans.{plan_of};
 ghost use Rattle.rows.specs.RowTable.{phase_by};
 ghost use Rattle.recovery.specs.Recovered.{IsRecovered, fits_facts, stands_in};
 
 use gatelog::Logged;
-use memory::{Change, Plan, Request, State, ready_plans_can_be_carried};
+use locks::shared_and_exclusive;
+use memory::{Change, Plan, Ready, Request, State, ready_plans_can_be_carried};
 use record::Record;
 use std::alloc::Global;
-use units::{Fault, Ids, Keys, Lock, Mode, Stamp, TxnId, Writes};
+use units::{Fault, Ids, Keys, Lock, Stamp, TxnId, Writes};
 
 /// The record has its place beside what stands: there is room for its row, nobody has its locks, and it is above the versions
 /// of what it writes or installs. It is refused for want of memory alone.
@@ -48,16 +48,9 @@ pub fn replay(state: &mut State, alloc: Global, logged: Logged) -> Result<(), Fa
 {
     ready_plans_can_be_carried();
     state.laws();
-    let plan = match plan_again(state, alloc, logged.item()) {
-        Ok(plan) => plan,
-        Err(fault) => {
-            logged.spend();
-            return Err(fault);
-        }
-    };
-    match state.make_ready(alloc, &plan) {
-        Ok(ready) => {
-            let _ = state.carry(plan, ready, Some(logged));
+    match ready_again(state, alloc, logged.item()) {
+        Ok((plan, ready)) => {
+            state.carry(plan, ready, Some(logged));
             Ok(())
         }
         Err(fault) => {
@@ -65,6 +58,27 @@ pub fn replay(state: &mut State, alloc: Global, logged: Logged) -> Result<(), Fa
             Err(fault)
         }
     }
+}
+
+// The plan that logs the record once more, with the memory that it takes.
+fn ready_again(state: &mut State, alloc: Global, item: &Record) -> Result<(Plan, Ready), Fault>
+    requires recovered { IsRecovered state.old }
+    requires follows { follows_facts state.old.setup.shard state.old.facts item.now ≡ true }
+    requires fits { fits_facts state.old.facts item.now ≡ true }
+    ensures setup { state.new.setup ≡ state.old.setup }
+    ensures logged { IfOk result (λ made. made.0.logged ≡ Some item.now) }
+    ensures fit { IfOk result (λ made. IsFit state.old made.0) }
+    ensures memory_after { IfOk result
+        (λ made. carried (plan_of state.old.memory.rows made.0) state.old.memory ≡
+        rebuilt (learn state.old.facts item.now)) }
+    ensures ready { IfOk result (λ made. HasMemoryFor state.old state.new made.0) }
+    ensures writes { IfOk result
+        (λ made. made.1.writes ≡ writes_installed state.old.facts made.0.logged) }
+    ensures memory { IfErr result (λ fault. fault ≡ Fault.Memory) }
+{
+    let plan = plan_again(state, alloc, item)?;
+    let ready = state.make_ready(alloc, &plan)?;
+    Ok((plan, ready))
 }
 
 // The plan that logs the record once more.
@@ -90,11 +104,11 @@ fn plan_again(state: &State, alloc: Global, item: &Record) -> Result<Plan, Fault
             Ok(state.drops(alloc, *txn, copy, last, Vec::new(alloc)))
         }
         Record::Prepare(p) => {
-            let needs = locks_for(alloc, &p.reads, &p.writes)?;
+            let needs = shared_and_exclusive(alloc, &p.reads, &p.writes)?;
             stand_again(state, alloc, p.txn, p.at, needs, copy)
         }
         Record::Commit(c) => {
-            let needs = locks_for(alloc, &c.reads, &c.writes)?;
+            let needs = shared_and_exclusive(alloc, &c.reads, &c.writes)?;
             stand_again(state, alloc, c.txn, c.at, needs, copy)
         }
     }
@@ -154,30 +168,9 @@ fn stands_beside(
         (λ stands. stands ≡ stands_in state.now.facts at reads.now writes.now) }
     ensures memory { IfErr result (λ fault. fault ≡ Fault.Memory) }
 {
-    let needs = locks_for(alloc, reads, writes)?;
+    let needs = shared_and_exclusive(alloc, reads, writes)?;
     let is_crowded = state.is_crowded(txn);
     let is_free = state.opens(txn, &needs);
     let is_above = state.takes(writes, at);
     Ok(!is_crowded && is_free && is_above)
-}
-
-// A shared lock of each key that was read, and an exclusive one of each that is written.
-fn locks_for(alloc: Global, reads: &Keys, writes: &Writes) -> Result<Vec<Lock>, Fault>
-    ensures locks { IfOk result (λ locks. locks.items ≡ shared reads.now ++ exclusive writes.now) }
-    ensures memory { IfErr result (λ fault. fault ≡ Fault.Memory) }
-{
-    let mut locks = Vec::new(alloc);
-    for key in reads.as_slice() {
-        locks.push(Lock {
-            key: *key,
-            mode: Mode::Shared,
-        })?;
-    }
-    for write in writes.as_slice() {
-        locks.push(Lock {
-            key: write.key,
-            mode: Mode::Exclusive,
-        })?;
-    }
-    Ok(locks)
 }

@@ -29,9 +29,9 @@ impl Tx<'_, Open> {
             (Answer.Holds value.now)) × (heard ≡ Heard.Value value.now))
             (λ fault. (self.new.client ≡ self.old.client) × (fault ≡ Fault.Memory)) }
     {
+        self.taken.reserve(1)?;
         let shown = copy_value(alloc, value)?;
         let kept = copy_value(alloc, value)?;
-        self.taken.reserve(1)?;
         self.taken.push_reserved(Answered {
             key: answer.key,
             shard: answer.from,

@@ -6,15 +6,15 @@ use Rattle.recovery.proofs.replaying.replay.Goals as goal
 
 pub carry-requires-clause-ready : goal.carry-requires-clause-ready
 carry-requires-clause-ready c =
-    can_carry_again c.args.state.now c.make_ready.new.self c.in-Ok.plan c.args.logged c.in-Ok-make_ready.ready.writes c.requires.recovered
+    can_carry_again c.args.state.now c.ready_again.new.state c.in-Ok.plan c.args.logged c.in-Ok.ready.writes c.requires.recovered
     c.requires.follows c.requires.fits
-    (c.in-Ok.ensures.logged ∙ ap Some c.item.ensures) c.in-Ok.ensures.fit c.in-Ok-make_ready.ensures.ready c.ready_plans_can_be_carried.ensures.carriable
-    c.in-Ok-make_ready.ensures.writes
+    (c.in-Ok.ensures.logged ∙ ap Some c.item.ensures) c.in-Ok.ensures.fit c.in-Ok.ensures.ready c.ready_plans_can_be_carried.ensures.carriable
+    c.in-Ok.ensures.writes
 
-pub returns-in-Ok-make_ready-clause-ok : goal.returns-in-Ok-make_ready-clause-ok
-returns-in-Ok-make_ready-clause-ok c =
-    recovered_again c.args.state.now c.make_ready.new.self c.carry.new.self c.in-Ok.plan c.args.logged c.requires.recovered c.laws.ensures
+pub returns-in-Ok-clause-ok : goal.returns-in-Ok-clause-ok
+returns-in-Ok-clause-ok c =
+    recovered_again c.args.state.now c.ready_again.new.state c.carry.new.self c.in-Ok.plan c.args.logged c.requires.recovered c.laws.ensures
     c.requires.follows c.requires.fits
-    (c.in-Ok.ensures.logged ∙ ap Some c.item.ensures) c.in-Ok.ensures.fit c.in-Ok-make_ready.ensures.ready c.ready_plans_can_be_carried.ensures.unseen
+    (c.in-Ok.ensures.logged ∙ ap Some c.item.ensures) c.in-Ok.ensures.fit c.in-Ok.ensures.ready c.ready_plans_can_be_carried.ensures.unseen
     (c.in-Ok.ensures.memory_after ∙ ap (λ r. rebuilt (learn c.args.state.now.facts r)) c.item.ensures)
     c.carry.ensures.facts c.carry.ensures.memory
