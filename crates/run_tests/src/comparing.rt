@@ -25,6 +25,64 @@ pub struct Case<'a> {
     pub wanted: &'a Wanted<'a>,
 }
 
+// The steps come to what is wanted.
+pub fn compare(rt: &impl Abort, alloc: Global, case: &Case<'_>) -> Result<(), Fail> {
+    let steps = case.steps.get(..case.taken).ok_or("so many steps")?;
+    let report = run(alloc, case.splits, steps).ok_or("a report")?;
+    compare_report(rt, alloc, &report, case)
+}
+
+fn compare_report(
+    rt: &impl Abort,
+    alloc: Global,
+    report: &Report,
+    case: &Case<'_>,
+) -> Result<(), Fail> {
+    assert_eq!(rt; report.replies.len(), case.taken, "{}", case.name);
+    compare_replies(rt, alloc, report, case)?;
+    compare_messages(rt, alloc, report, case)?;
+    compare_lines(rt, alloc, report, case)?;
+    compare_logs(rt, alloc, report, case)
+}
+
+fn compare_replies(
+    rt: &impl Abort,
+    alloc: Global,
+    report: &Report,
+    case: &Case<'_>,
+) -> Result<(), Fail> {
+    let found = reply_texts(alloc, report)?;
+    assert_eq!(rt; found, joined(alloc, case.wanted.replies)?, "{}", case.name);
+    Ok(())
+}
+
+fn compare_messages(
+    rt: &impl Abort,
+    alloc: Global,
+    report: &Report,
+    case: &Case<'_>,
+) -> Result<(), Fail> {
+    let found = message_texts(alloc, report)?;
+    assert_eq!(rt;
+        found,
+        joined(alloc, case.wanted.messages)?,
+        "{}",
+        case.name
+    );
+    Ok(())
+}
+
+fn compare_lines(
+    rt: &impl Abort,
+    alloc: Global,
+    report: &Report,
+    case: &Case<'_>,
+) -> Result<(), Fail> {
+    let found = line_texts(alloc, report)?;
+    assert_eq!(rt; found, joined(alloc, case.wanted.lines)?, "{}", case.name);
+    Ok(())
+}
+
 fn compare_logs(
     rt: &impl Abort,
     alloc: Global,
@@ -34,32 +92,20 @@ fn compare_logs(
     let logs = case.wanted.logs;
     assert_eq!(rt; report.logs.len(), logs.len(), "{}", case.name);
     for (shard, log) in logs.iter().enumerate() {
-        let found = log_texts(alloc, report, shard)?;
-        assert_eq!(rt; found, joined(alloc, log)?, "{}: shard {shard}", case.name);
+        compare_log(rt, alloc, report, (case.name, shard), log)?;
     }
     Ok(())
 }
 
-// The steps come to what is wanted.
-pub fn compare(rt: &impl Abort, alloc: Global, case: &Case<'_>) -> Result<(), Fail> {
-    let steps = case.steps.get(..case.taken).ok_or("so many steps")?;
-    let (wanted, name) = (case.wanted, case.name);
-    let report = run(alloc, case.splits, steps).ok_or("a report")?;
-    assert_eq!(rt; report.replies.len(), steps.len(), "{name}");
-    assert_eq!(rt;
-        reply_texts(alloc, &report)?,
-        joined(alloc, wanted.replies)?,
-        "{name}"
-    );
-    assert_eq!(rt;
-        message_texts(alloc, &report)?,
-        joined(alloc, wanted.messages)?,
-        "{name}"
-    );
-    assert_eq!(rt;
-        line_texts(alloc, &report)?,
-        joined(alloc, wanted.lines)?,
-        "{name}"
-    );
-    compare_logs(rt, alloc, &report, case)
+// The log of a shard of a case.
+fn compare_log(
+    rt: &impl Abort,
+    alloc: Global,
+    report: &Report,
+    (name, shard): (&str, usize),
+    wanted: &[&str],
+) -> Result<(), Fail> {
+    let found = log_texts(alloc, report, shard)?;
+    assert_eq!(rt; found, joined(alloc, wanted)?, "{name}: shard {shard}");
+    Ok(())
 }

@@ -1,5 +1,5 @@
 //! Lists of events that may not happen.
-use crate::runs::{is_lawful, played};
+use crate::runs::{is_lawful, refusal};
 use crate::schedules::{ONE_SHARD, TWO_SHARDS};
 use crate::steps::{Step, Timed};
 use std::alloc::Global;
@@ -7,7 +7,7 @@ use std::test::Fail;
 use units::{Fault, Reason};
 
 // The lists, each with the number of the first event that may not happen.
-const LISTS: [(&[Timed], u64); 11] = [
+static LISTS: [(&[Timed], u64); 11] = [
     // A message that was not put out.
     (&[(100, Step::Deliver(0, 100, 110))], 0),
     // One id twice.
@@ -42,17 +42,14 @@ const LISTS: [(&[Timed], u64); 11] = [
 
 // The list is refused with that number.
 fn is_refused(alloc: Global, steps: &[Timed], number: u64) -> bool {
-    match played(alloc, b"m", steps) {
-        Some(Err(fault)) => fault == Fault::BadRequest(Reason::Unlawful(number)),
-        _ => false,
-    }
+    refusal(alloc, b"m", steps) == Some(Fault::BadRequest(Reason::Unlawful(number)))
 }
 
 #[test]
 fn unlawful_lists(rt: HostRuntime) -> Result<(), Fail> {
     let alloc = rt.alloc();
-    for (steps, number) in LISTS {
-        assert!(rt; is_refused(alloc, steps, number), "{steps:?}");
+    for (steps, number) in &LISTS {
+        assert!(rt; is_refused(alloc, steps, *number), "{steps:?}");
         assert!(rt;
             !is_lawful(alloc, b"m", steps).ok_or("a verdict")?,
             "{steps:?}"
