@@ -1,5 +1,5 @@
 // The bytes of a record.
-ghost use Rattle.std.specs.Prelude.{◌≡◌, ◌++◌, OnOk, IfOk, IfErr};
+ghost use Rattle.std.specs.Prelude.{◌≡◌, ◌++◌, [], OnOk, IfOk, IfErr};
 ghost use Rattle.std.specs.Int.{w16, w64, to_be_bytes};
 ghost use Rattle.record.specs.Grammar.{spelling, prepare_spelling, commit_spelling, id_spelling, key_spelling, keys_spelling, write_spelling, writes_spelling, outcome_spelling, parts_spelling, IsId, IsKey, IsKeys, IsParts, IsWrite, IsWrites, IsPrepare, IsCommit, IsOutcome, IsRecord, NoneBeginsAnother};
 
@@ -155,34 +155,45 @@ pub fn encode(alloc: Global, record: &Record) -> Result<Vec<u8>, Fault>
     ensures memory { IfErr result (λ fault. fault ≡ Fault.Memory) }
 {
     let mut out = Vec::new(alloc);
-    match record {
+    put_record(&mut out, record)?;
+    Ok(out)
+}
+
+// Into an empty buffer.
+fn put_record(out: &mut Vec<u8>, item: &Record) -> Result<(), Fault>
+    requires empty { out.old.items ≡ [] }
+    ensures ok { OnOk result (out.new.items ≡ spelling item.now) }
+    ensures fits { OnOk result (IsRecord item.now) }
+    ensures memory { IfErr result (λ fault. fault ≡ Fault.Memory) }
+{
+    match item {
         Record::Opened { epoch } => {
             out.push(1)?;
-            put_u64(&mut out, epoch.number())?;
+            put_u64(out, epoch.number())?;
         }
         Record::Ceiling { at } => {
             out.push(2)?;
-            put_u64(&mut out, at.micros())?;
+            put_u64(out, at.micros())?;
         }
         Record::Prepare(p) => {
             out.push(3)?;
-            put_prepare(&mut out, p)?;
+            put_prepare(out, p)?;
         }
         Record::Commit(c) => {
             out.push(4)?;
-            put_commit(&mut out, c)?;
+            put_commit(out, c)?;
         }
         Record::Abort { txn } => {
             out.push(5)?;
-            put_id(&mut out, *txn)?;
+            put_id(out, *txn)?;
         }
         Record::Outcome { txn, outcome } => {
             out.push(6)?;
-            put_id(&mut out, *txn)?;
-            put_outcome(&mut out, *outcome)?;
+            put_id(out, *txn)?;
+            put_outcome(out, *outcome)?;
         }
     }
-    Ok(out)
+    Ok(())
 }
 
 /// Two spellings, one of them at the beginning of the other, are of one record.
