@@ -8,7 +8,7 @@ made=$(mktemp -d "${TMPDIR:-/tmp}/bench.XXXXXX")
 
 # The crates that the core of a shard stands on, the lowest first.
 crates="units truetime counts waiting disk simdisk record gatelog message protocol locks facts versions safetime rows memory
-participant coordinator ceiling recovery shard"
+participant coordinator ceiling recovery shard inspector"
 
 externs() {
     for library in "$1"/lib*.rlib; do
@@ -28,9 +28,11 @@ build() {
         rustc --edition 2021 -O -A warnings --crate-type rlib --crate-name "$crate" "$to/$crate/lib.rs" $(externs "$to") \
             -L "$to" -o "$to/lib$crate.rlib"
     done
-    # shellcheck disable=SC2046
-    rustc --edition 2021 -C opt-level=3 -C lto=fat -C codegen-units=1 --crate-name store "$here/store.rs" $(externs "$to") \
-        -L "$to" -o "$to/store"
+    for program in store inspect; do
+        # shellcheck disable=SC2046
+        rustc --edition 2021 -C opt-level=3 -C lto=fat -C codegen-units=1 --crate-name "$program" "$here/$program.rs" \
+            $(externs "$to") -L "$to" -o "$to/$program"
+    done
 }
 
 revisions=
@@ -49,5 +51,6 @@ done
 echo "$made"
 for place in here $revisions; do
     echo "== $place"
-    "$made/$place/store" "$@"
+    [ "$*" = inspect ] || "$made/$place/store" "$@"
+    if [ $# -eq 0 ] || [ "$*" = inspect ]; then "$made/$place/inspect"; fi
 done

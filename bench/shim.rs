@@ -100,6 +100,14 @@ impl<T> Vec<T> {
         self.0.extend_from_slice(xs);
         Ok(())
     }
+    pub fn sort_by(&mut self, compare: impl FnMut(&T, &T) -> std::cmp::Ordering) -> Result<(), AllocError> {
+        self.0.sort_by(compare);
+        Ok(())
+    }
+    pub fn sort_by_key<K: Ord>(&mut self, key: impl FnMut(&T) -> K) -> Result<(), AllocError> {
+        self.0.sort_by_key(key);
+        Ok(())
+    }
     pub fn retain(&mut self, keeps: impl FnMut(&T) -> bool) {
         self.0.retain(keeps);
     }

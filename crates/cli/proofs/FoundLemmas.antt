@@ -1,5 +1,5 @@
 -- What the parser found is the words of the line.
-use Rattle.std.proofs.Common.{◌≡◌, ◌∙◌, true, false, refl, sym, ap, List, Option, Some, None, codes, true≢false}
+use Rattle.std.proofs.Common.{◌≡◌, ◌∙◌, true, false, refl, sym, ap, List, [], ◌∷◌, Option, Some, None, codes, true≢false}
 use Rattle.std.specs.Prelude.{Box, option_map, Result, Ok, Err, IsOkAnd, MatchResult}
 use Rattle.std.specs.Box.{box_value}
 use Rattle.std.specs.Str.{bytes_eq}
@@ -7,11 +7,11 @@ use Rattle.clap.proofs.WalkLemmas.{first_value-rows}
 use Rattle.clap.specs.Words.{Row, Text, first_of, first_value, rows_of, subcommand_rows, subcommand_rows_of}
 use Rattle.clap.specs.Matches.{subcommand_name_of}
 use Rattle.clap.specs.declared.parser.matches.ArgMatches.{ArgMatches}
-use Rattle.clap.specs.declared.parser.matches.ArgMatches.TheViews.{out-SubCommand}
+use Rattle.clap.specs.declared.parser.matches.ArgMatches.TheViews.{out-ArgMatches, out-SubCommand}
 use Rattle.clap.specs.declared.parser.matches.Found.{Found}
 use Rattle.clap.specs.declared.parser.matches.SubCommand.{SubCommand}
-use Rattle.cli.specs.Lines.{CommandLine, Word, once}
-use Rattle.cli.specs.Parser.{entry_of}
+use Rattle.cli.specs.Lines.{CommandLine, Word, once, play}
+use Rattle.cli.specs.Parser.{entry_of, row}
 use Rattle.cli.specs.Views.{line_view}
 use Rattle.cli.specs.declared.command_line.Line.{Line}
 
@@ -20,6 +20,13 @@ names_same : {Z : Type 0} (o : Option (Box SubCommand Z))
     → option_map (λ (p : Text × List Row). p.0) (subcommand_rows o) ≡ option_map (λ b. (out-SubCommand (box_value b)).name.now) o
 names_same None = refl
 names_same (Some b) = refl
+
+named_as : (m : ArgMatches) (line : CommandLine) (name : Word) → subcommand_rows_of m ≡ Some (entry_of line)
+    → subcommand_name_of m ≡ Some name → (entry_of line).0 ≡ name
+named_as m line name e n =
+    let both : Some (entry_of line).0 ≡ Some name =
+    sym (ap (option_map (λ (p : Text × List Row). p.0)) e) ∙ names_same (out-ArgMatches m).subcommand ∙ n in
+    cc
 
 rows_are : (m : ArgMatches) (line : CommandLine) (inner : Found) → subcommand_rows_of m ≡ Some (entry_of line)
     → option_map (λ (p : Text × List Row). p.1) (subcommand_rows_of m) ≡ Some (rows_of inner) → rows_of inner ≡ (entry_of line).1
@@ -53,6 +60,43 @@ once_found m (once k v a b c d) inner key value e1 l1 e2 l2 e n r rk rv ra rb rc
     let ec = reads_row inner _ (codes "e2") e2 c rows rc refl in
     let ed = reads_row inner _ (codes "l2") l2 d rows rd refl in
     λ i. once (ek i) (ev i) (ea i) (eb i) (ec i) (ed i)
+once_found m (play f) inner key value e1 l1 e2 l2 e n r rk rv ra rb rc rd = absurd (differ _ _ refl refl (named_as m (play f) (codes "once") e n))
+
+-- a line with this name has one file
+abbrev pub HasFile : (Word → CommandLine) → CommandLine → Type 0
+HasFile make line = (file : Word) × (make file ≡ line) × ((entry_of line).1 ≡ row (codes "file") file ∷ [])
+
+play_has : (line : CommandLine) → (entry_of line).0 ≡ codes "play" → HasFile play line
+play_has (once k v a b c d) e = absurd (differ _ _ refl refl e)
+play_has (play f) e = (f, refl, refl)
+
+file_found : (m : ArgMatches) (make : Word → CommandLine) (name : Word) (line : CommandLine) (inner : Found) (file : Word)
+    → ((l : CommandLine) → (entry_of l).0 ≡ name → HasFile make l)
+    → subcommand_rows_of m ≡ Some (entry_of line) → subcommand_name_of m ≡ Some name
+    → option_map (λ (p : Text × List Row). p.1) (subcommand_rows_of m) ≡ Some (rows_of inner)
+    → Reads inner (codes "file") file → make file ≡ line
+file_found m make name line inner file has e n r reads =
+    let given = has line (named_as m line name e n) in
+    let same = reads_row inner _ (codes "file") file given.0 (rows_are m line inner e r ∙ given.2) reads refl in
+    ap make same ∙ given.1
+
+pub play_found : (m : ArgMatches) (line : CommandLine) (inner : Found) (file : Word)
+    → subcommand_rows_of m ≡ Some (entry_of line) → subcommand_name_of m ≡ Some (codes "play")
+    → option_map (λ (p : Text × List Row). p.1) (subcommand_rows_of m) ≡ Some (rows_of inner)
+    → Reads inner (codes "file") file → play file ≡ line
+play_found m line inner file = file_found m play (codes "play") line inner file play_has
+
+-- a line has one of the names
+pub no_name : (m : ArgMatches) (line : CommandLine) → subcommand_rows_of m ≡ Some (entry_of line)
+    → (subcommand_name_of m ≡ Some (codes "once") → ⊥) → (subcommand_name_of m ≡ Some (codes "play") → ⊥) → ⊥
+no_name m line e a b =
+    let named : subcommand_name_of m ≡ Some (entry_of line).0 =
+    sym (names_same (out-ArgMatches m).subcommand) ∙ ap (option_map (λ (p : Text × List Row). p.0)) e in
+    go line named
+  where
+    go : (l : CommandLine) → subcommand_name_of m ≡ Some (entry_of l).0 → ⊥
+    go (once _ _ _ _ _ _) n = a n
+    go (play _) n = b n
 
 -- a line that was read is the line
 pub line_read : {E : Type 0} (r : Result Line E) (line : CommandLine) (expected : Option CommandLine) (Refused : E → Type 0) → expected ≡ Some line

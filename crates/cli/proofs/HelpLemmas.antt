@@ -5,8 +5,7 @@ use Rattle.std.proofs.lemmas.List.Sums.{take_while-cons}
 use Rattle.std.specs.Prelude.{Ok, if◌then◌else◌}
 use Rattle.std.proofs.Math.Bool.{or-false}
 use Rattle.cli.specs.Lines.{Word, are_covered, are_plain, asks_help, is_ahead, is_help, line_of}
-use Rattle.cli.specs.Commands.{command_of, command_or_refusal}
-use Rattle.cli.specs.declared.commands.Command.TheVariants as code
+use Rattle.cli.specs.Commands.{command_of, command_or_refusal, help}
 
 -- ---- words that are seen through references
 
@@ -34,4 +33,4 @@ plain_then words quiet covered = sym (or-false (are_plain words)) ∙ ap (λ b. 
 
 -- and their command is that of the line that they are
 pub read_then : (words : List Word) → asks_help words ≡ false → command_of words ≡ command_or_refusal (line_of words)
-read_then words quiet = ap (λ b. if b then Ok code.Help else command_or_refusal (line_of words)) quiet
+read_then words quiet = ap (λ b. if b then Ok help else command_or_refusal (line_of words)) quiet

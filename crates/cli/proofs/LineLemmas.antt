@@ -17,8 +17,8 @@ use Rattle.clap.specs.Walk.{walked}
 use Rattle.clap.specs.Simple.{entered, label_of, rows_at, built_leaf, inherited, names_of}
 use Rattle.clap.specs.Faults.{entered_fault, other_fault, turn_fault, bundle_fault, flag_word_fault, word_fault, check_fault, defaults_fault}
 use Rattle.clap.specs.Faults.{level_fault, settle_fault, step_fault, walk_fault}
-use Rattle.cli.specs.Lines.{CommandLine, Word, are_plain, is_plain, once_of, line_of}
-use Rattle.cli.specs.Parser.{bare_app, entry_of, once_app, shards_app}
+use Rattle.cli.specs.Lines.{CommandLine, Word, are_plain, file_of, is_plain, line_of, once_of, play}
+use Rattle.cli.specs.Parser.{bare_app, entry_of, file_app, once_app, row, shards_app}
 
 -- ---- one word that is no flag
 
@@ -94,6 +94,9 @@ leaf s = built_leaf (inherited bare_app.top s)
 abbrev pub once_leaf : Shape
 once_leaf = leaf once_app.top
 
+abbrev pub file_leaf : Word → Shape
+file_leaf name = leaf (file_app name).top
+
 -- what the end of a walk leaves to refuse
 abbrev pub end_fault : Shape → Held → Kinds
 end_fault s end = or_else (settle_fault s.rules s.args_override_self end)
@@ -147,6 +150,28 @@ reach_stray s words h p word rest e stray there =
     let walks : is_empty (walk_fault s [] (walk_from nothing_held) words) ≡ false =
     ap is_empty (there.0 ∙ fault_step s h p word rest e) ∙ refused_first (step_fault s p h value) _ stray in
     refused_first (walk_fault s [] (walk_from nothing_held) words) _ walks
+
+-- ---- FILE
+
+abbrev pub file_held : Word → Word → Held
+file_held name file = (placed (file_leaf name).rules nothing_held 1 file).held
+
+pub file_reached : (name file : Word) (rest : List Word) → is_plain file ≡ true → Reaches (file_leaf name) (file ∷ rest) (file_held name file) 2 rest
+file_reached name file rest e = reach_more (file_leaf name) (file ∷ rest) nothing_held (file_held name file) 1 2 file rest e refl refl (refl, refl)
+
+pub file_agrees : (name : Word) (make : Word → CommandLine) → ((file : Word) → (name, row (codes "file") file ∷ []) ≡ entry_of (make file))
+    → (words : List Word) → are_plain words ≡ true
+    → Agrees (file_of make words) (level_fault (file_leaf name) [] nothing_held words false []) (Some (rows_at (file_leaf name) words))
+unfolding defaults_fault
+file_agrees name make is [] e = ap is_empty (reach_end (file_leaf name) [] nothing_held 1 (refl, refl))
+file_agrees name make is (file ∷ []) e =
+    let there = file_reached name file [] (both _ _ e).0 in (
+      reach_end (file_leaf name) (file ∷ []) (file_held name file) 2 there,
+      ap (λ (w : Walk). Some (name, finished (file_leaf name).rules w.held)) there.1 ∙ ap (λ (r : Text × List Row). Some r) (is file),
+    )
+file_agrees name make is (file ∷ word ∷ rest) e =
+    reach_stray (file_leaf name) (file ∷ word ∷ rest) (file_held name file) 2 word rest (both _ _ (both _ _ e).1).0 refl
+    (file_reached name file (word ∷ rest) (both _ _ e).0)
 
 -- ---- KEY VALUE E1 L1 E2 L2
 
@@ -293,18 +318,18 @@ enters_with name s rest starts found =
 
 -- ---- a first word that names no command
 
-abbrev pub chosen : Bool → List Word → Option CommandLine
-chosen a rest = if a then once_of rest else None
+abbrev pub chosen : Bool → Bool → List Word → Option CommandLine
+chosen a b rest = if a then once_of rest else (if b then file_of play rest else None)
 
-abbrev pub met : Bool → Option Text
-met a = option_map (λ (s : Text × List Text). s.0) (cond (a || false) (Some (codes "once", [])) None)
+abbrev pub met : Bool → Bool → Option Text
+met a b = option_map (λ (s : Text × List Text). s.0) (cond (a || false) (Some (codes "once", [])) (cond (b || false) (Some (codes "play", [])) None))
 
-other_agrees : (name : Word) (rest : List Word) → is_plain name ≡ true → bytes_eq (codes "once") name ≡ false
+other_agrees : (name : Word) (rest : List Word) → is_plain name ≡ true → bytes_eq (codes "once") name ≡ false → bytes_eq (codes "play") name ≡ false
     → Agrees (line_of (name ∷ rest)) (fault_of shards_app (name ∷ rest)) (subcommand_of shards_app (name ∷ rest))
 unfolding walk_fault walked
-other_agrees name rest e a =
-    let not_a_line : line_of (name ∷ rest) ≡ None = λ i. chosen (a i) rest in
-    let no_command : subcommand_met program_names idle name ≡ None = λ i. met (a i) in
+other_agrees name rest e a b =
+    let not_a_line : line_of (name ∷ rest) ≡ None = λ i. chosen (a i) (b i) rest in
+    let no_command : subcommand_met program_names idle name ≡ None = λ i. met (a i) (b i) in
     let turns : turn_fault program.top program_names (walk_from nothing_held) name ≡ or_else [] (step_fault program.top 1 nothing_held value) =
     ap₂ (λ (k : Kinds) (m : Held × Step). or_else k (step_fault program.top 1 m.0 m.1))
     (word_is_fine program.top program_names name nothing_held e no_command)
@@ -328,6 +353,11 @@ unfolding walked
 once_line rest e = agrees_as (once_of rest) _ _ _ _ (enters (codes "once") once_leaf rest refl refl refl)
     (enters_with (codes "once") once_leaf rest refl refl) (once_agrees rest e)
 
+play_line : (rest : List Word) → are_plain rest ≡ true → AgreesAt (codes "play" ∷ rest)
+unfolding walked
+play_line rest e = agrees_as (file_of play rest) _ _ _ _ (enters (codes "play") (file_leaf (codes "play")) rest refl refl refl)
+    (enters_with (codes "play") (file_leaf (codes "play")) rest refl refl) (file_agrees (codes "play") play (λ _. refl) rest e)
+
 -- where the first word is this command's name
 named : (name known : Word) (rest : List Word) → bytes_eq known name ≡ true → AgreesAt (known ∷ rest) → AgreesAt (name ∷ rest)
 named name known rest e h = subst (λ n. AgreesAt (n ∷ rest)) ((bytes_eq-Decides known name).0 e) h
@@ -339,7 +369,10 @@ words_agree (name ∷ rest) e =
     let plain = both (is_plain name) (are_plain rest) e in
     elim (bool_cases (bytes_eq (codes "once") name)) [
       | inl a ↦ named name (codes "once") rest a (once_line rest plain.1)
-      | inr a ↦ other_agrees name rest plain.0 a
+      | inr a ↦ elim (bool_cases (bytes_eq (codes "play") name)) [
+        | inl b ↦ named name (codes "play") rest b (play_line rest plain.1)
+        | inr b ↦ other_agrees name rest plain.0 a b
+      ]
     ]
 
 -- ---- what the parse answers

@@ -3,10 +3,16 @@ use Rattle.std.specs.Prelude.{◌&&◌, List, Option, Some, None, Result, Ok, Er
 use Rattle.units.specs.declared.fault.Fault.{Fault}
 use Rattle.units.specs.declared.fault.Fault.TheVariants.{BadRequest}
 use Rattle.units.specs.declared.fault.Reason.TheVariants as reason
-use Rattle.cli.specs.Lines.{CommandLine, Word, asks_help, once, line_of}
+use Rattle.truetime.specs.Interval.{Interval}
+use Rattle.cli.specs.Lines.{CommandLine, Word, asks_help, line_of, once, play}
 use Rattle.cli.specs.Numbers.{and_then, interval_of}
-use Rattle.cli.specs.declared.commands.Command.{Command}
-use Rattle.cli.specs.declared.commands.Command.TheVariants as code
+
+-- what words may ask for: the usage; a write of a value to a key at the readings of its commit and of its settling; the report
+-- of a schedule in a file
+pub data Asked : Type 0 where
+  help : Asked
+  once_asked : Word → Word → Interval → Interval → Asked
+  play_asked : Word → Asked
 
 -- a key is the bytes of its word
 abbrev pub key_of : Word → Result Word Fault
@@ -17,20 +23,21 @@ abbrev pub value_of : Word → Result Word Fault
 value_of word = if nat_le (length word) 4096 then Ok word else Err (BadRequest reason.Value)
 
 -- the words of `once` from the left: a key, a value, and the readings of the commit and of its settling
-abbrev pub once_of_words : Word → Word → Word → Word → Word → Word → Result Command Fault
+abbrev pub once_of_words : Word → Word → Word → Word → Word → Word → Result Asked Fault
 once_of_words key value e1 l1 e2 l2 =
     and_then (key_of key) (λ k. and_then (value_of value) (λ v. and_then (interval_of e1 l1) (λ first. and_then (interval_of e2 l2) (λ second.
-    Ok (code.Once k v first second)))))
+    Ok (once_asked k v first second)))))
 
 -- the command of a line
-abbrev pub command_of_line : CommandLine → Result Command Fault
+abbrev pub command_of_line : CommandLine → Result Asked Fault
 command_of_line (once key value e1 l1 e2 l2) = once_of_words key value e1 l1 e2 l2
+command_of_line (play file) = Ok (play_asked file)
 
 -- and what is no line is refused
-abbrev pub command_or_refusal : Option CommandLine → Result Command Fault
+abbrev pub command_or_refusal : Option CommandLine → Result Asked Fault
 command_or_refusal None = Err (BadRequest reason.Command)
 command_or_refusal (Some line) = command_of_line line
 
 -- the command that the words ask for
-abbrev pub command_of : List Word → Result Command Fault
-command_of words = if asks_help words then Ok code.Help else command_or_refusal (line_of words)
+abbrev pub command_of : List Word → Result Asked Fault
+command_of words = if asks_help words then Ok help else command_or_refusal (line_of words)

@@ -11,6 +11,7 @@ Word = List ℕ
 -- a command, with its words
 pub data CommandLine : Type 0 where
   once : Word → Word → Word → Word → Word → Word → CommandLine
+  play : Word → CommandLine
 
 -- the word does not begin with `-` (45)
 abbrev pub is_plain : Word → Bool
@@ -42,7 +43,13 @@ abbrev pub once_of : List Word → Option CommandLine
 once_of (key ∷ value ∷ e1 ∷ l1 ∷ e2 ∷ l2 ∷ []) = Some (once key value e1 l1 e2 l2)
 once_of _ = None
 
+-- FILE
+abbrev pub file_of : (Word → CommandLine) → List Word → Option CommandLine
+file_of command (file ∷ []) = Some (command file)
+file_of command _ = None
+
 -- the command line that the words are
 abbrev pub line_of : List Word → Option CommandLine
 line_of [] = None
-line_of (name ∷ rest) = if bytes_eq (codes "once") name then once_of rest else None
+line_of (name ∷ rest) =
+    if bytes_eq (codes "once") name then once_of rest else (if bytes_eq (codes "play") name then file_of play rest else None)

@@ -3,7 +3,7 @@ use Rattle.std.specs.Prelude.{List, [], ◌∷◌, Some, None, true, codes}
 use Rattle.clap.specs.Words.{App, Row, Rule, Text, new_app, new_rule, with_rule, with_subcommand}
 use Rattle.clap.specs.declared.parser.matches.ValueSource.TheVariants.{CommandLine as given}
 use Rattle.clap.specs.declared.builder.value_parser.Reading.TheVariants.{AsWritten}
-use Rattle.cli.specs.Lines.{CommandLine, Word, once}
+use Rattle.cli.specs.Lines.{CommandLine, Word, once, play}
 
 -- a word that has to be given
 abbrev pub needed : Text → Rule
@@ -14,6 +14,10 @@ abbrev pub once_app : App
 once_app = with_rule (with_rule (with_rule (with_rule (with_rule (with_rule (new_app (codes "once"))
     (needed (codes "key"))) (needed (codes "value"))) (needed (codes "e1"))) (needed (codes "l1")))
     (needed (codes "e2"))) (needed (codes "l2"))
+
+-- FILE
+abbrev pub file_app : Text → App
+file_app name = with_rule (new_app name) (needed (codes "file"))
 
 -- the program: one command is wanted
 abbrev pub bare_app : App
@@ -27,7 +31,7 @@ bare_app = record (new_app (codes "shards")) {
 
 -- the program with its commands
 abbrev pub shards_app : App
-shards_app = with_subcommand bare_app once_app.top
+shards_app = with_subcommand (with_subcommand bare_app once_app.top) (file_app (codes "play")).top
 
 -- an argument with its word
 abbrev pub row : Text → Word → Row
@@ -46,3 +50,4 @@ entry_of (once key value e1 l1 e2 l2) = (
   row (codes "key") key ∷ row (codes "value") value ∷ row (codes "e1") e1 ∷ row (codes "l1") l1
       ∷ row (codes "e2") e2 ∷ row (codes "l2") l2 ∷ [],
 )
+entry_of (play file) = (codes "play", row (codes "file") file ∷ [])

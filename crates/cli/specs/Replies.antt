@@ -1,5 +1,5 @@
 -- What the commands print, and their status.
-use Rattle.std.specs.Prelude.{ℕ, List, ◌++◌, ◌+◌, ◌^◌, codes, Result, Ok, Err, if◌then◌else◌, nat_lt}
+use Rattle.std.specs.Prelude.{◌≡◌, ℕ, List, ◌++◌, ◌+◌, ◌^◌, codes, Option, Some, None, Result, Ok, Err, if◌then◌else◌, nat_lt}
 use Rattle.std.specs.Fmt.{decimal}
 use Rattle.truetime.specs.Interval.{Interval}
 use Rattle.truetime.specs.Reading.{surely_after}
@@ -7,12 +7,10 @@ use Rattle.units.specs.Ids.{Id}
 use Rattle.units.specs.Texts.{txn_text}
 use Rattle.units.specs.declared.fault.Fault.{Fault}
 use Rattle.units.specs.declared.fault.Fault.TheVariants.{TimeSpent}
-use Rattle.cli.specs.Commands.{command_of}
+use Rattle.cli.specs.Commands.{Asked, command_of, help, once_asked, play_asked}
 use Rattle.cli.specs.Lines.{Word}
 use Rattle.cli.specs.Numbers.{and_then}
 use Rattle.cli.specs.declared.usage.TheConstants.{USAGE}
-use Rattle.cli.specs.declared.commands.Command.{Command}
-use Rattle.cli.specs.declared.commands.Command.TheVariants as code
 
 -- a text, and a status
 abbrev pub Reply : Type 0
@@ -46,11 +44,26 @@ settled_reply s second = if surely_after second s then (commit_line s ++ done_li
 abbrev pub once_reply : Interval → Interval → Result Reply Fault
 once_reply first second = and_then (first_stamp first) (λ s. Ok (settled_reply s second))
 
--- what a command prints
-abbrev pub reply_of : Command → Result Reply Fault
-reply_of code.Help = Ok (USAGE.now, 0)
-reply_of (code.Once key value first second) = once_reply first second
+-- what is answered, where the words alone tell it
+abbrev pub Expected : Type 0
+Expected = Option (Result Reply Fault)
+
+-- it is what is expected
+abbrev pub Is : Expected → Result Reply Fault → Type 0
+Is None found = Unit {0}
+Is (Some expected) found = expected ≡ found
+
+-- what a command prints; a report rests on its file
+abbrev pub reply_of : Asked → Expected
+reply_of help = Some (Ok (USAGE.now, 0))
+reply_of (once_asked key value first second) = Some (once_reply first second)
+reply_of (play_asked file) = None
+
+-- and what is no command is refused
+abbrev pub reply_or_refusal : Result Asked Fault → Expected
+reply_or_refusal (Ok asked) = reply_of asked
+reply_or_refusal (Err fault) = Some (Err fault)
 
 -- what a command line is answered
-abbrev pub reply_to : List Word → Result Reply Fault
-reply_to words = and_then (command_of words) reply_of
+abbrev pub reply_to : List Word → Expected
+reply_to words = reply_or_refusal (command_of words)

@@ -16,8 +16,7 @@ use Rattle.simdisk.specs.State.{disk_file, disk_plan}
 use Rattle.simdisk.specs.declared.simdisk.SimDisk.{SimDisk}
 use Rattle.shard.specs.Logs.{learned, records_in, KeepsRecords}
 use Rattle.shard.specs.On.{CoreView}
-use Rattle.cli.specs.declared.commands.Command.{Command}
-use Rattle.cli.specs.declared.commands.Command.TheVariants as code
+use Rattle.cli.specs.Commands.{Asked, help, once_asked, play_asked}
 use Rattle.truetime.specs.Interval.{Interval}
 use Rattle.cli.specs.Replies.{first_stamp, only_txn}
 
@@ -62,12 +61,13 @@ IsLogged key value first status disk =
     (stamp : ℕ) × (first_stamp first ≡ Ok stamp) × HoldsRecords (log_after (nat_eq status 0) key value stamp) disk
 
 -- a disk behind a command
-abbrev pub LogsCommand : Command → ℕ → SimDisk → Type 0
-LogsCommand code.Help status disk = Unit {0}
-LogsCommand (code.Once key value first second) status disk = IsLogged key value first status disk
+abbrev pub LogsCommand : Asked → ℕ → SimDisk → Type 0
+LogsCommand help status disk = Unit {0}
+LogsCommand (once_asked key value first second) status disk = IsLogged key value first status disk
+LogsCommand (play_asked file) status disk = Unit {0}
 
 -- a disk behind the command that some words ask for
-abbrev pub LogsTo : Result Command Fault → ℕ → SimDisk → Type 0
+abbrev pub LogsTo : Result Asked Fault → ℕ → SimDisk → Type 0
 LogsTo (Ok asked) status disk = LogsCommand asked status disk
 LogsTo (Err fault) status disk = ⊥
 

@@ -1,35 +1,39 @@
 //! What the program answers to a command line.
-ghost use Rattle.std.specs.Prelude.{◌≡◌, ◌≢◌, ◌⊎◌, ◌<◌, Ok, Err, IfOk, IfErr, map, true, List, ℕ};
+ghost use Rattle.std.specs.Prelude.{◌≡◌, ◌≢◌, ◌⊎◌, ◌<◌, Some, Ok, Err, IfOk, IfErr, map, true, List, ℕ};
 ghost use Rattle.std.specs.Io.KnownBytes.{Appends};
 ghost use Rattle.units.specs.declared.fault.Fault.{Fault};
 ghost use Rattle.units.specs.declared.fault.Fault.TheVariants.{Memory};
 ghost use Rattle.disk.specs.declared.plan.FailurePlan.TheVariants.{Never};
 ghost use Rattle.simdisk.specs.State.{disk_plan};
 ghost use Rattle.cli.specs.Commands.{command_of};
+ghost use Rattle.cli.specs.Views.{asked_by};
 ghost use Rattle.cli.specs.declared.commands.Command.TheVariants.{Help};
 ghost use Rattle.cli.specs.declared.usage.TheConstants.{USAGE};
 ghost use Rattle.cli.specs.Failures.{FailsFor};
 ghost use Rattle.cli.specs.Lines.{are_plain, asks_help};
-ghost use Rattle.cli.specs.Replies.{reply_of, reply_to};
+ghost use Rattle.cli.specs.Replies.{Is, reply_of, reply_to};
 ghost use Rattle.cli.specs.Shards.{LogsCommand, LogsTo};
 ghost use Rattle.cli.specs.Streams.{failures_of, fault_line, writer_of};
 
 use crate::command;
 use crate::commands::Command;
 use crate::failure::Failure;
+use crate::files::ReadFile;
 use crate::once::once;
+use crate::play::play;
 use crate::stream::Stream;
 use crate::usage::help;
 use simdisk::SimDisk;
 use std::alloc::Global;
 use std::io::Write;
 
-/// Carries a command line out, on an empty disk and over standard output and standard error. Gives the status, 0, 1 for a
-/// verdict of no or for early, 2 for a fault, and the disk, which holds what was printed of a commit. A fault is printed on
-/// standard error, except that after a failed write nothing more is printed.
-pub fn answer<'a, O: Write, E: Write>(
+/// Carries a command line out, with the files that it names, on an empty disk and over standard output and standard error.
+/// Gives the status, 0, 1 for a verdict of no or for early, 2 for a fault, and the disk, which holds what was printed of a
+/// commit. A fault is printed on standard error, except that after a failed write nothing more is printed.
+pub fn answer<'a, F: ReadFile, O: Write, E: Write>(
     alloc: Global,
     words: &'a [&'a str],
+    files: &F,
     disk: SimDisk,
     out: &mut Stream<O>,
     err: &mut Stream<E>,
@@ -37,12 +41,12 @@ pub fn answer<'a, O: Write, E: Write>(
     requires { disk_plan disk ≡ Never }
     ensures status { (result.0 ≡ 0) ⊎ (result.0 ≡ 1) ⊎ (result.0 ≡ 2) }
     ensures printed { are_plain (map (λ w. w.now) words.entry.now) ≡ true → result.0 ≢ 2
-        → (text : List ℕ) × (reply_to (map (λ w. w.now) words.entry.now) ≡ Ok (text, result.0))
+        → (text : List ℕ) × Is (reply_to (map (λ w. w.now) words.entry.now)) (Ok (text, result.0))
         × Appends (O.contents (writer_of out.old)) (O.contents (writer_of out.new)) text }
     ensures logged { are_plain (map (λ w. w.now) words.entry.now) ≡ true → result.0 ≢ 2
         → LogsTo (command_of (map (λ w. w.now) words.entry.now)) result.0 result.1 }
     ensures refused { are_plain (map (λ w. w.now) words.entry.now) ≡ true → (fault : Fault)
-        → reply_to (map (λ w. w.now) words.entry.now) ≡ Err fault → (result.0 ≡ 2)
+        → reply_to (map (λ w. w.now) words.entry.now) ≡ Some (Err fault) → (result.0 ≡ 2)
         × (out.new ≡ out.old) }
     ensures helped { asks_help (map (λ w. w.now) words.entry.now) ≡ true → result.0 ≢ 2
         → (result.0 ≡ 0)
@@ -52,12 +56,12 @@ pub fn answer<'a, O: Write, E: Write>(
     ensures told { are_plain (map (λ w. w.now) words.entry.now) ≡ true → result.0 ≡ 2
         → (failures_of out.old < failures_of out.new)
         ⊎ ((fault : Fault) × ((fault ≡ Memory)
-        ⊎ (reply_to (map (λ w. w.now) words.entry.now) ≡ Err fault))
+        ⊎ Is (reply_to (map (λ w. w.now) words.entry.now)) (Err fault))
         × ((failures_of err.old < failures_of err.new)
         ⊎ Appends (E.contents (writer_of err.old)) (E.contents (writer_of err.new))
         (fault_line fault))) }
 {
-    let (done, disk) = carry_out(alloc, words, disk, out);
+    let (done, disk) = carry_out(alloc, words, files, disk, out);
     match done {
         Ok(status) => (status, disk),
         Err(Failure::Refused(fault)) => {
@@ -68,9 +72,10 @@ pub fn answer<'a, O: Write, E: Write>(
     }
 }
 
-fn carry_out<'a, O: Write>(
+fn carry_out<'a, F: ReadFile, O: Write>(
     alloc: Global,
     words: &'a [&'a str],
+    files: &F,
     disk: SimDisk,
     out: &mut Stream<O>,
 ) -> (Result<u8, Failure>, SimDisk)
@@ -78,12 +83,12 @@ fn carry_out<'a, O: Write>(
     ensures status { IfOk result.0 (λ status. (status ≡ 0) ⊎ (status ≡ 1)) }
     ensures printed { are_plain (map (λ w. w.now) words.entry.now) ≡ true
         → IfOk result.0 (λ status. (text : List ℕ)
-        × (reply_to (map (λ w. w.now) words.entry.now) ≡ Ok (text, status))
+        × Is (reply_to (map (λ w. w.now) words.entry.now)) (Ok (text, status))
         × Appends (O.contents (writer_of out.old)) (O.contents (writer_of out.new)) text) }
     ensures logged { are_plain (map (λ w. w.now) words.entry.now) ≡ true → IfOk result.0 (λ status.
         LogsTo (command_of (map (λ w. w.now) words.entry.now)) status result.1) }
     ensures refused { are_plain (map (λ w. w.now) words.entry.now) ≡ true → (fault : Fault)
-        → reply_to (map (λ w. w.now) words.entry.now) ≡ Err fault → out.new ≡ out.old }
+        → reply_to (map (λ w. w.now) words.entry.now) ≡ Some (Err fault) → out.new ≡ out.old }
     ensures helped { asks_help (map (λ w. w.now) words.entry.now) ≡ true
         → IfOk result.0 (λ status. (status ≡ 0)
         × Appends (O.contents (writer_of out.old)) (O.contents (writer_of out.new)) USAGE.now) }
@@ -93,29 +98,32 @@ fn carry_out<'a, O: Write>(
         (reply_to (map (λ w. w.now) words.entry.now))) }
 {
     match command(alloc, words) {
-        Ok(asked) => run(alloc, asked, disk, out),
+        Ok(asked) => run(alloc, asked, files, disk, out),
         Err(fault) => (Err(Failure::Refused(fault)), disk),
     }
 }
 
 // Carries one command out.
-fn run<O: Write>(
+fn run<F: ReadFile, O: Write>(
     alloc: Global,
-    asked: Command,
+    asked: Command<'_>,
+    files: &F,
     disk: SimDisk,
     out: &mut Stream<O>,
 ) -> (Result<u8, Failure>, SimDisk)
     requires { disk_plan disk ≡ Never }
     ensures status { IfOk result.0 (λ status. (status ≡ 0) ⊎ (status ≡ 1)) }
     ensures printed { IfOk result.0
-        (λ status. (text : List ℕ) × (reply_of asked ≡ Ok (text, status))
+        (λ status. (text : List ℕ) × Is (reply_of (asked_by asked.entry)) (Ok (text, status))
         × Appends (O.contents (writer_of out.old)) (O.contents (writer_of out.new)) text) }
-    ensures logged { IfOk result.0 (λ status. LogsCommand asked status result.1) }
-    ensures helped { asked ≡ Help → IfOk result.0 (λ status. (status ≡ 0)
+    ensures logged { IfOk result.0 (λ status. LogsCommand (asked_by asked.entry) status result.1) }
+    ensures helped { asked.entry ≡ Help → IfOk result.0 (λ status. (status ≡ 0)
         × Appends (O.contents (writer_of out.old)) (O.contents (writer_of out.new)) USAGE.now) }
-    ensures refused { (fault : Fault) → reply_of asked ≡ Err fault → out.new ≡ out.old }
+    ensures refused { (fault : Fault) → reply_of (asked_by asked.entry) ≡ Some (Err fault)
+        → out.new ≡ out.old }
     ensures failures { IfErr result.0 (λ failure.
-        FailsFor (failures_of out.old < failures_of out.new) failure (reply_of asked)) }
+        FailsFor (failures_of out.old < failures_of out.new) failure
+        (reply_of (asked_by asked.entry))) }
 {
     match asked {
         Command::Help => (help(out), disk),
@@ -125,5 +133,6 @@ fn run<O: Write>(
             first,
             second,
         } => once(alloc, key, value, &first, &second, disk, out),
+        Command::Play { file } => (play(alloc, file, files, out), disk),
     }
 }

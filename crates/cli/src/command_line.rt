@@ -6,7 +6,7 @@ ghost use Rattle.units.specs.declared.fault.Fault.TheVariants.{BadRequest, Memor
 ghost use Rattle.units.specs.declared.fault.Reason.TheVariants.{Command as command_reason};
 ghost use Rattle.cli.specs.Lines.{are_plain, line_of, CommandLine, Word};
 ghost use Rattle.cli.specs.Views.{line_view};
-ghost use Rattle.cli.specs.Parser.{entry_of, needed, once_app, shards_app};
+ghost use Rattle.cli.specs.Parser.{entry_of, file_app, needed, once_app, shards_app};
 
 use clap::error::ErrorKind;
 use clap::{Arg, ArgMatches, Command};
@@ -23,6 +23,9 @@ pub enum Line<'a> {
         first_latest: &'a str,
         second_earliest: &'a str,
         second_latest: &'a str,
+    },
+    Play {
+        file: &'a str,
     },
 }
 
@@ -58,6 +61,11 @@ fn found_line<'a>(matches: &ArgMatches<'a>) -> Result<Line<'a>, Fault>
             second_latest: word(once, "l2"),
         });
     }
+    if let Some(play) = matches.subcommand_matches("play") {
+        return Ok(Line::Play {
+            file: word(play, "file"),
+        });
+    }
     Err(Fault::BadRequest(Reason::Command))
 }
 
@@ -80,7 +88,8 @@ fn shards<'a>(alloc: Global) -> Result<Command<'a>, AllocError>
         .no_binary_name(true)
         .disable_help_subcommand(true)
         .subcommand_required(true);
-    with_command(bare, once_command(alloc)?)
+    let with_once = with_command(bare, once_command(alloc)?)?;
+    with_command(with_once, file_command(alloc, "play")?)
 }
 
 // `once KEY VALUE E1 L1 E2 L2`.
@@ -95,6 +104,14 @@ fn once_command<'a>(alloc: Global) -> Result<Command<'a>, AllocError>
     let with_l1 = with_word(alloc, with_e1, "l1")?;
     let with_e2 = with_word(alloc, with_l1, "e2")?;
     with_word(alloc, with_e2, "l2")
+}
+
+// A command with one file.
+fn file_command<'a>(alloc: Global, name: &'a str) -> Result<Command<'a>, AllocError>
+    ensures app { IfOk result (λ c. app_of c ≡ file_app name.entry.now) }
+    ensures local { IfOk result (λ c. (fields_of c).has_globals ≡ false) }
+{
+    with_word(alloc, Command::new(alloc, name), "file")
 }
 
 // The command with one more word, which has to be given.

@@ -5,14 +5,17 @@ mod answers;
 mod command_line;
 mod commands;
 mod failure;
+mod files;
 mod numbers;
 mod once;
 mod one_shard;
+mod play;
 mod stream;
 mod usage;
 mod words;
 
 pub use answers::answer;
 pub use commands::Command;
+pub use files::ReadFile;
 pub use stream::Stream;
 pub use words::command;

@@ -1,5 +1,5 @@
 //! The command `once`: one write from the command line to the log.
-ghost use Rattle.std.specs.Prelude.{◌≡◌, ◌⊎◌, Ok, Err, ◌<◌, IfOk, IfErr, string_bytes, nat_eq, List, ℕ};
+ghost use Rattle.std.specs.Prelude.{◌≡◌, ◌⊎◌, Some, Ok, Err, ◌<◌, IfOk, IfErr, string_bytes, nat_eq, List, ℕ};
 ghost use Rattle.std.specs.Io.KnownBytes.{Appends};
 ghost use Rattle.units.specs.declared.fault.Fault.{Fault};
 ghost use Rattle.units.specs.declared.fault.Fault.TheVariants.{Memory};
@@ -42,7 +42,7 @@ pub fn once<O: Write>(
         → out.new ≡ out.old }
     ensures failures { IfErr result.0 (λ failure.
         FailsFor (failures_of out.old < failures_of out.new) failure
-        (once_reply first.now second.now)) }
+        (Some (once_reply first.now second.now))) }
 {
     let mut core = match open_new(alloc, disk) {
         Ok(core) => core,
@@ -72,7 +72,7 @@ fn commit_and_settle<O: Write>(
         × HasLog (log_after (nat_eq status 0) key value stamp) (seen core.new)) }
     ensures failures { IfErr result (λ failure.
         FailsFor (failures_of out.old < failures_of out.new) failure
-        (once_reply first.now second.now)) }
+        (Some (once_reply first.now second.now))) }
 {
     let stamp = commit(alloc, core, key, value, first)?;
     out.print(&committed(alloc, stamp)?)?;

@@ -28,8 +28,15 @@ once KEY VALUE E1 L1 E2 L2
     A key or a value that begins with '-' goes after '--', as in
     shards once -- -5 1 100 110 112 121
 
-status: 0, or 1 where it was too early, or 2 at a fault, which is one line on
-standard error. After a write that fails nothing more is printed (2).
+play FILE
+    Plays the schedule in FILE: sessions, messages and steps of shards on disks
+    in memory, at the times that it tells. Prints the report: the reply to each
+    event, the messages, the logs, the lines, and the verdict on them. Crashes,
+    failing calls and openings are not played yet, and are refused as unlawful.
+
+status: 0, or 1 where it was too early or the verdict is no, or 2 at a fault,
+which is one line on standard error. After a write that fails nothing more is
+printed (2).
 ";
 
 /// Whether one of the words, before any `--`, is `-h` or `--help`.

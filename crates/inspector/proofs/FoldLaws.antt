@@ -1,7 +1,7 @@
 -- What the inspector's loops compute is what the definitions say.
 use Rattle.std.specs.List.{list_all}
 use Rattle.std.specs.Prelude.{filter, flat_map}
-use Rattle.std.proofs.Common.{◌≡◌, ℕ, Bool, true, false, cond, List, [], ◌∷◌, ◌++◌, Option, Some, None, refl, sym, ap, ◌∙◌}
+use Rattle.std.proofs.Common.{◌≡◌, ℕ, Bool, true, false, cond, List, [], ◌∷◌, ◌++◌, None, refl, sym, ap, ◌∙◌}
 use Rattle.std.specs.List as place
 use Rattle.std.specs.Prelude.{suc}
 use Rattle.units.specs.Fronts.{front}
@@ -10,12 +10,12 @@ use Rattle.units.specs.Keys.{Bytes}
 use Rattle.units.specs.Lists.{insert, numbered, sorted}
 use Rattle.units.specs.declared.writes.Write.{Write}
 use Rattle.record.specs.History.{Map, Txn, applied, put_all, put, serial, before, upto, serial_before, empty}
-use Rattle.record.specs.Whole.{Decision, decisions, is_promise_for, is_whole_by, outcomes_fit}
+use Rattle.record.specs.Whole.{Decision, is_promise_for, is_whole_by, outcomes_fit}
 use Rattle.record.specs.declared.record.Prepared.{Prepared}
 use Rattle.record.specs.declared.record.Record.{Record}
 use Rattle.std.specs.Prelude.{◌&&◌, nat_eq, nat_le}
 use Rattle.inspector.specs.declared.whole.Tally.{Tally}
-use Rattle.inspector.specs.declared.whole.Tally.TheVariants.{Never, Once, Again}
+use Rattle.inspector.specs.declared.whole.Tally.TheVariants.{Never, Again}
 use Rattle.inspector.specs.Folds.{after, decisions_here, fits_all, next, put_onto, settled, shown, sole, written}
 
 -- ---- decisions

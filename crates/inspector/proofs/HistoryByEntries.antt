@@ -1,16 +1,16 @@
 -- The history of the logs, with what was promised found among the records about each transaction.
-use Rattle.std.proofs.Common.{◌≡◌, ◌∙◌, ℕ, suc, Bool, true, false, not, cond, ◌&&◌, nat_eq, List, [], ◌∷◌, ◌++◌, filter, flat_map, Option, Some, None, refl, sym, ap}
+use Rattle.std.proofs.Common.{◌≡◌, ◌∙◌, ℕ, suc, Bool, true, false, not, cond, ◌&&◌, nat_eq, List, [], ◌∷◌, ◌++◌, filter, flat_map, Option, Some, None, refl, ap}
 use Rattle.units.specs.Ids.{Id, same_id}
 use Rattle.units.specs.Lists.{gather, head, numbered, when}
 use Rattle.units.proofs.Folds.{gather_append}
 use Rattle.units.proofs.IdLaws.{same_id_comm}
-use Rattle.record.specs.History.{Txn, history, promised_elsewhere, whole_txn}
+use Rattle.record.specs.History.{history, whole_txn}
 use Rattle.record.specs.Records.{as_committed, as_prepared}
 use Rattle.record.specs.declared.record.Committed.{Committed}
 use Rattle.record.specs.declared.record.Prepared.{Prepared}
 use Rattle.record.specs.declared.record.Record.{Record}
 use Rattle.record.specs.declared.record.Record.TheVariants.{Opened, Ceiling, Prepare, Commit, Abort, Outcome}
-use Rattle.inspector.specs.Decided.{decided_in, decision_in, promised_in, whole_in}
+use Rattle.inspector.specs.Decided.{decided_in, promised_in, whole_in}
 use Rattle.inspector.specs.Entries.{About, about_in, entries, of_txn}
 use Rattle.inspector.proofs.WholeByEntries.{of_txn_append, own, those}
 

@@ -6,7 +6,9 @@ pub mod HistoryByEntries
 pub mod TornLaws
 pub mod WholeByEntries
 pub mod Numbers
-pub mod EntryOrder
+pub mod IdRuns
+pub mod KnownLaws
+pub mod AckLaws
 pub mod Sorting
 pub mod AgeLaws
 pub mod FoldLaws

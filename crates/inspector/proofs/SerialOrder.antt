@@ -1,10 +1,9 @@
 -- Transactions that were sorted stand in the serial order.
-use Rattle.std.proofs.Common.{◌≡◌, ◌∙◌, Bool, true, false, List, filter, is_lt, nat_cmp, nat_eq, nat_lt, ◌&&◌, ◌||◌, sym, ap, subst, arith}
+use Rattle.std.proofs.Common.{◌≡◌, ◌∙◌, Bool, true, false, List, is_lt, nat_cmp, sym, subst, arith}
 use Rattle.std.proofs.lemmas.Bool.Decides.{nat_tests}
 use Rattle.std.specs.Cmp.{IsStrictWeakOrder}
-use Rattle.std.specs.List.Sorted.{IsSortedBy, IsStableBy, ties}
+use Rattle.std.specs.List.Sorted.{IsSortedBy, IsStableBy}
 use Rattle.std.specs.Ordering.{ordering_then}
-use Rattle.units.specs.Ids.{Id, older}
 use Rattle.record.specs.History.{Txn, serial, serial_before}
 use Rattle.inspector.specs.Ascending.{AscendsBy}
 use Rattle.inspector.proofs.Sorting.{ascends_from_sorted}

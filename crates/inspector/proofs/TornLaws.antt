@@ -1,14 +1,14 @@
 -- The least transaction that is not whole, found among records that ascend.
 use Rattle.std.specs.List.{list_all, list_any}
-use Rattle.std.proofs.Common.{◌≡◌, ◌∙◌, ℕ, suc, Bool, true, false, not, cond, ◌&&◌, ◌||◌, List, [], ◌∷◌, ◌++◌, filter, flat_map, length, map, Option, Some, None, option_map, refl, sym, ap, subst}
+use Rattle.std.proofs.Common.{◌≡◌, ◌∙◌, ℕ, suc, Bool, true, false, not, cond, ◌||◌, List, [], ◌∷◌, ◌++◌, filter, flat_map, length, map, Option, Some, None, option_map, refl, sym, ap, subst}
 use Rattle.std.proofs.lemmas.Bool.{and_parts, and_from, false≢true}
 use Rattle.units.specs.Ids.{Id, same_id, older, with_id, ids_once}
 use Rattle.units.specs.Lists.{first, gather, head, numbered}
-use Rattle.units.proofs.IdLaws.{older_not_same, older_total, same_id-is, same_id-refl, same_id_comm}
+use Rattle.units.proofs.IdLaws.{older_not_same, older_total, same_id-is, same_id-refl}
 use Rattle.units.proofs.IdOrder.{above_more, any_once, rises, rises_once}
 use Rattle.record.specs.Records.{id_in}
 use Rattle.record.specs.Verdict.{first_torn}
-use Rattle.record.specs.Whole.{all_ids, is_whole}
+use Rattle.record.specs.Whole.{is_whole}
 use Rattle.record.specs.declared.record.Record.{Record}
 use Rattle.inspector.specs.Entries.{About, AscendsByTxn, about_in, entries, logs_from, of_txn}
 use Rattle.inspector.proofs.WholeByEntries.{whole_by_entries}

@@ -1,9 +1,8 @@
 -- The values of the serial run are those of its versions.
 use Rattle.std.specs.List.{list_all}
-use Rattle.std.specs.List.Sorted.{IsPartitionedBy, IsSortedBy, IsStableBy, ties}
+use Rattle.std.specs.List.Sorted.{IsPartitionedBy, IsStableBy, ties}
 use Rattle.std.specs.Cmp.{IsStrictWeakOrder}
-use Rattle.std.specs.Cmp.Lexicographic.{slice_cmp}
-use Rattle.std.proofs.Common.{◌≡◌, ◌∙◌, ℕ, zero, suc, ◌+◌, ◌-◌, ◌<◌, ◌≤◌, Bool, true, false, not, ◌&&◌, cond, List, [], ◌∷◌, ◌++◌, Option, Some, None, drop, filter, get_or, is_lt, length, map, nat_cmp, nat_lt, take, refl, sym, ap, subst, arith}
+use Rattle.std.proofs.Common.{◌≡◌, ◌∙◌, ℕ, suc, ◌+◌, ◌-◌, ◌<◌, ◌≤◌, Bool, true, false, not, ◌&&◌, cond, List, [], ◌∷◌, ◌++◌, Option, None, drop, filter, get_or, length, nat_lt, take, refl, sym, ap, subst, arith}
 use Rattle.std.proofs.lemmas.Bool.{and_parts, and_from, false≢true}
 use Rattle.std.proofs.lemmas.Bool.Decides.{nat_tests}
 use Rattle.std.proofs.lemmas.List.{take_rest}
@@ -11,12 +10,11 @@ use Rattle.units.specs.Fronts.{front}
 use Rattle.units.specs.Keys.{Bytes, key_before, same_key}
 use Rattle.units.specs.declared.writes.Write.{Write}
 use Rattle.units.proofs.KeyLaws.{key_before-irreflexive, key_before-total, key_before-trans, same_key-is, same_key-not_before, same_key_comm}
-use Rattle.units.proofs.KeyOrder.{before_by}
 use Rattle.record.specs.History.{Txn}
 use Rattle.inspector.specs.Ascending.{AscendsBy}
 use Rattle.inspector.specs.Folds.{shown, written}
 use Rattle.inspector.specs.Versions.{Placed, AscendsByKey, AscendsByPlace, before_place, has_earlier_key, has_earlier_place, last_value, of_key, placed_at, placed_from}
-use Rattle.inspector.proofs.Sorting.{ascends_drop, ascends_from_sorted, before_partitioned, not_after_partitioned, ties_run}
+use Rattle.inspector.proofs.Sorting.{ascends_drop, before_partitioned, not_after_partitioned, ties_run}
 
 -- ---- the order of keys
 

@@ -1,13 +1,13 @@
 -- Whether a transaction is whole is seen from the records about it alone.
 use Rattle.std.specs.List.{list_all, list_any}
-use Rattle.std.proofs.Common.{◌≡◌, ◌∙◌, ℕ, zero, suc, ◌+◌, ◌<◌, ◌≤◌, Bool, true, false, not, cond, ◌&&◌, ◌||◌, nat_eq, nat_lt, List, [], ◌∷◌, ◌++◌, filter, flat_map, length, map, Option, Some, None, option_map, refl, sym, ap, subst, arith}
+use Rattle.std.proofs.Common.{◌≡◌, ◌∙◌, ℕ, zero, suc, ◌<◌, Bool, true, false, not, cond, ◌&&◌, ◌||◌, nat_eq, nat_lt, List, [], ◌∷◌, ◌++◌, filter, flat_map, length, map, Option, Some, None, option_map, refl, sym, ap, arith}
 use Rattle.std.proofs.lemmas.Bool.Decides.{nat_tests}
 use Rattle.std.proofs.lemmas.List.{append-nil}
 use Rattle.units.specs.Ids.{Id, same_id}
 use Rattle.units.specs.Lists.{gather, has, head, numbered, when}
 use Rattle.units.proofs.IdLaws.{same_id_comm}
 use Rattle.record.specs.Records.{Ended, as_aborted, as_committed, as_ended, as_prepared, id_in, is_aborted}
-use Rattle.record.specs.Whole.{Decision, decisions, fits_decision, is_promise_for, is_whole, is_whole_by, outcomes_fit, parts_exist, promises_of, turns_down}
+use Rattle.record.specs.Whole.{Decision, decisions, fits_decision, is_promise_for, is_whole, is_whole_by, outcomes_fit, promises_of}
 use Rattle.record.specs.declared.record.Committed.{Committed}
 use Rattle.record.specs.declared.record.Record.{Record}
 use Rattle.record.specs.declared.record.Record.TheVariants.{Opened, Ceiling, Prepare, Commit, Abort, Outcome}

@@ -1,8 +1,8 @@
 -- What the loops of the inspector compute, record by record.
 use Rattle.std.specs.List.{list_all}
 use Rattle.std.specs.Prelude.{filter}
-use Rattle.std.specs.Prelude.{ℕ, suc, Bool, false, cond, ◌&&◌, List, [], ◌∷◌, map, nat_eq, Option, Some, None}
-use Rattle.units.specs.Ids.{Id, same_id, with_id}
+use Rattle.std.specs.Prelude.{ℕ, Bool, false, cond, ◌&&◌, List, [], ◌∷◌, map, nat_eq, Option, Some, None}
+use Rattle.units.specs.Ids.{Id, older, same_id, with_id}
 use Rattle.units.specs.Keys.{Bytes, same_key}
 use Rattle.units.specs.Lists.{gather, head, insert, when}
 use Rattle.units.specs.declared.writes.Write.{Write}
@@ -17,6 +17,16 @@ use Rattle.inspector.specs.declared.whole.Tally.TheVariants.{Never, Once, Again}
 abbrev pub with_ids : List Id → List Id → List Id
 with_ids us [] = us
 with_ids us (t ∷ ts) = with_ids (with_id us t) ts
+
+-- the older of two ids, where there is a first
+abbrev pub older_of : Option Id → Id → Id
+older_of None t = t
+older_of (Some u) t = cond (older u t) u t
+
+-- the oldest of some ids and of one that was found before
+abbrev pub oldest : Option Id → List Id → Option Id
+oldest found [] = found
+oldest found (t ∷ ts) = oldest (Some (older_of found t)) ts
 
 -- the decisions of an id in the log of a shard
 abbrev pub decisions_here : Id → ℕ → List Record → List Decision

@@ -1,16 +1,18 @@
 //! The transactions of the logs.
 ghost use Rattle.std.specs.List.{list_any};
-ghost use Rattle.std.specs.Prelude.{flat_map};
-ghost use Rattle.std.specs.Prelude.{◌≡◌, ◌≤◌, ◌++◌, ◌&&◌, length, IfOk, IfErr, OnOk, map, nat_eq};
+ghost use Rattle.std.specs.Prelude.{flat_map, nat_eq};
+ghost use Rattle.std.specs.Prelude.{◌≡◌, ◌≤◌, ◌++◌, length, IfOk, IfErr, OnOk, map};
 ghost use Rattle.std.specs.Option.{option_copied};
-ghost use Rattle.units.specs.Ids.{Id, same_id};
+ghost use Rattle.units.specs.Ids.{Id};
 ghost use Rattle.units.specs.Lists.{insert, numbered};
 ghost use Rattle.units.specs.Fronts.{front};
 ghost use Rattle.record.specs.History.{serial_before, find_txn, history, serial, whole_txn};
 ghost use Rattle.inspector.specs.Decided.{decided_in, promised_in, whole_in};
+ghost use Rattle.record.specs.Verdict.{is_in_at};
 ghost use Rattle.inspector.specs.Entries.{AscendsByTxn, entries, of_txn};
+ghost use Rattle.inspector.specs.Known.{AscendsById, HaveSame, of_id};
 
-use crate::entries::{Entry, run_of};
+use crate::entries::{self, Entry};
 use record::{Committed, Record};
 use std::alloc::Global;
 use std::marker::Model;
@@ -88,7 +90,7 @@ fn add_decided(
     for item in log {
         if let Record::Commit(committed) = item {
             if shard == committed.parts.least().number() as usize {
-                let run = run_of(about, committed.txn);
+                let run = entries::run_of(about, committed.txn);
                 found.push(whole(alloc, run, shard, committed)?)?;
             }
         }
@@ -156,24 +158,53 @@ pub fn put_in_order(found: &mut Vec<Transaction>) -> Result<(), Fault>
     Ok(())
 }
 
-/// The transaction of an id.
-pub fn find(found: &[Transaction], txn: TxnId) -> Option<&Transaction>
-    ensures { option_copied result ≡ find_txn found.now txn }
+/// Puts transactions into the order of their ids. Those of one id stay in their order.
+pub fn put_by_id(found: &mut Vec<Transaction>) -> Result<(), Fault>
+    ensures order { OnOk result (AscendsById found.new.items) }
+    ensures same { OnOk result (HaveSame found.new.items found.old.items) }
+    ensures memory { IfErr result (λ fault. fault ≡ Fault.Memory) }
 {
-    for transaction in found {
-        if transaction.txn.is(txn) {
-            return Some(transaction);
-        }
-    }
-    None
+    found.sort_by_key(|transaction| transaction.txn)?;
+    Ok(())
 }
 
-/// The id is there at this timestamp.
-pub fn is_in_at(found: &[Transaction], txn: TxnId, at: Stamp) -> bool
-    ensures { result ≡ list_any (λ u. same_id u.txn txn && nat_eq u.at at) found.now }
+// Those of one id, among some that ascend by id.
+fn run_of(found: &[Transaction], txn: TxnId) -> &[Transaction]
+    requires { AscendsById found.now }
+    ensures { result.now ≡ of_id txn found.now }
 {
-    for transaction in found {
-        if transaction.txn.is(txn) && transaction.at.micros() == at.micros() {
+    let first = found.partition_point(|transaction| transaction.txn.is_older_than(txn));
+    let rest = &found[first..];
+    let count = rest.partition_point(|transaction| !txn.is_older_than(transaction.txn));
+    &rest[..count]
+}
+
+/// The first transaction of an id, among some that ascend by id.
+pub fn find(found: &[Transaction], txn: TxnId) -> Option<&Transaction>
+    requires { AscendsById found.now }
+    ensures { option_copied result ≡ find_txn found.now txn }
+{
+    match run_of(found, txn) {
+        [] => None,
+        [first, ..] => Some(first),
+    }
+}
+
+/// The id is there at this timestamp, among some that ascend by id.
+#[tactic(auto, using(crate::proofs::KnownLaws::any_of_id))]
+pub fn is_in_at(found: &[Transaction], txn: TxnId, at: Stamp) -> bool
+    requires { AscendsById found.now }
+    ensures { result ≡ is_in_at found.now txn at }
+{
+    is_at(run_of(found, txn), at)
+}
+
+// One of them is at this timestamp.
+fn is_at(run: &[Transaction], at: Stamp) -> bool
+    ensures { result ≡ list_any (λ u. nat_eq u.at at) run.now }
+{
+    for transaction in run {
+        if transaction.at.micros() == at.micros() {
             return true;
         }
     }

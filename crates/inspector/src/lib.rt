@@ -1,7 +1,7 @@
 //! The verdict on the logs of all shards and the lines of a report.
 #![tactic(auto)]
 
-mod ages;
+mod acks;
 mod entries;
 mod history;
 mod lines;

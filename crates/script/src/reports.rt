@@ -1,34 +1,20 @@
 //! The text of a report.
-use inspector::inspect;
+use crate::plays::Played;
 use playing::Report;
 use std::alloc::Global;
 use std::fmt;
 use texts::Text;
-use units::{Fault, Verdict};
+use units::Fault;
 use world::Reply;
 
-// A report with its verdict. The counts say how many messages each event put out.
-#[derive(Drop)]
-struct Judged<'r> {
-    report: &'r Report,
-    counts: &'r [usize],
-    verdict: Verdict,
-}
-
 /// The text of a report, with the verdict on it.
-pub fn report(alloc: Global, report: &Report, counts: &[usize]) -> Result<String, Fault> {
-    let verdict = inspect(alloc, &report.logs, &report.lines)?;
-    let judged = Judged {
-        report,
-        counts,
-        verdict,
-    };
-    Ok(format!(in alloc; "{judged}")?)
+pub fn report(alloc: Global, played: &Played) -> Result<String, Fault> {
+    Ok(format!(in alloc; "{played}")?)
 }
 
-impl fmt::Display for Judged<'_> {
+impl fmt::Display for Played {
     fn fmt<W: fmt::Write>(&self, f: &mut fmt::Formatter<W>) -> fmt::Result {
-        write_events(f, self.report, self.counts)?;
+        write_events(f, &self.report, &self.counts)?;
         for (shard, log) in self.report.logs.iter().enumerate() {
             writeln!(f, "log {shard}")?;
             for item in log {

@@ -1,7 +1,5 @@
-//! Tests of schedules and of the reports of what was played.
+//! Tests of schedules.
 #![tactic(auto)]
 
-#[cfg(test)]
-mod reports;
 #[cfg(test)]
 mod schedules;

@@ -1,4 +1,4 @@
-//! Tests that cross crates: shards on disks in memory, and what the program prints.
+//! Tests that cross crates: shards on disks in memory.
 #![tactic(auto)]
 
 #[cfg(test)]
@@ -9,8 +9,6 @@ mod coordinating;
 mod given;
 #[cfg(test)]
 mod one_commit;
-#[cfg(test)]
-mod printed;
 #[cfg(test)]
 mod promising;
 #[cfg(test)]

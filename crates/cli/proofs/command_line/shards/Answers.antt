@@ -14,5 +14,7 @@ returns c =
     ∙ ap (on_top (λ s. record s { subcommand_required = true })) (ap app_of_fields c.disable_help_subcommand.ensures
     ∙ ap (on_top (λ s. record s { disable_help_subcommand = true })) (ap app_of_fields c.no_binary_name.ensures
     ∙ ap (on_top (λ s. record s { no_binary_name = true })) c.new.ensures.app)) in
-    IfOk-weaker c.with_command.result _ _ (λ m h. h c.in_ok-once_command.ensures.local
-    ∙ ap₂ with_subcommand bare_is (ap top c.in_ok-once_command.ensures.app)) c.with_command.ensures
+    let once_is = c.in_ok-with_once.ensures c.in_ok-once_command.ensures.local
+    ∙ ap₂ with_subcommand bare_is (ap top c.in_ok-once_command.ensures.app) in
+    IfOk-weaker c.with_command-2.result _ _ (λ m h. h c.in_ok-file_command.ensures.local
+    ∙ ap₂ with_subcommand once_is (ap top c.in_ok-file_command.ensures.app)) c.with_command-2.ensures

@@ -1,6 +1,5 @@
-use Rattle.std.proofs.Common.{◌≡◌, ◌++◌, drop, flat_map, map}
-use Rattle.units.specs.Lists.{numbered}
-use Rattle.inspector.specs.Decided.{decided_in, promised_in}
+use Rattle.std.proofs.Common.{◌≡◌, ◌++◌, drop, flat_map}
+use Rattle.inspector.specs.Decided.{promised_in}
 use Rattle.inspector.proofs.history.add_promised.Given as goal
 
 abbrev pub invariant-loop-entry : goal.invariant-loop-entry

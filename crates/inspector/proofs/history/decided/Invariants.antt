@@ -1,6 +1,6 @@
 use Rattle.std.proofs.Common.{◌≡◌, ◌++◌, drop, flat_map, map}
 use Rattle.units.specs.Lists.{numbered}
-use Rattle.inspector.specs.Decided.{decided_in, promised_in}
+use Rattle.inspector.specs.Decided.{decided_in}
 use Rattle.inspector.proofs.history.decided.Given as goal
 
 abbrev pub invariant-loop-shard : goal.invariant-loop-shard

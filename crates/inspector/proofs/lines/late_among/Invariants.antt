@@ -1,6 +1,6 @@
-use Rattle.std.proofs.Common.{◌≡◌, ℕ, ◌+◌, drop, map, Option, Some, None, cond, not, ◌++◌, ◌&&◌, [], nat_eq, nat_le, nat_lt}
-use Rattle.units.specs.Lists.{first, gather, head, numbered, sorted, has, when}
-use Rattle.record.specs.Verdict.{first_lost, first_wrong_order, first_wrong_read, is_late_ack, line_reads_right, lost_by}
+use Rattle.std.proofs.Common.{◌≡◌, drop, Some, None, cond}
+use Rattle.units.specs.Lists.{gather, head, numbered}
+use Rattle.record.specs.Verdict.{is_late_ack}
 use Rattle.inspector.proofs.lines.late_among.Given as goal
 
 abbrev pub invariant-loop-place : goal.invariant-loop-place

@@ -5,7 +5,6 @@ use Rattle.record.specs.History.{Txn, before, serial_before, upto}
 use Rattle.record.specs.Verdict.{line_reads_right, same_value}
 use Rattle.inspector.specs.Folds.{shown}
 use Rattle.inspector.proofs.FoldLaws.{before_is, upto_is}
-use Rattle.inspector.proofs.ValueLaws.{serial_is_ascending}
 use Rattle.inspector.proofs.lines.reads_right.Goals as goal
 
 pub returns-in-Some : goal.returns-in-Some

@@ -1,4 +1,4 @@
-use Rattle.std.proofs.Common.{◌≡◌, ◌∙◌, IfOk, List, Option, ap, length, map, not, subst, sym}
+use Rattle.std.proofs.Common.{◌≡◌, ◌∙◌, IfOk, List, Option, ap, map, not, subst, sym}
 use Rattle.std.proofs.lemmas.List.{length-map}
 use Rattle.units.specs.Ids.{Id}
 use Rattle.units.specs.Lists.{first}

@@ -1,4 +1,4 @@
-use Rattle.std.proofs.Common.{◌∙◌, nat_le, rules, subst, sym}
+use Rattle.std.proofs.Common.{◌∙◌, rules, subst, sym}
 use Rattle.std.proofs.lemmas.List.Sorted.{IsPartitionPoint-from_clause}
 use Rattle.units.proofs.FrontLaws.{point_is_front}
 use Rattle.record.specs.History.{serial_before}

@@ -1,7 +1,6 @@
 use Rattle.std.proofs.Common.{◌∙◌, nat_le, rules, subst, sym}
 use Rattle.std.proofs.lemmas.List.Sorted.{IsPartitionPoint-from_clause}
 use Rattle.units.proofs.FrontLaws.{point_is_front}
-use Rattle.record.specs.History.{serial_before}
 use Rattle.inspector.proofs.ValueLaws.{partitioned_up_to, shown_up_to}
 use Rattle.inspector.specs.Versions.{AscendsByPlace}
 use Rattle.inspector.proofs.VersionLaws.{places_ascend}

@@ -1,5 +1,5 @@
 use Rattle.std.proofs.Common.{◌≡◌, ◌++◌, drop}
-use Rattle.inspector.specs.Versions.{placed_at, placed_from}
+use Rattle.inspector.specs.Versions.{placed_at}
 use Rattle.inspector.proofs.versions.add_writes.Given as goal
 
 abbrev pub invariant-loop-write : goal.invariant-loop-write

@@ -1,6 +1,5 @@
-use Rattle.std.proofs.Common.{◌≡◌, ◌∙◌, List, None, ap, nat_lt, rules, subst, sym, take}
+use Rattle.std.proofs.Common.{◌∙◌, List, None, ap, nat_lt, rules, subst, sym, take}
 use Rattle.std.proofs.lemmas.List.Sorted.{IsPartitionPoint-from_clause}
-use Rattle.units.specs.Fronts.{front}
 use Rattle.units.proofs.FrontLaws.{point_is_front}
 use Rattle.inspector.specs.Versions.{Placed, AscendsByPlace, before_place, last_value}
 use Rattle.inspector.proofs.VersionLaws.{first_places, places_before}

@@ -1,5 +1,5 @@
 use Rattle.std.proofs.Common.{◌≡◌, ◌++◌, drop}
-use Rattle.inspector.specs.Versions.{placed_at, placed_from}
+use Rattle.inspector.specs.Versions.{placed_from}
 use Rattle.inspector.proofs.versions.versions_of.Given as goal
 
 abbrev pub invariant-loop-place : goal.invariant-loop-place

@@ -1,4 +1,4 @@
-use Rattle.std.proofs.Common.{◌≡◌, ◌∙◌, Bool, true, false, not, refl, sym}
+use Rattle.std.proofs.Common.{◌∙◌, sym}
 use Rattle.record.specs.Whole.{fits_decision}
 use Rattle.inspector.proofs.Numbers.{all_numbered_step}
 use Rattle.inspector.proofs.whole.each_fits.Goals as goal

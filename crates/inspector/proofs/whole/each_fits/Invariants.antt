@@ -1,12 +1,8 @@
-use Rattle.std.specs.List.{list_all, list_any}
-use Rattle.std.proofs.Common.{◌≡◌, ℕ, ◌-◌, drop, not, ◌&&◌, nat_eq, nat_le, nat_lt, length, true, false, None, flat_map}
-use Rattle.units.specs.Lists.{gather, has, numbered, when}
-use Rattle.units.specs.Ids.{same_id}
-use Rattle.record.specs.Records.{as_ended, is_aborted}
-use Rattle.record.specs.Whole.{decisions, fits_decision, promises_of, outcomes_fit}
-use Rattle.inspector.specs.declared.whole.Tally.TheVariants.{Never}
-use Rattle.inspector.specs.Entries.{log_at, logs_from}
-use Rattle.inspector.specs.Folds.{after, decisions_here, fits_all, sole}
+use Rattle.std.specs.List.{list_all}
+use Rattle.std.proofs.Common.{◌≡◌, ◌-◌}
+use Rattle.units.specs.Lists.{numbered}
+use Rattle.record.specs.Whole.{fits_decision}
+use Rattle.inspector.specs.Entries.{logs_from}
 use Rattle.inspector.proofs.whole.each_fits.Given as goal
 
 abbrev pub invariant-loop-number : goal.invariant-loop-number

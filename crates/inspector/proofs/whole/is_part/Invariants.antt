@@ -1,5 +1,5 @@
-use Rattle.std.proofs.Common.{◌≡◌, ℕ, ◌+◌, drop, map, Option, Some, None, cond, not, ◌++◌, ◌&&◌, [], nat_eq, nat_le, nat_lt}
-use Rattle.units.specs.Lists.{first, gather, head, numbered, sorted, has, when}
+use Rattle.std.proofs.Common.{◌≡◌, drop}
+use Rattle.units.specs.Lists.{has}
 use Rattle.inspector.proofs.whole.is_part.Given as goal
 
 abbrev pub invariant-loop-part : goal.invariant-loop-part
