@@ -1,11 +1,10 @@
 //! Drawn requests, answered by the rows and by a plain table of who holds what and waits for what.
 ghost use Rattle.std.specs.Prelude.{◌<◌};
 
-use crate::ids::{id, needs};
+use crate::ids::{id, key, needs};
 use rows::{Rows, Wait};
 use std::alloc::Global;
-use std::test::Fail;
-use units::{Fault, Key, Mode, TxnId};
+use units::{Mode, TxnId};
 
 // The letters of the keys.
 const LETTERS: [u8; 4] = [b'a', b'b', b'c', b'd'];
@@ -125,45 +124,60 @@ fn end_wounded(table: &mut Table, asked: Asked) {
     }
 }
 
+fn take(table: &mut Table, asked: Asked) {
+    end_wounded(table, asked);
+    if let Some(plain) = table.get_mut(usize::from(asked.number)) {
+        plain.take(asked);
+    }
+}
+
+fn put_off(table: &mut Table, asked: Asked) {
+    end_wounded(table, asked);
+    if let Some(plain) = table.get_mut(usize::from(asked.number)) {
+        plain.waits = Some((asked.key, asked.mode));
+    }
+}
+
+// It has a row then.
+fn is_in(rows: &mut Rows, alloc: Global, txn: TxnId) -> bool {
+    if rows.find(txn).is_some() {
+        return true;
+    }
+    !rows.is_full() && rows.admit(alloc, txn).is_ok()
+}
+
 // What the rows answer is what the plain table says, and both go on by it.
-fn agrees_on(
-    rows: &mut Rows,
-    alloc: Global,
-    table: &mut Table,
-    asked: Asked,
-) -> Result<bool, Fault> {
-    let Asked { number, key, mode } = asked;
-    let txn = id(u64::from(number));
-    let letter = LETTERS[usize::from(key) % 4];
-    let key = Key::new(&[letter])?;
-    let wanted = needs(key, mode);
-    if rows.find(txn).is_none() {
-        if rows.is_full() {
-            return Ok(false);
-        }
-        rows.admit(alloc, txn)?;
+fn agrees_on(rows: &mut Rows, alloc: Global, table: &mut Table, asked: Asked) -> bool {
+    let txn = id(u64::from(asked.number));
+    let key = key(LETTERS[usize::from(asked.key) % 4]);
+    let wanted = needs(key, asked.mode);
+    if !is_in(rows, alloc, txn) || !rows.is_reading(txn) {
+        return false;
     }
-    if !rows.is_reading(txn) {
-        return Ok(false);
-    }
-    rows.make_room(txn, 1)?;
-    let ended = rows.wounded(alloc, txn, &wanted)?;
+    let Ok(()) = rows.make_room(txn, 1) else {
+        return false;
+    };
+    let Ok(ended) = rows.wounded(alloc, txn, &wanted) else {
+        return false;
+    };
     let opens = rows.opens(txn, &wanted);
     let agrees = wounded_are(table, asked, ended.as_slice()) && opens != is_kept_out(table, asked);
     if opens {
         rows.grant(txn, ended.as_slice(), &wanted);
-        end_wounded(table, asked);
-        if let Some(plain) = table.get_mut(usize::from(number)) {
-            plain.take(asked);
-        }
-    } else if matches!(mode, Mode::Shared) {
+        take(table, asked);
+    } else if matches!(asked.mode, Mode::Shared) {
         rows.wait(txn, ended.as_slice(), &wanted, Wait::Read(key));
-        end_wounded(table, asked);
-        if let Some(plain) = table.get_mut(usize::from(number)) {
-            plain.waits = Some((asked.key, mode));
-        }
+        put_off(table, asked);
     }
-    Ok(agrees && rows.ready().map(|txn| txn.number()) == first_ready(table).map(u64::from))
+    agrees
+}
+
+fn agree_on_ready(rows: &Rows, table: &Table) -> bool {
+    match (rows.ready(), first_ready(table)) {
+        (Some(txn), Some(number)) => txn.number() == u64::from(number),
+        (None, None) => true,
+        _ => false,
+    }
 }
 
 // The transaction's row goes, if it has one.
@@ -177,7 +191,7 @@ fn ends(rows: &mut Rows, table: &mut Table, number: u8) {
     }
 }
 
-fn agrees(rows: &mut Rows, alloc: Global, turns: u64) -> Result<bool, Fault> {
+fn agrees(rows: &mut Rows, alloc: Global, turns: u64) -> bool {
     let mut table: Table = [NOTHING; 6];
     let mut state = 1u64;
     for _ in 0..turns {
@@ -185,27 +199,39 @@ fn agrees(rows: &mut Rows, alloc: Global, turns: u64) -> Result<bool, Fault> {
             .wrapping_mul(6364136223846793005)
             .wrapping_add(1442695040888963407);
         let drawn = state >> 33;
-        let number = (drawn % 6) as u8;
-        let mode = if drawn / 6 % 2 == 0 {
-            Mode::Shared
-        } else {
-            Mode::Exclusive
-        };
-        let key = (drawn / 12 % 4) as u8;
+        let asked = drawn_request(drawn);
         if drawn / 48 % 4 == 0 {
-            ends(rows, &mut table, number);
-        } else if !agrees_on(rows, alloc, &mut table, Asked { number, key, mode })? {
-            return Ok(false);
+            ends(rows, &mut table, asked.number);
+        } else if !agrees_on(rows, alloc, &mut table, asked) || !agree_on_ready(rows, &table) {
+            return false;
         }
     }
-    Ok(true)
+    true
+}
+
+fn drawn_request(drawn: u64) -> Asked {
+    let mode = if drawn / 6 % 2 == 0 {
+        Mode::Shared
+    } else {
+        Mode::Exclusive
+    };
+    Asked {
+        number: (drawn % 6) as u8,
+        key: (drawn / 12 % 4) as u8,
+        mode,
+    }
+}
+
+fn all_agree(alloc: Global) -> bool {
+    let Ok(mut rows) = Rows::new(alloc) else {
+        return false;
+    };
+    let agreed = agrees(&mut rows, alloc, 400);
+    rows.stop();
+    agreed
 }
 
 #[test]
-fn drawn_requests(rt: HostRuntime) -> Result<(), Fail> {
-    let mut rows = Rows::new(rt.alloc())?;
-    let agreed = agrees(&mut rows, rt.alloc(), 400);
-    rows.stop();
-    assert!(rt; agreed?);
-    Ok(())
+fn drawn_requests(rt: HostRuntime) {
+    assert!(rt; all_agree(rt.alloc()));
 }

@@ -1,7 +1,7 @@
 //! What both speak of.
 ghost use Rattle.std.specs.Prelude.{◌≡◌, ◌<◌, ◌^◌, [], ◌∷◌};
 
-use units::{Key, Lock, Mode, TxnId};
+use units::{Key, Lock, Mode, Stamp, TxnId};
 
 /// Transaction 1.number.
 pub fn id(number: u64) -> TxnId
@@ -19,4 +19,21 @@ pub fn needs(key: Key, mode: Mode) -> [Lock; 1]
     ensures { result ≡ record { key = key; mode = mode } ∷ [] }
 {
     [Lock { key, mode }]
+}
+
+/// A key of one letter.
+pub fn key(letter: u8) -> Key {
+    match Key::new(&[letter]) {
+        Ok(key) => key,
+        Err(_) => unreachable!(),
+    }
+}
+
+pub fn stamp(micros: u32) -> Stamp
+    ensures { result ≡ micros }
+{
+    match Stamp::new(u64::from(micros)) {
+        Ok(at) => at,
+        Err(_) => unreachable!(),
+    }
 }

@@ -2,10 +2,9 @@
 ghost use Rattle.std.specs.Prelude.{◌≡◌, [], ◌∷◌, IfSome};
 ghost use Rattle.locks.specs.Table.{entrant};
 
-use crate::ids::{id, needs};
+use crate::ids::{id, key, needs};
 use locks::{Held, Table};
 use std::alloc::Global;
-use std::test::Fail;
 use units::{Asked, Fault, Key, Lock, Mode, TxnId};
 
 fn shares(key: Key) -> [Lock; 1] {
@@ -16,53 +15,20 @@ fn owns(key: Key) -> [Lock; 1] {
     needs(key, Mode::Exclusive)
 }
 
-fn is_granted(answer: &Result<Asked, Fault>) -> bool {
+fn is_granted(answer: Result<Asked, Fault>) -> bool {
     matches!(answer, Ok(Asked::Granted))
 }
 
-fn waits(answer: &Result<Asked, Fault>) -> bool {
+fn waits(answer: Result<Asked, Fault>) -> bool {
     matches!(answer, Ok(Asked::Waits))
 }
 
 // Ends this transaction alone, and no other.
-fn wounds(answer: &Result<Asked, Fault>, txn: TxnId) -> bool {
+fn wounds(answer: Result<Asked, Fault>, txn: TxnId) -> bool {
     match answer {
         Ok(Asked::Wounds(ids)) => ids.as_slice() == [txn].as_slice(),
         _ => false,
     }
-}
-
-// 1.1 holds a shared. 1.3 asks for it exclusive and waits, 1.2 asks for it shared and is granted. When 1.1 is released
-// nobody is ready; when 1.2 is released 1.3 is.
-fn wait_for_sharers(alloc: Global, key: Key) -> Option<bool> {
-    let mut table = Table::new(alloc);
-    let Ok(mut first) = table.enter(alloc, id(1)) else {
-        return None;
-    };
-    let Ok(mut third) = table.enter(alloc, id(3)) else {
-        table.release(first);
-        return None;
-    };
-    let Ok(mut second) = table.enter(alloc, id(2)) else {
-        table.release(first);
-        table.release(third);
-        return None;
-    };
-    let holds = table.request(alloc, &mut first, &shares(key));
-    let younger = table.request(alloc, &mut third, &owns(key));
-    let between = table.request(alloc, &mut second, &shares(key));
-    table.release(first);
-    let early = table.ready();
-    table.release(second);
-    let late = table.ready();
-    table.release(third);
-    Some(
-        is_granted(&holds)
-            && waits(&younger)
-            && is_granted(&between)
-            && early.is_none()
-            && late == Some(id(3)),
-    )
 }
 
 // The tokens of 1.1 and 1.2, in a table of their own.
@@ -84,46 +50,59 @@ fn enter_two(alloc: Global) -> Option<(Table, Held, Held)>
     Some((table, first, second))
 }
 
+// 1.1 holds a shared. 1.3 asks for it exclusive and waits, 1.2 asks for it shared and is granted. When 1.1 is released
+// nobody is ready; when 1.2 is released 1.3 is.
+fn wait_for_sharers(alloc: Global, key: Key) -> Option<bool> {
+    let (mut table, mut first, mut second) = enter_two(alloc)?;
+    let Ok(mut third) = table.enter(alloc, id(3)) else {
+        table.release(first);
+        table.release(second);
+        return None;
+    };
+    let holds = is_granted(table.request(alloc, &mut first, &shares(key)));
+    let younger = waits(table.request(alloc, &mut third, &owns(key)));
+    let between = is_granted(table.request(alloc, &mut second, &shares(key)));
+    table.release(first);
+    let early = table.ready().is_none();
+    table.release(second);
+    let late = table.ready() == Some(id(3));
+    table.release(third);
+    Some(holds && younger && between && early && late)
+}
+
 // 1.1 and 1.2 hold a shared. 1.1 asks for it exclusive and wounds 1.2, and nothing is changed: nobody waits, and 1.2 is
 // granted what it holds once more.
 fn wound_a_sharer(alloc: Global, key: Key) -> Option<bool> {
     let (mut table, mut first, mut second) = enter_two(alloc)?;
     let names = first.txn() == id(1) && second.txn() == id(2);
-    let older = table.request(alloc, &mut first, &shares(key));
-    let younger = table.request(alloc, &mut second, &shares(key));
-    let wounding = table.request(alloc, &mut first, &owns(key));
+    let older = is_granted(table.request(alloc, &mut first, &shares(key)));
+    let younger = is_granted(table.request(alloc, &mut second, &shares(key)));
+    let wounding = wounds(table.request(alloc, &mut first, &owns(key)), id(2));
     let nobody = table.ready().is_none();
-    let again = table.request(alloc, &mut second, &shares(key));
+    let again = is_granted(table.request(alloc, &mut second, &shares(key)));
     table.release(first);
     table.release(second);
-    Some(
-        names
-            && is_granted(&older)
-            && is_granted(&younger)
-            && wounds(&wounding, id(2))
-            && nobody
-            && is_granted(&again),
-    )
+    Some(names && older && younger && wounding && nobody && again)
 }
 
 // 1.2 holds a shared, and 1.1 wounds it. When 1.2 is released the same request is granted.
 fn ask_once_more(alloc: Global, key: Key) -> Option<bool> {
     let (mut table, mut first, mut second) = enter_two(alloc)?;
-    let younger = table.request(alloc, &mut second, &shares(key));
-    let wounding = table.request(alloc, &mut first, &owns(key));
+    let younger = is_granted(table.request(alloc, &mut second, &shares(key)));
+    let wounding = wounds(table.request(alloc, &mut first, &owns(key)), id(2));
     table.release(second);
-    let alone = table.request(alloc, &mut first, &owns(key));
+    let alone = is_granted(table.request(alloc, &mut first, &owns(key)));
     table.release(first);
-    Some(is_granted(&younger) && wounds(&wounding, id(2)) && is_granted(&alone))
+    Some(younger && wounding && alone)
 }
 
 // 1.2 is firm and holds a exclusive. 1.1 asks for it shared and waits. When 1.2 is released 1.1 is ready, goes on, and
 // holds a, so that 1.3 waits for it.
 fn wait_for_a_firm_one(alloc: Global, key: Key) -> Option<bool> {
     let (mut table, mut first, mut second) = enter_two(alloc)?;
-    let younger = table.request(alloc, &mut second, &owns(key));
+    let younger = is_granted(table.request(alloc, &mut second, &owns(key)));
     table.firm(&second);
-    let older = table.request(alloc, &mut first, &shares(key));
+    let older = waits(table.request(alloc, &mut first, &shares(key)));
     table.release(second);
     let is_ready = table.ready() == Some(id(1));
     if !is_ready {
@@ -136,25 +115,25 @@ fn wait_for_a_firm_one(alloc: Global, key: Key) -> Option<bool> {
         table.release(first);
         return None;
     };
-    let behind = table.request(alloc, &mut third, &owns(key));
+    let behind = waits(table.request(alloc, &mut third, &owns(key)));
     table.release(first);
     table.release(third);
-    Some(is_granted(&younger) && waits(&older) && went_on && nobody && waits(&behind))
+    Some(younger && older && went_on && nobody && behind)
 }
 
 // 1.1 holds a exclusive, 1.2 waits for it and gives the wait up, so that nobody is ready when 1.1 is released.
 fn give_a_wait_up(alloc: Global, key: Key) -> Option<bool> {
     let (mut table, mut first, mut second) = enter_two(alloc)?;
-    let older = table.request(alloc, &mut first, &owns(key));
-    let younger = table.request(alloc, &mut second, &shares(key));
+    let older = is_granted(table.request(alloc, &mut first, &owns(key)));
+    let younger = waits(table.request(alloc, &mut second, &shares(key)));
     table.withdraw(&second);
     table.release(first);
     let nobody = table.ready().is_none();
     table.release(second);
-    Some(is_granted(&older) && waits(&younger) && nobody)
+    Some(older && younger && nobody)
 }
 
-#[derive(Clone, Copy, Debug)]
+#[derive(Clone, Copy)]
 enum Story {
     WaitForSharers,
     WoundASharer,
@@ -163,7 +142,7 @@ enum Story {
     GiveAWaitUp,
 }
 
-const STORIES: [Story; 5] = [
+static STORIES: [Story; 5] = [
     Story::WaitForSharers,
     Story::WoundASharer,
     Story::AskOnceMore,
@@ -171,18 +150,23 @@ const STORIES: [Story; 5] = [
     Story::GiveAWaitUp,
 ];
 
-#[test]
-fn stories_of_one_key(rt: HostRuntime) -> Result<(), Fail> {
-    let (alloc, key) = (rt.alloc(), Key::new(b"a")?);
-    for story in STORIES {
-        let told = match story {
-            Story::WaitForSharers => wait_for_sharers(alloc, key),
-            Story::WoundASharer => wound_a_sharer(alloc, key),
-            Story::AskOnceMore => ask_once_more(alloc, key),
-            Story::WaitForAFirmOne => wait_for_a_firm_one(alloc, key),
-            Story::GiveAWaitUp => give_a_wait_up(alloc, key),
-        };
-        assert_eq!(rt; told, Some(true), "{story:?}");
+fn told(alloc: Global, story: Story) -> Option<bool> {
+    let key = key(b'a');
+    match story {
+        Story::WaitForSharers => wait_for_sharers(alloc, key),
+        Story::WoundASharer => wound_a_sharer(alloc, key),
+        Story::AskOnceMore => ask_once_more(alloc, key),
+        Story::WaitForAFirmOne => wait_for_a_firm_one(alloc, key),
+        Story::GiveAWaitUp => give_a_wait_up(alloc, key),
     }
-    Ok(())
+}
+
+#[test]
+fn stories_of_one_key(rt: HostRuntime) {
+    for (number, story) in STORIES.iter().enumerate() {
+        assert!(rt;
+            matches!(told(rt.alloc(), *story), Some(true)),
+            "story {number}"
+        );
+    }
 }

@@ -1,15 +1,15 @@
 //! The log in its file.
-use crate::lines::{Line, record_of};
+use crate::lines::{Line, is_spelled, record_of};
+use crate::spellings::COMMIT;
 use disk::{Disk, Fate};
-use gatelog::{Entry, GateLog};
-use record::{Record, encode};
+use gatelog::{Entry, GateLog, Logged};
+use record::Record;
 use simdisk::{Choice, SimDisk};
 use std::alloc::Global;
-use std::test::Fail;
 use units::Fault;
 
 // The header; Opened 1; Commit 1.1 at 111, parts 0, no reads, a=1; Outcome 1.1 committed 111; a closed gate.
-static WHOLE: [u8; 96] = [
+const WHOLE: &[u8] = &[
     0x53, 0x50, 0x4e, 0x4c, 0x4f, 0x47, 0x30, 0x31, 0xa5, 0, 0, 0, 9, 1, 0, 0, 0, 0, 0, 0, 0, 1,
     0xa5, 0, 0, 0, 37, 4, 0, 0, 0, 0, 0, 0, 0, 1, 0, 0, 0, 0, 0, 0, 0, 1, 0, 0, 0, 0, 0, 0, 0,
     0x6f, 0, 1, 0, 0, 0, 1, 1, 0x61, 1, 0, 1, 0x31, 0xa5, 0, 0, 0, 26, 6, 0, 0, 0, 0, 0, 0, 0, 1,
@@ -23,29 +23,49 @@ pub fn open(alloc: Global, disk: SimDisk) -> Result<(GateLog<SimDisk>, Vec<Entry
     }
 }
 
-pub fn put(alloc: Global, log: &mut GateLog<SimDisk>, item: &Record) -> Result<(), Fault> {
-    let staged = log.stage(alloc, item)?;
-    let logged = log.append(staged)?;
-    let _ = logged.spend();
-    Ok(())
+pub fn entries_in(alloc: Global, disk: SimDisk) -> Option<Vec<Entry>> {
+    match open(alloc, disk) {
+        Ok((_, entries)) => Some(entries),
+        Err(_) => None,
+    }
 }
 
-// A new log with these records.
-pub fn log_of(alloc: Global, lines: &[Line]) -> Result<GateLog<SimDisk>, Fail> {
-    let mut log = match GateLog::format(SimDisk::new(alloc)) {
-        Ok(log) => log,
-        Err((fault, _)) => return Err(fault)?,
+fn spent(logged: Result<Logged, Fault>) -> Result<(), Fault> {
+    match logged {
+        Ok(logged) => {
+            let _ = logged.spend();
+            Ok(())
+        }
+        Err(fault) => Err(fault),
+    }
+}
+
+/// Whether the record was logged.
+pub fn put(alloc: Global, log: &mut GateLog<SimDisk>, item: &Record) -> bool {
+    match log.stage(alloc, item) {
+        Ok(staged) => spent(log.append(staged)).is_ok(),
+        Err(_) => false,
+    }
+}
+
+fn put_line(alloc: Global, log: &mut GateLog<SimDisk>, line: Line) -> bool {
+    match record_of(alloc, line) {
+        Some(item) => put(alloc, log, &item),
+        None => false,
+    }
+}
+
+/// A new log with these records.
+pub fn log_of(alloc: Global, lines: &[Line]) -> Option<GateLog<SimDisk>> {
+    let Ok(mut log) = GateLog::format(SimDisk::new(alloc)) else {
+        return None;
     };
     for line in lines {
-        put(alloc, &mut log, &record_of(alloc, *line)?)?;
+        if !put_line(alloc, &mut log, *line) {
+            return None;
+        }
     }
-    Ok(log)
-}
-
-// The entries of a new log with these records.
-pub fn entries_of(alloc: Global, lines: &[Line]) -> Result<Vec<Entry>, Fail> {
-    let (_, entries) = open(alloc, log_of(alloc, lines)?.into_disk())?;
-    Ok(entries)
+    Some(log)
 }
 
 fn bytes_of(alloc: Global, disk: &mut SimDisk) -> Result<Vec<u8>, Fault> {
@@ -54,38 +74,82 @@ fn bytes_of(alloc: Global, disk: &mut SimDisk) -> Result<Vec<u8>, Fault> {
     Ok(bytes)
 }
 
+fn has_bytes(alloc: Global, disk: &mut SimDisk, bytes: &[u8]) -> bool {
+    match bytes_of(alloc, disk) {
+        Ok(found) => found.as_slice() == bytes,
+        Err(_) => false,
+    }
+}
+
+fn have_offsets(entries: &[Entry], offsets: &[u64]) -> bool {
+    for (entry, offset) in entries.iter().zip(offsets.iter()) {
+        if entry.offset() != *offset {
+            return false;
+        }
+    }
+    entries.len() == offsets.len()
+}
+
+// A log, its file, and where its entries stand.
+#[derive(Clone, Copy)]
+struct File {
+    what: &'static str,
+    lines: &'static [Line],
+    bytes: &'static [u8],
+    offsets: &'static [u64],
+}
+
+static FILES: [File; 2] = [
+    File {
+        what: "an empty log",
+        lines: &[],
+        bytes: b"SPNLOG01\0",
+        offsets: &[],
+    },
+    File {
+        what: "one commit",
+        lines: ONE_COMMIT,
+        bytes: WHOLE,
+        offsets: &[8, 22, 64],
+    },
+];
+
 const ONE_COMMIT: &[Line] = &[
     Line::Opened(1),
     Line::Commit(1, 111, b'a', 1),
     Line::Committed(1, 111),
 ];
 
-#[test]
-fn a_whole_file(rt: HostRuntime) -> Result<(), Fail> {
-    let alloc = rt.alloc();
-    let log = log_of(alloc, ONE_COMMIT)?;
-    assert!(rt; !log.is_stopped());
+fn is_written(alloc: Global, row: &File) -> Option<bool> {
+    let log = log_of(alloc, row.lines)?;
+    let goes_on = !log.is_stopped();
     let mut disk = log.into_disk();
-    assert_eq!(rt; bytes_of(alloc, &mut disk)?.as_slice(), WHOLE.as_slice());
-    let (_, entries) = open(alloc, disk)?;
-    let mut offsets = Vec::new(alloc);
-    for entry in &entries {
-        offsets.push(entry.offset())?;
-    }
-    assert_eq!(rt; offsets.as_slice(), [8, 22, 64].as_slice());
-    let body = encode(alloc, entries.get(1).ok_or("an entry")?.item())?;
-    assert_eq!(rt; body.as_slice(), &WHOLE[27..64]);
-    Ok(())
+    let written = has_bytes(alloc, &mut disk, row.bytes);
+    let entries = entries_in(alloc, disk)?;
+    Some(goes_on && written && have_offsets(&entries, row.offsets))
 }
 
 #[test]
-fn an_empty_log(rt: HostRuntime) -> Result<(), Fail> {
-    let alloc = rt.alloc();
-    let mut disk = log_of(alloc, &[])?.into_disk();
-    let bytes = bytes_of(alloc, &mut disk)?;
-    assert_eq!(rt; bytes.as_slice(), b"SPNLOG01\0".as_slice());
-    assert!(rt; open(alloc, disk)?.1.is_empty());
-    Ok(())
+fn whole_files(rt: HostRuntime) {
+    for row in &FILES {
+        assert!(rt;
+            matches!(is_written(rt.alloc(), row), Some(true)),
+            "{}",
+            row.what
+        );
+    }
+}
+
+// The second entry has the record of the second line.
+fn has_its_commit(alloc: Global) -> Option<bool> {
+    let entries = entries_in(alloc, log_of(alloc, ONE_COMMIT)?.into_disk())?;
+    let entry = entries.get(1)?;
+    Some(is_spelled(alloc, entry.item(), COMMIT))
+}
+
+#[test]
+fn an_entry_has_its_record(rt: HostRuntime) {
+    assert!(rt; matches!(has_its_commit(rt.alloc()), Some(true)));
 }
 
 // How a file is refused.
@@ -136,26 +200,51 @@ static REFUSED: [Refused; 7] = [
     },
 ];
 
-#[test]
-fn damaged_files(rt: HostRuntime) -> Result<(), Fail> {
-    for row in &REFUSED {
-        let mut disk = SimDisk::new(rt.alloc());
-        disk.write_at(0, row.bytes)?;
-        assert_eq!(rt; open(rt.alloc(), disk).err(), row.fault, "{}", row.what);
+fn refusal(alloc: Global, bytes: &[u8]) -> Option<Fault> {
+    let mut disk = SimDisk::new(alloc);
+    match disk.write_at(0, bytes) {
+        Ok(()) => open(alloc, disk).err(),
+        Err(fault) => Some(fault),
     }
-    Ok(())
 }
 
-// Logs Ceiling 200 on a log that was opened once, whose closed gate is at 22, with a failure in one call, and crashes then.
-fn cut_short(alloc: Global, call: u64, fate: Fate) -> Result<SimDisk, Fail> {
-    let mut log = log_of(alloc, &[Line::Opened(1)])?;
-    let staged = log.stage(alloc, &record_of(alloc, Line::Ceiling(200))?)?;
-    log.arm(Some(call));
-    if let Ok(logged) = log.append(staged) {
-        let _ = logged.spend();
+#[test]
+fn damaged_files(rt: HostRuntime) {
+    for row in &REFUSED {
+        assert!(rt; refusal(rt.alloc(), row.bytes) == row.fault, "{}", row.what);
     }
-    let fates = vec![in alloc; fate; 1]?;
-    Ok(log.into_disk().crash(&Choice::from_vec(fates)))
+}
+
+// Logs the record while a call of the append is to fail.
+fn put_armed(
+    alloc: Global,
+    log: &mut GateLog<SimDisk>,
+    item: &Record,
+    call: u64,
+) -> Result<(), Fault> {
+    match log.stage(alloc, item) {
+        Ok(staged) => {
+            log.arm(Some(call));
+            spent(log.append(staged))
+        }
+        Err(fault) => Err(fault),
+    }
+}
+
+// The same of Ceiling 200.
+fn append_armed(alloc: Global, log: &mut GateLog<SimDisk>, call: u64) -> Result<(), Fault> {
+    match record_of(alloc, Line::Ceiling(200)) {
+        Some(item) => put_armed(alloc, log, &item, call),
+        None => Err(Fault::Memory),
+    }
+}
+
+// The same on a log that was opened once, whose closed gate is at 22, and crashes then.
+fn cut_short(alloc: Global, call: u64, fate: Fate) -> Option<SimDisk> {
+    let fates = vec![in alloc; fate; 1].ok()?;
+    let mut log = log_of(alloc, &[Line::Opened(1)])?;
+    let _ = append_armed(alloc, &mut log, call);
+    Some(log.into_disk().crash(&Choice::from_vec(fates)))
 }
 
 // The call that fails, the fate of what it leaves, and how many entries there are then.
@@ -204,45 +293,48 @@ static CRASHED: [Crashed; 7] = [
     },
 ];
 
+fn entries_left(alloc: Global, row: &Crashed) -> Option<usize> {
+    let disk = cut_short(alloc, row.call, row.fate)?;
+    Some(entries_in(alloc, disk)?.len())
+}
+
 #[test]
-fn crashes_in_an_append(rt: HostRuntime) -> Result<(), Fail> {
-    for row in &CRASHED {
-        let disk = cut_short(rt.alloc(), row.call, row.fate)?;
-        assert_eq!(rt; open(rt.alloc(), disk)?.1.len(), row.entries);
+fn crashes_in_an_append(rt: HostRuntime) {
+    for (number, row) in CRASHED.iter().enumerate() {
+        assert!(rt;
+            entries_left(rt.alloc(), row) == Some(row.entries),
+            "row {number}"
+        );
     }
-    Ok(())
 }
 
-#[test]
-fn a_closed_gate_is_used_again(rt: HostRuntime) -> Result<(), Fail> {
-    let alloc = rt.alloc();
-    let (mut log, entries) = open(alloc, cut_short(alloc, 2, Fate::Filled(0x37))?)?;
-    assert_eq!(rt; entries.len(), 1);
-    put(alloc, &mut log, &record_of(alloc, Line::Ceiling(300))?)?;
-    let (_, entries) = open(alloc, log.into_disk())?;
-    assert_eq!(rt; entries.len(), 2);
-    assert_eq!(rt; entries.get(1).ok_or("an entry")?.offset(), 22);
-    Ok(())
-}
-
-#[test]
-fn a_failure_stops_it(rt: HostRuntime) -> Result<(), Fail> {
-    let alloc = rt.alloc();
-    let mut log = log_of(alloc, &[Line::Opened(1)])?;
-    let ceiling = record_of(alloc, Line::Ceiling(200))?;
-    let staged = log.stage(alloc, &ceiling)?;
-    log.arm(Some(3));
-    let failed = match log.append(staged) {
-        Ok(logged) => {
-            let _ = logged.spend();
-            None
-        }
-        Err(fault) => Some(fault),
+// The second entry stands where the closed gate was.
+fn is_used_again(alloc: Global) -> Option<bool> {
+    let disk = cut_short(alloc, 2, Fate::Filled(0x37))?;
+    let Ok((mut log, entries)) = open(alloc, disk) else {
+        return None;
     };
-    assert_eq!(rt; failed, Some(Fault::Device));
-    assert!(rt; log.is_stopped());
-    assert_eq!(rt; log.stage(alloc, &ceiling).err(), Some(Fault::Stopped));
-    let (_, entries) = open(alloc, log.into_disk())?;
-    assert_eq!(rt; entries.len(), 2, "as it is read");
-    Ok(())
+    let logged = entries.len() == 1 && put_line(alloc, &mut log, Line::Ceiling(300));
+    let entries = entries_in(alloc, log.into_disk())?;
+    Some(logged && have_offsets(&entries, &[8, 22]))
+}
+
+#[test]
+fn a_closed_gate_is_used_again(rt: HostRuntime) {
+    assert!(rt; matches!(is_used_again(rt.alloc()), Some(true)));
+}
+
+// A failing call stops the log, and the file has both entries, as it is read.
+fn is_stopped_by_a_failure(alloc: Global) -> Option<bool> {
+    let mut log = log_of(alloc, &[Line::Opened(1)])?;
+    let fails = matches!(append_armed(alloc, &mut log, 3), Err(Fault::Device));
+    let is_stopped = log.is_stopped();
+    let refuses = matches!(append_armed(alloc, &mut log, 3), Err(Fault::Stopped));
+    let entries = entries_in(alloc, log.into_disk())?;
+    Some(fails && is_stopped && refuses && entries.len() == 2)
+}
+
+#[test]
+fn a_failure_stops_it(rt: HostRuntime) {
+    assert!(rt; matches!(is_stopped_by_a_failure(rt.alloc()), Some(true)));
 }

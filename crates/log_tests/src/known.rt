@@ -1,29 +1,38 @@
 //! What a log determines, and which records may come next.
-use crate::lines::{Line, id, record_of, shard};
+use crate::lines::{Line, record_of};
+use crate::made::{id, shard};
 use facts::{Facts, Status};
 use record::{Committed, Prepared};
 use std::alloc::Global;
-use std::test::Fail;
 use units::{Fault, Stamp};
 
+// Learns a record, where it may come next.
+fn learns(alloc: Global, facts: &mut Facts, line: Line) -> bool {
+    let Some(item) = record_of(alloc, line) else {
+        return false;
+    };
+    let Ok(()) = facts.reserve() else {
+        return false;
+    };
+    facts.learn(8, item).is_ok()
+}
+
 // What a shard knows after some records.
-fn after(alloc: Global, number: u8, lines: &[Line]) -> Result<Facts, Fail> {
-    let mut facts = Facts::new(alloc, shard(number)?);
+fn after(alloc: Global, number: u8, lines: &[Line]) -> Option<Facts> {
+    let mut facts = Facts::new(alloc, shard(number));
     for line in lines {
-        let item = record_of(alloc, *line)?;
-        facts.reserve()?;
-        if let Err((fault, _)) = facts.learn(8, item) {
-            return Err(fault.into());
+        if !learns(alloc, &mut facts, *line) {
+            return None;
         }
     }
-    Ok(facts)
+    Some(facts)
 }
 
 // How it stands with a transaction: the timestamps of its promise and of its decision, whether it was aborted, its outcome, and
 // whether it was settled where it was decided.
 #[derive(Clone, Copy, PartialEq, Eq)]
 struct Known {
-    number: u64,
+    number: u16,
     prepared: Option<u64>,
     decided: Option<u64>,
     aborted: bool,
@@ -43,6 +52,7 @@ const UNKNOWN: Known = Known {
 // What the log of a shard determines, whatever the turn of the ids in it. An install is its timestamp and the letter of its key.
 #[derive(Clone, Copy)]
 struct Determined {
+    what: &'static str,
     shard: u8,
     lines: &'static [Line],
     epoch: u64,
@@ -53,6 +63,7 @@ struct Determined {
 
 static DETERMINED: [Determined; 5] = [
     Determined {
+        what: "a decision",
         shard: 0,
         lines: &[Line::Opened(1), Line::Commit(1, 111, b'a', 1)],
         epoch: 1,
@@ -65,6 +76,7 @@ static DETERMINED: [Determined; 5] = [
         }],
     },
     Determined {
+        what: "a decision that was settled",
         shard: 0,
         lines: &[
             Line::Opened(1),
@@ -83,6 +95,7 @@ static DETERMINED: [Determined; 5] = [
     },
     // An outcome aborted follows a promise, and is no abort decision.
     Determined {
+        what: "two promises that ended",
         shard: 1,
         lines: &[
             Line::Opened(1),
@@ -110,6 +123,7 @@ static DETERMINED: [Determined; 5] = [
         ],
     },
     Determined {
+        what: "aborts beside promises",
         shard: 1,
         lines: &[
             Line::Opened(1),
@@ -156,6 +170,7 @@ static DETERMINED: [Determined; 5] = [
         ],
     },
     Determined {
+        what: "a promise that stands",
         shard: 1,
         lines: &[
             Line::Opened(1),
@@ -196,40 +211,40 @@ fn ended_at(outcome: Option<Option<Stamp>>) -> Option<Option<u64>> {
 }
 
 // By the readers of the facts.
-fn known_of(facts: &Facts, number: u64) -> Result<Known, Fail> {
-    let txn = id(number)?;
-    Ok(Known {
+fn known_of(facts: &Facts, number: u16) -> Known {
+    let txn = id(number);
+    Known {
         number,
         prepared: promised_at(facts.prepared(txn)),
         decided: decided_at(facts.committed(txn)),
         aborted: facts.aborted(txn),
         outcome: ended_at(facts.outcome(txn)),
         settled: matches!(facts.status(txn), Some(Status::Settled { .. })),
-    })
+    }
 }
 
 // By the readers of its status.
-fn known_by_status(facts: &Facts, number: u64) -> Result<Known, Fail> {
-    let Some(status) = facts.status(id(number)?) else {
-        return Ok(Known { number, ..UNKNOWN });
-    };
-    Ok(Known {
-        number,
-        prepared: promised_at(status.prepared()),
-        decided: decided_at(status.committed()),
-        aborted: matches!(status, Status::Aborted),
-        outcome: ended_at(status.outcome()),
-        settled: matches!(status, Status::Settled { .. }),
-    })
+fn known_by_status(facts: &Facts, number: u16) -> Known {
+    match facts.status(id(number)) {
+        Some(status) => Known {
+            number,
+            prepared: promised_at(status.prepared()),
+            decided: decided_at(status.committed()),
+            aborted: matches!(status, Status::Aborted),
+            outcome: ended_at(status.outcome()),
+            settled: matches!(status, Status::Settled { .. }),
+        },
+        None => Known { number, ..UNKNOWN },
+    }
 }
 
-fn are_known(facts: &Facts, rows: &[Known]) -> Result<bool, Fail> {
+fn are_known(facts: &Facts, rows: &[Known]) -> bool {
     for row in rows {
-        if known_of(facts, row.number)? != *row || known_by_status(facts, row.number)? != *row {
-            return Ok(false);
+        if known_of(facts, row.number) != *row || known_by_status(facts, row.number) != *row {
+            return false;
         }
     }
-    Ok(true)
+    true
 }
 
 fn has_installs(facts: &Facts, rows: &[(u64, u8)]) -> bool {
@@ -241,29 +256,33 @@ fn has_installs(facts: &Facts, rows: &[(u64, u8)]) -> bool {
     facts.installs().len() == rows.len()
 }
 
+fn has_ends(facts: &Facts, row: &Determined) -> bool {
+    facts.shard().number() == row.shard
+        && facts.epoch() == row.epoch
+        && facts.floor().micros() == row.floor
+}
+
+fn determines(alloc: Global, row: &Determined) -> Option<bool> {
+    let facts = after(alloc, row.shard, row.lines)?;
+    let ends = has_ends(&facts, row) && has_installs(&facts, row.installs);
+    Some(ends && are_known(&facts, row.known))
+}
+
 #[test]
-fn what_logs_determine(rt: HostRuntime) -> Result<(), Fail> {
+fn what_logs_determine(rt: HostRuntime) {
     for row in &DETERMINED {
-        let facts = after(rt.alloc(), row.shard, row.lines)?;
-        let ends = (
-            facts.shard().number(),
-            facts.epoch(),
-            facts.floor().micros(),
-        );
-        assert_eq!(rt; ends, (row.shard, row.epoch, row.floor));
-        let has_installs = has_installs(&facts, row.installs);
         assert!(rt;
-            has_installs && are_known(&facts, row.known)?,
-            "{:?}",
-            row.lines
+            matches!(determines(rt.alloc(), row), Some(true)),
+            "{}",
+            row.what
         );
     }
-    Ok(())
 }
 
 // Records of which none may come behind these, at the log of a shard.
 #[derive(Clone, Copy)]
 struct Damaged {
+    what: &'static str,
     shard: u8,
     lines: &'static [Line],
     last: &'static [Line],
@@ -275,22 +294,26 @@ const DECISION: Line = Line::Commit(1, 5, b'a', 2);
 
 static DAMAGED: [Damaged; 9] = [
     Damaged {
+        what: "nothing",
         shard: 0,
         lines: &[],
         last: &[Line::Opened(2), Line::Abort(1), Line::Ceiling(5)],
     },
     Damaged {
+        what: "an opening",
         shard: 0,
         lines: &[Line::Opened(1)],
         last: &[Line::Opened(1)],
     },
     Damaged {
+        what: "two openings",
         shard: 0,
         lines: &[Line::Opened(1), Line::Opened(2)],
         last: &[Line::Opened(4)],
     },
     // A timestamp 0, a coordinator that is not below the shard, a least part that is another shard, an end of nothing.
     Damaged {
+        what: "an opening of shard 1",
         shard: 1,
         lines: &[Line::Opened(1)],
         last: &[
@@ -305,11 +328,13 @@ static DAMAGED: [Damaged; 9] = [
     },
     // A second promise, decision or abort, and an end that is not the one that was begun.
     Damaged {
+        what: "a promise",
         shard: 1,
         lines: &[Line::Opened(1), PROMISE],
         last: &[PROMISE, DECISION, Line::Abort(1), Line::Committed(1, 4)],
     },
     Damaged {
+        what: "a decision",
         shard: 1,
         lines: &[Line::Opened(1), DECISION],
         last: &[
@@ -321,41 +346,59 @@ static DAMAGED: [Damaged; 9] = [
         ],
     },
     Damaged {
+        what: "an abort",
         shard: 1,
         lines: &[Line::Opened(1), Line::Abort(1)],
         last: &[PROMISE, DECISION, Line::Abort(1), Line::Aborted(1)],
     },
     // A second end.
     Damaged {
+        what: "a decision that was settled",
         shard: 1,
         lines: &[Line::Opened(1), DECISION, Line::Committed(1, 5)],
         last: &[Line::Committed(1, 5)],
     },
     Damaged {
+        what: "a promise that was aborted",
         shard: 1,
         lines: &[Line::Opened(1), PROMISE, Line::Aborted(1)],
         last: &[Line::Committed(1, 6)],
     },
 ];
 
-// The last record may not come next, and is handed back; all before it may.
-fn is_damaged(alloc: Global, number: u8, lines: &[Line], last: Line) -> Result<bool, Fail> {
-    let mut facts = after(alloc, number, lines)?;
-    let item = record_of(alloc, last)?;
-    facts.reserve()?;
+// The record may not come next, and is handed back.
+fn refuses(alloc: Global, facts: &mut Facts, last: Line) -> bool {
+    let Some(item) = record_of(alloc, last) else {
+        return false;
+    };
+    let Ok(()) = facts.reserve() else {
+        return false;
+    };
     match facts.learn(64, item) {
-        Ok(()) => Ok(false),
-        Err((fault, back)) => Ok(fault == Fault::Damaged { offset: 64 } && !facts.follows(&back)),
+        Ok(()) => false,
+        Err((fault, back)) => {
+            matches!(fault, Fault::Damaged { offset: 64 }) && !facts.follows(&back)
+        }
+    }
+}
+
+// The last record may not come next; all before it may.
+fn is_damaged(alloc: Global, row: &Damaged, last: Line) -> bool {
+    match after(alloc, row.shard, row.lines) {
+        Some(mut facts) => refuses(alloc, &mut facts, last),
+        None => false,
     }
 }
 
 #[test]
-fn records_that_may_not_come(rt: HostRuntime) -> Result<(), Fail> {
+fn records_that_may_not_come(rt: HostRuntime) {
     for row in &DAMAGED {
-        for last in row.last {
-            let refused = is_damaged(rt.alloc(), row.shard, row.lines, *last)?;
-            assert!(rt; refused, "{last:?} behind {:?}", row.lines);
+        for (number, last) in row.last.iter().enumerate() {
+            assert!(rt;
+                is_damaged(rt.alloc(), row, *last),
+                "{number} behind {}",
+                row.what
+            );
         }
     }
-    Ok(())
 }

@@ -1,29 +1,31 @@
 //! Logs that are opened again: what they leave, and which are refused.
-use crate::files::{entries_of, log_of, open, put};
-use crate::lines::Line;
-use gatelog::Entry;
+use crate::files::{entries_in, log_of, put};
+use crate::lines::{Line, promise};
+use crate::made::{key, shard};
+use gatelog::{Entry, GateLog};
 use memory::State;
-use record::{Prepared, Record};
 use recovery::rebuild;
+use simdisk::SimDisk;
 use std::alloc::Global;
-use std::test::Fail;
-use units::{
-    Book, Fault, Key, Keys, Setup, ShardNo, Splits, Stamp, Stride, TxnId, Value, Write, Writes,
-};
+use units::{Book, Fault, Key, Setup, Splits, Stamp, Stride, TxnId};
 
 // A shard of two, which are split at `m`.
-fn setup(alloc: Global, number: u8) -> Result<Setup, Fail> {
-    Ok(Setup {
-        shard: ShardNo::new(number).ok_or("a shard")?,
-        splits: Splits::new(alloc, &[Key::new(b"m")?])?,
-        stride: Stride::new(0).ok_or("a stride")?,
+fn setup(alloc: Global, number: u8) -> Option<Setup> {
+    let stride = Stride::new(0)?;
+    let Ok(splits) = Splits::new(alloc, &[key(b'm')]) else {
+        return None;
+    };
+    Some(Setup {
+        shard: shard(number),
+        splits,
+        stride,
         book: Book::Off,
     })
 }
 
 // What a log leaves: the first that is prepared and the first that is decided, each by its number and timestamp (0 where there
 // is none), the greatest timestamp, the safe time, the epoch, and how many versions there are.
-#[derive(Clone, Copy, Debug, PartialEq, Eq)]
+#[derive(Clone, Copy, PartialEq, Eq)]
 struct Shown {
     prepared: (u64, u64),
     decided: (u64, u64),
@@ -63,29 +65,31 @@ fn seen(state: &State) -> Shown {
 type Rebuilt = Result<Option<Shown>, Fault>;
 
 // What these entries leave of a shard, or why they are refused.
-fn left(alloc: Global, number: u8, entries: &[Entry]) -> Result<Rebuilt, Fail> {
-    match rebuild(alloc, entries, &setup(alloc, number)?) {
+fn left(alloc: Global, number: u8, entries: &[Entry]) -> Rebuilt {
+    let setup = setup(alloc, number).ok_or(Fault::Memory)?;
+    match rebuild(alloc, entries, &setup) {
         Ok(Some(state)) => {
             let left = seen(&state);
             state.stop();
-            Ok(Ok(Some(left)))
+            Ok(Some(left))
         }
-        Ok(None) => Ok(Ok(None)),
-        Err(fault) => Ok(Err(fault)),
+        Ok(None) => Ok(None),
+        Err(fault) => Err(fault),
     }
 }
 
 // The log of a shard, and what it leaves.
 #[derive(Clone, Copy)]
 struct Reopened {
+    what: &'static str,
     shard: u8,
     lines: &'static [Line],
     left: Rebuilt,
 }
 
 static REOPENED: [Reopened; 11] = [
-    // A promise stands.
     Reopened {
+        what: "a promise stands",
         shard: 1,
         lines: &[
             Line::Opened(1),
@@ -100,8 +104,8 @@ static REOPENED: [Reopened; 11] = [
             ..NOTHING
         })),
     },
-    // A decision stands until its outcome.
     Reopened {
+        what: "a decision stands until its outcome",
         shard: 0,
         lines: &[Line::Opened(1), Line::Commit(1, 111, b'a', 1)],
         left: Ok(Some(Shown {
@@ -112,6 +116,7 @@ static REOPENED: [Reopened; 11] = [
         })),
     },
     Reopened {
+        what: "a decision has its outcome",
         shard: 0,
         lines: &[
             Line::Opened(1),
@@ -125,8 +130,8 @@ static REOPENED: [Reopened; 11] = [
             ..NOTHING
         })),
     },
-    // A ceiling is the last timestamp.
     Reopened {
+        what: "a ceiling is the last timestamp",
         shard: 1,
         lines: &[Line::Opened(1), Line::Ceiling(200)],
         left: Ok(Some(Shown {
@@ -136,28 +141,31 @@ static REOPENED: [Reopened; 11] = [
         })),
     },
     Reopened {
+        what: "no record",
         shard: 1,
         lines: &[],
         left: Ok(None),
     },
-    // Another epoch than the first, and a promise before any opening.
     Reopened {
+        what: "another epoch than the first",
         shard: 1,
         lines: &[Line::Opened(2)],
         left: Err(Fault::Damaged { offset: 8 }),
     },
     Reopened {
+        what: "a promise before any opening",
         shard: 1,
         lines: &[Line::Prepare(2, 200, b'z', 0)],
         left: Err(Fault::Damaged { offset: 8 }),
     },
-    // A strange key comes before damage.
     Reopened {
+        what: "a strange key before any opening",
         shard: 1,
         lines: &[Line::Prepare(2, 200, b'a', 0)],
         left: Err(Fault::Stranger),
     },
     Reopened {
+        what: "a strange key before damage",
         shard: 1,
         lines: &[
             Line::Opened(1),
@@ -166,8 +174,8 @@ static REOPENED: [Reopened; 11] = [
         ],
         left: Err(Fault::Stranger),
     },
-    // Another holds the key.
     Reopened {
+        what: "another holds the key",
         shard: 1,
         lines: &[
             Line::Opened(1),
@@ -176,8 +184,8 @@ static REOPENED: [Reopened; 11] = [
         ],
         left: Err(Fault::Damaged { offset: 63 }),
     },
-    // A version of the key is not below it.
     Reopened {
+        what: "a version of the key is not below it",
         shard: 0,
         lines: &[
             Line::Opened(1),
@@ -189,57 +197,59 @@ static REOPENED: [Reopened; 11] = [
     },
 ];
 
+fn what_is_left(alloc: Global, row: &Reopened) -> Rebuilt {
+    let log = log_of(alloc, row.lines).ok_or(Fault::Memory)?;
+    let entries = entries_in(alloc, log.into_disk()).ok_or(Fault::Memory)?;
+    left(alloc, row.shard, &entries)
+}
+
 #[test]
-fn logs_that_are_opened_again(rt: HostRuntime) -> Result<(), Fail> {
+fn logs_that_are_opened_again(rt: HostRuntime) {
     for row in &REOPENED {
-        let entries = entries_of(rt.alloc(), row.lines)?;
-        let found = left(rt.alloc(), row.shard, &entries)?;
-        assert_eq!(rt; found, row.left, "{:?}", row.lines);
+        assert!(rt; what_is_left(rt.alloc(), row) == row.left, "{}", row.what);
     }
-    Ok(())
 }
 
 // 1.number promises at 200 to write a key of its own of three bytes.
-fn promise(alloc: Global, number: u64) -> Result<Record, Fail> {
-    let key = [b'z', (number / 256 % 256) as u8, (number % 256) as u8];
-    let mut writes = Vec::new(alloc);
-    writes.push(Write {
-        key: Key::new(&key)?,
-        value: Some(Value::new(alloc, b"2")?),
-    })?;
-    Ok(Record::Prepare(Prepared {
-        txn: TxnId::new(1, number).ok_or("an id")?,
-        coordinator: ShardNo::new(0).ok_or("a shard")?,
-        at: Stamp::new(200)?,
-        reads: Keys::none(alloc),
-        writes: Writes::from_vec(writes).ok().ok_or("ascending keys")?,
-    }))
+fn put_promise(alloc: Global, log: &mut GateLog<SimDisk>, number: u16) -> bool {
+    let Ok(key) = Key::new(&[b'z', (number / 256) as u8, (number % 256) as u8]) else {
+        return false;
+    };
+    match promise(alloc, number, 200, key, 0) {
+        Some(item) => put(alloc, log, &item),
+        None => false,
+    }
 }
 
-// What a log with so many promises leaves.
-fn crowded(alloc: Global, count: u64) -> Result<Rebuilt, Fail> {
+// The entries of a log with so many promises.
+fn crowd(alloc: Global, count: u16) -> Option<Vec<Entry>> {
     let mut log = log_of(alloc, &[Line::Opened(1)])?;
     for number in 0..count {
-        put(alloc, &mut log, &promise(alloc, number)?)?;
+        if !put_promise(alloc, &mut log, number) {
+            return None;
+        }
     }
-    let (_, entries) = open(alloc, log.into_disk())?;
+    entries_in(alloc, log.into_disk())
+}
+
+fn crowded(alloc: Global, count: u16) -> Rebuilt {
+    let entries = crowd(alloc, count).ok_or(Fault::Memory)?;
     left(alloc, 1, &entries)
 }
 
 // 1,024 rows may stand, and no more.
+static FULL: Rebuilt = Ok(Some(Shown {
+    prepared: (0, 200),
+    last: 200,
+    safe: 199,
+    ..NOTHING
+}));
+
+// Each frame has 43 bytes; the first stands behind that of the opening, at 22.
+static TOO_MANY: Rebuilt = Err(Fault::Damaged { offset: 44_054 });
+
 #[test]
-fn a_full_table(rt: HostRuntime) -> Result<(), Fail> {
-    let full = Shown {
-        prepared: (0, 200),
-        last: 200,
-        safe: 199,
-        ..NOTHING
-    };
-    assert_eq!(rt; crowded(rt.alloc(), 1024)?, Ok(Some(full)));
-    // Each frame has 43 bytes; the first stands behind that of the opening, at 22.
-    assert_eq!(rt;
-        crowded(rt.alloc(), 1025)?,
-        Err(Fault::Damaged { offset: 44_054 })
-    );
-    Ok(())
+fn a_full_table(rt: HostRuntime) {
+    assert!(rt; crowded(rt.alloc(), 1024) == FULL);
+    assert!(rt; crowded(rt.alloc(), 1025) == TOO_MANY);
 }

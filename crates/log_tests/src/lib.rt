@@ -12,6 +12,8 @@ mod left;
 #[cfg(test)]
 mod lines;
 #[cfg(test)]
+mod made;
+#[cfg(test)]
 mod spellings;
 #[cfg(test)]
 mod versioned;

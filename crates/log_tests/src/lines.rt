@@ -1,72 +1,92 @@
 //! Records as plain values.
-use record::{Committed, Prepared, Record};
+use crate::made::{id, key, shard, stamp};
+use record::{Committed, Prepared, Record, encode};
 use std::alloc::Global;
-use std::test::Fail;
-use units::{Epoch, Key, Keys, Parts, ShardNo, Stamp, TxnId, Value, Write, Writes};
+use units::{Epoch, Key, Keys, Parts, Value, Write, Writes};
 
 /// A record, those of transactions by their numbers in run 1. A promise or a decision reads nothing and writes `1` to a key.
-#[derive(Clone, Copy, Debug)]
+#[derive(Clone, Copy)]
 pub enum Line {
     Opened(u64),
     Ceiling(u64),
     /// The number, the timestamp, the letter of the key, and the coordinator.
-    Prepare(u64, u64, u8, u8),
+    Prepare(u16, u64, u8, u8),
     /// The same, with the mask of the parts.
-    Commit(u64, u64, u8, u16),
-    Abort(u64),
+    Commit(u16, u64, u8, u16),
+    Abort(u16),
     /// The number and the timestamp.
-    Committed(u64, u64),
-    Aborted(u64),
+    Committed(u16, u64),
+    Aborted(u16),
 }
 
-pub fn id(number: u64) -> Result<TxnId, Fail> {
-    Ok(TxnId::new(1, number).ok_or("an id")?)
+fn one_write(alloc: Global, key: Key) -> Option<Writes> {
+    let value = Some(Value::new(alloc, b"1").ok()?);
+    let write = Write { key, value };
+    Writes::from_vec(vec![in alloc; write].ok()?).ok()
 }
 
-pub fn shard(number: u8) -> Result<ShardNo, Fail> {
-    Ok(ShardNo::new(number).ok_or("a shard")?)
+/// Transaction 1.number promises at a timestamp to write `1` to a key.
+pub fn promise(alloc: Global, number: u16, at: u64, key: Key, coordinator: u8) -> Option<Record> {
+    let writes = one_write(alloc, key)?;
+    Some(Record::Prepare(Prepared {
+        txn: id(number),
+        coordinator: shard(coordinator),
+        at: stamp(at),
+        reads: Keys::none(alloc),
+        writes,
+    }))
 }
 
-fn one_write(alloc: Global, key: u8) -> Result<Writes, Fail> {
-    let write = Write {
-        key: Key::new(&[key])?,
-        value: Some(Value::new(alloc, b"1")?),
-    };
-    let mut writes = Vec::new(alloc);
-    writes.push(write)?;
-    Ok(Writes::from_vec(writes).ok().ok_or("ascending keys")?)
+fn decision(alloc: Global, number: u16, at: u64, key: Key, parts: Parts) -> Option<Record> {
+    let writes = one_write(alloc, key)?;
+    Some(Record::Commit(Committed {
+        txn: id(number),
+        at: stamp(at),
+        parts,
+        reads: Keys::none(alloc),
+        writes,
+    }))
 }
 
-fn outcome(number: u64, outcome: Option<Stamp>) -> Result<Record, Fail> {
-    let txn = id(number)?;
-    Ok(Record::Outcome { txn, outcome })
-}
-
-pub fn record_of(alloc: Global, line: Line) -> Result<Record, Fail> {
+pub fn record_of(alloc: Global, line: Line) -> Option<Record> {
     match line {
-        Line::Opened(epoch) => {
-            let epoch = Epoch::new(epoch).ok_or("an epoch")?;
-            Ok(Record::Opened { epoch })
+        Line::Prepare(number, at, letter, coordinator) => {
+            promise(alloc, number, at, key(letter), coordinator)
         }
-        Line::Ceiling(at) => Ok(Record::Ceiling {
-            at: Stamp::new(at)?,
+        Line::Commit(number, at, letter, mask) => {
+            decision(alloc, number, at, key(letter), Parts::from_mask(mask)?)
+        }
+        Line::Opened(epoch) => opened(epoch),
+        Line::Ceiling(at) => Some(Record::Ceiling { at: stamp(at) }),
+        Line::Abort(number) => Some(Record::Abort { txn: id(number) }),
+        Line::Committed(number, at) => Some(Record::Outcome {
+            txn: id(number),
+            outcome: Some(stamp(at)),
         }),
-        Line::Prepare(number, at, key, coordinator) => Ok(Record::Prepare(Prepared {
-            txn: id(number)?,
-            coordinator: shard(coordinator)?,
-            at: Stamp::new(at)?,
-            reads: Keys::none(alloc),
-            writes: one_write(alloc, key)?,
-        })),
-        Line::Commit(number, at, key, mask) => Ok(Record::Commit(Committed {
-            txn: id(number)?,
-            at: Stamp::new(at)?,
-            parts: Parts::from_mask(mask).ok_or("parts")?,
-            reads: Keys::none(alloc),
-            writes: one_write(alloc, key)?,
-        })),
-        Line::Abort(number) => Ok(Record::Abort { txn: id(number)? }),
-        Line::Committed(number, at) => outcome(number, Some(Stamp::new(at)?)),
-        Line::Aborted(number) => outcome(number, None),
+        Line::Aborted(number) => Some(Record::Outcome {
+            txn: id(number),
+            outcome: None,
+        }),
+    }
+}
+
+fn opened(epoch: u64) -> Option<Record> {
+    let epoch = Epoch::new(epoch)?;
+    Some(Record::Opened { epoch })
+}
+
+/// Whether these are the bytes of a record.
+pub fn is_spelled(alloc: Global, item: &Record, bytes: &[u8]) -> bool {
+    match encode(alloc, item) {
+        Ok(found) => found.as_slice() == bytes,
+        Err(_) => false,
+    }
+}
+
+/// The one byte of a value that was found.
+pub fn byte(found: Option<&Value>) -> Option<u8> {
+    match found?.as_bytes() {
+        [byte] => Some(*byte),
+        _ => None,
     }
 }

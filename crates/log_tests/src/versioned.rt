@@ -1,8 +1,9 @@
 //! The versions of keys.
+use crate::lines::byte;
+use crate::made::{key, stamp};
 use counts::Count;
 use std::alloc::Global;
-use std::test::Fail;
-use units::{Key, Stamp, Value, Write, Writes};
+use units::{Stamp, Value, Write, Writes};
 use versions::Versions;
 
 // A version of a key, by its letter: the timestamp, and a value of one letter or an erasure.
@@ -13,234 +14,341 @@ struct Version {
     value: Option<u8>,
 }
 
-static VALUES: [Version; 2] = [
-    Version {
-        key: b'a',
-        at: 111,
-        value: Some(b'1'),
-    },
-    Version {
-        key: b'z',
-        at: 200,
-        value: Some(b'2'),
-    },
-];
-
-static ERASED: [Version; 2] = [
-    Version {
-        key: b'a',
-        at: 111,
-        value: Some(b'1'),
-    },
-    Version {
-        key: b'a',
-        at: 200,
-        value: None,
-    },
-];
-
-fn installed(alloc: Global, rows: &[Version]) -> Result<Versions, Fail> {
-    let mut versions = Versions::none(alloc);
-    for row in rows {
-        let (key, at) = (Key::new(&[row.key])?, Stamp::new(row.at)?);
-        let value = match row.value {
-            Some(byte) => Some(Value::new(alloc, &[byte])?),
-            None => None,
-        };
-        versions.reserve(1)?;
-        if versions.takes(&key, at) {
-            versions.install(key, at, value);
-        }
+fn value_of(alloc: Global, byte: Option<u8>) -> Option<Option<Value>> {
+    match byte {
+        Some(byte) => Some(Some(Value::new(alloc, &[byte]).ok()?)),
+        None => Some(None),
     }
-    Ok(versions)
 }
 
-// The one byte of a value that was found.
-fn byte(found: Option<&Value>) -> Option<u8> {
-    match found?.as_bytes() {
-        [byte] => Some(*byte),
-        _ => None,
+// Installs the version, where its key takes it.
+fn install(alloc: Global, versions: &mut Versions, row: &Version) -> bool {
+    let Some(value) = value_of(alloc, row.value) else {
+        return false;
+    };
+    let Ok(()) = versions.reserve(1) else {
+        return false;
+    };
+    let (key, at) = (key(row.key), stamp(row.at));
+    if versions.takes(&key, at) {
+        versions.install(key, at, value);
     }
+    true
+}
+
+fn installed(alloc: Global, rows: &[Version]) -> Option<Versions> {
+    let mut versions = Versions::none(alloc);
+    for row in rows {
+        if !install(alloc, &mut versions, row) {
+            return None;
+        }
+    }
+    Some(versions)
 }
 
 // What is found of a key at a timestamp, or of all where there is none.
-#[derive(Clone, Copy, Debug)]
+#[derive(Clone, Copy)]
 struct Lookup {
     key: u8,
     at: Option<u64>,
     value: Option<u8>,
 }
 
-fn found(versions: &Versions, row: Lookup) -> Result<Option<u8>, Fail> {
-    let key = Key::new(&[row.key])?;
-    Ok(match row.at {
-        Some(at) => byte(versions.at(&key, Stamp::new(at)?)),
+fn found(versions: &Versions, row: &Lookup) -> Option<u8> {
+    let key = key(row.key);
+    match row.at {
+        Some(at) => byte(versions.at(&key, stamp(at))),
         None => byte(versions.latest(&key)),
-    })
+    }
 }
 
-// A value from its timestamp on.
-static OF_VALUES: [Lookup; 8] = [
-    Lookup {
-        key: b'a',
-        at: Some(110),
-        value: None,
+fn all_found(versions: &Versions, rows: &[Lookup]) -> bool {
+    for row in rows {
+        if found(versions, row) != row.value {
+            return false;
+        }
+    }
+    true
+}
+
+// Versions, and what is found of them.
+#[derive(Clone, Copy)]
+struct Looked {
+    what: &'static str,
+    versions: &'static [Version],
+    lookups: &'static [Lookup],
+}
+
+static LOOKED: [Looked; 2] = [
+    Looked {
+        what: "a value from its timestamp on",
+        versions: &[
+            Version {
+                key: b'a',
+                at: 111,
+                value: Some(b'1'),
+            },
+            Version {
+                key: b'z',
+                at: 200,
+                value: Some(b'2'),
+            },
+        ],
+        lookups: &[
+            Lookup {
+                key: b'a',
+                at: Some(110),
+                value: None,
+            },
+            Lookup {
+                key: b'a',
+                at: Some(111),
+                value: Some(b'1'),
+            },
+            Lookup {
+                key: b'a',
+                at: Some(Stamp::MAX),
+                value: Some(b'1'),
+            },
+            Lookup {
+                key: b'z',
+                at: Some(199),
+                value: None,
+            },
+            Lookup {
+                key: b'z',
+                at: Some(200),
+                value: Some(b'2'),
+            },
+            Lookup {
+                key: b'k',
+                at: Some(200),
+                value: None,
+            },
+            Lookup {
+                key: b'z',
+                at: None,
+                value: Some(b'2'),
+            },
+            Lookup {
+                key: b'k',
+                at: None,
+                value: None,
+            },
+        ],
     },
-    Lookup {
-        key: b'a',
-        at: Some(111),
-        value: Some(b'1'),
-    },
-    Lookup {
-        key: b'a',
-        at: Some(Stamp::MAX),
-        value: Some(b'1'),
-    },
-    Lookup {
-        key: b'z',
-        at: Some(199),
-        value: None,
-    },
-    Lookup {
-        key: b'z',
-        at: Some(200),
-        value: Some(b'2'),
-    },
-    Lookup {
-        key: b'k',
-        at: Some(200),
-        value: None,
-    },
-    Lookup {
-        key: b'z',
-        at: None,
-        value: Some(b'2'),
-    },
-    Lookup {
-        key: b'k',
-        at: None,
-        value: None,
+    Looked {
+        what: "an erasure hides older values",
+        versions: &[
+            Version {
+                key: b'a',
+                at: 111,
+                value: Some(b'1'),
+            },
+            Version {
+                key: b'a',
+                at: 200,
+                value: None,
+            },
+        ],
+        lookups: &[
+            Lookup {
+                key: b'a',
+                at: Some(199),
+                value: Some(b'1'),
+            },
+            Lookup {
+                key: b'a',
+                at: Some(200),
+                value: None,
+            },
+            Lookup {
+                key: b'a',
+                at: None,
+                value: None,
+            },
+        ],
     },
 ];
 
-// An erasure hides older values.
-static OF_ERASED: [Lookup; 3] = [
-    Lookup {
-        key: b'a',
-        at: Some(199),
-        value: Some(b'1'),
-    },
-    Lookup {
-        key: b'a',
-        at: Some(200),
-        value: None,
-    },
-    Lookup {
-        key: b'a',
-        at: None,
-        value: None,
-    },
-];
+fn shows(alloc: Global, row: &Looked) -> Option<bool> {
+    let versions = installed(alloc, row.versions)?;
+    Some(all_found(&versions, row.lookups))
+}
 
 #[test]
-fn values_at_timestamps(rt: HostRuntime) -> Result<(), Fail> {
-    let versions = installed(rt.alloc(), &VALUES)?;
-    for row in &OF_VALUES {
-        assert_eq!(rt; found(&versions, *row)?, row.value, "{row:?}");
+fn values_at_timestamps(rt: HostRuntime) {
+    for row in &LOOKED {
+        assert!(rt;
+            matches!(shows(rt.alloc(), row), Some(true)),
+            "{}",
+            row.what
+        );
     }
-    let versions = installed(rt.alloc(), &ERASED)?;
-    for row in &OF_ERASED {
-        assert_eq!(rt; found(&versions, *row)?, row.value, "{row:?}");
-    }
-    Ok(())
 }
 
-// Keys and timestamps without an order, one of them twice, each with its place by key and timestamp.
+// How many versions stand up to a key and a timestamp, and how many of all are compared at most.
 #[derive(Clone, Copy)]
 struct Place {
     key: u8,
     at: u64,
-    place: usize,
+    count: usize,
+    probes: u32,
 }
 
+fn is_place(versions: &Versions, row: &Place) -> bool {
+    let (count, probes) = versions.find(&key(row.key), stamp(row.at), &mut Count::none());
+    count == row.count && probes <= row.probes
+}
+
+// Keys and timestamps without an order, one of them twice.
+static UNORDERED: [Version; 5] = [
+    Version {
+        key: b'b',
+        at: 30,
+        value: None,
+    },
+    Version {
+        key: b'a',
+        at: 10,
+        value: None,
+    },
+    Version {
+        key: b'c',
+        at: 5,
+        value: None,
+    },
+    Version {
+        key: b'a',
+        at: 20,
+        value: None,
+    },
+    Version {
+        key: b'a',
+        at: 20,
+        value: None,
+    },
+];
+
+// Four versions are below 2^3.
 static PLACES: [Place; 5] = [
     Place {
         key: b'b',
         at: 30,
-        place: 3,
+        count: 3,
+        probes: 3,
     },
     Place {
         key: b'a',
         at: 10,
-        place: 1,
+        count: 1,
+        probes: 3,
     },
     Place {
         key: b'c',
         at: 5,
-        place: 4,
+        count: 4,
+        probes: 3,
     },
     Place {
         key: b'a',
         at: 20,
-        place: 2,
+        count: 2,
+        probes: 3,
     },
     Place {
-        key: b'a',
-        at: 20,
-        place: 2,
+        key: b'b',
+        at: 29,
+        count: 2,
+        probes: 3,
     },
 ];
 
-#[test]
-fn in_order_by_key_and_timestamp(rt: HostRuntime) -> Result<(), Fail> {
-    let mut versions = Versions::none(rt.alloc());
-    for row in &PLACES {
-        let (key, at) = (Key::new(&[row.key])?, Stamp::new(row.at)?);
-        versions.reserve(1)?;
-        if versions.takes(&key, at) {
-            versions.install(key, at, None);
+static NO_PLACE: Place = Place {
+    key: b'b',
+    at: 29,
+    count: 0,
+    probes: 0,
+};
+
+fn are_places(versions: &Versions, rows: &[Place]) -> bool {
+    for row in rows {
+        if !is_place(versions, row) {
+            return false;
         }
     }
-    for row in &PLACES {
-        let (count, _) = versions.find(
-            &Key::new(&[row.key])?,
-            Stamp::new(row.at)?,
-            &mut Count::none(),
-        );
-        assert_eq!(rt; count, row.place);
-    }
-    let (count, probes) = versions.find(&Key::new(b"b")?, Stamp::new(29)?, &mut Count::none());
-    assert!(rt; count == 2 && probes <= 3);
-    let (count, probes) = Versions::none(rt.alloc()).find(
-        &Key::new(b"b")?,
-        Stamp::new(29)?,
-        &mut Count::none(),
-    );
-    assert!(rt; count == 0 && probes == 0);
-    Ok(())
+    true
+}
+
+fn is_ordered(alloc: Global) -> Option<bool> {
+    let versions = installed(alloc, &UNORDERED)?;
+    Some(are_places(&versions, &PLACES))
 }
 
 #[test]
-fn writes_at_one_timestamp(rt: HostRuntime) -> Result<(), Fail> {
-    let mut versions = Versions::none(rt.alloc());
-    let (a, z, at) = (Key::new(b"a")?, Key::new(b"z")?, Stamp::new(200)?);
-    let mut list = Vec::new(rt.alloc());
-    list.push(Write {
-        key: a,
-        value: Some(Value::new(rt.alloc(), b"1")?),
-    })?;
-    list.push(Write {
-        key: z,
-        value: None,
-    })?;
-    let Ok(writes) = Writes::from_vec(list) else {
-        return Err("ascending keys".into());
+fn in_order_by_key_and_timestamp(rt: HostRuntime) {
+    assert!(rt; matches!(is_ordered(rt.alloc()), Some(true)));
+    assert!(rt; is_place(&Versions::none(rt.alloc()), &NO_PLACE));
+}
+
+// `1` is written to `a` and `z` is erased, both at 200.
+fn written(alloc: Global) -> Option<Versions> {
+    let value = Some(Value::new(alloc, b"1").ok()?);
+    let mut list = Vec::new(alloc);
+    let Ok(()) = list.push(Write {
+        key: key(b'a'),
+        value,
+    }) else {
+        return None;
     };
-    versions.reserve(2)?;
-    versions.install_all(writes, at);
-    assert_eq!(rt; byte(versions.at(&a, Stamp::new(199)?)), None);
-    assert_eq!(rt; byte(versions.at(&a, at)), Some(b'1'));
-    assert_eq!(rt; byte(versions.latest(&z)), None);
-    assert_eq!(rt; versions.find(&z, at, &mut Count::none()).0, 2);
-    Ok(())
+    let Ok(()) = list.push(Write {
+        key: key(b'z'),
+        value: None,
+    }) else {
+        return None;
+    };
+    let Ok(writes) = Writes::from_vec(list) else {
+        return None;
+    };
+    let mut versions = Versions::none(alloc);
+    let Ok(()) = versions.reserve(2) else {
+        return None;
+    };
+    versions.install_all(writes, stamp(200));
+    Some(versions)
+}
+
+static WRITTEN: [Lookup; 3] = [
+    Lookup {
+        key: b'a',
+        at: Some(199),
+        value: None,
+    },
+    Lookup {
+        key: b'a',
+        at: Some(200),
+        value: Some(b'1'),
+    },
+    Lookup {
+        key: b'z',
+        at: None,
+        value: None,
+    },
+];
+
+static SECOND: Place = Place {
+    key: b'z',
+    at: 200,
+    count: 2,
+    probes: 2,
+};
+
+fn shows_both(alloc: Global) -> Option<bool> {
+    let versions = written(alloc)?;
+    Some(all_found(&versions, &WRITTEN) && is_place(&versions, &SECOND))
+}
+
+#[test]
+fn writes_at_one_timestamp(rt: HostRuntime) {
+    assert!(rt; matches!(shows_both(rt.alloc()), Some(true)));
 }
