@@ -1,0 +1,204 @@
+//! A core while it is up, and its disk while it is down.
+
+ghost use Rattle.std.specs.Prelude.{◌≡◌, ◌∷◌, [], List, Some, true, false, not, IfOk, IfErr, OnOk, ℕ};
+ghost use Rattle.units.specs.declared.setup.Setup.{Setup};
+ghost use Rattle.disk.specs.declared.plan.Fate.{Fate as Left};
+ghost use Rattle.shard.specs.Core.{seen};
+ghost use Rattle.world.specs.World.{ShardNow, input_of};
+ghost use Rattle.world.specs.Crashless.{goes_on};
+ghost use Rattle.world.specs.Inputs.{IsNoInput};
+ghost use Rattle.world.specs.Lawful.{is_down, is_up};
+ghost use Rattle.lives.specs.Lives.{HoldsLog, LivesAs, crash_by};
+ghost use Rattle.lives.specs.Carries.{Carries, DoesInput, OpensDisk, TakesInput};
+
+use disk::Disk;
+use message::{Envelope, Input, Outbox};
+use shard::Core;
+use simdisk::{Choice, SimDisk};
+use std::alloc::Global;
+use truetime::Reading;
+use units::{Fault, Setup};
+use world::Doing;
+
+/// The core of a shard, which runs or was stopped by its device, or the disk that is left of one that is down. It has to
+/// be spent.
+pub enum Life {
+    Up(Core<SimDisk>),
+    Down(SimDisk),
+}
+
+impl Life {
+    /// It runs.
+    pub fn is_up(&self) -> bool
+        ensures { (setup : Setup) (s : ShardNow) → LivesAs setup s self.now → result ≡ is_up s.state }
+    {
+        match self {
+            Life::Up(core) => !core.is_stopped(),
+            Life::Down(_) => false,
+        }
+    }
+
+    /// It is down.
+    pub fn is_down(&self) -> bool
+        ensures { (setup : Setup) (s : ShardNow) → LivesAs setup s self.now → result ≡ is_down s.state }
+    {
+        match self {
+            Life::Up(_) => false,
+            Life::Down(_) => true,
+        }
+    }
+
+    /// Its disk as it is.
+    #[tactic(none)]
+    pub fn into_disk(self) -> SimDisk
+        ensures { (setup : Setup) (s : ShardNow) → LivesAs setup s self → HoldsLog s result }
+    {
+        match self {
+            Life::Up(core) => core.stop(),
+            Life::Down(disk) => disk,
+        }
+    }
+
+    /// A crash, by a choice for each change that is not synced. Of these there is one at most.
+    #[tactic(none)]
+    pub fn crash(self, choice: &Choice) -> Life
+        ensures { (setup : Setup) (s : ShardNow) (fate : Left) → choice.now ≡ fate ∷ [] → LivesAs setup s self → LivesAs setup (crash_by fate s) result }
+    {
+        Life::Down(self.into_disk().crash(choice))
+    }
+
+    /// What a shard does, with a device call of its append, by its number from 0, armed to fail, or with none.
+    #[tactic(none)]
+    pub fn carry(
+        self,
+        alloc: Global,
+        setup: &Setup,
+        bag: &[Envelope],
+        call: Option<u64>,
+        doing: &Doing,
+    ) -> (Life, Result<Outbox, Fault>)
+        ensures { (s : ShardNow) → LivesAs setup.now s self → Carries setup.now bag.now s call doing.now result.0 result.1 }
+    {
+        if opens(doing) {
+            if self.is_up() {
+                return (self, Err(Fault::Stopped));
+            }
+            return open(self.into_disk(), alloc, setup, call);
+        }
+        match self {
+            Life::Up(core) => {
+                let mut core = core;
+                let result = do_input(&mut core, alloc, bag, call, doing);
+                (Life::Up(core), result)
+            }
+            Life::Down(disk) => (Life::Down(disk), Err(Fault::Stopped)),
+        }
+    }
+}
+
+// A core takes the input of a doing.
+#[tactic(none)]
+fn do_input(
+    core: &mut Core<SimDisk>,
+    alloc: Global,
+    bag: &[Envelope],
+    call: Option<u64>,
+    doing: &Doing,
+) -> Result<Outbox, Fault>
+    requires { goes_on doing.now ≡ true }
+    ensures { DoesInput (seen core.old) (seen core.new) bag.now call doing.now result }
+{
+    match input_of(alloc, bag, doing) {
+        Ok((now, input)) => take(core, alloc, call, &now, &input),
+        Err(fault) => Err(fault),
+    }
+}
+
+// A core takes an input, with a device call of its append armed, or with none. Behind it no call is armed.
+#[tactic(none)]
+fn take(
+    core: &mut Core<SimDisk>,
+    alloc: Global,
+    call: Option<u64>,
+    now: &Reading,
+    input: &Input,
+) -> Result<Outbox, Fault>
+    ensures { TakesInput (seen core.old) (seen core.new) call now.now input.now result }
+{
+    core.arm(call);
+    let result = core.on(alloc, now, input);
+    core.arm(None);
+    result
+}
+
+// A disk is opened, with a device call of the append armed, or with none. It stays down where that is refused, or fails.
+#[tactic(none)]
+fn open(
+    disk: SimDisk,
+    alloc: Global,
+    setup: &Setup,
+    call: Option<u64>,
+) -> (Life, Result<Outbox, Fault>)
+    ensures { OpensDisk disk setup.now call result.0 result.1 }
+{
+    let mut disk = disk;
+    let told = match copy_of(alloc, setup) {
+        Ok(told) => told,
+        Err(fault) => return (Life::Down(disk), Err(fault)),
+    };
+    disk.arm(call);
+    match Core::open(alloc, disk, told) {
+        Ok(core) => {
+            let mut core = core;
+            core.arm(None);
+            (Life::Up(core), Ok(Outbox::none(alloc)))
+        }
+        Err((fault, back)) => {
+            let mut back = back;
+            back.arm(None);
+            (Life::Down(back), Err(fault))
+        }
+    }
+}
+
+// What a shard is told, with memory of its own.
+fn copy_of(alloc: Global, setup: &Setup) -> Result<Setup, Fault>
+    ensures same { IfOk result (λ copy. copy ≡ setup.now) }
+    ensures memory { IfErr result (λ fault. fault ≡ Fault.Memory) }
+{
+    Ok(Setup {
+        shard: setup.shard,
+        splits: setup.splits.copy(alloc)?,
+        stride: setup.stride,
+        book: setup.book,
+    })
+}
+
+// The doing is an opening.
+pub fn opens(doing: &Doing) -> bool
+    ensures { result ≡ not (goes_on doing.now) }
+{
+    match doing {
+        Doing::Open => true,
+        _ => false,
+    }
+}
+
+// The input of a doing, with its reading. A message that was not put out is refused.
+fn input_of(alloc: Global, bag: &[Envelope], doing: &Doing) -> Result<(Reading, Input), Fault>
+    requires { goes_on doing.now ≡ true }
+    ensures found { IfOk result (λ p. input_of bag.now doing.now ≡ Some (p.0, p.1)) }
+    ensures cause { IfErr result (λ fault. IsNoInput (input_of bag.now doing.now) fault) }
+{
+    match doing {
+        Doing::Take(number, now) => match bag.get(*number as usize) {
+            Some(envelope) => Ok((*now, Input::Deliver(envelope.message.copy(alloc)?))),
+            None => Err(Fault::Stopped),
+        },
+        Doing::Resume(now) => Ok((*now, Input::Resume)),
+        Doing::Settle(txn, now) => Ok((*now, Input::Settle(*txn))),
+        Doing::Advance(at, now) => Ok((*now, Input::Advance(*at))),
+        Doing::Nudge(txn, now) => Ok((*now, Input::Nudge(*txn))),
+        Doing::Open => unreachable!(),
+    }
+}
