@@ -1,6 +1,7 @@
 #!/bin/sh
 # Times the store as it stands here, and as it stood at each revision that is named, side by side: bench/run.sh [REVISION..]
-# [-- SCENE..]. It needs rustc and python3, proves nothing, and leaves all that it makes in a new folder, which it names.
+# [-- SCENE..]. The scenes `inspect` and `boards` are programs of their own, and are named alone. It needs rustc and python3, proves
+# nothing, and leaves all that it makes in a new folder, which it names.
 set -eu
 here=$(cd "$(dirname "$0")" && pwd)
 top=$(dirname "$here")
@@ -8,7 +9,7 @@ made=$(mktemp -d "${TMPDIR:-/tmp}/bench.XXXXXX")
 
 # The crates that the core of a shard stands on, the lowest first.
 crates="units truetime counts waiting disk simdisk record gatelog message protocol locks facts versions safetime rows memory
-participant coordinator ceiling recovery shard inspector"
+participant coordinator ceiling recovery shard inspector growing board"
 
 externs() {
     for library in "$1"/lib*.rlib; do
@@ -23,12 +24,15 @@ build() {
     mkdir -p "$to"
     rustc --edition 2021 -O --crate-type rlib --crate-name shim "$here/shim.rs" -o "$to/libshim.rlib"
     for crate in $crates; do
+        [ -d "$tree/crates/$crate" ] || continue
         python3 "$here/plain.py" "$tree/crates/$crate/src" "$to/$crate"
         # shellcheck disable=SC2046
         rustc --edition 2021 -O -A warnings --crate-type rlib --crate-name "$crate" "$to/$crate/lib.rs" $(externs "$to") \
             -L "$to" -o "$to/lib$crate.rlib"
     done
-    for program in store inspect; do
+    for program in store inspect viewing; do
+        # Earlier revisions have no boards.
+        [ "$program" != viewing ] || [ -d "$tree/crates/board" ] || continue
         # shellcheck disable=SC2046
         rustc --edition 2021 -C opt-level=3 -C lto=fat -C codegen-units=1 --crate-name "$program" "$here/$program.rs" \
             $(externs "$to") -L "$to" -o "$to/$program"
@@ -51,6 +55,14 @@ done
 echo "$made"
 for place in here $revisions; do
     echo "== $place"
-    [ "$*" = inspect ] || "$made/$place/store" "$@"
-    if [ $# -eq 0 ] || [ "$*" = inspect ]; then "$made/$place/inspect"; fi
+    case "$*" in
+    inspect | boards) ;;
+    *) "$made/$place/store" "$@" ;;
+    esac
+    case " $* " in
+    '  ' | *' inspect '*) "$made/$place/inspect" ;;
+    esac
+    case " $* " in
+    '  ' | *' boards '*) [ ! -x "$made/$place/viewing" ] || "$made/$place/viewing" ;;
+    esac
 done
