@@ -1,4 +1,5 @@
 //! Readings of the clock, commit wait, the safe time, and ceilings.
+use crate::made::stamp;
 use ceiling::needed;
 use record::Record;
 use safetime::SafeTime;
@@ -8,7 +9,7 @@ use units::{Fault, Reason, Stamp, Stride};
 use waiting::pass;
 
 fn reading(earliest: u64, latest: u64) -> Result<Reading, Fault> {
-    Reading::new(Stamp::new(earliest)?, Stamp::new(latest)?)
+    Reading::new(stamp(earliest), stamp(latest))
 }
 
 // A timestamp beside the reading [100, 110].
@@ -42,20 +43,28 @@ static BESIDE: [Beside; 4] = [
     },
 ];
 
-#[test]
-fn the_two_ends(rt: HostRuntime) -> Result<(), Fail> {
-    let now = reading(100, 110)?;
-    assert!(rt; now.earliest().micros() == 100 && now.latest().micros() == 110);
-    for row in &BESIDE {
-        let at = Stamp::new(row.at)?;
-        assert!(rt; now.after(at) == row.after && now.before(at) == row.before);
+fn is_beside(row: &Beside) -> bool {
+    match reading(100, 110) {
+        Ok(now) => now.after(stamp(row.at)) == row.after && now.before(stamp(row.at)) == row.before,
+        Err(_) => false,
     }
-    assert!(rt; reading(100, 100).is_ok());
-    assert_eq!(rt;
-        reading(110, 100).err(),
-        Some(Fault::BadRequest(Reason::Stamp))
-    );
-    Ok(())
+}
+
+// It is the reading of these two ends.
+fn is_read(earliest: u64, latest: u64) -> bool {
+    match reading(earliest, latest) {
+        Ok(now) => now.earliest().micros() == earliest && now.latest().micros() == latest,
+        Err(_) => false,
+    }
+}
+
+#[test]
+fn the_two_ends(rt: HostRuntime) {
+    for row in &BESIDE {
+        assert!(rt; is_beside(row), "{}", row.at);
+    }
+    assert!(rt; is_read(100, 110) && is_read(100, 100));
+    assert!(rt; matches!(reading(110, 100), Err(Fault::BadRequest(Reason::Stamp))));
 }
 
 // 111 at a reading.
@@ -84,20 +93,30 @@ static WAITS: [Waits; 3] = [
     },
 ];
 
-#[test]
-fn the_wait_of_111(rt: HostRuntime) -> Result<(), Fail> {
-    let at = Stamp::new(111)?;
-    for row in &WAITS {
-        match pass(at, &reading(row.earliest, row.latest)?) {
-            Ok(waited) => {
-                assert_eq!(rt; waited.at(), at);
-                assert_eq!(rt; waited.spend(), at);
-                assert!(rt; row.passed);
-            }
-            Err(fault) => assert!(rt; fault == Fault::Early && !row.passed),
+// Whether 111 has passed, or else is early.
+fn has_passed(now: &Reading) -> Option<bool> {
+    match pass(stamp(111), now) {
+        Ok(waited) => {
+            let at = waited.at().micros();
+            Some(waited.spend().micros() == 111 && at == 111)
         }
+        Err(Fault::Early) => Some(false),
+        Err(_) => None,
     }
-    Ok(())
+}
+
+fn goes_by(row: &Waits) -> bool {
+    match reading(row.earliest, row.latest) {
+        Ok(now) => has_passed(&now) == Some(row.passed),
+        Err(_) => false,
+    }
+}
+
+#[test]
+fn the_wait_of_111(rt: HostRuntime) {
+    for row in &WAITS {
+        assert!(rt; goes_by(row), "{} to {}", row.earliest, row.latest);
+    }
 }
 
 #[derive(Clone, Copy)]
@@ -142,47 +161,52 @@ static AHEAD: [Ahead; 5] = [
     },
 ];
 
-#[test]
-fn ceilings(rt: HostRuntime) -> Result<(), Fail> {
-    for row in &AHEAD {
-        let stride = Stride::new(row.stride).ok_or("a stride")?;
-        let found = needed(Stamp::new(row.floor)?, Stamp::new(row.to)?, stride);
-        let ceiling = match &found {
-            Some(Record::Ceiling { at }) => Some(at.micros()),
-            Some(Record::Opened { .. }) | Some(Record::Prepare(_)) => None,
-            Some(Record::Commit(_)) | Some(Record::Abort { .. }) => None,
-            Some(Record::Outcome { .. }) | None => None,
-        };
-        assert_eq!(rt; ceiling, row.ceiling);
+fn is_needed(row: &Ahead) -> bool {
+    let Some(stride) = Stride::new(row.stride) else {
+        return false;
+    };
+    let needed = needed(stamp(row.floor), stamp(row.to), stride);
+    match &needed {
+        Some(Record::Ceiling { at }) => row.ceiling == Some(at.micros()),
+        Some(_) => false,
+        None => row.ceiling.is_none(),
     }
-    Ok(())
+}
+
+#[test]
+fn ceilings(rt: HostRuntime) {
+    for row in &AHEAD {
+        assert!(rt; is_needed(row), "{} to {}", row.floor, row.to);
+    }
+}
+
+fn stands(times: &SafeTime, last: u64, safe: u64) -> bool {
+    times.last().micros() == last && times.safe().micros() == safe
 }
 
 #[test]
 fn below_a_promise_until_it_is_settled(rt: HostRuntime) -> Result<(), Fail> {
     let mut times = SafeTime::new(rt.alloc(), Stamp::zero())?;
-    let at = Stamp::new(200)?;
-    times.assign(at);
-    times.hold(at);
-    assert!(rt; times.last().micros() == 200 && times.safe().micros() == 199);
-    times.raise(Stamp::new(250)?);
-    assert!(rt; times.last().micros() == 250 && times.safe().micros() == 199);
-    times.lift(at);
-    assert_eq!(rt; times.safe().micros(), 250);
+    times.assign(stamp(200));
+    times.hold(stamp(200));
+    assert!(rt; stands(&times, 200, 199));
+    times.raise(stamp(250));
+    assert!(rt; stands(&times, 250, 199));
+    times.lift(stamp(200));
+    assert!(rt; stands(&times, 250, 250));
     Ok(())
 }
 
 #[test]
 fn one_hold_is_lifted_at_a_time(rt: HostRuntime) -> Result<(), Fail> {
-    let at = Stamp::new(111)?;
-    let mut times = SafeTime::new(rt.alloc(), at)?;
-    times.hold(at);
-    times.hold(at);
+    let mut times = SafeTime::new(rt.alloc(), stamp(111))?;
+    times.hold(stamp(111));
+    times.hold(stamp(111));
     for safe in [110, 110, 111] {
-        assert_eq!(rt; times.safe().micros(), safe);
-        times.lift(at);
+        assert!(rt; stands(&times, 111, safe), "{safe}");
+        times.lift(stamp(111));
     }
-    times.raise(Stamp::new(110)?);
-    assert_eq!(rt; times.last().micros(), 111);
+    times.raise(stamp(110));
+    assert!(rt; stands(&times, 111, 111));
     Ok(())
 }

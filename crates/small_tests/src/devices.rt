@@ -2,12 +2,10 @@
 use disk::{Disk, FailurePlan, Fate};
 use simdisk::{Choice, SimDisk};
 use std::alloc::Global;
-use std::process::Abort;
-use std::test::Fail;
 use units::Fault;
 
 // A call that a plan is asked about.
-#[derive(Clone, Copy, Debug)]
+#[derive(Clone, Copy)]
 enum Call {
     Write,
     Other,
@@ -16,13 +14,14 @@ enum Call {
 // A plan, and calls with whether each fails. Then no call is to fail any more.
 #[derive(Clone, Copy)]
 struct Failing {
+    what: &'static str,
     plan: FailurePlan,
     calls: &'static [(Call, bool)],
 }
 
 static FAILING: [Failing; 3] = [
-    // The third call fails.
     Failing {
+        what: "the third call fails",
         plan: FailurePlan::After(2),
         calls: &[
             (Call::Other, false),
@@ -30,8 +29,8 @@ static FAILING: [Failing; 3] = [
             (Call::Other, true),
         ],
     },
-    // What is armed waits for a write.
     Failing {
+        what: "what is armed waits for a write",
         plan: FailurePlan::AfterWrite(1),
         calls: &[
             (Call::Other, false),
@@ -41,31 +40,40 @@ static FAILING: [Failing; 3] = [
         ],
     },
     Failing {
+        what: "no call fails",
         plan: FailurePlan::Never,
         calls: &[(Call::Write, false)],
     },
 ];
 
+fn fails(plan: &mut FailurePlan, call: Call) -> bool {
+    match call {
+        Call::Write => plan.write(),
+        Call::Other => plan.call(),
+    }
+}
+
+fn fails_so(row: &Failing) -> bool {
+    let mut plan = row.plan;
+    for (call, wanted) in row.calls {
+        if fails(&mut plan, *call) != *wanted {
+            return false;
+        }
+    }
+    matches!(plan, FailurePlan::Never) && !plan.write()
+}
+
 #[test]
 fn calls_that_fail(rt: HostRuntime) {
-    assert_eq!(rt; FailurePlan::armed(Some(1)), FailurePlan::AfterWrite(1));
-    assert_eq!(rt; FailurePlan::armed(None), FailurePlan::Never);
+    assert!(rt; matches!(FailurePlan::armed(Some(1)), FailurePlan::AfterWrite(1)));
+    assert!(rt; matches!(FailurePlan::armed(None), FailurePlan::Never));
     for row in &FAILING {
-        let mut plan = row.plan;
-        for (call, fails) in row.calls {
-            let failed = match call {
-                Call::Write => plan.write(),
-                Call::Other => plan.call(),
-            };
-            assert_eq!(rt; failed, *fails, "{call:?} by {:?}", row.plan);
-        }
-        assert_eq!(rt; plan, FailurePlan::Never);
-        assert!(rt; !plan.write());
+        assert!(rt; fails_so(row), "{}", row.what);
     }
 }
 
 // What is done with a disk.
-#[derive(Clone, Copy, Debug)]
+#[derive(Clone, Copy)]
 enum Step {
     Write(u64, &'static [u8]),
     Cut(u64),
@@ -104,18 +112,28 @@ fn content(alloc: Global, disk: &mut SimDisk) -> Result<Vec<u8>, Fault> {
     Ok(bytes)
 }
 
+fn holds(alloc: Global, disk: &mut SimDisk, bytes: &[u8]) -> bool {
+    match content(alloc, disk) {
+        Ok(found) => found.as_slice() == bytes,
+        Err(_) => false,
+    }
+}
+
+fn has_failed(answer: Result<(), Fault>) -> bool {
+    matches!(answer, Err(Fault::Device))
+}
+
 // Whether the step, which is no crash, went as it says.
-fn goes_well(alloc: Global, disk: &mut SimDisk, step: Step) -> Result<bool, Fault> {
-    let failed = Err(Fault::Device);
-    Ok(match step {
+fn goes_well(alloc: Global, disk: &mut SimDisk, step: Step) -> bool {
+    match step {
         Step::Write(at, bytes) => write(disk, at, bytes).is_ok(),
         Step::Cut(len) => cut(disk, len).is_ok(),
         Step::Sync => disk.sync().is_ok(),
-        Step::WriteFails(at, bytes) => write(disk, at, bytes) == failed,
-        Step::CutFails(len) => cut(disk, len) == failed,
-        Step::SyncFails => disk.sync() == failed,
+        Step::WriteFails(at, bytes) => has_failed(write(disk, at, bytes)),
+        Step::CutFails(len) => has_failed(cut(disk, len)),
+        Step::SyncFails => has_failed(disk.sync()),
         Step::Reserve(bytes) => disk.reserve(bytes).is_ok(),
-        Step::Holds(bytes) => content(alloc, disk)?.as_slice() == bytes,
+        Step::Holds(bytes) => holds(alloc, disk, bytes),
         Step::FailNext(calls) => {
             disk.fail_next(calls);
             true
@@ -125,7 +143,7 @@ fn goes_well(alloc: Global, disk: &mut SimDisk, step: Step) -> Result<bool, Faul
             true
         }
         Step::Crash(_) => false,
-    })
+    }
 }
 
 // A disk may go to another thread.
@@ -133,22 +151,35 @@ fn sent<T: Send>(value: T) -> T {
     value
 }
 
-// A synced file of six letters goes through the steps.
-fn go(rt: &impl Abort, alloc: Global, steps: &[Step]) -> Result<(), Fail> {
+// A synced file of six letters.
+fn six_letters(alloc: Global) -> Result<SimDisk, Fault> {
     let mut disk = sent(SimDisk::new(alloc));
     disk.write_at(0, b"abcdef")?;
     disk.sync()?;
-    for step in steps {
+    Ok(disk)
+}
+
+// Without memory every change is lost.
+fn choice(alloc: Global, fates: &[Fate]) -> Choice {
+    match fates.to_vec(alloc) {
+        Ok(fates) => Choice::from_vec(fates),
+        Err(_) => Choice::none(alloc),
+    }
+}
+
+// The six letters go through the steps; says how many go as they say.
+fn go(alloc: Global, steps: &[Step]) -> usize {
+    let Ok(mut disk) = six_letters(alloc) else {
+        return 0;
+    };
+    for (number, step) in steps.iter().enumerate() {
         if let Step::Crash(fates) = step {
-            disk = disk.crash(&Choice::from_vec(fates.to_vec(alloc)?));
-        } else {
-            assert!(rt;
-                goes_well(alloc, &mut disk, *step)?,
-                "{step:?} of {steps:?}"
-            );
+            disk = disk.crash(&choice(alloc, fates));
+        } else if !goes_well(alloc, &mut disk, *step) {
+            return number;
         }
     }
-    Ok(())
+    steps.len()
 }
 
 // What a crash leaves of these changes of the six letters.
@@ -222,15 +253,30 @@ static TORN: [Torn; 10] = [
     },
 ];
 
-#[test]
-fn a_crash_tears_each_change_by_its_fate(rt: HostRuntime) -> Result<(), Fail> {
-    for row in &TORN {
-        let mut steps = row.changes.to_vec(rt.alloc())?;
-        steps.push(Step::Crash(row.fates))?;
-        steps.push(Step::Holds(row.left))?;
-        go(&rt, rt.alloc(), &steps)?;
+fn changed(alloc: Global, changes: &[Step]) -> Option<SimDisk> {
+    let Ok(mut disk) = six_letters(alloc) else {
+        return None;
+    };
+    for step in changes {
+        if !goes_well(alloc, &mut disk, *step) {
+            return None;
+        }
     }
-    Ok(())
+    Some(disk)
+}
+
+fn is_torn(alloc: Global, row: &Torn) -> bool {
+    match changed(alloc, row.changes) {
+        Some(disk) => holds(alloc, &mut disk.crash(&choice(alloc, row.fates)), row.left),
+        None => false,
+    }
+}
+
+#[test]
+fn a_crash_tears_each_change_by_its_fate(rt: HostRuntime) {
+    for (number, row) in TORN.iter().enumerate() {
+        assert!(rt; is_torn(rt.alloc(), row), "row {number}");
+    }
 }
 
 static LIVES: [&[Step]; 5] = [
@@ -296,9 +342,9 @@ static LIVES: [&[Step]; 5] = [
 ];
 
 #[test]
-fn disks_over_their_lives(rt: HostRuntime) -> Result<(), Fail> {
-    for steps in &LIVES {
-        go(&rt, rt.alloc(), steps)?;
+fn disks_over_their_lives(rt: HostRuntime) {
+    for (number, steps) in LIVES.iter().enumerate() {
+        let gone = go(rt.alloc(), steps);
+        assert!(rt; gone == steps.len(), "step {gone} of life {number}");
     }
-    Ok(())
 }

@@ -1,31 +1,38 @@
 //! Messages and the bag that they are put into.
+use crate::made::{id, key, shard};
 use bag::Bag;
 use message::{Address, Envelope, GiveUp, Message, Reads};
-use std::test::Fail;
-use units::{Epoch, Key, Keys, ShardNo, TxnId};
+use std::alloc::Global;
+use units::{Epoch, Keys};
 
-#[test]
-fn the_epoch_of_reads(rt: HostRuntime) -> Result<(), Fail> {
-    let alloc = rt.alloc();
-    assert_eq!(rt; Reads::none(alloc).epoch(), 0);
-    let keys = Keys::from_vec([Key::new(b"z")?].to_vec(alloc)?)
-        .ok()
-        .ok_or("one key ascends")?;
-    let reads = Reads::new(Epoch::first(), keys)
-        .ok()
-        .ok_or("a key was read")?;
-    assert_eq!(rt; reads.epoch(), 1);
-    assert_eq!(rt; reads.keys().as_slice().len(), 1);
-    assert!(rt; Reads::new(Epoch::first(), Keys::none(alloc)).is_err());
-    Ok(())
+fn one_key(alloc: Global) -> Option<Keys> {
+    Keys::from_vec([key(b'z')].to_vec(alloc).ok()?).ok()
 }
 
-fn give_up(number: u64) -> Result<Envelope, Fail> {
-    let txn = TxnId::new(1, number).ok_or("no id")?;
-    Ok(Envelope {
-        to: Address::Shard(ShardNo::new(0).ok_or("no shard")?),
-        message: Message::GiveUp(GiveUp { txn }),
-    })
+// The epoch of what was read in the first, and how many keys it has.
+fn shape(keys: Keys) -> Option<(u64, usize)> {
+    match Reads::new(Epoch::first(), keys) {
+        Ok(reads) => Some((reads.epoch(), reads.keys().as_slice().len())),
+        Err(_) => None,
+    }
+}
+
+fn shape_of_one(alloc: Global) -> Option<(u64, usize)> {
+    shape(one_key(alloc)?)
+}
+
+#[test]
+fn the_epoch_of_reads(rt: HostRuntime) {
+    assert!(rt; Reads::none(rt.alloc()).epoch() == 0);
+    assert!(rt; matches!(shape_of_one(rt.alloc()), Some((1, 1))));
+    assert!(rt; shape(Keys::none(rt.alloc())).is_none());
+}
+
+fn give_up(number: u16) -> Envelope {
+    Envelope {
+        to: Address::Shard(shard(0)),
+        message: Message::GiveUp(GiveUp { txn: id(number) }),
+    }
 }
 
 fn number_of(envelope: &Envelope) -> u64 {
@@ -35,16 +42,31 @@ fn number_of(envelope: &Envelope) -> u64 {
     }
 }
 
+// Transactions 1.5 and 1.7 give up.
+static NUMBERS: [u16; 2] = [5, 7];
+
+// Puts the message of the transaction into the bag, where it gets this number.
+fn is_put(bag: &mut Bag, txn: u16, number: usize) -> bool {
+    match bag.put(give_up(txn)) {
+        Ok(found) => found == number as u64,
+        Err(_) => false,
+    }
+}
+
+// The message with this number is that of the transaction.
+fn has(bag: &Bag, number: u64, txn: u64) -> bool {
+    match bag.nth(number) {
+        Some(envelope) => number_of(envelope) == txn,
+        None => false,
+    }
+}
+
 #[test]
-fn messages_have_numbers_from_0(rt: HostRuntime) -> Result<(), Fail> {
+fn messages_have_numbers_from_0(rt: HostRuntime) {
     let mut bag = Bag::new(rt.alloc());
-    assert_eq!(rt; bag.len(), 0);
-    for (number, txn) in [(0, 5), (1, 7)] {
-        assert_eq!(rt; bag.put(give_up(txn)?)?, number);
+    assert!(rt; bag.len() == 0);
+    for (number, txn) in NUMBERS.iter().enumerate() {
+        assert!(rt; is_put(&mut bag, *txn, number), "{txn}");
     }
-    assert_eq!(rt; bag.len(), 2);
-    for (number, txn) in [(0, Some(5)), (1, Some(7)), (2, None)] {
-        assert_eq!(rt; bag.nth(number).map(number_of), txn);
-    }
-    Ok(())
+    assert!(rt; bag.len() == 2 && has(&bag, 0, 5) && has(&bag, 1, 7) && bag.nth(2).is_none());
 }

@@ -12,4 +12,6 @@ mod letters;
 #[cfg(test)]
 mod limits;
 #[cfg(test)]
+mod made;
+#[cfg(test)]
 mod sessions;

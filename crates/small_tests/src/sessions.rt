@@ -1,23 +1,19 @@
 //! Transactions at their clients. Shard 0 has the keys below `m`, and shard 1 all others.
 ghost use Rattle.std.specs.Prelude.{◌≡◌};
 
+use crate::made::{id, key, shard, stamp};
 use message::{Address, Answer, Done, Envelope, Message, Outbox, ReadAnswer};
 use session::{Closing, Finished, Heard, Open, Tx};
 use std::alloc::Global;
-use std::test::Fail;
 use tickets::{Drawer, Tickets};
-use units::{Epoch, Fault, Key, Reason, Run, ShardNo, Splits, Stamp, TxnId, Value};
-
-fn id(number: u64) -> Result<TxnId, Fault> {
-    TxnId::new(1, number).ok_or(Fault::Stranger)
-}
+use units::{Epoch, Fault, Key, Reason, Run, Splits, Stamp, TxnId, Value};
 
 fn split_at_m(alloc: Global) -> Result<Splits, Fault> {
-    Splits::new(alloc, &[Key::new(b"m")?])
+    Splits::new(alloc, &[key(b'm')])
 }
 
 // What transaction 1.2 does while it is open, with keys and values of one letter.
-#[derive(Clone, Copy, Debug)]
+#[derive(Clone, Copy)]
 enum Does {
     Read(u8),
     Write(u8, u8),
@@ -117,17 +113,19 @@ fn shape(envelope: &Envelope) -> Shape {
     }
 }
 
+fn is_shaped(envelope: &Envelope, wanted: Shape) -> bool {
+    let (to, kind, epoch, writes) = shape(envelope);
+    to == wanted.0 && kind == wanted.1 && epoch == wanted.2 && writes == wanted.3
+}
+
 fn says(out: &Outbox, shapes: &[Shape]) -> bool {
     let envelopes = out.as_slice();
-    if envelopes.len() != shapes.len() {
-        return false;
-    }
     for (envelope, wanted) in envelopes.iter().zip(shapes.iter()) {
-        if shape(envelope) != *wanted {
+        if !is_shaped(envelope, *wanted) {
             return false;
         }
     }
-    true
+    envelopes.len() == shapes.len()
 }
 
 fn refused(fault: Fault) -> Gets {
@@ -138,10 +136,17 @@ fn refused(fault: Fault) -> Gets {
 }
 
 // It asks shard 1.
+fn asks(envelope: &Envelope) -> Gets {
+    if is_shaped(envelope, (1, b'r', 0, 0)) {
+        Gets::Done
+    } else {
+        Gets::Other
+    }
+}
+
 fn asked(tx: &mut Tx<'_, Open>, key: Key) -> Gets {
     match tx.read(key) {
-        Ok(envelope) if shape(&envelope) == (1, b'r', 0, 0) => Gets::Done,
-        Ok(_) => Gets::Other,
+        Ok(envelope) => asks(&envelope),
         Err(fault) => refused(fault),
     }
 }
@@ -153,12 +158,23 @@ fn buffered(tx: &mut Tx<'_, Open>, key: Key, value: Option<Value>) -> Gets {
     }
 }
 
+fn written(tx: &mut Tx<'_, Open>, alloc: Global, key: Key, byte: u8) -> Gets {
+    match Value::new(alloc, &[byte]) {
+        Ok(value) => buffered(tx, key, Some(value)),
+        Err(_) => Gets::Other,
+    }
+}
+
+fn value_of(value: &Value) -> Gets {
+    match value.as_bytes() {
+        [byte] => Gets::Value(*byte),
+        _ => Gets::Other,
+    }
+}
+
 fn heard(tx: &mut Tx<'_, Open>, alloc: Global, answer: &ReadAnswer) -> Gets {
     match tx.answered(alloc, answer) {
-        Ok(Heard::Value(Some(value))) => match value.as_bytes() {
-            [byte] => Gets::Value(*byte),
-            _ => Gets::Other,
-        },
+        Ok(Heard::Value(Some(value))) => value_of(&value),
         Ok(Heard::Again) => Gets::Again,
         Ok(Heard::Doomed) => Gets::Doomed,
         Ok(_) => Gets::Other,
@@ -166,121 +182,124 @@ fn heard(tx: &mut Tx<'_, Open>, alloc: Global, answer: &ReadAnswer) -> Gets {
     }
 }
 
-fn answer_of(alloc: Global, key: Key, epoch: u64, value: u8) -> Result<ReadAnswer, Fault> {
-    Ok(ReadAnswer {
-        from: ShardNo::new(1).ok_or(Fault::Stranger)?,
-        txn: id(2)?,
+fn answer_of(alloc: Global, key: Key, epoch: u64, byte: u8) -> Option<ReadAnswer> {
+    let epoch = Epoch::new(epoch)?;
+    let value = Value::new(alloc, &[byte]).ok()?;
+    Some(ReadAnswer {
+        from: shard(1),
+        txn: id(2),
         key,
-        epoch: Epoch::new(epoch).ok_or(Fault::Stranger)?,
-        answer: Answer::Holds(Some(Value::new(alloc, &[value])?)),
+        epoch,
+        answer: Answer::Holds(Some(value)),
     })
 }
 
-fn got(tx: &mut Tx<'_, Open>, alloc: Global, does: Does) -> Result<Gets, Fault> {
-    Ok(match does {
-        Does::Read(key) => asked(tx, Key::new(&[key])?),
-        Does::Write(key, value) => {
-            buffered(tx, Key::new(&[key])?, Some(Value::new(alloc, &[value])?))
-        }
-        Does::Erase(key) => buffered(tx, Key::new(&[key])?, None),
-        Does::Hears(key, epoch, value) => {
-            heard(
-                tx,
-                alloc,
-                &answer_of(alloc, Key::new(&[key])?, epoch, value)?,
-            )
-        }
-    })
+fn hears(tx: &mut Tx<'_, Open>, alloc: Global, key: Key, epoch: u64, byte: u8) -> Gets {
+    match answer_of(alloc, key, epoch, byte) {
+        Some(answer) => heard(tx, alloc, &answer),
+        None => Gets::Other,
+    }
 }
 
-fn gets_all(tx: &mut Tx<'_, Open>, alloc: Global, does: &[(Does, Gets)]) -> Result<bool, Fault> {
+fn got(tx: &mut Tx<'_, Open>, alloc: Global, does: Does) -> Gets {
+    match does {
+        Does::Read(letter) => asked(tx, key(letter)),
+        Does::Write(letter, byte) => written(tx, alloc, key(letter), byte),
+        Does::Erase(letter) => buffered(tx, key(letter), None),
+        Does::Hears(letter, epoch, byte) => hears(tx, alloc, key(letter), epoch, byte),
+    }
+}
+
+fn gets_all(tx: &mut Tx<'_, Open>, alloc: Global, does: &[(Does, Gets)]) -> bool {
     for (does, wanted) in does {
-        if got(tx, alloc, *does)? != *wanted {
-            return Ok(false);
+        if got(tx, alloc, *does) != *wanted {
+            return false;
         }
     }
-    Ok(true)
+    true
 }
 
-fn gives_up(tx: Tx<'_, Open>, alloc: Global, shapes: &[Shape]) -> Result<bool, Fault> {
+fn gives_up(tx: Tx<'_, Open>, alloc: Global, shapes: &[Shape]) -> bool {
     match tx.give_up(alloc) {
-        Ok(out) => Ok(says(&out, shapes)),
+        Ok(out) => says(&out, shapes),
+        Err((_, tx)) => {
+            tx.spend();
+            false
+        }
+    }
+}
+
+fn is_not_closed(tx: Tx<'_, Open>, alloc: Global, reason: Reason) -> bool {
+    match tx.close(alloc) {
+        Ok((tx, _)) => {
+            tx.spend();
+            false
+        }
         Err((fault, tx)) => {
             tx.spend();
-            Err(fault)
+            fault == Fault::BadRequest(reason)
         }
     }
 }
 
-// A closed one says this once more, and that when it is given up.
-fn goes_on(
-    tx: Tx<'_, Closing>,
-    alloc: Global,
-    closing: &[Shape],
-    farewells: &[Shape],
-) -> Result<bool, Fault> {
-    let again = tx.again(alloc);
+fn says_again(tx: &Tx<'_, Closing>, alloc: Global, closing: &[Shape]) -> bool {
+    match tx.again(alloc) {
+        Ok(out) => says(&out, closing),
+        Err(_) => false,
+    }
+}
+
+// A closed one says this when it is given up.
+fn parts(tx: Tx<'_, Closing>, alloc: Global, farewells: &[Shape]) -> bool {
     match tx.give_up(alloc) {
-        Ok(out) => Ok(says(&again?, closing) && says(&out, farewells)),
-        Err((fault, tx)) => {
+        Ok(out) => says(&out, farewells),
+        Err((_, tx)) => {
             tx.spend();
-            Err(fault)
+            false
         }
     }
 }
 
-fn ended_as(tx: Tx<'_, Open>, alloc: Global, ends: Ends) -> Result<bool, Fault> {
-    if let Ends::GivesUp(shapes) = ends {
-        return gives_up(tx, alloc, shapes);
-    }
-    match (tx.close(alloc), ends) {
-        (Ok((tx, out)), Ends::Closes(closing, farewells)) => {
-            Ok(goes_on(tx, alloc, closing, farewells)? && says(&out, closing))
+fn closes(tx: Tx<'_, Open>, alloc: Global, closing: &[Shape], farewells: &[Shape]) -> bool {
+    match tx.close(alloc) {
+        Ok((tx, out)) => {
+            let again = says_again(&tx, alloc, closing);
+            parts(tx, alloc, farewells) && again && says(&out, closing)
         }
-        (Err((fault, tx)), Ends::NotClosed(reason)) => {
+        Err((_, tx)) => {
             tx.spend();
-            Ok(fault == Fault::BadRequest(reason))
-        }
-        (Ok((tx, _)), _) => {
-            tx.spend();
-            Ok(false)
-        }
-        (Err((fault, tx)), _) => {
-            tx.spend();
-            Err(fault)
+            false
         }
     }
+}
+
+fn ended_as(tx: Tx<'_, Open>, alloc: Global, ends: Ends) -> bool {
+    match ends {
+        Ends::NotClosed(reason) => is_not_closed(tx, alloc, reason),
+        Ends::Closes(closing, farewells) => closes(tx, alloc, closing, farewells),
+        Ends::GivesUp(shapes) => gives_up(tx, alloc, shapes),
+    }
+}
+
+fn is_told(alloc: Global, story: &Story) -> bool {
+    let Ok(splits) = split_at_m(alloc) else {
+        return false;
+    };
+    let mut tx = Tx::begin(alloc, id(2), &splits);
+    let met = gets_all(&mut tx, alloc, story.does);
+    ended_as(tx, alloc, story.ends) && met
 }
 
 #[test]
-fn sessions(rt: HostRuntime) -> Result<(), Fail> {
-    let alloc = rt.alloc();
-    let splits = split_at_m(alloc)?;
-    let txn = id(2)?;
+fn sessions(rt: HostRuntime) {
     for story in &STORIES {
-        let mut tx = Tx::begin(alloc, txn, &splits);
-        let met = gets_all(&mut tx, alloc, story.does);
-        let ended = ended_as(tx, alloc, story.ends);
-        assert!(rt; met? && ended?, "{}", story.name);
-    }
-    Ok(())
-}
-
-// A closed transaction takes its own end, and no other.
-fn end_of(tx: Tx<'_, Closing>, txn: TxnId, outcome: Option<Stamp>) -> Result<Finished, Fault> {
-    match tx.take(&Done { txn, outcome }) {
-        Ok(finished) => Ok(finished),
-        Err((fault, tx)) => {
-            tx.spend();
-            Err(fault)
-        }
+        assert!(rt; is_told(rt.alloc(), story), "{}", story.name);
     }
 }
 
 fn closed<'s>(alloc: Global, splits: &'s Splits) -> Result<Tx<'s, Closing>, Fault> {
-    let key = Key::new(b"a")?;
-    let mut tx = Tx::begin(alloc, id(2)?, splits);
-    let _ = tx.buffer(key, None);
+    let mut tx = Tx::begin(alloc, id(2), splits);
+    let _ = tx.buffer(key(b'a'), None);
     match tx.close(alloc) {
         Ok((tx, _)) => Ok(tx),
         Err((fault, tx)) => {
@@ -290,51 +309,95 @@ fn closed<'s>(alloc: Global, splits: &'s Splits) -> Result<Tx<'s, Closing>, Faul
     }
 }
 
-#[test]
-fn an_end_is_heard(rt: HostRuntime) -> Result<(), Fail> {
-    let alloc = rt.alloc();
-    let (splits, own, other, at) = (split_at_m(alloc)?, id(2)?, id(3)?, Stamp::new(200)?);
-    let stranger = end_of(closed(alloc, &splits)?, other, None).err();
-    assert_eq!(rt; stranger, Some(Fault::Stranger));
-    let finished = end_of(closed(alloc, &splits)?, own, Some(at))?;
-    assert!(rt; finished == Finished::Committed(at));
-    Ok(())
-}
-
-// The id that a new transaction asks for a key with.
-fn begin_and_ask(
-    alloc: Global,
-    run: Run,
-    splits: &Splits,
-    tickets: &Tickets,
-    drawer: &mut Drawer,
-) -> Result<TxnId, Fault>
-    requires { drawer.old.source ≡ tickets.now }
-    ensures { drawer.new.source ≡ drawer.old.source }
-{
-    let mut tx = Tx::begin_drawn(alloc, run, splits, tickets, drawer)?;
-    let asked = match Key::new(b"a") {
-        Ok(key) => tx.read(key),
-        Err(fault) => Err(fault),
+// What a closed 1.2 makes of the end of a transaction.
+fn end_of(alloc: Global, txn: TxnId, outcome: Option<Stamp>) -> Result<Finished, Fault> {
+    let splits = split_at_m(alloc)?;
+    let tx = match closed(alloc, &splits) {
+        Ok(tx) => tx,
+        Err(fault) => return Err(fault),
     };
-    tx.spend();
-    let asked = asked?;
-    match &asked.message {
-        Message::Read(read) => Ok(read.txn),
-        _ => Err(Fault::Stranger),
+    match tx.take(&Done { txn, outcome }) {
+        Ok(finished) => Ok(finished),
+        Err((fault, tx)) => {
+            tx.spend();
+            Err(fault)
+        }
     }
 }
 
+// It takes its own end, and no other.
 #[test]
-fn numbers_are_drawn(rt: HostRuntime) -> Result<(), Fail> {
-    let alloc = rt.alloc();
-    let splits = split_at_m(alloc)?;
-    let run = Run::new(7).ok_or("a run")?;
-    let (tickets, mut drawers) = Tickets::new(alloc, 1)?;
-    let mut drawer = drawers.pop().ok_or("a drawer")?;
-    let first = begin_and_ask(alloc, run, &splits, &tickets, &mut drawer)?;
-    let second = begin_and_ask(alloc, run, &splits, &tickets, &mut drawer)?;
-    assert!(rt; first.is(TxnId::new(7, 0).ok_or("an id")?));
-    assert!(rt; second.is(TxnId::new(7, 1).ok_or("an id")?));
-    Ok(())
+fn an_end_is_heard(rt: HostRuntime) {
+    let stranger = end_of(rt.alloc(), id(3), None).err();
+    assert!(rt; stranger == Some(Fault::Stranger));
+    let own = end_of(rt.alloc(), id(2), Some(stamp(200))).ok();
+    assert!(rt; own == Some(Finished::Committed(stamp(200))));
+}
+
+fn reader(envelope: &Envelope) -> Option<TxnId> {
+    match &envelope.message {
+        Message::Read(read) => Some(read.txn),
+        _ => None,
+    }
+}
+
+// The id that it asks for a key with.
+fn asking(tx: &mut Tx<'_, Open>) -> Option<TxnId> {
+    match tx.read(key(b'a')) {
+        Ok(envelope) => reader(&envelope),
+        Err(_) => None,
+    }
+}
+
+// The id that a new transaction of run 7 asks with.
+fn begin_and_ask(
+    alloc: Global,
+    splits: &Splits,
+    tickets: &Tickets,
+    drawer: &mut Drawer,
+) -> Option<TxnId>
+    requires { drawer.old.source ≡ tickets.now }
+    ensures { drawer.new.source ≡ drawer.old.source }
+{
+    let run = Run::new(7)?;
+    match Tx::begin_drawn(alloc, run, splits, tickets, drawer) {
+        Ok(mut tx) => {
+            let asking = asking(&mut tx);
+            tx.spend();
+            asking
+        }
+        Err(_) => None,
+    }
+}
+
+fn is(txn: Option<TxnId>, number: u64) -> bool {
+    match (txn, TxnId::new(7, number)) {
+        (Some(txn), Some(wanted)) => txn.is(wanted),
+        _ => false,
+    }
+}
+
+// The first transactions of a source are 7.0 and 7.1.
+fn are_drawn(alloc: Global, tickets: &Tickets, drawer: &mut Drawer) -> bool
+    requires { drawer.old.source ≡ tickets.now }
+{
+    let Ok(splits) = split_at_m(alloc) else {
+        return false;
+    };
+    let first = begin_and_ask(alloc, &splits, tickets, drawer);
+    let second = begin_and_ask(alloc, &splits, tickets, drawer);
+    is(first, 0) && is(second, 1)
+}
+
+fn draws_ids(alloc: Global) -> Option<bool> {
+    let Ok((tickets, mut drawers)) = Tickets::new(alloc, 1) else {
+        return None;
+    };
+    let mut drawer = drawers.pop()?;
+    Some(are_drawn(alloc, &tickets, &mut drawer))
+}
+
+#[test]
+fn numbers_are_drawn(rt: HostRuntime) {
+    assert!(rt; matches!(draws_ids(rt.alloc()), Some(true)));
 }
