@@ -1,12 +1,7 @@
 //! Fresh shards of two, split at `m`, and what the tests give to them. Transaction 1.2 writes `z` at shard 1; shard 0 decides.
-ghost use Rattle.std.specs.Prelude.{IfOk};
-ghost use Rattle.serving.specs.Showable.{IsShowable};
-ghost use Rattle.shard.specs.Core.{seen};
-
 use board::Viewer;
 use message::{Input, Message, Outcome, Prepare, Reads};
 use node::{Desk, Node};
-use serving::fresh_is_showable;
 use shard::Core;
 use simdisk::SimDisk;
 use std::alloc::Global;
@@ -28,10 +23,7 @@ fn setup(alloc: Global, number: u8) -> Option<Setup> {
     })
 }
 
-pub fn fresh(alloc: Global, number: u8) -> Option<Core<SimDisk>>
-    ensures { IfOk result (λ core. IsShowable (seen core).facts (seen core).memory) }
-{
-    fresh_is_showable();
+fn fresh(alloc: Global, number: u8) -> Option<Core<SimDisk>> {
     Core::fresh(alloc, SimDisk::new(alloc), setup(alloc, number)?).ok()
 }
 
@@ -56,7 +48,20 @@ pub fn node<R: Wait + Drop>(
     number: u8,
     viewers: usize,
 ) -> Option<(Node<SimDisk, R>, Vec<Viewer>)> {
-    match Node::new(rt, alloc, fresh(alloc, number)?, viewers) {
+    armed_node(rt, alloc, number, viewers, None)
+}
+
+/// The same, of which a device call of the next append fails, where one is named.
+pub fn armed_node<R: Wait + Drop>(
+    rt: R,
+    alloc: Global,
+    number: u8,
+    viewers: usize,
+    call: Option<u64>,
+) -> Option<(Node<SimDisk, R>, Vec<Viewer>)> {
+    let mut core = fresh(alloc, number)?;
+    core.arm(call);
+    match Node::new(rt, alloc, core, viewers) {
         Ok(made) => Some(made),
         Err((_, core)) => {
             let _ = core.stop();

@@ -6,4 +6,6 @@ mod desks;
 #[cfg(test)]
 mod given;
 #[cfg(test)]
+mod restarts;
+#[cfg(test)]
 mod served;
