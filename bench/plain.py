@@ -58,7 +58,7 @@ def stripped(text):
             if clause:
                 at = closed(text, at + clause.end() - 1)
                 continue
-            if re.match(r"impl\b[^{;]*\bModel for\b", rest):
+            if re.match(r"impl\b[^{;]*\b(Model|Drop) for\b", rest):
                 at = closed(text, text.index("{", at))
                 continue
         char = text[at]
@@ -79,9 +79,9 @@ def plain(text):
     text = text.replace(".collect(alloc)", ".collect_in(alloc)").replace(".to_vec(alloc)", ".to_vec_in(alloc)")
     written = r"<W: (fmt::)?Write>\(&self, (\w+): &mut (fmt::)?Formatter<W>\)"
     text = re.sub(written, r"(&self, \2: &mut shim::fmt::Formatter<'_>)", text)
-    text = text.replace("<T: Drop>", "<T>").replace("use thiserror::Error;\n", "")
+    text = text.replace(" + Drop", "").replace("<T: Drop>", "<T>").replace("use thiserror::Error;\n", "")
     text = re.sub(r"\bstd::", "shim::", text)
-    text = re.sub(r"\buse (byteorder|indexmap)::", r"use shim::\1::", text)
+    text = re.sub(r"\buse (byteorder|indexmap|left_right|crossbeam_utils|atomic_table)::", r"use shim::\1::", text)
     return "#[allow(unused_imports)]\nuse shim::prelude::*;\n" + text
 
 

@@ -1,6 +1,6 @@
 #!/bin/sh
 # Times the store as it stands here, and as it stood at each revision that is named, side by side: bench/run.sh [REVISION..]
-# [-- SCENE..]. It needs rustc and python3, proves nothing, and leaves all that it makes in a new folder, which it names.
+# [-- SCENE..]; the scene `boards` is a program of its own. It needs rustc and python3, proves nothing, and leaves all that it makes in a new folder, which it names.
 set -eu
 here=$(cd "$(dirname "$0")" && pwd)
 top=$(dirname "$here")
@@ -8,7 +8,7 @@ made=$(mktemp -d "${TMPDIR:-/tmp}/bench.XXXXXX")
 
 # The crates that the core of a shard stands on, the lowest first.
 crates="units truetime counts waiting disk simdisk record gatelog message protocol locks facts versions safetime rows memory
-participant coordinator ceiling recovery shard"
+participant coordinator ceiling recovery serving shard growing board"
 
 externs() {
     for library in "$1"/lib*.rlib; do
@@ -23,6 +23,7 @@ build() {
     mkdir -p "$to"
     rustc --edition 2021 -O --crate-type rlib --crate-name shim "$here/shim.rs" -o "$to/libshim.rlib"
     for crate in $crates; do
+        [ -d "$tree/crates/$crate" ] || continue
         python3 "$here/plain.py" "$tree/crates/$crate/src" "$to/$crate"
         # shellcheck disable=SC2046
         rustc --edition 2021 -O -A warnings --crate-type rlib --crate-name "$crate" "$to/$crate/lib.rs" $(externs "$to") \
@@ -31,6 +32,10 @@ build() {
     # shellcheck disable=SC2046
     rustc --edition 2021 -C opt-level=3 -C lto=fat -C codegen-units=1 --crate-name store "$here/store.rs" $(externs "$to") \
         -L "$to" -o "$to/store"
+    [ -d "$tree/crates/board" ] || return 0
+    # shellcheck disable=SC2046
+    rustc --edition 2021 -C opt-level=3 -C lto=fat -C codegen-units=1 --crate-name viewing "$here/viewing.rs" $(externs "$to") \
+        -L "$to" -o "$to/viewing"
 }
 
 revisions=
@@ -49,5 +54,8 @@ done
 echo "$made"
 for place in here $revisions; do
     echo "== $place"
-    "$made/$place/store" "$@"
+    [ "$*" = boards ] || "$made/$place/store" "$@"
+    case " $* " in
+        '  ' | *' boards '*) [ ! -x "$made/$place/viewing" ] || "$made/$place/viewing" ;;
+    esac
 done

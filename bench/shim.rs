@@ -10,6 +10,51 @@ pub mod alloc {
     pub struct AllocFailed<T>(pub AllocError, pub T);
 }
 
+pub mod sync {
+    use crate::alloc::{AllocError, Global};
+    use std::marker::PhantomData;
+
+    pub struct Arc<T, A = Global>(std::sync::Arc<T>, PhantomData<A>);
+    impl<T> Arc<T> {
+        pub fn new(_: Global, x: T) -> Result<Self, AllocError> {
+            Ok(Arc(std::sync::Arc::new(x), PhantomData))
+        }
+        pub fn try_clone(one: &Self) -> Result<Self, AllocError> {
+            Ok(Arc(one.0.clone(), PhantomData))
+        }
+    }
+    impl<T> std::ops::Deref for Arc<T> {
+        type Target = T;
+        fn deref(&self) -> &T {
+            &self.0
+        }
+    }
+
+    /// The right to wait.
+    pub trait Wait {
+        fn forever(&self) -> std::iter::Repeat<()> {
+            std::iter::repeat(())
+        }
+    }
+    pub struct Waiting;
+    impl Wait for Waiting {}
+}
+
+#[path = "left_right.rs"]
+pub mod left_right;
+
+pub mod crossbeam_utils {
+    pub mod rule {
+        pub trait Protocol<T, V> {}
+        pub trait Outcome<T, V> {}
+    }
+}
+
+pub mod atomic_table {
+    pub trait Split<V> {}
+    pub trait Join<V> {}
+}
+
 pub mod collections {
     use crate::alloc::{AllocError, Global};
     pub struct VecDeque<T>(std::collections::VecDeque<T>);
