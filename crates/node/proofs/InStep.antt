@@ -7,17 +7,18 @@ use Rattle.units.specs.declared.fault.Fault.{Fault}
 use Rattle.units.specs.declared.writes.Install.{Install}
 use Rattle.board.specs.declared.entry.BoardEntry.{BoardEntry}
 use Rattle.board.specs.declared.entry.BoardEntry.TheVariants.{Installed, Safe}
-use Rattle.board.specs.Board.{versions_on, safe_on, may_follow, is_board, first_entries}
+use Rattle.board.specs.Board.{versions_on, safe_on, is_board, first_entries}
 use Rattle.board.specs.State.{BoardId}
 use Rattle.board.specs.Views.{Publishing, Published, PublishesAll}
 use Rattle.board.proofs.Longer.{front_is_board, versions_on-more, safe_from-install, safe_from-safe}
 use Rattle.shard.specs.On.{CoreView}
 use Rattle.shard.specs.Look.{safe_at}
-use Rattle.serving.specs.Showable.{as_entries}
-use Rattle.serving.proofs.Follow.{board_news, board_safe, opening_is_board, as_entries-more, versions_on-entries, safe_from-more_entries, take_drop}
-use Rattle.node.specs.InStep.{InStep, ShowsCore, DeskView}
+use Rattle.serving.specs.Showable.{rises_by_key}
+use Rattle.node.proofs.Follow.{board_news, board_safe, opening_is_board, as_entries-more, versions_on-entries, safe_from-more_entries, take_drop}
+use Rattle.node.proofs.Follow.{entries_follow}
+use Rattle.node.specs.InStep.{InStep, ShowsCore, DeskView, as_entries}
 
-pub opened_in_step : (installs : List Install) (t : ℕ) → may_follow [] None (as_entries installs) ≡ true → InStep installs t (length installs)
+pub opened_in_step : (installs : List Install) (t : ℕ) → rises_by_key [] installs ≡ true → InStep installs t (length installs)
     (first_entries installs t ++ [])
 opened_in_step installs t order =
     let none : drop (length installs) installs ≡ [] = drop_of_length-le installs (omega arith) in
@@ -28,7 +29,7 @@ opened_in_step installs t order =
           (append-nil (versions_on (as_entries installs)) ∙
           (versions_on-entries installs ∙ sym (take_all (length installs) installs (omega arith)))));
       lawful = ap (λ (rest : List Install). is_board ((first_entries installs t ++ []) ++ as_entries rest)) none ∙
-          (ap is_board (append-nil (first_entries installs t ++ []) ∙ all) ∙ opening_is_board installs t order);
+          (ap is_board (append-nil (first_entries installs t ++ []) ∙ all) ∙ opening_is_board installs t (entries_follow [] installs order));
       safe = omega (arith, ap safe_on all, safe_from-safe 0 (as_entries installs) t);
     }
 
@@ -86,7 +87,7 @@ module _ (installs news more : List Install) (handed : ℕ) (es : List BoardEntr
   same_kept = same ∙ (sym (take-append-le handed installs news count) ∙ ap (take handed) (sym behind))
 
   pub lawful_kept : (served : ℕ) → is_board (es ++ as_entries (drop handed installs)) ≡ true → safe_on es ≤ served
-      → list_all (λ i. nat_lt served i.at) news ≡ true → may_follow installs None (as_entries news) ≡ true → is_board
+      → list_all (λ i. nat_lt served i.at) news ≡ true → rises_by_key installs news ≡ true → is_board
       (es ++ as_entries (drop handed more)) ≡ true
   lawful_kept served lawful safe above order =
       let xs = es ++ as_entries (drop handed installs) in
@@ -98,7 +99,7 @@ module _ (installs news more : List Install) (handed : ℕ) (es : List BoardEntr
       let all : versions_on xs ≡ installs = versions_on-more es (as_entries (drop handed installs)) ∙
       ((λ j. same j ++ versions_on-entries (drop handed installs) j) ∙ take_drop handed installs) in
       let low : safe_on xs ≤ served = omega (arith, safe, safe_from-more_entries 0 es (drop handed installs)) in
-      ap is_board split ∙ board_news xs installs news served lawful all low above order
+      ap is_board split ∙ board_news xs installs news served lawful all low above (entries_follow installs news order)
 
 -- ---- publishing
 
@@ -138,8 +139,7 @@ module _ (installs : List Install) (served handed : ℕ) (one two new : Publishi
   published_shown core old (Err fault) same safe board is = tt
 
 -- a new board is in step
-pub opened_desk : (installs given held : List Install) (t at : ℕ) (published pending : List BoardEntry) → may_follow [] None
-    (as_entries installs) ≡ true → held ≡ installs → given ≡ installs → at ≡ t
+pub opened_desk : (installs given held : List Install) (t at : ℕ) (published pending : List BoardEntry) → rises_by_key [] installs ≡ true → held ≡ installs → given ≡ installs → at ≡ t
     → published ≡ first_entries given at → pending ≡ [] → InStep installs t (length held) (published ++ pending)
 opened_desk installs given held t at published pending order same also then shown none =
     subst (λ (n : ℕ). InStep installs t n (published ++ pending)) (sym (ap length same))

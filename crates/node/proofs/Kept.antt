@@ -47,16 +47,6 @@ module _ {D : Type 0} (file : D → File) (old new : CoreView D) (now : Interval
       → ∥ KeepsShowable old.facts old.memory p.logged (carried p old.memory) ∥₁
   serves p e = ∥∥₁_map sound (λ s. law most_rows old.setup old.facts old.memory now i p limit ordered s orderly e)
 
-  orderly_after : Went → IsShowable new.facts new.memory
-  orderly_after (inl same) = subst (λ (f : Facts). IsShowable f new.memory) (sym same.0) (subst (λ (m : Memory). IsShowable old.facts m) (sym same.1) orderly)
-  orderly_after (inr w) =
-      let s = serves w.0 w.1 in
-      subst (λ (f : Facts). IsShowable f new.memory) (sym w.2) (subst (λ (m : Memory). IsShowable (facts_after old.facts w.0.logged) m) (sym w.3) record {
-        entries = ∥∥₁_elim s (hlevel props) (λ x. x.orderly.entries);
-        rows = ∥∥₁_elim s (hlevel props) (λ x. x.orderly.rows);
-        installs = ∥∥₁_elim s (hlevel props) (λ x. x.orderly.installs);
-      })
-
   in_step_after : (handed : ℕ) (es : List BoardEntry) → InStep old.facts.installs (safe old.memory) handed es → Went → InStep new.facts.installs
       (safe new.memory) handed es
   in_step_after handed es step (inl same) =
@@ -74,11 +64,6 @@ module _ {D : Type 0} (file : D → File) (old new : CoreView D) (now : Interval
             (∥∥₁_elim s (hlevel props) (λ x. x.above)) (∥∥₁_elim s (hlevel props) (λ x. x.order));
         safe = omega (arith, step.safe, up);
       }
-
-  pub kept_orderly : (result : Result (List Envelope) Fault) → IfOk result
-      (λ out. IsFalse old.stopped × IsFalse new.stopped × IsDone (step_of old now i) old new out) → IfErr result (StandsAsBefore file old new)
-      → IsShowable new.facts new.memory
-  kept_orderly result done kept = orderly_after (went result done kept)
 
   pub kept_in_step : (result : Result (List Envelope) Fault) (handed : ℕ) (es : List BoardEntry) → IfOk result
       (λ out. IsFalse old.stopped × IsFalse new.stopped × IsDone (step_of old now i) old new out) → IfErr result (StandsAsBefore file old new)

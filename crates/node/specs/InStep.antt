@@ -1,5 +1,5 @@
 -- What a desk keeps of its core and its board.
-use Rattle.std.specs.Prelude.{◌≡◌, ◌⊎◌, ℕ, ◌<◌, ◌≤◌, IsTrue, All, List, [], ◌∷◌, ◌++◌, take, drop, length, Result, Ok, Err}
+use Rattle.std.specs.Prelude.{◌≡◌, ◌⊎◌, ℕ, ◌<◌, ◌≤◌, IsTrue, All, List, [], ◌∷◌, ◌++◌, map, take, drop, length, Result, Ok, Err}
 use Rattle.units.specs.declared.fault.Fault.{Fault}
 use Rattle.units.specs.declared.fault.Fault.TheVariants.{Memory as WantsMemory, BadRequest}
 use Rattle.units.specs.declared.fault.Reason.TheVariants.{Many}
@@ -12,11 +12,14 @@ use Rattle.truetime.specs.Interval.{Interval}
 use Rattle.shard.specs.On.{CoreView, HasStepped, step_of}
 use Rattle.shard.specs.Look.{safe_at}
 use Rattle.board.specs.declared.entry.BoardEntry.{BoardEntry}
-use Rattle.board.specs.declared.entry.BoardEntry.TheVariants.{Safe}
+use Rattle.board.specs.declared.entry.BoardEntry.TheVariants.{Installed, Safe}
 use Rattle.board.specs.Board.{is_board, versions_on, safe_on}
 use Rattle.board.specs.State.{BoardId}
 use Rattle.board.specs.Views.{Publishing, Published, Viewing}
-use Rattle.serving.specs.Showable.{as_entries}
+
+-- the versions as entries of a board
+abbrev pub as_entries : List Install → List BoardEntry
+as_entries installs = map (λ i. Installed i) installs
 
 -- The board was handed the first versions of the core, and may be handed the others; its served time is at most the core's.
 pub record InStep (installs : List Install) (served handed : ℕ) (entries : List BoardEntry) : Type 0 where

@@ -1,2 +1,3 @@
 pub mod InStep
+pub mod Restart
 pub mod Seen

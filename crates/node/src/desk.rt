@@ -2,9 +2,10 @@
 ghost use Rattle.std.specs.Prelude.{◌≡◌, ◌<◌, ◌+◌, length, IfOk, IfErr, OnOk};
 ghost use Rattle.board.specs.Board.{first_entries};
 ghost use Rattle.node.specs.InStep.{IsInStep, IsNewBoard, AreOnBoard, IsNoDesk, StillShows, ShowsCore, HasAdvanced, HasNotAdvanced, HasTaken};
-ghost use Rattle.serving.specs.Showable.{IsShowable};
+ghost use Rattle.node.specs.Restart.{HasNoDesk};
 ghost use Rattle.shard.specs.Core.{seen};
 ghost use Rattle.shard.specs.Look.{safe_at};
+ghost use Rattle.shard.specs.Opened.{HasOpened};
 
 use board::{Publisher, Told, Viewer, copy_install, start};
 use disk::Disk;
@@ -14,7 +15,7 @@ use shard::Core;
 use std::alloc::Global;
 use std::sync::Wait;
 use truetime::Reading;
-use units::{Fault, Stamp};
+use units::{Fault, Setup, Stamp};
 
 /// A core, the publisher of its board, and how many of its versions the board was handed: the first ones. The board's served
 /// time is at most the core's. The handle is for the publisher, which waits for viewers.
@@ -24,7 +25,6 @@ pub struct Desk<D: Disk + Drop, R: Wait + Drop> {
     publisher: Publisher<R>,
     handed: usize,
     ghost in_step: { IsInStep (seen core) handed publisher },
-    ghost orderly: { IsShowable (seen core).facts (seen core).memory },
 }
 
 impl<D: Disk + Drop, R: Wait + Drop> Drop for Desk<D, R> {
@@ -50,13 +50,13 @@ impl<D: Disk + Drop, R: Wait + Drop> Desk<D, R> {
         core: Core<D>,
         n: usize,
     ) -> Result<(Desk<D, R>, Vec<Viewer>), (Fault, Core<D>)>
-        requires orderly { IsShowable (seen core).facts (seen core).memory }
         ensures core { IfOk result (λ made. (seen_desk made.0).core ≡ seen core) }
         ensures board { IfOk result (λ made.
             IsNewBoard (seen_desk made.0).board (first_entries (seen core).facts.installs (safe_at (seen core)))) }
         ensures viewers { IfOk result (λ made. AreOnBoard n (seen_desk made.0).board made.1.items) }
         ensures refused { IfErr result (λ refused. IsNoDesk n refused.0 × (seen refused.1 ≡ seen core)) }
     {
+        core.is_sound();
         let splits = match core.setup().splits.copy(alloc) {
             Ok(splits) => splits,
             Err(fault) => return Err((fault, core)),
@@ -74,6 +74,35 @@ impl<D: Disk + Drop, R: Wait + Drop> Desk<D, R> {
                 viewers,
             )),
             Err(fault) => Err((fault, core)),
+        }
+    }
+
+    /// A desk for the shard whose log a disk holds, and so many viewers of its board: the log is taken up as the core does, and
+    /// the next opening is logged. The disk is given back where it is refused; where that is for the board, the opening is
+    /// logged.
+    pub fn open(
+        rt: R,
+        alloc: Global,
+        disk: D,
+        setup: &Setup,
+        n: usize,
+    ) -> Result<(Desk<D, R>, Vec<Viewer>), (Fault, D)>
+        ensures opened { IfOk result (λ made. HasOpened D.keeps_model D.obeys D.file D.clock D.since D.failures D.plan
+            disk setup.now (seen_desk made.0).core) }
+        ensures board { IfOk result (λ made. IsNewBoard (seen_desk made.0).board
+            (first_entries (seen_desk made.0).core.facts.installs (safe_at (seen_desk made.0).core))) }
+        ensures viewers { IfOk result (λ made. AreOnBoard n (seen_desk made.0).board made.1.items) }
+        ensures refused { IfErr result (λ refused. HasNoDesk D.keeps_model D.obeys D.file D.clock D.since D.failures D.plan
+            disk setup.now n refused.0 refused.1) }
+    {
+        let told = match copied(alloc, setup) {
+            Ok(told) => told,
+            Err(fault) => return Err((fault, disk)),
+        };
+        let core = Core::open(alloc, disk, told)?;
+        match Desk::new(rt, alloc, core, n) {
+            Ok(made) => Ok(made),
+            Err((fault, core)) => Err((fault, core.stop())),
         }
     }
 
@@ -138,6 +167,19 @@ impl<D: Disk + Drop, R: Wait + Drop> Desk<D, R> {
         drop(publisher);
         core.stop()
     }
+}
+
+/// The same with memory of its own.
+pub(crate) fn copied(alloc: Global, setup: &Setup) -> Result<Setup, Fault>
+    ensures same { IfOk result (λ copied. copied ≡ setup.now) }
+    ensures memory { IfErr result (λ fault. fault ≡ Fault.Memory) }
+{
+    Ok(Setup {
+        shard: setup.shard,
+        splits: setup.splits.copy(alloc)?,
+        stride: setup.stride,
+        book: setup.book,
+    })
 }
 
 // Hands the versions to the board that it was not handed yet.

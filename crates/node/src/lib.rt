@@ -2,6 +2,7 @@
 #![tactic(auto)]
 
 mod desk;
+mod held;
 mod node;
 mod threads;
 mod traits;

@@ -1,10 +1,10 @@
 //! A desk under a lock.
 ghost use Rattle.std.specs.Prelude.{◌≡◌, length, IfOk, IfErr};
 ghost use Rattle.node.specs.InStep.{IsNoDesk};
-ghost use Rattle.serving.specs.Showable.{IsShowable};
 ghost use Rattle.shard.specs.Core.{seen};
 
-use crate::desk::Desk;
+use crate::desk::{Desk, copied};
+use crate::held::Held;
 use board::{Told, Viewer};
 use disk::Disk;
 use message::{Input, Outbox};
@@ -12,18 +12,19 @@ use shard::Core;
 use std::alloc::Global;
 use std::sync::{Mutex, Wait};
 use truetime::{Clock, Reading};
-use units::{Fault, ShardNo, Stamp, TxnId};
+use units::{Fault, Setup, ShardNo, Stamp, TxnId};
 
-/// A node. Whenever its lock is free, the desk keeps what a desk keeps.
+/// A node. Whenever its lock is free, the desk keeps what a desk keeps, or the disk is there alone.
 pub struct Node<D: Disk + Drop, R: Wait + Drop> {
-    shard: ShardNo,
-    desk: Mutex<Desk<D, R>>,
+    setup: Setup,
+    held: Mutex<Held<D, R>>,
 }
 
 impl<D: Disk + Drop, R: Wait + Drop> Drop for Node<D, R> {
     fn drop(self) {
-        let Node { shard: _, desk } = self;
-        drop(desk);
+        let Node { setup, held } = self;
+        drop(held);
+        drop(setup);
     }
 }
 
@@ -35,16 +36,18 @@ impl<D: Disk + Drop, R: Wait + Drop> Node<D, R> {
         core: Core<D>,
         n: usize,
     ) -> Result<(Node<D, R>, Vec<Viewer>), (Fault, Core<D>)>
-        requires orderly { IsShowable (seen core).facts (seen core).memory }
         ensures viewers { IfOk result (λ made. length made.1.items ≡ n) }
         ensures refused { IfErr result (λ refused. IsNoDesk n refused.0 × (seen refused.1 ≡ seen core)) }
     {
-        let shard = core.setup().shard;
+        let setup = match copied(alloc, core.setup()) {
+            Ok(setup) => setup,
+            Err(fault) => return Err((fault, core)),
+        };
         let (desk, viewers) = Desk::new(rt, alloc, core, n)?;
         Ok((
             Node {
-                shard,
-                desk: Mutex::new(desk),
+                setup,
+                held: Mutex::new(Held::serving(desk)),
             },
             viewers,
         ))
@@ -52,12 +55,12 @@ impl<D: Disk + Drop, R: Wait + Drop> Node<D, R> {
 
     /// The shard's number.
     pub fn shard(&self) -> ShardNo {
-        self.shard
+        self.setup.shard
     }
 
     /// One step of the core, under the lock.
     pub fn deliver<W: Wait>(&self, rt: &W, now: &Reading, input: &Input) -> Result<Outbox, Fault> {
-        self.desk.lock(rt).deliver(now, input)
+        self.held.lock(rt).deliver(now, input)
     }
 
     /// One step of the core at a reading that is taken under the lock. There is none where the clock has none.
@@ -67,9 +70,9 @@ impl<D: Disk + Drop, R: Wait + Drop> Node<D, R> {
         clock: &mut C,
         input: &Input,
     ) -> Option<Result<Outbox, Fault>> {
-        let mut desk = self.desk.lock(rt);
+        let mut held = self.held.lock(rt);
         let now = clock.now()?;
-        Some(desk.deliver(&now, input))
+        Some(held.deliver(&now, input))
     }
 
     // Advances to the latest of a reading that is taken under the lock.
@@ -78,29 +81,43 @@ impl<D: Disk + Drop, R: Wait + Drop> Node<D, R> {
         rt: &W,
         clock: &mut C,
     ) -> Option<Result<Told, Fault>> {
-        let mut desk = self.desk.lock(rt);
+        let mut held = self.held.lock(rt);
         let now = clock.now()?;
-        Some(desk.advance(&now, now.latest()))
+        Some(held.advance(&now, now.latest()))
     }
 
     // The n-th transaction that is decided and not settled.
     pub(crate) fn decided<W: Wait>(&self, rt: &W, n: usize) -> Option<TxnId> {
-        self.desk.lock(rt).core().decided(n).map(|(txn, _)| txn)
+        self.held.lock(rt).decided(n)
     }
 
     // The n-th transaction that is prepared.
     pub(crate) fn prepared<W: Wait>(&self, rt: &W, n: usize) -> Option<TxnId> {
-        self.desk.lock(rt).core().prepared(n).map(|(txn, _)| txn)
+        self.held.lock(rt).prepared(n)
     }
 
     /// Advances the core and publishes its board, under the lock.
     pub fn advance<W: Wait>(&self, rt: &W, now: &Reading, to: Stamp) -> Result<Told, Fault> {
-        self.desk.lock(rt).advance(now, to)
+        self.held.lock(rt).advance(now, to)
+    }
+
+    /// Opens the disk of a node that was stopped again, with a new board and so many viewers. A node that is not stopped is
+    /// refused. Where the opening or the board is refused, the node keeps the disk alone, and may be asked again; till then it
+    /// refuses letters as a core that is stopped. The viewers of the old board are refused from then on.
+    pub fn restart<W: Wait>(
+        &self,
+        rt: &W,
+        own: R,
+        alloc: Global,
+        n: usize,
+    ) -> Result<Vec<Viewer>, Fault> {
+        self.held.lock(rt).restart(own, alloc, &self.setup, n)
     }
 
     /// Ends the node, and gives its disk back.
     pub fn close(self) -> D {
-        let Node { shard: _, desk } = self;
-        desk.into_inner().close()
+        let Node { setup, held } = self;
+        drop(setup);
+        held.into_inner().close()
     }
 }

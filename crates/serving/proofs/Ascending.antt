@@ -22,7 +22,7 @@ use Rattle.message.specs.declared.message.Envelope.{Envelope}
 use Rattle.message.specs.declared.message.Input.{Input}
 use Rattle.message.specs.declared.message.Message.{Message}
 use Rattle.protocol.specs.Sound.{writes_standing}
-use Rattle.serving.specs.Showable.{IsShowable, WritesAscend, writes_in}
+use Rattle.serving.specs.Showable.{IsShowable, WritesAscend, writes_in, record_ascends}
 use Rattle.message.specs.declared.message.Prepare.{Prepare}
 use Rattle.message.specs.declared.message.Commit.{Commit}
 use Rattle.protocol.specs.Rows.{Memory, Row, Phase, Idle, WaitsRead, WaitsPrepare, WaitsCommit, Collecting, IsPrepared, IsDecided, Voted, Standing}
@@ -46,12 +46,6 @@ ascends_in phase = ascends write_before (writes_in phase)
 -- so of each row
 abbrev pub all_ascend : List Row → Bool
 all_ascend rows = list_all (λ r. ascends_in r.phase) rows
-
--- the writes of a promise or a decision ascend
-abbrev pub record_ascends : Record → Bool
-record_ascends (Record.Prepare p) = ascends write_before p.writes
-record_ascends (Record.Commit c) = ascends write_before c.writes
-record_ascends _ = true
 
 module _ (setup : Setup) where
   -- ---- plans
@@ -389,7 +383,7 @@ after_outcome_ascends HasAborted outcome h = refl
 after_outcome_ascends (HasSettled at ps) outcome h = refl
 after_outcome_ascends (HasClosed c o) outcome h = refl
 
-entries_after : (facts : Facts) (logged : Option Record) → ((t : Id) → ascends_by (recorded facts t) ≡ true) → (setup : Setup)
+pub entries_after : (facts : Facts) (logged : Option Record) → ((t : Id) → ascends_by (recorded facts t) ≡ true) → (setup : Setup)
     → asc_logged setup logged ≡ true → each_ascends facts.entries ≡ true
     → each_ascends (facts_after facts logged).entries ≡ true
 unfolding learn

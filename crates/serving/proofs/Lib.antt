@@ -1,3 +1,4 @@
-pub mod Follow
+pub mod Rising
 pub mod Serves
 pub mod Ascending
+pub mod Taken

@@ -30,9 +30,8 @@ use Rattle.protocol.proofs.KeptFacts.{raised_up}
 use Rattle.protocol.proofs.RowChanges.{row_as}
 use Rattle.protocol.proofs.RowTable.{with_row-is}
 use Rattle.protocol.proofs.Shapes.{Shape, Answers, IsEnd, IsAbort, IsClose, IsSettle, IsLock, IsWait, IsPromise, IsDecision, ShapeOf, Acts, IsAdvance}
-use Rattle.board.specs.Board.{may_follow}
-use Rattle.serving.specs.Showable.{as_entries, added}
-use Rattle.serving.proofs.Follow.{follow_installed, follow_none}
+use Rattle.serving.specs.Showable.{rises_by_key, added}
+use Rattle.serving.proofs.Rising.{rise_one, rise_none}
 
 -- ---- the served time by its bounds
 
@@ -189,11 +188,11 @@ still_above w at acc (v ∷ ws) up above =
     (still_above w at acc ws (skipped w v ws up) ((and_parts _ _ above).1))
 
 -- the writes of a transaction follow as versions
-versions_follow : (acc : List Install) (at : ℕ) (ws : List Write) → ascends write_before ws ≡ true → above_versions acc at ws ≡ true
-    → may_follow acc None (as_entries (versions ws at)) ≡ true
-versions_follow acc at [] up above = follow_none acc None
+pub versions_follow : (acc : List Install) (at : ℕ) (ws : List Write) → ascends write_before ws ≡ true → above_versions acc at ws ≡ true
+    → rises_by_key acc (versions ws at) ≡ true
+versions_follow acc at [] up above = rise_none acc
 versions_follow acc at (w ∷ ws) up above =
-    follow_installed acc None (record { key = w.key; at = at; value = w.value }) (as_entries (versions ws at)) refl ((and_parts _ _ above).0)
+    rise_one acc (record { key = w.key; at = at; value = w.value }) (versions ws at) ((and_parts _ _ above).0)
     (versions_follow (record { key = w.key; at = at; value = w.value } ∷ acc) at ws (rest_ascends w ws up)
     (still_above w at acc ws up ((and_parts _ _ above).1)))
 
@@ -204,14 +203,14 @@ versions_later served at (w ∷ ws) later = and_from _ _ (grind (arith, nat_test
 -- what a plan installs is above the served time, and follows the versions that there are
 abbrev pub Adds : Before → Option Record → Type 0
 Adds b logged = (list_all (λ i. nat_lt (safe b.memory) i.at) (added b.facts logged) ≡ true) ×
-    (may_follow b.facts.installs None (as_entries (added b.facts logged)) ≡ true)
+    (rises_by_key b.facts.installs (added b.facts logged) ≡ true)
 
 adds_versions : (b : Before) (at : ℕ) (ws : List Write) → safe b.memory < at → ascends write_before ws ≡ true → above_versions b.facts.installs at ws ≡ true
-    → (list_all (λ i. nat_lt (safe b.memory) i.at) (versions ws at) ≡ true) × (may_follow b.facts.installs None (as_entries (versions ws at)) ≡ true)
+    → (list_all (λ i. nat_lt (safe b.memory) i.at) (versions ws at) ≡ true) × (rises_by_key b.facts.installs (versions ws at) ≡ true)
 adds_versions b at ws later up above = (versions_later (safe b.memory) at ws later, versions_follow b.facts.installs at ws up above)
 
-adds_none : (b : Before) → (list_all (λ (i : Install). nat_lt (safe b.memory) i.at) [] ≡ true) × (may_follow b.facts.installs None (as_entries []) ≡ true)
-adds_none b = (refl, follow_none b.facts.installs None)
+adds_none : (b : Before) → (list_all (λ (i : Install). nat_lt (safe b.memory) i.at) [] ≡ true) × (rises_by_key b.facts.installs [] ≡ true)
+adds_none b = (refl, rise_none b.facts.installs)
 
 -- the writes of what stands ascend
 abbrev pub Ascend : Before → Type 0
@@ -227,14 +226,14 @@ adds_close : (b : Before) (t : Id) (n c at : ℕ) (held : List Lock) (outcome : 
     → find_row b.memory.rows t ≡ Some (row_as t held (IsPrepared c at)) → is_outcome_for n c at outcome ≡ true → Adds b (Some (Record.Outcome t outcome))
 adds_close b t n c at held None sound up found k =
     let made : PromiseOf b t held c at = promise_of b t held c at sound found in
-    subst (λ (is : List Install). (list_all (λ i. nat_lt (safe b.memory) i.at) is ≡ true) × (may_follow b.facts.installs None (as_entries is) ≡ true))
+    subst (λ (is : List Install). (list_all (λ i. nat_lt (safe b.memory) i.at) is ≡ true) × (rises_by_key b.facts.installs is ≡ true))
     (ap (λ st. installs_at st None) (sym made.is)) (adds_none b)
 adds_close b t n c at held (Some s) sound up found k =
     let made : PromiseOf b t held c at = promise_of b t held c at sound found in
     let h : at ≤ s = not_below n c at s k in
     let e : made.promise.at ≡ at = made.stamp in
     let later : safe b.memory < s = omega (arith, held_back b t held (IsPrepared c at) at found refl, made.stands_by.above_zero, e, h) in
-    subst (λ (is : List Install). (list_all (λ i. nat_lt (safe b.memory) i.at) is ≡ true) × (may_follow b.facts.installs None (as_entries is) ≡ true))
+    subst (λ (is : List Install). (list_all (λ i. nat_lt (safe b.memory) i.at) is ≡ true) × (rises_by_key b.facts.installs is ≡ true))
     (ap (λ st. installs_at st (Some s)) (sym made.is))
     (adds_versions b s made.promise.writes later (ap (λ st. ascends write_before (writes_standing st)) (sym made.is) ∙ up t)
     (above_later b.facts.installs made.promise.at s made.promise.writes (omega (arith, h, e)) made.stands_by.above))
@@ -246,7 +245,7 @@ adds_settle b t at ps held sound up found =
     let made : DecisionOf b t held at ps = decision_of b t held at ps sound found in
     let e : made.decision.at ≡ at = made.stamp in
     let later : safe b.memory < at = omega (arith, held_back b t held (IsDecided at ps) at found refl, made.stands_by.above_zero, e) in
-    subst (λ (is : List Install). (list_all (λ i. nat_lt (safe b.memory) i.at) is ≡ true) × (may_follow b.facts.installs None (as_entries is) ≡ true))
+    subst (λ (is : List Install). (list_all (λ i. nat_lt (safe b.memory) i.at) is ≡ true) × (rises_by_key b.facts.installs is ≡ true))
     (ap (λ st. installs_at st (Some at)) (sym made.is))
     (adds_versions b at made.decision.writes later (ap (λ st. ascends write_before (writes_standing st)) (sym made.is) ∙ up t)
     (above_later b.facts.installs made.decision.at at made.decision.writes (omega (arith, e)) made.stands_by.above))
@@ -268,7 +267,7 @@ adds b p sound up (IsDecision t ended needs at ps rs ws out l e) = subst (AddsBy
 
 adds_ceiling : (b : Before) (high : Bool) (r : Record) → added b.facts (Some r) ≡ [] → Adds b (cond high (Some r) None)
 adds_ceiling b true r e = subst (λ (is : List Install). (list_all (λ i. nat_lt (safe b.memory) i.at) is ≡ true) ×
-    (may_follow b.facts.installs None (as_entries is) ≡ true)) (sym e) (adds_none b)
+    (rises_by_key b.facts.installs is ≡ true)) (sym e) (adds_none b)
 adds_ceiling b false r e = adds_none b
 
 pub adds_of : (b : Before) (i : Input) (p : Plan) → Sound b → Ascend b → ShapeOf b i p → AddsBy b p
@@ -297,7 +296,7 @@ ascend_by : (es : List TxnStatus) (e : TxnStatus) (c : Bool) → ascends_in e �
 ascend_by es e true one rest = one
 ascend_by es e false one rest = rest
 
-ascend_in : (es : List TxnStatus) (t : Id) → list_all ascends_in es ≡ true → ascends write_before
+pub ascend_in : (es : List TxnStatus) (t : Id) → list_all ascends_in es ≡ true → ascends write_before
     (writes_standing (or_unrecorded (first (λ e. same_id e.txn t) es))) ≡ true
 ascend_in [] t h = refl
 ascend_in (e ∷ es) t h = ascend_by (filter (λ d. same_id d.txn t) es) e (same_id e.txn t) ((and_parts _ _ h).0) (ascend_in es t ((and_parts _ _ h).1))

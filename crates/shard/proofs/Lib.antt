@@ -6,3 +6,4 @@ pub mod Results
 pub mod Settling
 pub mod Openings
 pub mod TakenUp
+pub mod Showable

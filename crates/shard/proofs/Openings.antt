@@ -15,9 +15,11 @@ use Rattle.memory.specs.Carry.{IsFit, MayFollow, MayInstall, writes_installed}
 use Rattle.memory.specs.Kept.{Kept}
 use Rattle.memory.specs.Plans.{plan_of}
 use Rattle.memory.specs.declared.plan.Plan.{Plan}
+use Rattle.serving.specs.Showable.{IsShowable}
 use Rattle.shard.specs.Due.{IsDue}
 use Rattle.units.specs.declared.setup.Setup.{Setup}
 use Rattle.shard.specs.Logs.{and_logged, facts_logged}
+use Rattle.shard.proofs.Showable.{opening-showable}
 
 -- one opening is learnt as an opening finds it
 pub first-learnt : facts_logged (and_logged (Ok []) (Some (Record.Opened 1))) ≡ Some (facts_of (Record.Opened 1 ∷ []))
@@ -51,9 +53,9 @@ opened_memory k p last logged again same plan =
 
 -- and may be logged and carried out
 pub opening_due : OpeningKeepsSound → (k : Kept) (p : Plan) (last : ℕ) → k.memory ≡ rebuilt k.facts → IsSound k.setup.shard k.facts k.memory →
-    last ≡ k.memory.last → IsFit k p
+    IsShowable k.facts k.memory → last ≡ k.memory.last → IsFit k p
     → plan_of k.memory.rows p ≡ record { wounded = []; change = protocol.Keeps; logged = Some (next k.facts); last = last; outbox = [] } → IsDue k p
-opening_due law k p last again sound same fit plan = record {
+opening_due law k p last again sound showable same fit plan = record {
   order = by_id-claims k.memory.rows sound.table.order;
   fit = fit;
   follows = subst (MayFollow k.setup.shard k.facts) (sym logged) (follows_next k.setup.shard k.facts);
@@ -62,6 +64,10 @@ opening_due law k p last again sound same fit plan = record {
       ∣ subst (λ o. IsSound k.setup.shard (facts_after k.facts o) (carried (plan_of k.memory.rows p) k.memory)) (sym logged)
       (subst (IsSound k.setup.shard (learn k.facts (next k.facts))) (sym (opened_memory k (plan_of k.memory.rows p) last (Some (next k.facts)) again same plan))
       (law k.setup.shard k.facts k.memory sound)) ∣₁;
+  showable =
+      subst (λ o. IsShowable (facts_after k.facts o) (carried (plan_of k.memory.rows p) k.memory)) (sym logged)
+      (subst (IsShowable (learn k.facts (next k.facts))) (sym (opened_memory k (plan_of k.memory.rows p) last (Some (next k.facts)) again same plan))
+      (opening-showable k.facts (k.facts.epoch + 1) (subst (IsShowable k.facts) again showable)));
 }
   where
     logged : p.logged ≡ Some (next k.facts)

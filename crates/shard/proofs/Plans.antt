@@ -14,13 +14,15 @@ use Rattle.message.specs.declared.message.Input.{Input}
 use Rattle.facts.specs.Rules.{follows_facts}
 use Rattle.protocol.specs.Sound.{writes_standing}
 use Rattle.protocol.specs.Rows.{Memory, Row}
-use Rattle.protocol.specs.Step.{IsInLimit, plan_input}
+use Rattle.protocol.specs.Plan.{carried}
+use Rattle.protocol.specs.Step.{IsInLimit, facts_after, plan_input}
 use Rattle.protocol.proofs.RowChanges.{by_id-claims}
 use Rattle.protocol.specs.Sound.{IsSound, StepKeepsSound, LoggedFollows, InstallsAbove}
 use Rattle.memory.specs.Carry.{IsFit, MayFollow, MayInstall, writes_installed}
 use Rattle.memory.specs.Kept.{Kept, start_of}
 use Rattle.memory.specs.Plans.{plan_of}
 use Rattle.memory.specs.declared.plan.Plan.{Plan as CodePlan}
+use Rattle.serving.specs.Showable.{IsShowable}
 use Rattle.shard.specs.Due.{IsDue}
 
 may_follow : (shard : ℕ) (facts : Facts) (logged : Option Record) → ((r : Record) → logged ≡ Some r → MayFollow shard facts (Some r)) →
@@ -61,11 +63,13 @@ module _ (k : Kept) (now : Interval) (i : Input) (p : CodePlan) (limit : IsInLim
       ∥∥₁_elim sound (hlevel props) (λ o. installs most_rows k.setup k.facts k.memory now i (plan_of k.memory.rows p) t s o planned e)
 
   -- a plan of an input that fits is due
-  pub is_due : StepKeepsSound → LoggedFollows → InstallsAbove → ∥ IsSound k.setup.shard k.facts k.memory ∥₁ → IsFit k p → IsDue k p
-  is_due keeps follows installs sound fit = record {
+  pub is_due : StepKeepsSound → LoggedFollows → InstallsAbove → ∥ IsSound k.setup.shard k.facts k.memory ∥₁ → IsFit k p
+      → IsShowable (facts_after k.facts p.logged) (carried (plan_of k.memory.rows p) k.memory) → IsDue k p
+  is_due keeps follows installs sound fit showable = record {
     order = ascending k.setup.shard k.facts k.memory sound;
     fit = fit;
     follows = may_follow k.setup.shard k.facts p.logged (follows_next follows sound);
     installs = may_install k.facts p.logged (λ t s e. (refl, installs_next installs sound t s e));
     sound = ∥∥₁_map sound (λ s. keeps most_rows k.setup k.facts k.memory now i (plan_of k.memory.rows p) limit s planned);
+    showable = showable;
   }

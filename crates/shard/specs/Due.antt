@@ -7,12 +7,14 @@ use Rattle.memory.specs.Carry.{IsFit, MayFollow, MayInstall, writes_installed}
 use Rattle.memory.specs.Kept.{Kept}
 use Rattle.memory.specs.Plans.{plan_of}
 use Rattle.memory.specs.declared.plan.Plan.{Plan}
+use Rattle.serving.specs.Showable.{IsShowable}
 
 -- the rows ascend by id; it may be carried out; its record may come next, and what that installs is above the versions of its keys; and the shard
--- is sound then
+-- is sound then, and its versions may be put on a board
 pub record IsDue (k : Kept) (p : Plan) : Type 0 where
   pub order : IsById (λ r. r.txn) k.memory.rows
   pub fit : IsFit k p
   pub follows : MayFollow k.setup.shard k.facts p.logged
   pub installs : MayInstall k.facts p.logged (writes_installed k.facts p.logged)
   pub sound : ∥ IsSound k.setup.shard (facts_after k.facts p.logged) (carried (plan_of k.memory.rows p) k.memory) ∥₁
+  pub showable : IsShowable (facts_after k.facts p.logged) (carried (plan_of k.memory.rows p) k.memory)

@@ -2,6 +2,7 @@
 #![tactic(auto)]
 
 mod addressing;
+mod ascending;
 mod logging;
 mod planning;
 mod shard_core;

@@ -3,7 +3,7 @@ ghost use Rattle.std.specs.Prelude.{◌≡◌, [], true, Some, Ok, IfOk};
 ghost use Rattle.std.specs.Option.{option_copied};
 ghost use Rattle.protocol.specs.Rows.{held_in, WaitsRead, find_row, needs_of};
 ghost use Rattle.protocol.specs.Cells.{plan_advance, plan_resume, plan_resume_id, plan_resume_row, plan_go_on, to_read};
-ghost use Rattle.protocol.specs.Step.{is_for, IsInLimit, plan_input, plan_message};
+ghost use Rattle.protocol.specs.Step.{is_for, plan_input, plan_message};
 ghost use Rattle.rows.specs.CodeRows.{phase_of, phase_of_wait};
 ghost use Rattle.rows.specs.RowTable.{needs_in};
 ghost use Rattle.memory.specs.Carry.{Asks, IsFit};
@@ -19,15 +19,6 @@ use rows::{Row, Wait};
 use std::alloc::Global;
 use truetime::Reading;
 use units::{Fault, Key, Stamp, TxnId};
-
-/// The timestamp that an input names is within the limit. It does nothing.
-pub fn names_in_limit(input: &Input)
-    ensures { IsInLimit input.now }
-{
-    if let Input::Advance(to) = input {
-        let _ = to.micros();
-    }
-}
 
 /// What an input comes to. Nothing is changed by it.
 #[tactic(auto, unfolding(protocol::specs::Step::plan_input))]

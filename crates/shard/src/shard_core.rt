@@ -15,6 +15,7 @@ ghost use Rattle.protocol.specs.Step.{Does};
 ghost use Rattle.protocol.specs.Sound.{IsSound};
 ghost use Rattle.record.specs.Facts.{facts_of, learn};
 ghost use Rattle.rows.specs.RowTable.{nth_prepared, nth_decided};
+ghost use Rattle.serving.specs.Showable.{IsShowable};
 ghost use Rattle.shard.specs.Due.{IsDue};
 ghost use Rattle.shard.specs.Logs.{records_in, facts_logged, KeepsRecords};
 ghost use Rattle.shard.specs.On.{HasStepped, step_of};
@@ -23,8 +24,9 @@ ghost use Rattle.shard.specs.Look.{IsLook, IsSeen, safe_at};
 ghost use Rattle.shard.specs.Settled.{IsDurablySettled};
 ghost use Rattle.units.specs.Locks.{ready};
 
+use crate::ascending::all_ascend;
 use crate::logging::append_record;
-use crate::planning::{names_in_limit, plan_input};
+use crate::planning::plan_input;
 use disk::Disk;
 use gatelog::GateLog;
 use memory::{Plan, State, ready_plans_can_be_carried};
@@ -35,6 +37,7 @@ use protocol::{
 };
 use record::{Record, accepted_follows, learn_agrees, learnt_agrees};
 use recovery::rebuild;
+use serving::{fresh_is_showable, step_keeps_showable, taken_is_showable, writes_ascend};
 use std::alloc::Global;
 use truetime::Reading;
 use units::{Epoch, Fault, Install, Key, Seen, Setup, Stamp, TxnId};
@@ -46,6 +49,7 @@ pub struct Core<D: Disk> {
     state: State,
     ghost agrees: { IsFalse (is_stopped gate_log) → D.keeps_model → facts_logged (records_in (surface (D.file (disk_of gate_log))).seen) ≡ Some state.facts },
     ghost sound: { ∥ IsSound state.setup.shard state.facts state.memory ∥₁ },
+    ghost showable: { IsShowable state.facts state.memory },
 }
 
 impl<D: Disk> Core<D> {
@@ -65,6 +69,7 @@ impl<D: Disk> Core<D> {
         ensures planned { D.obeys → D.plan disk ≡ Never → IfOk result (λ core. D.plan (seen core).disk ≡ Never) × IfErr result (λ refused. refused.0 ≡ Fault.Memory) }
     {
         fresh_is_sound();
+        fresh_is_showable();
         let state = match State::fresh(alloc, setup) {
             Ok(state) => state,
             Err(fault) => return Err((fault, disk)),
@@ -102,9 +107,13 @@ impl<D: Disk> Core<D> {
         learnt_agrees();
         learn_agrees();
         accepted_follows();
+        taken_is_showable();
         let (gate_log, entries) = GateLog::open(alloc, disk)?;
         match rebuild(alloc, &entries, &setup) {
-            Ok(Some(state)) => Core::take_up(alloc, gate_log, state),
+            Ok(Some(state)) => {
+                all_ascend(&entries);
+                Core::take_up(alloc, gate_log, state)
+            }
             Ok(None) => Core::begin(alloc, gate_log, setup),
             Err(fault) => Err((fault, gate_log.into_disk())),
         }
@@ -118,10 +127,11 @@ impl<D: Disk> Core<D> {
         ensures settled { IsDurablySettled D.keeps_model (surface (D.file (seen self.new).disk)) input.now result }
     {
         step_keeps_sound();
+        step_keeps_showable();
         logged_follows();
         installs_above();
         own_refusals();
-        names_in_limit(input);
+        writes_ascend(input);
         if self.gate_log.is_stopped() {
             return Err(Fault::Stopped);
         }
@@ -168,6 +178,8 @@ impl<D: Disk> Core<D> {
             (Record.Opened 1) (IsFull (gate_at gate_log) (Record.Opened 1)) refused.0 refused.1) }
     {
         fresh_is_sound();
+        fresh_is_showable();
+        fresh_is_showable();
         let state = match State::fresh(alloc, setup) {
             Ok(state) => state,
             Err(fault) => return Err((fault, gate_log.into_disk())),
@@ -195,6 +207,7 @@ impl<D: Disk> Core<D> {
         requires known { D.keeps_model → facts_logged (records_in (surface (D.file (disk_of gate_log))).seen) ≡ Some state.facts }
         requires rebuilt { state.memory ≡ rebuilt state.facts }
         requires sound { IsSound state.setup.shard state.facts state.memory }
+        requires showable { IsShowable state.facts state.memory }
         ensures setup { IfOk result (λ core. (seen core).setup ≡ state.setup) }
         ensures facts { IfOk result (λ core. (seen core).facts ≡ learn state.facts (Record.Opened (state.facts.epoch + 1))) }
         ensures memory { IfOk result (λ core. (seen core).memory ≡ rebuilt (learn state.facts (Record.Opened (state.facts.epoch + 1)))) }
@@ -327,9 +340,10 @@ impl<D: Disk> Core<D> {
         self.gate_log.is_stopped()
     }
 
-    /// Its rows, facts and locks agree. It does nothing.
+    /// Its rows, facts and locks agree, and its versions may be put on a board. It does nothing.
     pub fn is_sound(&self)
-        ensures { ∥ IsSound (seen self.now).setup.shard (seen self.now).facts (seen self.now).memory ∥₁ }
+        ensures sound { ∥ IsSound (seen self.now).setup.shard (seen self.now).facts (seen self.now).memory ∥₁ }
+        ensures showable { IsShowable (seen self.now).facts (seen self.now).memory }
     {}
 }
 

@@ -1,11 +1,10 @@
-use Rattle.std.proofs.Common.{[], None, ap, ◌∙◌}
+use Rattle.std.proofs.Common.{[], ap, ◌∙◌}
 use Rattle.protocol.specs.Plan.{Before, start_of_step}
 use Rattle.protocol.specs.Rows.{safe}
 use Rattle.protocol.proofs.PlanShapes.{shape_of}
 use Rattle.protocol.proofs.RowChanges.{by_id-claims}
-use Rattle.serving.specs.Showable.{as_entries, added}
-use Rattle.board.specs.Board.{may_follow}
-use Rattle.serving.proofs.Follow.{installs_follow}
+use Rattle.serving.specs.Showable.{added, rises_by_key}
+use Rattle.serving.proofs.Rising.{installs_rise}
 use Rattle.serving.proofs.Ascending.{entries_kept, rows_kept}
 use Rattle.serving.proofs.Serves.{AddsBy, rises_of, adds_of, ascend_of, grows}
 use Rattle.serving.proofs.laws.step_keeps_showable.Goals as goal
@@ -21,8 +20,7 @@ returns c = λ rows setup facts memory now i p limit ordered sound orderly e.
       orderly = record {
         entries = entries_kept setup rows facts memory now i p orderly ordered e (ascend_of b orderly.entries);
         rows = rows_kept setup rows facts memory now i p orderly ordered e;
-        installs = ap (λ is. may_follow [] None (as_entries is)) (grows facts p.logged) ∙ installs_follow facts.installs (added facts p.logged)
-            (safe memory) orderly.installs adds.0 adds.1;
+        installs = ap (rises_by_key []) (grows facts p.logged) ∙ installs_rise facts.installs (added facts p.logged) orderly.installs adds.1;
       };
       above = adds.0;
       order = adds.1;

@@ -1,18 +1,15 @@
 use Rattle.std.proofs.Common.{◌++◌}
 use Rattle.shard.specs.Core.{seen}
-use Rattle.node.proofs.Kept.{kept_orderly, kept_in_step}
+use Rattle.node.proofs.Kept.{kept_in_step}
 use Rattle.node.proofs.desk.Desk.deliver.Goals as goal
 
 pub invariant_of-self : goal.invariant_of-self
 invariant_of-self g c =
     let old = seen c.args.self.now.core in
     let new = seen c.on.new.self in
-    let at = c.args.now.now in
-    let input = c.args.input.now in
     let self = c.args.self.now in
     record {
-      in_step = kept_in_step g.D.Disk.file old new at input c.step_keeps_showable.ensures c.writes_ascend.ensures.limit c.writes_ascend.ensures.order c.is_sound.ensures self.orderly
-          c.on.result self.handed (self.publisher.published ++ self.publisher.pending) c.on.ensures.stepped.done c.on.ensures.stepped.written.kept self.in_step;
-      orderly = kept_orderly g.D.Disk.file old new at input c.step_keeps_showable.ensures c.writes_ascend.ensures.limit c.writes_ascend.ensures.order c.is_sound.ensures self.orderly
-          c.on.result c.on.ensures.stepped.done c.on.ensures.stepped.written.kept;
+      in_step = kept_in_step g.D.Disk.file old new c.args.now.now c.args.input.now c.step_keeps_showable.ensures c.writes_ascend.ensures.limit
+          c.writes_ascend.ensures.order c.is_sound.ensures.sound c.is_sound.ensures.showable c.on.result self.handed
+          (self.publisher.published ++ self.publisher.pending) c.on.ensures.stepped.done c.on.ensures.stepped.written.kept self.in_step;
     }

@@ -1,15 +1,16 @@
-use Rattle.std.proofs.Common.{◌≡◌, ◌∙◌, length}
+use Rattle.std.proofs.Common.{◌≡◌, ◌∙◌, [], length}
 use Rattle.board.specs.Board.{first_entries, is_board}
 use Rattle.shard.specs.Core.{seen}
 use Rattle.shard.specs.Look.{safe_at}
-use Rattle.serving.proofs.Follow.{opening_is_board}
+use Rattle.node.proofs.Follow.{entries_follow, opening_is_board}
 use Rattle.node.proofs.InStep.{opened_desk}
 use Rattle.node.proofs.desk.Desk.new.Goals as goal
 
 pub start-requires : goal.start-requires
 start-requires g c =
     let core = seen c.args.core in
-    (λ i. is_board (first_entries (c.installs.ensures i) (c.safe.ensures i))) ∙ opening_is_board core.facts.installs (safe_at core) c.requires.orderly.installs
+    (λ i. is_board (first_entries (c.installs.ensures i) (c.safe.ensures i))) ∙ opening_is_board core.facts.installs (safe_at core)
+    (entries_follow [] core.facts.installs c.is_sound.ensures.showable.installs)
 
 pub invariant_of-result : goal.invariant_of-result
 invariant_of-result g c =
@@ -17,8 +18,7 @@ invariant_of-result g c =
     record {
       in_step = opened_desk core.facts.installs c.installs.result.now c.installs-handed.result.now
           (safe_at core) c.safe.result c.in-Ok-start.publisher.published c.in-Ok-start.publisher.pending
-          c.requires.orderly.installs c.installs-handed.ensures c.installs.ensures c.safe.ensures c.in-Ok-start.ensures.publisher.0 c.in-Ok-start.ensures.publisher.1;
-      orderly = c.requires.orderly;
+          c.is_sound.ensures.showable.installs c.installs-handed.ensures c.installs.ensures c.safe.ensures c.in-Ok-start.ensures.publisher.0 c.in-Ok-start.ensures.publisher.1;
     }
 
 pub returns-in-Ok-start-clause-board : goal.returns-in-Ok-start-clause-board

@@ -25,5 +25,4 @@ invariant_of-self-2 g c =
     record {
       in_step = published_in_step core.facts.installs
           (safe_at core) c.hand_over.new.handed one two c.publish.new.self c.in_ok-hand_over.ensures.step c.in_ok-hand_over.ensures.all ends c.publish.result c.publish.ensures;
-      orderly = c.args.self.now.orderly;
     }

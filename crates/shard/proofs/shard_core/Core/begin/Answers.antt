@@ -7,6 +7,7 @@ use Rattle.gatelog.specs.Shown.{disk_of, gate_at}
 use Rattle.shard.specs.Armed.{FailsIn}
 use Rattle.shard.specs.Logs.{records_in}
 use Rattle.shard.proofs.Openings.{first-learnt, first-sound}
+use Rattle.shard.proofs.Showable.{as-showable}
 use Rattle.shard.proofs.shard_core.Core.begin.Goals as goal
 
 pub invariant_of-result : goal.invariant_of-result
@@ -18,6 +19,7 @@ invariant_of-result g c = record {
       ∙ first-learnt ∙ ap (λ (f : Facts). Some f) (sym c.in-Ok.ensures.facts);
   sound = ∣ first-sound c.args.setup c.in-Ok.state.setup c.in-Ok.state.facts c.in-Ok.state.memory c.fresh_is_sound.ensures c.in-Ok.ensures.setup
       c.in-Ok.ensures.facts c.in-Ok.ensures.empty ∣₁;
+  showable = as-showable c.in-Ok.state.facts _ c.in-Ok.state.memory _ c.in-Ok.ensures.facts c.in-Ok.ensures.empty c.fresh_is_showable.ensures;
 }
 
 pub returns-clause-refused : goal.returns-clause-refused

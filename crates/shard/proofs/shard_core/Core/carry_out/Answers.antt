@@ -7,6 +7,7 @@ use Rattle.memory.specs.Plans.{plan_of}
 use Rattle.shard.specs.Core.{seen}
 use Rattle.shard.specs.Logs.{facts_logged}
 use Rattle.shard.proofs.Carried.{can_carry, memory_after, facts_then, sound_then, facts-logged}
+use Rattle.shard.proofs.Showable.{as-showable}
 use Rattle.shard.proofs.Results.{served_as, logged_as}
 use Rattle.shard.proofs.shard_core.Core.carry_out.Goals as goal
 
@@ -32,6 +33,7 @@ invariant_of-self-in_default g c =
           ∙ ap (λ (l : Option Record). Some (facts_after k.facts l)) (sym c.in_default.is) ∙ ap (λ (f : Facts). Some f) (sym facts);
       sound = sound_then k c.make_ready.new.self c.args.plan c.requires.due c.in-Ok.ensures.ready _ _ _
           (c.carry.ensures.setup ∙ c.in-Ok.ensures.ready.setup) facts memory;
+      showable = as-showable c.carry.new.self.facts _ c.carry.new.self.memory _ facts memory c.requires.due.showable;
     }
 
 pub returns-in_default : goal.returns-in_default
@@ -60,6 +62,7 @@ invariant_of-self-in-Ok-append_record g c =
           ∙ ap (λ (l : Option Record). Some (facts_after k.facts l)) (sym c.in-Some.is) ∙ ap (λ (f : Facts). Some f) (sym facts);
       sound = sound_then k c.make_ready.new.self c.args.plan c.requires.due c.in-Ok.ensures.ready _ _ _
           (after.ensures.setup ∙ c.in-Ok.ensures.ready.setup) facts memory;
+      showable = as-showable after.new.self.facts _ after.new.self.memory _ facts memory c.requires.due.showable;
     }
 
 pub returns-in-Ok-append_record : goal.returns-in-Ok-append_record

@@ -7,6 +7,7 @@ use Rattle.record.specs.declared.record.Record.{Record}
 use Rattle.shard.specs.Logs.{facts_logged}
 use Rattle.shard.proofs.Appends.{first-logged}
 use Rattle.shard.proofs.Openings.{first-learnt, first-sound}
+use Rattle.shard.proofs.Showable.{as-showable}
 use Rattle.shard.proofs.shard_core.Core.fresh.Goals as goal
 
 pub returns-in-Ok-append-clause-read : goal.returns-in-Ok-append-clause-read
@@ -32,4 +33,5 @@ invariant_of-result g c =
           ∙ first-learnt ∙ ap (λ (f : Facts). Some f) (sym c.in-Ok.ensures.facts);
       sound = ∣ first-sound c.args.setup c.in-Ok.state.setup c.in-Ok.state.facts c.in-Ok.state.memory c.fresh_is_sound.ensures c.in-Ok.ensures.setup
           c.in-Ok.ensures.facts c.in-Ok.ensures.empty ∣₁;
+      showable = as-showable c.in-Ok.state.facts _ c.in-Ok.state.memory _ c.in-Ok.ensures.facts c.in-Ok.ensures.empty c.fresh_is_showable.ensures;
     }

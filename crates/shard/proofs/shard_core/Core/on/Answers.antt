@@ -11,12 +11,15 @@ use Rattle.shard.specs.On.{step_of}
 use Rattle.shard.proofs.Plans.{is_due}
 use Rattle.shard.proofs.Results.{by_step, outbox_of, refused, refusal_is_no_device}
 use Rattle.shard.proofs.Settling.{durably_settled}
+use Rattle.shard.proofs.Showable.{showable_then}
 use Rattle.shard.proofs.shard_core.Core.on.Goals as goal
 
 pub carry_out-requires-clause-due : goal.carry_out-requires-clause-due
 carry_out-requires-clause-due g c =
-    is_due c.args.self.now.state c.args.now.now c.args.input.now c.in-Ok.plan c.names_in_limit.ensures c.in-Ok.ensures.planned
+    is_due c.args.self.now.state c.args.now.now c.args.input.now c.in-Ok.plan c.writes_ascend.ensures.limit c.in-Ok.ensures.planned
     c.step_keeps_sound.ensures c.logged_follows.ensures c.installs_above.ensures c.args.self.now.sound c.in-Ok.ensures.fit
+    (showable_then c.args.self.now.state c.args.now.now c.args.input.now c.in-Ok.plan c.writes_ascend.ensures.limit c.writes_ascend.ensures.order
+    c.in-Ok.ensures.planned c.step_keeps_showable.ensures c.args.self.now.sound c.args.self.now.showable)
 
 pub returns-in-Ok-clause-stepped : goal.returns-in-Ok-clause-stepped
 unfolding step_within

@@ -1,4 +1,5 @@
-use Rattle.std.proofs.Common.{rules, ◌≡◌, ◌∙◌, inr, ◌+◌, [], Some, Ok, Err, sym, ap, subst}
+use Rattle.std.proofs.Common.{rules, ◌≡◌, ◌∙◌, inr, ◌+◌, [], true, Some, Ok, Err, sym, ap, subst}
+use Rattle.std.specs.List.{list_all}
 use Rattle.std.specs.Prelude.{IfErr}
 use Rattle.std.proofs.lemmas.Result.{IfErr-weaker}
 use Rattle.record.specs.Facts.{facts_of}
@@ -9,11 +10,13 @@ use Rattle.gatelog.specs.Frames.{IsFull, end_of}
 use Rattle.gatelog.specs.Shown.{disk_of, gate_at}
 use Rattle.protocol.specs.Rows.{rebuilt}
 use Rattle.recovery.specs.Recovered.{IsRebuilt, items}
+use Rattle.serving.specs.Showable.{record_ascends}
 use Rattle.shard.specs.Core.{seen}
 use Rattle.shard.specs.Logs.{facts_logged}
 use Rattle.shard.specs.Opened.{HasNotOpened, next_opening}
 use Rattle.shard.proofs.TakenUp.{Found, epoch_of_facts, facts_are, facts_then, first_is, first_memory, first_records, from_four, room_spent, no_log}
 use Rattle.shard.proofs.TakenUp.{not_opened, not_rebuilt, opened, records_are, same_records}
+use Rattle.shard.proofs.Showable.{taken-showable}
 use Rattle.shard.proofs.shard_core.Core.open.Goals as goal
 
 pub returns-in_err-gate_log-clause-refused : goal.returns-in_err-gate_log-clause-refused
@@ -44,6 +47,14 @@ take_up-requires-clause-known g c = λ keep.
     g.D.Disk.failures g.D.Disk.plan c.args.disk _ _ c.deref.result.now found keep)
     ∙ facts_are c.learnt_agrees.ensures c.accepted_follows.ensures c.args.setup (items c.deref.result.now) c.in-Ok-Some.state.facts
     c.in-Ok-Some.ensures.accepted rebuilt_as.1
+
+pub take_up-requires-clause-showable : goal.take_up-requires-clause-showable
+take_up-requires-clause-showable g c =
+    let rebuilt_as : IsRebuilt c.args.setup (items c.deref.result.now) (Some c.in-Ok-Some.state) =
+    subst (IsRebuilt c.args.setup (items c.deref.result.now)) c.in-Ok-Some.field-0-is c.in-Ok-Some.ensures.found in
+    taken-showable c.taken_is_showable.ensures c.args.setup c.deref.result.now c.in-Ok-Some.state c.in-Ok-Some.ensures.accepted
+    (subst (λ (es : List Placed). list_all (λ e. record_ascends e.item) es ≡ true) (c.deref-in-Ok-Some.ensures.value ∙ sym c.deref.ensures.value)
+    c.all_ascend.ensures) rebuilt_as.1 rebuilt_as.2
 
 pub returns-in-Ok-Some-clause-opened : goal.returns-in-Ok-Some-clause-opened
 returns-in-Ok-Some-clause-opened g c =

@@ -10,22 +10,9 @@ use Rattle.board.specs.declared.entry.BoardEntry.{BoardEntry}
 use Rattle.board.specs.declared.entry.BoardEntry.TheVariants.{Installed, Safe}
 use Rattle.board.specs.Board.{versions_on, safe_from, safe_on, is_past, is_rising, may_follow, is_board, first_entries}
 use Rattle.board.proofs.Longer.{follows_install, follows_safe}
-use Rattle.serving.specs.Showable.{as_entries}
-
--- the versions of a key are below a timestamp
-abbrev below : List Install → Bytes → ℕ → Bool
-below installs key at = list_all (λ j. nat_lt j.at at) (of_key installs key)
-
-abbrev Alike : List Install → List Install → Type 0
-Alike a b = (key : Bytes) (at : ℕ) → below a key at ≡ below b key at
-
-alike_more : (a b : List Install) (i : Install) → Alike a b → Alike (i ∷ a) (i ∷ b)
-alike_more a b i h key at = by_test (same_key i.key key)
-  where
-    by_test : (c : Bool) → list_all (λ j. nat_lt j.at at) (cond c (i ∷ of_key a key) (of_key a key)) ≡ list_all (λ j. nat_lt j.at at)
-        (cond c (i ∷ of_key b key) (of_key b key))
-    by_test true = ap (λ rest. nat_lt i.at at && rest) (h key at)
-    by_test false = h key at
+use Rattle.serving.specs.Showable.{rises_by_key}
+use Rattle.serving.proofs.Rising.{Alike, alike_more, below, below_more, rise_parts}
+use Rattle.node.specs.InStep.{as_entries}
 
 -- the versions before some entries and those among them, the last first
 abbrev stacked : List Install → List BoardEntry → List Install
@@ -61,22 +48,6 @@ follow_end acc s (Installed i ∷ xs) ys h k =
     let parts = follows_install acc s i xs h in follow_installed acc s i (xs ++ ys) parts.0 parts.1 (follow_end (i ∷ acc) s xs ys parts.2 k)
 follow_end acc s (Safe t ∷ xs) ys h k =
     let parts = follows_safe acc s t xs h in follow_safe acc s t (xs ++ ys) parts.0 (follow_end acc (Some t) xs ys parts.1 k)
-
-and_last : (a b c : Bool) → (a && (b && c)) ≡ ((b && a) && c)
-and_last true true c = refl
-and_last true false c = refl
-and_last false true c = refl
-and_last false false c = refl
-
--- the versions stacked are those before and those among the entries
-below_more : (acc : List Install) (i : Install) (key : Bytes) (at : ℕ) (rest : List Install) → (below (i ∷ acc) key at && below rest key at) ≡
-    (below acc key at && below (i ∷ rest) key at)
-below_more acc i key at rest = by_test (same_key i.key key)
-  where
-    by_test : (c : Bool) → (list_all (λ j. nat_lt j.at at) (cond c (i ∷ of_key acc key) (of_key acc key)) && below rest key at)
-        ≡ (below acc key at && list_all (λ j. nat_lt j.at at) (cond c (i ∷ of_key rest key) (of_key rest key)))
-    by_test true = sym (and_last (below acc key at) (nat_lt i.at at) (below rest key at))
-    by_test false = refl
 
 below_stacked : (acc : List Install) (xs : List BoardEntry) (key : Bytes) (at : ℕ) → below (stacked acc xs) key at ≡
     (below acc key at && below (versions_on xs) key at)
@@ -149,10 +120,8 @@ safe_from-more_entries low (Safe t ∷ xs) ys = safe_from-more_entries t xs ys
 pub opening_is_board : (installs : List Install) (t : ℕ) → may_follow [] None (as_entries installs) ≡ true → is_board (first_entries installs t) ≡ true
 opening_is_board installs t order = board_safe (as_entries installs) t order (omega (arith, safe_from-entries 0 installs))
 
--- the versions of a core stay in order
-pub installs_follow : (installs news : List Install) (served : ℕ) → may_follow [] None (as_entries installs) ≡ true → list_all
-    (λ i. nat_lt served i.at) news ≡ true → may_follow installs None (as_entries news) ≡ true
-    → may_follow [] None (as_entries (installs ++ news)) ≡ true
-installs_follow installs news served order above more =
-    ap is_board (as_entries-more installs news)
-    ∙ board_news (as_entries installs) installs news served order (versions_on-entries installs) (omega (arith, safe_from-entries 0 installs)) above more
+-- versions that rise follow as entries
+pub entries_follow : (before installs : List Install) → rises_by_key before installs ≡ true → may_follow before None (as_entries installs) ≡ true
+entries_follow before [] h = follow_none before None
+entries_follow before (i ∷ is) h =
+    let parts = rise_parts before i is h in follow_installed before None i (as_entries is) refl parts.0 (entries_follow (i ∷ before) is parts.1)

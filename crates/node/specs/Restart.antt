@@ -1,0 +1,59 @@
+-- What lies under a node's lock, and what it is to open a stopped node's disk again.
+use Rattle.std.specs.Prelude.{◌≡◌, ◌⊎◌, ℕ, Bool, true, IsTrue, IsFalse, List}
+use Rattle.units.specs.declared.fault.Fault.{Fault}
+use Rattle.units.specs.declared.fault.Fault.TheVariants.{Memory as WantsMemory, BadRequest}
+use Rattle.units.specs.declared.fault.Reason.TheVariants.{Again}
+use Rattle.units.specs.declared.setup.Setup.{Setup}
+use Rattle.disk.specs.declared.plan.FailurePlan.{FailurePlan}
+use Rattle.disk.specs.File.{File}
+use Rattle.shard.specs.On.{CoreView}
+use Rattle.shard.specs.Look.{safe_at}
+use Rattle.shard.specs.Opened.{HasOpened, HasNotOpened}
+use Rattle.board.specs.Board.{first_entries}
+use Rattle.board.specs.Views.{Viewing}
+use Rattle.node.specs.InStep.{DeskView, IsNewBoard, AreOnBoard, IsNoDesk}
+
+-- a desk, or the disk of a desk that was stopped
+pub data PlaceView (D : Type 0) : Type 0 where
+  Serving : DeskView D → PlaceView D
+  Resting : D → PlaceView D
+
+abbrev pub disk_of_place : {D : Type 0} → PlaceView D → D
+disk_of_place (Serving desk) = desk.core.disk
+disk_of_place (Resting disk) = disk
+
+-- its core was stopped, or it is a disk alone
+abbrev pub is_at_rest : {D : Type 0} → PlaceView D → Bool
+is_at_rest (Serving desk) = desk.core.stopped
+is_at_rest (Resting disk) = true
+
+module _ {D : Type 0} (keeps obeys : Type 0) (file : D → File) (clock : D → ℕ) (since : D → ℕ → List ℕ → Type 0) (failures : D → ℕ)
+    (plan : D → FailurePlan) where
+  -- the log of a disk was taken up, and the board refused
+  pub record HasNoBoard (disk : D) (setup : Setup) (n : ℕ) (fault : Fault) (back : D) : Type 0 where
+    pub core : CoreView D
+    pub opened : HasOpened keeps obeys file clock since failures plan disk setup core
+    pub disk_back : back ≡ core.disk
+    pub why : IsNoDesk n fault
+
+  -- why no desk was made of a disk, and what it gives back: memory for the setup, the opening, or the board was refused
+  abbrev pub HasNoDesk : D → Setup → ℕ → Fault → D → Type 0
+  HasNoDesk disk setup n fault back =
+      ((fault ≡ WantsMemory) × (back ≡ disk)) ⊎ (HasNotOpened keeps obeys file clock since failures plan disk setup fault back
+      ⊎ HasNoBoard disk setup n fault back)
+
+  -- the log of a disk was taken up, and a new board shows the versions of its core and then its served time
+  pub record HasReopened (disk : D) (setup : Setup) (n : ℕ) (desk : DeskView D) (viewers : List Viewing) : Type 0 where
+    pub opened : HasOpened keeps obeys file clock since failures plan disk setup desk.core
+    pub board : IsNewBoard desk.board (first_entries desk.core.facts.installs (safe_at desk.core))
+    pub viewers : AreOnBoard n desk.board viewers
+
+  -- what was stopped is served again
+  abbrev pub HasRestarted : PlaceView D → PlaceView D → Setup → ℕ → List Viewing → Type 0
+  HasRestarted old (Serving desk) setup n viewers = IsTrue (is_at_rest old) × HasReopened (disk_of_place old) setup n desk viewers
+  HasRestarted old (Resting disk) setup n viewers = ⊥
+
+  -- What was not stopped stays as it is, and the request is wrong. Else the disk is there alone, and may be opened again.
+  abbrev pub HasNotRestarted : PlaceView D → PlaceView D → Setup → ℕ → Fault → Type 0
+  HasNotRestarted old (Serving desk) setup n fault = IsFalse (is_at_rest old) × (Serving desk ≡ old) × (fault ≡ BadRequest Again)
+  HasNotRestarted old (Resting back) setup n fault = IsTrue (is_at_rest old) × HasNoDesk (disk_of_place old) setup n fault back

@@ -1,0 +1,143 @@
+//! What lies under a node's lock: a desk, or the disk of one that was stopped.
+ghost use Rattle.std.specs.Prelude.{◌≡◌, IfOk, IfErr, IsSome};
+
+use crate::desk::Desk;
+use board::{Told, Viewer};
+use disk::Disk;
+use message::{Input, Outbox};
+use std::alloc::Global;
+use std::sync::Wait;
+use truetime::Reading;
+use units::{Fault, Reason, Setup, Stamp, TxnId};
+
+/// A desk; or the disk alone, where it was closed to be opened again, and that was refused.
+#[derive(Drop)]
+pub enum Place<D: Disk + Drop, R: Wait + Drop> {
+    Serving(Desk<D, R>),
+    Resting(D),
+}
+
+impl<D: Disk + Drop, R: Wait + Drop> Place<D, R> {
+    ghost use Rattle.node.specs.Seen.{seen_place};
+    ghost use Rattle.node.specs.Restart.{HasRestarted, HasNotRestarted, disk_of_place};
+
+    /// What is stopped is opened again, as a core is, with a new board and so many viewers.
+    pub fn restart(
+        self,
+        rt: R,
+        alloc: Global,
+        setup: &Setup,
+        n: usize,
+    ) -> (Place<D, R>, Result<Vec<Viewer>, Fault>)
+        ensures restarted { IfOk result.1 (λ viewers. HasRestarted D.keeps_model D.obeys D.file D.clock D.since D.failures D.plan
+            (seen_place self) (seen_place result.0) setup.now n viewers.items) }
+        ensures refused { IfErr result.1 (HasNotRestarted D.keeps_model D.obeys D.file D.clock D.since D.failures D.plan
+            (seen_place self) (seen_place result.0) setup.now n) }
+    {
+        let disk = match self {
+            Place::Serving(desk) => {
+                if !desk.core().is_stopped() {
+                    return (Place::Serving(desk), Err(Fault::BadRequest(Reason::Again)));
+                }
+                desk.close()
+            }
+            Place::Resting(disk) => disk,
+        };
+        match Desk::open(rt, alloc, disk, setup, n) {
+            Ok((desk, viewers)) => (Place::Serving(desk), Ok(viewers)),
+            Err((fault, disk)) => (Place::Resting(disk), Err(fault)),
+        }
+    }
+
+    /// Ends it, and gives its disk back as it is.
+    pub fn close(self) -> D
+        ensures { result ≡ disk_of_place (seen_place self) }
+    {
+        match self {
+            Place::Serving(desk) => desk.close(),
+            Place::Resting(disk) => disk,
+        }
+    }
+}
+
+/// What a node's lock holds. It is there whenever the lock is free.
+#[derive(Drop)]
+pub struct Held<D: Disk + Drop, R: Wait + Drop> {
+    place: Option<Place<D, R>>,
+    ghost there: { IsSome place },
+}
+
+impl<D: Disk + Drop, R: Wait + Drop> Held<D, R> {
+    /// A desk.
+    pub fn serving(desk: Desk<D, R>) -> Held<D, R> {
+        Held {
+            place: Some(Place::Serving(desk)),
+        }
+    }
+
+    // The desk, where there is one.
+    fn desk(&self) -> Option<&Desk<D, R>> {
+        match &self.place {
+            Some(Place::Serving(desk)) => Some(desk),
+            Some(Place::Resting(_)) | None => None,
+        }
+    }
+
+    fn desk_mut(&mut self) -> Option<&mut Desk<D, R>> {
+        match &mut self.place {
+            Some(Place::Serving(desk)) => Some(desk),
+            Some(Place::Resting(_)) | None => None,
+        }
+    }
+
+    /// One step of the core. A disk alone is refused as a core that is stopped.
+    pub fn deliver(&mut self, now: &Reading, input: &Input) -> Result<Outbox, Fault> {
+        match self.desk_mut() {
+            Some(desk) => desk.deliver(now, input),
+            None => Err(Fault::Stopped),
+        }
+    }
+
+    /// Advances the core and publishes its board.
+    pub fn advance(&mut self, now: &Reading, to: Stamp) -> Result<Told, Fault> {
+        match self.desk_mut() {
+            Some(desk) => desk.advance(now, to),
+            None => Err(Fault::Stopped),
+        }
+    }
+
+    /// The n-th transaction that is decided and not settled.
+    pub fn decided(&self, n: usize) -> Option<TxnId> {
+        self.desk()?.core().decided(n).map(|(txn, _)| txn)
+    }
+
+    /// The n-th transaction that is prepared.
+    pub fn prepared(&self, n: usize) -> Option<TxnId> {
+        self.desk()?.core().prepared(n).map(|(txn, _)| txn)
+    }
+
+    /// What is stopped is opened again, as `Place::restart` does.
+    pub fn restart(
+        &mut self,
+        rt: R,
+        alloc: Global,
+        setup: &Setup,
+        n: usize,
+    ) -> Result<Vec<Viewer>, Fault> {
+        let Some(place) = self.place.take() else {
+            return Err(Fault::Stopped);
+        };
+        let (place, result) = place.restart(rt, alloc, setup, n);
+        self.place = Some(place);
+        result
+    }
+
+    /// Ends it, and gives its disk back as it is.
+    pub fn close(self) -> D {
+        let Held { place } = self;
+        match place {
+            Some(place) => place.close(),
+            None => unreachable!(),
+        }
+    }
+}

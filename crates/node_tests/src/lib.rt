@@ -1,0 +1,11 @@
+//! Tests of desks and nodes, over disks in memory: what viewers see beside them, and what threads serve.
+#![tactic(auto)]
+
+#[cfg(test)]
+mod desks;
+#[cfg(test)]
+mod given;
+#[cfg(test)]
+mod restarts;
+#[cfg(test)]
+mod served;
