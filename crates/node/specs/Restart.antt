@@ -43,10 +43,10 @@ module _ {D : Type 0} (keeps obeys : Type 0) (file : D → File) (clock : D → 
       ⊎ HasNoBoard disk setup n fault back)
 
   -- the log of a disk was taken up, and a new board shows the versions of its core and then its served time
-  pub record HasReopened (disk : D) (setup : Setup) (n : ℕ) (desk : DeskView D) (viewers : List Viewing) : Type 0 where
+  pub record HasReopened (disk : D) (setup : Setup) (n : ℕ) (desk : DeskView D) (views : List Viewing) : Type 0 where
     pub opened : HasOpened keeps obeys file clock since failures plan disk setup desk.core
     pub board : IsNewBoard desk.board (first_entries desk.core.facts.installs (safe_at desk.core))
-    pub viewers : AreOnBoard n desk.board viewers
+    pub viewers : AreOnBoard n desk.board views
 
   -- what was stopped is served again
   abbrev pub HasRestarted : PlaceView D → PlaceView D → Setup → ℕ → List Viewing → Type 0

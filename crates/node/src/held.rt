@@ -83,26 +83,19 @@ impl<D: Disk + Drop, R: Wait + Drop> Held<D, R> {
         }
     }
 
-    fn desk_mut(&mut self) -> Option<&mut Desk<D, R>> {
-        match &mut self.place {
-            Some(Place::Serving(desk)) => Some(desk),
-            Some(Place::Resting(_)) | None => None,
-        }
-    }
-
     /// One step of the core. A disk alone is refused as a core that is stopped.
     pub fn deliver(&mut self, now: &Reading, input: &Input) -> Result<Outbox, Fault> {
-        match self.desk_mut() {
-            Some(desk) => desk.deliver(now, input),
-            None => Err(Fault::Stopped),
+        match &mut self.place {
+            Some(Place::Serving(desk)) => desk.deliver(now, input),
+            Some(Place::Resting(_)) | None => Err(Fault::Stopped),
         }
     }
 
     /// Advances the core and publishes its board.
     pub fn advance(&mut self, now: &Reading, to: Stamp) -> Result<Told, Fault> {
-        match self.desk_mut() {
-            Some(desk) => desk.advance(now, to),
-            None => Err(Fault::Stopped),
+        match &mut self.place {
+            Some(Place::Serving(desk)) => desk.advance(now, to),
+            Some(Place::Resting(_)) | None => Err(Fault::Stopped),
         }
     }
 
