@@ -3,4 +3,6 @@
 
 mod laws;
 
-pub use laws::{fresh_is_showable, record_ascends, step_keeps_showable, taken_is_showable, writes_ascend};
+pub use laws::{
+    fresh_is_showable, record_ascends, step_keeps_showable, taken_is_showable, writes_ascend,
+};
