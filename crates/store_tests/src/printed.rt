@@ -4,57 +4,57 @@ use simdisk::SimDisk;
 use std::alloc::Global;
 use std::io;
 use std::io::Write;
-use std::test::Fail;
+use truetime::Reading;
 use units::{Fault, Reason};
 
 // A command line, what is printed to both outputs, and the status.
 #[derive(Clone, Copy)]
 struct Printed {
-    words: [&'static str; 7],
+    words: &'static [&'static str],
     printed: &'static str,
     refused: &'static str,
     status: u8,
 }
 
-static PRINTED: [Printed; 9] = [
+static PRINTED: [Printed; 10] = [
     Printed {
-        words: ["once", "a", "1", "100", "110", "112", "121"],
+        words: &["once", "a", "1", "100", "110", "112", "121"],
         printed: "commit 1.1 at 111\ndone 1.1 committed 111\n",
         refused: "",
         status: 0,
     },
     Printed {
-        words: ["once", "a", "1", "100", "110", "111", "120"],
+        words: &["once", "a", "1", "100", "110", "111", "120"],
         printed: "commit 1.1 at 111\nearly\n",
         refused: "",
         status: 1,
     },
     Printed {
-        words: ["once", "a", "1", "110", "100", "112", "121"],
+        words: &["once", "a", "1", "110", "100", "112", "121"],
         printed: "",
         refused: "fault: 7 BadRequest(stamp)\n",
         status: 2,
     },
     Printed {
-        words: ["once", "a", "1", "0x", "110", "112", "121"],
+        words: &["once", "a", "1", "0x", "110", "112", "121"],
         printed: "",
         refused: "fault: 7 BadRequest(command)\n",
         status: 2,
     },
     Printed {
-        words: ["once", "a", "1", "100", "4611686018427387903", "112", "121"],
+        words: &["once", "a", "1", "100", "4611686018427387903", "112", "121"],
         printed: "",
         refused: "fault: 4 TimeSpent\n",
         status: 2,
     },
     Printed {
-        words: ["once", "a", "1", "100", "4611686018427387904", "112", "0x"],
+        words: &["once", "a", "1", "100", "4611686018427387904", "112", "0x"],
         printed: "",
         refused: "fault: 7 BadRequest(stamp)\n",
         status: 2,
     },
     Printed {
-        words: [
+        words: &[
             "once",
             "a",
             "1",
@@ -68,16 +68,23 @@ static PRINTED: [Printed; 9] = [
         status: 2,
     },
     Printed {
-        words: ["once", "a", "1", "0100", "110", "121", "112"],
+        words: &["once", "a", "1", "0100", "110", "121", "112"],
         printed: "",
         refused: "fault: 7 BadRequest(command)\n",
         status: 2,
     },
     Printed {
-        words: ["once", "", "1", "0100", "110", "112", "121"],
+        words: &["once", "", "1", "0100", "110", "112", "121"],
         printed: "",
         refused: "fault: 7 BadRequest(key)\n",
         status: 2,
+    },
+    // Behind `--` nothing asks for help.
+    Printed {
+        words: &["once", "--", "-h", "--help", "100", "110", "112", "121"],
+        printed: "commit 1.1 at 111\ndone 1.1 committed 111\n",
+        refused: "",
+        status: 0,
     },
 ];
 
@@ -89,27 +96,20 @@ fn answered<'a>(alloc: Global, words: &'a [&'a str]) -> (u8, Vec<u8>, Vec<u8>) {
     (status, out.into_writer(), err.into_writer())
 }
 
-#[test]
-fn answers_of_once(rt: HostRuntime) -> Result<(), Fail> {
-    let alloc = rt.alloc();
-    for row in &PRINTED {
-        let (status, out, err) = answered(alloc, row.words.as_slice());
-        assert_eq!(rt; status, row.status, "at {:?}", row.words);
-        assert!(rt;
-            out.as_slice() == row.printed.as_bytes(),
-            "at {:?}",
-            row.words
-        );
-        assert!(rt;
-            err.as_slice() == row.refused.as_bytes(),
-            "at {:?}",
-            row.words
-        );
-    }
-    Ok(())
+fn is_printed(alloc: Global, row: &Printed) -> bool {
+    let (status, out, err) = answered(alloc, row.words);
+    let refused = err.as_slice() == row.refused.as_bytes();
+    status == row.status && out.as_slice() == row.printed.as_bytes() && refused
 }
 
-const ASKING_HELP: [&[&str]; 5] = [
+#[test]
+fn answers_of_once(rt: HostRuntime) {
+    for (number, row) in PRINTED.iter().enumerate() {
+        assert!(rt; is_printed(rt.alloc(), row), "row {number}");
+    }
+}
+
+static ASKING_HELP: [&[&str]; 5] = [
     &["--help"],
     &["-h"],
     &["once", "--help"],
@@ -117,45 +117,48 @@ const ASKING_HELP: [&[&str]; 5] = [
     &["-x", "--help"],
 ];
 
-// Help is printed before anything else is looked at, but not for words behind `--`.
-#[test]
-fn answers_of_help(rt: HostRuntime) -> Result<(), Fail> {
-    let alloc = rt.alloc();
-    for words in ASKING_HELP {
-        let (status, out, err) = answered(alloc, words);
-        assert_eq!(rt; status, 0, "at {words:?}");
-        assert!(rt;
-            out.as_slice().starts_with(b"usage: shards COMMAND"),
-            "at {words:?}"
-        );
-        assert!(rt; err.is_empty(), "at {words:?}");
-    }
-    let plain = ["once", "--", "-h", "--help", "100", "110", "112", "121"];
-    let (status, out, err) = answered(alloc, plain.as_slice());
-    assert_eq!(rt; status, 0);
-    assert!(rt; out.as_slice() == b"commit 1.1 at 111\ndone 1.1 committed 111\n".as_slice());
-    assert!(rt; err.is_empty());
-    Ok(())
+fn is_helped<'a>(alloc: Global, words: &'a [&'a str]) -> bool {
+    let (status, out, err) = answered(alloc, words);
+    status == 0 && out.as_slice().starts_with(b"usage: shards COMMAND") && err.is_empty()
 }
 
-const WORDS: [&str; 7] = ["once", "a", "1", "100", "110", "112", "121"];
+// Help is printed before anything else is looked at.
+#[test]
+fn answers_of_help(rt: HostRuntime) {
+    for (number, words) in ASKING_HELP.iter().enumerate() {
+        assert!(rt; is_helped(rt.alloc(), words), "row {number}");
+    }
+}
+
+static WORDS: [&str; 7] = ["once", "a", "1", "100", "110", "112", "121"];
+
+fn is_from(now: Reading, earliest: u64, latest: u64) -> bool {
+    now.earliest().micros() == earliest && now.latest().micros() == latest
+}
+
+fn is_read(alloc: Global) -> bool {
+    match command(alloc, &WORDS) {
+        Ok(
+            Command::Once {
+                key,
+                value,
+                first,
+                second,
+            },
+        ) => {
+            key.as_bytes() == b"a".as_slice()
+                && value.as_bytes() == b"1".as_slice()
+                && is_from(first, 100, 110)
+                && is_from(second, 112, 121)
+        }
+        _ => false,
+    }
+}
 
 // Where there is memory, want of it is not the answer.
 #[test]
-fn always_memory(rt: HostRuntime) -> Result<(), Fail> {
-    let Command::Once {
-        key,
-        value,
-        first,
-        second,
-    } = command(rt.alloc(), WORDS.as_slice())?
-    else {
-        unreachable!();
-    };
-    assert!(rt; key.as_bytes() == b"a".as_slice() && value.as_bytes() == b"1".as_slice());
-    assert!(rt; first.earliest().micros() == 100 && first.latest().micros() == 110);
-    assert!(rt; second.earliest().micros() == 112 && second.latest().micros() == 121);
-    Ok(())
+fn always_memory(rt: HostRuntime) {
+    assert!(rt; is_read(rt.alloc()));
 }
 
 static NO_COMMANDS: [&[&str]; 9] = [
@@ -170,15 +173,15 @@ static NO_COMMANDS: [&[&str]; 9] = [
     &["once", "--helpful"],
 ];
 
+fn is_no_command<'a>(alloc: Global, words: &'a [&'a str]) -> bool {
+    let read = command(alloc, words);
+    matches!(read, Err(Fault::BadRequest(Reason::Command)))
+}
+
 #[test]
 fn words_that_are_no_command(rt: HostRuntime) {
-    for words in &NO_COMMANDS {
-        let refused = command(rt.alloc(), words).err();
-        assert_eq!(rt;
-            refused,
-            Some(Fault::BadRequest(Reason::Command)),
-            "{words:?}"
-        );
+    for (number, words) in NO_COMMANDS.iter().enumerate() {
+        assert!(rt; is_no_command(rt.alloc(), words), "row {number}");
     }
 }
 
@@ -202,33 +205,37 @@ impl Write for Failing {
     }
 }
 
+// The status where standard output takes so many writes, once nothing was printed on the other.
+fn status_of(alloc: Global, taken: u8) -> Option<u8> {
+    let mut out = Stream::new(Failing { taken });
+    let mut err = Stream::new(Vec::<u8>::new(alloc));
+    let (status, _) = answer(alloc, &WORDS, SimDisk::new(alloc), &mut out, &mut err);
+    if err.into_writer().is_empty() {
+        Some(status)
+    } else {
+        None
+    }
+}
+
+static WRONG: [&str; 7] = ["once", "a", "1", "110", "100", "112", "121"];
+
+// The same of a fault that standard error does not take.
+fn status_of_fault(alloc: Global) -> Option<u8> {
+    let mut out = Stream::new(Vec::<u8>::new(alloc));
+    let mut err = Stream::new(Failing { taken: 0 });
+    let (status, _) = answer(alloc, &WRONG, SimDisk::new(alloc), &mut out, &mut err);
+    if out.into_writer().is_empty() {
+        Some(status)
+    } else {
+        None
+    }
+}
+
 // After a failed write nothing more is printed, also no fault.
 #[test]
 fn writes_that_fail(rt: HostRuntime) {
-    let alloc = rt.alloc();
-    for (taken, status) in [(0u8, 2u8), (1, 2), (2, 0)] {
-        let mut out = Stream::new(Failing { taken });
-        let mut err = Stream::new(Vec::<u8>::new(alloc));
-        let (given, _) = answer(
-            alloc,
-            WORDS.as_slice(),
-            SimDisk::new(alloc),
-            &mut out,
-            &mut err,
-        );
-        assert_eq!(rt; given, status);
-        assert!(rt; err.into_writer().is_empty());
-    }
-    let wrong = ["once", "a", "1", "110", "100", "112", "121"];
-    let mut out = Stream::new(Vec::<u8>::new(alloc));
-    let mut err = Stream::new(Failing { taken: 0 });
-    let (status, _) = answer(
-        alloc,
-        wrong.as_slice(),
-        SimDisk::new(alloc),
-        &mut out,
-        &mut err,
-    );
-    assert_eq!(rt; status, 2);
-    assert!(rt; out.into_writer().is_empty());
+    assert!(rt; matches!(status_of(rt.alloc(), 0), Some(2)));
+    assert!(rt; matches!(status_of(rt.alloc(), 1), Some(2)));
+    assert!(rt; matches!(status_of(rt.alloc(), 2), Some(0)));
+    assert!(rt; matches!(status_of_fault(rt.alloc()), Some(2)));
 }
