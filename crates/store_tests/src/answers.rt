@@ -6,7 +6,7 @@ use units::{Fault, Stamp};
 // epoch or nothing (0).
 pub type Shape = (u8, u8, u64, u64);
 
-#[derive(Clone, Copy, Debug)]
+#[derive(Clone, Copy)]
 pub enum Told {
     Nothing,
     One(Shape),
@@ -36,25 +36,24 @@ fn shape(envelope: &Envelope) -> Shape {
     }
 }
 
-fn says(out: &Outbox, expected: &[Shape]) -> bool {
-    let envelopes = out.as_slice();
-    if envelopes.len() != expected.len() {
-        return false;
-    }
-    for (envelope, wanted) in envelopes.iter().zip(expected.iter()) {
-        if shape(envelope) != *wanted {
-            return false;
-        }
-    }
-    true
+fn is_shaped(envelope: &Envelope, wanted: Shape) -> bool {
+    let (kind, to, number, at) = shape(envelope);
+    kind == wanted.0 && to == wanted.1 && number == wanted.2 && at == wanted.3
 }
 
-pub fn is_told(answer: &Result<Outbox, Fault>, told: Told) -> bool {
+fn says(out: Outbox, told: Told) -> bool {
+    match (out.as_slice(), told) {
+        ([], Told::Nothing) => true,
+        ([only], Told::One(wanted)) => is_shaped(only, wanted),
+        ([first, second], Told::Two(one, two)) => is_shaped(first, one) && is_shaped(second, two),
+        _ => false,
+    }
+}
+
+pub fn is_told(answer: Result<Outbox, Fault>, told: Told) -> bool {
     match (answer, told) {
-        (Ok(out), Told::Nothing) => says(out, &[]),
-        (Ok(out), Told::One(first)) => says(out, &[first]),
-        (Ok(out), Told::Two(first, second)) => says(out, &[first, second]),
-        (Err(why), Told::Refused(fault)) => *why == fault,
+        (Ok(out), told) => says(out, told),
+        (Err(why), Told::Refused(fault)) => why == fault,
         _ => false,
     }
 }

@@ -8,6 +8,8 @@ mod coordinating;
 #[cfg(test)]
 mod given;
 #[cfg(test)]
+mod made;
+#[cfg(test)]
 mod one_commit;
 #[cfg(test)]
 mod promising;

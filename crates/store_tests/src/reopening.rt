@@ -5,8 +5,7 @@ use crate::stories::{Exchange, Moment, Origin, Shows, Story, disk_behind, fresh,
 use shard::Core;
 use simdisk::SimDisk;
 use std::alloc::Global;
-use std::test::Fail;
-use units::{Fault, Seen, Setup};
+use units::{Fault, Seen};
 
 const SERVED: &[Exchange] = &[(150, 160, Given::Advance(150), Told::Nothing)];
 
@@ -135,8 +134,8 @@ static REOPENED: [Story; 5] = [
 ];
 
 #[test]
-fn reopened(rt: HostRuntime) -> Result<(), Fail> {
-    tell(&rt, rt.alloc(), &REOPENED)
+fn reopened(rt: HostRuntime) {
+    tell(&rt, rt.alloc(), &REOPENED);
 }
 
 // A commit whose append meets a failing device call: before the last one the record is hidden, and behind it is there.
@@ -174,8 +173,8 @@ static ARMED: [Story; 4] = [
 ];
 
 #[test]
-fn a_failing_call_stops_the_core(rt: HostRuntime) -> Result<(), Fail> {
-    tell(&rt, rt.alloc(), &ARMED)
+fn a_failing_call_stops_the_core(rt: HostRuntime) {
+    tell(&rt, rt.alloc(), &ARMED);
 }
 
 // A disk, as these leave it of a shard, or without a log; and why it is not opened as that of another.
@@ -204,33 +203,34 @@ static REFUSED: [Refused; 3] = [
     },
 ];
 
-fn disk_of(alloc: Global, row: Refused) -> Option<SimDisk> {
+fn disk_of(alloc: Global, row: &Refused) -> Option<SimDisk> {
     let Some((shard, exchanges)) = row.left else {
         return Some(SimDisk::new(alloc));
     };
-    disk_behind(
-        fresh(alloc, SimDisk::new(alloc), shard, 0)?,
-        alloc,
-        exchanges,
-    )
+    let core = fresh(alloc, SimDisk::new(alloc), shard, 0)?;
+    disk_behind(core, alloc, exchanges)
 }
 
-fn refusal(alloc: Global, disk: SimDisk, setup: Setup) -> Option<Fault> {
+// Why the disk of the row is not opened.
+fn refusal(alloc: Global, row: &Refused) -> Result<(), Fault> {
+    let setup = setup(alloc, row.shard, 0).ok_or(Fault::Memory)?;
+    let disk = disk_of(alloc, row).ok_or(Fault::Memory)?;
     match Core::open(alloc, disk, setup) {
         Ok(core) => {
             let _ = core.stop();
-            None
+            Ok(())
         }
-        Err((fault, _)) => Some(fault),
+        Err((fault, _)) => Err(fault),
     }
 }
 
 #[test]
-fn disks_that_are_not_opened(rt: HostRuntime) -> Result<(), Fail> {
+fn disks_that_are_not_opened(rt: HostRuntime) {
     for row in &REFUSED {
-        let disk = disk_of(rt.alloc(), *row).ok_or("a disk")?;
-        let setup = setup(rt.alloc(), row.shard, 0).ok_or("a setup")?;
-        assert_eq!(rt; refusal(rt.alloc(), disk, setup), row.fault);
+        assert!(rt;
+            refusal(rt.alloc(), row).err() == row.fault,
+            "as shard {}",
+            row.shard
+        );
     }
-    Ok(())
 }

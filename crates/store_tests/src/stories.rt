@@ -1,19 +1,19 @@
 //! Stories of one core: how its disk came to be, what it is given and is to answer, and what it shows then.
 use crate::answers::{Told, is_told};
 use crate::given::{Given, input_of, reading};
+use crate::made::{key, shard, stamp};
 use disk::Disk;
 use shard::Core;
 use simdisk::{Choice, SimDisk};
 use std::alloc::Global;
 use std::process::Abort;
-use std::test::Fail;
-use units::{Book, Fault, Key, Seen, Setup, ShardNo, Splits, Stamp, Stride, TxnId};
+use units::{Book, Fault, Key, Seen, Setup, Splits, Stamp, Stride, TxnId};
 
 // The two ends of a reading, what is given at it, and what is to be told.
 pub type Exchange = (u64, u64, Given, Told);
 
 // How the core came to be.
-#[derive(Clone, Copy, Debug)]
+#[derive(Clone, Copy)]
 pub enum Origin {
     // It is new.
     New,
@@ -27,7 +27,7 @@ pub enum Origin {
 }
 
 // What it shows. Where there is no transaction its number and timestamp are 0.
-#[derive(Clone, Copy, Debug)]
+#[derive(Clone, Copy)]
 pub enum Shows {
     Ready(u64),
     // The first that is prepared, and the first two that are decided.
@@ -47,7 +47,7 @@ pub enum Shows {
 }
 
 // Once so many of the exchanges were made.
-#[derive(Clone, Copy, Debug)]
+#[derive(Clone, Copy)]
 pub struct Moment {
     pub after: usize,
     pub shows: &'static [Shows],
@@ -65,20 +65,24 @@ pub struct Story {
 
 // A shard of two, which are split at `m`, with a stride.
 pub fn setup(alloc: Global, number: u8, stride: u64) -> Option<Setup> {
-    let m = Key::new(b"m").ok()?;
+    let stride = Stride::new(stride)?;
+    let splits = Splits::new(alloc, &[key(b'm')]).ok()?;
     Some(Setup {
-        shard: ShardNo::new(number)?,
-        splits: Splits::new(alloc, &[m]).ok()?,
-        stride: Stride::new(stride)?,
+        shard: shard(number),
+        splits,
+        stride,
         book: Book::Off,
     })
 }
 
 fn meets(core: &mut Core<SimDisk>, alloc: Global, exchange: Exchange) -> bool {
     let (earliest, latest, given, told) = exchange;
-    match (reading(earliest, latest), input_of(alloc, given)) {
-        (Some(now), Some(input)) => is_told(&core.on(alloc, &now, &input), told),
-        _ => false,
+    let Some(now) = reading(earliest, latest) else {
+        return false;
+    };
+    match input_of(alloc, given) {
+        Some(input) => is_told(core.on(alloc, &now, &input), told),
+        None => false,
     }
 }
 
@@ -102,9 +106,9 @@ fn glance(
     at: u64,
     room: usize,
 ) -> Option<(Result<Seen, Fault>, [u8; 4])> {
-    let (key, at) = (Key::new(key).ok()?, Stamp::new(at).ok()?);
+    let key = Key::new(key).ok()?;
     let mut buffer = [9; 4];
-    let seen = core.look(&key, at, &mut buffer[..room.min(4)]);
+    let seen = core.look(&key, stamp(at), &mut buffer[..room.min(4)]);
     Some((seen, buffer))
 }
 
@@ -138,23 +142,36 @@ fn disk_behind_armed(
     }
 }
 
-fn begun(alloc: Global, story: &Story) -> Option<Core<SimDisk>> {
+fn failing(alloc: Global, call: u64) -> SimDisk {
     let mut disk = SimDisk::new(alloc);
+    disk.fail_next(call);
+    disk
+}
+
+fn crashed(alloc: Global, story: &Story, exchanges: &[Exchange]) -> Option<SimDisk> {
+    let core = fresh(alloc, SimDisk::new(alloc), story.shard, story.stride)?;
+    let disk = disk_behind(core, alloc, exchanges)?;
+    Some(disk.crash(&Choice::none(alloc)))
+}
+
+fn opened(alloc: Global, story: &Story, disk: Option<SimDisk>) -> Option<Core<SimDisk>> {
+    let setup = setup(alloc, story.shard, story.stride)?;
+    Core::open(alloc, disk?, setup).ok()
+}
+
+fn begun(alloc: Global, story: &Story) -> Option<Core<SimDisk>> {
     match story.origin {
-        Origin::New => return fresh(alloc, disk, story.shard, story.stride),
-        Origin::Failing(call) => {
-            disk.fail_next(call);
-            return fresh(alloc, disk, story.shard, story.stride);
-        }
-        Origin::Crashed(exchanges) => {
-            let core = fresh(alloc, disk, story.shard, story.stride)?;
-            disk = disk_behind(core, alloc, exchanges)?.crash(&Choice::none(alloc));
-        }
+        Origin::New => fresh(alloc, SimDisk::new(alloc), story.shard, story.stride),
+        Origin::Failing(call) => fresh(alloc, failing(alloc, call), story.shard, story.stride),
+        Origin::Crashed(exchanges) => opened(alloc, story, crashed(alloc, story, exchanges)),
         Origin::Armed(call, exchanges) => {
-            disk = disk_behind_armed(alloc, story, call, exchanges)?;
+            opened(
+                alloc,
+                story,
+                disk_behind_armed(alloc, story, call, exchanges),
+            )
         }
     }
-    Core::open(alloc, disk, setup(alloc, story.shard, story.stride)?).ok()
 }
 
 fn standing(found: Option<(TxnId, Stamp)>) -> (u64, u64) {
@@ -207,39 +224,44 @@ fn is_in(bytes: &[u8], fact: Shows) -> bool {
     }
 }
 
-// The facts on the file.
-fn are_in(alloc: Global, disk: &mut SimDisk, facts: &[Shows]) -> Result<bool, Fault> {
+fn content(alloc: Global, disk: &mut SimDisk) -> Result<Vec<u8>, Fault> {
     let mut bytes = vec![in alloc; 0u8; disk.len() as usize]?;
     disk.read_at(0, &mut bytes)?;
+    Ok(bytes)
+}
+
+// The facts on the file.
+fn are_in(bytes: &[u8], facts: &[Shows]) -> bool {
     for fact in facts {
-        if !is_in(&bytes, *fact) {
-            return Ok(false);
+        if !is_in(bytes, *fact) {
+            return false;
         }
     }
-    Ok(true)
+    true
+}
+
+fn is_kept(alloc: Global, disk: &mut SimDisk, facts: &[Shows]) -> bool {
+    match content(alloc, disk) {
+        Ok(bytes) => are_in(bytes.as_slice(), facts),
+        Err(_) => false,
+    }
 }
 
 // The story goes as it is told, up to the moment.
-fn goes(alloc: Global, story: &Story, moment: Moment) -> Option<bool> {
+fn goes(alloc: Global, story: &Story, moment: &Moment) -> Option<bool> {
     let exchanges = story.exchanges.get(..moment.after)?;
     let mut core = begun(alloc, story)?;
     let met = meets_all(&mut core, alloc, exchanges);
     let shown = are_shown(&core, moment.shows);
-    let mut disk = core.stop();
-    let kept = are_in(alloc, &mut disk, moment.shows).ok()?;
+    let kept = is_kept(alloc, &mut core.stop(), moment.shows);
     Some(met && shown && kept)
 }
 
-pub fn tell(rt: &impl Abort, alloc: Global, stories: &[Story]) -> Result<(), Fail> {
+pub fn tell(rt: &impl Abort, alloc: Global, stories: &[Story]) {
     for story in stories {
         for moment in story.moments {
-            assert_eq!(rt;
-                goes(alloc, story, *moment),
-                Some(true),
-                "{}: {moment:?}",
-                story.name
-            );
+            let told = matches!(goes(alloc, story, moment), Some(true));
+            assert!(rt; told, "{} after {}", story.name, moment.after);
         }
     }
-    Ok(())
 }
