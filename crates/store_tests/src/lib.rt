@@ -16,6 +16,6 @@ mod promising;
 #[cfg(test)]
 mod reopening;
 #[cfg(test)]
-mod serving;
+mod served;
 #[cfg(test)]
 mod stories;

@@ -137,6 +137,6 @@ static SERVING: [Story; 6] = [
 ];
 
 #[test]
-fn serving(rt: HostRuntime) {
+fn served(rt: HostRuntime) {
     tell(&rt, rt.alloc(), &SERVING);
 }
