@@ -15,8 +15,8 @@ use Rattle.shard.specs.Core.{seen}
 use Rattle.shard.specs.On.{CoreView}
 use Rattle.simdisk.specs.declared.simdisk.SimDisk.{SimDisk}
 use Rattle.world.specs.World.{ShardNow, State, Runs, IsStopped, IsDown, crashed, effect, input_of, step_of_opening, step_with, wanted, where_room}
-use Rattle.world.specs.Crashless.{goes_on}
-use Rattle.world.specs.Inputs.{IsNoInput}
+use Rattle.lives.specs.Inputs.{goes_on}
+use Rattle.lives.specs.Inputs.{IsNoInput}
 use Rattle.world.specs.Lawful.{is_up}
 use Rattle.world.specs.declared.event.Doing.{Doing}
 use Rattle.lives.specs.Lives.{HoldsLog, IsCoreIn, IsDiskIn, LivesAs, LivesIn, disk_log}
@@ -44,7 +44,7 @@ goes_so false e = absurd (false≢true (sym e))
 
 module _ (setup : Setup) (bag : List Envelope) (s : ShardNow) where
   -- what it asks for
-  goes_as : (doing : Doing) → goes_on doing ≡ true
+  pub goes_as : (doing : Doing) → goes_on doing ≡ true
       → effect setup bag s doing
       ≡ where_room (end_of (disk_log s)) (elim s.state as (λ x. Stepped) [ Runs m ↦ step_with setup (facts_of s.log) m (input_of bag doing) | _ ↦ Refuses Stopped ])
   unfolding effect wanted

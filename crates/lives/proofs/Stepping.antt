@@ -77,7 +77,7 @@ with_logged log None = ap (λ l. Ok l) (sym (append-nil log))
 with_logged log (Some r) = refl
 
 -- and their facts
-facts_with : (n : ℕ) (log : List Record) (logged : Option Record) → ((r : Record) → logged ≡ Some r → IsTrue (followed n (log ++ r ∷ []))) →
+pub facts_with : (n : ℕ) (log : List Record) (logged : Option Record) → ((r : Record) → logged ≡ Some r → IsTrue (followed n (log ++ r ∷ []))) →
     facts_after (facts_of log) logged ≡ facts_of (log ++ option_to_list logged)
 facts_with n log None h = ap facts_of (sym (append-nil log))
 facts_with n log (Some r) h = sym (learn_agrees n log r (h r refl))

@@ -1,2 +1,9 @@
 pub mod Carries
+pub mod Fleet
+pub mod Inputs
 pub mod Lives
+pub mod Looks
+pub mod Newer
+pub mod Runs
+pub mod Shows
+pub mod Unopened

@@ -200,14 +200,15 @@ step_logs setup log unsure (Runs m) views (Some q) r memory out well e =
         (takes setup log m q.0 q.1 p r (well.left log (inl refl)).good well.state.0 is (logged_is p.logged (Some r) (carried p m) memory p.outbox out k))
 
 module _ (config : Config) (bag : List Envelope) (n : ℕ) (s : ShardNow) (well : WellShard (setup_of config n) s) where
+  -- a read of the disk gives a log that is taken
+  good : IsTaken (setup_of config n) (read_log s)
+  good = (well.left (read_log s) (read_left InLimit IsWell IsTaken keeps opens accepted_follows logs opening_taken config bag n s well)).good
+
   opening_logs : (r : Record) (memory : Memory) (out : List Envelope) → step_of_opening (facts_of (read_log s)) ≡ Does (Some r) memory out →
       IsTaken (setup_of config n) (read_log s ++ r ∷ [])
   unfolding step_of_opening
   opening_logs r memory out e = by_test (nat_lt (facts_of (read_log s)).epoch time_limit) e
     where
-      good : IsTaken (setup_of config n) (read_log s)
-      good = (well.left (read_log s) (read_left InLimit IsWell IsTaken keeps opens accepted_follows logs opening_taken config bag n s well)).good
-
       by_test : (b : Bool) → cond b (Does (Some (Record.Opened ((facts_of (read_log s)).epoch + 1))) (rebuilt (facts_of (read_log s))) [])
           (Refuses TimeSpent) ≡ Does (Some r) memory out →
           IsTaken (setup_of config n) (read_log s ++ r ∷ [])
@@ -255,4 +256,5 @@ is_steady config es fair =
       follows = λ n s log there may. accepted_follows (setup_of v.config n) log ((well n s there).left log may).good;
       logged = λ n s doing r memory out there e.
           accepted_follows (setup_of v.config n) (read_log s ++ r ∷ []) (doing_logs v.config v.bag n s (well n s there) doing r memory out e);
+      takes = λ n s there. good v.config v.bag n s (well n s there);
     }

@@ -1,11 +1,7 @@
-pub mod Carrying
 pub mod Decides
 pub mod EveryRun
-pub mod Fleets
-pub mod Happened
 pub mod HeldSteps
 pub mod Hosted
-pub mod Newest
 pub mod Openings
 pub mod Places
 pub mod Puts
@@ -13,4 +9,3 @@ pub mod Replying
 pub mod Rooms
 pub mod Sounds
 pub mod Untouched
-pub mod Viewed

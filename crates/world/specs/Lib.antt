@@ -1,17 +1,11 @@
 pub mod Comes
 pub mod Computing
 pub mod Counts
-pub mod Crashless
-pub mod Fleet
 pub mod Headline
 pub mod Held
 pub mod Hosts
-pub mod Inputs
 pub mod Lawful
-pub mod Looks
-pub mod Newer
 pub mod Passed
-pub mod Runs
 pub mod Steady
 pub mod Told
 pub mod World

@@ -1,6 +1,6 @@
 -- What is known of the shards of a world one by one.
 use Rattle.std.specs.Prelude.{ℕ, ◌≡◌, IsTrue, List, [], ◌∷◌, ◌++◌, slice_get, Some}
-use Rattle.record.specs.Accepted.{followed}
+use Rattle.record.specs.Accepted.{Accepted, followed, taken}
 use Rattle.record.specs.declared.record.Record.{Record}
 use Rattle.message.specs.declared.message.Envelope.{Envelope}
 use Rattle.protocol.specs.Rows.{Memory}
@@ -12,11 +12,13 @@ use Rattle.world.specs.declared.event.Config.{Config}
 use Rattle.world.specs.declared.event.Doing.{Doing}
 use Rattle.world.specs.declared.event.Event.{Event}
 
--- in each log that a crash may leave each record follows those before it, and so does the record of a step under way
+-- in each log that a crash may leave each record follows those before it, and so does the record of a step under way; and an
+-- opening takes the log that a read of the disk gives
 pub record IsSteady (w : World) : Type 0 where
   pub follows : (n : ℕ) (s : ShardNow) (log : List Record) → slice_get w.shards n ≡ Some s → MayLeaveLog s log → IsTrue (followed n log)
   pub logged : (n : ℕ) (s : ShardNow) (doing : Doing) (r : Record) (memory : Memory) (out : List Envelope) → slice_get w.shards n ≡ Some s →
       effect (setup_of w.config n) w.bag s doing ≡ Does (Some r) memory out → IsTrue (followed n (read_log s ++ r ∷ []))
+  pub takes : (n : ℕ) (s : ShardNow) → slice_get w.shards n ≡ Some s → taken (setup_of w.config n) (read_log s) ≡ Accepted
 
 -- so at every moment of a lawful run
 abbrev pub AlwaysSteady : Type 0

@@ -5,14 +5,10 @@
 mod begun;
 mod counting;
 mod event;
-mod fleet;
 mod hosting;
-mod lawfulness;
 mod output;
-mod run;
-mod running;
-mod view;
 
 pub use counting::counted;
 pub use event::{Act, Config, Doing, Event, Reply};
-pub use run::Run;
+pub use hosting::Sessions;
+pub use output::RunOutput;

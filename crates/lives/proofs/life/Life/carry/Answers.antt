@@ -1,6 +1,6 @@
 use Rattle.std.proofs.Common.{sym, ◌∙◌, subst}
 use Rattle.shard.specs.Core.{seen}
-use Rattle.world.specs.Crashless.{goes_on}
+use Rattle.lives.specs.Inputs.{goes_on}
 use Rattle.lives.specs.Lives.{LivesAs}
 use Rattle.lives.specs.declared.life.Life.TheVariants.{Up}
 use Rattle.lives.proofs.Living.{core_carries, down_carries, goes_so, open_carries, up_carries}

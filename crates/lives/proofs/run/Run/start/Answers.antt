@@ -1,0 +1,12 @@
+use Rattle.std.proofs.Common.{refl}
+use Rattle.world.specs.World.{start}
+use Rattle.lives.proofs.run.Run.start.Goals as goal
+
+pub returns-clause-started : goal.returns-clause-started
+unfolding start
+returns-clause-started c = record {
+  sessions = c.none.ensures;
+  shards = c.in_ok-start.ensures.started;
+  output = record { bag = c.new.ensures.0; told = c.new.ensures.1; lines = c.new.ensures.2; event = c.new.ensures.3 };
+  time = refl;
+}

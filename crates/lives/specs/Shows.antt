@@ -1,0 +1,91 @@
+-- How a shard of a run in the code stands for one of the definitions, with its views.
+use Rattle.std.specs.List.{list_all}
+use Rattle.std.specs.Prelude.{◌≡◌, ◌≤◌, ℕ, ◌+◌, ◌-◌, Bool, true, false, not, cond, nat_le, List, [], ◌∷◌, ◌++◌, length, map, take, drop, Option, Some, None, Result}
+use Rattle.units.specs.declared.fault.Fault.{Fault}
+use Rattle.units.specs.declared.setup.Setup.{Setup}
+use Rattle.units.specs.declared.writes.Install.{Install}
+use Rattle.record.specs.Facts.{facts_of}
+use Rattle.record.specs.declared.record.Record.{Record}
+use Rattle.message.specs.declared.message.Envelope.{Envelope}
+use Rattle.protocol.specs.Step.{Stepped, Refuses, Does}
+use Rattle.shard.specs.Core.{seen}
+use Rattle.shard.specs.Look.{safe_at}
+use Rattle.shard.specs.On.{CoreView}
+use Rattle.simdisk.specs.declared.simdisk.SimDisk.{SimDisk}
+use Rattle.world.specs.World.{ShardNow, State, Runs, IsStopped, IsDown, View, effect, failed_in, finished, makes_view}
+use Rattle.lives.specs.Inputs.{goes_on}
+use Rattle.world.specs.declared.event.Doing.{Doing}
+use Rattle.lives.specs.Carries.{Comes, IsOrderly, by_call, refused_by}
+use Rattle.lives.specs.Lives.{LivesAs}
+use Rattle.lives.specs.declared.life.Life.{Life}
+use Rattle.lives.specs.declared.life.Life.TheVariants.{Up, Down}
+use Rattle.lives.specs.declared.run_shard.RunShard.{RunShard}
+use Rattle.lives.specs.declared.view.View.{View as CodeView}
+
+-- a view, by all versions that its shard ever showed
+abbrev pub shown_view : List Install → CodeView → View
+shown_view installs v = record { installs = take v.count (drop v.from installs); safe = v.safe }
+
+-- all of its versions are among these
+abbrev pub is_within : List Install → CodeView → Bool
+is_within installs v = nat_le (v.from + v.count) (length installs)
+
+-- while a shard runs, the last versions are those of its log
+abbrev pub ShowsLog : List Install → ℕ → ShardNow → State → Type 0
+ShowsLog installs from s (Runs m) = (from ≤ length installs) × (drop from installs ≡ (facts_of s.log).installs)
+ShowsLog installs from s (IsStopped m) = Unit {0}
+ShowsLog installs from s IsDown = Unit {0}
+
+-- what lives of it, and its views
+pub record StandsFor (setup : Setup) (r : RunShard) (s : ShardNow) : Type 0 where
+  pub setup_is : r.setup ≡ setup
+  pub lives : LivesAs setup s r.life
+  pub views : map (shown_view r.installs.items) r.views.items ≡ s.views
+  pub within : list_all (is_within r.installs.items) r.views.items ≡ true
+  pub shows : ShowsLog r.installs.items r.from s s.state
+
+-- what a call of it leaves, but for what lives
+pub record IsKept (old new : RunShard) : Type 0 where
+  pub setup : new.setup ≡ old.setup
+  pub installs : new.installs.items ≡ old.installs.items
+  pub from : new.from ≡ old.from
+  pub views : new.views.items ≡ old.views.items
+
+-- a shard after a doing, with the view that it makes, where a refusal leaves that other one
+abbrev pub leads_to : ShardNow → ShardNow → Option ℕ → Doing → Stepped → ShardNow
+leads_to s refused call doing (Refuses fault) = refused
+leads_to s refused call doing (Does None memory out) = finished s doing None memory
+leads_to s refused call doing (Does (Some r) memory out) = by_call call (λ c. failed_in s c r) (finished s doing (Some r) memory)
+
+-- a shard after a doing, with a call armed or with none
+abbrev pub done_by : ShardNow → Option ℕ → Doing → Stepped → ShardNow
+done_by s call doing st = leads_to s (refused_by s doing) call doing st
+
+-- a doing is carried out, with the view that it makes
+abbrev pub Acts : Setup → List Envelope → ShardNow → Option ℕ → Doing → RunShard → Result (List Envelope) Fault → Type 0
+Acts setup bag s call doing new result =
+    IsOrderly setup s (effect setup bag s doing)
+    → Comes call (effect setup bag s doing) result (StandsFor setup new (done_by s call doing (effect setup bag s doing)))
+
+-- ---- what is kept of a core behind a doing
+
+-- where the versions of the core begin: those of an opened one are a list of their own
+abbrev pub begins_at : Doing → ℕ → ℕ → ℕ
+begins_at doing from len = cond (goes_on doing) from len
+
+-- what a core shows now, as a view
+abbrev pub view_now : ℕ → CoreView SimDisk → CodeView
+view_now from core = record { from = from; count = length core.facts.installs; safe = safe_at core }
+
+-- what the core shows more than before is kept, and the view that the doing makes
+pub record HasNoted (doing : Doing) (core : CoreView SimDisk) (old new : RunShard) : Type 0 where
+  pub setup : new.setup ≡ old.setup
+  pub life : new.life ≡ old.life
+  pub from : new.from ≡ begins_at doing old.from (length old.installs.items)
+  pub installs : new.installs.items ≡ old.installs.items ++ drop (length old.installs.items - new.from) core.facts.installs
+  pub views : new.views.items ≡ old.views.items ++ cond (makes_view doing) (view_now new.from core ∷ []) []
+
+-- of a core; there is nothing to keep of a shard that is down
+abbrev pub Notes : Doing → RunShard → RunShard → Life → Type 0
+Notes doing old new (Up core) = HasNoted doing (seen core) old new
+Notes doing old new (Down disk) = Unit {0}

@@ -1,0 +1,304 @@
+//! A shard of a run: what there is of it, and the views that it has made.
+ghost use Rattle.std.specs.Prelude.{◌≡◌, ◌≢◌, ◌∷◌, ◌++◌, [], ℕ, Some, None, Err, true, not, IfOk, IfErr, OnOk, length, map};
+ghost use Rattle.units.specs.declared.setup.Setup.{Setup};
+ghost use Rattle.disk.specs.declared.plan.Fate.{Fate as Left};
+ghost use Rattle.world.specs.World.{ShardNow, crashed_in, effect, fresh_shard, makes_view, read_log};
+ghost use Rattle.lives.specs.Unopened.{unopened_shard};
+ghost use Rattle.lives.specs.Lives.{HoldsLog, LivesAs, crash_by};
+ghost use Rattle.lives.specs.Carries.{IsOrderly};
+ghost use Rattle.lives.specs.Shows.{StandsFor, begins_at};
+
+use crate::life::{Life, opens};
+use crate::view::{View, behind};
+use disk::Fate;
+use gatelog::{Entry, GateLog};
+use message::{Envelope, Outbox};
+use record::Record;
+use simdisk::{Choice, SimDisk};
+use std::alloc::Global;
+use std::mem::replace;
+use units::{Fault, Install, Key, Setup, Stamp, copy_value};
+use world::{Doing, Reply};
+
+/// A shard of a run: what it is told, its core or its disk, every version that a core of it ever showed, where those of the
+/// last core begin, and the views that count into them. It has to be spent.
+pub struct RunShard {
+    pub setup: Setup,
+    pub life: Life,
+    pub installs: Vec<Install>,
+    pub from: usize,
+    pub views: Vec<View>,
+}
+
+impl RunShard {
+    ghost use Rattle.std.specs.Prelude.{nat_eq, slice_get};
+    ghost use Rattle.units.specs.Keys.{shard_of};
+    ghost use Rattle.world.specs.World.{look_at_view, look_shard};
+    ghost use Rattle.world.specs.Lawful.{is_down, is_up};
+    ghost use Rattle.lives.specs.Carries.{Carries};
+    ghost use Rattle.lives.specs.Fleet.{IsOn};
+    ghost use Rattle.lives.specs.Shows.{Acts, IsKept, Notes};
+
+    /// A shard on a new disk, formatted and opened, with its first view.
+    pub fn fresh(alloc: Global, setup: Setup) -> Result<RunShard, Fault>
+        ensures fresh { IfOk result (λ shard. StandsFor setup shard fresh_shard) }
+        ensures memory { IfErr result (λ fault. fault ≡ Fault.Memory) }
+    {
+        let mut shard = formatted(alloc, setup)?;
+        match shard.act(alloc, &[], None, &Doing::Open) {
+            Ok(_) => Ok(shard),
+            Err(fault) => {
+                shard.spend();
+                Err(fault)
+            }
+        }
+    }
+
+    /// It runs.
+    pub fn is_up(&self) -> bool
+        ensures { (setup : Setup) (s : ShardNow) → StandsFor setup self.now s → result ≡ is_up s.state }
+    {
+        self.life.is_up()
+    }
+
+    /// It is down.
+    pub fn is_down(&self) -> bool
+        ensures { (setup : Setup) (s : ShardNow) → StandsFor setup self.now s → result ≡ is_down s.state }
+    {
+        self.life.is_down()
+    }
+
+    /// How many views it has made.
+    pub fn views(&self) -> u64
+        ensures { (setup : Setup) (s : ShardNow) → StandsFor setup self.now s → result ≡ length s.views }
+    {
+        self.views.len() as u64
+    }
+
+    /// Carries out what the shard does, with a device call of its append, by its number from 0, armed to fail, or with none.
+    pub fn act(
+        &mut self,
+        alloc: Global,
+        bag: &[Envelope],
+        call: Option<u64>,
+        doing: &Doing,
+    ) -> Result<Outbox, Fault>
+        ensures { (setup : Setup) (s : ShardNow) → StandsFor setup self.old s → Acts setup bag.now s call doing.now self.new result }
+    {
+        let out = self.carry(alloc, bag, call, doing)?;
+        self.note(alloc, doing)?;
+        Ok(out)
+    }
+
+    // Carries it out, but for the view that is made.
+    fn carry(
+        &mut self,
+        alloc: Global,
+        bag: &[Envelope],
+        call: Option<u64>,
+        doing: &Doing,
+    ) -> Result<Outbox, Fault>
+        ensures kept { IsKept self.old self.new }
+        ensures carried { (s : ShardNow) → LivesAs self.old.setup s self.old.life → Carries self.old.setup bag.now s call doing.now self.new.life result }
+    {
+        let life = replace(&mut self.life, Life::Down(SimDisk::new(alloc)));
+        let (life, result) = life.carry(alloc, &self.setup, bag, call, doing);
+        let _disk = replace(&mut self.life, life).into_disk();
+        result
+    }
+
+    // Keeps what its core shows more than before, and the view that the doing makes.
+    fn note(&mut self, alloc: Global, doing: &Doing) -> Result<(), Fault>
+        ensures noted { OnOk result (Notes doing.now self.old self.new self.old.life) }
+        ensures memory { IfErr result (λ fault. fault ≡ Fault.Memory) }
+    {
+        let Life::Up(core) = &self.life else {
+            return Ok(());
+        };
+        let from = begins_at(doing, self.from, self.installs.len());
+        let known = self.installs.len().saturating_sub(from);
+        push_copies(&mut self.installs, alloc, behind(core.installs(), known))?;
+        self.from = from;
+        if makes_view(doing) {
+            self.views.push(View::of(core, from))?;
+        }
+        Ok(())
+    }
+
+    // What lives of it falls, by the fate of the oldest change that is not synced.
+    fn fall(&mut self, alloc: Global, fate: Fate) -> Result<(), Fault>
+        ensures kept { OnOk result (IsKept self.old self.new) }
+        ensures fallen { (s : ShardNow) → LivesAs self.old.setup s self.old.life → OnOk result (LivesAs self.old.setup (crash_by fate s) self.new.life) }
+        ensures memory { IfErr result (λ fault. fault ≡ Fault.Memory) }
+    {
+        let mut fates = Vec::new(alloc);
+        fates.push(fate)?;
+        let life = replace(&mut self.life, Life::Down(SimDisk::new(alloc)));
+        let life = life.crash(&Choice::from_vec(fates));
+        let _disk = replace(&mut self.life, life).into_disk();
+        Ok(())
+    }
+
+    /// A crash. The oldest change that is not synced has this fate.
+    pub fn crash(&mut self, alloc: Global, fate: Fate) -> Result<(), Fault>
+        ensures crashed { (setup : Setup) (s : ShardNow) → StandsFor setup self.old s → OnOk result (StandsFor setup self.new (crash_by fate s)) }
+        ensures memory { IfErr result (λ fault. fault ≡ Fault.Memory) }
+    {
+        self.fall(alloc, fate)
+    }
+
+    /// A crash in a device call of a doing, by its number from 0.
+    pub fn crash_in(
+        &mut self,
+        alloc: Global,
+        bag: &[Envelope],
+        call: u64,
+        fate: Fate,
+        doing: &Doing,
+    ) -> Result<(), Fault>
+        ensures crashed { (setup : Setup) (s : ShardNow) → StandsFor setup self.old s → IsOrderly setup s (effect setup bag.now s doing.now)
+            → OnOk result (StandsFor setup self.new (crashed_in s call fate doing.now (effect setup bag.now s doing.now))) }
+        ensures memory { IfErr result (λ fault. fault ≡ Fault.Memory) }
+    {
+        unless_memory(self.carry(alloc, bag, Some(call), doing))?;
+        self.fall(alloc, fate)
+    }
+
+    /// A look at what it shows now.
+    pub fn look(&self, alloc: Global, is_here: bool, key: &Key, at: Stamp) -> Result<Reply, Fault>
+        ensures shown { (setup : Setup) (s : ShardNow) → StandsFor setup self.now s → is_here ≡ nat_eq (shard_of setup.splits key.now) setup.shard → IfOk result (λ reply. reply ≡ look_shard setup s key.now at) }
+        ensures memory { IfErr result (λ fault. fault ≡ Fault.Memory) }
+    {
+        match &self.life {
+            Life::Up(core) => View::of(core, 0).look(alloc, core.installs(), is_here, key, at),
+            Life::Down(_) => Ok(Reply::Refused(Fault::Stopped)),
+        }
+    }
+
+    /// A look at a view, by its number from 0.
+    pub fn look_back(
+        &self,
+        alloc: Global,
+        number: u64,
+        is_here: bool,
+        key: &Key,
+        at: Stamp,
+    ) -> Result<Reply, Fault>
+        ensures shown { (setup : Setup) (s : ShardNow) → StandsFor setup self.now s → is_here ≡ nat_eq (shard_of setup.splits key.now) setup.shard → IfOk result (λ reply. reply ≡ look_at_view setup (slice_get s.views number) key.now at) }
+        ensures memory { IfErr result (λ fault. fault ≡ Fault.Memory) }
+    {
+        match self.views.get(number as usize) {
+            Some(view) => view.look(alloc, &self.installs, is_here, key, at),
+            None => Ok(Reply::Refused(Fault::Stranger)),
+        }
+    }
+
+    /// Ends it: its disk, and the log that a read of the disk gives.
+    pub fn finish(self, alloc: Global) -> Result<(SimDisk, Vec<Record>), Fault>
+        ensures disk { IfOk result (λ r. IsOn r.0 r.1.items) }
+        ensures log { (setup : Setup) (s : ShardNow) → StandsFor setup self s → IfOk result (λ r. r.1.items ≡ read_log s) }
+        ensures memory { (setup : Setup) (s : ShardNow) → StandsFor setup self s → IfErr result (λ fault. fault ≡ Fault.Memory) }
+    {
+        match GateLog::open(alloc, self.into_disk()) {
+            Ok((log, entries)) => {
+                let disk = log.into_disk();
+                let records = records_of(alloc, &entries)?;
+                Ok((disk, records))
+            }
+            Err((fault, _disk)) => Err(fault),
+        }
+    }
+
+    // Its disk as it is.
+    fn into_disk(self) -> SimDisk
+        ensures { (setup : Setup) (s : ShardNow) → StandsFor setup self s → HoldsLog s result }
+    {
+        let RunShard {
+            setup: _,
+            life,
+            installs: _,
+            from: _,
+            views: _,
+        } = self;
+        life.into_disk()
+    }
+
+    /// Ends it.
+    pub fn spend(self) {
+        let _disk = self.into_disk();
+    }
+}
+
+// A shard that was formatted and not yet opened.
+fn formatted(alloc: Global, setup: Setup) -> Result<RunShard, Fault>
+    ensures formatted { IfOk result (λ shard. StandsFor setup shard unopened_shard) }
+    ensures memory { IfErr result (λ fault. fault ≡ Fault.Memory) }
+{
+    match GateLog::format(SimDisk::new(alloc)) {
+        Ok(log) => Ok(RunShard {
+            setup,
+            life: Life::Down(log.into_disk()),
+            installs: Vec::new(alloc),
+            from: 0,
+            views: Vec::new(alloc),
+        }),
+        Err((fault, _disk)) => Err(fault),
+    }
+}
+
+// The records of a log, each with memory of its own.
+fn records_of(alloc: Global, entries: &[Entry]) -> Result<Vec<Record>, Fault>
+    ensures same { IfOk result (λ records. records.items ≡ map (λ e. e.item) entries.now) }
+    ensures memory { IfErr result (λ fault. fault ≡ Fault.Memory) }
+{
+    let mut records = Vec::new(alloc);
+    for entry in entries {
+        records.push(entry.item().copy(alloc)?)?;
+    }
+    Ok(records)
+}
+
+// Copies of versions behind others.
+fn push_copies(installs: &mut Vec<Install>, alloc: Global, more: &[Install]) -> Result<(), Fault>
+    ensures all { OnOk result (installs.new.items ≡ installs.old.items ++ more.now) }
+    ensures memory { IfErr result (λ fault. fault ≡ Fault.Memory) }
+{
+    for install in more {
+        let value = copy_value(alloc, &install.value)?;
+        installs.push(Install {
+            key: install.key,
+            at: install.at,
+            value,
+        })?;
+    }
+    Ok(())
+}
+
+// Whatever was answered, but for want of memory.
+fn unless_memory(answer: Result<Outbox, Fault>) -> Result<(), Fault>
+    ensures other { OnOk result (answer ≢ Err Fault.Memory) }
+    ensures memory { IfErr result (λ fault. fault ≡ Fault.Memory) }
+{
+    match answer {
+        Ok(_) => Ok(()),
+        Err(Fault::Memory) => Err(Fault::Memory),
+        Err(_) => Ok(()),
+    }
+}
+
+// Where the versions of a core begin behind a doing: those of an opened one are a list of their own.
+fn begins_at(doing: &Doing, from: usize, len: usize) -> usize
+    ensures { result ≡ begins_at doing.now from len }
+{
+    if opens(doing) { len } else { from }
+}
+
+// The doing makes a view: an opening does, and an advance.
+fn makes_view(doing: &Doing) -> bool
+    ensures { result ≡ makes_view doing.now }
+{
+    match doing {
+        Doing::Open | Doing::Advance(_, _) => true,
+        _ => false,
+    }
+}

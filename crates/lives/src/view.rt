@@ -1,0 +1,114 @@
+//! What a shard shows at one moment.
+ghost use Rattle.std.specs.Prelude.{◌≡◌, IfOk, IfErr, take, drop};
+ghost use Rattle.std.specs.Option.{option_copied};
+ghost use Rattle.units.specs.Versions.{at_time};
+ghost use Rattle.shard.specs.Core.{seen};
+ghost use Rattle.lives.specs.Newer.{newer, newest_upto};
+ghost use Rattle.lives.specs.Looks.{look_at};
+ghost use Rattle.lives.specs.Shows.{view_now};
+
+use shard::Core;
+use simdisk::SimDisk;
+use std::alloc::Global;
+use units::{Fault, Install, Key, Stamp, Value, copy_value};
+use world::Reply;
+
+/// A moment of a shard: where the versions of its core begin among all that the shard ever showed, how many there were, and
+/// the time that was served. No version is ever taken back, so a view outlives its core.
+#[derive(Clone, Copy)]
+pub struct View {
+    pub from: usize,
+    pub count: usize,
+    pub safe: Stamp,
+}
+
+impl View {
+    /// What a core shows now, where its versions begin there.
+    pub fn of(core: &Core<SimDisk>, from: usize) -> View
+        ensures { result ≡ view_now from (seen core.now) }
+    {
+        View {
+            from,
+            count: core.installs().len(),
+            safe: core.safe(),
+        }
+    }
+
+    /// A look at it, by all versions of the shard, where the key belongs to the shard or not.
+    pub fn look(
+        self,
+        alloc: Global,
+        installs: &[Install],
+        is_here: bool,
+        key: &Key,
+        at: Stamp,
+    ) -> Result<Reply, Fault>
+        ensures shown { IfOk result (λ reply. reply ≡ look_at is_here (take self.count (drop self.from installs.now)) self.safe key.now at) }
+        ensures memory { IfErr result (λ fault. fault ≡ Fault.Memory) }
+    {
+        if !is_here {
+            return Ok(Reply::Refused(Fault::Stranger));
+        }
+        if at.micros() > self.safe.micros() {
+            return Ok(Reply::Refused(Fault::NotYet));
+        }
+        let installs = behind(installs, self.from);
+        let count = self.count.min(installs.len());
+        Ok(Reply::Shows(value_at(alloc, &installs[..count], key, at)?))
+    }
+}
+
+/// The versions behind a place.
+pub fn behind(installs: &[Install], place: usize) -> &[Install]
+    ensures { result.now ≡ drop place installs.now }
+{
+    &installs[place.min(installs.len())..]
+}
+
+// The newest version of a key up to a time.
+fn newest_at<'a>(installs: &'a [Install], key: &Key, at: Stamp) -> Option<&'a Install>
+    ensures { option_copied result ≡ newest_upto installs.now key.now at }
+{
+    let mut best: Option<&Install> = None;
+    let mut left = installs.len();
+    while left > 0 {
+        left -= 1;
+        best = newer(&installs[left], best, key, at);
+    }
+    best
+}
+
+// The version itself, where it is of the key and of a time that has come, unless a later one is known.
+fn newer<'a>(
+    one: &'a Install,
+    best: Option<&'a Install>,
+    key: &Key,
+    at: Stamp,
+) -> Option<&'a Install>
+    ensures { option_copied result ≡ newer one.now key.now at (option_copied best.entry) }
+{
+    if one.at.micros() > at.micros() || !one.key.is(key) {
+        return best;
+    }
+    match best {
+        Some(other) if one.at.micros() < other.at.micros() => Some(other),
+        _ => Some(one),
+    }
+}
+
+// The value of a key at a time.
+#[tactic(auto, using(crate::proofs::Newest::value_of))]
+fn value_at(
+    alloc: Global,
+    installs: &[Install],
+    key: &Key,
+    at: Stamp,
+) -> Result<Option<Value>, Fault>
+    ensures value { IfOk result (λ value. value ≡ at_time installs.now key.now at) }
+    ensures memory { IfErr result (λ fault. fault ≡ Fault.Memory) }
+{
+    match newest_at(installs, key, at) {
+        None => Ok(None),
+        Some(install) => copy_value(alloc, &install.value),
+    }
+}

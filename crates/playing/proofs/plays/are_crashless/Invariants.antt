@@ -1,6 +1,0 @@
-use Rattle.std.proofs.Common.{◌≡◌, drop}
-use Rattle.world.specs.Crashless.{are_crashless}
-use Rattle.playing.proofs.plays.are_crashless.Given as goal
-
-abbrev pub invariant-loop-event : goal.invariant-loop-event
-invariant-loop-event l = are_crashless l.events ≡ are_crashless (drop l.event-index l.events)

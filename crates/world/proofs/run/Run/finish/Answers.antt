@@ -1,6 +1,0 @@
-use Rattle.world.specs.World.{logs_of}
-use Rattle.world.proofs.run.Run.finish.Goals as goal
-
-pub returns-clause-done : goal.returns-clause-done
-unfolding logs_of
-returns-clause-done c w h = (h.output.bag, c.in_ok-logs.ensures.logs w.config w.shards h.shards, h.output.lines)
