@@ -75,8 +75,8 @@ fn is_crashless(act: &Act) -> bool
     match act {
         Act::At(_, Doing::Open) => false,
         Act::Crash(_) => false,
-        Act::CrashIn(_, _, _, _) => false,
-        Act::FailIn(_, _, _) => false,
+        Act::CrashIn(_, _, _, _, _) => false,
+        Act::FailIn(_, _, _, _) => false,
         _ => true,
     }
 }

@@ -133,11 +133,11 @@ doing_limit setup w time n Doing.Open may p same = cc
 pub limits : (w : World) (time : ℕ) (a : Act) → may_act w time a ≡ true → ActAllowed InLimit w a
 unfolding may_act
 limits w time (Act.At n doing) may = doing_limit (setup_of w.config n) w time n doing (and_parts (nat_lt n (length w.shards)) (may_do w time n doing) may).1
-limits w time (Act.CrashIn n call fate doing) may =
-    let p = and_parts (nat_lt n (length w.shards) && may_do w time n doing) (may_crash w n doing) may in
-    doing_limit (setup_of w.config n) w time n doing (and_parts (nat_lt n (length w.shards)) (may_do w time n doing) p.0).1
-limits w time (Act.FailIn n call doing) may = doing_limit (setup_of w.config n) w time n doing
-    (and_parts (nat_lt n (length w.shards)) (may_do w time n doing) may).1
+limits w time (Act.CrashIn n call fate named doing) may =
+    let p = and_parts (nat_lt n (length w.shards) && nat_eq n named && may_do w time n doing) (may_crash w n doing) may in
+    doing_limit (setup_of w.config n) w time n doing (and_parts (nat_lt n (length w.shards) && nat_eq n named) (may_do w time n doing) p.0).1
+limits w time (Act.FailIn n call named doing) may = doing_limit (setup_of w.config n) w time n doing
+    (and_parts (nat_lt n (length w.shards) && nat_eq n named) (may_do w time n doing) may).1
 limits w time (Act.Deliver m now) may = λ e n is goes. message_limit (setup_of w.config n) w.bag m now
 limits w time (Act.Begin t) may = tt
 limits w time (Act.Read t k) may = tt

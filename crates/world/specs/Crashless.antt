@@ -14,8 +14,8 @@ goes_on _ = true
 abbrev pub is_crashless : Act → Bool
 is_crashless (Act.At n doing) = goes_on doing
 is_crashless (Act.Crash n) = false
-is_crashless (Act.CrashIn n call fate doing) = false
-is_crashless (Act.FailIn n call doing) = false
+is_crashless (Act.CrashIn n call fate named doing) = false
+is_crashless (Act.FailIn n call named doing) = false
 is_crashless _ = true
 
 -- so is each event
