@@ -166,8 +166,8 @@ fn an_event_within_another_keeps_its_shard(rt: HostRuntime) -> Result<(), Fail> 
 
 fn both_shards(act: &Act) -> Option<(u8, u64, u8)> {
     match act {
-        Act::CrashIn(at, call, _, named, _) => Some((at.get(), *call, named.get())),
-        Act::FailIn(at, call, named, _) => Some((at.get(), *call, named.get())),
+        Act::CrashIn(at, call, _, named, _) => Some((at.number(), *call, named.number())),
+        Act::FailIn(at, call, named, _) => Some((at.number(), *call, named.number())),
         _ => None,
     }
 }
