@@ -62,7 +62,7 @@ events =
     (Act.Deliver 12 (clock 230 250))
     ∷ on 243 (Act.Write (txn 3) z (Some (56 ∷ []))) ∷ on 243 (Act.Write (txn 3) a (Some (49 ∷ 50 ∷ []))) ∷ on 244 (Act.Close (txn 3))
     ∷ on 245 (Act.Deliver 13 (clock 240 260)) ∷ on 255 (Act.Deliver 14 (clock 250 260)) ∷ on 256 (Act.Deliver 15 (clock 250 260))
-    ∷ on 257 (Act.CrashIn 0 2 Fate.Old (Doing.Settle (txn 3) (clock 255 259)))
+    ∷ on 257 (Act.CrashIn 0 2 Fate.Old 0 (Doing.Settle (txn 3) (clock 255 259)))
     ∷ on 258 (Act.At 0 Doing.Open)
     ∷ on 400 (Act.At 0 (Doing.Settle (txn 3) (clock 390 410)))
     ∷ on 401 (Act.Deliver 17 (clock 390 410))

@@ -188,9 +188,9 @@ module _ (w : World) (C : World → Type 0) (same : C w)
   acts_go time (Act.View n v k at) may = at_shard_goes n (λ setup s. look_noted w k at (look_at_view setup (slice_get s.views v) k at))
       (λ s is. views n s is v k at)
   acts_go time (Act.Crash n) may = at_shard_goes n (λ setup s. (set_shard n (crashed s s.log) w, Reply.Crashed)) (λ s is. crashes n s is s.log)
-  acts_go time (Act.CrashIn n call fate doing) may =
+  acts_go time (Act.CrashIn n call fate named doing) may =
       at_shard_goes n (λ setup s. (set_shard n (crashed_in s call fate doing (effect setup w.bag s doing)) w, Reply.Crashed))
       (λ s is. crash_within_goes n s is call fate doing (effect (setup_of w.config n) w.bag s doing))
-  acts_go time (Act.FailIn n call doing) may =
+  acts_go time (Act.FailIn n call named doing) may =
       at_shard_goes n (λ setup s. did_with_failure w n s call doing (effect setup w.bag s doing))
       (λ s is. failing_goes n s is call doing (effect (setup_of w.config n) w.bag s doing) refl)

@@ -99,10 +99,10 @@ module _ (sc : Scene) (h : Holds sc) (steady : IsSteady sc.world) (present : sli
       (λ s there. look_holds sc k at (look_at_view (setup_of sc.world.config n) (slice_get s.views v) k at) h)
   acts_hold (Act.Crash n) may = at_shard_holds n (λ setup s. (set_shard n (crashed s s.log) sc.world, Reply.Crashed))
       (λ s there. plain_crash_holds sc h steady present n s there)
-  acts_hold (Act.CrashIn n call fate doing) may =
+  acts_hold (Act.CrashIn n call fate named doing) may =
       at_shard_holds n (λ setup s. (set_shard n (crashed_in s call fate doing (effect setup sc.world.bag s doing)) sc.world, Reply.Crashed))
       (λ s there. crash_within_holds sc h steady present n s there call fate doing (given sc n doing (and_parts _ _ (and_parts _ _ may).0).1))
-  acts_hold (Act.FailIn n call doing) may =
+  acts_hold (Act.FailIn n call named doing) may =
       at_shard_holds n (λ setup s. did_with_failure sc.world n s call doing (effect setup sc.world.bag s doing))
       (λ s there. failure_holds sc h steady present n s there call doing (given sc n doing (and_parts _ _ may).1))
 

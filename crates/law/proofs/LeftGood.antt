@@ -37,9 +37,9 @@ allowed_of : (Allowed : Setup → Input → Type 0) (w : World) (act : Act) (n :
     doing_of w act ≡ Some (n, doing) → DoingAllowed Allowed (setup_of w.config n) w.bag doing
 allowed_of Allowed w (Act.At m d) n doing h e = subst (λ (p : ℕ × Doing). DoingAllowed Allowed (setup_of w.config p.0) w.bag p.1)
     (some_pair (m, d) (n, doing) e) h
-allowed_of Allowed w (Act.CrashIn m call fate d) n doing h e = subst (λ (p : ℕ × Doing). DoingAllowed Allowed (setup_of w.config p.0) w.bag p.1)
+allowed_of Allowed w (Act.CrashIn m call fate named d) n doing h e = subst (λ (p : ℕ × Doing). DoingAllowed Allowed (setup_of w.config p.0) w.bag p.1)
     (some_pair (m, d) (n, doing) e) h
-allowed_of Allowed w (Act.FailIn m call d) n doing h e = subst (λ (p : ℕ × Doing). DoingAllowed Allowed (setup_of w.config p.0) w.bag p.1)
+allowed_of Allowed w (Act.FailIn m call named d) n doing h e = subst (λ (p : ℕ × Doing). DoingAllowed Allowed (setup_of w.config p.0) w.bag p.1)
     (some_pair (m, d) (n, doing) e) h
 allowed_of Allowed w (Act.Deliver m now) n doing h e = by_message (slice_get w.bag m) refl e
   where

@@ -117,11 +117,11 @@ module _ (sc : Scene) (h : Holds sc) (steady : IsSteady sc.world) where
     where
       by_same : ◌≡◌ {A = ℕ × Doing} (m, d) (n, doing) → Given sc m (input_of sc.world.bag d) → Given sc n (input_of sc.world.bag doing)
       by_same same g = subst (λ (p : ℕ × Doing). Given sc p.0 (input_of sc.world.bag p.1)) same g
-  given_by (Act.CrashIn m call fate d) n doing may e = by_same (some_same (m, d) (n, doing) e) (given sc m d (and_parts _ _ (and_parts _ _ may).0).1)
+  given_by (Act.CrashIn m call fate named d) n doing may e = by_same (some_same (m, d) (n, doing) e) (given sc m d (and_parts _ _ (and_parts _ _ may).0).1)
     where
       by_same : ◌≡◌ {A = ℕ × Doing} (m, d) (n, doing) → Given sc m (input_of sc.world.bag d) → Given sc n (input_of sc.world.bag doing)
       by_same same g = subst (λ (p : ℕ × Doing). Given sc p.0 (input_of sc.world.bag p.1)) same g
-  given_by (Act.FailIn m call d) n doing may e = by_same (some_same (m, d) (n, doing) e) (given sc m d (and_parts _ _ may).1)
+  given_by (Act.FailIn m call named d) n doing may e = by_same (some_same (m, d) (n, doing) e) (given sc m d (and_parts _ _ may).1)
     where
       by_same : ◌≡◌ {A = ℕ × Doing} (m, d) (n, doing) → Given sc m (input_of sc.world.bag d) → Given sc n (input_of sc.world.bag doing)
       by_same same g = subst (λ (p : ℕ × Doing). Given sc p.0 (input_of sc.world.bag p.1)) same g

@@ -165,11 +165,11 @@ module _ (to : Address) (a : ReadAnswer) (x : Option Bytes) (holds : a.answer â‰
       ActAllowed (IsAllowed a.from a.txn a.key a.epoch x) w act
   unfolding may_act
   act_allowed w time (Act.At n doing) within may = doing_allowed w time n doing within (and_parts (nat_lt n (length w.shards)) (may_do w time n doing) may).1
-  act_allowed w time (Act.CrashIn n call fate doing) within may =
-      let p = and_parts (nat_lt n (length w.shards) && may_do w time n doing) (may_crash w n doing) may in
-      doing_allowed w time n doing within (and_parts (nat_lt n (length w.shards)) (may_do w time n doing) p.0).1
-  act_allowed w time (Act.FailIn n call doing) within may = doing_allowed w time n doing within
-      (and_parts (nat_lt n (length w.shards)) (may_do w time n doing) may).1
+  act_allowed w time (Act.CrashIn n call fate named doing) within may =
+      let p = and_parts (nat_lt n (length w.shards) && nat_eq n named && may_do w time n doing) (may_crash w n doing) may in
+      doing_allowed w time n doing within (and_parts (nat_lt n (length w.shards) && nat_eq n named) (may_do w time n doing) p.0).1
+  act_allowed w time (Act.FailIn n call named doing) within may = doing_allowed w time n doing within
+      (and_parts (nat_lt n (length w.shards) && nat_eq n named) (may_do w time n doing) may).1
   act_allowed w time (Act.Deliver m now) within may = Î» e n is goes. took_message w n m now within e is goes
   act_allowed w time (Act.Begin t) within may = tt
   act_allowed w time (Act.Read t k) within may = tt

@@ -99,8 +99,8 @@ look_line w (Act.Quit t) k at x e shows = cc
 look_line w (Act.Deliver m now) k at x e shows = cc
 look_line w (Act.At n doing) k at x e shows = cc
 look_line w (Act.Crash n) k at x e shows = cc
-look_line w (Act.CrashIn n call fate doing) k at x e shows = cc
-look_line w (Act.FailIn n call doing) k at x e shows = cc
+look_line w (Act.CrashIn n call fate named doing) k at x e shows = cc
+look_line w (Act.FailIn n call named doing) k at x e shows = cc
 
 -- more events go on from the world of the first
 run_on : (w : World) (es more : List Event) → run_from w (es ++ more) ≡ run_from (run_from w es) more

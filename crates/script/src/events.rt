@@ -72,8 +72,9 @@ fn crash(words: &[&str]) -> Result<Act, Fault> {
     match words {
         ["crash", s] => Ok(Act::Crash(shard(s)?)),
         ["crash", s, n, c, doing @ ..] => {
-            let s = shard(s)?;
-            Ok(Act::CrashIn(s, number(n)?, fate(c)?, doing_at(s, doing)?))
+            let (s, n, c) = (shard(s)?, number(n)?, fate(c)?);
+            let (named, doing) = doing_at(s, doing)?;
+            Ok(Act::CrashIn(s, n, c, named, doing))
         }
         _ => Err(NO_WORD),
     }
@@ -82,20 +83,20 @@ fn crash(words: &[&str]) -> Result<Act, Fault> {
 fn fail(words: &[&str]) -> Result<Act, Fault> {
     match words {
         ["fail", s, n, doing @ ..] => {
-            let s = shard(s)?;
-            Ok(Act::FailIn(s, number(n)?, doing_at(s, doing)?))
+            let (s, n) = (shard(s)?, number(n)?);
+            let (named, doing) = doing_at(s, doing)?;
+            Ok(Act::FailIn(s, n, named, doing))
         }
         _ => Err(NO_WORD),
     }
 }
 
-// What a given shard does. A message goes to the shard that it was put out for.
-fn doing_at(at: ShardNo, words: &[&str]) -> Result<Doing, Fault> {
-    if let ["deliver", m, e, l] = words {
-        return Ok(Doing::Take(number(m)?, reading(e, l)?));
+// What is under way at a shard that crashes or fails, and the shard that it names: a delivery names none, and is at that shard.
+fn doing_at(at: ShardNo, words: &[&str]) -> Result<(ShardNo, Doing), Fault> {
+    match words {
+        ["deliver", m, e, l] => Ok((at, Doing::Take(number(m)?, reading(e, l)?))),
+        _ => chore(words),
     }
-    let (s, doing) = chore(words)?;
-    if s == at { Ok(doing) } else { Err(NO_WORD) }
 }
 
 // A shard, and what it does of its own.

@@ -2,6 +2,7 @@
 use script::schedule;
 use std::test::Fail;
 use units::{Fault, Reason};
+use world::Act;
 
 struct Refused {
     text: &'static str,
@@ -100,4 +101,73 @@ fn each_kind_of_event_is_read(rt: HostRuntime) -> Result<(), Fail> {
     let (_config, events) = schedule(rt.alloc(), EACH_KIND)?;
     assert_eq!(rt; events.len(), 20);
     Ok(())
+}
+
+struct Faulty {
+    line: &'static str,
+    at: u8,
+    call: u64,
+    named: u8,
+}
+
+// An event within another names its own shard, which is kept beside the first: whether they agree is no matter of the grammar.
+static FAULTY: [Faulty; 6] = [
+    Faulty {
+        line: "2 crash 0 1 old open 0\n",
+        at: 0,
+        call: 1,
+        named: 0,
+    },
+    Faulty {
+        line: "2 crash 0 1 old open 1\n",
+        at: 0,
+        call: 1,
+        named: 1,
+    },
+    Faulty {
+        line: "2 crash 1 3 a5 advance 0 5 1 9\n",
+        at: 1,
+        call: 3,
+        named: 0,
+    },
+    Faulty {
+        line: "2 crash 1 0 new deliver 0 1 9\n",
+        at: 1,
+        call: 0,
+        named: 1,
+    },
+    Faulty {
+        line: "2 fail 1 2 settle 0 1.1 1 9\n",
+        at: 1,
+        call: 2,
+        named: 0,
+    },
+    Faulty {
+        line: "2 fail 0 3 nudge 0 1.1 1 9\n",
+        at: 0,
+        call: 3,
+        named: 0,
+    },
+];
+
+#[test]
+fn an_event_within_another_keeps_its_shard(rt: HostRuntime) -> Result<(), Fail> {
+    for faulty in &FAULTY {
+        let text = format!(in rt.alloc(); "shards 2\nsplit m\nstride 0\n{}", faulty.line)?;
+        let (_config, events) = schedule(rt.alloc(), text.as_str())?;
+        let found = match events.first() {
+            Some(event) => both_shards(&event.act),
+            None => None,
+        };
+        assert!(rt; found == Some((faulty.at, faulty.call, faulty.named)), "{}", faulty.line);
+    }
+    Ok(())
+}
+
+fn both_shards(act: &Act) -> Option<(u8, u64, u8)> {
+    match act {
+        Act::CrashIn(at, call, _, named, _) => Some((at.number(), *call, named.number())),
+        Act::FailIn(at, call, named, _) => Some((at.number(), *call, named.number())),
+        _ => None,
+    }
 }

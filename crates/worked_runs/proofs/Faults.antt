@@ -94,13 +94,13 @@ ends_at s w = all_at s (outcomes (logs_of w)) && is_yes (verdict (logs_of w) (co
 -- the twelve crashes and the four failing calls at a place. The record is kept where the gate was left open
 abbrev pub crash_ends : Place → ℕ → ℕ → ℕ → Bool
 crash_ends p kept lost call =
-    ends_at lost (with_fault p (Act.CrashIn p.shard call Fate.Old p.doing))
-    && ends_at lost (with_fault p (Act.CrashIn p.shard call (Fate.Filled 55) p.doing))
-    && ends_at (cond (nat_lt call 2) lost kept) (with_fault p (Act.CrashIn p.shard call Fate.New p.doing))
+    ends_at lost (with_fault p (Act.CrashIn p.shard call Fate.Old p.shard p.doing))
+    && ends_at lost (with_fault p (Act.CrashIn p.shard call (Fate.Filled 55) p.shard p.doing))
+    && ends_at (cond (nat_lt call 2) lost kept) (with_fault p (Act.CrashIn p.shard call Fate.New p.shard p.doing))
 
 abbrev pub failure_ends : Place → ℕ → ℕ → ℕ → Bool
 failure_ends p kept lost call =
-    ends_at (cond (nat_eq call 3) kept lost) (with_fault p (Act.FailIn p.shard call p.doing))
+    ends_at (cond (nat_eq call 3) kept lost) (with_fault p (Act.FailIn p.shard call p.shard p.doing))
 
 abbrev pub calls : List ℕ
 calls = 0 ∷ 1 ∷ 2 ∷ 3 ∷ []

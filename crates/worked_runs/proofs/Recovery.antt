@@ -107,7 +107,7 @@ a_promise_is_above_all_that_was_served = refl
 -- ---- a crash in each call of an append: the record is there only where its gate was left open
 
 abbrev pub advanced_with : ℕ → Fate → List (List Record)
-advanced_with call fate = logs_of (run two_shards (on 205 (Act.CrashIn 1 call fate (Doing.Advance 200 (clock 200 210))) ∷ []))
+advanced_with call fate = logs_of (run two_shards (on 205 (Act.CrashIn 1 call fate 1 (Doing.Advance 200 (clock 200 210))) ∷ []))
 
 abbrev pub old_log : List (List Record)
 old_log = (Record.Opened 1 ∷ []) ∷ (Record.Opened 1 ∷ []) ∷ []
@@ -136,7 +136,7 @@ after_the_last_call = refl
 abbrev pub fails_in : ℕ → List Event
 fails_in call =
     one_write
-    ++ on 105 (Act.FailIn 0 call (Doing.Take 0 (clock 100 110))) ∷ on 106 (Act.Deliver 0 (clock 100 110)) ∷ on 107 (Act.Look 0 a 0)
+    ++ on 105 (Act.FailIn 0 call 0 (Doing.Take 0 (clock 100 110))) ∷ on 106 (Act.Deliver 0 (clock 100 110)) ∷ on 107 (Act.Look 0 a 0)
     ∷ on 108 (Act.At 0 Doing.Open)
     ∷ []
 
@@ -169,7 +169,7 @@ unfolding computing served
 and_its_row = refl
 
 -- the record of the last sync that failed is lost where the shard crashes before it is opened
-pub unless_it_crashes_first : logs_of (run two_shards (one_write ++ on 105 (Act.FailIn 0 3 (Doing.Take 0 (clock 100 110))) ∷ on 106
+pub unless_it_crashes_first : logs_of (run two_shards (one_write ++ on 105 (Act.FailIn 0 3 0 (Doing.Take 0 (clock 100 110))) ∷ on 106
     (Act.Crash 0) ∷ on 107 (Act.At 0 Doing.Open) ∷ []))
     ≡ nothing_left
 unfolding computing
@@ -202,6 +202,24 @@ an_advance_beyond_the_limit = refl
 pub an_opening_of_a_shard_that_runs : first_unlawful_from (start two_shards) (on 100 (Act.At 0 Doing.Open) ∷ []) ≡ Some 0
 unfolding computing
 an_opening_of_a_shard_that_runs = refl
+
+-- a crash or a failure in an event of another shard; in one of its own shard it may happen
+abbrev pub advances_under : ℕ → Act
+advances_under named = Act.CrashIn 0 0 Fate.Old named (Doing.Advance 1 (clock 99 110))
+
+pub a_crash_in_an_event_of_another_shard : first_unlawful_from (start two_shards) (on 100 (advances_under 1) ∷ []) ≡ Some 0
+unfolding computing
+a_crash_in_an_event_of_another_shard = refl
+
+pub a_crash_in_an_event_of_its_own : first_unlawful_from (start two_shards) (on 100 (advances_under 0) ∷ []) ≡ None
+unfolding computing
+a_crash_in_an_event_of_its_own = refl
+
+pub a_failure_in_an_event_of_another_shard :
+    first_unlawful_from (start two_shards)
+    (on 100 (Act.FailIn 1 0 1 (Doing.Resume (clock 99 110))) ∷ on 100 (Act.FailIn 1 0 0 (Doing.Resume (clock 99 110))) ∷ []) ≡ Some 1
+unfolding computing
+a_failure_in_an_event_of_another_shard = refl
 
 pub a_transaction_of_nothing : replies_of_run two_shards (on 100 (Act.Begin (txn 1)) ∷ on 100 (Act.Close (txn 1)) ∷ [])
     ≡ Reply.Done ∷ Reply.Refused (BadRequest Nothing) ∷ []

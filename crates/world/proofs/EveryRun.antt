@@ -1,5 +1,5 @@
 -- What holds of a single running shard is kept by its steps and its openings, so it holds at every moment of a run.
-use Rattle.std.proofs.Common.{◌≡◌, ◌≤◌, inl, ℕ, ◌+◌, Bool, true, false, cond, ◌&&◌, nat_le, nat_lt, List, [], ◌∷◌, ◌++◌, length, Option, Some, None}
+use Rattle.std.proofs.Common.{◌≡◌, ◌≤◌, inl, ℕ, ◌+◌, Bool, true, false, cond, ◌&&◌, nat_eq, nat_le, nat_lt, List, [], ◌∷◌, ◌++◌, length, Option, Some, None}
 use Rattle.std.proofs.Common.{slice_get, refl, sym, ap, subst, ◌∙◌, arith}
 use Rattle.std.specs.Prelude.{Ok, Err, option_map}
 use Rattle.std.proofs.lemmas.Bool.{leb-true, and_from, and_parts}
@@ -133,11 +133,11 @@ doing_limit setup w time n Doing.Open may p same = cc
 pub limits : (w : World) (time : ℕ) (a : Act) → may_act w time a ≡ true → ActAllowed InLimit w a
 unfolding may_act
 limits w time (Act.At n doing) may = doing_limit (setup_of w.config n) w time n doing (and_parts (nat_lt n (length w.shards)) (may_do w time n doing) may).1
-limits w time (Act.CrashIn n call fate doing) may =
-    let p = and_parts (nat_lt n (length w.shards) && may_do w time n doing) (may_crash w n doing) may in
-    doing_limit (setup_of w.config n) w time n doing (and_parts (nat_lt n (length w.shards)) (may_do w time n doing) p.0).1
-limits w time (Act.FailIn n call doing) may = doing_limit (setup_of w.config n) w time n doing
-    (and_parts (nat_lt n (length w.shards)) (may_do w time n doing) may).1
+limits w time (Act.CrashIn n call fate named doing) may =
+    let p = and_parts (nat_lt n (length w.shards) && nat_eq n named && may_do w time n doing) (may_crash w n doing) may in
+    doing_limit (setup_of w.config n) w time n doing (and_parts (nat_lt n (length w.shards) && nat_eq n named) (may_do w time n doing) p.0).1
+limits w time (Act.FailIn n call named doing) may = doing_limit (setup_of w.config n) w time n doing
+    (and_parts (nat_lt n (length w.shards) && nat_eq n named) (may_do w time n doing) may).1
 limits w time (Act.Deliver m now) may = λ e n is goes. message_limit (setup_of w.config n) w.bag m now
 limits w time (Act.Begin t) may = tt
 limits w time (Act.Read t k) may = tt

@@ -49,8 +49,8 @@ DoingAllowed Allowed setup bag doing = (p : Interval × Input) → input_of bag 
 -- so what an act gives
 abbrev pub ActAllowed : (Setup → Input → Type 0) → World → Act → Type 0
 ActAllowed Allowed w (Act.At n doing) = DoingAllowed Allowed (setup_of w.config n) w.bag doing
-ActAllowed Allowed w (Act.CrashIn n call fate doing) = DoingAllowed Allowed (setup_of w.config n) w.bag doing
-ActAllowed Allowed w (Act.FailIn n call doing) = DoingAllowed Allowed (setup_of w.config n) w.bag doing
+ActAllowed Allowed w (Act.CrashIn n call fate named doing) = DoingAllowed Allowed (setup_of w.config n) w.bag doing
+ActAllowed Allowed w (Act.FailIn n call named doing) = DoingAllowed Allowed (setup_of w.config n) w.bag doing
 ActAllowed Allowed w (Act.Deliver m now) = (e : Envelope) (n : ℕ) → slice_get w.bag m ≡ Some e → e.to ≡ Shard n →
     DoingAllowed Allowed (setup_of w.config n) w.bag (Doing.Take m now)
 ActAllowed Allowed w _ = Unit {0}
@@ -399,12 +399,12 @@ module _ (Allowed : Setup → Input → Type 0) (Sound : Setup → Facts → Mem
         (noted_keeps w k at (look_at_view (setup_of w.config n) (slice_get s.views v) k at)))
     acts_sound (Act.Crash n) allowed = at_shard_sound n (λ setup s. (set_shard n (crashed s s.log) w, Reply.Crashed))
         (λ s there. set_sound n s (crashed s s.log) there (crashed_sound w.config w.bag n s (sound n s there) s.log ((sound n s there).left s.log (inl refl))))
-    acts_sound (Act.CrashIn n call fate doing) allowed =
+    acts_sound (Act.CrashIn n call fate named doing) allowed =
         at_shard_sound n (λ setup s. (set_shard n (crashed_in s call fate doing (effect setup w.bag s doing)) w, Reply.Crashed))
         (λ s there. set_sound n s (crashed_in s call fate doing (effect (setup_of w.config n) w.bag s doing)) there
         (crashed_in_sound w.config w.bag n s (sound n s there) (DoingAllowed Allowed (setup_of w.config n) w.bag doing) allowed call fate doing
         (effect (setup_of w.config n) w.bag s doing) (effect_is_sound n s there doing)))
-    acts_sound (Act.FailIn n call doing) allowed = at_shard_sound n (λ setup s. did_with_failure w n s call doing (effect setup w.bag s doing))
+    acts_sound (Act.FailIn n call named doing) allowed = at_shard_sound n (λ setup s. did_with_failure w n s call doing (effect setup w.bag s doing))
         (λ s there. failing_sound n s there call doing allowed _ (effect_is_sound n s there doing))
 
     -- each log that a crash may leave is good, between steps and within one

@@ -156,9 +156,9 @@ module _ (w : World) where
       at_shard_settings n (λ setup s. look_noted w k at (look_at_view setup (slice_get s.views v) k at))
       (λ s. let k = noted_keeps k at (look_at_view (setup_of w.config n) (slice_get s.views v) k at) in (k.1, k.2))
   acts_settings (Act.Crash n) = at_shard_settings n (λ setup s. (set_shard n (crashed s s.log) w, Reply.Crashed)) (λ s. (refl, refl))
-  acts_settings (Act.CrashIn n call fate doing) =
+  acts_settings (Act.CrashIn n call fate named doing) =
       at_shard_settings n (λ setup s. (set_shard n (crashed_in s call fate doing (effect setup w.bag s doing)) w, Reply.Crashed)) (λ s. (refl, refl))
-  acts_settings (Act.FailIn n call doing) =
+  acts_settings (Act.FailIn n call named doing) =
       at_shard_settings n (λ setup s. did_with_failure w n s call doing (effect setup w.bag s doing))
       (λ s. failing_settings n s call doing (effect (setup_of w.config n) w.bag s doing))
 

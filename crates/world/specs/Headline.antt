@@ -66,8 +66,8 @@ MayLeaveLogs _ _ = ⊥
 -- the shard at which an act is under way, and its doing
 abbrev pub doing_of : World → Act → Option (ℕ × Doing)
 doing_of w (Act.At n doing) = Some (n, doing)
-doing_of w (Act.CrashIn n call fate doing) = Some (n, doing)
-doing_of w (Act.FailIn n call doing) = Some (n, doing)
+doing_of w (Act.CrashIn n call fate named doing) = Some (n, doing)
+doing_of w (Act.FailIn n call named doing) = Some (n, doing)
 doing_of w (Act.Deliver m now) =
     elim (slice_get w.bag m) [ None ↦ None | Some e ↦ elim e.to [ Shard n ↦ Some (n, Doing.Take m now) | Session t ↦ None ] ]
 doing_of w _ = None

@@ -53,7 +53,7 @@ abbrev pub may_crash : World → ℕ → Doing → Bool
 may_crash w n Doing.Open = true
 may_crash w n doing = is_in w n (λ s. not (is_down s))
 
--- one act at a time
+-- one act at a time. A crash or a failure within an event is at the shard that the event names
 unfoldable pub may_act : World → ℕ → Act → Bool
 may_act w time (Act.Begin t) = not (has_begun w t)
 may_act w time (Act.Read t k) = has_begun w t
@@ -65,8 +65,9 @@ may_act w time (Act.At n doing) = nat_lt n (length w.shards) && may_do w time n 
 may_act w time (Act.Look n k at) = nat_lt n (length w.shards)
 may_act w time (Act.View n v k at) = when (λ s. nat_lt v (length s.views)) (slice_get w.shards n)
 may_act w time (Act.Crash n) = is_in w n (λ s. not (is_down s))
-may_act w time (Act.CrashIn n call fate doing) = nat_lt n (length w.shards) && may_do w time n doing && may_crash w n doing
-may_act w time (Act.FailIn n call doing) = nat_lt n (length w.shards) && may_do w time n doing
+may_act w time (Act.CrashIn n call fate named doing) =
+    nat_lt n (length w.shards) && nat_eq n named && may_do w time n doing && may_crash w n doing
+may_act w time (Act.FailIn n call named doing) = nat_lt n (length w.shards) && nat_eq n named && may_do w time n doing
 
 -- the next event: true times do not fall
 abbrev pub may_happen : World → Event → Bool

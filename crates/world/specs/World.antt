@@ -336,9 +336,9 @@ acts w (Act.At n doing) = do_at w n doing
 acts w (Act.Look n k at) = at_shard w n (λ setup s. look_noted w k at (look_shard setup s k at))
 acts w (Act.View n v k at) = at_shard w n (λ setup s. look_noted w k at (look_at_view setup (slice_get s.views v) k at))
 acts w (Act.Crash n) = at_shard w n (λ setup s. (set_shard n (crashed s s.log) w, Reply.Crashed))
-acts w (Act.CrashIn n call fate doing) =
+acts w (Act.CrashIn n call fate named doing) =
     at_shard w n (λ setup s. (set_shard n (crashed_in s call fate doing (effect setup w.bag s doing)) w, Reply.Crashed))
-acts w (Act.FailIn n call doing) =
+acts w (Act.FailIn n call named doing) =
     at_shard w n (λ setup s. did_with_failure w n s call doing (effect setup w.bag s doing))
 
 -- the clock and the count of events go on

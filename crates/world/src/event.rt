@@ -41,10 +41,11 @@ pub enum Act {
     View(ShardNo, u64, Key, Stamp),
     /// A crash between events: all changes that are not synced are undone.
     Crash(ShardNo),
-    /// A crash in a device call of a doing, by its number from 0. Each change that is not synced has this fate.
-    CrashIn(ShardNo, u64, Fate, Doing),
-    /// A device call of a doing, by its number from 0, fails.
-    FailIn(ShardNo, u64, Doing),
+    /// A crash of a shard in a device call of a doing, by its number from 0. Each change that is not synced has this fate.
+    /// The second shard is the one that the doing names: lawful where it is the same.
+    CrashIn(ShardNo, u64, Fate, ShardNo, Doing),
+    /// A device call of a doing, by its number from 0, fails at a shard. The second is the one that the doing names.
+    FailIn(ShardNo, u64, ShardNo, Doing),
 }
 
 /// An event, with its true time in microseconds.
