@@ -160,7 +160,7 @@ module _ (w : World) (old new : Run) (h : IsRun old w) where
 
   -- where a refusal changes nothing
   same_there : (n : ℕ) (s : ShardNow) (fault : Fault) → slice_get w.shards n ≡ Some s
-      → (w, Reply.Refused fault) ≡ (record w { shards = replaced w.shards n s }, Reply.Refused fault)
+      → ◌≡◌ {A = After} (w, Reply.Refused fault) (record w { shards = replaced w.shards n s }, Reply.Refused fault)
   same_there n s fault there = λ i. (record w { shards = sym (replaced_same w.shards n s there) i }, Reply.Refused fault)
 
   refused_is : (n : ℕ) (s : ShardNow) (doing : Doing) (fault : Fault) → slice_get w.shards n ≡ Some s

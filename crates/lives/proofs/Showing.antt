@@ -101,7 +101,7 @@ opened_behind is all = drop-append_seam is (drop (length is - length is) all) �
 more_behind : (is front more : List Install) (n : ℕ) → n ≤ length is → drop n is ≡ front → drop n (is ++ drop (length is - n) (front ++ more)) ≡ front ++ more
 more_behind is front more n le same =
     let many : length front ≡ length is - n = ap length (sym same) ∙ length-drop n is in
-    drop-append-le n is (drop (length is - n) (front ++ more) ) le
+    drop-append-le n is (drop (length is - n) (front ++ more)) le
     ∙ (λ i. same i ++ drop (sym many i) (front ++ more))
     ∙ ap (λ l. front ++ l) (drop-append_seam front more)
 
@@ -263,7 +263,7 @@ module _ (setup : Setup) (bag : List Envelope) (s : ShardNow) (call : Option ℕ
         let more : all ≡ (facts_of s.log).installs ++ p.0 = are ∙ ap (λ (f : Facts). f.installs) (sym (more_facts sure)) ∙ p.1 in (
           shows.0,
           subst (λ l. drop mid.from (mid.installs.items ++ drop (length mid.installs.items - mid.from) l) ≡ l) (sym more)
-          (more_behind mid.installs.items (facts_of s.log).installs p.0 mid.from shows.0 shows.1),
+              (more_behind mid.installs.items (facts_of s.log).installs p.0 mid.from shows.0 shows.1),
         )
 
     module _ (core : CoreView SimDisk) (new : RunShard) (l : LivesAs setup (stepped s logged memory) mid.life) (k : IsRunningAs setup (stepped s logged memory) memory core)

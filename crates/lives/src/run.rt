@@ -71,19 +71,20 @@ impl<'s> Run<'s> {
                 may_deliver(&self.sessions, &self.output, time, *number, now)
             }
             Act::At(shard, doing) => {
-                self.shards.has(*shard)
-                    && may_do(&self.shards, &self.output, time, *shard, doing)
+                self.shards.has(*shard) && may_do(&self.shards, &self.output, time, *shard, doing)
             }
             Act::Look(shard, _, _) => self.shards.has(*shard),
             Act::View(shard, number, _, _) => self.shards.has_view(*shard, *number),
             Act::Crash(shard) => self.shards.stands(*shard),
-            Act::CrashIn(shard, _, _, doing) => {
+            Act::CrashIn(shard, _, _, at, doing) => {
                 self.shards.has(*shard)
+                    && shard.number() == at.number()
                     && may_do(&self.shards, &self.output, time, *shard, doing)
                     && may_crash(&self.shards, *shard, doing)
             }
-            Act::FailIn(shard, _, doing) => {
+            Act::FailIn(shard, _, at, doing) => {
                 self.shards.has(*shard)
+                    && shard.number() == at.number()
                     && may_do(&self.shards, &self.output, time, *shard, doing)
             }
         }
@@ -137,10 +138,10 @@ impl<'s> Run<'s> {
                 self.output.note_look(alloc, *key, *at, reply)
             }
             Act::Crash(shard) => self.crash(alloc, *shard),
-            Act::CrashIn(shard, call, fate, doing) => {
+            Act::CrashIn(shard, call, fate, _, doing) => {
                 self.crash_in(alloc, *shard, *call, *fate, doing)
             }
-            Act::FailIn(shard, call, doing) => self.act_at(alloc, *shard, Some(*call), doing),
+            Act::FailIn(shard, call, _, doing) => self.act_at(alloc, *shard, Some(*call), doing),
         }
     }
 
@@ -162,9 +163,7 @@ impl<'s> Run<'s> {
             return Ok(Reply::Refused(Fault::Stranger));
         };
         match envelope.to {
-            Address::Shard(shard) => {
-                self.act_at(alloc, shard, None, &Doing::Take(number, now))
-            }
+            Address::Shard(shard) => { self.act_at(alloc, shard, None, &Doing::Take(number, now)) }
             Address::Session(_) => {
                 let heard = self.sessions.take_message(alloc, &envelope.message);
                 self.output.reply_line(heard)

@@ -14,7 +14,7 @@ pub fn report(alloc: Global, played: &Played) -> Result<String, Fault> {
 
 impl fmt::Display for Played {
     fn fmt<W: fmt::Write>(&self, f: &mut fmt::Formatter<W>) -> fmt::Result {
-        write_events(f, &self.report, &self.counts)?;
+        write_events(f, &self.report)?;
         for (shard, log) in self.report.logs.iter().enumerate() {
             writeln!(f, "log {shard}")?;
             for item in log {
@@ -30,16 +30,12 @@ impl fmt::Display for Played {
 }
 
 // Each event with its reply, and behind it the messages that it put out.
-fn write_events<W: fmt::Write>(
-    f: &mut fmt::Formatter<W>,
-    report: &Report,
-    counts: &[usize],
-) -> fmt::Result {
+fn write_events<W: fmt::Write>(f: &mut fmt::Formatter<W>, report: &Report) -> fmt::Result {
     let envelopes = report.bag.as_slice();
     let mut first = 0;
-    for (event, (reply, count)) in report.replies.iter().zip(counts).enumerate() {
+    for (event, (reply, count)) in report.replies.iter().zip(&report.counts).enumerate() {
         writeln!(f, "event {event} {}", Told(reply))?;
-        let end = envelopes.len().min(count.saturating_add(first));
+        let end = envelopes.len().min(*count as usize);
         for number in first..end {
             if let Some(envelope) = envelopes.get(number) {
                 writeln!(f, "put {number} {}", Text(envelope))?;

@@ -72,6 +72,21 @@ unfolding acts
 returns-in-At c time w h steady may =
     subst (λ a. Comes a c.act_at.new.self c.act_at.result) (sym (ap (acts w) c.in-At.is)) (c.act_at.ensures w h steady)
 
+pub returns-in-Crash : goal.returns-in-Crash
+unfolding acts
+returns-in-Crash c time w h steady may =
+    subst (λ a. Comes a c.crash.new.self c.crash.result) (sym (ap (acts w) c.in-Crash.is)) (c.crash.ensures w h)
+
+pub returns-in-CrashIn : goal.returns-in-CrashIn
+unfolding acts
+returns-in-CrashIn c time w h steady may =
+    subst (λ a. Comes a c.crash_in.new.self c.crash_in.result) (sym (ap (acts w) c.in-CrashIn.is)) (c.crash_in.ensures w h steady)
+
+pub returns-in-FailIn : goal.returns-in-FailIn
+unfolding acts
+returns-in-FailIn c time w h steady may =
+    subst (λ a. Comes a c.act_at-in-FailIn.new.self c.act_at-in-FailIn.result) (sym (ap (acts w) c.in-FailIn.is)) (c.act_at-in-FailIn.ensures w h steady)
+
 pub returns-in_ok-reply-in-Look : goal.returns-in_ok-reply-in-Look
 unfolding acts
 returns-in_ok-reply-in-Look c time w h steady may =

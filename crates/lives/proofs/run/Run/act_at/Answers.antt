@@ -8,6 +8,6 @@ pub returns : goal.returns
 returns c w h steady =
     let old : Run = c.args.self.now in
     let new : Run = record { sessions = old.sessions; shards = c.act-done.new.self; output = c.reply.new.self; time = old.time } in
-    shard_comes w old new h c.args.shard c.args.doing.now c.act-done.result c.reply.result c.requires steady
-    (subst (λ bag. ActsAt w.config bag w.shards c.args.shard c.args.doing.now new.shards c.act-done.result) (c.as_slice.ensures ∙ h.output.bag)
+    shard_comes w old new h c.args.shard c.args.call c.args.doing.now c.act-done.result c.reply.result steady
+    (subst (λ bag. ActsAt w.config bag w.shards c.args.shard c.args.call c.args.doing.now new.shards c.act-done.result) (c.as_slice.ensures ∙ h.output.bag)
     (c.act-done.ensures w.config w.shards h.shards)) c.reply.ensures refl refl
