@@ -159,7 +159,11 @@ fn an_event_within_another_keeps_its_shard(rt: HostRuntime) -> Result<(), Fail> 
             Some(event) => both_shards(&event.act),
             None => None,
         };
-        assert!(rt; found == Some((faulty.at, faulty.call, faulty.named)), "{}", faulty.line);
+        assert!(rt;
+            found == Some((faulty.at, faulty.call, faulty.named)),
+            "{}",
+            faulty.line
+        );
     }
     Ok(())
 }

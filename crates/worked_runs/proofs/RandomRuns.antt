@@ -104,7 +104,7 @@ act kind r t w =
     (cond (nat_lt kind 194) (Act.Look (pick r 3) (key (next r)) (t - pick (next r) 400))
     (cond (nat_lt kind 195) (Act.Quit (someone r w))
     (cond (nat_lt kind 197) (Act.CrashIn (pick r 3) (pick (next r) 6) (fate (next (next r))) (pick r 3)
-        (doing (pick (next (next r)) 6) r t w (pick r 3)))
+    (doing (pick (next (next r)) 6) r t w (pick r 3)))
     (cond (nat_lt kind 198) (Act.FailIn (pick r 3) (pick (next r) 5) (pick r 3) (doing (pick (next (next r)) 6) r t w (pick r 3)))
     (cond (nat_lt kind 199) (Act.View (pick r 3) (pick (next r) 4) (key (next r)) (t - pick (next r) 60)) (Act.Crash (pick r 3))))))))))))
 
