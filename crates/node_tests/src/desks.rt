@@ -3,7 +3,7 @@ use crate::given::{outcome, prepare};
 use crate::logs::{Line, holds};
 use crate::made::{fresh_desk, fresh_node, key, reading, stamp};
 use board::Viewer;
-use message::{Address, Envelope, Input, Message, Outbox};
+use message::{Address, Envelope, Input, Message};
 use node::{Desk, Node};
 use simdisk::SimDisk;
 use std::alloc::Global;
@@ -174,20 +174,28 @@ fn are_seen(viewer: &mut Viewer, looks: &[Look]) -> bool {
     true
 }
 
-// Whether it is a yes vote to shard 0.
-fn is_vote(envelope: &Envelope, at: u64) -> bool {
-    match (envelope.to, &envelope.message) {
-        (Address::Shard(to), Message::Vote(vote)) => to.number() == 0
-            && vote.vote == Some(stamp(at)),
+fn is_to_shard_0(to: Address) -> bool {
+    match to {
+        Address::Shard(shard) => shard.number() == 0,
+        Address::Session(_) => false,
+    }
+}
+
+fn is_yes(message: &Message, at: u64) -> bool {
+    match message {
+        Message::Vote(vote) => match vote.vote {
+            Some(yes) => yes.micros() == at,
+            None => false,
+        },
         _ => false,
     }
 }
 
-// Whether it is one yes vote; of no timestamp, whether it is nothing.
-fn votes(out: &Outbox, at: Option<u64>) -> bool {
-    match (out.as_slice(), at) {
+// Whether it is one yes vote to shard 0; of no timestamp, whether it is nothing.
+fn votes(out: &[Envelope], at: Option<u64>) -> bool {
+    match (out, at) {
         ([], None) => true,
-        ([only], Some(at)) => is_vote(only, at),
+        ([only], Some(at)) => is_to_shard_0(only.to) && is_yes(&only.message, at),
         _ => false,
     }
 }
@@ -195,11 +203,14 @@ fn votes(out: &Outbox, at: Option<u64>) -> bool {
 fn is_delivered<R: Wait + Drop>(
     desk: &mut Desk<SimDisk, R>,
     now: &Reading,
-    input: &Input,
+    input: Option<Input>,
     at: Option<u64>,
 ) -> bool {
-    match desk.deliver(now, input) {
-        Ok(out) => votes(&out, at),
+    let Some(input) = input else {
+        return false;
+    };
+    match desk.deliver(now, &input) {
+        Ok(out) => votes(out.as_slice(), at),
         Err(_) => false,
     }
 }
@@ -216,27 +227,17 @@ fn is_advanced<R: Wait + Drop>(
     }
 }
 
-// What is given; nothing, of an advance.
-fn input_of(alloc: Global, act: Act) -> Option<Input> {
-    match act {
-        Act::Prepare { votes: _ } => prepare(alloc),
-        Act::Outcome { at } => Some(outcome(at)),
-        _ => None,
-    }
-}
-
 fn is_acted<R: Wait + Drop>(
     desk: &mut Desk<SimDisk, R>,
     alloc: Global,
     now: &Reading,
     act: Act,
 ) -> bool {
-    match (act, input_of(alloc, act)) {
-        (Act::Nothing, _) => true,
-        (Act::Advance { to, tells }, _) => is_advanced(desk, now, to, tells),
-        (Act::Prepare { votes }, Some(input)) => is_delivered(desk, now, &input, Some(votes)),
-        (_, Some(input)) => is_delivered(desk, now, &input, None),
-        _ => false,
+    match act {
+        Act::Nothing => true,
+        Act::Prepare { votes } => is_delivered(desk, now, prepare(alloc), Some(votes)),
+        Act::Outcome { at } => is_delivered(desk, now, Some(outcome(at)), None),
+        Act::Advance { to, tells } => is_advanced(desk, now, to, tells),
     }
 }
 

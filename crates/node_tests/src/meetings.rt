@@ -66,33 +66,17 @@ impl<R: time::Clock> Gate for Meeting<'_, R> {
     fn after(&self, _shard: ShardNo, _n: u64) {}
 }
 
-fn serve_both<'a, R: Threads + Wait + time::Clock + Sync>(
-    rt: &'a R,
-    alloc: Global,
-    gate: &Meeting<R>,
-    posted: &AtomicU64,
-    nodes: [&Node<SimDisk, &'a R>; 2],
-    inboxes: Vec<Receiver<Letter>>,
-) -> bool {
-    let mut served = Vec::new(alloc);
-    for (node, inbox) in nodes.into_iter().zip(inboxes) {
-        let pushed = served.push(Served {
-            node,
-            inbox,
-            post: Counts { posted },
-            clock: Standing,
-        });
-        if pushed.is_err() {
-            return false;
-        }
-    }
-    start(rt, served, gate).is_ok()
+// An inbox for each node.
+#[derive(Drop)]
+struct Inboxes {
+    first: Receiver<Letter>,
+    second: Receiver<Letter>,
 }
 
-fn inboxes<R: Wait>(rt: &R, alloc: Global) -> Option<Vec<Receiver<Letter>>> {
+fn filled<R: Wait>(rt: &R, alloc: Global) -> Option<Inboxes> {
     let first = inbox(rt, alloc, b'a', LETTERS)?;
     let second = inbox(rt, alloc, b'z', LETTERS)?;
-    vec![in alloc; first, second].ok()
+    Some(Inboxes { first, second })
 }
 
 // Whether no letter was held in vain, and each was answered.
@@ -100,12 +84,25 @@ fn have_met<R>(gate: &Meeting<R>, posted: &AtomicU64) -> bool {
     gate.missed.load(Ordering::SeqCst) == 0 && posted.load(Ordering::SeqCst) == 20
 }
 
-fn both_meet<'a, R: Threads + Wait + time::Clock + Sync>(
+fn served<'n, 'a, 'p, R: Wait>(
+    node: &'n Node<SimDisk, &'a R>,
+    inbox: Receiver<Letter>,
+    posted: &'p AtomicU64,
+) -> Served<'n, SimDisk, &'a R, Counts<'p>, Standing> {
+    Served {
+        node,
+        inbox,
+        post: Counts { posted },
+        clock: Standing,
+    }
+}
+
+fn both_meet<'n, 'a, R: Threads + Wait + time::Clock + Sync>(
     rt: &'a R,
     alloc: Global,
-    first: &Node<SimDisk, &'a R>,
-    second: &Node<SimDisk, &'a R>,
-    inboxes: Vec<Receiver<Letter>>,
+    first: &'n Node<SimDisk, &'a R>,
+    second: &'n Node<SimDisk, &'a R>,
+    inboxes: Inboxes,
 ) -> bool {
     let posted = AtomicU64::new(0);
     let gate = Meeting {
@@ -114,7 +111,10 @@ fn both_meet<'a, R: Threads + Wait + time::Clock + Sync>(
         second: AtomicU64::new(0),
         missed: AtomicU64::new(0),
     };
-    serve_both(rt, alloc, &gate, &posted, [first, second], inboxes) && have_met(&gate, &posted)
+    let mut both = Vec::new(alloc);
+    let one = both.push(served(first, inboxes.first, &posted)).is_ok();
+    let other = both.push(served(second, inboxes.second, &posted)).is_ok();
+    one && other && start(rt, both, &gate).is_ok() && have_met(&gate, &posted)
 }
 
 // Beside the node of shard 0, that of shard 1.
@@ -122,7 +122,7 @@ fn meet_beside<'a, R: Threads + Wait + time::Clock + Sync>(
     rt: &'a R,
     alloc: Global,
     first: &Node<SimDisk, &'a R>,
-    inboxes: Vec<Receiver<Letter>>,
+    inboxes: Inboxes,
 ) -> Option<bool> {
     let (second, _viewer) = fresh_node(rt, alloc, 1)?;
     let met = both_meet(rt, alloc, first, &second, inboxes);
@@ -133,7 +133,7 @@ fn meet_beside<'a, R: Threads + Wait + time::Clock + Sync>(
 fn meet<R: Threads + Wait + time::Clock + Sync>(
     rt: &R,
     alloc: Global,
-    inboxes: Vec<Receiver<Letter>>,
+    inboxes: Inboxes,
 ) -> Option<bool> {
     let (first, _viewer) = fresh_node(rt, alloc, 0)?;
     let met = meet_beside(rt, alloc, &first, inboxes);
@@ -142,7 +142,7 @@ fn meet<R: Threads + Wait + time::Clock + Sync>(
 }
 
 fn all_meet<R: Threads + Wait + time::Clock + Sync>(rt: &R, alloc: Global) -> Option<bool> {
-    let inboxes = inboxes(rt, alloc)?;
+    let inboxes = filled(rt, alloc)?;
     meet(rt, alloc, inboxes)
 }
 

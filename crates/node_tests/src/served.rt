@@ -1,6 +1,6 @@
 //! A node that is served by the letters of its inbox.
 use crate::given::read;
-use crate::made::{fresh_node, id, reading};
+use crate::made::{fresh_node, reading};
 use crossbeam_channel::{Receiver, Sender, unbounded};
 use message::{Address, Answer, Envelope, Message};
 use node::{Gate, Letter, Post};
@@ -8,7 +8,7 @@ use std::alloc::Global;
 use std::sync::Wait;
 use std::time;
 use truetime::{Clock, Reading};
-use units::ShardNo;
+use units::{ShardNo, TxnId};
 
 /// Its reading is [100,110], always.
 #[derive(Drop)]
@@ -77,11 +77,22 @@ fn posted<R: Wait + time::Clock>(
     Some(post.envelopes)
 }
 
-// Whether it tells the session of 1.number that shard 1 holds no `z`, in its first epoch.
-fn is_answer(envelope: &Envelope, number: u16) -> bool {
-    match (envelope.to, &envelope.message) {
-        (Address::Session(to), Message::ReadAnswer(told)) => to == id(number)
-            && told.txn == id(number)
+fn is_of(txn: TxnId, number: u16) -> bool {
+    txn.run() == 1 && txn.number() == u64::from(number)
+}
+
+// Whether it goes to the session of 1.number.
+fn is_to(to: Address, number: u16) -> bool {
+    match to {
+        Address::Session(txn) => is_of(txn, number),
+        Address::Shard(_) => false,
+    }
+}
+
+// Whether it says of 1.number that shard 1 holds no `z`, in its first epoch.
+fn is_told(message: &Message, number: u16) -> bool {
+    match message {
+        Message::ReadAnswer(told) => is_of(told.txn, number)
             && told.from.number() == 1
             && told.key.as_bytes() == b"z".as_slice()
             && told.epoch.number() == 1
@@ -95,7 +106,7 @@ fn are_answers(envelopes: &[Envelope], letters: u16) -> bool {
     for before in 0..letters {
         match envelopes.get(usize::from(before)) {
             Some(envelope) => {
-                if !is_answer(envelope, before + 1) {
+                if !is_to(envelope.to, before + 1) || !is_told(&envelope.message, before + 1) {
                     return false;
                 }
             }
