@@ -84,11 +84,11 @@ fn have_met<R>(gate: &Meeting<R>, posted: &AtomicU64) -> bool {
     gate.missed.load(Ordering::SeqCst) == 0 && posted.load(Ordering::SeqCst) == 20
 }
 
-fn served<'n, 'a, 'p, R: Wait>(
-    node: &'n Node<SimDisk, &'a R>,
+fn served<'n, 'p, H: Wait + Drop>(
+    node: &'n Node<SimDisk, H>,
     inbox: Receiver<Letter>,
     posted: &'p AtomicU64,
-) -> Served<'n, SimDisk, &'a R, Counts<'p>, Standing> {
+) -> Served<'n, SimDisk, H, Counts<'p>, Standing> {
     Served {
         node,
         inbox,
@@ -97,11 +97,11 @@ fn served<'n, 'a, 'p, R: Wait>(
     }
 }
 
-fn both_meet<'n, 'a, R: Threads + Wait + time::Clock + Sync>(
-    rt: &'a R,
+fn both_meet<'n, R: Threads + Wait + time::Clock + Sync, H: Wait + Drop + Send>(
+    rt: &R,
     alloc: Global,
-    first: &'n Node<SimDisk, &'a R>,
-    second: &'n Node<SimDisk, &'a R>,
+    first: &'n Node<SimDisk, H>,
+    second: &'n Node<SimDisk, H>,
     inboxes: Inboxes,
 ) -> bool {
     let posted = AtomicU64::new(0);
@@ -118,13 +118,14 @@ fn both_meet<'n, 'a, R: Threads + Wait + time::Clock + Sync>(
 }
 
 // Beside the node of shard 0, that of shard 1.
-fn meet_beside<'a, R: Threads + Wait + time::Clock + Sync>(
-    rt: &'a R,
+fn meet_beside<R: Threads + Wait + time::Clock + Sync, H: Wait + Drop + Send>(
+    rt: &R,
+    own: H,
     alloc: Global,
-    first: &Node<SimDisk, &'a R>,
+    first: &Node<SimDisk, H>,
     inboxes: Inboxes,
 ) -> Option<bool> {
-    let (second, _viewer) = fresh_node(rt, alloc, 1)?;
+    let (second, _viewer) = fresh_node(own, alloc, 1)?;
     let met = both_meet(rt, alloc, first, &second, inboxes);
     drop(second.close());
     Some(met)
@@ -136,7 +137,7 @@ fn meet<R: Threads + Wait + time::Clock + Sync>(
     inboxes: Inboxes,
 ) -> Option<bool> {
     let (first, _viewer) = fresh_node(rt, alloc, 0)?;
-    let met = meet_beside(rt, alloc, &first, inboxes);
+    let met = meet_beside(rt, rt, alloc, &first, inboxes);
     drop(first.close());
     met
 }
