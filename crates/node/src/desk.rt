@@ -157,7 +157,7 @@ impl<D: Disk + Drop, R: Wait + Drop> Desk<D, R> {
     /// core knows and keeps, and puts out what stands in them.
     pub fn book(&self) -> Option<&Book>
         ensures same { option_copied result ≡ (seen_desk self.now).book }
-        ensures replays { IsBookOf (seen_desk self.now).core.setup (seen_desk self.now).book (stand_of (seen_desk self.now).core) }
+        ensures replays { ∥ IsBookOf (seen_desk self.now).core.setup (seen_desk self.now).book (stand_of (seen_desk self.now).core) ∥₁ }
     {
         self.core.book()
     }

@@ -1,5 +1,7 @@
 -- What a core whose book is full makes of an input, and what a book with a page more says of its core.
 use Rattle.std.proofs.Common.{◌≡◌, ◌⊎◌, inl, inr, ⊎_elim, ℕ, ◌≤◌, ◌<◌, ◌∙◌, ◌∷◌, [], ◌++◌, Bool, true, false, IsTrue, IsFalse, List, length, Option, Some, None, Result, Ok, Err, IfOk, IfErr, refl, sym, ap, subst, arith}
+use Rattle.std.proofs.Math.Logic.{∥∥₁_elim}
+use Rattle.std.proofs.Props.{props}
 use Rattle.std.proofs.lemmas.Bool.{cases_lt}
 use Rattle.units.specs.declared.fault.Fault.{Fault}
 use Rattle.units.specs.declared.fault.Fault.TheVariants.{Memory as WantsMemory, Device, TimeSpent, BookFull}
@@ -60,14 +62,17 @@ wants-memory gate b logged fault (inr full) room = absurd (omega (arith, full.0,
 
 -- ---- room, as its setup tells it
 
-pub room-in : (setup : Setup) (b : BookView) → setup.book ≡ On b.capacity → HasBookRoom setup.book (Some b) → length b.pages < b.capacity
-room-in setup b told room = subst (λ s. HasBookRoom s (Some b)) told room
+pub room-in : (setup : Setup) (book : Option BookView) (b : BookView) (here : Stand) → ∥ IsBookOf setup book here ∥₁ → book ≡ Some b → HasBookRoom setup.book book
+    → length b.pages < b.capacity
+room-in setup book b here h is room =
+    ∥∥₁_elim h (hlevel props) (λ x.
+    subst (λ s. HasBookRoom s (Some b)) (subst (λ o. IsBookOf setup o here) is x).0 (subst (HasBookRoom setup.book) is room))
 
-pub full-in : (setup : Setup) (b : BookView) → setup.book ≡ On b.capacity → IsBookFull setup.book (Some b) → b.capacity ≤ length b.pages
-full-in setup b told full = subst (λ s. IsBookFull s (Some b)) told full
-
-pub never-full : (setup : Setup) (book : Option BookView) → setup.book ≡ Off → IsBookFull setup.book book → ⊥
-never-full setup book told full = subst (λ s. IsBookFull s book) told full
+pub full-in : (setup : Setup) (book : Option BookView) (b : BookView) (here : Stand) → ∥ IsBookOf setup book here ∥₁ → book ≡ Some b → IsBookFull setup.book book
+    → b.capacity ≤ length b.pages
+full-in setup book b here h is full =
+    ∥∥₁_elim h (hlevel props) (λ x.
+    subst (λ s. IsBookFull s (Some b)) (subst (λ o. IsBookOf setup o here) is x).0 (subst (IsBookFull setup.book) is full))
 
 -- a core that was told to keep no book always has room
 pub no-book : (setting : Book) (book : Option BookView) → setting ≡ Off → HasBookRoom setting book
@@ -114,8 +119,8 @@ begun setup found book here is stands = by_setting setup.book refl
 
 -- an opening that found these leaves the shard here
 pub stands-at : (found : List Record) (facts : Facts) (memory : Memory) → facts ≡ facts_of (found ++ next_opening found ∷ []) → memory ≡ rebuilt facts
-    → record { facts = facts; memory = memory }
-    ≡ record { facts = facts_of (found ++ next_opening found ∷ []); memory = rebuilt (facts_of (found ++ next_opening found ∷ [])) }
+    → ◌≡◌ {A = Stand} (record { facts = facts; memory = memory })
+    (record { facts = facts_of (found ++ next_opening found ∷ []); memory = rebuilt (facts_of (found ++ next_opening found ∷ [])) })
 stands-at found facts memory is_facts is_memory =
     let again : memory ≡ rebuilt (facts_of (found ++ next_opening found ∷ [])) = is_memory ∙ ap rebuilt is_facts in
     λ j. record { facts = is_facts j; memory = again j }
@@ -155,22 +160,6 @@ kept-book law file old new b after now i logged memory outbox (Ok out) does done
     (page-of law old new b now i logged memory out (does ∙ ap (Does logged memory) (sym done.2.2)) same done.2.0 done.2.1 h)
 kept-book law file old new b after now i logged memory outbox (Err fault) does done kept same page stays h =
     still-of new.setup old.setup (Some after) (Some b) new.facts old.facts new.memory old.memory same (ap (λ (x : BookView). Some x) stays) kept.0 kept.1 h
-
--- no book is kept
-pub none-of : (setup told : Setup) (book : Option BookView) (there : Stand) → book ≡ None → setup ≡ told → IsBookOf told book there → setup.book ≡ Off
-none-of setup told book there none same h = ap (λ (s : Setup). s.book) same ∙ subst (λ b. IsBookOf told b there) none h
-
-pub entered-none : (old new : Option BookView) (now : Interval) (i : Input) (result : Result (List Envelope) Fault) → old ≡ None → new ≡ None
-    → HasEntered old new now i result
-entered-none old new now i (Ok out) was is = is ∙ sym (ap (λ b. and_page b (record { input = i; now = now; outbox = out })) was)
-entered-none old new now i (Err fault) was is = is ∙ sym was
-
-pub entered-some : (old new : Option BookView) (b after : BookView) (now : Interval) (i : Input) (result : Result (List Envelope) Fault)
-    → old ≡ Some b → new ≡ Some after → IfOk result (λ out. after ≡ with_page b (record { input = i; now = now; outbox = out }))
-    → IfErr result (λ fault. after ≡ b) → HasEntered old new now i result
-entered-some old new b after now i (Ok out) was is page stays =
-    is ∙ ap (λ (x : BookView). Some x) page ∙ sym (ap (λ x. and_page x (record { input = i; now = now; outbox = out })) was)
-entered-some old new b after now i (Err fault) was is page stays = is ∙ ap (λ (x : BookView). Some x) stays ∙ sym was
 
 -- ---- a machine that was made, with its book
 

@@ -46,7 +46,7 @@ use units::{Epoch, Fault, Install, Key, Seen, Setup, Stamp, TxnId};
 pub struct Core<D: Disk> {
     machine: Machine<D>,
     book: Option<Book>,
-    ghost replays: { IsBookOf machine.state.setup book (record { facts = machine.state.facts; memory = machine.state.memory }) },
+    ghost replays: { ∥ IsBookOf machine.state.setup book (record { facts = machine.state.facts; memory = machine.state.memory }) ∥₁ },
 }
 
 impl<D: Disk> Core<D> {
@@ -109,7 +109,7 @@ impl<D: Disk> Core<D> {
         made: Result<Machine<D>, (Fault, D)>,
         book: Option<Book>,
     ) -> Result<Core<D>, (Fault, D)>
-        requires { IfOk made (λ machine. IsBookOf (seen_machine machine).setup book (stand_of (seen_machine machine))) }
+        requires { IfOk made (λ machine. ∥ IsBookOf (seen_machine machine).setup book (stand_of (seen_machine machine)) ∥₁) }
         ensures made { IfOk result (λ core. (made ≡ Ok core.machine) × (book_of core ≡ book)) }
         ensures refused { IfErr result (λ refused. made ≡ Err refused) }
     {
@@ -229,7 +229,7 @@ impl<D: Disk> Core<D> {
     /// and keeps, and puts out what stands in them.
     pub fn book(&self) -> Option<&Book>
         ensures same { option_copied result ≡ book_of self.now }
-        ensures replays { IsBookOf (seen self.now).setup (book_of self.now) (stand_of (seen self.now)) }
+        ensures replays { ∥ IsBookOf (seen self.now).setup (book_of self.now) (stand_of (seen self.now)) ∥₁ }
     {
         self.book.as_ref()
     }
@@ -281,7 +281,7 @@ impl<D: Disk> Core<D> {
     pub fn is_sound(&self)
         ensures sound { ∥ IsSound (seen self.now).setup.shard (seen self.now).facts (seen self.now).memory ∥₁ }
         ensures showable { IsShowable (seen self.now).facts (seen self.now).memory }
-        ensures replays { IsBookOf (seen self.now).setup (book_of self.now) (stand_of (seen self.now)) }
+        ensures replays { ∥ IsBookOf (seen self.now).setup (book_of self.now) (stand_of (seen self.now)) ∥₁ }
     {}
 }
 
