@@ -4,7 +4,7 @@ use Rattle.std.proofs.Math.Logic.{∥∥₁_elim}
 use Rattle.std.proofs.Props.{props}
 use Rattle.std.proofs.lemmas.Bool.{cases_lt}
 use Rattle.units.specs.declared.fault.Fault.{Fault}
-use Rattle.units.specs.declared.fault.Fault.TheVariants.{Memory as WantsMemory, Device, TimeSpent, BookFull}
+use Rattle.units.specs.declared.fault.Fault.TheVariants.{Memory as WantsMemory, TimeSpent, BookFull}
 use Rattle.units.specs.declared.setup.Setup.{Setup}
 use Rattle.units.specs.declared.setup.Book.{Book}
 use Rattle.units.specs.declared.setup.Book.TheVariants.{Off, On}
@@ -18,9 +18,9 @@ use Rattle.truetime.specs.Interval.{Interval}
 use Rattle.protocol.specs.Rows.{Memory, rebuilt}
 use Rattle.protocol.specs.Replay.{Stand}
 use Rattle.protocol.specs.Step.{Stepped, Refuses, Does, facts_after}
-use Rattle.book.specs.Books.{BookView, HasBookRoom, IsBookFull, IsBookOf, PageIsStep, Replays, new_book, with_page, and_page}
+use Rattle.book.specs.Books.{BookView, HasBookRoom, IsBookFull, IsBookOf, PageIsStep, Replays, new_book, with_page}
 use Rattle.shard.specs.Armed.{HasPlace}
-use Rattle.shard.specs.Booked.{HasEntered, IsCrowded, IsFullCause, stand_of}
+use Rattle.shard.specs.Booked.{IsCrowded, IsFullCause, stand_of}
 use Rattle.shard.specs.On.{CoreView, HasStepped, IsCause, IsDone, IsLogFull, StandsAsBefore, record_of, step_of}
 use Rattle.shard.specs.Opened.{next_opening}
 

@@ -1,6 +1,6 @@
-use Rattle.std.proofs.Common.{◌≡◌, Result, Ok, Err, IfOk, IfErr, sym, ap, refl}
+use Rattle.std.proofs.Common.{Result, Ok, Err, IfOk, IfErr, sym, ap, refl}
 use Rattle.units.specs.declared.fault.Fault.{Fault}
-use Rattle.protocol.specs.Step.{plan_input, stepped, step_within}
+use Rattle.protocol.specs.Step.{plan_input, step_within}
 use Rattle.memory.specs.Carry.{IsFit}
 use Rattle.memory.specs.Kept.{IsPlanned, start_of}
 use Rattle.memory.specs.declared.plan.Plan.{Plan}
@@ -9,7 +9,7 @@ use Rattle.shard.specs.Due.{IsDue}
 use Rattle.shard.specs.Logs.{items_of}
 use Rattle.shard.specs.On.{HasStepped, step_of}
 use Rattle.shard.proofs.Plans.{is_due}
-use Rattle.shard.proofs.Results.{by_step, refused, refusal_is_no_device}
+use Rattle.shard.proofs.Results.{refused, refusal_is_no_device}
 use Rattle.shard.proofs.Showable.{showable_then}
 use Rattle.shard.proofs.machine.Machine.plan.Goals as goal
 
