@@ -181,6 +181,15 @@ impl<D: Disk> GateLog<D> {
         self.stopped
     }
 
+    /// The file may grow by this record: no further than 2^40 bytes.
+    pub fn has_place(&self, item: &Record) -> bool
+        ensures there { IsTrue result → next_gate (gate_at self.now) item.now + 1 ≤ 2 ^ 40 }
+        ensures full { IsFalse result → IsFull (gate_at self.now) item.now }
+    {
+        let size = encoded_len(item) + 6;
+        self.gate <= 1 << 40 && size <= (1 << 40) - self.gate
+    }
+
     /// Takes all the memory that an append of this record needs, the disk's too. `TimeSpent` where the file would grow
     /// beyond 2^40 bytes.
     pub fn stage(&mut self, alloc: Global, record: &Record) -> Result<Staged, Fault>
@@ -199,10 +208,10 @@ impl<D: Disk> GateLog<D> {
         if self.stopped {
             return Err(Fault::Stopped);
         }
-        let size = encoded_len(record) + 6;
-        if self.gate > 1 << 40 || size > (1 << 40) - self.gate {
+        if !self.has_place(record) {
             return Err(Fault::TimeSpent);
         }
+        let size = encoded_len(record) + 6;
         self.disk.reserve(size)?;
         Staged::at(alloc, self.gate, record)
     }

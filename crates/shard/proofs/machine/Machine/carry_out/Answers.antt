@@ -4,12 +4,12 @@ use Rattle.record.specs.declared.record.Record.{Record}
 use Rattle.protocol.specs.Plan.{carried}
 use Rattle.protocol.specs.Step.{facts_after}
 use Rattle.memory.specs.Plans.{plan_of}
-use Rattle.shard.specs.Core.{seen}
+use Rattle.shard.specs.Core.{seen_machine}
 use Rattle.shard.specs.Logs.{facts_logged}
 use Rattle.shard.proofs.Carried.{can_carry, memory_after, facts_then, sound_then, facts-logged}
 use Rattle.shard.proofs.Showable.{as-showable}
 use Rattle.shard.proofs.Results.{served_as, logged_as}
-use Rattle.shard.proofs.shard_core.Core.carry_out.Goals as goal
+use Rattle.shard.proofs.machine.Machine.carry_out.Goals as goal
 
 pub carry-requires-clause-ready : goal.carry-requires-clause-ready
 carry-requires-clause-ready g c =
@@ -44,7 +44,7 @@ returns-in_default g c =
     c.carry.new.self.memory c.carry.ensures.memory in
     let after = carried (plan_of k.memory.rows c.args.plan) k.memory in
     served_as g.D.Disk.keeps_model g.D.Disk.obeys g.D.Disk.file g.D.Disk.clock g.D.Disk.since g.D.Disk.failures g.D.Disk.plan g.met.D.Disk.only_now
-    (seen c.args.self.now) c.requires.running c.requires.stands c.carry.new.self.setup c.carry.new.self.facts c.carry.new.self.memory
+    (seen_machine c.args.self.now) c.requires.running c.requires.stands c.carry.new.self.setup c.carry.new.self.facts c.carry.new.self.memory
     c.args.plan.logged after c.args.plan.outbox _ c.in_default.is c.carry.ensures.outbox
     (c.carry.ensures.setup ∙ c.in-Ok.ensures.ready.setup) (facts ∙ ap (facts_after k.facts) c.in_default.is) memory
 
@@ -75,6 +75,6 @@ returns-in-Ok-append_record g c =
     done.new.self.memory done.ensures.memory in
     let after = carried (plan_of k.memory.rows c.args.plan) k.memory in
     logged_as g.D.Disk.keeps_model g.D.Disk.obeys g.D.Disk.file g.D.Disk.clock g.D.Disk.since g.D.Disk.failures g.D.Disk.plan g.met.D.Disk.only_now
-    (seen c.args.self.now) c.requires.running c.requires.stands _ c.in-Some.item c.args.plan.logged after c.args.plan.outbox _ c.in-Some.is done.ensures.outbox
+    (seen_machine c.args.self.now) c.requires.running c.requires.stands _ c.in-Some.item c.args.plan.logged after c.args.plan.outbox _ c.in-Some.is done.ensures.outbox
     (done.ensures.setup ∙ c.in-Ok.ensures.ready.setup) (facts ∙ ap (facts_after k.facts) c.in-Some.is) memory a.running.1 a.failures_stay
     a.any_moment a.durable a.read a.gate a.place (λ obey never. (a.planned obey never).0) (λ call run obey keep is. (a.armed call run obey keep is).0)

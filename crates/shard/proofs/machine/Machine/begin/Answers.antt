@@ -8,7 +8,7 @@ use Rattle.shard.specs.Armed.{FailsIn}
 use Rattle.shard.specs.Logs.{records_in}
 use Rattle.shard.proofs.Openings.{first-learnt, first-sound}
 use Rattle.shard.proofs.Showable.{as-showable}
-use Rattle.shard.proofs.shard_core.Core.begin.Goals as goal
+use Rattle.shard.proofs.machine.Machine.begin.Goals as goal
 
 pub invariant_of-result : goal.invariant_of-result
 invariant_of-result g c = record {

@@ -5,10 +5,10 @@ use Rattle.record.specs.declared.record.Record.{Record}
 use Rattle.disk.specs.File.{surface}
 use Rattle.gatelog.specs.Shown.{disk_of, gate_at}
 use Rattle.shard.specs.Armed.{FailsIn}
-use Rattle.shard.specs.Core.{seen}
+use Rattle.shard.specs.Core.{seen_machine}
 use Rattle.shard.specs.Logs.{records_in}
 use Rattle.shard.proofs.Openings.{opened_memory, opening_due}
-use Rattle.shard.proofs.shard_core.Core.take_up.Goals as goal
+use Rattle.shard.proofs.machine.Machine.take_up.Goals as goal
 
 pub carry_out-requires-clause-due : goal.carry_out-requires-clause-due
 carry_out-requires-clause-due g c =
@@ -37,7 +37,7 @@ returns-in-Err-carry_out-clause-refused g c =
     let before = records_in (surface (g.D.Disk.file (disk_of c.args.gate_log))).seen in
     let gate = gate_at c.args.gate_log in
     let fault = c.in-Err-carry_out.fault in
-    let left = (seen c.carry_out.new.self).disk in
+    let left = (seen_machine c.carry_out.new.self).disk in
     let epoch : c.in-Ok.epoch ≡ k.facts.epoch + 1 = c.in-Ok.ensures.0 ∙ ap (λ n. n + 1) c.epoch.ensures in
     let logged : c.serves-plan.result.logged ≡ Some (Record.Opened (k.facts.epoch + 1)) =
     ap (λ (p : protocol.Plan). p.logged) c.serves-plan.ensures.plan ∙ ap (λ n. Some (Record.Opened n)) epoch in
