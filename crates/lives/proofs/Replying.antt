@@ -227,6 +227,7 @@ module _ (w : World) (old new : Run) (h : IsRun old w) where
   -- its log is taken, and what it logs follows
   pub orderly_at : (n : ℕ) (doing : Doing) → IsSteady w → IsOrderlyAt w.config w.bag w.shards n doing
   orderly_at n doing steady s there = record {
+    unbooked = refl;
     takes = steady.takes n s there;
     follows = λ r memory out is. steady.logged n s doing r memory out there is;
   }

@@ -6,6 +6,7 @@ use Rattle.std.proofs.lemmas.List.{append-nil}
 use Rattle.std.proofs.lemmas.List.Sums.{fold-append}
 use Rattle.units.specs.declared.fault.Fault.{Fault}
 use Rattle.units.specs.declared.fault.Fault.TheVariants.{Device, Memory as WantsMemory, Stopped, TimeSpent}
+use Rattle.units.specs.declared.setup.Book.TheVariants.{Off}
 use Rattle.units.specs.declared.setup.Setup.{Setup}
 use Rattle.truetime.specs.Interval.{Interval}
 use Rattle.disk.specs.File.{surface}
@@ -17,6 +18,7 @@ use Rattle.record.specs.Accepted.{followed}
 use Rattle.record.specs.Facts.{facts_of}
 use Rattle.record.specs.declared.record.Record.{Record}
 use Rattle.record.proofs.LearnAgrees.{learn_agrees}
+use Rattle.book.specs.Books.{BookView, HasBookRoom}
 use Rattle.message.specs.declared.message.Envelope.{Envelope}
 use Rattle.message.specs.declared.message.Input.{Input}
 use Rattle.protocol.specs.Rows.{Memory}
@@ -287,10 +289,15 @@ module _ (old before after new : CoreView SimDisk) (call : Option ℕ) (arms : I
 
 -- a core takes an input, and no call is armed behind it
 pub takes_input : (old before after new : CoreView SimDisk) (call : Option ℕ) → IsArmedFrom old before call → IsArmedFrom after new None
-    → (now : Interval) (i : Input) (r : Result (List Envelope) Fault)
-    → HasStepped (Unit {0}) (Unit {0}) disk_file disk_clock LeftSince disk_failures disk_plan before after (step_of before now i) r → TakesInput old new call now i r
-takes_input old before after new call arms disarms now i r k = λ setup s h order. by_state setup s order s.state refl h
+    → (now : Interval) (i : Input) (r : Result (List Envelope) Fault) (book : Option BookView)
+    → (HasBookRoom before.setup.book book → HasStepped (Unit {0}) (Unit {0}) disk_file disk_clock LeftSince disk_failures disk_plan before after (step_of before now i) r)
+    → TakesInput old new call now i r
+takes_input old before after new call arms disarms now i r book k = λ setup s h order. by_state setup s order s.state refl h
   where
+    -- none is kept, so it is not full
+    room : (setup : Setup) → setup.book ≡ Off → old.setup ≡ setup → HasBookRoom before.setup.book book
+    room setup off same = subst (λ b. HasBookRoom b book) (sym (ap (λ (t : Setup). t.book) (arms.setup ∙ same) ∙ off)) tt
+
     by_state : (setup : Setup) (s : ShardNow) → IsOrderly setup s (asked setup s now i) → (state : State) → s.state ≡ state → IsCoreIn setup s old state
         → Comes call (asked setup s now i) r (IsCoreIn setup (comes_to s s call (asked setup s now i)) new (comes_to s s call (asked setup s now i)).state)
     by_state setup s order (Runs m) is h =
@@ -300,9 +307,9 @@ takes_input old before after new call arms disarms now i r k = λ setup s h orde
         ∙ sym (λ j. step ((arms.setup ∙ h.core_of.setup_is) j) ((arms.facts ∙ h.core_of.knows) j) ((arms.memory ∙ h.core_of.memory) j) now i) in
         let whole : asked setup s now i ≡ where_room before.gate (step_of before now i) = λ j. where_room (gate j) (inner j) in
         subst (λ x. Left old before after new call arms disarms setup s x r) (sym whole)
-        (running_comes old before after new call arms disarms setup s m h is (step_of before now i) r k (λ q memory out e. order.follows q memory out (whole ∙ e)))
+        (running_comes old before after new call arms disarms setup s m h is (step_of before now i) r (k (room setup order.unbooked h.core_of.setup_is)) (λ q memory out e. order.follows q memory out (whole ∙ e)))
     by_state setup s order (IsStopped m) is h =
         let whole : asked setup s now i ≡ Refuses Stopped = ap (λ t. where_room (end_of (disk_log s)) (asked_in setup s now i t)) is in
         subst (λ x. Left old before after new call arms disarms setup s x r) (sym whole)
-        (stopped_comes old before after new call arms disarms setup s m h is (step_of before now i) r k)
+        (stopped_comes old before after new call arms disarms setup s m h is (step_of before now i) r (k (room setup order.unbooked h.core_of.setup_is)))
     by_state setup s order IsDown is h = absurd h
