@@ -58,7 +58,8 @@ fn setup(alloc: Global, number: u8) -> Option<Setup> {
 
 /// A new shard on a new disk.
 pub fn fresh(alloc: Global, number: u8) -> Option<Core<SimDisk>> {
-    Core::fresh(alloc, SimDisk::new(alloc), setup(alloc, number)?).ok()
+    let log = GateLog::format(SimDisk::new(alloc)).ok()?;
+    Core::open(alloc, log.into_disk(), setup(alloc, number)?).ok()
 }
 
 // A desk for a core.

@@ -1,9 +1,7 @@
 //! The log of a shard, and what stands in memory by it.
 ghost use Rattle.std.specs.Prelude.{◌≡◌, ◌⊎◌, ◌<◌, ◌+◌, ◌^◌, [], ◌∷◌, Some, Ok, Err, IsFalse, IfOk, IfErr, OnOk, ◌≤◌};
 ghost use Rattle.disk.specs.File.{surface};
-ghost use Rattle.disk.specs.declared.plan.FailurePlan.TheVariants.{Never};
-ghost use Rattle.gatelog.specs.Frames.{next_gate, IsFull};
-ghost use Rattle.gatelog.specs.Gates.{first_gate};
+ghost use Rattle.gatelog.specs.Frames.{IsFull};
 ghost use Rattle.gatelog.specs.Shown.{disk_of, gate_at, is_stopped};
 ghost use Rattle.memory.specs.Kept.{start_of};
 ghost use Rattle.memory.specs.Plans.{plan_of};
@@ -47,48 +45,6 @@ pub(crate) struct Machine<D: Disk> {
 
 impl<D: Disk> Machine<D> {
     ghost use Rattle.shard.specs.Core.{seen_machine};
-
-    // Formats the disk, whatever was on it, and logs the first opening. All memory is taken before: refused for `Memory`, the
-    // disk reads as it did.
-    pub(crate) fn fresh(alloc: Global, disk: D, setup: Setup) -> Result<Machine<D>, (Fault, D)>
-        ensures made { IfOk result (λ machine. ((seen_machine machine).setup ≡ setup) × ((seen_machine machine).facts ≡ facts_of (Record.Opened 1 ∷ [])) × IsFalse (seen_machine machine).stopped) }
-        ensures empty { IfOk result (λ machine. (seen_machine machine).memory ≡ record { last = 0; rows = []; ended = [] }) }
-        ensures gate { IfOk result (λ machine. (seen_machine machine).gate ≡ next_gate first_gate (Record.Opened 1)) }
-        ensures durable { IfOk result (λ machine. D.keeps_model → KeepsRecords (surface (D.file (seen_machine machine).disk)) (Ok (Record.Opened 1 ∷ []))) }
-        ensures read { IfOk result (λ machine. D.keeps_model → records_in (surface (D.file (seen_machine machine).disk)).seen ≡ Ok (Record.Opened 1 ∷ [])) }
-        ensures cause { IfErr result (λ refused. ((refused.0 ≡ Fault.Memory) × (D.file refused.1 ≡ D.file disk))
-            ⊎ ((refused.0 ≡ Fault.Device) × (D.failures disk < D.failures refused.1))) }
-        // With no call armed the device does not fail.
-        ensures planned { D.obeys → D.plan disk ≡ Never → IfOk result (λ machine. D.plan (seen_machine machine).disk ≡ Never) × IfErr result (λ refused. refused.0 ≡ Fault.Memory) }
-    {
-        fresh_is_sound();
-        fresh_is_showable();
-        let state = match State::fresh(alloc, setup) {
-            Ok(state) => state,
-            Err(fault) => return Err((fault, disk)),
-        };
-        let first = Record::Opened {
-            epoch: Epoch::first(),
-        };
-        let (gate_log, staged) = match GateLog::format_for(alloc, disk, &first) {
-            Ok(made) => made,
-            Err(refused) => {
-                state.stop();
-                return Err(refused);
-            }
-        };
-        let mut gate_log = gate_log;
-        match gate_log.append(staged) {
-            Ok(logged) => {
-                let _ = logged.spend();
-                Ok(Machine { gate_log, state })
-            }
-            Err(fault) => {
-                state.stop();
-                Err((fault, gate_log.into_disk()))
-            }
-        }
-    }
 
     // What an input comes to, told before anything is changed; or why it is refused.
     pub(crate) fn plan(&self, alloc: Global, now: &Reading, input: &Input) -> Result<Plan, Fault>
@@ -163,7 +119,6 @@ impl<D: Disk> Machine<D> {
             (Record.Opened 1) (IsFull (gate_at gate_log) (Record.Opened 1)) refused.0 refused.1) }
     {
         fresh_is_sound();
-        fresh_is_showable();
         fresh_is_showable();
         let state = match State::fresh(alloc, setup) {
             Ok(state) => state,

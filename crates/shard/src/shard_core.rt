@@ -5,16 +5,12 @@ ghost use Rattle.disk.specs.File.{surface};
 ghost use Rattle.disk.specs.Image.{MayLeave};
 ghost use Rattle.disk.specs.Moments.{LeavesOnly};
 ghost use Rattle.disk.specs.Planned.{armed};
-ghost use Rattle.disk.specs.declared.plan.FailurePlan.TheVariants.{Never};
-ghost use Rattle.gatelog.specs.Frames.{next_gate};
-ghost use Rattle.gatelog.specs.Gates.{first_gate};
 ghost use Rattle.book.specs.Books.{HasBookRoom, IsBookFull, IsBookOf, new_book};
 ghost use Rattle.memory.specs.Kept.{start_of};
 ghost use Rattle.memory.specs.Plans.{plan_of};
 ghost use Rattle.protocol.specs.Rows.{claims};
 ghost use Rattle.protocol.specs.Sound.{IsSound};
 ghost use Rattle.protocol.specs.Step.{plan_input};
-ghost use Rattle.record.specs.Facts.{facts_of};
 ghost use Rattle.rows.specs.RowTable.{nth_prepared, nth_decided};
 ghost use Rattle.serving.specs.Showable.{IsShowable};
 ghost use Rattle.shard.specs.Booked.{HasEntered, IsCrowded, stand_of};
@@ -51,30 +47,6 @@ pub struct Core<D: Disk> {
 
 impl<D: Disk> Core<D> {
     ghost use Rattle.shard.specs.Core.{seen, seen_machine, book_of};
-
-    /// Formats the disk, whatever was on it, and logs the first opening. All memory is taken before: refused for `Memory`, the
-    /// disk reads as it did.
-    pub fn fresh(alloc: Global, disk: D, setup: Setup) -> Result<Core<D>, (Fault, D)>
-        ensures made { IfOk result (λ core. ((seen core).setup ≡ setup) × ((seen core).facts ≡ facts_of (Record.Opened 1 ∷ [])) × IsFalse (seen core).stopped) }
-        ensures empty { IfOk result (λ core. (seen core).memory ≡ record { last = 0; rows = []; ended = [] }) }
-        ensures gate { IfOk result (λ core. (seen core).gate ≡ next_gate first_gate (Record.Opened 1)) }
-        ensures durable { IfOk result (λ core. D.keeps_model → KeepsRecords (surface (D.file (seen core).disk)) (Ok (Record.Opened 1 ∷ []))) }
-        ensures read { IfOk result (λ core. D.keeps_model → records_in (surface (D.file (seen core).disk)).seen ≡ Ok (Record.Opened 1 ∷ [])) }
-        ensures cause { IfErr result (λ refused. ((refused.0 ≡ Fault.Memory) × (D.file refused.1 ≡ D.file disk))
-            ⊎ ((refused.0 ≡ Fault.Device) × (D.failures disk < D.failures refused.1))) }
-        // With no call armed the device does not fail.
-        ensures planned { D.obeys → D.plan disk ≡ Never → IfOk result (λ core. D.plan (seen core).disk ≡ Never) × IfErr result (λ refused. refused.0 ≡ Fault.Memory) }
-        ensures book { IfOk result (λ core. book_of core ≡ new_book setup.book []) }
-    {
-        let book = match begin_book(alloc, setup.book, &[]) {
-            Ok(book) => book,
-            Err(fault) => return Err((fault, disk)),
-        };
-        match Machine::fresh(alloc, disk, setup) {
-            Ok(machine) => Ok(Core { machine, book }),
-            Err(refused) => Err(refused),
-        }
-    }
 
     /// Takes up the log of a disk, and logs the next opening. What a log leaves is the rows of its promises and decisions that
     /// stand, its versions, and its greatest timestamp. The disk is given back where it is refused: for want of memory, a failing

@@ -123,7 +123,8 @@ fn told_to_keep(alloc: Global, capacity: u32) -> Option<Setup> {
 
 fn begun(alloc: Global, row: &Row, told: Setup) -> Option<Core<SimDisk>> {
     if row.before.is_empty() {
-        return Core::fresh(alloc, SimDisk::new(alloc), told).ok();
+        let log = GateLog::format(SimDisk::new(alloc)).ok()?;
+        return Core::open(alloc, log.into_disk(), told).ok();
     }
     let core = fresh(alloc, SimDisk::new(alloc), 0, 0)?;
     let disk = disk_behind(core, alloc, row.before)?;
