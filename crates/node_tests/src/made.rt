@@ -1,5 +1,6 @@
 //! Values of the tests, made of plain numbers, and desks and nodes of fresh shards, with one viewer.
 use board::Viewer;
+use gatelog::GateLog;
 use node::{Desk, Node};
 use shard::Core;
 use simdisk::SimDisk;

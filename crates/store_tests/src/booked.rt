@@ -3,6 +3,7 @@ use crate::answers::{Told, are_alike, says};
 use crate::given::Given;
 use crate::stories::{Exchange, disk_behind, fresh, meets_all, setup};
 use book::{Book, Page};
+use gatelog::GateLog;
 use shard::Core;
 use simdisk::{Choice, SimDisk};
 use std::alloc::Global;

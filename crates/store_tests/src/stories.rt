@@ -3,6 +3,7 @@ use crate::answers::{Told, is_told};
 use crate::given::{Given, input_of, reading};
 use crate::made::{key, shard, stamp};
 use disk::Disk;
+use gatelog::GateLog;
 use shard::Core;
 use simdisk::{Choice, SimDisk};
 use std::alloc::Global;
