@@ -81,7 +81,8 @@ fresh_is : finished unopened_shard Doing.Open (Some (Record.Opened 1)) (rebuilt 
 unfolding finished rebuilt facts_of installs_of
 fresh_is = refl
 
-pub fresh_stands : (setup : Setup) → setup.book ≡ Off → (new : RunShard) (out : List Envelope) → Acts setup [] unopened_shard None Doing.Open new (Ok out) → StandsFor setup new fresh_shard
+pub fresh_stands : (setup : Setup) → setup.book ≡ Off → (new : RunShard) (out : List Envelope) → Acts setup [] unopened_shard None Doing.Open new (Ok out)
+    → StandsFor setup new fresh_shard
 fresh_stands setup off new out acts = by_answer (subst (λ st. Comes None st (Ok out) (StandsFor setup new (done_by unopened_shard None Doing.Open st)))
     (opens_first setup) (acts (orderly_first setup off)))
   where
@@ -91,7 +92,8 @@ fresh_stands setup off new out acts = by_answer (subst (λ st. Comes None st (Ok
     by_answer (inr k) = subst (StandsFor setup new) fresh_is k.1
 
 -- refused only for memory
-pub fresh_refused : (setup : Setup) → setup.book ≡ Off → (new : RunShard) (fault : Fault) → Acts setup [] unopened_shard None Doing.Open new (Err fault) → fault ≡ Memory
+pub fresh_refused : (setup : Setup) → setup.book ≡ Off → (new : RunShard) (fault : Fault) → Acts setup [] unopened_shard None Doing.Open new (Err fault)
+    → fault ≡ Memory
 fresh_refused setup off new fault acts = by_answer (subst (λ st. Comes None st (Err fault) (StandsFor setup new (done_by unopened_shard None Doing.Open st)))
     (opens_first setup) (acts (orderly_first setup off)))
   where

@@ -18,7 +18,7 @@ pub type Exchange = (u64, u64, Given, Told);
 pub enum Origin {
     // It is new.
     New,
-    // It is new, on a disk of which a call fails, counted from its first.
+    // It is new, and a device call of its next append is to fail, by its number from 0.
     Failing(u64),
     // These were given, the disk crashed with every change that was not synced lost, and was opened again.
     Crashed(&'static [Exchange]),
