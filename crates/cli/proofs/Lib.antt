@@ -2,6 +2,5 @@ pub mod FirstStep
 pub mod FoundLemmas
 pub mod HelpLemmas
 pub mod LineLemmas
-pub mod NumberLemmas
 pub mod ReplyLemmas
 pub mod ShardLemmas
