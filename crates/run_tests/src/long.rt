@@ -1,7 +1,7 @@
 //! A long run over four shards, at the splits `g`, `m` and `s`: transactions of two writes each, one after the other.
 ghost use Rattle.std.specs.Prelude.{◌<◌, ◌^◌};
 
-use crate::runs::run;
+use crate::runs::{Shape, run};
 use crate::steps::{Step, Timed};
 use std::alloc::Global;
 use std::test::Fail;
@@ -10,6 +10,12 @@ use world::Reply;
 
 // How many transactions there are, of ten events each.
 const TRANSACTIONS: u32 = 1_000;
+
+// Four shards without a stride.
+const FOUR: Shape<'static> = Shape {
+    splits: b"gms",
+    stride: 0,
+};
 
 // The coordinator of each fourth transaction, and its keys.
 const PAIRS: [(u8, u8, u8); 4] = [
@@ -99,7 +105,7 @@ fn are_done(replies: &[Reply]) -> bool {
 fn ten_thousand_events(rt: HostRuntime) -> Result<(), Fail> {
     let alloc = rt.alloc();
     let steps = all_steps(alloc)?;
-    let report = run(alloc, b"gms", &steps).ok_or("a report")?;
+    let report = run(alloc, FOUR, &steps).ok_or("a report")?;
     assert_eq!(rt; report.replies.len(), 10_000);
     assert!(rt; are_done(&report.replies));
     assert_eq!(rt; report.lines.len(), 2_000);
