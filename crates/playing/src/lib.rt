@@ -3,4 +3,4 @@
 
 mod plays;
 
-pub use plays::{Report, are_crashless, lawful, play};
+pub use plays::{Report, lawful, play};

@@ -1,4 +1,4 @@
-use Rattle.std.proofs.Common.{◌<◌, length, arith, rules}
+use Rattle.std.proofs.Common.{◌<◌, ◌∙◌, ap, length, arith, rules}
 use Rattle.playing.proofs.Playings.{next_played, none_next, none_played}
 use Rattle.playing.proofs.plays.play_all.Goals as goal
 
@@ -19,5 +19,5 @@ loop-number-preserved c config h =
     let within : n < length c.args.events.now = omega (arith, c.loop-number-test.true) in
     next_played config c.args.events.now n c.index-events-number.result within c.index-events-number.is c.loop-number.run c.take.new.self
     c.loop-number.replies.items c.loop-number.counts.items
-    (c.loop-number.invariant config h) c.in_ok-reply.reply c.len.result c.push.new.self.items c.push-2.new.self.items c.in_ok-push.ensures.items
-    c.in_ok-push-2.ensures.items (c.len.ensures ∙ ap length c.as_slice.ensures) c.in_ok-reply.ensures
+    (c.loop-number.invariant config h) c.in_ok-reply.reply (length c.as_slice.result.now) c.push.new.self.items c.push-in-loop-number.new.self.items c.in_ok-push.ensures.items
+    c.in_ok-push-2.ensures.items (ap length c.as_slice.ensures) c.in_ok-reply.ensures
