@@ -105,6 +105,16 @@ fn is_down(run: &Run<'_>, shard: u8) -> bool {
     }
 }
 
+// The first shard that is not up.
+fn resting(run: &Run<'_>) -> Option<u8> {
+    for shard in 0..3 {
+        if shard_of(run, shard).is_some() && !is_up(run, shard) {
+            return Some(shard);
+        }
+    }
+    None
+}
+
 fn views(run: &Run<'_>, shard: u8) -> u64 {
     match shard_of(run, shard) {
         Some(one) => one.views(),
@@ -441,7 +451,7 @@ impl Drawn {
     fn stop(&mut self, run: &Run<'_>) -> Option<()> {
         let shard = self.shard();
         if is_down(run, shard) {
-            return self.open(run);
+            return self.open_at(shard);
         }
         let (call, at) = (self.random.below(5), self.doing(run, shard));
         match self.random.below(5) {
@@ -455,15 +465,6 @@ impl Drawn {
     }
 
     // A shard that is not up is opened, mostly with success.
-    fn open(&mut self, run: &Run<'_>) -> Option<()> {
-        for shard in 0..3 {
-            if shard_of(run, shard).is_some() && !is_up(run, shard) {
-                return self.open_at(shard);
-            }
-        }
-        Some(())
-    }
-
     fn open_at(&mut self, shard: u8) -> Option<()> {
         let call = self.random.below(5);
         match self.random.below(10) {
@@ -479,7 +480,9 @@ impl Drawn {
     // Something happens.
     fn draw(&mut self, run: &Run<'_>) -> Option<()> {
         if self.random.below(3) == 0 {
-            self.open(run)?;
+            if let Some(shard) = resting(run) {
+                return self.open_at(shard);
+            }
         }
         if self.random.below(16) == 0 {
             return self.stop(run);

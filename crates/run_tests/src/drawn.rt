@@ -49,7 +49,7 @@ fn draw_all(rt: &impl Abort, alloc: Global, first: u64) -> Result<Totals, Fail> 
 
 // The runs are not empty: there are enough lines of each kind to judge.
 fn have_lines(counts: Counts) -> bool {
-    counts.acknowledged >= 100 && counts.read >= 40 && counts.looked >= 300 && counts.valued >= 100
+    counts.acknowledged >= 100 && counts.read >= 10 && counts.looked >= 300 && counts.valued >= 100
 }
 
 // So of stops.

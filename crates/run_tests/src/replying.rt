@@ -16,7 +16,7 @@ enum Told {
     Other,
 }
 
-fn told(reply: &Reply) -> Told {
+fn told_by(reply: &Reply) -> Told {
     match reply {
         Reply::Done => Told::Done,
         Reply::Refused(Fault::Stopped) => Told::Stopped,
@@ -155,10 +155,10 @@ fn is_due(standings: &Standings, report: &Report, step: Step, told: Told) -> boo
 pub fn are_due(report: &Report, steps: &[Timed]) -> bool {
     let mut standings = Standings::new();
     for ((_, step), reply) in steps.iter().zip(report.replies.iter()) {
-        if !is_due(&standings, report, *step, told(reply)) {
+        if !is_due(&standings, report, *step, told_by(reply)) {
             return false;
         }
-        standings.follow(*step, told(reply));
+        standings.follow(*step, told_by(reply));
     }
     report.replies.len() == steps.len()
 }
@@ -193,7 +193,7 @@ impl Stops {
     pub fn with(self, steps: &[Timed], replies: &[Reply]) -> Stops {
         let mut stops = self;
         for ((_, step), reply) in steps.iter().zip(replies.iter()) {
-            stops = stops.with_one(*step, told(reply));
+            stops = stops.with_one(*step, told_by(reply));
         }
         stops
     }

@@ -9,7 +9,7 @@ use std::test::Fail;
 // ---- failing calls
 
 // A call of the first Commit fails. What comes next is `next`, at a shard that its device stopped.
-fn failed(call: u64, next: Step) -> [Timed; 9] {
+fn failing(call: u64, next: Step) -> [Timed; 9] {
     [
         (100, Step::Begin(1)),
         (100, Step::Write(1, b'a', b'1')),
@@ -23,7 +23,7 @@ fn failed(call: u64, next: Step) -> [Timed; 9] {
     ]
 }
 
-static NOT_LOGGED: Wanted<'static> = Wanted {
+const NOT_LOGGED: Wanted<'static> = Wanted {
     replies: &[
         "3 refused 2 Device",
         "4 refused 3 Stopped",
@@ -36,7 +36,7 @@ static NOT_LOGGED: Wanted<'static> = Wanted {
     lines: &["begin 1.1 0", "look a 0 none"],
 };
 
-static LOGGED: Wanted<'static> = Wanted {
+const LOGGED: Wanted<'static> = Wanted {
     replies: &[
         "3 refused 2 Device",
         "4 refused 3 Stopped",
@@ -51,7 +51,7 @@ static LOGGED: Wanted<'static> = Wanted {
     lines: &["begin 1.1 0", "look a 0 none"],
 };
 
-static LOGGED_AND_SETTLED: Wanted<'static> = Wanted {
+const LOGGED_AND_SETTLED: Wanted<'static> = Wanted {
     replies: &[
         "3 refused 2 Device",
         "4 refused 3 Stopped",
@@ -74,7 +74,7 @@ static LOGGED_AND_SETTLED: Wanted<'static> = Wanted {
     lines: &["begin 1.1 0", "look a 0 none", "ack 1.1 111 8"],
 };
 
-static LEFT_AND_NOT_LOGGED: Wanted<'static> = Wanted {
+const LEFT_AND_NOT_LOGGED: Wanted<'static> = Wanted {
     replies: &[
         "3 refused 2 Device",
         "4 refused 3 Stopped",
@@ -87,7 +87,7 @@ static LEFT_AND_NOT_LOGGED: Wanted<'static> = Wanted {
     lines: &["begin 1.1 0", "look a 0 none"],
 };
 
-static LEFT_AND_LOGGED: Wanted<'static> = Wanted {
+const LEFT_AND_LOGGED: Wanted<'static> = Wanted {
     replies: &[
         "3 refused 2 Device",
         "4 refused 3 Stopped",
@@ -191,7 +191,7 @@ fn failing_calls(rt: HostRuntime) -> Result<(), Fail> {
         let case = Case {
             name: row.name,
             shape: TWO,
-            steps: &failed(row.call, row.next),
+            steps: &failing(row.call, row.next),
             taken: row.taken,
             wanted: row.wanted,
         };
@@ -203,7 +203,7 @@ fn failing_calls(rt: HostRuntime) -> Result<(), Fail> {
 // ---- crashes
 
 // Shard 1 crashes in a call of an advance, and serves up to the same time behind the opening.
-fn crashed(call: u64, fate: Fate) -> [Timed; 6] {
+fn crashing(call: u64, fate: Fate) -> [Timed; 6] {
     [
         (
             205,
@@ -218,7 +218,7 @@ fn crashed(call: u64, fate: Fate) -> [Timed; 6] {
 }
 
 // The ceiling was not logged before the crash.
-static GONE: Wanted<'static> = Wanted {
+const GONE: Wanted<'static> = Wanted {
     replies: &[
         "0 crashed",
         "1 refused 3 Stopped",
@@ -230,7 +230,7 @@ static GONE: Wanted<'static> = Wanted {
     lines: &["look z 200 none"],
 };
 
-static KEPT: Wanted<'static> = Wanted {
+const KEPT: Wanted<'static> = Wanted {
     replies: &[
         "0 crashed",
         "1 refused 3 Stopped",
@@ -284,7 +284,7 @@ fn crashes_in_calls(rt: HostRuntime) -> Result<(), Fail> {
             let case = Case {
                 name: row.name,
                 shape: TWO,
-                steps: &crashed(call, row.fate),
+                steps: &crashing(call, row.fate),
                 taken: 6,
                 wanted: wanted_of(row, call),
             };
