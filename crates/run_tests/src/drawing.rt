@@ -484,7 +484,7 @@ impl Drawn {
                 return self.open_at(shard);
             }
         }
-        if self.random.below(16) == 0 {
+        if self.random.below(36) == 0 {
             return self.stop(run);
         }
         if self.is_behind() && self.random.below(3) != 0 {
