@@ -1,3 +1,4 @@
+pub mod FirstShard
 pub mod FirstStep
 pub mod FoundLemmas
 pub mod HelpLemmas

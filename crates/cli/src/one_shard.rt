@@ -8,6 +8,7 @@ ghost use Rattle.disk.specs.declared.plan.FailurePlan.TheVariants.{Never};
 ghost use Rattle.shard.specs.Core.{seen};
 ghost use Rattle.simdisk.specs.State.{disk_plan};
 
+use gatelog::GateLog;
 use message::{Commit, Input, Message, Reads};
 use shard::Core;
 use simdisk::SimDisk;
@@ -27,8 +28,8 @@ pub fn open_new(alloc: Global, disk: SimDisk) -> Result<Core<SimDisk>, (Fault, S
         Ok(setup) => setup,
         Err(fault) => return Err((fault, disk)),
     };
-    match Core::fresh(alloc, disk, setup) {
-        Ok(core) => Ok(core),
+    match GateLog::format(disk) {
+        Ok(log) => Core::open(alloc, log.into_disk(), setup),
         Err(refused) => Err(refused),
     }
 }

@@ -68,41 +68,6 @@ impl<D: Disk> GateLog<D> {
         GateLog::laid_out(disk)
     }
 
-    /// Makes an empty log of a file, whatever was in it, and stages its first record. All memory is taken before the file is
-    /// changed: refused for `Memory`, it is as it was.
-    pub fn format_for(
-        alloc: Global,
-        disk: D,
-        first: &Record,
-    ) -> Result<(GateLog<D>, Staged), (Fault, D)>
-        // From then on every crash leaves the empty log, and a read gives it.
-        ensures empty { IfOk result (λ made. D.keeps_model → Stands (surface (D.file (disk_of made.0))) (Ok [])) }
-        ensures read { IfOk result (λ made. D.keeps_model → log (surface (D.file (disk_of made.0))).seen ≡ Ok []) }
-        ensures running { IfOk result (λ made. IsFalse (is_stopped made.0)) }
-        ensures gate { IfOk result (λ made. gate_at made.0 ≡ first_gate) }
-        ensures staged { IfOk result (λ made. (made.1.offset ≡ first_gate) × (made.1.item ≡ first.now)) }
-        ensures failures_stay { IfOk result (λ made. D.failures disk ≤ D.failures (disk_of made.0)) }
-        ensures cause { IfErr result (λ refused. ((refused.0 ≡ Fault.Memory) × (D.file refused.1 ≡ D.file disk) × (D.plan refused.1 ≡ D.plan disk))
-            ⊎ ((refused.0 ≡ Fault.Device) × (D.failures disk < D.failures refused.1))) }
-        // With no call armed, the device does not fail: it is made, with room for the record, or memory was refused.
-        ensures planned { D.obeys → D.plan disk ≡ Never → IfErr result (λ refused. refused.0 ≡ Fault.Memory)
-            × IfOk result (λ made. (D.plan (disk_of made.0) ≡ Never) × D.has_room (disk_of made.0) 4 (length (staged_bytes first.now) + 1)) }
-    {
-        let mut disk = disk;
-        let size = encoded_len(first) + 6;
-        if let Err(fault) = disk.reserve(9 + size) {
-            return Err((fault, disk));
-        }
-        let staged = match Staged::at(alloc, FIRST_GATE, first) {
-            Ok(staged) => staged,
-            Err(fault) => return Err((fault, disk)),
-        };
-        match GateLog::laid_out(disk) {
-            Ok(log) => Ok((log, staged)),
-            Err(refused) => Err(refused),
-        }
-    }
-
     // Makes an empty log of a file. It has room for that.
     fn laid_out(disk: D) -> Result<GateLog<D>, (Fault, D)>
         ensures empty { IfOk result (λ made. D.keeps_model → Stands (surface (D.file (disk_of made))) (Ok [])) }
@@ -181,6 +146,15 @@ impl<D: Disk> GateLog<D> {
         self.stopped
     }
 
+    /// The file may grow by this record: no further than 2^40 bytes.
+    pub fn has_place(&self, item: &Record) -> bool
+        ensures there { IsTrue result → next_gate (gate_at self.now) item.now + 1 ≤ 2 ^ 40 }
+        ensures full { IsFalse result → IsFull (gate_at self.now) item.now }
+    {
+        let size = encoded_len(item) + 6;
+        self.gate <= 1 << 40 && size <= (1 << 40) - self.gate
+    }
+
     /// Takes all the memory that an append of this record needs, the disk's too. `TimeSpent` where the file would grow
     /// beyond 2^40 bytes.
     pub fn stage(&mut self, alloc: Global, record: &Record) -> Result<Staged, Fault>
@@ -199,10 +173,10 @@ impl<D: Disk> GateLog<D> {
         if self.stopped {
             return Err(Fault::Stopped);
         }
-        let size = encoded_len(record) + 6;
-        if self.gate > 1 << 40 || size > (1 << 40) - self.gate {
+        if !self.has_place(record) {
             return Err(Fault::TimeSpent);
         }
+        let size = encoded_len(record) + 6;
         self.disk.reserve(size)?;
         Staged::at(alloc, self.gate, record)
     }

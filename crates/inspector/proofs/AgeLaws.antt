@@ -5,7 +5,7 @@ use Rattle.units.specs.Lists.{head}
 use Rattle.std.proofs.lemmas.List.{append-nil}
 use Rattle.units.proofs.IdLaws.{same_id-is}
 use Rattle.units.proofs.IdOrder.{once_more}
-use Rattle.inspector.specs.Folds.{older_of, oldest, with_ids}
+use Rattle.inspector.specs.Ages.{older_of, oldest, with_ids}
 
 onto : (xs ys : List Id) → with_ids (ids_once xs) ys ≡ ids_once (xs ++ ys)
 onto xs [] = ap ids_once (sym (append-nil xs))

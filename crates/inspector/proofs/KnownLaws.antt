@@ -12,34 +12,13 @@ use Rattle.units.specs.declared.line.Line.TheVariants.{Ack, Begin, Look, Read}
 use Rattle.units.proofs.IdLaws.{same_id_comm}
 use Rattle.record.specs.History.{Txn, before, find_txn, serial, serial_before, upto}
 use Rattle.record.specs.Verdict.{first_fault, first_lost, first_wrong_order, first_wrong_read, is_in_at, is_late_ack, late_acks, line_reads_right, lost_by, same_value}
-use Rattle.inspector.specs.Folds.{shown}
-use Rattle.inspector.specs.Known.{HaveSame, line_fault, of_id}
+use Rattle.findings.specs.Versions.{shown}
+use Rattle.findings.specs.Known.{HaveSame, of_id}
+use Rattle.inspector.specs.Faults.{line_fault}
 use Rattle.inspector.proofs.FoldLaws.{before_is, upto_is}
-use Rattle.inspector.proofs.IdRuns.{is_less, stable_by_id}
-use Rattle.inspector.proofs.SerialOrder.{serial_ascends, serial_order}
-use Rattle.inspector.proofs.SortedLists.{one_ascends, stable_sorted}
-
--- some transaction of an id
-abbrev pub sample : Id → Txn
-sample t = record { txn = t; at = 0; writes = [] }
-
-pub of_id_is : (t : Id) (us : List Txn) → filter (λ u. same_id t u.txn) us ≡ of_id t us
-of_id_is t us = ap (λ test. filter test us) (λ i u. same_id_comm t u.txn i)
-
-pub stays_same : (us vs : List Txn) → IsStableBy (is_less (λ (u : Txn). u.txn)) us vs → HaveSame vs us
-stays_same us vs stable t = sym (of_id_is t vs) ∙ stable_by_id (λ (u : Txn). u.txn) (sample t) us vs stable ∙ of_id_is t us
-
--- one at a timestamp, among those of the id
-pub any_of_id : (us : List Txn) (t : Id) (at : ℕ) → is_in_at us t at ≡ list_any (λ u. nat_eq u.at at) (of_id t us)
-any_of_id [] t at = refl
-any_of_id (u ∷ us) t at = by_test (same_id u.txn t) (any_of_id us t at)
-  where
-    by_test : (b : Bool) → is_in_at us t at ≡ list_any (λ v. nat_eq v.at at) (of_id t us)
-        → ((b && nat_eq u.at at) || is_in_at us t at) ≡ list_any (λ v. nat_eq v.at at) (cond b (u ∷ of_id t us) (of_id t us))
-    by_test true rest = ap (λ c. nat_eq u.at at || c) rest
-    by_test false rest = rest
-
--- ---- two lists that have the same
+use Rattle.findings.proofs.KnownLaws.{any_of_id}
+use Rattle.findings.proofs.SerialOrder.{serial_ascends, serial_order}
+use Rattle.findings.proofs.SortedLists.{one_ascends, stable_sorted}
 
 same_find : (us vs : List Txn) → HaveSame us vs → (t : Id) → find_txn us t ≡ find_txn vs t
 same_find us vs same t = ap (λ (l : List Txn). head l) (same t)

@@ -1,14 +1,5 @@
 pub mod ValueLaws
-pub mod VersionLaws
-pub mod SerialOrder
-pub mod SortedLists
-pub mod HistoryByEntries
 pub mod TornLaws
-pub mod WholeByEntries
-pub mod Numbers
-pub mod IdRuns
 pub mod KnownLaws
-pub mod AckLaws
-pub mod Sorting
 pub mod AgeLaws
 pub mod FoldLaws

@@ -1,8 +1,2 @@
-pub mod Acks
-pub mod Ascending
-pub mod Entries
-pub mod Decided
-pub mod Folds
-pub mod Known
-pub mod Places
-pub mod Versions
+pub mod Ages
+pub mod Faults

@@ -67,10 +67,12 @@ module _ (s : ShardNow) (fate : Fate) (sure : IsSure s) where
           ap (crashed s) (append-nil (read_log s ++ r ∷ []) ∙ ap (λ b. read_log s ++ cond b (r ∷ []) []) (sym (late_left call fate is)))
 
 -- what a disk holds behind a crash
-pub holds_crashed : (s : ShardNow) (fate : Fate) (old new : SimDisk) → disk_plan new ≡ FailurePlan.Never → disk_file new ≡ settled (crash_leaves (fate ∷ []) (disk_file old))
+pub holds_crashed : (s : ShardNow) (fate : Fate) (old new : SimDisk) → disk_plan new ≡ FailurePlan.Never
+    → disk_file new ≡ settled (crash_leaves (fate ∷ []) (disk_file old))
     → HoldsLog s old → HoldsLog (crash_by fate s) new
 holds_crashed s fate old new never file h =
-    let image : records_in (crash_leaves (fate ∷ []) (disk_file old)) ≡ Ok (disk_log (crash_by fate s)) = h.left (fate ∷ []) ∙ ap (λ l. Ok l) (sym (append-nil (left_log fate s))) in
+    let image : records_in (crash_leaves (fate ∷ []) (disk_file old)) ≡ Ok (disk_log (crash_by fate s)) = h.left (fate ∷ [])
+        ∙ ap (λ l. Ok l) (sym (append-nil (left_log fate s))) in
     record {
       never = never;
       read = ap (λ f. records_in (surface f).seen) file ∙ image;

@@ -29,7 +29,8 @@ ok_same : (a b : List Record) (x y : Found) → x ≡ Ok a → y ≡ Ok b → x 
 ok_same a b x y is there same = cc
 
 -- it is the log that the disk holds
-pub ends_with : (s : ShardNow) (disk : SimDisk) (entries : List Placed) (records : List Record) → HoldsLog s disk → log (surface (disk_file disk)).seen ≡ Ok entries
+pub ends_with : (s : ShardNow) (disk : SimDisk) (entries : List Placed) (records : List Record) → HoldsLog s disk
+    → log (surface (disk_file disk)).seen ≡ Ok entries
     → records ≡ map (λ (e : Placed). e.item) entries → records ≡ read_log s
 ends_with s disk entries records h read same =
     same ∙ ok_same (map (λ (e : Placed). e.item) entries) (read_log s) (records_in (surface (disk_file disk)).seen) (records_in (surface (disk_file disk)).seen)

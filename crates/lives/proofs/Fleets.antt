@@ -155,7 +155,8 @@ Answers config ss n new bag call doing result o =
 
 -- one that did something
 module _ (config : Config) (ss : List ShardNow) (n : ℕ) (old new : Shards) (before after : RunShard) (h : AreShards config old ss)
-    (splits : new.splits.now ≡ old.splits.now) (put : new.shards.items ≡ set old.shards.items n after) (there : slice_get old.shards.items n ≡ Some before) where
+    (splits : new.splits.now ≡ old.splits.now) (put : new.shards.items ≡ set old.shards.items n after)
+        (there : slice_get old.shards.items n ≡ Some before) where
   place : (s : ShardNow) × (slice_get ss n ≡ Some s) × StandsFor (setup_of config n) before s
   place = in_place config 0 n n old.shards.items ss before h.standing (omega arith) there
 
@@ -167,11 +168,13 @@ module _ (config : Config) (ss : List ShardNow) (n : ℕ) (old new : Shards) (be
   }
 
   pub acts_there : (bag : List Envelope) (call : Option ℕ) (doing : Doing) (result : Result (List Envelope) Fault)
-      → ((s : ShardNow) → StandsFor (setup_of config n) before s → Acts (setup_of config n) bag s call doing after result) → ActsAt config bag ss n call doing new result
+      → ((s : ShardNow) → StandsFor (setup_of config n) before s → Acts (setup_of config n) bag s call doing after result)
+      → ActsAt config bag ss n call doing new result
   acts_there bag call doing result act = λ orderly. by_answer (act place.0 place.2 (orderly place.0 place.1))
     where
       by_answer : Comes call (effect (setup_of config n) bag place.0 doing) result
-          (StandsFor (setup_of config n) after (done_by place.0 call doing (effect (setup_of config n) bag place.0 doing))) → Answers config ss n new bag call doing result (slice_get ss n)
+          (StandsFor (setup_of config n) after (done_by place.0 call doing (effect (setup_of config n) bag place.0 doing)))
+              → Answers config ss n new bag call doing result (slice_get ss n)
       by_answer (inl memory) = inl memory
       by_answer (inr k) = subst (Answers config ss n new bag call doing result) (sym place.1)
           (inr (k.0, changed (done_by place.0 call doing (effect (setup_of config n) bag place.0 doing)) k.1))
@@ -181,10 +184,12 @@ module _ (config : Config) (ss : List ShardNow) (n : ℕ) (old new : Shards) (be
       → ((s : ShardNow) → slice_get ss n ≡ Some s → StandsFor (setup_of config n) before s → OnOk r (StandsFor (setup_of config n) after (f s)))
       → OnOk r (AreShards config new (changed_at f ss n))
   crash_there f r crash = on_ok r (crash place.0 place.1 place.2)
-      (λ k. subst (λ o. AreShards config new (elim o as (λ x. List ShardNow) [ None ↦ ss | Some s ↦ replaced ss n (f s) ])) (sym place.1) (changed (f place.0) k))
+      (λ k. subst (λ o. AreShards config new (elim o as (λ x. List ShardNow) [ None ↦ ss | Some s ↦ replaced ss n (f s) ])) (sym place.1)
+          (changed (f place.0) k))
 
 -- there is none
-pub acts_nowhere : (config : Config) (shards : Shards) (ss : List ShardNow) (n : ℕ) (bag : List Envelope) (call : Option ℕ) (doing : Doing) → AreShards config shards ss
+pub acts_nowhere : (config : Config) (shards : Shards) (ss : List ShardNow) (n : ℕ) (bag : List Envelope) (call : Option ℕ) (doing : Doing)
+    → AreShards config shards ss
     → length shards.shards.items ≤ n → ActsAt config bag ss n call doing shards (Err Stranger)
 acts_nowhere config shards ss n bag call doing h over = λ orderly.
     let none : slice_get ss n ≡ None = slice_get_past ss n (omega (arith, as_many config 0 shards.shards.items ss h.standing, over)) in
@@ -198,7 +203,8 @@ nothing_crashes config shards ss n f h over = subst (AreShards config shards) (s
 -- ---- the logs, one after another
 
 -- each is on its disk
-pub on_more : (disks : List SimDisk) (logs : List (List Record)) (disk : SimDisk) (log : List Record) → AreOn disks logs → IsOn disk log → AreOn (disks ++ disk ∷ []) (logs ++ log ∷ [])
+pub on_more : (disks : List SimDisk) (logs : List (List Record)) (disk : SimDisk) (log : List Record) → AreOn disks logs → IsOn disk log
+    → AreOn (disks ++ disk ∷ []) (logs ++ log ∷ [])
 on_more [] [] disk log h k = (k, tt)
 on_more [] (l ∷ logs) disk log h k = absurd h
 on_more (d ∷ disks) [] disk log h k = absurd h

@@ -3,6 +3,7 @@ use Rattle.std.specs.List.{list_all}
 use Rattle.std.proofs.Common.{◌≡◌, ◌⊎◌, inl, inr, ℕ, true, IsTrue, List, [], ◌∷◌, ◌++◌, map, Option, Some, None, Result, Ok, Err, IfOk, refl, sym, ap, ◌∙◌, subst}
 use Rattle.units.specs.declared.fault.Fault.{Fault}
 use Rattle.units.specs.declared.fault.Fault.TheVariants.{Memory}
+use Rattle.units.specs.declared.setup.Book.TheVariants.{Off}
 use Rattle.units.specs.declared.setup.Setup.{Setup}
 use Rattle.disk.specs.File.{surface, crash_leaves}
 use Rattle.disk.specs.declared.plan.FailurePlan.{FailurePlan}
@@ -67,8 +68,9 @@ first_follows n = refl
 some_record : (a b : Record) (m q : Kept) (out more : List Envelope) → Does (Some a) m out ≡ Does (Some b) q more → a ≡ b
 some_record a b m q out more e = cc
 
-pub orderly_first : (setup : Setup) → IsOrderly setup unopened_shard (effect setup [] unopened_shard Doing.Open)
-orderly_first setup = record {
+orderly_first : (setup : Setup) → setup.book ≡ Off → IsOrderly setup unopened_shard (effect setup [] unopened_shard Doing.Open)
+orderly_first setup off = record {
+  unbooked = off;
   takes = none_taken setup;
   follows = λ r memory out is. subst (λ x. IsTrue (followed setup.shard (x ∷ [])))
       (some_record (Record.Opened 1) r (rebuilt (facts_of [])) memory [] out (sym (opens_first setup) ∙ is)) (first_follows setup.shard);
@@ -79,9 +81,10 @@ fresh_is : finished unopened_shard Doing.Open (Some (Record.Opened 1)) (rebuilt 
 unfolding finished rebuilt facts_of installs_of
 fresh_is = refl
 
-pub fresh_stands : (setup : Setup) (new : RunShard) (out : List Envelope) → Acts setup [] unopened_shard None Doing.Open new (Ok out) → StandsFor setup new fresh_shard
-fresh_stands setup new out acts = by_answer (subst (λ st. Comes None st (Ok out) (StandsFor setup new (done_by unopened_shard None Doing.Open st)))
-    (opens_first setup) (acts (orderly_first setup)))
+pub fresh_stands : (setup : Setup) → setup.book ≡ Off → (new : RunShard) (out : List Envelope) → Acts setup [] unopened_shard None Doing.Open new (Ok out)
+    → StandsFor setup new fresh_shard
+fresh_stands setup off new out acts = by_answer (subst (λ st. Comes None st (Ok out) (StandsFor setup new (done_by unopened_shard None Doing.Open st)))
+    (opens_first setup) (acts (orderly_first setup off)))
   where
     by_answer : Comes None (Does (Some (Record.Opened 1)) (rebuilt (facts_of [])) []) (Ok out)
         (StandsFor setup new (finished unopened_shard Doing.Open (Some (Record.Opened 1)) (rebuilt (facts_of [])))) → StandsFor setup new fresh_shard
@@ -89,9 +92,10 @@ fresh_stands setup new out acts = by_answer (subst (λ st. Comes None st (Ok out
     by_answer (inr k) = subst (StandsFor setup new) fresh_is k.1
 
 -- refused only for memory
-pub fresh_refused : (setup : Setup) (new : RunShard) (fault : Fault) → Acts setup [] unopened_shard None Doing.Open new (Err fault) → fault ≡ Memory
-fresh_refused setup new fault acts = by_answer (subst (λ st. Comes None st (Err fault) (StandsFor setup new (done_by unopened_shard None Doing.Open st)))
-    (opens_first setup) (acts (orderly_first setup)))
+pub fresh_refused : (setup : Setup) → setup.book ≡ Off → (new : RunShard) (fault : Fault) → Acts setup [] unopened_shard None Doing.Open new (Err fault)
+    → fault ≡ Memory
+fresh_refused setup off new fault acts = by_answer (subst (λ st. Comes None st (Err fault) (StandsFor setup new (done_by unopened_shard None Doing.Open st)))
+    (opens_first setup) (acts (orderly_first setup off)))
   where
     by_answer : Comes None (Does (Some (Record.Opened 1)) (rebuilt (facts_of [])) []) (Err fault)
         (StandsFor setup new (finished unopened_shard Doing.Open (Some (Record.Opened 1)) (rebuilt (facts_of [])))) → fault ≡ Memory

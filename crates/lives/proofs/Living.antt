@@ -46,7 +46,8 @@ module _ (setup : Setup) (bag : List Envelope) (s : ShardNow) where
   -- what it asks for
   pub goes_as : (doing : Doing) → goes_on doing ≡ true
       → effect setup bag s doing
-      ≡ where_room (end_of (disk_log s)) (elim s.state as (λ x. Stepped) [ Runs m ↦ step_with setup (facts_of s.log) m (input_of bag doing) | _ ↦ Refuses Stopped ])
+      ≡ where_room (end_of (disk_log s))
+          (elim s.state as (λ x. Stepped) [ Runs m ↦ step_with setup (facts_of s.log) m (input_of bag doing) | _ ↦ Refuses Stopped ])
   unfolding effect wanted
   goes_as (Doing.Take n now) g = refl
   goes_as (Doing.Resume now) g = refl
@@ -56,10 +57,12 @@ module _ (setup : Setup) (bag : List Envelope) (s : ShardNow) where
   goes_as Doing.Open g = absurd (false≢true g)
 
   -- with an input it is the step
-  asks : (doing : Doing) (now : Interval) (i : Input) → goes_on doing ≡ true → input_of bag doing ≡ Some (now, i) → effect setup bag s doing ≡ asked setup s now i
+  asks : (doing : Doing) (now : Interval) (i : Input) → goes_on doing ≡ true → input_of bag doing ≡ Some (now, i)
+      → effect setup bag s doing ≡ asked setup s now i
   asks doing now i g is = goes_as doing g ∙ ap (where_room (end_of (disk_log s))) (by_state s.state)
     where
-      by_state : (st : State) → elim st as (λ x. Stepped) [ Runs m ↦ step_with setup (facts_of s.log) m (input_of bag doing) | _ ↦ Refuses Stopped ] ≡ asked_in setup s now i st
+      by_state : (st : State)
+          → elim st as (λ x. Stepped) [ Runs m ↦ step_with setup (facts_of s.log) m (input_of bag doing) | _ ↦ Refuses Stopped ] ≡ asked_in setup s now i st
       by_state (Runs m) = ap (step_with setup (facts_of s.log) m) is
       by_state (IsStopped m) = refl
       by_state IsDown = refl
@@ -68,7 +71,8 @@ module _ (setup : Setup) (bag : List Envelope) (s : ShardNow) where
   asks_nothing : (doing : Doing) → goes_on doing ≡ true → input_of bag doing ≡ None → effect setup bag s doing ≡ Refuses Stopped
   asks_nothing doing g is = goes_as doing g ∙ ap (where_room (end_of (disk_log s))) (by_state s.state)
     where
-      by_state : (st : State) → elim st as (λ x. Stepped) [ Runs m ↦ step_with setup (facts_of s.log) m (input_of bag doing) | _ ↦ Refuses Stopped ] ≡ Refuses Stopped
+      by_state : (st : State)
+          → elim st as (λ x. Stepped) [ Runs m ↦ step_with setup (facts_of s.log) m (input_of bag doing) | _ ↦ Refuses Stopped ] ≡ Refuses Stopped
       by_state (Runs m) = ap (step_with setup (facts_of s.log) m) is
       by_state (IsStopped m) = refl
       by_state IsDown = refl
@@ -76,14 +80,17 @@ module _ (setup : Setup) (bag : List Envelope) (s : ShardNow) where
   asks_the_down : (doing : Doing) → goes_on doing ≡ true → s.state ≡ IsDown → effect setup bag s doing ≡ Refuses Stopped
   asks_the_down doing g is =
       goes_as doing g
-      ∙ ap (λ st. where_room (end_of (disk_log s)) (elim st as (λ x. Stepped) [ Runs m ↦ step_with setup (facts_of s.log) m (input_of bag doing) | _ ↦ Refuses Stopped ])) is
+      ∙ ap (λ st. where_room (end_of (disk_log s))
+      (elim st as (λ x. Stepped) [ Runs m ↦ step_with setup (facts_of s.log) m (input_of bag doing) | _ ↦ Refuses Stopped ])) is
 
 -- a core takes the input of a doing
-pub does_input : (old new : CoreView SimDisk) (bag : List Envelope) (call : Option ℕ) (doing : Doing) (now : Interval) (i : Input) (r : Result (List Envelope) Fault) → goes_on doing ≡ true
+pub does_input : (old new : CoreView SimDisk) (bag : List Envelope) (call : Option ℕ) (doing : Doing) (now : Interval) (i : Input)
+    (r : Result (List Envelope) Fault) → goes_on doing ≡ true
     → input_of bag doing ≡ Some (now, i) → TakesInput old new call now i r → DoesInput old new bag call doing r
 does_input old new bag call doing now i r g is takes = λ setup s h order.
     let same = asks setup bag s doing now i g is in
-    subst (λ x. Comes call x r (IsCoreIn setup (comes_to s s call x) new (comes_to s s call x).state)) (sym same) (takes setup s h (subst (IsOrderly setup s) same order))
+    subst (λ x. Comes call x r (IsCoreIn setup (comes_to s s call x) new (comes_to s s call x).state)) (sym same)
+        (takes setup s h (subst (IsOrderly setup s) same order))
 
 -- or has none
 pub does_nothing : (old : CoreView SimDisk) (bag : List Envelope) (call : Option ℕ) (doing : Doing) (fault : Fault) → goes_on doing ≡ true
@@ -104,8 +111,10 @@ refused_same s Doing.Open g = absurd (false≢true g)
 
 module _ (setup : Setup) (bag : List Envelope) (s : ShardNow) (call : Option ℕ) (doing : Doing) where
   -- a core carries it out
-  pub core_carries : (core : CoreView SimDisk) (old : CoreView SimDisk) (life : Life) → ((t : ShardNow) (state : State) → IsCoreIn setup t core state → LivesIn setup t life state)
-      → (r : Result (List Envelope) Fault) → goes_on doing ≡ true → IsCoreIn setup s old s.state → DoesInput old core bag call doing r → Carries setup bag s call doing life r
+  pub core_carries : (core : CoreView SimDisk) (old : CoreView SimDisk) (life : Life)
+      → ((t : ShardNow) (state : State) → IsCoreIn setup t core state → LivesIn setup t life state)
+      → (r : Result (List Envelope) Fault) → goes_on doing ≡ true → IsCoreIn setup s old s.state → DoesInput old core bag call doing r
+      → Carries setup bag s call doing life r
   core_carries core old life lifts r g h does = λ order. by_answer (does setup s h order)
     where
       left_is : (st : Stepped) → comes_to s s call st ≡ left_by s call doing st
@@ -120,7 +129,9 @@ module _ (setup : Setup) (bag : List Envelope) (s : ShardNow) (call : Option ℕ
 
   -- a disk does not
   pub down_carries : (disk : SimDisk) → goes_on doing ≡ true → IsDiskIn s disk s.state → Carries setup bag s call doing (Down disk) (Err Stopped)
-  down_carries disk g h = λ order. subst Left (sym (asks_the_down setup bag s doing g (is_down s.state h))) (inr (refl, subst (λ t. LivesAs setup t (Down disk)) (sym (refused_same s doing g)) h))
+  down_carries disk g h =
+      λ order. subst Left (sym (asks_the_down setup bag s doing g (is_down s.state h)))
+          (inr (refl, subst (λ t. LivesAs setup t (Down disk)) (sym (refused_same s doing g)) h))
     where
       Left : Stepped → Type 0
       Left x = Comes call x (Err Stopped) (LivesAs setup (left_by s call doing x) (Down disk))
@@ -144,7 +155,8 @@ module _ (setup : Setup) (bag : List Envelope) (s : ShardNow) where
   opens_in : State → Stepped
   opens_in state = elim state as (λ x. Stepped) [ Runs m ↦ Refuses Stopped | _ ↦ step_of_opening (facts_of (disk_log s)) ]
 
-  effect_opens : effect setup bag s Doing.Open ≡ where_room (end_of (disk_log s)) (elim s.state as (λ x. Stepped) [ Runs m ↦ Refuses Stopped | _ ↦ step_of_opening (facts_of (disk_log s)) ])
+  effect_opens : effect setup bag s Doing.Open ≡ where_room (end_of (disk_log s))
+      (elim s.state as (λ x. Stepped) [ Runs m ↦ Refuses Stopped | _ ↦ step_of_opening (facts_of (disk_log s)) ])
   unfolding effect wanted
   effect_opens = refl
 
@@ -155,7 +167,8 @@ module _ (setup : Setup) (bag : List Envelope) (s : ShardNow) where
       by_state : (st : State) → s.state ≡ st → is_up st ≡ true → (effect setup bag s Doing.Open ≡ Refuses Stopped) × (unopened s s.state ≡ s)
       by_state (Runs m) is u = (
         effect_opens
-            ∙ ap (λ x. where_room (end_of (disk_log s)) (elim x as (λ y. Stepped) [ Runs m ↦ Refuses Stopped | _ ↦ step_of_opening (facts_of (disk_log s)) ])) is,
+            ∙ ap (λ x. where_room (end_of (disk_log s))
+            (elim x as (λ y. Stepped) [ Runs m ↦ Refuses Stopped | _ ↦ step_of_opening (facts_of (disk_log s)) ])) is,
         ap (unopened s) is,
       )
       by_state (IsStopped m) is u = absurd (false≢true u)
@@ -169,12 +182,14 @@ module _ (setup : Setup) (bag : List Envelope) (s : ShardNow) where
       by_state (Runs m) is u = absurd (false≢true (sym u))
       by_state (IsStopped m) is u = (
         effect_opens
-            ∙ ap (λ x. where_room (end_of (disk_log s)) (elim x as (λ y. Stepped) [ Runs m ↦ Refuses Stopped | _ ↦ step_of_opening (facts_of (disk_log s)) ])) is,
+            ∙ ap (λ x. where_room (end_of (disk_log s))
+            (elim x as (λ y. Stepped) [ Runs m ↦ Refuses Stopped | _ ↦ step_of_opening (facts_of (disk_log s)) ])) is,
         ap (unopened s) is,
       )
       by_state IsDown is u = (
         effect_opens
-            ∙ ap (λ x. where_room (end_of (disk_log s)) (elim x as (λ y. Stepped) [ Runs m ↦ Refuses Stopped | _ ↦ step_of_opening (facts_of (disk_log s)) ])) is,
+            ∙ ap (λ x. where_room (end_of (disk_log s))
+            (elim x as (λ y. Stepped) [ Runs m ↦ Refuses Stopped | _ ↦ step_of_opening (facts_of (disk_log s)) ])) is,
         ap (unopened s) is,
       )
 
@@ -189,9 +204,11 @@ module _ (setup : Setup) (bag : List Envelope) (s : ShardNow) (call : Option ℕ
   pub up_carries : (life : Life) → is_up s.state ≡ true → LivesAs setup s life → Carries setup bag s call doing life (Err Stopped)
   up_carries life up h = subst (λ d. Carries setup bag s call d life (Err Stopped)) (sym open_is) (λ order.
       let p = up_refuses setup bag s up in
-      subst (λ x. Comes call x (Err Stopped) (LivesAs setup (left_by s call Doing.Open x) life)) (sym p.0) (inr (refl, subst (λ t. LivesAs setup t life) (sym p.1) h)))
+      subst (λ x. Comes call x (Err Stopped) (LivesAs setup (left_by s call Doing.Open x) life)) (sym p.0)
+          (inr (refl, subst (λ t. LivesAs setup t life) (sym p.1) h)))
 
-  pub open_carries : (disk : SimDisk) (life : Life) (r : Result (List Envelope) Fault) → is_up s.state ≡ false → HoldsLog s disk → OpensDisk disk setup call life r
+  pub open_carries : (disk : SimDisk) (life : Life) (r : Result (List Envelope) Fault) → is_up s.state ≡ false → HoldsLog s disk
+      → OpensDisk disk setup call life r
       → Carries setup bag s call doing life r
   open_carries disk life r down h opens = subst (λ d. Carries setup bag s call d life r) (sym open_is) (λ order.
       let p = not_up_opens setup bag s down in

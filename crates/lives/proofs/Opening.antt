@@ -80,9 +80,11 @@ accepted_entries setup entries records fault same accepted found =
     none : None ≡ Some fault → ⊥
     none e = cc
 
-no_fault : (setup : Setup) (scanned : Result (List Placed) Fault) (records : List Record) (fault : Fault) → items_of scanned ≡ Ok records → taken setup records ≡ Accepted →
+no_fault : (setup : Setup) (scanned : Result (List Placed) Fault) (records : List Record) (fault : Fault) → items_of scanned ≡ Ok records
+    → taken setup records ≡ Accepted →
     fault_of setup scanned ≡ Some fault → ⊥
-no_fault setup (Ok entries) records fault read accepted found = accepted_entries setup entries records fault (ok_same (items entries) records (items_of (Ok entries)) refl read) accepted found
+no_fault setup (Ok entries) records fault read accepted found =
+    accepted_entries setup entries records fault (ok_same (items entries) records (items_of (Ok entries)) refl read) accepted found
 no_fault setup (Err why) records fault read accepted found = absurd (cc)
 
 module _ (disk armed_disk : SimDisk) (call : Option ℕ) (plan : disk_plan armed_disk ≡ armed call) (file : disk_file armed_disk ≡ disk_file disk)
@@ -98,8 +100,10 @@ module _ (disk armed_disk : SimDisk) (call : Option ℕ) (plan : disk_plan armed
       → opens_as s ≡ Does (Some (next_opening (disk_log s))) (rebuilt (facts_of (disk_log s))) []
   unfolding step_of_opening
   does epoch place =
-      let below : nat_lt (facts_of (disk_log s)).epoch time_limit ≡ true = ap (λ n. nat_lt n time_limit) (epoch_is (disk_log s)) ∙ below_limit (epoch_of (disk_log s)) epoch in
-      ap (λ b. where_room (end_of (disk_log s)) (cond b (Does (Some (Record.Opened ((facts_of (disk_log s)).epoch + 1))) (rebuilt (facts_of (disk_log s))) []) (Refuses TimeSpent))) below
+      let below : nat_lt (facts_of (disk_log s)).epoch time_limit ≡ true = ap (λ n. nat_lt n time_limit) (epoch_is (disk_log s))
+          ∙ below_limit (epoch_of (disk_log s)) epoch in
+      ap (λ b. where_room (end_of (disk_log s))
+          (cond b (Does (Some (Record.Opened ((facts_of (disk_log s)).epoch + 1))) (rebuilt (facts_of (disk_log s))) []) (Refuses TimeSpent))) below
       ∙ ap (λ r. where_room (end_of (disk_log s)) (Does (Some r) (rebuilt (facts_of (disk_log s))) [])) item_is
       ∙ room_is (end_of (disk_log s)) (Some (next_opening (disk_log s))) (rebuilt (facts_of (disk_log s))) [] place
 
@@ -107,11 +111,15 @@ module _ (disk armed_disk : SimDisk) (call : Option ℕ) (plan : disk_plan armed
   refuses : (2 ^ 62 ≤ epoch_of (disk_log s) + 1) ⊎ IsFull (end_of (disk_log s)) (next_opening (disk_log s)) → opens_as s ≡ Refuses TimeSpent
   unfolding step_of_opening
   refuses (inl spent) =
-      let over : nat_lt (facts_of (disk_log s)).epoch time_limit ≡ false = ap (λ n. nat_lt n time_limit) (epoch_is (disk_log s)) ∙ at_limit (epoch_of (disk_log s)) spent in
-      ap (λ b. where_room (end_of (disk_log s)) (cond b (Does (Some (Record.Opened ((facts_of (disk_log s)).epoch + 1))) (rebuilt (facts_of (disk_log s))) []) (Refuses TimeSpent))) over
+      let over : nat_lt (facts_of (disk_log s)).epoch time_limit ≡ false = ap (λ n. nat_lt n time_limit) (epoch_is (disk_log s))
+          ∙ at_limit (epoch_of (disk_log s)) spent in
+      ap (λ b. where_room (end_of (disk_log s))
+          (cond b (Does (Some (Record.Opened ((facts_of (disk_log s)).epoch + 1))) (rebuilt (facts_of (disk_log s))) []) (Refuses TimeSpent))) over
   refuses (inr full) = by_test (nat_lt (facts_of (disk_log s)).epoch time_limit)
     where
-      by_test : (b : Bool) → where_room (end_of (disk_log s)) (cond b (Does (Some (Record.Opened ((facts_of (disk_log s)).epoch + 1))) (rebuilt (facts_of (disk_log s))) []) (Refuses TimeSpent))
+      by_test : (b : Bool)
+          → where_room (end_of (disk_log s))
+          (cond b (Does (Some (Record.Opened ((facts_of (disk_log s)).epoch + 1))) (rebuilt (facts_of (disk_log s))) []) (Refuses TimeSpent))
           ≡ Refuses TimeSpent
       by_test false = refl
       by_test true =
@@ -128,7 +136,8 @@ module _ (disk armed_disk : SimDisk) (call : Option ℕ) (plan : disk_plan armed
     learnt : facts_of (disk_log s ++ next_opening (disk_log s) ∷ []) ≡ learn (facts_of (disk_log s)) (next_opening (disk_log s))
     learnt =
         learn_agrees setup.shard (disk_log s) (next_opening (disk_log s))
-        (subst (λ r. followed setup.shard (disk_log s ++ r ∷ []) ≡ true) item_is (opening_follows setup.shard (disk_log s) (accepted_follows setup (disk_log s) accepted)))
+        (subst (λ r. followed setup.shard (disk_log s ++ r ∷ []) ≡ true) item_is (opening_follows setup.shard (disk_log s)
+            (accepted_follows setup (disk_log s) accepted)))
 
     running : IsRunningAs setup (stepped s (Some (next_opening (disk_log s))) (rebuilt (facts_of (disk_log s)))) (rebuilt (facts_of (disk_log s))) new
     running =
@@ -192,7 +201,8 @@ module _ (disk armed_disk : SimDisk) (call : Option ℕ) (plan : disk_plan armed
         let whole = does (told.1 device) f.1 in
         let disk_holds : HoldsLog (failed_in s c q) new = holds_failed s c q new never f.0 (subst (AreArmed c (Ok (disk_log s)) q) (sym same) f.2) in
         let left : comes_to s (crashed s (disk_log s)) call (Does (Some q) memory []) ≡ failed_in s c q =
-        ap (λ k. comes_to s (crashed s (disk_log s)) k (Does (Some q) memory [])) (sym e) ∙ ap (λ b. cond b (failed_in s c q) (stepped s (Some q) memory)) f.0 in
+        ap (λ k. comes_to s (crashed s (disk_log s)) k (Does (Some q) memory [])) (sym e)
+            ∙ ap (λ b. cond b (failed_in s c q) (stepped s (Some q) memory)) f.0 in
         let answer : answer_of call (Does (Some q) memory []) ≡ Err Device =
         ap (λ k. answer_of k (Does (Some q) memory [])) (sym e) ∙ ap (λ b. cond b (Err Device) (Ok [])) f.0 in
         subst Left (sym whole) (inr (
@@ -204,7 +214,8 @@ module _ (disk armed_disk : SimDisk) (call : Option ℕ) (plan : disk_plan armed
     spent : fault ≡ TimeSpent → (2 ^ 62 ≤ epoch_of (disk_log s) + 1) ⊎ IsFull (end_of (disk_log s)) (next_opening (disk_log s)) → Left (opens_as s)
     spent is why = subst Left (sym (refuses why)) (inr (ap (λ x. Err x) is, synced h.synced))
       where
-        synced : (fault ≡ WantsMemory) ⊎ ((fault ≡ Device) ⊎ (Unit {0} → surface (disk_file back) ≡ after_sync (surface (disk_file armed_disk)))) → HoldsLog (crashed s (disk_log s)) new
+        synced : (fault ≡ WantsMemory) ⊎ ((fault ≡ Device) ⊎ (Unit {0} → surface (disk_file back) ≡ after_sync (surface (disk_file armed_disk))))
+            → HoldsLog (crashed s (disk_log s)) new
         synced (inl memory) = absurd (cc)
         synced (inr (inl device)) = absurd (cc)
         synced (inr (inr clean)) =
@@ -220,4 +231,5 @@ module _ (disk armed_disk : SimDisk) (call : Option ℕ) (plan : disk_plan armed
         spent is (subst (λ l. (2 ^ 62 ≤ epoch_of l + 1) ⊎ IsFull (end_of l) (next_opening l)) same_log no_room.spent)
 
     pub not_opened : Left (opens_as s)
-    not_opened = ⊎_elim (λ memory. inl (ap (λ x. Err x) memory)) (λ rest. ⊎_elim (λ device. failed call refl plan device.0) (λ told. reason (told.1 tt)) rest) h.cause
+    not_opened =
+        ⊎_elim (λ memory. inl (ap (λ x. Err x) memory)) (λ rest. ⊎_elim (λ device. failed call refl plan device.0) (λ told. reason (told.1 tt)) rest) h.cause

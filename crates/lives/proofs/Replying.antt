@@ -110,7 +110,8 @@ module _ (w : World) (old new : Run) (h : IsRun old w) where
   message_comes m (Err why) (Err fault) takes heard shards time = heard w h.output
 
   -- a look
-  pub look_comes : (k : Bytes) (at : ℕ) (shows : Reply) (result : Result Reply Fault) → ((v : World) → IsOutput old.output v → Notes v k at shows new.output result)
+  pub look_comes : (k : Bytes) (at : ℕ) (shows : Reply) (result : Result Reply Fault)
+      → ((v : World) → IsOutput old.output v → Notes v k at shows new.output result)
       → new.sessions ≡ old.sessions → new.shards ≡ old.shards → new.time ≡ old.time → Comes (look_noted w k at shows) new result
   look_comes k at shows (Err fault) notes sessions shards time = notes w h.output
   look_comes k at (Reply.Shows x) (Ok reply) notes sessions shards time =
@@ -156,7 +157,8 @@ module _ (w : World) (old new : Run) (h : IsRun old w) where
 
   -- a step of a shard
   abbrev by_shards : Result (List Envelope) Fault × List ShardNow → After
-  by_shards p = elim p.0 as (λ x. After) [ Ok out ↦ (put_out out (record w { shards = p.1 }), Reply.Done) | Err fault ↦ (record w { shards = p.1 }, Reply.Refused fault) ]
+  by_shards p =
+      elim p.0 as (λ x. After) [ Ok out ↦ (put_out out (record w { shards = p.1 }), Reply.Done) | Err fault ↦ (record w { shards = p.1 }, Reply.Refused fault) ]
 
   -- where a refusal changes nothing
   same_there : (n : ℕ) (s : ShardNow) (fault : Fault) → slice_get w.shards n ≡ Some s
@@ -186,7 +188,8 @@ module _ (w : World) (old new : Run) (h : IsRun old w) where
   abbrev stood_by : ℕ → ShardNow → Option ℕ → Doing → Stepped → After
   stood_by n s call doing st = by_shards (answer_of call st, replaced w.shards n (done_by s call doing st))
 
-  did_is : (n : ℕ) (s : ShardNow) (call : Option ℕ) (doing : Doing) (st : Stepped) → slice_get w.shards n ≡ Some s → did_by n s call doing st ≡ stood_by n s call doing st
+  did_is : (n : ℕ) (s : ShardNow) (call : Option ℕ) (doing : Doing) (st : Stepped) → slice_get w.shards n ≡ Some s
+      → did_by n s call doing st ≡ stood_by n s call doing st
   unfolding did did_with_failure
   did_is n s None doing (Refuses fault) there = refused_is n s doing fault there
   did_is n s (Some call) doing (Refuses fault) there = refused_is n s doing fault there
@@ -197,7 +200,8 @@ module _ (w : World) (old new : Run) (h : IsRun old w) where
     where
       by_test : (b : Bool) → cond {A = After} b (set_shard n (failed_in s call r) w, Reply.Refused Device)
           (put_out out (set_shard n (finished s doing (Some r) memory) w), Reply.Done)
-          ≡ by_shards (cond {A = Result (List Envelope) Fault} b (Err Device) (Ok out), replaced w.shards n (cond b (failed_in s call r) (finished s doing (Some r) memory)))
+          ≡ by_shards (cond {A = Result (List Envelope) Fault} b (Err Device)
+              (Ok out), replaced w.shards n (cond b (failed_in s call r) (finished s doing (Some r) memory)))
       by_test true = refl
       by_test false = refl
 
@@ -227,6 +231,7 @@ module _ (w : World) (old new : Run) (h : IsRun old w) where
   -- its log is taken, and what it logs follows
   pub orderly_at : (n : ℕ) (doing : Doing) → IsSteady w → IsOrderlyAt w.config w.bag w.shards n doing
   orderly_at n doing steady s there = record {
+    unbooked = refl;
     takes = steady.takes n s there;
     follows = λ r memory out is. steady.logged n s doing r memory out there is;
   }
@@ -241,9 +246,11 @@ module _ (w : World) (old new : Run) (h : IsRun old w) where
   answered_so : (p : Result (List Envelope) Fault × List ShardNow) (result : Result Reply Fault) → AreShards w.config new.shards p.1
       → HasReplied (record w { shards = p.1 }) p.0 new.output result → new.sessions ≡ old.sessions → new.time ≡ old.time → Comes (by_shards p) new result
   unfolding put_out
-  answered_so (Ok out, ss) (Ok reply) shards r sessions time = (r.0, record { sessions = hosts_in sessions; shards = shards; output = r.1; time = time ∙ h.time })
+  answered_so (Ok out, ss) (Ok reply) shards r sessions time =
+      (r.0, record { sessions = hosts_in sessions; shards = shards; output = r.1; time = time ∙ h.time })
   answered_so (Ok out, ss) (Err fault) shards r sessions time = r
-  answered_so (Err why, ss) (Ok reply) shards r sessions time = (r.1, record { sessions = hosts_in sessions; shards = shards; output = r.2; time = time ∙ h.time })
+  answered_so (Err why, ss) (Ok reply) shards r sessions time =
+      (r.1, record { sessions = hosts_in sessions; shards = shards; output = r.2; time = time ∙ h.time })
   answered_so (Err why, ss) (Err fault) shards r sessions time = r
 
   pub shard_comes : (n : ℕ) (call : Option ℕ) (doing : Doing) (answer : Result (List Envelope) Fault) (result : Result Reply Fault) → IsSteady w
@@ -262,7 +269,8 @@ module _ (w : World) (old new : Run) (h : IsRun old w) where
       by_answer (inl memory) = no_memory result (subst (λ a. HasReplied w a new.output result) memory (replies w h.output))
       by_answer (inr (same, shards)) =
           subst (λ x. Comes x new result) (sym (done_at n call doing))
-          (answered_so p result shards (subst (λ a. HasReplied (record w { shards = p.1 }) a new.output result) same (replies (record w { shards = p.1 }) (output_with p.1))) sessions time)
+          (answered_so p result shards (subst (λ a. HasReplied (record w { shards = p.1 }) a new.output result) same (replies (record w { shards = p.1 })
+              (output_with p.1))) sessions time)
 
   -- a crash of a shard that is there
   changes : (n : ℕ) (f : ShardNow → ShardNow) → nat_lt n (length w.shards) ≡ true → AreShards w.config new.shards (changed_at f w.shards n)
@@ -303,7 +311,8 @@ module _ (w : World) (old new : Run) (h : IsRun old w) where
 
   -- there is no shard to crash
   pub none_crashes : (n : ℕ) (f : Setup → ShardNow → After) → nat_lt n (length w.shards) ≡ false → Comes (at_shard w n f) old (Ok (Reply.Refused Stranger))
-  none_crashes n f over = subst (λ o. Comes (elim o as (λ x. After) [ None ↦ refused w Stranger | Some s ↦ f (setup_of w.config n) s ]) old (Ok (Reply.Refused Stranger)))
+  none_crashes n f over =
+      subst (λ o. Comes (elim o as (λ x. After) [ None ↦ refused w Stranger | Some s ↦ f (setup_of w.config n) s ]) old (Ok (Reply.Refused Stranger)))
       (sym (slice_get_past w.shards n (grind (arith, nat_tests)))) (refl, h)
 
 -- a message to a shard, and one to a session

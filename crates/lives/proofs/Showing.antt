@@ -111,7 +111,8 @@ shown_now : (is : List Install) (from : ℕ) (core : CoreView SimDisk) (log : Li
     → core.facts ≡ facts_of log → core.memory ≡ memory → shown_view is (view_now from core) ≡ view_of (facts_of log) memory
 shown_now is from core log memory same facts kept =
     let all : take (length core.facts.installs) (drop from is) ≡ (facts_of log).installs =
-    ap (take (length core.facts.installs)) same ∙ take_all (length core.facts.installs) core.facts.installs (omega arith) ∙ ap (λ (f : Facts). f.installs) facts in
+    ap (take (length core.facts.installs)) same ∙ take_all (length core.facts.installs) core.facts.installs (omega arith)
+        ∙ ap (λ (f : Facts). f.installs) facts in
     λ i. record { installs = all i; safe = safe (kept i) }
 
 -- ---- what lives of a shard, with other views
@@ -148,14 +149,16 @@ refuses_not f logged memory out e = cc
 
 -- ---- a doing
 
-same_views : (setup : Setup) (s : ShardNow) (old mid : RunShard) → mid.installs.items ≡ old.installs.items → mid.views.items ≡ old.views.items → StandsFor setup old s
+same_views : (setup : Setup) (s : ShardNow) (old mid : RunShard) → mid.installs.items ≡ old.installs.items → mid.views.items ≡ old.views.items
+    → StandsFor setup old s
     → (map (shown_view mid.installs.items) mid.views.items ≡ s.views) × (list_all (is_within mid.installs.items) mid.views.items ≡ true)
 same_views setup s old mid installs views h = (
   (λ i. map (shown_view (installs i)) (views i)) ∙ h.views,
   (λ i. list_all (is_within (installs i)) (views i)) ∙ h.within,
 )
 
-module _ (setup : Setup) (bag : List Envelope) (s : ShardNow) (call : Option ℕ) (doing : Doing) (old mid : RunShard) (h : StandsFor setup old s) (kept : IsKept old mid) where
+module _ (setup : Setup) (bag : List Envelope) (s : ShardNow) (call : Option ℕ) (doing : Doing) (old mid : RunShard) (h : StandsFor setup old s)
+    (kept : IsKept old mid) where
   told : mid.setup ≡ setup
   told = kept.setup ∙ h.setup_is
 
@@ -201,7 +204,8 @@ module _ (setup : Setup) (bag : List Envelope) (s : ShardNow) (call : Option ℕ
   pub acts_not : (fault : Fault) → Carries setup bag s call doing mid.life (Err fault) → Acts setup bag s call doing mid (Err fault)
   acts_not fault carried = λ order. by_step (effect setup bag s doing) (carried order)
     where
-      by_call_of : (o : Option ℕ) (r : Record) (memory : Kept) (out : List Envelope) → Err fault ≡ by_call {A = Result (List Envelope) Fault} o (λ c. Err Device) (Ok out)
+      by_call_of : (o : Option ℕ) (r : Record) (memory : Kept) (out : List Envelope)
+          → Err fault ≡ by_call {A = Result (List Envelope) Fault} o (λ c. Err Device) (Ok out)
           → LivesAs setup (by_call o (λ c. failed_in s c r) (stepped s (Some r) memory)) mid.life
           → StandsFor setup mid (by_call o (λ c. failed_in s c r) (finished s doing (Some r) memory))
       by_call_of None r memory out e l = absurd (cc)
@@ -213,7 +217,8 @@ module _ (setup : Setup) (bag : List Envelope) (s : ShardNow) (call : Option ℕ
           by_test true k m = failed_stands c r m
           by_test false k m = absurd (cc)
 
-      by_step : (st : Stepped) → Comes call st (Err fault) (LivesAs setup (left_by s call doing st) mid.life) → Comes call st (Err fault) (StandsFor setup mid (done_by s call doing st))
+      by_step : (st : Stepped) → Comes call st (Err fault) (LivesAs setup (left_by s call doing st) mid.life)
+          → Comes call st (Err fault) (StandsFor setup mid (done_by s call doing st))
       by_step st (inl memory) = inl memory
       by_step (Refuses f) (inr (e, l)) = inr (e, refused_stands doing l)
       by_step (Does None memory out) (inr (e, l)) = absurd (cc)
@@ -229,9 +234,12 @@ module _ (setup : Setup) (bag : List Envelope) (s : ShardNow) (call : Option ℕ
       → (m : Kept) × (s.state ≡ Runs m)
   ran logged memory out g is = by_state s.state refl
     where
-      stops : (st : State) → s.state ≡ st → effect setup bag s doing ≡ where_room (end_of (disk_log s)) (elim st as (λ x. Stepped) [ Runs m ↦ step_with setup (facts_of s.log) m (input_of bag doing) | _ ↦ Refuses Stopped ])
+      stops : (st : State) → s.state ≡ st
+          → effect setup bag s doing ≡ where_room (end_of (disk_log s))
+          (elim st as (λ x. Stepped) [ Runs m ↦ step_with setup (facts_of s.log) m (input_of bag doing) | _ ↦ Refuses Stopped ])
       stops st same = goes_as setup bag s doing g
-          ∙ ap (λ x. where_room (end_of (disk_log s)) (elim x as (λ y. Stepped) [ Runs m ↦ step_with setup (facts_of s.log) m (input_of bag doing) | _ ↦ Refuses Stopped ])) same
+          ∙ ap (λ x. where_room (end_of (disk_log s))
+          (elim x as (λ y. Stepped) [ Runs m ↦ step_with setup (facts_of s.log) m (input_of bag doing) | _ ↦ Refuses Stopped ])) same
 
       by_state : (st : State) → s.state ≡ st → (m : Kept) × (s.state ≡ Runs m)
       by_state (Runs m) same = (m, same)
@@ -245,7 +253,8 @@ module _ (setup : Setup) (bag : List Envelope) (s : ShardNow) (call : Option ℕ
     log_now = read_log s ++ option_to_list logged
 
     follows : s.unsure ≡ Nothing → (r : Record) → logged ≡ Some r → IsTrue (followed setup.shard (s.log ++ r ∷ []))
-    follows sure r e = subst (λ log. IsTrue (followed setup.shard (log ++ r ∷ []))) (read_is sure) (order.follows r memory out (is ∙ ap (λ l. Does l memory out) e))
+    follows sure r e =
+        subst (λ log. IsTrue (followed setup.shard (log ++ r ∷ []))) (read_is sure) (order.follows r memory out (is ∙ ap (λ l. Does l memory out) e))
 
     more_facts : s.unsure ≡ Nothing → facts_after (facts_of s.log) logged ≡ facts_of log_now
     more_facts sure = facts_with setup.shard s.log logged (follows sure) ∙ ap (λ l. facts_of (l ++ option_to_list logged)) (sym (read_is sure))
@@ -253,12 +262,14 @@ module _ (setup : Setup) (bag : List Envelope) (s : ShardNow) (call : Option ℕ
     -- all that its core shows stands behind the place where its versions begin
     behind_is : (all : List Install) → all ≡ (facts_of log_now).installs → (g : Bool) → goes_on doing ≡ g
         → (cond g mid.from (length mid.installs.items) ≤ length mid.installs.items)
-        × (drop (cond g mid.from (length mid.installs.items)) (mid.installs.items ++ drop (length mid.installs.items - cond g mid.from (length mid.installs.items)) all) ≡ all)
+        × (drop (cond g mid.from (length mid.installs.items))
+        (mid.installs.items ++ drop (length mid.installs.items - cond g mid.from (length mid.installs.items)) all) ≡ all)
     behind_is all are false e = (omega arith, opened_behind mid.installs.items all)
     behind_is all are true e =
         let run = ran logged memory out e is in
         let sure : s.unsure ≡ Nothing = sure_of setup s old.life h.lives run.0 run.1 in
-        let shows : ShowsLog mid.installs.items mid.from s (Runs run.0) = still_shows (Runs run.0) (subst (ShowsLog old.installs.items old.from s) run.1 h.shows) in
+        let shows : ShowsLog mid.installs.items mid.from s (Runs run.0) = still_shows (Runs run.0)
+            (subst (ShowsLog old.installs.items old.from s) run.1 h.shows) in
         let p = added (facts_of s.log) logged in
         let more : all ≡ (facts_of s.log).installs ++ p.0 = are ∙ ap (λ (f : Facts). f.installs) (sym (more_facts sure)) ∙ p.1 in (
           shows.0,
@@ -266,7 +277,8 @@ module _ (setup : Setup) (bag : List Envelope) (s : ShardNow) (call : Option ℕ
               (more_behind mid.installs.items (facts_of s.log).installs p.0 mid.from shows.0 shows.1),
         )
 
-    module _ (core : CoreView SimDisk) (new : RunShard) (l : LivesAs setup (stepped s logged memory) mid.life) (k : IsRunningAs setup (stepped s logged memory) memory core)
+    module _ (core : CoreView SimDisk) (new : RunShard) (l : LivesAs setup (stepped s logged memory) mid.life)
+        (k : IsRunningAs setup (stepped s logged memory) memory core)
         (n : HasNoted doing core mid new) where
       abbrev shown_all : List Install
       shown_all = core.facts.installs
@@ -290,7 +302,8 @@ module _ (setup : Setup) (bag : List Envelope) (s : ShardNow) (call : Option ℕ
       abbrev made : List CodeView
       made = cond (makes_view doing) (view_now new.from core ∷ []) []
 
-      made_shown : (b : Bool) → map (shown_view new.installs.items) (cond b (view_now new.from core ∷ []) []) ≡ cond b (view_of (facts_of log_now) memory ∷ []) []
+      made_shown : (b : Bool)
+          → map (shown_view new.installs.items) (cond b (view_now new.from core ∷ []) []) ≡ cond b (view_of (facts_of log_now) memory ∷ []) []
       made_shown false = refl
       made_shown true = ap (λ v. v ∷ []) (shown_now new.installs.items new.from core log_now memory behind_now k.core_of.knows k.core_of.memory)
 
@@ -303,7 +316,8 @@ module _ (setup : Setup) (bag : List Envelope) (s : ShardNow) (call : Option ℕ
       views_are =
           ap (map (shown_view new.installs.items)) n.views
           ∙ map-append (shown_view new.installs.items) mid.views.items made
-          ∙ (λ i. ((λ j. map (shown_view (n.installs j)) mid.views.items) ∙ still_shown mid.installs.items more mid.views.items same.1 ∙ same.0) i ++ made_shown (makes_view doing) i)
+          ∙ (λ i. ((λ j. map (shown_view (n.installs j)) mid.views.items) ∙ still_shown mid.installs.items more mid.views.items same.1
+          ∙ same.0) i ++ made_shown (makes_view doing) i)
 
       within_is : list_all (is_within new.installs.items) new.views.items ≡ true
       within_is =
@@ -323,18 +337,22 @@ module _ (setup : Setup) (bag : List Envelope) (s : ShardNow) (call : Option ℕ
         shows = (from_within, behind_now ∙ all_is);
       }
 
-    stands_done : (new : RunShard) → LivesAs setup (stepped s logged memory) mid.life → Notes doing mid new mid.life → StandsFor setup new (finished s doing logged memory)
+    stands_done : (new : RunShard) → LivesAs setup (stepped s logged memory) mid.life → Notes doing mid new mid.life
+        → StandsFor setup new (finished s doing logged memory)
     stands_done new l n = by_life mid.life l n
       where
-        by_life : (life : Life) → LivesIn setup (stepped s logged memory) life (Runs memory) → Notes doing mid new life → StandsFor setup new (finished s doing logged memory)
+        by_life : (life : Life) → LivesIn setup (stepped s logged memory) life (Runs memory) → Notes doing mid new life
+            → StandsFor setup new (finished s doing logged memory)
         by_life (Up core) k m = done_stands (seen core) new l k m
         by_life (Down disk) k m = absurd k
 
   -- what was done, and noted
-  pub acts : (new : RunShard) (out : List Envelope) → Carries setup bag s call doing mid.life (Ok out) → Notes doing mid new mid.life → Acts setup bag s call doing new (Ok out)
+  pub acts : (new : RunShard) (out : List Envelope) → Carries setup bag s call doing mid.life (Ok out) → Notes doing mid new mid.life
+      → Acts setup bag s call doing new (Ok out)
   acts new out carried noted = λ order. by_step (effect setup bag s doing) refl order (carried order)
     where
-      by_call_of : (o : Option ℕ) (r : Record) (memory : Kept) (put : List Envelope) → effect setup bag s doing ≡ Does (Some r) memory put → IsOrderly setup s (effect setup bag s doing)
+      by_call_of : (o : Option ℕ) (r : Record) (memory : Kept) (put : List Envelope) → effect setup bag s doing ≡ Does (Some r) memory put
+          → IsOrderly setup s (effect setup bag s doing)
           → Ok out ≡ by_call {A = Result (List Envelope) Fault} o (λ c. Err Device) (Ok put)
           → LivesAs setup (by_call o (λ c. failed_in s c r) (stepped s (Some r) memory)) mid.life
           → StandsFor setup new (by_call o (λ c. failed_in s c r) (finished s doing (Some r) memory))
@@ -386,14 +404,16 @@ module _ (setup : Setup) (bag : List Envelope) (s : ShardNow) (call : Option ℕ
 
 -- ---- so by the contracts of the code
 
-module _ (setup : Setup) (bag : List Envelope) (s : ShardNow) (call : Option ℕ) (doing : Doing) (old mid : RunShard) (h : StandsFor setup old s) (kept : IsKept old mid) where
+module _ (setup : Setup) (bag : List Envelope) (s : ShardNow) (call : Option ℕ) (doing : Doing) (old mid : RunShard) (h : StandsFor setup old s)
+    (kept : IsKept old mid) where
   by_setup : (r : Result (List Envelope) Fault) → ((t : ShardNow) → LivesAs old.setup t old.life → Carries old.setup bag t call doing mid.life r)
       → Carries setup bag s call doing mid.life r
   by_setup r carried = subst (λ x. Carries x bag s call doing mid.life r) h.setup_is (carried s (subst (λ x. LivesAs x s old.life) (sym h.setup_is) h.lives))
 
   pub acts_err : (r : Result (List Envelope) Fault) (fault : Fault) → r ≡ Err fault
       → ((t : ShardNow) → LivesAs old.setup t old.life → Carries old.setup bag t call doing mid.life (Err fault)) → Acts setup bag s call doing mid r
-  acts_err r fault is carried = subst (Acts setup bag s call doing mid) (sym is) (acts_not setup bag s call doing old mid h kept fault (by_setup (Err fault) carried))
+  acts_err r fault is carried =
+      subst (Acts setup bag s call doing mid) (sym is) (acts_not setup bag s call doing old mid h kept fault (by_setup (Err fault) carried))
 
   pub acts_ok : (new : RunShard) (out : List Envelope) → ((t : ShardNow) → LivesAs old.setup t old.life → Carries old.setup bag t call doing mid.life (Ok out))
       → Notes doing mid new mid.life → Acts setup bag s call doing new (Ok out)
@@ -411,7 +431,8 @@ crash_stands setup s t fate old new h kept views l =
     let same = same_views setup s old new kept.installs kept.views h in
     record { setup_is = kept.setup ∙ h.setup_is; lives = l; views = same.0 ∙ sym views; within = same.1; shows = tt }
 
-pub crash_in_stands : (setup : Setup) (bag : List Envelope) (s : ShardNow) (call : ℕ) (fate : Left) (doing : Doing) (old new : RunShard) (h : StandsFor setup old s)
+pub crash_in_stands : (setup : Setup) (bag : List Envelope) (s : ShardNow) (call : ℕ) (fate : Left) (doing : Doing) (old new : RunShard)
+    (h : StandsFor setup old s)
     → IsKept old new → LivesAs setup (crash_by fate (left_by s (Some call) doing (effect setup bag s doing))) new.life
     → StandsFor setup new (crashed_in s call fate doing (effect setup bag s doing))
 crash_in_stands setup bag s call fate doing old new h kept l =
@@ -499,7 +520,8 @@ looked setup s core here k at h is_here = by_state s.state h
     by_state IsDown c = absurd c
 
 -- none of one that is down
-pub looked_down : (setup : Setup) (s : ShardNow) (disk : SimDisk) (k : Bytes) (at : ℕ) → IsDiskIn s disk s.state → Reply.Refused Stopped ≡ look_shard setup s k at
+pub looked_down : (setup : Setup) (s : ShardNow) (disk : SimDisk) (k : Bytes) (at : ℕ) → IsDiskIn s disk s.state
+    → Reply.Refused Stopped ≡ look_shard setup s k at
 looked_down setup s disk k at h = by_state s.state h
   where
     by_state : (st : State) → IsDiskIn s disk st

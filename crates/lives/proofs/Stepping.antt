@@ -6,6 +6,7 @@ use Rattle.std.proofs.lemmas.List.{append-nil}
 use Rattle.std.proofs.lemmas.List.Sums.{fold-append}
 use Rattle.units.specs.declared.fault.Fault.{Fault}
 use Rattle.units.specs.declared.fault.Fault.TheVariants.{Device, Memory as WantsMemory, Stopped, TimeSpent}
+use Rattle.units.specs.declared.setup.Book.TheVariants.{Off}
 use Rattle.units.specs.declared.setup.Setup.{Setup}
 use Rattle.truetime.specs.Interval.{Interval}
 use Rattle.disk.specs.File.{surface}
@@ -17,6 +18,7 @@ use Rattle.record.specs.Accepted.{followed}
 use Rattle.record.specs.Facts.{facts_of}
 use Rattle.record.specs.declared.record.Record.{Record}
 use Rattle.record.proofs.LearnAgrees.{learn_agrees}
+use Rattle.book.specs.Books.{BookView, HasBookRoom}
 use Rattle.message.specs.declared.message.Envelope.{Envelope}
 use Rattle.message.specs.declared.message.Input.{Input}
 use Rattle.protocol.specs.Rows.{Memory}
@@ -61,7 +63,8 @@ core_as setup s m old new same h = record {
 }
 
 -- it is that of the same shard
-pub core_in : (setup : Setup) (s : ShardNow) (old new : CoreView SimDisk) → IsAs old new → (state : State) → IsCoreIn setup s old state → IsCoreIn setup s new state
+pub core_in : (setup : Setup) (s : ShardNow) (old new : CoreView SimDisk) → IsAs old new → (state : State) → IsCoreIn setup s old state
+    → IsCoreIn setup s new state
 core_in setup s old new same (Runs m) h = record {
   core_of = core_as setup s m old new same h.core_of;
   runs = same.stopped ∙ h.runs;
@@ -119,7 +122,8 @@ stopped_no_device : Stopped ≢ Device
 stopped_no_device e = cc
 
 -- a step that logs nothing never fails by its device
-no_device : (call : Option ℕ) (gate : ℕ) (records : Result (List Record) Fault) (disk : SimDisk) (fault : Fault) → FailsAs call gate records None disk fault → fault ≢ Device
+no_device : (call : Option ℕ) (gate : ℕ) (records : Result (List Record) Fault) (disk : SimDisk) (fault : Fault)
+    → FailsAs call gate records None disk fault → fault ≢ Device
 no_device None gate records disk fault fails = fails
 no_device (Some call) gate records disk fault fails = fails
 
@@ -263,13 +267,15 @@ module _ (old before after new : CoreView SimDisk) (call : Option ℕ) (arms : I
 
     -- it was done, or refused
     pub running_comes : (st : Stepped) (r : Result (List Envelope) Fault) → Has st r
-        → ((q : Record) (memory : Memory) (out : List Envelope) → where_room before.gate st ≡ Does (Some q) memory out → IsTrue (followed setup.shard (read_log s ++ q ∷ [])))
+        → ((q : Record) (memory : Memory) (out : List Envelope) → where_room before.gate st ≡ Does (Some q) memory out
+        → IsTrue (followed setup.shard (read_log s ++ q ∷ [])))
         → Left (where_room before.gate st) r
     running_comes (Refuses why) (Ok out) k follows = absurd (k.done.2)
     running_comes (Does logged memory outbox) (Ok out) k follows =
         let whole : where_room before.gate (Does logged memory outbox) ≡ Does logged memory outbox = room_is before.gate logged memory outbox k.written.place in
         let is_past = past call arms.plan logged memory out outbox k in
-        let core : IsRunningAs setup (stepped s logged memory) memory new = done logged memory out outbox k (λ q e. follows q memory outbox (whole ∙ ap (λ l. Does l memory outbox) e)) in
+        let core : IsRunningAs setup (stepped s logged memory) memory new = done logged memory out outbox k (λ q e. follows q memory outbox (whole
+            ∙ ap (λ l. Does l memory outbox) e)) in
         subst (λ x. Left x (Ok out)) (sym whole) (inr (
           ap (λ o. Ok o) k.done.2.2 ∙ sym (past_answer s s memory outbox call logged is_past),
           subst (λ t. IsCoreIn setup t new t.state) (sym (past_left s s memory outbox call logged is_past)) core,
@@ -277,20 +283,28 @@ module _ (old before after new : CoreView SimDisk) (call : Option ℕ) (arms : I
     running_comes st (Err fault) k follows = refused st fault k
 
   -- a stopped core refuses
-  pub stopped_comes : (m : Memory) → IsStoppedAs setup s m old → s.state ≡ IsStopped m → (st : Stepped) (r : Result (List Envelope) Fault) → Has st r → Left (Refuses Stopped) r
+  pub stopped_comes : (m : Memory) → IsStoppedAs setup s m old → s.state ≡ IsStopped m → (st : Stepped) (r : Result (List Envelope) Fault) → Has st r
+      → Left (Refuses Stopped) r
   stopped_comes m h is st (Ok out) k = absurd (false≢true (sym k.done.0 ∙ arms.stopped ∙ h.stopped))
   stopped_comes m h is st (Err fault) k =
-      let because : fault ≡ Stopped = subst (λ b. IsCause b st fault (IsLogFull before.gate (record_of st)) ((disk_failures before.disk < disk_failures after.disk) × IsTrue after.stopped))
+      let because : fault ≡ Stopped = subst (λ b. IsCause b st fault (IsLogFull before.gate (record_of st))
+          ((disk_failures before.disk < disk_failures after.disk) × IsTrue after.stopped))
       (arms.stopped ∙ h.stopped) k.cause in
       refuses fault Stopped because (stays fault s.state k.written.kept k.written.setup (not_device fault Stopped because stopped_no_device)
       (subst (IsCoreIn setup s old) (sym is) h))
 
 -- a core takes an input, and no call is armed behind it
 pub takes_input : (old before after new : CoreView SimDisk) (call : Option ℕ) → IsArmedFrom old before call → IsArmedFrom after new None
-    → (now : Interval) (i : Input) (r : Result (List Envelope) Fault)
-    → HasStepped (Unit {0}) (Unit {0}) disk_file disk_clock LeftSince disk_failures disk_plan before after (step_of before now i) r → TakesInput old new call now i r
-takes_input old before after new call arms disarms now i r k = λ setup s h order. by_state setup s order s.state refl h
+    → (now : Interval) (i : Input) (r : Result (List Envelope) Fault) (book : Option BookView)
+    → (HasBookRoom before.setup.book book
+    → HasStepped (Unit {0}) (Unit {0}) disk_file disk_clock LeftSince disk_failures disk_plan before after (step_of before now i) r)
+    → TakesInput old new call now i r
+takes_input old before after new call arms disarms now i r book k = λ setup s h order. by_state setup s order s.state refl h
   where
+    -- none is kept, so it is not full
+    room : (setup : Setup) → setup.book ≡ Off → old.setup ≡ setup → HasBookRoom before.setup.book book
+    room setup off same = subst (λ b. HasBookRoom b book) (sym (ap (λ (t : Setup). t.book) (arms.setup ∙ same) ∙ off)) tt
+
     by_state : (setup : Setup) (s : ShardNow) → IsOrderly setup s (asked setup s now i) → (state : State) → s.state ≡ state → IsCoreIn setup s old state
         → Comes call (asked setup s now i) r (IsCoreIn setup (comes_to s s call (asked setup s now i)) new (comes_to s s call (asked setup s now i)).state)
     by_state setup s order (Runs m) is h =
@@ -300,9 +314,10 @@ takes_input old before after new call arms disarms now i r k = λ setup s h orde
         ∙ sym (λ j. step ((arms.setup ∙ h.core_of.setup_is) j) ((arms.facts ∙ h.core_of.knows) j) ((arms.memory ∙ h.core_of.memory) j) now i) in
         let whole : asked setup s now i ≡ where_room before.gate (step_of before now i) = λ j. where_room (gate j) (inner j) in
         subst (λ x. Left old before after new call arms disarms setup s x r) (sym whole)
-        (running_comes old before after new call arms disarms setup s m h is (step_of before now i) r k (λ q memory out e. order.follows q memory out (whole ∙ e)))
+        (running_comes old before after new call arms disarms setup s m h is (step_of before now i) r (k (room setup order.unbooked h.core_of.setup_is))
+            (λ q memory out e. order.follows q memory out (whole ∙ e)))
     by_state setup s order (IsStopped m) is h =
         let whole : asked setup s now i ≡ Refuses Stopped = ap (λ t. where_room (end_of (disk_log s)) (asked_in setup s now i t)) is in
         subst (λ x. Left old before after new call arms disarms setup s x r) (sym whole)
-        (stopped_comes old before after new call arms disarms setup s m h is (step_of before now i) r k)
+        (stopped_comes old before after new call arms disarms setup s m h is (step_of before now i) r (k (room setup order.unbooked h.core_of.setup_is)))
     by_state setup s order IsDown is h = absurd h

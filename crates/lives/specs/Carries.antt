@@ -2,6 +2,7 @@
 use Rattle.std.specs.Prelude.{◌≡◌, ◌⊎◌, ℕ, true, false, IsTrue, cond, nat_lt, List, [], ◌∷◌, ◌++◌, Option, Some, None, Result, Ok, Err, option_to_list}
 use Rattle.units.specs.declared.fault.Fault.{Fault}
 use Rattle.units.specs.declared.fault.Fault.TheVariants.{Device, Memory, Stopped}
+use Rattle.units.specs.declared.setup.Book.TheVariants.{Off}
 use Rattle.units.specs.declared.setup.Setup.{Setup}
 use Rattle.truetime.specs.Interval.{Interval}
 use Rattle.record.specs.Accepted.{Accepted, followed, taken}
@@ -64,8 +65,9 @@ left_by s call doing st = comes_to s (refused_by s doing) call st
 
 -- ---- what the code does
 
--- an opening takes the log that the disk holds, and a record that is logged follows those before it
+-- no book is kept, an opening takes the log that the disk holds, and a record that is logged follows those before it
 pub record IsOrderly (setup : Setup) (s : ShardNow) (st : Stepped) : Type 0 where
+  pub unbooked : setup.book ≡ Off
   pub takes : taken setup (disk_log s) ≡ Accepted
   pub follows : (r : Record) (memory : Kept) (out : List Envelope) → st ≡ Does (Some r) memory out → IsTrue (followed setup.shard (read_log s ++ r ∷ []))
 

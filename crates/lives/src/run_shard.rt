@@ -1,5 +1,6 @@
 //! A shard of a run: what there is of it, and the views that it has made.
 ghost use Rattle.std.specs.Prelude.{◌≡◌, ◌≢◌, ◌∷◌, ◌++◌, [], ℕ, Some, None, Err, true, not, IfOk, IfErr, OnOk, length, map};
+ghost use Rattle.units.specs.declared.setup.Book.{Book};
 ghost use Rattle.units.specs.declared.setup.Setup.{Setup};
 ghost use Rattle.disk.specs.declared.plan.Fate.{Fate as Left};
 ghost use Rattle.world.specs.World.{ShardNow, crashed_in, effect, fresh_shard, makes_view, read_log};
@@ -39,8 +40,9 @@ impl RunShard {
     ghost use Rattle.lives.specs.Fleet.{IsOn};
     ghost use Rattle.lives.specs.Shows.{Acts, IsKept, Notes};
 
-    /// A shard on a new disk, formatted and opened, with its first view.
+    /// A shard on a new disk, formatted and opened, with its first view. It is told to keep no book.
     pub fn fresh(alloc: Global, setup: Setup) -> Result<RunShard, Fault>
+        requires { setup.book ≡ Book.Off }
         ensures fresh { IfOk result (λ shard. StandsFor setup shard fresh_shard) }
         ensures memory { IfErr result (λ fault. fault ≡ Fault.Memory) }
     {

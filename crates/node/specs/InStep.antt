@@ -1,5 +1,5 @@
 -- What a desk keeps of its core and its board.
-use Rattle.std.specs.Prelude.{◌≡◌, ◌⊎◌, ℕ, ◌<◌, ◌≤◌, IsTrue, All, List, [], ◌∷◌, ◌++◌, map, take, drop, length, Result, Ok, Err}
+use Rattle.std.specs.Prelude.{◌≡◌, ◌⊎◌, ℕ, ◌<◌, ◌≤◌, IsTrue, All, List, [], ◌∷◌, ◌++◌, map, take, drop, length, Option, Result, Ok, Err}
 use Rattle.units.specs.declared.fault.Fault.{Fault}
 use Rattle.units.specs.declared.fault.Fault.TheVariants.{Memory as WantsMemory, BadRequest}
 use Rattle.units.specs.declared.fault.Reason.TheVariants.{Many}
@@ -9,6 +9,8 @@ use Rattle.disk.specs.File.{File}
 use Rattle.message.specs.declared.message.Envelope.{Envelope}
 use Rattle.message.specs.declared.message.Input.{Input}
 use Rattle.truetime.specs.Interval.{Interval}
+use Rattle.book.specs.Books.{BookView, HasBookRoom, IsBookFull}
+use Rattle.shard.specs.Booked.{HasEntered, IsCrowded}
 use Rattle.shard.specs.On.{CoreView, HasStepped, step_of}
 use Rattle.shard.specs.Look.{safe_at}
 use Rattle.board.specs.declared.entry.BoardEntry.{BoardEntry}
@@ -50,6 +52,7 @@ StillShows old new = (new.published ≡ old.published) × (new.board ≡ old.boa
 -- what a contract sees of a desk
 pub record DeskView (D : Type 0) : Type 0 where
   pub core : CoreView D
+  pub book : Option BookView
   pub board : Publishing
 
 -- the last entry is this served time
@@ -69,20 +72,22 @@ WhyNot (Ok out) fault = fault ≡ WantsMemory
 WhyNot (Err own) fault = fault ≡ own
 
 module _ {D : Type 0} (keeps obeys : Type 0) (file : D → File) (clock : D → ℕ) (since : D → ℕ → List ℕ → Type 0) (failures : D → ℕ) (plan : D → FailurePlan) where
-  -- the core took an input, and put out these messages, or refused it
-  abbrev pub HasTaken : CoreView D → CoreView D → Interval → Input → Result (List Envelope) Fault → Type 0
-  HasTaken old new now i result = HasStepped keeps obeys file clock since failures plan old new (step_of old now i) result
+  -- The core took an input, and put out these messages, or refused it. Where its book is full it took none.
+  pub record HasTaken (old new : CoreView D) (book after : Option BookView) (now : Interval) (i : Input) (result : Result (List Envelope) Fault) : Type 0 where
+    pub stepped : HasBookRoom old.setup.book book → HasStepped keeps obeys file clock since failures plan old new (step_of old now i) result
+    pub crowded : IsBookFull old.setup.book book → IsCrowded old new (step_of old now i) result
+    pub entered : HasEntered book after now i result
 
   -- The core took the advance, and its board shows all its versions, in order, and then its served time. The news is of that list.
   pub record HasAdvanced (old new : DeskView D) (now : Interval) (to : ℕ) (news : Published) : Type 0 where
     pub out : List Envelope
-    pub stepped : HasTaken old.core new.core now (Input.Advance to) (Ok out)
-    pub shown : ShowsCore (record { core = new.core; board = old.board }) new news
+    pub stepped : HasTaken old.core new.core old.book new.book now (Input.Advance to) (Ok out)
+    pub shown : ShowsCore (record { core = new.core; book = new.book; board = old.board }) new news
 
   -- The core refused the advance; or it took it, and memory for the board was refused. The board shows what it showed.
   pub record HasNotAdvanced (old new : DeskView D) (now : Interval) (to : ℕ) (fault : Fault) : Type 0 where
     pub result : Result (List Envelope) Fault
-    pub stepped : HasTaken old.core new.core now (Input.Advance to) result
+    pub stepped : HasTaken old.core new.core old.book new.book now (Input.Advance to) result
     pub why : WhyNot result fault
     pub published : new.board.published ≡ old.board.published
     pub board : new.board.board ≡ old.board.board

@@ -1,11 +1,14 @@
 -- What lies under a node's lock, and what it is to open a stopped node's disk again.
-use Rattle.std.specs.Prelude.{◌≡◌, ◌⊎◌, ℕ, Bool, true, IsTrue, IsFalse, List}
+use Rattle.std.specs.Prelude.{◌≡◌, ◌⊎◌, ℕ, Bool, true, IsTrue, IsFalse, List, Option, Ok}
 use Rattle.units.specs.declared.fault.Fault.{Fault}
 use Rattle.units.specs.declared.fault.Fault.TheVariants.{Memory as WantsMemory, BadRequest}
 use Rattle.units.specs.declared.fault.Reason.TheVariants.{Again}
 use Rattle.units.specs.declared.setup.Setup.{Setup}
 use Rattle.disk.specs.declared.plan.FailurePlan.{FailurePlan}
-use Rattle.disk.specs.File.{File}
+use Rattle.disk.specs.File.{File, surface}
+use Rattle.record.specs.declared.record.Record.{Record}
+use Rattle.book.specs.Books.{BookView, new_book}
+use Rattle.shard.specs.Logs.{records_in}
 use Rattle.shard.specs.On.{CoreView}
 use Rattle.shard.specs.Look.{safe_at}
 use Rattle.shard.specs.Opened.{HasOpened, HasNotOpened}
@@ -42,9 +45,14 @@ module _ {D : Type 0} (keeps obeys : Type 0) (file : D → File) (clock : D → 
       ((fault ≡ WantsMemory) × (back ≡ disk)) ⊎ (HasNotOpened keeps obeys file clock since failures plan disk setup fault back
       ⊎ HasNoBoard disk setup n fault back)
 
+  -- the book of a core that took the log of a disk up: where it is to keep one, it has the records that were found, and no page
+  abbrev pub IsBegun : D → Setup → Option BookView → Type 0
+  IsBegun disk setup book = keeps → (records : List Record) → records_in (surface (file disk)).seen ≡ Ok records → book ≡ new_book setup.book records
+
   -- the log of a disk was taken up, and a new board shows the versions of its core and then its served time
   pub record HasReopened (disk : D) (setup : Setup) (n : ℕ) (desk : DeskView D) (views : List Viewing) : Type 0 where
     pub opened : HasOpened keeps obeys file clock since failures plan disk setup desk.core
+    pub book : IsBegun disk setup desk.book
     pub board : IsNewBoard desk.board (first_entries desk.core.facts.installs (safe_at desk.core))
     pub viewers : AreOnBoard n desk.board views
 

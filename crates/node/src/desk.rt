@@ -1,13 +1,17 @@
 //! What lies under a node's lock: the core of a shard, and the publisher of its board.
 ghost use Rattle.std.specs.Prelude.{◌≡◌, ◌<◌, ◌+◌, length, IfOk, IfErr, OnOk};
+ghost use Rattle.std.specs.Option.{option_copied};
 ghost use Rattle.board.specs.Board.{first_entries};
 ghost use Rattle.node.specs.InStep.{IsInStep, IsNewBoard, AreOnBoard, IsNoDesk, StillShows, ShowsCore, HasAdvanced, HasNotAdvanced, HasTaken};
-ghost use Rattle.node.specs.Restart.{HasNoDesk};
-ghost use Rattle.shard.specs.Core.{seen};
+ghost use Rattle.node.specs.Restart.{HasNoDesk, IsBegun};
+ghost use Rattle.book.specs.Books.{IsBookOf};
+ghost use Rattle.shard.specs.Booked.{stand_of};
+ghost use Rattle.shard.specs.Core.{seen, book_of};
 ghost use Rattle.shard.specs.Look.{safe_at};
 ghost use Rattle.shard.specs.Opened.{HasOpened};
 
 use board::{Publisher, Told, Viewer, copy_install, start};
+use book::Book;
 use disk::Disk;
 use message::{Input, Outbox};
 use serving::{step_keeps_showable, writes_ascend};
@@ -50,11 +54,11 @@ impl<D: Disk + Drop, R: Wait + Drop> Desk<D, R> {
         core: Core<D>,
         n: usize,
     ) -> Result<(Desk<D, R>, Vec<Viewer>), (Fault, Core<D>)>
-        ensures core { IfOk result (λ made. (seen_desk made.0).core ≡ seen core) }
+        ensures core { IfOk result (λ made. ((seen_desk made.0).core ≡ seen core) × ((seen_desk made.0).book ≡ book_of core)) }
         ensures board { IfOk result (λ made.
             IsNewBoard (seen_desk made.0).board (first_entries (seen core).facts.installs (safe_at (seen core)))) }
         ensures viewers { IfOk result (λ made. AreOnBoard n (seen_desk made.0).board made.1.items) }
-        ensures refused { IfErr result (λ refused. IsNoDesk n refused.0 × (seen refused.1 ≡ seen core)) }
+        ensures refused { IfErr result (λ refused. IsNoDesk n refused.0 × (seen refused.1 ≡ seen core) × (book_of refused.1 ≡ book_of core)) }
     {
         core.is_sound();
         let splits = match core.setup().splits.copy(alloc) {
@@ -89,6 +93,8 @@ impl<D: Disk + Drop, R: Wait + Drop> Desk<D, R> {
     ) -> Result<(Desk<D, R>, Vec<Viewer>), (Fault, D)>
         ensures opened { IfOk result (λ made. HasOpened D.keeps_model D.obeys D.file D.clock D.since D.failures D.plan
             disk setup.now (seen_desk made.0).core) }
+        ensures book { IfOk result (λ made. IsBegun D.keeps_model D.obeys D.file D.clock D.since D.failures D.plan
+            disk setup.now (seen_desk made.0).book) }
         ensures board { IfOk result (λ made. IsNewBoard (seen_desk made.0).board
             (first_entries (seen_desk made.0).core.facts.installs (safe_at (seen_desk made.0).core))) }
         ensures viewers { IfOk result (λ made. AreOnBoard n (seen_desk made.0).board made.1.items) }
@@ -106,10 +112,10 @@ impl<D: Disk + Drop, R: Wait + Drop> Desk<D, R> {
         }
     }
 
-    /// Exactly the step of the core. The board stays.
+    /// Exactly the step of the core, with its page where a book is kept. The board stays.
     pub fn deliver(&mut self, now: &Reading, input: &Input) -> Result<Outbox, Fault>
         ensures stepped { HasTaken D.keeps_model D.obeys D.file D.clock D.since D.failures D.plan
-            (seen_desk self.old).core (seen_desk self.new).core now.now input.now result }
+            (seen_desk self.old).core (seen_desk self.new).core (seen_desk self.old).book (seen_desk self.new).book now.now input.now result }
         ensures board { (seen_desk self.new).board ≡ (seen_desk self.old).board }
     {
         step_keeps_showable();
@@ -132,7 +138,7 @@ impl<D: Disk + Drop, R: Wait + Drop> Desk<D, R> {
 
     // Hands the board the versions that it lacks and the served time, and publishes them.
     fn show(&mut self) -> Result<Told, Fault>
-        ensures core { (seen_desk self.new).core ≡ (seen_desk self.old).core }
+        ensures core { ((seen_desk self.new).core ≡ (seen_desk self.old).core) × ((seen_desk self.new).book ≡ (seen_desk self.old).book) }
         ensures shown { IfOk result (λ told. ShowsCore (seen_desk self.old) (seen_desk self.new) told) }
         ensures refused { IfErr result (λ fault.
             (fault ≡ Fault.Memory) × StillShows (seen_desk self.old).board (seen_desk self.new).board) }
@@ -147,9 +153,19 @@ impl<D: Disk + Drop, R: Wait + Drop> Desk<D, R> {
         self.publisher.publish()
     }
 
+    /// The book of the core, where it keeps one: from the state that the opening left, the step over its pages leads to what the
+    /// core knows and keeps, and puts out what stands in them.
+    pub fn book(&self) -> Option<&Book>
+        ensures same { option_copied result ≡ (seen_desk self.now).book }
+        ensures replays { ∥ IsBookOf (seen_desk self.now).core.setup (seen_desk self.now).book (stand_of (seen_desk self.now).core) ∥₁ }
+    {
+        self.core.book()
+    }
+
     /// The core, to be read.
     pub(crate) fn core(&self) -> &Core<D>
-        ensures { seen result.now ≡ (seen_desk self.now).core }
+        ensures core { seen result.now ≡ (seen_desk self.now).core }
+        ensures book { book_of result.now ≡ (seen_desk self.now).book }
     {
         &self.core
     }

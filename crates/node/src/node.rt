@@ -1,7 +1,7 @@
 //! A desk under a lock.
 ghost use Rattle.std.specs.Prelude.{◌≡◌, length, IfOk, IfErr};
 ghost use Rattle.node.specs.InStep.{IsNoDesk};
-ghost use Rattle.shard.specs.Core.{seen};
+ghost use Rattle.shard.specs.Core.{seen, book_of};
 
 use crate::desk::{Desk, copied};
 use crate::held::Held;
@@ -37,7 +37,7 @@ impl<D: Disk + Drop, R: Wait + Drop> Node<D, R> {
         n: usize,
     ) -> Result<(Node<D, R>, Vec<Viewer>), (Fault, Core<D>)>
         ensures viewers { IfOk result (λ made. length made.1.items ≡ n) }
-        ensures refused { IfErr result (λ refused. IsNoDesk n refused.0 × (seen refused.1 ≡ seen core)) }
+        ensures refused { IfErr result (λ refused. IsNoDesk n refused.0 × (seen refused.1 ≡ seen core) × (book_of refused.1 ≡ book_of core)) }
     {
         let setup = match copied(alloc, core.setup()) {
             Ok(setup) => setup,

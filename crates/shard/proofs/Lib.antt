@@ -1,4 +1,5 @@
 pub mod Appends
+pub mod Booked
 pub mod Carried
 pub mod Commitments
 pub mod Plans

@@ -1,5 +1,5 @@
 -- The versions of a core may be put on a board, also once a plan is carried out, and behind an opening.
-use Rattle.std.proofs.Common.{◌≡◌, ℕ, ◌&&◌, true, refl, List, [], ◌∷◌, Some, Ok, sym, ap, subst, ◌∙◌}
+use Rattle.std.proofs.Common.{◌≡◌, ℕ, ◌&&◌, true, refl, List, [], ◌∷◌, Ok, sym, ap, subst, ◌∙◌}
 use Rattle.std.proofs.Math.Logic.{∥∥₁_elim, ∥∥₁_map}
 use Rattle.std.proofs.Props.{props}
 use Rattle.std.specs.List.{list_all}
@@ -19,7 +19,7 @@ use Rattle.memory.specs.Kept.{Kept, start_of}
 use Rattle.memory.specs.Plans.{plan_of}
 use Rattle.memory.specs.declared.plan.Plan.{Plan}
 use Rattle.recovery.specs.Recovered.{items}
-use Rattle.serving.specs.Showable.{FreshIsShowable, IsShowable, KeepsShowable, StepKeepsShowable, TakenIsShowable, WritesAscend, record_ascends}
+use Rattle.serving.specs.Showable.{IsShowable, KeepsShowable, StepKeepsShowable, TakenIsShowable, WritesAscend, record_ascends}
 
 pub as-showable : (facts given : Facts) (memory held : Memory) → facts ≡ given → memory ≡ held → IsShowable given held → IsShowable facts memory
 as-showable facts given memory held same also showable =

@@ -2,6 +2,7 @@ pub mod Logs
 pub mod Armed
 pub mod On
 pub mod Due
+pub mod Booked
 pub mod Settled
 pub mod Core
 pub mod Look

@@ -3,7 +3,9 @@
 
 mod addressing;
 mod ascending;
+mod booking;
 mod logging;
+mod machine;
 mod planning;
 mod shard_core;
 

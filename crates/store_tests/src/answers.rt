@@ -41,8 +41,8 @@ fn is_shaped(envelope: &Envelope, wanted: Shape) -> bool {
     kind == wanted.0 && to == wanted.1 && number == wanted.2 && at == wanted.3
 }
 
-fn says(out: Outbox, told: Told) -> bool {
-    match (out.as_slice(), told) {
+pub fn says(out: &[Envelope], told: Told) -> bool {
+    match (out, told) {
         ([], Told::Nothing) => true,
         ([only], Told::One(wanted)) => is_shaped(only, wanted),
         ([first, second], Told::Two(one, two)) => is_shaped(first, one) && is_shaped(second, two),
@@ -50,9 +50,19 @@ fn says(out: Outbox, told: Told) -> bool {
     }
 }
 
+// The messages have the same shapes.
+pub fn are_alike(these: &[Envelope], those: &[Envelope]) -> bool {
+    for (this, that) in these.iter().zip(those) {
+        if shape(this) != shape(that) {
+            return false;
+        }
+    }
+    these.len() == those.len()
+}
+
 pub fn is_told(answer: Result<Outbox, Fault>, told: Told) -> bool {
     match (answer, told) {
-        (Ok(out), told) => says(out, told),
+        (Ok(out), told) => says(out.as_slice(), told),
         (Err(why), Told::Refused(fault)) => why == fault,
         _ => false,
     }

@@ -4,6 +4,8 @@
 #[cfg(test)]
 mod answers;
 #[cfg(test)]
+mod booked;
+#[cfg(test)]
 mod coordinating;
 #[cfg(test)]
 mod given;

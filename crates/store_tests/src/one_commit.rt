@@ -148,7 +148,7 @@ const FAILS: Story = Story {
     name: "a failing device stops the core",
     shard: 0,
     stride: 0,
-    origin: Origin::Failing(7),
+    origin: Origin::Failing(0),
     exchanges: &[
         (100, 110, A, Told::Refused(Fault::Device)),
         (100, 110, A, Told::Refused(Fault::Stopped)),
@@ -163,15 +163,15 @@ const FAILS: Story = Story {
 static FAILING: [Story; 4] = [
     FAILS,
     Story {
-        origin: Origin::Failing(8),
+        origin: Origin::Failing(1),
         ..FAILS
     },
     Story {
-        origin: Origin::Failing(9),
+        origin: Origin::Failing(2),
         ..FAILS
     },
     Story {
-        origin: Origin::Failing(10),
+        origin: Origin::Failing(3),
         ..FAILS
     },
 ];

@@ -121,7 +121,7 @@ static SERVING: [Story; 6] = [
         name: "a stopped core is looked at",
         shard: 0,
         stride: 0,
-        origin: Origin::Failing(7),
+        origin: Origin::Failing(0),
         exchanges: &[
             (100, 110, Given::Advance(110), Told::Refused(Fault::Device)),
             (100, 110, Given::Advance(110), Told::Refused(Fault::Stopped)),

@@ -3,6 +3,7 @@ use crate::answers::{Told, is_told};
 use crate::given::{Given, input_of, reading};
 use crate::made::{key, shard, stamp};
 use disk::Disk;
+use gatelog::GateLog;
 use shard::Core;
 use simdisk::{Choice, SimDisk};
 use std::alloc::Global;
@@ -17,7 +18,7 @@ pub type Exchange = (u64, u64, Given, Told);
 pub enum Origin {
     // It is new.
     New,
-    // It is new, on a disk of which a call fails, counted from its first.
+    // It is new, and a device call of its next append is to fail, by its number from 0.
     Failing(u64),
     // These were given, the disk crashed with every change that was not synced lost, and was opened again.
     Crashed(&'static [Exchange]),
@@ -96,7 +97,8 @@ pub fn meets_all(core: &mut Core<SimDisk>, alloc: Global, exchanges: &[Exchange]
 }
 
 pub fn fresh(alloc: Global, disk: SimDisk, shard: u8, stride: u64) -> Option<Core<SimDisk>> {
-    Core::fresh(alloc, disk, setup(alloc, shard, stride)?).ok()
+    let log = GateLog::format(disk).ok()?;
+    Core::open(alloc, log.into_disk(), setup(alloc, shard, stride)?).ok()
 }
 
 // What a look sees in a buffer of four bytes, of which it may take some.
@@ -130,8 +132,7 @@ fn disk_behind_armed(
     call: u64,
     exchanges: &[Exchange],
 ) -> Option<SimDisk> {
-    let mut core = fresh(alloc, SimDisk::new(alloc), story.shard, story.stride)?;
-    core.arm(Some(call));
+    let mut core = failing(alloc, story, call)?;
     let met = meets_all(&mut core, alloc, exchanges);
     let seen = glance(&core, b"a", 0, 1);
     let disk = core.stop();
@@ -142,10 +143,11 @@ fn disk_behind_armed(
     }
 }
 
-fn failing(alloc: Global, call: u64) -> SimDisk {
-    let mut disk = SimDisk::new(alloc);
-    disk.fail_next(call);
-    disk
+// A new core whose next append is to meet a failing call.
+fn failing(alloc: Global, story: &Story, call: u64) -> Option<Core<SimDisk>> {
+    let mut core = fresh(alloc, SimDisk::new(alloc), story.shard, story.stride)?;
+    core.arm(Some(call));
+    Some(core)
 }
 
 fn crashed(alloc: Global, story: &Story, exchanges: &[Exchange]) -> Option<SimDisk> {
@@ -162,7 +164,7 @@ fn opened(alloc: Global, story: &Story, disk: Option<SimDisk>) -> Option<Core<Si
 fn begun(alloc: Global, story: &Story) -> Option<Core<SimDisk>> {
     match story.origin {
         Origin::New => fresh(alloc, SimDisk::new(alloc), story.shard, story.stride),
-        Origin::Failing(call) => fresh(alloc, failing(alloc, call), story.shard, story.stride),
+        Origin::Failing(call) => failing(alloc, story, call),
         Origin::Crashed(exchanges) => opened(alloc, story, crashed(alloc, story, exchanges)),
         Origin::Armed(call, exchanges) => {
             opened(

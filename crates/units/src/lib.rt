@@ -22,7 +22,7 @@ pub use keys::Keys;
 pub use line::{Line, Seen, Verdict};
 pub use lock::{Asked, Ids, Lock, MOST_ROWS, Mode};
 pub use parts::Parts;
-pub use setup::{Book, Setup, Stride};
+pub use setup::{Book, Capacity, Setup, Stride};
 pub use shard::ShardNo;
 pub use splits::Splits;
 pub use stamp::{Epoch, Stamp};

@@ -48,10 +48,54 @@ impl Stride {
     }
 }
 
-/// Whether a shard keeps a book of its inputs. So far none does.
+/// How many inputs a book has room for: 1 to 65,536.
+#[derive(Clone, Copy, PartialEq, Eq)]
+pub struct Capacity {
+    entries: u32,
+}
+
+impl Model for Capacity {
+    ghost use Rattle.std.specs.Prelude.{ℕ, ◌≤◌};
+
+    ghost Value = { ℕ };
+
+    ghost view = { λ c. c.entries };
+
+    ghost invariant = { λ c. (1 ≤ c.entries) × (c.entries ≤ 65536) };
+
+    ghost inverse = { λ n. record { entries = n } };
+}
+
+impl Capacity {
+    /// The most inputs of a book.
+    pub const MAX: u32 = 65_536;
+
+    /// Room for this many inputs, where it is within the limits.
+    pub fn new(entries: u32) -> Option<Capacity>
+        ensures value { IfSome result (λ capacity. capacity ≡ entries) }
+        ensures limits { IsSome result ↔ ((1 ≤ entries) × (entries ≤ 65536)) }
+    {
+        if 1 <= entries && entries <= Capacity::MAX {
+            Some(Capacity { entries })
+        } else {
+            None
+        }
+    }
+
+    /// For how many inputs there is room.
+    pub fn entries(self) -> usize
+        ensures same { result ≡ self }
+        ensures limits { (1 ≤ result) × (result ≤ 65536) }
+    {
+        self.entries as usize
+    }
+}
+
+/// Whether a shard keeps a book of the inputs that it accepts, and for how many that has room.
 #[derive(Clone, Copy, PartialEq, Eq)]
 pub enum Book {
     Off,
+    On(Capacity),
 }
 
 /// What a shard is told when it is opened: its number, the splits of all shards, its stride and its book.

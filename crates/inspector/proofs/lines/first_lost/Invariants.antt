@@ -1,7 +1,7 @@
 use Rattle.std.proofs.Common.{◌≡◌, None, drop}
 use Rattle.units.specs.Lists.{gather}
 use Rattle.record.specs.Verdict.{lost_by}
-use Rattle.inspector.specs.Folds.{oldest}
+use Rattle.inspector.specs.Ages.{oldest}
 use Rattle.inspector.proofs.lines.first_lost.Given as goal
 
 abbrev pub invariant-loop-line : goal.invariant-loop-line

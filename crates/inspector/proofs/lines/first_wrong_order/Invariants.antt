@@ -2,7 +2,7 @@ use Rattle.std.specs.Prelude.{option_map}
 use Rattle.std.proofs.Common.{◌≡◌, drop}
 use Rattle.units.specs.Lists.{gather, head, numbered}
 use Rattle.record.specs.Verdict.{first_wrong_order}
-use Rattle.inspector.specs.Places.{first_late}
+use Rattle.inspector.specs.Faults.{first_late}
 use Rattle.inspector.proofs.lines.first_wrong_order.Given as goal
 
 abbrev pub invariant-loop-place : goal.invariant-loop-place

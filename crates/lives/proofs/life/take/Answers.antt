@@ -1,4 +1,4 @@
-use Rattle.shard.specs.Core.{seen}
+use Rattle.shard.specs.Core.{book_of, seen}
 use Rattle.lives.proofs.Stepping.{takes_input}
 use Rattle.lives.proofs.life.take.Goals as goal
 
@@ -23,4 +23,4 @@ returns c =
       memory = c.arm-2.ensures.state.2;
       file = c.arm-2.ensures.file.0;
     })
-    c.args.now.now c.args.input.now c.on-result.result c.on-result.ensures.stepped
+    c.args.now.now c.args.input.now c.on-result.result (book_of c.arm.new.self) c.on-result.ensures.stepped

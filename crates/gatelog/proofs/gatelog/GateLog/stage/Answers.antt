@@ -5,9 +5,6 @@ use Rattle.gatelog.proofs.Armed.{on_any}
 use Rattle.gatelog.proofs.Images.{bytes-size}
 use Rattle.gatelog.proofs.gatelog.GateLog.stage.Goals as goal
 
-pub at-requires : goal.at-requires
-at-requires g c = omega (arith, c.encoded_len-size.ensures.value, c.if-size-self.false)
-
 pub returns-clause-room : goal.returns-clause-room
 returns-clause-room g c = on_any c.at.result _ (λ obeys.
     let size : length (spelling c.args.record.now) ≡ c.encoded_len-size.result = sym c.encoded_len-size.ensures.value in

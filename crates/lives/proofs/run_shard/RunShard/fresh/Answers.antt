@@ -11,7 +11,7 @@ use Rattle.lives.proofs.run_shard.RunShard.fresh.Goals as goal
 pub returns-clause-fresh : goal.returns-clause-fresh
 returns-clause-fresh c = elim c.match-act.branch [
   | in-Ok w ↦ subst (λ x. IfOk x (λ shard. StandsFor c.args.setup shard fresh_shard)) (sym w.result-is)
-      (fresh_stands c.args.setup c.act.new.self _ (subst (Acts c.args.setup [] unopened_shard None Doing.Open c.act.new.self) w.in-Ok.is
+      (fresh_stands c.args.setup c.requires c.act.new.self _ (subst (Acts c.args.setup [] unopened_shard None Doing.Open c.act.new.self) w.in-Ok.is
       (c.act.ensures c.args.setup unopened_shard c.in_ok-shard.ensures.formatted)))
   | in-Err w ↦ subst (λ x. IfOk x (λ shard. StandsFor c.args.setup shard fresh_shard)) (sym w.result-is) tt
 ]
@@ -20,6 +20,6 @@ pub returns-clause-memory : goal.returns-clause-memory
 returns-clause-memory c = elim c.match-act.branch [
   | in-Ok w ↦ subst (λ x. IfErr x (λ fault. fault ≡ Memory)) (sym w.result-is) tt
   | in-Err w ↦ subst (λ x. IfErr x (λ fault. fault ≡ Memory)) (sym w.result-is)
-      (fresh_refused c.args.setup c.act.new.self _ (subst (Acts c.args.setup [] unopened_shard None Doing.Open c.act.new.self) w.in-Err.is
+      (fresh_refused c.args.setup c.requires c.act.new.self _ (subst (Acts c.args.setup [] unopened_shard None Doing.Open c.act.new.self) w.in-Err.is
       (c.act.ensures c.args.setup unopened_shard c.in_ok-shard.ensures.formatted)))
 ]

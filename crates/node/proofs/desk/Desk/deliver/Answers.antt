@@ -1,5 +1,7 @@
 use Rattle.std.proofs.Common.{◌++◌}
-use Rattle.shard.specs.Core.{seen}
+use Rattle.shard.specs.Core.{seen, book_of}
+use Rattle.shard.specs.On.{step_of}
+use Rattle.shard.proofs.Booked.{room-or-full, went}
 use Rattle.node.proofs.Kept.{kept_in_step}
 use Rattle.node.proofs.desk.Desk.deliver.Goals as goal
 
@@ -8,8 +10,10 @@ invariant_of-self g c =
     let old = seen c.args.self.now.core in
     let new = seen c.on.new.self in
     let self = c.args.self.now in
+    let stood = went g.D.Disk.keeps_model g.D.Disk.obeys g.D.Disk.file g.D.Disk.clock g.D.Disk.since g.D.Disk.failures g.D.Disk.plan old new
+    (step_of old c.args.now.now c.args.input.now) _ _ (room-or-full old.setup.book (book_of self.core)) c.on.result c.on.ensures.stepped c.on.ensures.crowded in
     record {
       in_step = kept_in_step g.D.Disk.file old new c.args.now.now c.args.input.now c.step_keeps_showable.ensures c.writes_ascend.ensures.limit
           c.writes_ascend.ensures.order c.is_sound.ensures.sound c.is_sound.ensures.showable c.on.result self.handed
-          (self.publisher.published ++ self.publisher.pending) c.on.ensures.stepped.done c.on.ensures.stepped.written.kept self.in_step;
+          (self.publisher.published ++ self.publisher.pending) stood.0 stood.1 self.in_step;
     }

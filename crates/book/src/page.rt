@@ -1,0 +1,62 @@
+//! A page of a book.
+ghost use Rattle.std.specs.Prelude.{◌≡◌, IfOk, IfErr};
+
+use crate::copies::{copy_input, copy_outbox};
+use message::{Envelope, Input, Outbox};
+use std::alloc::Global;
+use std::marker::Model;
+use truetime::Reading;
+use units::Fault;
+
+/// An input that was accepted, with the reading at which it came and what was put out.
+#[derive(Drop)]
+pub struct Page {
+    reading: Reading,
+    input: Input,
+    outbox: Outbox,
+}
+
+impl Model for Page {
+    ghost use Rattle.protocol.specs.Replay.{BookEntry};
+
+    ghost Value = { BookEntry };
+
+    ghost view = { λ p. record { input = p.input; now = p.reading; outbox = p.outbox } };
+}
+
+impl Page {
+    /// The page of an input, with memory of its own.
+    pub fn of(alloc: Global, now: &Reading, input: &Input, outbox: &Outbox) -> Result<Page, Fault>
+        ensures same { IfOk result (λ page. page ≡ record { input = input.now; now = now.now; outbox = outbox.now }) }
+        ensures memory { IfErr result (λ fault. fault ≡ Fault.Memory) }
+    {
+        let input = copy_input(alloc, input)?;
+        let outbox = copy_outbox(alloc, outbox)?;
+        Ok(Page {
+            reading: *now,
+            input,
+            outbox,
+        })
+    }
+
+    /// The reading at which it came.
+    pub fn reading(&self) -> Reading
+        ensures { result ≡ self.entry.now.now }
+    {
+        self.reading
+    }
+
+    /// The input.
+    pub fn input(&self) -> &Input
+        ensures { result.now ≡ self.entry.now.input }
+    {
+        &self.input
+    }
+
+    /// What was put out.
+    pub fn outbox(&self) -> &[Envelope]
+        ensures { result.now ≡ self.entry.now.outbox }
+    {
+        self.outbox.as_slice()
+    }
+}

@@ -1,0 +1,11 @@
+pub mod VersionLaws
+pub mod SerialOrder
+pub mod SortedLists
+pub mod HistoryByEntries
+pub mod WholeByEntries
+pub mod Numbers
+pub mod IdRuns
+pub mod KnownLaws
+pub mod AckLaws
+pub mod Sorting
+pub mod TallyLaws

@@ -1,6 +1,0 @@
-use Rattle.std.proofs.Common.{◌≡◌, ◌++◌, drop}
-use Rattle.inspector.specs.Acks.{raised}
-use Rattle.inspector.proofs.acks.raised.Given as goal
-
-abbrev pub invariant-loop-ack : goal.invariant-loop-ack
-invariant-loop-ack l = l.found.items ++ raised l.top (drop l.ack-index l.acks) ≡ raised 0 l.acks

@@ -1,0 +1,67 @@
+-- The logs that a run ends with are some that a crash may leave, and the lines that count are some of its lines.
+use Rattle.std.proofs.Common.{◌≡◌, ◌⊎◌, inl, inr, ℕ, zero, suc, Bool, true, false, cond, List, [], ◌∷◌, ◌++◌, map, filter, slice_get, Option, Some, None, refl, sym, ap, ◌∙◌, subst}
+use Rattle.std.proofs.lemmas.List.{append-nil}
+use Rattle.record.specs.Serially.{LooksSerially, OrderedByTime, ReadsSerially}
+use Rattle.record.specs.Verdict.{IsLine}
+use Rattle.units.specs.declared.line.Line.{Line}
+use Rattle.record.specs.declared.record.Record.{Record}
+use Rattle.record.specs.History.{history}
+use Rattle.world.specs.World.{ShardNow, Unsure, Nothing, Shown, Hidden, counted_lines, line_counts, logs_of, read_log, run, shown_records}
+use Rattle.world.specs.Headline.{IsExternallyConsistent, IsUnsure, MayLeaveLog, MayLeaveLogs}
+use Rattle.law.proofs.WholeLaw.{externally_consistent}
+use Rattle.playing.specs.Reports.{IsReport}
+use Rattle.reported.specs.Reported.{IsConsistentReport, ReportsAreConsistent}
+use Rattle.world.specs.declared.event.Config.{Config}
+use Rattle.world.specs.declared.event.Event.{Event}
+
+-- a read of the disk is one of the logs that a crash may leave
+may_leave : (s : ShardNow) → MayLeaveLog s (read_log s)
+may_leave s = by_unsure s.unsure refl
+  where
+    by_unsure : (u : Unsure) → s.unsure ≡ u → MayLeaveLog s (s.log ++ shown_records u)
+    by_unsure Nothing is = inl (append-nil s.log)
+    by_unsure (Shown r) is = inr (r, subst (λ u. IsUnsure u r) (sym is) refl, refl)
+    by_unsure (Hidden r) is = inl (append-nil s.log)
+
+all_may_leave : (ss : List ShardNow) → MayLeaveLogs ss (map read_log ss)
+all_may_leave [] = tt
+all_may_leave (s ∷ ss) = (may_leave s, all_may_leave ss)
+
+-- a line that is kept was there
+was_there : (p : Line → Bool) (ls : List Line) (l : Line) → IsLine (filter p ls) l → IsLine ls l
+was_there p [] l h = h
+was_there p (x ∷ ls) l h = by_test (p x) h
+  where
+    behind : IsLine ls l → IsLine (x ∷ ls) l
+    behind k = (suc k.0, k.1)
+
+    by_place : (i : ℕ) → slice_get (x ∷ filter p ls) i ≡ Some l → IsLine (x ∷ ls) l
+    by_place zero e = (zero, e)
+    by_place (suc i) e = behind (was_there p ls l (i, e))
+
+    by_test : (b : Bool) → IsLine (cond b (x ∷ filter p ls) (filter p ls)) l → IsLine (x ∷ ls) l
+    by_test true k = by_place k.0 k.1
+    by_test false k = behind (was_there p ls l k)
+
+-- what holds of lines holds of some of them
+fewer : (config : Config) (logs : List (List Record)) (lines some : List Line) → ((l : Line) → IsLine some l → IsLine lines l)
+    → IsExternallyConsistent config logs lines → IsExternallyConsistent config logs some
+fewer config logs lines some are h = record {
+  recovered = h.recovered;
+  acknowledged = λ t at m is. h.acknowledged t at m (are (Line.Ack t at m) is);
+  all_or_nothing = h.all_or_nothing;
+  looks = λ k at x is. h.looks k at x (are (Line.Look k at x) is);
+  reads = λ t k x u is found. h.reads t k x u (are (Line.Read t k x) is) found;
+  order = λ t u at m n x ack began before found. h.order t u at m n x (are (Line.Ack t at m) ack) (are (Line.Begin u n) began) before found;
+}
+
+pub consistent : ReportsAreConsistent
+unfolding logs_of counted_lines
+consistent config es r h = record {
+  on_disks = h.disks;
+  consistent = subst (λ logs. IsExternallyConsistent config logs r.lines.items) (sym h.logs)
+      (subst (IsExternallyConsistent config (logs_of (run config es))) (sym h.lines)
+      (fewer config (logs_of (run config es)) (run config es).lines (counted_lines (logs_of (run config es)) (run config es).lines)
+      (λ l is. was_there (line_counts (history (logs_of (run config es)))) (run config es).lines l is)
+      (externally_consistent config es (logs_of (run config es)) h.fair (inl (all_may_leave (run config es).shards)))));
+}

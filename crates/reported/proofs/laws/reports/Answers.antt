@@ -1,0 +1,5 @@
+use Rattle.reported.proofs.Consistent.{consistent}
+use Rattle.reported.proofs.laws.reports.Goals as goal
+
+pub returns : goal.returns
+returns c = consistent

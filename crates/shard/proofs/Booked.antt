@@ -1,0 +1,181 @@
+-- What a core whose book is full makes of an input, and what a book with a page more says of its core.
+use Rattle.std.proofs.Common.{◌≡◌, ◌⊎◌, inl, inr, ⊎_elim, ℕ, ◌≤◌, ◌<◌, ◌∙◌, ◌∷◌, [], ◌++◌, Bool, true, false, IsTrue, IsFalse, List, length, Option, Some, None, Result, Ok, Err, IfOk, IfErr, refl, sym, ap, subst, arith}
+use Rattle.std.proofs.Math.Logic.{∥∥₁_elim}
+use Rattle.std.proofs.Props.{props}
+use Rattle.std.proofs.lemmas.Bool.{cases_lt}
+use Rattle.units.specs.declared.fault.Fault.{Fault}
+use Rattle.units.specs.declared.fault.Fault.TheVariants.{Memory as WantsMemory, TimeSpent, BookFull}
+use Rattle.units.specs.declared.setup.Setup.{Setup}
+use Rattle.units.specs.declared.setup.Book.{Book}
+use Rattle.units.specs.declared.setup.Book.TheVariants.{Off, On}
+use Rattle.disk.specs.declared.plan.FailurePlan.{FailurePlan}
+use Rattle.disk.specs.File.{File}
+use Rattle.message.specs.declared.message.Envelope.{Envelope}
+use Rattle.message.specs.declared.message.Input.{Input}
+use Rattle.record.specs.Facts.{Facts, facts_of}
+use Rattle.record.specs.declared.record.Record.{Record}
+use Rattle.truetime.specs.Interval.{Interval}
+use Rattle.protocol.specs.Rows.{Memory, rebuilt}
+use Rattle.protocol.specs.Replay.{Stand}
+use Rattle.protocol.specs.Step.{Stepped, Refuses, Does, facts_after}
+use Rattle.book.specs.Books.{BookView, HasBookRoom, IsBookFull, IsBookOf, PageIsStep, Replays, new_book, with_page}
+use Rattle.shard.specs.Armed.{HasPlace}
+use Rattle.shard.specs.Booked.{IsCrowded, IsFullCause, stand_of}
+use Rattle.shard.specs.On.{CoreView, HasStepped, IsCause, IsDone, IsLogFull, StandsAsBefore, record_of, step_of}
+use Rattle.shard.specs.Opened.{next_opening}
+
+-- ---- where a book is full
+
+module _ {D : Type 0} (keeps obeys : Type 0) (file : D → File) (clock : D → ℕ) (since : D → ℕ → List ℕ → Type 0) (failures : D → ℕ) (plan : D → FailurePlan) where
+  -- what is refused before anything is done
+  pub crowded-refused : (core : CoreView D) (step : Stepped) (fault : Fault) → HasStepped keeps obeys file clock since failures plan core core step (Err fault)
+      → IsCrowded core core step (Err fault)
+  crowded-refused core step fault h = (refl, by_cause core.stopped step h.cause)
+    where
+      by_cause : (stopped : Bool) (s : Stepped)
+          → IsCause stopped s fault (IsLogFull core.gate (record_of s)) ((failures core.disk < failures core.disk) × IsTrue core.stopped)
+          → IsFullCause stopped core.gate s fault
+      by_cause true s because = because
+      by_cause false (Refuses why) because = because
+      by_cause false (Does logged memory out) (inl want) = inl want
+      by_cause false (Does logged memory out) (inr (inl spent)) = inr (inl spent)
+      by_cause false (Does logged memory out) (inr (inr device)) = absurd (omega (arith, device.1.0))
+
+-- why there is no page
+abbrev pub NoPage : ℕ → BookView → Option Record → Fault → Type 0
+NoPage gate b logged fault =
+    ((fault ≡ WantsMemory) × (length b.pages < b.capacity))
+    ⊎ ((b.capacity ≤ length b.pages) × (((fault ≡ TimeSpent) × IsLogFull gate logged) ⊎ ((fault ≡ BookFull) × HasPlace gate logged)))
+
+pub crowded-page : {D : Type 0} (core : CoreView D) (b : BookView) (logged : Option Record) (memory : Memory) (out : List Envelope) (fault : Fault)
+    → IsFalse core.stopped → NoPage core.gate b logged fault → IsCrowded core core (Does logged memory out) (Err fault)
+crowded-page core b logged memory out fault running none =
+    (refl, subst (λ s. IsFullCause s core.gate (Does logged memory out) fault) (sym running) (by_cause none))
+  where
+    by_cause : NoPage core.gate b logged fault → IsFullCause false core.gate (Does logged memory out) fault
+    by_cause (inl want) = inl want.0
+    by_cause (inr full) = inr full.1
+
+pub wants-memory : (gate : ℕ) (b : BookView) (logged : Option Record) (fault : Fault) → NoPage gate b logged fault → length b.pages < b.capacity → fault ≡ WantsMemory
+wants-memory gate b logged fault (inl want) room = want.0
+wants-memory gate b logged fault (inr full) room = absurd (omega (arith, full.0, room))
+
+-- ---- room, as its setup tells it
+
+pub room-in : (setup : Setup) (book : Option BookView) (b : BookView) (here : Stand) → ∥ IsBookOf setup book here ∥₁ → book ≡ Some b → HasBookRoom setup.book book
+    → length b.pages < b.capacity
+room-in setup book b here h is room =
+    ∥∥₁_elim h (hlevel props) (λ x.
+    subst (λ s. HasBookRoom s (Some b)) (subst (λ o. IsBookOf setup o here) is x).0 (subst (HasBookRoom setup.book) is room))
+
+pub full-in : (setup : Setup) (book : Option BookView) (b : BookView) (here : Stand) → ∥ IsBookOf setup book here ∥₁ → book ≡ Some b → IsBookFull setup.book book
+    → b.capacity ≤ length b.pages
+full-in setup book b here h is full =
+    ∥∥₁_elim h (hlevel props) (λ x.
+    subst (λ s. IsBookFull s (Some b)) (subst (λ o. IsBookOf setup o here) is x).0 (subst (IsBookFull setup.book) is full))
+
+-- a core that was told to keep no book always has room
+pub no-book : (setting : Book) (book : Option BookView) → setting ≡ Off → HasBookRoom setting book
+no-book setting book told = subst (λ s. HasBookRoom s book) (sym told) tt
+
+-- a book has room, or it is full
+pub room-or-full : (setting : Book) (book : Option BookView) → HasBookRoom setting book ⊎ IsBookFull setting book
+room-or-full Off book = inl tt
+room-or-full (On capacity) None = inl tt
+room-or-full (On capacity) (Some b) = cases_lt (length b.pages) capacity
+
+module _ {D : Type 0} (keeps obeys : Type 0) (file : D → File) (clock : D → ℕ) (since : D → ℕ → List ℕ → Type 0) (failures : D → ℕ) (plan : D → FailurePlan)
+    (old new : CoreView D) (step : Stepped) where
+  -- whether there is room or not: the step was done, or all stands as before
+  pub went : (Room Full : Type 0) → Room ⊎ Full → (result : Result (List Envelope) Fault)
+      → (Room → HasStepped keeps obeys file clock since failures plan old new step result) → (Full → IsCrowded old new step result)
+      → IfOk result (λ out. IsFalse old.stopped × IsFalse new.stopped × IsDone step old new out) × IfErr result (StandsAsBefore file old new)
+      × (new.setup ≡ old.setup)
+  went Room Full either (Ok out) stepped crowded =
+      ⊎_elim (λ room. ((stepped room).done, tt, (stepped room).written.setup)) (λ full. absurd (crowded full)) either
+  went Room Full either (Err fault) stepped crowded =
+      ⊎_elim (λ room. (tt, (stepped room).written.kept, (stepped room).written.setup))
+      (λ full. (tt, stands (crowded full).0, ap (λ (c : CoreView D). c.setup) (crowded full).0)) either
+    where
+      stands : new ≡ old → StandsAsBefore file old new fault
+      stands same = (
+        ap (λ (c : CoreView D). c.facts) same,
+        ap (λ (c : CoreView D). c.memory) same,
+        inr (ap (λ (c : CoreView D). c.stopped) same, ap (λ (c : CoreView D). c.gate) same, ap (λ (c : CoreView D). file c.disk) same),
+      )
+
+-- ---- a new book
+
+pub begun : (setup : Setup) (found : List Record) (book : Option BookView) (here : Stand) → book ≡ new_book setup.book found
+    → here ≡ record { facts = facts_of (found ++ next_opening found ∷ []); memory = rebuilt (facts_of (found ++ next_opening found ∷ [])) }
+    → IsBookOf setup book here
+begun setup found book here is stands = by_setting setup.book refl
+  where
+    by_setting : (s : Book) → setup.book ≡ s → IsBookOf setup book here
+    by_setting Off told = subst (λ b. IsBookOf setup b here) (sym (is ∙ ap (λ s. new_book s found) told)) told
+    by_setting (On capacity) told =
+        subst (λ b. IsBookOf setup b here) (sym (is ∙ ap (λ s. new_book s found) told))
+        (told, record { leads = sym stands; accepted = tt })
+
+-- an opening that found these leaves the shard here
+pub stands-at : (found : List Record) (facts : Facts) (memory : Memory) → facts ≡ facts_of (found ++ next_opening found ∷ []) → memory ≡ rebuilt facts
+    → ◌≡◌ {A = Stand} (record { facts = facts; memory = memory })
+    (record { facts = facts_of (found ++ next_opening found ∷ []); memory = rebuilt (facts_of (found ++ next_opening found ∷ [])) })
+stands-at found facts memory is_facts is_memory =
+    let again : memory ≡ rebuilt (facts_of (found ++ next_opening found ∷ [])) = is_memory ∙ ap rebuilt is_facts in
+    λ j. record { facts = is_facts j; memory = again j }
+
+-- ---- what stands after an input
+
+-- it is refused
+pub still-of : (setup told : Setup) (b book : Option BookView) (facts known : Facts) (memory kept : Memory) → setup ≡ told → b ≡ book → facts ≡ known → memory ≡ kept
+    → IsBookOf told book (record { facts = known; memory = kept }) → IsBookOf setup b (record { facts = facts; memory = memory })
+still-of setup told b book facts known memory kept same also is_facts is_memory h =
+    subst (λ s. IsBookOf s b (record { facts = facts; memory = memory })) (sym same)
+    (subst (λ x. IsBookOf told x (record { facts = facts; memory = memory })) (sym also)
+    (subst (λ f. IsBookOf told book (record { facts = f; memory = memory })) (sym is_facts)
+    (subst (λ m. IsBookOf told book (record { facts = known; memory = m })) (sym is_memory) h)))
+
+-- it is taken
+pub page-of : PageIsStep → {D : Type 0} (old new : CoreView D) (b : BookView) (now : Interval) (i : Input) (logged : Option Record) (memory : Memory)
+    (out : List Envelope) → step_of old now i ≡ Does logged memory out → new.setup ≡ old.setup → new.facts ≡ facts_after old.facts logged → new.memory ≡ memory
+    → IsBookOf old.setup (Some b) (stand_of old)
+    → IsBookOf new.setup (Some (with_page b (record { input = i; now = now; outbox = out }))) (stand_of new)
+page-of law old new b now i logged memory out does same facts after h =
+    subst (λ s. IsBookOf s (Some (with_page b (record { input = i; now = now; outbox = out }))) (stand_of new)) (sym same) (
+      h.0,
+      subst (Replays old.setup (with_page b (record { input = i; now = now; outbox = out }))) (λ j. record { facts = sym facts j; memory = sym after j })
+          (law old.setup b (stand_of old) (record { input = i; now = now; outbox = out }) logged memory h.1 does),
+    )
+
+-- it is taken, or refused
+pub kept-book : PageIsStep → {D : Type 0} (file : D → File) (old new : CoreView D) (b after : BookView) (now : Interval) (i : Input) (logged : Option Record)
+    (memory : Memory) (outbox : List Envelope) (result : Result (List Envelope) Fault) → step_of old now i ≡ Does logged memory outbox
+    → IfOk result (λ out. IsFalse old.stopped × IsFalse new.stopped × IsDone (Does logged memory outbox) old new out)
+    → IfErr result (StandsAsBefore file old new) → new.setup ≡ old.setup
+    → IfOk result (λ out. after ≡ with_page b (record { input = i; now = now; outbox = out })) → IfErr result (λ fault. after ≡ b)
+    → IsBookOf old.setup (Some b) (stand_of old) → IsBookOf new.setup (Some after) (stand_of new)
+kept-book law file old new b after now i logged memory outbox (Ok out) does done kept same page stays h =
+    subst (λ (x : BookView). IsBookOf new.setup (Some x) (stand_of new)) (sym page)
+    (page-of law old new b now i logged memory out (does ∙ ap (Does logged memory) (sym done.2.2)) same done.2.0 done.2.1 h)
+kept-book law file old new b after now i logged memory outbox (Err fault) does done kept same page stays h =
+    still-of new.setup old.setup (Some after) (Some b) new.facts old.facts new.memory old.memory same (ap (λ (x : BookView). Some x) stays) kept.0 kept.1 h
+
+-- ---- a machine that was made, with its book
+
+pub through : {C M E : Type 0} (made : Result M E) (result : Result C E) (machine : C → M) (B : C → Type 0) (Z : M → Type 0)
+    → IfOk result (λ core. (made ≡ Ok (machine core)) × B core) → IfOk made Z → IfOk result (λ core. Z (machine core))
+through made (Ok core) machine B Z is h = subst (λ r. IfOk r Z) is.0 h
+through made (Err e) machine B Z is h = tt
+
+pub not-through : {C M E : Type 0} (made : Result M E) (result : Result C E) (Z : E → Type 0) → IfErr result (λ e. made ≡ Err e) → IfErr made Z → IfErr result Z
+not-through made (Ok core) Z is h = tt
+not-through made (Err e) Z is h = subst (λ r. IfErr r Z) is h
+
+-- the records of a disk are those that were found
+pub found-in : (setup : Setup) (found : List Record) (book : Option BookView) (read : Result (List Record) Fault) → read ≡ Ok found
+    → book ≡ new_book setup.book found → (records : List Record) → read ≡ Ok records → book ≡ new_book setup.book records
+found-in setup found book read these is records those =
+    let both : Ok found ≡ Ok records = sym these ∙ those in
+    let same : found ≡ records = cc in
+    is ∙ ap (new_book setup.book) same

@@ -1,0 +1,55 @@
+use Rattle.std.proofs.Common.{rules, sym, subst, ◌≡◌, ◌∙◌, ◌+◌, [], Some, ap, arith}
+use Rattle.protocol.specs.Plan as protocol
+use Rattle.memory.specs.Plans.{plan_of}
+use Rattle.record.specs.declared.record.Record.{Record}
+use Rattle.disk.specs.File.{surface}
+use Rattle.gatelog.specs.Shown.{disk_of, gate_at}
+use Rattle.shard.specs.Armed.{FailsIn}
+use Rattle.shard.specs.Core.{seen_machine}
+use Rattle.shard.specs.Logs.{records_in}
+use Rattle.shard.proofs.Openings.{opened_memory, opening_due}
+use Rattle.shard.proofs.machine.Machine.take_up.Goals as goal
+
+pub carry_out-requires-clause-due : goal.carry_out-requires-clause-due
+carry_out-requires-clause-due g c =
+    let k = c.args.state in
+    let epoch : c.in-Ok.epoch ≡ k.facts.epoch + 1 = c.in-Ok.ensures.0 ∙ ap (λ n. n + 1) c.epoch.ensures in
+    opening_due c.opening_keeps_sound.ensures k c.serves-plan.result c.last-last.result c.requires.rebuilt c.requires.sound c.requires.showable c.last-last.ensures
+    c.serves-plan.ensures.fit
+    (c.serves-plan.ensures.plan ∙ ap (λ n. record {
+      wounded = [];
+      change = protocol.Keeps;
+      logged = Some (Record.Opened n);
+      last =
+          c.last-last.result;
+      outbox = [];
+    }) epoch)
+
+pub returns-clause-memory : goal.returns-clause-memory
+returns-clause-memory g c =
+    let k = c.args.state in
+    c.in-Ok-carry_out.ensures.done.2.1
+    ∙ opened_memory k (plan_of k.memory.rows c.serves-plan.result) c.last-last.result _ c.requires.rebuilt c.last-last.ensures c.serves-plan.ensures.plan
+
+pub returns-in-Err-carry_out-clause-refused : goal.returns-in-Err-carry_out-clause-refused
+returns-in-Err-carry_out-clause-refused g c =
+    let k = c.args.state in
+    let before = records_in (surface (g.D.Disk.file (disk_of c.args.gate_log))).seen in
+    let gate = gate_at c.args.gate_log in
+    let fault = c.in-Err-carry_out.fault in
+    let left = (seen_machine c.carry_out.new.self).disk in
+    let epoch : c.in-Ok.epoch ≡ k.facts.epoch + 1 = c.in-Ok.ensures.0 ∙ ap (λ n. n + 1) c.epoch.ensures in
+    let logged : c.serves-plan.result.logged ≡ Some (Record.Opened (k.facts.epoch + 1)) =
+    ap (λ (p : protocol.Plan). p.logged) c.serves-plan.ensures.plan ∙ ap (λ n. Some (Record.Opened n)) epoch in
+    let back : c.stop-in-Err-carry_out.result ≡ left = (search rules) in
+    record {
+      cause = (search rules);
+      any_moment = (search rules);
+      unchanged = (search rules);
+      epoch = λ device. omega (arith, c.in-Ok.ensures.1, c.epoch.ensures);
+      planned = (search rules);
+      armed = λ call obey keep is.
+          subst (λ d. FailsIn call gate before (Some (Record.Opened (k.facts.epoch + 1))) (g.D.Disk.file d) fault) (sym back)
+          (subst (λ l. FailsIn call gate before l (g.D.Disk.file left) fault) logged
+          ((c.in-Err-carry_out.ensures.written.armed call c.requires.running obey keep is).1));
+    }

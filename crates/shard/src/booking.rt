@@ -1,0 +1,113 @@
+//! The book of a core: begun at its opening, with a page for each input that is taken.
+ghost use Rattle.std.specs.Prelude.{◌≡◌, ◌⊎◌, ◌<◌, ◌≤◌, length, IsFalse, IfOk, IfErr, OnOk};
+ghost use Rattle.disk.specs.File.{surface};
+ghost use Rattle.book.specs.Books.{new_book, with_page};
+ghost use Rattle.memory.specs.Plans.{plan_of};
+ghost use Rattle.protocol.specs.Plan.{carried};
+ghost use Rattle.protocol.specs.Step.{Does, facts_after};
+ghost use Rattle.recovery.specs.Recovered.{items};
+ghost use Rattle.shard.specs.Armed.{HasPlace};
+ghost use Rattle.shard.specs.Booked.{IsCrowded};
+ghost use Rattle.shard.specs.Core.{seen_machine};
+ghost use Rattle.shard.specs.Due.{IsDue};
+ghost use Rattle.shard.specs.Logs.{records_in, and_logged, KeepsRecords};
+ghost use Rattle.shard.specs.On.{HasStepped, IsLogFull};
+
+use crate::machine::Machine;
+use book::{Book, Page};
+use disk::Disk;
+use gatelog::Entry;
+use memory::Plan;
+use message::{Input, Outbox};
+use record::Record;
+use std::alloc::Global;
+use truetime::Reading;
+use units::{Book as Setting, Fault};
+
+// The book of a shard that was told this, whose opening found these entries.
+pub(crate) fn begin_book(
+    alloc: Global,
+    setting: Setting,
+    entries: &[Entry],
+) -> Result<Option<Book>, Fault>
+    ensures new { IfOk result (λ book. book ≡ new_book setting (items entries.now)) }
+    ensures memory { IfErr result (λ fault. fault ≡ Fault.Memory) }
+{
+    match setting {
+        Setting::Off => Ok(None),
+        Setting::On(capacity) => {
+            let found = records_of(alloc, entries)?;
+            Ok(Some(Book::new(alloc, capacity, found)?))
+        }
+    }
+}
+
+// The records of some entries, with memory of their own.
+fn records_of(alloc: Global, entries: &[Entry]) -> Result<Vec<Record>, Fault>
+    ensures same { IfOk result (λ records. records.items ≡ items entries.now) }
+    ensures memory { IfErr result (λ fault. fault ≡ Fault.Memory) }
+{
+    let mut records = Vec::new(alloc);
+    for entry in entries {
+        records.push(entry.item().copy(alloc)?)?;
+    }
+    Ok(records)
+}
+
+// The page of an input that would be taken. Its memory is taken here.
+fn page_of<D: Disk>(
+    machine: &Machine<D>,
+    book: &Book,
+    alloc: Global,
+    now: &Reading,
+    input: &Input,
+    plan: &Plan,
+) -> Result<Page, Fault>
+    ensures page { IfOk result (λ page. page ≡ record { input = input.now; now = now.now; outbox = plan.now.outbox }) }
+    ensures room { OnOk result (length book.now.pages < book.now.capacity) }
+    ensures cause { IfErr result (λ fault. ((fault ≡ Fault.Memory) × (length book.now.pages < book.now.capacity))
+        ⊎ ((book.now.capacity ≤ length book.now.pages) × (((fault ≡ Fault.TimeSpent) × IsLogFull (seen_machine machine.now).gate plan.now.logged)
+        ⊎ ((fault ≡ Fault.BookFull) × HasPlace (seen_machine machine.now).gate plan.now.logged)))) }
+{
+    if book.is_full() {
+        return Err(machine.crowded(plan));
+    }
+    Page::of(alloc, now, input, &plan.outbox)
+}
+
+// Carries out the plan of an input, and keeps its page. All memory is taken before.
+pub(crate) fn write_page<D: Disk>(
+    machine: &mut Machine<D>,
+    book: &mut Book,
+    alloc: Global,
+    now: &Reading,
+    input: &Input,
+    plan: Plan,
+) -> Result<Outbox, Fault>
+    requires running { IsFalse (seen_machine machine.old).stopped }
+    requires stands { D.keeps_model → KeepsRecords (surface (D.file (seen_machine machine.old).disk)) (records_in (surface (D.file (seen_machine machine.old).disk)).seen) }
+    requires due { IsDue machine.old.state plan }
+    ensures room { OnOk result (length book.old.pages < book.old.capacity) }
+    ensures stepped { length book.old.pages < book.old.capacity →
+        HasStepped D.keeps_model D.obeys D.file D.clock D.since D.failures D.plan (seen_machine machine.old) (seen_machine machine.new)
+        (Does plan.logged (carried (plan_of machine.old.state.memory.rows plan) machine.old.state.memory) plan.outbox) result }
+    ensures crowded { book.old.capacity ≤ length book.old.pages → IsCrowded (seen_machine machine.old) (seen_machine machine.new)
+        (Does plan.logged (carried (plan_of machine.old.state.memory.rows plan) machine.old.state.memory) plan.outbox) result }
+    ensures durable { OnOk result (D.keeps_model → KeepsRecords (surface (D.file (seen_machine machine.new).disk))
+        (and_logged (records_in (surface (D.file (seen_machine machine.old).disk)).seen) plan.logged)) }
+    ensures out { IfOk result (λ out. out ≡ plan.outbox) }
+    ensures page { IfOk result (λ out. book.new ≡ with_page book.old (record { input = input.now; now = now.now; outbox = out })) }
+    ensures kept { IfErr result (λ fault. book.new ≡ book.old) }
+{
+    let page = match page_of(machine, book, alloc, now, input, &plan) {
+        Ok(page) => page,
+        Err(fault) => return Err(fault),
+    };
+    match machine.carry_out(alloc, plan) {
+        Ok(outbox) => {
+            book.push(page);
+            Ok(outbox)
+        }
+        Err(fault) => Err(fault),
+    }
+}

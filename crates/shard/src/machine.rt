@@ -1,0 +1,190 @@
+//! The log of a shard, and what stands in memory by it.
+ghost use Rattle.std.specs.Prelude.{◌≡◌, ◌⊎◌, ◌<◌, ◌+◌, ◌^◌, [], ◌∷◌, Some, Ok, Err, IsFalse, IfOk, IfErr, OnOk, ◌≤◌};
+ghost use Rattle.disk.specs.File.{surface};
+ghost use Rattle.gatelog.specs.Frames.{IsFull};
+ghost use Rattle.gatelog.specs.Shown.{disk_of, gate_at, is_stopped};
+ghost use Rattle.memory.specs.Kept.{start_of};
+ghost use Rattle.memory.specs.Plans.{plan_of};
+ghost use Rattle.protocol.specs.Rows.{rebuilt};
+ghost use Rattle.protocol.specs.Plan.{carried};
+ghost use Rattle.protocol.specs.Step.{Does, plan_input};
+ghost use Rattle.protocol.specs.Sound.{IsSound};
+ghost use Rattle.record.specs.Facts.{facts_of, learn};
+ghost use Rattle.serving.specs.Showable.{IsShowable};
+ghost use Rattle.shard.specs.Armed.{HasPlace};
+ghost use Rattle.shard.specs.Due.{IsDue};
+ghost use Rattle.shard.specs.Logs.{records_in, facts_logged, KeepsRecords};
+ghost use Rattle.shard.specs.On.{HasStepped, IsLogFull, step_of};
+ghost use Rattle.shard.specs.Opened.{HasAppended, HasNotAppended};
+
+use crate::logging::append_record;
+use crate::planning::plan_input;
+use disk::Disk;
+use gatelog::GateLog;
+use memory::{Plan, State, ready_plans_can_be_carried};
+use message::{Input, Outbox};
+use protocol::{
+    fresh_is_sound, installs_above, logged_follows, opening_keeps_sound, own_refusals,
+    step_keeps_sound,
+};
+use record::Record;
+use serving::{fresh_is_showable, step_keeps_showable, writes_ascend};
+use std::alloc::Global;
+use truetime::Reading;
+use units::{Epoch, Fault, Setup};
+
+// The log of a shard, and what stands in memory by it. Once a device call has failed in it, it is stopped. It has to be
+// spent, by `stop`.
+pub(crate) struct Machine<D: Disk> {
+    pub(crate) gate_log: GateLog<D>,
+    pub(crate) state: State,
+    ghost agrees: { IsFalse (is_stopped gate_log) → D.keeps_model → facts_logged (records_in (surface (D.file (disk_of gate_log))).seen) ≡ Some state.facts },
+    ghost sound: { ∥ IsSound state.setup.shard state.facts state.memory ∥₁ },
+    ghost showable: { IsShowable state.facts state.memory },
+}
+
+impl<D: Disk> Machine<D> {
+    ghost use Rattle.shard.specs.Core.{seen_machine};
+
+    // What an input comes to, told before anything is changed; or why it is refused.
+    pub(crate) fn plan(&self, alloc: Global, now: &Reading, input: &Input) -> Result<Plan, Fault>
+        ensures running { OnOk result (IsFalse (seen_machine self.now).stopped) }
+        ensures stands { OnOk result (D.keeps_model → KeepsRecords (surface (D.file (seen_machine self.now).disk)) (records_in (surface (D.file (seen_machine self.now).disk)).seen)) }
+        ensures planned { IfOk result (λ plan. plan_input self.now.state.setup (start_of self.now.state) now.now input.now ≡ Ok (plan_of self.now.state.memory.rows plan)) }
+        ensures due { IfOk result (IsDue self.now.state) }
+        ensures refused { IfErr result (λ fault. HasStepped D.keeps_model D.obeys D.file D.clock D.since D.failures D.plan (seen_machine self.now) (seen_machine self.now)
+            (step_of (seen_machine self.now) now.now input.now) (Err fault)) }
+    {
+        step_keeps_sound();
+        step_keeps_showable();
+        logged_follows();
+        installs_above();
+        own_refusals();
+        writes_ascend(input);
+        if self.gate_log.is_stopped() {
+            return Err(Fault::Stopped);
+        }
+        plan_input(&self.state, alloc, now, input)
+    }
+
+    // Why a plan is refused where there is no room for its page: the log has none for its record, or else the book.
+    pub(crate) fn crowded(&self, plan: &Plan) -> Fault
+        ensures { ((result ≡ Fault.TimeSpent) × IsLogFull (seen_machine self.now).gate plan.now.logged)
+            ⊎ ((result ≡ Fault.BookFull) × HasPlace (seen_machine self.now).gate plan.now.logged) }
+    {
+        match &plan.logged {
+            Some(item) if !self.gate_log.has_place(item) => Fault::TimeSpent,
+            Some(_) | None => Fault::BookFull,
+        }
+    }
+
+    // Logs the record of a plan, where it has one, and carries the plan out. All memory is taken before.
+    pub(crate) fn carry_out(&mut self, alloc: Global, plan: Plan) -> Result<Outbox, Fault>
+        requires running { IsFalse (seen_machine self.old).stopped }
+        requires stands { D.keeps_model → KeepsRecords (surface (D.file (seen_machine self.old).disk)) (records_in (surface (D.file (seen_machine self.old).disk)).seen) }
+        requires due { IsDue self.old.state plan }
+        ensures { HasStepped D.keeps_model D.obeys D.file D.clock D.since D.failures D.plan (seen_machine self.old) (seen_machine self.new)
+            (Does plan.logged (carried (plan_of self.old.state.memory.rows plan) self.old.state.memory) plan.outbox) result }
+    {
+        ready_plans_can_be_carried();
+        let ready = match self.state.make_ready(alloc, &plan) {
+            Ok(ready) => ready,
+            Err(fault) => return Err(fault),
+        };
+        let Some(item) = &plan.logged else {
+            return Ok(self.state.carry(plan, ready, None));
+        };
+        match append_record(&mut self.gate_log, alloc, item) {
+            Ok(logged) => Ok(self.state.carry(plan, ready, Some(logged))),
+            Err(fault) => {
+                self.state.undo(&plan, ready);
+                Err(fault)
+            }
+        }
+    }
+
+    // A machine of a log without records, to which the first opening is added.
+    pub(crate) fn begin(
+        alloc: Global,
+        gate_log: GateLog<D>,
+        setup: Setup,
+    ) -> Result<Machine<D>, (Fault, D)>
+        requires running { IsFalse (is_stopped gate_log) }
+        requires empty { D.keeps_model → records_in (surface (D.file (disk_of gate_log))).seen ≡ Ok [] }
+        ensures setup { IfOk result (λ machine. (seen_machine machine).setup ≡ setup) }
+        ensures facts { IfOk result (λ machine. (seen_machine machine).facts ≡ facts_of (Record.Opened 1 ∷ [])) }
+        ensures memory { IfOk result (λ machine. (seen_machine machine).memory ≡ record { last = 0; rows = []; ended = [] }) }
+        ensures appended { IfOk result (λ machine. HasAppended D.keeps_model D.obeys D.file D.clock D.since D.failures D.plan (disk_of gate_log) (gate_at gate_log) (Record.Opened 1) (seen_machine machine)) }
+        ensures refused { IfErr result (λ refused. HasNotAppended D.keeps_model D.obeys D.file D.clock D.since D.failures D.plan (disk_of gate_log) (gate_at gate_log)
+            (Record.Opened 1) (IsFull (gate_at gate_log) (Record.Opened 1)) refused.0 refused.1) }
+    {
+        fresh_is_sound();
+        fresh_is_showable();
+        let state = match State::fresh(alloc, setup) {
+            Ok(state) => state,
+            Err(fault) => return Err((fault, gate_log.into_disk())),
+        };
+        let mut gate_log = gate_log;
+        let first = Record::Opened {
+            epoch: Epoch::first(),
+        };
+        match append_record(&mut gate_log, alloc, &first) {
+            Ok(logged) => {
+                let _ = logged.spend();
+                Ok(Machine { gate_log, state })
+            }
+            Err(fault) => {
+                state.stop();
+                Err((fault, gate_log.into_disk()))
+            }
+        }
+    }
+
+    // A machine of a log and of what its records leave, to which the next opening is added.
+    pub(crate) fn take_up(
+        alloc: Global,
+        gate_log: GateLog<D>,
+        state: State,
+    ) -> Result<Machine<D>, (Fault, D)>
+        requires running { IsFalse (is_stopped gate_log) }
+        requires stands { D.keeps_model → KeepsRecords (surface (D.file (disk_of gate_log))) (records_in (surface (D.file (disk_of gate_log))).seen) }
+        requires known { D.keeps_model → facts_logged (records_in (surface (D.file (disk_of gate_log))).seen) ≡ Some state.facts }
+        requires rebuilt { state.memory ≡ rebuilt state.facts }
+        requires sound { IsSound state.setup.shard state.facts state.memory }
+        requires showable { IsShowable state.facts state.memory }
+        ensures setup { IfOk result (λ machine. (seen_machine machine).setup ≡ state.setup) }
+        ensures facts { IfOk result (λ machine. (seen_machine machine).facts ≡ learn state.facts (Record.Opened (state.facts.epoch + 1))) }
+        ensures memory { IfOk result (λ machine. (seen_machine machine).memory ≡ rebuilt (learn state.facts (Record.Opened (state.facts.epoch + 1)))) }
+        ensures appended { IfOk result (λ machine. HasAppended D.keeps_model D.obeys D.file D.clock D.since D.failures D.plan (disk_of gate_log) (gate_at gate_log) (Record.Opened (state.facts.epoch + 1)) (seen_machine machine)) }
+        ensures refused { IfErr result (λ refused. HasNotAppended D.keeps_model D.obeys D.file D.clock D.since D.failures D.plan (disk_of gate_log) (gate_at gate_log)
+            (Record.Opened (state.facts.epoch + 1)) ((2 ^ 62 ≤ state.facts.epoch + 1) ⊎ IsFull (gate_at gate_log) (Record.Opened (state.facts.epoch + 1))) refused.0 refused.1) }
+    {
+        opening_keeps_sound();
+        let epoch = match state.epoch().next() {
+            Ok(epoch) => epoch,
+            Err(fault) => {
+                state.stop();
+                return Err((fault, gate_log.into_disk()));
+            }
+        };
+        let mut machine = Machine { gate_log, state };
+        let last = machine.state.last();
+        let plan = machine
+            .state
+            .serves(alloc, Some(Record::Opened { epoch }), last);
+        match machine.carry_out(alloc, plan) {
+            Ok(_) => {}
+            Err(fault) => return Err((fault, machine.stop())),
+        }
+        Ok(machine)
+    }
+
+    // Ends it, and gives its disk back as it is.
+    pub(crate) fn stop(self) -> D
+        ensures { result ≡ (seen_machine self).disk }
+    {
+        let Machine { gate_log, state } = self;
+        state.stop();
+        gate_log.into_disk()
+    }
+}
