@@ -281,8 +281,8 @@ const SETTLED_WANTED: Wanted<'static> = Wanted {
     lines: &["begin 1.2 0", "ack 1.2 200 12"],
 };
 
-// Openings that are not over. What the third call wrote of the first is kept, and so is the second, of which only the last
-// call fails. The failure behind the last call of the fifth does not come.
+// Openings that are cut short. The record of the first is kept, since the crash in its last call makes its open gate whole, and
+// so is that of the second, of which that call fails. The failure of a call that the fifth does not make does not come.
 const OPENINGS: [Timed; 11] = [
     (100, Step::Crash(0)),
     (101, Step::CrashIn(0, 3, Fate::New, At::Open(0))),
@@ -367,7 +367,7 @@ static CASES: [Case<'static>; 7] = [
         wanted: &SETTLED_WANTED,
     },
     Case {
-        name: "openings that are not over",
+        name: "openings that are cut short",
         shape: TWO,
         steps: &OPENINGS,
         taken: 11,

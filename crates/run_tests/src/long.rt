@@ -5,6 +5,7 @@ ghost use Rattle.std.specs.Prelude.{◌<◌, ◌^◌};
 use crate::runs::{Shape, run};
 use crate::steps::{At, Step, Timed};
 use disk::Fate;
+use record::Record;
 use std::alloc::Global;
 use std::test::Fail;
 use units::{Fault, Line};
@@ -196,6 +197,28 @@ fn are_wanted(replies: &[Reply]) -> bool {
     true
 }
 
+// How many openings and outcomes there are among records.
+fn with_counts(counts: (u32, u32), log: &[Record]) -> (u32, u32) {
+    let (mut openings, mut outcomes) = counts;
+    for item in log {
+        match item {
+            Record::Opened { .. } => openings = openings.saturating_add(1),
+            Record::Outcome { .. } => outcomes = outcomes.saturating_add(1),
+            _ => {}
+        }
+    }
+    (openings, outcomes)
+}
+
+fn counts_of(logs: &[Vec<Record>]) -> (u32, u32) {
+    let mut counts = (0, 0);
+    for log in logs {
+        counts = with_counts(counts, log);
+    }
+    counts
+}
+
+// Each of the two shards of a transaction has its outcome, and each stop made one opening more.
 #[test]
 fn ten_thousand_events(rt: HostRuntime) -> Result<(), Fail> {
     let alloc = rt.alloc();
@@ -205,5 +228,6 @@ fn ten_thousand_events(rt: HostRuntime) -> Result<(), Fail> {
     assert!(rt; are_wanted(&report.replies));
     assert_eq!(rt; report.lines.len(), 2_000);
     assert!(rt; are_acknowledgements(&report.lines));
+    assert_eq!(rt; counts_of(&report.logs), (51, 2_000));
     Ok(())
 }
