@@ -14,7 +14,7 @@ struct Played {
     status: u8,
 }
 
-static PLAYED: [Played; 14] = [
+static PLAYED: [Played; 17] = [
     Played {
         name: "a commit at one shard",
         bytes: b"shards 2
@@ -98,7 +98,7 @@ verdict yes
         status: 0,
     },
     Played {
-        name: "each kind of event but for crashes, failing calls and openings",
+        name: "each kind of event of sessions, and of shards that stay up",
         bytes: b"shards 2
 split m
 stride 50
@@ -269,11 +269,184 @@ verdict yes
         status: 2,
     },
     Played {
-        name: "a crash, which is not played yet",
+        name: "a crash and an opening",
         bytes: b"shards 1\nstride 0\n100 begin 1.1\n101 crash 0\n102 open 0\n",
+        printed: "event 0 ok
+event 1 crashed
+event 2 ok
+log 0
+opened 1
+opened 2
+lines
+begin 1.1 0
+verdict yes
+",
+        refused: "",
+        status: 0,
+    },
+    Played {
+        name: "an opening of a shard that is up",
+        bytes: b"shards 1\nstride 0\n100 begin 1.1\n101 open 0\n",
         printed: "",
         refused: "fault: 7 BadRequest(unlawful 1)\n",
         status: 2,
+    },
+    Played {
+        name: "a crash of one shard in an event of another",
+        bytes: b"shards 2\nsplit m\nstride 0\n100 begin 1.1\n101 crash 0 0 old resume 1 90 110\n",
+        printed: "",
+        refused: "fault: 7 BadRequest(unlawful 1)\n",
+        status: 2,
+    },
+    Played {
+        name: "each kind of event, with crashes and failing calls",
+        bytes: b"shards 2
+split m
+stride 0
+100 begin 1.1
+100 write 1.1 a 1
+100 write 1.1 z 2
+100 close 1.1
+105 deliver 0 100 110
+106 fail 1 0 deliver 1 100 110
+107 look 1 z 0
+108 resume 1 100 110
+109 open 1
+205 crash 1 2 new deliver 1 200 210
+206 look 1 z 0
+206 view 1 0 z 0
+207 crash 1 3 37 open 1
+208 fail 1 1 open 1
+209 open 1
+210 look 1 z 199
+210 look 1 z 200
+211 nudge 1 1.1 205 215
+212 deliver 2 205 215
+305 deliver 1 300 310
+306 deliver 3 300 310
+310 crash 0
+311 open 0
+315 crash 0 4 old settle 0 1.1 310 320
+316 open 0
+317 deliver 0 310 320
+318 deliver 2 310 320
+319 fail 1 3 deliver 5 310 320
+320 crash 1 0 new resume 1 315 325
+321 open 1
+322 look 1 z 200
+323 fail 0 9 advance 0 330 320 330
+324 look 0 a 330
+325 deliver 4 320 330
+330 begin 1.2
+330 erase 1.2 a
+330 read 1.2 z
+331 deliver 6 330 340
+332 deliver 7 330 340
+333 close 1.2
+334 crash 1
+335 open 1
+336 deliver 9 330 340
+337 deliver 8 330 340
+338 deliver 10 330 340
+339 quit 1.2
+340 deliver 11 330 340
+345 advance 1 340 340 350
+346 settle 0 1.1 340 350
+",
+        printed: "event 0 ok
+event 1 ok
+event 2 ok
+event 3 ok
+put 0 shard 0 commit 1.1 0,1 0 - a=1
+put 1 shard 1 prepare 1.1 0 0 - z=2
+event 4 ok
+event 5 refused 2 Device
+event 6 none
+event 7 refused 3 Stopped
+event 8 ok
+event 9 crashed
+event 10 refused 3 Stopped
+event 11 none
+event 12 crashed
+event 13 refused 2 Device
+event 14 ok
+event 15 none
+event 16 refused 9 NotYet
+event 17 ok
+put 2 shard 0 ask 1 1.1
+event 18 ok
+event 19 ok
+put 3 shard 0 vote 1 1.1 yes 200
+event 20 ok
+event 21 crashed
+event 22 ok
+event 23 crashed
+event 24 ok
+event 25 ok
+put 4 session 1.1 done 1.1 committed 200
+event 26 ok
+put 5 shard 1 outcome 0 1.1 committed 200
+event 27 refused 2 Device
+event 28 crashed
+event 29 ok
+event 30 =2
+event 31 ok
+event 32 =1
+event 33 ok
+event 34 ok
+event 35 ok
+event 36 ok
+put 6 shard 1 read 1.2 z
+event 37 ok
+put 7 session 1.2 answer 1 1.2 z 4 =2
+event 38 ok
+event 39 ok
+put 8 shard 0 commit 1.2 0,1 0 - a!
+put 9 shard 1 prepare 1.2 0 4 z -
+event 40 crashed
+event 41 ok
+event 42 ok
+put 10 shard 0 vote 1 1.2 refused
+event 43 ok
+event 44 ok
+put 11 session 1.2 done 1.2 aborted
+put 12 shard 1 outcome 0 1.2 aborted
+event 45 ok
+put 13 shard 0 giveup 1.2
+put 14 shard 1 giveup 1.2
+event 46 refused 14 Stranger
+event 47 ok
+event 48 refused 14 Stranger
+log 0
+opened 1
+commit 1.1 200 0,1 - a=1
+opened 2
+outcome 1.1 committed 200
+opened 3
+ceiling 330
+abort 1.2
+log 1
+opened 1
+opened 2
+prepare 1.1 0 200 - z=2
+opened 3
+outcome 1.1 committed 200
+opened 4
+opened 5
+ceiling 340
+lines
+begin 1.1 0
+look z 0 none
+look z 0 none
+look z 199 none
+ack 1.1 200 25
+look z 200 =2
+look a 330 =1
+begin 1.2 34
+verdict yes
+",
+        refused: "",
+        status: 0,
     },
     Played {
         name: "an event that may not happen, before a crash",

@@ -1,5 +1,6 @@
 //! Runs of which a part counts most: a promise, an outcome that comes twice, a question, a vote that comes first.
 use crate::comparing::{Case, Wanted, compare};
+use crate::runs::{THREE, TWO};
 use crate::steps::{Step, Timed};
 use std::test::Fail;
 
@@ -329,70 +330,70 @@ const VIEWED_WANTED: Wanted<'static> = Wanted {
 static CASES: [Case<'static>; 10] = [
     Case {
         name: "a promise holds the served time",
-        splits: b"m",
+        shape: TWO,
         steps: &PROMISED,
         taken: 9,
         wanted: &PROMISED_WANTED,
     },
     Case {
         name: "an outcome comes twice",
-        splits: b"m",
+        shape: TWO,
         steps: &TOLD_TWICE,
         taken: 11,
         wanted: &TOLD_TWICE_WANTED,
     },
     Case {
         name: "a question before the commit",
-        splits: b"m",
+        shape: TWO,
         steps: &ASKED,
         taken: 8,
         wanted: &ASKED_WANTED,
     },
     Case {
         name: "two shards decide apart",
-        splits: b"m",
+        shape: TWO,
         steps: &APART,
         taken: 8,
         wanted: &APART_WANTED,
     },
     Case {
         name: "a vote before the commit",
-        splits: b"m",
+        shape: TWO,
         steps: &VOTE_FIRST,
         taken: 8,
         wanted: &VOTE_IGNORED_WANTED,
     },
     Case {
         name: "the vote once more",
-        splits: b"m",
+        shape: TWO,
         steps: &VOTE_FIRST,
         taken: 9,
         wanted: &VOTE_COUNTED_WANTED,
     },
     Case {
         name: "the first vote is the greatest",
-        splits: b"ms",
+        shape: THREE,
         steps: &THREE_PARTS,
         taken: 13,
         wanted: &THREE_PARTS_WANTED,
     },
     Case {
         name: "a closed session gives up",
-        splits: b"m",
+        shape: TWO,
         steps: &GIVEN_UP,
         taken: 7,
         wanted: &GIVEN_UP_WANTED,
     },
     Case {
         name: "what was read elsewhere",
-        splits: b"m",
+        shape: TWO,
         steps: &READ,
         taken: 13,
         wanted: &READ_WANTED,
     },
     Case {
         name: "views of moments",
-        splits: b"m",
+        shape: TWO,
         steps: &VIEWED,
         taken: 11,
         wanted: &VIEWED_WANTED,

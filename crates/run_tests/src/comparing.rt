@@ -1,5 +1,5 @@
 //! What a run is to come to, and what it comes to.
-use crate::runs::run;
+use crate::runs::{Shape, run};
 use crate::steps::Timed;
 use crate::texts::{joined, line_texts, log_texts, message_texts, reply_texts};
 use playing::Report;
@@ -15,11 +15,11 @@ pub struct Wanted<'a> {
     pub lines: &'a [&'a str],
 }
 
-// Steps over shards that are split at some letters, of which so many are taken, and what they are to come to.
+// Steps over shards of some shape, of which so many are taken, and what they are to come to.
 #[derive(Clone, Copy)]
 pub struct Case<'a> {
     pub name: &'a str,
-    pub splits: &'a [u8],
+    pub shape: Shape<'a>,
     pub steps: &'a [Timed],
     pub taken: usize,
     pub wanted: &'a Wanted<'a>,
@@ -28,7 +28,7 @@ pub struct Case<'a> {
 // The steps come to what is wanted.
 pub fn compare(rt: &impl Abort, alloc: Global, case: &Case<'_>) -> Result<(), Fail> {
     let steps = case.steps.get(..case.taken).ok_or("so many steps")?;
-    let report = run(alloc, case.splits, steps).ok_or("a report")?;
+    let report = run(alloc, case.shape, steps).ok_or("a report")?;
     compare_report(rt, alloc, &report, case)
 }
 
@@ -51,7 +51,7 @@ fn compare_replies(
     report: &Report,
     case: &Case<'_>,
 ) -> Result<(), Fail> {
-    let found = reply_texts(alloc, report)?;
+    let found = reply_texts(alloc, &report.replies)?;
     assert_eq!(rt; found, joined(alloc, case.wanted.replies)?, "{}", case.name);
     Ok(())
 }

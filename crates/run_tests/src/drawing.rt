@@ -1,13 +1,12 @@
-//! Lawful lists of events are drawn from a seed. What was put out so far is found by playing the list so far.
-use crate::judging::decision_of;
-use crate::runs::run;
-use crate::steps::{Step, Timed};
+//! Lawful lists of events are drawn from a seed. A run takes the events as they are drawn, and tells what was put out so far and
+//! which shards are up.
+use crate::runs::{Shape, config};
+use crate::steps::{At, Step, Timed, event};
+use disk::Fate;
+use lives::{Life, Run, RunShard};
 use message::{Address, Envelope, Message};
-use playing::Report;
-use record::{Committed, Record};
 use std::alloc::Global;
 use units::TxnId;
-use world::Reply;
 
 // A linear congruential generator modulo 2^64, with the multiplier 6364136223846793005 and the increment
 // 1442695040888963407. Its upper 31 bits are drawn.
@@ -52,26 +51,28 @@ const DIGITS: [u8; 10] = [b'0', b'1', b'2', b'3', b'4', b'5', b'6', b'7', b'8', 
 // The length of a list.
 pub const LENGTH: usize = 300;
 
-// A list so far: the sessions 1 to `begun` have begun, the messages below `next` were delivered in their turn, and `known`
-// messages were put out.
+// A list so far: the sessions 1 to `begun` have begun, the messages below `next` were delivered in their turn, `known`
+// messages were put out, and `taken` of the steps were.
 #[derive(Drop)]
-pub struct Drawn {
+struct Drawn {
     random: Random,
     splits: &'static [u8],
     time: u64,
     begun: u64,
     next: u64,
     known: u64,
+    taken: usize,
     steps: Vec<Timed>,
 }
 
-// The letters that split so many shards.
-fn splits_of(shards: u64) -> &'static [u8] {
-    match shards {
+// So many shards, without a stride.
+pub fn shape_of(shards: u64) -> Shape<'static> {
+    let splits: &[u8] = match shards {
         1 => b"",
         2 => b"m",
         _ => b"ms",
-    }
+    };
+    Shape { splits, stride: 0 }
 }
 
 // The shard of a key.
@@ -85,17 +86,51 @@ fn home(splits: &[u8], key: u8) -> u8 {
     shard
 }
 
-// The views that a shard has: the first, and one for each accepted advance.
-fn views(steps: &[Timed], replies: &[Reply], shard: u8) -> u64 {
-    let mut views: u64 = 1;
-    for (timed, reply) in steps.iter().zip(replies.iter()) {
-        if let ((_, Step::Advance(at, _, _, _)), Reply::Done) = (timed, reply) {
-            if *at == shard {
-                views = views.saturating_add(1);
-            }
+// The shard of a number.
+fn shard_of<'a>(run: &'a Run<'_>, shard: u8) -> Option<&'a RunShard> {
+    run.shards.shards.get(shard as usize)
+}
+
+fn is_up(run: &Run<'_>, shard: u8) -> bool {
+    match shard_of(run, shard) {
+        Some(one) => one.is_up(),
+        None => false,
+    }
+}
+
+fn is_down(run: &Run<'_>, shard: u8) -> bool {
+    match shard_of(run, shard) {
+        Some(one) => one.is_down(),
+        None => true,
+    }
+}
+
+// The first shard that is not up.
+fn resting(run: &Run<'_>) -> Option<u8> {
+    for shard in 0..3 {
+        if shard_of(run, shard).is_some() && !is_up(run, shard) {
+            return Some(shard);
         }
     }
-    views
+    None
+}
+
+fn views(run: &Run<'_>, shard: u8) -> u64 {
+    match shard_of(run, shard) {
+        Some(one) => one.views(),
+        None => 0,
+    }
+}
+
+// The message of a number is for this shard.
+fn is_for(run: &Run<'_>, shard: u8, number: u64) -> bool {
+    match run.output.bag.nth(number) {
+        Some(envelope) => match envelope.to {
+            Address::Shard(to) => to.number() == shard,
+            Address::Session(_) => false,
+        },
+        None => false,
+    }
 }
 
 // The shard and the number of the transaction of a message that is for a coordinator.
@@ -121,39 +156,22 @@ fn for_part(envelope: &Envelope) -> Option<(u8, TxnId)> {
     }
 }
 
-fn settles(item: &Record, txn: TxnId) -> bool {
-    match item {
-        Record::Outcome { txn: other, .. } => *other == txn,
-        Record::Opened { .. } | Record::Ceiling { .. } | Record::Prepare(_) => false,
-        Record::Commit(_) | Record::Abort { .. } => false,
+// The first transaction that a shard has decided to commit and not settled.
+fn decided(shard: &RunShard) -> Option<TxnId> {
+    let Life::Up(core) = &shard.life else {
+        return None;
+    };
+    match core.decided(0) {
+        Some((txn, _)) => Some(txn),
+        None => None,
     }
-}
-
-fn is_settled(log: &[Record], txn: TxnId) -> bool {
-    for item in log {
-        if settles(item, txn) {
-            return true;
-        }
-    }
-    false
-}
-
-// The first transaction that a log has decided to commit and not settled.
-fn unsettled_in(log: &[Record]) -> Option<&Committed> {
-    for item in log {
-        match decision_of(item) {
-            Some(committed) if !is_settled(log, committed.txn) => return Some(committed),
-            Some(_) | None => {}
-        }
-    }
-    None
 }
 
 // The shard and the transaction of some decision that is not settled.
-fn unsettled(logs: &[Vec<Record>]) -> Option<(u8, TxnId)> {
-    for log in logs {
-        if let Some(committed) = unsettled_in(log) {
-            return Some((committed.parts.least().number(), committed.txn));
+fn unsettled(run: &Run<'_>) -> Option<(u8, TxnId)> {
+    for number in 0..3 {
+        if let Some(txn) = shard_of(run, number).and_then(decided) {
+            return Some((number, txn));
         }
     }
     None
@@ -168,14 +186,15 @@ fn answered(envelope: &Envelope) -> Option<TxnId> {
 }
 
 impl Drawn {
-    fn new(alloc: Global, seed: u64, shards: u64) -> Drawn {
+    fn new(alloc: Global, seed: u64, splits: &'static [u8]) -> Drawn {
         Drawn {
             random: Random::new(seed),
-            splits: splits_of(shards),
+            splits,
             time: 1_000,
             begun: 0,
             next: 0,
             known: 0,
+            taken: 0,
             steps: Vec::new(alloc),
         }
     }
@@ -282,11 +301,11 @@ impl Drawn {
     }
 
     // Mostly a decided transaction is settled, at times that of any message.
-    fn settle(&mut self, report: &Report) -> Option<()> {
+    fn settle(&mut self, run: &Run<'_>) -> Option<()> {
         let found = if self.random.below(4) == 0 {
-            report.bag.nth(self.message()).and_then(for_coordinator)
+            run.output.bag.nth(self.message()).and_then(for_coordinator)
         } else {
-            unsettled(&report.logs)
+            unsettled(run)
         };
         let (earliest, latest) = self.reading();
         match found {
@@ -296,18 +315,18 @@ impl Drawn {
     }
 
     // The coordinator of a prepare's transaction is asked.
-    fn nudge(&mut self, report: &Report) -> Option<()> {
+    fn nudge(&mut self, run: &Run<'_>) -> Option<()> {
         let (earliest, latest) = self.reading();
-        match report.bag.nth(self.message()).and_then(for_part) {
+        match run.output.bag.nth(self.message()).and_then(for_part) {
             Some((shard, txn)) => self.push(Step::Nudge(shard, txn.number(), earliest, latest)),
             None => self.resume(),
         }
     }
 
     // One of some of the last messages that is an answer: its session.
-    fn hearer(&mut self, report: &Report) -> Option<TxnId> {
+    fn hearer(&mut self, run: &Run<'_>) -> Option<TxnId> {
         for _ in 0..6 {
-            if let Some(txn) = report.bag.nth(self.message()).and_then(answered) {
+            if let Some(txn) = run.output.bag.nth(self.message()).and_then(answered) {
                 return Some(txn);
             }
         }
@@ -315,8 +334,8 @@ impl Drawn {
     }
 
     // A session that was answered writes, and closes.
-    fn close(&mut self, report: &Report) -> Option<()> {
-        match self.hearer(report) {
+    fn close(&mut self, run: &Run<'_>) -> Option<()> {
+        match self.hearer(run) {
             Some(txn) => {
                 self.write(txn.number())?;
                 self.push(Step::Close(txn.number()))
@@ -372,10 +391,9 @@ impl Drawn {
         self.push(Step::Look(shard, key, at))
     }
 
-    fn view(&mut self, report: &Report) -> Option<()> {
+    fn view(&mut self, run: &Run<'_>) -> Option<()> {
         let (shard, key) = self.place();
-        let views = views(&self.steps, &report.replies, shard);
-        let number = self.random.below(views);
+        let number = self.random.below(views(run, shard));
         let at = self.time.saturating_sub(self.random.below(300));
         self.push(Step::View(shard, number, key, at))
     }
@@ -393,8 +411,82 @@ impl Drawn {
         self.known.saturating_sub(self.next) > 6
     }
 
+    // What a shard does where a call of it fails, or where it crashes.
+    fn doing(&mut self, run: &Run<'_>, shard: u8) -> At {
+        let (earliest, latest) = self.reading();
+        match self.random.below(4) {
+            0 => At::Advance(shard, latest, earliest, latest),
+            1 => self.settling(run, shard, earliest, latest),
+            _ => self.taking(run, shard, earliest, latest),
+        }
+    }
+
+    fn settling(&mut self, run: &Run<'_>, shard: u8, earliest: u64, latest: u64) -> At {
+        match shard_of(run, shard).and_then(decided) {
+            Some(txn) => At::Settle(shard, txn.number(), earliest, latest),
+            None => At::Resume(shard, earliest, latest),
+        }
+    }
+
+    // One of the next messages, where it is for the shard.
+    fn taking(&mut self, run: &Run<'_>, shard: u8, earliest: u64, latest: u64) -> At {
+        for number in self.next..self.next.saturating_add(8) {
+            if is_for(run, shard, number) {
+                return At::Take(shard, number, earliest, latest);
+            }
+        }
+        At::Resume(shard, earliest, latest)
+    }
+
+    fn fate(&mut self) -> Fate {
+        match self.random.below(4) {
+            0 => Fate::Old,
+            1 => Fate::New,
+            2 => Fate::Filled(0xa5),
+            _ => Fate::Filled(self.random.below(256) as u8),
+        }
+    }
+
+    // A shard that is up or stopped crashes, between events or in a call, or a call of it fails.
+    fn stop(&mut self, run: &Run<'_>) -> Option<()> {
+        let shard = self.shard();
+        if is_down(run, shard) {
+            return self.open_at(shard);
+        }
+        let (call, at) = (self.random.below(5), self.doing(run, shard));
+        match self.random.below(5) {
+            0 => self.push(Step::Crash(shard)),
+            1 | 2 => self.push(Step::FailIn(shard, call, at)),
+            _ => {
+                let fate = self.fate();
+                self.push(Step::CrashIn(shard, call, fate, at))
+            }
+        }
+    }
+
+    // A shard that is not up is opened, mostly with success.
+    fn open_at(&mut self, shard: u8) -> Option<()> {
+        let call = self.random.below(5);
+        match self.random.below(10) {
+            0 => self.push(Step::FailIn(shard, call, At::Open(shard))),
+            1 => {
+                let fate = self.fate();
+                self.push(Step::CrashIn(shard, call, fate, At::Open(shard)))
+            }
+            _ => self.push(Step::Open(shard)),
+        }
+    }
+
     // Something happens.
-    fn draw(&mut self, report: &Report) -> Option<()> {
+    fn draw(&mut self, run: &Run<'_>) -> Option<()> {
+        if self.random.below(3) == 0 {
+            if let Some(shard) = resting(run) {
+                return self.open_at(shard);
+            }
+        }
+        if self.random.below(36) == 0 {
+            return self.stop(run);
+        }
         if self.is_behind() && self.random.below(3) != 0 {
             return self.deliver();
         }
@@ -402,37 +494,49 @@ impl Drawn {
             0..=8 => self.writer(),
             9..=13 => self.reader(),
             14..=47 => self.deliver(),
-            48..=61 => self.settle(report),
-            62..=68 => self.close(report),
+            48..=61 => self.settle(run),
+            62..=68 => self.close(run),
             69..=79 => self.look(),
-            80..=83 => self.view(report),
+            80..=83 => self.view(run),
             84..=88 => self.advance(),
-            89..=91 => self.nudge(report),
+            89..=91 => self.nudge(run),
             92..=98 => self.resume(),
             _ => self.quit(),
         }
     }
 
-    // Some more happens, in the knowledge of what was put out so far.
-    fn go_on(&mut self, alloc: Global) -> Option<()> {
-        let report = run(alloc, self.splits, &self.steps)?;
-        self.known = report.bag.len();
-        for _ in 0..8 {
-            self.draw(&report)?;
+    // The steps that were drawn happen.
+    fn catch_up(&mut self, alloc: Global, run: &mut Run<'_>) -> Option<()> {
+        while self.taken < self.steps.len() {
+            let event = event(alloc, self.steps[self.taken])?;
+            run.take(alloc, self.taken as u64, &event).ok()?;
+            self.taken += 1;
         }
+        self.known = run.output.bag.len();
+        Some(())
+    }
+
+    // As many steps are drawn as a list has.
+    fn fill(&mut self, alloc: Global, run: &mut Run<'_>) -> Option<()> {
+        for _ in 0..LENGTH {
+            if self.steps.len() >= LENGTH {
+                break;
+            }
+            self.draw(run)?;
+            self.catch_up(alloc, run)?;
+        }
+        self.steps.truncate(LENGTH);
         Some(())
     }
 }
 
-// A list of events over so many shards, and its report.
-pub fn drawn_report(alloc: Global, seed: u64, shards: u64) -> Option<Report> {
-    let mut list = Drawn::new(alloc, seed, shards);
-    for _ in 0..LENGTH {
-        if list.steps.len() >= LENGTH {
-            break;
-        }
-        list.go_on(alloc)?;
-    }
-    list.steps.truncate(LENGTH);
-    run(alloc, list.splits, &list.steps)
+// A list of events over shards of some shape.
+pub fn drawn_list(alloc: Global, seed: u64, shape: Shape<'static>) -> Option<Vec<Timed>> {
+    let config = config(alloc, shape)?;
+    let mut list = Drawn::new(alloc, seed, shape.splits);
+    let mut run = Run::start(alloc, &config).ok()?;
+    let filled = list.fill(alloc, &mut run);
+    run.spend();
+    filled?;
+    Some(list.steps)
 }

@@ -4,7 +4,6 @@ use playing::Report;
 use record::{Committed, Prepared, Record};
 use std::alloc::Global;
 use units::{Fault, Key, Line, Stamp, TxnId, Value, Writes};
-use world::Reply;
 
 // A place in the history: a timestamp, then the number of the transaction.
 type Place = (u64, u64);
@@ -89,6 +88,29 @@ fn all_agree(logs: &[Vec<Record>]) -> bool {
             if !agrees(logs, shard, item) {
                 return false;
             }
+        }
+    }
+    true
+}
+
+// The openings of a log are numbered from 1.
+fn is_numbered(log: &[Record]) -> bool {
+    let mut last: u64 = 0;
+    for item in log {
+        if let Record::Opened { epoch } = item {
+            if last.checked_add(1) != Some(epoch.number()) {
+                return false;
+            }
+            last = epoch.number();
+        }
+    }
+    last > 0
+}
+
+fn are_numbered(logs: &[Vec<Record>]) -> bool {
+    for log in logs {
+        if !is_numbered(log) {
+            return false;
         }
     }
     true
@@ -294,7 +316,7 @@ fn are_ordered(logs: &[Vec<Record>], lines: &[Line]) -> bool {
     true
 }
 
-// ---- messages and replies
+// ---- messages
 
 // How a message says that a transaction ended is how it did.
 fn is_true_message(logs: &[Vec<Record>], message: &Message) -> bool {
@@ -314,23 +336,6 @@ fn are_true_messages(report: &Report) -> bool {
     true
 }
 
-fn is_fair(reply: &Reply) -> bool {
-    match reply {
-        Reply::Refused(fault) => *fault != Fault::Memory && *fault != Fault::Device,
-        Reply::Crashed => false,
-        _ => true,
-    }
-}
-
-fn are_fair(replies: &[Reply], length: usize) -> bool {
-    for reply in replies {
-        if !is_fair(reply) {
-            return false;
-        }
-    }
-    replies.len() == length
-}
-
 fn are_true_lines(alloc: Global, report: &Report) -> Result<bool, Fault> {
     for line in &report.lines {
         if !is_true_line(alloc, &report.logs, line)? {
@@ -340,10 +345,10 @@ fn are_true_lines(alloc: Global, report: &Report) -> Result<bool, Fault> {
     Ok(true)
 }
 
-// The first thing that is wrong with a report of so many events.
-pub fn judge(alloc: Global, report: &Report, length: usize) -> Result<&'static str, Fault> {
-    if !are_fair(&report.replies, length) {
-        return Ok("a reply");
+// The first thing that is wrong with what a report says of its transactions.
+pub fn judge(alloc: Global, report: &Report) -> Result<&'static str, Fault> {
+    if !are_numbered(&report.logs) {
+        return Ok("an opening");
     }
     if !all_agree(&report.logs) {
         return Ok("a record");

@@ -6,6 +6,8 @@ mod cases;
 #[cfg(test)]
 mod comparing;
 #[cfg(test)]
+mod crashes;
+#[cfg(test)]
 mod drawing;
 #[cfg(test)]
 mod drawn;
@@ -14,11 +16,17 @@ mod judging;
 #[cfg(test)]
 mod long;
 #[cfg(test)]
+mod outside;
+#[cfg(test)]
+mod replying;
+#[cfg(test)]
 mod runs;
 #[cfg(test)]
 mod schedules;
 #[cfg(test)]
 mod steps;
+#[cfg(test)]
+mod stops;
 #[cfg(test)]
 mod texts;
 #[cfg(test)]

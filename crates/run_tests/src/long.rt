@@ -1,8 +1,11 @@
-//! A long run over four shards, at the splits `g`, `m` and `s`: transactions of two writes each, one after the other.
+//! A long run over four shards, at the splits `g`, `m` and `s`: transactions of two writes each, one after the other. At
+//! some of them a shard stops, by a crash or a failing call, and is opened again.
 ghost use Rattle.std.specs.Prelude.{◌<◌, ◌^◌};
 
-use crate::runs::run;
-use crate::steps::{Step, Timed};
+use crate::runs::{Shape, run};
+use crate::steps::{At, Step, Timed};
+use disk::Fate;
+use record::Record;
 use std::alloc::Global;
 use std::test::Fail;
 use units::{Fault, Line};
@@ -11,13 +14,64 @@ use world::Reply;
 // How many transactions there are, of ten events each.
 const TRANSACTIONS: u32 = 1_000;
 
-// The coordinator of each fourth transaction, and its keys.
-const PAIRS: [(u8, u8, u8); 4] = [
-    (0, b'a', b'h'),
-    (1, b'h', b'n'),
-    (2, b'n', b't'),
-    (0, b'a', b't'),
+// Four shards without a stride.
+const FOUR: Shape<'static> = Shape {
+    splits: b"gms",
+    stride: 0,
+};
+
+// The shards of a transaction, and the key that it writes at each.
+#[derive(Clone, Copy)]
+struct Pair {
+    coordinator: u8,
+    part: u8,
+    keys: (u8, u8),
+}
+
+static PAIRS: [Pair; 4] = [
+    Pair {
+        coordinator: 0,
+        part: 1,
+        keys: (b'a', b'h'),
+    },
+    Pair {
+        coordinator: 1,
+        part: 2,
+        keys: (b'h', b'n'),
+    },
+    Pair {
+        coordinator: 2,
+        part: 3,
+        keys: (b'n', b't'),
+    },
+    Pair {
+        coordinator: 0,
+        part: 3,
+        keys: (b'a', b't'),
+    },
 ];
+
+fn pair_of(number: u32) -> Pair {
+    PAIRS[number as usize % 4]
+}
+
+// A device call of the outcome's append at the other part in which that shard crashes, or that fails. Each leaves the record.
+static STOPS: [(u64, Option<Fate>); 5] = [
+    (4, Some(Fate::Old)),
+    (3, Some(Fate::New)),
+    (3, None),
+    (2, Some(Fate::New)),
+    (2, Some(Fate::Filled(0xa5))),
+];
+
+// The stop of each 21st transaction.
+fn stop_of(number: u32) -> Option<(u64, Option<Fate>)> {
+    if number % 21 == 20 {
+        Some(STOPS[number as usize / 21 % 5])
+    } else {
+        None
+    }
+}
 
 // The time at which a transaction begins.
 fn begins_at(number: u32) -> u64
@@ -36,23 +90,51 @@ fn push_session(steps: &mut Vec<Timed>, number: u32, keys: (u8, u8)) -> Result<(
     Ok(())
 }
 
-// The Commit, the Prepare and the vote come; the transaction is settled; the outcome comes, and the session hears its end.
-fn push_shards(steps: &mut Vec<Timed>, number: u32, shard: u8) -> Result<(), Fault> {
+// The Commit, the Prepare and the vote come, and the transaction is settled.
+fn push_decision(steps: &mut Vec<Timed>, number: u32, shard: u8) -> Result<(), Fault> {
     let (time, txn) = (begins_at(number), number as u64);
     let first = 5 * txn;
     steps.push((time + 2, Step::Deliver(first, time, time + 3)))?;
     steps.push((time + 4, Step::Deliver(first + 1, time + 2, time + 5)))?;
     steps.push((time + 6, Step::Deliver(first + 2, time + 4, time + 7)))?;
     steps.push((time + 16, Step::Settle(shard, txn, time + 14, time + 17)))?;
+    Ok(())
+}
+
+// The outcome comes, and the session hears its end.
+fn push_end(steps: &mut Vec<Timed>, number: u32) -> Result<(), Fault> {
+    let (time, first) = (begins_at(number), 5 * number as u64);
     steps.push((time + 18, Step::Deliver(first + 4, time + 16, time + 19)))?;
     steps.push((time + 19, Step::Deliver(first + 3, time + 17, time + 20)))?;
     Ok(())
 }
 
+// The outcome comes with a stop, and the shard is opened. The session does not hear its end.
+fn push_stop(
+    steps: &mut Vec<Timed>,
+    number: u32,
+    shard: u8,
+    stop: (u64, Option<Fate>),
+) -> Result<(), Fault> {
+    let (time, first) = (begins_at(number), 5 * number as u64);
+    let at = At::Take(shard, first + 4, time + 16, time + 19);
+    let step = match stop {
+        (call, Some(fate)) => Step::CrashIn(shard, call, fate, at),
+        (call, None) => Step::FailIn(shard, call, at),
+    };
+    steps.push((time + 18, step))?;
+    steps.push((time + 19, Step::Open(shard)))?;
+    Ok(())
+}
+
 fn push_transaction(steps: &mut Vec<Timed>, number: u32) -> Result<(), Fault> {
-    let (shard, key, other) = PAIRS[number as usize % 4];
-    push_session(steps, number, (key, other))?;
-    push_shards(steps, number, shard)
+    let pair = pair_of(number);
+    push_session(steps, number, pair.keys)?;
+    push_decision(steps, number, pair.coordinator)?;
+    match stop_of(number) {
+        Some(stop) => push_stop(steps, number, pair.part, stop),
+        None => push_end(steps, number),
+    }
 }
 
 fn all_steps(alloc: Global) -> Result<Vec<Timed>, Fault> {
@@ -85,24 +167,67 @@ fn are_acknowledgements(lines: &[Line]) -> bool {
     true
 }
 
-fn are_done(replies: &[Reply]) -> bool {
-    for reply in replies {
-        match reply {
-            Reply::Done => {}
-            _ => return false,
+// The reply to the last event but one of a transaction, the outcome's.
+fn is_end(number: u32, reply: &Reply) -> bool {
+    match (stop_of(number), reply) {
+        (None, Reply::Done) => true,
+        (Some((_, Some(_))), Reply::Crashed) => true,
+        (Some((_, None)), Reply::Refused(Fault::Device)) => true,
+        _ => false,
+    }
+}
+
+// The reply to an event, by the number of its transaction and its place there.
+fn is_wanted(number: u32, place: usize, reply: &Reply) -> bool {
+    match reply {
+        Reply::Done if place != 8 => true,
+        _ => place == 8 && is_end(number, reply),
+    }
+}
+
+fn are_wanted(replies: &[Reply]) -> bool {
+    for number in 0..TRANSACTIONS {
+        for place in 0..10 {
+            match replies.get(10 * number as usize + place) {
+                Some(reply) if is_wanted(number, place, reply) => {}
+                _ => return false,
+            }
         }
     }
     true
 }
 
+// How many openings and outcomes there are among records.
+fn with_counts(counts: (u32, u32), log: &[Record]) -> (u32, u32) {
+    let (mut openings, mut outcomes) = counts;
+    for item in log {
+        match item {
+            Record::Opened { .. } => openings = openings.saturating_add(1),
+            Record::Outcome { .. } => outcomes = outcomes.saturating_add(1),
+            _ => {}
+        }
+    }
+    (openings, outcomes)
+}
+
+fn counts_of(logs: &[Vec<Record>]) -> (u32, u32) {
+    let mut counts = (0, 0);
+    for log in logs {
+        counts = with_counts(counts, log);
+    }
+    counts
+}
+
+// Each of the two shards of a transaction has its outcome, and each stop made one opening more.
 #[test]
 fn ten_thousand_events(rt: HostRuntime) -> Result<(), Fail> {
     let alloc = rt.alloc();
     let steps = all_steps(alloc)?;
-    let report = run(alloc, b"gms", &steps).ok_or("a report")?;
+    let report = run(alloc, FOUR, &steps).ok_or("a report")?;
     assert_eq!(rt; report.replies.len(), 10_000);
-    assert!(rt; are_done(&report.replies));
+    assert!(rt; are_wanted(&report.replies));
     assert_eq!(rt; report.lines.len(), 2_000);
     assert!(rt; are_acknowledgements(&report.lines));
+    assert_eq!(rt; counts_of(&report.logs), (51, 2_000));
     Ok(())
 }

@@ -1,18 +1,34 @@
 //! Steps are played over shards that are split at single letters.
-ghost use Rattle.std.specs.Prelude.{◌≡◌, true, IfSome};
-ghost use Rattle.world.specs.Crashless.{are_crashless};
-
 use crate::steps::{Timed, events};
-use playing::{Report, are_crashless, lawful, play};
+use playing::{Report, lawful, play};
 use std::alloc::Global;
 use units::{Fault, Key, Splits, Stride};
-use world::{Config, Event};
+use world::Config;
 
-// The shards that are split at these letters, with no stride.
-fn config(alloc: Global, splits: &[u8]) -> Option<Config> {
-    let keys = keys(alloc, splits)?;
+// The letters at which shards are split, and their stride.
+#[derive(Clone, Copy)]
+pub struct Shape<'a> {
+    pub splits: &'a [u8],
+    pub stride: u64,
+}
+
+// Two shards without a stride.
+pub const TWO: Shape<'static> = Shape {
+    splits: b"m",
+    stride: 0,
+};
+
+// Three shards without a stride.
+pub const THREE: Shape<'static> = Shape {
+    splits: b"ms",
+    stride: 0,
+};
+
+// The shards that are split at these letters.
+pub fn config(alloc: Global, shape: Shape<'_>) -> Option<Config> {
+    let stride = Stride::new(shape.stride)?;
+    let keys = keys(alloc, shape.splits)?;
     let splits = Splits::new(alloc, &keys).ok()?;
-    let stride = Stride::new(0)?;
     Some(Config { splits, stride })
 }
 
@@ -24,35 +40,23 @@ fn keys(alloc: Global, letters: &[u8]) -> Option<Vec<Key>> {
     Some(keys)
 }
 
-// The events of some steps, which can be played.
-fn playable(alloc: Global, steps: &[Timed]) -> Option<Vec<Event>>
-    ensures { IfSome result (λ events. are_crashless events.items ≡ true) }
-{
-    let events = events(alloc, steps)?;
-    if are_crashless(&events) {
-        Some(events)
-    } else {
-        None
-    }
-}
-
 // The report of steps that may happen.
-pub fn run(alloc: Global, splits: &[u8], steps: &[Timed]) -> Option<Report> {
-    let config = config(alloc, splits)?;
-    let events = playable(alloc, steps)?;
+pub fn run(alloc: Global, shape: Shape<'_>, steps: &[Timed]) -> Option<Report> {
+    let config = config(alloc, shape)?;
+    let events = events(alloc, steps)?;
     play(alloc, &config, &events).ok()
 }
 
 // The refusal to play some steps.
-pub fn refusal(alloc: Global, splits: &[u8], steps: &[Timed]) -> Option<Fault> {
-    let config = config(alloc, splits)?;
-    let events = playable(alloc, steps)?;
+pub fn refusal(alloc: Global, shape: Shape<'_>, steps: &[Timed]) -> Option<Fault> {
+    let config = config(alloc, shape)?;
+    let events = events(alloc, steps)?;
     play(alloc, &config, &events).err()
 }
 
 // The steps are lawful.
-pub fn is_lawful(alloc: Global, splits: &[u8], steps: &[Timed]) -> Option<bool> {
-    let config = config(alloc, splits)?;
-    let events = playable(alloc, steps)?;
+pub fn is_lawful(alloc: Global, shape: Shape<'_>, steps: &[Timed]) -> Option<bool> {
+    let config = config(alloc, shape)?;
+    let events = events(alloc, steps)?;
     lawful(alloc, &config, &events).ok()
 }

@@ -1,5 +1,6 @@
 //! Whole schedules.
 use crate::comparing::{Case, Wanted, compare};
+use crate::runs::TWO;
 use crate::steps::{Step, Timed};
 use std::test::Fail;
 
@@ -73,14 +74,14 @@ const TWO_SHARDS_WANTED: Wanted<'static> = Wanted {
 static SCHEDULES: [Case<'static>; 2] = [
     Case {
         name: "a commit at one shard",
-        splits: b"m",
+        shape: TWO,
         steps: &ONE_SHARD,
         taken: 6,
         wanted: &ONE_SHARD_WANTED,
     },
     Case {
         name: "a commit at two shards",
-        splits: b"m",
+        shape: TWO,
         steps: &TWO_SHARDS,
         taken: 10,
         wanted: &TWO_SHARDS_WANTED,

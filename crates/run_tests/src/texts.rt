@@ -236,9 +236,9 @@ fn push_one(text: &mut String, alloc: Global, item: &Record) -> Result<(), Fault
 }
 
 // The replies that are more than `Done`, each behind the number of its event.
-pub fn reply_texts(alloc: Global, report: &Report) -> Result<String, Fault> {
+pub fn reply_texts(alloc: Global, replies: &[Reply]) -> Result<String, Fault> {
     let mut text = String::new(alloc);
-    for (number, reply) in report.replies.iter().enumerate() {
+    for (number, reply) in replies.iter().enumerate() {
         if let Reply::Done = reply {
             continue;
         }

@@ -1,0 +1,200 @@
+//! Checks of the replies of a run by themselves. Which shards are up before an event tells which refusals are due.
+use crate::steps::{At, Step, Timed};
+use message::Address;
+use playing::Report;
+use units::Fault;
+use world::Reply;
+
+// What a reply says, as far as it is told by which shards are up.
+#[derive(Clone, Copy, PartialEq, Eq)]
+enum Told {
+    Done,
+    Stopped,
+    Device,
+    Memory,
+    Crashed,
+    Other,
+}
+
+fn told_by(reply: &Reply) -> Told {
+    match reply {
+        Reply::Done => Told::Done,
+        Reply::Refused(Fault::Stopped) => Told::Stopped,
+        Reply::Refused(Fault::Device) => Told::Device,
+        Reply::Refused(Fault::Memory) => Told::Memory,
+        Reply::Refused(_) => Told::Other,
+        Reply::Shows(_) => Told::Other,
+        Reply::Crashed => Told::Crashed,
+    }
+}
+
+#[derive(Clone, Copy, PartialEq, Eq)]
+enum Standing {
+    Up,
+    Stopped,
+    Down,
+}
+
+// What each shard is behind the events so far.
+#[derive(Clone, Copy)]
+struct Standings {
+    shards: [Standing; 3],
+}
+
+impl Standings {
+    fn new() -> Standings {
+        Standings {
+            shards: [Standing::Up; 3],
+        }
+    }
+
+    fn of(&self, shard: u8) -> Standing {
+        match self.shards.get(shard as usize) {
+            Some(standing) => *standing,
+            None => Standing::Up,
+        }
+    }
+
+    fn set(&mut self, shard: u8, standing: Standing) {
+        if let Some(one) = self.shards.get_mut(shard as usize) {
+            *one = standing;
+        }
+    }
+
+    // An event has had a reply.
+    fn follow(&mut self, step: Step, told: Told) {
+        match step {
+            Step::Crash(shard) => self.set(shard, Standing::Down),
+            Step::CrashIn(shard, _, _, _) => self.set(shard, Standing::Down),
+            Step::Open(shard) => self.set(shard, Standing::Up),
+            Step::FailIn(shard, _, at) => self.follow_failing(shard, opens(at), told),
+            _ => {}
+        }
+    }
+
+    // A call of an opening, or of something else, was to fail.
+    fn follow_failing(&mut self, shard: u8, opens: bool, told: Told) {
+        match (opens, told) {
+            (true, Told::Device) => self.set(shard, Standing::Down),
+            (true, _) => self.set(shard, Standing::Up),
+            (false, Told::Device) => self.set(shard, Standing::Stopped),
+            (false, _) => {}
+        }
+    }
+}
+
+fn opens(at: At) -> bool {
+    match at {
+        At::Open(_) => true,
+        _ => false,
+    }
+}
+
+// The shard that a message goes to.
+fn receiver(report: &Report, message: u64) -> Option<u8> {
+    match report.bag.nth(message)?.to {
+        Address::Shard(shard) => Some(shard.number()),
+        Address::Session(_) => None,
+    }
+}
+
+// The shard that an event is a step of.
+fn shard_of(report: &Report, step: Step) -> Option<u8> {
+    match step {
+        Step::Deliver(message, _, _) => receiver(report, message),
+        Step::Resume(shard, _, _) => Some(shard),
+        Step::Settle(shard, _, _, _) => Some(shard),
+        Step::Advance(shard, _, _, _) => Some(shard),
+        Step::Nudge(shard, _, _, _) => Some(shard),
+        _ => None,
+    }
+}
+
+// The event is a step of a shard that is not up, or a look at one that is down.
+fn rests(standings: &Standings, report: &Report, step: Step) -> bool {
+    if let Step::Look(shard, _, _) = step {
+        return standings.of(shard) == Standing::Down;
+    }
+    match shard_of(report, step) {
+        Some(shard) => standings.of(shard) != Standing::Up,
+        None => false,
+    }
+}
+
+// The reply to an event without a crash or a failing call.
+fn is_plain(told: Told, rests: bool) -> bool {
+    match told {
+        Told::Stopped => rests,
+        Told::Done => !rests,
+        Told::Other => !rests,
+        Told::Device => false,
+        Told::Memory => false,
+        Told::Crashed => false,
+    }
+}
+
+// The reply to an event with a call that was to fail.
+fn is_failing(told: Told, rests: bool) -> bool {
+    is_plain(told, rests) || told == Told::Device && !rests
+}
+
+// The reply to an event is one that is due.
+fn is_due(standings: &Standings, report: &Report, step: Step, told: Told) -> bool {
+    match step {
+        Step::Crash(_) => told == Told::Crashed,
+        Step::CrashIn(_, _, _, _) => told == Told::Crashed,
+        Step::Open(_) => told == Told::Done,
+        Step::FailIn(shard, _, at) => {
+            is_failing(told, !opens(at) && standings.of(shard) != Standing::Up)
+        }
+        _ => is_plain(told, rests(standings, report, step)),
+    }
+}
+
+// There is a reply to each event, and each is one that is due.
+pub fn are_due(report: &Report, steps: &[Timed]) -> bool {
+    let mut standings = Standings::new();
+    for ((_, step), reply) in steps.iter().zip(report.replies.iter()) {
+        if !is_due(&standings, report, *step, told_by(reply)) {
+            return false;
+        }
+        standings.follow(*step, told_by(reply));
+    }
+    report.replies.len() == steps.len()
+}
+
+// How many crashes, failures of calls, and accepted openings there are.
+#[derive(Clone, Copy, Debug)]
+pub struct Stops {
+    pub crashed: u64,
+    pub failed: u64,
+    pub opened: u64,
+}
+
+impl Stops {
+    pub const NONE: Stops = Stops {
+        crashed: 0,
+        failed: 0,
+        opened: 0,
+    };
+
+    fn with_one(self, step: Step, told: Told) -> Stops {
+        let mut stops = self;
+        match (step, told) {
+            (_, Told::Crashed) => stops.crashed = stops.crashed.saturating_add(1),
+            (_, Told::Device) => stops.failed = stops.failed.saturating_add(1),
+            (Step::Open(_), Told::Done) => stops.opened = stops.opened.saturating_add(1),
+            _ => {}
+        }
+        stops
+    }
+
+    // With those of more events.
+    pub fn with(self, steps: &[Timed], replies: &[Reply]) -> Stops {
+        let mut stops = self;
+        for ((_, step), reply) in steps.iter().zip(replies.iter()) {
+            stops = stops.with_one(*step, told_by(reply));
+        }
+        stops
+    }
+}
