@@ -30,18 +30,18 @@ all_may_leave (s ∷ ss) = (may_leave s, all_may_leave ss)
 -- a line that is kept was there
 was_there : (p : Line → Bool) (ls : List Line) (l : Line) → IsLine (filter p ls) l → IsLine ls l
 was_there p [] l h = h
-was_there p (x ∷ ls) l h = by_test (p x) h
+was_there p (x ∷ ls) l h = by_test (p x) (λ k. was_there p ls l k) h
   where
     behind : IsLine ls l → IsLine (x ∷ ls) l
     behind k = (suc k.0, k.1)
 
-    by_place : (i : ℕ) → slice_get (x ∷ filter p ls) i ≡ Some l → IsLine (x ∷ ls) l
-    by_place zero e = (zero, e)
-    by_place (suc i) e = behind (was_there p ls l (i, e))
+    by_place : (IsLine (filter p ls) l → IsLine ls l) → (i : ℕ) → slice_get (x ∷ filter p ls) i ≡ Some l → IsLine (x ∷ ls) l
+    by_place rest zero e = (zero, e)
+    by_place rest (suc i) e = behind (rest (i, e))
 
-    by_test : (b : Bool) → IsLine (cond b (x ∷ filter p ls) (filter p ls)) l → IsLine (x ∷ ls) l
-    by_test true k = by_place k.0 k.1
-    by_test false k = behind (was_there p ls l k)
+    by_test : (b : Bool) → (IsLine (filter p ls) l → IsLine ls l) → IsLine (cond b (x ∷ filter p ls) (filter p ls)) l → IsLine (x ∷ ls) l
+    by_test true rest k = by_place rest k.0 k.1
+    by_test false rest k = behind (rest k)
 
 -- what holds of lines holds of some of them
 fewer : (config : Config) (logs : List (List Record)) (lines some : List Line) → ((l : Line) → IsLine some l → IsLine lines l)
