@@ -3,6 +3,5 @@ pub mod FirstStep
 pub mod FoundLemmas
 pub mod HelpLemmas
 pub mod LineLemmas
-pub mod NumberLemmas
 pub mod ReplyLemmas
 pub mod ShardLemmas

@@ -4,7 +4,7 @@ use Rattle.std.specs.Prelude.{Result, Ok, if◌then◌else◌}
 use Rattle.truetime.specs.Interval.{Interval}
 use Rattle.truetime.specs.Reading.{surely_after}
 use Rattle.units.specs.declared.fault.Fault.{Fault}
-use Rattle.cli.specs.Numbers.{and_then}
+use Rattle.texts.specs.Numbers.{and_then}
 use Rattle.cli.specs.Replies.{Reply, commit_line, first_stamp, done_line, early_line, once_reply}
 
 abbrev printed : Reply → Result Reply Fault

@@ -5,7 +5,7 @@ use Rattle.units.specs.declared.fault.Fault.TheVariants.{BadRequest}
 use Rattle.units.specs.declared.fault.Reason.TheVariants as reason
 use Rattle.truetime.specs.Interval.{Interval}
 use Rattle.cli.specs.Lines.{CommandLine, Word, asks_help, line_of, once, play}
-use Rattle.cli.specs.Numbers.{and_then, interval_of}
+use Rattle.texts.specs.Numbers.{and_then, interval_of}
 
 -- what words may ask for: the usage; a write of a value to a key at the readings of its commit and of its settling; the report
 -- of a schedule in a file

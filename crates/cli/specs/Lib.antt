@@ -1,7 +1,6 @@
 pub mod Commands
 pub mod Failures
 pub mod Lines
-pub mod Numbers
 pub mod Parser
 pub mod Replies
 pub mod Shards

@@ -9,7 +9,7 @@ use Rattle.units.specs.declared.fault.Fault.{Fault}
 use Rattle.units.specs.declared.fault.Fault.TheVariants.{TimeSpent}
 use Rattle.cli.specs.Commands.{Asked, command_of, help, once_asked, play_asked}
 use Rattle.cli.specs.Lines.{Word}
-use Rattle.cli.specs.Numbers.{and_then}
+use Rattle.texts.specs.Numbers.{and_then}
 use Rattle.cli.specs.declared.usage.TheConstants.{USAGE}
 
 -- a text, and a status

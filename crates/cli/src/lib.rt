@@ -6,7 +6,6 @@ mod command_line;
 mod commands;
 mod failure;
 mod files;
-mod numbers;
 mod once;
 mod one_shard;
 mod play;

@@ -8,9 +8,9 @@ ghost use Rattle.cli.specs.Views.{asked_by};
 
 use crate::Command;
 use crate::command_line::{Line, read_line};
-use crate::numbers::read_reading;
 use crate::usage::asks_help;
 use std::alloc::Global;
+use texts::reading;
 use units::{Fault, Key, Value};
 
 /// The command that the words ask for: help, where they do, and else the first bad word counts. A
@@ -69,8 +69,8 @@ fn read_once<'a>(
 {
     let key = read_key(key)?;
     let value = read_value(alloc, value)?;
-    let first = read_reading(first.0, first.1)?;
-    let second = read_reading(second.0, second.1)?;
+    let first = reading(first.0, first.1)?;
+    let second = reading(second.0, second.1)?;
     Ok(Command::Once {
         key,
         value,

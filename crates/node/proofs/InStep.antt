@@ -1,6 +1,6 @@
 -- What a desk keeps of its core and its board.
-use Rattle.std.proofs.Common.{Result, Ok, Err, IfOk, ◌≡◌, ℕ, ◌+◌, ◌<◌, ◌≤◌, Bool, true, List, [], ◌∷◌, ◌++◌, map, length, take, drop, get_or, Option, Some, None}
-use Rattle.std.proofs.Common.{nat_lt, refl, ap, sym, ◌∙◌, subst, arith, append_assoc, length-append, drop_of_length-le}
+use Rattle.std.proofs.Common.{Result, Ok, Err, ◌≡◌, ℕ, ◌+◌, ◌<◌, ◌≤◌, true, List, [], ◌∷◌, ◌++◌, length, take, drop, get_or}
+use Rattle.std.proofs.Common.{nat_lt, ap, sym, ◌∙◌, subst, arith, append_assoc, length-append, drop_of_length-le}
 use Rattle.std.specs.List.{list_all}
 use Rattle.std.proofs.lemmas.List.{append-nil, take_more, drop_more, drop-append-le, take-append-le, take_all}
 use Rattle.units.specs.declared.fault.Fault.{Fault}
@@ -8,15 +8,12 @@ use Rattle.units.specs.declared.writes.Install.{Install}
 use Rattle.board.specs.declared.entry.BoardEntry.{BoardEntry}
 use Rattle.board.specs.declared.entry.BoardEntry.TheVariants.{Installed, Safe}
 use Rattle.board.specs.Board.{versions_on, safe_on, is_board, first_entries}
-use Rattle.board.specs.State.{BoardId}
 use Rattle.board.specs.Views.{Publishing, Published, PublishesAll}
 use Rattle.board.proofs.Longer.{front_is_board, versions_on-more, safe_from-install, safe_from-safe}
-use Rattle.shard.specs.On.{CoreView}
-use Rattle.shard.specs.Look.{safe_at}
 use Rattle.serving.specs.Showable.{rises_by_key}
 use Rattle.node.proofs.Follow.{board_news, board_safe, opening_is_board, as_entries-more, versions_on-entries, safe_from-more_entries, take_drop}
 use Rattle.node.proofs.Follow.{entries_follow}
-use Rattle.node.specs.InStep.{InStep, ShowsCore, DeskView, as_entries}
+use Rattle.node.specs.InStep.{InStep, as_entries}
 
 pub opened_in_step : (installs : List Install) (t : ℕ) → rises_by_key [] installs ≡ true → InStep installs t (length installs)
     (first_entries installs t ++ [])
@@ -120,23 +117,6 @@ module _ (installs : List Install) (served handed : ℕ) (one two new : Publishi
   published_in_step result is =
       subst (λ (l : List BoardEntry). InStep installs served handed l) (sym (all_published result two new is ∙ with_safe))
       (safe_handed installs served handed (one.published ++ one.pending) step all)
-
-  pub published_shown : {D : Type 0} (core : CoreView D) (old : Publishing) (result : Result Published Fault) → core.facts.installs ≡ installs
-      → safe_at core ≡ served → one.board ≡ old.board → PublishesAll two result new
-      → IfOk result (λ told. ShowsCore (record { core = core; board = old }) (record { core = core; board = new }) told)
-  published_shown core old (Ok told) same safe board is =
-      let list : new.published ≡ (one.published ++ one.pending) ++ Safe served ∷ [] = ap (λ (s : Publishing). s.published) is.0 ∙ with_safe in
-      let at : new.board ≡ old.board = ap (λ (s : Publishing). s.board) is.0 ∙ (ap (λ (s : Publishing). s.board) ends ∙ board) in
-      record {
-        installs = ap versions_on list ∙ (all_shown installs served handed (one.published ++ one.pending) step all ∙ sym same);
-        ends = (one.published ++ one.pending, list ∙ ap (λ (t : ℕ). (one.published ++ one.pending) ++ Safe t ∷ []) (sym safe));
-        same = at;
-        told = is.1 ∙ (λ i. record {
-          board = (ap (λ (s : Publishing). s.board) ends ∙ board) i;
-          list = sym (ap (λ (s : Publishing). s.published) is.0) i;
-        });
-      }
-  published_shown core old (Err fault) same safe board is = tt
 
 -- a new board is in step
 pub opened_desk : (installs given held : List Install) (t at : ℕ) (published pending : List BoardEntry) → rises_by_key [] installs ≡ true → held ≡ installs → given ≡ installs → at ≡ t

@@ -16,7 +16,6 @@ use Rattle.shard.specs.Look.{safe_at}
 use Rattle.board.specs.declared.entry.BoardEntry.{BoardEntry}
 use Rattle.board.specs.declared.entry.BoardEntry.TheVariants.{Installed, Safe}
 use Rattle.board.specs.Board.{is_board, versions_on, safe_on}
-use Rattle.board.specs.State.{BoardId}
 use Rattle.board.specs.Views.{Publishing, Published, Viewing}
 
 -- the versions as entries of a board

@@ -42,23 +42,24 @@ impl Gate for Open {
     fn after(&self, _shard: ShardNo, _n: u64) {}
 }
 
+fn is_sent<R: Wait>(rt: &R, to: &Sender<Letter>, letter: Letter) -> bool {
+    to.send(rt, letter).is_ok()
+}
+
 // Sends reads of a key, of 1.1 and on, and then the end.
-fn is_filled<R: Wait>(rt: &R, to: &Sender<Letter>, letter: u8, letters: u16) -> bool {
+fn is_filled<R: Wait>(rt: &R, to: &Sender<Letter>, key: u8, letters: u16) -> bool {
     for before in 0..letters {
-        if to
-            .send(rt, Letter::Carry(read(before + 1, letter)))
-            .is_err()
-        {
+        if !is_sent(rt, to, Letter::Carry(read(before + 1, key))) {
             return false;
         }
     }
-    to.send(rt, Letter::Close).is_ok()
+    is_sent(rt, to, Letter::Close)
 }
 
 /// An inbox with so many reads of a key of one letter, of 1.1 and on, and then the end.
-pub fn inbox<R: Wait>(rt: &R, alloc: Global, letter: u8, letters: u16) -> Option<Receiver<Letter>> {
+pub fn inbox<R: Wait>(rt: &R, alloc: Global, key: u8, letters: u16) -> Option<Receiver<Letter>> {
     let (to, from) = unbounded(alloc).ok()?;
-    let filled = is_filled(rt, &to, letter, letters);
+    let filled = is_filled(rt, &to, key, letters);
     if filled { Some(from) } else { None }
 }
 

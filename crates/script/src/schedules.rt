@@ -25,8 +25,8 @@ pub fn schedule(alloc: Global, text: &str) -> Result<(Config, Vec<Event>), Fault
 
 // The shards, by the first lines.
 fn config(alloc: Global, reader: &mut LineReader<'_>) -> Result<Config, Fault> {
-    let count = match reader.head(alloc, "shards")?.map(number) {
-        Some(Ok(count)) if count >= 1 && count <= 16 => count,
+    let count = match reader.head(alloc, "shards")?.map(count) {
+        Some(Ok(count)) => count,
         _ => return Err(reader.fault(NO_WORD)),
     };
     let keys = splits(alloc, reader, count)?;
@@ -48,6 +48,16 @@ fn splits(alloc: Global, reader: &mut LineReader<'_>, count: u64) -> Result<Vec<
         }
     }
     Ok(keys)
+}
+
+// How many shards there are.
+fn count(word: &str) -> Result<u64, Fault> {
+    let count = number(word)?;
+    if count >= 1 && count <= 16 {
+        Ok(count)
+    } else {
+        Err(NO_WORD)
+    }
 }
 
 fn stride(word: &str) -> Result<Stride, Fault> {

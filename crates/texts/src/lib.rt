@@ -2,9 +2,11 @@
 #![tactic(auto)]
 
 mod line_reader;
+mod numbers;
 mod printing;
 mod words;
 
 pub use line_reader::{LineReader, lines};
+pub use numbers::{number, reading, stamp};
 pub use printing::Text;
-pub use words::{NO_WORD, fate, key, number, reading, shard, stamp, txn, value};
+pub use words::{NO_WORD, fate, key, shard, txn, value};

@@ -1,5 +1,6 @@
 //! Texts, line by line.
-use crate::words::{NO_WORD, key, number, shown, stamp, txn};
+use crate::numbers::{number, stamp};
+use crate::words::{NO_WORD, key, shown, txn};
 use std::alloc::Global;
 use std::str::SplitInclusive;
 use units::{Fault, Line, Reason};

@@ -1,38 +1,18 @@
 //! The words of a line, each read as a value. What is not such a word is refused.
 ghost use Rattle.std.specs.Prelude.{◌<◌, IfOk};
 
+use crate::numbers::number;
 use disk::Fate;
 use std::alloc::Global;
-use truetime::Reading;
-use units::{Fault, Key, Reason, ShardNo, Stamp, TxnId, Value};
+use units::{Fault, Key, Reason, ShardNo, TxnId, Value};
 
 /// What a word is refused with, before its line is known.
 pub const NO_WORD: Fault = Fault::BadRequest(Reason::Command);
-
-/// A decimal number without leading zeros.
-pub fn number(word: &str) -> Result<u64, Fault> {
-    let bytes = word.as_bytes();
-    let is_decimal = bytes.iter().all(|byte| byte.is_ascii_digit());
-    if !is_decimal || (bytes.len() > 1 && bytes[0] == b'0') {
-        return Err(NO_WORD);
-    }
-    word.parse::<u64>().map_err(|_error| NO_WORD)
-}
 
 /// A shard, by its number.
 pub fn shard(word: &str) -> Result<ShardNo, Fault> {
     let number = u8::try_from(number(word)?).map_err(|_error| NO_WORD)?;
     ShardNo::new(number).ok_or(NO_WORD)
-}
-
-/// A timestamp in microseconds.
-pub fn stamp(word: &str) -> Result<Stamp, Fault> {
-    Stamp::new(number(word)?)
-}
-
-/// A reading between two words.
-pub fn reading(earliest: &str, latest: &str) -> Result<Reading, Fault> {
-    Reading::new(stamp(earliest)?, stamp(latest)?)
 }
 
 /// An id: two numbers with a dot between them.

@@ -5,7 +5,9 @@ use Rattle.units.specs.Ids.{Id}
 use Rattle.message.specs.declared.message.Input.{Input}
 use Rattle.protocol.specs.Rows.{Memory}
 use Rattle.rows.specs.RowTable.{nth_decided}
+use Rattle.units.specs.declared.setup.Setup.{Setup}
 use Rattle.shard.specs.Core.{seen}
+use Rattle.shard.proofs.Booked.{no-book}
 use Rattle.shard.specs.On.{step_of}
 use Rattle.cli.specs.Replies.{only_txn}
 use Rattle.cli.specs.Shards.{HasLog, decided_log}
@@ -17,7 +19,7 @@ pub unwrap-stamp-requires : goal.unwrap-stamp-requires
 unwrap-stamp-requires c =
     let came = commits c.args.at.now c.args.key c.args.value (seen c.args.core.now) (seen c.on.new.self) c.requires _
     (subst (λ (i : Input). Steps (seen c.args.core.now) (seen c.on.new.self) (step_of (seen c.args.core.now) c.args.at.now i) (Ok c.in-Ok.field-0))
-    c.in_ok-asked.ensures.commit c.in-Ok.ensures.stepped) in
+    c.in_ok-asked.ensures.commit (c.in-Ok.ensures.stepped (no-book _ _ (ap (λ (t : Setup). t.book) c.requires.setup)))) in
     subst (λ (o : Option (Id × ℕ)). IsSome o)
     (sym (c.decided.ensures ∙ ap (λ (m : Memory). nth_decided m.rows 0) came.1.memory ∙ decided-is c.args.key c.args.value (c.args.at.now.latest + 1))) refl
 
@@ -25,7 +27,7 @@ pub returns-in-Ok : goal.returns-in-Ok
 returns-in-Ok c =
     let came = commits c.args.at.now c.args.key c.args.value (seen c.args.core.now) (seen c.on.new.self) c.requires _
     (subst (λ (i : Input). Steps (seen c.args.core.now) (seen c.on.new.self) (step_of (seen c.args.core.now) c.args.at.now i) (Ok c.in-Ok.field-0))
-    c.in_ok-asked.ensures.commit c.in-Ok.ensures.stepped) in
+    c.in_ok-asked.ensures.commit (c.in-Ok.ensures.stepped (no-book _ _ (ap (λ (t : Setup). t.book) c.requires.setup)))) in
     let told : Some c.unwrap-stamp.result ≡ Some (only_txn, c.args.at.now.latest + 1) =
     sym c.unwrap-stamp.ensures ∙ c.decided.ensures ∙ ap (λ (m : Memory). nth_decided m.rows 0) came.1.memory
     ∙ decided-is c.args.key c.args.value (c.args.at.now.latest + 1) in
@@ -36,4 +38,4 @@ pub returns : goal.returns
 returns c =
     commits c.args.at.now c.args.key c.args.value (seen c.args.core.now) (seen c.on.new.self) c.requires _
     (subst (λ (i : Input). Steps (seen c.args.core.now) (seen c.on.new.self) (step_of (seen c.args.core.now) c.args.at.now i) (Err c.in-Err.fault))
-    c.in_ok-asked.ensures.commit c.in-Err.ensures.stepped)
+    c.in_ok-asked.ensures.commit (c.in-Err.ensures.stepped (no-book _ _ (ap (λ (t : Setup). t.book) c.requires.setup))))

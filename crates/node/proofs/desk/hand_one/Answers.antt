@@ -1,6 +1,5 @@
 use Rattle.std.proofs.Common.{◌≡◌, ◌+◌, ◌++◌, ◌∷◌, [], get_or, ap, sym, ◌∙◌, subst, append_assoc}
 use Rattle.units.specs.declared.writes.Install.{Install}
-use Rattle.board.specs.declared.entry.BoardEntry.{BoardEntry}
 use Rattle.board.specs.declared.entry.BoardEntry.TheVariants.{Installed}
 use Rattle.board.specs.Views.{Publishing}
 use Rattle.shard.specs.Core.{seen}

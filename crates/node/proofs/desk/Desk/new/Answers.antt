@@ -1,4 +1,4 @@
-use Rattle.std.proofs.Common.{◌≡◌, ◌∙◌, [], length}
+use Rattle.std.proofs.Common.{◌∙◌, []}
 use Rattle.board.specs.Board.{first_entries, is_board}
 use Rattle.shard.specs.Core.{seen}
 use Rattle.shard.specs.Look.{safe_at}

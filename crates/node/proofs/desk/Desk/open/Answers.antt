@@ -1,4 +1,4 @@
-use Rattle.std.proofs.Common.{◌≡◌, inr, ap, ◌∙◌, subst}
+use Rattle.std.proofs.Common.{inr, ap, ◌∙◌, subst}
 use Rattle.units.specs.declared.setup.Setup.{Setup}
 use Rattle.shard.specs.Core.{seen}
 use Rattle.shard.specs.On.{CoreView}

@@ -1,8 +1,8 @@
 use Rattle.std.proofs.Common.{◌∙◌, sym, ap}
 use Rattle.std.specs.Prelude.{is_err}
-use Rattle.cli.specs.Numbers.{is_decimal}
-use Rattle.cli.proofs.NumberLemmas.{too_great}
-use Rattle.cli.proofs.numbers.read_stamp.Goals as goal
+use Rattle.texts.specs.Numbers.{is_decimal}
+use Rattle.texts.proofs.NumberLemmas.{too_great}
+use Rattle.texts.proofs.numbers.number.Goals as goal
 
 pub returns-in-Err : goal.returns-in-Err
 returns-in-Err c =
