@@ -72,7 +72,7 @@ pub holds_crashed : (s : ShardNow) (fate : Fate) (old new : SimDisk) → disk_pl
     → HoldsLog s old → HoldsLog (crash_by fate s) new
 holds_crashed s fate old new never file h =
     let image : records_in (crash_leaves (fate ∷ []) (disk_file old)) ≡ Ok (disk_log (crash_by fate s)) = h.left (fate ∷ [])
-        ∙ ap (λ l. Ok l) (sym (append-nil (left_log fate s))) in
+    ∙ ap (λ l. Ok l) (sym (append-nil (left_log fate s))) in
     record {
       never = never;
       read = ap (λ f. records_in (surface f).seen) file ∙ image;

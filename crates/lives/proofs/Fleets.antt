@@ -156,7 +156,7 @@ Answers config ss n new bag call doing result o =
 -- one that did something
 module _ (config : Config) (ss : List ShardNow) (n : ℕ) (old new : Shards) (before after : RunShard) (h : AreShards config old ss)
     (splits : new.splits.now ≡ old.splits.now) (put : new.shards.items ≡ set old.shards.items n after)
-        (there : slice_get old.shards.items n ≡ Some before) where
+    (there : slice_get old.shards.items n ≡ Some before) where
   place : (s : ShardNow) × (slice_get ss n ≡ Some s) × StandsFor (setup_of config n) before s
   place = in_place config 0 n n old.shards.items ss before h.standing (omega arith) there
 
@@ -174,7 +174,7 @@ module _ (config : Config) (ss : List ShardNow) (n : ℕ) (old new : Shards) (be
     where
       by_answer : Comes call (effect (setup_of config n) bag place.0 doing) result
           (StandsFor (setup_of config n) after (done_by place.0 call doing (effect (setup_of config n) bag place.0 doing)))
-              → Answers config ss n new bag call doing result (slice_get ss n)
+          → Answers config ss n new bag call doing result (slice_get ss n)
       by_answer (inl memory) = inl memory
       by_answer (inr k) = subst (Answers config ss n new bag call doing result) (sym place.1)
           (inr (k.0, changed (done_by place.0 call doing (effect (setup_of config n) bag place.0 doing)) k.1))
@@ -185,7 +185,7 @@ module _ (config : Config) (ss : List ShardNow) (n : ℕ) (old new : Shards) (be
       → OnOk r (AreShards config new (changed_at f ss n))
   crash_there f r crash = on_ok r (crash place.0 place.1 place.2)
       (λ k. subst (λ o. AreShards config new (elim o as (λ x. List ShardNow) [ None ↦ ss | Some s ↦ replaced ss n (f s) ])) (sym place.1)
-          (changed (f place.0) k))
+      (changed (f place.0) k))
 
 -- there is none
 pub acts_nowhere : (config : Config) (shards : Shards) (ss : List ShardNow) (n : ℕ) (bag : List Envelope) (call : Option ℕ) (doing : Doing)

@@ -47,7 +47,7 @@ module _ (setup : Setup) (bag : List Envelope) (s : ShardNow) where
   pub goes_as : (doing : Doing) → goes_on doing ≡ true
       → effect setup bag s doing
       ≡ where_room (end_of (disk_log s))
-          (elim s.state as (λ x. Stepped) [ Runs m ↦ step_with setup (facts_of s.log) m (input_of bag doing) | _ ↦ Refuses Stopped ])
+      (elim s.state as (λ x. Stepped) [ Runs m ↦ step_with setup (facts_of s.log) m (input_of bag doing) | _ ↦ Refuses Stopped ])
   unfolding effect wanted
   goes_as (Doing.Take n now) g = refl
   goes_as (Doing.Resume now) g = refl
@@ -90,7 +90,7 @@ pub does_input : (old new : CoreView SimDisk) (bag : List Envelope) (call : Opti
 does_input old new bag call doing now i r g is takes = λ setup s h order.
     let same = asks setup bag s doing now i g is in
     subst (λ x. Comes call x r (IsCoreIn setup (comes_to s s call x) new (comes_to s s call x).state)) (sym same)
-        (takes setup s h (subst (IsOrderly setup s) same order))
+    (takes setup s h (subst (IsOrderly setup s) same order))
 
 -- or has none
 pub does_nothing : (old : CoreView SimDisk) (bag : List Envelope) (call : Option ℕ) (doing : Doing) (fault : Fault) → goes_on doing ≡ true
@@ -131,7 +131,7 @@ module _ (setup : Setup) (bag : List Envelope) (s : ShardNow) (call : Option ℕ
   pub down_carries : (disk : SimDisk) → goes_on doing ≡ true → IsDiskIn s disk s.state → Carries setup bag s call doing (Down disk) (Err Stopped)
   down_carries disk g h =
       λ order. subst Left (sym (asks_the_down setup bag s doing g (is_down s.state h)))
-          (inr (refl, subst (λ t. LivesAs setup t (Down disk)) (sym (refused_same s doing g)) h))
+      (inr (refl, subst (λ t. LivesAs setup t (Down disk)) (sym (refused_same s doing g)) h))
     where
       Left : Stepped → Type 0
       Left x = Comes call x (Err Stopped) (LivesAs setup (left_by s call doing x) (Down disk))
@@ -205,7 +205,7 @@ module _ (setup : Setup) (bag : List Envelope) (s : ShardNow) (call : Option ℕ
   up_carries life up h = subst (λ d. Carries setup bag s call d life (Err Stopped)) (sym open_is) (λ order.
       let p = up_refuses setup bag s up in
       subst (λ x. Comes call x (Err Stopped) (LivesAs setup (left_by s call Doing.Open x) life)) (sym p.0)
-          (inr (refl, subst (λ t. LivesAs setup t life) (sym p.1) h)))
+      (inr (refl, subst (λ t. LivesAs setup t life) (sym p.1) h)))
 
   pub open_carries : (disk : SimDisk) (life : Life) (r : Result (List Envelope) Fault) → is_up s.state ≡ false → HoldsLog s disk
       → OpensDisk disk setup call life r

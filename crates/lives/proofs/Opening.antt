@@ -101,9 +101,9 @@ module _ (disk armed_disk : SimDisk) (call : Option ℕ) (plan : disk_plan armed
   unfolding step_of_opening
   does epoch place =
       let below : nat_lt (facts_of (disk_log s)).epoch time_limit ≡ true = ap (λ n. nat_lt n time_limit) (epoch_is (disk_log s))
-          ∙ below_limit (epoch_of (disk_log s)) epoch in
+      ∙ below_limit (epoch_of (disk_log s)) epoch in
       ap (λ b. where_room (end_of (disk_log s))
-          (cond b (Does (Some (Record.Opened ((facts_of (disk_log s)).epoch + 1))) (rebuilt (facts_of (disk_log s))) []) (Refuses TimeSpent))) below
+      (cond b (Does (Some (Record.Opened ((facts_of (disk_log s)).epoch + 1))) (rebuilt (facts_of (disk_log s))) []) (Refuses TimeSpent))) below
       ∙ ap (λ r. where_room (end_of (disk_log s)) (Does (Some r) (rebuilt (facts_of (disk_log s))) [])) item_is
       ∙ room_is (end_of (disk_log s)) (Some (next_opening (disk_log s))) (rebuilt (facts_of (disk_log s))) [] place
 
@@ -112,9 +112,9 @@ module _ (disk armed_disk : SimDisk) (call : Option ℕ) (plan : disk_plan armed
   unfolding step_of_opening
   refuses (inl spent) =
       let over : nat_lt (facts_of (disk_log s)).epoch time_limit ≡ false = ap (λ n. nat_lt n time_limit) (epoch_is (disk_log s))
-          ∙ at_limit (epoch_of (disk_log s)) spent in
+      ∙ at_limit (epoch_of (disk_log s)) spent in
       ap (λ b. where_room (end_of (disk_log s))
-          (cond b (Does (Some (Record.Opened ((facts_of (disk_log s)).epoch + 1))) (rebuilt (facts_of (disk_log s))) []) (Refuses TimeSpent))) over
+      (cond b (Does (Some (Record.Opened ((facts_of (disk_log s)).epoch + 1))) (rebuilt (facts_of (disk_log s))) []) (Refuses TimeSpent))) over
   refuses (inr full) = by_test (nat_lt (facts_of (disk_log s)).epoch time_limit)
     where
       by_test : (b : Bool)
@@ -137,7 +137,7 @@ module _ (disk armed_disk : SimDisk) (call : Option ℕ) (plan : disk_plan armed
     learnt =
         learn_agrees setup.shard (disk_log s) (next_opening (disk_log s))
         (subst (λ r. followed setup.shard (disk_log s ++ r ∷ []) ≡ true) item_is (opening_follows setup.shard (disk_log s)
-            (accepted_follows setup (disk_log s) accepted)))
+        (accepted_follows setup (disk_log s) accepted)))
 
     running : IsRunningAs setup (stepped s (Some (next_opening (disk_log s))) (rebuilt (facts_of (disk_log s)))) (rebuilt (facts_of (disk_log s))) new
     running =
@@ -202,7 +202,7 @@ module _ (disk armed_disk : SimDisk) (call : Option ℕ) (plan : disk_plan armed
         let disk_holds : HoldsLog (failed_in s c q) new = holds_failed s c q new never f.0 (subst (AreArmed c (Ok (disk_log s)) q) (sym same) f.2) in
         let left : comes_to s (crashed s (disk_log s)) call (Does (Some q) memory []) ≡ failed_in s c q =
         ap (λ k. comes_to s (crashed s (disk_log s)) k (Does (Some q) memory [])) (sym e)
-            ∙ ap (λ b. cond b (failed_in s c q) (stepped s (Some q) memory)) f.0 in
+        ∙ ap (λ b. cond b (failed_in s c q) (stepped s (Some q) memory)) f.0 in
         let answer : answer_of call (Does (Some q) memory []) ≡ Err Device =
         ap (λ k. answer_of k (Does (Some q) memory [])) (sym e) ∙ ap (λ b. cond b (Err Device) (Ok [])) f.0 in
         subst Left (sym whole) (inr (

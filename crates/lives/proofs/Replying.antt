@@ -200,8 +200,11 @@ module _ (w : World) (old new : Run) (h : IsRun old w) where
     where
       by_test : (b : Bool) → cond {A = After} b (set_shard n (failed_in s call r) w, Reply.Refused Device)
           (put_out out (set_shard n (finished s doing (Some r) memory) w), Reply.Done)
-          ≡ by_shards (cond {A = Result (List Envelope) Fault} b (Err Device)
-              (Ok out), replaced w.shards n (cond b (failed_in s call r) (finished s doing (Some r) memory)))
+          ≡ by_shards (
+            cond {A = Result (List Envelope) Fault} b (Err Device)
+                (Ok out),
+            replaced w.shards n (cond b (failed_in s call r) (finished s doing (Some r) memory)),
+          )
       by_test true = refl
       by_test false = refl
 
@@ -270,7 +273,7 @@ module _ (w : World) (old new : Run) (h : IsRun old w) where
       by_answer (inr (same, shards)) =
           subst (λ x. Comes x new result) (sym (done_at n call doing))
           (answered_so p result shards (subst (λ a. HasReplied (record w { shards = p.1 }) a new.output result) same (replies (record w { shards = p.1 })
-              (output_with p.1))) sessions time)
+          (output_with p.1))) sessions time)
 
   -- a crash of a shard that is there
   changes : (n : ℕ) (f : ShardNow → ShardNow) → nat_lt n (length w.shards) ≡ true → AreShards w.config new.shards (changed_at f w.shards n)

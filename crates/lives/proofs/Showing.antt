@@ -112,7 +112,7 @@ shown_now : (is : List Install) (from : ℕ) (core : CoreView SimDisk) (log : Li
 shown_now is from core log memory same facts kept =
     let all : take (length core.facts.installs) (drop from is) ≡ (facts_of log).installs =
     ap (take (length core.facts.installs)) same ∙ take_all (length core.facts.installs) core.facts.installs (omega arith)
-        ∙ ap (λ (f : Facts). f.installs) facts in
+    ∙ ap (λ (f : Facts). f.installs) facts in
     λ i. record { installs = all i; safe = safe (kept i) }
 
 -- ---- what lives of a shard, with other views
@@ -269,7 +269,7 @@ module _ (setup : Setup) (bag : List Envelope) (s : ShardNow) (call : Option ℕ
         let run = ran logged memory out e is in
         let sure : s.unsure ≡ Nothing = sure_of setup s old.life h.lives run.0 run.1 in
         let shows : ShowsLog mid.installs.items mid.from s (Runs run.0) = still_shows (Runs run.0)
-            (subst (ShowsLog old.installs.items old.from s) run.1 h.shows) in
+        (subst (ShowsLog old.installs.items old.from s) run.1 h.shows) in
         let p = added (facts_of s.log) logged in
         let more : all ≡ (facts_of s.log).installs ++ p.0 = are ∙ ap (λ (f : Facts). f.installs) (sym (more_facts sure)) ∙ p.1 in (
           shows.0,

@@ -275,7 +275,7 @@ module _ (old before after new : CoreView SimDisk) (call : Option ℕ) (arms : I
         let whole : where_room before.gate (Does logged memory outbox) ≡ Does logged memory outbox = room_is before.gate logged memory outbox k.written.place in
         let is_past = past call arms.plan logged memory out outbox k in
         let core : IsRunningAs setup (stepped s logged memory) memory new = done logged memory out outbox k (λ q e. follows q memory outbox (whole
-            ∙ ap (λ l. Does l memory outbox) e)) in
+        ∙ ap (λ l. Does l memory outbox) e)) in
         subst (λ x. Left x (Ok out)) (sym whole) (inr (
           ap (λ o. Ok o) k.done.2.2 ∙ sym (past_answer s s memory outbox call logged is_past),
           subst (λ t. IsCoreIn setup t new t.state) (sym (past_left s s memory outbox call logged is_past)) core,
@@ -288,7 +288,7 @@ module _ (old before after new : CoreView SimDisk) (call : Option ℕ) (arms : I
   stopped_comes m h is st (Ok out) k = absurd (false≢true (sym k.done.0 ∙ arms.stopped ∙ h.stopped))
   stopped_comes m h is st (Err fault) k =
       let because : fault ≡ Stopped = subst (λ b. IsCause b st fault (IsLogFull before.gate (record_of st))
-          ((disk_failures before.disk < disk_failures after.disk) × IsTrue after.stopped))
+      ((disk_failures before.disk < disk_failures after.disk) × IsTrue after.stopped))
       (arms.stopped ∙ h.stopped) k.cause in
       refuses fault Stopped because (stays fault s.state k.written.kept k.written.setup (not_device fault Stopped because stopped_no_device)
       (subst (IsCoreIn setup s old) (sym is) h))
@@ -315,7 +315,7 @@ takes_input old before after new call arms disarms now i r book k = λ setup s h
         let whole : asked setup s now i ≡ where_room before.gate (step_of before now i) = λ j. where_room (gate j) (inner j) in
         subst (λ x. Left old before after new call arms disarms setup s x r) (sym whole)
         (running_comes old before after new call arms disarms setup s m h is (step_of before now i) r (k (room setup order.unbooked h.core_of.setup_is))
-            (λ q memory out e. order.follows q memory out (whole ∙ e)))
+        (λ q memory out e. order.follows q memory out (whole ∙ e)))
     by_state setup s order (IsStopped m) is h =
         let whole : asked setup s now i ≡ Refuses Stopped = ap (λ t. where_room (end_of (disk_log s)) (asked_in setup s now i t)) is in
         subst (λ x. Left old before after new call arms disarms setup s x r) (sym whole)
