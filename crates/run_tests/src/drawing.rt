@@ -48,6 +48,9 @@ const KEYS: [u8; 9] = [b'a', b'c', b'f', b'n', b'p', b'r', b't', b'w', b'y'];
 
 const DIGITS: [u8; 10] = [b'0', b'1', b'2', b'3', b'4', b'5', b'6', b'7', b'8', b'9'];
 
+// What a crash may leave of each byte of a write: that of an open gate, that of a closed one, and others.
+const BYTES: [u8; 4] = [0xa5, 0x00, 0x37, 0xff];
+
 // The length of a list.
 pub const LENGTH: usize = 300;
 
@@ -442,8 +445,7 @@ impl Drawn {
         match self.random.below(4) {
             0 => Fate::Old,
             1 => Fate::New,
-            2 => Fate::Filled(0xa5),
-            _ => Fate::Filled(self.random.below(256) as u8),
+            _ => Fate::Filled(self.random.one_of(&BYTES)),
         }
     }
 
@@ -507,11 +509,11 @@ impl Drawn {
 
     // The steps that were drawn happen.
     fn catch_up(&mut self, alloc: Global, run: &mut Run<'_>) -> Option<()> {
-        while self.taken < self.steps.len() {
-            let event = event(alloc, self.steps[self.taken])?;
-            run.take(alloc, self.taken as u64, &event).ok()?;
-            self.taken += 1;
+        for number in self.taken..self.steps.len() {
+            let event = event(alloc, self.steps[number])?;
+            run.take(alloc, number as u64, &event).ok()?;
         }
+        self.taken = self.steps.len();
         self.known = run.output.bag.len();
         Some(())
     }

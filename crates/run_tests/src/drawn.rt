@@ -54,7 +54,7 @@ fn have_lines(counts: Counts) -> bool {
 
 // So of stops.
 fn have_stops(stops: Stops) -> bool {
-    stops.crashed >= 100 && stops.failed >= 50 && stops.opened >= 100
+    stops.crashed >= 100 && stops.failed >= 30 && stops.opened >= 100
 }
 
 fn are_enough(totals: Totals) -> bool {

@@ -10,6 +10,7 @@ use units::Fault;
 use world::Reply;
 
 // At the number of the first Commit the core of shard 0 is to serve up to 500, with a device call of it armed or with none.
+#[derive(Clone, Copy)]
 struct Outside {
     name: &'static str,
     call: Option<u64>,
