@@ -1,5 +1,5 @@
 -- A formatted disk that is opened has the first opening as its log.
-use Rattle.std.proofs.Common.{◌≡◌, ◌⊎◌, inl, inr, ⊎_elim, ℕ, ◌+◌, ◌≤◌, ◌<◌, ◌^◌, IsTrue, List, [], ◌∷◌, ◌++◌, Option, Some, None, Result, Ok, Err, refl, sym, ap, ◌∙◌, subst, arith}
+use Rattle.std.proofs.Common.{◌≡◌, ◌⊎◌, inl, inr, ⊎_elim, ℕ, ◌+◌, ◌≤◌, ◌<◌, ◌^◌, IsTrue, List, [], ◌∷◌, ◌++◌, Option, Some, None, Result, Ok, Err, IfOk, IfErr, refl, sym, ap, ◌∙◌, subst, arith}
 use Rattle.units.specs.declared.fault.Fault.{Fault}
 use Rattle.units.specs.declared.fault.Fault.TheVariants.{Memory, TimeSpent}
 use Rattle.disk.specs.File.{surface}
@@ -14,10 +14,20 @@ use Rattle.record.specs.Installs.{installs_of}
 use Rattle.record.specs.declared.record.Record.{Record}
 use Rattle.shard.specs.Logs.{KeepsRecords, and_logged, items_of, learned, records_in}
 use Rattle.shard.specs.On.{CoreView}
-use Rattle.shard.specs.Opened.{HasNotOpened, HasOpened, IsReason, IsTaken, IsToldReason, epoch_of, fault_of, next_opening, opening_of}
+use Rattle.shard.specs.Opened.{HasNotOpened, HasOpened, IsReason, IsTaken, IsToldReason, fault_of, next_opening, opening_of}
+use Rattle.record.specs.Records.{epoch_of}
 use Rattle.simdisk.specs.State.{LeftSince, disk_clock, disk_failures, disk_file, disk_plan}
 use Rattle.simdisk.specs.declared.simdisk.SimDisk.{SimDisk}
 use Rattle.cli.specs.Shards.{HasLog, new_log, only_setup}
+
+-- what holds of what is answered holds in other words
+pub ok_map : {A E : Type 0} (P Q : A → Type 0) (r : Result A E) → IfOk r P → ((x : A) → P x → Q x) → IfOk r Q
+ok_map P Q (Ok x) h f = f x h
+ok_map P Q (Err e) h f = tt
+
+pub err_map : {A E : Type 0} (P Q : E → Type 0) (r : Result A E) → IfErr r P → ((e : E) → P e → Q e) → IfErr r Q
+err_map P Q (Ok x) h f = tt
+err_map P Q (Err e) h f = f e h
 
 -- read or learnt, its facts are the same
 first_facts : facts_of (next_opening [] ∷ []) ≡ learned new_log
