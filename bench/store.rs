@@ -1,5 +1,6 @@
 //! Times the core of a shard over a disk in memory. Each line is what was done, with how much beside it, and the microseconds
 //! of the processor that one such call took. The words are the scenes to run, none for all.
+use gatelog::GateLog;
 use message::{Commit, GiveUp, Input, Message, Outcome, Prepare, Read, Reads};
 use shard::Core;
 use shim::alloc::Global;
@@ -53,7 +54,11 @@ fn setup(shard: u8) -> Setup {
 }
 
 fn new_store(shard: u8) -> Store {
-    match Core::fresh(Global, SimDisk::new(Global), setup(shard)) {
+    let log = match GateLog::format(SimDisk::new(Global)) {
+        Ok(log) => log,
+        Err((fault, _)) => panic!("{}", fault.number()),
+    };
+    match Core::open(Global, log.into_disk(), setup(shard)) {
         Ok(core) => core,
         Err((fault, _)) => panic!("{}", fault.number()),
     }
