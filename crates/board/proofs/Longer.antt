@@ -1,7 +1,8 @@
 -- What more entries leave as it is.
 use mathlib.Core.List.{IsPrefix}
 use mathlib.Core.Bool.{true≢false}
-use Rattle.std.proofs.Common.{Result, Ok, Err, IsOk, length, ◌≡◌, ℕ, ◌<◌, ◌≤◌, Bool, true, false, cond, filter, List, [], ◌∷◌, ◌++◌, Option, Some, None, refl, ap, sym, subst, if◌then◌else◌, ◌∙◌, ◌⊎◌, inl, inr, arith, nat_lt, nat_le}
+use Rattle.std.proofs.Common.{Result, Ok, Err, IsOk, length, ◌≡◌, ℕ, ◌<◌, ◌≤◌, Bool, true, false, cond, filter, List, [], ◌∷◌, ◌++◌, Option, Some}
+use Rattle.std.proofs.Common.{None, refl, ap, sym, subst, if◌then◌else◌, ◌∙◌, ◌⊎◌, inl, inr, arith, nat_lt, nat_le}
 use Rattle.std.proofs.lemmas.Bool.Decides.{nat_tests}
 use Rattle.std.proofs.lemmas.Bool.{and_parts}
 use Rattle.std.proofs.lemmas.List.{append-nil}
@@ -169,7 +170,8 @@ module _ (home : Home) (entries : List BoardEntry) (key : Bytes) (t room : ℕ) 
       grind (arith, nat_tests)
 
 -- a version is prepared
-pub takes_install : (old new : List Install) (list log log' : List BoardEntry) (e : BoardEntry) (i : Install) (prepared : ℕ) → e ≡ Installed i → log' ≡ log ++ e ∷ []
+pub takes_install : (old new : List Install) (list log log' : List BoardEntry) (e : BoardEntry) (i : Install) (prepared : ℕ) → e ≡ Installed i
+    → log' ≡ log ++ e ∷ []
     → IsPrefix list log → SameValues old (versions_on log) → AddsVersion old new i → prepared ≡ safe_on log
     → IsPrefix list log' × SameValues new (versions_on log') × (prepared ≡ safe_on log')
 takes_install old new list log log' e i prepared is grown front same adds at =

@@ -92,7 +92,8 @@ impl BoardCopy {
 
     /// Prepares a copy of the entry. One that breaks the rule of boards is not taken.
     pub(crate) fn prepare(&mut self, entry: &BoardEntry) -> Result<(), Fault>
-        ensures { Takes self.old (record self.old { ahead = self.old.ahead ++ entry.now ∷ [] }) result self.new }
+        ensures { Takes self.old
+            (record self.old { ahead = self.old.ahead ++ entry.now ∷ [] }) result self.new }
     {
         match entry {
             BoardEntry::Installed(install) => {
@@ -119,7 +120,11 @@ impl BoardCopy {
     pub(crate) fn open(mut self, installs: &[Install], safe: Stamp) -> Result<BoardCopy, Fault>
         requires { self.ahead ≡ [] }
         ensures list { IfOk result (λ s.
-            s ≡ record self { list = first_entries installs.now safe; ahead = first_entries installs.now safe }) }
+            s ≡ record self {
+              list = first_entries installs.now safe;
+              ahead = first_entries
+                  installs.now safe;
+            }) }
         ensures memory { IfErr result (λ fault. fault ≡ Fault.Memory) }
     {
         let alloc = self.alloc;
@@ -147,7 +152,8 @@ impl BoardCopy {
 
     /// The list so far.
     pub(crate) fn so_far(&self) -> Beginning<BoardEntry>
-        ensures { (result.entries ≡ self.now.list) × (result.names ≡ self.now.board) × (result.second ≡ self.now.second) }
+        ensures { (result.entries ≡ self.now.list) × (result.names ≡ self.now.board)
+            × (result.second ≡ self.now.second) }
     {
         self.list.so_far()
     }
@@ -155,7 +161,8 @@ impl BoardCopy {
     /// The list begins with a list that both copies of the board have had.
     pub(crate) fn begins_with(&self, first: &Beginning<BoardEntry>, second: &Beginning<BoardEntry>)
         requires sides { (first.now.second ≡ false) × (second.now.second ≡ true) }
-        requires same { (second.now.names ≡ first.now.names) × (second.now.entries ≡ first.now.entries) }
+        requires same { (second.now.names ≡ first.now.names)
+            × (second.now.entries ≡ first.now.entries) }
         requires board { first.now.names ≡ self.now.board }
         ensures { IsPrefix first.now.entries self.now.list }
     {
@@ -176,7 +183,8 @@ impl BoardCopy {
     ) -> Result<Seen, Fault>
         requires lawful { is_board self.now.ahead ≡ true }
         requires safe { has_safe self.now.list ≡ true }
-        ensures answer { result ≡ look_answer home.now self.now.list key.now at (length buffer.old) }
+        ensures answer { result ≡ look_answer home.now self.now.list key.now at
+            (length buffer.old) }
         ensures buffer { buffer.new ≡ look_buffer home.now self.now.list key.now at buffer.old }
     {
         if !home.has(key) {
@@ -191,8 +199,10 @@ impl BoardCopy {
 
 // Adds a copy of a version, which is above its key's others.
 fn add_version(versions: &mut Versions, alloc: Global, install: &Install) -> Result<(), Fault>
-    ensures added { OnOk result (AddsVersion versions.old.installs versions.new.installs install.now) }
-    ensures refused { IfErr result (λ fault. (fault ≡ Fault.Memory) × (versions.new.installs ≡ versions.old.installs)) }
+    ensures added { OnOk result
+        (AddsVersion versions.old.installs versions.new.installs install.now) }
+    ensures refused { IfErr result
+        (λ fault. (fault ≡ Fault.Memory) × (versions.new.installs ≡ versions.old.installs)) }
 {
     place_does_not_matter();
     let Install { key, at, value } = copy_install(install, alloc)?;
@@ -206,8 +216,10 @@ fn add_version(versions: &mut Versions, alloc: Global, install: &Install) -> Res
 
 // Puts the value of a key at a timestamp at the front of a buffer.
 fn read(versions: &Versions, key: &Key, at: Stamp, buffer: &mut [u8]) -> Result<Seen, Fault>
-    ensures answer { result ≡ value_seen (at_time versions.now.installs key.now at) (length buffer.old) }
-    ensures buffer { buffer.new ≡ buffer_filled (at_time versions.now.installs key.now at) buffer.old }
+    ensures answer { result ≡ value_seen (at_time versions.now.installs key.now at)
+        (length buffer.old) }
+    ensures buffer { buffer.new ≡ buffer_filled
+        (at_time versions.now.installs key.now at) buffer.old }
 {
     match versions.at(key, at) {
         None => Ok(Seen::Absent),

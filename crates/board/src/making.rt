@@ -29,9 +29,12 @@ fn viewer(
     told: &Told,
 ) -> Result<Viewer, AllocError>
     requires { view writer.old.desk.place ≡ (told.now.list, told.now.list, told.now.board) ∷ [] }
-    ensures viewer { IfOk result (λ v. v ≡ new_viewer told.now.board told.now.list (arc_value home.now)) }
-    ensures writer { (writer.new.desk.shown ≡ writer.old.desk.shown) × (writer.new.log ≡ writer.old.log)
-        × (writer.new.behind ≡ writer.old.behind) × (view writer.new.desk.place ≡ view writer.old.desk.place) }
+    ensures viewer { IfOk result
+        (λ v. v ≡ new_viewer told.now.board told.now.list (arc_value home.now)) }
+    ensures writer { (writer.new.desk.shown ≡ writer.old.desk.shown)
+        × (writer.new.log ≡ writer.old.log)
+        × (writer.new.behind ≡ writer.old.behind)
+        × (view writer.new.desk.place ≡ view writer.old.desk.place) }
 {
     let mut reader = writer.factory().reader()?;
     let home = Arc::try_clone(home)?;
@@ -49,7 +52,8 @@ fn viewers(
     requires { view writer.old.desk.place ≡ (told.now.list, told.now.list, told.now.board) ∷ [] }
     ensures viewers { IfOk result (λ v.
         AreViewers n (new_viewer told.now.board told.now.list (arc_value home.now)) v.items) }
-    ensures writer { (writer.new.desk.shown ≡ writer.old.desk.shown) × (writer.new.log ≡ writer.old.log)
+    ensures writer { (writer.new.desk.shown ≡ writer.old.desk.shown)
+        × (writer.new.log ≡ writer.old.log)
         × (writer.new.behind ≡ writer.old.behind) }
 {
     let mut viewers = Vec::new(alloc);
@@ -70,8 +74,10 @@ pub fn start<R: Wait + Drop>(
     n: usize,
 ) -> Result<(Publisher<R>, Vec<Viewer>), Fault>
     requires { is_board (first_entries installs.now safe) ≡ true }
-    ensures publisher { IfOk result (λ r. (r.0.published ≡ first_entries installs.now safe) × (r.0.pending ≡ [])) }
-    ensures viewers { IfOk result (λ r. AreViewers n (new_viewer r.0.board (first_entries installs.now safe)
+    ensures publisher { IfOk result
+        (λ r. (r.0.published ≡ first_entries installs.now safe) × (r.0.pending ≡ [])) }
+    ensures viewers { IfOk result
+        (λ r. AreViewers n (new_viewer r.0.board (first_entries installs.now safe)
         (record { splits = splits; shard = shard })) r.1.items) }
     ensures many { (n ≡ 0) ⊎ (64 < n) → result ≡ Err (Fault.BadRequest Reason.Many) }
     ensures refused { (0 < n) × (n ≤ 64) → IfErr result (λ e. e ≡ Fault.Memory) }
@@ -107,7 +113,8 @@ fn make<R: Wait + Drop>(
     requires lawful { is_board (first_entries installs.now safe) ≡ true }
     requires count { (0 < n) × (n ≤ 64) }
     ensures memory { IfErr result (λ fault. fault ≡ Fault.Memory) }
-    ensures publisher { IfOk result (λ r. (r.0.published ≡ first_entries installs.now safe) × (r.0.pending ≡ [])) }
+    ensures publisher { IfOk result
+        (λ r. (r.0.published ≡ first_entries installs.now safe) × (r.0.pending ≡ [])) }
     ensures viewers { IfOk result (λ r.
         AreViewers n (new_viewer r.0.board (first_entries installs.now safe) home) r.1.items) }
 {

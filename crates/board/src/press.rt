@@ -22,9 +22,13 @@ pub(crate) type BoardWriter = Writer<BoardCopy, BoardChange, SeenStates, OneList
 /// Prepares in the spare copy what it lacks, and shows that copy, by the same list. It says whether there was memory for all.
 fn prepare<R: Wait>(rt: &R, writer: BoardWriter) -> (BoardWriter, bool)
     requires quiet { is_quiet (drop writer.behind writer.log.items) ≡ true }
-    requires lawful { is_board (writer.desk.shown.value.ahead ++ prepared_by (drop writer.behind writer.log.items)) ≡ true }
-    ensures list { (result.0.desk.shown.value.list ≡ writer.desk.shown.value.list) × (result.0.desk.shown.value.board ≡ writer.desk.shown.value.board) }
-    ensures ahead { result.0.desk.shown.value.ahead ++ prepared_by (drop result.0.behind result.0.log.items)
+    requires lawful { is_board
+        (writer.desk.shown.value.ahead ++ prepared_by (drop writer.behind writer.log.items)) ≡
+        true }
+    ensures list { (result.0.desk.shown.value.list ≡ writer.desk.shown.value.list)
+        × (result.0.desk.shown.value.board ≡ writer.desk.shown.value.board) }
+    ensures ahead { result.0.desk.shown.value.ahead ++ prepared_by
+        (drop result.0.behind result.0.log.items)
         ≡ writer.desk.shown.value.ahead ++ prepared_by (drop writer.behind writer.log.items) }
     ensures longer { IsPrefix writer.desk.shown.value.ahead result.0.desk.shown.value.ahead }
     ensures quiet { is_quiet (drop result.0.behind result.0.log.items) ≡ true }
@@ -38,7 +42,11 @@ fn prepare<R: Wait>(rt: &R, writer: BoardWriter) -> (BoardWriter, bool)
 fn commit<R: Wait>(rt: &R, writer: BoardWriter) -> BoardWriter
     requires commit { drop writer.behind writer.log.items ≡ BoardChange.Commit ∷ [] }
     requires longer { IsPrefix writer.desk.shown.value.list writer.desk.shown.value.ahead }
-    ensures state { board_state result.desk.shown.value ≡ (writer.desk.shown.value.ahead, writer.desk.shown.value.ahead, writer.desk.shown.value.board) }
+    ensures state { board_state result.desk.shown.value ≡ (
+      writer.desk.shown.value.ahead,
+      writer.desk.shown.value.ahead,
+      writer.desk.shown.value.board,
+    ) }
     ensures none { drop result.behind result.log.items ≡ [] }
 {
     let mut writer = writer;
@@ -57,7 +65,8 @@ pub(crate) fn settle<R: Wait>(rt: &R, writer: BoardWriter) -> (BoardWriter, Told
     requires none { drop writer.behind writer.log.items ≡ [] }
     ensures state { board_state result.0.desk.shown.value ≡ board_state writer.desk.shown.value }
     ensures none { drop result.0.behind result.0.log.items ≡ [] }
-    ensures told { result.1 ≡ record { board = writer.desk.shown.value.board; list = writer.desk.shown.value.list } }
+    ensures told { result.1 ≡
+        record { board = writer.desk.shown.value.board; list = writer.desk.shown.value.list } }
     ensures view { view result.0.desk.place ≡ board_state writer.desk.shown.value ∷ [] }
 {
     let was_second = writer.published().is_second();
@@ -85,8 +94,11 @@ pub(crate) fn settle<R: Wait>(rt: &R, writer: BoardWriter) -> (BoardWriter, Told
 fn show<R: Wait>(rt: &R, writer: BoardWriter) -> (BoardWriter, Result<Told, Fault>)
     requires quiet { is_quiet (drop writer.behind writer.log.items) ≡ true }
     requires longer { IsPrefix writer.desk.shown.value.list writer.desk.shown.value.ahead }
-    requires lawful { is_board (writer.desk.shown.value.list ++ pending_of writer.desk.shown.value (drop writer.behind writer.log.items)) ≡ true }
-    ensures { IsPublished writer.desk.shown.value (drop writer.behind writer.log.items) result.1 result.0.desk.shown.value
+    requires lawful { is_board
+        (writer.desk.shown.value.list ++ pending_of writer.desk.shown.value
+        (drop writer.behind writer.log.items)) ≡ true }
+    ensures { IsPublished writer.desk.shown.value
+        (drop writer.behind writer.log.items) result.1 result.0.desk.shown.value
         (drop result.0.behind result.0.log.items) }
 {
     let (writer, one) = prepare(rt, writer);
@@ -101,7 +113,8 @@ fn show<R: Wait>(rt: &R, writer: BoardWriter) -> (BoardWriter, Result<Told, Faul
 fn finish<R: Wait>(rt: &R, mut writer: BoardWriter) -> (BoardWriter, Result<Told, Fault>)
     requires none { drop writer.behind writer.log.items ≡ [] }
     requires longer { IsPrefix writer.desk.shown.value.list writer.desk.shown.value.ahead }
-    ensures { IsFinished writer.desk.shown.value result.1 result.0.desk.shown.value (drop result.0.behind result.0.log.items) }
+    ensures { IsFinished writer.desk.shown.value result.1 result.0.desk.shown.value
+        (drop result.0.behind result.0.log.items) }
 {
     match writer.append(BoardChange::Commit) {
         Ok(()) => {
@@ -142,7 +155,13 @@ impl Press {
         requires none { drop writer.behind writer.log.items ≡ [] }
         requires same { writer.desk.shown.value.ahead ≡ writer.desk.shown.value.list }
         requires lawful { is_board writer.desk.shown.value.list ≡ true }
-        ensures { result ≡ record { board = writer.desk.shown.value.board; published = writer.desk.shown.value.list; pending = [] } }
+        ensures { result ≡
+            record {
+              board = writer.desk.shown.value.board;
+              published =
+                  writer.desk.shown.value.list;
+              pending = [];
+            } }
     {
         Press { writer }
     }

@@ -60,7 +60,8 @@ impl<R: Wait + Drop> Publisher<R> {
     /// Accepts a version.
     pub fn install(&mut self, install: Install) -> Result<(), Fault>
         requires { MayAccept self.old (BoardEntry.Installed install) }
-        ensures { Takes self.old (accepting self.old (BoardEntry.Installed install)) result self.new }
+        ensures { Takes self.old
+            (accepting self.old (BoardEntry.Installed install)) result self.new }
     {
         self.add(BoardEntry::Installed(install))
     }

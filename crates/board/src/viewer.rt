@@ -71,7 +71,8 @@ impl Viewer {
     pub fn learn(&mut self, told: &Told)
         requires { told.now.board ≡ self.old.board }
         ensures new { self.new ≡ record self.old { told = longer_of self.old.told told.now.list } }
-        ensures begins { IsPrefix self.old.told self.new.told × IsPrefix told.now.list self.new.told }
+        ensures begins { IsPrefix self.old.told self.new.told
+            × IsPrefix told.now.list self.new.told }
     {
         self.first = self.first.longer(&told.first);
         self.second = self.second.longer(&told.second);
@@ -79,9 +80,12 @@ impl Viewer {
 
     /// The value of a key at a timestamp, by the board's list at one step. It is stopped only where the board gives no entry.
     pub fn look(&mut self, key: &Key, at: Stamp, buffer: &mut [u8]) -> Result<Seen, Fault>
-        ensures same { (self.new.board ≡ self.old.board) × (self.new.home ≡ self.old.home) × (self.new.told ≡ self.old.told) }
-        ensures answer { result ≢ Err Fault.Stopped → LookedBy self.old key.now at buffer.old result self.new buffer.new }
-        ensures stopped { result ≡ Err Fault.Stopped → (self.new ≡ self.old) × (buffer.new ≡ buffer.old) }
+        ensures same { (self.new.board ≡ self.old.board) × (self.new.home ≡ self.old.home)
+            × (self.new.told ≡ self.old.told) }
+        ensures answer { result ≢ Err Fault.Stopped
+            → LookedBy self.old key.now at buffer.old result self.new buffer.new }
+        ensures stopped { result ≡ Err Fault.Stopped → (self.new ≡ self.old)
+            × (buffer.new ≡ buffer.old) }
         ensures told { at ≤ safe_on self.old.told → result ≢ Err Fault.NotYet }
     {
         let reader = self.reader.take().unwrap();

@@ -31,7 +31,8 @@ impl Model for Book {
 impl Book {
     /// A book without a page, of an opening that found these records.
     pub fn new(alloc: Global, capacity: Capacity, found: Vec<Record>) -> Result<Book, Fault>
-        ensures new { IfOk result (λ book. book ≡ record { capacity = capacity; found = found.items; pages = [] }) }
+        ensures new { IfOk result
+            (λ book. book ≡ record { capacity = capacity; found = found.items; pages = [] }) }
         ensures memory { IfErr result (λ fault. fault ≡ Fault.Memory) }
     {
         let pages = Vec::with_capacity(alloc, capacity.entries())?;

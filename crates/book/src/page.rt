@@ -27,7 +27,8 @@ impl Model for Page {
 impl Page {
     /// The page of an input, with memory of its own.
     pub fn of(alloc: Global, now: &Reading, input: &Input, outbox: &Outbox) -> Result<Page, Fault>
-        ensures same { IfOk result (λ page. page ≡ record { input = input.now; now = now.now; outbox = outbox.now }) }
+        ensures same { IfOk result
+            (λ page. page ≡ record { input = input.now; now = now.now; outbox = outbox.now }) }
         ensures memory { IfErr result (λ fault. fault ≡ Fault.Memory) }
     {
         let input = copy_input(alloc, input)?;

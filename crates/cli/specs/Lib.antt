@@ -1,8 +1,2 @@
-pub mod Commands
-pub mod Failures
-pub mod Lines
-pub mod Parser
+pub mod Disks
 pub mod Replies
-pub mod Shards
-pub mod Streams
-pub mod Views

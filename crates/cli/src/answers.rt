@@ -5,35 +5,37 @@ ghost use Rattle.units.specs.declared.fault.Fault.{Fault};
 ghost use Rattle.units.specs.declared.fault.Fault.TheVariants.{Memory};
 ghost use Rattle.disk.specs.declared.plan.FailurePlan.TheVariants.{Never};
 ghost use Rattle.simdisk.specs.State.{disk_plan};
-ghost use Rattle.cli.specs.Commands.{command_of};
-ghost use Rattle.cli.specs.Views.{asked_by};
-ghost use Rattle.cli.specs.declared.commands.Command.TheVariants.{Help};
-ghost use Rattle.cli.specs.declared.usage.TheConstants.{USAGE};
-ghost use Rattle.cli.specs.Failures.{FailsFor};
-ghost use Rattle.cli.specs.Lines.{are_plain, asks_help};
-ghost use Rattle.cli.specs.Replies.{Is, reply_of, reply_to};
-ghost use Rattle.cli.specs.Shards.{LogsCommand, LogsTo};
-ghost use Rattle.cli.specs.Streams.{failures_of, fault_line, writer_of};
+ghost use Rattle.command_line.specs.Commands.{command_of};
+ghost use Rattle.command_line.specs.Views.{asked_by};
+ghost use Rattle.command_line.specs.declared.commands.Command.TheVariants.{Help};
+ghost use Rattle.command_line.specs.declared.usage.TheConstants.{USAGE};
+ghost use Rattle.output.specs.Failures.{FailsFor};
+ghost use Rattle.command_line.specs.Lines.{are_plain, asks_help};
+ghost use Rattle.output.specs.Replies.{Is};
+ghost use Rattle.cli.specs.Disks.{LogsCommand, LogsTo};
+ghost use Rattle.cli.specs.Replies.{Tells, TellsTo, reply_of, reply_to};
+ghost use Rattle.output.specs.Streams.{failures_of, fault_line, writer_of};
 
-use crate::command;
-use crate::commands::Command;
-use crate::failure::Failure;
-use crate::files::ReadFile;
-use crate::once::once;
+use crate::drive::drive;
+use crate::format::format;
+use crate::help::help;
+use crate::inspect::inspect;
 use crate::play::play;
-use crate::stream::Stream;
-use crate::usage::help;
+use command_line::{Command, command};
+use once::once;
+use output::{Failure, Stream};
 use simdisk::SimDisk;
 use std::alloc::Global;
 use std::io::Write;
+use system::System;
 
-/// Carries a command line out, with the files that it names, on an empty disk and over standard output and standard error.
+/// Carries a command line out, with what it asks of the system, on an empty disk and over standard output and standard error.
 /// Gives the status, 0, 1 for a verdict of no or for early, 2 for a fault, and the disk, which holds what was printed of a
 /// commit. A fault is printed on standard error, except that after a failed write nothing more is printed.
-pub fn answer<'a, F: ReadFile, O: Write, E: Write>(
+pub fn answer<'a, S: System, O: Write, E: Write>(
     alloc: Global,
     words: &'a [&'a str],
-    files: &F,
+    system: &S,
     disk: SimDisk,
     out: &mut Stream<O>,
     err: &mut Stream<E>,
@@ -51,6 +53,10 @@ pub fn answer<'a, F: ReadFile, O: Write, E: Write>(
     ensures helped { asks_help (map (λ w. w.now) words.entry.now) ≡ true → result.0 ≢ 2
         → (result.0 ≡ 0)
         × Appends (O.contents (writer_of out.old)) (O.contents (writer_of out.new)) USAGE.now }
+    // What files tell: a format prints nothing, and an inspection a verdict, which its status goes with.
+    ensures tells { are_plain (map (λ w. w.now) words.entry.now) ≡ true → result.0 ≢ 2
+        → (text : List ℕ) × TellsTo (command_of (map (λ w. w.now) words.entry.now)) result.0 text
+        × Appends (O.contents (writer_of out.old)) (O.contents (writer_of out.new)) text }
     ensures quiet { result.0 ≢ 2 → err.new ≡ err.old }
     // A status of 2 has a reason: a write to standard output that failed, or a fault, whose line is on standard error.
     ensures told { are_plain (map (λ w. w.now) words.entry.now) ≡ true → result.0 ≡ 2
@@ -61,7 +67,7 @@ pub fn answer<'a, F: ReadFile, O: Write, E: Write>(
         ⊎ Appends (E.contents (writer_of err.old)) (E.contents (writer_of err.new))
         (fault_line fault))) }
 {
-    let (done, disk) = carry_out(alloc, words, files, disk, out);
+    let (done, disk) = carry_out(alloc, words, system, disk, out);
     match done {
         Ok(status) => (status, disk),
         Err(Failure::Refused(fault)) => {
@@ -72,10 +78,10 @@ pub fn answer<'a, F: ReadFile, O: Write, E: Write>(
     }
 }
 
-fn carry_out<'a, F: ReadFile, O: Write>(
+fn carry_out<'a, S: System, O: Write>(
     alloc: Global,
     words: &'a [&'a str],
-    files: &F,
+    system: &S,
     disk: SimDisk,
     out: &mut Stream<O>,
 ) -> (Result<u8, Failure>, SimDisk)
@@ -84,6 +90,10 @@ fn carry_out<'a, F: ReadFile, O: Write>(
     ensures printed { are_plain (map (λ w. w.now) words.entry.now) ≡ true
         → IfOk result.0 (λ status. (text : List ℕ)
         × Is (reply_to (map (λ w. w.now) words.entry.now)) (Ok (text, status))
+        × Appends (O.contents (writer_of out.old)) (O.contents (writer_of out.new)) text) }
+    ensures tells { are_plain (map (λ w. w.now) words.entry.now) ≡ true
+        → IfOk result.0 (λ status. (text : List ℕ)
+        × TellsTo (command_of (map (λ w. w.now) words.entry.now)) status text
         × Appends (O.contents (writer_of out.old)) (O.contents (writer_of out.new)) text) }
     ensures logged { are_plain (map (λ w. w.now) words.entry.now) ≡ true → IfOk result.0 (λ status.
         LogsTo (command_of (map (λ w. w.now) words.entry.now)) status result.1) }
@@ -98,16 +108,16 @@ fn carry_out<'a, F: ReadFile, O: Write>(
         (reply_to (map (λ w. w.now) words.entry.now))) }
 {
     match command(alloc, words) {
-        Ok(asked) => run(alloc, asked, files, disk, out),
+        Ok(asked) => run(alloc, asked, system, disk, out),
         Err(fault) => (Err(Failure::Refused(fault)), disk),
     }
 }
 
 // Carries one command out.
-fn run<F: ReadFile, O: Write>(
+fn run<S: System, O: Write>(
     alloc: Global,
     asked: Command<'_>,
-    files: &F,
+    system: &S,
     disk: SimDisk,
     out: &mut Stream<O>,
 ) -> (Result<u8, Failure>, SimDisk)
@@ -115,6 +125,8 @@ fn run<F: ReadFile, O: Write>(
     ensures status { IfOk result.0 (λ status. (status ≡ 0) ⊎ (status ≡ 1)) }
     ensures printed { IfOk result.0
         (λ status. (text : List ℕ) × Is (reply_of (asked_by asked.entry)) (Ok (text, status))
+        × Appends (O.contents (writer_of out.old)) (O.contents (writer_of out.new)) text) }
+    ensures tells { IfOk result.0 (λ status. (text : List ℕ) × Tells (asked_by asked.entry) status text
         × Appends (O.contents (writer_of out.old)) (O.contents (writer_of out.new)) text) }
     ensures logged { IfOk result.0 (λ status. LogsCommand (asked_by asked.entry) status result.1) }
     ensures helped { asked.entry ≡ Help → IfOk result.0 (λ status. (status ≡ 0)
@@ -133,6 +145,9 @@ fn run<F: ReadFile, O: Write>(
             first,
             second,
         } => once(alloc, key, value, &first, &second, disk, out),
-        Command::Play { file } => (play(alloc, file, files, out), disk),
+        Command::Format { file } => (format(alloc, file, system), disk),
+        Command::Play { file } => (play(alloc, file, system, out), disk),
+        Command::Inspect { lines, logs } => (inspect(alloc, lines, &logs, system, out), disk),
+        Command::Drive { file } => (drive(alloc, file, system, out), disk),
     }
 }

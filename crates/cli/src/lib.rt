@@ -1,20 +1,14 @@
-//! Command lines, and what the program answers to them.
+//! What the program answers to command lines.
 #![tactic(auto)]
 
 mod answers;
-mod command_line;
-mod commands;
-mod failure;
-mod files;
-mod once;
-mod one_shard;
+mod drive;
+mod format;
+mod help;
+mod inspect;
 mod play;
-mod stream;
-mod usage;
-mod words;
 
 pub use answers::answer;
-pub use commands::Command;
-pub use files::ReadFile;
-pub use stream::Stream;
-pub use words::command;
+pub use command_line::{Command, command};
+pub use output::Stream;
+pub use system::{Driven, Files, System};

@@ -2,7 +2,9 @@
 #![tactic(auto)]
 
 #[cfg(test)]
-mod files;
+mod asked;
+#[cfg(test)]
+mod given;
 #[cfg(test)]
 mod played;
 #[cfg(test)]

@@ -1,5 +1,5 @@
 //! What `play` prints of a file.
-use crate::files::OneFile;
+use crate::given::{File, Memory};
 use cli::{Stream, answer};
 use simdisk::SimDisk;
 use std::test::Fail;
@@ -463,16 +463,17 @@ const WORDS: [&str; 2] = ["play", "a.schedule"];
 fn schedules_of_files_are_played(rt: HostRuntime) -> Result<(), Fail> {
     let alloc = rt.alloc();
     for case in &PLAYED {
-        let file = OneFile {
+        let files = [File {
             path: "a.schedule",
             bytes: case.bytes,
-        };
+        }];
+        let system = Memory { files: &files };
         let mut out = Stream::new(Vec::<u8>::new(alloc));
         let mut err = Stream::new(Vec::<u8>::new(alloc));
         let (status, _) = answer(
             alloc,
             WORDS.as_slice(),
-            &file,
+            &system,
             SimDisk::new(alloc),
             &mut out,
             &mut err,
@@ -494,7 +495,7 @@ fn a_missing_file_is_refused(rt: HostRuntime) -> Result<(), Fail> {
     let (status, _) = answer(
         alloc,
         WORDS.as_slice(),
-        &OneFile::none(),
+        &Memory::empty(),
         SimDisk::new(alloc),
         &mut out,
         &mut err,

@@ -1,5 +1,5 @@
 //! What the program prints.
-use crate::files::OneFile;
+use crate::given::Memory;
 use cli::{Command, Stream, answer, command};
 use simdisk::SimDisk;
 use std::alloc::Global;
@@ -89,7 +89,7 @@ fn answered<'a>(alloc: Global, words: &'a [&'a str]) -> (u8, Vec<u8>, Vec<u8>) {
     let (status, _) = answer(
         alloc,
         words,
-        &OneFile::none(),
+        &Memory::empty(),
         SimDisk::new(alloc),
         &mut out,
         &mut err,
@@ -222,7 +222,7 @@ fn writes_that_fail(rt: HostRuntime) {
         let (given, _) = answer(
             alloc,
             WORDS.as_slice(),
-            &OneFile::none(),
+            &Memory::empty(),
             SimDisk::new(alloc),
             &mut out,
             &mut err,
@@ -236,7 +236,7 @@ fn writes_that_fail(rt: HostRuntime) {
     let (status, _) = answer(
         alloc,
         wrong.as_slice(),
-        &OneFile::none(),
+        &Memory::empty(),
         SimDisk::new(alloc),
         &mut out,
         &mut err,

@@ -12,7 +12,8 @@ ghost use Rattle.memory.specs.Carry.{Asks, IsFit, MayTurn, may_ask, may_drop, ma
 ghost use Rattle.memory.specs.Kept.{start_of, standing_of, IsPlanned};
 ghost use Rattle.coordinator.specs.Granted.{waits};
 ghost use Rattle.memory.specs.Standings.{standing_in, standing_by_row, opens_writes, MakesPlan};
-ghost use Rattle.coordinator.specs.ByMessage.{PlansCommit, PlansCommitNow, PlansGranted, MakesDecision, MakesCollecting, MakesDecisionAnew, MakesCollectingAnew};
+ghost use Rattle.coordinator.specs.ByMessage.{PlansCommit, PlansCommitNow, PlansGranted, MakesDecision, MakesCollecting, MakesDecisionAnew};
+ghost use Rattle.coordinator.specs.ByMessage.{MakesCollectingAnew};
 
 use locks::exclusive;
 use memory::{Change, PastStanding, Plan, Request, State, done_to, reads_stand};

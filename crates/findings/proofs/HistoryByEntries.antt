@@ -71,15 +71,22 @@ promised_from t shard n (log ∷ logs) =
 whole_is : (logs : List (List Record)) (es : List About) → ((t : Id) → of_txn t es ≡ of_txn t (entries logs)) → (shard : ℕ) (c : Committed)
     → whole_in shard c (of_txn c.txn es) ≡ whole_txn logs shard c
 whole_is logs es same shard c =
-    λ i. record { txn = c.txn; at = c.at; writes = c.writes ++ flat_map (λ p. p.writes) ((ap (promised_in shard) (same c.txn) ∙ promised_from c.txn shard 0 logs) i) }
+    λ i. record {
+      txn = c.txn;
+      at = c.at;
+      writes = c.writes ++ flat_map (λ p. p.writes)
+          ((ap (promised_in shard) (same c.txn) ∙ promised_from c.txn shard 0 logs) i);
+    }
 
 decided_is : (logs : List (List Record)) (es : List About) → ((t : Id) → of_txn t es ≡ of_txn t (entries logs)) → (n : ℕ) (ls : List (List Record))
     → flat_map (decided_in es) (numbered n ls)
     ≡ flat_map (λ l. gather (λ c. cond (when (nat_eq l.0) (head c.parts)) (Some (whole_txn logs l.0 c)) None) (gather as_committed l.1)) (numbered n ls)
 decided_is logs es same n [] = refl
 decided_is logs es same n (l ∷ ls) =
-    λ i. gather (λ (c : Committed). cond (when (nat_eq n) (head c.parts)) (Some (whole_is logs es same n c i)) None) (gather as_committed l) ++ decided_is logs es same (suc n) ls i
+    λ i. gather (λ (c : Committed). cond (when (nat_eq n) (head c.parts)) (Some (whole_is logs es same n c i)) None) (gather as_committed l)
+    ++ decided_is logs es same (suc n) ls i
 
-pub history_is : (logs : List (List Record)) (es : List About) → ((t : Id) → of_txn t es ≡ of_txn t (entries logs)) → flat_map (decided_in es) (numbered 0 logs) ≡ history logs
+pub history_is : (logs : List (List Record)) (es : List About) → ((t : Id) → of_txn t es ≡ of_txn t (entries logs))
+    → flat_map (decided_in es) (numbered 0 logs) ≡ history logs
 unfolding history
 history_is logs es same = decided_is logs es same 0 logs

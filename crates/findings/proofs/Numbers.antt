@@ -24,7 +24,8 @@ from_length (suc count) n es = ap suc (from_length count (suc n) es)
 -- where the first of them passes a test, all do exactly where the others do
 pub all_step : (test : List Record → Bool) (count n : ℕ) (es : List About) → n < count → test (log_at n es) ≡ true
     → list_all test (logs_from (count - (n + 1)) (n + 1) es) ≡ list_all test (logs_from (count - n) n es)
-all_step test count n es lt passes = sym (ap (list_all test) (from_step count n es lt) ∙ ap (λ b. b && list_all test (logs_from (count - (n + 1)) (n + 1) es)) passes)
+all_step test count n es lt passes = sym (ap (list_all test) (from_step count n es lt)
+    ∙ ap (λ b. b && list_all test (logs_from (count - (n + 1)) (n + 1) es)) passes)
 
 pub all_numbered_step : (test : ℕ × List Record → Bool) (count n : ℕ) (es : List About) → n < count → test (n, log_at n es) ≡ true
     → list_all test (numbered (n + 1) (logs_from (count - (n + 1)) (n + 1) es)) ≡ list_all test (numbered n (logs_from (count - n) n es))
@@ -36,7 +37,8 @@ all_numbered_step test count n es lt passes =
 
 -- the decisions of one more log are found
 pub tally_number : (fits : Decision → Bool) (found : Tally) (t : Id) (count n : ℕ) (es : List About) → n < count
-    → after fits (after fits found (decisions_here t n (log_at n es))) (flat_map (λ q. decisions_here t q.0 q.1) (numbered (n + 1) (logs_from (count - (n + 1)) (n + 1) es)))
+    → after fits (after fits found (decisions_here t n (log_at n es)))
+    (flat_map (λ q. decisions_here t q.0 q.1) (numbered (n + 1) (logs_from (count - (n + 1)) (n + 1) es)))
     ≡ after fits found (flat_map (λ q. decisions_here t q.0 q.1) (numbered n (logs_from (count - n) n es)))
 tally_number fits found t count n es lt =
     let next : n + 1 ≡ suc n = omega arith in

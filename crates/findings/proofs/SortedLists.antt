@@ -45,7 +45,8 @@ ascends_sorted less order (x ∷ xs) = ascends_insert less order x (sorted less 
 
 -- ---- those that tie stay in their order
 
-stable_insert : {A : Type 0} (less : A → A → Bool) → IsStrictWeakOrder less → (q x : A) (ys : List A) → filter (ties less q) (insert less x ys) ≡ filter (ties less q) (x ∷ ys)
+stable_insert : {A : Type 0} (less : A → A → Bool) → IsStrictWeakOrder less → (q x : A) (ys : List A)
+    → filter (ties less q) (insert less x ys) ≡ filter (ties less q) (x ∷ ys)
 stable_insert less order q x [] = refl
 stable_insert {A = A} less order q x (y ∷ ys) = by_test (less y x) refl (stable_insert less order q x ys)
   where
@@ -65,7 +66,8 @@ stable_insert {A = A} less order q x (y ∷ ys) = by_test (less y x) refl (stabl
         ap (λ zs. cond (ties less q y) (y ∷ zs) zs) rest ∙ turn is (ties less q x) (ties less q y) refl refl
     by_test false is rest = refl
 
-pub stable_sorted : {A : Type 0} (less : A → A → Bool) → IsStrictWeakOrder less → (q : A) (xs : List A) → filter (ties less q) (sorted less xs) ≡ filter (ties less q) xs
+pub stable_sorted : {A : Type 0} (less : A → A → Bool) → IsStrictWeakOrder less → (q : A) (xs : List A)
+    → filter (ties less q) (sorted less xs) ≡ filter (ties less q) xs
 stable_sorted less order q [] = refl
 stable_sorted less order q (x ∷ xs) =
     stable_insert less order q x (sorted less xs)
@@ -92,7 +94,8 @@ none_ties : {A : Type 0} (less : A → A → Bool) → IsStrictWeakOrder less �
 none_ties less order y z [] later all = refl
 none_ties less order y z (w ∷ zs) later all = by_test (none_ties less order y z zs later (and_parts _ _ all).1) (less y w) refl
   where
-    by_test : filter (ties less y) zs ≡ [] → (b : Bool) → less y w ≡ b → cond (not (less y w) && not (less w y)) (w ∷ filter (ties less y) zs) (filter (ties less y) zs) ≡ []
+    by_test : filter (ties less y) zs ≡ [] → (b : Bool) → less y w ≡ b
+        → cond (not (less y w) && not (less w y)) (w ∷ filter (ties less y) zs) (filter (ties less y) zs) ≡ []
     by_test rest true e = ap (λ b. cond (not b && not (less w y)) (w ∷ filter (ties less y) zs) (filter (ties less y) zs)) e ∙ rest
     by_test rest false e = absurd (false≢true (sym (order.chain y w z e (is_false _ (and_parts _ _ all).0)) ∙ later))
 
@@ -120,9 +123,11 @@ one_ascends {A = A} less order (y ∷ ys) (z ∷ zs) up down same = by_tests (on
   where
     tied : (((q : A) → filter (ties less q) ys ≡ filter (ties less q) zs) → ys ≡ zs) → ties less y z ≡ true → y ∷ ys ≡ z ∷ zs
     tied others e =
-        let one : y ≡ z = first_same y z (filter (ties less y) ys) (filter (ties less y) zs) (sym (with_itself less order y ys) ∙ same y ∙ ap (λ b. cond b (z ∷ filter (ties less y) zs) (filter (ties less y) zs)) e) in
+        let one : y ≡ z = first_same y z (filter (ties less y) ys) (filter (ties less y) zs)
+        (sym (with_itself less order y ys) ∙ same y ∙ ap (λ b. cond b (z ∷ filter (ties less y) zs) (filter (ties less y) zs)) e) in
         let rest : ys ≡ zs = others
-        (λ q. rest_same (ties less q y) y (filter (ties less q) ys) (filter (ties less q) zs) (same q ∙ ap (λ (w : A). cond (ties less q w) (w ∷ filter (ties less q) zs) (filter (ties less q) zs)) (sym one))) in
+        (λ q. rest_same (ties less q y) y (filter (ties less q) ys) (filter (ties less q) zs)
+        (same q ∙ ap (λ (w : A). cond (ties less q w) (w ∷ filter (ties less q) zs) (filter (ties less q) zs)) (sym one))) in
         (λ i. one i ∷ rest i)
 
     by_tests : (((q : A) → filter (ties less q) ys ≡ filter (ties less q) zs) → ys ≡ zs) → (a b : Bool) → less y z ≡ a → less z y ≡ b → y ∷ ys ≡ z ∷ zs

@@ -2,7 +2,8 @@
 use Rattle.std.specs.List.{list_all}
 use Rattle.std.specs.List.Sorted.{IsPartitionedBy, IsSortedBy, ties}
 use Rattle.std.specs.Cmp.{IsStrictWeakOrder}
-use Rattle.std.proofs.Common.{◌≡◌, ◌∙◌, ℕ, zero, suc, ◌<◌, ◌≤◌, Bool, true, false, not, ◌&&◌, cond, List, [], ◌∷◌, drop, filter, get_or, length, take, refl, sym, ap, arith}
+use Rattle.std.proofs.Common.{◌≡◌, ◌∙◌, ℕ, zero, suc, ◌<◌, ◌≤◌, Bool, true, false, not, ◌&&◌, cond, List, [], ◌∷◌, drop, filter, get_or, length, take}
+use Rattle.std.proofs.Common.{refl, sym, ap, arith}
 use Rattle.std.proofs.lemmas.Bool.{and_parts, and_from, false≢true}
 use Rattle.std.proofs.lemmas.List.Sorted.{sorted_far}
 use Rattle.units.specs.Fronts.{front}
@@ -84,7 +85,8 @@ ties_run {A = A} less order x (y ∷ ys) up = by_test (less y x) refl (ties_run 
         not_true false e = refl
 
     by_test : (b : Bool) → less y x ≡ b → take (front (λ z. not (less x z)) (rest_of ys)) (rest_of ys) ≡ filter (ties less x) ys
-        → take (front (λ z. not (less x z)) (drop (cond b (suc (front (λ z. less z x) ys)) 0) (y ∷ ys))) (drop (cond b (suc (front (λ z. less z x) ys)) 0) (y ∷ ys))
+        → take (front (λ z. not (less x z)) (drop (cond b (suc (front (λ z. less z x) ys)) 0) (y ∷ ys)))
+        (drop (cond b (suc (front (λ z. less z x) ys)) 0) (y ∷ ys))
         ≡ cond (not (less x y) && not b) (y ∷ filter (ties less x) ys) (filter (ties less x) ys)
     by_test true is rest = rest ∙ ap (λ c. cond c (y ∷ filter (ties less x) ys) (filter (ties less x) ys)) (sym (and_none (not (less x y))))
     by_test false is rest =
@@ -107,7 +109,8 @@ not_before : {A : Type 0} (less : A → A → Bool) (x : A) (xs : List A) (j : �
 not_before less x xs j d all lt = is_false _ (pass_at (λ y. not (less y x)) xs j d all lt)
 
 -- those that come before one stand at the front
-pub before_partitioned : {A : Type 0} (less : A → A → Bool) → IsStrictWeakOrder less → (x : A) (xs : List A) → AscendsBy less xs → IsPartitionedBy (λ y. less y x) xs
+pub before_partitioned : {A : Type 0} (less : A → A → Bool) → IsStrictWeakOrder less → (x : A) (xs : List A) → AscendsBy less xs
+    → IsPartitionedBy (λ y. less y x) xs
 before_partitioned less order x [] up i j d le lt is = absurd (omega arith)
 before_partitioned less order x (y ∷ ys) up zero zero d le lt is = is
 before_partitioned less order x (y ∷ ys) up zero (suc j) d le lt is = by_test (less y x) refl
@@ -119,16 +122,19 @@ before_partitioned less order x (y ∷ ys) up zero (suc j) d le lt is = by_test 
     by_test true e = e
     by_test false e = absurd (false≢true (sym (order.chain (get_or ys j d) y x later e) ∙ is))
 before_partitioned less order x (y ∷ ys) up (suc i) zero d le lt is = absurd (omega arith)
-before_partitioned less order x (y ∷ ys) up (suc i) (suc j) d le lt is = before_partitioned less order x ys up.1 i j d (omega (arith, le)) (omega (arith, lt)) is
+before_partitioned less order x (y ∷ ys) up (suc i) (suc j) d le lt is = before_partitioned less order x ys up.1 i j d (omega (arith, le))
+    (omega (arith, lt)) is
 
 -- and so do those that don't come after one
-pub not_after_partitioned : {A : Type 0} (less : A → A → Bool) → IsStrictWeakOrder less → (x : A) (xs : List A) → AscendsBy less xs → IsPartitionedBy (λ y. not (less x y)) xs
+pub not_after_partitioned : {A : Type 0} (less : A → A → Bool) → IsStrictWeakOrder less → (x : A) (xs : List A) → AscendsBy less xs
+    → IsPartitionedBy (λ y. not (less x y)) xs
 not_after_partitioned less order x [] up i j d le lt is = absurd (omega arith)
 not_after_partitioned less order x (y ∷ ys) up zero zero d le lt is = is
 not_after_partitioned less order x (y ∷ ys) up zero (suc j) d le lt is =
     ap not (order.chain x (get_or ys j d) y (is_false _ is) (not_before less y ys j d up.0 (omega (arith, lt))))
 not_after_partitioned less order x (y ∷ ys) up (suc i) zero d le lt is = absurd (omega arith)
-not_after_partitioned less order x (y ∷ ys) up (suc i) (suc j) d le lt is = not_after_partitioned less order x ys up.1 i j d (omega (arith, le)) (omega (arith, lt)) is
+not_after_partitioned less order x (y ∷ ys) up (suc i) (suc j) d le lt is = not_after_partitioned less order x ys up.1 i j d (omega (arith, le))
+    (omega (arith, lt)) is
 
 pub ascends_drop : {A : Type 0} (less : A → A → Bool) (n : ℕ) (xs : List A) → AscendsBy less xs → AscendsBy less (drop n xs)
 ascends_drop less zero xs up = up

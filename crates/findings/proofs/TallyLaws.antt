@@ -19,7 +19,8 @@ stays_again : (fits : Decision → Bool) (ds : List Decision) → after fits Aga
 stays_again fits [] = refl
 stays_again fits (d ∷ ds) = stays_again fits ds
 
-pub whole_is_settled : (logs : List (List Record)) (t : Id) (ds : List Decision) → is_whole_by logs t ds ≡ settled (list_all (λ l. outcomes_fit l t (λ s. false)) logs) (after (fits_all logs t) Never ds)
+pub whole_is_settled : (logs : List (List Record)) (t : Id) (ds : List Decision)
+    → is_whole_by logs t ds ≡ settled (list_all (λ l. outcomes_fit l t (λ s. false)) logs) (after (fits_all logs t) Never ds)
 whole_is_settled logs t [] = refl
 whole_is_settled logs t (d ∷ []) = refl
 whole_is_settled logs t (d ∷ e ∷ ds) = sym (ap (settled (list_all (λ l. outcomes_fit l t (λ s. false)) logs)) (stays_again (fits_all logs t) ds))

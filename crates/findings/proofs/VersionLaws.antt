@@ -2,7 +2,8 @@
 use Rattle.std.specs.List.{list_all}
 use Rattle.std.specs.List.Sorted.{IsPartitionedBy, IsStableBy, ties}
 use Rattle.std.specs.Cmp.{IsStrictWeakOrder}
-use Rattle.std.proofs.Common.{◌≡◌, ◌∙◌, ℕ, suc, ◌+◌, ◌-◌, ◌<◌, ◌≤◌, Bool, true, false, not, ◌&&◌, cond, List, [], ◌∷◌, ◌++◌, Option, None, drop, filter, get_or, length, nat_lt, take, refl, sym, ap, subst, arith}
+use Rattle.std.proofs.Common.{◌≡◌, ◌∙◌, ℕ, suc, ◌+◌, ◌-◌, ◌<◌, ◌≤◌, Bool, true, false, not, ◌&&◌, cond, List, [], ◌∷◌, ◌++◌, Option, None, drop}
+use Rattle.std.proofs.Common.{filter, get_or, length, nat_lt, take, refl, sym, ap, subst, arith}
 use Rattle.std.proofs.lemmas.Bool.{and_parts, and_from, false≢true}
 use Rattle.std.proofs.lemmas.Bool.Decides.{nat_tests}
 use Rattle.std.proofs.lemmas.List.{take_rest}
@@ -12,7 +13,8 @@ use Rattle.units.specs.declared.writes.Write.{Write}
 use Rattle.units.proofs.KeyLaws.{key_before-irreflexive, key_before-total, key_before-trans, same_key-is, same_key-not_before, same_key_comm}
 use Rattle.record.specs.History.{Txn}
 use Rattle.findings.specs.Ascending.{AscendsBy}
-use Rattle.findings.specs.Versions.{Placed, AscendsByKey, AscendsByPlace, before_place, has_earlier_key, has_earlier_place, last_value, of_key, placed_at, placed_from, shown, written}
+use Rattle.findings.specs.Versions.{Placed, AscendsByKey, AscendsByPlace, before_place, has_earlier_key, has_earlier_place, last_value, of_key}
+use Rattle.findings.specs.Versions.{placed_at, placed_from, shown, written}
 use Rattle.findings.proofs.Sorting.{ascends_drop, before_partitioned, not_after_partitioned, ties_run}
 
 -- ---- the order of keys
@@ -77,7 +79,8 @@ run_of_key k vs up p q first count =
 pub keys_before : (k : Bytes) (vs : List Placed) → AscendsByKey vs → IsPartitionedBy (λ v. key_before v.write.key k) vs
 keys_before k vs up = before_partitioned has_earlier_key key_order (sample k 0) vs up
 
-pub keys_not_after : (k : Bytes) (vs : List Placed) (p : ℕ) → AscendsByKey vs → IsPartitionedBy (λ v. not (key_before k v.write.key)) (take (length vs - p) (drop p vs))
+pub keys_not_after : (k : Bytes) (vs : List Placed) (p : ℕ) → AscendsByKey vs
+    → IsPartitionedBy (λ v. not (key_before k v.write.key)) (take (length vs - p) (drop p vs))
 keys_not_after k vs p up =
     not_after_partitioned has_earlier_key key_order (sample k 0) _ (subst AscendsByKey (sym (take_rest vs p)) (ascends_drop has_earlier_key p vs up))
 
@@ -95,7 +98,8 @@ place_order = record { one_way = λ v w. one_way v.place w.place; chain = λ u v
 pub places_before : (n : ℕ) (vs : List Placed) → AscendsByPlace vs → IsPartitionedBy (λ v. nat_lt v.place n) vs
 places_before n vs up = before_partitioned has_earlier_place place_order (sample [] n) vs up
 
-none_before : (n : ℕ) (v : Placed) (vs : List Placed) → nat_lt v.place n ≡ false → list_all (λ w. not (has_earlier_place w v)) vs ≡ true → before_place n vs ≡ []
+none_before : (n : ℕ) (v : Placed) (vs : List Placed) → nat_lt v.place n ≡ false → list_all (λ w. not (has_earlier_place w v)) vs ≡ true
+    → before_place n vs ≡ []
 none_before n v [] here all = refl
 none_before n v (w ∷ vs) here all =
     let later : nat_lt w.place n ≡ false = place_order.chain w v (sample [] n) (is_false _ (and_parts _ _ all).0) here in
@@ -117,7 +121,8 @@ first_places n (v ∷ vs) up = by_test (nat_lt v.place n) refl (first_places n v
 not_earlier : (n m : ℕ) → n ≤ m → not (nat_lt m n) ≡ true
 not_earlier n m le = grind (arith, nat_tests, le)
 
-all_from_at : (n m : ℕ) (ws : List Write) (vs : List Placed) → n ≤ m → list_all (λ v. not (nat_lt v.place n)) vs ≡ true → list_all (λ v. not (nat_lt v.place n)) (placed_at m ws ++ vs) ≡ true
+all_from_at : (n m : ℕ) (ws : List Write) (vs : List Placed) → n ≤ m → list_all (λ v. not (nat_lt v.place n)) vs ≡ true
+    → list_all (λ v. not (nat_lt v.place n)) (placed_at m ws ++ vs) ≡ true
 all_from_at n m [] vs le all = all
 all_from_at n m (w ∷ ws) vs le all = and_from _ _ (not_earlier n m le) (all_from_at n m ws vs le all)
 
@@ -125,7 +130,8 @@ all_from : (n m : ℕ) (ts : List Txn) → n ≤ m → list_all (λ v. not (nat_
 all_from n m [] le = refl
 all_from n m (t ∷ ts) le = all_from_at n m t.writes (placed_from (suc m) ts) le (all_from n (suc m) ts (omega (arith, le)))
 
-ascends_at : (n : ℕ) (ws : List Write) (vs : List Placed) → AscendsByPlace vs → list_all (λ v. not (nat_lt v.place n)) vs ≡ true → AscendsByPlace (placed_at n ws ++ vs)
+ascends_at : (n : ℕ) (ws : List Write) (vs : List Placed) → AscendsByPlace vs → list_all (λ v. not (nat_lt v.place n)) vs ≡ true
+    → AscendsByPlace (placed_at n ws ++ vs)
 ascends_at n [] vs up all = up
 ascends_at n (w ∷ ws) vs up all = (all_from_at n n ws vs (omega arith) all, ascends_at n ws vs up all)
 
@@ -137,7 +143,8 @@ all_kept : {A : Type 0} (test p : A → Bool) (xs : List A) → list_all test xs
 all_kept test p [] all = refl
 all_kept test p (x ∷ xs) all = by_test (p x) (and_parts _ _ all) (all_kept test p xs (and_parts _ _ all).1)
   where
-    by_test : (b : Bool) → (test x ≡ true) × (list_all test xs ≡ true) → list_all test (filter p xs) ≡ true → list_all test (cond b (x ∷ filter p xs) (filter p xs)) ≡ true
+    by_test : (b : Bool) → (test x ≡ true) × (list_all test xs ≡ true) → list_all test (filter p xs) ≡ true
+        → list_all test (cond b (x ∷ filter p xs) (filter p xs)) ≡ true
     by_test true q rest = and_from _ _ q.0 rest
     by_test false q rest = rest
 
@@ -163,7 +170,8 @@ none_shown : (test : Txn → Bool) (ts : List Txn) (k : Bytes) (x : Option Bytes
 none_shown test [] k x all = refl
 none_shown test (t ∷ ts) k x all = by_test (test t) (and_parts _ _ all) (none_shown test ts k x ((and_parts _ _ all).1))
   where
-    by_test : (b : Bool) → (not (test t) ≡ true) × (list_all (λ u. not (test u)) ts ≡ true) → shown test ts k x ≡ x → shown test ts k (cond (test t) (written t.writes k x) x) ≡ x
+    by_test : (b : Bool) → (not (test t) ≡ true) × (list_all (λ u. not (test u)) ts ≡ true) → shown test ts k x ≡ x
+        → shown test ts k (cond (test t) (written t.writes k x) x) ≡ x
     by_test b p rest = ap (λ c. shown test ts k (cond c (written t.writes k x) x)) (is_false (test t) p.0) ∙ rest
       where
         is_false : (b : Bool) → not b ≡ true → b ≡ false
@@ -207,7 +215,8 @@ shown_from test n (t ∷ ts) k x falls = by_test (test t) refl (λ y. shown_from
     vs : List Placed
     vs = placed_from n (t ∷ ts)
 
-    by_test : (b : Bool) → test t ≡ b → ((y : Option Bytes) → shown test ts k y ≡ last_value (before_place (suc n + front test ts) (of_key k (placed_from (suc n) ts))) y)
+    by_test : (b : Bool) → test t ≡ b → ((y : Option Bytes) → shown test ts k y ≡ last_value
+        (before_place (suc n + front test ts) (of_key k (placed_from (suc n) ts))) y)
         → shown test ts k (cond b (written t.writes k x) x) ≡ last_value (before_place (n + cond b (suc (front test ts)) 0) (of_key k vs)) x
     by_test true is rest =
         let more : suc n + front test ts ≡ n + suc (front test ts) = omega arith in
@@ -218,7 +227,8 @@ shown_from test n (t ∷ ts) k x falls = by_test (test t) refl (λ y. shown_from
     by_test false is rest =
         let same : n + 0 ≡ n = omega arith in
         none_shown test ts k x (falls.0 is)
-        ∙ sym (ap (λ m. last_value (before_place m (of_key k vs)) x) same ∙ ap (λ us. last_value us x) (none_placed n k vs (all_from n n (t ∷ ts) (omega arith))))
+        ∙ sym (ap (λ m. last_value (before_place m (of_key k vs)) x) same
+        ∙ ap (λ us. last_value us x) (none_placed n k vs (all_from n n (t ∷ ts) (omega arith))))
 
 pub shown_is : (test : Txn → Bool) (ts : List Txn) (k : Bytes) → Falls test ts → (p : ℕ) → p ≡ front test ts
     → shown test ts k None ≡ last_value (before_place p (of_key k (placed_from 0 ts))) None

@@ -1,6 +1,7 @@
 -- Whether a transaction is whole is seen from the records about it alone.
 use Rattle.std.specs.List.{list_all, list_any}
-use Rattle.std.proofs.Common.{◌≡◌, ◌∙◌, ℕ, zero, suc, ◌<◌, Bool, true, false, not, cond, ◌&&◌, ◌||◌, nat_eq, nat_lt, List, [], ◌∷◌, ◌++◌, filter, flat_map, length, map, Option, Some, None, option_map, refl, sym, ap, arith}
+use Rattle.std.proofs.Common.{◌≡◌, ◌∙◌, ℕ, zero, suc, ◌<◌, Bool, true, false, not, cond, ◌&&◌, ◌||◌, nat_eq, nat_lt, List, [], ◌∷◌, ◌++◌, filter}
+use Rattle.std.proofs.Common.{flat_map, length, map, Option, Some, None, option_map, refl, sym, ap, arith}
 use Rattle.std.proofs.lemmas.Bool.Decides.{nat_tests}
 use Rattle.std.proofs.lemmas.List.{append-nil}
 use Rattle.units.specs.Ids.{Id, same_id}
@@ -54,12 +55,14 @@ own_here t n (r ∷ log) = by_id (id_in r) (own_here t n log)
     same_place = grind (arith, nat_tests)
 
     by_test : (u : Id) (b : Bool) → log_at n (own t n log) ≡ filter (is_about t) log
-        → log_at n (cond b (record { txn = u; shard = n; item = r } ∷ own t n log) (own t n log)) ≡ cond b (r ∷ filter (is_about t) log) (filter (is_about t) log)
+        → log_at n (cond b (record { txn = u; shard = n; item = r } ∷ own t n log) (own t n log)) ≡ cond b (r ∷ filter (is_about t) log)
+        (filter (is_about t) log)
     by_test u true rest = rw same_place (ap (λ l. r ∷ l) rest)
     by_test u false rest = rest
 
     by_id : (o : Option Id) → log_at n (own t n log) ≡ filter (is_about t) log
-        → log_at n (of_txn t (elim (option_map {U = About} (λ u. record { txn = u; shard = n; item = r }) o) as (λ x. List About) [ None ↦ gather (about_in n) log | Some y ↦ y ∷ gather (about_in n) log ]))
+        → log_at n (of_txn t (elim (option_map {U = About} (λ u. record { txn = u; shard = n; item = r }) o) as
+        (λ x. List About) [ None ↦ gather (about_in n) log | Some y ↦ y ∷ gather (about_in n) log ]))
         ≡ cond (when (same_id t) o) (r ∷ filter (is_about t) log) (filter (is_about t) log)
     by_id None rest = rest
     by_id (Some u) rest = by_test u (same_id t u) rest
@@ -74,7 +77,8 @@ own_elsewhere t n m (r ∷ log) other = by_id (id_in r) (own_elsewhere t n m log
     by_test u false rest = rest
 
     by_id : (o : Option Id) → log_at m (own t n log) ≡ []
-        → log_at m (of_txn t (elim (option_map {U = About} (λ u. record { txn = u; shard = n; item = r }) o) as (λ x. List About) [ None ↦ gather (about_in n) log | Some y ↦ y ∷ gather (about_in n) log ])) ≡ []
+        → log_at m (of_txn t (elim (option_map {U = About} (λ u. record { txn = u; shard = n; item = r }) o) as
+        (λ x. List About) [ None ↦ gather (about_in n) log | Some y ↦ y ∷ gather (about_in n) log ])) ≡ []
     by_id None rest = rest
     by_id (Some u) rest = by_test u (same_id t u) rest
 
@@ -143,7 +147,8 @@ kept {B = B} kind id of t (r ∷ log) = by_kind (kind r) refl (kept kind id of t
     one_kept y false same is rest = rest
 
     by_kind : (o : Option B) → kind r ≡ o → pick (filter (is_about t) log) ≡ pick log
-        → pick (cond (is_about t r) (r ∷ filter (is_about t) log) (filter (is_about t) log)) ≡ filter (λ y. same_id t (id y)) (rest_of (gather kind log) (kind r))
+        → pick (cond (is_about t r) (r ∷ filter (is_about t) log) (filter (is_about t) log)) ≡ filter (λ y. same_id t (id y))
+        (rest_of (gather kind log) (kind r))
     by_kind None is rest =
         none_kept (is_about t r) is rest ∙ ap (λ o. filter (λ y. same_id t (id y)) (rest_of (gather kind log) o)) (sym is)
     by_kind (Some y) is rest =
@@ -218,7 +223,8 @@ promises_cut t log =
     ∙ kept as_prepared (λ p. p.txn) prepared_of_it t log
     ∙ ap (λ test. filter test (gather as_prepared log)) (sym (turned (λ p. p.txn) t))
 
-pub commits_cut : (t : Id) (log : List Record) → filter (λ c. same_id t c.txn) (gather as_committed (filter (is_about t) log)) ≡ filter (λ c. same_id t c.txn) (gather as_committed log)
+pub commits_cut : (t : Id) (log : List Record) → filter (λ c. same_id t c.txn) (gather as_committed (filter (is_about t) log)) ≡ filter (λ c. same_id t c.txn)
+    (gather as_committed log)
 commits_cut t log = kept as_committed (λ c. c.txn) committed_of_it t log
 
 any_true : {B : Type 0} (p : B → Bool) (ys : List B) → list_any p ys ≡ list_any (λ y. true) (filter p ys)
@@ -238,7 +244,8 @@ abbrev pub is_abort : Ended → Bool
 is_abort e = not (when (λ s. true) e.outcome)
 
 ended_aborted_cut : (t : Id) (log : List Record)
-    → list_any (λ e. same_id e.txn t && is_abort e) (gather as_ended (filter (is_about t) log)) ≡ list_any (λ e. same_id e.txn t && is_abort e) (gather as_ended log)
+    → list_any (λ e. same_id e.txn t && is_abort e) (gather as_ended (filter (is_about t) log)) ≡ list_any (λ e. same_id e.txn t && is_abort e)
+    (gather as_ended log)
 ended_aborted_cut t log =
     ap (λ (id_is : Ended → Bool). list_any (λ e. id_is e && is_abort e) (gather as_ended (filter (is_about t) log))) (turned (λ e. e.txn) t)
     ∙ any_of (λ e. same_id t e.txn) is_abort (gather as_ended (filter (is_about t) log))
@@ -272,11 +279,13 @@ decisions_cut t n (log ∷ logs) =
     decision : ℕ → Committed → Decision
     decision m c = record { shard = m; commit = c }
 
-fits_cut : (t : Id) (d : Decision) (n : ℕ) (logs : List (List Record)) → list_all (fits_decision t d) (numbered n (cut t logs)) ≡ list_all (fits_decision t d) (numbered n logs)
+fits_cut : (t : Id) (d : Decision) (n : ℕ) (logs : List (List Record))
+    → list_all (fits_decision t d) (numbered n (cut t logs)) ≡ list_all (fits_decision t d) (numbered n logs)
 fits_cut t d n [] = refl
 fits_cut t d n (log ∷ logs) = λ i. decision_cut t d n log i && fits_cut t d (suc n) logs i
 
-never_cut : (t : Id) (logs : List (List Record)) → list_all (λ l. outcomes_fit l t (λ s. false)) (cut t logs) ≡ list_all (λ l. outcomes_fit l t (λ s. false)) logs
+never_cut : (t : Id) (logs : List (List Record)) → list_all (λ l. outcomes_fit l t (λ s. false)) (cut t logs) ≡ list_all
+    (λ l. outcomes_fit l t (λ s. false)) logs
 never_cut t [] = refl
 never_cut t (log ∷ logs) = λ i. fit_cut t (λ s. false) log i && never_cut t logs i
 

@@ -19,7 +19,9 @@ pub struct Ack {
 /// Those of all lines, ascending by moment, each with the greatest timestamp up to there.
 pub fn acks_by_moment(alloc: Global, lines: &[Line]) -> Result<Vec<Ack>, Fault>
     ensures order { IfOk result (λ acks. AscendsByMoment acks.items) }
-    ensures late { IfOk result (λ acks. (moment at : ℕ) → is_late_by moment at acks.items ≡ list_any (is_late_ack moment at) lines.now) }
+    ensures late { IfOk result
+        (λ acks. (moment at : ℕ)
+        → is_late_by moment at acks.items ≡ list_any (is_late_ack moment at) lines.now) }
     ensures memory { IfErr result (λ fault. fault ≡ Fault.Memory) }
 {
     let mut acks = acks_of(alloc, lines)?;
@@ -45,7 +47,8 @@ fn acks_of(alloc: Global, lines: &[Line]) -> Result<Vec<Ack>, Fault>
 
 fn sort(acks: &mut Vec<Ack>) -> Result<(), Fault>
     ensures order { OnOk result (AscendsByMoment acks.new.items) }
-    ensures same { OnOk result ((test : Ack → Bool) → list_any test acks.new.items ≡ list_any test acks.old.items) }
+    ensures same { OnOk result
+        ((test : Ack → Bool) → list_any test acks.new.items ≡ list_any test acks.old.items) }
     ensures memory { IfErr result (λ fault. fault ≡ Fault.Memory) }
 {
     acks.sort_by_key(|ack| ack.moment)?;

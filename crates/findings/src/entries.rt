@@ -29,7 +29,9 @@ impl<'l> Model for Entry<'l> {
 /// Those of all logs, ascending by transaction; those of one transaction stand in the order of the logs.
 pub fn entries_by_txn<'l>(alloc: Global, logs: &'l [Vec<Record>]) -> Result<Vec<Entry<'l>>, Fault>
     ensures order { IfOk result (λ found. AscendsByTxn found.items) }
-    ensures same { IfOk result (λ found. (t : Id) → of_txn t found.items ≡ of_txn t (entries (map (λ log. log.items) logs.now))) }
+    ensures same { IfOk result
+        (λ found. (t : Id) → of_txn t found.items ≡ of_txn t
+        (entries (map (λ log. log.items) logs.now))) }
     ensures memory { IfErr result (λ fault. fault ≡ Fault.Memory) }
 {
     let mut found = entries_of(alloc, logs)?;
@@ -50,7 +52,8 @@ fn entries_of<'l>(alloc: Global, logs: &'l [Vec<Record>]) -> Result<Vec<Entry<'l
 
 // Puts in those of one log.
 fn add_entries<'l>(found: &mut Vec<Entry<'l>>, shard: usize, log: &'l [Record]) -> Result<(), Fault>
-    ensures found { OnOk result (found.new.items ≡ found.old.items ++ gather (about_in shard) log.now) }
+    ensures found { OnOk result
+        (found.new.items ≡ found.old.items ++ gather (about_in shard) log.now) }
     ensures memory { IfErr result (λ fault. fault ≡ Fault.Memory) }
 {
     for item in log {

@@ -51,8 +51,10 @@ pub fn history_of(
     about: &[Entry<'_>],
 ) -> Result<Vec<Transaction>, Fault>
     requires order { AscendsByTxn about.now }
-    requires same { (t : Id) → of_txn t about.now ≡ of_txn t (entries (map (λ log. log.items) logs.now)) }
-    ensures history { IfOk result (λ found. found.items ≡ history (map (λ log. log.items) logs.now)) }
+    requires same { (t : Id) → of_txn t about.now ≡ of_txn t
+        (entries (map (λ log. log.items) logs.now)) }
+    ensures history { IfOk result
+        (λ found. found.items ≡ history (map (λ log. log.items) logs.now)) }
     ensures memory { IfErr result (λ fault. fault ≡ Fault.Memory) }
 {
     decided(alloc, logs, about)
@@ -65,7 +67,9 @@ fn decided(
     about: &[Entry<'_>],
 ) -> Result<Vec<Transaction>, Fault>
     requires order { AscendsByTxn about.now }
-    ensures found { IfOk result (λ found. found.items ≡ flat_map (decided_in about.now) (numbered 0 (map (λ log. log.items) logs.now))) }
+    ensures found { IfOk result
+        (λ found. found.items ≡ flat_map (decided_in about.now)
+        (numbered 0 (map (λ log. log.items) logs.now))) }
     ensures memory { IfErr result (λ fault. fault ≡ Fault.Memory) }
 {
     let mut found = Vec::new(alloc);
@@ -84,7 +88,8 @@ fn add_decided(
     log: &[Record],
 ) -> Result<(), Fault>
     requires order { AscendsByTxn about.now }
-    ensures found { OnOk result (found.new.items ≡ found.old.items ++ decided_in about.now (shard, log.now)) }
+    ensures found { OnOk result
+        (found.new.items ≡ found.old.items ++ decided_in about.now (shard, log.now)) }
     ensures memory { IfErr result (λ fault. fault ≡ Fault.Memory) }
 {
     for item in log {
@@ -125,7 +130,9 @@ fn add_promised(
     run: &[Entry<'_>],
     shard: usize,
 ) -> Result<(), Fault>
-    ensures writes { OnOk result (writes.new.items ≡ writes.old.items ++ flat_map (λ p. p.writes) (promised_in shard run.now)) }
+    ensures writes { OnOk result
+        (writes.new.items ≡ writes.old.items ++ flat_map (λ p. p.writes)
+        (promised_in shard run.now)) }
     ensures memory { IfErr result (λ fault. fault ≡ Fault.Memory) }
 {
     for entry in run {

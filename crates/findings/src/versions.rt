@@ -30,7 +30,8 @@ pub fn versions_by_key<'t>(
     ordered: &'t [Transaction],
 ) -> Result<Vec<Version<'t>>, Fault>
     ensures order { IfOk result (λ found. AscendsByKey found.items) }
-    ensures same { IfOk result (λ found. (k : Bytes) → of_key k found.items ≡ of_key k (placed_from 0 ordered.now)) }
+    ensures same { IfOk result
+        (λ found. (k : Bytes) → of_key k found.items ≡ of_key k (placed_from 0 ordered.now)) }
     ensures memory { IfErr result (λ fault. fault ≡ Fault.Memory) }
 {
     let mut found = versions_of(alloc, ordered)?;
@@ -92,7 +93,8 @@ pub fn value_before_place<'t>(
 ) -> Option<&'t Value>
     requires order { AscendsByKey versions.now }
     requires places { AscendsByPlace (of_key key.now versions.now) }
-    ensures { option_copied result ≡ last_value (before_place place (of_key key.now versions.now)) None }
+    ensures { option_copied result ≡ last_value
+        (before_place place (of_key key.now versions.now)) None }
 {
     let run = run_of(versions, key);
     let count = run.partition_point(|version| version.place < place);

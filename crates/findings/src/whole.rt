@@ -42,7 +42,9 @@ pub fn is_whole(
 
 // The decisions of all logs.
 fn tally_of(alloc: Global, count: usize, entries: &[Entry<'_>], txn: TxnId) -> Result<Tally, Fault>
-    ensures tally { IfOk result (λ tally. tally ≡ after (fits_all (logs_from count 0 entries.now) txn) Never (decisions (logs_from count 0 entries.now) txn)) }
+    ensures tally { IfOk result
+        (λ tally. tally ≡ after (fits_all (logs_from count 0 entries.now) txn) Never
+        (decisions (logs_from count 0 entries.now) txn)) }
     ensures memory { IfErr result (λ fault. fault ≡ Fault.Memory) }
 {
     let mut tally = Tally::Never;
@@ -61,7 +63,9 @@ fn tally_log(
     txn: TxnId,
     number: usize,
 ) -> Result<Tally, Fault>
-    ensures after { IfOk result (λ found. found ≡ after (fits_all (logs_from count 0 entries.now) txn) tally (decisions_here txn number (log_at number entries.now))) }
+    ensures after { IfOk result
+        (λ found. found ≡ after (fits_all (logs_from count 0 entries.now) txn) tally
+        (decisions_here txn number (log_at number entries.now))) }
     ensures memory { IfErr result (λ fault. fault ≡ Fault.Memory) }
 {
     for entry in entries {
@@ -91,7 +95,9 @@ fn fits(
     shard: usize,
     commit: &Committed,
 ) -> Result<bool, Fault>
-    ensures fits { IfOk result (λ fits. fits ≡ fits_all (logs_from count 0 entries.now) txn (record { shard = shard; commit = commit.now })) }
+    ensures fits { IfOk result
+        (λ fits. fits ≡ fits_all (logs_from count 0 entries.now) txn
+        (record { shard = shard; commit = commit.now })) }
     ensures memory { IfErr result (λ fault. fault ≡ Fault.Memory) }
 {
     let parts = commit.parts.shards(alloc)?;
@@ -124,7 +130,8 @@ fn each_fits(
     parts: &[ShardNo],
 ) -> bool
     requires { parts.now ≡ commit.now.parts }
-    ensures { result ≡ list_all (fits_decision txn (record { shard = shard; commit = commit.now })) (numbered 0 (logs_from count 0 entries.now)) }
+    ensures { result ≡ list_all (fits_decision txn (record { shard = shard; commit = commit.now }))
+        (numbered 0 (logs_from count 0 entries.now)) }
 {
     for number in 0..count {
         if !log_fits(number, entries, txn, shard, commit, parts) {
@@ -144,7 +151,8 @@ fn log_fits(
     parts: &[ShardNo],
 ) -> bool
     requires { parts.now ≡ commit.now.parts }
-    ensures { result ≡ fits_decision txn (record { shard = shard; commit = commit.now }) (number, log_at number entries.now) }
+    ensures { result ≡ fits_decision txn (record { shard = shard; commit = commit.now })
+        (number, log_at number entries.now) }
 {
     if is_turned_down(number, entries, txn) || !ends_at(number, entries, txn, commit.at) {
         return false;
@@ -194,7 +202,8 @@ fn is_aborted(number: usize, entries: &[Entry<'_>], txn: TxnId) -> bool
 }
 
 fn ends_aborted(number: usize, entries: &[Entry<'_>], txn: TxnId) -> bool
-    ensures { result ≡ list_any (λ e. same_id e.txn txn && not (when (λ s. true) e.outcome)) (gather as_ended (log_at number entries.now)) }
+    ensures { result ≡ list_any (λ e. same_id e.txn txn && not (when (λ s. true) e.outcome))
+        (gather as_ended (log_at number entries.now)) }
 {
     for entry in entries {
         if number == entry.shard {
@@ -234,7 +243,8 @@ fn ends_at(number: usize, entries: &[Entry<'_>], txn: TxnId, at: Stamp) -> bool
 
 // No log ends the transaction at a timestamp.
 fn never_ends(count: usize, entries: &[Entry<'_>], txn: TxnId) -> bool
-    ensures { result ≡ list_all (λ l. outcomes_fit l txn (λ s. false)) (logs_from count 0 entries.now) }
+    ensures { result ≡ list_all (λ l. outcomes_fit l txn (λ s. false))
+        (logs_from count 0 entries.now) }
 {
     for number in 0..count {
         if ends(number, entries, txn) {
@@ -273,7 +283,8 @@ fn has_promise(
     shard: usize,
     commit: &Committed,
 ) -> bool
-    ensures { result ≡ is_promise_for (record { shard = shard; commit = commit.now }) (promises_of (log_at number entries.now) txn) }
+    ensures { result ≡ is_promise_for (record { shard = shard; commit = commit.now })
+        (promises_of (log_at number entries.now) txn) }
 {
     let mut fits = None;
     for entry in entries {
@@ -293,7 +304,8 @@ fn has_promise(
 
 // The promise names the coordinator and is not above the commit's timestamp.
 fn promise_fits(prepared: &Prepared, shard: usize, commit: &Committed) -> bool
-    ensures { result ≡ (nat_eq prepared.now.coordinator shard && nat_le prepared.now.at commit.now.at) }
+    ensures { result ≡ (nat_eq prepared.now.coordinator shard
+        && nat_le prepared.now.at commit.now.at) }
 {
     prepared.coordinator.number() as usize == shard && prepared.at.micros() <= commit.at.micros()
 }

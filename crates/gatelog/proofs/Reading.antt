@@ -4,7 +4,8 @@ use Rattle.std.proofs.Common.{None, Ok, Err, refl, sym, ap, ◌∙◌, append_as
 use Rattle.std.specs.Prelude.{bytes_eq}
 use Rattle.std.proofs.lemmas.Bool.{eq-eqb, cases_Bool, false≢true}
 use Rattle.std.proofs.lemmas.Slice.Eq.{bytes_eq-Decides}
-use Rattle.std.proofs.lemmas.List.{drop_more, drop-drop, length-drop, length-take, length-take-le, take-append-drop, append-nil, nil_from_length, take_all, map-append}
+use Rattle.std.proofs.lemmas.List.{drop_more, drop-drop, length-drop, length-take, length-take-le, take-append-drop, append-nil, nil_from_length}
+use Rattle.std.proofs.lemmas.List.{take_all, map-append}
 use Rattle.std.proofs.lemmas.List.Sums.{fold-append}
 use Rattle.record.specs.Grammar.{spelling}
 use Rattle.units.specs.declared.fault.Fault.TheVariants.{Damaged, NotALog}

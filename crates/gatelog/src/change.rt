@@ -14,12 +14,17 @@ use units::Fault;
 pub fn write_and_sync<D: Disk>(disk: &mut D, at: u64, bytes: &[u8]) -> Result<(), Fault>
     requires { D.keeps_model → at ≤ length (surface (D.file disk.old)).seen }
     ensures planned { (calls more : ℕ) → D.has_room disk.old (calls + 2) (length bytes.now + more) →
-        IsAsPlanned (fails_in_two (D.plan disk.old)) result × OnOk result (D.has_room disk.new calls more)
+        IsAsPlanned (fails_in_two (D.plan disk.old)) result
+        × OnOk result (D.has_room disk.new calls more)
         × (D.file disk.new ≡ two_made (D.plan disk.old) at bytes.now (D.file disk.old)) }
     ensures never { D.plan disk.old ≡ Never → D.plan disk.new ≡ Never }
     ensures plan { OnOk result (D.plan disk.new ≡ after_two (D.plan disk.old)) }
-    ensures done { OnOk result (D.keeps_model → surface (D.file disk.new) ≡ after_sync (after_write at bytes.now (surface (D.file disk.old)))) }
-    ensures crash { D.keeps_model → LeavesOnly D.clock D.since disk.old disk.new (MayLeave (tried_write at (length bytes.now) (surface (D.file disk.old)))) }
+    ensures done { OnOk result
+        (D.keeps_model → surface (D.file disk.new) ≡ after_sync
+        (after_write at bytes.now (surface (D.file disk.old)))) }
+    ensures crash { D.keeps_model
+        → LeavesOnly D.clock D.since disk.old disk.new
+        (MayLeave (tried_write at (length bytes.now) (surface (D.file disk.old)))) }
     ensures failures_stay { D.failures disk.old ≤ D.failures disk.new }
     ensures cause { HasCause (D.failures disk.old) (D.failures disk.new) result }
 {

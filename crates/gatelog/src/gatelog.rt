@@ -34,9 +34,12 @@ pub struct GateLog<D: Disk> {
 }
 
 fn cut_and_write<D: Disk>(disk: &mut D) -> Result<(), Fault>
-    ensures done { OnOk result (D.keeps_model → ((surface (D.file disk.new)).seen ≡ HEADER_AND_GATE) × IsSynced (surface (D.file disk.new))) }
+    ensures done { OnOk result
+        (D.keeps_model → ((surface (D.file disk.new)).seen ≡ HEADER_AND_GATE)
+        × IsSynced (surface (D.file disk.new))) }
     // With room for three changes, and no call armed, the device does not fail. What room there is beyond is kept.
-    ensures planned { (calls more : ℕ) → D.has_room disk.old (calls + 3) (9 + more) → D.plan disk.old ≡ Never →
+    ensures planned { (calls more : ℕ) → D.has_room disk.old (calls + 3) (9 + more)
+        → D.plan disk.old ≡ Never →
         IsOk result × (D.plan disk.new ≡ Never) × D.has_room disk.new calls more }
     ensures failures_stay { D.failures disk.old ≤ D.failures disk.new }
     ensures cause { HasCause (D.failures disk.old) (D.failures disk.new) result }
@@ -51,15 +54,21 @@ impl<D: Disk> GateLog<D> {
     /// Makes an empty log of a file, whatever was in it. Refused for `Memory`, the file is as it was.
     pub fn format(disk: D) -> Result<GateLog<D>, (Fault, D)>
         // From then on every crash leaves the empty log, and a read gives it.
-        ensures empty { IfOk result (λ made. D.keeps_model → Stands (surface (D.file (disk_of made))) (Ok [])) }
-        ensures read { IfOk result (λ made. D.keeps_model → log (surface (D.file (disk_of made))).seen ≡ Ok []) }
+        ensures empty { IfOk result
+            (λ made. D.keeps_model → Stands (surface (D.file (disk_of made))) (Ok [])) }
+        ensures read { IfOk result
+            (λ made. D.keeps_model → log (surface (D.file (disk_of made))).seen ≡ Ok []) }
         ensures running { IfOk result (λ made. IsFalse (is_stopped made)) }
         ensures gate { IfOk result (λ made. gate_at made ≡ first_gate) }
         ensures failures_stay { IfOk result (λ made. D.failures disk ≤ D.failures (disk_of made)) }
-        ensures cause { IfErr result (λ refused. ((refused.0 ≡ Fault.Memory) × (D.file refused.1 ≡ D.file disk) × (D.plan refused.1 ≡ D.plan disk))
+        ensures cause { IfErr result
+            (λ refused. ((refused.0 ≡ Fault.Memory) × (D.file refused.1 ≡ D.file disk)
+            × (D.plan refused.1 ≡ D.plan disk))
             ⊎ ((refused.0 ≡ Fault.Device) × (D.failures disk < D.failures refused.1))) }
         // With no call armed, the device does not fail: it is made, or memory was refused.
-        ensures planned { D.obeys → D.plan disk ≡ Never → IfOk result (λ made. D.plan (disk_of made) ≡ Never) × IfErr result (λ refused. refused.0 ≡ Fault.Memory) }
+        ensures planned { D.obeys → D.plan disk ≡ Never
+            → IfOk result (λ made. D.plan (disk_of made) ≡ Never)
+            × IfErr result (λ refused. refused.0 ≡ Fault.Memory) }
     {
         let mut disk = disk;
         if let Err(fault) = disk.reserve(9) {
@@ -70,14 +79,19 @@ impl<D: Disk> GateLog<D> {
 
     // Makes an empty log of a file. It has room for that.
     fn laid_out(disk: D) -> Result<GateLog<D>, (Fault, D)>
-        ensures empty { IfOk result (λ made. D.keeps_model → Stands (surface (D.file (disk_of made))) (Ok [])) }
-        ensures read { IfOk result (λ made. D.keeps_model → log (surface (D.file (disk_of made))).seen ≡ Ok []) }
+        ensures empty { IfOk result
+            (λ made. D.keeps_model → Stands (surface (D.file (disk_of made))) (Ok [])) }
+        ensures read { IfOk result
+            (λ made. D.keeps_model → log (surface (D.file (disk_of made))).seen ≡ Ok []) }
         ensures running { IfOk result (λ made. IsFalse (is_stopped made)) }
         ensures gate { IfOk result (λ made. gate_at made ≡ first_gate) }
         ensures failures_stay { IfOk result (λ made. D.failures disk ≤ D.failures (disk_of made)) }
-        ensures cause { IfErr result (λ refused. (refused.0 ≡ Fault.Device) × (D.failures disk < D.failures refused.1)) }
-        ensures planned { (calls more : ℕ) → D.has_room disk (calls + 3) (9 + more) → D.plan disk ≡ Never →
-            IsOk result × IfOk result (λ made. (D.plan (disk_of made) ≡ Never) × D.has_room (disk_of made) calls more) }
+        ensures cause { IfErr result
+            (λ refused. (refused.0 ≡ Fault.Device) × (D.failures disk < D.failures refused.1)) }
+        ensures planned { (calls more : ℕ) → D.has_room disk (calls + 3) (9 + more)
+            → D.plan disk ≡ Never →
+            IsOk result × IfOk result
+            (λ made. (D.plan (disk_of made) ≡ Never) × D.has_room (disk_of made) calls more) }
     {
         let mut disk = disk;
         if let Err(fault) = cut_and_write(&mut disk) {
@@ -93,31 +107,51 @@ impl<D: Disk> GateLog<D> {
     /// Takes up the log of a file: its entries in order. It syncs before it reads. `NotALog` where the file does not
     /// begin with the header, and `Damaged` at the gate where a frame is due and none is whole.
     pub fn open(alloc: Global, disk: D) -> Result<(GateLog<D>, Vec<Entry>), (Fault, D)>
-        ensures entries { IfOk result (λ opened. D.keeps_model → log (surface (D.file disk)).seen ≡ Ok opened.1.items) }
-        ensures gate { IfOk result (λ opened. D.keeps_model → IsTrue (ends_at (surface (D.file disk)).seen (gate_at opened.0))) }
-        ensures end { IfOk result (λ opened. gate_at opened.0 ≡ end_of (map (λ e. e.item) opened.1.items)) }
+        ensures entries { IfOk result
+            (λ opened. D.keeps_model → log (surface (D.file disk)).seen ≡ Ok opened.1.items) }
+        ensures gate { IfOk result
+            (λ opened. D.keeps_model
+            → IsTrue (ends_at (surface (D.file disk)).seen (gate_at opened.0))) }
+        ensures end { IfOk result
+            (λ opened. gate_at opened.0 ≡ end_of (map (λ e. e.item) opened.1.items)) }
         ensures running { IfOk result (λ opened. IsFalse (is_stopped opened.0)) }
-        ensures synced { IfOk result (λ opened. D.keeps_model → surface (D.file (disk_of opened.0)) ≡ after_sync (surface (D.file disk))) }
+        ensures synced { IfOk result
+            (λ opened. D.keeps_model
+            → surface (D.file (disk_of opened.0)) ≡ after_sync (surface (D.file disk))) }
         // A crash at any moment of the call leaves no more than one before it.
-        ensures any_moment { IfOk result (λ opened. D.keeps_model → LeavesOnly D.clock D.since disk (disk_of opened.0) (MayLeave (surface (D.file disk)))) }
-        ensures refused_moment { IfErr result (λ refused. D.keeps_model → LeavesOnly D.clock D.since disk refused.1 (MayLeave (surface (D.file disk)))) }
+        ensures any_moment { IfOk result
+            (λ opened. D.keeps_model
+            → LeavesOnly D.clock D.since disk (disk_of opened.0)
+            (MayLeave (surface (D.file disk)))) }
+        ensures refused_moment { IfErr result
+            (λ refused. D.keeps_model
+            → LeavesOnly D.clock D.since disk refused.1 (MayLeave (surface (D.file disk)))) }
         ensures cause { IfErr result (λ refused. (refused.0 ≡ Fault.Memory)
             ⊎ (((refused.0 ≡ Fault.Device) × (D.failures disk < D.failures refused.1))
-            ⊎ (IsTrue (is_no_log refused.0) × (D.keeps_model → log (surface (D.file disk)).seen ≡ Err refused.0)))) }
+            ⊎ (IsTrue (is_no_log refused.0)
+            × (D.keeps_model → log (surface (D.file disk)).seen ≡ Err refused.0)))) }
         // Refused, but for `Device`, the file reads as it did.
-        ensures unchanged { IfErr result (λ refused. (refused.0 ≡ Fault.Device) ⊎ (D.keeps_model → (surface (D.file refused.1)).seen ≡ (surface (D.file disk)).seen)) }
-        ensures failures_stay { IfOk result (λ opened. D.failures disk ≤ D.failures (disk_of opened.0)) }
+        ensures unchanged { IfErr result
+            (λ refused. (refused.0 ≡ Fault.Device)
+            ⊎ (D.keeps_model → (surface (D.file refused.1)).seen ≡ (surface (D.file disk)).seen)) }
+        ensures failures_stay { IfOk result
+            (λ opened. D.failures disk ≤ D.failures (disk_of opened.0)) }
 
         // Refused, but for `Memory` and `Device`, the file is synced.
-        ensures refused_synced { IfErr result (λ refused. (refused.0 ≡ Fault.Memory) ⊎ ((refused.0 ≡ Fault.Device)
+        ensures refused_synced { IfErr result
+            (λ refused. (refused.0 ≡ Fault.Memory) ⊎ ((refused.0 ≡ Fault.Device)
             ⊎ (D.keeps_model → surface (D.file refused.1) ≡ after_sync (surface (D.file disk))))) }
 
         // With no call to fail before the next write, the device does not fail.
         ensures planned { D.obeys → waits (D.plan disk) ≡ true
-            → IfOk result (λ opened. (D.plan (disk_of opened.0) ≡ D.plan disk) × (D.file (disk_of opened.0) ≡ synced (D.file disk))) }
+            → IfOk result (λ opened. (D.plan (disk_of opened.0) ≡ D.plan disk)
+            × (D.file (disk_of opened.0) ≡ synced (D.file disk))) }
         ensures refused_planned { D.obeys → waits (D.plan disk) ≡ true
-            → IfErr result (λ refused. ((D.file refused.1 ≡ D.file disk) ⊎ (D.file refused.1 ≡ synced (D.file disk)))
-            × ((refused.0 ≡ Fault.Memory) ⊎ (IsTrue (is_no_log refused.0) × (D.keeps_model → log (surface (D.file disk)).seen ≡ Err refused.0)))) }
+            → IfErr result (λ refused.
+            ((D.file refused.1 ≡ D.file disk) ⊎ (D.file refused.1 ≡ synced (D.file disk)))
+            × ((refused.0 ≡ Fault.Memory)
+            ⊎ (IsTrue (is_no_log refused.0)
+            × (D.keeps_model → log (surface (D.file disk)).seen ≡ Err refused.0)))) }
     {
         let mut disk = disk;
         let image = match read_synced(alloc, &mut disk) {
@@ -141,7 +175,9 @@ impl<D: Disk> GateLog<D> {
     pub fn is_stopped(&self) -> bool
         ensures value { result ≡ is_stopped self.now }
         // Between two calls every crash leaves the log that a read gives.
-        ensures stands { IsFalse result → D.keeps_model → Stands (surface (D.file (disk_of self.now))) (log (surface (D.file (disk_of self.now))).seen) }
+        ensures stands { IsFalse result → D.keeps_model
+            → Stands (surface (D.file (disk_of self.now)))
+            (log (surface (D.file (disk_of self.now))).seen) }
     {
         self.stopped
     }
@@ -158,17 +194,28 @@ impl<D: Disk> GateLog<D> {
     /// Takes all the memory that an append of this record needs, the disk's too. `TimeSpent` where the file would grow
     /// beyond 2^40 bytes.
     pub fn stage(&mut self, alloc: Global, record: &Record) -> Result<Staged, Fault>
-        ensures staged { IfOk result (λ staged. (staged.offset ≡ gate_at self.old) × (staged.item ≡ «record».now)) }
-        ensures running { OnOk result (IsFalse (is_stopped self.old) × (next_gate (gate_at self.old) «record».now + 1 ≤ 2 ^ 40)) }
-        ensures growth { OnOk result (next_gate (gate_at self.old) «record».now ≤ gate_at self.old + 2 ^ 20 + 5) }
-        ensures room { OnOk result (D.obeys → D.has_room (disk_of self.new) 4 (length (staged_bytes «record».now) + 1)) }
+        ensures staged { IfOk result
+            (λ staged. (staged.offset ≡ gate_at self.old) × (staged.item ≡ «record».now)) }
+        ensures running { OnOk result
+            (IsFalse (is_stopped self.old)
+            × (next_gate (gate_at self.old) «record».now + 1 ≤ 2 ^ 40)) }
+        ensures growth { OnOk result
+            (next_gate (gate_at self.old) «record».now ≤ gate_at self.old + 2 ^ 20 + 5) }
+        ensures room { OnOk result
+            (D.obeys → D.has_room (disk_of self.new) 4 (length (staged_bytes «record».now) + 1)) }
         ensures plan { D.plan (disk_of self.new) ≡ D.plan (disk_of self.old) }
-        ensures same { (gate_at self.new ≡ gate_at self.old) × (is_stopped self.new ≡ is_stopped self.old) × (D.file (disk_of self.new) ≡ D.file (disk_of self.old)) }
+        ensures same { (gate_at self.new ≡ gate_at self.old)
+            × (is_stopped self.new ≡ is_stopped self.old)
+            × (D.file (disk_of self.new) ≡ D.file (disk_of self.old)) }
         ensures failures_stay { D.failures (disk_of self.old) ≤ D.failures (disk_of self.new) }
-        ensures time { LeavesOnly D.clock D.since (disk_of self.old) (disk_of self.new) (MayLeave (surface (D.file (disk_of self.old)))) }
-        ensures cause { IfErr result (λ fault. ((fault ≡ Fault.Stopped) × IsTrue (is_stopped self.old))
-            ⊎ (((fault ≡ Fault.TimeSpent) × IsFalse (is_stopped self.old) × IsFull (gate_at self.old) «record».now)
-            ⊎ ((fault ≡ Fault.Memory) × IsFalse (is_stopped self.old) × (next_gate (gate_at self.old) «record».now + 1 ≤ 2 ^ 40)))) }
+        ensures time { LeavesOnly D.clock D.since (disk_of self.old) (disk_of self.new)
+            (MayLeave (surface (D.file (disk_of self.old)))) }
+        ensures cause { IfErr result
+            (λ fault. ((fault ≡ Fault.Stopped) × IsTrue (is_stopped self.old))
+            ⊎ (((fault ≡ Fault.TimeSpent) × IsFalse (is_stopped self.old)
+            × IsFull (gate_at self.old) «record».now)
+            ⊎ ((fault ≡ Fault.Memory) × IsFalse (is_stopped self.old)
+            × (next_gate (gate_at self.old) «record».now + 1 ≤ 2 ^ 40)))) }
     {
         if self.stopped {
             return Err(Fault::Stopped);
@@ -188,34 +235,51 @@ impl<D: Disk> GateLog<D> {
 
         // A crash at any moment of the call leaves the old log, or the old log with the record.
         ensures any_moment { IsFalse (is_stopped self.old) → D.keeps_model →
-            LeavesOnly D.clock D.since (disk_of self.old) (disk_of self.new) (IsOldOrWith (log (surface (D.file (disk_of self.old))).seen) staged) }
+            LeavesOnly D.clock D.since (disk_of self.old) (disk_of self.new)
+            (IsOldOrWith (log (surface (D.file (disk_of self.old))).seen) staged) }
 
         // From then on every crash leaves the log with the record, and a read gives it.
         ensures durable { OnOk result (D.keeps_model →
-            Stands (surface (D.file (disk_of self.new))) (and_entry (log (surface (D.file (disk_of self.old))).seen) staged)) }
+            Stands (surface (D.file (disk_of self.new)))
+            (and_entry (log (surface (D.file (disk_of self.old))).seen) staged)) }
         ensures read { OnOk result (D.keeps_model →
-            log (surface (D.file (disk_of self.new))).seen ≡ and_entry (log (surface (D.file (disk_of self.old))).seen) staged) }
+            log (surface (D.file (disk_of self.new))).seen ≡ and_entry
+            (log (surface (D.file (disk_of self.old))).seen) staged) }
 
         // A read gives one of the two in any case.
-        ensures read_either { IsFalse (is_stopped self.old) → D.keeps_model → IsOldOrWith (log (surface (D.file (disk_of self.old))).seen) staged (surface (D.file (disk_of self.new))).seen }
+        ensures read_either { IsFalse (is_stopped self.old) → D.keeps_model
+            → IsOldOrWith (log (surface (D.file (disk_of self.old))).seen) staged
+            (surface (D.file (disk_of self.new))).seen }
 
-        ensures names { IfOk result (λ logged. (logged ≡ staged.item) × IsFalse (is_stopped self.old) × IsFalse (is_stopped self.new)) }
+        ensures names { IfOk result
+            (λ logged. (logged ≡ staged.item) × IsFalse (is_stopped self.old)
+            × IsFalse (is_stopped self.new)) }
         ensures gate { OnOk result (gate_at self.new ≡ next_gate staged.offset staged.item) }
         ensures failures_stay { D.failures (disk_of self.old) ≤ D.failures (disk_of self.new) }
-        ensures cause { IfErr result (λ fault. ((fault ≡ Fault.Stopped) × IsTrue (is_stopped self.old) × (self.new ≡ self.old))
-            ⊎ ((fault ≡ Fault.Device) × IsFalse (is_stopped self.old) × (D.failures (disk_of self.old) < D.failures (disk_of self.new)) × IsTrue (is_stopped self.new))) }
+        ensures cause { IfErr result
+            (λ fault. ((fault ≡ Fault.Stopped) × IsTrue (is_stopped self.old)
+            × (self.new ≡ self.old))
+            ⊎ ((fault ≡ Fault.Device) × IsFalse (is_stopped self.old)
+            × (D.failures (disk_of self.old) < D.failures (disk_of self.new))
+            × IsTrue (is_stopped self.new))) }
 
         // With a call armed, counted from 0: what a read gives then, and what a crash leaves by each choice.
-        ensures armed { (call : ℕ) → IsFalse (is_stopped self.old) → D.keeps_model → D.has_room (disk_of self.old) 4 (length (staged_bytes staged.item) + 1) → D.plan (disk_of self.old) ≡ AfterWrite call →
-            IsAsPlanned (nat_lt call 4) result × IsArmed call (log (surface (D.file (disk_of self.old))).seen) staged (D.file (disk_of self.new)) }
+        ensures armed { (call : ℕ) → IsFalse (is_stopped self.old) → D.keeps_model
+            → D.has_room (disk_of self.old) 4 (length (staged_bytes staged.item) + 1)
+            → D.plan (disk_of self.old) ≡ AfterWrite call →
+            IsAsPlanned (nat_lt call 4) result
+            × IsArmed call (log (surface (D.file (disk_of self.old))).seen) staged
+            (D.file (disk_of self.new)) }
 
         // With no call armed, none is armed afterwards.
         ensures never { D.plan (disk_of self.old) ≡ Never → D.plan (disk_of self.new) ≡ Never }
 
         // It needs no more than was reserved: with it, it fails only by the disk's plan.
-        ensures planned { IsFalse (is_stopped self.old) → D.has_room (disk_of self.old) 4 (length (staged_bytes staged.item) + 1) →
+        ensures planned { IsFalse (is_stopped self.old)
+            → D.has_room (disk_of self.old) 4 (length (staged_bytes staged.item) + 1) →
             IsAsPlanned (fails_in_append (D.plan (disk_of self.old))) result
-            × (D.file (disk_of self.new) ≡ appended (D.plan (disk_of self.old)) staged.offset (staged_bytes staged.item) (D.file (disk_of self.old))) }
+            × (D.file (disk_of self.new) ≡ appended (D.plan (disk_of self.old)) staged.offset
+            (staged_bytes staged.item) (D.file (disk_of self.old))) }
     {
         if self.stopped {
             return Err(Fault::Stopped);
@@ -232,9 +296,14 @@ impl<D: Disk> GateLog<D> {
     /// For tests: the device call that comes that many calls after the next append begins fails once, or none does.
     pub fn arm(&mut self, call: Option<u64>)
         ensures plan { D.obeys → D.plan (disk_of self.new) ≡ armed call }
-        ensures room { (calls bytes : ℕ) → D.has_room (disk_of self.old) calls bytes → D.has_room (disk_of self.new) calls bytes }
-        ensures same { (gate_at self.new ≡ gate_at self.old) × (is_stopped self.new ≡ is_stopped self.old) × (D.file (disk_of self.new) ≡ D.file (disk_of self.old)) × (D.failures (disk_of self.new) ≡ D.failures (disk_of self.old)) }
-        ensures time { LeavesOnly D.clock D.since (disk_of self.old) (disk_of self.new) (MayLeave (surface (D.file (disk_of self.old)))) }
+        ensures room { (calls bytes : ℕ) → D.has_room (disk_of self.old) calls bytes
+            → D.has_room (disk_of self.new) calls bytes }
+        ensures same { (gate_at self.new ≡ gate_at self.old)
+            × (is_stopped self.new ≡ is_stopped self.old)
+            × (D.file (disk_of self.new) ≡ D.file (disk_of self.old))
+            × (D.failures (disk_of self.new) ≡ D.failures (disk_of self.old)) }
+        ensures time { LeavesOnly D.clock D.since (disk_of self.old) (disk_of self.new)
+            (MayLeave (surface (D.file (disk_of self.old)))) }
     {
         self.disk.arm(call);
     }

@@ -19,9 +19,11 @@ use units::Fault;
 // The record behind an open gate, and how many bytes it takes there.
 #[tactic(auto, unfolding(crate::specs::Log::framed))]
 fn frame_of(alloc: Global, bytes: &[u8]) -> Result<Option<(Record, usize)>, Fault>
-    ensures read { MatchResult result (λ found. framed bytes.now ≡ found) (λ fault. fault ≡ Fault.Memory) }
+    ensures read { MatchResult result (λ found. framed bytes.now ≡ found)
+        (λ fault. fault ≡ Fault.Memory) }
     ensures fits { IfOk result (λ found. IfSome found (λ frame. frame.1 ≤ length bytes.now)) }
-    ensures size { IfOk result (λ found. IfSome found (λ frame. frame.1 ≡ 4 + length (spelling frame.0))) }
+    ensures size { IfOk result
+        (λ found. IfSome found (λ frame. frame.1 ≡ 4 + length (spelling frame.0))) }
 {
     if bytes.len() < 4 {
         return Ok(None);
@@ -43,7 +45,9 @@ fn frame_of(alloc: Global, bytes: &[u8]) -> Result<Option<(Record, usize)>, Faul
 pub fn entries_of(alloc: Global, image: &[u8]) -> Result<(Vec<Entry>, u64), Fault>
     ensures found { IfOk result (λ found. scan image.now ≡ Ok (found.0.items, found.1)) }
     ensures end { IfOk result (λ found. found.1 ≡ end_of (map (λ e. e.item) found.0.items)) }
-    ensures refused { IfErr result (λ fault. (fault ≡ Fault.Memory) ⊎ ((scan image.now ≡ Err fault) × IsTrue (is_no_log fault))) }
+    ensures refused { IfErr result
+        (λ fault. (fault ≡ Fault.Memory)
+        ⊎ ((scan image.now ≡ Err fault) × IsTrue (is_no_log fault))) }
 {
     if image.len() < FIRST_GATE as usize {
         return Err(Fault::NotALog);
@@ -73,17 +77,27 @@ pub fn entries_of(alloc: Global, image: &[u8]) -> Result<(Vec<Entry>, u64), Faul
 
 /// The bytes of a file, synced.
 pub fn read_synced<D: Disk>(alloc: Global, disk: &mut D) -> Result<Vec<u8>, Fault>
-    ensures synced { OnOk result (D.keeps_model → surface (D.file disk.new) ≡ after_sync (surface (D.file disk.old))) }
-    ensures bytes { IfOk result (λ image. D.keeps_model → image.items ≡ (surface (D.file disk.old)).seen) }
-    ensures crash { D.keeps_model → LeavesOnly D.clock D.since disk.old disk.new (MayLeave (surface (D.file disk.old))) }
-    ensures unchanged { IfErr result (λ fault. (fault ≡ Fault.Device) ⊎ (D.keeps_model → (surface (D.file disk.new)).seen ≡ (surface (D.file disk.old)).seen)) }
+    ensures synced { OnOk result
+        (D.keeps_model → surface (D.file disk.new) ≡ after_sync (surface (D.file disk.old))) }
+    ensures bytes { IfOk result
+        (λ image. D.keeps_model → image.items ≡ (surface (D.file disk.old)).seen) }
+    ensures crash { D.keeps_model
+        → LeavesOnly D.clock D.since disk.old disk.new (MayLeave (surface (D.file disk.old))) }
+    ensures unchanged { IfErr result
+        (λ fault. (fault ≡ Fault.Device)
+        ⊎ (D.keeps_model → (surface (D.file disk.new)).seen ≡ (surface (D.file disk.old)).seen)) }
     // With no call to fail before the next write, only memory is refused.
-    ensures memory { D.obeys → waits (D.plan disk.old) ≡ true → IfErr result (λ fault. fault ≡ Fault.Memory) }
+    ensures memory { D.obeys → waits (D.plan disk.old) ≡ true
+        → IfErr result (λ fault. fault ≡ Fault.Memory) }
     ensures plan { D.obeys → waits (D.plan disk.old) ≡ true → D.plan disk.new ≡ D.plan disk.old }
-    ensures file { D.obeys → waits (D.plan disk.old) ≡ true → OnOk result (D.file disk.new ≡ synced (D.file disk.old)) }
-    ensures file_either { D.obeys → waits (D.plan disk.old) ≡ true → (D.file disk.new ≡ D.file disk.old) ⊎ (D.file disk.new ≡ synced (D.file disk.old)) }
+    ensures file { D.obeys → waits (D.plan disk.old) ≡ true
+        → OnOk result (D.file disk.new ≡ synced (D.file disk.old)) }
+    ensures file_either { D.obeys → waits (D.plan disk.old) ≡ true
+        → (D.file disk.new ≡ D.file disk.old) ⊎ (D.file disk.new ≡ synced (D.file disk.old)) }
     ensures failures_stay { D.failures disk.old ≤ D.failures disk.new }
-    ensures cause { IfErr result (λ fault. (fault ≡ Fault.Memory) ⊎ ((fault ≡ Fault.Device) × (D.failures disk.old < D.failures disk.new))) }
+    ensures cause { IfErr result
+        (λ fault. (fault ≡ Fault.Memory)
+        ⊎ ((fault ≡ Fault.Device) × (D.failures disk.old < D.failures disk.new))) }
 {
     sync_first(disk)?;
     bytes_of(alloc, disk)

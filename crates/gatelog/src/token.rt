@@ -83,7 +83,8 @@ impl Staged {
     // The record for a log whose closed gate is at this offset, with all the memory that an append of it takes.
     pub(crate) fn at(alloc: Global, gate: u64, record: &Record) -> Result<Staged, Fault>
         requires { next_gate gate «record».now + 1 ≤ 2 ^ 40 }
-        ensures staged { IfOk result (λ staged. (staged.offset ≡ gate) × (staged.item ≡ «record».now)) }
+        ensures staged { IfOk result
+            (λ staged. (staged.offset ≡ gate) × (staged.item ≡ «record».now)) }
         ensures memory { IfErr result (λ fault. fault ≡ Fault.Memory) }
     {
         let bytes = bytes_for(alloc, record)?;
@@ -105,7 +106,8 @@ fn bytes_for(alloc: Global, item: &Record) -> Result<Vec<u8>, Fault>
 // The length of a body, the body, and a closed gate.
 fn bytes_behind(alloc: Global, body: &[u8]) -> Result<Vec<u8>, Fault>
     requires { length body.now < 2 ^ 32 }
-    ensures bytes { IfOk result (λ bytes. bytes.items ≡ (to_be_bytes w32 (length body.now) ++ body.now) ++ 0 ∷ []) }
+    ensures bytes { IfOk result
+        (λ bytes. bytes.items ≡ (to_be_bytes w32 (length body.now) ++ body.now) ++ 0 ∷ []) }
     ensures memory { IfErr result (λ fault. fault ≡ Fault.Memory) }
 {
     let mut count = [0; 4];

@@ -40,7 +40,8 @@ impl<E> Model for Beginning<E> {
 impl<E> Growing<E> {
     /// Two lists with no entry.
     pub fn twins() -> (Growing<E>, Growing<E>)
-        ensures { (result.0.entries ≡ []) × (result.1.entries ≡ []) × (result.1.names ≡ result.0.names)
+        ensures { (result.0.entries ≡ []) × (result.1.entries ≡ [])
+            × (result.1.names ≡ result.0.names)
             × (result.0.second ≡ false) × (result.1.second ≡ true) }
     {
         (
@@ -55,7 +56,8 @@ impl<E> Growing<E> {
 
     /// Adds an entry.
     pub fn add(&mut self, _entry: &E)
-        ensures { (self.new.entries ≡ self.old.entries ++ _entry.now ∷ []) × (self.new.names ≡ self.old.names)
+        ensures { (self.new.entries ≡ self.old.entries ++ _entry.now ∷ [])
+            × (self.new.names ≡ self.old.names)
             × (self.new.second ≡ self.old.second) }
     {}
 
@@ -68,7 +70,8 @@ impl<E> Growing<E> {
 
     /// The list so far.
     pub fn so_far(&self) -> Beginning<E>
-        ensures { (result.entries ≡ self.now.entries) × (result.names ≡ self.now.names) × (result.second ≡ self.now.second) }
+        ensures { (result.entries ≡ self.now.entries) × (result.names ≡ self.now.names)
+            × (result.second ≡ self.now.second) }
     {
         Beginning {
             marker: PhantomData,
@@ -86,8 +89,10 @@ impl<E> Beginning<E> {
     /// The longer of two beginnings of one list, which the other begins.
     pub fn longer(&self, _other: &Beginning<E>) -> Beginning<E>
         requires { (_other.now.names ≡ self.now.names) × (_other.now.second ≡ self.now.second) }
-        ensures { (result ≡ record self.now { entries = longer_of self.now.entries _other.now.entries })
-            × IsPrefix self.now.entries result.entries × IsPrefix _other.now.entries result.entries }
+        ensures { (result ≡
+            record self.now { entries = longer_of self.now.entries _other.now.entries })
+            × IsPrefix self.now.entries result.entries
+            × IsPrefix _other.now.entries result.entries }
     {
         Beginning {
             marker: PhantomData,

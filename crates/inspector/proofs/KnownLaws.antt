@@ -2,7 +2,8 @@
 use Rattle.std.specs.List.{list_any}
 use Rattle.std.specs.List.Sorted.{IsStableBy, ties}
 use Rattle.std.specs.Prelude.{option_map}
-use Rattle.std.proofs.Common.{◌≡◌, ◌∙◌, ℕ, Bool, true, false, not, cond, ◌&&◌, ◌||◌, List, [], ◌∷◌, Option, Some, None, filter, nat_eq, nat_le, refl, sym, ap, arith}
+use Rattle.std.proofs.Common.{◌≡◌, ◌∙◌, ℕ, Bool, true, false, not, cond, ◌&&◌, ◌||◌, List, [], ◌∷◌, Option, Some, None, filter, nat_eq, nat_le, refl}
+use Rattle.std.proofs.Common.{sym, ap, arith}
 use Rattle.std.proofs.lemmas.Bool.Decides.{nat_tests}
 use Rattle.units.specs.Ids.{Id, ids_once, same_id}
 use Rattle.units.specs.Keys.{Bytes}
@@ -11,7 +12,8 @@ use Rattle.units.specs.declared.line.Line.{Line}
 use Rattle.units.specs.declared.line.Line.TheVariants.{Ack, Begin, Look, Read}
 use Rattle.units.proofs.IdLaws.{same_id_comm}
 use Rattle.record.specs.History.{Txn, before, find_txn, serial, serial_before, upto}
-use Rattle.record.specs.Verdict.{first_fault, first_lost, first_wrong_order, first_wrong_read, is_in_at, is_late_ack, late_acks, line_reads_right, lost_by, same_value}
+use Rattle.record.specs.Verdict.{first_fault, first_lost, first_wrong_order, first_wrong_read, is_in_at, is_late_ack, late_acks, line_reads_right}
+use Rattle.record.specs.Verdict.{lost_by, same_value}
 use Rattle.findings.specs.Versions.{shown}
 use Rattle.findings.specs.Known.{HaveSame, of_id}
 use Rattle.inspector.specs.Faults.{line_fault}
@@ -82,14 +84,16 @@ same_wrong_read us vs same lines =
 
 same_late_acks : (us vs : List Txn) → HaveSame us vs → (ls : List (ℕ × Line)) (l : Line) → late_acks us ls l ≡ late_acks vs ls l
 same_late_acks us vs same ls (Begin t m) =
-    ap (λ (o : Option Txn). elim o as (λ x. List ℕ) [ None ↦ [] | Some u ↦ gather (λ l. cond (is_late_ack m u.at l.1) (Some (l.0)) None) ls ]) (same_find us vs same t)
+    ap (λ (o : Option Txn). elim o as (λ x. List ℕ) [ None ↦ [] | Some u ↦ gather (λ l. cond (is_late_ack m u.at l.1) (Some (l.0)) None) ls ])
+    (same_find us vs same t)
 same_late_acks us vs same ls (Ack t at m) = refl
 same_late_acks us vs same ls (Read t k x) = refl
 same_late_acks us vs same ls (Look k at x) = refl
 
 same_wrong_order : (us vs : List Txn) → HaveSame us vs → (lines : List Line) → first_wrong_order us lines ≡ first_wrong_order vs lines
 same_wrong_order us vs same lines =
-    ap (λ (late : Line → List ℕ). head (gather (λ (l : ℕ × Line). option_map (λ (j : ℕ). (l.0, j)) (head (late l.1))) (numbered 0 lines))) (λ i l. same_late_acks us vs same (numbered 0 lines) l i)
+    ap (λ (late : Line → List ℕ). head (gather (λ (l : ℕ × Line). option_map (λ (j : ℕ). (l.0, j)) (head (late l.1))) (numbered 0 lines)))
+    (λ i l. same_late_acks us vs same (numbered 0 lines) l i)
 
 pub same_fault : (us vs : List Txn) → HaveSame us vs → (lines : List Line) → line_fault us lines ≡ line_fault vs lines
 same_fault us vs same lines = λ i. first_fault None (same_lost us vs same lines i) (same_wrong_read us vs same lines i) (same_wrong_order us vs same lines i)

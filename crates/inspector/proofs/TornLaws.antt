@@ -1,6 +1,7 @@
 -- The least transaction that is not whole, found among records that ascend.
 use Rattle.std.specs.List.{list_all, list_any}
-use Rattle.std.proofs.Common.{◌≡◌, ◌∙◌, ℕ, suc, Bool, true, false, not, cond, ◌||◌, List, [], ◌∷◌, ◌++◌, filter, flat_map, length, map, Option, Some, None, option_map, refl, sym, ap, subst}
+use Rattle.std.proofs.Common.{◌≡◌, ◌∙◌, ℕ, suc, Bool, true, false, not, cond, ◌||◌, List, [], ◌∷◌, ◌++◌, filter, flat_map, length, map, Option, Some}
+use Rattle.std.proofs.Common.{None, option_map, refl, sym, ap, subst}
 use Rattle.std.proofs.lemmas.Bool.{and_parts, and_from, false≢true}
 use Rattle.units.specs.Ids.{Id, same_id, older, with_id, ids_once}
 use Rattle.units.specs.Lists.{first, gather, head, numbered}
@@ -75,12 +76,14 @@ ids_of_log n [] = refl
 ids_of_log n (r ∷ log) = by_id (id_in r) (ids_of_log n log)
   where
     by_id : (o : Option Id) → map (λ (e : About). e.txn) (gather (about_in n) log) ≡ gather id_in log
-        → map (λ (e : About). e.txn) (elim (option_map {U = About} (λ u. record { txn = u; shard = n; item = r }) o) as (λ x. List About) [ None ↦ gather (about_in n) log | Some y ↦ y ∷ gather (about_in n) log ])
+        → map (λ (e : About). e.txn) (elim (option_map {U = About} (λ u. record { txn = u; shard = n; item = r }) o) as
+        (λ x. List About) [ None ↦ gather (about_in n) log | Some y ↦ y ∷ gather (about_in n) log ])
         ≡ (elim o as (λ x. List Id) [ None ↦ gather id_in log | Some y ↦ y ∷ gather id_in log ])
     by_id None rest = rest
     by_id (Some u) rest = ap (λ l. u ∷ l) rest
 
-ids_from : (n : ℕ) (logs : List (List Record)) → map (λ (e : About). e.txn) (flat_map (λ l. gather (about_in l.0) l.1) (numbered n logs)) ≡ flat_map (gather id_in) logs
+ids_from : (n : ℕ) (logs : List (List Record)) → map (λ (e : About). e.txn) (flat_map (λ l. gather (about_in l.0) l.1) (numbered n logs)) ≡ flat_map
+    (gather id_in) logs
 ids_from n [] = refl
 ids_from n (log ∷ logs) =
     ids_append (gather (about_in n) log) (flat_map (λ l. gather (about_in l.0) l.1) (numbered (suc n) logs))
@@ -95,7 +98,8 @@ among : (t : Id) (es : List About) → list_any (same_id t) (map (λ e. e.txn) e
 among t [] = refl
 among t (e ∷ es) = by_test (same_id t e.txn) (among t es)
   where
-    by_test : (b : Bool) → list_any (same_id t) (map (λ e. e.txn) es) ≡ some (of_txn t es) → (b || list_any (same_id t) (map (λ e. e.txn) es)) ≡ some (cond b (e ∷ of_txn t es) (of_txn t es))
+    by_test : (b : Bool) → list_any (same_id t) (map (λ e. e.txn) es) ≡ some (of_txn t es)
+        → (b || list_any (same_id t) (map (λ e. e.txn) es)) ≡ some (cond b (e ∷ of_txn t es) (of_txn t es))
     by_test true rest = refl
     by_test false rest = rest
 
@@ -136,11 +140,13 @@ first_with : (test : Id → Bool) (t : Id) (us : List Id) → none_older t us �
 first_with test t [] all = refl
 first_with test t (u ∷ us) all = by_tests (same_id u t) (older u t) refl (and_parts _ _ all)
   where
-    twice : (b : Bool) → test u ≡ b → head (cond b (u ∷ filter test us) (filter test us)) ≡ head (cond b (u ∷ cond b (u ∷ filter test us) (filter test us)) (cond b (u ∷ filter test us) (filter test us)))
+    twice : (b : Bool) → test u ≡ b → head (cond b (u ∷ filter test us) (filter test us)) ≡ head
+        (cond b (u ∷ cond b (u ∷ filter test us) (filter test us)) (cond b (u ∷ filter test us) (filter test us)))
     twice true e = refl
     twice false e = refl
 
-    by_tests : (a b : Bool) → same_id u t ≡ a → (not b ≡ true) × (none_older t us ≡ true) → first test (cond a (u ∷ us) (cond b (u ∷ with_id us t) (t ∷ u ∷ us))) ≡ first test (t ∷ u ∷ us)
+    by_tests : (a b : Bool) → same_id u t ≡ a → (not b ≡ true) × (none_older t us ≡ true)
+        → first test (cond a (u ∷ us) (cond b (u ∷ with_id us t) (t ∷ u ∷ us))) ≡ first test (t ∷ u ∷ us)
     by_tests true b e p = subst (λ v. first test (u ∷ us) ≡ first test (v ∷ u ∷ us)) (same_id-is u t e) (twice (test u) refl)
     by_tests false true e p = cc
     by_tests false false e p = refl
@@ -160,6 +166,7 @@ first_ascending test (e ∷ es) up =
 pub torn_is : (logs : List (List Record)) (es : List About) → AscendsByTxn es → ((t : Id) → of_txn t es ≡ of_txn t (entries logs))
     → first (λ t. not (is_whole t (logs_from (length logs) 0 (of_txn t es)))) (map (λ e. e.txn) es) ≡ first_torn logs
 torn_is logs es up same =
-    ap (λ (test : Id → Bool). first test (map (λ e. e.txn) es)) (λ i t. not ((ap (λ fs. is_whole t (logs_from (length logs) 0 fs)) (same t) ∙ whole_by_entries t logs) i))
+    ap (λ (test : Id → Bool). first test (map (λ e. e.txn) es)) (λ i t. not
+    ((ap (λ fs. is_whole t (logs_from (length logs) 0 fs)) (same t) ∙ whole_by_entries t logs) i))
     ∙ first_ascending (λ t. not (is_whole t logs)) es up
     ∙ ap (first (λ t. not (is_whole t logs))) (once_same es (entries logs) same ∙ ap ids_once (ids_from 0 logs))

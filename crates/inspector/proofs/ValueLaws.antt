@@ -17,7 +17,8 @@ use Rattle.findings.proofs.VersionLaws.{Falls, shown_is}
 pub serial_is_ascending : (h ts : List Txn) → ts ≡ serial h → AscendsBy serial_before ts
 serial_is_ascending h ts is = subst (AscendsBy serial_before) (sym is) (serial_ascends h)
 
-none_before : (u t : Txn) (ts : List Txn) → serial_before t u ≡ false → list_all (λ s. not (serial_before s t)) ts ≡ true → list_all (λ s. not (serial_before s u)) ts ≡ true
+none_before : (u t : Txn) (ts : List Txn) → serial_before t u ≡ false → list_all (λ s. not (serial_before s t)) ts ≡ true
+    → list_all (λ s. not (serial_before s u)) ts ≡ true
 none_before u t [] here all = refl
 none_before u t (s ∷ ts) here all =
     and_from _ _ (ap not (serial_order.chain s t u (is_false _ (and_parts _ _ all).0) here)) (none_before u t ts here (and_parts _ _ all).1)

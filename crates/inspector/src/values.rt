@@ -22,7 +22,8 @@ pub fn value_before<'t>(
     requires serial { AscendsBy serial_before ordered.now }
     requires order { AscendsByKey versions.now }
     requires same { (k : Bytes) → of_key k versions.now ≡ of_key k (placed_from 0 ordered.now) }
-    ensures { option_copied result ≡ shown (λ t. serial_before t reader.now) ordered.now key.now None }
+    ensures { option_copied result ≡ shown
+        (λ t. serial_before t reader.now) ordered.now key.now None }
 {
     let place = ordered.partition_point(|transaction| transaction.comes_before(reader));
     value_before_place(versions, key, place)

@@ -18,7 +18,8 @@ use Rattle.protocol.specs.Step.{Stepped, Refuses, Does}
 use Rattle.gatelog.specs.Frames.{end_of}
 use Rattle.gatelog.specs.Gates.{is_left, is_read, opens_gate}
 use Rattle.world.specs.World.{After, ShardNow, State, Runs, IsStopped, IsDown, Unsure, Nothing, Shown, Hidden, shown_records, read_log, setup_of}
-use Rattle.world.specs.World.{step_of_opening, input_of, step_with, effect, wanted, where_room, has_room, finished, crashed, crashed_in, failed_in, left_of, left_unsure}
+use Rattle.world.specs.World.{step_of_opening, input_of, step_with, effect, wanted, where_room, has_room, finished, crashed, crashed_in, failed_in}
+use Rattle.world.specs.World.{left_of, left_unsure}
 use Rattle.world.specs.World.{left_by_refused, stopped, set_shard, did, did_with_failure, refused_doing, refused}
 use Rattle.world.specs.declared.event.Doing.{Doing}
 use Rattle.world.specs.declared.event.Reply.{Reply}

@@ -1,5 +1,6 @@
 -- A crash in a call is that call's failure, and then a crash.
-use Rattle.std.proofs.Common.{◌≡◌, ℕ, Bool, true, false, cond, nat_le, nat_lt, List, [], ◌∷◌, ◌++◌, get_or, Option, Some, None, Ok, refl, sym, ap, ◌∙◌, subst, arith}
+use Rattle.std.proofs.Common.{◌≡◌, ℕ, Bool, true, false, cond, nat_le, nat_lt, List, [], ◌∷◌, ◌++◌, get_or, Option, Some, None, Ok, refl, sym, ap}
+use Rattle.std.proofs.Common.{◌∙◌, subst, arith}
 use Rattle.std.proofs.lemmas.Bool.Decides.{nat_tests}
 use Rattle.std.proofs.lemmas.List.{append-nil}
 use Rattle.disk.specs.File.{surface, crash_leaves}
@@ -13,7 +14,8 @@ use Rattle.shard.specs.Logs.{records_in}
 use Rattle.simdisk.specs.Replay.{settled}
 use Rattle.simdisk.specs.State.{disk_file, disk_plan}
 use Rattle.simdisk.specs.declared.simdisk.SimDisk.{SimDisk}
-use Rattle.world.specs.World.{ShardNow, State, Runs, IsStopped, IsDown, Unsure, Nothing, Shown, Hidden, crashed, crashed_in, failed_in, left_by_refused, left_of, read_log, shown_records}
+use Rattle.world.specs.World.{ShardNow, State, Runs, IsStopped, IsDown, Unsure, Nothing, Shown, Hidden, crashed, crashed_in, failed_in}
+use Rattle.world.specs.World.{left_by_refused, left_of, read_log, shown_records}
 use Rattle.world.specs.declared.event.Doing.{Doing}
 use Rattle.lives.specs.Lives.{HoldsLog, crash_by, disk_log, left_log}
 use Rattle.lives.specs.Carries.{left_by, refused_by, stepped, unopened}

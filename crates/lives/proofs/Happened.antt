@@ -5,6 +5,7 @@ use Rattle.units.specs.declared.fault.Fault.TheVariants.{BadRequest}
 use Rattle.units.specs.declared.fault.Reason.TheVariants.{Unlawful}
 use Rattle.world.specs.World.{World, acts, happens}
 use Rattle.world.specs.Lawful.{may_act, may_happen}
+use Rattle.world.specs.Among.{is_among}
 use Rattle.world.specs.Hosts.{Hosts}
 use Rattle.world.proofs.Untouched.{same_event}
 use Rattle.world.specs.declared.event.Event.{Event}
@@ -32,7 +33,7 @@ module _ (w : World) (e : Event) (number : ℕ) (at : w.event ≡ number) where
             shards = subst (λ s. AreShards after.config s after.shards) (sym shards) h.shards;
             output = record {
               bag = bag ∙ h.output.bag;
-              told = ap (λ ts. ts.items) told ∙ h.output.told;
+              told = λ t. ap (λ ids. is_among ids.keys t) told ∙ h.output.told t;
               lines = ap (λ ls. ls.items) lines
                   ∙ h.output.lines;
               event = omega (arith, event, same, at);

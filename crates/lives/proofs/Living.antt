@@ -20,7 +20,8 @@ use Rattle.lives.specs.Inputs.{IsNoInput}
 use Rattle.world.specs.Lawful.{is_up}
 use Rattle.world.specs.declared.event.Doing.{Doing}
 use Rattle.lives.specs.Lives.{HoldsLog, IsCoreIn, IsDiskIn, LivesAs, LivesIn, disk_log}
-use Rattle.lives.specs.Carries.{Carries, Comes, DoesInput, IsOrderly, OpensDisk, TakesInput, answer_of, asked, asked_in, comes_to, left_by, opened_by, opens_as, refused_by, unopened}
+use Rattle.lives.specs.Carries.{Carries, Comes, DoesInput, IsOrderly, OpensDisk, TakesInput, answer_of, asked, asked_in, comes_to, left_by, opened_by}
+use Rattle.lives.specs.Carries.{opens_as, refused_by, unopened}
 use Rattle.lives.specs.declared.life.Life.{Life}
 use Rattle.lives.specs.declared.life.Life.TheVariants.{Up, Down}
 
@@ -120,7 +121,8 @@ module _ (setup : Setup) (bag : List Envelope) (s : ShardNow) (call : Option ℕ
       left_is : (st : Stepped) → comes_to s s call st ≡ left_by s call doing st
       left_is st = ap (λ t. comes_to s t call st) (sym (refused_same s doing g))
 
-      by_answer : Comes call (effect setup bag s doing) r (IsCoreIn setup (comes_to s s call (effect setup bag s doing)) core (comes_to s s call (effect setup bag s doing)).state)
+      by_answer : Comes call (effect setup bag s doing) r (IsCoreIn setup (comes_to s s call (effect setup bag s doing)) core
+          (comes_to s s call (effect setup bag s doing)).state)
           → Comes call (effect setup bag s doing) r (LivesAs setup (left_by s call doing (effect setup bag s doing)) life)
       by_answer (inl memory) = inl memory
       by_answer (inr (answer, h)) =

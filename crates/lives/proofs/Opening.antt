@@ -1,5 +1,6 @@
 -- A disk that is opened with a call armed, or with none, comes to what the definitions say.
-use Rattle.std.proofs.Common.{◌≡◌, ◌≢◌, ◌⊎◌, ⊎_elim, inl, inr, ℕ, ◌+◌, ◌-◌, ◌^◌, ◌<◌, ◌≤◌, Bool, true, false, cond, nat_lt, IsTrue, List, [], ◌∷◌, ◌++◌, map, Option, Some, None, Result, Ok, Err}
+use Rattle.std.proofs.Common.{◌≡◌, ◌≢◌, ◌⊎◌, ⊎_elim, inl, inr, ℕ, ◌+◌, ◌-◌, ◌^◌, ◌<◌, ◌≤◌, Bool, true, false, cond, nat_lt, IsTrue, List, [], ◌∷◌}
+use Rattle.std.proofs.Common.{◌++◌, map, Option, Some, None, Result, Ok, Err}
 use Rattle.std.proofs.Common.{refl, sym, ap, ◌∙◌, subst, arith}
 use Rattle.std.proofs.lemmas.Bool.{false≢true}
 use Rattle.std.proofs.lemmas.Bool.Decides.{nat_tests}
@@ -32,7 +33,8 @@ use Rattle.shard.specs.On.{CoreView}
 use Rattle.shard.specs.Opened.{HasOpened, HasNotOpened, IsReason, IsSpent, IsTaken, fault_of, is_reason, next_opening, opening_of}
 use Rattle.simdisk.specs.State.{disk_clock, disk_failures, disk_file, disk_plan, LeftSince}
 use Rattle.simdisk.specs.declared.simdisk.SimDisk.{SimDisk}
-use Rattle.world.specs.World.{ShardNow, State, Runs, IsStopped, IsDown, Nothing, crashed, failed_in, read_log, step_of_opening, stopped as stopped_state, where_room}
+use Rattle.world.specs.World.{ShardNow, State, Runs, IsStopped, IsDown, Nothing, crashed, failed_in, read_log, step_of_opening}
+use Rattle.world.specs.World.{stopped as stopped_state, where_room}
 use Rattle.world.specs.Lawful.{is_up}
 use Rattle.world.proofs.Openings.{opening_follows}
 use Rattle.world.proofs.Rooms.{full_is, room_is}

@@ -1,5 +1,6 @@
 -- What the parts of a run answer is what the event comes to.
-use Rattle.std.proofs.Common.{◌≡◌, ◌⊎◌, inl, inr, ℕ, zero, suc, ◌≤◌, Bool, true, false, cond, nat_lt, List, [], ◌∷◌, ◌++◌, length, slice_get, Option, Some, None, Result, Ok, Err}
+use Rattle.std.proofs.Common.{◌≡◌, ◌⊎◌, inl, inr, ℕ, zero, suc, ◌≤◌, Bool, true, false, cond, nat_lt, List, [], ◌∷◌, ◌++◌, length, slice_get, Option}
+use Rattle.std.proofs.Common.{Some, None, Result, Ok, Err}
 use Rattle.std.proofs.Common.{refl, sym, ap, ◌∙◌, subst, arith}
 use Rattle.std.proofs.lemmas.Bool.Decides.{nat_tests}
 use Rattle.std.proofs.lemmas.Option.{slice_get_past}
@@ -17,7 +18,8 @@ use Rattle.message.specs.declared.message.Envelope.{Envelope}
 use Rattle.message.specs.declared.message.Message.{Message}
 use Rattle.protocol.specs.Step.{Stepped, Refuses, Does}
 use Rattle.session.specs.Sessions.{Moved, begun}
-use Rattle.world.specs.World.{World, After, ShardNow, State, Runs, IsStopped, IsDown, at_shard, begin, crashed, crashed_in, deliver_to, did, did_with_failure, do_at}
+use Rattle.world.specs.World.{World, After, ShardNow, State, Runs, IsStopped, IsDown, at_shard, begin, crashed, crashed_in, deliver_to, did}
+use Rattle.world.specs.World.{did_with_failure, do_at}
 use Rattle.world.specs.World.{effect, failed_in, finished, look_at_view, look_noted, look_shard, moved, note, put_out, read_log, refused, refused_doing}
 use Rattle.world.specs.World.{set_client, set_shard, setup_of, to_session}
 use Rattle.world.specs.Steady.{IsSteady}

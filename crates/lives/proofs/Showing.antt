@@ -1,6 +1,7 @@
 -- The views of a shard stay what they are, and what a doing shows more is kept.
 use Rattle.std.specs.List.{list_all}
-use Rattle.std.proofs.Common.{◌≡◌, ◌≢◌, ◌⊎◌, inl, inr, ◌≤◌, ◌+◌, ◌-◌, ℕ, Bool, true, false, not, cond, ◌&&◌, nat_lt, nat_eq, nat_le, IsTrue, List, [], ◌∷◌, ◌++◌, length, map, take, drop, slice_get, option_map}
+use Rattle.std.proofs.Common.{◌≡◌, ◌≢◌, ◌⊎◌, inl, inr, ◌≤◌, ◌+◌, ◌-◌, ℕ, Bool, true, false, not, cond, ◌&&◌, nat_lt, nat_eq, nat_le, IsTrue, List, []}
+use Rattle.std.proofs.Common.{◌∷◌, ◌++◌, length, map, take, drop, slice_get, option_map}
 use Rattle.std.proofs.Common.{Option, Some, None, Result, Ok, Err, OnOk, refl, sym, ap, ◌∙◌, subst, arith, option_to_list}
 use Rattle.std.proofs.lemmas.Bool.{and_parts, false≢true}
 use Rattle.std.proofs.lemmas.Bool.Decides.{nat_tests}
@@ -23,7 +24,8 @@ use Rattle.protocol.specs.Step.{Stepped, Refuses, Does, facts_after}
 use Rattle.shard.specs.Core.{seen}
 use Rattle.shard.specs.On.{CoreView}
 use Rattle.simdisk.specs.declared.simdisk.SimDisk.{SimDisk}
-use Rattle.world.specs.World.{ShardNow, State, Runs, IsStopped, IsDown, Nothing, View, crashed, crashed_in, effect, failed_in, finished, input_of, look_at_view, look_shard, look_view, makes_view, read_log, shown_records, step_with, stopped, view_of, where_room}
+use Rattle.world.specs.World.{ShardNow, State, Runs, IsStopped, IsDown, Nothing, View, crashed, crashed_in, effect, failed_in, finished, input_of}
+use Rattle.world.specs.World.{look_at_view, look_shard, look_view, makes_view, read_log, shown_records, step_with, stopped, view_of, where_room}
 use Rattle.lives.specs.Inputs.{goes_on}
 use Rattle.world.specs.declared.event.Doing.{Doing}
 use Rattle.world.specs.declared.event.Reply.{Reply}

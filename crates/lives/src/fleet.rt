@@ -27,7 +27,8 @@ impl<'s> Shards<'s> {
 
     /// All shards on new disks, formatted and opened.
     pub fn start(alloc: Global, config: &'s Config) -> Result<Shards<'s>, Fault>
-        ensures started { IfOk result (λ shards. AreShards config.now shards (are_fresh config.now)) }
+        ensures started { IfOk result
+            (λ shards. AreShards config.now shards (are_fresh config.now)) }
         ensures memory { IfErr result (λ fault. fault ≡ Fault.Memory) }
     {
         let mut shards = Vec::new(alloc);
@@ -45,14 +46,16 @@ impl<'s> Shards<'s> {
 
     /// There is a shard of this number.
     pub fn has(&self, shard: ShardNo) -> bool
-        ensures { (config : Config) (ss : List ShardNow) → AreShards config self.now ss → result ≡ nat_lt shard (length ss) }
+        ensures { (config : Config) (ss : List ShardNow) → AreShards config self.now ss
+            → result ≡ nat_lt shard (length ss) }
     {
         (shard.number() as usize) < self.shards.len()
     }
 
     /// There is a shard of this number, and a view of that number of it.
     pub fn has_view(&self, shard: ShardNo, number: u64) -> bool
-        ensures { (config : Config) (ss : List ShardNow) → AreShards config self.now ss → result ≡ when (λ s. nat_lt number (length s.views)) (slice_get ss shard) }
+        ensures { (config : Config) (ss : List ShardNow) → AreShards config self.now ss
+            → result ≡ when (λ s. nat_lt number (length s.views)) (slice_get ss shard) }
     {
         match self.shards.get(shard.number() as usize) {
             Some(one) => number < one.views(),
@@ -62,7 +65,8 @@ impl<'s> Shards<'s> {
 
     /// There is a shard of this number, and it does not run.
     pub fn rests(&self, shard: ShardNo) -> bool
-        ensures { (config : Config) (ss : List ShardNow) → AreShards config self.now ss → result ≡ when (λ s. not (is_up s.state)) (slice_get ss shard) }
+        ensures { (config : Config) (ss : List ShardNow) → AreShards config self.now ss
+            → result ≡ when (λ s. not (is_up s.state)) (slice_get ss shard) }
     {
         match self.shards.get(shard.number() as usize) {
             Some(one) => !one.is_up(),
@@ -72,7 +76,8 @@ impl<'s> Shards<'s> {
 
     /// There is a shard of this number, and it is not down.
     pub fn stands(&self, shard: ShardNo) -> bool
-        ensures { (config : Config) (ss : List ShardNow) → AreShards config self.now ss → result ≡ when (λ s. not (is_down s.state)) (slice_get ss shard) }
+        ensures { (config : Config) (ss : List ShardNow) → AreShards config self.now ss
+            → result ≡ when (λ s. not (is_down s.state)) (slice_get ss shard) }
     {
         match self.shards.get(shard.number() as usize) {
             Some(one) => !one.is_down(),
@@ -89,7 +94,8 @@ impl<'s> Shards<'s> {
         call: Option<u64>,
         doing: &Doing,
     ) -> Result<Outbox, Fault>
-        ensures { (config : Config) (ss : List ShardNow) → AreShards config self.old ss → ActsAt config bag.now ss shard call doing.now self.new result }
+        ensures { (config : Config) (ss : List ShardNow) → AreShards config self.old ss
+            → ActsAt config bag.now ss shard call doing.now self.new result }
     {
         let at = shard.number() as usize;
         if at >= self.shards.len() {
@@ -100,7 +106,8 @@ impl<'s> Shards<'s> {
 
     /// A shard crashes. Its oldest change that is not synced has this fate.
     pub fn crash(&mut self, alloc: Global, shard: ShardNo, fate: Fate) -> Result<(), Fault>
-        ensures crashed { (config : Config) (ss : List ShardNow) → AreShards config self.old ss → OnOk result (AreShards config self.new (crashed_at ss shard fate)) }
+        ensures crashed { (config : Config) (ss : List ShardNow) → AreShards config self.old ss
+            → OnOk result (AreShards config self.new (crashed_at ss shard fate)) }
         ensures memory { IfErr result (λ fault. fault ≡ Fault.Memory) }
     {
         let at = shard.number() as usize;
@@ -120,8 +127,10 @@ impl<'s> Shards<'s> {
         fate: Fate,
         doing: &Doing,
     ) -> Result<(), Fault>
-        ensures crashed { (config : Config) (ss : List ShardNow) → AreShards config self.old ss → IsOrderlyAt config bag.now ss shard doing.now
-            → OnOk result (AreShards config self.new (crashed_in_at config bag.now ss shard call fate doing.now)) }
+        ensures crashed { (config : Config) (ss : List ShardNow) → AreShards config self.old ss
+            → IsOrderlyAt config bag.now ss shard doing.now
+            → OnOk result (AreShards config self.new
+            (crashed_in_at config bag.now ss shard call fate doing.now)) }
         ensures memory { IfErr result (λ fault. fault ≡ Fault.Memory) }
     {
         let at = shard.number() as usize;
@@ -133,7 +142,8 @@ impl<'s> Shards<'s> {
 
     /// A look at what a shard shows now.
     pub fn look(&self, alloc: Global, shard: ShardNo, key: &Key, at: Stamp) -> Result<Reply, Fault>
-        ensures shown { (config : Config) (ss : List ShardNow) → AreShards config self.now ss → IfOk result (λ reply. reply ≡ looked config ss shard key.now at) }
+        ensures shown { (config : Config) (ss : List ShardNow) → AreShards config self.now ss
+            → IfOk result (λ reply. reply ≡ looked config ss shard key.now at) }
         ensures memory { IfErr result (λ fault. fault ≡ Fault.Memory) }
     {
         let is_here = self.splits.shard_of(key).number() == shard.number();
@@ -152,7 +162,8 @@ impl<'s> Shards<'s> {
         key: &Key,
         at: Stamp,
     ) -> Result<Reply, Fault>
-        ensures shown { (config : Config) (ss : List ShardNow) → AreShards config self.now ss → IfOk result (λ reply. reply ≡ looked_back config ss shard number key.now at) }
+        ensures shown { (config : Config) (ss : List ShardNow) → AreShards config self.now ss
+            → IfOk result (λ reply. reply ≡ looked_back config ss shard number key.now at) }
         ensures memory { IfErr result (λ fault. fault ≡ Fault.Memory) }
     {
         let is_here = self.splits.shard_of(key).number() == shard.number();
@@ -165,8 +176,10 @@ impl<'s> Shards<'s> {
     /// Ends them: their disks, and the log that a read of each gives.
     pub fn finish(self, alloc: Global) -> Result<(Vec<SimDisk>, Vec<Vec<Record>>), Fault>
         ensures disks { IfOk result (λ r. AreOn r.0.items (map (λ log. log.items) r.1.items)) }
-        ensures logs { (config : Config) (ss : List ShardNow) → AreShards config self.entry ss → IfOk result (λ r. map (λ log. log.items) r.1.items ≡ map read_log ss) }
-        ensures memory { (config : Config) (ss : List ShardNow) → AreShards config self.entry ss → IfErr result (λ fault. fault ≡ Fault.Memory) }
+        ensures logs { (config : Config) (ss : List ShardNow) → AreShards config self.entry ss
+            → IfOk result (λ r. map (λ log. log.items) r.1.items ≡ map read_log ss) }
+        ensures memory { (config : Config) (ss : List ShardNow) → AreShards config self.entry ss
+            → IfErr result (λ fault. fault ≡ Fault.Memory) }
     {
         let Shards {
             splits: _,
@@ -187,7 +200,8 @@ impl<'s> Shards<'s> {
 // One shard after another on a new disk.
 fn fill(shards: &mut Vec<RunShard>, alloc: Global, config: &Config) -> Result<(), Fault>
     requires { shards.old.items ≡ [] }
-    ensures filled { OnOk result (AreStanding config.now 0 shards.new.items (are_fresh config.now)) }
+    ensures filled { OnOk result
+        (AreStanding config.now 0 shards.new.items (are_fresh config.now)) }
     ensures memory { IfErr result (λ fault. fault ≡ Fault.Memory) }
 {
     for number in 0..config.splits.as_slice().len() + 1 {
@@ -221,8 +235,11 @@ fn take_logs(
     alloc: Global,
 ) -> Result<(Vec<SimDisk>, Vec<Vec<Record>>), Fault>
     ensures disks { IfOk result (λ r. AreOn r.0.items (map (λ log. log.items) r.1.items)) }
-    ensures logs { (config : Config) (n : ℕ) (ss : List ShardNow) → AreStanding config n shards.old.items ss → IfOk result (λ r. map (λ log. log.items) r.1.items ≡ map read_log ss) }
-    ensures memory { (config : Config) (n : ℕ) (ss : List ShardNow) → AreStanding config n shards.old.items ss → IfErr result (λ fault. fault ≡ Fault.Memory) }
+    ensures logs { (config : Config) (n : ℕ) (ss : List ShardNow)
+        → AreStanding config n shards.old.items ss
+        → IfOk result (λ r. map (λ log. log.items) r.1.items ≡ map read_log ss) }
+    ensures memory { (config : Config) (n : ℕ) (ss : List ShardNow)
+        → AreStanding config n shards.old.items ss → IfErr result (λ fault. fault ≡ Fault.Memory) }
 {
     let mut disks = Vec::new(alloc);
     let mut logs = Vec::new(alloc);

@@ -33,7 +33,8 @@ fn goes_to(shard: ShardNo, envelope: &Envelope) -> bool
 
 // The message is taken by a shard, or by a session that has begun.
 fn can_come(sessions: &Sessions<'_>, envelope: &Envelope) -> bool
-    ensures { (w : World) → Hosts w.config.splits sessions.now w.clients → result ≡ can_come w envelope.now }
+    ensures { (w : World) → Hosts w.config.splits sessions.now w.clients
+        → result ≡ can_come w envelope.now }
 {
     match envelope.to {
         Address::Shard(_) => true,
@@ -49,7 +50,8 @@ pub fn may_deliver(
     number: u64,
     now: &Reading,
 ) -> bool
-    ensures { (w : World) → Hosts w.config.splits sessions.now w.clients → IsOutput output.now w → result ≡ (is_honest time now.now && when (can_come w) (slice_get w.bag number)) }
+    ensures { (w : World) → Hosts w.config.splits sessions.now w.clients → IsOutput output.now w
+        → result ≡ (is_honest time now.now && when (can_come w) (slice_get w.bag number)) }
 {
     is_honest(time, now)
         && match output.bag.nth(number) {
@@ -66,7 +68,8 @@ pub fn may_do(
     shard: ShardNo,
     doing: &Doing,
 ) -> bool
-    ensures { (w : World) → AreShards w.config shards.now w.shards → IsOutput output.now w → result ≡ may_do w time shard doing.now }
+    ensures { (w : World) → AreShards w.config shards.now w.shards → IsOutput output.now w
+        → result ≡ may_do w time shard doing.now }
 {
     match doing {
         Doing::Take(number, now) => {
@@ -86,7 +89,8 @@ pub fn may_do(
 
 /// A crash in a doing may come: of an opening, or of a shard that is not down.
 pub fn may_crash(shards: &Shards<'_>, shard: ShardNo, doing: &Doing) -> bool
-    ensures { (w : World) → AreShards w.config shards.now w.shards → result ≡ may_crash w shard doing.now }
+    ensures { (w : World) → AreShards w.config shards.now w.shards
+        → result ≡ may_crash w shard doing.now }
 {
     match doing {
         Doing::Open => true,

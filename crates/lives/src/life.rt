@@ -30,7 +30,8 @@ pub enum Life {
 impl Life {
     /// It runs.
     pub fn is_up(&self) -> bool
-        ensures { (setup : Setup) (s : ShardNow) → LivesAs setup s self.now → result ≡ is_up s.state }
+        ensures { (setup : Setup) (s : ShardNow) → LivesAs setup s self.now
+            → result ≡ is_up s.state }
     {
         match self {
             Life::Up(core) => !core.is_stopped(),
@@ -40,7 +41,8 @@ impl Life {
 
     /// It is down.
     pub fn is_down(&self) -> bool
-        ensures { (setup : Setup) (s : ShardNow) → LivesAs setup s self.now → result ≡ is_down s.state }
+        ensures { (setup : Setup) (s : ShardNow) → LivesAs setup s self.now
+            → result ≡ is_down s.state }
     {
         match self {
             Life::Up(_) => false,
@@ -62,7 +64,8 @@ impl Life {
     /// A crash, by a choice for each change that is not synced. Of these there is one at most.
     #[tactic(none)]
     pub fn crash(self, choice: &Choice) -> Life
-        ensures { (setup : Setup) (s : ShardNow) (fate : Left) → choice.now ≡ fate ∷ [] → LivesAs setup s self → LivesAs setup (crash_by fate s) result }
+        ensures { (setup : Setup) (s : ShardNow) (fate : Left) → choice.now ≡ fate ∷ []
+            → LivesAs setup s self → LivesAs setup (crash_by fate s) result }
     {
         Life::Down(self.into_disk().crash(choice))
     }
@@ -77,7 +80,8 @@ impl Life {
         call: Option<u64>,
         doing: &Doing,
     ) -> (Life, Result<Outbox, Fault>)
-        ensures { (s : ShardNow) → LivesAs setup.now s self → Carries setup.now bag.now s call doing.now result.0 result.1 }
+        ensures { (s : ShardNow) → LivesAs setup.now s self
+            → Carries setup.now bag.now s call doing.now result.0 result.1 }
     {
         if opens(doing) {
             if self.is_up() {

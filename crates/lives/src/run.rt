@@ -93,7 +93,8 @@ impl<'s> Run<'s> {
     /// The event of a number, from 0, happens, where it may. The reply to it is answered.
     pub fn take(&mut self, alloc: Global, number: u64, event: &Event) -> Result<Reply, Fault>
         requires { number < 2 ^ 64 - 1 }
-        ensures { (w : World) → w.event ≡ number → IsRun self.old w → IsSteady w → Takes w event.now self.new result }
+        ensures { (w : World) → w.event ≡ number → IsRun self.old w → IsSteady w
+            → Takes w event.now self.new result }
     {
         if !self.may_happen(event) {
             return Err(Fault::BadRequest(Reason::Unlawful(number)));
@@ -106,7 +107,8 @@ impl<'s> Run<'s> {
 
     // The act is done.
     fn act(&mut self, alloc: Global, act: &Act) -> Result<Reply, Fault>
-        ensures { (time : ℕ) (w : World) → IsRun self.old w → IsSteady w → may_act w time act.now ≡ true → Comes (acts w act.now) self.new result }
+        ensures { (time : ℕ) (w : World) → IsRun self.old w → IsSteady w
+            → may_act w time act.now ≡ true → Comes (acts w act.now) self.new result }
     {
         match act {
             Act::Begin(txn) => self.begin(alloc, *txn),
@@ -147,7 +149,8 @@ impl<'s> Run<'s> {
 
     // A session begins.
     fn begin(&mut self, alloc: Global, txn: TxnId) -> Result<Reply, Fault>
-        ensures { (w : World) → IsRun self.old w → client_of w txn ≡ None → Comes (begin txn w, Reply.Done) self.new result }
+        ensures { (w : World) → IsRun self.old w → client_of w txn ≡ None
+            → Comes (begin txn w, Reply.Done) self.new result }
     {
         let number = self.output.event;
         self.sessions.begin(alloc, txn)?;
@@ -157,7 +160,8 @@ impl<'s> Run<'s> {
 
     // A message comes to the shard or to the session that it was put out for.
     fn deliver(&mut self, alloc: Global, number: u64, now: Reading) -> Result<Reply, Fault>
-        ensures { (w : World) → IsRun self.old w → IsSteady w → Comes (deliver_to w number now (slice_get w.bag number)) self.new result }
+        ensures { (w : World) → IsRun self.old w → IsSteady w
+            → Comes (deliver_to w number now (slice_get w.bag number)) self.new result }
     {
         let Some(envelope) = self.output.bag.nth(number) else {
             return Ok(Reply::Refused(Fault::Stranger));
@@ -179,7 +183,8 @@ impl<'s> Run<'s> {
         call: Option<u64>,
         doing: &Doing,
     ) -> Result<Reply, Fault>
-        ensures { (w : World) → IsRun self.old w → IsSteady w → Comes (act_at w shard call doing.now) self.new result }
+        ensures { (w : World) → IsRun self.old w → IsSteady w
+            → Comes (act_at w shard call doing.now) self.new result }
     {
         let done = self
             .shards
@@ -207,7 +212,8 @@ impl<'s> Run<'s> {
         fate: Fate,
         doing: &Doing,
     ) -> Result<Reply, Fault>
-        ensures { (w : World) → IsRun self.old w → IsSteady w → Comes (crash_in_at w shard call fate doing.now) self.new result }
+        ensures { (w : World) → IsRun self.old w → IsSteady w
+            → Comes (crash_in_at w shard call fate doing.now) self.new result }
     {
         if !self.shards.has(shard) {
             return Ok(Reply::Refused(Fault::Stranger));
@@ -219,9 +225,13 @@ impl<'s> Run<'s> {
 
     /// Ends the run: its messages, the disks that it ends with, the logs as reads of these give them, and all lines.
     pub fn finish(self, alloc: Global) -> Result<Finished, Fault>
-        ensures disks { IfOk result (λ r. AreOn r.disks.items (map (λ log. log.items) r.logs.items)) }
-        ensures done { (w : World) → IsRun self.entry w → IfOk result (λ r. (r.bag ≡ w.bag) × (map (λ log. log.items) r.logs.items ≡ logs_of w) × (r.lines.items ≡ w.lines)) }
-        ensures memory { (w : World) → IsRun self.entry w → IfErr result (λ fault. fault ≡ Fault.Memory) }
+        ensures disks { IfOk result
+            (λ r. AreOn r.disks.items (map (λ log. log.items) r.logs.items)) }
+        ensures done { (w : World) → IsRun self.entry w
+            → IfOk result (λ r. (r.bag ≡ w.bag) × (map (λ log. log.items) r.logs.items ≡ logs_of w)
+            × (r.lines.items ≡ w.lines)) }
+        ensures memory { (w : World) → IsRun self.entry w
+            → IfErr result (λ fault. fault ≡ Fault.Memory) }
     {
         let Run {
             sessions,

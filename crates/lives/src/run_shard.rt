@@ -58,21 +58,24 @@ impl RunShard {
 
     /// It runs.
     pub fn is_up(&self) -> bool
-        ensures { (setup : Setup) (s : ShardNow) → StandsFor setup self.now s → result ≡ is_up s.state }
+        ensures { (setup : Setup) (s : ShardNow) → StandsFor setup self.now s
+            → result ≡ is_up s.state }
     {
         self.life.is_up()
     }
 
     /// It is down.
     pub fn is_down(&self) -> bool
-        ensures { (setup : Setup) (s : ShardNow) → StandsFor setup self.now s → result ≡ is_down s.state }
+        ensures { (setup : Setup) (s : ShardNow) → StandsFor setup self.now s
+            → result ≡ is_down s.state }
     {
         self.life.is_down()
     }
 
     /// How many views it has made.
     pub fn views(&self) -> u64
-        ensures { (setup : Setup) (s : ShardNow) → StandsFor setup self.now s → result ≡ length s.views }
+        ensures { (setup : Setup) (s : ShardNow) → StandsFor setup self.now s
+            → result ≡ length s.views }
     {
         self.views.len() as u64
     }
@@ -85,7 +88,8 @@ impl RunShard {
         call: Option<u64>,
         doing: &Doing,
     ) -> Result<Outbox, Fault>
-        ensures { (setup : Setup) (s : ShardNow) → StandsFor setup self.old s → Acts setup bag.now s call doing.now self.new result }
+        ensures { (setup : Setup) (s : ShardNow) → StandsFor setup self.old s
+            → Acts setup bag.now s call doing.now self.new result }
     {
         let out = self.carry(alloc, bag, call, doing)?;
         self.note(alloc, doing)?;
@@ -101,7 +105,8 @@ impl RunShard {
         doing: &Doing,
     ) -> Result<Outbox, Fault>
         ensures kept { IsKept self.old self.new }
-        ensures carried { (s : ShardNow) → LivesAs self.old.setup s self.old.life → Carries self.old.setup bag.now s call doing.now self.new.life result }
+        ensures carried { (s : ShardNow) → LivesAs self.old.setup s self.old.life
+            → Carries self.old.setup bag.now s call doing.now self.new.life result }
     {
         let life = replace(&mut self.life, Life::Down(SimDisk::new(alloc)));
         let (life, result) = life.carry(alloc, &self.setup, bag, call, doing);
@@ -130,7 +135,8 @@ impl RunShard {
     // What lives of it falls, by the fate of the oldest change that is not synced.
     fn fall(&mut self, alloc: Global, fate: Fate) -> Result<(), Fault>
         ensures kept { OnOk result (IsKept self.old self.new) }
-        ensures fallen { (s : ShardNow) → LivesAs self.old.setup s self.old.life → OnOk result (LivesAs self.old.setup (crash_by fate s) self.new.life) }
+        ensures fallen { (s : ShardNow) → LivesAs self.old.setup s self.old.life
+            → OnOk result (LivesAs self.old.setup (crash_by fate s) self.new.life) }
         ensures memory { IfErr result (λ fault. fault ≡ Fault.Memory) }
     {
         let mut fates = Vec::new(alloc);
@@ -143,7 +149,8 @@ impl RunShard {
 
     /// A crash. The oldest change that is not synced has this fate.
     pub fn crash(&mut self, alloc: Global, fate: Fate) -> Result<(), Fault>
-        ensures crashed { (setup : Setup) (s : ShardNow) → StandsFor setup self.old s → OnOk result (StandsFor setup self.new (crash_by fate s)) }
+        ensures crashed { (setup : Setup) (s : ShardNow) → StandsFor setup self.old s
+            → OnOk result (StandsFor setup self.new (crash_by fate s)) }
         ensures memory { IfErr result (λ fault. fault ≡ Fault.Memory) }
     {
         self.fall(alloc, fate)
@@ -158,8 +165,10 @@ impl RunShard {
         fate: Fate,
         doing: &Doing,
     ) -> Result<(), Fault>
-        ensures crashed { (setup : Setup) (s : ShardNow) → StandsFor setup self.old s → IsOrderly setup s (effect setup bag.now s doing.now)
-            → OnOk result (StandsFor setup self.new (crashed_in s call fate doing.now (effect setup bag.now s doing.now))) }
+        ensures crashed { (setup : Setup) (s : ShardNow) → StandsFor setup self.old s
+            → IsOrderly setup s (effect setup bag.now s doing.now)
+            → OnOk result (StandsFor setup self.new
+            (crashed_in s call fate doing.now (effect setup bag.now s doing.now))) }
         ensures memory { IfErr result (λ fault. fault ≡ Fault.Memory) }
     {
         unless_memory(self.carry(alloc, bag, Some(call), doing))?;
@@ -168,7 +177,9 @@ impl RunShard {
 
     /// A look at what it shows now.
     pub fn look(&self, alloc: Global, is_here: bool, key: &Key, at: Stamp) -> Result<Reply, Fault>
-        ensures shown { (setup : Setup) (s : ShardNow) → StandsFor setup self.now s → is_here ≡ nat_eq (shard_of setup.splits key.now) setup.shard → IfOk result (λ reply. reply ≡ look_shard setup s key.now at) }
+        ensures shown { (setup : Setup) (s : ShardNow) → StandsFor setup self.now s
+            → is_here ≡ nat_eq (shard_of setup.splits key.now) setup.shard
+            → IfOk result (λ reply. reply ≡ look_shard setup s key.now at) }
         ensures memory { IfErr result (λ fault. fault ≡ Fault.Memory) }
     {
         match &self.life {
@@ -186,7 +197,10 @@ impl RunShard {
         key: &Key,
         at: Stamp,
     ) -> Result<Reply, Fault>
-        ensures shown { (setup : Setup) (s : ShardNow) → StandsFor setup self.now s → is_here ≡ nat_eq (shard_of setup.splits key.now) setup.shard → IfOk result (λ reply. reply ≡ look_at_view setup (slice_get s.views number) key.now at) }
+        ensures shown { (setup : Setup) (s : ShardNow) → StandsFor setup self.now s
+            → is_here ≡ nat_eq (shard_of setup.splits key.now) setup.shard
+            → IfOk result (λ reply. reply ≡ look_at_view setup
+            (slice_get s.views number) key.now at) }
         ensures memory { IfErr result (λ fault. fault ≡ Fault.Memory) }
     {
         match self.views.get(number as usize) {
@@ -198,8 +212,10 @@ impl RunShard {
     /// Ends it: its disk, and the log that a read of the disk gives.
     pub fn finish(self, alloc: Global) -> Result<(SimDisk, Vec<Record>), Fault>
         ensures disk { IfOk result (λ r. IsOn r.0 r.1.items) }
-        ensures log { (setup : Setup) (s : ShardNow) → StandsFor setup self s → IfOk result (λ r. r.1.items ≡ read_log s) }
-        ensures memory { (setup : Setup) (s : ShardNow) → StandsFor setup self s → IfErr result (λ fault. fault ≡ Fault.Memory) }
+        ensures log { (setup : Setup) (s : ShardNow) → StandsFor setup self s
+            → IfOk result (λ r. r.1.items ≡ read_log s) }
+        ensures memory { (setup : Setup) (s : ShardNow) → StandsFor setup self s
+            → IfErr result (λ fault. fault ≡ Fault.Memory) }
     {
         match GateLog::open(alloc, self.into_disk()) {
             Ok((log, entries)) => {

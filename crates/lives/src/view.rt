@@ -43,7 +43,9 @@ impl View {
         key: &Key,
         at: Stamp,
     ) -> Result<Reply, Fault>
-        ensures shown { IfOk result (λ reply. reply ≡ look_at is_here (take self.count (drop self.from installs.now)) self.safe key.now at) }
+        ensures shown { IfOk result
+            (λ reply. reply ≡ look_at is_here
+            (take self.count (drop self.from installs.now)) self.safe key.now at) }
         ensures memory { IfErr result (λ fault. fault ≡ Fault.Memory) }
     {
         if !is_here {

@@ -8,7 +8,8 @@ ghost use Rattle.units.specs.Ids.{older};
 ghost use Rattle.units.specs.Locks.{holds, is_waiting};
 ghost use Rattle.locks.specs.Table.{has_claim, held_in_table, entrant, made_firm, granted, waiting, resumed, withdrawn};
 ghost use Rattle.locks.specs.Tally.{seems_alone, seems_clear, MovesClaim};
-ghost use Rattle.locks.specs.Ways.{is_of, is_younger, gives_way, is_wounding, ids_in_way, stands_in_way, is_blocked, can_go, first_to_go, keeps_out, is_kept_out};
+ghost use Rattle.locks.specs.Ways.{is_of, is_younger, gives_way, is_wounding, ids_in_way, stands_in_way, is_blocked, can_go, first_to_go, keeps_out};
+ghost use Rattle.locks.specs.Ways.{is_kept_out};
 
 use crate::buffer::{copy, fill};
 use crate::conflict::clash;

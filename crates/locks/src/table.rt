@@ -4,7 +4,8 @@ ghost use Rattle.units.specs.LockLaws.{IsLawfulTable, IsOldestReady};
 ghost use Rattle.units.specs.Locks.{asked, holds, is_free, ready, wounded};
 ghost use Rattle.locks.specs.Ways.{is_wounding};
 ghost use Rattle.locks.specs.Tally.{IsClear};
-ghost use Rattle.locks.specs.Table.{has_claim, with_claim, without_claim, without_claims, change_claim, entrant, made_firm, granted, waiting, resumed, withdrawn, after_request, held_in_table, needs_in_table, most_held, KeepsRoom, ReleaseMakesWay};
+ghost use Rattle.locks.specs.Table.{has_claim, with_claim, without_claim, without_claims, change_claim, entrant, made_firm, granted, waiting};
+ghost use Rattle.locks.specs.Table.{resumed, withdrawn, after_request, held_in_table, needs_in_table, most_held, KeepsRoom, ReleaseMakesWay};
 
 use crate::buffer::make_room;
 use crate::claim::{

@@ -1,7 +1,7 @@
 //! What a log determines, and which records may come next.
 use crate::lines::{Line, record_of};
-use crate::made::{id, shard};
 use facts::{Facts, Status};
+use made::{id, shard};
 use record::{Committed, Prepared};
 use std::alloc::Global;
 use units::{Fault, Stamp};

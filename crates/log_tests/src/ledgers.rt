@@ -3,7 +3,7 @@ ghost use Rattle.std.specs.Prelude.{◌≡◌, None};
 ghost use Rattle.memory.specs.Ledger.{outcome_stamp};
 
 use crate::lines::{Line, byte, record_of};
-use crate::made::{id, key, shard, stamp};
+use made::{id, key, shard, stamp};
 use memory::{Ended, Ledger};
 use record::Record;
 use std::alloc::Global;

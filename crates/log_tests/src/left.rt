@@ -1,8 +1,8 @@
 //! Logs that are opened again: what they leave, and which are refused.
 use crate::files::{entries_in, log_of, put};
 use crate::lines::{Line, promise};
-use crate::made::{key, shard};
 use gatelog::{Entry, GateLog};
+use made::{key, shard};
 use memory::State;
 use recovery::rebuild;
 use simdisk::SimDisk;

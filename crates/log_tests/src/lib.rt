@@ -12,7 +12,6 @@ mod left;
 #[cfg(test)]
 mod lines;
 #[cfg(test)]
-mod made;
 #[cfg(test)]
 mod spellings;
 #[cfg(test)]

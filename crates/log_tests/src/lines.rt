@@ -1,5 +1,5 @@
 //! Records as plain values.
-use crate::made::{id, key, shard, stamp};
+use made::{id, key, shard, stamp};
 use record::{Committed, Prepared, Record, encode};
 use std::alloc::Global;
 use units::{Epoch, Key, Keys, Parts, Value, Write, Writes};

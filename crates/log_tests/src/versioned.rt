@@ -1,7 +1,7 @@
 //! The versions of keys.
 use crate::lines::byte;
-use crate::made::{key, stamp};
 use counts::Count;
+use made::{key, stamp};
 use std::alloc::Global;
 use units::{Stamp, Value, Write, Writes};
 use versions::Versions;

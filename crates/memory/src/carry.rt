@@ -4,7 +4,9 @@ ghost use Rattle.protocol.specs.Rows.{Memory, without_row, held_in, without_rows
 ghost use Rattle.protocol.specs.Plan.{carried, after_change, ended_by, with_ids};
 ghost use Rattle.protocol.specs.Step.{facts_after};
 ghost use Rattle.rows.specs.RowTable.{put_row, phase_by, room};
-ghost use Rattle.memory.specs.Carry.{AdmissionIsUnseen, ReadyIsCarriable, IsFit, MayAsk, HasMemoryFor, IsCarriable, IsDated, Admits, MayUndo, MayDrop, MayFollow, MayInstall, CanStand, FitsRows, AskerHasRoom, asker, admitted, admitted_to, writes_installed, may_ask, may_end};
+ghost use Rattle.memory.specs.Carry.{AdmissionIsUnseen, ReadyIsCarriable, IsFit, MayAsk, HasMemoryFor, IsCarriable, IsDated, Admits, MayUndo};
+ghost use Rattle.memory.specs.Carry.{MayDrop, MayFollow, MayInstall, CanStand, FitsRows, AskerHasRoom, asker, admitted, admitted_to};
+ghost use Rattle.memory.specs.Carry.{writes_installed, may_ask, may_end};
 ghost use Rattle.memory.specs.Plans.{plan_of, change_of};
 ghost use Rattle.memory.specs.Served.{IsHolding, stamp_held};
 

@@ -119,7 +119,8 @@ module _ (installs : List Install) (served handed : ℕ) (one two new : Publishi
       (safe_handed installs served handed (one.published ++ one.pending) step all)
 
 -- a new board is in step
-pub opened_desk : (installs given held : List Install) (t at : ℕ) (published pending : List BoardEntry) → rises_by_key [] installs ≡ true → held ≡ installs → given ≡ installs → at ≡ t
+pub opened_desk : (installs given held : List Install) (t at : ℕ) (published pending : List BoardEntry) → rises_by_key [] installs ≡ true → held ≡ installs
+    → given ≡ installs → at ≡ t
     → published ≡ first_entries given at → pending ≡ [] → InStep installs t (length held) (published ++ pending)
 opened_desk installs given held t at published pending order same also then shown none =
     subst (λ (n : ℕ). InStep installs t n (published ++ pending)) (sym (ap length same))

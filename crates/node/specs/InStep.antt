@@ -70,7 +70,8 @@ abbrev pub WhyNot : Result (List Envelope) Fault → Fault → Type 0
 WhyNot (Ok out) fault = fault ≡ WantsMemory
 WhyNot (Err own) fault = fault ≡ own
 
-module _ {D : Type 0} (keeps obeys : Type 0) (file : D → File) (clock : D → ℕ) (since : D → ℕ → List ℕ → Type 0) (failures : D → ℕ) (plan : D → FailurePlan) where
+module _ {D : Type 0} (keeps obeys : Type 0) (file : D → File) (clock : D → ℕ) (since : D → ℕ → List ℕ → Type 0) (failures : D → ℕ)
+    (plan : D → FailurePlan) where
   -- The core took an input, and put out these messages, or refused it. Where its book is full it took none.
   pub record HasTaken (old new : CoreView D) (book after : Option BookView) (now : Interval) (i : Input) (result : Result (List Envelope) Fault) : Type 0 where
     pub stepped : HasBookRoom old.setup.book book → HasStepped keeps obeys file clock since failures plan old new (step_of old now i) result

@@ -54,11 +54,16 @@ impl<D: Disk + Drop, R: Wait + Drop> Desk<D, R> {
         core: Core<D>,
         n: usize,
     ) -> Result<(Desk<D, R>, Vec<Viewer>), (Fault, Core<D>)>
-        ensures core { IfOk result (λ made. ((seen_desk made.0).core ≡ seen core) × ((seen_desk made.0).book ≡ book_of core)) }
+        ensures core { IfOk result
+            (λ made. ((seen_desk made.0).core ≡ seen core)
+            × ((seen_desk made.0).book ≡ book_of core)) }
         ensures board { IfOk result (λ made.
-            IsNewBoard (seen_desk made.0).board (first_entries (seen core).facts.installs (safe_at (seen core)))) }
+            IsNewBoard (seen_desk made.0).board
+            (first_entries (seen core).facts.installs (safe_at (seen core)))) }
         ensures viewers { IfOk result (λ made. AreOnBoard n (seen_desk made.0).board made.1.items) }
-        ensures refused { IfErr result (λ refused. IsNoDesk n refused.0 × (seen refused.1 ≡ seen core) × (book_of refused.1 ≡ book_of core)) }
+        ensures refused { IfErr result
+            (λ refused. IsNoDesk n refused.0 × (seen refused.1 ≡ seen core)
+            × (book_of refused.1 ≡ book_of core)) }
     {
         core.is_sound();
         let splits = match core.setup().splits.copy(alloc) {
@@ -91,14 +96,18 @@ impl<D: Disk + Drop, R: Wait + Drop> Desk<D, R> {
         setup: &Setup,
         n: usize,
     ) -> Result<(Desk<D, R>, Vec<Viewer>), (Fault, D)>
-        ensures opened { IfOk result (λ made. HasOpened D.keeps_model D.obeys D.file D.clock D.since D.failures D.plan
+        ensures opened { IfOk result
+            (λ made. HasOpened D.keeps_model D.obeys D.file D.clock D.since D.failures D.plan
             disk setup.now (seen_desk made.0).core) }
-        ensures book { IfOk result (λ made. IsBegun D.keeps_model D.obeys D.file D.clock D.since D.failures D.plan
+        ensures book { IfOk result
+            (λ made. IsBegun D.keeps_model D.obeys D.file D.clock D.since D.failures D.plan
             disk setup.now (seen_desk made.0).book) }
         ensures board { IfOk result (λ made. IsNewBoard (seen_desk made.0).board
-            (first_entries (seen_desk made.0).core.facts.installs (safe_at (seen_desk made.0).core))) }
+            (first_entries (seen_desk made.0).core.facts.installs
+            (safe_at (seen_desk made.0).core))) }
         ensures viewers { IfOk result (λ made. AreOnBoard n (seen_desk made.0).board made.1.items) }
-        ensures refused { IfErr result (λ refused. HasNoDesk D.keeps_model D.obeys D.file D.clock D.since D.failures D.plan
+        ensures refused { IfErr result
+            (λ refused. HasNoDesk D.keeps_model D.obeys D.file D.clock D.since D.failures D.plan
             disk setup.now n refused.0 refused.1) }
     {
         let told = match copied(alloc, setup) {
@@ -115,7 +124,8 @@ impl<D: Disk + Drop, R: Wait + Drop> Desk<D, R> {
     /// Exactly the step of the core, with its page where a book is kept. The board stays.
     pub fn deliver(&mut self, now: &Reading, input: &Input) -> Result<Outbox, Fault>
         ensures stepped { HasTaken D.keeps_model D.obeys D.file D.clock D.since D.failures D.plan
-            (seen_desk self.old).core (seen_desk self.new).core (seen_desk self.old).book (seen_desk self.new).book now.now input.now result }
+            (seen_desk self.old).core (seen_desk self.new).core (seen_desk self.old).book
+            (seen_desk self.new).book now.now input.now result }
         ensures board { (seen_desk self.new).board ≡ (seen_desk self.old).board }
     {
         step_keeps_showable();
@@ -127,9 +137,11 @@ impl<D: Disk + Drop, R: Wait + Drop> Desk<D, R> {
     /// Advances the core, and publishes its new versions and its served time. Where memory for the board is refused, the
     /// core has advanced, and the board shows what it showed.
     pub fn advance(&mut self, now: &Reading, to: Stamp) -> Result<Told, Fault>
-        ensures advanced { IfOk result (HasAdvanced D.keeps_model D.obeys D.file D.clock D.since D.failures D.plan
+        ensures advanced { IfOk result
+            (HasAdvanced D.keeps_model D.obeys D.file D.clock D.since D.failures D.plan
             (seen_desk self.old) (seen_desk self.new) now.now to) }
-        ensures refused { IfErr result (HasNotAdvanced D.keeps_model D.obeys D.file D.clock D.since D.failures D.plan
+        ensures refused { IfErr result
+            (HasNotAdvanced D.keeps_model D.obeys D.file D.clock D.since D.failures D.plan
             (seen_desk self.old) (seen_desk self.new) now.now to) }
     {
         let _ = self.deliver(now, &Input::Advance(to))?;
@@ -138,10 +150,13 @@ impl<D: Disk + Drop, R: Wait + Drop> Desk<D, R> {
 
     // Hands the board the versions that it lacks and the served time, and publishes them.
     fn show(&mut self) -> Result<Told, Fault>
-        ensures core { ((seen_desk self.new).core ≡ (seen_desk self.old).core) × ((seen_desk self.new).book ≡ (seen_desk self.old).book) }
-        ensures shown { IfOk result (λ told. ShowsCore (seen_desk self.old) (seen_desk self.new) told) }
+        ensures core { ((seen_desk self.new).core ≡ (seen_desk self.old).core)
+            × ((seen_desk self.new).book ≡ (seen_desk self.old).book) }
+        ensures shown { IfOk result
+            (λ told. ShowsCore (seen_desk self.old) (seen_desk self.new) told) }
         ensures refused { IfErr result (λ fault.
-            (fault ≡ Fault.Memory) × StillShows (seen_desk self.old).board (seen_desk self.new).board) }
+            (fault ≡ Fault.Memory)
+            × StillShows (seen_desk self.old).board (seen_desk self.new).board) }
     {
         hand_over(
             &self.core,
@@ -157,7 +172,8 @@ impl<D: Disk + Drop, R: Wait + Drop> Desk<D, R> {
     /// core knows and keeps, and puts out what stands in them.
     pub fn book(&self) -> Option<&Book>
         ensures same { option_copied result ≡ (seen_desk self.now).book }
-        ensures replays { ∥ IsBookOf (seen_desk self.now).core.setup (seen_desk self.now).book (stand_of (seen_desk self.now).core) ∥₁ }
+        ensures replays { ∥ IsBookOf (seen_desk self.now).core.setup (seen_desk self.now).book
+            (stand_of (seen_desk self.now).core) ∥₁ }
     {
         self.core.book()
     }

@@ -29,9 +29,11 @@ impl<D: Disk + Drop, R: Wait + Drop> Place<D, R> {
         setup: &Setup,
         n: usize,
     ) -> (Place<D, R>, Result<Vec<Viewer>, Fault>)
-        ensures restarted { IfOk result.1 (λ viewers. HasRestarted D.keeps_model D.obeys D.file D.clock D.since D.failures D.plan
+        ensures restarted { IfOk result.1
+            (λ viewers. HasRestarted D.keeps_model D.obeys D.file D.clock D.since D.failures D.plan
             (seen_place self) (seen_place result.0) setup.now n viewers.items) }
-        ensures refused { IfErr result.1 (HasNotRestarted D.keeps_model D.obeys D.file D.clock D.since D.failures D.plan
+        ensures refused { IfErr result.1
+            (HasNotRestarted D.keeps_model D.obeys D.file D.clock D.since D.failures D.plan
             (seen_place self) (seen_place result.0) setup.now n) }
     {
         let disk = match self {

@@ -37,7 +37,9 @@ impl<D: Disk + Drop, R: Wait + Drop> Node<D, R> {
         n: usize,
     ) -> Result<(Node<D, R>, Vec<Viewer>), (Fault, Core<D>)>
         ensures viewers { IfOk result (λ made. length made.1.items ≡ n) }
-        ensures refused { IfErr result (λ refused. IsNoDesk n refused.0 × (seen refused.1 ≡ seen core) × (book_of refused.1 ≡ book_of core)) }
+        ensures refused { IfErr result
+            (λ refused. IsNoDesk n refused.0 × (seen refused.1 ≡ seen core)
+            × (book_of refused.1 ≡ book_of core)) }
     {
         let setup = match copied(alloc, core.setup()) {
             Ok(setup) => setup,

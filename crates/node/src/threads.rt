@@ -105,7 +105,8 @@ pub fn start<
         thread::scope_env(),
         rt,
         |scope| -> bool
-            requires { IsSync W.row × IsSend D.row × IsSend R.row × IsSend P.row × IsSend C.row × IsSync G.row }
+            requires { IsSync W.row × IsSend D.row × IsSend R.row × IsSend P.row × IsSend C.row
+                × IsSync G.row }
         {
             let mut refused = false;
             for one in served {

@@ -1,8 +1,9 @@
 //! What viewers see beside a desk, and on another thread beside a node.
 use crate::given::{outcome, prepare};
 use crate::logs::{Line, holds};
-use crate::made::{fresh_desk, fresh_node, key, reading, stamp};
+use crate::nodes::{fresh_desk, fresh_node, reading};
 use board::Viewer;
+use made::{key, stamp};
 use message::{Address, Envelope, Input, Message};
 use node::{Desk, Node};
 use simdisk::SimDisk;

@@ -1,5 +1,5 @@
 //! What shards are given. Transaction 1.2 writes 2 to `z` at shard 1; shard 0 decides.
-use crate::made::{id, key, shard, stamp};
+use made::{id, key, shard, stamp};
 use message::{Input, Message, Outcome, Prepare, Read, Reads};
 use std::alloc::Global;
 use units::{Value, Write, Writes};

@@ -8,9 +8,9 @@ mod given;
 #[cfg(test)]
 mod logs;
 #[cfg(test)]
-mod made;
-#[cfg(test)]
 mod meetings;
+#[cfg(test)]
+mod nodes;
 #[cfg(test)]
 mod restarts;
 #[cfg(test)]

@@ -1,5 +1,5 @@
 //! Two nodes, each on a thread of its own, whose letters wait for each other.
-use crate::made::fresh_node;
+use crate::nodes::fresh_node;
 use crate::served::{Standing, inbox};
 use crossbeam_channel::Receiver;
 use message::Envelope;

@@ -1,7 +1,8 @@
 //! Nodes whose device fails, and that are opened again.
 use crate::logs::{Line, holds};
-use crate::made::{fresh, key, node_of, reading, stamp};
+use crate::nodes::{fresh, node_of, reading};
 use board::Viewer;
+use made::{key, stamp};
 use node::Node;
 use shard::Core;
 use simdisk::SimDisk;

@@ -1,6 +1,6 @@
 //! A node that is served by the letters of its inbox.
 use crate::given::read;
-use crate::made::{fresh_node, reading};
+use crate::nodes::{fresh_node, reading};
 use crossbeam_channel::{Receiver, Sender, unbounded};
 use message::{Address, Answer, Envelope, Message};
 use node::{Gate, Letter, Post};

@@ -68,7 +68,8 @@ fn play_all(
     counts: &mut Vec<u64>,
 ) -> Result<(), Fault>
     requires none { (replies.old.items ≡ []) × (counts.old.items ≡ []) }
-    ensures { (config : Config) → IsRun run.old (start config) → Plays config events.now run.new replies.new.items counts.new.items result }
+    ensures { (config : Config) → IsRun run.old (start config)
+        → Plays config events.now run.new replies.new.items counts.new.items result }
 {
     for (number, event) in events.iter().enumerate() {
         let reply = run.take(alloc, number as u64, event)?;
@@ -85,8 +86,10 @@ fn report_of(
     replies: Vec<Reply>,
     counts: Vec<u64>,
 ) -> Result<Report, Fault>
-    ensures report { (w : World) → IsRun run.entry w → IfOk result (λ report. Reports w replies.items counts.items report) }
-    ensures memory { (w : World) → IsRun run.entry w → IfErr result (λ fault. fault ≡ Fault.Memory) }
+    ensures report { (w : World) → IsRun run.entry w
+        → IfOk result (λ report. Reports w replies.items counts.items report) }
+    ensures memory { (w : World) → IsRun run.entry w
+        → IfErr result (λ fault. fault ≡ Fault.Memory) }
 {
     let Finished {
         bag,

@@ -15,7 +15,8 @@ use Rattle.units.proofs.KeyLaws.{same_key-refl}
 use Rattle.units.specs.declared.line.Line.{Line}
 use Rattle.units.specs.declared.line.Line.TheVariants.{Begin, Ack, Read, Look}
 use Rattle.record.specs.History.{Txn, history, before, upto, find_txn}
-use Rattle.record.specs.Verdict.{verdict, first_fault, first_torn, first_lost, first_wrong_read, first_wrong_order, lost_by, line_reads_right, late_acks, is_late_ack, is_in_at, same_value, IsLine}
+use Rattle.record.specs.Verdict.{verdict, first_fault, first_torn, first_lost, first_wrong_read, first_wrong_order, lost_by, line_reads_right}
+use Rattle.record.specs.Verdict.{late_acks, is_late_ack, is_in_at, same_value, IsLine}
 use Rattle.record.specs.Whole.{is_whole, all_ids}
 use Rattle.record.specs.declared.record.Record.{Record}
 use Rattle.record.specs.VerdictLaws.{IsWrong, IsLost, IsLate, IsRight, EachNoIsRight}
@@ -75,7 +76,11 @@ places xs = places_from xs xs 0 (λ k. let same : 0 + k ≡ k = omega arith in a
 
 lines_from : (all xs : List Line) (n : ℕ) → ((k : ℕ) → slice_get all (n + k) ≡ slice_get xs k) → AllByRecursion (IsLine all) xs
 lines_from all [] n at = tt
-lines_from all (x ∷ xs) n at = ((n + 0, at 0), lines_from all xs (suc n) (λ k. let next : suc n + k ≡ n + suc k = omega arith in ap (slice_get all) next ∙ at (suc k)))
+lines_from all (x ∷ xs) n at = (
+  (n + 0, at 0),
+  lines_from all xs (suc n)
+      (λ k. let next : suc n + k ≡ n + suc k = omega arith in ap (slice_get all) next ∙ at (suc k)),
+)
 
 all_lines : (lines : List Line) → AllByRecursion (IsLine lines) lines
 all_lines lines = lines_from lines lines 0 (λ k. let same : 0 + k ≡ k = omega arith in ap (slice_get lines) same)
@@ -135,7 +140,8 @@ wrong_right h lines i e = by_first (first (λ q. not (line_reads_right h q.1)) (
     )
 
 -- a late acknowledgement, by its place
-late_line : (h : List Txn) (lines : List Line) (i j : ℕ) (u : Id) (n : ℕ) (x : Txn) (q : ℕ × Line) → slice_get lines i ≡ Some (Begin u n) → find_txn h u ≡ Some x
+late_line : (h : List Txn) (lines : List Line) (i j : ℕ) (u : Id) (n : ℕ) (x : Txn) (q : ℕ × Line) → slice_get lines i ≡ Some (Begin u n)
+    → find_txn h u ≡ Some x
     → AtPlace lines q → cond (is_late_ack n x.at q.1) (Some (q.0)) None ≡ Some j → IsLate h lines i j
 late_line h lines i j u n x (k, Begin v m) begun found at e = cc
 late_line h lines i j u n x (k, Read v key y) begun found at e = cc
@@ -159,14 +165,16 @@ late_line h lines i j u n x (k, Ack t s m) begun found at e = by_test (nat_lt m 
           not_below = (and_parts (nat_lt m n) (nat_le x.at s) is).1;
         }
 
-late_begin : (h : List Txn) (lines : List Line) (i j : ℕ) (l : Line) → slice_get lines i ≡ Some l → head (late_acks h (numbered 0 lines) l) ≡ Some j → IsLate h lines i j
+late_begin : (h : List Txn) (lines : List Line) (i j : ℕ) (l : Line) → slice_get lines i ≡ Some l → head (late_acks h (numbered 0 lines) l) ≡ Some j
+    → IsLate h lines i j
 late_begin h lines i j (Ack t s m) at e = cc
 late_begin h lines i j (Read t k x) at e = cc
 late_begin h lines i j (Look k s x) at e = cc
 late_begin h lines i j (Begin u n) at e = by_found (find_txn h u) refl e
   where
     by_found : (o : Option Txn) → find_txn h u ≡ o
-        → head (elim o as (λ z. List ℕ) [ None ↦ [] | Some x ↦ gather (λ l. cond (is_late_ack n x.at l.1) (Some (l.0)) None) (numbered 0 lines) ]) ≡ Some j → IsLate h lines i j
+        → head (elim o as (λ z. List ℕ) [ None ↦ [] | Some x ↦ gather (λ l. cond (is_late_ack n x.at l.1) (Some (l.0)) None) (numbered 0 lines) ]) ≡ Some j
+        → IsLate h lines i j
     by_found None is e = cc
     by_found (Some x) is e =
         let given = first_given (AtPlace lines) (λ l. cond (is_late_ack n x.at l.1) (Some (l.0)) None) (numbered 0 lines) j (places lines) e in
@@ -174,10 +182,12 @@ late_begin h lines i j (Begin u n) at e = by_found (find_txn h u) refl e
 
 late_right : (h : List Txn) (lines : List Line) (i j : ℕ) → first_wrong_order h lines ≡ Some (i, j) → IsLate h lines i j
 late_right h lines i j e =
-    let given = first_given (AtPlace lines) (λ l. option_map {U = ℕ × ℕ} (λ j. (l.0, j)) (head (late_acks h (numbered 0 lines) l.1))) (numbered 0 lines) (i, j) (places lines) e in
+    let given = first_given (AtPlace lines) (λ l. option_map {U = ℕ × ℕ} (λ j. (l.0, j)) (head (late_acks h (numbered 0 lines) l.1))) (numbered 0 lines) (i, j)
+    (places lines) e in
     by_ack given.from given.kept (head (late_acks h (numbered 0 lines) given.from.1)) refl given.gives
   where
-    by_ack : (q : ℕ × Line) → AtPlace lines q → (o : Option ℕ) → head (late_acks h (numbered 0 lines) q.1) ≡ o → option_map {U = ℕ × ℕ} (λ j. (q.0, j)) o ≡ Some (i, j) → IsLate h lines i j
+    by_ack : (q : ℕ × Line) → AtPlace lines q → (o : Option ℕ) → head (late_acks h (numbered 0 lines) q.1) ≡ o
+        → option_map {U = ℕ × ℕ} (λ j. (q.0, j)) o ≡ Some (i, j) → IsLate h lines i j
     by_ack q at None is e = cc
     by_ack q at (Some k) is e =
         let one : (q.0, k) ≡ (i, j) = some_is (q.0, k) (i, j) e in
@@ -195,4 +205,5 @@ right_by logs lines None None None None torn lost wrong late = tt
 pub each_no_is_right : EachNoIsRight
 unfolding verdict
 each_no_is_right logs lines =
-    right_by logs lines (first_torn logs) (first_lost (history logs) lines) (first_wrong_read (history logs) lines) (first_wrong_order (history logs) lines) refl refl refl refl
+    right_by logs lines (first_torn logs) (first_lost (history logs) lines) (first_wrong_read (history logs) lines)
+    (first_wrong_order (history logs) lines) refl refl refl refl

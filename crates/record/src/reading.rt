@@ -3,7 +3,8 @@ ghost use Rattle.std.specs.Prelude.{◌≡◌, ◌↔◌, length, Some, IfOk, If
 ghost use Rattle.std.specs.Int.{w16, w64};
 ghost use Rattle.record.specs.Gives.{Gives};
 ghost use Rattle.record.specs.Grammar.{Spells};
-ghost use Rattle.record.specs.Reading.{number_at, stamp_at, epoch_at, key_at, value_at, write_at, id_at, parts_at, shard_at, outcome_at, many_at, keys_at, writes_at, prepare_at, commit_at, ended_at, record_at, read_record};
+ghost use Rattle.record.specs.Reading.{number_at, stamp_at, epoch_at, key_at, value_at, write_at, id_at, parts_at, shard_at, outcome_at, many_at};
+ghost use Rattle.record.specs.Reading.{keys_at, writes_at, prepare_at, commit_at, ended_at, record_at, read_record};
 
 use crate::record::{Committed, Prepared, Record};
 use crate::unread::Unread;

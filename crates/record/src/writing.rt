@@ -1,7 +1,9 @@
 // The bytes of a record.
 ghost use Rattle.std.specs.Prelude.{◌≡◌, ◌++◌, [], OnOk, IfOk, IfErr};
 ghost use Rattle.std.specs.Int.{w16, w64, to_be_bytes};
-ghost use Rattle.record.specs.Grammar.{spelling, prepare_spelling, commit_spelling, id_spelling, key_spelling, keys_spelling, write_spelling, writes_spelling, outcome_spelling, parts_spelling, IsId, IsKey, IsKeys, IsParts, IsWrite, IsWrites, IsPrepare, IsCommit, IsOutcome, IsRecord, NoneBeginsAnother};
+ghost use Rattle.record.specs.Grammar.{spelling, prepare_spelling, commit_spelling, id_spelling, key_spelling, keys_spelling, write_spelling};
+ghost use Rattle.record.specs.Grammar.{writes_spelling, outcome_spelling, parts_spelling, IsId, IsKey, IsKeys, IsParts, IsWrite, IsWrites, IsPrepare};
+ghost use Rattle.record.specs.Grammar.{IsCommit, IsOutcome, IsRecord, NoneBeginsAnother};
 
 use crate::record::{Committed, Prepared, Record};
 use byteorder::{BigEndian, ByteOrder};

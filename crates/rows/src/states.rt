@@ -3,7 +3,8 @@
 ghost use Rattle.std.specs.Prelude.{◌≡◌, ◌≤◌, ◌+◌, [], Some, None, true, false, length, OnOk, IfErr};
 ghost use Rattle.std.specs.Option.{option_copied};
 ghost use Rattle.units.specs.Locks.{is_free, wounded};
-ghost use Rattle.rows.specs.States.{reading_state, collecting_of, collecting_with_yes, is_prepare_of, is_commit_of, is_abort_of, is_outcome_of, prepared_by, decided_by};
+ghost use Rattle.rows.specs.States.{reading_state, collecting_of, collecting_with_yes, is_prepare_of, is_commit_of, is_abort_of, is_outcome_of};
+ghost use Rattle.rows.specs.States.{prepared_by, decided_by};
 ghost use Rattle.locks.specs.Table.{has_claim, without_claim, change_claim, granted, waiting, made_firm, held_in_table, most_held};
 
 use crate::votes::{Gathering, Votes};

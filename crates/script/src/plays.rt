@@ -20,7 +20,8 @@ pub struct Played {
 pub fn judged(alloc: Global, config: &Config, events: &[Event]) -> Result<Played, Fault>
     ensures report { IfOk result (λ played. IsReport config.now events.now played.report) }
     ensures verdict { IfOk result
-        (λ played. played.verdict ≡ verdict (map (λ log. log.items) played.report.logs.items) played.report.lines.items) }
+        (λ played. played.verdict ≡ verdict
+        (map (λ log. log.items) played.report.logs.items) played.report.lines.items) }
 {
     let report = play(alloc, config, events)?;
     let verdict = inspect(alloc, &report.logs, &report.lines)?;

@@ -79,6 +79,7 @@ rise_end acc (i ∷ xs) ys h k =
     let parts = rise_parts acc i xs h in rise_one acc i (xs ++ ys) parts.0 (rise_end (i ∷ acc) xs ys parts.1 k)
 
 -- new versions come behind the others
-pub installs_rise : (installs news : List Install) → rises_by_key [] installs ≡ true → rises_by_key installs news ≡ true → rises_by_key [] (installs ++ news) ≡ true
+pub installs_rise : (installs news : List Install) → rises_by_key [] installs ≡ true → rises_by_key installs news ≡ true
+    → rises_by_key [] (installs ++ news) ≡ true
 installs_rise installs news order more =
     rise_end [] installs news order (rise_alike (stacked [] installs) installs news (stacked_alike installs) more)

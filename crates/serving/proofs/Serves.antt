@@ -1,5 +1,6 @@
 -- What a step leaves of the served time, and that what it installs is above it.
-use Rattle.std.proofs.Common.{◌≡◌, ℕ, filter, ◌-◌, ◌<◌, ◌≤◌, Bool, true, false, not, cond, nat_lt, List, [], ◌∷◌, ◌++◌, map, Option, Some, None, refl, ap, sym, ◌∙◌, subst, arith}
+use Rattle.std.proofs.Common.{◌≡◌, ℕ, filter, ◌-◌, ◌<◌, ◌≤◌, Bool, true, false, not, cond, nat_lt, List, [], ◌∷◌, ◌++◌, map, Option, Some, None, refl}
+use Rattle.std.proofs.Common.{ap, sym, ◌∙◌, subst, arith}
 use mathlib.Core.Bool.{true≢false}
 use Rattle.std.specs.List.{AllByRecursion}
 use Rattle.std.proofs.lemmas.Bool.{and_parts, and_from}
@@ -19,7 +20,8 @@ use Rattle.units.proofs.ByIdLaws.{all-with, found_all}
 use Rattle.record.specs.Facts.{Facts, TxnStatus, or_unrecorded, recorded, learn, installs_at}
 use Rattle.record.specs.declared.record.Record.{Record}
 use Rattle.message.specs.declared.message.Input.{Input}
-use Rattle.protocol.specs.Rows.{Row, Phase, Idle, WaitsRead, WaitsPrepare, WaitsCommit, Collecting, IsPrepared, IsDecided, Memory, held_stamp, safe, find_row, with_row, without_row, without_rows, is_firm}
+use Rattle.protocol.specs.Rows.{Row, Phase, Idle, WaitsRead, WaitsPrepare, WaitsCommit, Collecting, IsPrepared, IsDecided, Memory, held_stamp, safe}
+use Rattle.protocol.specs.Rows.{find_row, with_row, without_row, without_rows, is_firm}
 use Rattle.protocol.specs.Sound.{is_open, writes_standing}
 use Rattle.protocol.specs.Step.{facts_after}
 use Rattle.protocol.specs.Cells.{is_outcome_for}

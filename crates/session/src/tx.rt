@@ -2,7 +2,8 @@
 ghost use Rattle.std.specs.Prelude.{◌≡◌, ◌⊎◌, ◌^◌, [], ◌∷◌, ◌++◌, length, true, false, not, ◌&&◌, nat_le, Option, MatchResult, IfOk, IfErr, OnOk};
 ghost use Rattle.units.specs.Ids.{same_id};
 ghost use Rattle.units.specs.Keys.{Bytes, has_key, writes_key};
-ghost use Rattle.session.specs.Sessions.{Stage, IsOpen, IsClosing, begun, reads, buffers, hears, asked_keys, was_answered, was_taken, is_doomed, epochs_agree, Goes, Denies};
+ghost use Rattle.session.specs.Sessions.{Stage, IsOpen, IsClosing, begun, reads, buffers, hears, asked_keys, was_answered, was_taken, is_doomed};
+ghost use Rattle.session.specs.Sessions.{epochs_agree, Goes, Denies};
 ghost use Rattle.session.specs.Shown.{Session, IsRefused, is_closing, heard_as};
 
 use crate::lists::{drop_write, epochs_agree, has_key, insert_write, is_written, was_taken};

@@ -1,5 +1,6 @@
 -- What a core whose book is full makes of an input, and what a book with a page more says of its core.
-use Rattle.std.proofs.Common.{◌≡◌, ◌⊎◌, inl, inr, ⊎_elim, ℕ, ◌≤◌, ◌<◌, ◌∙◌, ◌∷◌, [], ◌++◌, Bool, true, false, IsTrue, IsFalse, List, length, Option, Some, None, Result, Ok, Err, IfOk, IfErr, refl, sym, ap, subst, arith}
+use Rattle.std.proofs.Common.{◌≡◌, ◌⊎◌, inl, inr, ⊎_elim, ℕ, ◌≤◌, ◌<◌, ◌∙◌, ◌∷◌, [], ◌++◌, Bool, true, false, IsTrue, IsFalse, List, length, Option}
+use Rattle.std.proofs.Common.{Some, None, Result, Ok, Err, IfOk, IfErr, refl, sym, ap, subst, arith}
 use Rattle.std.proofs.Math.Logic.{∥∥₁_elim}
 use Rattle.std.proofs.Props.{props}
 use Rattle.std.proofs.lemmas.Bool.{cases_lt}
@@ -26,7 +27,8 @@ use Rattle.shard.specs.Opened.{next_opening}
 
 -- ---- where a book is full
 
-module _ {D : Type 0} (keeps obeys : Type 0) (file : D → File) (clock : D → ℕ) (since : D → ℕ → List ℕ → Type 0) (failures : D → ℕ) (plan : D → FailurePlan) where
+module _ {D : Type 0} (keeps obeys : Type 0) (file : D → File) (clock : D → ℕ) (since : D → ℕ → List ℕ → Type 0) (failures : D → ℕ)
+    (plan : D → FailurePlan) where
   -- what is refused before anything is done
   pub crowded-refused : (core : CoreView D) (step : Stepped) (fault : Fault) → HasStepped keeps obeys file clock since failures plan core core step (Err fault)
       → IsCrowded core core step (Err fault)
@@ -56,19 +58,22 @@ crowded-page core b logged memory out fault running none =
     by_cause (inl want) = inl want.0
     by_cause (inr full) = inr full.1
 
-pub wants-memory : (gate : ℕ) (b : BookView) (logged : Option Record) (fault : Fault) → NoPage gate b logged fault → length b.pages < b.capacity → fault ≡ WantsMemory
+pub wants-memory : (gate : ℕ) (b : BookView) (logged : Option Record) (fault : Fault) → NoPage gate b logged fault → length b.pages < b.capacity
+    → fault ≡ WantsMemory
 wants-memory gate b logged fault (inl want) room = want.0
 wants-memory gate b logged fault (inr full) room = absurd (omega (arith, full.0, room))
 
 -- ---- room, as its setup tells it
 
-pub room-in : (setup : Setup) (book : Option BookView) (b : BookView) (here : Stand) → ∥ IsBookOf setup book here ∥₁ → book ≡ Some b → HasBookRoom setup.book book
+pub room-in : (setup : Setup) (book : Option BookView) (b : BookView) (here : Stand) → ∥ IsBookOf setup book here ∥₁ → book ≡ Some b
+    → HasBookRoom setup.book book
     → length b.pages < b.capacity
 room-in setup book b here h is room =
     ∥∥₁_elim h (hlevel props) (λ x.
     subst (λ s. HasBookRoom s (Some b)) (subst (λ o. IsBookOf setup o here) is x).0 (subst (HasBookRoom setup.book) is room))
 
-pub full-in : (setup : Setup) (book : Option BookView) (b : BookView) (here : Stand) → ∥ IsBookOf setup book here ∥₁ → book ≡ Some b → IsBookFull setup.book book
+pub full-in : (setup : Setup) (book : Option BookView) (b : BookView) (here : Stand) → ∥ IsBookOf setup book here ∥₁ → book ≡ Some b
+    → IsBookFull setup.book book
     → b.capacity ≤ length b.pages
 full-in setup book b here h is full =
     ∥∥₁_elim h (hlevel props) (λ x.
@@ -128,7 +133,8 @@ stands-at found facts memory is_facts is_memory =
 -- ---- what stands after an input
 
 -- it is refused
-pub still-of : (setup told : Setup) (b book : Option BookView) (facts known : Facts) (memory kept : Memory) → setup ≡ told → b ≡ book → facts ≡ known → memory ≡ kept
+pub still-of : (setup told : Setup) (b book : Option BookView) (facts known : Facts) (memory kept : Memory) → setup ≡ told → b ≡ book → facts ≡ known
+    → memory ≡ kept
     → IsBookOf told book (record { facts = known; memory = kept }) → IsBookOf setup b (record { facts = facts; memory = memory })
 still-of setup told b book facts known memory kept same also is_facts is_memory h =
     subst (λ s. IsBookOf s b (record { facts = facts; memory = memory })) (sym same)

@@ -63,10 +63,14 @@ fn page_of<D: Disk>(
     input: &Input,
     plan: &Plan,
 ) -> Result<Page, Fault>
-    ensures page { IfOk result (λ page. page ≡ record { input = input.now; now = now.now; outbox = plan.now.outbox }) }
+    ensures page { IfOk result
+        (λ page. page ≡ record { input = input.now; now = now.now; outbox = plan.now.outbox }) }
     ensures room { OnOk result (length book.now.pages < book.now.capacity) }
-    ensures cause { IfErr result (λ fault. ((fault ≡ Fault.Memory) × (length book.now.pages < book.now.capacity))
-        ⊎ ((book.now.capacity ≤ length book.now.pages) × (((fault ≡ Fault.TimeSpent) × IsLogFull (seen_machine machine.now).gate plan.now.logged)
+    ensures cause { IfErr result
+        (λ fault. ((fault ≡ Fault.Memory) × (length book.now.pages < book.now.capacity))
+        ⊎ ((book.now.capacity ≤ length book.now.pages)
+        × (((fault ≡ Fault.TimeSpent)
+        × IsLogFull (seen_machine machine.now).gate plan.now.logged)
         ⊎ ((fault ≡ Fault.BookFull) × HasPlace (seen_machine machine.now).gate plan.now.logged)))) }
 {
     if book.is_full() {
@@ -85,18 +89,30 @@ pub(crate) fn write_page<D: Disk>(
     plan: Plan,
 ) -> Result<Outbox, Fault>
     requires running { IsFalse (seen_machine machine.old).stopped }
-    requires stands { D.keeps_model → KeepsRecords (surface (D.file (seen_machine machine.old).disk)) (records_in (surface (D.file (seen_machine machine.old).disk)).seen) }
+    requires stands { D.keeps_model
+        → KeepsRecords (surface (D.file (seen_machine machine.old).disk))
+        (records_in (surface (D.file (seen_machine machine.old).disk)).seen) }
     requires due { IsDue machine.old.state plan }
     ensures room { OnOk result (length book.old.pages < book.old.capacity) }
     ensures stepped { length book.old.pages < book.old.capacity →
-        HasStepped D.keeps_model D.obeys D.file D.clock D.since D.failures D.plan (seen_machine machine.old) (seen_machine machine.new)
-        (Does plan.logged (carried (plan_of machine.old.state.memory.rows plan) machine.old.state.memory) plan.outbox) result }
-    ensures crowded { book.old.capacity ≤ length book.old.pages → IsCrowded (seen_machine machine.old) (seen_machine machine.new)
-        (Does plan.logged (carried (plan_of machine.old.state.memory.rows plan) machine.old.state.memory) plan.outbox) result }
-    ensures durable { OnOk result (D.keeps_model → KeepsRecords (surface (D.file (seen_machine machine.new).disk))
-        (and_logged (records_in (surface (D.file (seen_machine machine.old).disk)).seen) plan.logged)) }
+        HasStepped D.keeps_model D.obeys D.file D.clock D.since D.failures D.plan
+        (seen_machine machine.old) (seen_machine machine.new)
+        (Does plan.logged (carried
+        (plan_of machine.old.state.memory.rows plan) machine.old.state.memory) plan.outbox)
+        result }
+    ensures crowded { book.old.capacity ≤ length book.old.pages
+        → IsCrowded (seen_machine machine.old) (seen_machine machine.new)
+        (Does plan.logged (carried
+        (plan_of machine.old.state.memory.rows plan) machine.old.state.memory) plan.outbox)
+        result }
+    ensures durable { OnOk result
+        (D.keeps_model → KeepsRecords (surface (D.file (seen_machine machine.new).disk))
+        (and_logged (records_in
+        (surface (D.file (seen_machine machine.old).disk)).seen) plan.logged)) }
     ensures out { IfOk result (λ out. out ≡ plan.outbox) }
-    ensures page { IfOk result (λ out. book.new ≡ with_page book.old (record { input = input.now; now = now.now; outbox = out })) }
+    ensures page { IfOk result
+        (λ out. book.new ≡ with_page book.old
+        (record { input = input.now; now = now.now; outbox = out })) }
     ensures kept { IfErr result (λ fault. book.new ≡ book.old) }
 {
     let page = match page_of(machine, book, alloc, now, input, &plan) {

@@ -49,10 +49,16 @@ impl<D: Disk> Machine<D> {
     // What an input comes to, told before anything is changed; or why it is refused.
     pub(crate) fn plan(&self, alloc: Global, now: &Reading, input: &Input) -> Result<Plan, Fault>
         ensures running { OnOk result (IsFalse (seen_machine self.now).stopped) }
-        ensures stands { OnOk result (D.keeps_model → KeepsRecords (surface (D.file (seen_machine self.now).disk)) (records_in (surface (D.file (seen_machine self.now).disk)).seen)) }
-        ensures planned { IfOk result (λ plan. plan_input self.now.state.setup (start_of self.now.state) now.now input.now ≡ Ok (plan_of self.now.state.memory.rows plan)) }
+        ensures stands { OnOk result
+            (D.keeps_model → KeepsRecords (surface (D.file (seen_machine self.now).disk))
+            (records_in (surface (D.file (seen_machine self.now).disk)).seen)) }
+        ensures planned { IfOk result
+            (λ plan. plan_input self.now.state.setup (start_of self.now.state) now.now input.now ≡
+            Ok (plan_of self.now.state.memory.rows plan)) }
         ensures due { IfOk result (IsDue self.now.state) }
-        ensures refused { IfErr result (λ fault. HasStepped D.keeps_model D.obeys D.file D.clock D.since D.failures D.plan (seen_machine self.now) (seen_machine self.now)
+        ensures refused { IfErr result
+            (λ fault. HasStepped D.keeps_model D.obeys D.file D.clock D.since D.failures D.plan
+            (seen_machine self.now) (seen_machine self.now)
             (step_of (seen_machine self.now) now.now input.now) (Err fault)) }
     {
         step_keeps_sound();
@@ -69,7 +75,8 @@ impl<D: Disk> Machine<D> {
 
     // Why a plan is refused where there is no room for its page: the log has none for its record, or else the book.
     pub(crate) fn crowded(&self, plan: &Plan) -> Fault
-        ensures { ((result ≡ Fault.TimeSpent) × IsLogFull (seen_machine self.now).gate plan.now.logged)
+        ensures { ((result ≡ Fault.TimeSpent)
+            × IsLogFull (seen_machine self.now).gate plan.now.logged)
             ⊎ ((result ≡ Fault.BookFull) × HasPlace (seen_machine self.now).gate plan.now.logged) }
     {
         match &plan.logged {
@@ -81,10 +88,15 @@ impl<D: Disk> Machine<D> {
     // Logs the record of a plan, where it has one, and carries the plan out. All memory is taken before.
     pub(crate) fn carry_out(&mut self, alloc: Global, plan: Plan) -> Result<Outbox, Fault>
         requires running { IsFalse (seen_machine self.old).stopped }
-        requires stands { D.keeps_model → KeepsRecords (surface (D.file (seen_machine self.old).disk)) (records_in (surface (D.file (seen_machine self.old).disk)).seen) }
+        requires stands { D.keeps_model
+            → KeepsRecords (surface (D.file (seen_machine self.old).disk))
+            (records_in (surface (D.file (seen_machine self.old).disk)).seen) }
         requires due { IsDue self.old.state plan }
-        ensures { HasStepped D.keeps_model D.obeys D.file D.clock D.since D.failures D.plan (seen_machine self.old) (seen_machine self.new)
-            (Does plan.logged (carried (plan_of self.old.state.memory.rows plan) self.old.state.memory) plan.outbox) result }
+        ensures { HasStepped D.keeps_model D.obeys D.file D.clock D.since D.failures D.plan
+            (seen_machine self.old) (seen_machine self.new)
+            (Does plan.logged
+            (carried (plan_of self.old.state.memory.rows plan) self.old.state.memory)
+            plan.outbox) result }
     {
         ready_plans_can_be_carried();
         let ready = match self.state.make_ready(alloc, &plan) {
@@ -110,12 +122,20 @@ impl<D: Disk> Machine<D> {
         setup: Setup,
     ) -> Result<Machine<D>, (Fault, D)>
         requires running { IsFalse (is_stopped gate_log) }
-        requires empty { D.keeps_model → records_in (surface (D.file (disk_of gate_log))).seen ≡ Ok [] }
+        requires empty { D.keeps_model
+            → records_in (surface (D.file (disk_of gate_log))).seen ≡ Ok [] }
         ensures setup { IfOk result (λ machine. (seen_machine machine).setup ≡ setup) }
-        ensures facts { IfOk result (λ machine. (seen_machine machine).facts ≡ facts_of (Record.Opened 1 ∷ [])) }
-        ensures memory { IfOk result (λ machine. (seen_machine machine).memory ≡ record { last = 0; rows = []; ended = [] }) }
-        ensures appended { IfOk result (λ machine. HasAppended D.keeps_model D.obeys D.file D.clock D.since D.failures D.plan (disk_of gate_log) (gate_at gate_log) (Record.Opened 1) (seen_machine machine)) }
-        ensures refused { IfErr result (λ refused. HasNotAppended D.keeps_model D.obeys D.file D.clock D.since D.failures D.plan (disk_of gate_log) (gate_at gate_log)
+        ensures facts { IfOk result
+            (λ machine. (seen_machine machine).facts ≡ facts_of (Record.Opened 1 ∷ [])) }
+        ensures memory { IfOk result
+            (λ machine. (seen_machine machine).memory ≡
+            record { last = 0; rows = []; ended = [] }) }
+        ensures appended { IfOk result
+            (λ machine. HasAppended D.keeps_model D.obeys D.file D.clock D.since D.failures D.plan
+            (disk_of gate_log) (gate_at gate_log) (Record.Opened 1) (seen_machine machine)) }
+        ensures refused { IfErr result
+            (λ refused. HasNotAppended D.keeps_model D.obeys D.file D.clock D.since D.failures
+            D.plan (disk_of gate_log) (gate_at gate_log)
             (Record.Opened 1) (IsFull (gate_at gate_log) (Record.Opened 1)) refused.0 refused.1) }
     {
         fresh_is_sound();
@@ -147,17 +167,33 @@ impl<D: Disk> Machine<D> {
         state: State,
     ) -> Result<Machine<D>, (Fault, D)>
         requires running { IsFalse (is_stopped gate_log) }
-        requires stands { D.keeps_model → KeepsRecords (surface (D.file (disk_of gate_log))) (records_in (surface (D.file (disk_of gate_log))).seen) }
-        requires known { D.keeps_model → facts_logged (records_in (surface (D.file (disk_of gate_log))).seen) ≡ Some state.facts }
+        requires stands { D.keeps_model
+            → KeepsRecords (surface (D.file (disk_of gate_log)))
+            (records_in (surface (D.file (disk_of gate_log))).seen) }
+        requires known { D.keeps_model
+            → facts_logged (records_in (surface (D.file (disk_of gate_log))).seen) ≡
+            Some state.facts }
         requires rebuilt { state.memory ≡ rebuilt state.facts }
         requires sound { IsSound state.setup.shard state.facts state.memory }
         requires showable { IsShowable state.facts state.memory }
         ensures setup { IfOk result (λ machine. (seen_machine machine).setup ≡ state.setup) }
-        ensures facts { IfOk result (λ machine. (seen_machine machine).facts ≡ learn state.facts (Record.Opened (state.facts.epoch + 1))) }
-        ensures memory { IfOk result (λ machine. (seen_machine machine).memory ≡ rebuilt (learn state.facts (Record.Opened (state.facts.epoch + 1)))) }
-        ensures appended { IfOk result (λ machine. HasAppended D.keeps_model D.obeys D.file D.clock D.since D.failures D.plan (disk_of gate_log) (gate_at gate_log) (Record.Opened (state.facts.epoch + 1)) (seen_machine machine)) }
-        ensures refused { IfErr result (λ refused. HasNotAppended D.keeps_model D.obeys D.file D.clock D.since D.failures D.plan (disk_of gate_log) (gate_at gate_log)
-            (Record.Opened (state.facts.epoch + 1)) ((2 ^ 62 ≤ state.facts.epoch + 1) ⊎ IsFull (gate_at gate_log) (Record.Opened (state.facts.epoch + 1))) refused.0 refused.1) }
+        ensures facts { IfOk result
+            (λ machine. (seen_machine machine).facts ≡ learn state.facts
+            (Record.Opened (state.facts.epoch + 1))) }
+        ensures memory { IfOk result
+            (λ machine. (seen_machine machine).memory ≡ rebuilt
+            (learn state.facts (Record.Opened (state.facts.epoch + 1)))) }
+        ensures appended { IfOk result
+            (λ machine. HasAppended D.keeps_model D.obeys D.file D.clock D.since D.failures D.plan
+            (disk_of gate_log) (gate_at gate_log) (Record.Opened (state.facts.epoch + 1))
+            (seen_machine machine)) }
+        ensures refused { IfErr result
+            (λ refused. HasNotAppended D.keeps_model D.obeys D.file D.clock D.since D.failures
+            D.plan (disk_of gate_log) (gate_at gate_log)
+            (Record.Opened (state.facts.epoch + 1))
+            ((2 ^ 62 ≤ state.facts.epoch + 1)
+            ⊎ IsFull (gate_at gate_log)
+            (Record.Opened (state.facts.epoch + 1))) refused.0 refused.1) }
     {
         opening_keeps_sound();
         let epoch = match state.epoch().next() {

@@ -23,7 +23,8 @@ use units::{Fault, Key, Stamp, TxnId};
 /// What an input comes to. Nothing is changed by it.
 #[tactic(auto, unfolding(protocol::specs::Step::plan_input))]
 pub fn plan_input(state: &State, alloc: Global, now: &Reading, input: &Input) -> Result<Plan, Fault>
-    ensures planned { IsPlanned state.now (plan_input state.now.setup (start_of state.now) now.now input.now) result }
+    ensures planned { IsPlanned state.now
+        (plan_input state.now.setup (start_of state.now) now.now input.now) result }
     ensures fit { IfOk result (IsFit state.now) }
 {
     match input {
@@ -48,7 +49,8 @@ fn plan_message(
     now: &Reading,
     message: &Message,
 ) -> Result<Plan, Fault>
-    ensures planned { IsPlanned state.now (plan_message (start_of state.now) now.now message.now) result }
+    ensures planned { IsPlanned state.now
+        (plan_message (start_of state.now) now.now message.now) result }
     ensures fit { IfOk result (IsFit state.now) }
 {
     match message {
@@ -66,7 +68,8 @@ fn plan_message(
 // The oldest wait that would be granted now goes on.
 #[tactic(auto, unfolding(protocol::specs::Cells::plan_resume))]
 fn plan_resume(state: &State, alloc: Global, now: &Reading) -> Result<Plan, Fault>
-    ensures planned { IsPlanned state.now (plan_resume (start_of state.now) now.now.earliest) result }
+    ensures planned { IsPlanned state.now
+        (plan_resume (start_of state.now) now.now.earliest) result }
     ensures fit { IfOk result (IsFit state.now) }
 {
     match state.ready() {
@@ -78,7 +81,8 @@ fn plan_resume(state: &State, alloc: Global, now: &Reading) -> Result<Plan, Faul
 // What a transaction waits with goes on.
 fn resume_of(state: &State, alloc: Global, now: &Reading, txn: TxnId) -> Result<Plan, Fault>
     requires { Asks state.now.memory.rows txn [] (needs_in state.now.memory.rows txn) true }
-    ensures planned { IsPlanned state.now (plan_resume_id (start_of state.now) now.now.earliest (Some txn)) result }
+    ensures planned { IsPlanned state.now
+        (plan_resume_id (start_of state.now) now.now.earliest (Some txn)) result }
     ensures fit { IfOk result (IsFit state.now) }
 {
     match state.row(txn) {
@@ -97,7 +101,8 @@ fn resume_row(
     row: &Row,
 ) -> Result<Plan, Fault>
     requires { Asks state.now.memory.rows txn [] (needs_of (phase_of row.now)) true }
-    ensures planned { IsPlanned state.now (plan_go_on (start_of state.now) now.now.earliest txn (phase_of row.now)) result }
+    ensures planned { IsPlanned state.now
+        (plan_go_on (start_of state.now) now.now.earliest txn (phase_of row.now)) result }
     ensures fit { IfOk result (IsFit state.now) }
 {
     match row {
@@ -115,8 +120,11 @@ fn resume_wait(
     txn: TxnId,
     wait: Option<&Wait>,
 ) -> Result<Plan, Fault>
-    requires { Asks state.now.memory.rows txn [] (needs_of (phase_of_wait (option_copied wait))) true }
-    ensures planned { IsPlanned state.now (plan_go_on (start_of state.now) now.now.earliest txn (phase_of_wait (option_copied wait.entry))) result }
+    requires { Asks state.now.memory.rows txn []
+        (needs_of (phase_of_wait (option_copied wait))) true }
+    ensures planned { IsPlanned state.now
+        (plan_go_on (start_of state.now) now.now.earliest txn
+        (phase_of_wait (option_copied wait.entry))) result }
     ensures fit { IfOk result (IsFit state.now) }
 {
     match wait {
@@ -136,7 +144,8 @@ fn resume_key(
     key: &Key,
 ) -> Result<Plan, Fault>
     requires { Asks state.now.memory.rows txn [] (to_read key.now) true }
-    ensures planned { IsPlanned state.now (plan_go_on (start_of state.now) now.now.earliest txn (WaitsRead key.now)) result }
+    ensures planned { IsPlanned state.now
+        (plan_go_on (start_of state.now) now.now.earliest txn (WaitsRead key.now)) result }
     ensures fit { IfOk result (IsFit state.now) }
 {
     resume_read(state, alloc, txn, key)
@@ -145,7 +154,8 @@ fn resume_key(
 // Reads are served up to a time that has come. A ceiling is logged before, where the log's greatest timestamp is below it.
 #[tactic(auto, unfolding(protocol::specs::Cells::plan_advance))]
 fn plan_advance(state: &State, alloc: Global, now: &Reading, to: Stamp) -> Result<Plan, Fault>
-    ensures planned { IsPlanned state.now (plan_advance (start_of state.now) now.now.latest state.now.setup.stride to) result }
+    ensures planned { IsPlanned state.now
+        (plan_advance (start_of state.now) now.now.latest state.now.setup.stride to) result }
     ensures fit { IfOk result (IsFit state.now) }
 {
     if now.before(to) {

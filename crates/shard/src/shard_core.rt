@@ -52,10 +52,17 @@ impl<D: Disk> Core<D> {
     /// stand, its versions, and its greatest timestamp. The disk is given back where it is refused: for want of memory, a failing
     /// device, a file that holds no log of this shard's, or an opening that has no room.
     pub fn open(alloc: Global, disk: D, setup: Setup) -> Result<Core<D>, (Fault, D)>
-        ensures opened { IfOk result (λ core. HasOpened D.keeps_model D.obeys D.file D.clock D.since D.failures D.plan disk setup (seen core)) }
+        ensures opened { IfOk result
+            (λ core. HasOpened D.keeps_model D.obeys D.file D.clock D.since D.failures D.plan disk
+            setup (seen core)) }
         // Its book, where it is to keep one, has the records that were found, and no page.
-        ensures book { IfOk result (λ core. D.keeps_model → (records : List Record) → records_in (surface (D.file disk)).seen ≡ Ok records → book_of core ≡ new_book setup.book records) }
-        ensures refused { IfErr result (λ refused. HasNotOpened D.keeps_model D.obeys D.file D.clock D.since D.failures D.plan disk setup refused.0 refused.1) }
+        ensures book { IfOk result
+            (λ core. D.keeps_model → (records : List Record)
+            → records_in (surface (D.file disk)).seen ≡ Ok records
+            → book_of core ≡ new_book setup.book records) }
+        ensures refused { IfErr result
+            (λ refused. HasNotOpened D.keeps_model D.obeys D.file D.clock D.since D.failures D.plan
+            disk setup refused.0 refused.1) }
     {
         learnt_agrees();
         learn_agrees();
@@ -81,7 +88,8 @@ impl<D: Disk> Core<D> {
         made: Result<Machine<D>, (Fault, D)>,
         book: Option<Book>,
     ) -> Result<Core<D>, (Fault, D)>
-        requires { IfOk made (λ machine. ∥ IsBookOf (seen_machine machine).setup book (stand_of (seen_machine machine)) ∥₁) }
+        requires { IfOk made (λ machine. ∥ IsBookOf (seen_machine machine).setup book
+            (stand_of (seen_machine machine)) ∥₁) }
         ensures made { IfOk result (λ core. (made ≡ Ok core.machine) × (book_of core ≡ book)) }
         ensures refused { IfErr result (λ refused. made ≡ Err refused) }
     {
@@ -96,10 +104,15 @@ impl<D: Disk> Core<D> {
     /// is a page more; once that is full, what would be accepted is refused as `BookFull`, and all stays as it was.
     pub fn on(&mut self, alloc: Global, now: &Reading, input: &Input) -> Result<Outbox, Fault>
         ensures stepped { HasBookRoom (seen self.old).setup.book (book_of self.old) →
-            HasStepped D.keeps_model D.obeys D.file D.clock D.since D.failures D.plan (seen self.old) (seen self.new) (step_of (seen self.old) now.now input.now) result }
-        ensures crowded { IsBookFull (seen self.old).setup.book (book_of self.old) → IsCrowded (seen self.old) (seen self.new) (step_of (seen self.old) now.now input.now) result }
-        ensures settled { IsDurablySettled D.keeps_model (surface (D.file (seen self.new).disk)) input.now result }
-        ensures entered { HasEntered (book_of self.old) (book_of self.new) now.now input.now result }
+            HasStepped D.keeps_model D.obeys D.file D.clock D.since D.failures D.plan
+            (seen self.old) (seen self.new) (step_of (seen self.old) now.now input.now) result }
+        ensures crowded { IsBookFull (seen self.old).setup.book (book_of self.old)
+            → IsCrowded (seen self.old) (seen self.new)
+            (step_of (seen self.old) now.now input.now) result }
+        ensures settled { IsDurablySettled D.keeps_model
+            (surface (D.file (seen self.new).disk)) input.now result }
+        ensures entered { HasEntered (book_of self.old)
+            (book_of self.new) now.now input.now result }
     {
         match self.machine.plan(alloc, now, input) {
             Ok(plan) => self.enter(alloc, now, input, plan),
@@ -116,14 +129,23 @@ impl<D: Disk> Core<D> {
         plan: Plan,
     ) -> Result<Outbox, Fault>
         requires running { IsFalse (seen self.old).stopped }
-        requires stands { D.keeps_model → KeepsRecords (surface (D.file (seen self.old).disk)) (records_in (surface (D.file (seen self.old).disk)).seen) }
-        requires planned { plan_input self.old.machine.state.setup (start_of self.old.machine.state) now.now input.now ≡ Ok (plan_of self.old.machine.state.memory.rows plan) }
+        requires stands { D.keeps_model
+            → KeepsRecords (surface (D.file (seen self.old).disk))
+            (records_in (surface (D.file (seen self.old).disk)).seen) }
+        requires planned { plan_input self.old.machine.state.setup
+            (start_of self.old.machine.state) now.now input.now ≡ Ok
+            (plan_of self.old.machine.state.memory.rows plan) }
         requires due { IsDue self.old.machine.state plan }
         ensures stepped { HasBookRoom (seen self.old).setup.book (book_of self.old) →
-            HasStepped D.keeps_model D.obeys D.file D.clock D.since D.failures D.plan (seen self.old) (seen self.new) (step_of (seen self.old) now.now input.now) result }
-        ensures crowded { IsBookFull (seen self.old).setup.book (book_of self.old) → IsCrowded (seen self.old) (seen self.new) (step_of (seen self.old) now.now input.now) result }
-        ensures settled { IsDurablySettled D.keeps_model (surface (D.file (seen self.new).disk)) input.now result }
-        ensures entered { HasEntered (book_of self.old) (book_of self.new) now.now input.now result }
+            HasStepped D.keeps_model D.obeys D.file D.clock D.since D.failures D.plan
+            (seen self.old) (seen self.new) (step_of (seen self.old) now.now input.now) result }
+        ensures crowded { IsBookFull (seen self.old).setup.book (book_of self.old)
+            → IsCrowded (seen self.old) (seen self.new)
+            (step_of (seen self.old) now.now input.now) result }
+        ensures settled { IsDurablySettled D.keeps_model
+            (surface (D.file (seen self.new).disk)) input.now result }
+        ensures entered { HasEntered (book_of self.old)
+            (book_of self.new) now.now input.now result }
     {
         a_page_is_a_step();
         match &mut self.book {
@@ -201,7 +223,8 @@ impl<D: Disk> Core<D> {
     /// and keeps, and puts out what stands in them.
     pub fn book(&self) -> Option<&Book>
         ensures same { option_copied result ≡ book_of self.now }
-        ensures replays { ∥ IsBookOf (seen self.now).setup (book_of self.now) (stand_of (seen self.now)) ∥₁ }
+        ensures replays { ∥ IsBookOf (seen self.now).setup (book_of self.now)
+            (stand_of (seen self.now)) ∥₁ }
     {
         self.book.as_ref()
     }
@@ -210,11 +233,16 @@ impl<D: Disk> Core<D> {
     /// handed to the disk and changes nothing else, also of a core that is stopped.
     pub fn arm(&mut self, call: Option<u64>)
         ensures plan { D.obeys → D.plan (seen self.new).disk ≡ armed call }
-        ensures log { ((seen self.new).gate ≡ (seen self.old).gate) × ((seen self.new).stopped ≡ (seen self.old).stopped) }
-        ensures state { ((seen self.new).setup ≡ (seen self.old).setup) × ((seen self.new).facts ≡ (seen self.old).facts) × ((seen self.new).memory ≡ (seen self.old).memory) }
-        ensures file { (D.file (seen self.new).disk ≡ D.file (seen self.old).disk) × (D.failures (seen self.new).disk ≡ D.failures (seen self.old).disk) }
+        ensures log { ((seen self.new).gate ≡ (seen self.old).gate)
+            × ((seen self.new).stopped ≡ (seen self.old).stopped) }
+        ensures state { ((seen self.new).setup ≡ (seen self.old).setup)
+            × ((seen self.new).facts ≡ (seen self.old).facts)
+            × ((seen self.new).memory ≡ (seen self.old).memory) }
+        ensures file { (D.file (seen self.new).disk ≡ D.file (seen self.old).disk)
+            × (D.failures (seen self.new).disk ≡ D.failures (seen self.old).disk) }
         ensures book { book_of self.new ≡ book_of self.old }
-        ensures any_moment { LeavesOnly D.clock D.since (seen self.old).disk (seen self.new).disk (MayLeave (surface (D.file (seen self.old).disk))) }
+        ensures any_moment { LeavesOnly D.clock D.since (seen self.old).disk (seen self.new).disk
+            (MayLeave (surface (D.file (seen self.old).disk))) }
     {
         self.machine.gate_log.arm(call);
     }
@@ -251,16 +279,20 @@ impl<D: Disk> Core<D> {
 
     /// Its rows, facts and locks agree, its versions may be put on a board, and its book replays. It does nothing.
     pub fn is_sound(&self)
-        ensures sound { ∥ IsSound (seen self.now).setup.shard (seen self.now).facts (seen self.now).memory ∥₁ }
+        ensures sound { ∥ IsSound (seen self.now).setup.shard (seen self.now).facts
+            (seen self.now).memory ∥₁ }
         ensures showable { IsShowable (seen self.now).facts (seen self.now).memory }
-        ensures replays { ∥ IsBookOf (seen self.now).setup (book_of self.now) (stand_of (seen self.now)) ∥₁ }
+        ensures replays { ∥ IsBookOf (seen self.now).setup (book_of self.now)
+            (stand_of (seen self.now)) ∥₁ }
     {}
 }
 
 // Puts some bytes at the front of a buffer, where they have room.
 fn put_in_front(bytes: &[u8], buffer: &mut [u8]) -> Result<Seen, Fault>
     ensures done { IfOk result (λ seen. IsSeen (Some bytes.now) buffer.old buffer.new seen) }
-    ensures over { IfErr result (λ fault. (fault ≡ Fault.Room) × (length buffer.old < length bytes.now) × (buffer.new ≡ buffer.old)) }
+    ensures over { IfErr result
+        (λ fault. (fault ≡ Fault.Room) × (length buffer.old < length bytes.now)
+        × (buffer.new ≡ buffer.old)) }
 {
     let size = bytes.len();
     if buffer.len() < size {

@@ -1,6 +1,6 @@
 //! Readings of the clock, commit wait, the safe time, and ceilings.
-use crate::made::stamp;
 use ceiling::needed;
+use made::stamp;
 use record::Record;
 use safetime::SafeTime;
 use std::test::Fail;

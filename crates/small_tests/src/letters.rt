@@ -1,6 +1,6 @@
 //! Messages and the bag that they are put into.
-use crate::made::{id, key, shard};
 use bag::Bag;
+use made::{id, key, shard};
 use message::{Address, Envelope, GiveUp, Message, Reads};
 use std::alloc::Global;
 use units::{Epoch, Keys};

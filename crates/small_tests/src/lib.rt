@@ -12,6 +12,5 @@ mod letters;
 #[cfg(test)]
 mod limits;
 #[cfg(test)]
-mod made;
 #[cfg(test)]
 mod sessions;

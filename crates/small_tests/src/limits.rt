@@ -1,5 +1,5 @@
 //! The small types: their limits and orders, and the texts of faults.
-use crate::made::key;
+use made::key;
 use std::alloc::Global;
 use units::{Epoch, Fault, Key, Keys, Reason, Run, ShardNo, Splits, Stamp, TxnId, Value};
 

@@ -1,7 +1,7 @@
 //! Transactions at their clients. Shard 0 has the keys below `m`, and shard 1 all others.
 ghost use Rattle.std.specs.Prelude.{◌≡◌};
 
-use crate::made::{id, key, shard, stamp};
+use made::{id, key, shard, stamp};
 use message::{Address, Answer, Done, Envelope, Message, Outbox, ReadAnswer};
 use session::{Closing, Finished, Heard, Open, Tx};
 use std::alloc::Global;

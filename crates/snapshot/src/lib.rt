@@ -38,9 +38,12 @@ impl Snapshot {
     /// The look of the viewer at the snapshot's timestamp. It is refused as `NotYet` until the viewer's shard serves that
     /// timestamp.
     pub fn look(&self, viewer: &mut Viewer, key: &Key, buffer: &mut [u8]) -> Result<Seen, Fault>
-        ensures same { (viewer.new.board ≡ viewer.old.board) × (viewer.new.home ≡ viewer.old.home) × (viewer.new.told ≡ viewer.old.told) }
-        ensures answer { result ≢ Err Fault.Stopped → LookedBy viewer.old key.now self.now buffer.old result viewer.new buffer.new }
-        ensures stopped { result ≡ Err Fault.Stopped → (viewer.new ≡ viewer.old) × (buffer.new ≡ buffer.old) }
+        ensures same { (viewer.new.board ≡ viewer.old.board) × (viewer.new.home ≡ viewer.old.home)
+            × (viewer.new.told ≡ viewer.old.told) }
+        ensures answer { result ≢ Err Fault.Stopped
+            → LookedBy viewer.old key.now self.now buffer.old result viewer.new buffer.new }
+        ensures stopped { result ≡ Err Fault.Stopped → (viewer.new ≡ viewer.old)
+            × (buffer.new ≡ buffer.old) }
         ensures told { self.now ≤ safe_on viewer.old.told → result ≢ Err Fault.NotYet }
     {
         viewer.look(key, self.at, buffer)

@@ -1,5 +1,5 @@
 //! What the tests give to a core. Each transaction is of run 1, and has its number.
-use crate::made::{id, shard, stamp};
+use made::{id, shard, stamp};
 use message::{Ask, Commit, GiveUp, Input, Message, Outcome, Prepare, Read, Reads, Vote};
 use std::alloc::Global;
 use truetime::Reading;

@@ -10,7 +10,6 @@ mod coordinating;
 #[cfg(test)]
 mod given;
 #[cfg(test)]
-mod made;
 #[cfg(test)]
 mod one_commit;
 #[cfg(test)]

@@ -1,9 +1,9 @@
 //! Stories of one core: how its disk came to be, what it is given and is to answer, and what it shows then.
 use crate::answers::{Told, is_told};
 use crate::given::{Given, input_of, reading};
-use crate::made::{key, shard, stamp};
 use disk::Disk;
 use gatelog::GateLog;
+use made::{key, shard, stamp};
 use shard::Core;
 use simdisk::{Choice, SimDisk};
 use std::alloc::Global;

@@ -1,5 +1,6 @@
 -- Numbers that words spell.
-use Rattle.std.proofs.Common.{◌≡◌, ◌∙◌, ◌<◌, ◌^◌, ◌&&◌, ℕ, Bool, true, false, true≢false, not, refl, sym, ap, arith, [], ◌∷◌, List, length, nat_eq, get_or, ne_eqb, ◌≤◌}
+use Rattle.std.proofs.Common.{◌≡◌, ◌∙◌, ◌<◌, ◌^◌, ◌&&◌, ℕ, Bool, true, false, true≢false, not, refl, sym, ap, arith, [], ◌∷◌, List, length, nat_eq}
+use Rattle.std.proofs.Common.{get_or, ne_eqb, ◌≤◌}
 use Rattle.std.specs.Prelude.{Result, Ok, Err, if◌then◌else◌, nat_lt, is_err}
 use Rattle.std.specs.Char.{is_ascii_digit}
 use Rattle.std.specs.List.{list_all}

@@ -1,8 +1,13 @@
 -- The session of an id, by its place in the code.
-use Rattle.std.proofs.Common.{◌≡◌, inl, inr, ℕ, zero, suc, ◌<◌, ◌≤◌, Bool, true, false, not, ◌&&◌, ◌||◌, cond, nat_lt, List, [], ◌∷◌, ◌++◌, length}
+use Rattle.std.proofs.Common.{◌≡◌, inl, inr, ℕ, zero, suc, ◌+◌, ◌<◌, ◌≤◌, Bool, true, false, not, ◌&&◌, ◌||◌, cond, nat_lt, List, [], ◌∷◌, ◌++◌, length, map}
 use Rattle.std.proofs.Common.{get_or, set, Option, Some, None, Result, Ok, Err, refl, sym, ap, ◌∙◌, subst, arith, filter}
 use Rattle.std.proofs.lemmas.Bool.{and_parts, or_right, or_parts, and_from}
-use Rattle.std.specs.List.{position_or_len, list_any}
+use Rattle.std.specs.HashSet.{HashSet}
+use Rattle.std.specs.List.{position, position_or_len, list_any}
+use Rattle.std.proofs.lemmas.List.{get_or-map, length-map}
+use Rattle.std.proofs.lemmas.List.Quantifiers.{position-Some}
+use Rattle.std.proofs.lemmas.List.Sums.{prefix_len-le-length}
+use Rattle.indexmap.specs.IndexSet.{insert_key}
 use Rattle.std.proofs.lemmas.Bool.Decides.{nat_tests}
 use Rattle.units.specs.Lists.{first, head, when}
 use Rattle.units.specs.Ids.{Id, same_id}
@@ -16,7 +21,7 @@ use Rattle.message.specs.declared.message.Envelope.{Envelope}
 use Rattle.message.specs.declared.message.ReadAnswer.{ReadAnswer}
 use Rattle.session.specs.Sessions.{Client, Moved, begun, finishes}
 use Rattle.world.specs.Held.{IsBegun, Moves, Hears, when_open}
-use Rattle.world.specs.Hosts.{AreBegun, Hosts, HearsIn, MovesIn, are_apart, are_once, session_step, with_client}
+use Rattle.world.specs.Hosts.{AreBegun, Hosts, HearsIn, MovesIn, are_once, session_step, with_client}
 use Rattle.world.proofs.HeldSteps.{hears_keeps}
 use Rattle.world.specs.declared.begun.Begun.{Begun}
 use Rattle.world.specs.declared.hosting.Sessions.{Sessions}
@@ -69,15 +74,6 @@ differ e = cc
 not_is : (a : Bool) → not a ≡ true → a ≡ false
 not_is true e = cc
 not_is false e = refl
-
--- where nobody has it the place is behind all
-pub no_place : (bs : List Begun) (t : Id) → list_any (λ c. same_id c.txn t) bs ≡ false → length bs ≡ place_of bs t
-no_place [] t none = refl
-no_place (x ∷ bs) t none =
-    let p = or_parts (same_id x.txn t) (list_any (λ c. same_id c.txn t) bs) none in
-    let rest = no_place bs t p.1 in
-    let other = p.0 in
-    grind (arith, nat_tests)
 
 none_changed : (d : Client) (cs : List Client) → list_any (λ e. same_id e.txn d.txn) cs ≡ false → with_client d cs ≡ cs
 none_changed d [] h = refl
@@ -159,11 +155,72 @@ begun_more splits [] (d ∷ cs) b c h is = absurd h
 begun_more splits (x ∷ bs) [] b c h is = absurd h
 begun_more splits (x ∷ bs) (d ∷ cs) b c h is = (h.0, begun_more splits bs cs b c h.1 is)
 
+-- ---- the ids of the sessions
+
+abbrev ids_of : List Begun → List Id
+ids_of bs = map (λ b. b.txn) bs
+
+ids_append : (bs : List Begun) (b : Begun) → ids_of (bs ++ b ∷ []) ≡ ids_of bs ++ b.txn ∷ []
+ids_append [] b = refl
+ids_append (x ∷ bs) b = ap (λ ks. x.txn ∷ ks) (ids_append bs b)
+
+ids_set : (bs : List Begun) (i : ℕ) (b old : Begun) → i < length bs → old ≡ get_or bs i old → b.txn ≡ old.txn → ids_of (set bs i b) ≡ ids_of bs
+ids_set [] i b old lt is txn = refl
+ids_set (x ∷ bs) zero b old lt is txn = (λ i. (txn ∙ ap (λ y. y.txn) is) i ∷ ids_of bs)
+ids_set (x ∷ bs) (suc i) b old lt is txn = ap (λ ks. x.txn ∷ ks) (ids_set bs i b old (omega arith) is txn)
+
+-- an id stands among those of the code where its session stands in the definitions
+is_new : (splits : List Bytes) (bs : List Begun) (cs : List Client) (t : Id) → AreBegun splits bs cs →
+    list_any (same_id t) (ids_of bs) ≡ list_any (λ c. same_id c.txn t) cs
+is_new splits [] [] t h = refl
+is_new splits [] (c ∷ cs) t h = absurd h
+is_new splits (b ∷ bs) [] t h = absurd h
+is_new splits (b ∷ bs) (c ∷ cs) t h = (λ i. (same_id_comm t b.txn ∙ sym (same_txn splits b c t h.0)) i || is_new splits bs cs t h.1 i)
+
+-- the place of an id is that of its session
+pub place_by_id : (bs : List Begun) (t : Id) → position_or_len (same_id t) (ids_of bs) ≡ place_of bs t
+place_by_id [] t = refl
+place_by_id (b ∷ bs) t = (λ i. cond (not (same_id_comm t b.txn i)) (1 + place_by_id bs t i) 0)
+
+-- where an id is found its session stands
+pub placed_by : (bs : List Begun) (ids : List Id) (t : Id) (i : ℕ) (d : Begun) → ids ≡ ids_of bs → position (same_id t) ids ≡ Some i
+    → (i ≡ place_of bs t) × (i < length bs) × (same_id (get_or bs i d).txn t ≡ true)
+placed_by bs ids t i d same found =
+    let p = position-Some (same_id t) (ids_of bs) i d.txn (ap (position (same_id t)) (sym same) ∙ found) in
+    let within : i < length bs = subst (λ n. i < n) (length-map bs (λ b. b.txn)) p.0 in
+    let there : same_id (get_or bs i d).txn t ≡ true =
+    same_id_comm (get_or bs i d).txn t ∙ ap (same_id t) (sym (get_or-map (λ (b : Begun). b.txn) bs i d d.txn within)) ∙ p.1 in
+    (by_test (nat_lt (position_or_len (same_id t) (ids_of bs)) (length (ids_of bs))) (ap (position (same_id t)) (sym same) ∙ found), within, there)
+  where
+    by_test : (b : Bool) → cond b (Some (position_or_len (same_id t) (ids_of bs))) None ≡ Some i → i ≡ place_of bs t
+    by_test true is = let at : position_or_len (same_id t) (ids_of bs) ≡ i = cc in sym at ∙ place_by_id bs t
+    by_test false is = let clash : ◌≡◌ {A = Option ℕ} None (Some i) = is in cc
+
+-- and where it is not found there is none
+pub not_placed : (bs : List Begun) (ids : List Id) (t : Id) → ids ≡ ids_of bs → position (same_id t) ids ≡ None → length bs ≡ place_of bs t
+not_placed bs ids t same none =
+    by_test (nat_lt (position_or_len (same_id t) (ids_of bs)) (length (ids_of bs))) refl (ap (position (same_id t)) (sym same) ∙ none)
+  where
+    most : place_of bs t ≤ length bs
+    most = prefix_len-le-length (λ b. not (same_id b.txn t)) bs
+
+    by_test : (b : Bool) → nat_lt (position_or_len (same_id t) (ids_of bs)) (length (ids_of bs)) ≡ b
+        → cond b (Some (position_or_len (same_id t) (ids_of bs))) None ≡ None → length bs ≡ place_of bs t
+    by_test true e is = let clash : ◌≡◌ {A = Option ℕ} (Some (position_or_len (same_id t) (ids_of bs))) None = is in cc
+    by_test false e is = grind (arith, nat_tests, e, most, place_by_id bs t, length-map bs (λ b. b.txn))
+
+pub ids_in : (splits : List Bytes) (s : Sessions) (cs : List Client) (bs : List Begun) → Hosts splits s cs → bs ≡ s.begun.items → s.ids.keys ≡ ids_of bs
+ids_in splits s cs bs h same = h.ids_are ∙ ap ids_of (sym same)
+
 pub begins : (splits : List Bytes) (s new : Sessions) (cs : List Client) (b : Begun) (t : Id) → Hosts splits s cs → client_at cs t ≡ None →
     IsBegun splits b (begun t)
-    → new.splits.now ≡ splits → new.begun.items ≡ s.begun.items ++ b ∷ [] → Hosts splits new (cs ++ begun t ∷ [])
-begins splits s new cs b t h none is same pushed = record {
+    → new.splits.now ≡ splits → new.ids.keys ≡ insert_key same_id s.ids.keys t → new.begun.items ≡ s.begun.items ++ b ∷ []
+    → Hosts splits new (cs ++ begun t ∷ [])
+begins splits s new cs b t h none is same ids pushed = record {
   splits_are = same;
+  ids_are = ids ∙ ap (λ ks. insert_key same_id ks t) h.ids_are
+      ∙ ap (λ w. cond w (ids_of s.begun.items) (ids_of s.begun.items ++ t ∷ [])) (is_new splits s.begun.items cs t h.begun ∙ none_has cs t none)
+      ∙ ap (λ u. ids_of s.begun.items ++ u ∷ []) is.txn ∙ sym (ids_append s.begun.items b) ∙ ap ids_of (sym pushed);
   begun = subst (λ bs. AreBegun splits bs (cs ++ begun t ∷ [])) (sym pushed) (begun_more splits s.begun.items cs b (begun t) h.begun is);
   once = once_more cs (begun t) h.once (none_has cs t none);
 }
@@ -187,11 +244,16 @@ has_place splits (x ∷ bs) cs t i h at = (
 
 module _ (splits : List Bytes) (s new : Sessions) (cs : List Client) (t : Id) (at : ℕ) (old b : Begun) (h : Hosts splits s cs)
     (place : at ≡ place_of s.begun.items t) (within : at < length s.begun.items) (taken : old ≡ get_or s.begun.items at old)
-    (same : new.splits.now ≡ splits) (put : new.begun.items ≡ set s.begun.items at b)
+    (same : new.splits.now ≡ splits) (ids : new.ids ≡ s.ids) (put : new.begun.items ≡ set s.begun.items at b)
     (client : Client) (is : client_at cs t ≡ Some client) (stands : IsBegun splits old client) (own : same_id client.txn t ≡ true) where
+  ids_stay : client.txn ≡ b.txn → new.ids.keys ≡ ids_of new.begun.items
+  ids_stay txn =
+      ap (λ (ks : HashSet Id _). ks.keys) ids ∙ h.ids_are ∙ sym (ids_set s.begun.items at b old within taken (sym txn ∙ stands.txn)) ∙ ap ids_of (sym put)
+
   kept : IsBegun splits b client → Hosts splits new cs
   kept back = record {
     splits_are = same;
+    ids_are = ids_stay back.txn;
     begun = subst (λ bs. AreBegun splits bs cs) (sym put) (put_back splits s.begun.items cs t at b client h.begun place within is back);
     once = h.once;
   }
@@ -199,6 +261,7 @@ module _ (splits : List Bytes) (s new : Sessions) (cs : List Client) (t : Id) (a
   goes_on : (d : Client) → d.txn ≡ client.txn → IsBegun splits b d → Hosts splits new (with_client d cs)
   goes_on d txn next = record {
     splits_are = same;
+    ids_are = ids_stay (sym txn ∙ next.txn);
     begun = subst (λ bs. AreBegun splits bs (with_client d cs)) (sym put) (placed splits s.begun.items cs t at b d h.begun h.once place within next
         (ap (λ i. same_id i t) txn ∙ own));
     once = once_with d cs ∙ h.once;
@@ -229,57 +292,23 @@ module _ (splits : List Bytes) (s new : Sessions) (cs : List Client) (t : Id) (a
 
 module _ (splits : List Bytes) (s new : Sessions) (cs : List Client) (t : Id) (at : ℕ) (old b : Begun) (h : Hosts splits s cs)
     (place : at ≡ place_of s.begun.items t) (within : at < length s.begun.items) (taken : old ≡ get_or s.begun.items at old)
-    (same : new.splits.now ≡ splits) (put : new.begun.items ≡ set s.begun.items at b) where
+    (same : new.splits.now ≡ splits) (ids : new.ids ≡ s.ids) (put : new.begun.items ≡ set s.begun.items at b) where
   pub moves_in : (f : Client → Moved) (r : Result (List Envelope) Fault) → ((c : Client) → IsBegun splits old c → Moves splits (f c) b c r) →
       MovesIn splits (session_step f (client_at cs t)) new cs r
   moves_in =
       let p = found splits s.begun.items cs t at old h.begun place within taken in
-      moves_from splits s new cs t at old b h place within taken same put p.0 p.1 p.2 (same_txn splits old p.0 t p.2 ∙ p.3)
+      moves_from splits s new cs t at old b h place within taken same ids put p.0 p.1 p.2 (same_txn splits old p.0 t p.2 ∙ p.3)
 
   pub hears_in : (a : ReadAnswer) (r : Result (Option Line) Fault) → ((c : Client) → IsBegun splits old c → Hears splits a b c r) →
       HearsIn splits a new cs (client_at cs t) r
   hears_in =
       let p = found splits s.begun.items cs t at old h.begun place within taken in
-      hears_from splits s new cs t at old b h place within taken same put p.0 p.1 p.2 (same_txn splits old p.0 t p.2 ∙ p.3)
+      hears_from splits s new cs t at old b h place within taken same ids put p.0 p.1 p.2 (same_txn splits old p.0 t p.2 ∙ p.3)
 
 -- the id of the session that stands there
 pub id_there : (bs xs : List Begun) (t : Id) (i : ℕ) (b : Begun) → xs ≡ bs → ((y : Begun) → i < length xs → y ≡ get_or xs i y →
     same_id y.txn t ≡ true) → i < length bs → b ≡ get_or bs i b → same_id b.txn t ≡ true
 id_there bs xs t i b same there lt is = there b (subst (λ ys. i < length ys) (sym same) lt) (is ∙ ap (λ ys. get_or ys i b) (sym same))
-
--- ids in the code come once where they do in the definitions
-apart_as : (splits : List Bytes) (bs : List Begun) (cs : List Client) (t : Id) → AreBegun splits bs cs →
-    list_any (λ b. same_id b.txn t) bs ≡ list_any (λ c. same_id c.txn t) cs
-apart_as splits [] [] t h = refl
-apart_as splits [] (c ∷ cs) t h = absurd h
-apart_as splits (b ∷ bs) [] t h = absurd h
-apart_as splits (b ∷ bs) (c ∷ cs) t h = (λ i. sym (same_txn splits b c t h.0) i || apart_as splits bs cs t h.1 i)
-
-apart : (splits : List Bytes) (bs : List Begun) (cs : List Client) → AreBegun splits bs cs → are_apart bs ≡ are_once cs
-apart splits [] [] h = refl
-apart splits [] (c ∷ cs) h = absurd h
-apart splits (b ∷ bs) [] h = absurd h
-apart splits (b ∷ bs) (c ∷ cs) h = (λ i. not ((apart_as splits bs cs b.txn h.1 ∙ ap (λ t. list_any (λ d. same_id d.txn t) cs) (sym h.0.txn))
-    i) && apart splits bs cs h.1 i)
-
-pub apart_in : (splits : List Bytes) (s : Sessions) (cs : List Client) (bs : List Begun) → Hosts splits s cs → bs ≡ s.begun.items → are_apart bs ≡ true
-apart_in splits s cs bs h same = ap are_apart same ∙ apart splits s.begun.items cs h.begun ∙ h.once
-
--- the last place of an id is the first
-pub only_place : (bs : List Begun) (t : Id) (i : ℕ) (d : Begun) → are_apart bs ≡ true → i < length bs → same_id (get_or bs i d).txn t ≡ true → i ≡ place_of bs t
-only_place [] t i d once lt is = absurd (omega arith)
-only_place (x ∷ bs) t zero d once lt is = grind (arith, nat_tests)
-only_place (x ∷ bs) t (suc i) d once lt is =
-    let rest = only_place bs t i d (and_parts _ _ once).1 (omega arith) is in
-    let among : list_any (λ c. same_id c.txn t) bs ≡ true = one_of bs t i d (omega arith) is in
-    by_head (same_id x.txn t) refl rest among
-  where
-    by_head : (b : Bool) → same_id x.txn t ≡ b → i ≡ place_of bs t → list_any (λ c. same_id c.txn t) bs ≡ true → suc i ≡ place_of (x ∷ bs) t
-    by_head true e rest among =
-        let none : list_any (λ c. same_id c.txn x.txn) bs ≡ false = not_is _ (and_parts _ _ once).0 in
-        let same : x.txn ≡ t = same_id-is x.txn t e in
-        absurd (differ (sym among ∙ ap (λ u. list_any (λ c. same_id c.txn u) bs) (sym same) ∙ none))
-    by_head false e rest among = grind (arith, nat_tests)
 
 -- the last put in a place stands there
 pub set_again : (bs : List Begun) (i : ℕ) (x y : Begun) → set (set bs i x) i y ≡ set bs i y

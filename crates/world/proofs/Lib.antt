@@ -1,3 +1,4 @@
+pub mod Among
 pub mod Decides
 pub mod EveryRun
 pub mod HeldSteps

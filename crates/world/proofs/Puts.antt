@@ -6,12 +6,14 @@ use Rattle.std.proofs.lemmas.Grind.{flat_map-append}
 use Rattle.units.specs.Lists.{when}
 use Rattle.units.specs.Ids.{Id, same_id}
 use Rattle.units.proofs.Folds.{any_append}
+use Rattle.units.proofs.IdLaws.{same_id_comm}
 use Rattle.units.specs.declared.line.Line.{Line}
 use Rattle.message.specs.declared.message.Done.{Done}
 use Rattle.message.specs.declared.message.Envelope.{Envelope}
 use Rattle.message.specs.declared.message.Message.{Message}
 use Rattle.world.specs.World.{World, ack_of, acks_of, commit_told, put_out}
-use Rattle.world.specs.Told.{ack_by, ack_in, told_in, was_told}
+use Rattle.world.specs.Among.{is_among}
+use Rattle.world.specs.Told.{ack_by, ack_in, told_in}
 use Rattle.world.specs.Passed.{IsOutput}
 use Rattle.world.specs.declared.output.RunOutput.{RunOutput}
 
@@ -20,7 +22,7 @@ on_ok (Ok x) h f = f h
 on_ok (Err e) h f = tt
 
 -- what was told is told by a message
-told_alike : (t : Id) (e : Envelope) → was_told (told_in e) t ≡ when (λ x. true) (commit_told t e)
+told_alike : (t : Id) (e : Envelope) → is_among (told_in e) t ≡ when (λ x. true) (commit_told t e)
 told_alike t e = by_message e.message
   where
     by_test : (s : ℕ) (b : Bool) → (b || false) ≡ when (λ x. true) (cond b (Some s) None)
@@ -31,11 +33,11 @@ told_alike t e = by_message e.message
     by_none true = refl
     by_none false = refl
 
-    by_value : (d : Done) (o : Option ℕ) → was_told (option_to_list (option_map (λ s. d.txn) o)) t ≡ when (λ x. true) (cond (same_id d.txn t) o None)
+    by_value : (d : Done) (o : Option ℕ) → is_among (option_to_list (option_map (λ s. d.txn) o)) t ≡ when (λ x. true) (cond (same_id d.txn t) o None)
     by_value d None = by_none (same_id d.txn t)
-    by_value d (Some s) = by_test s (same_id d.txn t)
+    by_value d (Some s) = ap (λ b. b || false) (same_id_comm t d.txn) ∙ by_test s (same_id d.txn t)
 
-    by_message : (m : Message) → was_told (elim m as (λ x. List Id) [ Message.Done d ↦ option_to_list (option_map (λ s. d.txn) d.outcome) | _ ↦ [] ]) t
+    by_message : (m : Message) → is_among (elim m as (λ x. List Id) [ Message.Done d ↦ option_to_list (option_map (λ s. d.txn) d.outcome) | _ ↦ [] ]) t
         ≡ when (λ x. true) (elim m as (λ x. Option ℕ) [ Message.Done d ↦ cond (same_id d.txn t) d.outcome None | _ ↦ None ])
     by_message (Message.Done d) = by_value d d.outcome
     by_message (Message.Read x) = refl
@@ -47,43 +49,47 @@ told_alike t e = by_message e.message
     by_message (Message.Ask x) = refl
     by_message (Message.ReadAnswer x) = refl
 
-told_by_bag : (t : Id) (bag : List Envelope) → was_told (flat_map told_in bag) t ≡ list_any (λ e. when (λ x. true) (commit_told t e)) bag
+told_by_bag : (t : Id) (bag : List Envelope) → is_among (flat_map told_in bag) t ≡ list_any (λ e. when (λ x. true) (commit_told t e)) bag
 told_by_bag t [] = refl
-told_by_bag t (e ∷ es) = any_append (λ u. same_id u t) (told_in e) (flat_map told_in es) ∙ (λ i. told_alike t e i || told_by_bag t es i)
+told_by_bag t (e ∷ es) = any_append (same_id t) (told_in e) (flat_map told_in es) ∙ (λ i. told_alike t e i || told_by_bag t es i)
 
-by_outcome : (w : World) (t : Id) (o : Option ℕ) → ack_by (flat_map told_in w.bag) w.event t o ≡ ack_of w t o
-by_outcome w t None = refl
-by_outcome w t (Some s) = ap (λ b. cond b [] (Line.Ack t s w.event ∷ [])) (told_by_bag t w.bag)
+-- ---- acknowledgements, from the ids whose commit the messages before told
 
-abbrev acks_by : World → Message → List Line
-acks_by w m = elim m [ Message.Done d ↦ ack_of w d.txn d.outcome | _ ↦ [] ]
+module _ (w : World) (ids : List Id) (told : (t : Id) → is_among ids t ≡ is_among (flat_map told_in w.bag) t) where
+  by_outcome : (t : Id) (o : Option ℕ) → ack_by ids w.event t o ≡ ack_of w t o
+  by_outcome t None = refl
+  by_outcome t (Some s) = ap (λ b. cond b [] (Line.Ack t s w.event ∷ [])) (told t ∙ told_by_bag t w.bag)
 
-abbrev acks_with : World → Message → List Line
-acks_with w m = elim m [ Message.Done d ↦ ack_by (flat_map told_in w.bag) w.event d.txn d.outcome | _ ↦ [] ]
+  abbrev acks_by : Message → List Line
+  acks_by m = elim m [ Message.Done d ↦ ack_of w d.txn d.outcome | _ ↦ [] ]
 
-by_message : (w : World) (m : Message) → acks_with w m ≡ acks_by w m
-by_message w (Message.Done d) = by_outcome w d.txn d.outcome
-by_message w (Message.Read x) = refl
-by_message w (Message.Prepare x) = refl
-by_message w (Message.Commit x) = refl
-by_message w (Message.GiveUp x) = refl
-by_message w (Message.Vote x) = refl
-by_message w (Message.Outcome x) = refl
-by_message w (Message.Ask x) = refl
-by_message w (Message.ReadAnswer x) = refl
+  abbrev acks_with : Message → List Line
+  acks_with m = elim m [ Message.Done d ↦ ack_by ids w.event d.txn d.outcome | _ ↦ [] ]
 
-acks_same : (w : World) (es : List Envelope) → flat_map (ack_in (flat_map told_in w.bag) w.event) es ≡ flat_map (acks_of w) es
-acks_same w [] = refl
-acks_same w (e ∷ es) = (λ i. by_message w e.message i ++ acks_same w es i)
+  by_message : (m : Message) → acks_with m ≡ acks_by m
+  by_message (Message.Done d) = by_outcome d.txn d.outcome
+  by_message (Message.Read x) = refl
+  by_message (Message.Prepare x) = refl
+  by_message (Message.Commit x) = refl
+  by_message (Message.GiveUp x) = refl
+  by_message (Message.Vote x) = refl
+  by_message (Message.Outcome x) = refl
+  by_message (Message.Ask x) = refl
+  by_message (Message.ReadAnswer x) = refl
+
+  acks_same : (es : List Envelope) → flat_map (ack_in ids w.event) es ≡ flat_map (acks_of w) es
+  acks_same [] = refl
+  acks_same (e ∷ es) = (λ i. by_message e.message i ++ acks_same es i)
 
 pub puts : (p : RunOutput) (w : World) (new : RunOutput) (out : List Envelope) → IsOutput p w → new.bag ≡ p.bag ++ out →
-    new.told.items ≡ p.told.items ++ flat_map told_in out
-    → new.lines.items ≡ p.lines.items ++ flat_map (ack_in p.told.items p.event) out
+    ((t : Id) → is_among new.told.keys t ≡ (is_among p.told.keys t || is_among (flat_map told_in out) t))
+    → new.lines.items ≡ p.lines.items ++ flat_map (ack_in p.told.keys p.event) out
     → new.event ≡ p.event → IsOutput new (put_out out w)
 unfolding put_out
 puts p w new out h bag told lines event = record {
   bag = bag ∙ ap (λ b. b ++ out) h.bag;
-  told = told ∙ ap (λ ts. ts ++ flat_map told_in out) h.told ∙ sym (flat_map-append told_in w.bag out);
-  lines = lines ∙ (λ i. h.lines i ++ flat_map (ack_in (h.told i) (h.event i)) out) ∙ ap (λ ls. w.lines ++ ls) (acks_same w out);
+  told = λ t. told t ∙ ap (λ b. b || is_among (flat_map told_in out) t) (h.told t)
+      ∙ sym (any_append (same_id t) (flat_map told_in w.bag) (flat_map told_in out)) ∙ ap (λ ids. is_among ids t) (sym (flat_map-append told_in w.bag out));
+  lines = lines ∙ (λ i. h.lines i ++ flat_map (ack_in p.told.keys (h.event i)) out) ∙ ap (λ ls. w.lines ++ ls) (acks_same w p.told.keys h.told out);
   event = event ∙ h.event;
 }

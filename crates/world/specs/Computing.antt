@@ -9,6 +9,7 @@ use Rattle.world.specs.Lawful.{may_act, lawful}
 
 -- the list of names
 unfoldable pub computing : Unit {0}
-unfolding computing_steps computing_sessions parts_spelling step_of_opening wanted effect finished crashed_in failed_in put_out to_session did did_with_failure deliver_to
+unfolding computing_steps computing_sessions parts_spelling step_of_opening wanted effect finished crashed_in failed_in put_out to_session did did_with_failure
+    deliver_to
     acts happens start run replies_of_run logs_of counted_lines may_act lawful
 computing = tt

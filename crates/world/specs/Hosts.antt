@@ -25,14 +25,10 @@ abbrev pub are_once : List Client → Bool
 are_once [] = true
 are_once (c ∷ cs) = not (list_any (λ d. same_id d.txn c.txn) cs) && are_once cs
 
--- nor has one in the code
-abbrev pub are_apart : List Begun → Bool
-are_apart [] = true
-are_apart (b ∷ bs) = not (list_any (λ d. same_id d.txn b.txn) bs) && are_apart bs
-
--- the sessions of a run
+-- the sessions of a run, which are found by their ids
 pub record Hosts (splits : List Bytes) (s : Sessions) (cs : List Client) : Type 0 where
   pub splits_are : s.splits.now ≡ splits
+  pub ids_are : s.ids.keys ≡ map (λ b. b.txn) s.begun.items
   pub begun : AreBegun splits s.begun.items cs
   pub once : are_once cs ≡ true
 

@@ -1,3 +1,4 @@
+pub mod Among
 pub mod Comes
 pub mod Computing
 pub mod Counts

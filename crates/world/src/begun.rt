@@ -47,7 +47,8 @@ impl<'s> Begun<'s> {
 
     /// An open session asks for the value of a key.
     pub fn read(self, alloc: Global, key: Key) -> (Begun<'s>, Result<Outbox, Fault>)
-        ensures { (splits : List Bytes) (c : Client) → IsBegun splits self.entry c → Moves splits (when_open (reads splits key) c) result.0 c result.1 }
+        ensures { (splits : List Bytes) (c : Client) → IsBegun splits self.entry c
+            → Moves splits (when_open (reads splits key) c) result.0 c result.1 }
     {
         let Begun { txn, held } = self;
         match held {
@@ -72,7 +73,9 @@ impl<'s> Begun<'s> {
         key: Key,
         value: Option<Value>,
     ) -> (Begun<'s>, Result<Outbox, Fault>)
-        ensures { (splits : List Bytes) (c : Client) → IsBegun splits self.entry c → Moves splits (when_open (buffers (record { key = key; value = value })) c) result.0 c result.1 }
+        ensures { (splits : List Bytes) (c : Client) → IsBegun splits self.entry c
+            → Moves splits (when_open
+            (buffers (record { key = key; value = value })) c) result.0 c result.1 }
     {
         let Begun { txn, held } = self;
         match held {
@@ -92,7 +95,8 @@ impl<'s> Begun<'s> {
 
     /// An open session closes.
     pub fn close(self, alloc: Global) -> (Begun<'s>, Result<Outbox, Fault>)
-        ensures { (splits : List Bytes) (c : Client) → IsBegun splits self.entry c → Moves splits (when_open (closes splits) c) result.0 c result.1 }
+        ensures { (splits : List Bytes) (c : Client) → IsBegun splits self.entry c
+            → Moves splits (when_open (closes splits) c) result.0 c result.1 }
     {
         let Begun { txn, held } = self;
         match held {
@@ -118,7 +122,8 @@ impl<'s> Begun<'s> {
 
     /// A session that is not over gives up.
     pub fn quit(self, alloc: Global) -> (Begun<'s>, Result<Outbox, Fault>)
-        ensures { (splits : List Bytes) (c : Client) → IsBegun splits self.entry c → Moves splits (when_not_over (gives_up splits) c) result.0 c result.1 }
+        ensures { (splits : List Bytes) (c : Client) → IsBegun splits self.entry c
+            → Moves splits (when_not_over (gives_up splits) c) result.0 c result.1 }
     {
         let Begun { txn, held } = self;
         match held {
@@ -149,7 +154,8 @@ impl<'s> Begun<'s> {
     /// A closing session hears the end of its transaction.
     pub fn finish(self, alloc: Global, done: &Done) -> (Begun<'s>, Result<Outbox, Fault>)
         requires { same_id self.txn done.now.txn ≡ true }
-        ensures { (splits : List Bytes) (c : Client) → IsBegun splits self.entry c → Moves splits (when_closing c) result.0 c result.1 }
+        ensures { (splits : List Bytes) (c : Client) → IsBegun splits self.entry c
+            → Moves splits (when_closing c) result.0 c result.1 }
     {
         let Begun { txn, held } = self;
         match held {
@@ -174,7 +180,8 @@ impl<'s> Begun<'s> {
         answer: &ReadAnswer,
     ) -> (Begun<'s>, Result<Option<Line>, Fault>)
         requires { same_id self.txn answer.now.txn ≡ true }
-        ensures { (splits : List Bytes) (c : Client) → IsBegun splits self.entry c → Hears splits answer.now result.0 c result.1 }
+        ensures { (splits : List Bytes) (c : Client) → IsBegun splits self.entry c
+            → Hears splits answer.now result.0 c result.1 }
     {
         let Begun { txn, held } = self;
         match held {
@@ -206,7 +213,8 @@ impl<'s> Begun<'s> {
 // The key's shard is asked.
 fn ask(alloc: Global, tx: &mut Tx<'_, Open>, key: Key) -> Result<Outbox, Fault>
     ensures splits { tx.new.splits ≡ tx.old.splits }
-    ensures step { Steps (reads tx.old.splits key tx.old.client) tx.new.client tx.old.client result }
+    ensures step { Steps
+        (reads tx.old.splits key tx.old.client) tx.new.client tx.old.client result }
 {
     match tx.read(key) {
         Ok(envelope) => only(alloc, envelope),
@@ -222,7 +230,8 @@ fn buffer(
     value: Option<Value>,
 ) -> Result<Outbox, Fault>
     ensures splits { tx.new.splits ≡ tx.old.splits }
-    ensures step { Steps (buffers (record { key = key; value = value }) tx.old.client) tx.new.client tx.old.client result }
+    ensures step { Steps (buffers
+        (record { key = key; value = value }) tx.old.client) tx.new.client tx.old.client result }
 {
     match tx.buffer(key, value) {
         Ok(()) => Ok(Outbox::none(alloc)),
@@ -239,8 +248,12 @@ fn take_answer(
 ) -> Result<Option<Line>, Fault>
     requires { same_id txn answer.now.txn ≡ true }
     ensures splits { tx.new.splits ≡ tx.old.splits }
-    ensures client { OnOk result (tx.new.client ≡ hears answer.now.from answer.now.key answer.now.epoch answer.now.answer tx.old.client) }
-    ensures line { tx.old.client.txn ≡ txn → IfOk result (λ line. option_to_list line ≡ read_lines tx.old.client tx.new.client answer.now.key answer.now.answer) }
+    ensures client { OnOk result
+        (tx.new.client ≡
+        hears answer.now.from answer.now.key answer.now.epoch answer.now.answer tx.old.client) }
+    ensures line { tx.old.client.txn ≡ txn
+        → IfOk result (λ line. option_to_list line ≡
+        read_lines tx.old.client tx.new.client answer.now.key answer.now.answer) }
     ensures memory { IfErr result (λ fault. fault ≡ Fault.Memory) }
 {
     tx.awaits_only_new();

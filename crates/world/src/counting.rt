@@ -1,10 +1,14 @@
 //! The lines of a report that count.
-ghost use Rattle.std.specs.Prelude.{◌≡◌, ℕ, List, true, IfOk, IfErr, length, map, Some, None};
+ghost use Rattle.std.specs.Prelude.{◌≡◌, ◌||◌, List, IfOk, IfErr, OnOk, map};
+ghost use Rattle.units.specs.Ids.{Id, same_id};
 ghost use Rattle.units.specs.Lists.{when};
-ghost use Rattle.record.specs.History.{history, find_txn};
+ghost use Rattle.record.specs.History.{history};
+ghost use Rattle.record.specs.declared.record.Record.{Record as Logged};
 ghost use Rattle.world.specs.World.{counted_lines, line_counts};
-ghost use Rattle.world.specs.Counts.{commits_at, commits_here, is_decided};
+ghost use Rattle.world.specs.Among.{is_among};
+ghost use Rattle.world.specs.Counts.{AreDecided, commits_at, commits_here};
 
+use indexmap::IndexSet;
 use record::Record;
 use std::alloc::Global;
 use units::{Fault, Line, TxnId};
@@ -12,69 +16,70 @@ use units::{Fault, Line, TxnId};
 /// The lines that count, in order: an answered read counts where its transaction committed, as the logs have it.
 #[tactic(auto, unfolding(crate::specs::World::counted_lines))]
 pub fn counted(alloc: Global, logs: &[Vec<Record>], lines: Vec<Line>) -> Result<Vec<Line>, Fault>
-    ensures counted { IfOk result (λ counted. counted.items ≡ counted_lines (map (λ log. log.items) logs.now) lines.items) }
+    ensures counted { IfOk result
+        (λ counted. counted.items ≡ counted_lines (map (λ log. log.items) logs.now) lines.items) }
     ensures memory { IfErr result (λ fault. fault ≡ Fault.Memory) }
 {
+    let decided = decided_by(alloc, logs)?;
     let mut counted = Vec::new(alloc);
     for line in lines {
-        if counts(logs, &line) {
+        if counts(&decided, &line) {
             counted.push(line)?;
         }
     }
     Ok(counted)
 }
 
-// The line counts.
-fn counts(logs: &[Vec<Record>], line: &Line) -> bool
-    ensures { result ≡ line_counts (history (map (λ log. log.items) logs.now)) line.now }
+// The line counts, where these transactions committed.
+fn counts(decided: &IndexSet<TxnId>, line: &Line) -> bool
+    ensures { (logs : List (List Logged)) → AreDecided decided.now.keys logs
+        → result ≡ line_counts (history logs) line.now }
 {
     match line {
-        Line::Read(txn, _, _) => has_committed(logs, *txn),
+        Line::Read(txn, _, _) => decided.contains(txn),
         _ => true,
     }
 }
 
-// The transaction is in the history of the logs.
-#[tactic(auto, using(crate::proofs::Decides::decided_is))]
-fn has_committed(logs: &[Vec<Record>], txn: TxnId) -> bool
-    ensures { result ≡ when (λ u. true) (find_txn (history (map (λ log. log.items) logs.now)) txn) }
+// The transactions whose commit decision stands in the log of their least part.
+fn decided_by(alloc: Global, logs: &[Vec<Record>]) -> Result<IndexSet<TxnId>, Fault>
+    ensures decided { IfOk result (λ ids. AreDecided ids.keys (map (λ log. log.items) logs.now)) }
+    ensures memory { IfErr result (λ fault. fault ≡ Fault.Memory) }
 {
-    is_decided_in(logs, txn)
-}
-
-// A log has its commit decision as the log of the least part.
-fn is_decided_in(logs: &[Vec<Record>], txn: TxnId) -> bool
-    ensures { result ≡ is_decided txn 0 (map (λ log. log.items) logs.now) }
-{
+    let mut ids = IndexSet::new(alloc);
     for (shard, log) in logs.iter().enumerate() {
-        if decides(log, txn, shard) {
-            return true;
-        }
+        note_decided(&mut ids, shard, log)?;
     }
-    false
+    Ok(ids)
 }
 
-// The log of a shard has its commit decision, and the shard is the least part.
-fn decides(log: &[Record], txn: TxnId, shard: usize) -> bool
-    ensures { result ≡ commits_here txn shard log.now }
+// So for the log of one shard.
+fn note_decided(ids: &mut IndexSet<TxnId>, shard: usize, log: &[Record]) -> Result<(), Fault>
+    ensures decided { (t : Id) → OnOk result (is_among ids.new.keys t ≡
+        (is_among ids.old.keys t || commits_here t shard log.now)) }
+    ensures memory { IfErr result (λ fault. fault ≡ Fault.Memory) }
 {
     for item in log {
-        if commits(item, txn, shard) {
-            return true;
+        if let Some(txn) = decides(item, shard) {
+            ids.insert(txn)?;
         }
     }
-    false
+    Ok(())
 }
 
-// So does the record.
-fn commits(item: &Record, txn: TxnId, shard: usize) -> bool
-    ensures { result ≡ commits_at txn shard item.now }
+// The transaction whose commit decision the record is, where the shard is its least part.
+fn decides(item: &Record, shard: usize) -> Option<TxnId>
+    ensures { (t : Id) → when (λ u. same_id u t) result ≡ commits_at t shard item.now }
 {
     match item {
         Record::Commit(committed) => {
-            committed.txn.is(txn) && shard == committed.parts.least().number() as usize
+            if shard == committed.parts.least().number() as usize {
+                Some(committed.txn)
+            } else {
+                None
+            }
         }
-        Record::Opened { .. } | Record::Ceiling { .. } | Record::Prepare(_) => false,
-        Record::Abort { .. } | Record::Outcome { .. } => false,
+        Record::Opened { .. } | Record::Ceiling { .. } | Record::Prepare(_) => None,
+        Record::Abort { .. } | Record::Outcome { .. } => None,
     }
 }

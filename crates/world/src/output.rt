@@ -1,20 +1,23 @@
 //! What a run has put out: its messages, and the lines of its report.
-ghost use Rattle.std.specs.Prelude.{◌≡◌, ◌++◌, ◌∷◌, [], IfErr, OnOk, true, flat_map, option_to_list};
+ghost use Rattle.std.specs.Prelude.{◌≡◌, ◌||◌, ◌++◌, [], IfErr, OnOk, true, flat_map, option_to_list};
 ghost use Rattle.message.specs.declared.message.Envelope.{Envelope};
-ghost use Rattle.world.specs.Told.{ack_in, told_in, was_told};
+ghost use Rattle.units.specs.Ids.{Id};
+ghost use Rattle.world.specs.Among.{is_among};
+ghost use Rattle.world.specs.Told.{ack_in, told_in};
 
 use crate::Reply;
 use bag::Bag;
+use indexmap::IndexSet;
 use message::{Envelope, Message, Outbox};
 use std::alloc::Global;
 use units::{Fault, Key, Line, Stamp, TxnId, copy_value};
 
-/// The messages and the lines so far, the transactions whose commit was told to their sessions, each as often as it was, and
-/// the number of the event that is under way.
+/// The messages and the lines so far, the transactions whose commit was told to their sessions, and the number of the event
+/// that is under way.
 #[derive(Drop)]
 pub struct RunOutput {
     pub bag: Bag,
-    pub told: Vec<TxnId>,
+    pub told: IndexSet<TxnId>,
     pub lines: Vec<Line>,
     pub event: u64,
 }
@@ -26,11 +29,12 @@ impl RunOutput {
 
     /// Nothing was put out.
     pub fn new(alloc: Global) -> RunOutput
-        ensures { (result.bag ≡ []) × (result.told.items ≡ []) × (result.lines.items ≡ []) × (result.event ≡ 0) }
+        ensures { (result.bag ≡ []) × (result.told.keys ≡ []) × (result.lines.items ≡ [])
+            × (result.event ≡ 0) }
     {
         RunOutput {
             bag: Bag::new(alloc),
-            told: Vec::new(alloc),
+            told: IndexSet::new(alloc),
             lines: Vec::new(alloc),
             event: 0,
         }
@@ -83,17 +87,19 @@ impl RunOutput {
 
     /// Messages are put out. Each that is the first to tell a session that it committed is a line.
     pub fn put_out(&mut self, out: Outbox) -> Result<(), Fault>
-        ensures put { (w : World) → IsOutput self.old w → OnOk result (IsOutput self.new (put_out out w)) }
+        ensures put { (w : World) → IsOutput self.old w
+            → OnOk result (IsOutput self.new (put_out out w)) }
         ensures memory { IfErr result (λ fault. fault ≡ Fault.Memory) }
     {
         push_acknowledged(&mut self.lines, &self.told, self.event, out.as_slice())?;
-        push_told(&mut self.told, out.as_slice())?;
+        note_told(&mut self.told, out.as_slice())?;
         put_all(&mut self.bag, out)
     }
 
     /// A line is written.
     pub fn note(&mut self, line: Line) -> Result<(), Fault>
-        ensures noted { (w : World) → IsOutput self.old w → OnOk result (IsOutput self.new (note line w)) }
+        ensures noted { (w : World) → IsOutput self.old w
+            → OnOk result (IsOutput self.new (note line w)) }
         ensures memory { IfErr result (λ fault. fault ≡ Fault.Memory) }
     {
         self.lines.push(line)?;
@@ -115,11 +121,12 @@ fn put_all(bag: &mut Bag, out: Outbox) -> Result<(), Fault>
 // The acknowledgements among new messages.
 fn push_acknowledged(
     lines: &mut Vec<Line>,
-    told: &[TxnId],
+    told: &IndexSet<TxnId>,
     event: u64,
     out: &[Envelope],
 ) -> Result<(), Fault>
-    ensures lines { OnOk result (lines.new.items ≡ lines.old.items ++ flat_map (ack_in told.now event) out.now) }
+    ensures lines { OnOk result
+        (lines.new.items ≡ lines.old.items ++ flat_map (ack_in told.now.keys event) out.now) }
     ensures memory { IfErr result (λ fault. fault ≡ Fault.Memory) }
 {
     for envelope in out {
@@ -131,26 +138,27 @@ fn push_acknowledged(
 }
 
 // The transactions whose commit new messages tell.
-fn push_told(told: &mut Vec<TxnId>, out: &[Envelope]) -> Result<(), Fault>
-    ensures told { OnOk result (told.new.items ≡ told.old.items ++ flat_map told_in out.now) }
+fn note_told(told: &mut IndexSet<TxnId>, out: &[Envelope]) -> Result<(), Fault>
+    ensures told { (t : Id) → OnOk result (is_among told.new.keys t ≡
+        (is_among told.old.keys t || is_among (flat_map told_in out.now) t)) }
     ensures memory { IfErr result (λ fault. fault ≡ Fault.Memory) }
 {
     for envelope in out {
         if let Some(txn) = told_in(envelope) {
-            told.push(txn)?;
+            told.insert(txn)?;
         }
     }
     Ok(())
 }
 
 // The acknowledgement that a message is: the first that tells a session that it committed.
-fn acknowledged(told: &[TxnId], event: u64, envelope: &Envelope) -> Option<Line>
-    ensures { option_to_list result ≡ ack_in told.now event envelope.now }
+fn acknowledged(told: &IndexSet<TxnId>, event: u64, envelope: &Envelope) -> Option<Line>
+    ensures { option_to_list result ≡ ack_in told.now.keys event envelope.now }
 {
     match &envelope.message {
         Message::Done(done) => match done.outcome {
             Some(at) => {
-                if was_told(told, done.txn) {
+                if told.contains(&done.txn) {
                     None
                 } else {
                     Some(Line::Ack(done.txn, at, event))
@@ -160,18 +168,6 @@ fn acknowledged(told: &[TxnId], event: u64, envelope: &Envelope) -> Option<Line>
         },
         _ => None,
     }
-}
-
-// A session was told that it committed.
-fn was_told(told: &[TxnId], txn: TxnId) -> bool
-    ensures { result ≡ was_told told.now txn }
-{
-    for one in told {
-        if one.is(txn) {
-            return true;
-        }
-    }
-    false
 }
 
 // The transaction whose commit a message tells to its session.

@@ -13,7 +13,8 @@ returns-then-count-eq0 c =
     let acks = c.args.acks.now in
     let count : c.partition_point-count.result ≡ front (λ (a : Ack). nat_lt a.moment m) acks =
     point_is_front (λ a. nat_lt a.moment m) acks _ c.partition_point-count.ensures.bound
-    (IsPartitionPoint-from_clause (λ a. nat_lt a.moment m) _ _ c.partition_point-count.ensures.partitioned (earlier_first m acks c.requires) (λ a r q k. search rules)) in
+    (IsPartitionPoint-from_clause (λ a. nat_lt a.moment m) _ _ c.partition_point-count.ensures.partitioned (earlier_first m acks c.requires)
+    (λ a r q k. search rules)) in
     ap (λ n. last_reaches c.args.at false (take n acks)) (sym c.if-count-eq0.true ∙ count)
 
 pub returns : goal.returns
@@ -23,7 +24,8 @@ returns c =
     let n = c.partition_point-count.result in
     let count : n ≡ front (λ (a : Ack). nat_lt a.moment m) acks =
     point_is_front (λ a. nat_lt a.moment m) acks _ c.partition_point-count.ensures.bound
-    (IsPartitionPoint-from_clause (λ a. nat_lt a.moment m) _ _ c.partition_point-count.ensures.partitioned (earlier_first m acks c.requires) (λ a r q k. search rules)) in
+    (IsPartitionPoint-from_clause (λ a. nat_lt a.moment m) _ _ c.partition_point-count.ensures.partitioned (earlier_first m acks c.requires)
+    (λ a r q k. search rules)) in
     let some : 0 < n = omega (arith, c.if-count-eq0.false) in
     let within : n - 1 < length acks = omega (arith, c.if-count-eq0.false, c.partition_point-count.ensures.bound) in
     let none : Ack = record { moment = 0; at = 0 } in

@@ -18,6 +18,8 @@ returns c =
     let p = c.partition_point-first.result in
     run_is (λ (e : About). e.txn) (sample t) es c.requires p c.partition_point-count.result
     (point_is_front (λ e. older e.txn t) es p c.partition_point-first.ensures.bound
-    (IsPartitionPoint-from_clause (λ e. older e.txn t) _ _ c.partition_point-first.ensures.partitioned (older_first (λ (e : About). e.txn) (sample t) es c.requires) (λ a r q k. search rules)))
+    (IsPartitionPoint-from_clause (λ e. older e.txn t) _ _ c.partition_point-first.ensures.partitioned
+    (older_first (λ (e : About). e.txn) (sample t) es c.requires) (λ a r q k. search rules)))
     (point_is_front (λ e. not (older t e.txn)) (take (length es - p) (drop p es)) _ c.partition_point-count.ensures.bound
-    (IsPartitionPoint-from_clause (λ e. not (older t e.txn)) _ _ c.partition_point-count.ensures.partitioned (run_first (λ (e : About). e.txn) (sample t) es p c.requires) (λ a r q k. search rules)))
+    (IsPartitionPoint-from_clause (λ e. not (older t e.txn)) _ _ c.partition_point-count.ensures.partitioned
+    (run_first (λ (e : About). e.txn) (sample t) es p c.requires) (λ a r q k. search rules)))

@@ -6,7 +6,8 @@ use Rattle.findings.proofs.IdRuns.{sorted_ascends, stable_by_id}
 use Rattle.findings.proofs.entries.sort.Goals as goal
 
 pub returns-clause-order : goal.returns-clause-order
-returns-clause-order c = sorted_ascends (λ (e : About). e.txn) _ (c.in_ok-sort_by_key.ensures.sorted (λ e. e.txn) (answers_always _ _ _ (λ f a r g h. search rules)))
+returns-clause-order c = sorted_ascends (λ (e : About). e.txn) _ (c.in_ok-sort_by_key.ensures.sorted (λ e. e.txn)
+    (answers_always _ _ _ (λ f a r g h. search rules)))
 
 pub returns-clause-same : goal.returns-clause-same
 returns-clause-same c =

@@ -12,6 +12,8 @@ returns c =
     let p = c.partition_point-first.result in
     run_of_key k vs c.requires p c.partition_point-count.result
     (point_is_front (λ v. key_before v.write.key k) vs p c.partition_point-first.ensures.bound
-    (IsPartitionPoint-from_clause (λ v. key_before v.write.key k) _ _ c.partition_point-first.ensures.partitioned (keys_before k vs c.requires) (λ a r q k. search rules)))
+    (IsPartitionPoint-from_clause (λ v. key_before v.write.key k) _ _ c.partition_point-first.ensures.partitioned (keys_before k vs c.requires)
+    (λ a r q k. search rules)))
     (point_is_front (λ v. not (key_before k v.write.key)) (take (length vs - p) (drop p vs)) _ c.partition_point-count.ensures.bound
-    (IsPartitionPoint-from_clause (λ v. not (key_before k v.write.key)) _ _ c.partition_point-count.ensures.partitioned (keys_not_after k vs p c.requires) (λ a r q k. search rules)))
+    (IsPartitionPoint-from_clause (λ v. not (key_before k v.write.key)) _ _ c.partition_point-count.ensures.partitioned (keys_not_after k vs p c.requires)
+    (λ a r q k. search rules)))

@@ -7,4 +7,6 @@ use Rattle.findings.specs.Entries.{log_at}
 use Rattle.findings.proofs.whole.ends_aborted.Given as goal
 
 abbrev pub invariant-loop-entry : goal.invariant-loop-entry
-invariant-loop-entry l = list_any (λ e. same_id e.txn l.txn && not (when (λ s. true) e.outcome)) (gather as_ended (log_at l.number (drop l.entry-index l.entries))) ≡ list_any (λ e. same_id e.txn l.txn && not (when (λ s. true) e.outcome)) (gather as_ended (log_at l.number l.entries))
+invariant-loop-entry l = list_any (λ e. same_id e.txn l.txn && not (when (λ s. true) e.outcome))
+    (gather as_ended (log_at l.number (drop l.entry-index l.entries))) ≡ list_any (λ e. same_id e.txn l.txn && not (when (λ s. true) e.outcome))
+    (gather as_ended (log_at l.number l.entries))

@@ -4,4 +4,5 @@ use Rattle.findings.specs.Entries.{log_at}
 use Rattle.findings.proofs.whole.ends_at.Given as goal
 
 abbrev pub invariant-loop-entry : goal.invariant-loop-entry
-invariant-loop-entry l = outcomes_fit (log_at l.number (drop l.entry-index l.entries)) l.txn (nat_eq l.at) ≡ outcomes_fit (log_at l.number l.entries) l.txn (nat_eq l.at)
+invariant-loop-entry l = outcomes_fit (log_at l.number (drop l.entry-index l.entries)) l.txn (nat_eq l.at) ≡ outcomes_fit (log_at l.number l.entries) l.txn
+    (nat_eq l.at)

@@ -5,4 +5,5 @@ use Rattle.findings.specs.Entries.{logs_from}
 use Rattle.findings.proofs.whole.never_ends.Given as goal
 
 abbrev pub invariant-loop-number : goal.invariant-loop-number
-invariant-loop-number l = list_all (λ q. outcomes_fit q l.txn (λ s. false)) (logs_from (l.count - l.number) l.number l.entries) ≡ list_all (λ q. outcomes_fit q l.txn (λ s. false)) (logs_from l.count 0 l.entries)
+invariant-loop-number l = list_all (λ q. outcomes_fit q l.txn (λ s. false)) (logs_from (l.count - l.number) l.number l.entries) ≡ list_all
+    (λ q. outcomes_fit q l.txn (λ s. false)) (logs_from l.count 0 l.entries)

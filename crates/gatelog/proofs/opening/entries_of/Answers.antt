@@ -5,7 +5,8 @@ use Rattle.record.specs.Grammar.{spelling}
 use Rattle.gatelog.specs.Frames.{end_of, header}
 use Rattle.gatelog.specs.Log.{scan, framed, entries_at}
 use Rattle.gatelog.proofs.Scan.{with_entries, with_entries-nil, scan_from}
-use Rattle.gatelog.proofs.Reading.{no_header, too_short, to_end, differ, agree, closed_there, damaged_there, still_inside, goes_on_behind, frame_more, ends_there}
+use Rattle.gatelog.proofs.Reading.{no_header, too_short, to_end, differ, agree, closed_there, damaged_there, still_inside, goes_on_behind, frame_more}
+use Rattle.gatelog.proofs.Reading.{ends_there}
 use Rattle.gatelog.proofs.opening.entries_of.Goals as goal
 
 pub returns-then-image-clause-refused : goal.returns-then-image-clause-refused

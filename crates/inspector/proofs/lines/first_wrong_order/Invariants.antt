@@ -6,4 +6,5 @@ use Rattle.inspector.specs.Faults.{first_late}
 use Rattle.inspector.proofs.lines.first_wrong_order.Given as goal
 
 abbrev pub invariant-loop-place : goal.invariant-loop-place
-invariant-loop-place l = head (gather (λ q. option_map (λ j. (q.0, j)) (first_late l.history l.lines q.1)) (numbered l.place (drop l.place l.lines))) ≡ first_wrong_order l.history l.lines
+invariant-loop-place l = head (gather (λ q. option_map (λ j. (q.0, j)) (first_late l.history l.lines q.1)) (numbered l.place (drop l.place l.lines))) ≡
+    first_wrong_order l.history l.lines

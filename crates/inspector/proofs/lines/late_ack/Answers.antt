@@ -19,5 +19,9 @@ returns-else-is_late_by c =
     ∙ sym c.is_late_by.ensures
     ∙ c.if-is_late_by.false in
     sym (none_late m u.at 0 lines none)
-    ∙ ap (λ (o : Option Txn). head (elim o as (λ x. List ℕ) [ None ↦ [] | Some v ↦ gather (λ l. cond (is_late_ack m v.at l.1) (Some (l.0)) None) (numbered 0 lines) ])) c.in-Some.ensures
+    ∙ ap (λ (o : Option Txn). head (elim o as (λ x. List ℕ) [
+      | None ↦ []
+      | Some v ↦ gather (λ l. cond (is_late_ack m v.at l.1) (Some (l.0)) None)
+          (numbered 0 lines)
+    ])) c.in-Some.ensures
     ∙ ap (λ l. first_late h lines l) (sym c.in-Begin.is)

@@ -14,7 +14,8 @@ returns c =
     c.value_before_place.ensures
     ∙ shown_before c.args.reader.now ts c.args.versions.now k _ c.requires.serial (c.requires.same k)
     (point_is_front (λ t. serial_before t c.args.reader.now) ts _ c.partition_point-place.ensures.bound
-    (IsPartitionPoint-from_clause (λ t. serial_before t c.args.reader.now) _ _ c.partition_point-place.ensures.partitioned (partitioned_before c.args.reader.now ts c.requires.serial) (λ a r q k. search rules)))
+    (IsPartitionPoint-from_clause (λ t. serial_before t c.args.reader.now) _ _ c.partition_point-place.ensures.partitioned
+    (partitioned_before c.args.reader.now ts c.requires.serial) (λ a r q k. search rules)))
 
 pub value_before_place-requires-clause-places : goal.value_before_place-requires-clause-places
 value_before_place-requires-clause-places c =

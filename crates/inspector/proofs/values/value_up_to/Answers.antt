@@ -13,7 +13,8 @@ returns c =
     c.value_before_place.ensures
     ∙ shown_up_to c.args.at ts c.args.versions.now k _ c.requires.serial (c.requires.same k)
     (point_is_front (λ t. nat_le t.at c.args.at) ts _ c.partition_point-place.ensures.bound
-    (IsPartitionPoint-from_clause (λ t. nat_le t.at c.args.at) _ _ c.partition_point-place.ensures.partitioned (partitioned_up_to c.args.at ts c.requires.serial) (λ a r q k. search rules)))
+    (IsPartitionPoint-from_clause (λ t. nat_le t.at c.args.at) _ _ c.partition_point-place.ensures.partitioned
+    (partitioned_up_to c.args.at ts c.requires.serial) (λ a r q k. search rules)))
 
 pub value_before_place-requires-clause-places : goal.value_before_place-requires-clause-places
 value_before_place-requires-clause-places c =

@@ -10,7 +10,8 @@ use Rattle.inspector.proofs.verdict.verdict_on_lines.Goals as goal
 pub line_fault-requires-clause-serial : goal.line_fault-requires-clause-serial
 line_fault-requires-clause-serial c =
     let logs : List (List Record) = map (λ log. log.items) c.args.logs.now in
-    let same : HaveSame c.put_by_id.new.found.items (history logs) = subst (λ (h : List Txn). HaveSame c.put_by_id.new.found.items h) c.in_ok-by_id.ensures.history c.in_ok-put_by_id.ensures.same in
+    let same : HaveSame c.put_by_id.new.found.items (history logs) = subst
+    (λ (h : List Txn). HaveSame c.put_by_id.new.found.items h) c.in_ok-by_id.ensures.history c.in_ok-put_by_id.ensures.same in
     c.deref-2.ensures.value
     ∙ c.in_ok-put_in_order.ensures.serial
     ∙ ap (λ (h : List Txn). serial h) c.in_ok-ordered.ensures.history
@@ -20,7 +21,8 @@ line_fault-requires-clause-serial c =
 pub returns-clause-fault : goal.returns-clause-fault
 returns-clause-fault c =
     let logs : List (List Record) = map (λ log. log.items) c.args.logs.now in
-    let same : HaveSame c.put_by_id.new.found.items (history logs) = subst (λ (h : List Txn). HaveSame c.put_by_id.new.found.items h) c.in_ok-by_id.ensures.history c.in_ok-put_by_id.ensures.same in
+    let same : HaveSame c.put_by_id.new.found.items (history logs) = subst
+    (λ (h : List Txn). HaveSame c.put_by_id.new.found.items h) c.in_ok-by_id.ensures.history c.in_ok-put_by_id.ensures.same in
     subst (λ (v : Verdict). IfOk c.line_fault.result (λ found. found ≡ v))
     (ap (λ (h : List Txn). line_fault h c.args.lines.now) c.deref.ensures.value ∙ same_fault c.put_by_id.new.found.items (history logs) same c.args.lines.now)
     c.line_fault.ensures.fault

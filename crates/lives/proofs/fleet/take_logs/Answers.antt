@@ -26,5 +26,6 @@ loop-alloc-preserved c =
           (λ setup s is. c.in_ok-disk.ensures.log setup s is) c.loop-alloc.invariant.0),
       subst (λ ds. AreOn ds (map (λ l. l.items) c.push-in-loop-alloc.new.self.items)) (sym c.in_ok-push.ensures.items)
           (subst (λ ls. AreOn (c.loop-alloc.disks.items ++ c.in_ok-disk.disk ∷ []) ls) more
-          (on_more c.loop-alloc.disks.items (map (λ l. l.items) c.loop-alloc.logs.items) c.in_ok-disk.disk log.items c.loop-alloc.invariant.1 c.in_ok-disk.ensures.disk)),
+          (on_more c.loop-alloc.disks.items (map
+          (λ l. l.items) c.loop-alloc.logs.items) c.in_ok-disk.disk log.items c.loop-alloc.invariant.1 c.in_ok-disk.ensures.disk)),
     )

@@ -31,5 +31,6 @@ pub returns-in-Err-open : goal.returns-in-Err-open
 returns-in-Err-open c =
     subst (λ t. OpensDisk c.args.disk t c.args.call (Down c.arm-in-Err-open.new.self) (Err c.in-Err-open.fault)) c.in-Ok.ensures.same
     (λ s h down taken.
-    not_opened c.args.disk c.arm.new.self c.args.call (c.arm.ensures.plan tt) c.arm.ensures.same c.in-Ok.told s h down taken c.in-Err-open.fault c.in-Err-open.back
+    not_opened c.args.disk c.arm.new.self c.args.call
+    (c.arm.ensures.plan tt) c.arm.ensures.same c.in-Ok.told s h down taken c.in-Err-open.fault c.in-Err-open.back
     c.arm-in-Err-open.new.self (c.arm-in-Err-open.ensures.plan tt) c.arm-in-Err-open.ensures.same c.in-Err-open.ensures.refused)

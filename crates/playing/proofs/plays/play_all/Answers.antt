@@ -11,7 +11,8 @@ returns-in_err-reply c config h =
     let within : n < length c.args.events.now = omega (arith, c.loop-number-test.true) in
     none_next config c.args.events.now n c.index-events-number.result within c.index-events-number.is c.loop-number.run c.take.new.self
     c.loop-number.replies.items c.loop-number.counts.items
-    (c.loop-number.invariant config h) c.in_err-reply.field-0.0 c.from_residual.result c.loop-number.replies.items c.loop-number.counts.items (search rules) c.in_err-reply.ensures
+    (c.loop-number.invariant config h) c.in_err-reply.field-0.0 c.from_residual.result c.loop-number.replies.items c.loop-number.counts.items
+    (search rules) c.in_err-reply.ensures
 
 pub loop-number-preserved : goal.loop-number-preserved
 loop-number-preserved c config h =
@@ -19,5 +20,6 @@ loop-number-preserved c config h =
     let within : n < length c.args.events.now = omega (arith, c.loop-number-test.true) in
     next_played config c.args.events.now n c.index-events-number.result within c.index-events-number.is c.loop-number.run c.take.new.self
     c.loop-number.replies.items c.loop-number.counts.items
-    (c.loop-number.invariant config h) c.in_ok-reply.reply (length c.as_slice.result.now) c.push.new.self.items c.push-in-loop-number.new.self.items c.in_ok-push.ensures.items
+    (c.loop-number.invariant config h) c.in_ok-reply.reply
+    (length c.as_slice.result.now) c.push.new.self.items c.push-in-loop-number.new.self.items c.in_ok-push.ensures.items
     c.in_ok-push-2.ensures.items (ap length c.as_slice.ensures) c.in_ok-reply.ensures

@@ -5,7 +5,8 @@ pub invariant_of-self-in-Installed : goal.invariant_of-self-in-Installed
 invariant_of-self-in-Installed c =
     let inv = c.self.invariant in
     let s = c.self.inside in
-    let taken = takes_install s.versions.installs c.add_version.new.versions.installs s.list.entries s.ahead.entries c.add.new.self.entries c.args.entry.now c.in-Installed.install s.prepared_safe
+    let taken = takes_install s.versions.installs c.add_version.new.versions.installs s.list.entries s.ahead.entries c.add.new.self.entries c.args.entry.now
+    c.in-Installed.install s.prepared_safe
     c.in-Installed.is c.add.ensures.0 inv.1 inv.2 c.in_ok-add_version-in-Installed.ensures.added inv.4 in
     (inv.0, taken.0, taken.1, inv.3, taken.2)
 
@@ -13,5 +14,6 @@ pub invariant_of-self-in-Safe : goal.invariant_of-self-in-Safe
 invariant_of-self-in-Safe c =
     let inv = c.self.invariant in
     let s = c.self.inside in
-    let taken = takes_safe s.versions.installs s.list.entries s.ahead.entries c.add-in-Safe.new.self.entries c.args.entry.now c.in-Safe.at c.in-Safe.is c.add-in-Safe.ensures.0 inv.1 inv.2 in
+    let taken = takes_safe s.versions.installs s.list.entries s.ahead.entries c.add-in-Safe.new.self.entries c.args.entry.now c.in-Safe.at c.in-Safe.is
+    c.add-in-Safe.ensures.0 inv.1 inv.2 in
     (inv.0, taken.0, taken.1, inv.3, taken.2)

@@ -10,7 +10,8 @@ pub returns-then-at-len-clause-crashed : goal.returns-then-at-len-clause-crashed
 returns-then-at-len-clause-crashed c config ss h orderly =
     let s = c.args.self.now in
     let over : length s.shards.items ≤ c.args.shard = omega (arith, c.if-at-len.true, c.number-at.ensures.same, c.len.ensures, s.shards.ok.0) in
-    nothing_crashes config s ss c.args.shard (λ (t : ShardNow). crashed_in t c.args.call c.args.fate c.args.doing.now (effect (setup_of config c.args.shard) c.args.bag.now t c.args.doing.now)) h over
+    nothing_crashes config s ss c.args.shard (λ (t : ShardNow). crashed_in t c.args.call c.args.fate c.args.doing.now
+    (effect (setup_of config c.args.shard) c.args.bag.now t c.args.doing.now)) h over
 
 pub returns-clause-crashed : goal.returns-clause-crashed
 returns-clause-crashed c config ss h orderly =
@@ -21,5 +22,8 @@ returns-clause-crashed c config ss h orderly =
     let there : slice_get s.shards.items c.args.shard ≡ Some before =
     ap (λ n. slice_get s.shards.items n) (sym c.number-at.ensures.same)
     ∙ slice_get_read s.shards.items _ c.number-at.result before refl lt c.index_mut.ensures.value in
-    crash_there config ss c.args.shard s new before c.crash_in.new.self h refl (ap (λ n. set s.shards.items n c.crash_in.new.self) c.number-at.ensures.same) there
-    (λ (t : ShardNow). crashed_in t c.args.call c.args.fate c.args.doing.now (effect (setup_of config c.args.shard) c.args.bag.now t c.args.doing.now)) c.crash_in.result (λ t is k. c.crash_in.ensures.crashed (setup_of config c.args.shard) t k (orderly t is))
+    crash_there config ss c.args.shard s new before c.crash_in.new.self h refl
+    (ap (λ n. set s.shards.items n c.crash_in.new.self) c.number-at.ensures.same) there
+    (λ (t : ShardNow). crashed_in t c.args.call c.args.fate c.args.doing.now
+    (effect (setup_of config c.args.shard) c.args.bag.now t c.args.doing.now)) c.crash_in.result
+    (λ t is k. c.crash_in.ensures.crashed (setup_of config c.args.shard) t k (orderly t is))

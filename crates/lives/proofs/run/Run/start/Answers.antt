@@ -1,4 +1,5 @@
-use Rattle.std.proofs.Common.{refl}
+use Rattle.std.proofs.Common.{refl, ap}
+use Rattle.world.specs.Among.{is_among}
 use Rattle.world.specs.World.{start}
 use Rattle.lives.proofs.run.Run.start.Goals as goal
 
@@ -7,6 +8,6 @@ unfolding start
 returns-clause-started c = record {
   sessions = c.none.ensures;
   shards = c.in_ok-start.ensures.started;
-  output = record { bag = c.new.ensures.0; told = c.new.ensures.1; lines = c.new.ensures.2; event = c.new.ensures.3 };
+  output = record { bag = c.new.ensures.0; told = λ t. ap (λ ids. is_among ids t) c.new.ensures.1; lines = c.new.ensures.2; event = c.new.ensures.3 };
   time = refl;
 }

@@ -19,4 +19,8 @@ pub returns-in-Err-clause-memory : goal.returns-in-Err-clause-memory
 returns-in-Err-clause-memory c setup s h =
     let holds = c.into_disk.ensures setup s h in
     no_fault s c.into_disk.result c.in-Err.fault holds
-    (elim (c.in-Err.ensures.refused_planned tt (waits_for_none c.into_disk.result holds.never)).1 [ inl memory ↦ inl memory | inr none ↦ inr (none.0, none.1 tt) ])
+    (elim (c.in-Err.ensures.refused_planned tt (waits_for_none c.into_disk.result holds.never)).1 [
+      | inl memory ↦ inl memory
+      | inr none ↦ inr
+          (none.0, none.1 tt)
+    ])

@@ -18,7 +18,8 @@ invariant_of-result g c =
     record {
       in_step = opened_desk core.facts.installs c.installs.result.now c.installs-handed.result.now
           (safe_at core) c.safe.result c.in-Ok-start.publisher.published c.in-Ok-start.publisher.pending
-          c.is_sound.ensures.showable.installs c.installs-handed.ensures c.installs.ensures c.safe.ensures c.in-Ok-start.ensures.publisher.0 c.in-Ok-start.ensures.publisher.1;
+          c.is_sound.ensures.showable.installs c.installs-handed.ensures c.installs.ensures c.safe.ensures c.in-Ok-start.ensures.publisher.0
+          c.in-Ok-start.ensures.publisher.1;
     }
 
 pub returns-in-Ok-start-clause-board : goal.returns-in-Ok-start-clause-board

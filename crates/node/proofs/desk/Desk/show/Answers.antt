@@ -24,5 +24,6 @@ invariant_of-self-2 g c =
     (λ t. record one { pending = one.pending ++ Safe t ∷ [] }) c.safe.ensures in
     record {
       in_step = published_in_step core.facts.installs
-          (safe_at core) c.hand_over.new.handed one two c.publish.new.self c.in_ok-hand_over.ensures.step c.in_ok-hand_over.ensures.all ends c.publish.result c.publish.ensures;
+          (safe_at core) c.hand_over.new.handed one two c.publish.new.self c.in_ok-hand_over.ensures.step c.in_ok-hand_over.ensures.all ends c.publish.result
+          c.publish.ensures;
     }

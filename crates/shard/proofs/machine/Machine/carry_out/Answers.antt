@@ -75,6 +75,7 @@ returns-in-Ok-append_record g c =
     done.new.self.memory done.ensures.memory in
     let after = carried (plan_of k.memory.rows c.args.plan) k.memory in
     logged_as g.D.Disk.keeps_model g.D.Disk.obeys g.D.Disk.file g.D.Disk.clock g.D.Disk.since g.D.Disk.failures g.D.Disk.plan g.met.D.Disk.only_now
-    (seen_machine c.args.self.now) c.requires.running c.requires.stands _ c.in-Some.item c.args.plan.logged after c.args.plan.outbox _ c.in-Some.is done.ensures.outbox
+    (seen_machine c.args.self.now) c.requires.running c.requires.stands _ c.in-Some.item c.args.plan.logged after c.args.plan.outbox _ c.in-Some.is
+    done.ensures.outbox
     (done.ensures.setup ∙ c.in-Ok.ensures.ready.setup) (facts ∙ ap (facts_after k.facts) c.in-Some.is) memory a.running.1 a.failures_stay
     a.any_moment a.durable a.read a.gate a.place (λ obey never. (a.planned obey never).0) (λ call run obey keep is. (a.armed call run obey keep is).0)

@@ -39,6 +39,7 @@ returns-clause-refused g c = by_result c.plan_input.result c.plan_input.ensures.
         let k = c.args.self.now.state in
         let planning = plan_input k.setup (start_of k) c.args.now.now c.args.input.now in
         refused g.D.Disk.keeps_model g.D.Disk.obeys g.D.Disk.file g.D.Disk.clock g.D.Disk.since g.D.Disk.failures g.D.Disk.plan g.met.D.Disk.only_now
-        (seen_machine c.args.self.now) (sym c.if-is_stopped.ensures.value) (λ keeps image may. ap items_of (c.if-is_stopped.ensures.stands refl keeps image may))
+        (seen_machine c.args.self.now) (sym c.if-is_stopped.ensures.value)
+        (λ keeps image may. ap items_of (c.if-is_stopped.ensures.stands refl keeps image may))
         k.setup k.facts k.memory refl refl refl planning fault
         (refusal_is_no_device planning fault (c.own_refusals.ensures k.setup (start_of k) c.args.now.now c.args.input.now) planned) planned

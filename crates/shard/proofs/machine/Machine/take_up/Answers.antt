@@ -14,7 +14,8 @@ pub carry_out-requires-clause-due : goal.carry_out-requires-clause-due
 carry_out-requires-clause-due g c =
     let k = c.args.state in
     let epoch : c.in-Ok.epoch ≡ k.facts.epoch + 1 = c.in-Ok.ensures.0 ∙ ap (λ n. n + 1) c.epoch.ensures in
-    opening_due c.opening_keeps_sound.ensures k c.serves-plan.result c.last-last.result c.requires.rebuilt c.requires.sound c.requires.showable c.last-last.ensures
+    opening_due c.opening_keeps_sound.ensures k c.serves-plan.result c.last-last.result c.requires.rebuilt c.requires.sound c.requires.showable
+    c.last-last.ensures
     c.serves-plan.ensures.fit
     (c.serves-plan.ensures.plan ∙ ap (λ n. record {
       wounded = [];

@@ -77,7 +77,8 @@ returns-in-Ok-Some-clause-opened g c =
     let k = c.in-Ok-Some.state in
     let rs = items c.deref-2.result.now in
     through c.take_up.result c.with_book.result (λ core. core.machine) (λ core. book_of core ≡ c.in-Ok.book)
-    (λ machine. HasOpened g.D.Disk.keeps_model g.D.Disk.obeys g.D.Disk.file g.D.Disk.clock g.D.Disk.since g.D.Disk.failures g.D.Disk.plan c.args.disk c.args.setup (seen_machine machine)) c.with_book.ensures.made
+    (λ machine. HasOpened g.D.Disk.keeps_model g.D.Disk.obeys g.D.Disk.file g.D.Disk.clock g.D.Disk.since g.D.Disk.failures g.D.Disk.plan c.args.disk
+    c.args.setup (seen_machine machine)) c.with_book.ensures.made
     (from_four c.take_up.result _ _ _ _ _
     (λ core setup facts memory appended.
     opened g.D.Disk.keeps_model g.D.Disk.obeys g.D.Disk.file g.D.Disk.clock g.D.Disk.since g.D.Disk.failures g.D.Disk.plan c.args.disk
@@ -102,7 +103,9 @@ returns-in-Ok-Some-clause-refused g c =
     subst (IsRebuilt c.args.setup (items c.deref-2.result.now)) c.in-Ok-Some.field-0-is c.in-Ok-Some.ensures.found in
     let k = c.in-Ok-Some.state in
     let rs = items c.deref-2.result.now in
-    not-through c.take_up.result c.with_book.result (λ refused. HasNotOpened g.D.Disk.keeps_model g.D.Disk.obeys g.D.Disk.file g.D.Disk.clock g.D.Disk.since g.D.Disk.failures g.D.Disk.plan c.args.disk c.args.setup refused.0 refused.1) c.with_book.ensures.refused
+    not-through c.take_up.result c.with_book.result
+    (λ refused. HasNotOpened g.D.Disk.keeps_model g.D.Disk.obeys g.D.Disk.file g.D.Disk.clock g.D.Disk.since g.D.Disk.failures g.D.Disk.plan c.args.disk
+    c.args.setup refused.0 refused.1) c.with_book.ensures.refused
     (IfErr-weaker c.take_up.result _ _
     (λ refused h.
     not_opened g.D.Disk.keeps_model g.D.Disk.obeys g.D.Disk.file g.D.Disk.clock g.D.Disk.since g.D.Disk.failures g.D.Disk.plan c.args.disk
@@ -122,15 +125,18 @@ returns-in-Ok-None-clause-opened g c =
       failures_stay = c.in_ok-gate_log.ensures.failures_stay;
       planned = λ obey never. (c.in_ok-gate_log.ensures.planned obey never).0;
     } in
-    let empty : items c.deref-2.result.now ≡ [] = subst (IsRebuilt c.args.setup (items c.deref-2.result.now)) c.in-Ok-None.field-0-is c.in-Ok-None.ensures.found in
+    let empty : items c.deref-2.result.now ≡ [] = subst (IsRebuilt c.args.setup
+    (items c.deref-2.result.now)) c.in-Ok-None.field-0-is c.in-Ok-None.ensures.found in
     let first : Record.Opened 1 ≡ next_opening (items c.deref-2.result.now) = first_is (items c.deref-2.result.now) empty in
     through c.begin.result c.with_book-in-Ok-None.result (λ core. core.machine) (λ core. book_of core ≡ c.in-Ok.book)
-    (λ machine. HasOpened g.D.Disk.keeps_model g.D.Disk.obeys g.D.Disk.file g.D.Disk.clock g.D.Disk.since g.D.Disk.failures g.D.Disk.plan c.args.disk c.args.setup (seen_machine machine)) c.with_book-in-Ok-None.ensures.made
+    (λ machine. HasOpened g.D.Disk.keeps_model g.D.Disk.obeys g.D.Disk.file g.D.Disk.clock g.D.Disk.since g.D.Disk.failures g.D.Disk.plan c.args.disk
+    c.args.setup (seen_machine machine)) c.with_book-in-Ok-None.ensures.made
     (from_four c.begin.result _ _ _ _ _
     (λ core setup facts memory appended.
     opened g.D.Disk.keeps_model g.D.Disk.obeys g.D.Disk.file g.D.Disk.clock g.D.Disk.since g.D.Disk.failures g.D.Disk.plan c.args.disk
     (disk_of c.in_ok-gate_log.gate_log) (gate_at c.in_ok-gate_log.gate_log) c.deref-2.result.now found
-    c.args.setup (Record.Opened 1) (seen_machine core) first appended setup (memory ∙ first_memory (seen_machine core).facts facts) c.in-Ok-None.ensures.accepted
+    c.args.setup (Record.Opened 1) (seen_machine core) first appended setup
+    (memory ∙ first_memory (seen_machine core).facts facts) c.in-Ok-None.ensures.accepted
     (facts ∙ ap facts_of (first_records (items c.deref-2.result.now) empty)))
     c.begin.ensures.setup c.begin.ensures.facts c.begin.ensures.memory c.begin.ensures.appended)
 
@@ -145,9 +151,12 @@ returns-in-Ok-None-clause-refused g c =
       failures_stay = c.in_ok-gate_log.ensures.failures_stay;
       planned = λ obey never. (c.in_ok-gate_log.ensures.planned obey never).0;
     } in
-    let empty : items c.deref-2.result.now ≡ [] = subst (IsRebuilt c.args.setup (items c.deref-2.result.now)) c.in-Ok-None.field-0-is c.in-Ok-None.ensures.found in
+    let empty : items c.deref-2.result.now ≡ [] = subst (IsRebuilt c.args.setup
+    (items c.deref-2.result.now)) c.in-Ok-None.field-0-is c.in-Ok-None.ensures.found in
     let first : Record.Opened 1 ≡ next_opening (items c.deref-2.result.now) = first_is (items c.deref-2.result.now) empty in
-    not-through c.begin.result c.with_book-in-Ok-None.result (λ refused. HasNotOpened g.D.Disk.keeps_model g.D.Disk.obeys g.D.Disk.file g.D.Disk.clock g.D.Disk.since g.D.Disk.failures g.D.Disk.plan c.args.disk c.args.setup refused.0 refused.1) c.with_book-in-Ok-None.ensures.refused
+    not-through c.begin.result c.with_book-in-Ok-None.result
+    (λ refused. HasNotOpened g.D.Disk.keeps_model g.D.Disk.obeys g.D.Disk.file g.D.Disk.clock g.D.Disk.since g.D.Disk.failures g.D.Disk.plan c.args.disk
+    c.args.setup refused.0 refused.1) c.with_book-in-Ok-None.ensures.refused
     (IfErr-weaker c.begin.result _ _
     (λ refused h.
     not_opened g.D.Disk.keeps_model g.D.Disk.obeys g.D.Disk.file g.D.Disk.clock g.D.Disk.since g.D.Disk.failures g.D.Disk.plan c.args.disk
@@ -168,7 +177,8 @@ returns-in-Err-rebuild-clause-refused g c =
       planned = λ obey never. (c.in_ok-gate_log.ensures.planned obey never).0;
     } in
     not_rebuilt g.D.Disk.keeps_model g.D.Disk.obeys g.D.Disk.file g.D.Disk.clock g.D.Disk.since g.D.Disk.failures g.D.Disk.plan c.args.disk
-    (disk_of c.in_ok-gate_log.gate_log) (gate_at c.in_ok-gate_log.gate_log) c.deref-2.result.now found c.args.setup c.in-Err-rebuild.fault c.into_disk-in-Err-rebuild.result
+    (disk_of c.in_ok-gate_log.gate_log)
+    (gate_at c.in_ok-gate_log.gate_log) c.deref-2.result.now found c.args.setup c.in-Err-rebuild.fault c.into_disk-in-Err-rebuild.result
     c.into_disk-in-Err-rebuild.ensures c.in-Err-rebuild.ensures.refused
 
 pub with_book-requires : goal.with_book-requires

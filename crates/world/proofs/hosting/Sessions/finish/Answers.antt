@@ -1,6 +1,6 @@
-use Rattle.std.proofs.Common.{slice_set, ◌<◌, ◌≤◌, length, ap, ◌∙◌, arith}
+use Rattle.std.proofs.Common.{slice_set, refl, ◌<◌, ◌≤◌, length, ap, ◌∙◌, arith}
 use Rattle.world.specs.Held.{when_closing}
-use Rattle.world.proofs.Hosted.{apart_in, id_there, moves_in, none_moves, place_of, set_again}
+use Rattle.world.proofs.Hosted.{ids_in, id_there, moves_in, none_moves, place_of, set_again}
 use Rattle.world.proofs.hosting.Sessions.finish.Goals as goal
 
 pub returns-then-at-len : goal.returns-then-at-len
@@ -14,7 +14,7 @@ returns-then-at-len c splits cs h =
       ap length c.deref.ensures.value,
     ) in
     none_moves splits s cs c.args.done.now.txn c.place-at.result (when_closing) h (c.place-at.ensures.place
-    (apart_in splits s cs c.deref.result.now h c.deref.ensures.value) ∙ ap (λ bs. place_of bs c.args.done.now.txn) c.deref.ensures.value) over
+    (ids_in splits s cs c.deref.result.now h c.deref.ensures.value) ∙ ap (λ bs. place_of bs c.args.done.now.txn) c.deref.ensures.value) over
 
 pub returns : goal.returns
 returns c splits cs h =
@@ -26,10 +26,10 @@ returns c splits cs h =
       c.deref.ensures.len,
       ap length c.deref.ensures.value,
     ) in
-    moves_in splits s (record { splits = s.splits; begun = c.put.new.begun }) cs c.args.done.now.txn c.place-at.result c.take-begun.result
+    moves_in splits s (record { splits = s.splits; ids = s.ids; begun = c.put.new.begun }) cs c.args.done.now.txn c.place-at.result c.take-begun.result
     c.finish-begun.result.0 h
-    (c.place-at.ensures.place (apart_in splits s cs c.deref.result.now h c.deref.ensures.value)
-    ∙ ap (λ bs. place_of bs c.args.done.now.txn) c.deref.ensures.value) within c.take-begun.ensures.taken h.splits_are
+    (c.place-at.ensures.place (ids_in splits s cs c.deref.result.now h c.deref.ensures.value)
+    ∙ ap (λ bs. place_of bs c.args.done.now.txn) c.deref.ensures.value) within c.take-begun.ensures.taken h.splits_are refl
     (c.put.ensures ∙ ap (λ bs. slice_set bs c.place-at.result c.finish-begun.result.0) c.take-begun.ensures.rest
     ∙ set_again s.begun.items c.place-at.result _ _)
     (when_closing) c.finish-begun.result.1 (λ d begun. c.finish-begun.ensures splits d begun)

@@ -1,7 +1,7 @@
-use Rattle.std.proofs.Common.{slice_set, ◌<◌, ◌≤◌, length, ap, ◌∙◌, arith}
+use Rattle.std.proofs.Common.{slice_set, refl, ◌<◌, ◌≤◌, length, ap, ◌∙◌, arith}
 use Rattle.session.specs.Sessions.{gives_up}
 use Rattle.world.specs.Held.{when_not_over}
-use Rattle.world.proofs.Hosted.{apart_in, moves_in, none_moves, place_of, set_again}
+use Rattle.world.proofs.Hosted.{ids_in, moves_in, none_moves, place_of, set_again}
 use Rattle.world.proofs.hosting.Sessions.quit.Goals as goal
 
 pub returns-then-at-len : goal.returns-then-at-len
@@ -15,7 +15,7 @@ returns-then-at-len c splits cs h =
       ap length c.deref.ensures.value,
     ) in
     none_moves splits s cs c.args.txn c.place-at.result (when_not_over (gives_up splits)) h
-    (c.place-at.ensures.place (apart_in splits s cs c.deref.result.now h c.deref.ensures.value)
+    (c.place-at.ensures.place (ids_in splits s cs c.deref.result.now h c.deref.ensures.value)
     ∙ ap (λ bs. place_of bs c.args.txn) c.deref.ensures.value) over
 
 pub returns : goal.returns
@@ -28,8 +28,9 @@ returns c splits cs h =
       c.deref.ensures.len,
       ap length c.deref.ensures.value,
     ) in
-    moves_in splits s (record { splits = s.splits; begun = c.put.new.begun }) cs c.args.txn c.place-at.result c.take-begun.result c.quit-begun.result.0 h
-    (c.place-at.ensures.place (apart_in splits s cs c.deref.result.now h c.deref.ensures.value)
-    ∙ ap (λ bs. place_of bs c.args.txn) c.deref.ensures.value) within c.take-begun.ensures.taken h.splits_are
+    moves_in splits s
+    (record { splits = s.splits; ids = s.ids; begun = c.put.new.begun }) cs c.args.txn c.place-at.result c.take-begun.result c.quit-begun.result.0 h
+    (c.place-at.ensures.place (ids_in splits s cs c.deref.result.now h c.deref.ensures.value)
+    ∙ ap (λ bs. place_of bs c.args.txn) c.deref.ensures.value) within c.take-begun.ensures.taken h.splits_are refl
     (c.put.ensures ∙ ap (λ bs. slice_set bs c.place-at.result c.quit-begun.result.0) c.take-begun.ensures.rest ∙ set_again s.begun.items c.place-at.result _ _)
     (when_not_over (gives_up splits)) c.quit-begun.result.1 (λ d begun. c.quit-begun.ensures splits d begun)

@@ -1,0 +1,38 @@
+//! The command `drive`: shards and workers in threads.
+ghost use Rattle.std.specs.Prelude.{◌≡◌, ◌⊎◌, ◌<◌, List, ℕ, None, IfOk, IfErr};
+ghost use Rattle.std.specs.Io.KnownBytes.{Appends};
+ghost use Rattle.output.specs.Failures.{FailsFor};
+ghost use Rattle.output.specs.Streams.{failures_of, writer_of};
+
+use output::{Failure, Stream, status_of};
+use settings::Settings;
+use std::alloc::Global;
+use std::io::Write;
+use system::{Driven, System, read_text};
+use units::{Fault, Reason};
+
+/// Drives shards and workers by the settings of a file, and prints what came of it. Gives 0, or 1 where the verdict is a no.
+pub fn drive<S: System, O: Write>(
+    alloc: Global,
+    file: &str,
+    system: &S,
+    out: &mut Stream<O>,
+) -> Result<u8, Failure>
+    ensures status { IfOk result (λ status. (status ≡ 0) ⊎ (status ≡ 1)) }
+    ensures printed { IfOk result
+        (λ status. (text : List ℕ)
+        × Appends (O.contents (writer_of out.old)) (O.contents (writer_of out.new)) text) }
+    ensures failures { IfErr result
+        (λ failure. FailsFor (failures_of out.old < failures_of out.new) failure None) }
+{
+    let driven = drive_by(alloc, file, system)?;
+    out.print(&driven.text)?;
+    Ok(status_of(driven.verdict))
+}
+
+// What came of a drive by the settings of a file.
+fn drive_by<S: System>(alloc: Global, file: &str, system: &S) -> Result<Driven, Fault> {
+    let text = read_text(alloc, system, file, Reason::Settings)?;
+    let settings = Settings::read(alloc, &text)?;
+    system.drive(alloc, &settings)
+}

@@ -1,0 +1,160 @@
+-- What the parser found is the words of the line.
+use Rattle.std.proofs.Common.{◌≡◌, ◌∙◌, true, false, refl, sym, ap, List, [], ◌∷◌, Option, Some, None, codes, true≢false, ◌⊎◌, inl}
+use Rattle.std.specs.Prelude.{Box, option_map, Result, Ok, Err, MatchResult}
+use Rattle.std.specs.Box.{box_value}
+use Rattle.std.specs.Str.{bytes_eq}
+use Rattle.clap.proofs.WalkLemmas.{first_value-rows}
+use Rattle.clap.specs.Words.{Row, Text, all_of, first_of, first_value, rows_of, subcommand_rows, subcommand_rows_of}
+use Rattle.clap.specs.Matches.{subcommand_name_of}
+use Rattle.clap.specs.declared.parser.matches.ArgMatches.{ArgMatches}
+use Rattle.clap.specs.declared.parser.matches.ArgMatches.TheViews.{out-ArgMatches, out-SubCommand}
+use Rattle.clap.specs.declared.parser.matches.Found.{Found}
+use Rattle.clap.specs.declared.parser.matches.SubCommand.{SubCommand}
+use Rattle.units.specs.declared.fault.Fault.{Fault}
+use Rattle.units.specs.declared.fault.Fault.TheVariants.{BadRequest, Memory}
+use Rattle.units.specs.declared.fault.Reason.TheVariants.{Command as command_reason}
+use Rattle.command_line.specs.Lines.{CommandLine, Word, once, format, play, inspect, drive}
+use Rattle.command_line.specs.Parser.{entry_of, row}
+use Rattle.command_line.specs.Views.{line_view}
+use Rattle.command_line.specs.declared.parsing.Line.{Line}
+
+-- the name beside the rows is the name
+names_same : {Z : Type 0} (o : Option (Box SubCommand Z))
+    → option_map (λ (p : Text × List Row). p.0) (subcommand_rows o) ≡ option_map (λ b. (out-SubCommand (box_value b)).name.now) o
+names_same None = refl
+names_same (Some b) = refl
+
+pub named_as : (m : ArgMatches) (line : CommandLine) (name : Word) → subcommand_rows_of m ≡ Some (entry_of line)
+    → subcommand_name_of m ≡ Some name → (entry_of line).0 ≡ name
+named_as m line name e n =
+    let both : Some (entry_of line).0 ≡ Some name =
+    sym (ap (option_map (λ (p : Text × List Row). p.0)) e) ∙ names_same (out-ArgMatches m).subcommand ∙ n in
+    cc
+
+pub rows_are : (m : ArgMatches) (line : CommandLine) (inner : Found) → subcommand_rows_of m ≡ Some (entry_of line)
+    → option_map (λ (p : Text × List Row). p.1) (subcommand_rows_of m) ≡ Some (rows_of inner) → rows_of inner ≡ (entry_of line).1
+rows_are m line inner e r =
+    let both : Some (rows_of inner) ≡ Some (entry_of line).1 = sym r ∙ ap (option_map (λ (p : Text × List Row). p.1)) e in
+    cc
+
+-- two names that differ
+differ : (a b : Word) → bytes_eq a b ≡ false → bytes_eq b b ≡ true → a ≡ b → ⊥
+differ a b unlike like e = true≢false (sym like ∙ ap (λ x. bytes_eq x b) (sym e) ∙ unlike)
+
+-- the word is the one that the argument was given
+abbrev pub Reads : Found → Word → Word → Type 0
+Reads inner id word = (text : Word) → first_value inner id ≡ Some text → word ≡ text
+
+reads_row : (inner : Found) (rows : List Row) (id word text : Word) → rows_of inner ≡ rows → Reads inner id word
+    → first_of id rows ≡ Some text → word ≡ text
+reads_row inner rows id word text e reads first = reads text (first_value-rows inner id ∙ ap (first_of id) e ∙ first)
+
+pub once_found : (line : CommandLine) (inner : Found) (key value e1 l1 e2 l2 : Word)
+    → (entry_of line).0 ≡ codes "once" → rows_of inner ≡ (entry_of line).1
+    → Reads inner (codes "key") key → Reads inner (codes "value") value → Reads inner (codes "e1") e1 → Reads inner (codes "l1") l1
+    → Reads inner (codes "e2") e2 → Reads inner (codes "l2") l2 → once key value e1 l1 e2 l2 ≡ line
+once_found (once k v a b c d) inner key value e1 l1 e2 l2 name rows rk rv ra rb rc rd =
+    let ek = reads_row inner _ (codes "key") key k rows rk refl in
+    let ev = reads_row inner _ (codes "value") value v rows rv refl in
+    let ea = reads_row inner _ (codes "e1") e1 a rows ra refl in
+    let eb = reads_row inner _ (codes "l1") l1 b rows rb refl in
+    let ec = reads_row inner _ (codes "e2") e2 c rows rc refl in
+    let ed = reads_row inner _ (codes "l2") l2 d rows rd refl in
+    λ i. once (ek i) (ev i) (ea i) (eb i) (ec i) (ed i)
+once_found (format f) inner key value e1 l1 e2 l2 name rows rk rv ra rb rc rd = absurd (differ _ _ refl refl name)
+once_found (play f) inner key value e1 l1 e2 l2 name rows rk rv ra rb rc rd = absurd (differ _ _ refl refl name)
+once_found (inspect ls fs) inner key value e1 l1 e2 l2 name rows rk rv ra rb rc rd = absurd (differ _ _ refl refl name)
+once_found (drive f) inner key value e1 l1 e2 l2 name rows rk rv ra rb rc rd = absurd (differ _ _ refl refl name)
+
+-- the words are those that the argument was given
+abbrev pub ReadsAll : Found → Word → List Word → Type 0
+ReadsAll inner id words = (texts : List Word) → all_of id (rows_of inner) ≡ Some texts → words ≡ texts
+
+pub inspect_found : (line : CommandLine) (inner : Found) (lines : Word) (logs : List Word)
+    → (entry_of line).0 ≡ codes "inspect" → rows_of inner ≡ (entry_of line).1
+    → Reads inner (codes "lines") lines → ReadsAll inner (codes "logs") logs → inspect lines logs ≡ line
+inspect_found (once k v a b c d) inner lines logs name rows rl rs = absurd (differ _ _ refl refl name)
+inspect_found (format f) inner lines logs name rows rl rs = absurd (differ _ _ refl refl name)
+inspect_found (play f) inner lines logs name rows rl rs = absurd (differ _ _ refl refl name)
+inspect_found (inspect ls fs) inner lines logs name rows rl rs =
+    let el = reads_row inner _ (codes "lines") lines ls rows rl refl in
+    let es = rs fs (ap (all_of (codes "logs")) rows) in
+    λ i. inspect (el i) (es i)
+inspect_found (drive f) inner lines logs name rows rl rs = absurd (differ _ _ refl refl name)
+
+-- a line with this name has one file
+abbrev pub HasFile : (Word → CommandLine) → CommandLine → Type 0
+HasFile make line = (file : Word) × (make file ≡ line) × ((entry_of line).1 ≡ row (codes "file") file ∷ [])
+
+format_has : (line : CommandLine) → (entry_of line).0 ≡ codes "format" → HasFile format line
+format_has (once k v a b c d) e = absurd (differ _ _ refl refl e)
+format_has (format f) e = (f, refl, refl)
+format_has (play f) e = absurd (differ _ _ refl refl e)
+format_has (inspect ls fs) e = absurd (differ _ _ refl refl e)
+format_has (drive f) e = absurd (differ _ _ refl refl e)
+
+play_has : (line : CommandLine) → (entry_of line).0 ≡ codes "play" → HasFile play line
+play_has (once k v a b c d) e = absurd (differ _ _ refl refl e)
+play_has (format f) e = absurd (differ _ _ refl refl e)
+play_has (play f) e = (f, refl, refl)
+play_has (inspect ls fs) e = absurd (differ _ _ refl refl e)
+play_has (drive f) e = absurd (differ _ _ refl refl e)
+
+drive_has : (line : CommandLine) → (entry_of line).0 ≡ codes "drive" → HasFile drive line
+drive_has (once k v a b c d) e = absurd (differ _ _ refl refl e)
+drive_has (format f) e = absurd (differ _ _ refl refl e)
+drive_has (play f) e = absurd (differ _ _ refl refl e)
+drive_has (inspect ls fs) e = absurd (differ _ _ refl refl e)
+drive_has (drive f) e = (f, refl, refl)
+
+file_found : (m : ArgMatches) (make : Word → CommandLine) (name : Word) (line : CommandLine) (inner : Found) (file : Word)
+    → ((l : CommandLine) → (entry_of l).0 ≡ name → HasFile make l)
+    → subcommand_rows_of m ≡ Some (entry_of line) → subcommand_name_of m ≡ Some name
+    → option_map (λ (p : Text × List Row). p.1) (subcommand_rows_of m) ≡ Some (rows_of inner)
+    → Reads inner (codes "file") file → make file ≡ line
+file_found m make name line inner file has e n r reads =
+    let given = has line (named_as m line name e n) in
+    let same = reads_row inner _ (codes "file") file given.0 (rows_are m line inner e r ∙ given.2) reads refl in
+    ap make same ∙ given.1
+
+pub format_found : (m : ArgMatches) (line : CommandLine) (inner : Found) (file : Word)
+    → subcommand_rows_of m ≡ Some (entry_of line) → subcommand_name_of m ≡ Some (codes "format")
+    → option_map (λ (p : Text × List Row). p.1) (subcommand_rows_of m) ≡ Some (rows_of inner)
+    → Reads inner (codes "file") file → format file ≡ line
+format_found m line inner file = file_found m format (codes "format") line inner file format_has
+
+pub play_found : (m : ArgMatches) (line : CommandLine) (inner : Found) (file : Word)
+    → subcommand_rows_of m ≡ Some (entry_of line) → subcommand_name_of m ≡ Some (codes "play")
+    → option_map (λ (p : Text × List Row). p.1) (subcommand_rows_of m) ≡ Some (rows_of inner)
+    → Reads inner (codes "file") file → play file ≡ line
+play_found m line inner file = file_found m play (codes "play") line inner file play_has
+
+pub drive_found : (m : ArgMatches) (line : CommandLine) (inner : Found) (file : Word)
+    → subcommand_rows_of m ≡ Some (entry_of line) → subcommand_name_of m ≡ Some (codes "drive")
+    → option_map (λ (p : Text × List Row). p.1) (subcommand_rows_of m) ≡ Some (rows_of inner)
+    → Reads inner (codes "file") file → drive file ≡ line
+drive_found m line inner file = file_found m drive (codes "drive") line inner file drive_has
+
+-- a line has one of the names
+pub no_name : (m : ArgMatches) (line : CommandLine) → subcommand_rows_of m ≡ Some (entry_of line)
+    → (subcommand_name_of m ≡ Some (codes "once") → ⊥) → (subcommand_name_of m ≡ Some (codes "format") → ⊥)
+    → (subcommand_name_of m ≡ Some (codes "play") → ⊥) → (subcommand_name_of m ≡ Some (codes "inspect") → ⊥)
+    → (subcommand_name_of m ≡ Some (codes "drive") → ⊥) → ⊥
+no_name m line e a b c d f =
+    let named : subcommand_name_of m ≡ Some (entry_of line).0 =
+    sym (names_same (out-ArgMatches m).subcommand) ∙ ap (option_map (λ (p : Text × List Row). p.0)) e in
+    go line named
+  where
+    go : (l : CommandLine) → subcommand_name_of m ≡ Some (entry_of l).0 → ⊥
+    go (once _ _ _ _ _ _) n = a n
+    go (format _) n = b n
+    go (play _) n = c n
+    go (inspect _ _) n = d n
+    go (drive _) n = f n
+
+-- a line that was read is the line
+pub line_read : (r : Result Line Fault) (line : CommandLine) (expected : Option CommandLine) → expected ≡ Some line
+    → MatchResult r (λ l. line_view l ≡ line) (λ f. f ≡ Memory)
+    → MatchResult r (λ l. expected ≡ Some (line_view l)) (λ f. (f ≡ Memory) ⊎ ((f ≡ BadRequest command_reason) × (expected ≡ None)))
+line_read (Ok l) line expected e same = e ∙ ap (λ (k : CommandLine). Some k) (sym same)
+line_read (Err f) line expected e memory = inl memory

@@ -1,0 +1,5 @@
+pub mod FoundLemmas
+pub mod HelpLemmas
+pub mod LineLemmas
+pub mod ManyLemmas
+pub mod ProgramLemmas

@@ -1,0 +1,49 @@
+-- The commands that the words of a command line ask for.
+use Rattle.std.specs.Prelude.{◌&&◌, List, Option, Some, None, Result, Ok, Err, length, if◌then◌else◌, nat_le}
+use Rattle.units.specs.declared.fault.Fault.{Fault}
+use Rattle.units.specs.declared.fault.Fault.TheVariants.{BadRequest}
+use Rattle.units.specs.declared.fault.Reason.TheVariants as reason
+use Rattle.truetime.specs.Interval.{Interval}
+use Rattle.command_line.specs.Lines.{CommandLine, Word, asks_help, line_of, once, format, play, inspect, drive}
+use Rattle.texts.specs.Numbers.{and_then, interval_of}
+
+-- what words may ask for: the usage; a write of a value to a key at the readings of its commit and of its settling; a new log
+-- file; the report of a schedule in a file; the verdict on a file of lines and some logs; a drive by settings in a file
+pub data Asked : Type 0 where
+  help : Asked
+  once_asked : Word → Word → Interval → Interval → Asked
+  format_asked : Word → Asked
+  play_asked : Word → Asked
+  inspect_asked : Word → List Word → Asked
+  drive_asked : Word → Asked
+
+-- a key is the bytes of its word
+abbrev pub key_of : Word → Result Word Fault
+key_of word = if nat_le 1 (length word) && nat_le (length word) 64 then Ok word else Err (BadRequest reason.Key)
+
+-- a value is the bytes of its word
+abbrev pub value_of : Word → Result Word Fault
+value_of word = if nat_le (length word) 4096 then Ok word else Err (BadRequest reason.Value)
+
+-- the words of `once` from the left: a key, a value, and the readings of the commit and of its settling
+abbrev pub once_of_words : Word → Word → Word → Word → Word → Word → Result Asked Fault
+once_of_words key value e1 l1 e2 l2 =
+    and_then (key_of key) (λ k. and_then (value_of value) (λ v. and_then (interval_of e1 l1) (λ first. and_then (interval_of e2 l2) (λ second.
+    Ok (once_asked k v first second)))))
+
+-- the command of a line
+abbrev pub command_of_line : CommandLine → Result Asked Fault
+command_of_line (once key value e1 l1 e2 l2) = once_of_words key value e1 l1 e2 l2
+command_of_line (format file) = Ok (format_asked file)
+command_of_line (play file) = Ok (play_asked file)
+command_of_line (inspect lines logs) = Ok (inspect_asked lines logs)
+command_of_line (drive file) = Ok (drive_asked file)
+
+-- and what is no line is refused
+abbrev pub command_or_refusal : Option CommandLine → Result Asked Fault
+command_or_refusal None = Err (BadRequest reason.Command)
+command_or_refusal (Some line) = command_of_line line
+
+-- the command that the words ask for
+abbrev pub command_of : List Word → Result Asked Fault
+command_of words = if asks_help words then Ok help else command_or_refusal (line_of words)

@@ -1,0 +1,4 @@
+pub mod Commands
+pub mod Lines
+pub mod Parser
+pub mod Views

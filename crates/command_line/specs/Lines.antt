@@ -1,0 +1,68 @@
+-- The command lines of the program, as lists of words.
+use Rattle.std.specs.Prelude.{ℕ, Bool, true, not, ◌==◌, ◌||◌, List, [], ◌∷◌, Option, Some, None}
+use Rattle.std.specs.Prelude.{codes, if◌then◌else◌, length, nat_lt}
+use Rattle.std.specs.List.{list_all, list_any, take_while}
+use Rattle.std.specs.Str.{bytes_eq}
+
+-- the bytes of a word
+abbrev pub Word : Type 0
+Word = List ℕ
+
+-- a command, with its words
+pub data CommandLine : Type 0 where
+  once : Word → Word → Word → Word → Word → Word → CommandLine
+  format : Word → CommandLine
+  play : Word → CommandLine
+  inspect : Word → List Word → CommandLine
+  drive : Word → CommandLine
+
+-- the word does not begin with `-` (45)
+abbrev pub is_plain : Word → Bool
+is_plain [] = true
+is_plain (c ∷ cs) = not (c == 45)
+
+-- no word begins with `-`
+abbrev pub are_plain : List Word → Bool
+are_plain = list_all is_plain
+
+-- `-h` or `--help`
+abbrev pub is_help : Word → Bool
+is_help word = bytes_eq word (codes "-h") || bytes_eq word (codes "--help")
+
+-- it is not the word that ends the flags
+abbrev pub is_ahead : Word → Bool
+is_ahead word = not (bytes_eq word (codes "--"))
+
+-- one of the words, before any `--`, is `-h` or `--help`
+abbrev pub asks_help : List Word → Bool
+asks_help words = list_any is_help (take_while is_ahead words)
+
+-- the words of which it is said what they are: no word begins with `-`, or they ask for help
+abbrev pub are_covered : List Word → Bool
+are_covered words = are_plain words || asks_help words
+
+-- KEY VALUE E1 L1 E2 L2
+abbrev pub once_of : List Word → Option CommandLine
+once_of (key ∷ value ∷ e1 ∷ l1 ∷ e2 ∷ l2 ∷ []) = Some (once key value e1 l1 e2 l2)
+once_of _ = None
+
+-- FILE
+abbrev pub file_of : (Word → CommandLine) → List Word → Option CommandLine
+file_of command (file ∷ []) = Some (command file)
+file_of command _ = None
+
+-- LINES and 1 to 16 LOGs
+abbrev pub inspect_of : List Word → Option CommandLine
+inspect_of (lines ∷ log ∷ logs) = if nat_lt 16 (length (log ∷ logs)) then None else Some (inspect lines (log ∷ logs))
+inspect_of _ = None
+
+-- the command line that the words are
+abbrev pub line_of : List Word → Option CommandLine
+line_of [] = None
+line_of (name ∷ rest) =
+    if bytes_eq (codes "once") name then once_of rest
+    else (if bytes_eq (codes "format") name then file_of format rest
+    else (if bytes_eq (codes "play") name then file_of play rest
+    else (if bytes_eq (codes "inspect") name then inspect_of rest
+    else (if bytes_eq (codes "drive") name then file_of drive rest
+    else None))))

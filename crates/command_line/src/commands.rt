@@ -1,0 +1,34 @@
+//! What a command line asks for.
+use truetime::Reading;
+use units::{Key, Value};
+
+/// A command.
+#[derive(Drop)]
+pub enum Command<'a> {
+    /// The usage is printed.
+    Help,
+    /// One shard commits the write of a value at the first reading, and settles it at the second.
+    Once {
+        key: Key,
+        value: Value,
+        first: Reading,
+        second: Reading,
+    },
+    /// A file with a new log is made.
+    Format {
+        file: &'a str,
+    },
+    /// The schedule of a file is played, and the report printed.
+    Play {
+        file: &'a str,
+    },
+    /// The logs of shards 0, 1 and so on are judged, with the lines of a file.
+    Inspect {
+        lines: &'a str,
+        logs: Vec<&'a str>,
+    },
+    /// Nodes and workers are driven by the settings of a file.
+    Drive {
+        file: &'a str,
+    },
+}

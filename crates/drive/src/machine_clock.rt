@@ -1,0 +1,32 @@
+//! The machine's clock as intervals.
+ghost use Rattle.std.specs.Prelude.{◌≡◌, ◌+◌, ◌-◌, ◌≤◌, ◌^◌, MatchOption};
+
+use std::time;
+use truetime::{Clock, Reading};
+use units::Stamp;
+
+/// Readings of the machine's clock: the microseconds since 1970, and epsilon microseconds before and after. They are honest where the
+/// clock is within epsilon of the true time.
+#[derive_where(Clone, Copy)]
+pub struct MachineClock<'a, R> {
+    pub rt: &'a R,
+    pub epsilon: u64,
+}
+
+impl<R: time::Clock> Clock for MachineClock<'_, R> {
+    fn now(&mut self) -> Option<Reading> {
+        let since = self.rt.since_1970().ok()?;
+        let micros = u64::try_from(since.as_micros()).ok()?;
+        around(micros, self.epsilon)
+    }
+}
+
+// The interval around a time. There is none where it ends past the last timestamp.
+fn around(micros: u64, epsilon: u64) -> Option<Reading>
+    ensures { MatchOption result (2 ^ 62 ≤ micros + epsilon)
+        (λ now. (now.earliest ≡ micros - epsilon) × (now.latest ≡ micros + epsilon)) }
+{
+    let latest = Stamp::new(micros.checked_add(epsilon)?).ok()?;
+    let earliest = Stamp::new(micros.saturating_sub(epsilon)).ok()?;
+    Reading::new(earliest, latest).ok()
+}

@@ -1,0 +1,143 @@
+//! The nodes of a drive.
+ghost use Rattle.std.specs.Prelude.{◌≡◌, ◌<◌, ◌≤◌, ◌+◌, [], length, IfOk, IsOk, OnOk};
+
+use board::Viewer;
+use disk::Disk;
+use node::Node;
+use settings::Settings;
+use shard::Core;
+use std::alloc::Global;
+use std::sync::Wait;
+use units::{Book, Epoch, Fault, Reason, Run, Setup, ShardNo};
+
+/// Nodes over opened disks, by shard; the viewers of each worker, by shard; and the greatest epoch, which is the run of all ids.
+#[derive(Drop)]
+pub struct Opened<D: Disk + Drop, H: Wait + Drop> {
+    pub nodes: Vec<Node<D, H>>,
+    pub viewers: Vec<Vec<Viewer>>,
+    pub epoch: Epoch,
+}
+
+impl<D: Disk + Drop, H: Wait + Copy> Opened<D, H> {
+    // No node yet.
+    fn none(alloc: Global, workers: usize) -> Result<Opened<D, H>, Fault>
+        ensures viewers { IfOk result (λ opened. length opened.viewers.items ≡ workers) }
+        ensures nodes { IfOk result (λ opened. opened.nodes.items ≡ []) }
+    {
+        let mut viewers = Vec::new(alloc);
+        for _worker in 0..workers {
+            viewers.push(Vec::new(alloc))?;
+        }
+        Ok(Opened {
+            nodes: Vec::new(alloc),
+            viewers,
+            epoch: Epoch::first(),
+        })
+    }
+
+    /// Opens the disks of shards 0, 1 and so on, each with a viewer for each worker. Where there are more or fewer disks than shards, that
+    /// is refused as `settings`.
+    pub fn over(
+        rt: H,
+        alloc: Global,
+        settings: &Settings,
+        disks: Vec<D>,
+        workers: usize,
+    ) -> Result<Opened<D, H>, Fault>
+        ensures viewers { IfOk result (λ opened. length opened.viewers.items ≡ workers) }
+        ensures nodes { IfOk result (λ opened. length opened.nodes.items ≡ length disks.items) }
+        ensures shards { IsOk result → length disks.items ≡ length settings.now.splits + 1 }
+    {
+        if disks.len() != settings.splits.as_slice().len() + 1 {
+            return Err(Fault::BadRequest(Reason::Settings));
+        }
+        let mut opened = Opened::none(alloc, workers)?;
+        for disk in disks {
+            opened.open_next(rt, alloc, settings, disk)?;
+        }
+        Ok(opened)
+    }
+
+    // Opens the disk of the next shard.
+    fn open_next(&mut self, rt: H, alloc: Global, settings: &Settings, disk: D) -> Result<(), Fault>
+        ensures viewers { length self.new.viewers.items ≡ length self.old.viewers.items }
+        ensures nodes { OnOk result
+            (length self.new.nodes.items ≡ length self.old.nodes.items + 1) }
+    {
+        let setup = self.next_setup(alloc, settings)?;
+        let core = match Core::open(alloc, disk, setup) {
+            Ok(core) => core,
+            Err((fault, disk)) => {
+                drop(disk);
+                return Err(fault);
+            }
+        };
+        self.epoch = later(self.epoch, core.epoch());
+        self.serve(rt, alloc, core)
+    }
+
+    // What the next shard is told.
+    fn next_setup(&self, alloc: Global, settings: &Settings) -> Result<Setup, Fault> {
+        let number = u8::try_from(self.nodes.len()).ok();
+        let Some(shard) = number.and_then(ShardNo::new) else {
+            return Err(Fault::BadRequest(Reason::Settings));
+        };
+        Ok(Setup {
+            shard,
+            splits: settings.splits.copy(alloc)?,
+            stride: settings.stride,
+            book: Book::Off,
+        })
+    }
+
+    // Makes a node of a core, and deals its viewers out.
+    fn serve(&mut self, rt: H, alloc: Global, core: Core<D>) -> Result<(), Fault>
+        ensures viewers { length self.new.viewers.items ≡ length self.old.viewers.items }
+        ensures nodes { OnOk result
+            (length self.new.nodes.items ≡ length self.old.nodes.items + 1) }
+    {
+        match Node::new(rt, alloc, core, self.viewers.len()) {
+            Ok((node, viewers)) => {
+                self.nodes.push(node)?;
+                self.deal(viewers)
+            }
+            Err((fault, core)) => {
+                drop(core.stop());
+                Err(fault)
+            }
+        }
+    }
+
+    // One viewer to each worker.
+    fn deal(&mut self, viewers: Vec<Viewer>) -> Result<(), Fault>
+        ensures viewers { length self.new.viewers.items ≡ length self.old.viewers.items }
+        ensures nodes { self.new.nodes ≡ self.old.nodes }
+    {
+        for (own, viewer) in self.viewers.iter_mut().zip(viewers) {
+            own.push(viewer)?;
+        }
+        Ok(())
+    }
+}
+
+// The later of two epochs.
+fn later(epoch: Epoch, other: Epoch) -> Epoch
+    ensures first { epoch ≤ result }
+    ensures second { other ≤ result }
+{
+    if epoch.number() < other.number() {
+        other
+    } else {
+        epoch
+    }
+}
+
+impl<D: Disk + Drop, H: Wait + Drop> Opened<D, H> {
+    /// The run of all ids: the greatest epoch.
+    pub fn run(&self) -> Run {
+        match Run::new(self.epoch.number()) {
+            Some(run) => run,
+            None => unreachable!(),
+        }
+    }
+}

@@ -1,0 +1,278 @@
+//! Documents with settings.
+use settings::Settings;
+use std::alloc::Global;
+use units::{Fault, Key, Reason};
+
+// The settings that a document is to give.
+#[derive(Clone, Copy)]
+struct Wanted {
+    splits: &'static [&'static [u8]],
+    stride: u64,
+    epsilon: u64,
+    workers: u64,
+    transactions: u64,
+    keys: u64,
+    dir: Option<&'static str>,
+}
+
+#[derive(Clone, Copy)]
+struct Taken {
+    what: &'static str,
+    text: &'static str,
+    wanted: Wanted,
+}
+
+static TAKEN: [Taken; 4] = [
+    Taken {
+        what: "two shards on disks in memory",
+        text: "shards = 2\n\
+               splits = [\"k0005\"]\n\
+               stride = 1000\n\
+               epsilon = 100\n\
+               workers = 4\n\
+               transactions = 50\n\
+               keys = 10\n",
+        wanted: Wanted {
+            splits: &[b"k0005"],
+            stride: 1000,
+            epsilon: 100,
+            workers: 4,
+            transactions: 50,
+            keys: 10,
+            dir: None,
+        },
+    },
+    Taken {
+        what: "the least numbers",
+        text: "shards = 1\n\
+               splits = []\n\
+               stride = 0\n\
+               epsilon = 0\n\
+               workers = 1\n\
+               transactions = 1\n\
+               keys = 1\n",
+        wanted: Wanted {
+            splits: &[],
+            stride: 0,
+            epsilon: 0,
+            workers: 1,
+            transactions: 1,
+            keys: 1,
+            dir: None,
+        },
+    },
+    Taken {
+        what: "the greatest numbers, in another order, with a folder",
+        text: "dir = \"logs\"\n\
+               keys = 10000\n\
+               transactions = 100000\n\
+               workers = 64\n\
+               epsilon = 1000000\n\
+               stride = 10000000\n\
+               splits = [\"a\", \"b\", \"c\", \"d\", \"e\", \"f\", \"g\", \"h\", \"i\", \"j\", \"k\", \"l\", \"m\", \"n\", \"o\"]\n\
+               shards = 16\n",
+        wanted: Wanted {
+            splits: &[
+                b"a", b"b", b"c", b"d", b"e", b"f", b"g", b"h", b"i", b"j", b"k", b"l", b"m", b"n",
+                b"o",
+            ],
+            stride: 10_000_000,
+            epsilon: 1_000_000,
+            workers: 64,
+            transactions: 100_000,
+            keys: 10_000,
+            dir: Some("logs"),
+        },
+    },
+    Taken {
+        what: "a key of 64 bytes behind one that it begins with",
+        text: "shards = 3\n\
+               splits = [\"0\", \"0123456789012345678901234567890123456789012345678901234567890123\"]\n\
+               stride = 1\n\
+               epsilon = 1\n\
+               workers = 2\n\
+               transactions = 2\n\
+               keys = 2\n\
+               dir = \"\"\n",
+        wanted: Wanted {
+            splits: &[
+                b"0",
+                b"0123456789012345678901234567890123456789012345678901234567890123",
+            ],
+            stride: 1,
+            epsilon: 1,
+            workers: 2,
+            transactions: 2,
+            keys: 2,
+            dir: Some(""),
+        },
+    },
+];
+
+fn are(splits: &[Key], wanted: &[&[u8]]) -> bool {
+    for (split, bytes) in splits.iter().zip(wanted.iter()) {
+        if split.as_bytes() != *bytes {
+            return false;
+        }
+    }
+    splits.len() == wanted.len()
+}
+
+fn is_folder(dir: &Option<String>, wanted: Option<&str>) -> bool {
+    match (dir, wanted) {
+        (Some(dir), Some(wanted)) => dir.as_str() == wanted,
+        (None, None) => true,
+        _ => false,
+    }
+}
+
+fn gives(settings: &Settings, wanted: &Wanted) -> bool {
+    are(settings.splits.as_slice(), wanted.splits)
+        && settings.stride.micros() == wanted.stride
+        && settings.epsilon == wanted.epsilon
+        && settings.workers == wanted.workers
+        && settings.transactions == wanted.transactions
+        && settings.keys == wanted.keys
+        && is_folder(&settings.dir, wanted.dir)
+}
+
+fn is_taken(alloc: Global, row: &Taken) -> bool {
+    match Settings::read(alloc, row.text) {
+        Ok(settings) => gives(&settings, &row.wanted),
+        Err(_) => false,
+    }
+}
+
+#[test]
+fn documents_that_are_taken(rt: HostRuntime) {
+    for row in &TAKEN {
+        assert!(rt; is_taken(rt.alloc(), row), "{}", row.what);
+    }
+}
+
+// A document that is taken, a line for each key.
+static LINES: [&str; 7] = [
+    "shards = 3",
+    "splits = [\"b\", \"c\"]",
+    "stride = 1000",
+    "epsilon = 100",
+    "workers = 4",
+    "transactions = 50",
+    "keys = 10",
+];
+
+// Texts in place of one of its lines.
+#[derive(Clone, Copy)]
+struct Changed {
+    line: usize,
+    taken: &'static [&'static str],
+    refused: &'static [&'static str],
+}
+
+static CHANGED: [Changed; 7] = [
+    Changed {
+        line: 0,
+        taken: &["shards = 3", "# three\nshards = 0x3"],
+        refused: &[
+            "",
+            "shards = 0",
+            "shards = 2",
+            "shards = 4",
+            "shards = 17",
+            "shards = -3",
+            "shards = 3.0",
+            "shards = \"3\"",
+            "shards = true",
+            "shards = 3\nshards = 3",
+            "Shards = 3",
+        ],
+    },
+    Changed {
+        line: 1,
+        taken: &[
+            "splits = [\"B\", \"BB\"]",
+            "splits = [\n  \"b\",\n  \"c\",\n]",
+        ],
+        refused: &[
+            "",
+            "splits = []",
+            "splits = [\"b\"]",
+            "splits = [\"b\", \"c\", \"d\"]",
+            "splits = [\"c\", \"b\"]",
+            "splits = [\"b\", \"b\"]",
+            "splits = [\"\", \"b\"]",
+            "splits = [\"b\", \"c1234567890123456789012345678901234567890123456789012345678901234\"]",
+            "splits = [\"b\", 3]",
+            "splits = \"b\"",
+        ],
+    },
+    Changed {
+        line: 2,
+        taken: &["stride = 0", "stride = 10000000"],
+        refused: &["", "stride = -1", "stride = 10000001"],
+    },
+    Changed {
+        line: 3,
+        taken: &["epsilon = 0", "epsilon = 1000000"],
+        refused: &["", "epsilon = -1", "epsilon = 1000001"],
+    },
+    Changed {
+        line: 4,
+        taken: &["workers = 1", "workers = 64"],
+        refused: &["", "workers = 0", "workers = 65"],
+    },
+    Changed {
+        line: 5,
+        taken: &["transactions = 1", "transactions = 100000"],
+        refused: &["", "transactions = 0", "transactions = 100001"],
+    },
+    Changed {
+        line: 6,
+        taken: &["keys = 1", "keys = 10000", "keys = 10\ndir = \"logs\""],
+        refused: &[
+            "",
+            "keys",
+            "keys = 0",
+            "keys = 10001",
+            "keys = 99999999999999999999",
+            "keys = 10\ndir = 1",
+            "keys = 10\ndir = [\"logs\"]",
+            "keys = 10\nother = 1",
+            "keys = 10\n[dir]",
+        ],
+    },
+];
+
+// The document with a text in place of one line.
+fn document(alloc: Global, at: usize, text: &str) -> Result<String, Fault> {
+    let mut whole = String::new(alloc);
+    for (n, line) in LINES.iter().enumerate() {
+        whole.push_str(if n == at { text } else { *line })?;
+        whole.push('\n')?;
+    }
+    Ok(whole)
+}
+
+// How the document is refused.
+fn refusal(alloc: Global, at: usize, text: &str) -> Option<Fault> {
+    match document(alloc, at, text) {
+        Ok(whole) => Settings::read(alloc, whole.as_str()).err(),
+        Err(fault) => Some(fault),
+    }
+}
+
+#[test]
+fn documents_with_a_line_changed(rt: HostRuntime) {
+    for row in &CHANGED {
+        for text in row.taken {
+            assert!(rt; refusal(rt.alloc(), row.line, *text).is_none(), "{text}");
+        }
+        for text in row.refused {
+            let fault = refusal(rt.alloc(), row.line, *text);
+            assert!(rt;
+                fault == Some(Fault::BadRequest(Reason::Settings)),
+                "{text}"
+            );
+        }
+    }
+}

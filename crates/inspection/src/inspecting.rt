@@ -1,0 +1,20 @@
+//! The verdict on files.
+use crate::judging::inspect_disks;
+use std::alloc::Global;
+use system::{Files, open_all, read_text};
+use texts::lines;
+use units::{Fault, Reason, Verdict};
+
+/// The verdict on the logs in the files of shards 0, 1 and so on, 16 at most, and on the lines of a report in another file. That
+/// one is read first, and all logs are opened before the first is read. Bytes that are no text are a fault of line 1.
+pub fn inspect_files<F: Files>(
+    alloc: Global,
+    files: &F,
+    lines_file: &str,
+    logs: &[&str],
+) -> Result<Verdict, Fault> {
+    let text = read_text(alloc, files, lines_file, Reason::Syntax(1))?;
+    let told = lines(alloc, &text)?;
+    let disks = open_all(alloc, files, logs)?;
+    inspect_disks(alloc, disks, &told)
+}

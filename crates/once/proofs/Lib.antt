@@ -1,0 +1,4 @@
+pub mod FirstShard
+pub mod FirstStep
+pub mod ReplyLemmas
+pub mod ShardLemmas

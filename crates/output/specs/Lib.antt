@@ -1,0 +1,4 @@
+pub mod Failures
+pub mod Replies
+pub mod Streams
+pub mod Verdicts

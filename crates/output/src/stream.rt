@@ -1,0 +1,77 @@
+//! A stream that the program prints to.
+ghost use Rattle.std.specs.Prelude.{◌≡◌, ◌+◌, ◌≤◌, IfErr, OnOk};
+ghost use Rattle.std.specs.Io.KnownBytes.{Appends};
+ghost use Rattle.output.specs.Streams.{fault_line};
+ghost use Rattle.output.specs.declared.failure.Failure.TheVariants.{Unwritten};
+
+use crate::failure::Failure;
+use counts::Count;
+use std::io::Write;
+use units::Fault;
+
+/// A writer, and how often a write to it has failed, which only proofs see. Nothing else raises that number.
+#[derive(Drop)]
+pub struct Stream<W: Write> {
+    writer: W,
+    failures: Count,
+}
+
+impl<W: Write> Stream<W> {
+    ghost use Rattle.output.specs.Streams.{writer_of, failures_of};
+
+    /// Nothing has failed yet.
+    pub fn new(writer: W) -> Stream<W>
+        ensures { writer_of result ≡ writer }
+    {
+        Stream {
+            writer,
+            failures: Count::none(),
+        }
+    }
+
+    /// The writer, with what was printed.
+    pub fn into_writer(self) -> W
+        ensures { result ≡ writer_of self }
+    {
+        let Stream {
+            writer,
+            failures: _,
+        } = self;
+        writer
+    }
+
+    /// Prints a text.
+    pub fn print(&mut self, text: &str) -> Result<(), Failure>
+        ensures printed { OnOk result
+            (Appends (W.contents (writer_of self.old)) (W.contents (writer_of self.new)) text.now) }
+        ensures unwritten { IfErr result (λ failure. failure ≡ Unwritten) }
+        ensures failed { IfErr result (λ _. failures_of self.new ≡ failures_of self.old + 1) }
+        ensures kept { failures_of self.old ≤ failures_of self.new }
+    {
+        match self.writer.write_all(text.as_bytes()) {
+            Ok(()) => Ok(()),
+            Err(_) => {
+                self.failures.rise();
+                Err(Failure::Unwritten)
+            }
+        }
+    }
+
+    /// Prints the line of a fault, piece by piece, so that it needs no memory.
+    pub fn print_fault(&mut self, fault: Fault) -> Result<(), Failure>
+        ensures printed { OnOk result
+            (Appends (W.contents (writer_of self.old)) (W.contents (writer_of self.new))
+            (fault_line fault)) }
+        ensures unwritten { IfErr result (λ failure. failure ≡ Unwritten) }
+        ensures failed { IfErr result (λ _. failures_of self.new ≡ failures_of self.old + 1) }
+        ensures kept { failures_of self.old ≤ failures_of self.new }
+    {
+        match writeln!(self.writer, "fault: {fault}") {
+            Ok(()) => Ok(()),
+            Err(_) => {
+                self.failures.rise();
+                Err(Failure::Unwritten)
+            }
+        }
+    }
+}

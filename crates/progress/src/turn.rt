@@ -1,0 +1,37 @@
+//! Turns that ended, and who is told of them.
+
+/// How a transaction ended for its worker. It is not known where the worker gave up while closing.
+#[derive(Clone, Copy)]
+pub enum Ended {
+    Committed,
+    Aborted,
+    Unknown,
+}
+
+/// How a turn's transaction ended, and how many microseconds it took, from before its begin until its end was heard.
+#[derive(Clone, Copy)]
+pub struct Turn {
+    pub ended: Ended,
+    pub micros: u64,
+}
+
+/// Who is told of each turn that ended, by the thread that ran it. Threads tell at the same time.
+pub trait Watch {
+    fn turned(&self, turn: Turn);
+}
+
+/// Does nothing.
+#[derive(Clone, Copy)]
+pub struct NoWatch;
+
+impl Watch for NoWatch {
+    fn turned(&self, _turn: Turn) {}
+}
+
+impl<W: Watch> Watch for Option<W> {
+    fn turned(&self, turn: Turn) {
+        if let Some(watch) = self {
+            watch.turned(turn);
+        }
+    }
+}

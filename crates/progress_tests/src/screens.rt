@@ -1,0 +1,126 @@
+//! Screens that are told of turns at given moments.
+use progress::{Ended, Screen, Turn};
+use std::alloc::Global;
+use std::io;
+use std::io::Write;
+use std::test::Fail;
+
+// A writer that keeps what it was given, but for the first writes, which fail.
+#[derive(Drop)]
+struct Paper {
+    failures: u64,
+    written: Vec<u8>,
+}
+
+impl Write for Paper {
+    fn write(&mut self, buf: &[u8]) -> io::Result<usize> {
+        if self.failures > 0 {
+            self.failures -= 1;
+            return Err(io::ErrorKind::BrokenPipe.into());
+        }
+        self.written.write(buf)
+    }
+
+    fn flush(&mut self) -> io::Result<()> {
+        Ok(())
+    }
+}
+
+// The moments at which turns commit of a drive of three, in microseconds, of which the last is one too many, and what is written
+// where so many writes fail.
+struct Row {
+    name: &'static str,
+    moments: [u64; 4],
+    end: u64,
+    failures: u64,
+    written: &'static str,
+}
+
+static ROWS: [Row; 5] = [
+    Row {
+        name: "too short to show a line",
+        moments: [1, 2, 199_999, 199_999],
+        end: 300_000,
+        failures: 0,
+        written: "\r3 of 3 done, 10 commits a second, half within 5 us, 99 of 100 within 5 us\n",
+    },
+    Row {
+        name: "each is late enough",
+        moments: [200_000, 400_000, 600_000, 799_999],
+        end: 800_000,
+        failures: 0,
+        written: "\r1 of 3 done, 5 commits a second                             \
+                  \r2 of 3 done, 5 commits a second                             \
+                  \r3 of 3 done, 5 commits a second                             \
+                  \r3 of 3 done, 3 commits a second, half within 5 us, 99 of 100 within 5 us\n",
+    },
+    Row {
+        name: "one is too early",
+        moments: [250_000, 449_999, 450_000, 450_001],
+        end: 1_000_000,
+        failures: 0,
+        written: "\r1 of 3 done, 4 commits a second                             \
+                  \r3 of 3 done, 6 commits a second                             \
+                  \r3 of 3 done, 3 commits a second, half within 5 us, 99 of 100 within 5 us\n",
+    },
+    Row {
+        name: "a write fails",
+        moments: [200_000, 200_001, 400_000, 400_001],
+        end: 1_000_000,
+        failures: 1,
+        written: "\r3 of 3 done, 7 commits a second                             \
+                  \r3 of 3 done, 3 commits a second, half within 5 us, 99 of 100 within 5 us\n",
+    },
+    Row {
+        name: "each write fails",
+        moments: [200_000, 200_001, 400_000, 400_001],
+        end: 1_000_000,
+        failures: 3,
+        written: "",
+    },
+];
+
+// What is written of a row.
+fn written(alloc: Global, row: &Row) -> Vec<u8> {
+    let paper = Paper {
+        failures: row.failures,
+        written: Vec::new(alloc),
+    };
+    let mut screen = Screen::new(alloc, paper, 3);
+    for moment in row.moments {
+        let turn = Turn {
+            ended: Ended::Committed,
+            micros: 5,
+        };
+        screen.turned(alloc, turn, moment);
+    }
+    let Paper {
+        failures: _,
+        written,
+    } = screen.finish(alloc, row.end);
+    written
+}
+
+#[test]
+fn shows(rt: HostRuntime) -> Result<(), Fail> {
+    for row in &ROWS {
+        let written = written(rt.alloc(), row);
+        assert_eq!(rt;
+            str::from_utf8(written.as_slice())?,
+            row.written,
+            "{}",
+            row.name
+        );
+    }
+    Ok(())
+}
+
+// A drive that ends without any commit leaves nothing of a longer line.
+#[test]
+fn blanks(rt: HostRuntime) -> Result<(), Fail> {
+    let screen = Screen::new(rt.alloc(), Vec::new(rt.alloc()), 3);
+    let written: Vec<u8> = screen.finish(rt.alloc(), 1);
+    let wanted = "\r0 of 3 done, 0 commits a second                             \n";
+    assert_eq!(rt; str::from_utf8(written.as_slice())?, wanted);
+    Ok(())
+}

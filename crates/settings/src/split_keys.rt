@@ -1,0 +1,67 @@
+// The splits: keys that ascend, one less than the shards.
+ghost use Rattle.std.specs.Prelude.{◌≡◌, ◌≤◌, Some, MatchResult};
+ghost use Rattle.toml.specs.View.{array_view, table_view, view};
+ghost use Rattle.settings.specs.Documents.{Refuses, IsRefused, key_in, keys_in, parted, splits_in};
+
+use crate::WRONG;
+use crate::members::array_at;
+use std::alloc::Global;
+use toml::{Table, Value};
+use units::{Fault, Key, Splits};
+
+/// The splits of that many shards.
+pub(crate) fn splits(alloc: Global, table: &Table, shards: u64) -> Result<Splits, Fault>
+    requires { shards ≤ 16 }
+    ensures { MatchResult result (λ s. splits_in shards (table_view table.now) ≡ Some s)
+        (λ fault. Refuses fault (splits_in shards (table_view table.now))) }
+{
+    match array_at(table, "splits") {
+        Some(items) => {
+            let found = split_keys(alloc, items)?;
+            part(alloc, found.as_slice(), shards)
+        }
+        None => Err(WRONG),
+    }
+}
+
+// The keys of a list that has nothing else.
+#[tactic(auto, using(crate::proofs::Documents::keys_more, crate::proofs::Documents::keys_none))]
+fn split_keys(alloc: Global, items: &Vec<Value>) -> Result<Vec<Key>, Fault>
+    ensures { MatchResult result (λ found. keys_in (array_view items.now) ≡ Some found.items)
+        (λ fault. Refuses fault (keys_in (array_view items.now))) }
+{
+    let mut found = Vec::new(alloc);
+    for item in items {
+        found.push(split_key(item)?)?;
+    }
+    Ok(found)
+}
+
+fn split_key(item: &Value) -> Result<Key, Fault>
+    ensures { MatchResult result (λ key. key_in (view item.now) ≡ Some key)
+        (λ fault. IsRefused fault (key_in (view item.now))) }
+{
+    match item.as_str() {
+        Some(text) => match Key::new(text.as_bytes()) {
+            Ok(key) => Ok(key),
+            Err(_) => Err(WRONG),
+        },
+        None => Err(WRONG),
+    }
+}
+
+// The keys as splits, where they are one less than the shards and ascend.
+fn part(alloc: Global, keys: &[Key], shards: u64) -> Result<Splits, Fault>
+    requires { shards ≤ 16 }
+    ensures { MatchResult result (λ s. parted shards keys.now ≡ Some s)
+        (λ fault. Refuses fault (parted shards keys.now)) }
+{
+    if keys.len() as u64 != shards.saturating_sub(1) {
+        return Err(WRONG);
+    }
+    match Splits::new(alloc, keys) {
+        Ok(splits) => Ok(splits),
+        Err(Fault::Memory) => Err(Fault::Memory),
+        Err(_) => Err(WRONG),
+    }
+}
