@@ -24,23 +24,26 @@ use crate::play::play;
 use command_line::{Command, command};
 use once::once;
 use output::{Failure, Stream};
+use settings::Settings;
 use simdisk::SimDisk;
 use std::alloc::Global;
 use std::io::Write;
-use system::System;
+use system::{Driven, Files, System};
+use units::Fault;
 
 /// Carries a command line out, with what it asks of the system, on an empty disk and over standard output and standard error.
 /// Gives the status, 0, 1 for a verdict of no or for early, 2 for a fault, and the disk, which holds what was printed of a
 /// commit. A fault is printed on standard error, except that after a failed write nothing more is printed.
-pub fn answer<'a, S: System, O: Write, E: Write>(
+pub fn answer<'a, F: Files, D: Fn(Global, &Settings) -> Result<Driven, Fault>, O: Write, E: Write>(
     alloc: Global,
     words: &'a [&'a str],
-    system: &S,
+    system: &System<F, D>,
     disk: SimDisk,
     out: &mut Stream<O>,
     err: &mut Stream<E>,
 ) -> (u8, SimDisk)
-    requires { disk_plan disk ≡ Never }
+    requires disk { disk_plan disk ≡ Never }
+    requires drives { D.IsAlwaysCallable system.now.drive }
     ensures status { (result.0 ≡ 0) ⊎ (result.0 ≡ 1) ⊎ (result.0 ≡ 2) }
     ensures printed { are_plain (map (λ w. w.now) words.entry.now) ≡ true → result.0 ≢ 2
         → (text : List ℕ) × Is (reply_to (map (λ w. w.now) words.entry.now)) (Ok (text, result.0))
@@ -78,14 +81,15 @@ pub fn answer<'a, S: System, O: Write, E: Write>(
     }
 }
 
-fn carry_out<'a, S: System, O: Write>(
+fn carry_out<'a, F: Files, D: Fn(Global, &Settings) -> Result<Driven, Fault>, O: Write>(
     alloc: Global,
     words: &'a [&'a str],
-    system: &S,
+    system: &System<F, D>,
     disk: SimDisk,
     out: &mut Stream<O>,
 ) -> (Result<u8, Failure>, SimDisk)
-    requires { disk_plan disk ≡ Never }
+    requires disk { disk_plan disk ≡ Never }
+    requires drives { D.IsAlwaysCallable system.now.drive }
     ensures status { IfOk result.0 (λ status. (status ≡ 0) ⊎ (status ≡ 1)) }
     ensures printed { are_plain (map (λ w. w.now) words.entry.now) ≡ true
         → IfOk result.0 (λ status. (text : List ℕ)
@@ -114,14 +118,15 @@ fn carry_out<'a, S: System, O: Write>(
 }
 
 // Carries one command out.
-fn run<S: System, O: Write>(
+fn run<F: Files, D: Fn(Global, &Settings) -> Result<Driven, Fault>, O: Write>(
     alloc: Global,
     asked: Command<'_>,
-    system: &S,
+    system: &System<F, D>,
     disk: SimDisk,
     out: &mut Stream<O>,
 ) -> (Result<u8, Failure>, SimDisk)
-    requires { disk_plan disk ≡ Never }
+    requires disk { disk_plan disk ≡ Never }
+    requires drives { D.IsAlwaysCallable system.now.drive }
     ensures status { IfOk result.0 (λ status. (status ≡ 0) ⊎ (status ≡ 1)) }
     ensures printed { IfOk result.0
         (λ status. (text : List ℕ) × Is (reply_of (asked_by asked.entry)) (Ok (text, status))
@@ -145,9 +150,11 @@ fn run<S: System, O: Write>(
             first,
             second,
         } => once(alloc, key, value, &first, &second, disk, out),
-        Command::Format { file } => (format(alloc, file, system), disk),
-        Command::Play { file } => (play(alloc, file, system, out), disk),
-        Command::Inspect { lines, logs } => (inspect(alloc, lines, &logs, system, out), disk),
+        Command::Format { file } => (format(alloc, file, &system.files), disk),
+        Command::Play { file } => (play(alloc, file, &system.files, out), disk),
+        Command::Inspect { lines, logs } => {
+            (inspect(alloc, lines, &logs, &system.files, out), disk)
+        }
         Command::Drive { file } => (drive(alloc, file, system, out), disk),
     }
 }

@@ -8,16 +8,17 @@ use output::{Failure, Stream, status_of};
 use settings::Settings;
 use std::alloc::Global;
 use std::io::Write;
-use system::{Driven, System, read_text};
+use system::{Driven, Files, System, read_text};
 use units::{Fault, Reason};
 
 /// Drives shards and workers by the settings of a file, and prints what came of it. Gives 0, or 1 where the verdict is a no.
-pub fn drive<S: System, O: Write>(
+pub fn drive<F: Files, D: Fn(Global, &Settings) -> Result<Driven, Fault>, O: Write>(
     alloc: Global,
     file: &str,
-    system: &S,
+    system: &System<F, D>,
     out: &mut Stream<O>,
 ) -> Result<u8, Failure>
+    requires { D.IsAlwaysCallable system.now.drive }
     ensures status { IfOk result (λ status. (status ≡ 0) ⊎ (status ≡ 1)) }
     ensures printed { IfOk result
         (λ status. (text : List ℕ)
@@ -31,8 +32,14 @@ pub fn drive<S: System, O: Write>(
 }
 
 // What came of a drive by the settings of a file.
-fn drive_by<S: System>(alloc: Global, file: &str, system: &S) -> Result<Driven, Fault> {
-    let text = read_text(alloc, system, file, Reason::Settings)?;
+fn drive_by<F: Files, D: Fn(Global, &Settings) -> Result<Driven, Fault>>(
+    alloc: Global,
+    file: &str,
+    system: &System<F, D>,
+) -> Result<Driven, Fault>
+    requires { D.IsAlwaysCallable system.now.drive }
+{
+    let text = read_text(alloc, &system.files, file, Reason::Settings)?;
     let settings = Settings::read(alloc, &text)?;
-    system.drive(alloc, &settings)
+    (system.drive)(alloc, &settings)
 }

@@ -1,6 +1,6 @@
 //! Commands that ask the system for files.
-use crate::given::{File, Memory};
-use cli::{Stream, answer};
+use crate::given::{File, Memory, told};
+use cli::{Stream, System, answer};
 use simdisk::SimDisk;
 use std::alloc::Global;
 use std::test::Fail;
@@ -350,7 +350,10 @@ static ASKED: [Asked; 35] = [
 fn answered(alloc: Global, words: &'static [&'static str]) -> (u8, Vec<u8>, Vec<u8>) {
     let mut out = Stream::new(Vec::<u8>::new(alloc));
     let mut err = Stream::new(Vec::<u8>::new(alloc));
-    let system = Memory { files: &FILES };
+    let system = System {
+        files: Memory { files: &FILES },
+        drive: told,
+    };
     let (status, _) = answer(
         alloc,
         words,

@@ -1,8 +1,8 @@
-//! A system in memory, for commands that ask one.
+//! Files in memory, and drives of nothing, for commands that ask for them.
 ghost use Rattle.std.specs.Prelude.{◌≡◌, IfErr};
 ghost use Rattle.units.specs.declared.fault.Fault.TheVariants.{Device};
 
-use cli::{Driven, Files, System};
+use cli::{Driven, Files};
 use disk::Disk;
 use settings::Settings;
 use simdisk::SimDisk;
@@ -16,7 +16,7 @@ pub struct File {
     pub bytes: &'static [u8],
 }
 
-/// A system that has some files, and no threads.
+/// Some files.
 #[derive(Clone, Copy)]
 pub struct Memory<'f> {
     pub files: &'f [File],
@@ -69,19 +69,17 @@ fn disk_with(alloc: Global, bytes: &[u8]) -> Result<SimDisk, Fault>
     }
 }
 
-impl System for Memory<'_> {
-    // It drives nothing. What came of it is told by the settings: a drive of one key is torn.
-    fn drive(&self, alloc: Global, settings: &Settings) -> Result<Driven, Fault> {
-        if settings.keys == 1 {
-            let text = format!(in alloc; "looks 1\nverdict no torn 1.2\n")?;
-            return Ok(Driven {
-                text,
-                verdict: TxnId::new(1, 2).map_or(Verdict::Yes, Verdict::Torn),
-            });
-        }
-        Ok(Driven {
-            text: format!(in alloc; "looks {}\nverdict yes\n", settings.keys)?,
-            verdict: Verdict::Yes,
-        })
+/// Drives nothing. What came of it is told by the settings: a drive of one key is torn.
+pub fn told(alloc: Global, settings: &Settings) -> Result<Driven, Fault> {
+    if settings.keys == 1 {
+        let text = format!(in alloc; "looks 1\nverdict no torn 1.2\n")?;
+        return Ok(Driven {
+            text,
+            verdict: TxnId::new(1, 2).map_or(Verdict::Yes, Verdict::Torn),
+        });
     }
+    Ok(Driven {
+        text: format!(in alloc; "looks {}\nverdict yes\n", settings.keys)?,
+        verdict: Verdict::Yes,
+    })
 }

@@ -1,6 +1,6 @@
 //! What `play` prints of a file.
-use crate::given::{File, Memory};
-use cli::{Stream, answer};
+use crate::given::{File, Memory, told};
+use cli::{Stream, System, answer};
 use simdisk::SimDisk;
 use std::test::Fail;
 
@@ -467,7 +467,10 @@ fn schedules_of_files_are_played(rt: HostRuntime) -> Result<(), Fail> {
             path: "a.schedule",
             bytes: case.bytes,
         }];
-        let system = Memory { files: &files };
+        let system = System {
+            files: Memory { files: &files },
+            drive: told,
+        };
         let mut out = Stream::new(Vec::<u8>::new(alloc));
         let mut err = Stream::new(Vec::<u8>::new(alloc));
         let (status, _) = answer(
@@ -495,7 +498,10 @@ fn a_missing_file_is_refused(rt: HostRuntime) -> Result<(), Fail> {
     let (status, _) = answer(
         alloc,
         WORDS.as_slice(),
-        &Memory::empty(),
+        &System {
+            files: Memory::empty(),
+            drive: told,
+        },
         SimDisk::new(alloc),
         &mut out,
         &mut err,

@@ -1,6 +1,6 @@
 //! What the program prints.
-use crate::given::Memory;
-use cli::{Command, Stream, answer, command};
+use crate::given::{Memory, told};
+use cli::{Command, Stream, System, answer, command};
 use simdisk::SimDisk;
 use std::alloc::Global;
 use std::io;
@@ -89,7 +89,10 @@ fn answered<'a>(alloc: Global, words: &'a [&'a str]) -> (u8, Vec<u8>, Vec<u8>) {
     let (status, _) = answer(
         alloc,
         words,
-        &Memory::empty(),
+        &System {
+            files: Memory::empty(),
+            drive: told,
+        },
         SimDisk::new(alloc),
         &mut out,
         &mut err,
@@ -222,7 +225,10 @@ fn writes_that_fail(rt: HostRuntime) {
         let (given, _) = answer(
             alloc,
             WORDS.as_slice(),
-            &Memory::empty(),
+            &System {
+                files: Memory::empty(),
+                drive: told,
+            },
             SimDisk::new(alloc),
             &mut out,
             &mut err,
@@ -236,7 +242,10 @@ fn writes_that_fail(rt: HostRuntime) {
     let (status, _) = answer(
         alloc,
         wrong.as_slice(),
-        &Memory::empty(),
+        &System {
+            files: Memory::empty(),
+            drive: told,
+        },
         SimDisk::new(alloc),
         &mut out,
         &mut err,

@@ -22,12 +22,13 @@ pub struct Crew<'s> {
 
 impl<'s> Crew<'s> {
     /// The workers: as many as there are inboxes, which is at most 64.
-    pub fn workers<'r, R, C: Copy>(
+    pub fn workers<'r, R, C: Copy, W>(
         self,
         rt: &'r R,
         shared: &'s Shared,
         clock: C,
-    ) -> Result<Vec<Worker<'r, 's, R, C>>, Fault>
+        watch: &'r W,
+    ) -> Result<Vec<Worker<'r, 's, R, C, W>>, Fault>
         requires few { length self.inboxes.items ≤ 64 }
         requires ids { length self.ids.items ≡ length self.inboxes.items }
         requires moments { length self.moments.items ≡ length self.inboxes.items }
@@ -52,6 +53,7 @@ impl<'s> Crew<'s> {
                 moments: moments.pop().unwrap(),
                 viewers: viewers.pop().unwrap(),
                 clock,
+                watch,
                 lines: Vec::new(shared.alloc),
                 buffer: vec![in shared.alloc; 0; 4096]?,
                 silences: 0,

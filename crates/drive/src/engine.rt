@@ -21,6 +21,7 @@ use crossbeam_channel::Receiver;
 use disk::Disk;
 use message::Message;
 use node::{Gate, Letter, Node, Post, Served, start};
+use progress::Watch;
 use settings::Settings;
 use std::alloc::Global;
 use std::sync::Wait;
@@ -38,13 +39,20 @@ pub struct Driven<D> {
 }
 
 /// Drives the shards of some disks, one a shard, by the machine's clock. Each disk has a formatted log. Settings beyond their limits,
-/// and more or fewer disks than shards, are refused as `settings`; a disk that is refused, as `Core::open` refuses it.
-pub fn drive<R: Threads + Wait + time::Clock + Sync, D: Disk + Drop + Send, G: Gate + Sync>(
+/// and more or fewer disks than shards, are refused as `settings`; a disk that is refused, as `Core::open` refuses it. The watch
+/// is told of each turn, by the thread of its worker.
+pub fn drive<
+    R: Threads + Wait + time::Clock + Sync,
+    D: Disk + Drop + Send,
+    G: Gate + Sync,
+    W: Watch + Sync,
+>(
     rt: &R,
     alloc: Global,
     settings: &Settings,
     disks: Vec<D>,
     gate: &G,
+    watch: &W,
 ) -> Result<Driven<D>, Fault>
     ensures verdict { IfOk result (λ driven. D.keeps_model
         → IsJudged (λ disk. (surface (D.file disk)).seen) driven.disks.items driven.lines.items
@@ -62,7 +70,7 @@ pub fn drive<R: Threads + Wait + time::Clock + Sync, D: Disk + Drop + Send, G: G
         rt,
         epsilon: settings.epsilon,
     };
-    drive_by(rt, alloc, settings, disks, clock, gate)
+    drive_by(rt, alloc, settings, disks, clock, gate, watch)
 }
 
 /// The same by a clock, of which each node and each worker has a copy.
@@ -71,6 +79,7 @@ pub fn drive_by<
     D: Disk + Drop + Send,
     C: Clock + Copy + Send,
     G: Gate + Sync,
+    W: Watch + Sync,
 >(
     rt: &R,
     alloc: Global,
@@ -78,6 +87,7 @@ pub fn drive_by<
     disks: Vec<D>,
     clock: C,
     gate: &G,
+    watch: &W,
 ) -> Result<Driven<D>, Fault>
     ensures verdict { IfOk result (λ driven. D.keeps_model
         → IsJudged (λ disk. (surface (D.file disk)).seen) driven.disks.items driven.lines.items
@@ -93,7 +103,7 @@ pub fn drive_by<
 {
     let course = Course::of(settings)?;
     let opened = Opened::over(rt, alloc, settings, disks, course.workers as usize)?;
-    let (report, nodes) = run(rt, alloc, settings, course, opened, clock, gate)?;
+    let (report, nodes) = run(rt, alloc, settings, course, opened, clock, gate, watch)?;
     let Report { counts, lines } = report;
     let (verdict, disks) = judge(alloc, closed(alloc, nodes)?, &lines)?;
     Ok(Driven {
@@ -110,6 +120,7 @@ fn run<
     H: Wait + Drop + Send,
     C: Clock + Copy + Send,
     G: Gate + Sync,
+    W: Watch + Sync,
 >(
     rt: &R,
     alloc: Global,
@@ -118,6 +129,7 @@ fn run<
     opened: Opened<D, H>,
     clock: C,
     gate: &G,
+    watch: &W,
 ) -> Result<(Report, Vec<Node<D, H>>), Fault>
     requires { length opened.viewers.items ≡ course.workers }
     ensures counts { IfOk result (λ ran. (tried ran.0.counts ≡ course.workers * course.transactions)
@@ -142,7 +154,7 @@ fn run<
         workers: to_workers,
     } = inboxes;
     let served = served(rt, &shared, &nodes, to_nodes, clock)?;
-    let workers = workers(rt, &shared, to_workers, drawers, viewers, clock)?;
+    let workers = workers(rt, &shared, to_workers, drawers, viewers, clock, watch)?;
     let reports = run_all(rt, &shared.network, course, served, workers, gate)?;
     let report = merged(alloc, course, reports)?;
     Ok((report, nodes))
@@ -173,14 +185,15 @@ fn served<'r, 's, 'n, R: Wait, D: Disk + Drop, H: Wait + Drop, C: Clock + Copy>(
 }
 
 // The workers, each with its inbox.
-fn workers<'r, 's, R, C: Copy>(
+fn workers<'r, 's, R, C: Copy, W>(
     rt: &'r R,
     shared: &'s Shared,
     inboxes: Vec<Receiver<Message>>,
     drawers: Drawers,
     viewers: Vec<Vec<Viewer>>,
     clock: C,
-) -> Result<Vec<Worker<'r, 's, R, C>>, Fault>
+    watch: &'r W,
+) -> Result<Vec<Worker<'r, 's, R, C, W>>, Fault>
     requires few { length inboxes.items ≤ 64 }
     requires ids { (length drawers.ids.items ≡ length inboxes.items)
         × All (λ drawer. drawer.source ≡ shared.now.ids) drawers.ids.items }
@@ -196,7 +209,7 @@ fn workers<'r, 's, R, C: Copy>(
         moments: draws(shared.alloc, &shared.moments, moments)?,
         viewers,
     };
-    crew.workers(rt, shared, clock)
+    crew.workers(rt, shared, clock, watch)
 }
 
 // The nodes on a thread, which starts more, beside the workers. Where it can't be made, the nodes are served behind the workers,
@@ -208,12 +221,13 @@ fn run_all<
     P: Post + Send + Drop,
     C: Clock + Send + Drop,
     G: Gate + Sync,
+    W: Watch + Sync,
 >(
     rt: &R,
     network: &Network,
     course: Course,
     served: Vec<Served<D, H, P, C>>,
-    workers: Vec<Worker<R, C>>,
+    workers: Vec<Worker<R, C, W>>,
     gate: &G,
 ) -> Result<Vec<Result<Report, Fault>>, Fault>
     ensures all { IfOk result (λ reports. length reports.items ≡ length workers.entry.items) }
@@ -226,7 +240,7 @@ fn run_all<
                 × IsSync G.row }
         { start(rt, served, gate) },
         || -> Result<Vec<Result<Report, Fault>>, Fault>
-            requires { IsSync R.row × IsSend C.row }
+            requires { IsSync R.row × IsSend C.row × IsSync W.row }
             ensures all { IfOk result (λ reports.
                 length reports.items ≡ length workers.entry.items) }
             ensures counted { IfOk result (λ reports.
@@ -238,11 +252,11 @@ fn run_all<
 }
 
 // The workers do their turns, and then the nodes are sent the end.
-fn work_and_close<R: Threads + Wait + time::Clock + Sync, C: Clock + Send + Drop>(
+fn work_and_close<R: Threads + Wait + time::Clock + Sync, C: Clock + Send + Drop, W: Watch + Sync>(
     rt: &R,
     network: &Network,
     course: Course,
-    workers: Vec<Worker<R, C>>,
+    workers: Vec<Worker<R, C, W>>,
 ) -> Result<Vec<Result<Report, Fault>>, Fault>
     ensures all { IfOk result (λ reports. length reports.items ≡ length workers.entry.items) }
     ensures counted { IfOk result (λ reports. AreCounted course.transactions reports.items) }
@@ -253,10 +267,10 @@ fn work_and_close<R: Threads + Wait + time::Clock + Sync, C: Clock + Send + Drop
 }
 
 // Each worker does its turns, on a thread of its own where one can be made.
-fn work_all<R: Threads + Wait + time::Clock + Sync, C: Clock + Send + Drop>(
+fn work_all<R: Threads + Wait + time::Clock + Sync, C: Clock + Send + Drop, W: Watch + Sync>(
     rt: &R,
     course: Course,
-    workers: Vec<Worker<R, C>>,
+    workers: Vec<Worker<R, C, W>>,
 ) -> Result<Vec<Result<Report, Fault>>, Fault>
     ensures all { IfOk result (λ reports. length reports.items ≡ length workers.entry.items) }
     ensures counted { IfOk result (λ reports. AreCounted course.transactions reports.items) }
@@ -264,8 +278,8 @@ fn work_all<R: Threads + Wait + time::Clock + Sync, C: Clock + Send + Drop>(
     Ok(thread::map_vec(
         rt,
         workers,
-        &|worker: Worker<R, C>| -> Result<Report, Fault>
-            requires { IsSync R.row × IsSend C.row }
+        &|worker: Worker<R, C, W>| -> Result<Report, Fault>
+            requires { IsSync R.row × IsSend C.row × IsSync W.row }
             ensures { IsCounted course.transactions result }
         { worker.work(course) },
     )?)

@@ -2,6 +2,7 @@
 ghost use Rattle.std.specs.Prelude.{◌≡◌, ◌+◌, ◌<◌, ◌≤◌, ◌^◌, Some};
 ghost use Rattle.drive.specs.Summaries.{tried, verdict_text};
 
+use progress::Ended;
 use std::fmt;
 use units::Verdict;
 
@@ -13,14 +14,6 @@ pub struct Counts {
     pub aborted: u64,
     pub unknown: u64,
     pub looks: u64,
-}
-
-/// How a transaction ended for its worker. It is not known where the worker gave up while closing.
-#[derive(Clone, Copy)]
-pub enum Ended {
-    Committed,
-    Aborted,
-    Unknown,
 }
 
 impl Counts {

@@ -1,15 +1,15 @@
 //! The transaction of a worker's turn: it reads, writes what follows, and hears its end.
 use crate::reads::Reads;
-use crate::summary::Ended;
 use crate::worker::{Hearing, Worker};
 use message::{Done, Message, Outbox, ReadAnswer};
+use progress::{Ended, Watch};
 use session::{Closing, Finished, Heard, Open, Phase, Tx};
 use std::sync::Wait;
 use std::time;
 use truetime::Clock;
 use units::{Fault, Key, Line, Stamp, TxnId};
 
-impl<'s, R: Wait + time::Clock, C: Clock + Drop> Worker<'_, 's, R, C> {
+impl<'s, R: Wait + time::Clock, C: Clock + Drop, W: Watch> Worker<'_, 's, R, C, W> {
     /// A transaction that reads keys, and writes to each the number that follows.
     pub fn transact(&mut self, keys: &[Key]) -> Result<Ended, Fault> {
         let moment = self.moments.draw()?;

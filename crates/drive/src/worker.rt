@@ -6,10 +6,11 @@ ghost use Rattle.drive.specs.Summaries.{tried};
 use crate::course::Course;
 use crate::draws::Draws;
 use crate::shared::Shared;
-use crate::summary::{Counts, Ended};
+use crate::summary::Counts;
 use board::Viewer;
 use crossbeam_channel::Receiver;
 use message::Message;
+use progress::{Ended, Stopwatch, Turn, Watch};
 use snapshot::Snapshot;
 use std::alloc::Global;
 use std::sync::Wait;
@@ -18,9 +19,10 @@ use std::{thread, time};
 use truetime::Clock;
 use units::{Fault, Key, Line, Seen, Value};
 
-/// A worker, with its inbox, and a viewer of each shard, by the shard's number. The clock of `rt` is for waiting alone.
+/// A worker, with its inbox, and a viewer of each shard, by the shard's number. The clock of `rt` is for waiting, and for what
+/// the watch is told.
 #[derive(Drop)]
-pub struct Worker<'r, 's, R, C> {
+pub struct Worker<'r, 's, R, C, W> {
     pub rt: &'r R,
     pub shared: &'s Shared,
     pub number: u64,
@@ -29,6 +31,7 @@ pub struct Worker<'r, 's, R, C> {
     pub moments: Draws<'s>,
     pub viewers: Vec<Viewer>,
     pub clock: C,
+    pub watch: &'r W,
     pub lines: Vec<Line>,
     pub buffer: Vec<u8>,
     pub silences: u32,
@@ -50,7 +53,7 @@ pub enum Hearing {
     Enough,
 }
 
-impl<R: Wait + time::Clock, C: Clock + Drop> Worker<'_, '_, R, C> {
+impl<R: Wait + time::Clock, C: Clock + Drop, W: Watch> Worker<'_, '_, R, C, W> {
     /// Does its turns of a course.
     pub fn work(self, course: Course) -> Result<Report, Fault>
         ensures { IsCounted course.transactions result }
@@ -67,12 +70,17 @@ impl<R: Wait + time::Clock, C: Clock + Drop> Worker<'_, '_, R, C> {
         })
     }
 
-    // A transaction, and then a look at its first key. It says whether that was answered.
+    // A transaction, whose end the watch is told, and then a look at its first key. It says whether that was answered.
     fn turn(&mut self, course: Course, turn: u64) -> Result<(Ended, bool), Fault>
         requires { turn < course.transactions }
     {
         let keys = course.turn_keys(self.shared.alloc, self.number, turn)?;
+        let stopwatch = Stopwatch::start(self.rt);
         let ended = self.transact(&keys)?;
+        self.watch.turned(Turn {
+            ended,
+            micros: stopwatch.micros(self.rt),
+        });
         let looked = match keys.first() {
             Some(key) => self.look(key)?,
             None => false,

@@ -3,6 +3,7 @@ use crate::gates::{Meeting, Open};
 use crate::made::{disks, settings};
 use drive::{Driven, drive, drive_by};
 use node::Gate;
+use progress::NoWatch;
 use simdisk::SimDisk;
 use std::alloc::Global;
 use std::sync::Wait;
@@ -60,7 +61,7 @@ fn driven<R: Threads + Wait + time::Clock + Sync, G: Gate + Sync>(
 ) -> Option<Driven<SimDisk>> {
     let settings = settings(alloc, workers, transactions)?;
     let disks = disks(alloc, 2)?;
-    drive(rt, alloc, &settings, disks, gate).ok()
+    drive(rt, alloc, &settings, disks, gate, &NoWatch).ok()
 }
 
 // Whether each transaction was counted, and the verdict is yes.
@@ -118,7 +119,7 @@ impl Clock for Stopped {
 fn lost<R: Threads + Wait + time::Clock + Sync>(rt: &R, alloc: Global) -> Option<Driven<SimDisk>> {
     let settings = settings(alloc, 1, 1)?;
     let disks = disks(alloc, 2)?;
-    drive_by(rt, alloc, &settings, disks, Stopped, &Open).ok()
+    drive_by(rt, alloc, &settings, disks, Stopped, &Open, &NoWatch).ok()
 }
 
 // Whether nothing was committed and no look was answered, so that it is not within the row of one worker.

@@ -2,6 +2,7 @@
 use crate::gates::Open;
 use crate::made::{disks, settings};
 use drive::{Driven, drive};
+use progress::NoWatch;
 use simdisk::SimDisk;
 use std::alloc::Global;
 use std::sync::Wait;
@@ -88,7 +89,7 @@ fn refused<R: Threads + Wait + time::Clock + Sync>(
     let mut settings = settings(alloc, row.workers, row.transactions)?;
     settings.keys = row.keys;
     let disks = disks(alloc, row.shards)?;
-    drive(rt, alloc, &settings, disks, &Open).err()
+    drive(rt, alloc, &settings, disks, &Open, &NoWatch).err()
 }
 
 #[test]
@@ -108,7 +109,7 @@ fn blank<R: Threads + Wait + time::Clock + Sync>(rt: &R, alloc: Global) -> Optio
     let settings = settings(alloc, 1, 1)?;
     let mut disks = disks(alloc, 1)?;
     disks.push(SimDisk::new(alloc)).ok()?;
-    drive(rt, alloc, &settings, disks, &Open).err()
+    drive(rt, alloc, &settings, disks, &Open, &NoWatch).err()
 }
 
 #[test]
@@ -127,9 +128,9 @@ fn are_of(driven: &Driven<SimDisk>, run: u64) -> bool {
 // Two drives of one worker, one after the other over the same disks, whose ids are of runs 1 and 2.
 fn again<R: Threads + Wait + time::Clock + Sync>(rt: &R, alloc: Global) -> Option<bool> {
     let settings = settings(alloc, 1, 5)?;
-    let first = drive(rt, alloc, &settings, disks(alloc, 2)?, &Open).ok()?;
+    let first = drive(rt, alloc, &settings, disks(alloc, 2)?, &Open, &NoWatch).ok()?;
     let of_first = are_of(&first, 1);
-    let second = drive(rt, alloc, &settings, first.disks, &Open).ok()?;
+    let second = drive(rt, alloc, &settings, first.disks, &Open, &NoWatch).ok()?;
     let committed = second.summary.counts.committed;
     Some(of_first && are_of(&second, 2) && committed >= 1)
 }

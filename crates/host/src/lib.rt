@@ -2,7 +2,9 @@
 #![tactic(auto)]
 
 mod folder;
-mod host_system;
+mod host_files;
+mod shards;
 
 pub use folder::{logs_in, logs_in_memory};
-pub use host_system::Host;
+pub use host_files::HostFiles;
+pub use shards::drive_shards;

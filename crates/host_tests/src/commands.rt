@@ -1,9 +1,11 @@
 //! Commands, one after the other in one folder.
 use crate::folder::Folder;
-use cli::{Stream, System, answer};
-use host::Host;
+use cli::{Driven, Files, Stream, System, answer};
+use host::{HostFiles, drive_shards};
+use settings::Settings;
 use simdisk::SimDisk;
 use std::alloc::Global;
+use units::Fault;
 
 // A command with the names of its files in the folder, how what is printed ends, in how many lines, the fault, and the status.
 #[derive(Clone, Copy)]
@@ -161,7 +163,14 @@ fn words<'w>(alloc: Global, command: &'w str, paths: &'w [String]) -> Option<Vec
 }
 
 // Whether a command prints what it should, and gives its status.
-fn is_answered<S: System>(alloc: Global, system: &S, folder: &Folder, step: &Step) -> Option<bool> {
+fn is_answered<F: Files, D: Fn(Global, &Settings) -> Result<Driven, Fault>>(
+    alloc: Global,
+    system: &System<F, D>,
+    folder: &Folder,
+    step: &Step,
+) -> Option<bool>
+    requires { D.IsAlwaysCallable system.now.drive }
+{
     let paths = paths(alloc, folder, step.names)?;
     let words = words(alloc, step.command, paths.as_slice())?;
     let mut out = Stream::new(Vec::<u8>::new(alloc));
@@ -180,7 +189,12 @@ fn is_printed(out: &[u8], err: &[u8], step: &Step) -> bool {
 #[test]
 fn commands_over_files(rt: HostRuntime) {
     let folder = furnished(&rt).expect(&rt, "a folder");
-    let system = Host(&rt);
+    let system = System {
+        files: HostFiles(&rt),
+        drive: |alloc: Global, settings: &Settings| {
+            drive_shards(&rt, alloc, settings, None::<Vec<u8>>)
+        },
+    };
     for step in &STEPS {
         let answered = is_answered(rt.alloc(), &system, &folder, step);
         assert!(rt; answered == Some(true), "{} {:?}", step.command, step.names);

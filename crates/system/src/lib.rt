@@ -1,8 +1,10 @@
 //! What commands ask of the system: files, and threads.
 #![tactic(auto)]
 
+mod asked;
+mod kept;
 mod reading;
-mod traits;
 
+pub use asked::{Driven, System};
+pub use kept::Files;
 pub use reading::{format_file, open_all, read_text};
-pub use traits::{Driven, Files, System};

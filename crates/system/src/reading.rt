@@ -2,7 +2,7 @@
 ghost use Rattle.std.specs.Prelude.{◌≡◌, ◌⊎◌, IfOk, IfErr, length};
 ghost use Rattle.units.specs.declared.fault.Fault.TheVariants.{BadRequest, Device, Memory};
 
-use crate::traits::Files;
+use crate::kept::Files;
 use gatelog::GateLog;
 use std::alloc::Global;
 use units::{Fault, Reason};

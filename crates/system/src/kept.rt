@@ -1,11 +1,10 @@
-//! A system, as far as commands ask of it.
+//! The files of a system, as far as commands ask for them.
 ghost use Rattle.std.specs.Prelude.{◌≡◌, ◌⊎◌, IfErr};
 ghost use Rattle.units.specs.declared.fault.Fault.TheVariants.{Device, Memory};
 
 use disk::Disk;
-use settings::Settings;
 use std::alloc::Global;
-use units::{Fault, Verdict};
+use units::Fault;
 
 /// The files of a system. What it refuses is `Device`.
 pub trait Files {
@@ -23,17 +22,4 @@ pub trait Files {
     /// A file that is there.
     fn open(&self, alloc: Global, path: &str) -> Result<Self::Log, Fault>
         ensures { IfErr result (λ fault. (fault ≡ Memory) ⊎ (fault ≡ Device)) };
-}
-
-/// A system with threads.
-pub trait System: Files {
-    /// Runs shards and workers in threads, by some settings.
-    fn drive(&self, alloc: Global, settings: &Settings) -> Result<Driven, Fault>;
-}
-
-/// What came of a drive: the text that tells it, and the verdict on the logs.
-#[derive(Drop)]
-pub struct Driven {
-    pub text: String,
-    pub verdict: Verdict,
 }

@@ -1,0 +1,73 @@
+//! Shards on the machine's threads.
+use crate::folder::{logs_in, logs_in_memory};
+use disk::Disk;
+use drive::drive;
+use node::Gate;
+use progress::{Terminal, Watch};
+use settings::Settings;
+use std::alloc::Global;
+use std::fs::File;
+use std::io::Write;
+use std::sync::Wait;
+use std::thread::Threads;
+use std::{rt, time};
+use system::Driven;
+use units::{Fault, ShardNo};
+
+/// Runs shards and workers by some settings. The logs lie in the folder of the settings, where it has one, and else on disks in
+/// memory. Where there is a terminal, it shows how far the drive is.
+pub fn drive_shards<
+    R: rt::Files<File = File> + Threads + Wait + time::Clock + Sync,
+    W: Write + Drop + Send,
+>(rt: &R, alloc: Global, settings: &Settings, terminal: Option<W>) -> Result<Driven, Fault> {
+    let turns = settings.workers.saturating_mul(settings.transactions);
+    let watch = terminal.map(|writer| Terminal::new(rt, alloc, writer, turns));
+    let driven = drive_watched(rt, alloc, settings, &watch);
+    if let Some(terminal) = watch {
+        terminal.finish();
+    }
+    driven
+}
+
+fn drive_watched<R: rt::Files<File = File> + Threads + Wait + time::Clock + Sync, W: Watch + Sync>(
+    rt: &R,
+    alloc: Global,
+    settings: &Settings,
+    watch: &W,
+) -> Result<Driven, Fault> {
+    let shards = settings.splits.as_slice().len() + 1;
+    match &settings.dir {
+        Some(folder) => {
+            let logs = logs_in(rt, alloc, folder, shards)?;
+            drive_over(rt, alloc, settings, logs, watch)
+        }
+        None => {
+            let logs = logs_in_memory(alloc, shards)?;
+            drive_over(rt, alloc, settings, logs, watch)
+        }
+    }
+}
+
+fn drive_over<R: Threads + Wait + time::Clock + Sync, D: Disk + Drop + Send, W: Watch + Sync>(
+    rt: &R,
+    alloc: Global,
+    settings: &Settings,
+    logs: Vec<D>,
+    watch: &W,
+) -> Result<Driven, Fault> {
+    let summary = drive(rt, alloc, settings, logs, &Open, watch)?.summary;
+    Ok(Driven {
+        text: format!(in alloc; "{summary}")?,
+        verdict: summary.verdict,
+    })
+}
+
+// Lets all letters through.
+#[derive(Clone, Copy)]
+struct Open;
+
+impl Gate for Open {
+    fn before(&self, _shard: ShardNo, _n: u64) {}
+
+    fn after(&self, _shard: ShardNo, _n: u64) {}
+}
