@@ -125,6 +125,50 @@ static STEPS: [Step; 13] = [
     },
 ];
 
+// Commands that ask for a file without rights.
+static CLOSED: [Step; 5] = [
+    Step {
+        command: "format",
+        names: &["closed"],
+        ends: "",
+        lines: 0,
+        fault: "fault: 2 Device\n",
+        status: 2,
+    },
+    Step {
+        command: "play",
+        names: &["closed"],
+        ends: "",
+        lines: 0,
+        fault: "fault: 2 Device\n",
+        status: 2,
+    },
+    Step {
+        command: "inspect",
+        names: &["closed", "no.lines"],
+        ends: "",
+        lines: 0,
+        fault: "fault: 2 Device\n",
+        status: 2,
+    },
+    Step {
+        command: "inspect",
+        names: &["no.lines", "closed"],
+        ends: "",
+        lines: 0,
+        fault: "fault: 2 Device\n",
+        status: 2,
+    },
+    Step {
+        command: "drive",
+        names: &["closed"],
+        ends: "",
+        lines: 0,
+        fault: "fault: 2 Device\n",
+        status: 2,
+    },
+];
+
 // The settings of a drive whose logs are in the folder of that name.
 fn settings(alloc: Global, folder: &Folder, name: &str) -> Option<String> {
     let dir = folder.path(alloc, name)?;
@@ -186,18 +230,52 @@ fn is_printed(out: &[u8], err: &[u8], step: &Step) -> bool {
         && err == step.fault.as_bytes()
 }
 
+// Which of some commands is the first that is not answered as it should be.
+fn first_wrong<'s, F: Files, D: Fn(Global, &Settings) -> Result<Driven, Fault>>(
+    alloc: Global,
+    system: &System<F, D>,
+    folder: &Folder,
+    steps: &'s [Step],
+) -> Option<&'s Step>
+    requires { D.IsAlwaysCallable system.now.drive }
+{
+    for step in steps {
+        if is_answered(alloc, system, folder, step) != Some(true) {
+            return Some(step);
+        }
+    }
+    None
+}
+
 #[test]
 fn commands_over_files(rt: HostRuntime) {
     let folder = furnished(&rt).expect(&rt, "a folder");
     let system = System {
         files: HostFiles(&rt),
         drive: |alloc: Global, settings: &Settings| {
+            drive_shards(&rt, alloc, settings, Some(Vec::<u8>::new(alloc)))
+        },
+    };
+    if let Some(step) = first_wrong(rt.alloc(), &system, &folder, &STEPS) {
+        panic!(rt; "{} {:?}", step.command, step.names);
+    }
+    assert!(rt; folder.remove(&rt));
+}
+
+#[test]
+fn files_without_rights(rt: HostRuntime) {
+    let folder = furnished(&rt).expect(&rt, "a folder");
+    assert!(rt; folder.put(&rt, "closed", ""));
+    let system = System {
+        files: HostFiles(&rt),
+        drive: |alloc: Global, settings: &Settings| {
             drive_shards(&rt, alloc, settings, None::<Vec<u8>>)
         },
     };
-    for step in &STEPS {
-        let answered = is_answered(rt.alloc(), &system, &folder, step);
-        assert!(rt; answered == Some(true), "{} {:?}", step.command, step.names);
+    if folder.close(&rt, "closed") {
+        if let Some(step) = first_wrong(rt.alloc(), &system, &folder, &CLOSED) {
+            panic!(rt; "{} {:?}", step.command, step.names);
+        }
     }
     assert!(rt; folder.remove(&rt));
 }

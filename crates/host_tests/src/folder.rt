@@ -1,5 +1,7 @@
 //! A folder for one test.
 use std::alloc::Global;
+use std::fs::Permissions;
+use std::os::unix::fs::PermissionsExt;
 use std::{env, fs};
 
 /// A folder in which nothing was when the test began.
@@ -30,6 +32,17 @@ impl Folder {
     pub fn put(&self, rt: &HostRuntime, name: &str, text: &str) -> bool {
         match self.path(rt.alloc(), name) {
             Some(path) => fs::write(rt, path.as_str(), text).is_ok(),
+            None => false,
+        }
+    }
+
+    /// Takes all rights of a file. Whether it may not be read then: a process of root reads it nevertheless.
+    pub fn close(&self, rt: &HostRuntime, name: &str) -> bool {
+        match self.path(rt.alloc(), name) {
+            Some(path) => {
+                fs::set_permissions(rt, path.as_str(), Permissions::from_mode(0)).is_ok()
+                    && fs::read(rt, path.as_str()).is_err()
+            }
             None => false,
         }
     }
