@@ -1,9 +1,12 @@
 -- Heads order as their keys do, where they differ.
-use Rattle.std.proofs.Common.{◌≡◌, ℕ, zero, suc, ◌+◌, ◌*◌, ◌^◌, ◌-◌, ◌<◌, ◌≤◌, Bool, true, false, nat_lt, List, [], ◌∷◌, length, get_or, drop, map, refl, sym, ap, ◌∙◌, arith, nat_cmp, Less, Greater}
+use Rattle.std.proofs.Common.{◌≡◌, ℕ, zero, suc, ◌+◌, ◌*◌, ◌^◌, ◌-◌, ◌<◌, ◌≤◌, Bool, true, false, cond, nat_lt, List, [], ◌∷◌, length, get_or, drop, map, refl, sym, ap, ◌∙◌, arith, nat_cmp, Less, Equal, Greater, Ordering, take}
 use Rattle.std.proofs.Math.Nat.{mul-le-mul_right, pow-le-pow_right, pow-suc}
 use Rattle.std.specs.List.{AllByRecursion, insert}
 use Rattle.std.proofs.lemmas.Bool.Decides.{nat_tests}
 use Rattle.std.proofs.lemmas.Cmp.{ranked}
+use Rattle.std.specs.Cmp.Lexicographic.{slice_cmp}
+use Rattle.std.specs.Ordering.{ordering_then}
+use Rattle.std.specs.Prelude.{min, nat_eq}
 use Rattle.units.specs.Keys.{same_key, key_before}
 use Rattle.units.proofs.KeyLaws.{key_before-trans, key_before-irreflexive, same_key-not_before, same_key_comm}
 use Rattle.units.specs.declared.writes.Install.{Install}
@@ -26,7 +29,7 @@ number_bound (suc n) (b ∷ key) bytes =
     let less : b ≤ 255 = omega (arith, bytes 0) in
     omega (arith, mul-le-mul_right (256 ^ n) less, number_bound n key (λ k. bytes (suc k)))
 
--- what has the smaller head comes first
+-- what has the smaller number comes first
 pub number_before : (n : ℕ) (a b : List ℕ) → AreBytes a → AreBytes b → number n a < number n b → key_before a b ≡ true
 unfolding number
 number_before zero a b bytes_a bytes_b lt = absurd (omega arith)
@@ -102,6 +105,69 @@ no_digit_left so_far i key le =
     none : so_far * 256 ^ 0 + number 0 (drop i key) ≡ so_far
     none = omega arith
 
+pub head_bound : (prefix key : List ℕ) → AreBytes key → head prefix key ≤ 2 ^ 64 - 1
+unfolding head
+head_bound [] key bytes = omega (arith, number_bound 8 key bytes)
+head_bound (p ∷ prefix) [] bytes = omega arith
+head_bound (p ∷ prefix) (b ∷ key) bytes = by_tests (nat_lt b p) (nat_lt p b) (head_bound prefix key (λ k. bytes (suc k)))
+  where
+    by_tests : (c d : Bool) → head prefix key ≤ 2 ^ 64 - 1 → cond c 0 (cond d (2 ^ 64 - 1) (head prefix key)) ≤ 2 ^ 64 - 1
+    by_tests true d rest = omega arith
+    by_tests false true rest = omega arith
+    by_tests false false rest = rest
+
+-- what has the smaller head comes first
+pub head_before : (prefix a b : List ℕ) → AreBytes a → AreBytes b → head prefix a < head prefix b → key_before a b ≡ true
+unfolding head
+head_before [] a b bytes_a bytes_b lt = number_before 8 a b bytes_a bytes_b lt
+head_before (p ∷ prefix) [] [] bytes_a bytes_b lt = absurd (omega arith)
+head_before (p ∷ prefix) [] (y ∷ ys) bytes_a bytes_b lt = refl
+head_before (p ∷ prefix) (x ∷ xs) [] bytes_a bytes_b lt = absurd (omega arith)
+head_before (p ∷ prefix) (x ∷ xs) (y ∷ ys) bytes_a bytes_b lt =
+    by_tests (nat_lt x p) (nat_lt p x) (nat_lt y p) (nat_lt p y) refl refl refl refl lt (head_before prefix xs ys (λ j. bytes_a (suc j)) (λ j. bytes_b (suc j)))
+  where
+    most : head prefix ys ≤ 2 ^ 64 - 1
+    most = head_bound prefix ys (λ j. bytes_b (suc j))
+
+    by_tests : (c d e f : Bool) → nat_lt x p ≡ c → nat_lt p x ≡ d → nat_lt y p ≡ e → nat_lt p y ≡ f
+        → cond c 0 (cond d (2 ^ 64 - 1) (head prefix xs)) < cond e 0 (cond f (2 ^ 64 - 1) (head prefix ys))
+        → (head prefix xs < head prefix ys → key_before xs ys ≡ true) → key_before (x ∷ xs) (y ∷ ys) ≡ true
+    by_tests c d true f hc hd he hf less rest = absurd (omega (arith, less))
+    by_tests true d false f hc hd he hf less rest = grind (arith, nat_tests)
+    by_tests false true false true hc hd he hf less rest = absurd (omega (arith, less))
+    by_tests false true false false hc hd he hf less rest = absurd (omega (arith, less, most))
+    by_tests false false false true hc hd he hf less rest = grind (arith, nat_tests)
+    by_tests false false false false hc hd he hf less rest =
+        let before : key_before xs ys ≡ true = rest less in
+        grind (arith, nat_tests)
+
+-- a head, told from a comparison of the prefix with as much of the key
+abbrev pub head_by : Ordering → ℕ → ℕ
+head_by Less n = 0
+head_by Equal n = n
+head_by Greater n = 2 ^ 64 - 1
+
+pub head_compared : (prefix key : List ℕ) (n : ℕ) → n ≡ min (length prefix) (length key) →
+    head prefix key ≡ head_by (slice_cmp nat_cmp (take n key) prefix) (number 8 (drop n key))
+unfolding head
+head_compared [] key zero is = refl
+head_compared [] key (suc n) is = absurd (omega arith)
+head_compared (p ∷ prefix) [] zero is = refl
+head_compared (p ∷ prefix) [] (suc n) is = absurd (omega arith)
+head_compared (p ∷ prefix) (b ∷ key) zero is = absurd (omega arith)
+head_compared (p ∷ prefix) (b ∷ key) (suc n) is =
+    by_tests (nat_lt b p) (nat_lt p b) refl refl (nat_eq b p) refl (head_compared prefix key n (omega arith))
+  where
+    by_tests : (c d : Bool) → nat_lt b p ≡ c → nat_lt p b ≡ d → (e : Bool) → nat_eq b p ≡ e
+        → head prefix key ≡ head_by (slice_cmp nat_cmp (take n key) prefix) (number 8 (drop n key))
+        → cond c 0 (cond d (2 ^ 64 - 1) (head prefix key)) ≡
+        head_by (ordering_then (cond c Less (cond e Equal Greater)) (slice_cmp nat_cmp (take n key) prefix)) (number 8 (drop n key))
+    by_tests true d hc hd e he rest = refl
+    by_tests false true hc hd true he rest = absurd (grind (arith, nat_tests))
+    by_tests false true hc hd false he rest = refl
+    by_tests false false hc hd true he rest = rest
+    by_tests false false hc hd false he rest = absurd (grind (arith, nat_tests))
+
 -- where a head is smaller the key comes before the other, and the other does not
 pub not_back : (a b : List ℕ) → key_before a b ≡ true → key_before b a ≡ false
 not_back a b h = grind (arith, nat_tests, key_before-trans a b a, key_before-irreflexive a)
@@ -120,29 +186,31 @@ all_insert P t zero x here all = (here, all)
 all_insert P [] (suc k) x here all = (here, tt)
 all_insert P (y ∷ t) (suc k) x here all = (all.0, all_insert P t k x here all.1)
 
-pub heads_insert : (t : List Install) (heads : List ℕ) (k : ℕ) (x : Install) → AreBytes x.key → AreHeads t heads → AreHeads (insert t k x) (insert heads k (head x.key))
-heads_insert t heads k x bytes are = record {
+pub heads_insert : (prefix : List ℕ) (t : List Install) (heads : List ℕ) (k : ℕ) (x : Install) → AreBytes x.key → AreHeads prefix t heads
+    → AreHeads prefix (insert t k x) (insert heads k (head prefix x.key))
+heads_insert prefix t heads k x bytes are = record {
   bytes = all_insert (λ i. AreBytes i.key) t k x bytes are.bytes;
-  each = ap (λ h. insert h k (head x.key)) are.each ∙ sym (map_insert (λ i. head i.key) t k x);
+  each = ap (λ h. insert h k (head prefix x.key)) are.each ∙ sym (map_insert (λ i. head prefix i.key) t k x);
 }
 
 -- the head of a version there
-head_at : (t : List Install) (heads : List ℕ) (k : ℕ) → AreHeads t heads → k < length t → get_or heads k 0 ≡ head (get_or t k no_install).key
-head_at t heads k are lt = ap (λ h. get_or h k 0) are.each ∙ get_or-map (λ i. head i.key) t k no_install 0 lt
+head_at : (prefix : List ℕ) (t : List Install) (heads : List ℕ) (k : ℕ) → AreHeads prefix t heads → k < length t
+    → get_or heads k 0 ≡ head prefix (get_or t k no_install).key
+head_at prefix t heads k are lt = ap (λ h. get_or h k 0) are.each ∙ get_or-map (λ i. head prefix i.key) t k no_install 0 lt
 
 -- a version whose head is smaller is not after the key, and one whose head is greater is
-pub smaller_head : (t : List Install) (heads key : List ℕ) (k at : ℕ) → AreHeads t heads → k < length t → AreBytes key → get_or heads k 0 < head key
-    → is_not_after key at (get_or t k no_install) ≡ true
-smaller_head t heads key k at are lt bytes less =
+pub smaller_head : (prefix : List ℕ) (t : List Install) (heads key : List ℕ) (k at : ℕ) → AreHeads prefix t heads → k < length t → AreBytes key
+    → get_or heads k 0 < head prefix key → is_not_after key at (get_or t k no_install) ≡ true
+smaller_head prefix t heads key k at are lt bytes less =
     let there : AreBytes (get_or t k no_install).key = each_at (λ i. AreBytes i.key) t k no_install are.bytes lt in
-    let before = number_before 8 (get_or t k no_install).key key there bytes (omega (arith, head_at t heads k are lt, less)) in
+    let before = head_before prefix (get_or t k no_install).key key there bytes (omega (arith, head_at prefix t heads k are lt, less)) in
     rw before refl
 
-pub greater_head : (t : List Install) (heads key : List ℕ) (k at : ℕ) → AreHeads t heads → k < length t → AreBytes key → head key < get_or heads k 0
-    → is_not_after key at (get_or t k no_install) ≡ false
-greater_head t heads key k at are lt bytes more =
+pub greater_head : (prefix : List ℕ) (t : List Install) (heads key : List ℕ) (k at : ℕ) → AreHeads prefix t heads → k < length t → AreBytes key
+    → head prefix key < get_or heads k 0 → is_not_after key at (get_or t k no_install) ≡ false
+greater_head prefix t heads key k at are lt bytes more =
     let there : AreBytes (get_or t k no_install).key = each_at (λ i. AreBytes i.key) t k no_install are.bytes lt in
-    let before = number_before 8 key (get_or t k no_install).key bytes there (omega (arith, head_at t heads k are lt, more)) in
+    let before = head_before prefix key (get_or t k no_install).key bytes there (omega (arith, head_at prefix t heads k are lt, more)) in
     rw (not_back key (get_or t k no_install).key before, apart key (get_or t k no_install).key before) refl
 
 -- what a comparison of two numbers says

@@ -1,5 +1,5 @@
 //! A piece of a long list of numbers.
-ghost use Rattle.std.specs.Prelude.{◌≡◌, ◌<◌, ◌≤◌, ◌++◌, ◌∷◌, [], length, IfOk, IfErr, slice_index_or};
+ghost use Rattle.std.specs.Prelude.{◌≡◌, ◌<◌, ◌≤◌, ◌++◌, ◌∷◌, [], length, IfOk, IfErr, slice_index_or, slice_set};
 ghost use Rattle.std.specs.List.{insert};
 
 use std::alloc::Global;
@@ -51,6 +51,14 @@ impl Piece {
         ensures { result ≡ slice_index_or self.now at result }
     {
         self.numbers[at]
+    }
+
+    /// Writes over one of its numbers.
+    pub fn set(&mut self, at: usize, number: u64)
+        requires { at < length self.old }
+        ensures { self.new ≡ slice_set self.old at number }
+    {
+        self.numbers[at] = number;
     }
 
     /// Puts a number into a piece that is not full. It takes no memory.

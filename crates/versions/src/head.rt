@@ -1,16 +1,33 @@
 //! Heads of keys.
-ghost use Rattle.std.specs.Prelude.{◌≡◌, ◌<◌, slice_index};
-ghost use Rattle.versions.specs.Heads.{AreBytes, number, head};
+ghost use Rattle.std.specs.Prelude.{◌≡◌, ◌<◌, ◌≤◌, length, take, slice_index};
+ghost use Rattle.versions.specs.Heads.{AreBytes, number, head, prefix_of, shared};
 
+use std::cmp::Ordering;
 use units::Key;
 
-/// The first eight bytes of a key as one number, the first of them its greatest digit, with zeros for those that are missing.
-/// Heads order as their keys do, where they differ.
-pub fn head(key: &Key) -> u64
-    ensures head { result ≡ head key.now }
+/// The eight bytes of a key behind a prefix as one number, the first of them its greatest digit, with zeros for those that are
+/// missing. A key that does not begin with the prefix has the least or the greatest number, as it is before or behind those that
+/// do. So heads order as their keys do, where they differ.
+pub fn head(prefix: &Option<Key>, key: &Key) -> u64
+    ensures head { result ≡ head (prefix_of prefix.now) key.now }
     ensures bytes { AreBytes key.now }
 {
-    number(key.as_bytes())
+    match prefix {
+        Some(prefix) => head_behind(prefix.as_bytes(), key.as_bytes()),
+        None => number(key.as_bytes()),
+    }
+}
+
+fn head_behind(prefix: &[u8], key: &[u8]) -> u64
+    ensures head { result ≡ head prefix.now key.now }
+    ensures bytes { AreBytes key.now }
+{
+    let shared = prefix.len().min(key.len());
+    match key[..shared].cmp(prefix) {
+        Ordering::Less => 0,
+        Ordering::Equal => number(&key[shared..]),
+        Ordering::Greater => u64::MAX,
+    }
 }
 
 fn number(bytes: &[u8]) -> u64
@@ -33,4 +50,29 @@ fn digit(bytes: &[u8], at: usize) -> u64
         Some(byte) => u64::from(*byte),
         None => 0,
     }
+}
+
+/// What both keys begin with, as far as it is a key.
+pub fn shared(first: &Key, last: &Key) -> Option<Key>
+    ensures { prefix_of result ≡ shared first.now last.now }
+{
+    let bytes = first.as_bytes();
+    Key::new(&bytes[..shared_len(bytes, last.as_bytes())]).ok()
+}
+
+// How many bytes both begin with.
+fn shared_len(first: &[u8], last: &[u8]) -> usize
+    ensures most { result ≤ length first.now }
+    ensures shared { take result first.now ≡ shared first.now last.now }
+{
+    let [x, first @ ..] = first else {
+        return 0;
+    };
+    let [y, last @ ..] = last else {
+        return 0;
+    };
+    if x != y {
+        return 0;
+    }
+    1 + shared_len(first, last)
 }

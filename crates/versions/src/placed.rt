@@ -1,11 +1,13 @@
 //! The places of versions in order, each with the head of its key.
-ghost use Rattle.std.specs.Prelude.{◌≡◌, ◌+◌, ◌<◌, ◌≤◌, [], length, IsOk, IfErr, OnOk, slice_index_or};
+ghost use Rattle.std.specs.Prelude.{◌≡◌, ◌+◌, ◌<◌, ◌≤◌, [], length, IsOk, IfErr, OnOk, slice_index_or, slice_set};
 ghost use Rattle.std.specs.List.{insert};
+ghost use Rattle.versions.specs.Heads.{AreBytes, head, prefix_of};
 
+use crate::head::head;
 use crate::sequence::Sequence;
 use std::alloc::Global;
 use std::marker::Model;
-use units::Fault;
+use units::{Fault, Key};
 
 /// Places in order, beside each the head of its key, and the room for more.
 #[derive(Drop)]
@@ -13,17 +15,21 @@ pub struct Places {
     places: Sequence,
     // Apart from the places, so that a search reads little else.
     heads: Sequence,
+    // What heads are behind: none where that is empty.
+    prefix: Option<Key>,
 }
 
 impl Model for Places {
     ghost use Rattle.std.specs.Prelude.{◌≡◌, length, min};
     ghost use Rattle.versions.specs.Headed.{Headed};
+    ghost use Rattle.versions.specs.Heads.{prefix_of};
 
     ghost Value = { Headed };
 
     ghost view = { λ p. record {
       places = p.places.numbers;
       heads = p.heads.numbers;
+      prefix = prefix_of p.prefix;
       room = min p.places.room p.heads.room;
     } };
 
@@ -39,6 +45,7 @@ impl Places {
         Places {
             places: Sequence::none(alloc),
             heads: Sequence::none(alloc),
+            prefix: None,
         }
     }
 
@@ -65,11 +72,20 @@ impl Places {
         self.heads.get(at)
     }
 
+    /// The head that a key has beside these places.
+    pub fn head_of(&self, key: &Key) -> u64
+        ensures head { result ≡ head self.now.prefix key.now }
+        ensures bytes { AreBytes key.now }
+    {
+        head(&self.prefix, key)
+    }
+
     /// Makes room for so many more.
     pub fn reserve(&mut self, more: usize) -> Result<(), Fault>
         ensures room { OnOk result (more ≤ self.new.room) }
         ensures places { self.new.places ≡ self.old.places }
         ensures heads { self.new.heads ≡ self.old.heads }
+        ensures prefix { self.new.prefix ≡ self.old.prefix }
         ensures keeps { self.old.room ≤ self.new.room }
         ensures memory { IfErr result (λ fault. fault ≡ Fault.Memory) }
         ensures succeeds { more ≤ self.old.room → IsOk result }
@@ -84,9 +100,31 @@ impl Places {
         requires room { 0 < self.old.room }
         ensures places { self.new.places ≡ insert self.old.places at place }
         ensures heads { self.new.heads ≡ insert self.old.heads at head }
+        ensures prefix { self.new.prefix ≡ self.old.prefix }
         ensures room { self.new.room + 1 ≡ self.old.room }
     {
         self.places.insert(at, place as u64);
         self.heads.insert(at, head);
+    }
+
+    /// Heads are behind this prefix from now on. Those that stand are to be written anew.
+    pub fn set_prefix(&mut self, prefix: Option<Key>)
+        ensures prefix { self.new.prefix ≡ prefix_of prefix }
+        ensures places { self.new.places ≡ self.old.places }
+        ensures heads { self.new.heads ≡ self.old.heads }
+        ensures room { self.new.room ≡ self.old.room }
+    {
+        self.prefix = prefix;
+    }
+
+    /// Writes over the head beside a place.
+    pub fn set_head(&mut self, at: usize, head: u64)
+        requires { at < length self.old.places }
+        ensures heads { self.new.heads ≡ slice_set self.old.heads at head }
+        ensures places { self.new.places ≡ self.old.places }
+        ensures prefix { self.new.prefix ≡ self.old.prefix }
+        ensures room { self.new.room ≡ self.old.room }
+    {
+        self.heads.set(at, head);
     }
 }

@@ -7,7 +7,7 @@ ghost use Rattle.versions.specs.Halves.{AllUpTo, AllAfter};
 ghost use Rattle.versions.specs.Heads.{AreBytes, AreHeads, head};
 ghost use Rattle.versions.specs.Ordered.{is_by, is_not_after, count_not_after, installed, AscendsByVersion, IsInOrder};
 
-use crate::head::head;
+use crate::head::shared;
 use crate::placed::Places;
 use counts::Count;
 use std::cmp::Ordering;
@@ -38,10 +38,11 @@ fn is_not_after_at(
     compared: &mut Count,
 ) -> bool
     requires within { AreWithin places.now.places (length installs.now) }
-    requires heads { AreHeads (arranged installs.now places.now.places) places.now.heads }
+    requires heads { AreHeads places.now.prefix (arranged installs.now places.now.places)
+        places.now.heads }
     requires middle { middle < length places.now.places }
     requires bytes { AreBytes key.now }
-    requires head { key_head ≡ head key.now }
+    requires head { key_head ≡ head places.now.prefix key.now }
     ensures value { result ≡ is_not_after key.now at
         (slice_index_or (arranged installs.now places.now.places) middle no_install) }
     ensures counted { compared.new.number ≡ compared.old.number + 1 }
@@ -69,7 +70,8 @@ pub fn find(
 ) -> (usize, u32)
     requires within { AreWithin places.now.places (length installs.now) }
     requires order { AscendsByVersion (arranged installs.now places.now.places) }
-    requires heads { AreHeads (arranged installs.now places.now.places) places.now.heads }
+    requires heads { AreHeads places.now.prefix (arranged installs.now places.now.places)
+        places.now.heads }
     ensures count { result.0 ≡
         count_not_after key.now at (arranged installs.now places.now.places) }
     ensures before { AllUpTo key.now at (arranged installs.now places.now.places) result.0 }
@@ -79,7 +81,7 @@ pub fn find(
     ensures fewest { (digits : ℕ) → 2 ^ digits ≤ length places.now.places + 1 → digits ≤ result.1 }
     ensures counted { compared.new.number ≡ compared.old.number + result.1 }
 {
-    let key_head = head(key);
+    let key_head = places.head_of(key);
     let mut low = 0;
     let mut high = places.len();
     let mut probes: u32 = 0;
@@ -104,7 +106,8 @@ pub fn newest_by<'a>(
 ) -> Option<&'a Install>
     requires within { AreWithin places.now.places (length installs.now) }
     requires order { AscendsByVersion (arranged installs.now places.now.places) }
-    requires heads { AreHeads (arranged installs.now places.now.places) places.now.heads }
+    requires heads { AreHeads places.now.prefix (arranged installs.now places.now.places)
+        places.now.heads }
     ensures { option_copied result ≡
         newest (filter (is_by key.now at) (arranged installs.now places.now.places)) }
 {
@@ -122,7 +125,8 @@ pub fn newest_by<'a>(
 pub fn newest_of<'a>(installs: &'a [Install], places: &Places, key: &Key) -> Option<&'a Install>
     requires within { AreWithin places.now.places (length installs.now) }
     requires kept { IsInOrder Stamp.MAX (arranged installs.now places.now.places) }
-    requires heads { AreHeads (arranged installs.now places.now.places) places.now.heads }
+    requires heads { AreHeads places.now.prefix (arranged installs.now places.now.places)
+        places.now.heads }
     ensures { option_copied result ≡
         newest (of_key (arranged installs.now places.now.places) key.now) }
 {
@@ -133,12 +137,14 @@ pub fn newest_of<'a>(installs: &'a [Install], places: &Places, key: &Key) -> Opt
 pub fn install(installs: &mut Vec<Install>, places: &mut Places, new: Install)
     requires within { AreWithin places.old.places (length installs.old.items) }
     requires order { AscendsByVersion (arranged installs.old.items places.old.places) }
-    requires heads { AreHeads (arranged installs.old.items places.old.places) places.old.heads }
+    requires heads { AreHeads places.old.prefix (arranged installs.old.items places.old.places)
+        places.old.heads }
     requires room { (vec_len installs.old < vec_capacity installs.old) × (0 < places.old.room) }
     ensures items { arranged installs.new.items places.new.places ≡
         installed (arranged installs.old.items places.old.places) new }
     ensures within { AreWithin places.new.places (length installs.new.items) }
-    ensures heads { AreHeads (arranged installs.new.items places.new.places) places.new.heads }
+    ensures heads { AreHeads places.new.prefix (arranged installs.new.items places.new.places)
+        places.new.heads }
     ensures len { (vec_len installs.new ≡ vec_len installs.old + 1)
         × (places.new.room + 1 ≡ places.old.room) }
     ensures in_time { new.at < 2 ^ 62 }
@@ -151,6 +157,33 @@ pub fn install(installs: &mut Vec<Install>, places: &mut Places, new: Install)
         new.at.micros(),
         &mut Count::none(),
     );
-    places.insert(count, installs.len(), head(&new.key));
+    let key_head = places.head_of(&new.key);
+    places.insert(count, installs.len(), key_head);
     installs.push_reserved(new);
+    renew(installs, places);
+}
+
+// Writes all heads anew where the number of places is a power of two, so an install pays for two of them in the mean. They are
+// behind what all keys share but those of the first and the last sixteenth, which may begin as they like.
+fn renew(installs: &[Install], places: &mut Places)
+    requires within { AreWithin places.old.places (length installs.now) }
+    requires heads { AreHeads places.old.prefix (arranged installs.now places.old.places)
+        places.old.heads }
+    ensures places { places.new.places ≡ places.old.places }
+    ensures heads { AreHeads places.new.prefix (arranged installs.now places.new.places)
+        places.new.heads }
+    ensures room { places.new.room ≡ places.old.room }
+{
+    let len = places.len();
+    if !len.is_power_of_two() {
+        return;
+    }
+    let edge = len / 16;
+    let first = &installs[places.get(edge)].key;
+    let last = &installs[places.get(len - 1 - edge)].key;
+    places.set_prefix(shared(first, last));
+    for at in 0..len {
+        let key_head = places.head_of(&installs[places.get(at)].key);
+        places.set_head(at, key_head);
+    }
 }

@@ -1,5 +1,5 @@
 //! A long list of numbers in pieces, so that one more moves few of them.
-ghost use Rattle.std.specs.Prelude.{◌≡◌, ◌+◌, ◌*◌, ◌<◌, ◌≤◌, [], length, IsOk, IfErr, OnOk, OnErr, slice_index_or};
+ghost use Rattle.std.specs.Prelude.{◌≡◌, ◌+◌, ◌*◌, ◌<◌, ◌≤◌, [], length, IsOk, IfErr, OnOk, OnErr, slice_index_or, slice_set};
 ghost use Rattle.std.specs.List.{insert};
 ghost use Rattle.versions.specs.Pieces.{joined, IsLaid};
 
@@ -90,6 +90,15 @@ impl Sequence {
         Ok(())
     }
 
+    /// Writes over one of the numbers.
+    pub fn set(&mut self, at: usize, number: u64)
+        requires { at < length self.old.numbers }
+        ensures numbers { self.new.numbers ≡ slice_set self.old.numbers at number }
+        ensures room { self.new.room ≡ self.old.room }
+    {
+        set(&mut self.pieces, at, number);
+    }
+
     /// Puts in a number. It takes no memory.
     pub fn insert(&mut self, at: usize, number: u64)
         requires at { at ≤ length self.old.numbers }
@@ -109,6 +118,17 @@ fn get(pieces: &[Piece], at: usize) -> u64
     ensures { result ≡ slice_index_or (joined pieces.now) at 0 }
 {
     pieces[at / PIECE].get(at % PIECE)
+}
+
+// Writes over the number that stands there.
+fn set(pieces: &mut [Piece], at: usize, number: u64)
+    requires laid { IsLaid pieces.old }
+    requires within { at < length (joined pieces.old) }
+    ensures numbers { joined pieces.new ≡ slice_set (joined pieces.old) at number }
+    ensures laid { IsLaid pieces.new }
+    ensures len { length pieces.new ≡ length pieces.old }
+{
+    pieces[at / PIECE].set(at % PIECE, number);
 }
 
 // Puts in a number; each full piece from there on hands its last one to the next.

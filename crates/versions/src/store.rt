@@ -36,7 +36,7 @@ impl Model for Versions {
       room = a.room;
     } };
 
-    ghost invariant = { λ a. IsPlaced a.installs.items a.places.places a.places.heads a.room
+    ghost invariant = { λ a. IsPlaced a.installs.items a.places.places a.places.heads a.places.prefix a.room
         (vec_capacity a.installs - vec_len a.installs) a.places.room };
 }
 
