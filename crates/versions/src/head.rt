@@ -12,9 +12,16 @@ pub fn head(prefix: &Option<Key>, key: &Key) -> u64
     ensures head { result ≡ head (prefix_of prefix.now) key.now }
     ensures bytes { AreBytes key.now }
 {
+    head_behind(prefix_bytes(prefix), key.as_bytes())
+}
+
+/// The bytes of a prefix that is kept as a key, none where there is no key.
+pub fn prefix_bytes(prefix: &Option<Key>) -> &[u8]
+    ensures { result.now ≡ prefix_of prefix.now }
+{
     match prefix {
-        Some(prefix) => head_behind(prefix.as_bytes(), key.as_bytes()),
-        None => number(key.as_bytes()),
+        Some(key) => key.as_bytes(),
+        None => &[],
     }
 }
 

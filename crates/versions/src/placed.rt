@@ -1,9 +1,10 @@
 //! The places of versions in order, each with the head of its key.
 ghost use Rattle.std.specs.Prelude.{◌≡◌, ◌+◌, ◌<◌, ◌≤◌, [], length, IsOk, IfErr, OnOk, slice_index_or, slice_set};
 ghost use Rattle.std.specs.List.{insert};
+ghost use Rattle.units.specs.Keys.{same_key};
 ghost use Rattle.versions.specs.Heads.{AreBytes, head, prefix_of};
 
-use crate::head::head;
+use crate::head::{head, prefix_bytes};
 use crate::sequence::Sequence;
 use std::alloc::Global;
 use std::marker::Model;
@@ -107,6 +108,13 @@ impl Places {
         self.heads.insert(at, head);
     }
 
+    /// Heads are behind this prefix.
+    pub fn are_behind(&self, prefix: &Option<Key>) -> bool
+        ensures { result ≡ same_key self.now.prefix (prefix_of prefix.now) }
+    {
+        are_same(prefix_bytes(&self.prefix), prefix_bytes(prefix))
+    }
+
     /// Heads are behind this prefix from now on. Those that stand are to be written anew.
     pub fn set_prefix(&mut self, prefix: Option<Key>)
         ensures prefix { self.new.prefix ≡ prefix_of prefix }
@@ -127,4 +135,10 @@ impl Places {
     {
         self.heads.set(at, head);
     }
+}
+
+fn are_same(bytes: &[u8], others: &[u8]) -> bool
+    ensures { result ≡ same_key bytes.now others.now }
+{
+    bytes == others
 }

@@ -163,8 +163,9 @@ pub fn install(installs: &mut Vec<Install>, places: &mut Places, new: Install)
     renew(installs, places);
 }
 
-// Writes all heads anew where the number of places is a power of two, so an install pays for two of them in the mean. They are
-// behind what all keys share but those of the first and the last sixteenth, which may begin as they like.
+// Where the number of places is a power of two the prefix is looked at again, and where it has become another all heads are written
+// anew: an install pays for two of them at most, in the mean. The prefix is what all keys share but those of the first and the last
+// sixteenth, which may begin as they like.
 fn renew(installs: &[Install], places: &mut Places)
     requires within { AreWithin places.old.places (length installs.now) }
     requires heads { AreHeads places.old.prefix (arranged installs.now places.old.places)
@@ -181,7 +182,11 @@ fn renew(installs: &[Install], places: &mut Places)
     let edge = len / 16;
     let first = &installs[places.get(edge)].key;
     let last = &installs[places.get(len - 1 - edge)].key;
-    places.set_prefix(shared(first, last));
+    let prefix = shared(first, last);
+    if places.are_behind(&prefix) {
+        return;
+    }
+    places.set_prefix(prefix);
     for at in 0..len {
         let key_head = places.head_of(&installs[places.get(at)].key);
         places.set_head(at, key_head);
