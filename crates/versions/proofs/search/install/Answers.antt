@@ -34,7 +34,8 @@ returns-clause-within c =
     let found = c.find-count.result.0 in
     let count : c.len.result ≡ length items = omega (arith, c.len.ensures, c.deref.ensures.len, ap length c.deref.ensures.value) in
     let more : length c.push_reserved.new.self.items ≡ length items + 1 = ap length c.push_reserved.ensures.items ∙ length-append items (c.args.new ∷ []) in
-    subst (λ (t : List ℕ). AreWithin t (length c.push_reserved.new.self.items)) (sym (c.renew.ensures.places ∙ c.insert.ensures.places ∙ ap (insert places found) count))
+    subst (λ (t : List ℕ). AreWithin t (length c.push_reserved.new.self.items))
+    (sym (c.renew.ensures.places ∙ c.insert.ensures.places ∙ ap (insert places found) count))
     (subst (AreWithin (insert places found (length items))) (sym more) (insert_within places (length items) found c.requires.within))
 
 pub renew-requires-clause-within : goal.renew-requires-clause-within

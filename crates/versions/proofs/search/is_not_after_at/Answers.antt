@@ -9,8 +9,8 @@ pub returns-in-Less-clause-value : goal.returns-in-Less-clause-value
 returns-in-Less-clause-value c =
     let places = c.args.places.now.places in
     let less = less_by c.head.result c.args.key_head (sym c.cmp.ensures ∙ c.in-Less.is) in
-    sym (smaller_head c.args.places.now.prefix (arranged c.args.installs.now places) c.args.places.now.heads c.args.key.now c.args.middle c.args.at c.requires.heads
-    (omega (arith, c.requires.middle, length_arranged c.args.installs.now places)) c.requires.bytes
+    sym (smaller_head c.args.places.now.prefix (arranged c.args.installs.now places) c.args.places.now.heads c.args.key.now
+    c.args.middle c.args.at c.requires.heads (omega (arith, c.requires.middle, length_arranged c.args.installs.now places)) c.requires.bytes
     (omega (arith, less, c.head.ensures, c.requires.head)))
 
 pub returns-in-Equal-clause-value : goal.returns-in-Equal-clause-value
@@ -25,6 +25,6 @@ pub returns-in-Greater-clause-value : goal.returns-in-Greater-clause-value
 returns-in-Greater-clause-value c =
     let places = c.args.places.now.places in
     let more = greater_by c.head.result c.args.key_head (sym c.cmp.ensures ∙ c.in-Greater.is) in
-    sym (greater_head c.args.places.now.prefix (arranged c.args.installs.now places) c.args.places.now.heads c.args.key.now c.args.middle c.args.at c.requires.heads
-    (omega (arith, c.requires.middle, length_arranged c.args.installs.now places)) c.requires.bytes
+    sym (greater_head c.args.places.now.prefix (arranged c.args.installs.now places) c.args.places.now.heads c.args.key.now
+    c.args.middle c.args.at c.requires.heads (omega (arith, c.requires.middle, length_arranged c.args.installs.now places)) c.requires.bytes
     (omega (arith, more, c.head.ensures, c.requires.head)))
