@@ -1,5 +1,5 @@
 //! The versions of keys.
-ghost use Rattle.std.specs.Prelude.{◌<◌};
+ghost use Rattle.std.specs.Prelude.{◌<◌, ◌≤◌, ◌^◌};
 
 use crate::lines::byte;
 use counts::Count;
@@ -382,6 +382,7 @@ struct Draws {
 impl Draws {
     fn below(&mut self, limit: u64) -> u64
         requires { 0 < limit }
+        ensures { result < limit }
     {
         self.state = self
             .state
@@ -417,7 +418,9 @@ impl Draws {
     }
 
     // A version of a key behind that many letters, one of these numbers.
-    fn version(&mut self, letters: &[usize], turn: u64) -> Option<Plain> {
+    fn version(&mut self, letters: &[usize], turn: u64) -> Option<Plain>
+        requires { turn < 2 ^ 32 }
+    {
         let chosen = self.below(letters.len().max(1) as u64) as usize;
         let key = self.key(*letters.get(chosen)?)?;
         let at = turn + self.below(60);
@@ -431,12 +434,9 @@ impl Draws {
 
 // How many are not after the key and timestamp, and the value by then.
 fn plainly(all: &[Plain], key: &Key, at: u64) -> (usize, Option<u8>) {
-    let mut count = 0;
+    let count = all.iter().filter(|one| one.is_not_after(key, at)).count();
     let mut value = None;
     for one in all {
-        if one.is_not_after(key, at) {
-            count += 1;
-        }
         if one.is_by(key, at) {
             value = one.value;
         }
@@ -445,7 +445,12 @@ fn plainly(all: &[Plain], key: &Key, at: u64) -> (usize, Option<u8>) {
 }
 
 // Both take the version, or neither.
-fn take_one(alloc: Global, versions: &mut Versions, all: &mut Vec<Plain>, new: &Plain) -> Option<bool> {
+fn take_one(
+    alloc: Global,
+    versions: &mut Versions,
+    all: &mut Vec<Plain>,
+    new: &Plain,
+) -> Option<bool> {
     let is_taken = !all
         .iter()
         .any(|one| one.is_by(&new.key, Stamp::MAX) && new.at <= one.at);
@@ -475,7 +480,10 @@ fn agree_at(versions: &Versions, all: &[Plain], sought: &Plain) -> bool {
 }
 
 // So many drawn versions; at each so many-th turn something drawn is looked for.
-fn agree_drawn(alloc: Global, letters: &[usize], turns: u64, apart: u64) -> Option<bool> {
+fn agree_drawn(alloc: Global, letters: &[usize], turns: u64, apart: u64) -> Option<bool>
+    requires few { turns ≤ 2 ^ 32 }
+    requires apart { 0 < apart }
+{
     let mut versions = Versions::none(alloc);
     let mut all = Vec::new(alloc);
     let mut draws = Draws { state: turns };
