@@ -1,9 +1,11 @@
 //! The versions of keys.
+ghost use Rattle.std.specs.Prelude.{◌<◌, ◌≤◌, ◌^◌};
+
 use crate::lines::byte;
 use counts::Count;
 use made::{key, stamp};
 use std::alloc::Global;
-use units::{Stamp, Value, Write, Writes};
+use units::{Key, Stamp, Value, Write, Writes};
 use versions::Versions;
 
 // A version of a key, by its letter: the timestamp, and a value of one letter or an erasure.
@@ -351,4 +353,166 @@ fn shows_both(alloc: Global) -> Option<bool> {
 #[test]
 fn writes_at_one_timestamp(rt: HostRuntime) {
     assert!(rt; matches!(shows_both(rt.alloc()), Some(true)));
+}
+
+// A version in a plain list of all, ascending by key and timestamp.
+#[derive(Clone, Copy)]
+struct Plain {
+    key: Key,
+    at: u64,
+    value: Option<u8>,
+}
+
+impl Plain {
+    fn is_not_after(&self, key: &Key, at: u64) -> bool {
+        let (bytes, others) = (self.key.as_bytes(), key.as_bytes());
+        bytes < others || (bytes == others && self.at <= at)
+    }
+
+    fn is_by(&self, key: &Key, at: u64) -> bool {
+        self.key.as_bytes() == key.as_bytes() && self.at <= at
+    }
+}
+
+#[derive(Drop)]
+struct Draws {
+    state: u64,
+}
+
+impl Draws {
+    fn below(&mut self, limit: u64) -> u64
+        requires { 0 < limit }
+        ensures { result < limit }
+    {
+        self.state = self
+            .state
+            .wrapping_mul(6364136223846793005)
+            .wrapping_add(1442695040888963407);
+        (self.state >> 33) % limit
+    }
+
+    // A byte of few, the least and the greatest among them, so that keys begin alike and end in zeros.
+    fn byte(&mut self) -> u8 {
+        match self.below(4) {
+            0 => 0,
+            1 => 1,
+            2 => b'c',
+            _ => 255,
+        }
+    }
+
+    // So many letters, mostly up to three bytes behind them, and at times up to 64 in all.
+    fn key(&mut self, letters: usize) -> Option<Key> {
+        let mut bytes = *b"abcdefghijklmnopqrstuvwxyzabcdefghijklmnopqrstuvwxyzabcdefghijkl";
+        let letters = letters.min(20);
+        let behind = if self.below(4) == 0 {
+            self.below(65 - letters as u64)
+        } else {
+            self.below(4)
+        };
+        let len = (letters + behind as usize).clamp(1, 64);
+        for byte in &mut bytes[letters..len] {
+            *byte = self.byte();
+        }
+        Key::new(&bytes[..len]).ok()
+    }
+
+    // A version of a key behind that many letters, one of these numbers.
+    fn version(&mut self, letters: &[usize], turn: u64) -> Option<Plain>
+        requires { turn < 2 ^ 32 }
+    {
+        let chosen = self.below(letters.len().max(1) as u64) as usize;
+        let key = self.key(*letters.get(chosen)?)?;
+        let at = turn + self.below(60);
+        let value = match self.below(5) {
+            0 => None,
+            drawn => Some(drawn as u8),
+        };
+        Some(Plain { key, at, value })
+    }
+}
+
+// How many are not after the key and timestamp, and the value by then.
+fn plainly(all: &[Plain], key: &Key, at: u64) -> (usize, Option<u8>) {
+    let count = all.iter().filter(|one| one.is_not_after(key, at)).count();
+    let mut value = None;
+    for one in all {
+        if one.is_by(key, at) {
+            value = one.value;
+        }
+    }
+    (count, value)
+}
+
+// Both take the version, or neither.
+fn take_one(
+    alloc: Global,
+    versions: &mut Versions,
+    all: &mut Vec<Plain>,
+    new: &Plain,
+) -> Option<bool> {
+    let is_taken = !all
+        .iter()
+        .any(|one| one.is_by(&new.key, Stamp::MAX) && new.at <= one.at);
+    if versions.takes(&new.key, stamp(new.at)) != is_taken {
+        return Some(false);
+    }
+    if is_taken {
+        let (count, _) = plainly(all, &new.key, new.at);
+        all.insert(count, *new).ok()?;
+        versions.reserve(1).ok()?;
+        versions.install(new.key, stamp(new.at), value_of(alloc, new.value)?);
+    }
+    Some(true)
+}
+
+fn agree_at(versions: &Versions, all: &[Plain], sought: &Plain) -> bool {
+    let (key, at) = (&sought.key, stamp(sought.at));
+    let (count, value) = plainly(all, key, sought.at);
+    let (_, latest) = plainly(all, key, Stamp::MAX);
+    let (found, probes) = versions.find(key, at, &mut Count::none());
+    // The number's binary digits, or one less.
+    let digits = usize::BITS - all.len().leading_zeros();
+    found == count
+        && (probes == digits || probes + 1 == digits)
+        && byte(versions.at(key, at)) == value
+        && byte(versions.latest(key)) == latest
+}
+
+// So many drawn versions; at each so many-th turn something drawn is looked for.
+fn agree_drawn(alloc: Global, letters: &[usize], turns: u64, apart: u64) -> Option<bool>
+    requires few { turns ≤ 2 ^ 32 }
+    requires apart { 0 < apart }
+{
+    let mut versions = Versions::none(alloc);
+    let mut all = Vec::new(alloc);
+    let mut draws = Draws { state: turns };
+    for turn in 0..turns {
+        let new = draws.version(letters, turn)?;
+        let before = draws.below(turn + 1);
+        let sought = draws.version(&[0, 3, 8, 9, 20], before)?;
+        if !take_one(alloc, &mut versions, &mut all, &new)? {
+            return Some(false);
+        }
+        if turn % apart == 0
+            && !(agree_at(&versions, &all, &new) && agree_at(&versions, &all, &sought))
+        {
+            return Some(false);
+        }
+    }
+    Some(true)
+}
+
+#[test]
+fn drawn_versions_behind_one_prefix(rt: HostRuntime) {
+    for letters in [0, 3, 8, 9, 20] {
+        let agreed = agree_drawn(rt.alloc(), &[letters], 600, 4);
+        assert!(rt; matches!(agreed, Some(true)), "{letters} letters");
+    }
+}
+
+#[test]
+fn drawn_versions_behind_several_prefixes(rt: HostRuntime) {
+    let agreed = agree_drawn(rt.alloc(), &[0, 3, 8, 9, 20], 3_000, 32);
+    assert!(rt; matches!(agreed, Some(true)));
 }

@@ -5,3 +5,4 @@ pub mod Kept
 pub mod Places
 pub mod AtOnce
 pub mod Pieces
+pub mod Heads

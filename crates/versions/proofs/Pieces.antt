@@ -1,8 +1,9 @@
 -- What stands in pieces is looked up and put in.
-use Rattle.std.proofs.Common.{◌≡◌, ℕ, zero, suc, ◌+◌, ◌-◌, ◌*◌, ◌/◌, ◌%◌, ◌<◌, ◌≤◌, Bool, true, false, nat_lt, List, [], ◌∷◌, ◌++◌, length, get_or}
+use Rattle.std.proofs.Common.{◌≡◌, ℕ, zero, suc, ◌+◌, ◌-◌, ◌*◌, ◌<◌, ◌≤◌, Bool, true, false, nat_lt, List, [], ◌∷◌, ◌++◌, length, get_or, set}
 use Rattle.std.proofs.Common.{refl, sym, ap, ◌∙◌, arith}
 use Rattle.std.specs.List.{insert}
-use Rattle.std.proofs.lemmas.List.{append_assoc, length-append, get_or_append_left, get_or-append_right}
+use Rattle.std.proofs.lemmas.List.{length-set}
+use Rattle.std.proofs.lemmas.List.{append_assoc, length-append, get_or_append_left, get_or-append_right, set-append_left, set-append_right}
 use Rattle.std.proofs.lemmas.Bool.Decides.{nat_tests}
 use Rattle.std.proofs.lemmas.List.Edits.{insert-append_left, insert-append_right}
 use Rattle.versions.specs.Pieces.{joined, IsFilled, IsLaid}
@@ -80,3 +81,35 @@ joined_more (p ∷ ps) = ap (λ l. p ++ l) (joined_more ps)
 pub laid_more : (ps : List (List ℕ)) → IsLaid ps → IsLaid (ps ++ [] ∷ [])
 laid_more [] laid = (record { few = omega arith; full = λ less. refl }, tt)
 laid_more (p ∷ ps) laid = (record { few = laid.0.few; full = λ less. ap length (joined_more ps) ∙ laid.0.full less }, laid_more ps laid.1)
+
+-- one written over
+pub set_there : (ps : List (List ℕ)) (i j : ℕ) (e : List ℕ) (x : ℕ) → IsLaid ps → j < 8192 → i * 8192 + j < length (joined ps)
+    → joined (set ps i (set (get_or ps i e) j x)) ≡ set (joined ps) (i * 8192 + j) x
+set_there [] i j e x laid less lt = absurd (omega (arith, lt))
+set_there (p ∷ ps) zero j e x laid less lt =
+    let none : j ≡ 0 * 8192 + j = omega arith in
+    sym (set-append_left p (joined ps) j x (in_first p (joined ps) j laid.0 less (omega (arith, lt)))) ∙ ap (λ n. set (p ++ joined ps) n x) none
+set_there (p ∷ ps) (suc i) j e x laid less lt =
+    let full = full_before p (joined ps) laid.0 (omega (arith, lt)) in
+    let at : i * 8192 + j ≡ suc i * 8192 + j - 8192 = omega arith in
+    ap (λ l. p ++ l) (set_there ps i j e x laid.1 less (omega (arith, lt, full, length-append p (joined ps)))
+    ∙ ap (λ n. set (joined ps) n x) at)
+    ∙ sym (set-append_right p (joined ps) 8192 (suc i * 8192 + j) x full (omega arith))
+
+still_filled : (p q rest more : List ℕ) → length q ≡ length p → length more ≡ length rest → IsFilled p rest → IsFilled q more
+still_filled p q rest more same still is = record {
+  few = omega (arith, same, is.few);
+  full = λ less. still ∙ is.full (omega (arith, same, less));
+}
+
+pub laid_set : (ps : List (List ℕ)) (i j : ℕ) (e : List ℕ) (x : ℕ) → IsLaid ps → j < 8192 → i * 8192 + j < length (joined ps)
+    → IsLaid (set ps i (set (get_or ps i e) j x))
+laid_set [] i j e x laid less lt = absurd (omega (arith, lt))
+laid_set (p ∷ ps) zero j e x laid less lt = (still_filled p (set p j x) (joined ps) (joined ps) (length-set p j x) refl laid.0, laid.1)
+laid_set (p ∷ ps) (suc i) j e x laid less lt =
+    let full = full_before p (joined ps) laid.0 (omega (arith, lt)) in
+    let rest : i * 8192 + j < length (joined ps) = omega (arith, lt, full, length-append p (joined ps)) in
+    let same = ap length (set_there ps i j e x laid.1 less rest) ∙ length-set (joined ps) (i * 8192 + j) x in (
+      still_filled p p (joined ps) (joined (set ps i (set (get_or ps i e) j x))) refl same laid.0,
+      laid_set ps i j e x laid.1 less rest,
+    )

@@ -4,3 +4,5 @@ pub mod Ordered
 pub mod Places
 pub mod Store
 pub mod Pieces
+pub mod Heads
+pub mod Headed

@@ -1,9 +1,9 @@
 -- A list in pieces of at most 8,192, each full where a later one holds anything.
 use Rattle.std.specs.Prelude.{◌≡◌, ℕ, ◌<◌, ◌≤◌, List, [], ◌∷◌, ◌++◌, length}
 
--- the places in order, and for how many more there is room
+-- the numbers in order, and for how many more there is room
 pub record Laid : Type 0 where
-  pub places : List ℕ
+  pub numbers : List ℕ
   pub room : ℕ
 
 -- the pieces one after another

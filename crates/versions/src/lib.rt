@@ -2,7 +2,9 @@
 #![tactic(auto)]
 
 mod chunk;
+mod head;
 mod laws;
+mod placed;
 mod search;
 mod sequence;
 mod store;

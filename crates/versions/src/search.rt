@@ -1,12 +1,14 @@
 //! Searches by halves among versions that are read in the order of their places.
-ghost use Rattle.std.specs.Prelude.{◌≡◌, ◌+◌, ◌<◌, ◌≤◌, ◌^◌, ℕ, length, vec_len, vec_capacity, filter};
+ghost use Rattle.std.specs.Prelude.{◌≡◌, ◌+◌, ◌<◌, ◌≤◌, ◌^◌, ℕ, length, vec_len, vec_capacity, filter, slice_index_or};
 ghost use Rattle.std.specs.Option.{option_copied};
 ghost use Rattle.units.specs.Versions.{newest, of_key};
-ghost use Rattle.versions.specs.Arranged.{arranged, AreWithin};
+ghost use Rattle.versions.specs.Arranged.{arranged, no_install, AreWithin};
 ghost use Rattle.versions.specs.Halves.{AllUpTo, AllAfter};
+ghost use Rattle.versions.specs.Heads.{AreBytes, AreHeads, head};
 ghost use Rattle.versions.specs.Ordered.{is_by, is_not_after, count_not_after, installed, AscendsByVersion, IsInOrder};
 
-use crate::sequence::Places;
+use crate::head::shared;
+use crate::placed::Places;
 use counts::Count;
 use std::cmp::Ordering;
 use units::{Install, Key, Stamp};
@@ -24,6 +26,40 @@ fn is_not_after(install: &Install, key: &Key, at: u64, compared: &mut Count) -> 
     }
 }
 
+// The version at a place in order is of this key, whose head is given, and the timestamp, or it comes before them. The version
+// is read only where the heads are equal.
+fn is_not_after_at(
+    installs: &[Install],
+    places: &Places,
+    middle: usize,
+    key: &Key,
+    key_head: u64,
+    at: u64,
+    compared: &mut Count,
+) -> bool
+    requires within { AreWithin places.now.places (length installs.now) }
+    requires heads { AreHeads places.now.prefix (arranged installs.now places.now.places)
+        places.now.heads }
+    requires middle { middle < length places.now.places }
+    requires bytes { AreBytes key.now }
+    requires head { key_head ≡ head places.now.prefix key.now }
+    ensures value { result ≡ is_not_after key.now at
+        (slice_index_or (arranged installs.now places.now.places) middle no_install) }
+    ensures counted { compared.new.number ≡ compared.old.number + 1 }
+{
+    match places.head(middle).cmp(&key_head) {
+        Ordering::Less => {
+            compared.rise();
+            true
+        }
+        Ordering::Equal => is_not_after(&installs[places.get(middle)], key, at, compared),
+        Ordering::Greater => {
+            compared.rise();
+            false
+        }
+    }
+}
+
 /// How many versions are not after the key and the timestamp, in microseconds, and how many were compared to find that.
 pub fn find(
     installs: &[Install],
@@ -34,6 +70,8 @@ pub fn find(
 ) -> (usize, u32)
     requires within { AreWithin places.now.places (length installs.now) }
     requires order { AscendsByVersion (arranged installs.now places.now.places) }
+    requires heads { AreHeads places.now.prefix (arranged installs.now places.now.places)
+        places.now.heads }
     ensures count { result.0 ≡
         count_not_after key.now at (arranged installs.now places.now.places) }
     ensures before { AllUpTo key.now at (arranged installs.now places.now.places) result.0 }
@@ -43,14 +81,14 @@ pub fn find(
     ensures fewest { (digits : ℕ) → 2 ^ digits ≤ length places.now.places + 1 → digits ≤ result.1 }
     ensures counted { compared.new.number ≡ compared.old.number + result.1 }
 {
+    let key_head = places.head_of(key);
     let mut low = 0;
     let mut high = places.len();
     let mut probes: u32 = 0;
     while low < high {
         let middle = low + (high - low) / 2;
-        let place = places.get(middle);
         probes += 1;
-        if is_not_after(&installs[place], key, at, compared) {
+        if is_not_after_at(installs, places, middle, key, key_head, at, compared) {
             low = middle + 1;
         } else {
             high = middle;
@@ -68,6 +106,8 @@ pub fn newest_by<'a>(
 ) -> Option<&'a Install>
     requires within { AreWithin places.now.places (length installs.now) }
     requires order { AscendsByVersion (arranged installs.now places.now.places) }
+    requires heads { AreHeads places.now.prefix (arranged installs.now places.now.places)
+        places.now.heads }
     ensures { option_copied result ≡
         newest (filter (is_by key.now at) (arranged installs.now places.now.places)) }
 {
@@ -85,6 +125,8 @@ pub fn newest_by<'a>(
 pub fn newest_of<'a>(installs: &'a [Install], places: &Places, key: &Key) -> Option<&'a Install>
     requires within { AreWithin places.now.places (length installs.now) }
     requires kept { IsInOrder Stamp.MAX (arranged installs.now places.now.places) }
+    requires heads { AreHeads places.now.prefix (arranged installs.now places.now.places)
+        places.now.heads }
     ensures { option_copied result ≡
         newest (of_key (arranged installs.now places.now.places) key.now) }
 {
@@ -95,10 +137,14 @@ pub fn newest_of<'a>(installs: &'a [Install], places: &Places, key: &Key) -> Opt
 pub fn install(installs: &mut Vec<Install>, places: &mut Places, new: Install)
     requires within { AreWithin places.old.places (length installs.old.items) }
     requires order { AscendsByVersion (arranged installs.old.items places.old.places) }
+    requires heads { AreHeads places.old.prefix (arranged installs.old.items places.old.places)
+        places.old.heads }
     requires room { (vec_len installs.old < vec_capacity installs.old) × (0 < places.old.room) }
     ensures items { arranged installs.new.items places.new.places ≡
         installed (arranged installs.old.items places.old.places) new }
     ensures within { AreWithin places.new.places (length installs.new.items) }
+    ensures heads { AreHeads places.new.prefix (arranged installs.new.items places.new.places)
+        places.new.heads }
     ensures len { (vec_len installs.new ≡ vec_len installs.old + 1)
         × (places.new.room + 1 ≡ places.old.room) }
     ensures in_time { new.at < 2 ^ 62 }
@@ -111,6 +157,38 @@ pub fn install(installs: &mut Vec<Install>, places: &mut Places, new: Install)
         new.at.micros(),
         &mut Count::none(),
     );
-    places.insert(count, installs.len());
+    let key_head = places.head_of(&new.key);
+    places.insert(count, installs.len(), key_head);
     installs.push_reserved(new);
+    renew(installs, places);
+}
+
+// Where the number of places is a power of two the prefix is looked at again, and where it has become another all heads are written
+// anew: an install pays for two of them at most, in the mean. The prefix is what all keys share but those of the first and the last
+// sixteenth, which may begin as they like.
+fn renew(installs: &[Install], places: &mut Places)
+    requires within { AreWithin places.old.places (length installs.now) }
+    requires heads { AreHeads places.old.prefix (arranged installs.now places.old.places)
+        places.old.heads }
+    ensures places { places.new.places ≡ places.old.places }
+    ensures heads { AreHeads places.new.prefix (arranged installs.now places.new.places)
+        places.new.heads }
+    ensures room { places.new.room ≡ places.old.room }
+{
+    let len = places.len();
+    if !len.is_power_of_two() {
+        return;
+    }
+    let edge = len / 16;
+    let first = &installs[places.get(edge)].key;
+    let last = &installs[places.get(len - 1 - edge)].key;
+    let prefix = shared(first, last);
+    if places.are_behind(&prefix) {
+        return;
+    }
+    places.set_prefix(prefix);
+    for at in 0..len {
+        let key_head = places.head_of(&installs[places.get(at)].key);
+        places.set_head(at, key_head);
+    }
 }

@@ -6,8 +6,8 @@ ghost use Rattle.units.specs.Keys.{write_before};
 ghost use Rattle.units.specs.Lists.{ascends};
 ghost use Rattle.versions.specs.Ordered.{installed, all_installed, count_not_after, is_above};
 
+use crate::placed::Places;
 use crate::search::{find, install, newest_by, newest_of};
-use crate::sequence::Places;
 use counts::Count;
 use std::alloc::Global;
 use std::marker::Model;
@@ -18,7 +18,7 @@ use units::{Fault, Install, Key, Stamp, Value, Write, Writes};
 pub struct Versions {
     // As they were installed.
     installs: Vec<Install>,
-    // Their places there, ascending by key and timestamp. One more moves places, not versions.
+    // Their places there, ascending by key and timestamp. One more moves places and heads, not versions.
     places: Places,
     // For how many more both have room.
     room: usize,
@@ -36,7 +36,7 @@ impl Model for Versions {
       room = a.room;
     } };
 
-    ghost invariant = { λ a. IsPlaced a.installs.items a.places.places a.room
+    ghost invariant = { λ a. IsPlaced a.installs.items a.places.places a.places.heads a.places.prefix a.room
         (vec_capacity a.installs - vec_len a.installs) a.places.room };
 }
 

@@ -1,15 +1,17 @@
-use Rattle.std.proofs.Common.{ℕ, get_or, ◌∙◌, ◌+◌, ◌-◌, ◌/◌, ◌<◌, sym, ap, arith}
+use Rattle.std.proofs.lemmas.List.{get_or_default}
+use Rattle.versions.specs.Arranged.{no_install}
+use Rattle.std.proofs.Common.{◌∙◌, ◌+◌, ◌-◌, ◌/◌, ◌<◌, sym, ap, arith}
 use Rattle.versions.specs.Arranged.{arranged}
 use Rattle.versions.specs.Ordered.{is_not_after}
-use Rattle.versions.proofs.Arranged.{arranged_at, length_arranged}
+use Rattle.versions.proofs.Arranged.{length_arranged}
 use Rattle.versions.proofs.Halves.{count_at, before_passes, after_passes, half_fits, half_needs, none_left}
 use Rattle.versions.proofs.search.find.Goals as goal
 
 pub overflow_add-probes : goal.overflow_add-probes
 overflow_add-probes c = omega (arith, (c.loop-low.invariant.fits 64 c.loop-low.invariant.all).1)
 
-pub loop-low-preserved-then-is_not_after : goal.loop-low-preserved-then-is_not_after
-loop-low-preserved-then-is_not_after c =
+pub loop-low-preserved-then-is_not_after_at : goal.loop-low-preserved-then-is_not_after_at
+loop-low-preserved-then-is_not_after_at c =
     let i = c.loop-low.invariant in
     let t = arranged c.args.installs.now c.args.places.now.places in
     let middle = c.loop-low.low + (c.loop-low.high - c.loop-low.low) / 2 in
@@ -20,15 +22,13 @@ loop-low-preserved-then-is_not_after c =
       before = before_passes c.args.key.now c.args.at t middle c.requires.order
           (omega (arith, i.end, length_arranged c.args.installs.now c.args.places.now.places)) (λ d.
           ap (is_not_after c.args.key.now c.args.at)
-          (arranged_at c.args.installs.now c.args.places.now.places middle c.index-installs-place.result d c.requires.within
-          (omega (arith, i.end))
-          (c.index-installs-place.is ∙ ap (λ (p : ℕ). get_or c.args.installs.now p c.index-installs-place.result) c.get-place.ensures))
-          ∙ sym c.is_not_after.ensures.value ∙ c.if-is_not_after.true);
+          (get_or_default t middle d no_install (omega (arith, i.end, length_arranged c.args.installs.now c.args.places.now.places)))
+          ∙ sym c.is_not_after_at.ensures.value ∙ c.if-is_not_after_at.true);
       after = i.after;
       all = i.all;
       fits = half_fits _ (c.loop-low.high - c.loop-low.low) c.loop-low.probes _ i.fits (omega arith) (omega arith);
       needed = half_needs _ (c.loop-low.high - c.loop-low.low) c.loop-low.probes _ i.needed (omega arith);
-      counted = omega (arith, i.counted, c.is_not_after.ensures.counted);
+      counted = omega (arith, i.counted, c.is_not_after_at.ensures.counted);
     }
 
 pub loop-low-preserved : goal.loop-low-preserved
@@ -44,14 +44,12 @@ loop-low-preserved c =
       after = after_passes c.args.key.now c.args.at t middle c.requires.order
           (omega (arith, i.end, length_arranged c.args.installs.now c.args.places.now.places)) (λ d.
           ap (is_not_after c.args.key.now c.args.at)
-          (arranged_at c.args.installs.now c.args.places.now.places middle c.index-installs-place.result d c.requires.within
-          (omega (arith, i.end))
-          (c.index-installs-place.is ∙ ap (λ (p : ℕ). get_or c.args.installs.now p c.index-installs-place.result) c.get-place.ensures))
-          ∙ sym c.is_not_after.ensures.value ∙ c.if-is_not_after.false);
+          (get_or_default t middle d no_install (omega (arith, i.end, length_arranged c.args.installs.now c.args.places.now.places)))
+          ∙ sym c.is_not_after_at.ensures.value ∙ c.if-is_not_after_at.false);
       all = i.all;
       fits = half_fits _ (c.loop-low.high - c.loop-low.low) c.loop-low.probes _ i.fits (omega arith) (omega arith);
       needed = half_needs _ (c.loop-low.high - c.loop-low.low) c.loop-low.probes _ i.needed (omega arith);
-      counted = omega (arith, i.counted, c.is_not_after.ensures.counted);
+      counted = omega (arith, i.counted, c.is_not_after_at.ensures.counted);
     }
 
 pub returns-clause-count : goal.returns-clause-count

@@ -14,6 +14,7 @@ invariant_of-self c =
           subst (IsInOrder 4611686018427387903) (sym c.install.ensures.items)
           (kept-installed _ (record { key = c.args.key; at = c.args.at; value = c.args.value })
           (arranged c.self.inside.installs.items c.self.inside.places.places) above (omega (arith, c.install.ensures.in_time)) c.self.invariant.kept);
+      headed = c.install.ensures.heads;
       installs_fit = omega (arith, c.install.ensures.len, c.install.ensures.capacity, c.self.invariant.installs_fit);
       places_fit = omega (arith, c.install.ensures.len, c.install.ensures.capacity, c.self.invariant.places_fit);
     }

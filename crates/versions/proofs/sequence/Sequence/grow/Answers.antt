@@ -2,7 +2,7 @@ use Rattle.std.proofs.Common.{◌≡◌, ◌∙◌, ◌∷◌, ◌++◌, ◌+◌
 use Rattle.std.proofs.lemmas.List.{length-append}
 use Rattle.versions.specs.Pieces.{Laid, joined, IsLaid}
 use Rattle.versions.proofs.Pieces.{joined_more, laid_more}
-use Rattle.versions.proofs.sequence.Places.grow.Goals as goal
+use Rattle.versions.proofs.sequence.Sequence.grow.Goals as goal
 
 pub invariant_of-self-2 : goal.invariant_of-self-2
 invariant_of-self-2 c =
@@ -15,8 +15,8 @@ invariant_of-self-2 c =
       omega (arith, c.self.invariant, c.in-Some.ensures),
     )
 
-pub returns-clause-places : goal.returns-clause-places
-returns-clause-places c =
+pub returns-clause-numbers : goal.returns-clause-numbers
+returns-clause-numbers c =
     let items = c.self.inside.pieces.items in
     let is : c.push.new.self.items ≡ items ++ [] ∷ [] = c.in_ok-push.ensures.items ∙ ap (λ (p : List ℕ). items ++ p ∷ []) c.in_ok-piece.ensures.none in
-    ap joined is ∙ joined_more items ∙ ap (λ (l : Laid). l.places) c.self.view_is
+    ap joined is ∙ joined_more items ∙ ap (λ (l : Laid). l.numbers) c.self.view_is

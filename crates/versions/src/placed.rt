@@ -1,0 +1,144 @@
+//! The places of versions in order, each with the head of its key.
+ghost use Rattle.std.specs.Prelude.{◌≡◌, ◌+◌, ◌<◌, ◌≤◌, [], length, IsOk, IfErr, OnOk, slice_index_or, slice_set};
+ghost use Rattle.std.specs.List.{insert};
+ghost use Rattle.units.specs.Keys.{same_key};
+ghost use Rattle.versions.specs.Heads.{AreBytes, head, prefix_of};
+
+use crate::head::{head, prefix_bytes};
+use crate::sequence::Sequence;
+use std::alloc::Global;
+use std::marker::Model;
+use units::{Fault, Key};
+
+/// Places in order, beside each the head of its key, and the room for more.
+#[derive(Drop)]
+pub struct Places {
+    places: Sequence,
+    // Apart from the places, so that a search reads little else.
+    heads: Sequence,
+    // What heads are behind: none where that is empty.
+    prefix: Option<Key>,
+}
+
+impl Model for Places {
+    ghost use Rattle.std.specs.Prelude.{◌≡◌, length, min};
+    ghost use Rattle.versions.specs.Headed.{Headed};
+    ghost use Rattle.versions.specs.Heads.{prefix_of};
+
+    ghost Value = { Headed };
+
+    ghost view = { λ p. record {
+      places = p.places.numbers;
+      heads = p.heads.numbers;
+      prefix = prefix_of p.prefix;
+      room = min p.places.room p.heads.room;
+    } };
+
+    ghost invariant = { λ p. length p.heads.numbers ≡ length p.places.numbers };
+}
+
+impl Places {
+    /// No place, and no room.
+    pub fn none(alloc: Global) -> Places
+        ensures places { result.places ≡ [] }
+        ensures heads { result.heads ≡ [] }
+    {
+        Places {
+            places: Sequence::none(alloc),
+            heads: Sequence::none(alloc),
+            prefix: None,
+        }
+    }
+
+    /// How many there are.
+    pub fn len(&self) -> usize
+        ensures { result ≡ length self.now.places }
+    {
+        self.places.len()
+    }
+
+    /// One of the places.
+    pub fn get(&self, at: usize) -> usize
+        requires { at < length self.now.places }
+        ensures { result ≡ slice_index_or self.now.places at 0 }
+    {
+        self.places.get(at) as usize
+    }
+
+    /// The head beside a place.
+    pub fn head(&self, at: usize) -> u64
+        requires { at < length self.now.places }
+        ensures { result ≡ slice_index_or self.now.heads at 0 }
+    {
+        self.heads.get(at)
+    }
+
+    /// The head that a key has beside these places.
+    pub fn head_of(&self, key: &Key) -> u64
+        ensures head { result ≡ head self.now.prefix key.now }
+        ensures bytes { AreBytes key.now }
+    {
+        head(&self.prefix, key)
+    }
+
+    /// Makes room for so many more.
+    pub fn reserve(&mut self, more: usize) -> Result<(), Fault>
+        ensures room { OnOk result (more ≤ self.new.room) }
+        ensures places { self.new.places ≡ self.old.places }
+        ensures heads { self.new.heads ≡ self.old.heads }
+        ensures prefix { self.new.prefix ≡ self.old.prefix }
+        ensures keeps { self.old.room ≤ self.new.room }
+        ensures memory { IfErr result (λ fault. fault ≡ Fault.Memory) }
+        ensures succeeds { more ≤ self.old.room → IsOk result }
+    {
+        self.places.reserve(more)?;
+        self.heads.reserve(more)
+    }
+
+    /// Puts in a place with its head. It takes no memory.
+    pub fn insert(&mut self, at: usize, place: usize, head: u64)
+        requires at { at ≤ length self.old.places }
+        requires room { 0 < self.old.room }
+        ensures places { self.new.places ≡ insert self.old.places at place }
+        ensures heads { self.new.heads ≡ insert self.old.heads at head }
+        ensures prefix { self.new.prefix ≡ self.old.prefix }
+        ensures room { self.new.room + 1 ≡ self.old.room }
+    {
+        self.places.insert(at, place as u64);
+        self.heads.insert(at, head);
+    }
+
+    /// Heads are behind this prefix.
+    pub fn are_behind(&self, prefix: &Option<Key>) -> bool
+        ensures { result ≡ same_key self.now.prefix (prefix_of prefix.now) }
+    {
+        are_same(prefix_bytes(&self.prefix), prefix_bytes(prefix))
+    }
+
+    /// Heads are behind this prefix from now on. Those that stand are to be written anew.
+    pub fn set_prefix(&mut self, prefix: Option<Key>)
+        ensures prefix { self.new.prefix ≡ prefix_of prefix }
+        ensures places { self.new.places ≡ self.old.places }
+        ensures heads { self.new.heads ≡ self.old.heads }
+        ensures room { self.new.room ≡ self.old.room }
+    {
+        self.prefix = prefix;
+    }
+
+    /// Writes over the head beside a place.
+    pub fn set_head(&mut self, at: usize, head: u64)
+        requires { at < length self.old.places }
+        ensures heads { self.new.heads ≡ slice_set self.old.heads at head }
+        ensures places { self.new.places ≡ self.old.places }
+        ensures prefix { self.new.prefix ≡ self.old.prefix }
+        ensures room { self.new.room ≡ self.old.room }
+    {
+        self.heads.set(at, head);
+    }
+}
+
+fn are_same(bytes: &[u8], others: &[u8]) -> bool
+    ensures { result ≡ same_key bytes.now others.now }
+{
+    bytes == others
+}
