@@ -454,16 +454,16 @@ fn take_one(
     let is_taken = !all
         .iter()
         .any(|one| one.is_by(&new.key, Stamp::MAX) && new.at <= one.at);
-    if versions.takes(&new.key, stamp(new.at)) != is_taken {
-        return Some(false);
+    let value = value_of(alloc, new.value)?;
+    versions.reserve(1).ok()?;
+    let (key, at) = (new.key, stamp(new.at));
+    let takes = versions.takes(&key, at);
+    if takes {
+        let (count, _) = plainly(all, &key, new.at);
+        all.insert(count.min(all.len()), *new).ok()?;
+        versions.install(key, at, value);
     }
-    if is_taken {
-        let (count, _) = plainly(all, &new.key, new.at);
-        all.insert(count, *new).ok()?;
-        versions.reserve(1).ok()?;
-        versions.install(new.key, stamp(new.at), value_of(alloc, new.value)?);
-    }
-    Some(true)
+    Some(takes == is_taken)
 }
 
 fn agree_at(versions: &Versions, all: &[Plain], sought: &Plain) -> bool {
@@ -474,7 +474,7 @@ fn agree_at(versions: &Versions, all: &[Plain], sought: &Plain) -> bool {
     // The number's binary digits, or one less.
     let digits = usize::BITS - all.len().leading_zeros();
     found == count
-        && (probes == digits || probes + 1 == digits)
+        && (probes == digits || probes.saturating_add(1) == digits)
         && byte(versions.at(key, at)) == value
         && byte(versions.latest(key)) == latest
 }
