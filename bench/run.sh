@@ -1,7 +1,7 @@
 #!/bin/sh
-# Times the store as it stands here, and as it stood at each revision that is named, side by side: bench/run.sh [REVISION..]
-# [-- SCENE..]. The scenes `inspect` and `boards` are programs of their own, and are named alone. It needs rustc and python3, proves
-# nothing, and leaves all that it makes in a new folder, which it names.
+# Times the store as it stands here, as it stood at each revision that is named, and a plain engine of the same design, side by
+# side: bench/run.sh [REVISION..] [-- SCENE..]. The scenes `inspect` and `boards` are programs of their own, and are named alone. It
+# needs rustc and python3, proves nothing, and leaves all that it makes in a new folder, which it names.
 set -eu
 here=$(cd "$(dirname "$0")" && pwd)
 top=$(dirname "$here")
@@ -18,7 +18,15 @@ externs() {
     done
 }
 
-# The program over the crates of a tree.
+# A program, put into a folder: link PROGRAM FOLDER [FLAG..].
+link() {
+    program=$1 folder=$2
+    shift 2
+    rustc --edition 2021 -C opt-level=3 -C lto=fat -C codegen-units=1 --crate-name "$program" "$here/$program.rs" "$@" \
+        -o "$folder/$program"
+}
+
+# The programs over the crates of a tree.
 build() {
     tree=$1 to=$2
     mkdir -p "$to"
@@ -31,11 +39,13 @@ build() {
             -L "$to" -o "$to/lib$crate.rlib"
     done
     for program in store inspect viewing; do
-        # Earlier revisions have no boards.
-        [ "$program" != viewing ] || [ -d "$tree/crates/board" ] || continue
+        # Earlier revisions lack what some need.
+        case $program in
+        inspect) [ -d "$tree/crates/inspector" ] || continue ;;
+        viewing) [ -f "$tree/crates/board/src/publisher.rt" ] || continue ;;
+        esac
         # shellcheck disable=SC2046
-        rustc --edition 2021 -C opt-level=3 -C lto=fat -C codegen-units=1 --crate-name "$program" "$here/$program.rs" \
-            $(externs "$to") -L "$to" -o "$to/$program"
+        link "$program" "$to" $(externs "$to") -L "$to"
     done
 }
 
@@ -46,23 +56,31 @@ while [ $# -gt 0 ] && [ "$1" != -- ]; do
 done
 [ $# -eq 0 ] || shift
 
+# Scenes of the store, and so of the engine, are named, or all.
+case "$*" in
+inspect | boards | 'inspect boards' | 'boards inspect') timed= ;;
+*) timed=yes ;;
+esac
+
 build "$top" "$made/here"
 for revision in $revisions; do
     mkdir -p "$made/$revision/tree"
     git -C "$top" archive "$revision" crates | tar -x -C "$made/$revision/tree"
     build "$made/$revision/tree" "$made/$revision"
 done
+[ ! "$timed" ] || link engine "$made"
 echo "$made"
 for place in here $revisions; do
     echo "== $place"
-    case "$*" in
-    inspect | boards) ;;
-    *) "$made/$place/store" "$@" ;;
-    esac
+    [ ! "$timed" ] || "$made/$place/store" "$@"
     case " $* " in
-    '  ' | *' inspect '*) "$made/$place/inspect" ;;
+    '  ' | *' inspect '*) [ ! -x "$made/$place/inspect" ] || "$made/$place/inspect" ;;
     esac
     case " $* " in
     '  ' | *' boards '*) [ ! -x "$made/$place/viewing" ] || "$made/$place/viewing" ;;
     esac
 done
+if [ "$timed" ]; then
+    echo "== engine"
+    "$made/engine" "$@"
+fi

@@ -10,7 +10,7 @@ use Rattle.board.specs.Board.{is_board}
 use Rattle.growing.proofs.Prefixes.{prefix_trans}
 use Rattle.board.specs.declared.change.BoardChange.{BoardChange}
 use Rattle.board.specs.declared.change.BoardChange.TheVariants.{Prepare, Commit}
-use Rattle.board.specs.State.{Page, is_quiet, prepared_by, pending_of}
+use Rattle.board.specs.State.{Page, is_quiet, newly_prepared, pending_of}
 use Rattle.board.specs.Views.{Published}
 use Rattle.board.specs.Publications.{IsRefused, IsPublished, IsFinished}
 use Rattle.board.proofs.Steps.{all_ahead, same_pending}
@@ -20,14 +20,14 @@ quiet_more [] e h = refl
 quiet_more (Prepare d ∷ changes) e h = quiet_more changes e h
 quiet_more (Commit ∷ changes) e h = absurd (true≢false (sym h))
 
-prepared_snoc : (changes : List BoardChange) (e : BoardEntry) → prepared_by (changes ++ Prepare e ∷ []) ≡ prepared_by changes ++ e ∷ []
+prepared_snoc : (changes : List BoardChange) (e : BoardEntry) → newly_prepared (changes ++ Prepare e ∷ []) ≡ newly_prepared changes ++ e ∷ []
 prepared_snoc [] e = refl
 prepared_snoc (Prepare d ∷ changes) e = ap (λ es. d ∷ es) (prepared_snoc changes e)
 prepared_snoc (Commit ∷ changes) e = prepared_snoc changes e
 
 pending_snoc : (x : Page) (changes : List BoardChange) (e : BoardEntry) → pending_of x (changes ++ Prepare e ∷ []) ≡ pending_of x changes ++ e ∷ []
 pending_snoc x changes e = ap (λ es. drop (length x.list) x.ahead ++ es) (prepared_snoc changes e) ∙ sym
-    (append_assoc (drop (length x.list) x.ahead) (prepared_by changes) (e ∷ []))
+    (append_assoc (drop (length x.list) x.ahead) (newly_prepared changes) (e ∷ []))
 
 -- the change of an entry was taken in, or came back
 abbrev pub Accepts : {A : Type 0} → List BoardChange → List BoardChange → BoardEntry → Result A BoardChange → Type 0
@@ -53,7 +53,7 @@ pending_more x changes changes' e h = ap (pending_of x) h ∙ pending_snoc x cha
 -- entries were prepared, and the list stayed
 abbrev pub HasPrepared : Page → Page → List BoardChange → List BoardChange → Type 0
 HasPrepared x y changes changes' = ((y.list ≡ x.list) × (y.board ≡ x.board)) ×
-    ((y.ahead ++ prepared_by changes' ≡ x.ahead ++ prepared_by changes) × IsPrefix x.ahead y.ahead)
+    ((y.ahead ++ newly_prepared changes' ≡ x.ahead ++ newly_prepared changes) × IsPrefix x.ahead y.ahead)
 
 pub prepared_twice : (x y z : Page) (cs ds es : List BoardChange) → HasPrepared x y cs ds → HasPrepared y z ds es → HasPrepared x z cs es
 prepared_twice x y z cs ds es p q = ((q.0.0 ∙ p.0.0, q.0.1 ∙ p.0.1), (q.1.0 ∙ p.1.0, prefix_trans x.ahead y.ahead z.ahead p.1.1 q.1.1))
@@ -74,7 +74,7 @@ module _ (x z : Page) (changes changes' : List BoardChange) (p : HasPrepared x z
 
   -- all that was accepted is prepared
   pub all_prepared : changes' ≡ [] → z.ahead ≡ x.list ++ pending_of x changes
-  all_prepared none = sym (append-nil z.ahead) ∙ (ap (λ cs. z.ahead ++ prepared_by cs) (sym none) ∙ (p.1.0 ∙ sym (all_ahead x changes longer)))
+  all_prepared none = sym (append-nil z.ahead) ∙ (ap (λ cs. z.ahead ++ newly_prepared cs) (sym none) ∙ (p.1.0 ∙ sym (all_ahead x changes longer)))
 
   pub finished : (result : Result Published Fault) (w : Page) (last : List BoardChange) → changes' ≡ [] → IsFinished z result w last
       → IsPublished x changes result w last

@@ -11,7 +11,7 @@ use Rattle.board.specs.declared.entry.BoardEntry.{BoardEntry}
 use Rattle.board.specs.Board.{is_board, has_safe}
 use Rattle.board.proofs.Longer.{has_safe-more}
 use Rattle.growing.proofs.Prefixes.{prefix_self, prefix_trans}
-use Rattle.board.specs.State.{BoardId, Page, BoardState, board_state, IsLater, after_board_change, is_quiet, prepared_by, pending_of}
+use Rattle.board.specs.State.{BoardId, Page, BoardState, board_state, IsLater, after_board_change, is_quiet, newly_prepared, pending_of}
 use Rattle.board.specs.declared.change.BoardChange.{BoardChange}
 use Rattle.board.specs.declared.change.BoardChange.TheVariants.{Prepare, Commit}
 use mathlib.Core.Bool.{true≢false}
@@ -96,10 +96,10 @@ merges seat known other told x views kept at apart there =
 
 -- where nothing is shown, the entries are prepared one after the other
 pub fold_quiet : (list ahead : List BoardEntry) (board : BoardId) (changes : List BoardChange) → is_quiet changes ≡ true → fold after_board_change
-    (list, ahead, board) changes ≡ (list, ahead ++ prepared_by changes, board)
+    (list, ahead, board) changes ≡ (list, ahead ++ newly_prepared changes, board)
 fold_quiet list ahead board [] quiet = ap (λ (l : List BoardEntry). (list, l, board)) (sym (append-nil ahead))
 fold_quiet list ahead board (Prepare e ∷ changes) quiet = fold_quiet list (ahead ++ e ∷ []) board changes quiet ∙ ap
-    (λ (l : List BoardEntry). (list, l, board)) (append_assoc ahead (e ∷ []) (prepared_by changes))
+    (λ (l : List BoardEntry). (list, l, board)) (append_assoc ahead (e ∷ []) (newly_prepared changes))
 fold_quiet list ahead board (Commit ∷ changes) quiet = absurd (true≢false (sym quiet))
 
 -- where one thread knows of nothing
@@ -113,11 +113,11 @@ followed now s known is a = subst (IsLaterThanAll now) is a zero s (omega arith)
 
 -- entries are prepared, and the list stays
 pub prepares_on : (seat : ℕ) (known : SeenStates) (x next : Page) (changes : List BoardChange) → board_state next ≡ fold after_board_change
-    (board_state x) changes → is_quiet changes ≡ true → is_board (x.ahead ++ prepared_by changes) ≡ true → TurnsAt KeepsOneList seat known x next Sees
+    (board_state x) changes → is_quiet changes ≡ true → is_board (x.ahead ++ newly_prepared changes) ≡ true → TurnsAt KeepsOneList seat known x next Sees
 prepares_on seat known x next changes is quiet lawful =
     let all = is ∙ fold_quiet x.list x.ahead x.board changes quiet in
     let list : next.list ≡ x.list = ap (λ (s : BoardState). s.0) all in
-    let ahead : next.ahead ≡ x.ahead ++ prepared_by changes = ap (λ (s : BoardState). s.1) all in
+    let ahead : next.ahead ≡ x.ahead ++ newly_prepared changes = ap (λ (s : BoardState). s.1) all in
     goes_on seat known x next (subst (IsPrefix x.list) (sym list) (prefix_self x.list), sym (ap (λ (s : BoardState). s.2) all))
     (λ fair. (ap is_board list ∙ fair.list, ap is_board ahead ∙ lawful))
 
@@ -147,13 +147,14 @@ drop_front [] ys = refl
 drop_front (x ∷ xs) ys = drop_front xs ys
 
 -- the list with what is pending is the list with all that is or will be prepared
-pub all_ahead : (x : Page) (changes : List BoardChange) → IsPrefix x.list x.ahead → x.list ++ pending_of x changes ≡ x.ahead ++ prepared_by changes
+pub all_ahead : (x : Page) (changes : List BoardChange) → IsPrefix x.list x.ahead → x.list ++ pending_of x changes ≡ x.ahead ++ newly_prepared changes
 all_ahead x changes p =
     let rest : drop (length x.list) x.ahead ≡ p.0 = ap (drop (length x.list)) (sym p.1) ∙ drop_front x.list p.0 in
-    ap (λ r. x.list ++ (r ++ prepared_by changes)) rest ∙ (sym (append_assoc x.list p.0 (prepared_by changes)) ∙ ap (λ l. l ++ prepared_by changes) p.1)
+    ap (λ r. x.list ++ (r ++ newly_prepared changes)) rest ∙ (sym (append_assoc x.list p.0 (newly_prepared changes))
+    ∙ ap (λ l. l ++ newly_prepared changes) p.1)
 
 pub same_pending : (x y : Page) (changes changes' : List BoardChange) → IsPrefix x.list x.ahead → IsPrefix y.list y.ahead → y.list ≡ x.list
-    → y.ahead ++ prepared_by changes' ≡ x.ahead ++ prepared_by changes → pending_of y changes' ≡ pending_of x changes
+    → y.ahead ++ newly_prepared changes' ≡ x.ahead ++ newly_prepared changes → pending_of y changes' ≡ pending_of x changes
 same_pending x y changes changes' p q list ahead =
     let all : y.list ++ pending_of y changes' ≡ x.list ++ pending_of x changes = all_ahead y changes' q ∙ (ahead ∙ sym (all_ahead x changes p)) in
     sym (drop_front y.list (pending_of y changes')) ∙
@@ -171,8 +172,11 @@ module _ {A B : Type 0} (x y : Page) (changes changes' : List BoardChange) where
   prepared_list (Err u) quiet v = (ap (λ (p : Page). p.list) v.0, ap (λ (p : Page). p.board) v.0)
 
   pub prepared_ahead : (result : Result A B) → is_quiet changes ≡ true → ShowingGives x y changes changes' result →
-      (y.ahead ++ prepared_by changes' ≡ x.ahead ++ prepared_by changes) × IsPrefix x.ahead y.ahead
+      (y.ahead ++ newly_prepared changes' ≡ x.ahead ++ newly_prepared changes) × IsPrefix x.ahead y.ahead
   prepared_ahead (Ok u) quiet v =
-      let ahead : y.ahead ≡ x.ahead ++ prepared_by changes = ap (λ (s : BoardState). s.1) (v.0 ∙ fold_quiet x.list x.ahead x.board changes quiet) in
-      ((λ i. ahead i ++ prepared_by (v.1 i)) ∙ append-nil (x.ahead ++ prepared_by changes), (prepared_by changes, sym ahead))
-  prepared_ahead (Err u) quiet v = ((λ i. (v.0 i).ahead ++ prepared_by (v.1 i)), subst (λ (p : Page). IsPrefix x.ahead p.ahead) (sym v.0) (prefix_self x.ahead))
+      let ahead : y.ahead ≡ x.ahead ++ newly_prepared changes = ap (λ (s : BoardState). s.1) (v.0 ∙ fold_quiet x.list x.ahead x.board changes quiet) in
+      ((λ i. ahead i ++ newly_prepared (v.1 i)) ∙ append-nil (x.ahead ++ newly_prepared changes), (newly_prepared changes, sym ahead))
+  prepared_ahead (Err u) quiet v = (
+    (λ i. (v.0 i).ahead ++ newly_prepared (v.1 i)),
+    subst (λ (p : Page). IsPrefix x.ahead p.ahead) (sym v.0) (prefix_self x.ahead),
+  )

@@ -44,10 +44,10 @@ after_board_change s (Prepare e) = (s.0, s.1 ++ e ∷ [], s.2)
 after_board_change s Commit = (s.1, s.1, s.2)
 
 -- the entries that are prepared, where nothing is shown
-abbrev pub prepared_by : List BoardChange → List BoardEntry
-prepared_by [] = []
-prepared_by (Prepare e ∷ cs) = e ∷ prepared_by cs
-prepared_by (Commit ∷ cs) = prepared_by cs
+abbrev pub newly_prepared : List BoardChange → List BoardEntry
+newly_prepared [] = []
+newly_prepared (Prepare e ∷ cs) = e ∷ newly_prepared cs
+newly_prepared (Commit ∷ cs) = newly_prepared cs
 
 abbrev pub is_quiet : List BoardChange → Bool
 is_quiet [] = true
@@ -56,7 +56,7 @@ is_quiet (Commit ∷ cs) = false
 
 -- the entries that were accepted since those of the list: the prepared ones, and those of the changes that no copy has yet
 abbrev pub pending_of : Page → List BoardChange → List BoardEntry
-pending_of page changes = drop (length page.list) page.ahead ++ prepared_by changes
+pending_of page changes = drop (length page.list) page.ahead ++ newly_prepared changes
 
 -- one more version answers in order as it does at the end of the log
 abbrev pub AddsVersion : List Install → List Install → Install → Type 0

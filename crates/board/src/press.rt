@@ -3,7 +3,7 @@ ghost use Rattle.std.specs.Prelude.{◌≡◌, true, [], ◌∷◌, ◌++◌, dr
 ghost use mathlib.Core.List.{IsPrefix};
 ghost use Rattle.board.specs.Board.{is_board};
 ghost use Rattle.left_right.specs.Sides.{view};
-ghost use Rattle.board.specs.State.{board_state, Takes, is_quiet, prepared_by, pending_of};
+ghost use Rattle.board.specs.State.{board_state, Takes, is_quiet, newly_prepared, pending_of};
 ghost use Rattle.board.specs.Views.{MayAccept, accepting, PublishesAll};
 ghost use Rattle.board.specs.Publications.{IsPublished, IsFinished};
 
@@ -23,13 +23,13 @@ pub(crate) type BoardWriter = Writer<BoardCopy, BoardChange, SeenStates, OneList
 fn prepare<R: Wait>(rt: &R, writer: BoardWriter) -> (BoardWriter, bool)
     requires quiet { is_quiet (drop writer.behind writer.log.items) ≡ true }
     requires lawful { is_board
-        (writer.desk.shown.value.ahead ++ prepared_by (drop writer.behind writer.log.items)) ≡
+        (writer.desk.shown.value.ahead ++ newly_prepared (drop writer.behind writer.log.items)) ≡
         true }
     ensures list { (result.0.desk.shown.value.list ≡ writer.desk.shown.value.list)
         × (result.0.desk.shown.value.board ≡ writer.desk.shown.value.board) }
-    ensures ahead { result.0.desk.shown.value.ahead ++ prepared_by
+    ensures ahead { result.0.desk.shown.value.ahead ++ newly_prepared
         (drop result.0.behind result.0.log.items)
-        ≡ writer.desk.shown.value.ahead ++ prepared_by (drop writer.behind writer.log.items) }
+        ≡ writer.desk.shown.value.ahead ++ newly_prepared (drop writer.behind writer.log.items) }
     ensures longer { IsPrefix writer.desk.shown.value.ahead result.0.desk.shown.value.ahead }
     ensures quiet { is_quiet (drop result.0.behind result.0.log.items) ≡ true }
     ensures done { IsTrue result.1 → drop result.0.behind result.0.log.items ≡ [] }

@@ -7,7 +7,7 @@ use Rattle.command_line.specs.Lines.{Word}
 use Rattle.command_line.specs.declared.usage.TheConstants.{USAGE}
 use Rattle.once.specs.Replies.{once_reply}
 use Rattle.output.specs.Replies.{Expected}
-use Rattle.output.specs.Verdicts.{status_of, text_of}
+use Rattle.output.specs.Verdicts.{exit_status, text_of}
 
 -- what a command prints, where its words tell it; the rest is told by files
 abbrev pub reply_of : Asked → Expected
@@ -34,7 +34,7 @@ Tells (once_asked key value first second) status text = Unit {0}
 Tells (format_asked file) status text = (status ≡ 0) × (text ≡ [])
 Tells (play_asked file) status text = Unit {0}
 Tells (inspect_asked lines logs) status text =
-    (verdict : Verdict) × (status ≡ status_of verdict) × (text ≡ text_of verdict ++ codes "\n")
+    (verdict : Verdict) × (status ≡ exit_status verdict) × (text ≡ text_of verdict ++ codes "\n")
 Tells (drive_asked file) status text = Unit {0}
 
 -- what the command that some words ask for has printed

@@ -6,7 +6,7 @@ ghost use Rattle.units.specs.declared.fault.Fault.TheVariants.{Memory};
 ghost use Rattle.disk.specs.declared.plan.FailurePlan.TheVariants.{Never};
 ghost use Rattle.simdisk.specs.State.{disk_plan};
 ghost use Rattle.command_line.specs.Commands.{command_of};
-ghost use Rattle.command_line.specs.Views.{asked_by};
+ghost use Rattle.command_line.specs.Views.{asked_for};
 ghost use Rattle.command_line.specs.declared.commands.Command.TheVariants.{Help};
 ghost use Rattle.command_line.specs.declared.usage.TheConstants.{USAGE};
 ghost use Rattle.output.specs.Failures.{FailsFor};
@@ -129,18 +129,18 @@ fn run<F: Files, D: Fn(Global, &Settings) -> Result<Driven, Fault>, O: Write>(
     requires drives { D.IsAlwaysCallable system.now.drive }
     ensures status { IfOk result.0 (λ status. (status ≡ 0) ⊎ (status ≡ 1)) }
     ensures printed { IfOk result.0
-        (λ status. (text : List ℕ) × Is (reply_of (asked_by asked.entry)) (Ok (text, status))
+        (λ status. (text : List ℕ) × Is (reply_of (asked_for asked.entry)) (Ok (text, status))
         × Appends (O.contents (writer_of out.old)) (O.contents (writer_of out.new)) text) }
-    ensures tells { IfOk result.0 (λ status. (text : List ℕ) × Tells (asked_by asked.entry) status text
+    ensures tells { IfOk result.0 (λ status. (text : List ℕ) × Tells (asked_for asked.entry) status text
         × Appends (O.contents (writer_of out.old)) (O.contents (writer_of out.new)) text) }
-    ensures logged { IfOk result.0 (λ status. LogsCommand (asked_by asked.entry) status result.1) }
+    ensures logged { IfOk result.0 (λ status. LogsCommand (asked_for asked.entry) status result.1) }
     ensures helped { asked.entry ≡ Help → IfOk result.0 (λ status. (status ≡ 0)
         × Appends (O.contents (writer_of out.old)) (O.contents (writer_of out.new)) USAGE.now) }
-    ensures refused { (fault : Fault) → reply_of (asked_by asked.entry) ≡ Some (Err fault)
+    ensures refused { (fault : Fault) → reply_of (asked_for asked.entry) ≡ Some (Err fault)
         → out.new ≡ out.old }
     ensures failures { IfErr result.0 (λ failure.
         FailsFor (failures_of out.old < failures_of out.new) failure
-        (reply_of (asked_by asked.entry))) }
+        (reply_of (asked_for asked.entry))) }
 {
     match asked {
         Command::Help => (help(out), disk),

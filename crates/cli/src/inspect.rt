@@ -4,7 +4,7 @@ ghost use Rattle.std.specs.Io.KnownBytes.{Appends};
 ghost use Rattle.units.specs.declared.line.Verdict.{Verdict};
 ghost use Rattle.output.specs.Failures.{FailsFor};
 ghost use Rattle.output.specs.Streams.{failures_of, writer_of};
-ghost use Rattle.output.specs.Verdicts.{status_of, text_of};
+ghost use Rattle.output.specs.Verdicts.{exit_status, text_of};
 
 use inspection::inspect_files;
 use output::{Failure, Stream, VerdictText, status_of};
@@ -21,7 +21,7 @@ pub fn inspect<F: Files, O: Write>(
     files: &F,
     out: &mut Stream<O>,
 ) -> Result<u8, Failure>
-    ensures printed { IfOk result (λ status. (verdict : Verdict) × (status ≡ status_of verdict)
+    ensures printed { IfOk result (λ status. (verdict : Verdict) × (status ≡ exit_status verdict)
         × Appends (O.contents (writer_of out.old)) (O.contents (writer_of out.new))
         (text_of verdict ++ codes "\n")) }
     ensures failures { IfErr result

@@ -15,7 +15,7 @@ use Rattle.clap.specs.Walk.{walked}
 use Rattle.clap.specs.Simple.{rows_at, built_leaf, inherited}
 use Rattle.clap.specs.Faults.{other_fault, bundle_fault, flag_word_fault, word_fault, check_fault, defaults_fault}
 use Rattle.clap.specs.Faults.{level_fault, settle_fault, step_fault, walk_fault}
-use Rattle.command_line.specs.Lines.{CommandLine, Word, are_plain, file_of, is_plain, once_of}
+use Rattle.command_line.specs.Lines.{CommandLine, Word, are_plain, one_file, is_plain, once_of}
 use Rattle.command_line.specs.Parser.{bare_app, entry_of, file_app, once_app, row}
 
 -- ---- one word that is no flag
@@ -159,7 +159,7 @@ file_reached name file rest e = reach_more (file_leaf name) (file ∷ rest) noth
 
 pub file_agrees : (name : Word) (make : Word → CommandLine) → ((file : Word) → (name, row (codes "file") file ∷ []) ≡ entry_of (make file))
     → (words : List Word) → are_plain words ≡ true
-    → Agrees (file_of make words) (level_fault (file_leaf name) [] nothing_held words false []) (Some (rows_at (file_leaf name) words))
+    → Agrees (one_file make words) (level_fault (file_leaf name) [] nothing_held words false []) (Some (rows_at (file_leaf name) words))
 unfolding defaults_fault
 file_agrees name make is [] e = ap is_empty (reach_end (file_leaf name) [] nothing_held 1 (refl, refl))
 file_agrees name make is (file ∷ []) e =

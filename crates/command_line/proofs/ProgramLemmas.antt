@@ -15,7 +15,7 @@ use Rattle.clap.specs.Walk.{walked}
 use Rattle.clap.specs.Simple.{entered, label_of, rows_at, names_of}
 use Rattle.clap.specs.Faults.{entered_fault, turn_fault, check_fault, defaults_fault}
 use Rattle.clap.specs.Faults.{level_fault, settle_fault, step_fault, walk_fault}
-use Rattle.command_line.specs.Lines.{CommandLine, Word, are_plain, file_of, is_plain, line_of, once_of, inspect_of, format, play, drive}
+use Rattle.command_line.specs.Lines.{CommandLine, Word, are_plain, one_file, is_plain, line_of, once_of, inspect_of, format, play, drive}
 use Rattle.command_line.specs.Parser.{entry_of, shards_app}
 use Rattle.command_line.proofs.LineLemmas.{Agrees, agrees_as, file_agrees, file_leaf, once_agrees, once_leaf, refused_first, stopped_walk}
 use Rattle.command_line.proofs.LineLemmas.{word_is_fine, word_is_value}
@@ -77,8 +77,8 @@ enters_with name s rest starts found =
 
 abbrev pub chosen : Bool → Bool → Bool → Bool → Bool → List Word → Option CommandLine
 chosen a b c d f rest =
-    if a then once_of rest else (if b then file_of format rest else (if c then file_of play rest
-    else (if d then inspect_of rest else (if f then file_of drive rest else None))))
+    if a then once_of rest else (if b then one_file format rest else (if c then one_file play rest
+    else (if d then inspect_of rest else (if f then one_file drive rest else None))))
 
 abbrev pub met : Bool → Bool → Bool → Bool → Bool → Option Text
 met a b c d f = option_map (λ (s : Text × List Text). s.0) (cond (a || false) (Some (codes "once", [])) (cond (b || false) (Some (codes "format", []))
@@ -118,12 +118,12 @@ once_line rest e = agrees_as (once_of rest) _ _ _ _ (enters (codes "once") once_
 
 format_line : (rest : List Word) → are_plain rest ≡ true → AgreesAt (codes "format" ∷ rest)
 unfolding walked
-format_line rest e = agrees_as (file_of format rest) _ _ _ _ (enters (codes "format") (file_leaf (codes "format")) rest refl refl refl)
+format_line rest e = agrees_as (one_file format rest) _ _ _ _ (enters (codes "format") (file_leaf (codes "format")) rest refl refl refl)
     (enters_with (codes "format") (file_leaf (codes "format")) rest refl refl) (file_agrees (codes "format") format (λ _. refl) rest e)
 
 play_line : (rest : List Word) → are_plain rest ≡ true → AgreesAt (codes "play" ∷ rest)
 unfolding walked
-play_line rest e = agrees_as (file_of play rest) _ _ _ _ (enters (codes "play") (file_leaf (codes "play")) rest refl refl refl)
+play_line rest e = agrees_as (one_file play rest) _ _ _ _ (enters (codes "play") (file_leaf (codes "play")) rest refl refl refl)
     (enters_with (codes "play") (file_leaf (codes "play")) rest refl refl) (file_agrees (codes "play") play (λ _. refl) rest e)
 
 inspect_line : (rest : List Word) → are_plain rest ≡ true → AgreesAt (codes "inspect" ∷ rest)
@@ -133,7 +133,7 @@ inspect_line rest e = agrees_as (inspect_of rest) _ _ _ _ (enters (codes "inspec
 
 drive_line : (rest : List Word) → are_plain rest ≡ true → AgreesAt (codes "drive" ∷ rest)
 unfolding walked
-drive_line rest e = agrees_as (file_of drive rest) _ _ _ _ (enters (codes "drive") (file_leaf (codes "drive")) rest refl refl refl)
+drive_line rest e = agrees_as (one_file drive rest) _ _ _ _ (enters (codes "drive") (file_leaf (codes "drive")) rest refl refl refl)
     (enters_with (codes "drive") (file_leaf (codes "drive")) rest refl refl) (file_agrees (codes "drive") drive (λ _. refl) rest e)
 
 -- where the first word is this command's name

@@ -47,9 +47,9 @@ once_of (key ∷ value ∷ e1 ∷ l1 ∷ e2 ∷ l2 ∷ []) = Some (once key valu
 once_of _ = None
 
 -- FILE
-abbrev pub file_of : (Word → CommandLine) → List Word → Option CommandLine
-file_of command (file ∷ []) = Some (command file)
-file_of command _ = None
+abbrev pub one_file : (Word → CommandLine) → List Word → Option CommandLine
+one_file command (file ∷ []) = Some (command file)
+one_file command _ = None
 
 -- LINES and 1 to 16 LOGs
 abbrev pub inspect_of : List Word → Option CommandLine
@@ -61,8 +61,8 @@ abbrev pub line_of : List Word → Option CommandLine
 line_of [] = None
 line_of (name ∷ rest) =
     if bytes_eq (codes "once") name then once_of rest
-    else (if bytes_eq (codes "format") name then file_of format rest
-    else (if bytes_eq (codes "play") name then file_of play rest
+    else (if bytes_eq (codes "format") name then one_file format rest
+    else (if bytes_eq (codes "play") name then one_file play rest
     else (if bytes_eq (codes "inspect") name then inspect_of rest
-    else (if bytes_eq (codes "drive") name then file_of drive rest
+    else (if bytes_eq (codes "drive") name then one_file drive rest
     else None))))

@@ -16,10 +16,10 @@ line_view (code.Inspect lines logs) = inspect lines.now (map (λ w. w.now) logs.
 line_view (code.Drive file) = drive file.now
 
 -- what it asks for
-abbrev pub asked_by : Command → Asked
-asked_by command.Help = help
-asked_by (command.Once key value first second) = once_asked key value first second
-asked_by (command.Format file) = format_asked file.now
-asked_by (command.Play file) = play_asked file.now
-asked_by (command.Inspect lines logs) = inspect_asked lines.now (map (λ w. w.now) logs.items)
-asked_by (command.Drive file) = drive_asked file.now
+abbrev pub asked_for : Command → Asked
+asked_for command.Help = help
+asked_for (command.Once key value first second) = once_asked key value first second
+asked_for (command.Format file) = format_asked file.now
+asked_for (command.Play file) = play_asked file.now
+asked_for (command.Inspect lines logs) = inspect_asked lines.now (map (λ w. w.now) logs.items)
+asked_for (command.Drive file) = drive_asked file.now

@@ -4,7 +4,7 @@ ghost use Rattle.units.specs.declared.fault.Fault.TheVariants.{Memory};
 ghost use Rattle.command_line.specs.Lines.{are_covered, are_plain, asks_help, line_of};
 ghost use Rattle.command_line.specs.declared.commands.Command.TheVariants.{Help};
 ghost use Rattle.command_line.specs.Commands.{command_of, command_or_refusal, key_of, once_of_words, value_of};
-ghost use Rattle.command_line.specs.Views.{asked_by};
+ghost use Rattle.command_line.specs.Views.{asked_for};
 
 use crate::Command;
 use crate::parsing::{Line, read_line};
@@ -18,7 +18,7 @@ use units::{Fault, Key, Value};
 /// command line as `command`. Other words that begin with `-` are read as `clap` does it.
 pub fn command<'a>(alloc: Global, words: &'a [&'a str]) -> Result<Command<'a>, Fault>
     ensures exact { are_covered (map (λ w. w.now) words.entry.now) ≡ true → MatchResult result
-        (λ c. command_of (map (λ w. w.now) words.entry.now) ≡ Ok (asked_by c))
+        (λ c. command_of (map (λ w. w.now) words.entry.now) ≡ Ok (asked_for c))
         (λ f. (f ≡ Memory) ⊎ (command_of (map (λ w. w.now) words.entry.now) ≡ Err f)) }
     ensures help { asks_help (map (λ w. w.now) words.entry.now) ≡ true → result ≡ Ok Help }
 {
@@ -30,7 +30,7 @@ pub fn command<'a>(alloc: Global, words: &'a [&'a str]) -> Result<Command<'a>, F
 
 fn read_command<'a>(alloc: Global, words: &'a [&'a str]) -> Result<Command<'a>, Fault>
     ensures { are_plain (map (λ w. w.now) words.entry.now) ≡ true → MatchResult result
-        (λ c. command_or_refusal (line_of (map (λ w. w.now) words.entry.now)) ≡ Ok (asked_by c))
+        (λ c. command_or_refusal (line_of (map (λ w. w.now) words.entry.now)) ≡ Ok (asked_for c))
         (λ f. (f ≡ Memory)
         ⊎ (command_or_refusal (line_of (map (λ w. w.now) words.entry.now)) ≡ Err f)) }
 {
@@ -66,7 +66,7 @@ fn read_once<'a>(
 ) -> Result<Command<'a>, Fault>
     ensures { MatchResult result
         (λ c. once_of_words key.now value.now first.entry.0.now first.entry.1.now
-        second.entry.0.now second.entry.1.now ≡ Ok (asked_by c))
+        second.entry.0.now second.entry.1.now ≡ Ok (asked_for c))
         (λ f. (f ≡ Memory) ⊎ (once_of_words key.now value.now first.entry.0.now first.entry.1.now
         second.entry.0.now second.entry.1.now ≡ Err f)) }
 {

@@ -19,7 +19,7 @@ use Rattle.protocol.specs.Cells.{plan_commit_granted}
 use Rattle.memory.specs.Kept.{Kept, start_of, standing_of, IsPlanned}
 use Rattle.memory.specs.declared.plan.Plan.{Plan}
 use Rattle.memory.specs.declared.state.PastStanding.{PastStanding}
-use Rattle.coordinator.specs.Granted.{decides, collects, waits}
+use Rattle.coordinator.specs.Granted.{decides, collects, waits_commit}
 
 -- ---- time
 
@@ -131,7 +131,7 @@ opened : (b : Before) (latest : ℕ) (m : Commit) → opens b m.txn (exclusive m
     → plan_commit_now b latest m ≡ roomed (is_crowded b m.txn) (granted_now b latest m)
 unfolding plan_commit_now
 opened b latest m e =
-    ap (λ a. roomed (is_crowded b m.txn) (cond a (granted_now b latest m) (Ok (waits b latest m)))) e
+    ap (λ a. roomed (is_crowded b m.txn) (cond a (granted_now b latest m) (Ok (waits_commit b latest m)))) e
 
 roomed_late : (crowded : Bool) (planned : Planned) → planned ≡ Err TimeSpent → roomed crowded planned ≡ Err TimeSpent
 roomed_late true planned e = ap (roomed true) e
@@ -185,16 +185,16 @@ collected_roomy b latest m free some roomy = collected b latest m false free som
 -- ---- where they are not
 
 shut : (b : Before) (latest : ℕ) (m : Commit) (crowded : Bool) → opens b m.txn (exclusive m.writes) ≡ false → is_crowded b m.txn ≡ crowded
-    → plan_commit_now b latest m ≡ roomed crowded (Ok (waits b latest m))
+    → plan_commit_now b latest m ≡ roomed crowded (Ok (waits_commit b latest m))
 unfolding plan_commit_now
 shut b latest m crowded e room =
-    ap (λ a. roomed (is_crowded b m.txn) (cond a (granted_now b latest m) (Ok (waits b latest m)))) e
-    ∙ ap (λ a. roomed a (Ok (waits b latest m))) room
+    ap (λ a. roomed (is_crowded b m.txn) (cond a (granted_now b latest m) (Ok (waits_commit b latest m)))) e
+    ∙ ap (λ a. roomed a (Ok (waits_commit b latest m))) room
 
 pub wait_crowded : (b : Before) (latest : ℕ) (m : Commit) → opens b m.txn (exclusive m.writes) ≡ false → is_crowded b m.txn ≡ true
     → plan_commit_now b latest m ≡ Err RowsFull
 wait_crowded b latest m e full = shut b latest m true e full
 
 pub wait_roomy : (b : Before) (latest : ℕ) (m : Commit) → opens b m.txn (exclusive m.writes) ≡ false → is_crowded b m.txn ≡ false
-    → plan_commit_now b latest m ≡ Ok (waits b latest m)
+    → plan_commit_now b latest m ≡ Ok (waits_commit b latest m)
 wait_roomy b latest m e roomy = shut b latest m false e roomy

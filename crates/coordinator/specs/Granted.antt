@@ -21,8 +21,8 @@ abbrev pub collects : Before → List Id → Id → ℕ → List ℕ → List By
 collects b ended t latest ps rs ws = puts b ended t (exclusive ws) (Collecting latest ps rs ws []) None b.memory.last []
 
 -- the transaction waits with its commit
-abbrev pub waits : Before → ℕ → Commit → Plan
-waits b latest m = puts b (in_way b m.txn (exclusive m.writes)) m.txn [] (WaitsCommit latest m.parts m.reads.keys m.writes) None b.memory.last []
+abbrev pub waits_commit : Before → ℕ → Commit → Plan
+waits_commit b latest m = puts b (in_way b m.txn (exclusive m.writes)) m.txn [] (WaitsCommit latest m.parts m.reads.keys m.writes) None b.memory.last []
 
 -- the votes that a row keeps with one more
 unfoldable pub more_votes : ℕ → ℕ → List CastVote → List Voted

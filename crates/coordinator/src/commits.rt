@@ -10,7 +10,7 @@ ghost use Rattle.protocol.specs.Cells.{commit_stamp, plan_commit_fresh, plan_com
 ghost use Rattle.rows.specs.CodeRows.{phase_of, phase_of_wait};
 ghost use Rattle.memory.specs.Carry.{Asks, IsFit, MayTurn, may_ask, may_drop, may_end};
 ghost use Rattle.memory.specs.Kept.{start_of, standing_of, IsPlanned};
-ghost use Rattle.coordinator.specs.Granted.{waits};
+ghost use Rattle.coordinator.specs.Granted.{waits_commit};
 ghost use Rattle.memory.specs.Standings.{standing_in, standing_by_row, opens_writes, MakesPlan};
 ghost use Rattle.coordinator.specs.ByMessage.{PlansCommit, PlansCommitNow, PlansGranted, MakesDecision, MakesCollecting, MakesDecisionAnew};
 ghost use Rattle.coordinator.specs.ByMessage.{MakesCollectingAnew};
@@ -240,7 +240,7 @@ fn wait(state: &State, alloc: Global, now: &Reading, commit: &Commit) -> Result<
 fn wait_in_row(state: &State, alloc: Global, now: &Reading, commit: &Commit) -> Result<Plan, Fault>
     requires shut { opens_writes state.now commit.now.txn commit.now.writes ≡ false }
     requires asks { may_ask state.now.memory.rows commit.now.txn ≡ true }
-    ensures plan { MakesPlan state.now (waits (start_of state.now) now.now.latest commit.now)
+    ensures plan { MakesPlan state.now (waits_commit (start_of state.now) now.now.latest commit.now)
         result }
     ensures fit { IfOk result (IsFit state.now) }
     ensures memory { IfErr result (λ fault. fault ≡ Fault.Memory) }

@@ -11,7 +11,7 @@ use Rattle.units.specs.Lists.{gather, head, numbered}
 use Rattle.units.specs.declared.line.Line.{Line}
 use Rattle.units.specs.declared.line.Line.TheVariants as line
 use Rattle.record.specs.Verdict.{is_late_ack}
-use Rattle.findings.specs.Acks.{AscendsByMoment, as_ack, came_earlier, is_before, is_late_by, last_reaches, raised}
+use Rattle.findings.specs.Acks.{AscendsByMoment, as_ack, came_earlier, is_before, is_late_by, last_reaches, raised_acks}
 use Rattle.findings.specs.declared.acks.Ack.{Ack}
 use Rattle.findings.proofs.Sorting.{ascends_from_sorted, before_partitioned}
 
@@ -42,12 +42,12 @@ earlier_first moment xs up = before_partitioned came_earlier moment_order (at_mo
 
 -- those that don't come before one, raised
 still_after : (a b : Ack) (top : ℕ) (xs : List Ack) → b.moment ≡ a.moment → list_all (λ c. not (came_earlier c a)) xs ≡ true
-    → list_all (λ c. not (came_earlier c b)) (raised top xs) ≡ true
+    → list_all (λ c. not (came_earlier c b)) (raised_acks top xs) ≡ true
 still_after a b top [] e all = refl
 still_after a b top (c ∷ xs) e all =
     and_from _ _ (ap (λ m. not (nat_lt c.moment m)) e ∙ (and_parts _ _ all).0) (still_after a b (max c.at top) xs e (and_parts _ _ all).1)
 
-pub raised_ascends : (top : ℕ) (xs : List Ack) → AscendsByMoment xs → AscendsByMoment (raised top xs)
+pub raised_ascends : (top : ℕ) (xs : List Ack) → AscendsByMoment xs → AscendsByMoment (raised_acks top xs)
 raised_ascends top [] up = tt
 raised_ascends top (a ∷ xs) up =
     (still_after a (record { moment = a.moment; at = max a.at top }) (max a.at top) xs refl up.0, raised_ascends (max a.at top) xs up.1)
@@ -88,12 +88,13 @@ or_none false = refl
 
 -- where some were gone over
 late_behind : (moment at top : ℕ) (xs : List Ack) → AscendsByMoment xs
-    → last_reaches at (nat_le at top) (take (front (is_before moment) (raised top xs)) (raised top xs)) ≡ (nat_le at top || list_any (is_late moment at) xs)
+    → last_reaches at (nat_le at top) (take (front (is_before moment) (raised_acks top xs)) (raised_acks top xs)) ≡
+    (nat_le at top || list_any (is_late moment at) xs)
 late_behind moment at top [] up = sym (or_none (nat_le at top))
 late_behind moment at top (a ∷ xs) up = by_test (nat_lt a.moment moment) refl (late_behind moment at (max a.at top) xs up.1)
   where
     rest : List Ack
-    rest = raised (max a.at top) xs
+    rest = raised_acks (max a.at top) xs
 
     by_test : (b : Bool) → nat_lt a.moment moment ≡ b
         → last_reaches at (nat_le at (max a.at top)) (take (front (is_before moment) rest) rest) ≡ (nat_le at (max a.at top) || list_any (is_late moment at) xs)
@@ -105,12 +106,12 @@ late_behind moment at top (a ∷ xs) up = by_test (nat_lt a.moment moment) refl 
         ∙ or_assoc (nat_le at top) (nat_le at a.at) (list_any (is_late moment at) xs)
     by_test false e behind = sym (or_none (nat_le at top)) ∙ ap (λ b. nat_le at top || b) (sym (none_later moment at a xs e up.0))
 
-pub late_is : (moment at : ℕ) (xs : List Ack) → AscendsByMoment xs → is_late_by moment at (raised 0 xs) ≡ list_any (is_late moment at) xs
+pub late_is : (moment at : ℕ) (xs : List Ack) → AscendsByMoment xs → is_late_by moment at (raised_acks 0 xs) ≡ list_any (is_late moment at) xs
 late_is moment at [] up = refl
 late_is moment at (a ∷ xs) up = by_test (nat_lt a.moment moment) refl
   where
     rest : List Ack
-    rest = raised (max a.at 0) xs
+    rest = raised_acks (max a.at 0) xs
 
     from_none : nat_le at (max a.at 0) ≡ nat_le at a.at
     from_none = grind (arith, nat_tests)

@@ -9,21 +9,21 @@ use Rattle.record.specs.declared.record.Prepared.{Prepared}
 use Rattle.record.specs.declared.record.Record.{Record}
 use Rattle.findings.specs.declared.whole.Tally.{Tally}
 use Rattle.findings.specs.declared.whole.Tally.TheVariants.{Never, Again}
-use Rattle.findings.specs.Tallies.{after, decisions_here, fits_all, next, settled, sole}
+use Rattle.findings.specs.Tallies.{after, decisions_here, fits_all, with_decision, settled_tally, sole}
 
 pub after_append : (fits : Decision → Bool) (found : Tally) (ds es : List Decision) → after fits found (ds ++ es) ≡ after fits (after fits found ds) es
 after_append fits found [] es = refl
-after_append fits found (d ∷ ds) es = after_append fits (next fits found d) ds es
+after_append fits found (d ∷ ds) es = after_append fits (with_decision fits found d) ds es
 
 stays_again : (fits : Decision → Bool) (ds : List Decision) → after fits Again ds ≡ Again
 stays_again fits [] = refl
 stays_again fits (d ∷ ds) = stays_again fits ds
 
 pub whole_is_settled : (logs : List (List Record)) (t : Id) (ds : List Decision)
-    → is_whole_by logs t ds ≡ settled (list_all (λ l. outcomes_fit l t (λ s. false)) logs) (after (fits_all logs t) Never ds)
+    → is_whole_by logs t ds ≡ settled_tally (list_all (λ l. outcomes_fit l t (λ s. false)) logs) (after (fits_all logs t) Never ds)
 whole_is_settled logs t [] = refl
 whole_is_settled logs t (d ∷ []) = refl
-whole_is_settled logs t (d ∷ e ∷ ds) = sym (ap (settled (list_all (λ l. outcomes_fit l t (λ s. false)) logs)) (stays_again (fits_all logs t) ds))
+whole_is_settled logs t (d ∷ e ∷ ds) = sym (ap (settled_tally (list_all (λ l. outcomes_fit l t (λ s. false)) logs)) (stays_again (fits_all logs t) ds))
 
 pub sole_promise : (d : Decision) (ps : List Prepared) → is_promise_for d ps ≡ sole (λ p. nat_eq p.coordinator d.shard && nat_le p.at d.commit.at) None ps
 sole_promise d [] = refl

@@ -13,7 +13,7 @@ use Rattle.units.specs.declared.writes.Write.{Write}
 use Rattle.units.proofs.KeyLaws.{key_before-irreflexive, key_before-total, key_before-trans, same_key-is, same_key-not_before, same_key_comm}
 use Rattle.record.specs.History.{Txn}
 use Rattle.findings.specs.Ascending.{AscendsBy}
-use Rattle.findings.specs.Versions.{Placed, AscendsByKey, AscendsByPlace, before_place, has_earlier_key, has_earlier_place, last_value, of_key}
+use Rattle.findings.specs.Versions.{PlacedWrite, AscendsByKey, AscendsByPlace, before_place, has_earlier_key, has_earlier_place, last_value, placed_for}
 use Rattle.findings.specs.Versions.{placed_at, placed_from, shown, written}
 use Rattle.findings.proofs.Sorting.{ascends_drop, before_partitioned, not_after_partitioned, ties_run}
 
@@ -58,28 +58,28 @@ tie_is_same a b = by_same (same_key a b) refl
     by_same false same = differ (key_before a b) refl same ∙ sym same
 
 -- a version of a key
-abbrev pub sample : Bytes → ℕ → Placed
+abbrev pub sample : Bytes → ℕ → PlacedWrite
 sample k n = record { place = n; write = record { key = k; value = None } }
 
-pub stable_of_key : (vs ws : List Placed) → IsStableBy has_earlier_key vs ws → (k : Bytes) → of_key k ws ≡ of_key k vs
+pub stable_of_key : (vs ws : List PlacedWrite) → IsStableBy has_earlier_key vs ws → (k : Bytes) → placed_for k ws ≡ placed_for k vs
 stable_of_key vs ws stable k = sym (of_key_is ws) ∙ stable (sample k 0) ∙ of_key_is vs
   where
-    of_key_is : (us : List Placed) → filter (ties has_earlier_key (sample k 0)) us ≡ of_key k us
-    of_key_is us = ap (λ (test : Placed → Bool). filter test us) (λ i v. tie_is_same k v.write.key i)
+    of_key_is : (us : List PlacedWrite) → filter (ties has_earlier_key (sample k 0)) us ≡ placed_for k us
+    of_key_is us = ap (λ (test : PlacedWrite → Bool). filter test us) (λ i v. tie_is_same k v.write.key i)
 
-pub run_of_key : (k : Bytes) (vs : List Placed) → AscendsByKey vs → (p q : ℕ) → p ≡ front (λ v. key_before v.write.key k) vs
-    → q ≡ front (λ v. not (key_before k v.write.key)) (take (length vs - p) (drop p vs)) → take q (take (length vs - p) (drop p vs)) ≡ of_key k vs
+pub run_of_key : (k : Bytes) (vs : List PlacedWrite) → AscendsByKey vs → (p q : ℕ) → p ≡ front (λ v. key_before v.write.key k) vs
+    → q ≡ front (λ v. not (key_before k v.write.key)) (take (length vs - p) (drop p vs)) → take q (take (length vs - p) (drop p vs)) ≡ placed_for k vs
 run_of_key k vs up p q first count =
     ap (λ n. take n (take (length vs - p) (drop p vs))) count
-    ∙ ap (λ (ws : List Placed). take (front (λ v. not (key_before k v.write.key)) ws) ws) (take_rest vs p)
+    ∙ ap (λ (ws : List PlacedWrite). take (front (λ v. not (key_before k v.write.key)) ws) ws) (take_rest vs p)
     ∙ ap (λ n. take (front (λ v. not (key_before k v.write.key)) (drop n vs)) (drop n vs)) first
     ∙ ties_run has_earlier_key key_order (sample k 0) vs up
-    ∙ ap (λ (test : Placed → Bool). filter test vs) (λ i v. tie_is_same k v.write.key i)
+    ∙ ap (λ (test : PlacedWrite → Bool). filter test vs) (λ i v. tie_is_same k v.write.key i)
 
-pub keys_before : (k : Bytes) (vs : List Placed) → AscendsByKey vs → IsPartitionedBy (λ v. key_before v.write.key k) vs
+pub keys_before : (k : Bytes) (vs : List PlacedWrite) → AscendsByKey vs → IsPartitionedBy (λ v. key_before v.write.key k) vs
 keys_before k vs up = before_partitioned has_earlier_key key_order (sample k 0) vs up
 
-pub keys_not_after : (k : Bytes) (vs : List Placed) (p : ℕ) → AscendsByKey vs
+pub keys_not_after : (k : Bytes) (vs : List PlacedWrite) (p : ℕ) → AscendsByKey vs
     → IsPartitionedBy (λ v. not (key_before k v.write.key)) (take (length vs - p) (drop p vs))
 keys_not_after k vs p up =
     not_after_partitioned has_earlier_key key_order (sample k 0) _ (subst AscendsByKey (sym (take_rest vs p)) (ascends_drop has_earlier_key p vs up))
@@ -95,10 +95,10 @@ place_order = record { one_way = λ v w. one_way v.place w.place; chain = λ u v
     chain : (a b c : ℕ) → nat_lt a b ≡ false → nat_lt b c ≡ false → nat_lt a c ≡ false
     chain a b c h k = grind (arith, nat_tests)
 
-pub places_before : (n : ℕ) (vs : List Placed) → AscendsByPlace vs → IsPartitionedBy (λ v. nat_lt v.place n) vs
+pub places_before : (n : ℕ) (vs : List PlacedWrite) → AscendsByPlace vs → IsPartitionedBy (λ v. nat_lt v.place n) vs
 places_before n vs up = before_partitioned has_earlier_place place_order (sample [] n) vs up
 
-none_before : (n : ℕ) (v : Placed) (vs : List Placed) → nat_lt v.place n ≡ false → list_all (λ w. not (has_earlier_place w v)) vs ≡ true
+none_before : (n : ℕ) (v : PlacedWrite) (vs : List PlacedWrite) → nat_lt v.place n ≡ false → list_all (λ w. not (has_earlier_place w v)) vs ≡ true
     → before_place n vs ≡ []
 none_before n v [] here all = refl
 none_before n v (w ∷ vs) here all =
@@ -109,7 +109,7 @@ none_before n v (w ∷ vs) here all =
     is_false true e = cc
     is_false false e = refl
 
-pub first_places : (n : ℕ) (vs : List Placed) → AscendsByPlace vs → take (front (λ v. nat_lt v.place n) vs) vs ≡ before_place n vs
+pub first_places : (n : ℕ) (vs : List PlacedWrite) → AscendsByPlace vs → take (front (λ v. nat_lt v.place n) vs) vs ≡ before_place n vs
 first_places n [] up = refl
 first_places n (v ∷ vs) up = by_test (nat_lt v.place n) refl (first_places n vs up.1)
   where
@@ -121,7 +121,7 @@ first_places n (v ∷ vs) up = by_test (nat_lt v.place n) refl (first_places n v
 not_earlier : (n m : ℕ) → n ≤ m → not (nat_lt m n) ≡ true
 not_earlier n m le = grind (arith, nat_tests, le)
 
-all_from_at : (n m : ℕ) (ws : List Write) (vs : List Placed) → n ≤ m → list_all (λ v. not (nat_lt v.place n)) vs ≡ true
+all_from_at : (n m : ℕ) (ws : List Write) (vs : List PlacedWrite) → n ≤ m → list_all (λ v. not (nat_lt v.place n)) vs ≡ true
     → list_all (λ v. not (nat_lt v.place n)) (placed_at m ws ++ vs) ≡ true
 all_from_at n m [] vs le all = all
 all_from_at n m (w ∷ ws) vs le all = and_from _ _ (not_earlier n m le) (all_from_at n m ws vs le all)
@@ -130,7 +130,7 @@ all_from : (n m : ℕ) (ts : List Txn) → n ≤ m → list_all (λ v. not (nat_
 all_from n m [] le = refl
 all_from n m (t ∷ ts) le = all_from_at n m t.writes (placed_from (suc m) ts) le (all_from n (suc m) ts (omega (arith, le)))
 
-ascends_at : (n : ℕ) (ws : List Write) (vs : List Placed) → AscendsByPlace vs → list_all (λ v. not (nat_lt v.place n)) vs ≡ true
+ascends_at : (n : ℕ) (ws : List Write) (vs : List PlacedWrite) → AscendsByPlace vs → list_all (λ v. not (nat_lt v.place n)) vs ≡ true
     → AscendsByPlace (placed_at n ws ++ vs)
 ascends_at n [] vs up all = up
 ascends_at n (w ∷ ws) vs up all = (all_from_at n n ws vs (omega arith) all, ascends_at n ws vs up all)
@@ -156,7 +156,7 @@ ascends_kept less p (x ∷ xs) up = by_test (p x) (ascends_kept less p xs up.1)
     by_test true rest = (all_kept (λ y. not (less y x)) p xs up.0, rest)
     by_test false rest = rest
 
-pub places_ascend : (k : Bytes) (ts : List Txn) → AscendsByPlace (of_key k (placed_from 0 ts))
+pub places_ascend : (k : Bytes) (ts : List Txn) → AscendsByPlace (placed_for k (placed_from 0 ts))
 places_ascend k ts = ascends_kept has_earlier_place (λ v. same_key k v.write.key) (placed_from 0 ts) (ascends_from 0 ts)
 
 -- ---- values
@@ -179,70 +179,72 @@ none_shown test (t ∷ ts) k x all = by_test (test t) (and_parts _ _ all) (none_
         is_false false e = refl
 
 -- none of them is before their first place
-none_placed : (n : ℕ) (k : Bytes) (vs : List Placed) → list_all (λ v. not (nat_lt v.place n)) vs ≡ true → before_place n (of_key k vs) ≡ []
+none_placed : (n : ℕ) (k : Bytes) (vs : List PlacedWrite) → list_all (λ v. not (nat_lt v.place n)) vs ≡ true → before_place n (placed_for k vs) ≡ []
 none_placed n k [] all = refl
 none_placed n k (v ∷ vs) all = by_test (same_key k v.write.key) (and_parts _ _ all) (none_placed n k vs ((and_parts _ _ all).1))
   where
-    by_place : (b : Bool) → not b ≡ true → before_place n (of_key k vs) ≡ [] → cond b (v ∷ before_place n (of_key k vs)) (before_place n (of_key k vs)) ≡ []
+    by_place : (b : Bool) → not b ≡ true → before_place n (placed_for k vs) ≡ [] →
+        cond b (v ∷ before_place n (placed_for k vs)) (before_place n (placed_for k vs)) ≡ []
     by_place true e rest = cc
     by_place false e rest = rest
 
-    by_test : (b : Bool) → (not (nat_lt v.place n) ≡ true) × (list_all (λ w. not (nat_lt w.place n)) vs ≡ true) → before_place n (of_key k vs) ≡ []
-        → before_place n (cond b (v ∷ of_key k vs) (of_key k vs)) ≡ []
+    by_test : (b : Bool) → (not (nat_lt v.place n) ≡ true) × (list_all (λ w. not (nat_lt w.place n)) vs ≡ true) → before_place n (placed_for k vs) ≡ []
+        → before_place n (cond b (v ∷ placed_for k vs) (placed_for k vs)) ≡ []
     by_test true p rest = by_place (nat_lt v.place n) p.0 rest
     by_test false p rest = rest
 
 -- all of a transaction are before a later place
-own_value : (n m : ℕ) (k : Bytes) (ws : List Write) (vs : List Placed) (x : Option Bytes) → nat_lt n m ≡ true
-    → last_value (before_place m (of_key k (placed_at n ws ++ vs))) x ≡ last_value (before_place m (of_key k vs)) (written ws k x)
+own_value : (n m : ℕ) (k : Bytes) (ws : List Write) (vs : List PlacedWrite) (x : Option Bytes) → nat_lt n m ≡ true
+    → last_value (before_place m (placed_for k (placed_at n ws ++ vs))) x ≡ last_value (before_place m (placed_for k vs)) (written ws k x)
 own_value n m k [] vs x lt = refl
 own_value n m k (w ∷ ws) vs x lt = by_test (same_key k w.key) (λ y. own_value n m k ws vs y lt)
   where
-    rest : List Placed
-    rest = before_place m (of_key k (placed_at n ws ++ vs))
+    rest : List PlacedWrite
+    rest = before_place m (placed_for k (placed_at n ws ++ vs))
 
-    by_test : (b : Bool) → ((y : Option Bytes) → last_value rest y ≡ last_value (before_place m (of_key k vs)) (written ws k y))
-        → last_value (before_place m (cond b (record { place = n; write = w } ∷ of_key k (placed_at n ws ++ vs)) (of_key k (placed_at n ws ++ vs)))) x
-        ≡ last_value (before_place m (of_key k vs)) (written ws k (cond b w.value x))
+    by_test : (b : Bool) → ((y : Option Bytes) → last_value rest y ≡ last_value (before_place m (placed_for k vs)) (written ws k y))
+        → last_value (before_place m (cond b (record { place = n; write = w } ∷ placed_for k (placed_at n ws ++ vs)) (placed_for k (placed_at n ws ++ vs)))) x
+        ≡ last_value (before_place m (placed_for k vs)) (written ws k (cond b w.value x))
     by_test true same = ap (λ c. last_value (cond c (record { place = n; write = w } ∷ rest) rest) x) lt ∙ same w.value
     by_test false same = same x
 
 shown_from : (test : Txn → Bool) (n : ℕ) (ts : List Txn) (k : Bytes) (x : Option Bytes) → Falls test ts
-    → shown test ts k x ≡ last_value (before_place (n + front test ts) (of_key k (placed_from n ts))) x
+    → shown test ts k x ≡ last_value (before_place (n + front test ts) (placed_for k (placed_from n ts))) x
 shown_from test n [] k x falls = refl
 shown_from test n (t ∷ ts) k x falls = by_test (test t) refl (λ y. shown_from test (suc n) ts k y falls.1)
   where
-    vs : List Placed
+    vs : List PlacedWrite
     vs = placed_from n (t ∷ ts)
 
     by_test : (b : Bool) → test t ≡ b → ((y : Option Bytes) → shown test ts k y ≡ last_value
-        (before_place (suc n + front test ts) (of_key k (placed_from (suc n) ts))) y)
-        → shown test ts k (cond b (written t.writes k x) x) ≡ last_value (before_place (n + cond b (suc (front test ts)) 0) (of_key k vs)) x
+        (before_place (suc n + front test ts) (placed_for k (placed_from (suc n) ts))) y)
+        → shown test ts k (cond b (written t.writes k x) x) ≡ last_value (before_place (n + cond b (suc (front test ts)) 0) (placed_for k vs)) x
     by_test true is rest =
         let more : suc n + front test ts ≡ n + suc (front test ts) = omega arith in
         let before : nat_lt n (n + suc (front test ts)) ≡ true = grind (arith, nat_tests) in
         rest (written t.writes k x)
-        ∙ ap (λ m. last_value (before_place m (of_key k (placed_from (suc n) ts))) (written t.writes k x)) more
+        ∙ ap (λ m. last_value (before_place m (placed_for k (placed_from (suc n) ts))) (written t.writes k x)) more
         ∙ sym (own_value n (n + suc (front test ts)) k t.writes (placed_from (suc n) ts) x before)
     by_test false is rest =
         let same : n + 0 ≡ n = omega arith in
         none_shown test ts k x (falls.0 is)
-        ∙ sym (ap (λ m. last_value (before_place m (of_key k vs)) x) same
+        ∙ sym (ap (λ m. last_value (before_place m (placed_for k vs)) x) same
         ∙ ap (λ us. last_value us x) (none_placed n k vs (all_from n n (t ∷ ts) (omega arith))))
 
 pub shown_is : (test : Txn → Bool) (ts : List Txn) (k : Bytes) → Falls test ts → (p : ℕ) → p ≡ front test ts
-    → shown test ts k None ≡ last_value (before_place p (of_key k (placed_from 0 ts))) None
+    → shown test ts k None ≡ last_value (before_place p (placed_for k (placed_from 0 ts))) None
 shown_is test ts k falls p is =
-    shown_from test 0 ts k None falls ∙ ap (λ n. last_value (before_place n (of_key k (placed_from 0 ts))) None) (zero_plus (front test ts) ∙ sym is)
+    shown_from test 0 ts k None falls ∙ ap (λ n. last_value (before_place n (placed_for k (placed_from 0 ts))) None) (zero_plus (front test ts) ∙ sym is)
   where
     zero_plus : (n : ℕ) → 0 + n ≡ n
     zero_plus n = omega arith
 
-pub last_is : (v : Placed) (vs : List Placed) (x : Option Bytes) (d : Placed) → last_value (v ∷ vs) x ≡ (get_or (v ∷ vs) (length vs) d).write.value
+pub last_is : (v : PlacedWrite) (vs : List PlacedWrite) (x : Option Bytes) (d : PlacedWrite) →
+    last_value (v ∷ vs) x ≡ (get_or (v ∷ vs) (length vs) d).write.value
 last_is v [] x d = refl
 last_is v (w ∷ vs) x d = last_is w vs v.write.value d
 
-pub last_at : (vs : List Placed) (d : Placed) → 0 < length vs → (get_or vs (length vs - 1) d).write.value ≡ last_value vs None
+pub last_at : (vs : List PlacedWrite) (d : PlacedWrite) → 0 < length vs → (get_or vs (length vs - 1) d).write.value ≡ last_value vs None
 last_at [] d some = absurd (omega (arith, some))
 last_at (v ∷ vs) d some = ap (λ n. (get_or (v ∷ vs) n d).write.value) (one_less (length vs)) ∙ sym (last_is v vs None d)
   where

@@ -12,7 +12,7 @@ use Rattle.record.specs.Whole.{Decision, decisions, fits_decision, is_promise_fo
 use Rattle.record.specs.declared.record.Committed.{Committed}
 use Rattle.record.specs.declared.record.Record.{Record}
 use Rattle.record.specs.declared.record.Record.TheVariants.{Opened, Ceiling, Prepare, Commit, Abort, Outcome}
-use Rattle.findings.specs.Entries.{About, about_in, entries, log_at, logs_from, of_txn}
+use Rattle.findings.specs.Entries.{About, about_in, entries, log_numbered, logs_from, of_txn}
 
 -- the record is about a transaction
 abbrev pub is_about : Id → Record → Bool
@@ -24,13 +24,13 @@ cut t logs = map (filter (is_about t)) logs
 
 -- ---- the logs that its records give
 
-log_at_append : (n : ℕ) (es fs : List About) → log_at n (es ++ fs) ≡ log_at n es ++ log_at n fs
+log_at_append : (n : ℕ) (es fs : List About) → log_numbered n (es ++ fs) ≡ log_numbered n es ++ log_numbered n fs
 log_at_append n [] fs = refl
 log_at_append n (e ∷ es) fs = by_test (nat_eq n e.shard) (log_at_append n es fs)
   where
-    by_test : (b : Bool) → log_at n (es ++ fs) ≡ log_at n es ++ log_at n fs
+    by_test : (b : Bool) → log_numbered n (es ++ fs) ≡ log_numbered n es ++ log_numbered n fs
         → map (λ (x : About). x.item) (cond b (e ∷ filter (λ x. nat_eq n x.shard) (es ++ fs)) (filter (λ x. nat_eq n x.shard) (es ++ fs)))
-        ≡ map (λ (x : About). x.item) (cond b (e ∷ filter (λ x. nat_eq n x.shard) es) (filter (λ x. nat_eq n x.shard) es)) ++ log_at n fs
+        ≡ map (λ (x : About). x.item) (cond b (e ∷ filter (λ x. nat_eq n x.shard) es) (filter (λ x. nat_eq n x.shard) es)) ++ log_numbered n fs
     by_test true rest = ap (λ l. e.item ∷ l) rest
     by_test false rest = rest
 
@@ -47,37 +47,37 @@ of_txn_append t (e ∷ es) fs = by_test (same_id t e.txn) (of_txn_append t es fs
 abbrev pub own : Id → ℕ → List Record → List About
 own t n log = of_txn t (gather (about_in n) log)
 
-own_here : (t : Id) (n : ℕ) (log : List Record) → log_at n (own t n log) ≡ filter (is_about t) log
+own_here : (t : Id) (n : ℕ) (log : List Record) → log_numbered n (own t n log) ≡ filter (is_about t) log
 own_here t n [] = refl
 own_here t n (r ∷ log) = by_id (id_in r) (own_here t n log)
   where
     same_place : nat_eq n n ≡ true
     same_place = grind (arith, nat_tests)
 
-    by_test : (u : Id) (b : Bool) → log_at n (own t n log) ≡ filter (is_about t) log
-        → log_at n (cond b (record { txn = u; shard = n; item = r } ∷ own t n log) (own t n log)) ≡ cond b (r ∷ filter (is_about t) log)
+    by_test : (u : Id) (b : Bool) → log_numbered n (own t n log) ≡ filter (is_about t) log
+        → log_numbered n (cond b (record { txn = u; shard = n; item = r } ∷ own t n log) (own t n log)) ≡ cond b (r ∷ filter (is_about t) log)
         (filter (is_about t) log)
     by_test u true rest = rw same_place (ap (λ l. r ∷ l) rest)
     by_test u false rest = rest
 
-    by_id : (o : Option Id) → log_at n (own t n log) ≡ filter (is_about t) log
-        → log_at n (of_txn t (elim (option_map {U = About} (λ u. record { txn = u; shard = n; item = r }) o) as
+    by_id : (o : Option Id) → log_numbered n (own t n log) ≡ filter (is_about t) log
+        → log_numbered n (of_txn t (elim (option_map {U = About} (λ u. record { txn = u; shard = n; item = r }) o) as
         (λ x. List About) [ None ↦ gather (about_in n) log | Some y ↦ y ∷ gather (about_in n) log ]))
         ≡ cond (when (same_id t) o) (r ∷ filter (is_about t) log) (filter (is_about t) log)
     by_id None rest = rest
     by_id (Some u) rest = by_test u (same_id t u) rest
 
-own_elsewhere : (t : Id) (n m : ℕ) (log : List Record) → nat_eq m n ≡ false → log_at m (own t n log) ≡ []
+own_elsewhere : (t : Id) (n m : ℕ) (log : List Record) → nat_eq m n ≡ false → log_numbered m (own t n log) ≡ []
 own_elsewhere t n m [] other = refl
 own_elsewhere t n m (r ∷ log) other = by_id (id_in r) (own_elsewhere t n m log other)
   where
-    by_test : (u : Id) (b : Bool) → log_at m (own t n log) ≡ []
-        → log_at m (cond b (record { txn = u; shard = n; item = r } ∷ own t n log) (own t n log)) ≡ []
+    by_test : (u : Id) (b : Bool) → log_numbered m (own t n log) ≡ []
+        → log_numbered m (cond b (record { txn = u; shard = n; item = r } ∷ own t n log) (own t n log)) ≡ []
     by_test u true rest = rw other rest
     by_test u false rest = rest
 
-    by_id : (o : Option Id) → log_at m (own t n log) ≡ []
-        → log_at m (of_txn t (elim (option_map {U = About} (λ u. record { txn = u; shard = n; item = r }) o) as
+    by_id : (o : Option Id) → log_numbered m (own t n log) ≡ []
+        → log_numbered m (of_txn t (elim (option_map {U = About} (λ u. record { txn = u; shard = n; item = r }) o) as
         (λ x. List About) [ None ↦ gather (about_in n) log | Some y ↦ y ∷ gather (about_in n) log ])) ≡ []
     by_id None rest = rest
     by_id (Some u) rest = by_test u (same_id t u) rest
@@ -87,13 +87,13 @@ abbrev pub those : ℕ → List (List Record) → List About
 those n logs = flat_map (λ l. gather (about_in l.0) l.1) (numbered n logs)
 
 -- those of later logs are in no earlier one
-later_elsewhere : (t : Id) (m n : ℕ) (logs : List (List Record)) → m < n → log_at m (of_txn t (those n logs)) ≡ []
+later_elsewhere : (t : Id) (m n : ℕ) (logs : List (List Record)) → m < n → log_numbered m (of_txn t (those n logs)) ≡ []
 later_elsewhere t m n [] lt = refl
 later_elsewhere t m n (log ∷ logs) lt =
     let other : nat_eq m n ≡ false = grind (arith, nat_tests, lt) in
-    ap (log_at m) (of_txn_append t (gather (about_in n) log) (those (suc n) logs))
+    ap (log_numbered m) (of_txn_append t (gather (about_in n) log) (those (suc n) logs))
     ∙ log_at_append m (own t n log) (of_txn t (those (suc n) logs))
-    ∙ ap (λ l. l ++ log_at m (of_txn t (those (suc n) logs))) (own_elsewhere t n m log other)
+    ∙ ap (λ l. l ++ log_numbered m (of_txn t (those (suc n) logs))) (own_elsewhere t n m log other)
     ∙ later_elsewhere t m (suc n) logs (omega (arith, lt))
 
 -- the later logs don't see those of an earlier one
@@ -101,8 +101,8 @@ earlier_elsewhere : (t : Id) (k m n : ℕ) (log : List Record) (es : List About)
 earlier_elsewhere t zero m n log es lt = refl
 earlier_elsewhere t (suc k) m n log es lt =
     let other : nat_eq m n ≡ false = grind (arith, nat_tests, lt) in
-    ap (λ l. l ∷ logs_from k (suc m) (own t n log ++ es)) (log_at_append m (own t n log) es ∙ ap (λ l. l ++ log_at m es) (own_elsewhere t n m log other))
-    ∙ ap (λ ls. log_at m es ∷ ls) (earlier_elsewhere t k (suc m) n log es (omega (arith, lt)))
+    ap (λ l. l ∷ logs_from k (suc m) (own t n log ++ es)) (log_at_append m (own t n log) es ∙ ap (λ l. l ++ log_numbered m es) (own_elsewhere t n m log other))
+    ∙ ap (λ ls. log_numbered m es ∷ ls) (earlier_elsewhere t k (suc m) n log es (omega (arith, lt)))
 
 given : (t : Id) (n : ℕ) (logs : List (List Record)) → logs_from (length logs) n (of_txn t (those n logs)) ≡ cut t logs
 given t n [] = refl
@@ -112,7 +112,7 @@ given t n (log ∷ logs) =
     ap (λ es. logs_from (suc (length logs)) n es) apart
     ∙ ap (λ l. l ∷ logs_from (length logs) (suc n) (own t n log ++ rest))
     (log_at_append n (own t n log) rest
-    ∙ ap (λ l. l ++ log_at n rest) (own_here t n log)
+    ∙ ap (λ l. l ++ log_numbered n rest) (own_here t n log)
     ∙ ap (λ l. filter (is_about t) log ++ l) (later_elsewhere t n (suc n) logs (omega arith))
     ∙ append-nil (filter (is_about t) log))
     ∙ ap (λ ls. filter (is_about t) log ∷ ls) (earlier_elsewhere t (length logs) (suc n) n log rest (omega arith) ∙ given t (suc n) logs)

@@ -20,9 +20,9 @@ abbrev pub AscendsByMoment : List Ack → Type 0
 AscendsByMoment xs = AscendsBy came_earlier xs
 
 -- each with the greatest timestamp up to there, from one that is there in any case
-abbrev pub raised : ℕ → List Ack → List Ack
-raised top [] = []
-raised top (a ∷ xs) = record { moment = a.moment; at = max a.at top } ∷ raised (max a.at top) xs
+abbrev pub raised_acks : ℕ → List Ack → List Ack
+raised_acks top [] = []
+raised_acks top (a ∷ xs) = record { moment = a.moment; at = max a.at top } ∷ raised_acks (max a.at top) xs
 
 -- it came before a moment
 abbrev pub is_before : ℕ → Ack → Bool

@@ -34,10 +34,10 @@ abbrev pub AscendsByTxn : List About → Type 0
 AscendsByTxn es = AscendsBy is_older es
 
 -- the records of one log
-abbrev pub log_at : ℕ → List About → List Record
-log_at n es = map (λ e. e.item) (filter (λ e. nat_eq n e.shard) es)
+abbrev pub log_numbered : ℕ → List About → List Record
+log_numbered n es = map (λ e. e.item) (filter (λ e. nat_eq n e.shard) es)
 
 -- the records of some logs, from number n on
 abbrev pub logs_from : ℕ → ℕ → List About → List (List Record)
 logs_from zero n es = []
-logs_from (suc k) n es = log_at n es ∷ logs_from k (suc n) es
+logs_from (suc k) n es = log_numbered n es ∷ logs_from k (suc n) es

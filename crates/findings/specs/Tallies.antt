@@ -19,21 +19,21 @@ abbrev pub fits_all : List (List Record) → Id → Decision → Bool
 fits_all logs t d = when (nat_eq d.shard) (head d.commit.parts) && parts_exist logs d && list_all (fits_decision t d) (by_shard logs)
 
 -- one more decision is found
-abbrev pub next : (Decision → Bool) → Tally → Decision → Tally
-next fits Never d = Once (fits d)
-next fits (Once b) d = Again
-next fits Again d = Again
+abbrev pub with_decision : (Decision → Bool) → Tally → Decision → Tally
+with_decision fits Never d = Once (fits d)
+with_decision fits (Once b) d = Again
+with_decision fits Again d = Again
 
 -- some more decisions are found
 abbrev pub after : (Decision → Bool) → Tally → List Decision → Tally
 after fits found [] = found
-after fits found (d ∷ ds) = after fits (next fits found d) ds
+after fits found (d ∷ ds) = after fits (with_decision fits found d) ds
 
 -- what the tally comes to, where a transaction without a decision is judged apart
-abbrev pub settled : Bool → Tally → Bool
-settled never Never = never
-settled never (Once b) = b
-settled never Again = false
+abbrev pub settled_tally : Bool → Tally → Bool
+settled_tally never Never = never
+settled_tally never (Once b) = b
+settled_tally never Again = false
 
 -- a test of the one member that a list has, where one was tested before
 abbrev pub sole : {A : Type 0} → (A → Bool) → Option Bool → List A → Bool

@@ -6,45 +6,45 @@ use Rattle.record.specs.History.{Txn}
 use Rattle.findings.specs.Ascending.{AscendsBy}
 
 -- a write of the transaction at a place
-pub record Placed : Type 0 where
+pub record PlacedWrite : Type 0 where
   pub place : ℕ
   pub write : Write
 
 -- those of some writes
-abbrev pub placed_at : ℕ → List Write → List Placed
+abbrev pub placed_at : ℕ → List Write → List PlacedWrite
 placed_at n ws = map (λ w. record { place = n; write = w }) ws
 
 -- those of some transactions, from place n on
-abbrev pub placed_from : ℕ → List Txn → List Placed
+abbrev pub placed_from : ℕ → List Txn → List PlacedWrite
 placed_from n [] = []
 placed_from n (t ∷ ts) = placed_at n t.writes ++ placed_from (suc n) ts
 
 -- those of one key
-abbrev pub of_key : Bytes → List Placed → List Placed
-of_key k vs = filter (λ v. same_key k v.write.key) vs
+abbrev pub placed_for : Bytes → List PlacedWrite → List PlacedWrite
+placed_for k vs = filter (λ v. same_key k v.write.key) vs
 
 -- one is of an earlier key
-abbrev pub has_earlier_key : Placed → Placed → Bool
+abbrev pub has_earlier_key : PlacedWrite → PlacedWrite → Bool
 has_earlier_key v w = key_before v.write.key w.write.key
 
 -- none comes before one of an earlier key
-abbrev pub AscendsByKey : List Placed → Type 0
+abbrev pub AscendsByKey : List PlacedWrite → Type 0
 AscendsByKey vs = AscendsBy has_earlier_key vs
 
 -- one is of an earlier transaction
-abbrev pub has_earlier_place : Placed → Placed → Bool
+abbrev pub has_earlier_place : PlacedWrite → PlacedWrite → Bool
 has_earlier_place v w = nat_lt v.place w.place
 
 -- none comes before one of an earlier transaction
-abbrev pub AscendsByPlace : List Placed → Type 0
+abbrev pub AscendsByPlace : List PlacedWrite → Type 0
 AscendsByPlace vs = AscendsBy has_earlier_place vs
 
 -- those before a place
-abbrev pub before_place : ℕ → List Placed → List Placed
+abbrev pub before_place : ℕ → List PlacedWrite → List PlacedWrite
 before_place n vs = filter (λ v. nat_lt v.place n) vs
 
 -- the last value, where there is one; else what it was
-abbrev pub last_value : List Placed → Option Bytes → Option Bytes
+abbrev pub last_value : List PlacedWrite → Option Bytes → Option Bytes
 last_value [] x = x
 last_value (v ∷ vs) x = last_value vs v.write.value
 

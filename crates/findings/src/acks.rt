@@ -3,7 +3,7 @@ ghost use Rattle.std.specs.List.{list_any};
 ghost use Rattle.std.specs.Prelude.{◌≡◌, ℕ, Bool, IfOk, IfErr, OnOk};
 ghost use Rattle.units.specs.Lists.{gather};
 ghost use Rattle.record.specs.Verdict.{is_late_ack};
-ghost use Rattle.findings.specs.Acks.{AscendsByMoment, as_ack, is_late_by, raised};
+ghost use Rattle.findings.specs.Acks.{AscendsByMoment, as_ack, is_late_by, raised_acks};
 ghost use Rattle.findings.specs.declared.acks.Ack.{Ack};
 
 use std::alloc::Global;
@@ -57,7 +57,7 @@ fn sort(acks: &mut Vec<Ack>) -> Result<(), Fault>
 
 // Each with the greatest timestamp up to there.
 fn raised(alloc: Global, acks: &[Ack]) -> Result<Vec<Ack>, Fault>
-    ensures raised { IfOk result (λ found. found.items ≡ raised 0 acks.now) }
+    ensures raised { IfOk result (λ found. found.items ≡ raised_acks 0 acks.now) }
     ensures memory { IfErr result (λ fault. fault ≡ Fault.Memory) }
 {
     let mut found = Vec::new(alloc);

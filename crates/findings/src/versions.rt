@@ -2,7 +2,7 @@
 ghost use Rattle.std.specs.Prelude.{◌≡◌, ◌++◌, IfOk, IfErr, OnOk, None};
 ghost use Rattle.std.specs.Option.{option_copied};
 ghost use Rattle.units.specs.Keys.{Bytes};
-ghost use Rattle.findings.specs.Versions.{AscendsByKey, AscendsByPlace, before_place, last_value, of_key, placed_at, placed_from};
+ghost use Rattle.findings.specs.Versions.{AscendsByKey, AscendsByPlace, before_place, last_value, placed_for, placed_at, placed_from};
 
 use crate::history::Transaction;
 use std::alloc::Global;
@@ -17,9 +17,9 @@ pub struct Version<'t> {
 }
 
 impl<'t> Model for Version<'t> {
-    ghost use Rattle.findings.specs.Versions.{Placed};
+    ghost use Rattle.findings.specs.Versions.{PlacedWrite};
 
-    ghost Value = { Placed };
+    ghost Value = { PlacedWrite };
 
     ghost view = { λ v. record { place = v.place; write = v.write.now } };
 }
@@ -31,7 +31,8 @@ pub fn versions_by_key<'t>(
 ) -> Result<Vec<Version<'t>>, Fault>
     ensures order { IfOk result (λ found. AscendsByKey found.items) }
     ensures same { IfOk result
-        (λ found. (k : Bytes) → of_key k found.items ≡ of_key k (placed_from 0 ordered.now)) }
+        (λ found. (k : Bytes) →
+        placed_for k found.items ≡ placed_for k (placed_from 0 ordered.now)) }
     ensures memory { IfErr result (λ fault. fault ≡ Fault.Memory) }
 {
     let mut found = versions_of(alloc, ordered)?;
@@ -67,7 +68,8 @@ fn add_writes<'t>(
 
 fn sort(found: &mut Vec<Version<'_>>) -> Result<(), Fault>
     ensures order { OnOk result (AscendsByKey found.new.items) }
-    ensures same { OnOk result ((k : Bytes) → of_key k found.new.items ≡ of_key k found.old.items) }
+    ensures same { OnOk result ((k : Bytes) →
+        placed_for k found.new.items ≡ placed_for k found.old.items) }
     ensures memory { IfErr result (λ fault. fault ≡ Fault.Memory) }
 {
     found.sort_by(|version, other| version.write.key.compare(&other.write.key))?;
@@ -77,7 +79,7 @@ fn sort(found: &mut Vec<Version<'_>>) -> Result<(), Fault>
 // Those of one key, among some that ascend.
 fn run_of<'v, 't>(versions: &'v [Version<'t>], key: &Key) -> &'v [Version<'t>]
     requires { AscendsByKey versions.now }
-    ensures { result.now ≡ of_key key.now versions.now }
+    ensures { result.now ≡ placed_for key.now versions.now }
 {
     let first = versions.partition_point(|version| version.write.key.is_before(key));
     let rest = &versions[first..];
@@ -92,9 +94,9 @@ pub fn value_before_place<'t>(
     place: usize,
 ) -> Option<&'t Value>
     requires order { AscendsByKey versions.now }
-    requires places { AscendsByPlace (of_key key.now versions.now) }
+    requires places { AscendsByPlace (placed_for key.now versions.now) }
     ensures { option_copied result ≡ last_value
-        (before_place place (of_key key.now versions.now)) None }
+        (before_place place (placed_for key.now versions.now)) None }
 {
     let run = run_of(versions, key);
     let count = run.partition_point(|version| version.place < place);

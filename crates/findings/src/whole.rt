@@ -6,7 +6,7 @@ ghost use Rattle.units.specs.Lists.{gather, has, numbered, when};
 ghost use Rattle.record.specs.Records.{as_ended, is_aborted};
 ghost use Rattle.record.specs.Whole.{decisions, fits_decision, is_promise_for, promises_of, turns_down, outcomes_fit, is_whole};
 ghost use Rattle.findings.specs.declared.whole.Tally.TheVariants.{Never};
-ghost use Rattle.findings.specs.Entries.{log_at, logs_from};
+ghost use Rattle.findings.specs.Entries.{log_numbered, logs_from};
 ghost use Rattle.findings.specs.Tallies.{after, decisions_here, fits_all};
 
 use crate::entries::Entry;
@@ -65,7 +65,7 @@ fn tally_log(
 ) -> Result<Tally, Fault>
     ensures after { IfOk result
         (λ found. found ≡ after (fits_all (logs_from count 0 entries.now) txn) tally
-        (decisions_here txn number (log_at number entries.now))) }
+        (decisions_here txn number (log_numbered number entries.now))) }
     ensures memory { IfErr result (λ fault. fault ≡ Fault.Memory) }
 {
     for entry in entries {
@@ -152,7 +152,7 @@ fn log_fits(
 ) -> bool
     requires { parts.now ≡ commit.now.parts }
     ensures { result ≡ fits_decision txn (record { shard = shard; commit = commit.now })
-        (number, log_at number entries.now) }
+        (number, log_numbered number entries.now) }
 {
     if is_turned_down(number, entries, txn) || !ends_at(number, entries, txn, commit.at) {
         return false;
@@ -181,13 +181,13 @@ fn is_part(parts: &[ShardNo], number: usize) -> bool
 
 // The log has an abort of the transaction, or its outcome aborted.
 fn is_turned_down(number: usize, entries: &[Entry<'_>], txn: TxnId) -> bool
-    ensures { result ≡ turns_down (log_at number entries.now) txn }
+    ensures { result ≡ turns_down (log_numbered number entries.now) txn }
 {
     is_aborted(number, entries, txn) || ends_aborted(number, entries, txn)
 }
 
 fn is_aborted(number: usize, entries: &[Entry<'_>], txn: TxnId) -> bool
-    ensures { result ≡ is_aborted (log_at number entries.now) txn }
+    ensures { result ≡ is_aborted (log_numbered number entries.now) txn }
 {
     for entry in entries {
         if number == entry.shard {
@@ -203,7 +203,7 @@ fn is_aborted(number: usize, entries: &[Entry<'_>], txn: TxnId) -> bool
 
 fn ends_aborted(number: usize, entries: &[Entry<'_>], txn: TxnId) -> bool
     ensures { result ≡ list_any (λ e. same_id e.txn txn && not (when (λ s. true) e.outcome))
-        (gather as_ended (log_at number entries.now)) }
+        (gather as_ended (log_numbered number entries.now)) }
 {
     for entry in entries {
         if number == entry.shard {
@@ -223,7 +223,7 @@ fn ends_aborted(number: usize, entries: &[Entry<'_>], txn: TxnId) -> bool
 
 // The log's outcomes of the transaction at a timestamp all have this one.
 fn ends_at(number: usize, entries: &[Entry<'_>], txn: TxnId, at: Stamp) -> bool
-    ensures { result ≡ outcomes_fit (log_at number entries.now) txn (nat_eq at) }
+    ensures { result ≡ outcomes_fit (log_numbered number entries.now) txn (nat_eq at) }
 {
     for entry in entries {
         if number == entry.shard {
@@ -256,7 +256,7 @@ fn never_ends(count: usize, entries: &[Entry<'_>], txn: TxnId) -> bool
 
 // The log ends the transaction at a timestamp.
 fn ends(number: usize, entries: &[Entry<'_>], txn: TxnId) -> bool
-    ensures { result ≡ not (outcomes_fit (log_at number entries.now) txn (λ s. false)) }
+    ensures { result ≡ not (outcomes_fit (log_numbered number entries.now) txn (λ s. false)) }
 {
     for entry in entries {
         if number == entry.shard {
@@ -284,7 +284,7 @@ fn has_promise(
     commit: &Committed,
 ) -> bool
     ensures { result ≡ is_promise_for (record { shard = shard; commit = commit.now })
-        (promises_of (log_at number entries.now) txn) }
+        (promises_of (log_numbered number entries.now) txn) }
 {
     let mut fits = None;
     for entry in entries {
@@ -312,7 +312,7 @@ fn promise_fits(prepared: &Prepared, shard: usize, commit: &Committed) -> bool
 
 // The log has no promise of the transaction.
 fn has_no_promise(number: usize, entries: &[Entry<'_>], txn: TxnId) -> bool
-    ensures { result ≡ nat_eq (length (promises_of (log_at number entries.now) txn)) 0 }
+    ensures { result ≡ nat_eq (length (promises_of (log_numbered number entries.now) txn)) 0 }
 {
     for entry in entries {
         if number == entry.shard {

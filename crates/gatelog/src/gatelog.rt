@@ -193,16 +193,16 @@ impl<D: Disk> GateLog<D> {
 
     /// Takes all the memory that an append of this record needs, the disk's too. `TimeSpent` where the file would grow
     /// beyond 2^40 bytes.
-    pub fn stage(&mut self, alloc: Global, record: &Record) -> Result<Staged, Fault>
+    pub fn stage(&mut self, alloc: Global, item: Record) -> Result<Staged, Fault>
         ensures staged { IfOk result
-            (λ staged. (staged.offset ≡ gate_at self.old) × (staged.item ≡ «record».now)) }
+            (λ staged. (staged.offset ≡ gate_at self.old) × (staged.item ≡ item)) }
         ensures running { OnOk result
             (IsFalse (is_stopped self.old)
-            × (next_gate (gate_at self.old) «record».now + 1 ≤ 2 ^ 40)) }
+            × (next_gate (gate_at self.old) item + 1 ≤ 2 ^ 40)) }
         ensures growth { OnOk result
-            (next_gate (gate_at self.old) «record».now ≤ gate_at self.old + 2 ^ 20 + 5) }
+            (next_gate (gate_at self.old) item ≤ gate_at self.old + 2 ^ 20 + 5) }
         ensures room { OnOk result
-            (D.obeys → D.has_room (disk_of self.new) 4 (length (staged_bytes «record».now) + 1)) }
+            (D.obeys → D.has_room (disk_of self.new) 4 (length (staged_bytes item) + 1)) }
         ensures plan { D.plan (disk_of self.new) ≡ D.plan (disk_of self.old) }
         ensures same { (gate_at self.new ≡ gate_at self.old)
             × (is_stopped self.new ≡ is_stopped self.old)
@@ -213,19 +213,19 @@ impl<D: Disk> GateLog<D> {
         ensures cause { IfErr result
             (λ fault. ((fault ≡ Fault.Stopped) × IsTrue (is_stopped self.old))
             ⊎ (((fault ≡ Fault.TimeSpent) × IsFalse (is_stopped self.old)
-            × IsFull (gate_at self.old) «record».now)
+            × IsFull (gate_at self.old) item)
             ⊎ ((fault ≡ Fault.Memory) × IsFalse (is_stopped self.old)
-            × (next_gate (gate_at self.old) «record».now + 1 ≤ 2 ^ 40)))) }
+            × (next_gate (gate_at self.old) item + 1 ≤ 2 ^ 40)))) }
     {
         if self.stopped {
             return Err(Fault::Stopped);
         }
-        if !self.has_place(record) {
+        if !self.has_place(&item) {
             return Err(Fault::TimeSpent);
         }
-        let size = encoded_len(record) + 6;
+        let size = encoded_len(&item) + 6;
         self.disk.reserve(size)?;
-        Staged::at(alloc, self.gate, record)
+        Staged::at(alloc, self.gate, item)
     }
 
     /// Puts a record that was staged behind the last one. It takes no memory. After a refusal the log is stopped.

@@ -1,11 +1,10 @@
 //! What a log hands out.
-ghost use Rattle.std.specs.Prelude.{◌≡◌, ◌<◌, ◌≤◌, ◌+◌, ◌^◌, ◌++◌, ◌∷◌, [], length, IfOk, IfErr, OnOk};
-ghost use Rattle.std.specs.Int.{w32, to_be_bytes};
+ghost use Rattle.std.specs.Prelude.{◌≡◌, ◌≤◌, ◌+◌, ◌^◌, IfOk, IfErr, OnOk};
 ghost use Rattle.gatelog.specs.Frames.{next_gate, staged_bytes};
 ghost use Rattle.record.specs.Grammar.{IsRecord};
 
 use byteorder::{BigEndian, ByteOrder};
-use record::{Record, encode};
+use record::{Record, encode_into, encoded_len};
 use std::alloc::Global;
 use std::marker::Model;
 use units::Fault;
@@ -81,40 +80,29 @@ impl Model for Staged {
 
 impl Staged {
     // The record for a log whose closed gate is at this offset, with all the memory that an append of it takes.
-    pub(crate) fn at(alloc: Global, gate: u64, record: &Record) -> Result<Staged, Fault>
-        requires { next_gate gate «record».now + 1 ≤ 2 ^ 40 }
+    pub(crate) fn at(alloc: Global, gate: u64, item: Record) -> Result<Staged, Fault>
+        requires { next_gate gate item + 1 ≤ 2 ^ 40 }
         ensures staged { IfOk result
-            (λ staged. (staged.offset ≡ gate) × (staged.item ≡ «record».now)) }
+            (λ staged. (staged.offset ≡ gate) × (staged.item ≡ item)) }
         ensures memory { IfErr result (λ fault. fault ≡ Fault.Memory) }
     {
-        let bytes = bytes_for(alloc, record)?;
-        let item = record.copy(alloc)?;
+        let bytes = bytes_for(alloc, &item)?;
         Ok(Staged { gate, item, bytes })
     }
 }
 
-// What an append of a record writes behind the closed gate.
+// What an append of a record writes behind the closed gate: the length of its spelling, the spelling, and a closed gate.
 fn bytes_for(alloc: Global, item: &Record) -> Result<Vec<u8>, Fault>
     ensures bytes { IfOk result (λ bytes. bytes.items ≡ staged_bytes item.now) }
     ensures fits { OnOk result (IsRecord item.now) }
     ensures memory { IfErr result (λ fault. fault ≡ Fault.Memory) }
 {
-    let body = encode(alloc, item)?;
-    bytes_behind(alloc, &body)
-}
-
-// The length of a body, the body, and a closed gate.
-fn bytes_behind(alloc: Global, body: &[u8]) -> Result<Vec<u8>, Fault>
-    requires { length body.now < 2 ^ 32 }
-    ensures bytes { IfOk result
-        (λ bytes. bytes.items ≡ (to_be_bytes w32 (length body.now) ++ body.now) ++ 0 ∷ []) }
-    ensures memory { IfErr result (λ fault. fault ≡ Fault.Memory) }
-{
+    let size = encoded_len(item);
+    let mut bytes = Vec::with_capacity(alloc, size as usize + 5)?;
     let mut count = [0; 4];
-    BigEndian::write_u32(&mut count, body.len() as u32);
-    let mut bytes = Vec::new(alloc);
+    BigEndian::write_u32(&mut count, size as u32);
     bytes.extend_from_slice(&count)?;
-    bytes.extend_from_slice(body)?;
+    encode_into(&mut bytes, item)?;
     bytes.push(0)?;
     Ok(bytes)
 }

@@ -9,7 +9,7 @@ use Rattle.units.specs.Keys.{Bytes}
 use Rattle.record.specs.History.{Txn, serial, serial_before}
 use Rattle.findings.specs.Ascending.{AscendsBy}
 use Rattle.findings.specs.Versions.{shown}
-use Rattle.findings.specs.Versions.{Placed, before_place, last_value, of_key, placed_from}
+use Rattle.findings.specs.Versions.{PlacedWrite, before_place, last_value, placed_for, placed_from}
 use Rattle.findings.proofs.SerialOrder.{serial_ascends, serial_order}
 use Rattle.findings.proofs.Sorting.{before_partitioned}
 use Rattle.findings.proofs.VersionLaws.{Falls, shown_is}
@@ -34,9 +34,9 @@ falls u (t ∷ ts) up = ((λ here. none_before u t ts here up.0), falls u ts up.
 pub partitioned_before : (u : Txn) (ts : List Txn) → AscendsBy serial_before ts → IsPartitionedBy (λ t. serial_before t u) ts
 partitioned_before u ts up = before_partitioned serial_before serial_order u ts up
 
-pub shown_before : (u : Txn) (ts : List Txn) (vs : List Placed) (k : Bytes) (p : ℕ) → AscendsBy serial_before ts
-    → of_key k vs ≡ of_key k (placed_from 0 ts) → p ≡ front (λ t. serial_before t u) ts
-    → last_value (before_place p (of_key k vs)) None ≡ shown (λ t. serial_before t u) ts k None
+pub shown_before : (u : Txn) (ts : List Txn) (vs : List PlacedWrite) (k : Bytes) (p : ℕ) → AscendsBy serial_before ts
+    → placed_for k vs ≡ placed_for k (placed_from 0 ts) → p ≡ front (λ t. serial_before t u) ts
+    → last_value (before_place p (placed_for k vs)) None ≡ shown (λ t. serial_before t u) ts k None
 shown_before u ts vs k p up same is =
     ap (λ ws. last_value (before_place p ws) None) same ∙ sym (shown_is (λ t. serial_before t u) ts k (falls u ts up) p is)
 
@@ -59,9 +59,9 @@ same_test at i t = up_to at t i
 pub partitioned_up_to : (at : ℕ) (ts : List Txn) → AscendsBy serial_before ts → IsPartitionedBy (λ t. nat_le t.at at) ts
 partitioned_up_to at ts up = subst (λ test. IsPartitionedBy test ts) (same_test at) (partitioned_before (after_all at) ts up)
 
-pub shown_up_to : (at : ℕ) (ts : List Txn) (vs : List Placed) (k : Bytes) (p : ℕ) → AscendsBy serial_before ts
-    → of_key k vs ≡ of_key k (placed_from 0 ts) → p ≡ front (λ t. nat_le t.at at) ts
-    → last_value (before_place p (of_key k vs)) None ≡ shown (λ t. nat_le t.at at) ts k None
+pub shown_up_to : (at : ℕ) (ts : List Txn) (vs : List PlacedWrite) (k : Bytes) (p : ℕ) → AscendsBy serial_before ts
+    → placed_for k vs ≡ placed_for k (placed_from 0 ts) → p ≡ front (λ t. nat_le t.at at) ts
+    → last_value (before_place p (placed_for k vs)) None ≡ shown (λ t. nat_le t.at at) ts k None
 shown_up_to at ts vs k p up same is =
     shown_before (after_all at) ts vs k p up same (is ∙ ap (λ (test : Txn → Bool). front test ts) (sym (same_test at)))
     ∙ ap (λ (test : Txn → Bool). shown test ts k None) (same_test at)

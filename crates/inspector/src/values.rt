@@ -7,7 +7,7 @@ ghost use Rattle.record.specs.Verdict.{same_value};
 ghost use Rattle.units.specs.Keys.{Bytes};
 ghost use Rattle.findings.specs.Ascending.{AscendsBy};
 ghost use Rattle.findings.specs.Versions.{shown};
-ghost use Rattle.findings.specs.Versions.{AscendsByKey, of_key, placed_from};
+ghost use Rattle.findings.specs.Versions.{AscendsByKey, placed_for, placed_from};
 
 use findings::{Transaction, Version, value_before_place};
 use units::{Key, Stamp, Value};
@@ -21,7 +21,8 @@ pub fn value_before<'t>(
 ) -> Option<&'t Value>
     requires serial { AscendsBy serial_before ordered.now }
     requires order { AscendsByKey versions.now }
-    requires same { (k : Bytes) → of_key k versions.now ≡ of_key k (placed_from 0 ordered.now) }
+    requires same { (k : Bytes) →
+        placed_for k versions.now ≡ placed_for k (placed_from 0 ordered.now) }
     ensures { option_copied result ≡ shown
         (λ t. serial_before t reader.now) ordered.now key.now None }
 {
@@ -38,7 +39,8 @@ pub fn value_up_to<'t>(
 ) -> Option<&'t Value>
     requires serial { AscendsBy serial_before ordered.now }
     requires order { AscendsByKey versions.now }
-    requires same { (k : Bytes) → of_key k versions.now ≡ of_key k (placed_from 0 ordered.now) }
+    requires same { (k : Bytes) →
+        placed_for k versions.now ≡ placed_for k (placed_from 0 ordered.now) }
     ensures { option_copied result ≡ shown (λ t. nat_le t.at at) ordered.now key.now None }
 {
     let place = ordered.partition_point(|transaction| transaction.at.micros() <= at.micros());

@@ -18,7 +18,7 @@ use Rattle.world.specs.World.{ShardNow, State, Runs, IsStopped, IsDown, Unsure, 
 use Rattle.world.specs.World.{left_by_refused, left_of, read_log, shown_records}
 use Rattle.world.specs.declared.event.Doing.{Doing}
 use Rattle.lives.specs.Lives.{HoldsLog, crash_by, disk_log, left_log}
-use Rattle.lives.specs.Carries.{left_by, refused_by, stepped, unopened}
+use Rattle.lives.specs.Carries.{left_by, left_by_refusal, stepped_shard, unopened}
 use Rattle.lives.proofs.Holding.{unsure_left}
 
 -- nothing is unsure where the shard runs
@@ -42,7 +42,7 @@ crash_is_old s = by_unsure s.unsure refl
     by_unsure (Hidden r) is = ap (λ x. crashed s (s.log ++ left_of Fate.Old x)) is ∙ ap (crashed s) (append-nil s.log)
 
 module _ (s : ShardNow) (fate : Fate) (sure : IsSure s) where
-  refused_is : (doing : Doing) → crash_by fate (refused_by s doing) ≡ crashed s (left_by_refused s fate doing)
+  refused_is : (doing : Doing) → crash_by fate (left_by_refusal s doing) ≡ crashed s (left_by_refused s fate doing)
   refused_is Doing.Open = by_state s.state refl
     where
       by_state : (st : State) → s.state ≡ st → crash_by fate (unopened s st) ≡ crashed s (read_log s)
@@ -63,7 +63,7 @@ module _ (s : ShardNow) (fate : Fate) (sure : IsSure s) where
   crash_is call doing (Does (Some r) memory out) = by_test (nat_lt call 4) refl
     where
       by_test : (b : Bool) → nat_lt call 4 ≡ b
-          → crash_by fate (cond b (failed_in s call r) (stepped s (Some r) memory)) ≡ crashed s (read_log s ++ cond (is_left call fate) (r ∷ []) [])
+          → crash_by fate (cond b (failed_in s call r) (stepped_shard s (Some r) memory)) ≡ crashed s (read_log s ++ cond (is_left call fate) (r ∷ []) [])
       by_test true is = ap (λ l. crashed s (read_log s ++ l)) (unsure_left call fate r is)
       by_test false is =
           ap (crashed s) (append-nil (read_log s ++ r ∷ []) ∙ ap (λ b. read_log s ++ cond b (r ∷ []) []) (sym (late_left call fate is)))

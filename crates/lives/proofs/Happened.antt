@@ -11,15 +11,15 @@ use Rattle.world.proofs.Untouched.{same_event}
 use Rattle.world.specs.declared.event.Event.{Event}
 use Rattle.world.specs.declared.event.Reply.{Reply}
 use Rattle.lives.specs.Fleet.{AreShards}
-use Rattle.lives.specs.Runs.{Comes, Takes}
+use Rattle.lives.specs.Runs.{ComesAfter, TakesEvent}
 use Rattle.lives.specs.declared.run.Run.{Run}
 
 -- an event that may happen has happened
 module _ (w : World) (e : Event) (number : ℕ) (at : w.event ≡ number) where
-  pub happened : (mid new : Run) (reply : Reply) → may_happen w e ≡ true → Comes (acts w e.act) mid (Ok reply) →
+  pub happened : (mid new : Run) (reply : Reply) → may_happen w e ≡ true → ComesAfter (acts w e.act) mid (Ok reply) →
       new.sessions ≡ mid.sessions → new.shards ≡ mid.shards
       → new.output.bag ≡ mid.output.bag → new.output.told ≡ mid.output.told → new.output.lines ≡ mid.output.lines → new.output.event ≡ number + 1 →
-      new.time ≡ e.time → Takes w e new (Ok reply)
+      new.time ≡ e.time → TakesEvent w e new (Ok reply)
   unfolding happens
   happened mid new reply may comes sessions shards bag told lines event time =
       let after : World = (acts w e.act).0 in
@@ -43,7 +43,7 @@ module _ (w : World) (e : Event) (number : ℕ) (at : w.event ≡ number) where
         ),
       )
 
-  pub refused_here : (new : Run) → may_happen w e ≡ false → Takes w e new (Err (BadRequest (Unlawful number)))
+  pub refused_here : (new : Run) → may_happen w e ≡ false → TakesEvent w e new (Err (BadRequest (Unlawful number)))
   refused_here new may = inr (ap (λ n. BadRequest (Unlawful n)) (sym at), may)
 
   pub acts_may : may_happen w e ≡ true → may_act w e.time e.act ≡ true

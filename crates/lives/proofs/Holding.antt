@@ -8,7 +8,7 @@ use Rattle.disk.specs.declared.plan.Fate.{Fate}
 use Rattle.disk.proofs.Crashes.{crashed_may}
 use Rattle.gatelog.specs.Gates.{is_left, is_read}
 use Rattle.record.specs.declared.record.Record.{Record}
-use Rattle.shard.specs.Armed.{AreArmed, with_if}
+use Rattle.shard.specs.Armed.{AreArmed, records_with_if}
 use Rattle.shard.specs.Logs.{KeepsRecords, records_in}
 use Rattle.simdisk.specs.State.{disk_file, disk_plan}
 use Rattle.simdisk.specs.declared.simdisk.SimDisk.{SimDisk}
@@ -16,7 +16,7 @@ use Rattle.world.specs.World.{ShardNow, Unsure, Nothing, Shown, Hidden, failed_i
 use Rattle.lives.specs.Lives.{HoldsLog, disk_log, left_log}
 
 -- with a record where a test holds
-with_is : (b : Bool) (log : List Record) (r : Record) → with_if b (Ok log) r ≡ Ok (log ++ cond b (r ∷ []) [])
+with_is : (b : Bool) (log : List Record) (r : Record) → records_with_if b (Ok log) r ≡ Ok (log ++ cond b (r ∷ []) [])
 with_is true log r = refl
 with_is false log r = ap (λ l. Ok l) (sym (append-nil log))
 

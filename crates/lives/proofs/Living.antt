@@ -20,8 +20,8 @@ use Rattle.lives.specs.Inputs.{IsNoInput}
 use Rattle.world.specs.Lawful.{is_up}
 use Rattle.world.specs.declared.event.Doing.{Doing}
 use Rattle.lives.specs.Lives.{HoldsLog, IsCoreIn, IsDiskIn, LivesAs, LivesIn, disk_log}
-use Rattle.lives.specs.Carries.{Carries, Comes, DoesInput, IsOrderly, OpensDisk, TakesInput, answer_of, asked, asked_in, comes_to, left_by, opened_by}
-use Rattle.lives.specs.Carries.{opens_as, refused_by, unopened}
+use Rattle.lives.specs.Carries.{Carries, Comes, DoesInput, IsOrderly, OpensDisk, TakesInput, answer_of, asked_if_room, asked_in, comes_to, left_by, opened_by}
+use Rattle.lives.specs.Carries.{opens_as, left_by_refusal, unopened}
 use Rattle.lives.specs.declared.life.Life.{Life}
 use Rattle.lives.specs.declared.life.Life.TheVariants.{Up, Down}
 
@@ -59,7 +59,7 @@ module _ (setup : Setup) (bag : List Envelope) (s : ShardNow) where
 
   -- with an input it is the step
   asks : (doing : Doing) (now : Interval) (i : Input) → goes_on doing ≡ true → input_of bag doing ≡ Some (now, i)
-      → effect setup bag s doing ≡ asked setup s now i
+      → effect setup bag s doing ≡ asked_if_room setup s now i
   asks doing now i g is = goes_as doing g ∙ ap (where_room (end_of (disk_log s))) (by_state s.state)
     where
       by_state : (st : State)
@@ -102,7 +102,7 @@ does_nothing old bag call doing fault g (inr none) = λ setup s h order.
     subst (λ x. Comes call x (Err fault) (IsCoreIn setup (comes_to s s call x) old (comes_to s s call x).state)) (sym same) (inr (ap (λ x. Err x) none.0, h))
 
 -- a refusal of what is no opening leaves all as it was
-refused_same : (s : ShardNow) (doing : Doing) → goes_on doing ≡ true → refused_by s doing ≡ s
+refused_same : (s : ShardNow) (doing : Doing) → goes_on doing ≡ true → left_by_refusal s doing ≡ s
 refused_same s (Doing.Take n now) g = refl
 refused_same s (Doing.Resume now) g = refl
 refused_same s (Doing.Settle t now) g = refl
@@ -163,7 +163,7 @@ module _ (setup : Setup) (bag : List Envelope) (s : ShardNow) where
   effect_opens = refl
 
   -- a shard that runs is not opened
-  up_refuses : is_up s.state ≡ true → (effect setup bag s Doing.Open ≡ Refuses Stopped) × (refused_by s Doing.Open ≡ s)
+  up_refuses : is_up s.state ≡ true → (effect setup bag s Doing.Open ≡ Refuses Stopped) × (left_by_refusal s Doing.Open ≡ s)
   up_refuses up = by_state s.state refl up
     where
       by_state : (st : State) → s.state ≡ st → is_up st ≡ true → (effect setup bag s Doing.Open ≡ Refuses Stopped) × (unopened s s.state ≡ s)
@@ -177,7 +177,7 @@ module _ (setup : Setup) (bag : List Envelope) (s : ShardNow) where
       by_state IsDown is u = absurd (false≢true u)
 
   -- any other is
-  not_up_opens : is_up s.state ≡ false → (effect setup bag s Doing.Open ≡ opens_as s) × (refused_by s Doing.Open ≡ crashed s (disk_log s))
+  not_up_opens : is_up s.state ≡ false → (effect setup bag s Doing.Open ≡ opens_as s) × (left_by_refusal s Doing.Open ≡ crashed s (disk_log s))
   not_up_opens down = by_state s.state refl down
     where
       by_state : (st : State) → s.state ≡ st → is_up st ≡ false → (effect setup bag s Doing.Open ≡ opens_as s) × (unopened s s.state ≡ crashed s (disk_log s))

@@ -39,7 +39,7 @@ use Rattle.world.specs.Lawful.{is_up}
 use Rattle.world.proofs.Openings.{opening_follows}
 use Rattle.world.proofs.Rooms.{full_is, room_is}
 use Rattle.lives.specs.Lives.{HoldsLog, IsCoreIn, IsDiskIn, IsRunningAs, disk_log}
-use Rattle.lives.specs.Carries.{Comes, answer_of, comes_to, opened_by, opens_as, stepped}
+use Rattle.lives.specs.Carries.{Comes, answer_of, comes_to, opened_by, opens_as, stepped_shard}
 use Rattle.lives.proofs.Holding.{holds_failed, holds_kept}
 use Rattle.lives.proofs.Stepping.{IsArmedFrom, IsPast, past_answer, past_left}
 
@@ -141,7 +141,7 @@ module _ (disk armed_disk : SimDisk) (call : Option ℕ) (plan : disk_plan armed
         (subst (λ r. followed setup.shard (disk_log s ++ r ∷ []) ≡ true) item_is (opening_follows setup.shard (disk_log s)
         (accepted_follows setup (disk_log s) accepted)))
 
-    running : IsRunningAs setup (stepped s (Some (next_opening (disk_log s))) (rebuilt (facts_of (disk_log s)))) (rebuilt (facts_of (disk_log s))) new
+    running : IsRunningAs setup (stepped_shard s (Some (next_opening (disk_log s))) (rebuilt (facts_of (disk_log s)))) (rebuilt (facts_of (disk_log s))) new
     running =
         let whole : List Record = disk_log s ++ next_opening (disk_log s) ∷ [] in
         let found : and_logged (records_in (surface (disk_file armed_disk)).seen) (opening_of (records_in (surface (disk_file armed_disk)).seen)) ≡ Ok whole =
@@ -154,7 +154,7 @@ module _ (disk armed_disk : SimDisk) (call : Option ℕ) (plan : disk_plan armed
             setup_is = disarms.setup ∙ h.setup;
             knows = disarms.facts ∙ facts_are;
             memory = disarms.memory ∙ h.memory ∙ ap rebuilt (facts_are ∙ learnt) ∙ rebuilt_same (facts_of (disk_log s)) (epoch_of (disk_log s) + 1);
-            disk = holds_kept (stepped s (Some (next_opening (disk_log s))) (rebuilt (facts_of (disk_log s)))) new.disk disarms.plan refl kept read;
+            disk = holds_kept (stepped_shard s (Some (next_opening (disk_log s))) (rebuilt (facts_of (disk_log s)))) new.disk disarms.plan refl kept read;
           };
           runs = disarms.stopped ∙ h.running;
           sure = refl;
@@ -204,7 +204,7 @@ module _ (disk armed_disk : SimDisk) (call : Option ℕ) (plan : disk_plan armed
         let disk_holds : HoldsLog (failed_in s c q) new = holds_failed s c q new never f.0 (subst (AreArmed c (Ok (disk_log s)) q) (sym same) f.2) in
         let left : comes_to s (crashed s (disk_log s)) call (Does (Some q) memory []) ≡ failed_in s c q =
         ap (λ k. comes_to s (crashed s (disk_log s)) k (Does (Some q) memory [])) (sym e)
-        ∙ ap (λ b. cond b (failed_in s c q) (stepped s (Some q) memory)) f.0 in
+        ∙ ap (λ b. cond b (failed_in s c q) (stepped_shard s (Some q) memory)) f.0 in
         let answer : answer_of call (Does (Some q) memory []) ≡ Err Device =
         ap (λ k. answer_of k (Does (Some q) memory [])) (sym e) ∙ ap (λ b. cond b (Err Device) (Ok [])) f.0 in
         subst Left (sym whole) (inr (

@@ -28,10 +28,10 @@ use Rattle.world.specs.Passed.{IsOutput}
 use Rattle.world.specs.Comes.{HasHeard, HasReplied, Notes, TakesMessage}
 use Rattle.world.specs.declared.event.Doing.{Doing}
 use Rattle.world.specs.declared.event.Reply.{Reply}
-use Rattle.lives.specs.Carries.{answer_of, refused_by, unopened}
+use Rattle.lives.specs.Carries.{answer_of, left_by_refusal, unopened}
 use Rattle.lives.specs.Fleet.{ActsAt, AreShards, IsOrderlyAt, changed_at, crashed_at, crashed_in_at, looked, looked_back, shards_by}
 use Rattle.lives.specs.Lives.{crash_by}
-use Rattle.lives.specs.Runs.{Comes, IsRun, act_at, crash_at, crash_in_at}
+use Rattle.lives.specs.Runs.{ComesAfter, IsRun, act_at, crash_at, crash_in_at}
 use Rattle.lives.specs.Shows.{done_by}
 use Rattle.lives.proofs.Crashing.{crash_is_old}
 use Rattle.lives.specs.declared.run.Run.{Run}
@@ -57,14 +57,14 @@ module _ (w : World) (old new : Run) (h : IsRun old w) where
   same_shards e = subst (λ s. AreShards w.config s w.shards) (sym e) h.shards
 
   -- nothing happens
-  pub nobody_comes : (m : ℕ) (now : Interval) (o : Option Envelope) → o ≡ None → Comes (deliver_to w m now o) old (Ok (Reply.Refused Stranger))
+  pub nobody_comes : (m : ℕ) (now : Interval) (o : Option Envelope) → o ≡ None → ComesAfter (deliver_to w m now o) old (Ok (Reply.Refused Stranger))
   unfolding deliver_to
-  nobody_comes m now o none = subst (λ x. Comes (deliver_to w m now x) old (Ok (Reply.Refused Stranger))) (sym none) (refl, h)
+  nobody_comes m now o none = subst (λ x. ComesAfter (deliver_to w m now x) old (Ok (Reply.Refused Stranger))) (sym none) (refl, h)
 
   -- a session begins
   pub begin_comes : (t : Id) (number : ℕ) → number ≡ w.event → Hosts w.config.splits new.sessions (w.clients ++ begun t ∷ []) →
       ((v : World) → IsOutput old.output v → IsOutput new.output (note (Line.Begin t number) v))
-      → new.shards ≡ old.shards → new.time ≡ old.time → Comes (begin t w, Reply.Done) new (Ok Reply.Done)
+      → new.shards ≡ old.shards → new.time ≡ old.time → ComesAfter (begin t w, Reply.Done) new (Ok Reply.Done)
   begin_comes t number is hosts look_noted shards time = (
     refl,
     record {
@@ -81,40 +81,40 @@ module _ (w : World) (old new : Run) (h : IsRun old w) where
   pub session_comes : (m : Moved) (answer : Result (List Envelope) Fault) (result : Result Reply Fault) →
       MovesIn w.config.splits m new.sessions w.clients answer
       → ((v : World) → IsOutput old.output v → HasReplied v answer new.output result) → new.shards ≡ old.shards → new.time ≡ old.time →
-      Comes (moved w m) new result
+      ComesAfter (moved w m) new result
   unfolding put_out
   session_comes m (Ok out) (Ok reply) moves replies shards time =
       let r = replies (set_client moves.0 w) (record { bag = h.output.bag; told = h.output.told; lines = h.output.lines; event = h.output.event }) in
-      subst (λ n. Comes (moved w n) new (Ok reply)) (sym moves.1)
+      subst (λ n. ComesAfter (moved w n) new (Ok reply)) (sym moves.1)
       (r.0, record { sessions = moves.2; shards = same_shards shards; output = r.1; time = time ∙ h.time })
   session_comes m (Ok out) (Err fault) moves replies shards time = replies w h.output
   session_comes m (Err why) (Ok reply) (inl memory) replies shards time = absurd ((replies w h.output).0 memory)
   session_comes m (Err why) (Ok reply) (inr moves) replies shards time =
       let r = replies w h.output in
-      subst (λ n. Comes (moved w n) new (Ok reply)) (sym moves.0)
+      subst (λ n. ComesAfter (moved w n) new (Ok reply)) (sym moves.0)
       (r.1, record { sessions = moves.1; shards = same_shards shards; output = r.2; time = time ∙ h.time })
   session_comes m (Err why) (Err fault) moves replies shards time = replies w h.output
 
   -- a message that comes to one
   pub message_comes : (m : Message) (answer : Result (Option Line) Fault) (result : Result Reply Fault) → TakesMessage w m new.sessions answer
       → ((v : World) → IsOutput old.output v → HasHeard v answer new.output result) → new.shards ≡ old.shards → new.time ≡ old.time →
-      Comes (to_session w m) new result
+      ComesAfter (to_session w m) new result
   message_comes m (Ok line) (Ok reply) takes heard shards time =
       let r = heard (set_client takes.0 w) (record { bag = h.output.bag; told = h.output.told; lines = h.output.lines; event = h.output.event }) in
-      subst (λ a. Comes a new (Ok reply)) (sym takes.1)
+      subst (λ a. ComesAfter a new (Ok reply)) (sym takes.1)
       (r.0, record { sessions = takes.2; shards = same_shards shards; output = r.1; time = time ∙ h.time })
   message_comes m (Ok line) (Err fault) takes heard shards time = heard w h.output
   message_comes m (Err why) (Ok reply) (inl memory) heard shards time = absurd ((heard w h.output).0 memory)
   message_comes m (Err why) (Ok reply) (inr takes) heard shards time =
       let r = heard w h.output in
-      subst (λ a. Comes a new (Ok reply)) (sym takes.0)
+      subst (λ a. ComesAfter a new (Ok reply)) (sym takes.0)
       (r.1, record { sessions = takes.1; shards = same_shards shards; output = r.2; time = time ∙ h.time })
   message_comes m (Err why) (Err fault) takes heard shards time = heard w h.output
 
   -- a look
   pub look_comes : (k : Bytes) (at : ℕ) (shows : Reply) (result : Result Reply Fault)
       → ((v : World) → IsOutput old.output v → Notes v k at shows new.output result)
-      → new.sessions ≡ old.sessions → new.shards ≡ old.shards → new.time ≡ old.time → Comes (look_noted w k at shows) new result
+      → new.sessions ≡ old.sessions → new.shards ≡ old.shards → new.time ≡ old.time → ComesAfter (look_noted w k at shows) new result
   look_comes k at shows (Err fault) notes sessions shards time = notes w h.output
   look_comes k at (Reply.Shows x) (Ok reply) notes sessions shards time =
       let r = notes w h.output in (
@@ -168,7 +168,7 @@ module _ (w : World) (old new : Run) (h : IsRun old w) where
   same_there n s fault there = λ i. (record w { shards = sym (replaced_same w.shards n s there) i }, Reply.Refused fault)
 
   refused_is : (n : ℕ) (s : ShardNow) (doing : Doing) (fault : Fault) → slice_get w.shards n ≡ Some s
-      → refused_doing w n s doing fault ≡ (record w { shards = replaced w.shards n (refused_by s doing) }, Reply.Refused fault)
+      → refused_doing w n s doing fault ≡ (record w { shards = replaced w.shards n (left_by_refusal s doing) }, Reply.Refused fault)
   refused_is n s (Doing.Take m now) fault there = same_there n s fault there
   refused_is n s (Doing.Resume now) fault there = same_there n s fault there
   refused_is n s (Doing.Settle t now) fault there = same_there n s fault there
@@ -249,7 +249,7 @@ module _ (w : World) (old new : Run) (h : IsRun old w) where
   hosts_in sessions = subst (λ s. Hosts w.config.splits s w.clients) (sym sessions) h.sessions
 
   answered_so : (p : Result (List Envelope) Fault × List ShardNow) (result : Result Reply Fault) → AreShards w.config new.shards p.1
-      → HasReplied (record w { shards = p.1 }) p.0 new.output result → new.sessions ≡ old.sessions → new.time ≡ old.time → Comes (by_shards p) new result
+      → HasReplied (record w { shards = p.1 }) p.0 new.output result → new.sessions ≡ old.sessions → new.time ≡ old.time → ComesAfter (by_shards p) new result
   unfolding put_out
   answered_so (Ok out, ss) (Ok reply) shards r sessions time =
       (r.0, record { sessions = hosts_in sessions; shards = shards; output = r.1; time = time ∙ h.time })
@@ -260,27 +260,27 @@ module _ (w : World) (old new : Run) (h : IsRun old w) where
 
   pub shard_comes : (n : ℕ) (call : Option ℕ) (doing : Doing) (answer : Result (List Envelope) Fault) (result : Result Reply Fault) → IsSteady w
       → ActsAt w.config w.bag w.shards n call doing new.shards answer → ((v : World) → IsOutput old.output v → HasReplied v answer new.output result)
-      → new.sessions ≡ old.sessions → new.time ≡ old.time → Comes (act_at w n call doing) new result
+      → new.sessions ≡ old.sessions → new.time ≡ old.time → ComesAfter (act_at w n call doing) new result
   shard_comes n call doing answer result steady acts replies sessions time = by_answer (acts (orderly_at n doing steady))
     where
       p : Result (List Envelope) Fault × List ShardNow
       p = shards_by w.config w.bag w.shards n call doing
 
-      no_memory : (r : Result Reply Fault) → HasReplied w (Err Memory) new.output r → Comes (act_at w n call doing) new r
+      no_memory : (r : Result Reply Fault) → HasReplied w (Err Memory) new.output r → ComesAfter (act_at w n call doing) new r
       no_memory (Ok reply) k = absurd (k.0 refl)
       no_memory (Err fault) k = k
 
-      by_answer : (answer ≡ Err Memory) ⊎ ((answer ≡ p.0) × AreShards w.config new.shards p.1) → Comes (act_at w n call doing) new result
+      by_answer : (answer ≡ Err Memory) ⊎ ((answer ≡ p.0) × AreShards w.config new.shards p.1) → ComesAfter (act_at w n call doing) new result
       by_answer (inl memory) = no_memory result (subst (λ a. HasReplied w a new.output result) memory (replies w h.output))
       by_answer (inr (same, shards)) =
-          subst (λ x. Comes x new result) (sym (done_at n call doing))
+          subst (λ x. ComesAfter x new result) (sym (done_at n call doing))
           (answered_so p result shards (subst (λ a. HasReplied (record w { shards = p.1 }) a new.output result) same (replies (record w { shards = p.1 })
           (output_with p.1))) sessions time)
 
   -- a crash of a shard that is there
   changes : (n : ℕ) (f : ShardNow → ShardNow) → nat_lt n (length w.shards) ≡ true → AreShards w.config new.shards (changed_at f w.shards n)
       → new.sessions ≡ old.sessions → new.output ≡ old.output → new.time ≡ old.time
-      → Comes (at_shard w n (λ setup s. (set_shard n (f s) w, Reply.Crashed))) new (Ok Reply.Crashed)
+      → ComesAfter (at_shard w n (λ setup s. (set_shard n (f s) w, Reply.Crashed))) new (Ok Reply.Crashed)
   changes n f within shards sessions output time = by_place (slice_get w.shards n) refl shards
     where
       over : slice_get w.shards n ≡ None → ⊥
@@ -288,7 +288,7 @@ module _ (w : World) (old new : Run) (h : IsRun old w) where
 
       by_place : (o : Option ShardNow) → slice_get w.shards n ≡ o
           → AreShards w.config new.shards (elim o as (λ x. List ShardNow) [ None ↦ w.shards | Some s ↦ replaced w.shards n (f s) ])
-          → Comes (elim o as (λ x. After) [ None ↦ refused w Stranger | Some s ↦ (set_shard n (f s) w, Reply.Crashed) ]) new (Ok Reply.Crashed)
+          → ComesAfter (elim o as (λ x. After) [ None ↦ refused w Stranger | Some s ↦ (set_shard n (f s) w, Reply.Crashed) ]) new (Ok Reply.Crashed)
       by_place None there k = absurd (over there)
       by_place (Some s) there k = (
         refl,
@@ -301,7 +301,7 @@ module _ (w : World) (old new : Run) (h : IsRun old w) where
       )
 
   pub crash_comes : (n : ℕ) → nat_lt n (length w.shards) ≡ true → AreShards w.config new.shards (crashed_at w.shards n Left.Old)
-      → new.sessions ≡ old.sessions → new.output ≡ old.output → new.time ≡ old.time → Comes (crash_at w n) new (Ok Reply.Crashed)
+      → new.sessions ≡ old.sessions → new.output ≡ old.output → new.time ≡ old.time → ComesAfter (crash_at w n) new (Ok Reply.Crashed)
   crash_comes n within shards = changes n (λ s. crashed s s.log) within (subst (AreShards w.config new.shards) (by_place (slice_get w.shards n)) shards)
     where
       by_place : (o : Option ShardNow) → elim o as (λ x. List ShardNow) [ None ↦ w.shards | Some s ↦ replaced w.shards n (crash_by Left.Old s) ]
@@ -311,13 +311,13 @@ module _ (w : World) (old new : Run) (h : IsRun old w) where
 
   pub crash_in_comes : (n call : ℕ) (fate : Left) (doing : Doing) → nat_lt n (length w.shards) ≡ true
       → AreShards w.config new.shards (crashed_in_at w.config w.bag w.shards n call fate doing)
-      → new.sessions ≡ old.sessions → new.output ≡ old.output → new.time ≡ old.time → Comes (crash_in_at w n call fate doing) new (Ok Reply.Crashed)
+      → new.sessions ≡ old.sessions → new.output ≡ old.output → new.time ≡ old.time → ComesAfter (crash_in_at w n call fate doing) new (Ok Reply.Crashed)
   crash_in_comes n call fate doing within shards = changes n (λ s. crashed_in s call fate doing (effect (setup_of w.config n) w.bag s doing)) within shards
 
   -- there is no shard to crash
-  pub none_crashes : (n : ℕ) (f : Setup → ShardNow → After) → nat_lt n (length w.shards) ≡ false → Comes (at_shard w n f) old (Ok (Reply.Refused Stranger))
+  pub none_crashes : (n : ℕ) (f : Setup → ShardNow → After) → nat_lt n (length w.shards) ≡ false → ComesAfter (at_shard w n f) old (Ok (Reply.Refused Stranger))
   none_crashes n f over =
-      subst (λ o. Comes (elim o as (λ x. After) [ None ↦ refused w Stranger | Some s ↦ f (setup_of w.config n) s ]) old (Ok (Reply.Refused Stranger)))
+      subst (λ o. ComesAfter (elim o as (λ x. After) [ None ↦ refused w Stranger | Some s ↦ f (setup_of w.config n) s ]) old (Ok (Reply.Refused Stranger)))
       (sym (slice_get_past w.shards n (grind (arith, nat_tests)))) (refl, h)
 
 -- a message to a shard, and one to a session

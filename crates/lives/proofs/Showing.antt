@@ -30,9 +30,9 @@ use Rattle.lives.specs.Inputs.{goes_on}
 use Rattle.world.specs.declared.event.Doing.{Doing}
 use Rattle.world.specs.declared.event.Reply.{Reply}
 use Rattle.lives.specs.Lives.{HoldsLog, IsCoreIn, IsCoreOf, IsDiskIn, IsRunningAs, IsStoppedAs, LivesAs, LivesIn, crash_by, disk_log}
-use Rattle.lives.specs.Carries.{Carries, Comes, IsOrderly, answer_of, by_call, left_by, refused_by, stepped, unopened}
+use Rattle.lives.specs.Carries.{Carries, Comes, IsOrderly, answer_of, by_call, left_by, left_by_refusal, stepped_shard, unopened}
 use Rattle.lives.specs.Looks.{look_at}
-use Rattle.lives.specs.Shows.{Acts, HasNoted, IsKept, Notes, ShowsLog, StandsFor, begins_at, done_by, is_within, leads_to, shown_view, view_now}
+use Rattle.lives.specs.Shows.{Acts, HasNoted, IsKept, NotesOfLife, ShowsLog, StandsFor, begins_at, done_by, is_within, leads_to, shown_view, view_now}
 use Rattle.lives.specs.declared.life.Life.{Life}
 use Rattle.lives.specs.declared.life.Life.TheVariants.{Up, Down}
 use Rattle.lives.specs.declared.run_shard.RunShard.{RunShard}
@@ -180,7 +180,7 @@ module _ (setup : Setup) (bag : List Envelope) (s : ShardNow) (call : Option ℕ
   falls : (log : List Record) → LivesAs setup (crashed s log) mid.life → StandsFor setup mid (crashed s log)
   falls log l = record { setup_is = told; lives = l; views = same.0; within = same.1; shows = tt }
 
-  refused_stands : (d : Doing) → LivesAs setup (refused_by s d) mid.life → StandsFor setup mid (refused_by s d)
+  refused_stands : (d : Doing) → LivesAs setup (left_by_refusal s d) mid.life → StandsFor setup mid (left_by_refusal s d)
   refused_stands (Doing.Take n now) l = as_it_was l
   refused_stands (Doing.Resume now) l = as_it_was l
   refused_stands (Doing.Settle t now) l = as_it_was l
@@ -208,13 +208,13 @@ module _ (setup : Setup) (bag : List Envelope) (s : ShardNow) (call : Option ℕ
     where
       by_call_of : (o : Option ℕ) (r : Record) (memory : Kept) (out : List Envelope)
           → Err fault ≡ by_call {A = Result (List Envelope) Fault} o (λ c. Err Device) (Ok out)
-          → LivesAs setup (by_call o (λ c. failed_in s c r) (stepped s (Some r) memory)) mid.life
+          → LivesAs setup (by_call o (λ c. failed_in s c r) (stepped_shard s (Some r) memory)) mid.life
           → StandsFor setup mid (by_call o (λ c. failed_in s c r) (finished s doing (Some r) memory))
       by_call_of None r memory out e l = absurd (cc)
       by_call_of (Some c) r memory out e l = by_test (nat_lt c 4) e l
         where
           by_test : (b : Bool) → Err fault ≡ cond {A = Result (List Envelope) Fault} b (Err Device) (Ok out)
-              → LivesAs setup (cond b (failed_in s c r) (stepped s (Some r) memory)) mid.life
+              → LivesAs setup (cond b (failed_in s c r) (stepped_shard s (Some r) memory)) mid.life
               → StandsFor setup mid (cond b (failed_in s c r) (finished s doing (Some r) memory))
           by_test true k m = failed_stands c r m
           by_test false k m = absurd (cc)
@@ -279,8 +279,8 @@ module _ (setup : Setup) (bag : List Envelope) (s : ShardNow) (call : Option ℕ
               (more_behind mid.installs.items (facts_of s.log).installs p.0 mid.from shows.0 shows.1),
         )
 
-    module _ (core : CoreView SimDisk) (new : RunShard) (l : LivesAs setup (stepped s logged memory) mid.life)
-        (k : IsRunningAs setup (stepped s logged memory) memory core)
+    module _ (core : CoreView SimDisk) (new : RunShard) (l : LivesAs setup (stepped_shard s logged memory) mid.life)
+        (k : IsRunningAs setup (stepped_shard s logged memory) memory core)
         (n : HasNoted doing core mid new) where
       abbrev shown_all : List Install
       shown_all = core.facts.installs
@@ -333,36 +333,36 @@ module _ (setup : Setup) (bag : List Envelope) (s : ShardNow) (call : Option ℕ
       done_stands = record {
         setup_is = n.setup ∙ told;
         lives = subst (λ x. LivesAs setup (finished s doing logged memory) x) (sym n.life)
-            (lives_with setup (stepped s logged memory) (s.views ++ cond (makes_view doing) (view_of (facts_of log_now) memory ∷ []) []) mid.life l);
+            (lives_with setup (stepped_shard s logged memory) (s.views ++ cond (makes_view doing) (view_of (facts_of log_now) memory ∷ []) []) mid.life l);
         views = views_are;
         within = within_is;
         shows = (from_within, behind_now ∙ all_is);
       }
 
-    stands_done : (new : RunShard) → LivesAs setup (stepped s logged memory) mid.life → Notes doing mid new mid.life
+    stands_done : (new : RunShard) → LivesAs setup (stepped_shard s logged memory) mid.life → NotesOfLife doing mid new mid.life
         → StandsFor setup new (finished s doing logged memory)
     stands_done new l n = by_life mid.life l n
       where
-        by_life : (life : Life) → LivesIn setup (stepped s logged memory) life (Runs memory) → Notes doing mid new life
+        by_life : (life : Life) → LivesIn setup (stepped_shard s logged memory) life (Runs memory) → NotesOfLife doing mid new life
             → StandsFor setup new (finished s doing logged memory)
         by_life (Up core) k m = done_stands (seen core) new l k m
         by_life (Down disk) k m = absurd k
 
   -- what was done, and noted
-  pub acts : (new : RunShard) (out : List Envelope) → Carries setup bag s call doing mid.life (Ok out) → Notes doing mid new mid.life
+  pub acts : (new : RunShard) (out : List Envelope) → Carries setup bag s call doing mid.life (Ok out) → NotesOfLife doing mid new mid.life
       → Acts setup bag s call doing new (Ok out)
   acts new out carried noted = λ order. by_step (effect setup bag s doing) refl order (carried order)
     where
       by_call_of : (o : Option ℕ) (r : Record) (memory : Kept) (put : List Envelope) → effect setup bag s doing ≡ Does (Some r) memory put
           → IsOrderly setup s (effect setup bag s doing)
           → Ok out ≡ by_call {A = Result (List Envelope) Fault} o (λ c. Err Device) (Ok put)
-          → LivesAs setup (by_call o (λ c. failed_in s c r) (stepped s (Some r) memory)) mid.life
+          → LivesAs setup (by_call o (λ c. failed_in s c r) (stepped_shard s (Some r) memory)) mid.life
           → StandsFor setup new (by_call o (λ c. failed_in s c r) (finished s doing (Some r) memory))
       by_call_of None r memory put is order e l = stands_done (Some r) memory put is order new l noted
       by_call_of (Some c) r memory put is order e l = by_test (nat_lt c 4) e l
         where
           by_test : (b : Bool) → Ok out ≡ cond {A = Result (List Envelope) Fault} b (Err Device) (Ok put)
-              → LivesAs setup (cond b (failed_in s c r) (stepped s (Some r) memory)) mid.life
+              → LivesAs setup (cond b (failed_in s c r) (stepped_shard s (Some r) memory)) mid.life
               → StandsFor setup new (cond b (failed_in s c r) (finished s doing (Some r) memory))
           by_test true k m = absurd (cc)
           by_test false k m = stands_done (Some r) memory put is order new m noted
@@ -381,7 +381,7 @@ module _ (setup : Setup) (bag : List Envelope) (s : ShardNow) (call : Option ℕ
   unfolding failed_in
   left_views (Refuses f) = by_doing doing
     where
-      by_doing : (d : Doing) → (refused_by s d).views ≡ s.views
+      by_doing : (d : Doing) → (left_by_refusal s d).views ≡ s.views
       by_doing (Doing.Take n now) = refl
       by_doing (Doing.Resume now) = refl
       by_doing (Doing.Settle t now) = refl
@@ -396,11 +396,11 @@ module _ (setup : Setup) (bag : List Envelope) (s : ShardNow) (call : Option ℕ
   left_views (Does None memory out) = refl
   left_views (Does (Some r) memory out) = by_option call
     where
-      by_test : (c : ℕ) (b : Bool) → (cond b (failed_in s c r) (stepped s (Some r) memory)).views ≡ s.views
+      by_test : (c : ℕ) (b : Bool) → (cond b (failed_in s c r) (stepped_shard s (Some r) memory)).views ≡ s.views
       by_test c true = refl
       by_test c false = refl
 
-      by_option : (o : Option ℕ) → (by_call o (λ c. failed_in s c r) (stepped s (Some r) memory)).views ≡ s.views
+      by_option : (o : Option ℕ) → (by_call o (λ c. failed_in s c r) (stepped_shard s (Some r) memory)).views ≡ s.views
       by_option None = refl
       by_option (Some c) = by_test c (nat_lt c 4)
 
@@ -418,7 +418,7 @@ module _ (setup : Setup) (bag : List Envelope) (s : ShardNow) (call : Option ℕ
       subst (Acts setup bag s call doing mid) (sym is) (acts_not setup bag s call doing old mid h kept fault (by_setup (Err fault) carried))
 
   pub acts_ok : (new : RunShard) (out : List Envelope) → ((t : ShardNow) → LivesAs old.setup t old.life → Carries old.setup bag t call doing mid.life (Ok out))
-      → Notes doing mid new mid.life → Acts setup bag s call doing new (Ok out)
+      → NotesOfLife doing mid new mid.life → Acts setup bag s call doing new (Ok out)
   acts_ok new out carried noted = acts setup bag s call doing old mid h kept new out (by_setup (Ok out) carried) noted
 
 -- want of memory

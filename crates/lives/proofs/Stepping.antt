@@ -32,7 +32,7 @@ use Rattle.simdisk.specs.declared.simdisk.SimDisk.{SimDisk}
 use Rattle.world.specs.World.{ShardNow, State, Runs, IsStopped, IsDown, Nothing, failed_in, read_log, shown_records, stopped as stopped_state, where_room}
 use Rattle.world.proofs.Rooms.{full_is, room_is}
 use Rattle.lives.specs.Lives.{HoldsLog, IsCoreIn, IsCoreOf, IsRunningAs, IsStoppedAs, disk_log}
-use Rattle.lives.specs.Carries.{Comes, IsOrderly, TakesInput, answer_of, asked, asked_in, by_call, comes_to, stepped}
+use Rattle.lives.specs.Carries.{Comes, IsOrderly, TakesInput, answer_of, asked_if_room, asked_in, by_call, comes_to, stepped_shard}
 use Rattle.lives.proofs.Holding.{holds_failed, holds_kept, holds_same}
 
 -- a core is armed, and nothing else changes
@@ -103,10 +103,11 @@ module _ (s refused : ShardNow) (memory : Memory) (out : List Envelope) where
   past_answer None (Some r) past = refl
   past_answer (Some call) (Some r) past = ap (λ b. cond b (Err Device) (Ok out)) past
 
-  pub past_left : (call : Option ℕ) (logged : Option Record) → IsPast call logged → comes_to s refused call (Does logged memory out) ≡ stepped s logged memory
+  pub past_left : (call : Option ℕ) (logged : Option Record) → IsPast call logged →
+      comes_to s refused call (Does logged memory out) ≡ stepped_shard s logged memory
   past_left call None past = refl
   past_left None (Some r) past = refl
-  past_left (Some call) (Some r) past = ap (λ b. cond b (failed_in s call r) (stepped s (Some r) memory)) past
+  past_left (Some call) (Some r) past = ap (λ b. cond b (failed_in s call r) (stepped_shard s (Some r) memory)) past
 
 -- no call fails but where one is armed
 abbrev pub FailsAs : Option ℕ → ℕ → Result (List Record) Fault → Option Record → SimDisk → Fault → Type 0
@@ -174,7 +175,7 @@ module _ (old before after new : CoreView SimDisk) (call : Option ℕ) (arms : I
     -- the step is done
     done : (logged : Option Record) (memory : Memory) (out outbox : List Envelope) → Has (Does logged memory outbox) (Ok out)
         → ((r : Record) → logged ≡ Some r → IsTrue (followed setup.shard (read_log s ++ r ∷ [])))
-        → IsRunningAs setup (stepped s logged memory) memory new
+        → IsRunningAs setup (stepped_shard s logged memory) memory new
     done logged memory out outbox k follows =
         let log : List Record = read_log s ++ option_to_list logged in
         let records : and_logged (records_in (surface (disk_file before.disk)).seen) logged ≡ Ok log = ap (λ x. and_logged x logged) reads
@@ -189,7 +190,7 @@ module _ (old before after new : CoreView SimDisk) (call : Option ℕ) (arms : I
             knows = disarms.facts ∙ k.done.2.0 ∙ ap (λ f. facts_after f logged) (arms.facts ∙ h.core_of.knows ∙ ap facts_of (sym log_is))
                 ∙ facts_with setup.shard (read_log s) logged follows;
             memory = disarms.memory ∙ k.done.2.1;
-            disk = holds_kept (stepped s logged memory) new.disk disarms.plan refl kept read;
+            disk = holds_kept (stepped_shard s logged memory) new.disk disarms.plan refl kept read;
           };
           runs = disarms.stopped ∙ k.done.1;
           sure = refl;
@@ -229,7 +230,7 @@ module _ (old before after new : CoreView SimDisk) (call : Option ℕ) (arms : I
         } in
         inr (
           ap (λ x. Err x) device ∙ sym (ap (λ b. cond b (Err Device) (Ok out)) f.0),
-          subst (λ t. IsCoreIn setup t new t.state) (sym (ap (λ b. cond b (failed_in s c r) (stepped s (Some r) memory)) f.0))
+          subst (λ t. IsCoreIn setup t new t.state) (sym (ap (λ b. cond b (failed_in s c r) (stepped_shard s (Some r) memory)) f.0))
               (subst (IsCoreIn setup (failed_in s c r) new) (sym (ap stopped_state runs_so)) core),
         )
 
@@ -275,7 +276,7 @@ module _ (old before after new : CoreView SimDisk) (call : Option ℕ) (arms : I
     running_comes (Does logged memory outbox) (Ok out) k follows =
         let whole : where_room before.gate (Does logged memory outbox) ≡ Does logged memory outbox = room_is before.gate logged memory outbox k.written.place in
         let is_past = past call arms.plan logged memory out outbox k in
-        let core : IsRunningAs setup (stepped s logged memory) memory new = done logged memory out outbox k (λ q e. follows q memory outbox (whole
+        let core : IsRunningAs setup (stepped_shard s logged memory) memory new = done logged memory out outbox k (λ q e. follows q memory outbox (whole
         ∙ ap (λ l. Does l memory outbox) e)) in
         subst (λ x. Left x (Ok out)) (sym whole) (inr (
           ap (λ o. Ok o) k.done.2.2 ∙ sym (past_answer s s memory outbox call logged is_past),
@@ -306,19 +307,20 @@ takes_input old before after new call arms disarms now i r book k = λ setup s h
     room : (setup : Setup) → setup.book ≡ Off → old.setup ≡ setup → HasBookRoom before.setup.book book
     room setup off same = subst (λ b. HasBookRoom b book) (sym (ap (λ (t : Setup). t.book) (arms.setup ∙ same) ∙ off)) tt
 
-    by_state : (setup : Setup) (s : ShardNow) → IsOrderly setup s (asked setup s now i) → (state : State) → s.state ≡ state → IsCoreIn setup s old state
-        → Comes call (asked setup s now i) r (IsCoreIn setup (comes_to s s call (asked setup s now i)) new (comes_to s s call (asked setup s now i)).state)
+    by_state : (setup : Setup) (s : ShardNow) → IsOrderly setup s (asked_if_room setup s now i) → (state : State) → s.state ≡ state → IsCoreIn setup s old state
+        → Comes call (asked_if_room setup s now i) r
+        (IsCoreIn setup (comes_to s s call (asked_if_room setup s now i)) new (comes_to s s call (asked_if_room setup s now i)).state)
     by_state setup s order (Runs m) is h =
         let gate : end_of (disk_log s) ≡ before.gate = sym (arms.gate ∙ h.gate) in
         let inner : asked_in setup s now i s.state ≡ step_of before now i =
         ap (asked_in setup s now i) is
         ∙ sym (λ j. step ((arms.setup ∙ h.core_of.setup_is) j) ((arms.facts ∙ h.core_of.knows) j) ((arms.memory ∙ h.core_of.memory) j) now i) in
-        let whole : asked setup s now i ≡ where_room before.gate (step_of before now i) = λ j. where_room (gate j) (inner j) in
+        let whole : asked_if_room setup s now i ≡ where_room before.gate (step_of before now i) = λ j. where_room (gate j) (inner j) in
         subst (λ x. Left old before after new call arms disarms setup s x r) (sym whole)
         (running_comes old before after new call arms disarms setup s m h is (step_of before now i) r (k (room setup order.unbooked h.core_of.setup_is))
         (λ q memory out e. order.follows q memory out (whole ∙ e)))
     by_state setup s order (IsStopped m) is h =
-        let whole : asked setup s now i ≡ Refuses Stopped = ap (λ t. where_room (end_of (disk_log s)) (asked_in setup s now i t)) is in
+        let whole : asked_if_room setup s now i ≡ Refuses Stopped = ap (λ t. where_room (end_of (disk_log s)) (asked_in setup s now i t)) is in
         subst (λ x. Left old before after new call arms disarms setup s x r) (sym whole)
         (stopped_comes old before after new call arms disarms setup s m h is (step_of before now i) r (k (room setup order.unbooked h.core_of.setup_is)))
     by_state setup s order IsDown is h = absurd h

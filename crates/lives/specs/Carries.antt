@@ -35,14 +35,14 @@ answer_of call (Does None memory out) = Ok out
 answer_of call (Does (Some r) memory out) = by_call call (λ c. Err Device) (Ok out)
 
 -- a shard after a doing that is done, but for the view that it makes
-abbrev pub stepped : ShardNow → Option Record → Kept → ShardNow
-stepped s logged memory = record { log = read_log s ++ option_to_list logged; unsure = Nothing; state = Runs memory; views = s.views }
+abbrev pub stepped_shard : ShardNow → Option Record → Kept → ShardNow
+stepped_shard s logged memory = record { log = read_log s ++ option_to_list logged; unsure = Nothing; state = Runs memory; views = s.views }
 
 -- a shard after a doing, where a refusal leaves that other one
 abbrev pub comes_to : ShardNow → ShardNow → Option ℕ → Stepped → ShardNow
 comes_to s refused call (Refuses fault) = refused
-comes_to s refused call (Does None memory out) = stepped s None memory
-comes_to s refused call (Does (Some r) memory out) = by_call call (λ c. failed_in s c r) (stepped s (Some r) memory)
+comes_to s refused call (Does None memory out) = stepped_shard s None memory
+comes_to s refused call (Does (Some r) memory out) = by_call call (λ c. failed_in s c r) (stepped_shard s (Some r) memory)
 
 -- an opening of a shard that does not run, and is refused, leaves it down, and has synced what it read
 abbrev pub unopened : ShardNow → State → ShardNow
@@ -51,17 +51,17 @@ unopened s (IsStopped m) = crashed s (disk_log s)
 unopened s IsDown = crashed s (disk_log s)
 
 -- what a refused doing leaves
-abbrev pub refused_by : ShardNow → Doing → ShardNow
-refused_by s (Doing.Take m now) = s
-refused_by s (Doing.Resume now) = s
-refused_by s (Doing.Settle t now) = s
-refused_by s (Doing.Advance at now) = s
-refused_by s (Doing.Nudge t now) = s
-refused_by s Doing.Open = unopened s s.state
+abbrev pub left_by_refusal : ShardNow → Doing → ShardNow
+left_by_refusal s (Doing.Take m now) = s
+left_by_refusal s (Doing.Resume now) = s
+left_by_refusal s (Doing.Settle t now) = s
+left_by_refusal s (Doing.Advance at now) = s
+left_by_refusal s (Doing.Nudge t now) = s
+left_by_refusal s Doing.Open = unopened s s.state
 
 -- a shard after a doing, but for the view that it makes
 abbrev pub left_by : ShardNow → Option ℕ → Doing → Stepped → ShardNow
-left_by s call doing st = comes_to s (refused_by s doing) call st
+left_by s call doing st = comes_to s (left_by_refusal s doing) call st
 
 -- ---- what the code does
 
@@ -82,15 +82,15 @@ asked_in setup s now i (IsStopped m) = Refuses Stopped
 asked_in setup s now i IsDown = Refuses Stopped
 
 -- where its record has room
-abbrev pub asked : Setup → ShardNow → Interval → Input → Stepped
-asked setup s now i = where_room (end_of (disk_log s)) (asked_in setup s now i s.state)
+abbrev pub asked_if_room : Setup → ShardNow → Interval → Input → Stepped
+asked_if_room setup s now i = where_room (end_of (disk_log s)) (asked_in setup s now i s.state)
 
 -- a core takes an input, and no call is armed behind it
 abbrev pub TakesInput : CoreView SimDisk → CoreView SimDisk → Option ℕ → Interval → Input → Result (List Envelope) Fault → Type 0
 TakesInput old new call now i result =
-    (setup : Setup) (s : ShardNow) → IsCoreIn setup s old s.state → IsOrderly setup s (asked setup s now i)
-    → Comes call (asked setup s now i) result
-    (IsCoreIn setup (comes_to s s call (asked setup s now i)) new (comes_to s s call (asked setup s now i)).state)
+    (setup : Setup) (s : ShardNow) → IsCoreIn setup s old s.state → IsOrderly setup s (asked_if_room setup s now i)
+    → Comes call (asked_if_room setup s now i) result
+    (IsCoreIn setup (comes_to s s call (asked_if_room setup s now i)) new (comes_to s s call (asked_if_room setup s now i)).state)
 
 -- what an opening comes to
 abbrev pub opens_as : ShardNow → Stepped

@@ -22,9 +22,9 @@ pub record IsRun (r : Run) (w : World) : Type 0 where
   pub time : r.time ≡ w.time
 
 -- the run is the world after an event, with its reply; or memory was refused
-abbrev pub Comes : After → Run → Result Reply Fault → Type 0
-Comes after new (Ok reply) = (reply ≡ after.1) × IsRun new after.0
-Comes after new (Err fault) = fault ≡ Memory
+abbrev pub ComesAfter : After → Run → Result Reply Fault → Type 0
+ComesAfter after new (Ok reply) = (reply ≡ after.1) × IsRun new after.0
+ComesAfter after new (Err fault) = fault ≡ Memory
 
 -- a doing at a shard, with a call that fails or with none
 abbrev pub act_at : World → ℕ → Option ℕ → Doing → After
@@ -40,6 +40,6 @@ abbrev pub crash_in_at : World → ℕ → ℕ → Left → Doing → After
 crash_in_at w n call fate doing = at_shard w n (λ setup s. (set_shard n (crashed_in s call fate doing (effect setup w.bag s doing)) w, Reply.Crashed))
 
 -- the event may happen, and the run is the world after it; or it may not; or memory was refused
-abbrev pub Takes : World → Event → Run → Result Reply Fault → Type 0
-Takes w e new (Ok reply) = (may_happen w e ≡ true) × Comes (happens w e) new (Ok reply)
-Takes w e new (Err fault) = (fault ≡ Memory) ⊎ ((fault ≡ BadRequest (Unlawful w.event)) × (may_happen w e ≡ false))
+abbrev pub TakesEvent : World → Event → Run → Result Reply Fault → Type 0
+TakesEvent w e new (Ok reply) = (may_happen w e ≡ true) × ComesAfter (happens w e) new (Ok reply)
+TakesEvent w e new (Err fault) = (fault ≡ Memory) ⊎ ((fault ≡ BadRequest (Unlawful w.event)) × (may_happen w e ≡ false))

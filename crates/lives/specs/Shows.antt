@@ -16,7 +16,7 @@ use Rattle.simdisk.specs.declared.simdisk.SimDisk.{SimDisk}
 use Rattle.world.specs.World.{ShardNow, State, Runs, IsStopped, IsDown, View, effect, failed_in, finished, makes_view}
 use Rattle.lives.specs.Inputs.{goes_on}
 use Rattle.world.specs.declared.event.Doing.{Doing}
-use Rattle.lives.specs.Carries.{Comes, IsOrderly, by_call, refused_by}
+use Rattle.lives.specs.Carries.{Comes, IsOrderly, by_call, left_by_refusal}
 use Rattle.lives.specs.Lives.{LivesAs}
 use Rattle.lives.specs.declared.life.Life.{Life}
 use Rattle.lives.specs.declared.life.Life.TheVariants.{Up, Down}
@@ -60,7 +60,7 @@ leads_to s refused call doing (Does (Some r) memory out) = by_call call (λ c. f
 
 -- a shard after a doing, with a call armed or with none
 abbrev pub done_by : ShardNow → Option ℕ → Doing → Stepped → ShardNow
-done_by s call doing st = leads_to s (refused_by s doing) call doing st
+done_by s call doing st = leads_to s (left_by_refusal s doing) call doing st
 
 -- a doing is carried out, with the view that it makes
 abbrev pub Acts : Setup → List Envelope → ShardNow → Option ℕ → Doing → RunShard → Result (List Envelope) Fault → Type 0
@@ -87,6 +87,6 @@ pub record HasNoted (doing : Doing) (core : CoreView SimDisk) (old new : RunShar
   pub views : new.views.items ≡ old.views.items ++ cond (makes_view doing) (view_now new.from core ∷ []) []
 
 -- of a core; there is nothing to keep of a shard that is down
-abbrev pub Notes : Doing → RunShard → RunShard → Life → Type 0
-Notes doing old new (Up core) = HasNoted doing (seen core) old new
-Notes doing old new (Down disk) = Unit {0}
+abbrev pub NotesOfLife : Doing → RunShard → RunShard → Life → Type 0
+NotesOfLife doing old new (Up core) = HasNoted doing (seen core) old new
+NotesOfLife doing old new (Down disk) = Unit {0}

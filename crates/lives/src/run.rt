@@ -4,7 +4,7 @@ ghost use Rattle.world.specs.World.{World, acts, begin, client_of, deliver_to, l
 ghost use Rattle.world.specs.Lawful.{may_act, may_happen};
 ghost use Rattle.world.specs.Steady.{IsSteady};
 ghost use Rattle.lives.specs.Fleet.{AreOn};
-ghost use Rattle.lives.specs.Runs.{Comes, IsRun, Takes, act_at, crash_at, crash_in_at};
+ghost use Rattle.lives.specs.Runs.{ComesAfter, IsRun, TakesEvent, act_at, crash_at, crash_in_at};
 
 use crate::fleet::Shards;
 use crate::lawfulness::{may_crash, may_deliver, may_do};
@@ -94,7 +94,7 @@ impl<'s> Run<'s> {
     pub fn take(&mut self, alloc: Global, number: u64, event: &Event) -> Result<Reply, Fault>
         requires { number < 2 ^ 64 - 1 }
         ensures { (w : World) → w.event ≡ number → IsRun self.old w → IsSteady w
-            → Takes w event.now self.new result }
+            → TakesEvent w event.now self.new result }
     {
         if !self.may_happen(event) {
             return Err(Fault::BadRequest(Reason::Unlawful(number)));
@@ -108,7 +108,7 @@ impl<'s> Run<'s> {
     // The act is done.
     fn act(&mut self, alloc: Global, act: &Act) -> Result<Reply, Fault>
         ensures { (time : ℕ) (w : World) → IsRun self.old w → IsSteady w
-            → may_act w time act.now ≡ true → Comes (acts w act.now) self.new result }
+            → may_act w time act.now ≡ true → ComesAfter (acts w act.now) self.new result }
     {
         match act {
             Act::Begin(txn) => self.begin(alloc, *txn),
@@ -150,7 +150,7 @@ impl<'s> Run<'s> {
     // A session begins.
     fn begin(&mut self, alloc: Global, txn: TxnId) -> Result<Reply, Fault>
         ensures { (w : World) → IsRun self.old w → client_of w txn ≡ None
-            → Comes (begin txn w, Reply.Done) self.new result }
+            → ComesAfter (begin txn w, Reply.Done) self.new result }
     {
         let number = self.output.event;
         self.sessions.begin(alloc, txn)?;
@@ -161,7 +161,7 @@ impl<'s> Run<'s> {
     // A message comes to the shard or to the session that it was put out for.
     fn deliver(&mut self, alloc: Global, number: u64, now: Reading) -> Result<Reply, Fault>
         ensures { (w : World) → IsRun self.old w → IsSteady w
-            → Comes (deliver_to w number now (slice_get w.bag number)) self.new result }
+            → ComesAfter (deliver_to w number now (slice_get w.bag number)) self.new result }
     {
         let Some(envelope) = self.output.bag.nth(number) else {
             return Ok(Reply::Refused(Fault::Stranger));
@@ -184,7 +184,7 @@ impl<'s> Run<'s> {
         doing: &Doing,
     ) -> Result<Reply, Fault>
         ensures { (w : World) → IsRun self.old w → IsSteady w
-            → Comes (act_at w shard call doing.now) self.new result }
+            → ComesAfter (act_at w shard call doing.now) self.new result }
     {
         let done = self
             .shards
@@ -194,7 +194,7 @@ impl<'s> Run<'s> {
 
     // A shard crashes: what it has not synced is as it was.
     fn crash(&mut self, alloc: Global, shard: ShardNo) -> Result<Reply, Fault>
-        ensures { (w : World) → IsRun self.old w → Comes (crash_at w shard) self.new result }
+        ensures { (w : World) → IsRun self.old w → ComesAfter (crash_at w shard) self.new result }
     {
         if !self.shards.has(shard) {
             return Ok(Reply::Refused(Fault::Stranger));
@@ -213,7 +213,7 @@ impl<'s> Run<'s> {
         doing: &Doing,
     ) -> Result<Reply, Fault>
         ensures { (w : World) → IsRun self.old w → IsSteady w
-            → Comes (crash_in_at w shard call fate doing.now) self.new result }
+            → ComesAfter (crash_in_at w shard call fate doing.now) self.new result }
     {
         if !self.shards.has(shard) {
             return Ok(Reply::Refused(Fault::Stranger));

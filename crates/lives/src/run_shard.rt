@@ -38,7 +38,7 @@ impl RunShard {
     ghost use Rattle.world.specs.Lawful.{is_down, is_up};
     ghost use Rattle.lives.specs.Carries.{Carries};
     ghost use Rattle.lives.specs.Fleet.{IsOn};
-    ghost use Rattle.lives.specs.Shows.{Acts, IsKept, Notes};
+    ghost use Rattle.lives.specs.Shows.{Acts, IsKept, NotesOfLife};
 
     /// A shard on a new disk, formatted and opened, with its first view. It is told to keep no book.
     pub fn fresh(alloc: Global, setup: Setup) -> Result<RunShard, Fault>
@@ -116,7 +116,7 @@ impl RunShard {
 
     // Keeps what its core shows more than before, and the view that the doing makes.
     fn note(&mut self, alloc: Global, doing: &Doing) -> Result<(), Fault>
-        ensures noted { OnOk result (Notes doing.now self.old self.new self.old.life) }
+        ensures noted { OnOk result (NotesOfLife doing.now self.old self.new self.old.life) }
         ensures memory { IfErr result (λ fault. fault ≡ Fault.Memory) }
     {
         let Life::Up(core) = &self.life else {

@@ -50,6 +50,18 @@ plan_of rows p =
       outbox = p.outbox;
     }
 
+-- a plan with this as the record that it logs
+abbrev pub logging : Option Record → Plan → Plan
+logging logged p =
+    record {
+      wounded = p.wounded;
+      needs = p.needs;
+      change = p.change;
+      logged = logged;
+      last = p.last;
+      outbox = p.outbox;
+    }
+
 -- the refused vote of a transaction, to the coordinator that awaits one
 abbrev pub refusal : ℕ → Id → Option ℕ → List Envelope
 refusal n t None = []

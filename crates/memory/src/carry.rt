@@ -7,7 +7,7 @@ ghost use Rattle.rows.specs.RowTable.{put_row, phase_by, room};
 ghost use Rattle.memory.specs.Carry.{AdmissionIsUnseen, ReadyIsCarriable, IsFit, MayAsk, HasMemoryFor, IsCarriable, IsDated, Admits, MayUndo};
 ghost use Rattle.memory.specs.Carry.{MayDrop, MayFollow, MayInstall, CanStand, FitsRows, AskerHasRoom, asker, admitted, admitted_to};
 ghost use Rattle.memory.specs.Carry.{writes_installed, may_ask, may_end};
-ghost use Rattle.memory.specs.Plans.{plan_of, change_of};
+ghost use Rattle.memory.specs.Plans.{plan_of, change_of, logging};
 ghost use Rattle.memory.specs.Served.{IsHolding, stamp_held};
 
 use crate::ended::Ended;
@@ -83,14 +83,14 @@ impl State {
         }
     }
 
-    /// Carries out a plan for which all was made ready, once its record is logged. It takes no memory.
+    /// Carries out a plan for which all was made ready, once its record is logged: what the plan itself has as its record
+    /// may have been moved out of it. It takes no memory.
     pub fn carry(&mut self, plan: Plan, ready: Ready, logged: Option<Logged>) -> Outbox
-        requires ready { IsCarriable self.old plan ready.writes }
-        requires logged { logged ≡ plan.logged }
+        requires ready { IsCarriable self.old (logging logged plan) ready.writes }
         ensures setup { self.new.setup ≡ self.old.setup }
-        ensures facts { self.new.facts ≡ facts_after self.old.facts plan.logged }
+        ensures facts { self.new.facts ≡ facts_after self.old.facts logged }
         ensures memory { self.new.memory ≡
-            carried (plan_of self.old.memory.rows plan) self.old.memory }
+            carried (plan_of self.old.memory.rows (logging logged plan)) self.old.memory }
         ensures outbox { result ≡ plan.outbox }
     {
         let Plan {

@@ -14,9 +14,9 @@ text_of (WrongRead line) = codes "no read " ++ decimal line
 text_of (WrongOrder begin ack) = codes "no order " ++ (decimal begin ++ (codes " " ++ decimal ack))
 
 -- the status of a command that comes to it
-abbrev pub status_of : Verdict → ℕ
-status_of Yes = 0
-status_of (Torn txn) = 1
-status_of (Lost txn) = 1
-status_of (WrongRead line) = 1
-status_of (WrongOrder begin ack) = 1
+abbrev pub exit_status : Verdict → ℕ
+exit_status Yes = 0
+exit_status (Torn txn) = 1
+exit_status (Lost txn) = 1
+exit_status (WrongRead line) = 1
+exit_status (WrongOrder begin ack) = 1

@@ -1,6 +1,6 @@
 //! How a verdict is printed.
 ghost use Rattle.std.specs.Prelude.{◌≡◌, Some};
-ghost use Rattle.output.specs.Verdicts.{status_of, text_of};
+ghost use Rattle.output.specs.Verdicts.{exit_status, text_of};
 
 use std::fmt;
 use units::Verdict;
@@ -25,7 +25,7 @@ impl fmt::Display for VerdictText {
 
 /// The status of a command that comes to a verdict: 0 for yes, and 1 for a no.
 pub fn status_of(verdict: Verdict) -> u8
-    ensures { result ≡ status_of verdict }
+    ensures { result ≡ exit_status verdict }
 {
     match verdict {
         Verdict::Yes => 0,

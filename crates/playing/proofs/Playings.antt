@@ -10,7 +10,7 @@ use Rattle.units.specs.declared.fault.Reason.TheVariants.{Unlawful}
 use Rattle.world.specs.World.{World, acts, happens, replies_of_run, replies_from, run, run_from, start}
 use Rattle.world.specs.Lawful.{first_unlawful_from, lawful, lawful_from, may_act, may_happen}
 use Rattle.world.specs.Steady.{IsSteady}
-use Rattle.lives.specs.Runs.{Comes, IsRun, Takes}
+use Rattle.lives.specs.Runs.{ComesAfter, IsRun, TakesEvent}
 use Rattle.playing.specs.Reports.{IsNoReport, IsReport, IsUnlawful, Plays, Reports, counts_from, counts_of_run}
 use Rattle.world.proofs.EveryRun.{is_steady}
 use Rattle.world.proofs.Untouched.{counts_one, same_event}
@@ -76,7 +76,7 @@ module _ (config : Config) (es : List Event) (r new : Run) (answers : List Reply
   pub steady : IsSteady (run config es)
   steady = is_steady config es h.fair
 
-  pub one_played : (e : Event) (reply : Reply) (count : ℕ) → count ≡ length new.output.bag → Takes (run config es) e new (Ok reply) →
+  pub one_played : (e : Event) (reply : Reply) (count : ℕ) → count ≡ length new.output.bag → TakesEvent (run config es) e new (Ok reply) →
       HasPlayed config (es ++ e ∷ []) new (answers ++ reply ∷ []) (counts ++ count ∷ [])
   unfolding run lawful replies_of_run counts_of_run
   one_played e reply count many t =
@@ -92,7 +92,7 @@ module _ (config : Config) (es : List Event) (r new : Run) (answers : List Reply
         counted = (λ i. h.counted i ++ (many ∙ ap length t.1.1.output.bag) i ∷ []) ∙ sym (counts_more (start config) es e);
       }
 
-  pub none_more : (e : Event) (rest : List Event) (fault : Fault) → Takes (run config es) e new (Err fault) → (fault ≡ Memory)
+  pub none_more : (e : Event) (rest : List Event) (fault : Fault) → TakesEvent (run config es) e new (Err fault) → (fault ≡ Memory)
       ⊎ IsUnlawful config (es ++ e ∷ rest) fault
   unfolding run lawful
   none_more e rest fault (inl memory) = inl memory
@@ -112,12 +112,12 @@ module _ (config : Config) (es : List Event) (n : ℕ) (e : Event) (lt : n < len
   so_many : length (take n es) ≡ n
   so_many = length-take-le n es (omega (arith, lt))
 
-  taken : (result : Result Reply Fault) → ((w : World) → w.event ≡ n → IsRun r w → IsSteady w → Takes w e new result) →
-      Takes (run config (take n es)) e new result
+  taken : (result : Result Reply Fault) → ((w : World) → w.event ≡ n → IsRun r w → IsSteady w → TakesEvent w e new result) →
+      TakesEvent (run config (take n es)) e new result
   taken result f = f (run config (take n es)) (h.event ∙ so_many) h.stands (steady config (take n es) r r answers counts h)
 
   pub next_played : (reply : Reply) (count : ℕ) (told : List Reply) (counted : List ℕ) → told ≡ answers ++ reply ∷ [] → counted ≡ counts ++ count ∷ [] →
-      count ≡ length new.output.bag → ((w : World) → w.event ≡ n → IsRun r w → IsSteady w → Takes w e new (Ok reply))
+      count ≡ length new.output.bag → ((w : World) → w.event ≡ n → IsRun r w → IsSteady w → TakesEvent w e new (Ok reply))
       → HasPlayed config (take (n + 1) es) new told counted
   next_played reply count told counted are many is_many f =
       subst (λ xs. HasPlayed config xs new told counted) (sym (front_is es n e lt is))
@@ -126,7 +126,7 @@ module _ (config : Config) (es : List Event) (n : ℕ) (e : Event) (lt : n < len
       (one_played config (take n es) r new answers counts h e reply count is_many (taken (Ok reply) f))))
 
   pub none_next : (fault : Fault) (result : Result (Unit {0}) Fault) (told : List Reply) (counted : List ℕ) → result ≡ Err fault →
-      ((w : World) → w.event ≡ n → IsRun r w → IsSteady w → Takes w e new (Err fault))
+      ((w : World) → w.event ≡ n → IsRun r w → IsSteady w → TakesEvent w e new (Err fault))
       → Plays config es new told counted result
   none_next fault result told counted is_err f =
       subst (λ x. Plays config es new told counted x) (sym is_err)

@@ -1,5 +1,5 @@
 -- Numbers put, and five things put behind one another.
-use Rattle.std.proofs.Common.{◌≡◌, ◌++◌, ℕ, List, ap, ◌∙◌, append_assoc}
+use Rattle.std.proofs.Common.{◌≡◌, ◌++◌, ◌∷◌, [], ℕ, List, ap, ◌∙◌, append_assoc}
 
 regroup : (out a b c d e : List ℕ) → ((((out ++ a) ++ b) ++ c) ++ d) ++ e ≡ out ++ ((((a ++ b) ++ c) ++ d) ++ e)
 regroup out a b c d e = simp append_assoc
@@ -13,3 +13,8 @@ five_put out a b c d e o1 o2 o3 o4 o5 h1 h2 h3 h4 h5 =
 -- a number that is another
 pub put_same : (spell : ℕ → List ℕ) (out new : List ℕ) (m n : ℕ) → m ≡ n → new ≡ out ++ spell m → new ≡ out ++ spell n
 put_same spell out new m n same put = put ∙ ap (λ (k : ℕ). out ++ spell k) same
+
+-- a thing behind its kind's byte
+pub tagged : (tag : ℕ) (out kind new thing : List ℕ) → kind ≡ out ++ tag ∷ [] → new ≡ kind ++ thing → new ≡ out ++ tag ∷ thing
+tagged tag out kind new thing first then =
+    then ∙ ap (λ (l : List ℕ). l ++ thing) first ∙ append_assoc out (tag ∷ []) thing

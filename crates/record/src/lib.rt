@@ -14,4 +14,4 @@ pub use laws::{
 pub use length::encoded_len;
 pub use reading::decode;
 pub use record::{Committed, Prepared, Record};
-pub use writing::{encode, none_begins_another};
+pub use writing::{encode, encode_into, none_begins_another};

@@ -1,5 +1,5 @@
 // The bytes of a record.
-ghost use Rattle.std.specs.Prelude.{◌≡◌, ◌++◌, [], OnOk, IfOk, IfErr};
+ghost use Rattle.std.specs.Prelude.{◌≡◌, ◌++◌, OnOk, IfOk, IfErr};
 ghost use Rattle.std.specs.Int.{w16, w64, to_be_bytes};
 ghost use Rattle.record.specs.Grammar.{spelling, prepare_spelling, commit_spelling, id_spelling, key_spelling, keys_spelling, write_spelling};
 ghost use Rattle.record.specs.Grammar.{writes_spelling, outcome_spelling, parts_spelling, IsId, IsKey, IsKeys, IsParts, IsWrite, IsWrites, IsPrepare};
@@ -157,18 +157,17 @@ pub fn encode(alloc: Global, record: &Record) -> Result<Vec<u8>, Fault>
     ensures memory { IfErr result (λ fault. fault ≡ Fault.Memory) }
 {
     let mut out = Vec::new(alloc);
-    put_record(&mut out, record)?;
+    encode_into(&mut out, record)?;
     Ok(out)
 }
 
-// Into an empty buffer.
-fn put_record(out: &mut Vec<u8>, item: &Record) -> Result<(), Fault>
-    requires empty { out.old.items ≡ [] }
-    ensures ok { OnOk result (out.new.items ≡ spelling item.now) }
-    ensures fits { OnOk result (IsRecord item.now) }
+/// The one spelling of a record, behind what stands in a buffer.
+pub fn encode_into(out: &mut Vec<u8>, record: &Record) -> Result<(), Fault>
+    ensures spelling { OnOk result (out.new.items ≡ out.old.items ++ spelling «record».now) }
+    ensures fits { OnOk result (IsRecord «record».now) }
     ensures memory { IfErr result (λ fault. fault ≡ Fault.Memory) }
 {
-    match item {
+    match record {
         Record::Opened { epoch } => {
             out.push(1)?;
             put_u64(out, epoch.number())?;

@@ -1,5 +1,5 @@
 -- A record that has its place can be made once more, and leaves what the log with it leaves.
-use Rattle.std.proofs.Common.{◌≡◌, ◌<◌, nat_le, true, List, Some, None, sym, ap, subst, ◌∙◌}
+use Rattle.std.proofs.Common.{◌≡◌, ◌<◌, nat_le, true, List, Option, Some, None, sym, ap, subst, ◌∙◌}
 use Rattle.std.specs.Prelude.{IsTrue}
 use Rattle.units.specs.LockLaws.{IsLawfulTable}
 use Rattle.std.specs.List.{AllByRecursion, list_all}
@@ -16,7 +16,7 @@ use Rattle.protocol.proofs.OpenedRows.{by_id-gather}
 use Rattle.memory.specs.Carry.{AdmissionIsUnseen, IsCarriable, IsFit, HasMemoryFor, MayFollow, MayInstall, ReadyIsCarriable, writes_installed}
 use Rattle.memory.specs.Kept.{Kept}
 use Rattle.memory.specs.Ledger.{CanInstall}
-use Rattle.memory.specs.Plans.{plan_of}
+use Rattle.memory.specs.Plans.{plan_of, logging}
 use Rattle.memory.specs.declared.plan.Plan.{Plan}
 use Rattle.recovery.specs.Recovered.{IsGood, IsOwn, IsRecovered, fits_facts}
 use Rattle.recovery.proofs.Again.{learn_order, learn_own}
@@ -41,11 +41,12 @@ installs_again facts (Record.Abort t) writes fits same = tt
 
 pub can_carry_again : (old new : Kept) (p : Plan) (item : Record) (writes : List Write) → IsRecovered old →
     follows_facts old.setup.shard old.facts item ≡ true → fits_facts old.facts item ≡ true
-    → p.logged ≡ Some item → IsFit old p → HasMemoryFor old new p → ReadyIsCarriable → writes ≡ writes_installed old.facts p.logged → IsCarriable new p writes
+    → p.logged ≡ Some item → IsFit old p → HasMemoryFor old new p → ReadyIsCarriable → writes ≡ writes_installed old.facts p.logged
+    → IsCarriable new (logging (Some item) p) writes
 can_carry_again old new p item writes recovered follows fits logged fit ready law same =
-    law old new p writes (rows_by_id old recovered) fit ready
+    subst (λ (l : Option Record). IsCarriable new (logging l p) writes) logged (law old new p writes (rows_by_id old recovered) fit ready
     (subst (MayFollow old.setup.shard old.facts) (sym logged) follows)
-    (subst (λ o. MayInstall old.facts o writes) (sym logged) (installs_again old.facts item writes fits (same ∙ ap (writes_installed old.facts) logged)))
+    (subst (λ o. MayInstall old.facts o writes) (sym logged) (installs_again old.facts item writes fits (same ∙ ap (writes_installed old.facts) logged))))
 
 -- the memory after it
 memory_again : (old new : Kept) (p : Plan) (after : Memory) → IsRecovered old → IsFit old p → HasMemoryFor old new p → AdmissionIsUnseen
@@ -57,16 +58,17 @@ pub recovered_again : (old new later : Kept) (p : Plan) (item : Record) → IsRe
     follows_facts old.setup.shard old.facts item ≡ true → fits_facts old.facts item ≡ true
     → p.logged ≡ Some item → IsFit old p → HasMemoryFor old new p → AdmissionIsUnseen → carried (plan_of old.memory.rows p) old.memory ≡
     rebuilt (learn old.facts item)
-    → later.facts ≡ facts_after new.facts p.logged → later.memory ≡ carried (plan_of new.memory.rows p) new.memory
+    → later.facts ≡ facts_after new.facts (Some item) → later.memory ≡ carried (plan_of new.memory.rows (logging (Some item) p)) new.memory
     → (later.facts ≡ learn old.facts item) × IsRecovered later
 recovered_again old new later p item recovered lawful follows fits logged fit ready law again facts memory =
-    let then : later.facts ≡ learn old.facts item = facts ∙ ap (λ f. facts_after f p.logged) ready.facts ∙ ap (facts_after old.facts) logged in
+    let then : later.facts ≡ learn old.facts item = facts ∙ ap (λ f. facts_after f (Some item)) ready.facts in
     let taken = taken_more old.setup.shard old.facts item recovered.order recovered.own
     (subst (λ rows. IsLawfulTable (claims rows)) (rows_are old recovered) lawful) follows fits
     (record { opened = recovered.opened; good = recovered.good; covered = recovered.covered }) in (
       then,
       record {
-        memory = memory_again old new p later.memory recovered fit ready law memory ∙ again ∙ ap rebuilt (sym then);
+        memory = memory_again old new p later.memory recovered fit ready law
+            (memory ∙ ap (λ (l : Option Record). carried (plan_of new.memory.rows (logging l p)) new.memory) (sym logged)) ∙ again ∙ ap rebuilt (sym then);
         opened = subst (λ (f : Facts). 0 < f.epoch) (sym then) taken.opened;
         order = subst (λ (f : Facts). IsById (λ (e : TxnStatus). e.txn) f.entries) (sym then) (learn_order old.facts item recovered.order);
         own = subst (λ (f : Facts). AllByRecursion IsOwn f.entries) (sym then) (learn_own old.setup.shard old.facts item follows recovered.own);

@@ -1,7 +1,7 @@
 //! What a run is to come to, and what it comes to.
+use crate::run_texts::{joined, line_texts, log_texts, message_texts, reply_texts};
 use crate::runs::{Shape, run};
 use crate::steps::Timed;
-use crate::texts::{joined, line_texts, log_texts, message_texts, reply_texts};
 use playing::Report;
 use std::alloc::Global;
 use std::process::Abort;

@@ -1,4 +1,4 @@
-//! Tests of whole runs: lists of events are played over real shards, and what they come to is compared.
+//! Tests of whole runs: lists of events are played over real shards, and what they come to is compared; and of schedules.
 #![tactic(auto)]
 
 #[cfg(test)]
@@ -20,14 +20,16 @@ mod outside;
 #[cfg(test)]
 mod replying;
 #[cfg(test)]
+mod run_texts;
+#[cfg(test)]
 mod runs;
+#[cfg(test)]
+mod schedule_texts;
 #[cfg(test)]
 mod schedules;
 #[cfg(test)]
 mod steps;
 #[cfg(test)]
 mod stops;
-#[cfg(test)]
-mod texts;
 #[cfg(test)]
 mod unlawful;

@@ -1,7 +1,7 @@
 //! What befalls the core of a shard from outside a run shows in the run: the cores that it plays lie open here.
+use crate::run_texts::{joined, reply_texts};
 use crate::runs::{TWO, config};
 use crate::steps::{Step, Timed, event, reading, stamp};
-use crate::texts::{joined, reply_texts};
 use lives::{Life, Run, RunShard};
 use message::{Input, Outbox};
 use std::alloc::Global;

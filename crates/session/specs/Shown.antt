@@ -46,8 +46,8 @@ is_made (Denies f) = false
 is_made (Goes c es) = true
 
 -- a step is refused for its own reason, or else for want of memory
-abbrev pub IsRefused : Moved → Fault → Type 0
-IsRefused m f = (m ≡ Denies f) ⊎ ((f ≡ Memory) × (is_made m ≡ true))
+abbrev pub IsDenied : Moved → Fault → Type 0
+IsDenied m f = (m ≡ Denies f) ⊎ ((f ≡ Memory) × (is_made m ≡ true))
 
 -- the session is closing
 abbrev pub is_closing : Stage → Bool

@@ -4,7 +4,7 @@ ghost use Rattle.units.specs.Ids.{same_id};
 ghost use Rattle.units.specs.Keys.{shard_of};
 ghost use Rattle.units.specs.Lists.{once, sorted};
 ghost use Rattle.session.specs.Sessions.{asked_keys, is_none, IsClosing, IsOver, Goes, Denies, closes, closing_messages, gives_up, shards_told, asked_shards};
-ghost use Rattle.session.specs.Shown.{IsRefused, finished_as, give_up_to, is_closing};
+ghost use Rattle.session.specs.Shown.{IsDenied, finished_as, give_up_to, is_closing};
 
 use crate::request::{Request, push_asked, push_taken};
 use crate::{Closing, Finished, Open, Phase, Tx};
@@ -21,7 +21,7 @@ impl<'s> Tx<'s, Open> {
         ensures splits { IfOk result (λ r. r.0.splits ≡ self.entry.splits) }
         ensures step { MatchResult result
             (λ r. closes self.entry.splits self.entry.client ≡ Goes r.0.client r.1)
-            (λ r. (r.1 ≡ self.entry) × IsRefused (closes self.entry.splits self.entry.client) r.0) }
+            (λ r. (r.1 ≡ self.entry) × IsDenied (closes self.entry.splits self.entry.client) r.0) }
     {
         match self.requests(alloc) {
             Ok(out) => Ok((self.into_closing(), out)),
@@ -34,7 +34,7 @@ impl<'s> Tx<'s, Open> {
         ensures { MatchResult result
             (λ out. closes self.now.splits self.now.client ≡
             Goes (record self.now.client { stage = IsClosing }) out)
-            (λ fault. IsRefused (closes self.now.splits self.now.client) fault) }
+            (λ fault. IsDenied (closes self.now.splits self.now.client) fault) }
     {
         self.may_close()?;
         self.request().messages(alloc)

@@ -4,7 +4,7 @@ ghost use Rattle.units.specs.Ids.{same_id};
 ghost use Rattle.units.specs.Keys.{Bytes, has_key, writes_key};
 ghost use Rattle.session.specs.Sessions.{Stage, IsOpen, IsClosing, begun, reads, buffers, hears, asked_keys, was_answered, was_taken, is_doomed};
 ghost use Rattle.session.specs.Sessions.{epochs_agree, Goes, Denies};
-ghost use Rattle.session.specs.Shown.{Session, IsRefused, is_closing, heard_as};
+ghost use Rattle.session.specs.Shown.{Session, IsDenied, is_closing, heard_as};
 
 use crate::lists::{drop_write, epochs_agree, has_key, insert_write, is_written, was_taken};
 use crate::{Answered, Heard};
@@ -127,7 +127,7 @@ impl<'s> Tx<'s, Open> {
             (λ envelope. reads self.old.splits key self.old.client ≡
             Goes self.new.client (envelope ∷ []))
             (λ fault. (self.new.client ≡ self.old.client)
-            × IsRefused (reads self.old.splits key self.old.client) fault) }
+            × IsDenied (reads self.old.splits key self.old.client) fault) }
     {
         self.may_read(&key)?;
         self.awaited.reserve(1)?;
@@ -182,7 +182,7 @@ impl<'s> Tx<'s, Open> {
             (λ _. buffers (record { key = key; value = value }) self.old.client ≡
             Goes self.new.client [])
             (λ fault. (self.new.client ≡ self.old.client)
-            × IsRefused (buffers (record { key = key; value = value }) self.old.client) fault) }
+            × IsDenied (buffers (record { key = key; value = value }) self.old.client) fault) }
     {
         self.may_buffer(&key)?;
         self.writes.reserve(1)?;

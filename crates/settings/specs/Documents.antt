@@ -20,16 +20,16 @@ pub record DriveSettings : Type 0 where
   pub dir : Option Bytes
 
 -- there is nothing to give
-abbrev pub IsRefused : {A : Type 0} → Fault → Option A → Type 0
-IsRefused fault o = (fault ≡ BadRequest reason.Settings) × (o ≡ None)
+abbrev pub GivesNothing : {A : Type 0} → Fault → Option A → Type 0
+GivesNothing fault o = (fault ≡ BadRequest reason.Settings) × (o ≡ None)
 
 -- there was no memory, or there is nothing to give
 abbrev pub Refuses : {A : Type 0} → Fault → Option A → Type 0
-Refuses fault o = (fault ≡ Memory) ⊎ IsRefused fault o
+Refuses fault o = (fault ≡ Memory) ⊎ GivesNothing fault o
 
 -- the value, where it passes the test
-abbrev pub when : {A : Type 0} → Bool → A → Option A
-when test a = if test then Some a else None
+abbrev pub if_passes : {A : Type 0} → Bool → A → Option A
+if_passes test a = if test then Some a else None
 
 abbrev pub is_known : Bytes → Bool
 is_known key = bytes_eq key (codes "shards") || (bytes_eq key (codes "splits") || (bytes_eq key (codes "stride")
@@ -43,15 +43,15 @@ knows (member key d rest) = is_known key && knows rest
 
 -- the whole number, from least to most
 abbrev pub number_in : ℕ → ℕ → Option ℤ → Option ℕ
-number_in least most (Some (pos n)) = when (nat_le least n && nat_le n most) n
+number_in least most (Some (pos n)) = if_passes (nat_le least n && nat_le n most) n
 number_in least most _ = None
 
-abbrev pub number_at : Bytes → ℕ → ℕ → Members → Option ℕ
-number_at key least most ms = number_in least most (option_and_then as_integer (get_member key ms))
+abbrev pub number_member : Bytes → ℕ → ℕ → Members → Option ℕ
+number_member key least most ms = number_in least most (option_and_then as_integer (get_member key ms))
 
 -- a text of 1 to 64 bytes
 abbrev pub key_in : Data → Option Bytes
-key_in d = option_and_then (λ s. when (nat_le 1 (length s) && nat_le (length s) 64) s) (as_str d)
+key_in d = option_and_then (λ s. if_passes (nat_le 1 (length s) && nat_le (length s) 64) s) (as_str d)
 
 -- the keys of a list that has nothing else
 abbrev pub keys_in : Items → Option (List Bytes)
@@ -60,7 +60,7 @@ keys_in (item d rest) = option_and_then (λ k. option_map (λ ks. k ∷ ks) (key
 
 -- the keys, where they are one less than the shards and each is before the next one
 abbrev pub parted : ℕ → List Bytes → Option (List Bytes)
-parted shards keys = when ((length keys == shards - 1) && ascends key_before keys) keys
+parted shards keys = if_passes ((length keys == shards - 1) && ascends key_before keys) keys
 
 abbrev pub splits_in : ℕ → Members → Option (List Bytes)
 splits_in shards ms = option_and_then (parted shards)
@@ -88,9 +88,9 @@ settings_in ms = if knows ms
       keys = keys;
       dir = dir;
     }) (dir_in ms))
-    (splits_in shards ms)) (number_at (codes "keys") 1 10000 ms)) (number_at (codes "transactions") 1 100000 ms))
-    (number_at (codes "workers") 1 64 ms)) (number_at (codes "epsilon") 0 1000000 ms))
-    (number_at (codes "stride") 0 10000000 ms)) (number_at (codes "shards") 1 16 ms)
+    (splits_in shards ms)) (number_member (codes "keys") 1 10000 ms)) (number_member (codes "transactions") 1 100000 ms))
+    (number_member (codes "workers") 1 64 ms)) (number_member (codes "epsilon") 0 1000000 ms))
+    (number_member (codes "stride") 0 10000000 ms)) (number_member (codes "shards") 1 16 ms)
     else None
 
 -- the settings that a text gives: it is a document, and that gives them

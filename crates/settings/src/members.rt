@@ -4,7 +4,7 @@ ghost use Rattle.std.specs.BTreeMap.{keys};
 ghost use Rattle.std.specs.List.{list_all};
 ghost use Rattle.toml.specs.Data.{as_array, as_integer, get_member};
 ghost use Rattle.toml.specs.View.{array_view, table_view, view};
-ghost use Rattle.settings.specs.Documents.{Refuses, IsRefused, dir_in, is_known, knows, number_at};
+ghost use Rattle.settings.specs.Documents.{Refuses, GivesNothing, dir_in, is_known, knows, number_member};
 
 use crate::WRONG;
 use std::alloc::Global;
@@ -40,8 +40,8 @@ fn is_known_key(key: &str) -> bool
 /// The number at a key, where it lies between the two.
 pub(crate) fn number(table: &Table, key: &str, least: u64, most: u64) -> Result<u64, Fault>
     ensures value { MatchResult result
-        (λ n. number_at key.now least most (table_view table.now) ≡ Some n)
-        (λ fault. IsRefused fault (number_at key.now least most (table_view table.now))) }
+        (λ n. number_member key.now least most (table_view table.now) ≡ Some n)
+        (λ fault. GivesNothing fault (number_member key.now least most (table_view table.now))) }
     ensures limit { IfOk result (λ n. n ≤ most) }
 {
     match integer_at(table, key) {
@@ -56,9 +56,9 @@ pub(crate) fn number(table: &Table, key: &str, least: u64, most: u64) -> Result<
 /// The stride.
 pub(crate) fn stride(table: &Table) -> Result<Stride, Fault>
     ensures { MatchResult result
-        (λ n. number_at (codes "stride") 0 10000000 (table_view table.now) ≡ Some n)
-        (λ fault. IsRefused fault
-        (number_at (codes "stride") 0 10000000 (table_view table.now))) }
+        (λ n. number_member (codes "stride") 0 10000000 (table_view table.now) ≡ Some n)
+        (λ fault. GivesNothing fault
+        (number_member (codes "stride") 0 10000000 (table_view table.now))) }
 {
     let micros = number(table, "stride", 0, Stride::MAX)?;
     match Stride::new(micros) {

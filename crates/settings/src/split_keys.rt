@@ -1,7 +1,7 @@
 // The splits: keys that ascend, one less than the shards.
 ghost use Rattle.std.specs.Prelude.{◌≡◌, ◌≤◌, Some, MatchResult};
 ghost use Rattle.toml.specs.View.{array_view, table_view, view};
-ghost use Rattle.settings.specs.Documents.{Refuses, IsRefused, key_in, keys_in, parted, splits_in};
+ghost use Rattle.settings.specs.Documents.{Refuses, GivesNothing, key_in, keys_in, parted, splits_in};
 
 use crate::WRONG;
 use crate::members::array_at;
@@ -39,7 +39,7 @@ fn split_keys(alloc: Global, items: &Vec<Value>) -> Result<Vec<Key>, Fault>
 
 fn split_key(item: &Value) -> Result<Key, Fault>
     ensures { MatchResult result (λ key. key_in (view item.now) ≡ Some key)
-        (λ fault. IsRefused fault (key_in (view item.now))) }
+        (λ fault. GivesNothing fault (key_in (view item.now))) }
 {
     match item.as_str() {
         Some(text) => match Key::new(text.as_bytes()) {

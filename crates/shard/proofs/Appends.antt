@@ -14,7 +14,7 @@ use Rattle.gatelog.specs.Armed.{IsArmed}
 use Rattle.gatelog.specs.Gates.{is_read, is_left}
 use Rattle.gatelog.specs.Armed as gates
 use Rattle.gatelog.proofs.Armed.{planned_err}
-use Rattle.shard.specs.Armed.{AreArmed, FailsIn, HasPlace, with_if}
+use Rattle.shard.specs.Armed.{AreArmed, FailsIn, HasPlace, records_with_if}
 
 items-append : (es : List Placed) (e : Placed) → map (λ p. p.item) (es ++ e ∷ []) ≡ map (λ p. p.item) es ++ e.item ∷ []
 items-append [] e = refl
@@ -43,7 +43,7 @@ module _ (before now : File) (same : now ≡ before) (staged : Placed) (item : R
   old_or_with image (inl old) = inl (ap items_of old ∙ ap (λ (f : File). records_in (surface f).seen) same)
   old_or_with image (inr with) = inr (logged-is image with)
 
-  with-if : (b : Bool) → items_of (gates.with_if b (log (surface now).seen) staged) ≡ with_if b (records_in (surface before).seen) item
+  with-if : (b : Bool) → items_of (gates.with_if b (log (surface now).seen) staged) ≡ records_with_if b (records_in (surface before).seen) item
   with-if true =
       items-and_entry (log (surface now).seen) staged
       ∙ ap (λ (r : Record). and_logged (records_in (surface now).seen) (Some r)) is

@@ -12,7 +12,7 @@ use Rattle.protocol.specs.Step.{facts_after}
 use Rattle.protocol.specs.Sound.{IsSound}
 use Rattle.memory.specs.Carry.{AdmissionIsUnseen, ReadyIsCarriable, HasMemoryFor, IsCarriable, MayInstall, writes_installed}
 use Rattle.memory.specs.Kept.{Kept}
-use Rattle.memory.specs.Plans.{plan_of}
+use Rattle.memory.specs.Plans.{plan_of, logging}
 use Rattle.memory.specs.declared.plan.Plan.{Plan}
 use Rattle.shard.specs.Due.{IsDue}
 use Rattle.shard.specs.Logs.{and_logged, facts_logged}
@@ -35,20 +35,23 @@ facts-logged (Err fault) f r known = absurd (cc)
 
 -- ---- a plan
 
-module _ (k ready : Kept) (p : Plan) (due : IsDue k p) (made : HasMemoryFor k ready p) where
+-- its record is handed over beside it
+module _ (k ready : Kept) (p : Plan) (l : Option Record) (own : p.logged ≡ l) (due : IsDue k p) (made : HasMemoryFor k ready p) where
   -- it can be carried out
-  pub can_carry : ReadyIsCarriable → (writes : List Write) → writes ≡ writes_installed k.facts p.logged → IsCarriable ready p writes
+  pub can_carry : ReadyIsCarriable → (writes : List Write) → writes ≡ writes_installed k.facts p.logged → IsCarriable ready (logging l p) writes
   can_carry law writes is =
-      law k ready p writes due.order due.fit made due.follows (subst (MayInstall k.facts p.logged) (sym is) due.installs)
+      subst (λ (o : Option Record). IsCarriable ready (logging o p) writes) own
+      (law k ready p writes due.order due.fit made due.follows (subst (MayInstall k.facts p.logged) (sym is) due.installs))
 
   -- and makes of the memory what the plan says, told from the state before
-  pub memory_after : AdmissionIsUnseen → (after : Memory) → after ≡ carried (plan_of ready.memory.rows p) ready.memory →
+  pub memory_after : AdmissionIsUnseen → (after : Memory) → after ≡ carried (plan_of ready.memory.rows (logging l p)) ready.memory →
       after ≡ carried (plan_of k.memory.rows p) k.memory
   memory_after unseen after e =
-      e ∙ ap (λ (m : Memory). carried (plan_of m.rows p) m) made.memory ∙ unseen k.memory p due.order (due.fit).0
+      e ∙ ap (λ (o : Option Record). carried (plan_of ready.memory.rows (logging o p)) ready.memory) (sym own)
+      ∙ ap (λ (m : Memory). carried (plan_of m.rows p) m) made.memory ∙ unseen k.memory p due.order (due.fit).0
 
-  pub facts_then : (after : Facts) → after ≡ facts_after ready.facts p.logged → after ≡ facts_after k.facts p.logged
-  facts_then after e = e ∙ ap (λ (f : Facts). facts_after f p.logged) made.facts
+  pub facts_then : (after : Facts) → after ≡ facts_after ready.facts l → after ≡ facts_after k.facts p.logged
+  facts_then after e = e ∙ ap (λ (f : Facts). facts_after f l) made.facts ∙ ap (facts_after k.facts) (sym own)
 
   -- the shard is sound then
   pub sound_then : (setup : Setup) (facts : Facts) (memory : Memory) → setup ≡ k.setup → facts ≡ facts_after k.facts p.logged

@@ -29,7 +29,7 @@ use Rattle.recovery.specs.Recovered.{fault_in, items}
 use Rattle.shard.specs.Armed.{FailsIn, HasPlace}
 use Rattle.shard.specs.Logs.{records_in, and_logged, facts_logged, items_of, KeepsRecords, HoldsOldOrWith}
 use Rattle.shard.specs.On.{CoreView}
-use Rattle.shard.specs.Opened.{HasAppended, HasNotAppended, HasNotOpened, HasOpened, IsEpoch, IsSpent, IsTaken, IsToldReason, is_reason, LeavesOpening}
+use Rattle.shard.specs.Opened.{HasAppended, HasNotAppended, HasNotOpened, HasOpened, HasLawfulEpoch, IsSpent, IsTaken, IsToldReason, is_reason, LeavesOpening}
 use Rattle.shard.specs.Opened.{fault_of, next_opening, opening_of}
 use Rattle.shard.proofs.Openings.{follows_next}
 
@@ -194,7 +194,7 @@ module _ {D : Type 0} (keeps obeys : Type 0) (file : D → File) (clock : D → 
                 (subst (λ rs. FailsIn call gate rs (Some (next_opening (items entries))) (file back) fault) (same_records keep ∙ records_are keep)
                 (subst (λ r. FailsIn call gate (records_in (surface (file mid)).seen) (Some r) (file back) fault) same
                 (refused.armed call obey keep (found.planned obey (ap waits is) ∙ is))))),
-            λ device. subst (λ rs. epoch_of rs + 1 < 2 ^ 62) these (subst IsEpoch same (refused.epoch device)),
+            λ device. subst (λ rs. epoch_of rs + 1 < 2 ^ 62) these (subst HasLawfulEpoch same (refused.epoch device)),
           );
       planned = λ obey never.
           ⊎_elim (λ memory. inl memory) (⊎_elim (λ device. absurd (refused.planned obey (found.planned obey (ap waits never) ∙ never) device.0))

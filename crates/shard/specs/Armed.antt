@@ -11,14 +11,14 @@ use Rattle.record.specs.declared.record.Record.{Record}
 use Rattle.shard.specs.Logs.{records_in, and_logged}
 
 -- some records, with one more where a test holds
-abbrev pub with_if : Bool → Result (List Record) Fault → Record → Result (List Record) Fault
-with_if true records r = and_logged records (Some r)
-with_if false records r = records
+abbrev pub records_with_if : Bool → Result (List Record) Fault → Record → Result (List Record) Fault
+records_with_if true records r = and_logged records (Some r)
+records_with_if false records r = records
 
 -- The records behind an append of this one whose call of this number fails: as a read gives them, and as a crash leaves them.
 pub record AreArmed (call : ℕ) (records : Result (List Record) Fault) (r : Record) (file : File) : Type 0 where
-  pub read : records_in (surface file).seen ≡ with_if (is_read call) records r
-  pub left : (fates : List Fate) → records_in (crash_leaves fates file) ≡ with_if (is_left call (get_or fates 0 Old)) records r
+  pub read : records_in (surface file).seen ≡ records_with_if (is_read call) records r
+  pub left : (fates : List Fate) → records_in (crash_leaves fates file) ≡ records_with_if (is_left call (get_or fates 0 Old)) records r
 
 -- the log has room for the record, where there is one, and for the closed gate behind it
 abbrev pub HasPlace : ℕ → Option Record → Type 0

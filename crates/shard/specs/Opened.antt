@@ -36,9 +36,9 @@ IsTaken setup (Ok records) facts = (taken setup records ≡ Accepted) × (facts 
 IsTaken setup (Err fault) facts = ⊥
 
 -- the epoch of an opening is below the limit
-abbrev pub IsEpoch : Record → Type 0
-IsEpoch (Record.Opened epoch) = epoch < 2 ^ 62
-IsEpoch _ = Unit {0}
+abbrev pub HasLawfulEpoch : Record → Type 0
+HasLawfulEpoch (Record.Opened epoch) = epoch < 2 ^ 62
+HasLawfulEpoch _ = Unit {0}
 
 -- why a log is not taken up: it is none, or its first record that has no place
 abbrev pub fault_of : Setup → Result (List Placed) Fault → Option Fault
@@ -83,7 +83,7 @@ module _ {D : Type 0} (keeps obeys : Type 0) (file : D → File) (clock : D → 
     pub durable : keeps → KeepsRecords (surface (file core.disk)) (and_logged (records_in (surface (file disk)).seen) (Some item))
     pub read : keeps → records_in (surface (file core.disk)).seen ≡ and_logged (records_in (surface (file disk)).seen) (Some item)
     pub gate : (core.gate ≡ next_gate before item) × HasPlace before (Some item)
-    pub epoch : IsEpoch item
+    pub epoch : HasLawfulEpoch item
     pub failures_stay : failures disk ≤ failures core.disk
     pub planned : obeys → plan disk ≡ Never → plan core.disk ≡ Never
     pub armed : (call : ℕ) → obeys → keeps → plan disk ≡ AfterWrite call → GoesPast call (Some item)
@@ -93,7 +93,7 @@ module _ {D : Type 0} (keeps obeys : Type 0) (file : D → File) (clock : D → 
     pub cause : (fault ≡ WantsMemory) ⊎ (((fault ≡ Device) × (failures disk < failures back)) ⊎ ((fault ≡ TimeSpent) × full))
     pub any_moment : keeps → LeavesOnly clock since disk back (HoldsOldOrWith (records_in (surface (file disk)).seen) (Some item))
     pub unchanged : (fault ≡ Device) ⊎ (file back ≡ file disk)
-    pub epoch : fault ≡ Device → IsEpoch item
+    pub epoch : fault ≡ Device → HasLawfulEpoch item
     pub planned : obeys → plan disk ≡ Never → fault ≢ Device
     pub armed : (call : ℕ) → obeys → keeps → plan disk ≡ AfterWrite call
         → FailsIn call before (records_in (surface (file disk)).seen) (Some item) (file back) fault

@@ -18,20 +18,20 @@ use units::Fault;
 pub fn append_record<D: Disk>(
     gate_log: &mut GateLog<D>,
     alloc: Global,
-    item: &Record,
+    item: Record,
 ) -> Result<Logged, Fault>
-    ensures item { IfOk result (λ logged. logged ≡ item.now) }
+    ensures item { IfOk result (λ logged. logged ≡ item) }
     ensures failures_stay { D.failures (disk_of gate_log.old) ≤ D.failures (disk_of gate_log.new) }
     ensures running { OnOk result
         (IsFalse (is_stopped gate_log.old) × IsFalse (is_stopped gate_log.new)) }
-    ensures gate { OnOk result ((gate_at gate_log.new ≡ next_gate (gate_at gate_log.old) item.now)
+    ensures gate { OnOk result ((gate_at gate_log.new ≡ next_gate (gate_at gate_log.old) item)
         × (gate_at gate_log.new ≤ gate_at gate_log.old + 2 ^ 20 + 5)) }
-    ensures place { OnOk result (next_gate (gate_at gate_log.old) item.now + 1 ≤ 2 ^ 40) }
+    ensures place { OnOk result (next_gate (gate_at gate_log.old) item + 1 ≤ 2 ^ 40) }
     ensures cause { IfErr result
         (λ fault. ((fault ≡ Fault.Stopped) × IsTrue (is_stopped gate_log.old))
         ⊎ (((fault ≡ Fault.Memory) × IsFalse (is_stopped gate_log.old))
         ⊎ (((fault ≡ Fault.TimeSpent) × IsFalse (is_stopped gate_log.old)
-        × IsFull (gate_at gate_log.old) item.now)
+        × IsFull (gate_at gate_log.old) item)
         ⊎ ((fault ≡ Fault.Device) × IsFalse (is_stopped gate_log.old)
         × (D.failures (disk_of gate_log.old) < D.failures (disk_of gate_log.new))
         × IsTrue (is_stopped gate_log.new))))) }
@@ -42,23 +42,23 @@ pub fn append_record<D: Disk>(
     ensures any_moment { IsFalse (is_stopped gate_log.old) → D.keeps_model →
         LeavesOnly D.clock D.since (disk_of gate_log.old) (disk_of gate_log.new)
         (HoldsOldOrWith (records_in (surface (D.file (disk_of gate_log.old))).seen)
-        (Some item.now)) }
+        (Some item)) }
     ensures durable { OnOk result (D.keeps_model →
         KeepsRecords (surface (D.file (disk_of gate_log.new)))
         (and_logged (records_in (surface (D.file (disk_of gate_log.old))).seen)
-        (Some item.now))) }
+        (Some item))) }
     ensures read { OnOk result (D.keeps_model →
         records_in (surface (D.file (disk_of gate_log.new))).seen ≡ and_logged
-        (records_in (surface (D.file (disk_of gate_log.old))).seen) (Some item.now)) }
+        (records_in (surface (D.file (disk_of gate_log.old))).seen) (Some item)) }
     // With no call armed the device does not fail.
     ensures planned { D.obeys → D.plan (disk_of gate_log.old) ≡ Never
         → (D.plan (disk_of gate_log.new) ≡ Never) × IfErr result (λ fault. fault ≢ Fault.Device) }
     // With a call armed, counted from 0: it fails where it is one of the append's, and leaves this.
     ensures armed { (call : ℕ) → IsFalse (is_stopped gate_log.old) → D.obeys → D.keeps_model
         → D.plan (disk_of gate_log.old) ≡ AfterWrite call
-        → OnOk result (GoesPast call (Some item.now))
+        → OnOk result (GoesPast call (Some item))
         × IfErr result (FailsIn call (gate_at gate_log.old)
-        (records_in (surface (D.file (disk_of gate_log.old))).seen) (Some item.now)
+        (records_in (surface (D.file (disk_of gate_log.old))).seen) (Some item)
         (D.file (disk_of gate_log.new))) }
 {
     if gate_log.is_stopped() {

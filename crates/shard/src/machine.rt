@@ -86,7 +86,7 @@ impl<D: Disk> Machine<D> {
     }
 
     // Logs the record of a plan, where it has one, and carries the plan out. All memory is taken before.
-    pub(crate) fn carry_out(&mut self, alloc: Global, plan: Plan) -> Result<Outbox, Fault>
+    pub(crate) fn carry_out(&mut self, alloc: Global, mut plan: Plan) -> Result<Outbox, Fault>
         requires running { IsFalse (seen_machine self.old).stopped }
         requires stands { D.keeps_model
             → KeepsRecords (surface (D.file (seen_machine self.old).disk))
@@ -103,7 +103,7 @@ impl<D: Disk> Machine<D> {
             Ok(ready) => ready,
             Err(fault) => return Err(fault),
         };
-        let Some(item) = &plan.logged else {
+        let Some(item) = plan.logged.take() else {
             return Ok(self.state.carry(plan, ready, None));
         };
         match append_record(&mut self.gate_log, alloc, item) {
@@ -148,7 +148,7 @@ impl<D: Disk> Machine<D> {
         let first = Record::Opened {
             epoch: Epoch::first(),
         };
-        match append_record(&mut gate_log, alloc, &first) {
+        match append_record(&mut gate_log, alloc, first) {
             Ok(logged) => {
                 let _ = logged.spend();
                 Ok(Machine { gate_log, state })

@@ -6,7 +6,7 @@ use Rattle.std.proofs.lemmas.List.{take_all, take-append-le, drop-append-le, len
 use Rattle.std.specs.Prelude.{OnOk, IsOk}
 use Rattle.disk.specs.File.{File}
 use Rattle.simdisk.specs.declared.change.Change.{Change}
-use Rattle.simdisk.specs.Replay.{History, kept, size, end_of, bytes_in_all, furthest, with_made, replay, settled, file_at, file_of, pushed, IsStored}
+use Rattle.simdisk.specs.Replay.{History, kept, size, change_end, bytes_in_all, furthest, with_made, replay, settled, file_at, file_of, pushed, IsStored}
 
 -- one change more is one step more
 replay_push : (changes : List Change) (change : Change) (store bytes : List ℕ) (file : File) → bytes_in_all changes ≡ length store →
@@ -88,12 +88,12 @@ file-more h made d lt =
     ∙ replay_append (take made h.changes) (get_or h.changes made d) h.store (settled h.base)
 
 -- the furthest end of one change more
-pub furthest-push : (changes : List Change) (change : Change) → furthest (changes ++ change ∷ []) ≡ max (furthest changes) (end_of change)
+pub furthest-push : (changes : List Change) (change : Change) → furthest (changes ++ change ∷ []) ≡ max (furthest changes) (change_end change)
 furthest-push [] change = omega arith
 furthest-push (first ∷ changes) change = omega (arith, furthest-push changes change)
 
 -- each range ends within the furthest
-pub end-within : (changes : List Change) (made : ℕ) (d : Change) → made < length changes → end_of (get_or changes made d) ≤ furthest changes
+pub end-within : (changes : List Change) (made : ℕ) (d : Change) → made < length changes → change_end (get_or changes made d) ≤ furthest changes
 end-within [] made d lt = absurd (omega arith)
 end-within (first ∷ changes) zero d lt = omega arith
 end-within (first ∷ changes) (suc made) d lt = omega (arith, end-within changes made d (omega arith))

@@ -22,10 +22,10 @@ size (Tried at count) = count
 size (Cut len) = 0
 
 -- where the range of a change ends
-abbrev pub end_of : Change → ℕ
-end_of (Write at count) = at + count
-end_of (Tried at count) = at + count
-end_of (Cut len) = 0
+abbrev pub change_end : Change → ℕ
+change_end (Write at count) = at + count
+change_end (Tried at count) = at + count
+change_end (Cut len) = 0
 
 -- how many bytes changes have in the store
 abbrev pub bytes_in_all : List Change → ℕ
@@ -35,7 +35,7 @@ bytes_in_all (change ∷ changes) = size change + bytes_in_all changes
 -- the furthest end of a range
 abbrev pub furthest : List Change → ℕ
 furthest [] = 0
-furthest (change ∷ changes) = max (end_of change) (furthest changes)
+furthest (change ∷ changes) = max (change_end change) (furthest changes)
 
 -- a change with its bytes, as the disk model has it
 abbrev pub made : Change → List ℕ → Files.FileChange

@@ -3,7 +3,7 @@ ghost use Rattle.std.specs.Prelude.{◌≡◌, ◌+◌, ◌≤◌, max, length, 
 ghost use Rattle.disk.specs.Image.{with_bytes};
 ghost use Rattle.disk.specs.File.{laid, by_fate, wrote, tried};
 ghost use Rattle.simdisk.specs.Fates.{fate_at, made_by};
-ghost use Rattle.simdisk.specs.Replay.{kept, file_of, bytes_in_all, furthest, size, end_of, made};
+ghost use Rattle.simdisk.specs.Replay.{kept, file_of, bytes_in_all, furthest, size, change_end, made};
 
 use crate::change::Change;
 use disk::Fate;
@@ -72,9 +72,9 @@ fn write_by_fate(image: &mut Vec<u8>, at: usize, bytes: &[u8], fate: Fate)
 
 fn change_by_fate(image: &mut Vec<u8>, change: Change, bytes: &[u8], fate: Fate)
     requires bytes { length bytes.now ≡ size change }
-    requires room { end_of change ≤ vec_capacity image.old }
+    requires room { change_end change ≤ vec_capacity image.old }
     ensures image { image.new.items ≡ by_fate fate (made change bytes.now) image.old.items }
-    ensures len { vec_len image.new ≤ max (vec_len image.old) (end_of change) }
+    ensures len { vec_len image.new ≤ max (vec_len image.old) (change_end change) }
     ensures capacity { vec_capacity image.old ≤ vec_capacity image.new }
 {
     match change {

@@ -33,7 +33,7 @@ pub record AreHeads (prefix : Bytes) (versions : List Install) (heads : List ℕ
   pub each : heads ≡ map (λ i. head prefix i.key) versions
 
 -- what both keys begin with
-abbrev pub shared : Bytes → Bytes → Bytes
-shared [] last = []
-shared (x ∷ first) [] = []
-shared (x ∷ first) (y ∷ last) = cond (nat_eq x y) (x ∷ shared first last) []
+abbrev pub common_prefix : Bytes → Bytes → Bytes
+common_prefix [] last = []
+common_prefix (x ∷ first) [] = []
+common_prefix (x ∷ first) (y ∷ last) = cond (nat_eq x y) (x ∷ common_prefix first last) []

@@ -1,6 +1,6 @@
 //! Heads of keys.
 ghost use Rattle.std.specs.Prelude.{◌≡◌, ◌<◌, ◌≤◌, length, take, slice_index};
-ghost use Rattle.versions.specs.Heads.{AreBytes, number, head, prefix_of, shared};
+ghost use Rattle.versions.specs.Heads.{AreBytes, number, head, prefix_of, common_prefix};
 
 use std::cmp::Ordering;
 use units::Key;
@@ -61,7 +61,7 @@ fn digit(bytes: &[u8], at: usize) -> u64
 
 /// What both keys begin with, as far as it is a key.
 pub fn shared(first: &Key, last: &Key) -> Option<Key>
-    ensures { prefix_of result ≡ shared first.now last.now }
+    ensures { prefix_of result ≡ common_prefix first.now last.now }
 {
     let bytes = first.as_bytes();
     Key::new(&bytes[..shared_len(bytes, last.as_bytes())]).ok()
@@ -70,7 +70,7 @@ pub fn shared(first: &Key, last: &Key) -> Option<Key>
 // How many bytes both begin with.
 fn shared_len(first: &[u8], last: &[u8]) -> usize
     ensures most { result ≤ length first.now }
-    ensures shared { take result first.now ≡ shared first.now last.now }
+    ensures shared { take result first.now ≡ common_prefix first.now last.now }
 {
     let [x, first @ ..] = first else {
         return 0;

@@ -1,4 +1,4 @@
-use Rattle.std.proofs.Common.{◌≡◌, sym, ◌∙◌, ap}
+use Rattle.std.proofs.Common.{◌∙◌, ap}
 use Rattle.disk.specs.Planned.{fails, next}
 use Rattle.gatelog.proofs.Armed.{no_err, on_any, synced_unless, waits_on}
 use Rattle.gatelog.proofs.opening.sync_first.Goals as goal

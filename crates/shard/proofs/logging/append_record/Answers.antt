@@ -24,7 +24,7 @@ returns-in_err-logged-clause-any_moment g c running keeps =
     c.in_ok-staged.ensures.time
     (c.append.ensures.any_moment (same.1 ∙ running) keeps)
     (λ image may. inl (ap items_of (c.is_stopped.ensures.stands c.if-is_stopped.false keeps image may)))
-    (old_or_with before now same.2 staged c.args.item.now c.in_ok-staged.ensures.staged.1)
+    (old_or_with before now same.2 staged c.args.item c.in_ok-staged.ensures.staged.1)
 
 pub returns-clause-any_moment : goal.returns-clause-any_moment
 returns-clause-any_moment g c running keeps =
@@ -37,19 +37,19 @@ returns-clause-any_moment g c running keeps =
     c.in_ok-staged.ensures.time
     (c.append.ensures.any_moment (same.1 ∙ running) keeps)
     (λ image may. inl (ap items_of (c.is_stopped.ensures.stands c.if-is_stopped.false keeps image may)))
-    (old_or_with before now same.2 staged c.args.item.now c.in_ok-staged.ensures.staged.1)
+    (old_or_with before now same.2 staged c.args.item c.in_ok-staged.ensures.staged.1)
 
 pub returns-clause-durable : goal.returns-clause-durable
 returns-clause-durable g c keeps image may =
     let same = c.in_ok-staged.ensures.same in
-    logged-is (g.D.Disk.file (disk_of c.args.gate_log.now)) (g.D.Disk.file (disk_of c.stage.new.self)) same.2 c.in_ok-staged.staged c.args.item.now
+    logged-is (g.D.Disk.file (disk_of c.args.gate_log.now)) (g.D.Disk.file (disk_of c.stage.new.self)) same.2 c.in_ok-staged.staged c.args.item
     c.in_ok-staged.ensures.staged.1
     image (c.in_ok-logged.ensures.durable keeps image may)
 
 pub returns-clause-read : goal.returns-clause-read
 returns-clause-read g c keeps =
     let same = c.in_ok-staged.ensures.same in
-    logged-is (g.D.Disk.file (disk_of c.args.gate_log.now)) (g.D.Disk.file (disk_of c.stage.new.self)) same.2 c.in_ok-staged.staged c.args.item.now
+    logged-is (g.D.Disk.file (disk_of c.args.gate_log.now)) (g.D.Disk.file (disk_of c.stage.new.self)) same.2 c.in_ok-staged.staged c.args.item
     c.in_ok-staged.ensures.staged.1
     (surface (g.D.Disk.file (disk_of c.append.new.self))).seen (c.in_ok-logged.ensures.read keeps)
 
@@ -62,10 +62,10 @@ returns-in_err-logged-clause-armed g c call running obeys keeps plan =
     let gate = gate_at c.args.gate_log.now in
     let room = subst (λ r. g.D.Disk.has_room (disk_of c.stage.new.self) 4 (length (staged_bytes r) + 1)) (sym c.in_ok-staged.ensures.staged.1)
     (c.in_ok-staged.ensures.room obeys) in
-    subst (λ r. OnOk r (GoesPast call (Some c.args.item.now))
-    × IfErr r (FailsIn call gate (records_in (surface before).seen) (Some c.args.item.now) left)) (sym is) (
+    subst (λ r. OnOk r (GoesPast call (Some c.args.item))
+    × IfErr r (FailsIn call gate (records_in (surface before).seen) (Some c.args.item) left)) (sym is) (
       tt,
-      fails_in before (g.D.Disk.file (disk_of c.stage.new.self)) same.2 c.in_ok-staged.staged c.args.item.now c.in_ok-staged.ensures.staged.1
+      fails_in before (g.D.Disk.file (disk_of c.stage.new.self)) same.2 c.in_ok-staged.staged c.args.item c.in_ok-staged.ensures.staged.1
           _ call gate left c.in_err-logged.field-0.0 c.in_ok-staged.ensures.running.1
           (c.in_err-logged.ensures.armed call (same.1 ∙ running) keeps room (c.in_ok-staged.ensures.plan ∙ plan)),
     )

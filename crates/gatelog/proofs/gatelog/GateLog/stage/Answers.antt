@@ -7,6 +7,6 @@ use Rattle.gatelog.proofs.gatelog.GateLog.stage.Goals as goal
 
 pub returns-clause-room : goal.returns-clause-room
 returns-clause-room g c = on_any c.at.result _ (λ obeys.
-    let size : length (spelling c.args.record.now) ≡ c.encoded_len-size.result = sym c.encoded_len-size.ensures.value in
-    g.met.D.Disk.room_less c.reserve.new.self 8 (c.encoded_len-size.result + 6) 4 (length (staged_bytes c.args.record.now) + 1) (omega arith)
-    (omega (arith, size, bytes-size 0 c.args.record.now)) (c.in_ok-reserve.ensures.room obeys))
+    let size : length (spelling c.args.item) ≡ c.encoded_len-size.result = sym c.encoded_len-size.ensures.value in
+    g.met.D.Disk.room_less c.reserve.new.self 8 (c.encoded_len-size.result + 6) 4 (length (staged_bytes c.args.item) + 1) (omega arith)
+    (omega (arith, size, bytes-size 0 c.args.item)) (c.in_ok-reserve.ensures.room obeys))

@@ -1,7 +1,7 @@
 use Rattle.std.proofs.Common.{◌+◌, refl, sym, ap, ◌∙◌, subst}
 use Rattle.session.specs.Sessions.{reads, buffers, closes, gives_up}
 use Rattle.world.specs.World.{acts, client_of, if_open, look_noted}
-use Rattle.lives.specs.Runs.{Comes}
+use Rattle.lives.specs.Runs.{ComesAfter}
 use Rattle.world.specs.Held.{when_not_over, when_open}
 use Rattle.world.specs.Hosts.{session_step}
 use Rattle.world.specs.Lawful.{may_act}
@@ -13,7 +13,7 @@ use Rattle.lives.proofs.run.Run.act.Goals as goal
 pub returns-in-Begin : goal.returns-in-Begin
 unfolding acts
 returns-in-Begin c time w h steady may =
-    subst (λ a. Comes a c.begin.new.self c.begin.result) (sym (ap (acts w) c.in-Begin.is))
+    subst (λ a. ComesAfter a c.begin.new.self c.begin.result) (sym (ap (acts w) c.in-Begin.is))
     (c.begin.ensures w h (is_new w time c.in-Begin.txn (sym (ap (may_act w time) c.in-Begin.is) ∙ may)))
 
 pub returns-in-Read : goal.returns-in-Read
@@ -23,7 +23,7 @@ returns-in-Read c time w h steady may =
     let new : Run = record { sessions = c.read-moved.new.self; shards = old.shards; output = c.reply.new.self; time = old.time } in
     let t = c.in-Read.txn in
     let f = reads w.config.splits c.in-Read.key in
-    subst (λ a. Comes a new c.reply.result) (sym (ap (acts w) c.in-Read.is ∙ open_moves w (client_of w t) f))
+    subst (λ a. ComesAfter a new c.reply.result) (sym (ap (acts w) c.in-Read.is ∙ open_moves w (client_of w t) f))
     (session_comes w old new h (session_step (when_open f) (client_of w t)) c.read-moved.result c.reply.result
     (c.read-moved.ensures w.config.splits w.clients h.sessions) c.reply.ensures refl refl)
 
@@ -34,7 +34,7 @@ returns-in_ok-value-in-Write c time w h steady may =
     let new : Run = record { sessions = c.write-moved.new.self; shards = old.shards; output = c.reply-in-Write.new.self; time = old.time } in
     let t = c.in-Write.txn in
     let f = buffers (record { key = c.in-Write.key; value = c.in_ok-value-in-Write.value }) in
-    subst (λ a. Comes a new c.reply-in-Write.result)
+    subst (λ a. ComesAfter a new c.reply-in-Write.result)
     (sym (ap (acts w) c.in-Write.is ∙ ap (λ x. if_open w (client_of w t) (buffers (record { key = c.in-Write.key; value = x })))
     (sym c.in_ok-value-in-Write.ensures.same) ∙ open_moves w (client_of w t) f))
     (session_comes w old new h (session_step (when_open f) (client_of w t)) c.write-moved.result c.reply-in-Write.result
@@ -47,7 +47,7 @@ returns-in-Close c time w h steady may =
     let new : Run = record { sessions = c.close-moved.new.self; shards = old.shards; output = c.reply-in-Close.new.self; time = old.time } in
     let t = c.in-Close.txn in
     let f = closes w.config.splits in
-    subst (λ a. Comes a new c.reply-in-Close.result) (sym (ap (acts w) c.in-Close.is ∙ open_moves w (client_of w t) f))
+    subst (λ a. ComesAfter a new c.reply-in-Close.result) (sym (ap (acts w) c.in-Close.is ∙ open_moves w (client_of w t) f))
     (session_comes w old new h (session_step (when_open f) (client_of w t)) c.close-moved.result c.reply-in-Close.result
     (c.close-moved.ensures w.config.splits w.clients h.sessions) c.reply-in-Close.ensures refl refl)
 
@@ -58,34 +58,34 @@ returns-in-Quit c time w h steady may =
     let new : Run = record { sessions = c.quit-moved.new.self; shards = old.shards; output = c.reply-in-Quit.new.self; time = old.time } in
     let t = c.in-Quit.txn in
     let f = gives_up w.config.splits in
-    subst (λ a. Comes a new c.reply-in-Quit.result) (sym (ap (acts w) c.in-Quit.is ∙ not_over_moves w (client_of w t) f))
+    subst (λ a. ComesAfter a new c.reply-in-Quit.result) (sym (ap (acts w) c.in-Quit.is ∙ not_over_moves w (client_of w t) f))
     (session_comes w old new h (session_step (when_not_over f) (client_of w t)) c.quit-moved.result c.reply-in-Quit.result
     (c.quit-moved.ensures w.config.splits w.clients h.sessions) c.reply-in-Quit.ensures refl refl)
 
 pub returns-in-Deliver : goal.returns-in-Deliver
 unfolding acts
 returns-in-Deliver c time w h steady may =
-    subst (λ a. Comes a c.deliver.new.self c.deliver.result) (sym (ap (acts w) c.in-Deliver.is)) (c.deliver.ensures w h steady)
+    subst (λ a. ComesAfter a c.deliver.new.self c.deliver.result) (sym (ap (acts w) c.in-Deliver.is)) (c.deliver.ensures w h steady)
 
 pub returns-in-At : goal.returns-in-At
 unfolding acts
 returns-in-At c time w h steady may =
-    subst (λ a. Comes a c.act_at.new.self c.act_at.result) (sym (ap (acts w) c.in-At.is)) (c.act_at.ensures w h steady)
+    subst (λ a. ComesAfter a c.act_at.new.self c.act_at.result) (sym (ap (acts w) c.in-At.is)) (c.act_at.ensures w h steady)
 
 pub returns-in-Crash : goal.returns-in-Crash
 unfolding acts
 returns-in-Crash c time w h steady may =
-    subst (λ a. Comes a c.crash.new.self c.crash.result) (sym (ap (acts w) c.in-Crash.is)) (c.crash.ensures w h)
+    subst (λ a. ComesAfter a c.crash.new.self c.crash.result) (sym (ap (acts w) c.in-Crash.is)) (c.crash.ensures w h)
 
 pub returns-in-CrashIn : goal.returns-in-CrashIn
 unfolding acts
 returns-in-CrashIn c time w h steady may =
-    subst (λ a. Comes a c.crash_in.new.self c.crash_in.result) (sym (ap (acts w) c.in-CrashIn.is)) (c.crash_in.ensures w h steady)
+    subst (λ a. ComesAfter a c.crash_in.new.self c.crash_in.result) (sym (ap (acts w) c.in-CrashIn.is)) (c.crash_in.ensures w h steady)
 
 pub returns-in-FailIn : goal.returns-in-FailIn
 unfolding acts
 returns-in-FailIn c time w h steady may =
-    subst (λ a. Comes a c.act_at-in-FailIn.new.self c.act_at-in-FailIn.result) (sym (ap (acts w) c.in-FailIn.is)) (c.act_at-in-FailIn.ensures w h steady)
+    subst (λ a. ComesAfter a c.act_at-in-FailIn.new.self c.act_at-in-FailIn.result) (sym (ap (acts w) c.in-FailIn.is)) (c.act_at-in-FailIn.ensures w h steady)
 
 pub returns-in_ok-reply-in-Look : goal.returns-in_ok-reply-in-Look
 unfolding acts
@@ -94,7 +94,7 @@ returns-in_ok-reply-in-Look c time w h steady may =
     let new : Run = record { sessions = old.sessions; shards = old.shards; output = c.note_look.new.self; time = old.time } in
     let v = c.in-Look in
     let shown = c.in_ok-reply-in-Look.ensures.shown w.config w.shards h.shards in
-    subst (λ a. Comes a new c.note_look.result) (sym (ap (acts w) v.is ∙ looks w v.shard v.key v.at ∙ ap (look_noted w v.key v.at) (sym shown)))
+    subst (λ a. ComesAfter a new c.note_look.result) (sym (ap (acts w) v.is ∙ looks w v.shard v.key v.at ∙ ap (look_noted w v.key v.at) (sym shown)))
     (look_comes w old new h v.key v.at c.in_ok-reply-in-Look.reply c.note_look.result c.note_look.ensures refl refl refl)
 
 pub returns-in_ok-reply-in-View : goal.returns-in_ok-reply-in-View
@@ -104,6 +104,6 @@ returns-in_ok-reply-in-View c time w h steady may =
     let new : Run = record { sessions = old.sessions; shards = old.shards; output = c.note_look-in-View.new.self; time = old.time } in
     let v = c.in-View in
     let shown = c.in_ok-reply-in-View.ensures.shown w.config w.shards h.shards in
-    subst (λ a. Comes a new c.note_look-in-View.result) (sym (ap (acts w) v.is ∙ looks_back w v.shard v.number v.key v.at
+    subst (λ a. ComesAfter a new c.note_look-in-View.result) (sym (ap (acts w) v.is ∙ looks_back w v.shard v.number v.key v.at
     ∙ ap (look_noted w v.key v.at) (sym shown)))
     (look_comes w old new h v.key v.at c.in_ok-reply-in-View.reply c.note_look-in-View.result c.note_look-in-View.ensures refl refl refl)

@@ -2,12 +2,12 @@ use Rattle.std.proofs.Common.{◌≡◌, ◌∷◌, ◌++◌, ◌-◌, [], lengt
 use Rattle.std.proofs.lemmas.List.{append-nil}
 use Rattle.shard.specs.Core.{seen}
 use Rattle.world.specs.World.{makes_view}
-use Rattle.lives.specs.Shows.{Notes, begins_at, view_now}
+use Rattle.lives.specs.Shows.{NotesOfLife, begins_at, view_now}
 use Rattle.lives.specs.declared.run_shard.RunShard.{RunShard}
 use Rattle.lives.proofs.run_shard.RunShard.note.Goals as goal
 
 pub returns-in_default-clause-noted : goal.returns-in_default-clause-noted
-returns-in_default-clause-noted c = subst (Notes c.args.doing.now c.args.self.now c.args.self.now) (sym c.in_default.is) tt
+returns-in_default-clause-noted c = subst (NotesOfLife c.args.doing.now c.args.self.now c.args.self.now) (sym c.in_default.is) tt
 
 pub returns-in_ok-push-clause-noted : goal.returns-in_ok-push-clause-noted
 returns-in_ok-push-clause-noted c =
@@ -15,7 +15,7 @@ returns-in_ok-push-clause-noted c =
     let from = c.begins_at-from.result in
     let new : RunShard = record { setup = old.setup; life = old.life; installs = c.push_copies.new.installs; from = from; views = c.push.new.self } in
     let made = view_now from (seen c.in-Up.core) in
-    subst (Notes c.args.doing.now old new) (sym c.in-Up.is) (record {
+    subst (NotesOfLife c.args.doing.now old new) (sym c.in-Up.is) (record {
       setup = refl;
       life = refl;
       from = c.begins_at-from.ensures ∙ ap (begins_at c.args.doing.now old.from) (omega (arith, c.len.ensures, old.installs.ok.0));
@@ -32,7 +32,7 @@ returns-else-makes_view-clause-noted c =
     let from = c.begins_at-from.result in
     let new : RunShard = record { setup = old.setup; life = old.life; installs = c.push_copies.new.installs; from = from; views = old.views } in
     let made = view_now from (seen c.in-Up.core) in
-    subst (Notes c.args.doing.now old new) (sym c.in-Up.is) (record {
+    subst (NotesOfLife c.args.doing.now old new) (sym c.in-Up.is) (record {
       setup = refl;
       life = refl;
       from = c.begins_at-from.ensures ∙ ap (begins_at c.args.doing.now old.from) (omega (arith, c.len.ensures, old.installs.ok.0));

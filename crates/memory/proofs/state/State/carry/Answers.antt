@@ -1,23 +1,21 @@
-use Rattle.std.proofs.Common.{◌≡◌, ◌≤◌, ◌∙◌, List, Option, sym, ap, subst}
+use Rattle.std.proofs.Common.{◌≡◌, ◌≤◌, ◌∙◌, List, sym, ap, subst}
 use Rattle.units.specs.Ids.{Id}
 use Rattle.units.specs.declared.lock.Lock.{Lock}
-use Rattle.record.specs.declared.record.Record.{Record}
 use Rattle.safetime.specs.Safe.{Times}
 use Rattle.protocol.specs.Rows.{Memory, without_rows}
 use Rattle.protocol.specs.Plan.{carried, after_change, ended_by, with_ids}
-use Rattle.memory.specs.Carry.{IsDated}
 use Rattle.memory.specs.Kept.{Kept}
-use Rattle.memory.specs.Plans.{change_of, plan_of}
+use Rattle.memory.specs.Plans.{change_of, plan_of, logging}
 use Rattle.memory.proofs.Logged.{dated, carried_is, raised_to}
 use Rattle.memory.proofs.state.State.carry.Goals as goal
 
 pub make_change-item-requires-clause-dated : goal.make_change-item-requires-clause-dated
 make_change-item-requires-clause-dated c =
-    subst IsDated (sym c.requires.logged) (dated c.args.self.now.setup.shard c.args.self.now.facts c.args.plan.logged c.requires.ready.follows)
+    dated c.args.self.now.setup.shard c.args.self.now.facts c.args.logged c.requires.ready.follows
 
 pub returns-clause-memory : goal.returns-clause-memory
 returns-clause-memory c =
-    let p = c.args.plan in
+    let p = logging c.args.logged c.args.plan in
     let m : Memory = record { last = c.self.inside.times.last; rows = c.self.inside.rows.rows; ended = c.self.inside.ended.ids } in
     let next : Memory = record {
       last = c.make_change-item.new.times.last;
@@ -32,11 +30,9 @@ returns-clause-memory c =
     let rows : next.rows ≡ after_change (change_of m.rows p.needs.items p.logged p.change) (without_rows m.rows p.wounded) =
     c.make_change-item.ensures.rows
     ∙ ap (λ (ts : List Id). after_change (change_of m.rows needs c.args.logged p.change) (without_rows m.rows ts)) c.as_slice.ensures
-    ∙ ap (λ (ls : List Lock). after_change (change_of m.rows ls c.args.logged p.change) (without_rows m.rows p.wounded)) c.deref.ensures.value
-    ∙ ap (λ (l : Option Record). after_change (change_of m.rows p.needs.items l p.change) (without_rows m.rows p.wounded)) c.requires.logged in
+    ∙ ap (λ (ls : List Lock). after_change (change_of m.rows ls c.args.logged p.change) (without_rows m.rows p.wounded)) c.deref.ensures.value in
     let ended : next.ended ≡ ended_by (change_of m.rows p.needs.items p.logged p.change) (with_ids m.ended p.wounded) =
     c.make_change-item.ensures.ended
     ∙ ap (λ (ts : List Id). ended_by (change_of m.rows needs c.args.logged p.change) (with_ids m.ended ts)) c.as_slice.ensures
-    ∙ ap (λ (ls : List Lock). ended_by (change_of m.rows ls c.args.logged p.change) (with_ids m.ended p.wounded)) c.deref.ensures.value
-    ∙ ap (λ (l : Option Record). ended_by (change_of m.rows p.needs.items l p.change) (with_ids m.ended p.wounded)) c.requires.logged in
+    ∙ ap (λ (ls : List Lock). ended_by (change_of m.rows ls c.args.logged p.change) (with_ids m.ended p.wounded)) c.deref.ensures.value in
     subst (λ (k : Kept). next ≡ carried (plan_of k.memory.rows p) k.memory) c.self.view_is (carried_is m next p last rows ended)

@@ -22,8 +22,8 @@ invariant_of-result g c = record {
   showable = as-showable c.in-Ok.state.facts _ c.in-Ok.state.memory _ c.in-Ok.ensures.facts c.in-Ok.ensures.empty c.fresh_is_showable.ensures;
 }
 
-pub returns-clause-refused : goal.returns-clause-refused
-returns-clause-refused g c =
+pub returns-in-Err-append_record-clause-refused : goal.returns-in-Err-append_record-clause-refused
+returns-in-Err-append_record-clause-refused g c =
     let before = records_in (surface (g.D.Disk.file (disk_of c.args.gate_log))).seen in
     let gate = gate_at c.args.gate_log in
     let fault = c.in-Err-append_record.fault in

@@ -1,4 +1,4 @@
-use Rattle.std.proofs.Common.{◌∙◌, Option, Some, sym, ap}
+use Rattle.std.proofs.Common.{◌≡◌, ◌∙◌, Option, Some, None, sym, ap}
 use Rattle.record.specs.Facts.{Facts}
 use Rattle.record.specs.declared.record.Record.{Record}
 use Rattle.protocol.specs.Plan.{carried}
@@ -11,56 +11,73 @@ use Rattle.shard.proofs.Showable.{as-showable}
 use Rattle.shard.proofs.Results.{served_as, logged_as}
 use Rattle.shard.proofs.machine.Machine.carry_out.Goals as goal
 
-pub carry-requires-clause-ready : goal.carry-requires-clause-ready
-carry-requires-clause-ready g c =
-    can_carry c.args.self.now.state c.make_ready.new.self c.args.plan c.requires.due c.in-Ok.ensures.ready c.ready_plans_can_be_carried.ensures.carriable
-    c.in-Ok.ready.writes c.in-Ok.ensures.writes
+pub carry-requires : goal.carry-requires
+carry-requires g c =
+    record {
+      ready = can_carry c.args.self.now.state c.make_ready.new.self c.args.plan None (sym c.take.ensures.value ∙ c.in_default.is) c.requires.due
+          c.in-Ok.ensures.ready c.ready_plans_can_be_carried.ensures.carriable c.in-Ok.ready.writes c.in-Ok.ensures.writes;
+    }
 
-pub carry-requires-in-Ok-append_record-clause-ready : goal.carry-requires-in-Ok-append_record-clause-ready
-carry-requires-in-Ok-append_record-clause-ready g c =
-    can_carry c.args.self.now.state c.make_ready.new.self c.args.plan c.requires.due c.in-Ok.ensures.ready c.ready_plans_can_be_carried.ensures.carriable
-    c.in-Ok.ready.writes c.in-Ok.ensures.writes
+pub carry-requires-in-Ok-append_record : goal.carry-requires-in-Ok-append_record
+carry-requires-in-Ok-append_record g c =
+    let logged = c.in-Ok-append_record.logged in
+    let own : c.args.plan.logged ≡ Some logged = sym c.take.ensures.value ∙ c.in-Some.is ∙ ap (λ (r : Record). Some r) (sym c.in-Ok-append_record.ensures.item)
+    in
+    record {
+      ready = can_carry c.args.self.now.state c.make_ready.new.self c.args.plan (Some logged) own c.requires.due c.in-Ok.ensures.ready
+          c.ready_plans_can_be_carried.ensures.carriable c.in-Ok.ready.writes c.in-Ok.ensures.writes;
+    }
 
 pub invariant_of-self-in_default : goal.invariant_of-self-in_default
 invariant_of-self-in_default g c =
     let k = c.args.self.now.state in
-    let facts = facts_then k c.make_ready.new.self c.args.plan c.requires.due c.in-Ok.ensures.ready c.carry.new.self.facts c.carry.ensures.facts in
-    let memory = memory_after k c.make_ready.new.self c.args.plan c.requires.due c.in-Ok.ensures.ready c.ready_plans_can_be_carried.ensures.unseen
+    let ready = c.make_ready.new.self in
+    let p = c.args.plan in
+    let none : p.logged ≡ None = sym c.take.ensures.value ∙ c.in_default.is in
+    let facts = facts_then k ready p None none c.requires.due c.in-Ok.ensures.ready c.carry.new.self.facts c.carry.ensures.facts in
+    let memory = memory_after k ready p None none c.requires.due c.in-Ok.ensures.ready c.ready_plans_can_be_carried.ensures.unseen
     c.carry.new.self.memory c.carry.ensures.memory in
     record {
       agrees = λ running keeps.
           c.args.self.now.agrees running keeps
-          ∙ ap (λ (l : Option Record). Some (facts_after k.facts l)) (sym c.in_default.is) ∙ ap (λ (f : Facts). Some f) (sym facts);
-      sound = sound_then k c.make_ready.new.self c.args.plan c.requires.due c.in-Ok.ensures.ready _ _ _
-          (c.carry.ensures.setup ∙ c.in-Ok.ensures.ready.setup) facts memory;
+          ∙ ap (λ (l : Option Record). Some (facts_after k.facts l)) (sym none) ∙ ap (λ (f : Facts). Some f) (sym facts);
+      sound = sound_then k ready p None none c.requires.due c.in-Ok.ensures.ready _ _ _ (c.carry.ensures.setup ∙ c.in-Ok.ensures.ready.setup) facts memory;
       showable = as-showable c.carry.new.self.facts _ c.carry.new.self.memory _ facts memory c.requires.due.showable;
     }
 
 pub returns-in_default : goal.returns-in_default
 returns-in_default g c =
     let k = c.args.self.now.state in
-    let facts = facts_then k c.make_ready.new.self c.args.plan c.requires.due c.in-Ok.ensures.ready c.carry.new.self.facts c.carry.ensures.facts in
-    let memory = memory_after k c.make_ready.new.self c.args.plan c.requires.due c.in-Ok.ensures.ready c.ready_plans_can_be_carried.ensures.unseen
+    let ready = c.make_ready.new.self in
+    let p = c.args.plan in
+    let none : p.logged ≡ None = sym c.take.ensures.value ∙ c.in_default.is in
+    let facts = facts_then k ready p None none c.requires.due c.in-Ok.ensures.ready c.carry.new.self.facts c.carry.ensures.facts in
+    let memory = memory_after k ready p None none c.requires.due c.in-Ok.ensures.ready c.ready_plans_can_be_carried.ensures.unseen
     c.carry.new.self.memory c.carry.ensures.memory in
-    let after = carried (plan_of k.memory.rows c.args.plan) k.memory in
+    let after = carried (plan_of k.memory.rows p) k.memory in
     served_as g.D.Disk.keeps_model g.D.Disk.obeys g.D.Disk.file g.D.Disk.clock g.D.Disk.since g.D.Disk.failures g.D.Disk.plan g.met.D.Disk.only_now
     (seen_machine c.args.self.now) c.requires.running c.requires.stands c.carry.new.self.setup c.carry.new.self.facts c.carry.new.self.memory
-    c.args.plan.logged after c.args.plan.outbox _ c.in_default.is c.carry.ensures.outbox
-    (c.carry.ensures.setup ∙ c.in-Ok.ensures.ready.setup) (facts ∙ ap (facts_after k.facts) c.in_default.is) memory
+    p.logged after p.outbox _ none c.carry.ensures.outbox
+    (c.carry.ensures.setup ∙ c.in-Ok.ensures.ready.setup) (facts ∙ ap (facts_after k.facts) none) memory
 
 pub invariant_of-self-in-Ok-append_record : goal.invariant_of-self-in-Ok-append_record
 invariant_of-self-in-Ok-append_record g c =
     let k = c.args.self.now.state in
+    let ready = c.make_ready.new.self in
+    let p = c.args.plan in
     let after = c.carry-in-Ok-append_record in
-    let facts = facts_then k c.make_ready.new.self c.args.plan c.requires.due c.in-Ok.ensures.ready after.new.self.facts after.ensures.facts in
-    let memory = memory_after k c.make_ready.new.self c.args.plan c.requires.due c.in-Ok.ensures.ready c.ready_plans_can_be_carried.ensures.unseen
+    let logged = c.in-Ok-append_record.logged in
+    let item : p.logged ≡ Some c.in-Some.item = sym c.take.ensures.value ∙ c.in-Some.is in
+    let own : p.logged ≡ Some logged = item ∙ ap (λ (r : Record). Some r) (sym c.in-Ok-append_record.ensures.item) in
+    let facts = facts_then k ready p (Some logged) own c.requires.due c.in-Ok.ensures.ready after.new.self.facts after.ensures.facts in
+    let memory = memory_after k ready p (Some logged) own c.requires.due c.in-Ok.ensures.ready c.ready_plans_can_be_carried.ensures.unseen
     after.new.self.memory after.ensures.memory in
     record {
       agrees = λ running keeps.
           ap facts_logged (c.in-Ok-append_record.ensures.read keeps)
           ∙ facts-logged _ k.facts c.in-Some.item (c.args.self.now.agrees c.requires.running keeps)
-          ∙ ap (λ (l : Option Record). Some (facts_after k.facts l)) (sym c.in-Some.is) ∙ ap (λ (f : Facts). Some f) (sym facts);
-      sound = sound_then k c.make_ready.new.self c.args.plan c.requires.due c.in-Ok.ensures.ready _ _ _
+          ∙ ap (λ (l : Option Record). Some (facts_after k.facts l)) (sym item) ∙ ap (λ (f : Facts). Some f) (sym facts);
+      sound = sound_then k ready p (Some logged) own c.requires.due c.in-Ok.ensures.ready _ _ _
           (after.ensures.setup ∙ c.in-Ok.ensures.ready.setup) facts memory;
       showable = as-showable after.new.self.facts _ after.new.self.memory _ facts memory c.requires.due.showable;
     }
@@ -68,14 +85,19 @@ invariant_of-self-in-Ok-append_record g c =
 pub returns-in-Ok-append_record : goal.returns-in-Ok-append_record
 returns-in-Ok-append_record g c =
     let k = c.args.self.now.state in
+    let ready = c.make_ready.new.self in
+    let p = c.args.plan in
     let done = c.carry-in-Ok-append_record in
     let a = c.in-Ok-append_record.ensures in
-    let facts = facts_then k c.make_ready.new.self c.args.plan c.requires.due c.in-Ok.ensures.ready done.new.self.facts done.ensures.facts in
-    let memory = memory_after k c.make_ready.new.self c.args.plan c.requires.due c.in-Ok.ensures.ready c.ready_plans_can_be_carried.ensures.unseen
+    let logged = c.in-Ok-append_record.logged in
+    let item : p.logged ≡ Some c.in-Some.item = sym c.take.ensures.value ∙ c.in-Some.is in
+    let own : p.logged ≡ Some logged = item ∙ ap (λ (r : Record). Some r) (sym a.item) in
+    let facts = facts_then k ready p (Some logged) own c.requires.due c.in-Ok.ensures.ready done.new.self.facts done.ensures.facts in
+    let memory = memory_after k ready p (Some logged) own c.requires.due c.in-Ok.ensures.ready c.ready_plans_can_be_carried.ensures.unseen
     done.new.self.memory done.ensures.memory in
-    let after = carried (plan_of k.memory.rows c.args.plan) k.memory in
+    let after = carried (plan_of k.memory.rows p) k.memory in
     logged_as g.D.Disk.keeps_model g.D.Disk.obeys g.D.Disk.file g.D.Disk.clock g.D.Disk.since g.D.Disk.failures g.D.Disk.plan g.met.D.Disk.only_now
-    (seen_machine c.args.self.now) c.requires.running c.requires.stands _ c.in-Some.item c.args.plan.logged after c.args.plan.outbox _ c.in-Some.is
+    (seen_machine c.args.self.now) c.requires.running c.requires.stands _ c.in-Some.item p.logged after p.outbox _ item
     done.ensures.outbox
-    (done.ensures.setup ∙ c.in-Ok.ensures.ready.setup) (facts ∙ ap (facts_after k.facts) c.in-Some.is) memory a.running.1 a.failures_stay
+    (done.ensures.setup ∙ c.in-Ok.ensures.ready.setup) (facts ∙ ap (facts_after k.facts) item) memory a.running.1 a.failures_stay
     a.any_moment a.durable a.read a.gate a.place (λ obey never. (a.planned obey never).0) (λ call run obey keep is. (a.armed call run obey keep is).0)

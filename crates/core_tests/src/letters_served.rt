@@ -1,0 +1,130 @@
+//! A node that is served by the letters of its inbox.
+use crate::letters_given::read;
+use crate::nodes::{fresh_node, reading};
+use crossbeam_channel::{Receiver, Sender, unbounded};
+use message::{Address, Answer, Envelope, Message};
+use node::{Gate, Letter, Post};
+use std::alloc::Global;
+use std::sync::Wait;
+use std::time;
+use truetime::{Clock, Reading};
+use units::{ShardNo, TxnId};
+
+/// Its reading is [100,110], always.
+#[derive(Drop)]
+pub struct Standing;
+
+impl Clock for Standing {
+    fn now(&mut self) -> Option<Reading> {
+        reading(100, 110)
+    }
+}
+
+// Keeps what is posted, in order.
+#[derive(Drop)]
+struct Kept {
+    envelopes: Vec<Envelope>,
+}
+
+impl Post for Kept {
+    fn post(&mut self, envelope: Envelope) {
+        // What finds no memory is missed at the end.
+        drop(self.envelopes.push(envelope));
+    }
+}
+
+// Does nothing.
+struct Open;
+
+impl Gate for Open {
+    fn before(&self, _shard: ShardNo, _n: u64) {}
+
+    fn after(&self, _shard: ShardNo, _n: u64) {}
+}
+
+fn is_sent<R: Wait>(rt: &R, to: &Sender<Letter>, letter: Letter) -> bool {
+    to.send(rt, letter).is_ok()
+}
+
+// Sends reads of a key, of 1.1 and on, and then the end.
+fn is_filled<R: Wait>(rt: &R, to: &Sender<Letter>, key: u8, letters: u16) -> bool {
+    for before in 0..letters {
+        if !is_sent(rt, to, Letter::Carry(read(before + 1, key))) {
+            return false;
+        }
+    }
+    is_sent(rt, to, Letter::Close)
+}
+
+/// An inbox with so many reads of a key of one letter, of 1.1 and on, and then the end.
+pub fn inbox<R: Wait>(rt: &R, alloc: Global, key: u8, letters: u16) -> Option<Receiver<Letter>> {
+    let (to, from) = unbounded(alloc).ok()?;
+    let filled = is_filled(rt, &to, key, letters);
+    if filled { Some(from) } else { None }
+}
+
+// What a node of shard 1 posts while it is served from an inbox.
+fn posted<R: Wait + time::Clock>(
+    rt: &R,
+    alloc: Global,
+    inbox: &Receiver<Letter>,
+) -> Option<Vec<Envelope>> {
+    let (node, _viewer) = fresh_node(rt, alloc, 1)?;
+    let mut post = Kept {
+        envelopes: Vec::new(alloc),
+    };
+    node.serve(rt, inbox, &mut post, &mut Standing, &Open);
+    drop(node.close());
+    Some(post.envelopes)
+}
+
+fn is_of(txn: TxnId, number: u16) -> bool {
+    txn.run() == 1 && txn.number() == u64::from(number)
+}
+
+// Whether it goes to the session of 1.number.
+fn is_to(to: Address, number: u16) -> bool {
+    match to {
+        Address::Session(txn) => is_of(txn, number),
+        Address::Shard(_) => false,
+    }
+}
+
+// Whether it says of 1.number that shard 1 holds no `z`, in its first epoch.
+fn is_told(message: &Message, number: u16) -> bool {
+    match message {
+        Message::ReadAnswer(told) => is_of(told.txn, number)
+            && told.from.number() == 1
+            && told.key.as_bytes() == b"z".as_slice()
+            && told.epoch.number() == 1
+            && matches!(told.answer, Answer::Holds(None)),
+        _ => false,
+    }
+}
+
+// Whether these answer so many reads, in order.
+fn are_answers(envelopes: &[Envelope], letters: u16) -> bool {
+    for before in 0..letters {
+        match envelopes.get(usize::from(before)) {
+            Some(envelope) => {
+                if !is_to(envelope.to, before + 1) || !is_told(&envelope.message, before + 1) {
+                    return false;
+                }
+            }
+            None => return false,
+        }
+    }
+    envelopes.len() == usize::from(letters)
+}
+
+fn answers<R: Wait + time::Clock>(rt: &R, alloc: Global, letters: u16) -> Option<bool> {
+    let inbox = inbox(rt, alloc, b'z', letters)?;
+    let envelopes = posted(rt, alloc, &inbox)?;
+    Some(are_answers(envelopes.as_slice(), letters))
+}
+
+// It fails where serving loses letters or answers.
+#[test]
+fn lose_letters(rt: HostRuntime) {
+    assert_eq!(rt; answers(&rt, rt.alloc(), 100), Some(true));
+}

@@ -1,0 +1,35 @@
+//! Tests that cross crates: shards, desks and nodes on disks in memory.
+#![tactic(auto)]
+
+#[cfg(test)]
+mod answers;
+#[cfg(test)]
+mod booked;
+#[cfg(test)]
+mod coordinating;
+#[cfg(test)]
+mod desks;
+#[cfg(test)]
+mod given;
+#[cfg(test)]
+mod letters_given;
+#[cfg(test)]
+mod letters_served;
+#[cfg(test)]
+mod logs;
+#[cfg(test)]
+mod meetings;
+#[cfg(test)]
+mod nodes;
+#[cfg(test)]
+mod one_commit;
+#[cfg(test)]
+mod promising;
+#[cfg(test)]
+mod reopening;
+#[cfg(test)]
+mod restarts;
+#[cfg(test)]
+mod served;
+#[cfg(test)]
+mod stories;

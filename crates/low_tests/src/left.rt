@@ -1,0 +1,255 @@
+//! Logs that are opened again: what they leave, and which are refused.
+use crate::files::{entries_in, log_of, put};
+use crate::lines::{Line, promise};
+use gatelog::{Entry, GateLog};
+use made::{key, shard};
+use memory::State;
+use recovery::rebuild;
+use simdisk::SimDisk;
+use std::alloc::Global;
+use units::{Book, Fault, Key, Setup, Splits, Stamp, Stride, TxnId};
+
+// A shard of two, which are split at `m`.
+fn setup(alloc: Global, number: u8) -> Option<Setup> {
+    let stride = Stride::new(0)?;
+    let Ok(splits) = Splits::new(alloc, &[key(b'm')]) else {
+        return None;
+    };
+    Some(Setup {
+        shard: shard(number),
+        splits,
+        stride,
+        book: Book::Off,
+    })
+}
+
+// What a log leaves: the first that is prepared and the first that is decided, each by its number and timestamp (0 where there
+// is none), the greatest timestamp, the safe time, the epoch, and how many versions there are.
+#[derive(Clone, Copy, PartialEq, Eq)]
+struct Shown {
+    prepared: (u64, u64),
+    decided: (u64, u64),
+    last: u64,
+    safe: u64,
+    epoch: u64,
+    installs: usize,
+}
+
+const NOTHING: Shown = Shown {
+    prepared: (0, 0),
+    decided: (0, 0),
+    last: 0,
+    safe: 0,
+    epoch: 1,
+    installs: 0,
+};
+
+fn standing(found: Option<(TxnId, Stamp)>) -> (u64, u64) {
+    match found {
+        Some((txn, at)) => (txn.number(), at.micros()),
+        None => (0, 0),
+    }
+}
+
+fn seen(state: &State) -> Shown {
+    Shown {
+        prepared: standing(state.nth_prepared(0)),
+        decided: standing(state.nth_decided(0)),
+        last: state.last().micros(),
+        safe: state.safe().micros(),
+        epoch: state.epoch().number(),
+        installs: state.installs().len(),
+    }
+}
+
+type Rebuilt = Result<Option<Shown>, Fault>;
+
+// What these entries leave of a shard, or why they are refused.
+fn left(alloc: Global, number: u8, entries: &[Entry]) -> Rebuilt {
+    let setup = setup(alloc, number).ok_or(Fault::Memory)?;
+    match rebuild(alloc, entries, &setup) {
+        Ok(Some(state)) => {
+            let left = seen(&state);
+            state.stop();
+            Ok(Some(left))
+        }
+        Ok(None) => Ok(None),
+        Err(fault) => Err(fault),
+    }
+}
+
+// The log of a shard, and what it leaves.
+#[derive(Clone, Copy)]
+struct Reopened {
+    what: &'static str,
+    shard: u8,
+    lines: &'static [Line],
+    left: Rebuilt,
+}
+
+static REOPENED: [Reopened; 11] = [
+    Reopened {
+        what: "a promise stands",
+        shard: 1,
+        lines: &[
+            Line::Opened(1),
+            Line::Prepare(2, 200, b'z', 0),
+            Line::Opened(2),
+        ],
+        left: Ok(Some(Shown {
+            prepared: (2, 200),
+            last: 200,
+            safe: 199,
+            epoch: 2,
+            ..NOTHING
+        })),
+    },
+    Reopened {
+        what: "a decision stands until its outcome",
+        shard: 0,
+        lines: &[Line::Opened(1), Line::Commit(1, 111, b'a', 1)],
+        left: Ok(Some(Shown {
+            decided: (1, 111),
+            last: 111,
+            safe: 110,
+            ..NOTHING
+        })),
+    },
+    Reopened {
+        what: "a decision has its outcome",
+        shard: 0,
+        lines: &[
+            Line::Opened(1),
+            Line::Commit(1, 111, b'a', 1),
+            Line::Committed(1, 111),
+        ],
+        left: Ok(Some(Shown {
+            last: 111,
+            safe: 111,
+            installs: 1,
+            ..NOTHING
+        })),
+    },
+    Reopened {
+        what: "a ceiling is the last timestamp",
+        shard: 1,
+        lines: &[Line::Opened(1), Line::Ceiling(200)],
+        left: Ok(Some(Shown {
+            last: 200,
+            safe: 200,
+            ..NOTHING
+        })),
+    },
+    Reopened {
+        what: "no record",
+        shard: 1,
+        lines: &[],
+        left: Ok(None),
+    },
+    Reopened {
+        what: "another epoch than the first",
+        shard: 1,
+        lines: &[Line::Opened(2)],
+        left: Err(Fault::Damaged { offset: 8 }),
+    },
+    Reopened {
+        what: "a promise before any opening",
+        shard: 1,
+        lines: &[Line::Prepare(2, 200, b'z', 0)],
+        left: Err(Fault::Damaged { offset: 8 }),
+    },
+    Reopened {
+        what: "a strange key before any opening",
+        shard: 1,
+        lines: &[Line::Prepare(2, 200, b'a', 0)],
+        left: Err(Fault::Stranger),
+    },
+    Reopened {
+        what: "a strange key before damage",
+        shard: 1,
+        lines: &[
+            Line::Opened(1),
+            Line::Prepare(2, 200, b'a', 0),
+            Line::Opened(9),
+        ],
+        left: Err(Fault::Stranger),
+    },
+    Reopened {
+        what: "another holds the key",
+        shard: 1,
+        lines: &[
+            Line::Opened(1),
+            Line::Prepare(2, 200, b'z', 0),
+            Line::Prepare(3, 300, b'z', 0),
+        ],
+        left: Err(Fault::Damaged { offset: 63 }),
+    },
+    Reopened {
+        what: "a version of the key is not below it",
+        shard: 0,
+        lines: &[
+            Line::Opened(1),
+            Line::Commit(1, 111, b'a', 1),
+            Line::Committed(1, 111),
+            Line::Commit(2, 111, b'a', 1),
+        ],
+        left: Err(Fault::Damaged { offset: 95 }),
+    },
+];
+
+fn what_is_left(alloc: Global, row: &Reopened) -> Rebuilt {
+    let log = log_of(alloc, row.lines).ok_or(Fault::Memory)?;
+    let entries = entries_in(alloc, log.into_disk()).ok_or(Fault::Memory)?;
+    left(alloc, row.shard, &entries)
+}
+
+#[test]
+fn logs_that_are_opened_again(rt: HostRuntime) {
+    for row in &REOPENED {
+        assert!(rt; what_is_left(rt.alloc(), row) == row.left, "{}", row.what);
+    }
+}
+
+// 1.number promises at 200 to write a key of its own of three bytes.
+fn put_promise(alloc: Global, log: &mut GateLog<SimDisk>, number: u16) -> bool {
+    let Ok(key) = Key::new(&[b'z', (number / 256) as u8, (number % 256) as u8]) else {
+        return false;
+    };
+    match promise(alloc, number, 200, key, 0) {
+        Some(item) => put(alloc, log, item),
+        None => false,
+    }
+}
+
+// The entries of a log with so many promises.
+fn crowd(alloc: Global, count: u16) -> Option<Vec<Entry>> {
+    let mut log = log_of(alloc, &[Line::Opened(1)])?;
+    for number in 0..count {
+        if !put_promise(alloc, &mut log, number) {
+            return None;
+        }
+    }
+    entries_in(alloc, log.into_disk())
+}
+
+fn crowded(alloc: Global, count: u16) -> Rebuilt {
+    let entries = crowd(alloc, count).ok_or(Fault::Memory)?;
+    left(alloc, 1, &entries)
+}
+
+// 1,024 rows may stand, and no more.
+static FULL: Rebuilt = Ok(Some(Shown {
+    prepared: (0, 200),
+    last: 200,
+    safe: 199,
+    ..NOTHING
+}));
+
+// Each frame has 43 bytes; the first stands behind that of the opening, at 22.
+static TOO_MANY: Rebuilt = Err(Fault::Damaged { offset: 44_054 });
+
+#[test]
+fn a_full_table(rt: HostRuntime) {
+    assert!(rt; crowded(rt.alloc(), 1024) == FULL);
+    assert!(rt; crowded(rt.alloc(), 1025) == TOO_MANY);
+}

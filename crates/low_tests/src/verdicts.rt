@@ -1,0 +1,223 @@
+//! Verdicts on logs and lines.
+use crate::text_logs::log_of;
+use inspector::inspect;
+use record::Record;
+use std::alloc::Global;
+use std::test::Fail;
+use texts::{Text, lines};
+
+struct Case {
+    name: &'static str,
+    logs: &'static [&'static str],
+    lines: &'static str,
+    verdict: &'static str,
+}
+
+// A commit at shard 0, and a shard without records.
+const ONE_SHARD: &[&str] = &[
+    "opened 1\ncommit 1.1 111 0 - a=1\noutcome 1.1 committed 111\n",
+    "opened 1\n",
+];
+
+// A commit of two shards.
+const TWO_SHARDS: &[&str] = &[
+    "opened 1\ncommit 1.2 200 0,1 - a=1\noutcome 1.2 committed 200\n",
+    "opened 1\nprepare 1.2 0 200 - z=2\noutcome 1.2 committed 200\n",
+];
+
+// Two commits, the later of which has the smaller timestamp.
+const TURNED: &[&str] = &[
+    "opened 1\ncommit 1.1 111 0 - a=1\n",
+    "opened 1\ncommit 1.2 105 1 - z=2\n",
+];
+
+// Three versions of a key, one of which is an erasure, out of order.
+const VERSIONS: &[&str] = &[
+    "opened 1\ncommit 1.3 30 0 - a=3\ncommit 1.1 10 0 - a=1,b=1\ncommit 1.2 20 0 - a!\n",
+];
+
+static CASES: [Case; 24] = [
+    Case {
+        name: "a whole report",
+        logs: ONE_SHARD,
+        lines: "begin 1.1 0\nack 1.1 111 5\n",
+        verdict: "yes",
+    },
+    Case {
+        name: "a look sees none",
+        logs: ONE_SHARD,
+        lines: "look a 111 none\n",
+        verdict: "no read 0",
+    },
+    Case {
+        name: "a look before",
+        logs: ONE_SHARD,
+        lines: "look a 110 none\nlook a 111 =1\n",
+        verdict: "yes",
+    },
+    Case {
+        name: "another timestamp",
+        logs: ONE_SHARD,
+        lines: "ack 1.1 110 5\n",
+        verdict: "no lost 1.1",
+    },
+    Case {
+        name: "the least lost",
+        logs: ONE_SHARD,
+        lines: "ack 1.3 5 5\nack 1.2 5 6\n",
+        verdict: "no lost 1.2",
+    },
+    Case {
+        name: "a read of its own id",
+        logs: ONE_SHARD,
+        lines: "read 1.1 a none\n",
+        verdict: "yes",
+    },
+    Case {
+        name: "a read without commit",
+        logs: ONE_SHARD,
+        lines: "look a 111 =1\nread 1.2 a none\n",
+        verdict: "no read 1",
+    },
+    Case {
+        name: "two shards",
+        logs: TWO_SHARDS,
+        lines: "begin 1.2 0\nack 1.2 200 7\nlook z 199 none\nlook z 200 =2\n",
+        verdict: "yes",
+    },
+    Case {
+        name: "turned",
+        logs: TURNED,
+        lines: "ack 1.1 111 5\nbegin 1.2 9\n",
+        verdict: "no order 1 0",
+    },
+    Case {
+        name: "at one moment",
+        logs: TURNED,
+        lines: "ack 1.1 111 9\nbegin 1.2 9\n",
+        verdict: "yes",
+    },
+    Case {
+        name: "in order",
+        logs: TURNED,
+        lines: "ack 1.2 105 5\nbegin 1.1 9\n",
+        verdict: "yes",
+    },
+    Case {
+        name: "begun again",
+        logs: TURNED,
+        lines: "begin 1.2 4\nack 1.2 105 5\nack 1.1 111 6\nbegin 1.9 9\nbegin 1.2 9\n",
+        verdict: "no order 4 1",
+    },
+    Case {
+        name: "no promise",
+        logs: &["opened 1\ncommit 1.2 200 0,1 - a=1\n", "opened 1\n"],
+        lines: "ack 1.9 5 5\n",
+        verdict: "no torn 1.2",
+    },
+    Case {
+        name: "two decisions",
+        logs: &["opened 1\ncommit 1.2 200 0 - a=1\ncommit 1.2 200 0 - a=1\n"],
+        lines: "",
+        verdict: "no torn 1.2",
+    },
+    Case {
+        name: "not the least part",
+        logs: &[
+            "opened 1\nprepare 1.2 0 200 - -\n",
+            "opened 1\ncommit 1.2 200 0,1 - a=1\n",
+        ],
+        lines: "",
+        verdict: "no torn 1.2",
+    },
+    Case {
+        name: "an outcome without commit",
+        logs: &["opened 1\noutcome 1.7 committed 5\noutcome 1.6 committed 5\n"],
+        lines: "",
+        verdict: "no torn 1.6",
+    },
+    Case {
+        name: "aborted and committed",
+        logs: &[
+            "opened 1\ncommit 1.2 200 0,1 - a=1\n",
+            "opened 1\nprepare 1.2 0 200 - z=2\noutcome 1.2 aborted\n",
+        ],
+        lines: "",
+        verdict: "no torn 1.2",
+    },
+    Case {
+        name: "promised above",
+        logs: &[
+            "opened 1\ncommit 1.2 200 0,1 - a=1\n",
+            "opened 1\nprepare 1.2 0 201 - z=2\n",
+        ],
+        lines: "",
+        verdict: "no torn 1.2",
+    },
+    Case {
+        name: "a part without log",
+        logs: &["opened 1\ncommit 1.2 200 0,1 - a=1\n"],
+        lines: "",
+        verdict: "no torn 1.2",
+    },
+    Case {
+        name: "an abort alone",
+        logs: &[
+            "opened 1\nabort 1.2\n",
+            "opened 1\nprepare 1.2 0 200 - z=2\n",
+        ],
+        lines: "",
+        verdict: "yes",
+    },
+    Case {
+        name: "versions in turn",
+        logs: VERSIONS,
+        lines: "look a 9 none\nlook a 19 =1\nlook a 29 none\nlook a 30 =3\nlook b 99 =1\n",
+        verdict: "yes",
+    },
+    Case {
+        name: "an old value",
+        logs: VERSIONS,
+        lines: "look a 25 =1\n",
+        verdict: "no read 0",
+    },
+    Case {
+        name: "reads before",
+        logs: VERSIONS,
+        lines: "read 1.1 a none\nread 1.2 a =1\nread 1.3 a none\n",
+        verdict: "yes",
+    },
+    Case {
+        name: "an old value is read",
+        logs: VERSIONS,
+        lines: "read 1.2 a =1\nread 1.3 a =1\n",
+        verdict: "no read 1",
+    },
+];
+
+// The logs of all shards.
+fn logs_of(alloc: Global, texts: &[&str]) -> Result<Vec<Vec<Record>>, Fail> {
+    let mut logs = Vec::new(alloc);
+    for text in texts {
+        logs.push(log_of(alloc, text)?)?;
+    }
+    Ok(logs)
+}
+
+// The verdict on a case, behind its name.
+fn verdict_on(alloc: Global, case: &Case) -> Result<String, Fail> {
+    let logs = logs_of(alloc, case.logs)?;
+    let lines = lines(alloc, case.lines)?;
+    let verdict = inspect(alloc, &logs, &lines)?;
+    Ok(format!(in alloc; "{}: {}", case.name, Text(&verdict))?)
+}
+
+#[test]
+fn verdicts_are_given(rt: HostRuntime) -> Result<(), Fail> {
+    let alloc = rt.alloc();
+    for case in &CASES {
+        let wanted = format!(in alloc; "{}: {}", case.name, case.verdict)?;
+        assert_eq!(rt; verdict_on(alloc, case)?.as_str(), wanted.as_str());
+    }
+    Ok(())
+}
