@@ -6,3 +6,4 @@ pub mod Places
 pub mod AtOnce
 pub mod Pieces
 pub mod Heads
+pub mod Spots

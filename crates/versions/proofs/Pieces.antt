@@ -6,26 +6,27 @@ use Rattle.std.proofs.lemmas.List.{length-set}
 use Rattle.std.proofs.lemmas.List.{append_assoc, length-append, get_or_append_left, get_or-append_right, set-append_left, set-append_right}
 use Rattle.std.proofs.lemmas.Bool.Decides.{nat_tests}
 use Rattle.std.proofs.lemmas.List.Edits.{insert-append_left, insert-append_right}
+use Rattle.versions.specs.declared.chunk.Spot.{Spot}
 use Rattle.versions.specs.Pieces.{joined, IsFilled, IsLaid}
 
 -- a piece before one that holds anything at such a place is full
-full_before : (p rest : List ℕ) → IsFilled p rest → 8192 ≤ length (p ++ rest) → length p ≡ 8192
-full_before p rest is le = by_test (nat_lt (length p) 8192) refl
+full_before : (p rest : List Spot) → IsFilled p rest → 4096 ≤ length (p ++ rest) → length p ≡ 4096
+full_before p rest is le = by_test (nat_lt (length p) 4096) refl
   where
-    by_test : (b : Bool) → nat_lt (length p) 8192 ≡ b → length p ≡ 8192
-    by_test true e = let less : length p < 8192 = grind (arith, nat_tests) in let none = is.full less in absurd (omega (arith, length-append p rest, none))
-    by_test false e = let more : 8192 ≤ length p = grind (arith, nat_tests) in omega (arith, more, is.few)
+    by_test : (b : Bool) → nat_lt (length p) 4096 ≡ b → length p ≡ 4096
+    by_test true e = let less : length p < 4096 = grind (arith, nat_tests) in let none = is.full less in absurd (omega (arith, length-append p rest, none))
+    by_test false e = let more : 4096 ≤ length p = grind (arith, nat_tests) in omega (arith, more, is.few)
 
--- a place below 8,192 is in the first piece
-in_first : (p rest : List ℕ) (j : ℕ) → IsFilled p rest → j < 8192 → j < length (p ++ rest) → j < length p
-in_first p rest j is less lt = by_test (nat_lt (length p) 8192) refl
+-- a place below 4,096 is in the first piece
+in_first : (p rest : List Spot) (j : ℕ) → IsFilled p rest → j < 4096 → j < length (p ++ rest) → j < length p
+in_first p rest j is less lt = by_test (nat_lt (length p) 4096) refl
   where
-    by_test : (b : Bool) → nat_lt (length p) 8192 ≡ b → j < length p
-    by_test true e = let short : length p < 8192 = grind (arith, nat_tests) in let none = is.full short in omega (arith, length-append p rest, none)
-    by_test false e = let more : 8192 ≤ length p = grind (arith, nat_tests) in omega (arith, more)
+    by_test : (b : Bool) → nat_lt (length p) 4096 ≡ b → j < length p
+    by_test true e = let short : length p < 4096 = grind (arith, nat_tests) in let none = is.full short in omega (arith, length-append p rest, none)
+    by_test false e = let more : 4096 ≤ length p = grind (arith, nat_tests) in omega (arith, more)
 
 -- the piece of a place holds it
-pub piece_there : (ps : List (List ℕ)) (i j : ℕ) → IsLaid ps → j < 8192 → i * 8192 + j < length (joined ps) → i < length ps
+pub piece_there : (ps : List (List Spot)) (i j : ℕ) → IsLaid ps → j < 4096 → i * 4096 + j < length (joined ps) → i < length ps
 piece_there [] i j laid less lt = absurd (omega (arith, lt))
 piece_there (p ∷ ps) zero j laid less lt = omega arith
 piece_there (p ∷ ps) (suc i) j laid less lt =
@@ -33,7 +34,7 @@ piece_there (p ∷ ps) (suc i) j laid less lt =
     let rest : i < length ps = piece_there ps i j laid.1 less (omega (arith, lt, full, length-append p (joined ps))) in
     omega (arith, rest)
 
-pub place_there : (ps : List (List ℕ)) (i j : ℕ) (e : List ℕ) → IsLaid ps → j < 8192 → i * 8192 + j < length (joined ps) → j < length (get_or ps i e)
+pub place_there : (ps : List (List Spot)) (i j : ℕ) (e : List Spot) → IsLaid ps → j < 4096 → i * 4096 + j < length (joined ps) → j < length (get_or ps i e)
 place_there [] i j e laid less lt = absurd (omega (arith, lt))
 place_there (p ∷ ps) zero j e laid less lt = in_first p (joined ps) j laid.0 less (omega (arith, lt))
 place_there (p ∷ ps) (suc i) j e laid less lt =
@@ -41,75 +42,75 @@ place_there (p ∷ ps) (suc i) j e laid less lt =
     place_there ps i j e laid.1 less (omega (arith, lt, full, length-append p (joined ps)))
 
 -- what stands at a place stands in its piece
-pub get_there : (ps : List (List ℕ)) (i j : ℕ) (e : List ℕ) (d : ℕ) → IsLaid ps → j < 8192 → i * 8192 + j < length (joined ps)
-    → get_or (joined ps) (i * 8192 + j) d ≡ get_or (get_or ps i e) j d
+pub get_there : (ps : List (List Spot)) (i j : ℕ) (e : List Spot) (d : Spot) → IsLaid ps → j < 4096 → i * 4096 + j < length (joined ps)
+    → get_or (joined ps) (i * 4096 + j) d ≡ get_or (get_or ps i e) j d
 get_there [] i j e d laid less lt = absurd (omega (arith, lt))
 get_there (p ∷ ps) zero j e d laid less lt =
-    let none : 0 * 8192 + j ≡ j = omega arith in
+    let none : 0 * 4096 + j ≡ j = omega arith in
     ap (λ n. get_or (p ++ joined ps) n d) none
     ∙ get_or_append_left p (joined ps) d j (in_first p (joined ps) j laid.0 less (omega (arith, lt)))
 get_there (p ∷ ps) (suc i) j e d laid less lt =
     let full = full_before p (joined ps) laid.0 (omega (arith, lt)) in
-    let at : suc i * 8192 + j - 8192 ≡ i * 8192 + j = omega arith in
-    get_or-append_right p (joined ps) 8192 (suc i * 8192 + j) d full (omega arith)
+    let at : suc i * 4096 + j - 4096 ≡ i * 4096 + j = omega arith in
+    get_or-append_right p (joined ps) 4096 (suc i * 4096 + j) d full (omega arith)
     ∙ ap (λ n. get_or (joined ps) n d) at
     ∙ get_there ps i j e d laid.1 less (omega (arith, lt, full, length-append p (joined ps)))
 
 -- one more that goes behind a full piece
-pub insert_behind : (p rest more : List ℕ) (at place : ℕ) → IsFilled p rest → 8192 ≤ at → at ≤ length (p ++ rest) → more ≡ insert rest (at - 8192) place
-    → p ++ more ≡ insert (p ++ rest) at place
-insert_behind p old new at place is le lt made =
+pub insert_behind : (p rest more : List Spot) (at : ℕ) (spot : Spot) → IsFilled p rest → 4096 ≤ at → at ≤ length (p ++ rest) → more ≡ insert rest (at - 4096) spot
+    → p ++ more ≡ insert (p ++ rest) at spot
+insert_behind p old new at spot is le lt made =
     let full = full_before p old is (omega (arith, lt)) in
-    ap (λ l. p ++ l) made ∙ sym (insert-append_right p old 8192 at place full le)
+    ap (λ l. p ++ l) made ∙ sym (insert-append_right p old 4096 at spot full le)
 
 -- one more in a piece that is not full
-pub insert_here : (p rest : List ℕ) (at place : ℕ) → IsFilled p rest → length p < 8192 → at ≤ length (p ++ rest)
-    → insert p at place ++ rest ≡ insert (p ++ rest) at place
-insert_here p rest at place is less lt = sym (insert-append_left p rest at place (omega (arith, length-append p rest, is.full less)))
+pub insert_here : (p rest : List Spot) (at : ℕ) (spot : Spot) → IsFilled p rest → length p < 4096 → at ≤ length (p ++ rest)
+    → insert p at spot ++ rest ≡ insert (p ++ rest) at spot
+insert_here p rest at spot is less lt = sym (insert-append_left p rest at spot (omega (arith, length-append p rest, is.full less)))
 
 -- one more in a full piece, which passes its last one on
-pub insert_passed : (p q rest new : List ℕ) (last at place : ℕ) → at < length p → q ++ last ∷ [] ≡ insert p at place → new ≡ insert rest 0 last
-    → q ++ new ≡ insert (p ++ rest) at place
-insert_passed p q rest new last at place lt is made =
-    ap (λ l. q ++ l) made ∙ sym (append_assoc q (last ∷ []) rest) ∙ ap (λ l. l ++ rest) is ∙ sym (insert-append_left p rest at place (omega arith))
+pub insert_passed : (p q rest new : List Spot) (last : Spot) (at : ℕ) (spot : Spot) → at < length p → q ++ last ∷ [] ≡ insert p at spot → new ≡ insert rest 0 last
+    → q ++ new ≡ insert (p ++ rest) at spot
+insert_passed p q rest new last at spot lt is made =
+    ap (λ l. q ++ l) made ∙ sym (append_assoc q (last ∷ []) rest) ∙ ap (λ l. l ++ rest) is ∙ sym (insert-append_left p rest at spot (omega arith))
 
 -- an empty piece more
-pub joined_more : (ps : List (List ℕ)) → joined (ps ++ [] ∷ []) ≡ joined ps
+pub joined_more : (ps : List (List Spot)) → joined (ps ++ [] ∷ []) ≡ joined ps
 joined_more [] = refl
 joined_more (p ∷ ps) = ap (λ l. p ++ l) (joined_more ps)
 
-pub laid_more : (ps : List (List ℕ)) → IsLaid ps → IsLaid (ps ++ [] ∷ [])
+pub laid_more : (ps : List (List Spot)) → IsLaid ps → IsLaid (ps ++ [] ∷ [])
 laid_more [] laid = (record { few = omega arith; full = λ less. refl }, tt)
 laid_more (p ∷ ps) laid = (record { few = laid.0.few; full = λ less. ap length (joined_more ps) ∙ laid.0.full less }, laid_more ps laid.1)
 
 -- one written over
-pub set_there : (ps : List (List ℕ)) (i j : ℕ) (e : List ℕ) (x : ℕ) → IsLaid ps → j < 8192 → i * 8192 + j < length (joined ps)
-    → joined (set ps i (set (get_or ps i e) j x)) ≡ set (joined ps) (i * 8192 + j) x
+pub set_there : (ps : List (List Spot)) (i j : ℕ) (e : List Spot) (x : Spot) → IsLaid ps → j < 4096 → i * 4096 + j < length (joined ps)
+    → joined (set ps i (set (get_or ps i e) j x)) ≡ set (joined ps) (i * 4096 + j) x
 set_there [] i j e x laid less lt = absurd (omega (arith, lt))
 set_there (p ∷ ps) zero j e x laid less lt =
-    let none : j ≡ 0 * 8192 + j = omega arith in
+    let none : j ≡ 0 * 4096 + j = omega arith in
     sym (set-append_left p (joined ps) j x (in_first p (joined ps) j laid.0 less (omega (arith, lt)))) ∙ ap (λ n. set (p ++ joined ps) n x) none
 set_there (p ∷ ps) (suc i) j e x laid less lt =
     let full = full_before p (joined ps) laid.0 (omega (arith, lt)) in
-    let at : i * 8192 + j ≡ suc i * 8192 + j - 8192 = omega arith in
+    let at : i * 4096 + j ≡ suc i * 4096 + j - 4096 = omega arith in
     ap (λ l. p ++ l) (set_there ps i j e x laid.1 less (omega (arith, lt, full, length-append p (joined ps)))
     ∙ ap (λ n. set (joined ps) n x) at)
-    ∙ sym (set-append_right p (joined ps) 8192 (suc i * 8192 + j) x full (omega arith))
+    ∙ sym (set-append_right p (joined ps) 4096 (suc i * 4096 + j) x full (omega arith))
 
-still_filled : (p q rest more : List ℕ) → length q ≡ length p → length more ≡ length rest → IsFilled p rest → IsFilled q more
+still_filled : (p q rest more : List Spot) → length q ≡ length p → length more ≡ length rest → IsFilled p rest → IsFilled q more
 still_filled p q rest more same still is = record {
   few = omega (arith, same, is.few);
   full = λ less. still ∙ is.full (omega (arith, same, less));
 }
 
-pub laid_set : (ps : List (List ℕ)) (i j : ℕ) (e : List ℕ) (x : ℕ) → IsLaid ps → j < 8192 → i * 8192 + j < length (joined ps)
+pub laid_set : (ps : List (List Spot)) (i j : ℕ) (e : List Spot) (x : Spot) → IsLaid ps → j < 4096 → i * 4096 + j < length (joined ps)
     → IsLaid (set ps i (set (get_or ps i e) j x))
 laid_set [] i j e x laid less lt = absurd (omega (arith, lt))
 laid_set (p ∷ ps) zero j e x laid less lt = (still_filled p (set p j x) (joined ps) (joined ps) (length-set p j x) refl laid.0, laid.1)
 laid_set (p ∷ ps) (suc i) j e x laid less lt =
     let full = full_before p (joined ps) laid.0 (omega (arith, lt)) in
-    let rest : i * 8192 + j < length (joined ps) = omega (arith, lt, full, length-append p (joined ps)) in
-    let same = ap length (set_there ps i j e x laid.1 less rest) ∙ length-set (joined ps) (i * 8192 + j) x in (
+    let rest : i * 4096 + j < length (joined ps) = omega (arith, lt, full, length-append p (joined ps)) in
+    let same = ap length (set_there ps i j e x laid.1 less rest) ∙ length-set (joined ps) (i * 4096 + j) x in (
       still_filled p p (joined ps) (joined (set ps i (set (get_or ps i e) j x))) refl same laid.0,
       laid_set ps i j e x laid.1 less rest,
     )

@@ -1,4 +1,4 @@
-//! A piece of a long list of numbers.
+//! A piece of a long list of places, each with the head of its key.
 ghost use Rattle.std.specs.Prelude.{◌≡◌, ◌<◌, ◌≤◌, ◌++◌, ◌∷◌, [], length, IfOk, IfErr, slice_index_or, slice_set};
 ghost use Rattle.std.specs.List.{insert};
 
@@ -7,82 +7,90 @@ use std::collections::VecDeque;
 use std::marker::Model;
 use units::Fault;
 
-/// How many numbers a piece holds at most.
-pub const PIECE: usize = 8192;
+/// How many places a piece holds at most.
+pub const PIECE: usize = 4096;
 
-/// At most 8,192 numbers in order, with the space for all of them.
+/// A place, and the head of the key there: a search reads little else.
+#[derive(Clone, Copy)]
+pub struct Spot {
+    pub place: usize,
+    pub head: u64,
+}
+
+/// At most 4,096 places in order, with the space for all of them.
 #[derive(Drop)]
 pub struct Piece {
-    numbers: VecDeque<u64>,
+    spots: VecDeque<Spot>,
 }
 
 impl Model for Piece {
-    ghost use Rattle.std.specs.Prelude.{ℕ, List, ◌≤◌};
+    ghost use Rattle.std.specs.Prelude.{List, ◌≤◌};
     ghost use Rattle.std.specs.VecDeque.{deque_len, deque_capacity};
+    ghost use Rattle.versions.specs.declared.chunk.Spot.{Spot};
 
-    ghost Value = { List ℕ };
+    ghost Value = { List Spot };
 
-    ghost view = { λ p. p.numbers.items };
+    ghost view = { λ p. p.spots.items };
 
-    ghost invariant = { λ p. (8192 ≤ deque_capacity p.numbers) × (deque_len p.numbers ≤ 8192) };
+    ghost invariant = { λ p. (4096 ≤ deque_capacity p.spots) × (deque_len p.spots ≤ 4096) };
 }
 
 impl Piece {
-    /// A piece without numbers.
+    /// A piece without places.
     pub fn new(alloc: Global) -> Result<Piece, Fault>
         ensures none { IfOk result (λ piece. piece ≡ []) }
         ensures memory { IfErr result (λ fault. fault ≡ Fault.Memory) }
     {
-        let numbers = VecDeque::with_capacity(alloc, PIECE)?;
-        Ok(Piece { numbers })
+        let spots = VecDeque::with_capacity(alloc, PIECE)?;
+        Ok(Piece { spots })
     }
 
-    /// How many numbers it holds.
+    /// How many places it holds.
     pub fn len(&self) -> usize
         ensures same { result ≡ length self.now }
-        ensures most { result ≤ 8192 }
+        ensures most { result ≤ 4096 }
     {
-        self.numbers.len()
+        self.spots.len()
     }
 
-    /// One of its numbers.
-    pub fn get(&self, at: usize) -> u64
+    /// One of its places.
+    pub fn get(&self, at: usize) -> Spot
         requires { at < length self.now }
         ensures { result ≡ slice_index_or self.now at result }
     {
-        self.numbers[at]
+        self.spots[at]
     }
 
-    /// Writes over one of its numbers.
-    pub fn set(&mut self, at: usize, number: u64)
+    /// Writes over one of its places.
+    pub fn set(&mut self, at: usize, spot: Spot)
         requires { at < length self.old }
-        ensures { self.new ≡ slice_set self.old at number }
+        ensures { self.new ≡ slice_set self.old at spot }
     {
-        self.numbers[at] = number;
+        self.spots[at] = spot;
     }
 
-    /// Puts a number into a piece that is not full. It takes no memory.
-    pub fn insert(&mut self, at: usize, number: u64)
+    /// Puts a place into a piece that is not full. It takes no memory.
+    pub fn insert(&mut self, at: usize, spot: Spot)
         requires at { at ≤ length self.old }
-        requires room { length self.old < 8192 }
-        ensures { self.new ≡ insert self.old at number }
+        requires room { length self.old < 4096 }
+        ensures { self.new ≡ insert self.old at spot }
     {
-        match self.numbers.insert(at, number) {
+        match self.spots.insert(at, spot) {
             Ok(()) => {}
             Err(_) => unreachable!(),
         }
     }
 
-    /// Puts a number into a full piece, whose last one is handed out. It takes no memory.
-    pub fn pass(&mut self, at: usize, number: u64) -> u64
+    /// Puts a place into a full piece, whose last one is handed out. It takes no memory.
+    pub fn pass(&mut self, at: usize, spot: Spot) -> Spot
         requires at { at < length self.old }
-        requires full { 8192 ≤ length self.old }
-        ensures { self.new ++ result ∷ [] ≡ insert self.old at number }
+        requires full { 4096 ≤ length self.old }
+        ensures { self.new ++ result ∷ [] ≡ insert self.old at spot }
     {
-        let Some(last) = self.numbers.pop_back() else {
+        let Some(last) = self.spots.pop_back() else {
             unreachable!()
         };
-        self.insert(at, number);
+        self.insert(at, spot);
         last
     }
 }

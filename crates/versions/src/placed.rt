@@ -4,6 +4,7 @@ ghost use Rattle.std.specs.List.{insert};
 ghost use Rattle.units.specs.Keys.{same_key};
 ghost use Rattle.versions.specs.Heads.{AreBytes, head, prefix_of};
 
+use crate::chunk::Spot;
 use crate::head::{head, prefix_bytes};
 use crate::sequence::Sequence;
 use std::alloc::Global;
@@ -13,28 +14,24 @@ use units::{Fault, Key};
 /// Places in order, beside each the head of its key, and the room for more.
 #[derive(Drop)]
 pub struct Places {
-    places: Sequence,
-    // Apart from the places, so that a search reads little else.
-    heads: Sequence,
+    spots: Sequence,
     // What heads are behind: none where that is empty.
     prefix: Option<Key>,
 }
 
 impl Model for Places {
-    ghost use Rattle.std.specs.Prelude.{◌≡◌, length, min};
+    ghost use Rattle.std.specs.Prelude.{map};
     ghost use Rattle.versions.specs.Headed.{Headed};
     ghost use Rattle.versions.specs.Heads.{prefix_of};
 
     ghost Value = { Headed };
 
     ghost view = { λ p. record {
-      places = p.places.numbers;
-      heads = p.heads.numbers;
+      places = map (λ s. s.place) p.spots.spots;
+      heads = map (λ s. s.head) p.spots.spots;
       prefix = prefix_of p.prefix;
-      room = min p.places.room p.heads.room;
+      room = p.spots.room;
     } };
-
-    ghost invariant = { λ p. length p.heads.numbers ≡ length p.places.numbers };
 }
 
 impl Places {
@@ -44,8 +41,7 @@ impl Places {
         ensures heads { result.heads ≡ [] }
     {
         Places {
-            places: Sequence::none(alloc),
-            heads: Sequence::none(alloc),
+            spots: Sequence::none(alloc),
             prefix: None,
         }
     }
@@ -54,7 +50,7 @@ impl Places {
     pub fn len(&self) -> usize
         ensures { result ≡ length self.now.places }
     {
-        self.places.len()
+        self.spots.len()
     }
 
     /// One of the places.
@@ -62,7 +58,7 @@ impl Places {
         requires { at < length self.now.places }
         ensures { result ≡ slice_index_or self.now.places at 0 }
     {
-        self.places.get(at) as usize
+        self.spots.get(at).place
     }
 
     /// The head beside a place.
@@ -70,7 +66,7 @@ impl Places {
         requires { at < length self.now.places }
         ensures { result ≡ slice_index_or self.now.heads at 0 }
     {
-        self.heads.get(at)
+        self.spots.get(at).head
     }
 
     /// The head that a key has beside these places.
@@ -91,8 +87,7 @@ impl Places {
         ensures memory { IfErr result (λ fault. fault ≡ Fault.Memory) }
         ensures succeeds { more ≤ self.old.room → IsOk result }
     {
-        self.places.reserve(more)?;
-        self.heads.reserve(more)
+        self.spots.reserve(more)
     }
 
     /// Puts in a place with its head. It takes no memory.
@@ -104,8 +99,7 @@ impl Places {
         ensures prefix { self.new.prefix ≡ self.old.prefix }
         ensures room { self.new.room + 1 ≡ self.old.room }
     {
-        self.places.insert(at, place as u64);
-        self.heads.insert(at, head);
+        self.spots.insert(at, Spot { place, head });
     }
 
     /// Heads are behind this prefix.
@@ -133,7 +127,8 @@ impl Places {
         ensures prefix { self.new.prefix ≡ self.old.prefix }
         ensures room { self.new.room ≡ self.old.room }
     {
-        self.heads.set(at, head);
+        let place = self.get(at);
+        self.spots.set(at, Spot { place, head });
     }
 }
 

@@ -1,17 +1,17 @@
-//! A long list of numbers in pieces, so that one more moves few of them.
+//! A long list of places, each with its head, in pieces, so that one more moves few of them.
 ghost use Rattle.std.specs.Prelude.{◌≡◌, ◌+◌, ◌*◌, ◌<◌, ◌≤◌, [], length, IsOk, IfErr, OnOk, OnErr, slice_index_or, slice_set};
 ghost use Rattle.std.specs.List.{insert};
 ghost use Rattle.versions.specs.Pieces.{joined, IsLaid};
 
-use crate::chunk::{PIECE, Piece};
+use crate::chunk::{PIECE, Piece, Spot};
 use std::alloc::Global;
 use std::marker::Model;
 use units::Fault;
 
-/// Numbers in order, beside the room for more. One more moves those of its piece, and one from each later piece to the next.
+/// Places in order, beside the room for more. One more moves those of its piece, and one from each later piece to the next.
 #[derive(Drop)]
 pub struct Sequence {
-    // Each is full where a later one holds a number.
+    // Each is full where a later one holds a place.
     pieces: Vec<Piece>,
     len: usize,
     // For how many there is space.
@@ -24,16 +24,16 @@ impl Model for Sequence {
 
     ghost Value = { Laid };
 
-    ghost view = { λ p. record { numbers = joined p.pieces.items; room = p.space - p.len } };
+    ghost view = { λ p. record { spots = joined p.pieces.items; room = p.space - p.len } };
 
     ghost invariant = { λ p. IsLaid p.pieces.items × (p.len ≡ length (joined p.pieces.items))
-        × (p.space ≡ 8192 * length p.pieces.items) × (p.len ≤ p.space) };
+        × (p.space ≡ 4096 * length p.pieces.items) × (p.len ≤ p.space) };
 }
 
 impl Sequence {
-    /// No number, and no room.
+    /// No place, and no room.
     pub fn none(alloc: Global) -> Sequence
-        ensures { result.numbers ≡ [] }
+        ensures { result.spots ≡ [] }
     {
         Sequence {
             pieces: Vec::new(alloc),
@@ -44,15 +44,15 @@ impl Sequence {
 
     /// How many there are.
     pub fn len(&self) -> usize
-        ensures { result ≡ length self.now.numbers }
+        ensures { result ≡ length self.now.spots }
     {
         self.len
     }
 
-    /// One of the numbers.
-    pub fn get(&self, at: usize) -> u64
-        requires { at < length self.now.numbers }
-        ensures { result ≡ slice_index_or self.now.numbers at 0 }
+    /// One of the places.
+    pub fn get(&self, at: usize) -> Spot
+        requires { at < length self.now.spots }
+        ensures { result ≡ slice_index_or self.now.spots at result }
     {
         get(&self.pieces, at)
     }
@@ -60,7 +60,7 @@ impl Sequence {
     /// Makes room for so many more.
     pub fn reserve(&mut self, more: usize) -> Result<(), Fault>
         ensures room { OnOk result (more ≤ self.new.room) }
-        ensures numbers { self.new.numbers ≡ self.old.numbers }
+        ensures spots { self.new.spots ≡ self.old.spots }
         ensures keeps { self.old.room ≤ self.new.room }
         ensures memory { IfErr result (λ fault. fault ≡ Fault.Memory) }
         ensures succeeds { more ≤ self.old.room → IsOk result }
@@ -76,8 +76,8 @@ impl Sequence {
 
     // Adds a piece.
     fn grow(&mut self) -> Result<(), Fault>
-        ensures room { OnOk result (self.new.room ≡ self.old.room + 8192) }
-        ensures numbers { self.new.numbers ≡ self.old.numbers }
+        ensures room { OnOk result (self.new.room ≡ self.old.room + 4096) }
+        ensures spots { self.new.spots ≡ self.old.spots }
         ensures err { OnErr result (self.new ≡ self.old) }
         ensures memory { IfErr result (λ fault. fault ≡ Fault.Memory) }
     {
@@ -90,53 +90,53 @@ impl Sequence {
         Ok(())
     }
 
-    /// Writes over one of the numbers.
-    pub fn set(&mut self, at: usize, number: u64)
-        requires { at < length self.old.numbers }
-        ensures numbers { self.new.numbers ≡ slice_set self.old.numbers at number }
+    /// Writes over one of the places.
+    pub fn set(&mut self, at: usize, spot: Spot)
+        requires { at < length self.old.spots }
+        ensures spots { self.new.spots ≡ slice_set self.old.spots at spot }
         ensures room { self.new.room ≡ self.old.room }
     {
-        set(&mut self.pieces, at, number);
+        set(&mut self.pieces, at, spot);
     }
 
-    /// Puts in a number. It takes no memory.
-    pub fn insert(&mut self, at: usize, number: u64)
-        requires at { at ≤ length self.old.numbers }
+    /// Puts in a place. It takes no memory.
+    pub fn insert(&mut self, at: usize, spot: Spot)
+        requires at { at ≤ length self.old.spots }
         requires room { 0 < self.old.room }
-        ensures numbers { self.new.numbers ≡ insert self.old.numbers at number }
+        ensures spots { self.new.spots ≡ insert self.old.spots at spot }
         ensures room { self.new.room + 1 ≡ self.old.room }
     {
-        insert(&mut self.pieces, at, number);
+        insert(&mut self.pieces, at, spot);
         self.len += 1;
     }
 }
 
-// The number that stands there.
-fn get(pieces: &[Piece], at: usize) -> u64
+// The place that stands there.
+fn get(pieces: &[Piece], at: usize) -> Spot
     requires laid { IsLaid pieces.now }
     requires within { at < length (joined pieces.now) }
-    ensures { result ≡ slice_index_or (joined pieces.now) at 0 }
+    ensures { result ≡ slice_index_or (joined pieces.now) at result }
 {
     pieces[at / PIECE].get(at % PIECE)
 }
 
-// Writes over the number that stands there.
-fn set(pieces: &mut [Piece], at: usize, number: u64)
+// Writes over the place that stands there.
+fn set(pieces: &mut [Piece], at: usize, spot: Spot)
     requires laid { IsLaid pieces.old }
     requires within { at < length (joined pieces.old) }
-    ensures numbers { joined pieces.new ≡ slice_set (joined pieces.old) at number }
+    ensures spots { joined pieces.new ≡ slice_set (joined pieces.old) at spot }
     ensures laid { IsLaid pieces.new }
     ensures len { length pieces.new ≡ length pieces.old }
 {
-    pieces[at / PIECE].set(at % PIECE, number);
+    pieces[at / PIECE].set(at % PIECE, spot);
 }
 
-// Puts in a number; each full piece from there on hands its last one to the next.
-fn insert(pieces: &mut [Piece], at: usize, number: u64)
+// Puts in a place; each full piece from there on hands its last one to the next.
+fn insert(pieces: &mut [Piece], at: usize, spot: Spot)
     requires laid { IsLaid pieces.old }
     requires within { at ≤ length (joined pieces.old) }
-    requires room { length (joined pieces.old) < 8192 * length pieces.old }
-    ensures numbers { joined pieces.new ≡ insert (joined pieces.old) at number }
+    requires room { length (joined pieces.old) < 4096 * length pieces.old }
+    ensures spots { joined pieces.new ≡ insert (joined pieces.old) at spot }
     ensures laid { IsLaid pieces.new }
     ensures len { length pieces.new ≡ length pieces.old }
 {
@@ -144,11 +144,11 @@ fn insert(pieces: &mut [Piece], at: usize, number: u64)
         unreachable!()
     };
     if at >= PIECE {
-        insert(rest, at - PIECE, number)
+        insert(rest, at - PIECE, spot)
     } else if first.len() < PIECE {
-        first.insert(at, number)
+        first.insert(at, spot)
     } else {
-        let last = first.pass(at, number);
+        let last = first.pass(at, spot);
         insert(rest, 0, last)
     }
 }
