@@ -1,8 +1,9 @@
 //! Desks and nodes of fresh shards, with one viewer.
 use board::Viewer;
+use desk::Desk;
 use gatelog::GateLog;
 use made::{key, shard, stamp};
-use node::{Desk, Node};
+use node::Node;
 use shard::Core;
 use simdisk::SimDisk;
 use std::alloc::Global;

@@ -1,3 +1,2 @@
-pub mod InStep
 pub mod Restart
 pub mod Seen

@@ -1,20 +1,17 @@
 -- What lies under a node's lock, and what it is to open a stopped node's disk again.
-use Rattle.std.specs.Prelude.{◌≡◌, ◌⊎◌, ℕ, Bool, true, IsTrue, IsFalse, List, Option, Ok}
+use Rattle.std.specs.Prelude.{◌≡◌, ℕ, Bool, true, IsTrue, IsFalse, List}
 use Rattle.units.specs.declared.fault.Fault.{Fault}
-use Rattle.units.specs.declared.fault.Fault.TheVariants.{Memory as WantsMemory, BadRequest}
+use Rattle.units.specs.declared.fault.Fault.TheVariants.{BadRequest}
 use Rattle.units.specs.declared.fault.Reason.TheVariants.{Again}
 use Rattle.units.specs.declared.setup.Setup.{Setup}
 use Rattle.disk.specs.declared.plan.FailurePlan.{FailurePlan}
-use Rattle.disk.specs.File.{File, surface}
-use Rattle.record.specs.declared.record.Record.{Record}
-use Rattle.book.specs.Books.{BookView, new_book}
-use Rattle.shard.specs.Logs.{records_in}
-use Rattle.shard.specs.On.{CoreView}
+use Rattle.disk.specs.File.{File}
 use Rattle.shard.specs.Look.{safe_at}
-use Rattle.shard.specs.Opened.{HasOpened, HasNotOpened}
+use Rattle.shard.specs.Opened.{HasOpened}
 use Rattle.board.specs.Board.{first_entries}
 use Rattle.board.specs.Views.{Viewing}
-use Rattle.node.specs.InStep.{DeskView, IsNewBoard, AreOnBoard, IsNoDesk}
+use Rattle.desk.specs.InStep.{DeskView, IsNewBoard, AreOnBoard}
+use Rattle.desk.specs.Opening.{HasNoDesk, IsBegun}
 
 -- a desk, or the disk of a desk that was stopped
 pub data PlaceView (D : Type 0) : Type 0 where
@@ -32,27 +29,10 @@ is_at_rest (Resting disk) = true
 
 module _ {D : Type 0} (keeps obeys : Type 0) (file : D → File) (clock : D → ℕ) (since : D → ℕ → List ℕ → Type 0) (failures : D → ℕ)
     (plan : D → FailurePlan) where
-  -- the log of a disk was taken up, and the board refused
-  pub record HasNoBoard (disk : D) (setup : Setup) (n : ℕ) (fault : Fault) (back : D) : Type 0 where
-    pub core : CoreView D
-    pub opened : HasOpened keeps obeys file clock since failures plan disk setup core
-    pub disk_back : back ≡ core.disk
-    pub why : IsNoDesk n fault
-
-  -- why no desk was made of a disk, and what it gives back: memory for the setup, the opening, or the board was refused
-  abbrev pub HasNoDesk : D → Setup → ℕ → Fault → D → Type 0
-  HasNoDesk disk setup n fault back =
-      ((fault ≡ WantsMemory) × (back ≡ disk)) ⊎ (HasNotOpened keeps obeys file clock since failures plan disk setup fault back
-      ⊎ HasNoBoard disk setup n fault back)
-
-  -- the book of a core that took the log of a disk up: where it is to keep one, it has the records that were found, and no page
-  abbrev pub IsBegun : D → Setup → Option BookView → Type 0
-  IsBegun disk setup book = keeps → (records : List Record) → records_in (surface (file disk)).seen ≡ Ok records → book ≡ new_book setup.book records
-
   -- the log of a disk was taken up, and a new board shows the versions of its core and then its served time
   pub record HasReopened (disk : D) (setup : Setup) (n : ℕ) (desk : DeskView D) (views : List Viewing) : Type 0 where
     pub opened : HasOpened keeps obeys file clock since failures plan disk setup desk.core
-    pub book : IsBegun disk setup desk.book
+    pub book : IsBegun keeps obeys file clock since failures plan disk setup desk.book
     pub board : IsNewBoard desk.board (first_entries desk.core.facts.installs (safe_at desk.core))
     pub viewers : AreOnBoard n desk.board views
 
@@ -64,4 +44,4 @@ module _ {D : Type 0} (keeps obeys : Type 0) (file : D → File) (clock : D → 
   -- What was not stopped stays as it is, and the request is wrong. Else the disk is there alone, and may be opened again.
   abbrev pub HasNotRestarted : PlaceView D → PlaceView D → Setup → ℕ → Fault → Type 0
   HasNotRestarted old (Serving desk) setup n fault = IsFalse (is_at_rest old) × (Serving desk ≡ old) × (fault ≡ BadRequest Again)
-  HasNotRestarted old (Resting back) setup n fault = IsTrue (is_at_rest old) × HasNoDesk (disk_of_place old) setup n fault back
+  HasNotRestarted old (Resting back) setup n fault = IsTrue (is_at_rest old) × HasNoDesk keeps obeys file clock since failures plan (disk_of_place old) setup n fault back

@@ -1,8 +1,8 @@
 //! What lies under a node's lock: a desk, or the disk of one that was stopped.
 ghost use Rattle.std.specs.Prelude.{◌≡◌, IfOk, IfErr, IsSome};
 
-use crate::desk::Desk;
 use board::{Told, Viewer};
+use desk::Desk;
 use disk::Disk;
 use message::{Input, Outbox};
 use std::alloc::Global;

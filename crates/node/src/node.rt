@@ -1,11 +1,11 @@
 //! A desk under a lock.
 ghost use Rattle.std.specs.Prelude.{◌≡◌, length, IfOk, IfErr};
-ghost use Rattle.node.specs.InStep.{IsNoDesk};
+ghost use Rattle.desk.specs.InStep.{IsNoDesk};
 ghost use Rattle.shard.specs.Core.{seen, book_of};
 
-use crate::desk::{Desk, copied};
 use crate::held::Held;
 use board::{Told, Viewer};
+use desk::{Desk, copy_setup};
 use disk::Disk;
 use message::{Input, Outbox};
 use shard::Core;
@@ -41,7 +41,7 @@ impl<D: Disk + Drop, R: Wait + Drop> Node<D, R> {
             (λ refused. IsNoDesk n refused.0 × (seen refused.1 ≡ seen core)
             × (book_of refused.1 ≡ book_of core)) }
     {
-        let setup = match copied(alloc, core.setup()) {
+        let setup = match copy_setup(alloc, core.setup()) {
             Ok(setup) => setup,
             Err(fault) => return Err((fault, core)),
         };

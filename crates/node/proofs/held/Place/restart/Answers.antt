@@ -1,5 +1,5 @@
 use Rattle.std.proofs.Common.{rules, ◌≡◌, subst}
-use Rattle.node.specs.Restart.{HasNoDesk}
+use Rattle.desk.specs.Opening.{HasNoDesk}
 use Rattle.node.proofs.held.Place.restart.Goals as goal
 use Rattle.node.proofs.held.Place.restart.Goals.{in-Serving+else-not-is_stopped, in-Resting}
 

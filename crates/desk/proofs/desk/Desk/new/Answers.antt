@@ -2,9 +2,9 @@ use Rattle.std.proofs.Common.{◌∙◌, []}
 use Rattle.board.specs.Board.{first_entries, is_board}
 use Rattle.shard.specs.Core.{seen}
 use Rattle.shard.specs.Look.{safe_at}
-use Rattle.node.proofs.Follow.{entries_follow, opening_is_board}
-use Rattle.node.proofs.InStep.{opened_desk}
-use Rattle.node.proofs.desk.Desk.new.Goals as goal
+use Rattle.desk.proofs.Follow.{entries_follow, opening_is_board}
+use Rattle.desk.proofs.InStep.{opened_desk}
+use Rattle.desk.proofs.desk.Desk.new.Goals as goal
 
 pub start-requires : goal.start-requires
 start-requires g c =

@@ -12,7 +12,7 @@ use Rattle.board.specs.Board.{versions_on, safe_from, safe_on, is_past, is_risin
 use Rattle.board.proofs.Longer.{follows_install, follows_safe}
 use Rattle.serving.specs.Showable.{rises_by_key}
 use Rattle.serving.proofs.Rising.{Alike, alike_more, below, below_more, rise_parts}
-use Rattle.node.specs.InStep.{as_entries}
+use Rattle.desk.specs.InStep.{as_entries}
 
 -- the versions before some entries and those among them, the last first
 abbrev stacked : List Install → List BoardEntry → List Install

@@ -11,9 +11,9 @@ use Rattle.board.specs.Board.{versions_on, safe_on, is_board, first_entries}
 use Rattle.board.specs.Views.{Publishing, Published, PublishesAll}
 use Rattle.board.proofs.Longer.{front_is_board, versions_on-more, safe_from-install, safe_from-safe}
 use Rattle.serving.specs.Showable.{rises_by_key}
-use Rattle.node.proofs.Follow.{board_news, board_safe, opening_is_board, as_entries-more, versions_on-entries, safe_from-more_entries, take_drop}
-use Rattle.node.proofs.Follow.{entries_follow}
-use Rattle.node.specs.InStep.{InStep, as_entries}
+use Rattle.desk.proofs.Follow.{board_news, board_safe, opening_is_board, as_entries-more, versions_on-entries, safe_from-more_entries, take_drop}
+use Rattle.desk.proofs.Follow.{entries_follow}
+use Rattle.desk.specs.InStep.{InStep, as_entries}
 
 pub opened_in_step : (installs : List Install) (t : ℕ) → rises_by_key [] installs ≡ true → InStep installs t (length installs)
     (first_entries installs t ++ [])

@@ -1,9 +1,9 @@
-//! What lies under a node's lock: the core of a shard, and the publisher of its board.
+//! The core of a shard, and the publisher of its board.
 ghost use Rattle.std.specs.Prelude.{◌≡◌, ◌<◌, ◌+◌, length, IfOk, IfErr, OnOk};
 ghost use Rattle.std.specs.Option.{option_copied};
 ghost use Rattle.board.specs.Board.{first_entries};
-ghost use Rattle.node.specs.InStep.{IsInStep, IsNewBoard, AreOnBoard, IsNoDesk, StillShows, ShowsCore, HasAdvanced, HasNotAdvanced, HasTaken};
-ghost use Rattle.node.specs.Restart.{HasNoDesk, IsBegun};
+ghost use Rattle.desk.specs.InStep.{IsInStep, IsNewBoard, AreOnBoard, IsNoDesk, StillShows, ShowsCore, HasAdvanced, HasNotAdvanced, HasTaken};
+ghost use Rattle.desk.specs.Opening.{HasNoDesk, IsBegun};
 ghost use Rattle.book.specs.Books.{IsBookOf};
 ghost use Rattle.shard.specs.Booked.{stand_of};
 ghost use Rattle.shard.specs.Core.{seen, book_of};
@@ -45,7 +45,7 @@ impl<D: Disk + Drop, R: Wait + Drop> Drop for Desk<D, R> {
 }
 
 impl<D: Disk + Drop, R: Wait + Drop> Desk<D, R> {
-    ghost use Rattle.node.specs.Seen.{seen_desk};
+    ghost use Rattle.desk.specs.Seen.{seen_desk};
 
     /// A desk for a core, and so many viewers of its board, which shows the core's versions and served time.
     pub fn new(
@@ -110,7 +110,7 @@ impl<D: Disk + Drop, R: Wait + Drop> Desk<D, R> {
             (λ refused. HasNoDesk D.keeps_model D.obeys D.file D.clock D.since D.failures D.plan
             disk setup.now n refused.0 refused.1) }
     {
-        let told = match copied(alloc, setup) {
+        let told = match copy_setup(alloc, setup) {
             Ok(told) => told,
             Err(fault) => return Err((fault, disk)),
         };
@@ -179,7 +179,7 @@ impl<D: Disk + Drop, R: Wait + Drop> Desk<D, R> {
     }
 
     /// The core, to be read.
-    pub(crate) fn core(&self) -> &Core<D>
+    pub fn core(&self) -> &Core<D>
         ensures core { seen result.now ≡ (seen_desk self.now).core }
         ensures book { book_of result.now ≡ (seen_desk self.now).book }
     {
@@ -201,8 +201,8 @@ impl<D: Disk + Drop, R: Wait + Drop> Desk<D, R> {
     }
 }
 
-/// The same with memory of its own.
-pub(crate) fn copied(alloc: Global, setup: &Setup) -> Result<Setup, Fault>
+/// The same setup with memory of its own.
+pub fn copy_setup(alloc: Global, setup: &Setup) -> Result<Setup, Fault>
     ensures same { IfOk result (λ copied. copied ≡ setup.now) }
     ensures memory { IfErr result (λ fault. fault ≡ Fault.Memory) }
 {

@@ -3,7 +3,7 @@ use Rattle.units.specs.declared.setup.Setup.{Setup}
 use Rattle.shard.specs.Core.{seen}
 use Rattle.shard.specs.On.{CoreView}
 use Rattle.shard.specs.Opened.{HasOpened}
-use Rattle.node.proofs.desk.Desk.open.Goals as goal
+use Rattle.desk.proofs.desk.Desk.open.Goals as goal
 
 pub returns-in-Err-new-clause-refused : goal.returns-in-Err-new-clause-refused
 returns-in-Err-new-clause-refused g c = inr (inr (record {

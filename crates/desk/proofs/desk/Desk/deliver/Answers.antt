@@ -2,8 +2,8 @@ use Rattle.std.proofs.Common.{◌++◌}
 use Rattle.shard.specs.Core.{seen, book_of}
 use Rattle.shard.specs.On.{step_of}
 use Rattle.shard.proofs.Booked.{room-or-full, went}
-use Rattle.node.proofs.Kept.{kept_in_step}
-use Rattle.node.proofs.desk.Desk.deliver.Goals as goal
+use Rattle.desk.proofs.Kept.{kept_in_step}
+use Rattle.desk.proofs.desk.Desk.deliver.Goals as goal
 
 pub invariant_of-self : goal.invariant_of-self
 invariant_of-self g c =

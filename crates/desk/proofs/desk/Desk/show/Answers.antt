@@ -4,8 +4,8 @@ use Rattle.board.specs.declared.entry.BoardEntry.TheVariants.{Safe}
 use Rattle.board.specs.Views.{Publishing}
 use Rattle.shard.specs.Core.{seen}
 use Rattle.shard.specs.Look.{safe_at}
-use Rattle.node.proofs.InStep.{safe_lawful, published_in_step}
-use Rattle.node.proofs.desk.Desk.show.Goals as goal
+use Rattle.desk.proofs.InStep.{safe_lawful, published_in_step}
+use Rattle.desk.proofs.desk.Desk.show.Goals as goal
 
 pub safe-requires-2 : goal.safe-requires-2
 safe-requires-2 g c =

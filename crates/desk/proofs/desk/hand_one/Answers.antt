@@ -4,9 +4,9 @@ use Rattle.board.specs.declared.entry.BoardEntry.TheVariants.{Installed}
 use Rattle.board.specs.Views.{Publishing}
 use Rattle.shard.specs.Core.{seen}
 use Rattle.shard.specs.Look.{safe_at}
-use Rattle.node.specs.InStep.{InStep}
-use Rattle.node.proofs.InStep.{one_handed, one_lawful}
-use Rattle.node.proofs.desk.hand_one.Goals as goal
+use Rattle.desk.specs.InStep.{InStep}
+use Rattle.desk.proofs.InStep.{one_handed, one_lawful}
+use Rattle.desk.proofs.desk.hand_one.Goals as goal
 
 pub install-requires : goal.install-requires
 install-requires g c =

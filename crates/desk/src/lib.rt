@@ -1,0 +1,6 @@
+//! A shard's core with the publisher of its board.
+#![tactic(auto)]
+
+mod desk;
+
+pub use desk::{Desk, copy_setup};
