@@ -39,10 +39,16 @@ impl Model for BoardCopy {
 
     ghost Value = { Page };
 
-    ghost view = { λ s. record { board = s.list.names; second = s.list.second; list = s.list.entries; ahead = s.ahead.entries } };
+    ghost view = { λ s. record {
+      board = s.list.names;
+      second = s.list.second;
+      list = s.list.entries;
+      ahead = s.ahead.entries;
+    } };
 
     ghost invariant = { λ s. (s.second ≡ s.list.second) × IsPrefix s.list.entries s.ahead.entries
-        × SameValues s.versions.installs (versions_on s.ahead.entries) × (s.safe ≡ safe_on s.list.entries) × (s.prepared_safe ≡ safe_on s.ahead.entries) };
+        × SameValues s.versions.installs (versions_on s.ahead.entries)
+        × (s.safe ≡ safe_on s.list.entries) × (s.prepared_safe ≡ safe_on s.ahead.entries) };
 }
 
 impl Absorb<BoardChange> for BoardCopy {

@@ -147,7 +147,8 @@ impl Model for Press {
 
     ghost invariant = { λ p. (is_quiet (drop p.writer.behind p.writer.log.items) ≡ true)
         × IsPrefix p.writer.desk.shown.value.list p.writer.desk.shown.value.ahead
-        × (is_board (p.writer.desk.shown.value.list ++ pending_of p.writer.desk.shown.value (drop p.writer.behind p.writer.log.items)) ≡ true) };
+        × (is_board (p.writer.desk.shown.value.list
+        ++ pending_of p.writer.desk.shown.value (drop p.writer.behind p.writer.log.items)) ≡ true) };
 }
 
 impl Press {

@@ -45,7 +45,8 @@ impl Model for Viewer {
     } };
 
     ghost invariant = { λ v. IsSome v.reader
-        × views.IsOneState (unwrap_or (option_map (λ r. knowledge r.place) v.reader) []) v.first.names
+        × views.IsOneState (unwrap_or (option_map (λ r. knowledge r.place) v.reader) [])
+        v.first.names
         × (v.first.second ≡ false) × (v.second.second ≡ true)
         × (v.second.names ≡ v.first.names) × (v.second.entries ≡ v.first.entries) };
 }

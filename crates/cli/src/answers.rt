@@ -131,7 +131,8 @@ fn run<F: Files, D: Fn(Global, &Settings) -> Result<Driven, Fault>, O: Write>(
     ensures printed { IfOk result.0
         (λ status. (text : List ℕ) × Is (reply_of (asked_for asked.entry)) (Ok (text, status))
         × Appends (O.contents (writer_of out.old)) (O.contents (writer_of out.new)) text) }
-    ensures tells { IfOk result.0 (λ status. (text : List ℕ) × Tells (asked_for asked.entry) status text
+    ensures tells { IfOk result.0
+        (λ status. (text : List ℕ) × Tells (asked_for asked.entry) status text
         × Appends (O.contents (writer_of out.old)) (O.contents (writer_of out.new)) text) }
     ensures logged { IfOk result.0 (λ status. LogsCommand (asked_for asked.entry) status result.1) }
     ensures helped { asked.entry ≡ Help → IfOk result.0 (λ status. (status ≡ 0)

@@ -44,4 +44,5 @@ module _ {D : Type 0} (keeps obeys : Type 0) (file : D → File) (clock : D → 
   -- What was not stopped stays as it is, and the request is wrong. Else the disk is there alone, and may be opened again.
   abbrev pub HasNotRestarted : PlaceView D → PlaceView D → Setup → ℕ → Fault → Type 0
   HasNotRestarted old (Serving desk) setup n fault = IsFalse (is_at_rest old) × (Serving desk ≡ old) × (fault ≡ BadRequest Again)
-  HasNotRestarted old (Resting back) setup n fault = IsTrue (is_at_rest old) × HasNoDesk keeps obeys file clock since failures plan (disk_of_place old) setup n fault back
+  HasNotRestarted old (Resting back) setup n fault =
+      IsTrue (is_at_rest old) × HasNoDesk keeps obeys file clock since failures plan (disk_of_place old) setup n fault back

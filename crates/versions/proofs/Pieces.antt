@@ -57,8 +57,8 @@ get_there (p ∷ ps) (suc i) j e d laid less lt =
     ∙ get_there ps i j e d laid.1 less (omega (arith, lt, full, length-append p (joined ps)))
 
 -- one more that goes behind a full piece
-pub insert_behind : (p rest more : List Spot) (at : ℕ) (spot : Spot) → IsFilled p rest → 4096 ≤ at → at ≤ length (p ++ rest) → more ≡ insert rest (at - 4096) spot
-    → p ++ more ≡ insert (p ++ rest) at spot
+pub insert_behind : (p rest more : List Spot) (at : ℕ) (spot : Spot) → IsFilled p rest → 4096 ≤ at → at ≤ length (p ++ rest)
+    → more ≡ insert rest (at - 4096) spot → p ++ more ≡ insert (p ++ rest) at spot
 insert_behind p old new at spot is le lt made =
     let full = full_before p old is (omega (arith, lt)) in
     ap (λ l. p ++ l) made ∙ sym (insert-append_right p old 4096 at spot full le)
@@ -69,8 +69,8 @@ pub insert_here : (p rest : List Spot) (at : ℕ) (spot : Spot) → IsFilled p r
 insert_here p rest at spot is less lt = sym (insert-append_left p rest at spot (omega (arith, length-append p rest, is.full less)))
 
 -- one more in a full piece, which passes its last one on
-pub insert_passed : (p q rest new : List Spot) (last : Spot) (at : ℕ) (spot : Spot) → at < length p → q ++ last ∷ [] ≡ insert p at spot → new ≡ insert rest 0 last
-    → q ++ new ≡ insert (p ++ rest) at spot
+pub insert_passed : (p q rest new : List Spot) (last : Spot) (at : ℕ) (spot : Spot) → at < length p
+    → q ++ last ∷ [] ≡ insert p at spot → new ≡ insert rest 0 last → q ++ new ≡ insert (p ++ rest) at spot
 insert_passed p q rest new last at spot lt is made =
     ap (λ l. q ++ l) made ∙ sym (append_assoc q (last ∷ []) rest) ∙ ap (λ l. l ++ rest) is ∙ sym (insert-append_left p rest at spot (omega arith))
 
