@@ -7,9 +7,9 @@
 # The first three go beside one another. What the gate prints passes through, and its exit status is passed on.
 set -u
 # The gate counts the memory of a check from the lines below its crate, up to 10 GB, and holds checks back by that. Most take under 3 GB,
-# and the tests of the low crates 5. So it is told how many checks may go beside one another: one a processor, where there are 5 GB for each.
+# and the tests of the low crates 5. So it is told how many checks may go beside one another: one a processor, where there are 4 GB for each.
 if [ -z "${RT_JOBS:-}" ]; then
-    fit=$(awk '/^MemAvailable/ { print int($2 / 5000000) }' /proc/meminfo)
+    fit=$(awk '/^MemAvailable/ { print int($2 / 4000000) }' /proc/meminfo)
     [ "$fit" -lt "$(nproc)" ] || RT_JOBS=$(nproc)
 fi
 export RT_JOBS="${RT_JOBS:-}"
