@@ -1,10 +1,12 @@
 #!/bin/sh
-# Runs the gate, `rt ci`, and says above its last line how long each part took, by the times at which its lines came:
+# Runs the gate, `rt ci`, and the cases of misuse beside its first crates, which leave processors idle. It says above the gate's last
+# line how long each part took, by the times at which its lines came:
 #     proofs    until the last crate was proved
 #     tests     until the tests of the last crate were proved
 #     edits     from the first crate whose wrong bodies were tried, until the last of them was refused
 #     runs      of the programs and the tests, once nothing is left to prove
-# The first three go beside one another. What the gate prints passes through, and its exit status is passed on.
+# The first three go beside one another. What the gate prints passes through, and its exit status is passed on. Where a misuse is not
+# refused, that is the last line, and the status is 1.
 set -u
 # The gate counts the memory of a check from the lines below its crate, up to 10 GB, and holds checks back by that. Most take under 3 GB,
 # and the tests of the low crates 5. So it is told how many checks may go beside one another: one a processor, where there are 4 GB for each.
@@ -18,9 +20,11 @@ room=$(mktemp -d)
 trap 'rm -rf "$room"' EXIT
 mkfifo "$room/lines"
 began=$(date +%s)
+(scripts/misuse.sh && echo "time: misuse $(($(date +%s) - began)) seconds") >"$room/misuse" 2>&1 &
+misuse=$!
 rt ci >"$room/lines" &
 gate=$!
-trap 'kill "$gate"' HUP INT TERM
+trap 'kill "$gate" "$misuse"' HUP INT TERM
 
 # The seconds since the beginning, as minutes and seconds.
 now() {
@@ -45,6 +49,8 @@ while IFS= read -r line || [ -n "$line" ]; do
 done <"$room/lines"
 wait "$gate"
 status=$?
+wait "$misuse" || misused=yes
+cat "$room/misuse"
 
 whole=$(now)
 times >"$room/times"
@@ -53,4 +59,8 @@ parts="$parts, edits from $(minutes "$first") until $(minutes "$edits"), runs un
 echo "time: $parts"
 echo "time: $(minutes "$whole") on $(nproc) processors, of which (user, system) $(sed -n 2p "$room/times")"
 printf '%s\n' "${last-}"
+if [ -n "${misused:-}" ]; then
+    echo 'misuse: FAILED'
+    exit 1
+fi
 exit "$status"
