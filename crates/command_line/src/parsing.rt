@@ -6,7 +6,7 @@ ghost use Rattle.units.specs.declared.fault.Fault.TheVariants.{BadRequest, Memor
 ghost use Rattle.units.specs.declared.fault.Reason.TheVariants.{Command as command_reason};
 ghost use Rattle.command_line.specs.Lines.{are_plain, line_of, CommandLine, Word};
 ghost use Rattle.command_line.specs.Views.{line_view};
-ghost use Rattle.command_line.specs.Parser.{entry_of, file_app, inspect_app, needed, once_app, several, shards_app};
+ghost use Rattle.command_line.specs.Parser.{bare_app, entry_of, file_app, inspect_app, needed, once_app, several, shards_app};
 
 use clap::error::ErrorKind;
 use clap::{Arg, ArgMatches, Command};
@@ -138,15 +138,49 @@ fn words<'a>(alloc: Global, matches: &ArgMatches<'a>, id: &str) -> Result<Vec<&'
 fn shards<'a>(alloc: Global) -> Result<Command<'a>, AllocError>
     ensures { IfOk result (λ c. app_of c ≡ shards_app) }
 {
-    let bare = Command::new(alloc, "shards")
+    let with_once = over_once(alloc)?;
+    let with_format = with_file_command(alloc, with_once, "format")?;
+    let with_play = with_file_command(alloc, with_format, "play")?;
+    let with_inspect = with_inspect_command(alloc, with_play)?;
+    with_file_command(alloc, with_inspect, "drive")
+}
+
+// The program over its first command.
+fn over_once<'a>(alloc: Global) -> Result<Command<'a>, AllocError>
+    ensures { IfOk result (λ c. app_of c ≡ with_subcommand bare_app once_app.top) }
+{
+    let once = once_command(alloc)?;
+    with_command(bare_command(alloc), once)
+}
+
+// The program without its commands.
+fn bare_command<'a>(alloc: Global) -> Command<'a>
+    ensures { app_of result ≡ bare_app }
+{
+    Command::new(alloc, "shards")
         .no_binary_name(true)
         .disable_help_subcommand(true)
-        .subcommand_required(true);
-    let with_once = with_command(bare, once_command(alloc)?)?;
-    let with_format = with_command(with_once, file_command(alloc, "format")?)?;
-    let with_play = with_command(with_format, file_command(alloc, "play")?)?;
-    let with_inspect = with_command(with_play, inspect_command(alloc)?)?;
-    with_command(with_inspect, file_command(alloc, "drive")?)
+        .subcommand_required(true)
+}
+
+// The command over one more with one file.
+fn with_file_command<'a>(
+    alloc: Global,
+    command: Command<'a>,
+    name: &'a str,
+) -> Result<Command<'a>, AllocError>
+    ensures { IfOk result
+        (λ c. app_of c ≡ with_subcommand (app_of command.entry) (file_app name.entry.now).top) }
+{
+    with_command(command, file_command(alloc, name)?)
+}
+
+// The command over `inspect`.
+fn with_inspect_command<'a>(alloc: Global, command: Command<'a>) -> Result<Command<'a>, AllocError>
+    ensures { IfOk result
+        (λ c. app_of c ≡ with_subcommand (app_of command.entry) inspect_app.top) }
+{
+    with_command(command, inspect_command(alloc)?)
 }
 
 // `once KEY VALUE E1 L1 E2 L2`.
@@ -154,13 +188,9 @@ fn once_command<'a>(alloc: Global) -> Result<Command<'a>, AllocError>
     ensures app { IfOk result (λ c. app_of c ≡ once_app) }
     ensures local { IfOk result (λ c. (fields_of c).has_globals ≡ false) }
 {
-    let bare = Command::new(alloc, "once");
-    let with_key = with_word(alloc, bare, "key")?;
-    let with_value = with_word(alloc, with_key, "value")?;
-    let with_e1 = with_word(alloc, with_value, "e1")?;
-    let with_l1 = with_word(alloc, with_e1, "l1")?;
-    let with_e2 = with_word(alloc, with_l1, "e2")?;
-    with_word(alloc, with_e2, "l2")
+    let with_pair = with_two_words(alloc, Command::new(alloc, "once"), "key", "value")?;
+    let with_first = with_two_words(alloc, with_pair, "e1", "l1")?;
+    with_two_words(alloc, with_first, "e2", "l2")
 }
 
 // A command with one file.
@@ -192,6 +222,22 @@ fn with_word<'a>(
         → IfOk result (λ c. (fields_of c).has_globals ≡ false) }
 {
     command.arg(Arg::new(alloc, id).required(true))
+}
+
+// The command with two more words, which have to be given.
+fn with_two_words<'a>(
+    alloc: Global,
+    command: Command<'a>,
+    first: &'a str,
+    second: &'a str,
+) -> Result<Command<'a>, AllocError>
+    ensures app { IfOk result (λ c. app_of c ≡
+        with_rule (with_rule (app_of command.entry) (needed first.entry.now)) (needed second.entry.now)) }
+    ensures local { (fields_of command.entry).has_globals ≡ false
+        → IfOk result (λ c. (fields_of c).has_globals ≡ false) }
+{
+    let with_first = with_word(alloc, command, first)?;
+    with_word(alloc, with_first, second)
 }
 
 // The command with 1 to 16 words more.

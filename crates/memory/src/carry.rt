@@ -63,9 +63,7 @@ impl State {
     {
         self.ledger.reserve()?;
         self.ended.reserve(plan.wounded.as_slice().len() + 1)?;
-        let writes = writes_for(&self.ledger, alloc, plan)?;
-        let admitted = admit_asker(&mut self.rows, alloc, plan.change.asker(), plan.needs.len())?;
-        Ok(Ready { writes, admitted })
+        ready_for(plan, alloc, &self.ledger, &mut self.rows)
     }
 
     /// Takes back what was made ready for a plan whose record was not logged: the row that its transaction got.
@@ -122,6 +120,28 @@ pub fn ready_plans_can_be_carried()
     ensures unseen { AdmissionIsUnseen }
     ensures carriable { ReadyIsCarriable }
 {}
+
+// Takes a copy of the writes that a plan's record installs, and the memory for its locks.
+fn ready_for(plan: &Plan, alloc: Global, ledger: &Ledger, rows: &mut Rows) -> Result<Ready, Fault>
+    requires { MayAsk rows.old.rows (asker plan.now.change) }
+    ensures writes { IfOk result
+        (λ ready. ready.writes ≡ writes_installed ledger.now.facts plan.now.logged) }
+    ensures rows { OnOk result (rows.new.rows ≡ admitted rows.old.rows (asker plan.now.change)) }
+    ensures room { OnOk result
+        (AskerHasRoom rows.new (asker plan.now.change) (length plan.now.needs.items)) }
+    ensures admits { IfOk result
+        (λ ready. Admits rows.old.rows (asker plan.now.change) ready.admitted) }
+    ensures undo { IfOk result
+        (λ ready. MayUndo rows.new.rows (asker plan.now.change) ready.admitted) }
+    ensures holding { (holds : List ℕ) → IsHolding holds rows.old.rows
+        → IsHolding holds rows.new.rows }
+    ensures kept { OnErr result (rows.new.rows ≡ rows.old.rows) }
+    ensures memory { IfErr result (λ fault. fault ≡ Fault.Memory) }
+{
+    let writes = writes_for(ledger, alloc, plan)?;
+    let admitted = admit_asker(rows, alloc, plan.change.asker(), plan.needs.len())?;
+    Ok(Ready { writes, admitted })
+}
 
 // A copy of the writes that the record of a plan installs.
 fn writes_for(ledger: &Ledger, alloc: Global, plan: &Plan) -> Result<Writes, Fault>

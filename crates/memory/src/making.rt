@@ -1,5 +1,5 @@
 //! How a state is made and ended, and what it shows of its rows.
-ghost use Rattle.std.specs.Prelude.{◌≡◌, [], ◌∷◌, IfOk, IfErr};
+ghost use Rattle.std.specs.Prelude.{◌≡◌, ◌<◌, ◌≤◌, [], ◌∷◌, IfOk, IfErr};
 ghost use Rattle.record.specs.Facts.{facts_of};
 ghost use Rattle.rows.specs.RowTable.{nth_prepared, nth_decided};
 
@@ -20,8 +20,26 @@ impl State {
         ensures empty { IfOk result (λ s. s.memory ≡ record { last = 0; rows = []; ended = [] }) }
         ensures memory { IfErr result (λ fault. fault ≡ Fault.Memory) }
     {
-        let ledger = opened_ledger(alloc, setup.shard)?;
         let times = SafeTime::new(alloc, Stamp::zero())?;
+        let ledger = opened_ledger(alloc, setup.shard)?;
+        State::without_rows(alloc, setup, ledger, times)
+    }
+
+    // A state that has no rows yet. It is refused for want of memory alone.
+    fn without_rows(
+        alloc: Global,
+        setup: Setup,
+        ledger: Ledger,
+        times: SafeTime,
+    ) -> Result<State, Fault>
+        requires shard { ledger.shard ≡ setup.shard }
+        requires opened { 0 < ledger.facts.epoch }
+        requires times { times ≡ record { last = 0; holds = [] } }
+        ensures setup { IfOk result (λ s. s.setup ≡ setup) }
+        ensures facts { IfOk result (λ s. s.facts ≡ ledger.facts) }
+        ensures empty { IfOk result (λ s. s.memory ≡ record { last = 0; rows = []; ended = [] }) }
+        ensures memory { IfErr result (λ fault. fault ≡ Fault.Memory) }
+    {
         let rows = Rows::new(alloc)?;
         Ok(State {
             setup,
@@ -67,9 +85,19 @@ fn opened_ledger(alloc: Global, shard: ShardNo) -> Result<Ledger, Fault>
 {
     let mut ledger = Ledger::new(alloc, shard);
     ledger.reserve()?;
+    learn_opening(&mut ledger, alloc);
+    Ok(ledger)
+}
+
+// Learns the first opening of a log, as its first record. It takes no memory.
+fn learn_opening(ledger: &mut Ledger, alloc: Global)
+    requires room { 1 ≤ ledger.old.room }
+    requires none { ledger.old.facts ≡ facts_of [] }
+    ensures facts { ledger.new.facts ≡ facts_of (Record.Opened 1 ∷ []) }
+    ensures shard { ledger.new.shard ≡ ledger.old.shard }
+{
     let first = Record::Opened {
         epoch: Epoch::first(),
     };
     ledger.learn(first, Writes::none(alloc));
-    Ok(ledger)
 }

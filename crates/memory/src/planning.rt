@@ -1,8 +1,9 @@
 //! The plans of which every step is one.
 ghost use Rattle.std.specs.Option.{option_copied};
-ghost use Rattle.std.specs.Prelude.{◌≡◌, ◌≤◌, ◌++◌, ◌∷◌, [], true, Some, None, Ok, IfOk, IfErr, option_to_list};
+ghost use Rattle.std.specs.Prelude.{◌≡◌, ◌≤◌, ◌++◌, ◌∷◌, [], true, Some, None, Ok, IfOk, IfErr, OnOk, map, option_to_list, ℕ};
+ghost use Rattle.units.specs.Ids.{Id};
 ghost use Rattle.protocol.specs.Rows.{find_row, held_in};
-ghost use Rattle.protocol.specs.Outputs.{refused_vote};
+ghost use Rattle.protocol.specs.Outputs.{outcome_to, refused_vote};
 ghost use Rattle.protocol.specs.Plan.{Keeps, replies, ends, drops, votes_of};
 ghost use Rattle.protocol.specs.Cells.{other_parts, answers, tells, plan_abort, still_stand};
 ghost use Rattle.memory.specs.Carry.{FitsRows, IsFit, IsServing, MayDrop, may_drop, may_end};
@@ -106,10 +107,7 @@ impl State {
         ensures fit { IfOk result (IsFit self.now) }
         ensures memory { IfErr result (λ fault. fault ≡ Fault.Memory) }
     {
-        let mut out = Vec::new(alloc);
-        if let Some(Wait::Prepare(request)) = wait {
-            out.push(vote_to(self.setup().shard, request.coordinator, txn, None))?;
-        }
+        let out = refused_by(alloc, self.setup().shard, txn, wait)?;
         Ok(self.ends(alloc, txn, out))
     }
 
@@ -182,12 +180,8 @@ impl State {
         ensures memory { IfErr result (λ fault. fault ≡ Fault.Memory) }
     {
         let from = self.setup().shard;
-        let told = Outcome { from, txn, outcome };
-        let others = other_parts(alloc, from, parts)?;
         let mut out = one(alloc, first)?;
-        for other in others.as_slice() {
-            out.push(outcome_to(&told, *other))?;
-        }
+        tell_others(&mut out, alloc, &Outcome { from, txn, outcome }, parts)?;
         Ok(out)
     }
 
@@ -269,10 +263,7 @@ impl State {
             refusal self.now.setup.shard txn result }
     {
         match self.row(txn) {
-            Some(Row::Reading(reading)) => match reading.wait() {
-                Some(Wait::Prepare(request)) => Some(request.coordinator),
-                _ => None,
-            },
+            Some(Row::Reading(reading)) => coordinator_in(reading.wait()),
             _ => None,
         }
     }
@@ -297,6 +288,34 @@ impl State {
     }
 }
 
+// The coordinator of the prepare that is waited with: it is told a refused vote.
+fn coordinator_in(wait: Option<&Wait>) -> Option<ShardNo>
+    ensures { (from : ℕ) (txn : Id) →
+        refused_by from txn (option_copied wait.entry) ≡ refusal from txn result }
+{
+    match wait {
+        Some(Wait::Prepare(request)) => Some(request.coordinator),
+        _ => None,
+    }
+}
+
+// The vote of a transaction that is ended while it waits with a prepare: it is refused.
+fn refused_by(
+    alloc: Global,
+    from: ShardNo,
+    txn: TxnId,
+    wait: Option<&Wait>,
+) -> Result<Vec<Envelope>, Fault>
+    ensures votes { IfOk result
+        (λ out. out.items ≡ refused_by from txn (option_copied wait.entry)) }
+    ensures memory { IfErr result (λ fault. fault ≡ Fault.Memory) }
+{
+    match coordinator_in(wait) {
+        Some(coordinator) => one(alloc, vote_to(from, coordinator, txn, None)),
+        None => Ok(Vec::new(alloc)),
+    }
+}
+
 // A list of one message.
 fn one(alloc: Global, envelope: Envelope) -> Result<Vec<Envelope>, Fault>
     ensures one { IfOk result (λ out. out.items ≡ envelope ∷ []) }
@@ -305,4 +324,23 @@ fn one(alloc: Global, envelope: Envelope) -> Result<Vec<Envelope>, Fault>
     let mut out = Vec::new(alloc);
     out.push(envelope)?;
     Ok(out)
+}
+
+// Tells an outcome to the shards of its transaction other than the one that it comes from.
+fn tell_others(
+    out: &mut Vec<Envelope>,
+    alloc: Global,
+    told: &Outcome,
+    parts: Parts,
+) -> Result<(), Fault>
+    ensures told { OnOk result (out.new.items ≡ out.old.items
+        ++ map (outcome_to told.now.from told.now.txn told.now.outcome)
+        (other_parts told.now.from parts)) }
+    ensures memory { IfErr result (λ fault. fault ≡ Fault.Memory) }
+{
+    let others = other_parts(alloc, told.from, parts)?;
+    for other in others.as_slice() {
+        out.push(outcome_to(told, *other))?;
+    }
+    Ok(())
 }

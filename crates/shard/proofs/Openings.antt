@@ -1,5 +1,5 @@
 -- The next opening behind what a log leaves.
-use Rattle.std.proofs.Common.{◌≡◌, ◌∙◌, ℕ, ◌+◌, true, [], ◌∷◌, Option, Some, Ok, sym, ap, subst, arith}
+use Rattle.std.proofs.Common.{◌≡◌, ◌∙◌, ℕ, ◌+◌, true, IsFalse, List, [], ◌∷◌, Option, Some, Ok, inl, inr, refl, sym, ap, subst, arith}
 use Rattle.std.proofs.lemmas.Bool.Decides.{nat_tests}
 use Rattle.record.specs.Facts.{Facts, facts_of, learn}
 use Rattle.record.specs.Installs.{installs_of}
@@ -18,7 +18,15 @@ use Rattle.memory.specs.declared.plan.Plan.{Plan}
 use Rattle.serving.specs.Showable.{IsShowable}
 use Rattle.shard.specs.Due.{IsDue}
 use Rattle.units.specs.declared.setup.Setup.{Setup}
-use Rattle.shard.specs.Logs.{and_logged, facts_logged}
+use Rattle.disk.specs.File.{File, surface}
+use Rattle.disk.specs.Image.{MayLeave}
+use Rattle.units.specs.declared.fault.Fault.{Fault}
+use Rattle.units.specs.declared.fault.Fault.TheVariants.{TimeSpent}
+use Rattle.disk.specs.declared.plan.FailurePlan.{FailurePlan}
+use Rattle.message.specs.declared.message.Envelope.{Envelope}
+use Rattle.shard.specs.Logs.{KeepsRecords, and_logged, facts_logged, records_in}
+use Rattle.shard.specs.On.{CoreView, HasWritten}
+use Rattle.shard.specs.Opened.{HasAppended, HasLawfulEpoch, HasNotAppended}
 use Rattle.shard.proofs.Showable.{opening-showable}
 
 -- one opening is learnt as an opening finds it
@@ -72,3 +80,43 @@ opening_due law k p last again sound showable same fit plan = record {
   where
     logged : p.logged ≡ Some (next k.facts)
     logged = ap (λ (q : protocol.Plan). q.logged) plan
+
+-- the record that was written is the opening, which is appended then
+pub appended_by : {D : Type 0} (keeps obeys : Type 0) (file : D → File) (clock : D → ℕ) (since : D → ℕ → List ℕ → Type 0) (failures : D → ℕ)
+    (plan : D → FailurePlan) (old new : CoreView D) (item : Record) (logged : Option Record) (out : List Envelope) → logged ≡ Some item
+    → IsFalse old.stopped → IsFalse new.stopped → HasLawfulEpoch item
+    → HasWritten keeps obeys file clock since failures plan old new logged (Ok out)
+    → HasAppended keeps obeys file clock since failures plan old.disk old.gate item new
+appended_by keeps obeys file clock since failures plan old new item logged out is ran runs lawful written =
+    let it = subst (λ l. HasWritten keeps obeys file clock since failures plan old new l (Ok out)) is written in
+    record {
+      running = runs;
+      any_moment = it.any_moment ran;
+      durable = it.durable;
+      read = it.read;
+      gate = (it.gate.0, it.place);
+      epoch = lawful;
+      failures_stay = it.failures_stay;
+      planned = λ obey never. (it.planned obey never).0;
+      armed = λ call obey keep armed. (it.armed call ran obey keep armed).0;
+    }
+
+-- a log for whose opening no epoch is left is given back as it was
+pub not_appended_at_once : {D : Type 0} (keeps obeys : Type 0) (file : D → File) (clock : D → ℕ) (since : D → ℕ → List ℕ → Type 0) (failures : D → ℕ)
+    (plan : D → FailurePlan) → ((d : D) (image : List ℕ) → since d (clock d) image → MayLeave (surface (file d)) image)
+    → (disk back : D) (gate : ℕ) (item : Record) (full : Type 0) (fault : Fault) → back ≡ disk → fault ≡ TimeSpent → full
+    → (keeps → KeepsRecords (surface (file disk)) (records_in (surface (file disk)).seen))
+    → HasNotAppended keeps obeys file clock since failures plan disk gate item full fault back
+not_appended_at_once keeps obeys file clock since failures plan only_now disk back gate item full fault same spent late stands =
+    subst (HasNotAppended keeps obeys file clock since failures plan disk gate item full fault) (sym same) (record {
+      cause = inr (inr (spent, late));
+      any_moment = λ keep. record {
+        later = omega arith;
+        each = λ image left. inl (stands keep image (only_now disk image left));
+        before = λ moment image le left. inl left;
+      };
+      unchanged = inr refl;
+      epoch = λ device. absurd (cc);
+      planned = λ obey never device. cc;
+      armed = λ call obey keep is device. absurd (cc);
+    })

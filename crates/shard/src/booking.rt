@@ -117,13 +117,19 @@ pub(crate) fn write_page<D: Disk>(
 {
     let page = match page_of(machine, book, alloc, now, input, &plan) {
         Ok(page) => page,
-        Err(fault) => return Err(fault),
+        Err(fault) => {
+            drop(plan);
+            return Err(fault);
+        }
     };
     match machine.carry_out(alloc, plan) {
         Ok(outbox) => {
             book.push(page);
             Ok(outbox)
         }
-        Err(fault) => Err(fault),
+        Err(fault) => {
+            drop(page);
+            Err(fault)
+        }
     }
 }

@@ -62,6 +62,7 @@ pub fn append_record<D: Disk>(
         (D.file (disk_of gate_log.new))) }
 {
     if gate_log.is_stopped() {
+        drop(item);
         return Err(Fault::Stopped);
     }
     let staged = gate_log.stage(alloc, item)?;

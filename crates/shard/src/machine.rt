@@ -101,7 +101,10 @@ impl<D: Disk> Machine<D> {
         ready_plans_can_be_carried();
         let ready = match self.state.make_ready(alloc, &plan) {
             Ok(ready) => ready,
-            Err(fault) => return Err(fault),
+            Err(fault) => {
+                drop(plan);
+                return Err(fault);
+            }
         };
         let Some(item) = plan.logged.take() else {
             return Ok(self.state.carry(plan, ready, None));
@@ -110,6 +113,7 @@ impl<D: Disk> Machine<D> {
             Ok(logged) => Ok(self.state.carry(plan, ready, Some(logged))),
             Err(fault) => {
                 self.state.undo(&plan, ready);
+                drop(plan);
                 Err(fault)
             }
         }
@@ -150,7 +154,7 @@ impl<D: Disk> Machine<D> {
         };
         match append_record(&mut gate_log, alloc, first) {
             Ok(logged) => {
-                let _ = logged.spend();
+                drop(logged.spend());
                 Ok(Machine { gate_log, state })
             }
             Err(fault) => {
@@ -209,7 +213,7 @@ impl<D: Disk> Machine<D> {
             .state
             .serves(alloc, Some(Record::Opened { epoch }), last);
         match machine.carry_out(alloc, plan) {
-            Ok(_) => {}
+            Ok(outbox) => drop(outbox),
             Err(fault) => return Err((fault, machine.stop())),
         }
         Ok(machine)

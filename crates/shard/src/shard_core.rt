@@ -71,15 +71,26 @@ impl<D: Disk> Core<D> {
         let (gate_log, entries) = GateLog::open(alloc, disk)?;
         let book = match begin_book(alloc, setup.book, &entries) {
             Ok(book) => book,
-            Err(fault) => return Err((fault, gate_log.into_disk())),
+            Err(fault) => {
+                drop(entries);
+                return Err((fault, gate_log.into_disk()));
+            }
         };
         match rebuild(alloc, &entries, &setup) {
             Ok(Some(state)) => {
                 all_ascend(&entries);
+                drop(entries);
                 Core::with_book(Machine::take_up(alloc, gate_log, state), book)
             }
-            Ok(None) => Core::with_book(Machine::begin(alloc, gate_log, setup), book),
-            Err(fault) => Err((fault, gate_log.into_disk())),
+            Ok(None) => {
+                drop(entries);
+                Core::with_book(Machine::begin(alloc, gate_log, setup), book)
+            }
+            Err(fault) => {
+                drop(entries);
+                drop(book);
+                Err((fault, gate_log.into_disk()))
+            }
         }
     }
 

@@ -1,5 +1,6 @@
-use Rattle.std.proofs.Common.{rules, sym, subst, ◌≡◌, ◌∙◌, ◌+◌, [], Some, ap, arith}
+use Rattle.std.proofs.Common.{rules, inl, sym, subst, ◌≡◌, ◌∙◌, ◌+◌, [], Some, ap, arith}
 use Rattle.protocol.specs.Plan as protocol
+use Rattle.protocol.specs.Step.{facts_after}
 use Rattle.memory.specs.Plans.{plan_of}
 use Rattle.record.specs.declared.record.Record.{Record}
 use Rattle.disk.specs.File.{surface}
@@ -7,7 +8,7 @@ use Rattle.gatelog.specs.Shown.{disk_of, gate_at}
 use Rattle.shard.specs.Armed.{FailsIn}
 use Rattle.shard.specs.Core.{seen_machine}
 use Rattle.shard.specs.Logs.{records_in}
-use Rattle.shard.proofs.Openings.{opened_memory, opening_due}
+use Rattle.shard.proofs.Openings.{appended_by, not_appended_at_once, opened_memory, opening_due}
 use Rattle.shard.proofs.machine.Machine.take_up.Goals as goal
 
 pub carry_out-requires-clause-due : goal.carry_out-requires-clause-due
@@ -54,3 +55,30 @@ returns-in-Err-carry_out-clause-refused g c =
           (subst (λ l. FailsIn call gate before l (g.D.Disk.file left) fault) logged
           ((c.in-Err-carry_out.ensures.written.armed call c.requires.running obey keep is).1));
     }
+
+pub returns-clause-appended : goal.returns-clause-appended
+returns-clause-appended g c =
+    let k = c.args.state in
+    let epoch : c.in-Ok.epoch ≡ k.facts.epoch + 1 = c.in-Ok.ensures.0 ∙ ap (λ n. n + 1) c.epoch.ensures in
+    let logged : c.serves-plan.result.logged ≡ Some (Record.Opened (k.facts.epoch + 1)) =
+    ap (λ (p : protocol.Plan). p.logged) c.serves-plan.ensures.plan ∙ ap (λ n. Some (Record.Opened n)) epoch in
+    appended_by g.D.Disk.keeps_model g.D.Disk.obeys g.D.Disk.file g.D.Disk.clock g.D.Disk.since g.D.Disk.failures g.D.Disk.plan
+    _ (seen_machine c.carry_out.new.self) (Record.Opened (k.facts.epoch + 1)) _ _ logged c.requires.running c.in-Ok-carry_out.ensures.done.1
+    (omega (arith, c.in-Ok.ensures.1, c.epoch.ensures)) c.in-Ok-carry_out.ensures.written
+
+pub returns-clause-setup : goal.returns-clause-setup
+returns-clause-setup g c = c.in-Ok-carry_out.ensures.written.setup
+
+pub returns-clause-facts : goal.returns-clause-facts
+returns-clause-facts g c =
+    let k = c.args.state in
+    let epoch : c.in-Ok.epoch ≡ k.facts.epoch + 1 = c.in-Ok.ensures.0 ∙ ap (λ n. n + 1) c.epoch.ensures in
+    let logged : c.serves-plan.result.logged ≡ Some (Record.Opened (k.facts.epoch + 1)) =
+    ap (λ (p : protocol.Plan). p.logged) c.serves-plan.ensures.plan ∙ ap (λ n. Some (Record.Opened n)) epoch in
+    c.in-Ok-carry_out.ensures.done.2.0 ∙ ap (facts_after k.facts) logged
+
+pub returns-in-Err-clause-refused : goal.returns-in-Err-clause-refused
+returns-in-Err-clause-refused g c =
+    not_appended_at_once g.D.Disk.keeps_model g.D.Disk.obeys g.D.Disk.file g.D.Disk.clock g.D.Disk.since g.D.Disk.failures g.D.Disk.plan
+    g.met.D.Disk.only_now (disk_of c.args.gate_log) _ (gate_at c.args.gate_log) _ _ _ c.into_disk.ensures c.in-Err.ensures.0
+    (inl (omega (arith, c.in-Err.ensures.1, c.epoch.ensures))) c.requires.stands

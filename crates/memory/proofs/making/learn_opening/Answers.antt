@@ -3,7 +3,7 @@ use Rattle.record.specs.declared.record.Record.{Record}
 use Rattle.record.specs.Facts.{Facts, facts_of, learn}
 use Rattle.record.specs.Installs.{installs_of}
 use Rattle.facts.specs.Rules.{follows_facts}
-use Rattle.memory.proofs.making.opened_ledger.Goals as goal
+use Rattle.memory.proofs.making.learn_opening.Goals as goal
 
 -- an opening is the first record
 first_follows : (shard : ℕ) → follows_facts shard (facts_of []) (Record.Opened 1) ≡ true
@@ -17,15 +17,13 @@ first_learnt = refl
 
 pub learn-requires-clause-follows : goal.learn-requires-clause-follows
 learn-requires-clause-follows c =
-    let empty = c.in_ok-reserve.ensures.same.0 ∙ c.new-ledger.ensures.facts in
-    ap (λ (f : Facts). follows_facts c.reserve.new.self.shard f (Record.Opened c.first.result)) empty
-    ∙ ap (λ (n : ℕ). follows_facts c.reserve.new.self.shard (facts_of []) (Record.Opened n)) c.first.ensures
-    ∙ first_follows c.reserve.new.self.shard
+    ap (λ (f : Facts). follows_facts c.args.ledger.now.shard f (Record.Opened c.first.result)) c.requires.none
+    ∙ ap (λ (n : ℕ). follows_facts c.args.ledger.now.shard (facts_of []) (Record.Opened n)) c.first.ensures
+    ∙ first_follows c.args.ledger.now.shard
 
 pub returns-clause-facts : goal.returns-clause-facts
 returns-clause-facts c =
-    let empty = c.in_ok-reserve.ensures.same.0 ∙ c.new-ledger.ensures.facts in
     c.learn.ensures.facts
-    ∙ ap (λ (f : Facts). learn f (Record.Opened c.first.result)) empty
+    ∙ ap (λ (f : Facts). learn f (Record.Opened c.first.result)) c.requires.none
     ∙ ap (λ (n : ℕ). learn (facts_of []) (Record.Opened n)) c.first.ensures
     ∙ first_learnt
