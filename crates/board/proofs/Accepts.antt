@@ -7,11 +7,11 @@ use Rattle.board.specs.declared.entry.BoardEntry.{BoardEntry}
 use Rattle.units.specs.declared.fault.Fault.{Fault}
 use Rattle.units.specs.declared.fault.Fault.TheVariants.{Memory}
 use Rattle.board.specs.Board.{is_board}
-use Rattle.growing.proofs.Prefixes.{prefix_trans}
+use Rattle.growing.proofs.Prefixes.{prefix_self, prefix_trans}
 use Rattle.board.specs.declared.change.BoardChange.{BoardChange}
 use Rattle.board.specs.declared.change.BoardChange.TheVariants.{Prepare, Commit}
-use Rattle.board.specs.State.{Page, is_quiet, newly_prepared, pending_of}
-use Rattle.board.specs.Views.{Published}
+use Rattle.board.specs.State.{Page, BoardState, is_quiet, newly_prepared, pending_of}
+use Rattle.board.specs.Views.{Published, Publishing, PublishesAll}
 use Rattle.board.specs.Publications.{IsRefused, IsPublished, IsFinished}
 use Rattle.board.proofs.Steps.{all_ahead, same_pending}
 
@@ -93,3 +93,31 @@ module _ (x z : Page) (changes changes' : List BoardChange) (p : HasPrepared x z
         quiet = ap is_quiet v.2;
         longer = subst (λ (y : Page). IsPrefix y.list y.ahead) (sym v.1) same.longer;
       }
+
+drop_all : (es : List BoardEntry) → drop (length es) es ≡ []
+drop_all [] = refl
+drop_all (e ∷ es) = drop_all es
+
+-- what a contract sees of a writer whose log still has these changes
+abbrev pub seen_as : Page → List BoardChange → Publishing
+seen_as x changes = record { board = x.board; published = x.list; pending = pending_of x changes }
+
+module _ (x y : Page) (changes changes' : List BoardChange) where
+  pub publishing_keeps : (result : Result Published Fault) → IsPublished x changes result y changes' → is_board (x.list ++ pending_of x changes) ≡ true
+      → (is_quiet changes' ≡ true) × IsPrefix y.list y.ahead × (is_board (y.list ++ pending_of y changes') ≡ true)
+  publishing_keeps (Ok told) v lawful =
+      let list : y.list ≡ x.list ++ pending_of x changes = ap (λ (s : BoardState). s.0) v.shows in
+      let ahead : y.ahead ≡ x.list ++ pending_of x changes = ap (λ (s : BoardState). s.1) v.shows in
+      let longer : IsPrefix y.list y.ahead = subst (IsPrefix y.list) (list ∙ sym ahead) (prefix_self y.list) in
+      let all : y.list ++ pending_of y changes' ≡ x.list ++ pending_of x changes = all_ahead y changes' longer ∙
+      (ap (λ cs. y.ahead ++ newly_prepared cs) v.none ∙ (append-nil y.ahead ∙ ahead)) in
+      (ap is_quiet v.none, longer, ap is_board all ∙ lawful)
+  publishing_keeps (Err fault) v lawful = (v.quiet, v.longer, (λ i. is_board (v.list i ++ v.pending i)) ∙ lawful)
+
+  pub publishes_all : (result : Result Published Fault) → IsPublished x changes result y changes'
+      → PublishesAll (seen_as x changes) result (seen_as y changes')
+  publishes_all (Ok told) v =
+      let none : pending_of y changes' ≡ [] = (λ i. drop (length (v.shows i).0) (v.shows i).1 ++ newly_prepared (v.none i)) ∙
+      (append-nil (drop (length (x.list ++ pending_of x changes)) (x.list ++ pending_of x changes)) ∙ drop_all (x.list ++ pending_of x changes)) in
+      (λ i. record { board = (v.shows i).2; published = (v.shows i).0; pending = none i }, v.news)
+  publishes_all (Err fault) v = (v.memory, λ i. record { board = v.board i; published = v.list i; pending = v.pending i })
