@@ -48,8 +48,11 @@ pub fn commit(
         (λ fault. (fault ≡ Memory) ⊎ (first_stamp at.now ≡ Err fault)) }
 {
     let asked = only_commit(alloc, key, value)?;
-    match core.on(alloc, at, &asked) {
-        Ok(_) => {
+    let told = core.on(alloc, at, &asked);
+    drop(asked);
+    match told {
+        Ok(outbox) => {
+            drop(outbox);
             let (_, stamp) = core.decided(0).unwrap();
             Ok(stamp)
         }
@@ -66,8 +69,14 @@ pub fn settle(alloc: Global, core: &mut Core<SimDisk>, at: &Reading) -> Result<b
         × HasLog (log_after done key value stamp) (seen core.new))
         (λ fault. fault ≡ Memory) }
 {
-    match core.on(alloc, at, &Input::Settle(only_txn())) {
-        Ok(_) => Ok(true),
+    let asked = Input::Settle(only_txn());
+    let told = core.on(alloc, at, &asked);
+    drop(asked);
+    match told {
+        Ok(outbox) => {
+            drop(outbox);
+            Ok(true)
+        }
         Err(fault) => match fault {
             Fault::Early => Ok(false),
             _ => Err(fault),
