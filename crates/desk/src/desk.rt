@@ -144,7 +144,10 @@ impl<D: Disk + Drop, R: Wait + Drop> Desk<D, R> {
             (HasNotAdvanced D.keeps_model D.obeys D.file D.clock D.since D.failures D.plan
             (seen_desk self.old) (seen_desk self.new) now.now to) }
     {
-        let _ = self.deliver(now, &Input::Advance(to))?;
+        let input = Input::Advance(to);
+        let told = self.deliver(now, &input);
+        drop(input);
+        drop(told?);
         self.show()
     }
 
