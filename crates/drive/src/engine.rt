@@ -153,11 +153,56 @@ fn run<
         nodes: to_nodes,
         workers: to_workers,
     } = inboxes;
+    let staff = Staff {
+        inboxes: to_workers,
+        drawers,
+        viewers,
+    };
     let served = served(rt, &shared, &nodes, to_nodes, clock)?;
-    let workers = workers(rt, &shared, to_workers, drawers, viewers, clock, watch)?;
+    let report = serve_and_work(rt, &shared, course, served, staff, clock, gate, watch);
+    drop(shared);
+    Ok((report?, nodes))
+}
+
+// What the workers are made of: each has an inbox, two drawers, and a viewer of each shard.
+#[derive(Drop)]
+struct Staff {
+    inboxes: Vec<Receiver<Message>>,
+    drawers: Drawers,
+    viewers: Vec<Vec<Viewer>>,
+}
+
+// What all workers report, once they have done their turns beside the nodes.
+fn serve_and_work<
+    R: Threads + Wait + time::Clock + Sync,
+    D: Disk + Drop + Send,
+    H: Wait + Drop + Send,
+    P: Post + Send + Drop,
+    C: Clock + Copy + Send,
+    G: Gate + Sync,
+    W: Watch + Sync,
+>(
+    rt: &R,
+    shared: &Shared,
+    course: Course,
+    served: Vec<Served<D, H, P, C>>,
+    staff: Staff,
+    clock: C,
+    gate: &G,
+    watch: &W,
+) -> Result<Report, Fault>
+    requires inboxes { length staff.inboxes.items ≡ course.workers }
+    requires ids { (length staff.drawers.ids.items ≡ course.workers)
+        × All (λ drawer. drawer.source ≡ shared.now.ids) staff.drawers.ids.items }
+    requires moments { (length staff.drawers.moments.items ≡ course.workers)
+        × All (λ drawer. drawer.source ≡ shared.now.moments) staff.drawers.moments.items }
+    requires viewers { length staff.viewers.items ≡ course.workers }
+    ensures { IfOk result (λ report. (tried report.counts ≡ course.workers * course.transactions)
+        × (report.counts.looks ≤ course.workers * course.transactions)) }
+{
+    let workers = workers(rt, shared, staff, clock, watch)?;
     let reports = run_all(rt, &shared.network, course, served, workers, gate)?;
-    let report = merged(alloc, course, reports)?;
-    Ok((report, nodes))
+    merged(shared.alloc, course, reports)
 }
 
 // What each node is served with.
@@ -188,21 +233,23 @@ fn served<'r, 's, 'n, R: Wait, D: Disk + Drop, H: Wait + Drop, C: Clock + Copy>(
 fn workers<'r, 's, R, C: Copy, W>(
     rt: &'r R,
     shared: &'s Shared,
-    inboxes: Vec<Receiver<Message>>,
-    drawers: Drawers,
-    viewers: Vec<Vec<Viewer>>,
+    staff: Staff,
     clock: C,
     watch: &'r W,
 ) -> Result<Vec<Worker<'r, 's, R, C, W>>, Fault>
-    requires few { length inboxes.items ≤ 64 }
-    requires ids { (length drawers.ids.items ≡ length inboxes.items)
-        × All (λ drawer. drawer.source ≡ shared.now.ids) drawers.ids.items }
-    requires moments { (length drawers.moments.items ≡ length inboxes.items)
-        × All (λ drawer. drawer.source ≡ shared.now.moments) drawers.moments.items }
-    requires viewers { length viewers.items ≡ length inboxes.items }
-    ensures { IfOk result (λ workers. length workers.items ≡ length inboxes.items) }
+    requires few { length staff.inboxes.items ≤ 64 }
+    requires ids { (length staff.drawers.ids.items ≡ length staff.inboxes.items)
+        × All (λ drawer. drawer.source ≡ shared.now.ids) staff.drawers.ids.items }
+    requires moments { (length staff.drawers.moments.items ≡ length staff.inboxes.items)
+        × All (λ drawer. drawer.source ≡ shared.now.moments) staff.drawers.moments.items }
+    requires viewers { length staff.viewers.items ≡ length staff.inboxes.items }
+    ensures { IfOk result (λ workers. length workers.items ≡ length staff.inboxes.items) }
 {
-    let Drawers { ids, moments } = drawers;
+    let Staff {
+        inboxes,
+        drawers: Drawers { ids, moments },
+        viewers,
+    } = staff;
     let crew = Crew {
         inboxes,
         ids: draws(shared.alloc, &shared.ids, ids)?,

@@ -2,7 +2,7 @@
 ghost use Rattle.std.specs.Prelude.{◌≡◌, length, IfOk, IfErr};
 
 use crate::sessions::Sessions;
-use crossbeam_channel::{Receiver, Sender, unbounded};
+use crossbeam_channel::{Receiver, SendError, Sender, unbounded};
 use message::{Address, Envelope, Message};
 use node::{Letter, Post};
 use std::alloc::Global;
@@ -87,17 +87,22 @@ impl Network {
 // Sends the end until it is taken.
 fn close_one<R: Wait + time::Clock>(rt: &R, inbox: &Sender<Letter>) {
     for _try in rt.forever() {
-        match inbox.send(rt, Letter::Close) {
-            Ok(()) => return,
-            Err(refused) => {
-                if refused.is_disconnected() {
-                    return;
-                }
-            }
+        if is_over(inbox.send(rt, Letter::Close)) {
+            return;
         }
         thread::sleep(rt, Duration::from_millis(1));
     }
     unreachable!()
+}
+
+// Whether a letter was taken, or nobody is there to take it.
+fn is_over(sent: Result<(), SendError<Letter>>) -> bool {
+    let is_over = match &sent {
+        Ok(()) => true,
+        Err(refused) => refused.is_disconnected(),
+    };
+    drop(sent);
+    is_over
 }
 
 // So many channels without a limit.
