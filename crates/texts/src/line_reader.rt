@@ -71,10 +71,30 @@ pub fn lines(alloc: Global, text: &str) -> Result<Vec<Line>, Fault> {
 
 fn line(alloc: Global, words: &[&str]) -> Result<Line, Fault> {
     match words {
-        ["begin", id, m] => Ok(Line::Begin(txn(id)?, number(m)?)),
-        ["ack", id, at, m] => Ok(Line::Ack(txn(id)?, stamp(at)?, number(m)?)),
-        ["read", id, k, x] => Ok(Line::Read(txn(id)?, key(k)?, shown(alloc, x)?)),
-        ["look", k, at, x] => Ok(Line::Look(key(k)?, stamp(at)?, shown(alloc, x)?)),
+        ["begin", id, m] => begin_line(id, m),
+        ["ack", id, at, m] => ack_line(id, at, m),
+        ["read", id, k, x] => read_line(alloc, id, k, x),
+        ["look", k, at, x] => look_line(alloc, k, at, x),
         _ => Err(NO_WORD),
     }
+}
+
+// A session began.
+fn begin_line(id: &str, moment: &str) -> Result<Line, Fault> {
+    Ok(Line::Begin(txn(id)?, number(moment)?))
+}
+
+// A commit was acknowledged.
+fn ack_line(id: &str, at: &str, moment: &str) -> Result<Line, Fault> {
+    Ok(Line::Ack(txn(id)?, stamp(at)?, number(moment)?))
+}
+
+// A read of a session showed a value, or that there is none.
+fn read_line(alloc: Global, id: &str, word: &str, value: &str) -> Result<Line, Fault> {
+    Ok(Line::Read(txn(id)?, key(word)?, shown(alloc, value)?))
+}
+
+// A look at a timestamp showed a value, or that there is none.
+fn look_line(alloc: Global, word: &str, at: &str, value: &str) -> Result<Line, Fault> {
+    Ok(Line::Look(key(word)?, stamp(at)?, shown(alloc, value)?))
 }
