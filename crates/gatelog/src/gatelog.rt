@@ -218,9 +218,11 @@ impl<D: Disk> GateLog<D> {
             × (next_gate (gate_at self.old) item + 1 ≤ 2 ^ 40)))) }
     {
         if self.stopped {
+            drop(item);
             return Err(Fault::Stopped);
         }
         if !self.has_place(&item) {
+            drop(item);
             return Err(Fault::TimeSpent);
         }
         let size = encoded_len(&item) + 6;
@@ -282,6 +284,7 @@ impl<D: Disk> GateLog<D> {
             (staged_bytes staged.item) (D.file (disk_of self.old))) }
     {
         if self.stopped {
+            drop(staged);
             return Err(Fault::Stopped);
         }
         let Staged { gate, item, bytes } = staged;

@@ -1,5 +1,5 @@
 //! The lines of a report that count.
-ghost use Rattle.std.specs.Prelude.{◌≡◌, ◌||◌, List, IfOk, IfErr, OnOk, map};
+ghost use Rattle.std.specs.Prelude.{◌≡◌, ◌||◌, List, IfOk, IfErr, OnOk, filter, map};
 ghost use Rattle.units.specs.Ids.{Id, same_id};
 ghost use Rattle.units.specs.Lists.{when};
 ghost use Rattle.record.specs.History.{history};
@@ -21,13 +21,16 @@ pub fn counted(alloc: Global, logs: &[Vec<Record>], lines: Vec<Line>) -> Result<
     ensures memory { IfErr result (λ fault. fault ≡ Fault.Memory) }
 {
     let decided = decided_by(alloc, logs)?;
-    let mut counted = Vec::new(alloc);
-    for line in lines {
-        if counts(&decided, &line) {
-            counted.push(line)?;
-        }
-    }
-    Ok(counted)
+    Ok(counting_by(&decided, lines))
+}
+
+// The lines that count, where these transactions committed.
+fn counting_by(decided: &IndexSet<TxnId>, mut lines: Vec<Line>) -> Vec<Line>
+    ensures { (logs : List (List Logged)) → AreDecided decided.now.keys logs
+        → result.items ≡ filter (line_counts (history logs)) lines.items }
+{
+    lines.retain(|line| counts(decided, line));
+    lines
 }
 
 // The line counts, where these transactions committed.
