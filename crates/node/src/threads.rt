@@ -29,7 +29,7 @@ impl<D: Disk + Drop, R: Wait + Drop> Node<D, R> {
             match inbox.recv_timeout(rt, Duration::from_millis(1)) {
                 Ok(Letter::Carry(message)) => {
                     gate.before(self.shard(), n);
-                    self.act(rt, post, clock, &Input::Deliver(message));
+                    self.act(rt, post, clock, Input::Deliver(message));
                     gate.after(self.shard(), n);
                     if n < Stamp::MAX {
                         n += 1;
@@ -49,9 +49,11 @@ impl<D: Disk + Drop, R: Wait + Drop> Node<D, R> {
         rt: &W,
         post: &mut P,
         clock: &mut C,
-        input: &Input,
+        input: Input,
     ) -> bool {
-        let Some(Ok(outbox)) = self.take(rt, clock, input) else {
+        let taken = self.take(rt, clock, &input);
+        drop(input);
+        let Some(Ok(outbox)) = taken else {
             return false;
         };
         for envelope in outbox.into_vec() {
@@ -63,13 +65,13 @@ impl<D: Disk + Drop, R: Wait + Drop> Node<D, R> {
     // The chores of an idle node: waits go on, what is decided is settled, what is prepared is asked for, and the node serves
     // up to its reading's latest.
     fn tend<W: Wait, P: Post, C: Clock>(&self, rt: &W, post: &mut P, clock: &mut C) {
-        self.act(rt, post, clock, &Input::Resume);
+        self.act(rt, post, clock, Input::Resume);
         let mut unsettled: usize = 0;
         for _row in 0..MOST_ROWS {
             let Some(txn) = self.decided(rt, unsettled) else {
                 break;
             };
-            if !self.act(rt, post, clock, &Input::Settle(txn)) {
+            if !self.act(rt, post, clock, Input::Settle(txn)) {
                 unsettled = unsettled.saturating_add(1);
             }
         }
@@ -77,7 +79,7 @@ impl<D: Disk + Drop, R: Wait + Drop> Node<D, R> {
             let Some(txn) = self.prepared(rt, row) else {
                 break;
             };
-            self.act(rt, post, clock, &Input::Nudge(txn));
+            self.act(rt, post, clock, Input::Nudge(txn));
         }
         let _ = self.catch_up(rt, clock);
     }
