@@ -1,16 +1,16 @@
 -- A formatted disk that is opened has the first opening as its log.
-use Rattle.std.proofs.Common.{◌≡◌, ◌⊎◌, inl, inr, ⊎_elim, ℕ, ◌+◌, ◌≤◌, ◌<◌, ◌^◌, IsTrue, List, [], ◌∷◌}
-use Rattle.std.proofs.Common.{◌++◌, Option, Some, None, Result, Ok, Err, IfOk, IfErr, refl, sym, ap, ◌∙◌, subst, arith}
+use Rattle.std.proofs.Common.{◌≡◌, ◌⊎◌, inl, inr, ◌+◌, ◌≤◌, ◌^◌, List, [], ◌∷◌}
+use Rattle.std.proofs.Common.{Some, Result, Ok, Err, IfOk, IfErr, refl, ap, ◌∙◌, subst, arith}
 use Rattle.units.specs.declared.fault.Fault.{Fault}
-use Rattle.units.specs.declared.fault.Fault.TheVariants.{Memory, TimeSpent}
+use Rattle.units.specs.declared.fault.Fault.TheVariants.{Memory}
 use Rattle.disk.specs.File.{surface}
 use Rattle.disk.specs.declared.plan.FailurePlan.TheVariants.{Never}
 use Rattle.gatelog.specs.Frames.{IsFull, end_of, next_gate}
 use Rattle.gatelog.specs.Log.{log as scanned_log}
 use Rattle.gatelog.specs.Placed.{Placed}
 use Rattle.protocol.specs.Rows.{rebuilt}
-use Rattle.record.specs.Accepted.{Accepted, taken}
-use Rattle.record.specs.Facts.{Facts, facts_of, learn}
+use Rattle.record.specs.Accepted.{taken}
+use Rattle.record.specs.Facts.{facts_of, learn}
 use Rattle.record.specs.Installs.{installs_of}
 use Rattle.record.specs.declared.record.Record.{Record}
 use Rattle.shard.specs.Logs.{KeepsRecords, and_logged, items_of, learned, records_in}

@@ -1,6 +1,6 @@
 -- What each step of a shard keeps and each opening brings back holds at every moment of a run. A step may rest on what is
 -- given to its shard: `Allowed` says what that is.
-use Rattle.std.proofs.Common.{◌≡◌, nat_le, inl, inr, ℕ, suc, ◌+◌, Bool, true, false, cond, nat_eq, nat_lt, List, [], ◌∷◌, ◌++◌, length, Option, Some}
+use Rattle.std.proofs.Common.{◌≡◌, nat_le, inl, inr, ℕ, suc, ◌+◌, Bool, true, false, cond, nat_lt, List, [], ◌∷◌, ◌++◌, length, Option, Some}
 use Rattle.std.proofs.Common.{None, slice_get, refl, sym, ap, subst, ◌∙◌}
 use Rattle.std.specs.Prelude.{Ok, Err, option_to_list}
 use Rattle.std.proofs.lemmas.Bool.{cases_eq, and_parts}

@@ -1,5 +1,5 @@
 -- Acknowledgements, from the transactions whose commit was told before and the number of the event.
-use Rattle.std.specs.Prelude.{ℕ, Bool, cond, List, [], ◌∷◌, Option, Some, None, option_to_list, option_map}
+use Rattle.std.specs.Prelude.{ℕ, cond, List, [], ◌∷◌, Option, Some, None, option_to_list, option_map}
 use Rattle.units.specs.Ids.{Id}
 use Rattle.units.specs.declared.line.Line.{Line}
 use Rattle.message.specs.declared.message.Envelope.{Envelope}

@@ -1,7 +1,7 @@
 -- The world: sessions, shards, every message ever put out, and the lines of the report. An event changes it by a step of a
 -- session, by a step of a shard, by a crash or by an opening.
 use Rattle.std.specs.List.{list_any}
-use Rattle.std.specs.Prelude.{ℕ, suc, ◌+◌, ◌^◌, Bool, true, false, not, cond, ◌&&◌, ◌||◌, nat_eq, nat_lt, nat_le, List, [], ◌∷◌, ◌++◌, length, map}
+use Rattle.std.specs.Prelude.{ℕ, suc, ◌+◌, ◌^◌, Bool, true, false, not, cond, ◌&&◌, nat_eq, nat_lt, nat_le, List, [], ◌∷◌, ◌++◌, length, map}
 use Rattle.std.specs.Prelude.{replicate, slice_get, Option, Some, None, filter, flat_map, option_map, option_to_list}
 use Rattle.units.specs.Lists.{first, replaced, when}
 use Rattle.units.specs.Ids.{Id, same_id}

@@ -1,5 +1,5 @@
 -- The new shard's log is the opening.
-use Rattle.std.proofs.Common.{◌≡◌, [], Ok, sym, ap, ◌∙◌, subst}
+use Rattle.std.proofs.Common.{◌≡◌, [], Ok, sym, ap, subst}
 use Rattle.disk.specs.File.{surface}
 use Rattle.disk.specs.declared.plan.FailurePlan.TheVariants.{Never}
 use Rattle.gatelog.specs.Log.{log}

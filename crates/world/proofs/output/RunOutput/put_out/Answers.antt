@@ -1,4 +1,4 @@
-use Rattle.std.proofs.Common.{◌++◌, ◌||◌, refl, ap, ◌∙◌, flat_map}
+use Rattle.std.proofs.Common.{◌++◌, ◌||◌, refl, ◌∙◌, flat_map}
 use Rattle.world.specs.Among.{is_among}
 use Rattle.world.specs.Told.{ack_in, told_in}
 use Rattle.world.proofs.Puts.{on_ok, puts}
