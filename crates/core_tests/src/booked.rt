@@ -1,11 +1,11 @@
 //! Cores that keep a book.
 use crate::answers::{Told, are_alike, says};
 use crate::given::Given;
-use crate::stories::{Exchange, disk_behind, fresh, meets_all, setup};
+use crate::stories::{Exchange, crashed, meets_all, setup};
 use book::{Book, Page};
 use gatelog::GateLog;
 use shard::Core;
-use simdisk::{Choice, SimDisk};
+use simdisk::SimDisk;
 use std::alloc::Global;
 use std::process::Abort;
 use units::{Book as Setting, Capacity, Fault, Setup};
@@ -122,14 +122,21 @@ fn told_to_keep(alloc: Global, capacity: u32) -> Option<Setup> {
     })
 }
 
-fn begun(alloc: Global, row: &Row, told: Setup) -> Option<Core<SimDisk>> {
+// The disk on which the core begins.
+fn disk_of(alloc: Global, row: &Row) -> Option<SimDisk> {
     if row.before.is_empty() {
         let log = GateLog::format(SimDisk::new(alloc)).ok()?;
-        return Core::open(alloc, log.into_disk(), told).ok();
+        return Some(log.into_disk());
     }
-    let core = fresh(alloc, SimDisk::new(alloc), 0, 0)?;
-    let disk = disk_behind(core, alloc, row.before)?;
-    Core::open(alloc, disk.crash(&Choice::none(alloc)), told).ok()
+    crashed(alloc, 0, 0, row.before)
+}
+
+fn begun(alloc: Global, row: &Row, told: Setup) -> Option<Core<SimDisk>> {
+    let Some(disk) = disk_of(alloc, row) else {
+        drop(told);
+        return None;
+    };
+    Core::open(alloc, disk, told).ok()
 }
 
 fn shows(core: &Core<SimDisk>, row: &Row) -> bool {
@@ -159,7 +166,9 @@ fn follows(core: &mut Core<SimDisk>, alloc: Global, pages: &[Page]) -> bool {
     for page in pages {
         match core.on(alloc, &page.reading(), page.input()) {
             Ok(out) => {
-                if !are_alike(out.as_slice(), page.outbox()) {
+                let alike = are_alike(out.as_slice(), page.outbox());
+                drop(out);
+                if !alike {
                     return false;
                 }
             }
@@ -179,7 +188,7 @@ fn replays(alloc: Global, row: &Row, book: &Book) -> bool {
     };
     let same = follows(&mut again, alloc, book.pages());
     let shown = again.book().is_none() && shows(&again, row);
-    let _ = again.stop();
+    drop(again.stop());
     same && shown
 }
 
@@ -199,7 +208,7 @@ fn holds(alloc: Global, row: &Row) -> Option<bool> {
     let mut core = begun(alloc, row, told)?;
     let met = meets_all(&mut core, alloc, row.exchanges);
     let kept = shows(&core, row) && is_kept(alloc, &core, row);
-    let _ = core.stop();
+    drop(core.stop());
     Some(met && kept)
 }
 

@@ -211,8 +211,14 @@ fn is_delivered<R: Wait + Drop>(
     let Some(input) = input else {
         return false;
     };
-    match desk.deliver(now, &input) {
-        Ok(out) => votes(out.as_slice(), at),
+    let delivered = desk.deliver(now, &input);
+    drop(input);
+    match delivered {
+        Ok(out) => {
+            let voted = votes(out.as_slice(), at);
+            drop(out);
+            voted
+        }
         Err(_) => false,
     }
 }
@@ -278,7 +284,9 @@ fn go<R: Wait + Drop>(rt: R, alloc: Global, scenes: &[Scene], log: &[Line]) -> O
         at: 0,
         sees: Err(Fault::Stopped),
     };
-    Some(played && held && is_seen(&mut viewer, ended))
+    let refused = is_seen(&mut viewer, ended);
+    drop(viewer);
+    Some(played && held && refused)
 }
 
 fn go_until<R: Wait + Drop>(rt: R, alloc: Global, last: usize) -> Option<bool> {
@@ -296,7 +304,10 @@ fn always_stopped_viewer(rt: HostRuntime) {
 }
 
 fn is_taken<R: Wait>(rt: &R, node: &Node<SimDisk, &R>, now: &Reading, input: &Input) -> bool {
-    node.deliver(rt, now, input).is_ok()
+    let delivered = node.deliver(rt, now, input);
+    let taken = delivered.is_ok();
+    drop(delivered);
+    taken
 }
 
 fn is_shown<R: Wait>(rt: &R, node: &Node<SimDisk, &R>, now: &Reading) -> bool {
@@ -315,7 +326,9 @@ fn is_read_back<R: Threads + Wait + Sync>(
     promise: &Input,
 ) -> Option<bool> {
     let (node, viewer) = fresh_node(rt, alloc, 1)?;
-    let taken = is_taken(rt, &node, now, promise) && is_taken(rt, &node, now, &outcome(200));
+    let decided = outcome(200);
+    let taken = is_taken(rt, &node, now, promise) && is_taken(rt, &node, now, &decided);
+    drop(decided);
     let shown = is_shown(rt, &node, now);
     let seen = is_seen_there(
         rt,
@@ -332,7 +345,9 @@ fn is_read_back<R: Threads + Wait + Sync>(
 fn reads_back<R: Threads + Wait + Sync>(rt: &R, alloc: Global) -> Option<bool> {
     let now = reading(200, 210)?;
     let promise = prepare(alloc)?;
-    is_read_back(rt, alloc, &now, &promise)
+    let read = is_read_back(rt, alloc, &now, &promise);
+    drop(promise);
+    read
 }
 
 #[test]

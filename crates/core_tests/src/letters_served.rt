@@ -43,7 +43,10 @@ impl Gate for Open {
 }
 
 fn is_sent<R: Wait>(rt: &R, to: &Sender<Letter>, letter: Letter) -> bool {
-    to.send(rt, letter).is_ok()
+    let sent = to.send(rt, letter);
+    let is_sent = sent.is_ok();
+    drop(sent);
+    is_sent
 }
 
 // Sends reads of a key, of 1.1 and on, and then the end.

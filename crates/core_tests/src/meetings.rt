@@ -22,7 +22,8 @@ struct Counts<'a> {
 }
 
 impl Post for Counts<'_> {
-    fn post(&mut self, _envelope: Envelope) {
+    fn post(&mut self, envelope: Envelope) {
+        drop(envelope);
         self.posted.fetch_add(1, Ordering::SeqCst);
     }
 }

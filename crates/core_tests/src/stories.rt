@@ -81,10 +81,12 @@ fn meets(core: &mut Core<SimDisk>, alloc: Global, exchange: Exchange) -> bool {
     let Some(now) = reading(earliest, latest) else {
         return false;
     };
-    match input_of(alloc, given) {
-        Some(input) => is_told(core.on(alloc, &now, &input), told),
-        None => false,
-    }
+    let Some(input) = input_of(alloc, given) else {
+        return false;
+    };
+    let answer = core.on(alloc, &now, &input);
+    drop(input);
+    is_told(answer, told)
 }
 
 pub fn meets_all(core: &mut Core<SimDisk>, alloc: Global, exchanges: &[Exchange]) -> bool {
@@ -96,9 +98,18 @@ pub fn meets_all(core: &mut Core<SimDisk>, alloc: Global, exchanges: &[Exchange]
     true
 }
 
+// The core of a shard on a disk that holds a log.
+fn core_on(alloc: Global, disk: SimDisk, shard: u8, stride: u64) -> Option<Core<SimDisk>> {
+    let Some(setup) = setup(alloc, shard, stride) else {
+        drop(disk);
+        return None;
+    };
+    Core::open(alloc, disk, setup).ok()
+}
+
 pub fn fresh(alloc: Global, disk: SimDisk, shard: u8, stride: u64) -> Option<Core<SimDisk>> {
     let log = GateLog::format(disk).ok()?;
-    Core::open(alloc, log.into_disk(), setup(alloc, shard, stride)?).ok()
+    core_on(alloc, log.into_disk(), shard, stride)
 }
 
 // What a look sees in a buffer of four bytes, of which it may take some.
@@ -122,7 +133,12 @@ pub fn disk_behind(
 ) -> Option<SimDisk> {
     let met = meets_all(&mut core, alloc, exchanges);
     let disk = core.stop();
-    if met { Some(disk) } else { None }
+    if met {
+        Some(disk)
+    } else {
+        drop(disk);
+        None
+    }
 }
 
 // The same of a core whose next append is to meet a failing call.
@@ -139,6 +155,7 @@ fn disk_behind_armed(
     if met && matches!(seen, Some((Ok(Seen::Absent), _))) {
         Some(disk)
     } else {
+        drop(disk);
         None
     }
 }
@@ -150,22 +167,31 @@ fn failing(alloc: Global, story: &Story, call: u64) -> Option<Core<SimDisk>> {
     Some(core)
 }
 
-fn crashed(alloc: Global, story: &Story, exchanges: &[Exchange]) -> Option<SimDisk> {
-    let core = fresh(alloc, SimDisk::new(alloc), story.shard, story.stride)?;
+// The disk of a new shard, crashed behind these exchanges.
+pub fn crashed(alloc: Global, shard: u8, stride: u64, exchanges: &[Exchange]) -> Option<SimDisk> {
+    let core = fresh(alloc, SimDisk::new(alloc), shard, stride)?;
     let disk = disk_behind(core, alloc, exchanges)?;
-    Some(disk.crash(&Choice::none(alloc)))
+    let choice = Choice::none(alloc);
+    let crashed = disk.crash(&choice);
+    drop(choice);
+    Some(crashed)
 }
 
 fn opened(alloc: Global, story: &Story, disk: Option<SimDisk>) -> Option<Core<SimDisk>> {
-    let setup = setup(alloc, story.shard, story.stride)?;
-    Core::open(alloc, disk?, setup).ok()
+    core_on(alloc, disk?, story.shard, story.stride)
 }
 
 fn begun(alloc: Global, story: &Story) -> Option<Core<SimDisk>> {
     match story.origin {
         Origin::New => fresh(alloc, SimDisk::new(alloc), story.shard, story.stride),
         Origin::Failing(call) => failing(alloc, story, call),
-        Origin::Crashed(exchanges) => opened(alloc, story, crashed(alloc, story, exchanges)),
+        Origin::Crashed(exchanges) => {
+            opened(
+                alloc,
+                story,
+                crashed(alloc, story.shard, story.stride, exchanges),
+            )
+        }
         Origin::Armed(call, exchanges) => {
             opened(
                 alloc,
@@ -255,7 +281,9 @@ fn goes(alloc: Global, story: &Story, moment: &Moment) -> Option<bool> {
     let mut core = begun(alloc, story)?;
     let met = meets_all(&mut core, alloc, exchanges);
     let shown = are_shown(&core, moment.shows);
-    let kept = is_kept(alloc, &mut core.stop(), moment.shows);
+    let mut disk = core.stop();
+    let kept = is_kept(alloc, &mut disk, moment.shows);
+    drop(disk);
     Some(met && shown && kept)
 }
 
