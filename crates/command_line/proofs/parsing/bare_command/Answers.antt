@@ -1,5 +1,5 @@
 -- The program's settings, one by one.
-use Rattle.std.proofs.Common.{◌≡◌, ◌∙◌, ap, true}
+use Rattle.std.proofs.Common.{◌∙◌, ap, true}
 use Rattle.clap.specs.Simple.{app_of_fields, on_top}
 use Rattle.command_line.proofs.parsing.bare_command.Goals as goal
 
