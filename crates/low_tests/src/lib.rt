@@ -4,10 +4,6 @@
 #[cfg(test)]
 mod clocks;
 #[cfg(test)]
-mod devices;
-#[cfg(test)]
-mod disks;
-#[cfg(test)]
 mod documents;
 #[cfg(test)]
 mod drawers;
@@ -18,25 +14,11 @@ mod drive_lines;
 #[cfg(test)]
 mod figures;
 #[cfg(test)]
-mod file_logs;
-#[cfg(test)]
-mod files;
-#[cfg(test)]
-mod folder;
-#[cfg(test)]
 mod ids;
-#[cfg(test)]
-mod known;
-#[cfg(test)]
-mod ledgers;
-#[cfg(test)]
-mod left;
 #[cfg(test)]
 mod letters;
 #[cfg(test)]
 mod limits;
-#[cfg(test)]
-mod lines;
 #[cfg(test)]
 mod looks;
 #[cfg(test)]
@@ -52,8 +34,6 @@ mod seated;
 #[cfg(test)]
 mod sessions;
 #[cfg(test)]
-mod spellings;
-#[cfg(test)]
 mod tables;
 #[cfg(test)]
 mod terminals;
@@ -61,5 +41,3 @@ mod terminals;
 mod text_logs;
 #[cfg(test)]
 mod verdicts;
-#[cfg(test)]
-mod versioned;
