@@ -107,7 +107,7 @@ module _ (disk armed_disk : SimDisk) (call : Option ℕ) (plan : disk_plan armed
       ap (λ b. where_room (end_of (disk_log s))
       (cond b (Does (Some (Record.Opened ((facts_of (disk_log s)).epoch + 1))) (rebuilt (facts_of (disk_log s))) []) (Refuses TimeSpent))) below
       ∙ ap (λ r. where_room (end_of (disk_log s)) (Does (Some r) (rebuilt (facts_of (disk_log s))) [])) item_is
-      ∙ room_is (end_of (disk_log s)) (Some (next_opening (disk_log s))) (rebuilt (facts_of (disk_log s))) [] place
+      ∙ room_is (end_of (disk_log s)) (next_opening (disk_log s)) (rebuilt (facts_of (disk_log s))) [] place
 
   -- it has none
   refuses : (2 ^ 62 ≤ epoch_of (disk_log s) + 1) ⊎ IsFull (end_of (disk_log s)) (next_opening (disk_log s)) → opens_as s ≡ Refuses TimeSpent

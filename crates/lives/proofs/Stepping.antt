@@ -24,7 +24,7 @@ use Rattle.message.specs.declared.message.Envelope.{Envelope}
 use Rattle.message.specs.declared.message.Input.{Input}
 use Rattle.protocol.specs.Rows.{Memory}
 use Rattle.protocol.specs.Step.{Stepped, Refuses, Does, step, facts_after}
-use Rattle.shard.specs.Armed.{AreArmed, FailsIn, GoesPast}
+use Rattle.shard.specs.Armed.{AreArmed, FailsIn, GoesPast, HasPlace}
 use Rattle.shard.specs.Logs.{KeepsRecords, records_in, and_logged}
 use Rattle.shard.specs.On.{CoreView, HasStepped, IsCause, StandsAsBefore, IsLogFull, gate_behind, record_of, step_of}
 use Rattle.simdisk.specs.State.{disk_clock, disk_failures, disk_file, disk_plan, LeftSince}
@@ -34,6 +34,12 @@ use Rattle.world.proofs.Rooms.{full_is, room_is}
 use Rattle.lives.specs.Lives.{HoldsLog, IsCoreIn, IsCoreOf, IsRunningAs, IsStoppedAs, disk_log}
 use Rattle.lives.specs.Carries.{Comes, IsOrderly, TakesInput, answer_of, asked_if_room, asked_in, by_call, comes_to, stepped_shard}
 use Rattle.lives.proofs.Holding.{holds_failed, holds_kept, holds_same}
+
+-- a step for whose record, where it has one, there is room
+room_for : (gate : ℕ) (logged : Option Record) (memory : Memory) (out : List Envelope) → HasPlace gate logged →
+    where_room gate (Does logged memory out) ≡ Does logged memory out
+room_for gate None memory out place = refl
+room_for gate (Some r) memory out place = room_is gate r memory out place
 
 -- a core is armed, and nothing else changes
 pub record IsArmedFrom (old new : CoreView SimDisk) (call : Option ℕ) : Type 0 where
@@ -264,7 +270,7 @@ module _ (old before after new : CoreView SimDisk) (call : Option ℕ) (arms : I
                 Left (where_room before.gate (Does (Some r) memory out)) (Err fault)
             by_armed None g is = absurd (g device.0)
             by_armed (Some c) g is =
-                subst (λ x. Left x (Err fault)) (sym (room_is before.gate (Some r) memory out (g device.0).1))
+                subst (λ x. Left x (Err fault)) (sym (room_is before.gate r memory out (g device.0).1))
                 (failed r memory out fault call k f device.0 device.1.1)
 
     -- it was done, or refused
@@ -274,7 +280,7 @@ module _ (old before after new : CoreView SimDisk) (call : Option ℕ) (arms : I
         → Left (where_room before.gate st) r
     running_comes (Refuses why) (Ok out) k follows = absurd (k.done.2)
     running_comes (Does logged memory outbox) (Ok out) k follows =
-        let whole : where_room before.gate (Does logged memory outbox) ≡ Does logged memory outbox = room_is before.gate logged memory outbox k.written.place in
+        let whole : where_room before.gate (Does logged memory outbox) ≡ Does logged memory outbox = room_for before.gate logged memory outbox k.written.place in
         let is_past = past call arms.plan logged memory out outbox k in
         let core : IsRunningAs setup (stepped_shard s logged memory) memory new = done logged memory out outbox k (λ q e. follows q memory outbox (whole
         ∙ ap (λ l. Does l memory outbox) e)) in

@@ -7,7 +7,6 @@ use Rattle.message.specs.declared.message.Envelope.{Envelope}
 use Rattle.protocol.specs.Rows.{Memory}
 use Rattle.protocol.specs.Step.{Stepped, Refuses, Does}
 use Rattle.record.specs.declared.record.Record.{Record}
-use Rattle.shard.specs.Armed.{HasPlace}
 use Rattle.world.specs.World.{has_room, where_room}
 
 pub done_wanted : (gate : ℕ) (st : Stepped) (logged : Option Record) (memory : Memory) (out : List Envelope) →
@@ -26,11 +25,10 @@ at_most a b h = grind (arith, nat_tests)
 above : (a b : ℕ) → b < a → nat_le a b ≡ false
 above a b h = grind (arith, nat_tests)
 
-pub room_is : (gate : ℕ) (logged : Option Record) (memory : Memory) (out : List Envelope) → HasPlace gate logged →
-    where_room gate (Does logged memory out) ≡ Does logged memory out
-room_is gate None memory out place = refl
-room_is gate (Some r) memory out place =
-    ap (λ b. cond b (Does (Some r) memory out) (Refuses TimeSpent)) (at_most (next_gate gate r + 1) (2 ^ 40) place)
+pub room_is : (gate : ℕ) (r : Record) (memory : Memory) (out : List Envelope) → next_gate gate r + 1 ≤ 2 ^ 40 →
+    where_room gate (Does (Some r) memory out) ≡ Does (Some r) memory out
+room_is gate r memory out room =
+    ap (λ b. cond b (Does (Some r) memory out) (Refuses TimeSpent)) (at_most (next_gate gate r + 1) (2 ^ 40) room)
 
 pub full_is : (gate : ℕ) (r : Record) (memory : Memory) (out : List Envelope) → IsFull gate r →
     where_room gate (Does (Some r) memory out) ≡ Refuses TimeSpent

@@ -1,0 +1,7 @@
+//! The texts of schedules: the shards and the events that one tells.
+#![tactic(auto)]
+
+mod events;
+mod reader;
+
+pub use reader::schedule;
