@@ -123,11 +123,13 @@ impl<'s> Run<'s> {
                 let moved = self.sessions.read(alloc, *txn, *key);
                 self.output.reply(moved)
             }
-            Act::Write(txn, key, value) => {
-                let value = copy_value(alloc, value)?;
-                let moved = self.sessions.write(alloc, *txn, *key, value);
-                self.output.reply(moved)
-            }
+            Act::Write(txn, key, value) => match copy_value(alloc, value) {
+                Ok(value) => {
+                    let moved = self.sessions.write(alloc, *txn, *key, value);
+                    self.output.reply(moved)
+                }
+                Err(fault) => Err(fault),
+            },
             Act::Close(txn) => {
                 let moved = self.sessions.close(alloc, *txn);
                 self.output.reply(moved)
@@ -138,13 +140,15 @@ impl<'s> Run<'s> {
             }
             Act::Deliver(number, now) => self.deliver(alloc, *number, *now),
             Act::At(shard, doing) => self.act_at(alloc, *shard, None, doing),
-            Act::Look(shard, key, at) => {
-                let reply = self.shards.look(alloc, *shard, key, *at)?;
-                self.output.note_look(alloc, *key, *at, reply)
-            }
+            Act::Look(shard, key, at) => match self.shards.look(alloc, *shard, key, *at) {
+                Ok(reply) => self.output.note_look(alloc, *key, *at, reply),
+                Err(fault) => Err(fault),
+            },
             Act::View(shard, number, key, at) => {
-                let reply = self.shards.look_back(alloc, *shard, *number, key, *at)?;
-                self.output.note_look(alloc, *key, *at, reply)
+                match self.shards.look_back(alloc, *shard, *number, key, *at) {
+                    Ok(reply) => self.output.note_look(alloc, *key, *at, reply),
+                    Err(fault) => Err(fault),
+                }
             }
             Act::Crash(shard) => self.crash(alloc, *shard),
             Act::CrashIn(shard, call, fate, _, doing) => {

@@ -27,6 +27,11 @@ pub struct Report {
     pub lines: Vec<Line>,
 }
 
+impl Report {
+    /// The report is kept no longer.
+    pub fn spend(self) {}
+}
+
 /// Plays the events over shards on disks in memory: each step of a shard is a call of its core, each step of a session one of
 /// its transaction, each crash and each failing call one of its disk. Events that are not lawful are refused with the number
 /// of the first that may not happen.
@@ -58,7 +63,10 @@ pub fn lawful(alloc: Global, config: &Config, events: &[Event]) -> Result<bool, 
     ensures memory { IfErr result (λ fault. fault ≡ Fault.Memory) }
 {
     match play(alloc, config, events) {
-        Ok(_report) => Ok(true),
+        Ok(report) => {
+            report.spend();
+            Ok(true)
+        }
         Err(Fault::BadRequest(Reason::Unlawful(_))) => Ok(false),
         Err(fault) => Err(fault),
     }
@@ -77,7 +85,10 @@ fn play_all(
         → Plays config events.now run.new replies.new.items counts.new.items result }
 {
     for (number, event) in events.iter().enumerate() {
-        let reply = run.take(alloc, number as u64, event)?;
+        let reply = match run.take(alloc, number as u64, event) {
+            Ok(reply) => reply,
+            Err(fault) => return Err(fault),
+        };
         replies.push(reply)?;
         counts.push(run.output.bag.as_slice().len() as u64)?;
     }
