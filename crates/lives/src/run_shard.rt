@@ -299,14 +299,7 @@ fn records_of(alloc: Global, entries: &[Entry]) -> Result<Vec<Record>, Fault>
 {
     let mut records = Vec::new(alloc);
     for entry in entries {
-        match entry.item().copy(alloc) {
-            Ok(record) => {
-                let Ok(()) = records.push(record) else {
-                    return Err(Fault::Memory);
-                };
-            }
-            Err(fault) => return Err(fault),
-        }
+        records.push(entry.item().copy(alloc)?)?;
     }
     Ok(records)
 }
@@ -317,19 +310,12 @@ fn push_copies(installs: &mut Vec<Install>, alloc: Global, more: &[Install]) -> 
     ensures memory { IfErr result (λ fault. fault ≡ Fault.Memory) }
 {
     for install in more {
-        match copy_value(alloc, &install.value) {
-            Ok(value) => {
-                let copy = Install {
-                    key: install.key,
-                    at: install.at,
-                    value,
-                };
-                let Ok(()) = installs.push(copy) else {
-                    return Err(Fault::Memory);
-                };
-            }
-            Err(fault) => return Err(fault),
-        }
+        let value = copy_value(alloc, &install.value)?;
+        installs.push(Install {
+            key: install.key,
+            at: install.at,
+            value,
+        })?;
     }
     Ok(())
 }
