@@ -30,7 +30,7 @@ pub fn judged(alloc: Global, config: &Config, events: &[Event]) -> Result<Played
     match inspect(alloc, &report.logs, &report.lines) {
         Ok(verdict) => Ok(Played { report, verdict }),
         Err(fault) => {
-            drop(report);
+            report.spend();
             Err(fault)
         }
     }

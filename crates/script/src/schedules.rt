@@ -90,10 +90,13 @@ fn push_splits(
         Err(fault) => return Err(fault),
     };
     for _ in 1..count {
-        match split(alloc, reader) {
-            Ok(key) => keys.push(key)?,
+        let key = match split(alloc, reader) {
+            Ok(key) => key,
             Err(fault) => return Err(fault),
-        }
+        };
+        let Ok(()) = keys.push(key) else {
+            return Err(Fault::Memory);
+        };
     }
     Ok(())
 }
