@@ -54,7 +54,9 @@ fn decided_by(ids: &mut IndexSet<TxnId>, logs: &[Vec<Record>]) -> Result<(), Fau
     ensures memory { IfErr result (λ fault. fault ≡ Fault.Memory) }
 {
     for (shard, log) in logs.iter().enumerate() {
-        note_decided(ids, shard, log)?;
+        if let Err(fault) = note_decided(ids, shard, log) {
+            return Err(fault);
+        }
     }
     Ok(())
 }
@@ -67,7 +69,9 @@ fn note_decided(ids: &mut IndexSet<TxnId>, shard: usize, log: &[Record]) -> Resu
 {
     for item in log {
         if let Some(txn) = decides(item, shard) {
-            ids.insert(txn)?;
+            let Ok(_) = ids.insert(txn) else {
+                return Err(Fault::Memory);
+            };
         }
     }
     Ok(())

@@ -151,7 +151,9 @@ fn note_told(told: &mut IndexSet<TxnId>, out: &[Envelope]) -> Result<(), Fault>
 {
     for envelope in out {
         if let Some(txn) = told_in(envelope) {
-            told.insert(txn)?;
+            let Ok(_) = told.insert(txn) else {
+                return Err(Fault::Memory);
+            };
         }
     }
     Ok(())
