@@ -112,6 +112,17 @@ nowhere {A = A} config shards ss n none f h over =
     let many = as_many config 0 shards.shards.items ss h.standing in
     ap (λ o. elim o as (λ x. A) [ None ↦ none | Some s ↦ f s ]) (slice_get_past ss n (omega (arith, many, over)))
 
+-- there is none in the code, so there is none
+pub no_such : {A : Type 0} (config : Config) (shards : Shards) (ss : List ShardNow) (n : ℕ) (none : A) (f : ShardNow → A) →
+    AreShards config shards ss → slice_get shards.shards.items n ≡ None
+    → elim (slice_get ss n) as (λ x. A) [ None ↦ none | Some s ↦ f s ] ≡ none
+no_such config shards ss n none f h missing = nowhere config shards ss n none f h (past shards.shards.items n missing)
+  where
+    past : (rs : List RunShard) (i : ℕ) → slice_get rs i ≡ None → length rs ≤ i
+    past [] i e = omega arith
+    past (r ∷ rs) zero e = absurd (not_none r (sym e))
+    past (r ∷ rs) (suc i) e = omega (arith, past rs i e)
+
 -- there is one
 pub looks_there : (config : Config) (shards : Shards) (ss : List ShardNow) (n : ℕ) (r : RunShard) (result : Result Reply Fault)
     (f : ShardNow → Reply) → AreShards config shards ss
@@ -132,11 +143,9 @@ tests_there config shards ss n r b f h there tested =
     tested p.0 p.2 ∙ ap (when f) (sym p.1)
 
 pub tests_nowhere : (config : Config) (shards : Shards) (ss : List ShardNow) (n : ℕ) (f : ShardNow → Bool) →
-    AreShards config shards ss → length shards.shards.items ≤ n
+    AreShards config shards ss → slice_get shards.shards.items n ≡ None
     → false ≡ when f (slice_get ss n)
-tests_nowhere config shards ss n f h over =
-    let many = as_many config 0 shards.shards.items ss h.standing in
-    sym (ap (when f) (slice_get_past ss n (omega (arith, many, over))))
+tests_nowhere config shards ss n f h missing = sym (no_such config shards ss n false f h missing)
 
 -- what is answered, and the shards, by what stands in a place
 abbrev by_place : Config → List ShardNow → ℕ → List Envelope → Option ℕ → Doing → Option ShardNow → Result (List Envelope) Fault × List ShardNow

@@ -1,6 +1,6 @@
 -- What the parts of a run answer is what the event comes to.
 use Rattle.std.proofs.Common.{◌≡◌, ◌⊎◌, inl, inr, ℕ, zero, suc, ◌≤◌, Bool, true, false, cond, nat_lt, List, [], ◌∷◌, ◌++◌, length, slice_get, Option}
-use Rattle.std.proofs.Common.{Some, None, Result, Ok, Err}
+use Rattle.std.proofs.Common.{Some, None, Result, Ok, Err, OnOk, IfErr}
 use Rattle.std.proofs.Common.{refl, sym, ap, ◌∙◌, subst, arith}
 use Rattle.std.proofs.lemmas.Bool.Decides.{nat_tests}
 use Rattle.std.proofs.lemmas.Option.{slice_get_past}
@@ -31,7 +31,7 @@ use Rattle.world.specs.declared.event.Reply.{Reply}
 use Rattle.lives.specs.Carries.{answer_of, left_by_refusal, unopened}
 use Rattle.lives.specs.Fleet.{ActsAt, AreShards, IsOrderlyAt, changed_at, crashed_at, crashed_in_at, looked, looked_back, shards_by}
 use Rattle.lives.specs.Lives.{crash_by}
-use Rattle.lives.specs.Runs.{ComesAfter, IsRun, act_at, crash_at, crash_in_at}
+use Rattle.lives.specs.Runs.{ComesAfter, IsRun, act_at, crash_at, crash_in_at, crash_reply}
 use Rattle.lives.specs.Shows.{done_by}
 use Rattle.lives.proofs.Crashing.{crash_is_old}
 use Rattle.lives.specs.declared.run.Run.{Run}
@@ -62,20 +62,22 @@ module _ (w : World) (old new : Run) (h : IsRun old w) where
   nobody_comes m now o none = subst (λ x. ComesAfter (deliver_to w m now x) old (Ok (Reply.Refused Stranger))) (sym none) (refl, h)
 
   -- a session begins
-  pub begin_comes : (t : Id) (number : ℕ) → number ≡ w.event → Hosts w.config.splits new.sessions (w.clients ++ begun t ∷ []) →
-      ((v : World) → IsOutput old.output v → IsOutput new.output (note (Line.Begin t number) v))
-      → new.shards ≡ old.shards → new.time ≡ old.time → ComesAfter (begin t w, Reply.Done) new (Ok Reply.Done)
-  begin_comes t number is hosts look_noted shards time = (
-    refl,
-    record {
-      sessions = hosts;
-      shards = same_shards shards;
-      output = subst (λ n. IsOutput new.output (note (Line.Begin t n) (record w { clients = w.clients ++ begun t ∷ [] }))) is
-          (look_noted (record w { clients = w.clients ++ begun t ∷ [] })
-          (record { bag = h.output.bag; told = h.output.told; lines = h.output.lines; event = h.output.event }));
-      time = time ∙ h.time;
-    },
-  )
+  pub begin_comes : (t : Id) (number : ℕ) (result : Result Reply Fault) → number ≡ w.event →
+      Hosts w.config.splits new.sessions (w.clients ++ begun t ∷ [])
+      → ((v : World) → IsOutput old.output v → HasHeard v (Ok (Some (Line.Begin t number))) new.output result)
+      → new.shards ≡ old.shards → new.time ≡ old.time → ComesAfter (begin t w, Reply.Done) new result
+  begin_comes t number (Err fault) is hosts heard shards time = heard w h.output
+  begin_comes t number (Ok reply) is hosts heard shards time =
+      let r = heard (record w { clients = w.clients ++ begun t ∷ [] })
+      (record { bag = h.output.bag; told = h.output.told; lines = h.output.lines; event = h.output.event }) in (
+        r.0,
+        record {
+          sessions = hosts;
+          shards = same_shards shards;
+          output = subst (λ n. IsOutput new.output (note (Line.Begin t n) (record w { clients = w.clients ++ begun t ∷ [] }))) is r.1;
+          time = time ∙ h.time;
+        },
+      )
 
   -- a step of a session
   pub session_comes : (m : Moved) (answer : Result (List Envelope) Fault) (result : Result Reply Fault) →
@@ -319,6 +321,12 @@ module _ (w : World) (old new : Run) (h : IsRun old w) where
   none_crashes n f over =
       subst (λ o. ComesAfter (elim o as (λ x. After) [ None ↦ refused w Stranger | Some s ↦ f (setup_of w.config n) s ]) old (Ok (Reply.Refused Stranger)))
       (sym (slice_get_past w.shards n (grind (arith, nat_tests)))) (refl, h)
+
+-- a crash that is done, but for want of memory
+pub when_done : {P : Type 0} (new : Run) (after : After) (done : Result (Unit {0}) Fault) → OnOk done P → IfErr done (λ fault. fault ≡ Memory)
+    → (P → ComesAfter after new (Ok Reply.Crashed)) → ComesAfter after new (crash_reply done)
+when_done new after (Ok x) h memory f = f h
+when_done new after (Err fault) h memory f = memory
 
 -- a message to a shard, and one to a session
 pub for_shard : (w : World) (m n : ℕ) (now : Interval) (e : Envelope) → slice_get w.bag m ≡ Some e → e.to ≡ Shard n →

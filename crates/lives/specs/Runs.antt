@@ -14,6 +14,11 @@ use Rattle.world.specs.declared.event.Reply.{Reply}
 use Rattle.lives.specs.Fleet.{AreShards}
 use Rattle.lives.specs.declared.run.Run.{Run}
 
+-- the reply to a crash
+abbrev pub crash_reply : Result (Unit {0}) Fault → Result Reply Fault
+crash_reply (Ok done) = Ok Reply.Crashed
+crash_reply (Err fault) = Err fault
+
 -- its sessions, its shards, what was put out, and its time
 pub record IsRun (r : Run) (w : World) : Type 0 where
   pub sessions : Hosts w.config.splits r.sessions w.clients

@@ -1,7 +1,9 @@
 //! The shards of a run.
 ghost use Rattle.std.specs.Prelude.{◌≡◌, ◌≤◌, ℕ, List, [], true, not, IfOk, IfErr, OnOk, length, map, slice_get};
 ghost use Rattle.units.specs.Lists.{when};
-ghost use Rattle.world.specs.World.{ShardNow, read_log, setup_of};
+ghost use Rattle.world.specs.World.{ShardNow, fresh_shard, read_log, setup_of};
+ghost use Rattle.std.specs.Option.{option_copied};
+ghost use Rattle.lives.specs.Shows.{StandsFor};
 ghost use Rattle.world.specs.declared.event.Config.{Config};
 ghost use Rattle.lives.specs.Fleet.{AreOn, AreStanding, are_fresh};
 
@@ -52,12 +54,19 @@ impl<'s> Shards<'s> {
         (shard.number() as usize) < self.shards.len()
     }
 
+    // The shard of this number.
+    fn one(&self, shard: ShardNo) -> Option<&RunShard>
+        ensures { option_copied result ≡ slice_get self.now.shards.items shard }
+    {
+        self.shards.get(shard.number() as usize)
+    }
+
     /// There is a shard of this number, and a view of that number of it.
     pub fn has_view(&self, shard: ShardNo, number: u64) -> bool
         ensures { (config : Config) (ss : List ShardNow) → AreShards config self.now ss
             → result ≡ when (λ s. nat_lt number (length s.views)) (slice_get ss shard) }
     {
-        match self.shards.get(shard.number() as usize) {
+        match self.one(shard) {
             Some(one) => number < one.views(),
             None => false,
         }
@@ -68,7 +77,7 @@ impl<'s> Shards<'s> {
         ensures { (config : Config) (ss : List ShardNow) → AreShards config self.now ss
             → result ≡ when (λ s. not (is_up s.state)) (slice_get ss shard) }
     {
-        match self.shards.get(shard.number() as usize) {
+        match self.one(shard) {
             Some(one) => !one.is_up(),
             None => false,
         }
@@ -79,7 +88,7 @@ impl<'s> Shards<'s> {
         ensures { (config : Config) (ss : List ShardNow) → AreShards config self.now ss
             → result ≡ when (λ s. not (is_down s.state)) (slice_get ss shard) }
     {
-        match self.shards.get(shard.number() as usize) {
+        match self.one(shard) {
             Some(one) => !one.is_down(),
             None => false,
         }
@@ -147,7 +156,7 @@ impl<'s> Shards<'s> {
         ensures memory { IfErr result (λ fault. fault ≡ Fault.Memory) }
     {
         let is_here = self.splits.shard_of(key).number() == shard.number();
-        match self.shards.get(shard.number() as usize) {
+        match self.one(shard) {
             Some(one) => one.look(alloc, is_here, key, at),
             None => Ok(Reply::Refused(Fault::Stranger)),
         }
@@ -167,7 +176,7 @@ impl<'s> Shards<'s> {
         ensures memory { IfErr result (λ fault. fault ≡ Fault.Memory) }
     {
         let is_here = self.splits.shard_of(key).number() == shard.number();
-        match self.shards.get(shard.number() as usize) {
+        match self.one(shard) {
             Some(one) => one.look_back(alloc, number, is_here, key, at),
             None => Ok(Reply::Refused(Fault::Stranger)),
         }
@@ -206,27 +215,36 @@ fn fill(shards: &mut Vec<RunShard>, alloc: Global, config: &Config) -> Result<()
 {
     for number in 0..config.splits.as_slice().len() + 1 {
         shards.reserve(1)?;
-        let setup = setup_of(alloc, config, number)?;
-        shards.push_reserved(RunShard::fresh(alloc, setup)?);
+        match fresh_at(alloc, config, number) {
+            Ok(shard) => shards.push_reserved(shard),
+            Err(fault) => return Err(fault),
+        }
     }
     Ok(())
 }
 
-// What the shard of a number is told.
-fn setup_of(alloc: Global, config: &Config, number: usize) -> Result<Setup, Fault>
+// The shard of a number, with what it is told.
+fn fresh_at(alloc: Global, config: &Config, number: usize) -> Result<RunShard, Fault>
     requires { number ≤ 15 }
-    ensures same { IfOk result (λ setup. setup ≡ setup_of config.now number) }
+    ensures fresh { IfOk result
+        (λ shard. StandsFor (setup_of config.now number) shard fresh_shard) }
     ensures memory { IfErr result (λ fault. fault ≡ Fault.Memory) }
 {
     let Some(shard) = ShardNo::new(number as u8) else {
         unreachable!()
     };
-    Ok(Setup {
-        shard,
-        splits: config.splits.copy(alloc)?,
-        stride: config.stride,
-        book: Book::Off,
-    })
+    match config.splits.copy(alloc) {
+        Ok(splits) => {
+            let setup = Setup {
+                shard,
+                splits,
+                stride: config.stride,
+                book: Book::Off,
+            };
+            RunShard::fresh(alloc, setup)
+        }
+        Err(fault) => Err(fault),
+    }
 }
 
 // Takes the shards from the front, and reads each log.

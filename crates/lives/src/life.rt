@@ -113,7 +113,11 @@ fn do_input(
     ensures { DoesInput (seen core.old) (seen core.new) bag.now call doing.now result }
 {
     match input_of(alloc, bag, doing) {
-        Ok((now, input)) => take(core, alloc, call, &now, &input),
+        Ok((now, input)) => {
+            let result = take(core, alloc, call, &now, &input);
+            drop(input);
+            result
+        }
         Err(fault) => Err(fault),
     }
 }
@@ -170,12 +174,15 @@ fn copy_of(alloc: Global, setup: &Setup) -> Result<Setup, Fault>
     ensures same { IfOk result (λ copy. copy ≡ setup.now) }
     ensures memory { IfErr result (λ fault. fault ≡ Fault.Memory) }
 {
-    Ok(Setup {
-        shard: setup.shard,
-        splits: setup.splits.copy(alloc)?,
-        stride: setup.stride,
-        book: setup.book,
-    })
+    match setup.splits.copy(alloc) {
+        Ok(splits) => Ok(Setup {
+            shard: setup.shard,
+            splits,
+            stride: setup.stride,
+            book: setup.book,
+        }),
+        Err(fault) => Err(fault),
+    }
 }
 
 // The doing is an opening.
@@ -196,7 +203,10 @@ fn input_of(alloc: Global, bag: &[Envelope], doing: &Doing) -> Result<(Reading, 
 {
     match doing {
         Doing::Take(number, now) => match bag.get(*number as usize) {
-            Some(envelope) => Ok((*now, Input::Deliver(envelope.message.copy(alloc)?))),
+            Some(envelope) => match envelope.message.copy(alloc) {
+                Ok(message) => Ok((*now, Input::Deliver(message))),
+                Err(fault) => Err(fault),
+            },
             None => Err(Fault::Stopped),
         },
         Doing::Resume(now) => Ok((*now, Input::Resume)),

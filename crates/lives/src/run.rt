@@ -4,7 +4,7 @@ ghost use Rattle.world.specs.World.{World, acts, begin, client_of, deliver_to, l
 ghost use Rattle.world.specs.Lawful.{may_act, may_happen};
 ghost use Rattle.world.specs.Steady.{IsSteady};
 ghost use Rattle.lives.specs.Fleet.{AreOn};
-ghost use Rattle.lives.specs.Runs.{ComesAfter, IsRun, TakesEvent, act_at, crash_at, crash_in_at};
+ghost use Rattle.lives.specs.Runs.{ComesAfter, IsRun, TakesEvent, act_at, crash_at, crash_in_at, crash_reply};
 
 use crate::fleet::Shards;
 use crate::lawfulness::{may_crash, may_deliver, may_do};
@@ -41,12 +41,15 @@ impl<'s> Run<'s> {
         ensures started { IfOk result (λ run. IsRun run (start config.now)) }
         ensures memory { IfErr result (λ fault. fault ≡ Fault.Memory) }
     {
-        Ok(Run {
-            shards: Shards::start(alloc, config)?,
-            sessions: Sessions::none(alloc, &config.splits),
-            output: RunOutput::new(alloc),
-            time: 0,
-        })
+        match Shards::start(alloc, config) {
+            Ok(shards) => Ok(Run {
+                sessions: Sessions::none(alloc, &config.splits),
+                shards,
+                output: RunOutput::new(alloc),
+                time: 0,
+            }),
+            Err(fault) => Err(fault),
+        }
     }
 
     // The event may happen now.
@@ -99,10 +102,14 @@ impl<'s> Run<'s> {
         if !self.may_happen(event) {
             return Err(Fault::BadRequest(Reason::Unlawful(number)));
         }
-        let reply = self.act(alloc, &event.act)?;
-        self.output.event = number + 1;
-        self.time = event.time;
-        Ok(reply)
+        match self.act(alloc, &event.act) {
+            Ok(reply) => {
+                self.output.event = number + 1;
+                self.time = event.time;
+                Ok(reply)
+            }
+            Err(fault) => Err(fault),
+        }
     }
 
     // The act is done.
@@ -116,11 +123,13 @@ impl<'s> Run<'s> {
                 let moved = self.sessions.read(alloc, *txn, *key);
                 self.output.reply(moved)
             }
-            Act::Write(txn, key, value) => {
-                let value = copy_value(alloc, value)?;
-                let moved = self.sessions.write(alloc, *txn, *key, value);
-                self.output.reply(moved)
-            }
+            Act::Write(txn, key, value) => match copy_value(alloc, value) {
+                Ok(value) => {
+                    let moved = self.sessions.write(alloc, *txn, *key, value);
+                    self.output.reply(moved)
+                }
+                Err(fault) => Err(fault),
+            },
             Act::Close(txn) => {
                 let moved = self.sessions.close(alloc, *txn);
                 self.output.reply(moved)
@@ -131,13 +140,15 @@ impl<'s> Run<'s> {
             }
             Act::Deliver(number, now) => self.deliver(alloc, *number, *now),
             Act::At(shard, doing) => self.act_at(alloc, *shard, None, doing),
-            Act::Look(shard, key, at) => {
-                let reply = self.shards.look(alloc, *shard, key, *at)?;
-                self.output.note_look(alloc, *key, *at, reply)
-            }
+            Act::Look(shard, key, at) => match self.shards.look(alloc, *shard, key, *at) {
+                Ok(reply) => self.output.note_look(alloc, *key, *at, reply),
+                Err(fault) => Err(fault),
+            },
             Act::View(shard, number, key, at) => {
-                let reply = self.shards.look_back(alloc, *shard, *number, key, *at)?;
-                self.output.note_look(alloc, *key, *at, reply)
+                match self.shards.look_back(alloc, *shard, *number, key, *at) {
+                    Ok(reply) => self.output.note_look(alloc, *key, *at, reply),
+                    Err(fault) => Err(fault),
+                }
             }
             Act::Crash(shard) => self.crash(alloc, *shard),
             Act::CrashIn(shard, call, fate, _, doing) => {
@@ -152,10 +163,13 @@ impl<'s> Run<'s> {
         ensures { (w : World) → IsRun self.old w → client_of w txn ≡ None
             → ComesAfter (begin txn w, Reply.Done) self.new result }
     {
-        let number = self.output.event;
-        self.sessions.begin(alloc, txn)?;
-        self.output.note(Line::Begin(txn, number))?;
-        Ok(Reply::Done)
+        match self.sessions.begin(alloc, txn) {
+            Ok(()) => {
+                let line = Line::Begin(txn, self.output.event);
+                self.output.reply_line(Ok(Some(line)))
+            }
+            Err(fault) => Err(fault),
+        }
     }
 
     // A message comes to the shard or to the session that it was put out for.
@@ -199,8 +213,7 @@ impl<'s> Run<'s> {
         if !self.shards.has(shard) {
             return Ok(Reply::Refused(Fault::Stranger));
         }
-        self.shards.crash(alloc, shard, Fate::Old)?;
-        Ok(Reply::Crashed)
+        crashed(self.shards.crash(alloc, shard, Fate::Old))
     }
 
     // A shard crashes in a device call of a doing.
@@ -219,8 +232,7 @@ impl<'s> Run<'s> {
             return Ok(Reply::Refused(Fault::Stranger));
         }
         let bag = self.output.bag.as_slice();
-        self.shards.crash_in(alloc, bag, shard, call, fate, doing)?;
-        Ok(Reply::Crashed)
+        crashed(self.shards.crash_in(alloc, bag, shard, call, fate, doing))
     }
 
     /// Ends the run: its messages, the disks that it ends with, the logs as reads of these give them, and all lines.
@@ -240,19 +252,13 @@ impl<'s> Run<'s> {
             time: _,
         } = self;
         sessions.spend();
-        let (disks, logs) = shards.finish(alloc)?;
-        let RunOutput {
-            bag,
-            told: _,
-            lines,
-            event: _,
-        } = output;
-        Ok(Finished {
-            bag,
-            disks,
-            logs,
-            lines,
-        })
+        match shards.finish(alloc) {
+            Ok((disks, logs)) => Ok(end_with(output, disks, logs)),
+            Err(fault) => {
+                spend_output(output);
+                Err(fault)
+            }
+        }
     }
 
     /// Ends the run.
@@ -260,10 +266,43 @@ impl<'s> Run<'s> {
         let Run {
             sessions,
             shards,
-            output: _,
+            output,
             time: _,
         } = self;
         sessions.spend();
         shards.spend();
+        spend_output(output);
+    }
+}
+
+// The reply to a crash.
+fn crashed(done: Result<(), Fault>) -> Result<Reply, Fault>
+    ensures { result ≡ crash_reply done }
+{
+    match done {
+        Ok(()) => Ok(Reply::Crashed),
+        Err(fault) => Err(fault),
+    }
+}
+
+// What was put out is kept no longer.
+fn spend_output(_output: RunOutput) {}
+
+// What a run ends with, by what it has put out.
+fn end_with(output: RunOutput, disks: Vec<SimDisk>, logs: Vec<Vec<Record>>) -> Finished
+    ensures { (result.bag ≡ output.bag) × (result.lines ≡ output.lines)
+        × (result.disks ≡ disks) × (result.logs ≡ logs) }
+{
+    let RunOutput {
+        bag,
+        told: _,
+        lines,
+        event: _,
+    } = output;
+    Finished {
+        bag,
+        disks,
+        logs,
+        lines,
     }
 }

@@ -46,9 +46,15 @@ impl RunShard {
         ensures fresh { IfOk result (λ shard. StandsFor setup shard fresh_shard) }
         ensures memory { IfErr result (λ fault. fault ≡ Fault.Memory) }
     {
-        let mut shard = formatted(alloc, setup)?;
+        let mut shard = match formatted(alloc, setup) {
+            Ok(shard) => shard,
+            Err(fault) => return Err(fault),
+        };
         match shard.act(alloc, &[], None, &Doing::Open) {
-            Ok(_) => Ok(shard),
+            Ok(out) => {
+                drop(out);
+                Ok(shard)
+            }
             Err(fault) => {
                 shard.spend();
                 Err(fault)
@@ -91,9 +97,16 @@ impl RunShard {
         ensures { (setup : Setup) (s : ShardNow) → StandsFor setup self.old s
             → Acts setup bag.now s call doing.now self.new result }
     {
-        let out = self.carry(alloc, bag, call, doing)?;
-        self.note(alloc, doing)?;
-        Ok(out)
+        match self.carry(alloc, bag, call, doing) {
+            Ok(out) => match self.note(alloc, doing) {
+                Ok(()) => Ok(out),
+                Err(fault) => {
+                    drop(out);
+                    Err(fault)
+                }
+            },
+            Err(fault) => Err(fault),
+        }
     }
 
     // Carries it out, but for the view that is made.
@@ -110,7 +123,7 @@ impl RunShard {
     {
         let life = replace(&mut self.life, Life::Down(SimDisk::new(alloc)));
         let (life, result) = life.carry(alloc, &self.setup, bag, call, doing);
-        let _disk = replace(&mut self.life, life).into_disk();
+        drop(replace(&mut self.life, life).into_disk());
         result
     }
 
@@ -143,7 +156,7 @@ impl RunShard {
         fates.push(fate)?;
         let life = replace(&mut self.life, Life::Down(SimDisk::new(alloc)));
         let life = life.crash(&Choice::from_vec(fates));
-        let _disk = replace(&mut self.life, life).into_disk();
+        drop(replace(&mut self.life, life).into_disk());
         Ok(())
     }
 
@@ -171,8 +184,10 @@ impl RunShard {
             (crashed_in s call fate doing.now (effect setup bag.now s doing.now))) }
         ensures memory { IfErr result (λ fault. fault ≡ Fault.Memory) }
     {
-        unless_memory(self.carry(alloc, bag, Some(call), doing))?;
-        self.fall(alloc, fate)
+        match unless_memory(self.carry(alloc, bag, Some(call), doing)) {
+            Ok(()) => self.fall(alloc, fate),
+            Err(fault) => Err(fault),
+        }
     }
 
     /// A look at what it shows now.
@@ -220,10 +235,20 @@ impl RunShard {
         match GateLog::open(alloc, self.into_disk()) {
             Ok((log, entries)) => {
                 let disk = log.into_disk();
-                let records = records_of(alloc, &entries)?;
-                Ok((disk, records))
+                let records = records_of(alloc, &entries);
+                drop(entries);
+                match records {
+                    Ok(records) => Ok((disk, records)),
+                    Err(fault) => {
+                        drop(disk);
+                        Err(fault)
+                    }
+                }
             }
-            Err((fault, _disk)) => Err(fault),
+            Err((fault, disk)) => {
+                drop(disk);
+                Err(fault)
+            }
         }
     }
 
@@ -243,7 +268,7 @@ impl RunShard {
 
     /// Ends it.
     pub fn spend(self) {
-        let _disk = self.into_disk();
+        drop(self.into_disk());
     }
 }
 
@@ -260,7 +285,10 @@ fn formatted(alloc: Global, setup: Setup) -> Result<RunShard, Fault>
             from: 0,
             views: Vec::new(alloc),
         }),
-        Err((fault, _disk)) => Err(fault),
+        Err((fault, disk)) => {
+            drop(disk);
+            Err(fault)
+        }
     }
 }
 
@@ -298,7 +326,10 @@ fn unless_memory(answer: Result<Outbox, Fault>) -> Result<(), Fault>
     ensures memory { IfErr result (λ fault. fault ≡ Fault.Memory) }
 {
     match answer {
-        Ok(_) => Ok(()),
+        Ok(out) => {
+            drop(out);
+            Ok(())
+        }
         Err(Fault::Memory) => Err(Fault::Memory),
         Err(_) => Ok(()),
     }

@@ -56,7 +56,10 @@ impl View {
         }
         let installs = behind(installs, self.from);
         let count = self.count.min(installs.len());
-        Ok(Reply::Shows(value_at(alloc, &installs[..count], key, at)?))
+        match value_at(alloc, &installs[..count], key, at) {
+            Ok(value) => Ok(Reply::Shows(value)),
+            Err(fault) => Err(fault),
+        }
     }
 }
 

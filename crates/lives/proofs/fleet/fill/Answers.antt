@@ -1,16 +1,14 @@
 use Rattle.std.proofs.Common.{◌≡◌, ◌++◌, ◌∷◌, [], suc, length, replicate, ap, ◌∙◌, subst, arith}
 use Rattle.world.specs.World.{fresh_shard}
-use Rattle.lives.specs.Shows.{StandsFor}
 use Rattle.lives.specs.Fleet.{AreStanding}
 use Rattle.lives.proofs.Fleets.{one_more_fresh}
 use Rattle.lives.proofs.fleet.fill.Goals as goal
 
 pub loop-number-preserved : goal.loop-number-preserved
 loop-number-preserved c =
-    one_more_fresh c.args.config.now c.loop-number.number c.loop-number.shards.items c.push_reserved.new.self.items c.in_ok-fresh.field-0
-    c.loop-number.invariant
-    (subst (λ setup. StandsFor setup c.in_ok-fresh.field-0 fresh_shard) c.in_ok-setup.ensures.same c.in_ok-fresh.ensures.fresh)
-    (c.push_reserved.ensures.items ∙ ap (λ rs. rs ++ c.in_ok-fresh.field-0 ∷ []) c.in_ok-reserve.ensures.items)
+    one_more_fresh c.args.config.now c.loop-number.number c.loop-number.shards.items c.push_reserved.new.self.items c.in-Ok.shard
+    c.loop-number.invariant c.in-Ok.ensures.fresh
+    (c.push_reserved.ensures.items ∙ ap (λ rs. rs ++ c.in-Ok.shard ∷ []) c.in_ok-reserve.ensures.items)
 
 pub returns-clause-filled : goal.returns-clause-filled
 returns-clause-filled c =

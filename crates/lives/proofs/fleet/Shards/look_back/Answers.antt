@@ -1,19 +1,17 @@
-use Rattle.std.proofs.Common.{◌≡◌, ◌≤◌, nat_eq, length, slice_get, Some, refl, sym, ap, ◌∙◌, arith}
-use Rattle.std.proofs.lemmas.Option.{slice_get_read}
+use Rattle.std.proofs.Common.{◌≡◌, nat_eq, slice_get, Some, sym, ap, ◌∙◌}
+use Rattle.std.specs.Option.{option_copied}
 use Rattle.units.specs.declared.fault.Fault.TheVariants.{Stranger}
 use Rattle.units.specs.Keys.{shard_of}
 use Rattle.world.specs.World.{look_at_view, setup_of}
 use Rattle.world.specs.declared.event.Reply.{Reply}
-use Rattle.lives.proofs.Fleets.{nowhere, looks_there}
+use Rattle.lives.proofs.Fleets.{no_such, looks_there}
 use Rattle.lives.proofs.fleet.Shards.look_back.Goals as goal
 
 pub returns-in-Some-clause-shown : goal.returns-in-Some-clause-shown
 returns-in-Some-clause-shown c config ss h =
     let s = c.args.self.now in
     let r = c.in-Some.one.now in
-    let there : slice_get s.shards.items c.args.shard ≡ Some r =
-    (λ i. slice_get (sym c.deref.ensures.value i) (sym c.number-3.ensures.same i))
-    ∙ slice_get_read c.deref.result.now _ c.number-3.result r refl c.in-Some.ensures.lookup.3.0 c.in-Some.ensures.lookup.1 in
+    let there : slice_get s.shards.items c.args.shard ≡ Some r = sym c.one.ensures ∙ ap option_copied c.in-Some.is in
     let place : c.number.result ≡ shard_of config.splits c.args.key.now = c.number.ensures.same ∙ c.shard_of.ensures
     ∙ ap (λ ks. shard_of ks c.args.key.now) h.splits_are in
     let here : nat_eq c.number.result c.number-2.result ≡ nat_eq (shard_of config.splits c.args.key.now) c.args.shard =
@@ -25,6 +23,5 @@ returns-in-Some-clause-shown c config ss h =
 pub returns-in-None-clause-shown : goal.returns-in-None-clause-shown
 returns-in-None-clause-shown c config ss h =
     let s = c.args.self.now in
-    let over : length s.shards.items ≤ c.args.shard = omega (arith, c.in-None.ensures.lookup.3, c.number-3.ensures.same, ap length c.deref.ensures.value) in
-    sym (nowhere config s ss c.args.shard (Reply.Refused Stranger) (λ t. look_at_view (setup_of config c.args.shard)
-    (slice_get t.views c.args.number) c.args.key.now c.args.at) h over)
+    sym (no_such config s ss c.args.shard (Reply.Refused Stranger) (λ t. look_at_view (setup_of config c.args.shard)
+    (slice_get t.views c.args.number) c.args.key.now c.args.at) h (sym c.one.ensures ∙ ap option_copied c.in-None.is))

@@ -27,18 +27,18 @@ returns-in-Read c time w h steady may =
     (session_comes w old new h (session_step (when_open f) (client_of w t)) c.read-moved.result c.reply.result
     (c.read-moved.ensures w.config.splits w.clients h.sessions) c.reply.ensures refl refl)
 
-pub returns-in_ok-value-in-Write : goal.returns-in_ok-value-in-Write
+pub returns-in-Ok : goal.returns-in-Ok
 unfolding acts
-returns-in_ok-value-in-Write c time w h steady may =
+returns-in-Ok c time w h steady may =
     let old : Run = c.args.self.now in
-    let new : Run = record { sessions = c.write-moved.new.self; shards = old.shards; output = c.reply-in-Write.new.self; time = old.time } in
+    let new : Run = record { sessions = c.write-moved.new.self; shards = old.shards; output = c.reply-in-Ok.new.self; time = old.time } in
     let t = c.in-Write.txn in
-    let f = buffers (record { key = c.in-Write.key; value = c.in_ok-value-in-Write.value }) in
-    subst (λ a. ComesAfter a new c.reply-in-Write.result)
+    let f = buffers (record { key = c.in-Write.key; value = c.in-Ok.value }) in
+    subst (λ a. ComesAfter a new c.reply-in-Ok.result)
     (sym (ap (acts w) c.in-Write.is ∙ ap (λ x. if_open w (client_of w t) (buffers (record { key = c.in-Write.key; value = x })))
-    (sym c.in_ok-value-in-Write.ensures.same) ∙ open_moves w (client_of w t) f))
-    (session_comes w old new h (session_step (when_open f) (client_of w t)) c.write-moved.result c.reply-in-Write.result
-    (c.write-moved.ensures w.config.splits w.clients h.sessions) c.reply-in-Write.ensures refl refl)
+    (sym c.in-Ok.ensures.same) ∙ open_moves w (client_of w t) f))
+    (session_comes w old new h (session_step (when_open f) (client_of w t)) c.write-moved.result c.reply-in-Ok.result
+    (c.write-moved.ensures w.config.splits w.clients h.sessions) c.reply-in-Ok.ensures refl refl)
 
 pub returns-in-Close : goal.returns-in-Close
 unfolding acts
@@ -87,23 +87,23 @@ unfolding acts
 returns-in-FailIn c time w h steady may =
     subst (λ a. ComesAfter a c.act_at-in-FailIn.new.self c.act_at-in-FailIn.result) (sym (ap (acts w) c.in-FailIn.is)) (c.act_at-in-FailIn.ensures w h steady)
 
-pub returns-in_ok-reply-in-Look : goal.returns-in_ok-reply-in-Look
+pub returns-in-Ok-look : goal.returns-in-Ok-look
 unfolding acts
-returns-in_ok-reply-in-Look c time w h steady may =
+returns-in-Ok-look c time w h steady may =
     let old : Run = c.args.self.now in
     let new : Run = record { sessions = old.sessions; shards = old.shards; output = c.note_look.new.self; time = old.time } in
     let v = c.in-Look in
-    let shown = c.in_ok-reply-in-Look.ensures.shown w.config w.shards h.shards in
+    let shown = c.in-Ok-look.ensures.shown w.config w.shards h.shards in
     subst (λ a. ComesAfter a new c.note_look.result) (sym (ap (acts w) v.is ∙ looks w v.shard v.key v.at ∙ ap (look_noted w v.key v.at) (sym shown)))
-    (look_comes w old new h v.key v.at c.in_ok-reply-in-Look.reply c.note_look.result c.note_look.ensures refl refl refl)
+    (look_comes w old new h v.key v.at c.in-Ok-look.reply c.note_look.result c.note_look.ensures refl refl refl)
 
-pub returns-in_ok-reply-in-View : goal.returns-in_ok-reply-in-View
+pub returns-in-Ok-look_back : goal.returns-in-Ok-look_back
 unfolding acts
-returns-in_ok-reply-in-View c time w h steady may =
+returns-in-Ok-look_back c time w h steady may =
     let old : Run = c.args.self.now in
-    let new : Run = record { sessions = old.sessions; shards = old.shards; output = c.note_look-in-View.new.self; time = old.time } in
+    let new : Run = record { sessions = old.sessions; shards = old.shards; output = c.note_look-in-Ok-look_back.new.self; time = old.time } in
     let v = c.in-View in
-    let shown = c.in_ok-reply-in-View.ensures.shown w.config w.shards h.shards in
-    subst (λ a. ComesAfter a new c.note_look-in-View.result) (sym (ap (acts w) v.is ∙ looks_back w v.shard v.number v.key v.at
+    let shown = c.in-Ok-look_back.ensures.shown w.config w.shards h.shards in
+    subst (λ a. ComesAfter a new c.note_look-in-Ok-look_back.result) (sym (ap (acts w) v.is ∙ looks_back w v.shard v.number v.key v.at
     ∙ ap (look_noted w v.key v.at) (sym shown)))
-    (look_comes w old new h v.key v.at c.in_ok-reply-in-View.reply c.note_look-in-View.result c.note_look-in-View.ensures refl refl refl)
+    (look_comes w old new h v.key v.at c.in-Ok-look_back.reply c.note_look-in-Ok-look_back.result c.note_look-in-Ok-look_back.ensures refl refl refl)

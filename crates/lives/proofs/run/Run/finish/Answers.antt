@@ -1,6 +1,11 @@
+use Rattle.std.proofs.Common.{ap, ◌∙◌, map}
 use Rattle.world.specs.World.{logs_of}
 use Rattle.lives.proofs.run.Run.finish.Goals as goal
 
-pub returns-clause-done : goal.returns-clause-done
+pub returns-in-Ok-clause-done : goal.returns-in-Ok-clause-done
 unfolding logs_of
-returns-clause-done c w h = (h.output.bag, c.in_ok-disks.ensures.logs w.config w.shards h.shards, h.output.lines)
+returns-in-Ok-clause-done c w h = (
+  c.end_with.ensures.0 ∙ h.output.bag,
+  ap (λ logs. map (λ log. log.items) logs.items) c.end_with.ensures.3 ∙ c.in-Ok.ensures.logs w.config w.shards h.shards,
+  ap (λ lines. lines.items) c.end_with.ensures.1 ∙ h.output.lines,
+)

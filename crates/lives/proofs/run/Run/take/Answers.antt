@@ -4,8 +4,8 @@ use Rattle.lives.specs.declared.run.Run.{Run}
 use Rattle.lives.proofs.Happened.{acts_may, happened}
 use Rattle.lives.proofs.run.Run.take.Goals as goal
 
-pub returns : goal.returns
-returns c w at h steady =
+pub returns-in-Ok : goal.returns-in-Ok
+returns-in-Ok c w at h steady =
     let e = c.args.event.now in
     let number = c.args.number in
     let yes : c.may_happen.result ≡ true = cc in
@@ -23,5 +23,5 @@ returns c w at h steady =
       };
       time = e.time;
     } in
-    happened w e number at mid new c.in_ok-reply.reply may (c.in_ok-reply.ensures e.time w h steady
+    happened w e number at mid new c.in-Ok.reply may (c.in-Ok.ensures e.time w h steady
     (acts_may w e number at may)) refl refl refl refl refl refl refl
