@@ -5,7 +5,7 @@ ghost use Rattle.std.specs.Option.{option_copied};
 ghost use Rattle.units.specs.Locks.{exclusive};
 ghost use Rattle.protocol.specs.Rows.{find_row, held_in};
 ghost use Rattle.protocol.specs.Outputs.{decision};
-ghost use Rattle.protocol.specs.Plan.{timed, opens};
+ghost use Rattle.protocol.specs.Plan.{in_way, timed};
 ghost use Rattle.protocol.specs.Cells.{commit_stamp, plan_commit_fresh, plan_commit_now};
 ghost use Rattle.rows.specs.CodeRows.{phase_of, phase_of_wait};
 ghost use Rattle.memory.specs.Carry.{Asks, IsFit, MayTurn, may_ask, may_drop, may_end};
@@ -187,10 +187,7 @@ fn decide_anew(
     ensures fit { IfOk result (IsFit state.now) }
     ensures memory { IfErr result (λ fault. fault ≡ Fault.Memory) }
 {
-    let (reads, writes) = (commit.reads.keys(), &commit.writes);
-    let request = CommitRequest::copied(alloc, now.latest(), commit.parts, reads, writes)?;
-    let needs = exclusive(alloc, &request.writes)?;
-    let wounded = state.in_way(alloc, commit.txn, &needs)?;
+    let (wounded, needs, request) = asked_anew(state, alloc, now, commit)?;
     decide(state, alloc, wounded, needs, commit.txn, at, request)
 }
 
@@ -216,10 +213,7 @@ fn collect_anew(state: &State, alloc: Global, now: &Reading, commit: &Commit) ->
     ensures fit { IfOk result (IsFit state.now) }
     ensures memory { IfErr result (λ fault. fault ≡ Fault.Memory) }
 {
-    let (reads, writes) = (commit.reads.keys(), &commit.writes);
-    let request = CommitRequest::copied(alloc, now.latest(), commit.parts, reads, writes)?;
-    let needs = exclusive(alloc, &request.writes)?;
-    let wounded = state.in_way(alloc, commit.txn, &needs)?;
+    let (wounded, needs, request) = asked_anew(state, alloc, now, commit)?;
     collect(state, alloc, wounded, needs, commit.txn, request)
 }
 
@@ -245,16 +239,38 @@ fn wait_in_row(state: &State, alloc: Global, now: &Reading, commit: &Commit) -> 
     ensures fit { IfOk result (IsFit state.now) }
     ensures memory { IfErr result (λ fault. fault ≡ Fault.Memory) }
 {
-    let (reads, writes) = (commit.reads.keys(), &commit.writes);
-    let request = CommitRequest::copied(alloc, now.latest(), commit.parts, reads, writes)?;
-    let needs = exclusive(alloc, &request.writes)?;
-    let wounded = state.in_way(alloc, commit.txn, &needs)?;
+    let (wounded, needs, request) = asked_anew(state, alloc, now, commit)?;
     let asked = Request {
         wounded,
         needs,
         change: Change::Waits(commit.txn, Wait::Commit(request)),
     };
     state.puts(alloc, asked, None, state.last(), None)
+}
+
+// Whom a commit ends, the locks that it asks for, and its request, in memory of its own.
+fn asked_anew(
+    state: &State,
+    alloc: Global,
+    now: &Reading,
+    commit: &Commit,
+) -> Result<(Ids, Vec<Lock>, CommitRequest), Fault>
+    ensures ids { IfOk result (λ asked. asked.0 ≡
+        in_way (start_of state.now) commit.now.txn (exclusive commit.now.writes)) }
+    ensures locks { IfOk result (λ asked. asked.1.items ≡ exclusive commit.now.writes) }
+    ensures request { IfOk result (λ asked. asked.2 ≡ record {
+      latest = now.now.latest;
+      parts = commit.now.parts;
+      reads = commit.now.reads.keys;
+      writes = commit.now.writes;
+    }) }
+    ensures memory { IfErr result (λ fault. fault ≡ Fault.Memory) }
+{
+    let needs = exclusive(alloc, &commit.writes)?;
+    let wounded = state.in_way(alloc, commit.txn, &needs)?;
+    let (reads, writes) = (commit.reads.keys(), &commit.writes);
+    let request = CommitRequest::copied(alloc, now.latest(), commit.parts, reads, writes)?;
+    Ok((wounded, needs, request))
 }
 
 /// The commit that a transaction waits with, once its locks are granted.
@@ -275,6 +291,18 @@ pub fn resume_commit(
     decide_alone(state, alloc, txn, at, request)
 }
 
+// The locks of a request, and the request, in memory of its own.
+fn asked_alone(alloc: Global, request: &CommitRequest) -> Result<(Vec<Lock>, CommitRequest), Fault>
+    ensures locks { IfOk result (λ asked. asked.0.items ≡ exclusive request.now.writes) }
+    ensures same { IfOk result (λ asked. asked.1 ≡ request.now) }
+    ensures memory { IfErr result (λ fault. fault ≡ Fault.Memory) }
+{
+    let needs = exclusive(alloc, &request.writes)?;
+    let (reads, writes) = (&request.reads, &request.writes);
+    let copy = CommitRequest::copied(alloc, request.latest, request.parts, reads, writes)?;
+    Ok((needs, copy))
+}
+
 // Votes are collected with nobody ended.
 fn collect_alone(
     state: &State,
@@ -287,9 +315,7 @@ fn collect_alone(
     ensures fit { IfOk result (IsFit state.now) }
     ensures memory { IfErr result (λ fault. fault ≡ Fault.Memory) }
 {
-    let (reads, writes) = (&request.reads, &request.writes);
-    let copy = CommitRequest::copied(alloc, request.latest, request.parts, reads, writes)?;
-    let needs = exclusive(alloc, &copy.writes)?;
+    let (needs, copy) = asked_alone(alloc, request)?;
     let nobody = Ids::from_vec(Vec::new(alloc));
     collect(state, alloc, nobody, needs, txn, copy)
 }
@@ -308,9 +334,7 @@ fn decide_alone(
     ensures fit { IfOk result (IsFit state.now) }
     ensures memory { IfErr result (λ fault. fault ≡ Fault.Memory) }
 {
-    let (reads, writes) = (&request.reads, &request.writes);
-    let copy = CommitRequest::copied(alloc, request.latest, request.parts, reads, writes)?;
-    let needs = exclusive(alloc, &copy.writes)?;
+    let (needs, copy) = asked_alone(alloc, request)?;
     let nobody = Ids::from_vec(Vec::new(alloc));
     decide(state, alloc, nobody, needs, txn, at, copy)
 }
