@@ -138,7 +138,9 @@ fn commit_in_time(
         (plan_commit_now (start_of state.now) now.now.latest commit.now)) result }
     ensures fit { IfOk result (IsFit state.now) }
 {
-    Stamp::above(now.latest())?;
+    let Ok(_) = Stamp::above(now.latest()) else {
+        return Err(Fault::TimeSpent);
+    };
     commit_now(state, alloc, now, commit)
 }
 
@@ -187,7 +189,9 @@ fn decide_anew(
     ensures fit { IfOk result (IsFit state.now) }
     ensures memory { IfErr result (λ fault. fault ≡ Fault.Memory) }
 {
-    let (wounded, needs, request) = asked_anew(state, alloc, now, commit)?;
+    let Ok((wounded, needs, request)) = asked_anew(state, alloc, now, commit) else {
+        return Err(Fault::Memory);
+    };
     decide(state, alloc, wounded, needs, commit.txn, at, request)
 }
 
@@ -213,7 +217,9 @@ fn collect_anew(state: &State, alloc: Global, now: &Reading, commit: &Commit) ->
     ensures fit { IfOk result (IsFit state.now) }
     ensures memory { IfErr result (λ fault. fault ≡ Fault.Memory) }
 {
-    let (wounded, needs, request) = asked_anew(state, alloc, now, commit)?;
+    let Ok((wounded, needs, request)) = asked_anew(state, alloc, now, commit) else {
+        return Err(Fault::Memory);
+    };
     collect(state, alloc, wounded, needs, commit.txn, request)
 }
 
@@ -239,7 +245,9 @@ fn wait_in_row(state: &State, alloc: Global, now: &Reading, commit: &Commit) -> 
     ensures fit { IfOk result (IsFit state.now) }
     ensures memory { IfErr result (λ fault. fault ≡ Fault.Memory) }
 {
-    let (wounded, needs, request) = asked_anew(state, alloc, now, commit)?;
+    let Ok((wounded, needs, request)) = asked_anew(state, alloc, now, commit) else {
+        return Err(Fault::Memory);
+    };
     let asked = Request {
         wounded,
         needs,
@@ -266,10 +274,17 @@ fn asked_anew(
     }) }
     ensures memory { IfErr result (λ fault. fault ≡ Fault.Memory) }
 {
-    let needs = exclusive(alloc, &commit.writes)?;
-    let wounded = state.in_way(alloc, commit.txn, &needs)?;
+    let Ok(needs) = exclusive(alloc, &commit.writes) else {
+        return Err(Fault::Memory);
+    };
+    let Ok(wounded) = state.in_way(alloc, commit.txn, &needs) else {
+        return Err(Fault::Memory);
+    };
     let (reads, writes) = (commit.reads.keys(), &commit.writes);
-    let request = CommitRequest::copied(alloc, now.latest(), commit.parts, reads, writes)?;
+    let latest = now.latest();
+    let Ok(request) = CommitRequest::copied(alloc, latest, commit.parts, reads, writes) else {
+        return Err(Fault::Memory);
+    };
     Ok((wounded, needs, request))
 }
 
@@ -297,9 +312,14 @@ fn asked_alone(alloc: Global, request: &CommitRequest) -> Result<(Vec<Lock>, Com
     ensures same { IfOk result (λ asked. asked.1 ≡ request.now) }
     ensures memory { IfErr result (λ fault. fault ≡ Fault.Memory) }
 {
-    let needs = exclusive(alloc, &request.writes)?;
+    let Ok(needs) = exclusive(alloc, &request.writes) else {
+        return Err(Fault::Memory);
+    };
     let (reads, writes) = (&request.reads, &request.writes);
-    let copy = CommitRequest::copied(alloc, request.latest, request.parts, reads, writes)?;
+    let (latest, parts) = (request.latest, request.parts);
+    let Ok(copy) = CommitRequest::copied(alloc, latest, parts, reads, writes) else {
+        return Err(Fault::Memory);
+    };
     Ok((needs, copy))
 }
 
@@ -315,7 +335,9 @@ fn collect_alone(
     ensures fit { IfOk result (IsFit state.now) }
     ensures memory { IfErr result (λ fault. fault ≡ Fault.Memory) }
 {
-    let (needs, copy) = asked_alone(alloc, request)?;
+    let Ok((needs, copy)) = asked_alone(alloc, request) else {
+        return Err(Fault::Memory);
+    };
     let nobody = Ids::from_vec(Vec::new(alloc));
     collect(state, alloc, nobody, needs, txn, copy)
 }
@@ -334,7 +356,9 @@ fn decide_alone(
     ensures fit { IfOk result (IsFit state.now) }
     ensures memory { IfErr result (λ fault. fault ≡ Fault.Memory) }
 {
-    let (needs, copy) = asked_alone(alloc, request)?;
+    let Ok((needs, copy)) = asked_alone(alloc, request) else {
+        return Err(Fault::Memory);
+    };
     let nobody = Ids::from_vec(Vec::new(alloc));
     decide(state, alloc, nobody, needs, txn, at, copy)
 }
@@ -346,9 +370,7 @@ pub(crate) fn commit_time(state: &State, latest: Stamp) -> Result<Stamp, Fault>
         (λ fault. (fault ≡ Fault.TimeSpent)
         × (2 ^ 62 ≤ commit_stamp state.now.memory.last latest [])) }
 {
-    let arrived = Stamp::above(latest)?;
-    let served = Stamp::above(state.last())?;
-    Ok(arrived.later(served))
+    Stamp::above(latest.later(state.last()))
 }
 
 // The decision is logged, and its locks are put.
@@ -404,7 +426,9 @@ fn collect(
     ensures fit { IfOk result (IsFit state.now) }
     ensures memory { IfErr result (λ fault. fault ≡ Fault.Memory) }
 {
-    let gathering = Gathering::new(alloc, request)?;
+    let Ok(gathering) = Gathering::new(alloc, request) else {
+        return Err(Fault::Memory);
+    };
     let asked = Request {
         wounded,
         needs,

@@ -9,7 +9,7 @@ ghost use Rattle.rows.specs.RowTable.{has_phase};
 ghost use Rattle.memory.specs.Carry.{IsFit, MayTurn, may_drop, may_end};
 ghost use Rattle.memory.specs.Kept.{start_of, standing_of};
 ghost use Rattle.memory.specs.Standings.{standing_in, standing_by_row, MakesPlan, MakesReply};
-ghost use Rattle.coordinator.specs.ByMessage.{PlansGiveUp, PlansAsk, PlansSettle};
+ghost use Rattle.coordinator.specs.ByMessage.{PlansGiveUp, PlansAsk, PlansSettle, MakesSettled};
 
 use crate::parts::is_of_part;
 use memory::{PastStanding, Plan, State, done_to, outcome_to};
@@ -18,7 +18,7 @@ use record::Record;
 use rows::{Row, RowDecided, Wait};
 use std::alloc::Global;
 use truetime::Reading;
-use units::{Fault, Stamp, TxnId};
+use units::{Fault, Parts, Stamp, TxnId};
 use waiting::pass;
 
 /// A giving up: a transaction that reads is ended, and one that collects votes is aborted; any other goes on.
@@ -172,8 +172,10 @@ fn abort_for(state: &State, alloc: Global, ask: &Ask) -> Result<Plan, Fault>
     ensures fit { IfOk result (IsFit state.now) }
     ensures memory { IfErr result (λ fault. fault ≡ Fault.Memory) }
 {
-    let mut out = Vec::new(alloc);
-    out.push(told(state, ask, None))?;
+    let Ok(mut out) = Vec::with_capacity(alloc, 1) else {
+        return Err(Fault::Memory);
+    };
+    out.push_reserved(told(state, ask, None));
     let abort = Record::Abort { txn: ask.txn };
     Ok(state.drops(alloc, ask.txn, abort, state.last(), out))
 }
@@ -224,9 +226,29 @@ fn settle_decided(
         (standing_by_row state.now txn (IsDecided decided.now.at decided.now.parts)) result }
     ensures fit { IfOk result (IsFit state.now) }
 {
-    let at = pass(decided.at(), now)?.spend();
+    let Ok(waited) = pass(decided.at(), now) else {
+        return Err(Fault::Early);
+    };
+    settle_at(state, alloc, txn, waited.spend(), decided.parts())
+}
+
+// The row goes, and its session and the other parts are told of the commit.
+fn settle_at(
+    state: &State,
+    alloc: Global,
+    txn: TxnId,
+    at: Stamp,
+    parts: Parts,
+) -> Result<Plan, Fault>
+    requires { has_phase may_close state.now.memory.rows txn ≡ true }
+    ensures plan { MakesSettled state.now txn at parts result }
+    ensures fit { IfOk result (IsFit state.now) }
+    ensures memory { IfErr result (λ fault. fault ≡ Fault.Memory) }
+{
     let end = done_to(txn, Some(at));
-    let out = state.ending(alloc, end, txn, Some(at), decided.parts())?;
+    let Ok(out) = state.ending(alloc, end, txn, Some(at), parts) else {
+        return Err(Fault::Memory);
+    };
     let outcome = Record::Outcome {
         txn,
         outcome: Some(at),

@@ -215,7 +215,9 @@ fn decide_counted(
 {
     let held = collecting.request();
     let (reads, writes) = (&held.reads, &held.writes);
-    let request = CommitRequest::copied(alloc, held.latest, held.parts, reads, writes)?;
+    let Ok(request) = CommitRequest::copied(alloc, held.latest, held.parts, reads, writes) else {
+        return Err(Fault::Memory);
+    };
     let asked = Request {
         wounded: Ids::from_vec(Vec::new(alloc)),
         needs: Vec::new(alloc),
