@@ -147,8 +147,10 @@ fn refuse(state: &State, alloc: Global, prepare: &Prepare) -> Result<Plan, Fault
     ensures memory { IfErr result (λ fault. fault ≡ Fault.Memory) }
 {
     let shard = state.setup().shard;
-    let mut out = Vec::new(alloc);
-    out.push(vote_to(shard, prepare.coordinator, prepare.txn, None))?;
+    let Ok(mut out) = Vec::with_capacity(alloc, 1) else {
+        return Err(Fault::Memory);
+    };
+    out.push_reserved(vote_to(shard, prepare.coordinator, prepare.txn, None));
     Ok(state.ends(alloc, prepare.txn, out))
 }
 
@@ -197,10 +199,9 @@ fn promise_anew(state: &State, alloc: Global, prepare: &Prepare, at: Stamp) -> R
     ensures fit { IfOk result (IsFit state.now) }
     ensures memory { IfErr result (λ fault. fault ≡ Fault.Memory) }
 {
-    let (reads, writes) = (prepare.reads.keys(), &prepare.writes);
-    let request = PrepareRequest::copied(alloc, prepare.coordinator, reads, writes)?;
-    let needs = exclusive(alloc, &request.writes)?;
-    let wounded = state.in_way(alloc, prepare.txn, &needs)?;
+    let Ok((wounded, needs, request)) = asked_anew(state, alloc, prepare) else {
+        return Err(Fault::Memory);
+    };
     promise_at(state, alloc, wounded, needs, prepare.txn, at, request)
 }
 
@@ -229,16 +230,44 @@ fn wait_in_row(state: &State, alloc: Global, prepare: &Prepare) -> Result<Plan, 
     ensures fit { IfOk result (IsFit state.now) }
     ensures memory { IfErr result (λ fault. fault ≡ Fault.Memory) }
 {
-    let (reads, writes) = (prepare.reads.keys(), &prepare.writes);
-    let request = PrepareRequest::copied(alloc, prepare.coordinator, reads, writes)?;
-    let needs = exclusive(alloc, &request.writes)?;
-    let wounded = state.in_way(alloc, prepare.txn, &needs)?;
+    let Ok((wounded, needs, request)) = asked_anew(state, alloc, prepare) else {
+        return Err(Fault::Memory);
+    };
     let waits = Request {
         wounded,
         needs,
         change: Change::Waits(prepare.txn, Wait::Prepare(request)),
     };
     state.puts(alloc, waits, None, state.last(), None)
+}
+
+// Whom a prepare ends, the locks that it asks for, and its request, in memory of its own.
+fn asked_anew(
+    state: &State,
+    alloc: Global,
+    prepare: &Prepare,
+) -> Result<(Ids, Vec<Lock>, PrepareRequest), Fault>
+    ensures ids { IfOk result (λ asked. asked.0 ≡
+        in_way (start_of state.now) prepare.now.txn (exclusive prepare.now.writes)) }
+    ensures locks { IfOk result (λ asked. asked.1.items ≡ exclusive prepare.now.writes) }
+    ensures request { IfOk result (λ asked. asked.2 ≡ record {
+      coordinator = prepare.now.coordinator;
+      reads = prepare.now.reads.keys;
+      writes = prepare.now.writes;
+    }) }
+    ensures memory { IfErr result (λ fault. fault ≡ Fault.Memory) }
+{
+    let Ok(needs) = exclusive(alloc, &prepare.writes) else {
+        return Err(Fault::Memory);
+    };
+    let Ok(wounded) = state.in_way(alloc, prepare.txn, &needs) else {
+        return Err(Fault::Memory);
+    };
+    let (reads, writes) = (prepare.reads.keys(), &prepare.writes);
+    let Ok(request) = PrepareRequest::copied(alloc, prepare.coordinator, reads, writes) else {
+        return Err(Fault::Memory);
+    };
+    Ok((wounded, needs, request))
 }
 
 /// The prepare that a transaction waits with, once its locks are granted.
@@ -270,9 +299,13 @@ fn promise_alone(
     ensures fit { IfOk result (IsFit state.now) }
     ensures memory { IfErr result (λ fault. fault ≡ Fault.Memory) }
 {
+    let Ok(needs) = exclusive(alloc, &request.writes) else {
+        return Err(Fault::Memory);
+    };
     let (reads, writes) = (&request.reads, &request.writes);
-    let copy = PrepareRequest::copied(alloc, request.coordinator, reads, writes)?;
-    let needs = exclusive(alloc, &copy.writes)?;
+    let Ok(copy) = PrepareRequest::copied(alloc, request.coordinator, reads, writes) else {
+        return Err(Fault::Memory);
+    };
     let nobody = Ids::from_vec(Vec::new(alloc));
     promise_at(state, alloc, nobody, needs, txn, at, copy)
 }
@@ -284,7 +317,9 @@ fn promise_time(state: &State, now: &Reading) -> Result<Stamp, Fault>
         (λ fault. (fault ≡ Fault.TimeSpent)
         × (2 ^ 62 ≤ max (state.now.memory.last + 1) now.now.earliest)) }
 {
-    let above = Stamp::above(state.last())?;
+    let Ok(above) = Stamp::above(state.last()) else {
+        return Err(Fault::TimeSpent);
+    };
     Ok(above.later(now.earliest()))
 }
 
