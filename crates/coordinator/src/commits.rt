@@ -1,13 +1,12 @@
 //! Commits.
 ghost use Rattle.std.specs.List.{list_any};
 ghost use Rattle.std.specs.Prelude.{◌≡◌, ℕ, true, false, not, nat_eq, ◌+◌, ◌<◌, ◌≤◌, ◌^◌, IfOk, IfErr, MatchResult, [], ◌∷◌, Some, None, Ok, Err};
-ghost use Rattle.std.specs.Option.{option_copied};
 ghost use Rattle.units.specs.Locks.{exclusive};
 ghost use Rattle.protocol.specs.Rows.{find_row, held_in};
 ghost use Rattle.protocol.specs.Outputs.{decision};
 ghost use Rattle.protocol.specs.Plan.{in_way, timed};
 ghost use Rattle.protocol.specs.Cells.{commit_stamp, plan_commit_fresh, plan_commit_now};
-ghost use Rattle.rows.specs.CodeRows.{phase_of, phase_of_wait};
+ghost use Rattle.rows.specs.CodeRows.{phase_of};
 ghost use Rattle.memory.specs.Carry.{Asks, IsFit, MayTurn, may_ask, may_drop, may_end};
 ghost use Rattle.memory.specs.Kept.{start_of, standing_of, IsPlanned};
 ghost use Rattle.coordinator.specs.Granted.{waits_commit};
@@ -42,7 +41,7 @@ pub fn on_commit(
     }
 }
 
-// A commit of a transaction that has a row.
+// A commit of a transaction that has a row: where it reads, by what it waits with.
 #[tactic(auto, unfolding(protocol::specs::Cells::plan_commit))]
 fn commit_with_row(
     state: &State,
@@ -57,32 +56,13 @@ fn commit_with_row(
     ensures fit { IfOk result (IsFit state.now) }
 {
     match row {
-        Row::Reading(reading) => commit_with_wait(state, alloc, now, commit, reading.wait()),
+        Row::Reading(reading) => match reading.wait() {
+            Some(Wait::Prepare(_)) => Err(Fault::Stranger),
+            Some(Wait::Commit(_)) => Ok(state.idles(alloc)),
+            Some(Wait::Read(_)) | None => commit_fresh(state, alloc, now, commit),
+        },
         Row::Collecting(_) | Row::Decided(_) => Ok(state.idles(alloc)),
         Row::Prepared(_) => Err(Fault::Stranger),
-    }
-}
-
-// A commit of a transaction that reads, by what it waits with.
-#[tactic(auto, unfolding(protocol::specs::Cells::plan_commit))]
-fn commit_with_wait(
-    state: &State,
-    alloc: Global,
-    now: &Reading,
-    commit: &Commit,
-    wait: Option<&Wait>,
-) -> Result<Plan, Fault>
-    requires ends { may_end state.now.memory.rows commit.now.txn ≡ true }
-    requires drops { may_drop state.now.memory.rows commit.now.txn ≡ true }
-    ensures planned { PlansCommit state.now now.now.latest commit.now
-        (standing_by_row state.now commit.now.txn (phase_of_wait (option_copied wait.entry)))
-        result }
-    ensures fit { IfOk result (IsFit state.now) }
-{
-    match wait {
-        Some(Wait::Prepare(_)) => Err(Fault::Stranger),
-        Some(Wait::Commit(_)) => Ok(state.idles(alloc)),
-        Some(Wait::Read(_)) | None => commit_fresh(state, alloc, now, commit),
     }
 }
 

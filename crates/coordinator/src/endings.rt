@@ -1,10 +1,9 @@
 //! How a transaction that this shard decides ends: given up, asked for, or settled.
 ghost use Rattle.std.specs.Prelude.{◌≡◌, true, [], ◌∷◌, Some, None, Ok, IfOk, IfErr};
-ghost use Rattle.std.specs.Option.{option_copied};
 ghost use Rattle.protocol.specs.Rows.{IsDecided};
 ghost use Rattle.protocol.specs.Outputs.{outcome_to};
 ghost use Rattle.protocol.specs.Cells.{plan_abort_for};
-ghost use Rattle.rows.specs.CodeRows.{may_close, phase_of, phase_of_wait};
+ghost use Rattle.rows.specs.CodeRows.{may_close, phase_of};
 ghost use Rattle.rows.specs.RowTable.{has_phase};
 ghost use Rattle.memory.specs.Carry.{IsFit, MayTurn, may_drop, may_end};
 ghost use Rattle.memory.specs.Kept.{start_of, standing_of};
@@ -82,7 +81,7 @@ pub fn on_ask(state: &State, alloc: Global, ask: &Ask) -> Result<Plan, Fault>
     }
 }
 
-// A question about a transaction that has a row.
+// A question about a transaction that has a row: where it reads, by what it waits with.
 #[tactic(auto, unfolding(protocol::specs::Cells::plan_ask))]
 fn ask_with_row(state: &State, alloc: Global, ask: &Ask, row: &Row) -> Result<Plan, Fault>
     requires { MayTurn state.now.memory.rows ask.now.txn row.now }
@@ -91,29 +90,13 @@ fn ask_with_row(state: &State, alloc: Global, ask: &Ask, row: &Row) -> Result<Pl
     ensures fit { IfOk result (IsFit state.now) }
 {
     match row {
-        Row::Reading(reading) => ask_with_wait(state, alloc, ask, reading.wait()),
+        Row::Reading(reading) => match reading.wait() {
+            Some(Wait::Prepare(_)) => Err(Fault::Stranger),
+            Some(Wait::Commit(_)) => Ok(state.idles(alloc)),
+            Some(Wait::Read(_)) | None => abort_for(state, alloc, ask),
+        },
         Row::Collecting(_) | Row::Decided(_) => Ok(state.idles(alloc)),
         Row::Prepared(_) => Err(Fault::Stranger),
-    }
-}
-
-// A question about a transaction that reads, by what it waits with.
-#[tactic(auto, unfolding(protocol::specs::Cells::plan_ask))]
-fn ask_with_wait(
-    state: &State,
-    alloc: Global,
-    ask: &Ask,
-    wait: Option<&Wait>,
-) -> Result<Plan, Fault>
-    requires { may_drop state.now.memory.rows ask.now.txn ≡ true }
-    ensures planned { PlansAsk state.now ask.now
-        (standing_by_row state.now ask.now.txn (phase_of_wait (option_copied wait.entry))) result }
-    ensures fit { IfOk result (IsFit state.now) }
-{
-    match wait {
-        Some(Wait::Prepare(_)) => Err(Fault::Stranger),
-        Some(Wait::Commit(_)) => Ok(state.idles(alloc)),
-        Some(Wait::Read(_)) | None => abort_for(state, alloc, ask),
     }
 }
 
