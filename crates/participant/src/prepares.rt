@@ -1,12 +1,11 @@
 //! Prepares.
 ghost use Rattle.std.specs.Prelude.{◌≡◌, ℕ, true, false, ◌+◌, ◌<◌, ◌≤◌, ◌^◌, max, IfOk, IfErr, MatchResult, [], ◌∷◌, Some, None, Ok, Err};
-ghost use Rattle.std.specs.Option.{option_copied};
 ghost use Rattle.units.specs.Locks.{exclusive};
 ghost use Rattle.protocol.specs.Rows.{held_in, WaitsPrepare, find_row};
 ghost use Rattle.protocol.specs.Outputs.{vote_to};
 ghost use Rattle.protocol.specs.Plan.{opens, in_way, ends, puts, stands};
 ghost use Rattle.protocol.specs.Cells.{plan_prepare_fresh};
-ghost use Rattle.rows.specs.CodeRows.{phase_of, phase_of_wait};
+ghost use Rattle.rows.specs.CodeRows.{phase_of};
 ghost use Rattle.memory.specs.Carry.{Asks, IsFit, MayTurn, may_ask, may_end};
 ghost use Rattle.memory.specs.Kept.{start_of, standing_of, IsPlanned};
 ghost use Rattle.memory.specs.Standings.{standing_in, standing_by_row, opens_writes, MakesPlan, MakesReply};
@@ -39,7 +38,7 @@ pub fn on_prepare(
     }
 }
 
-// A prepare of a transaction that has a row.
+// A prepare of a transaction that has a row: where it reads, by what it waits with.
 #[tactic(auto, unfolding(protocol::specs::Cells::plan_prepare))]
 fn prepare_with_row(
     state: &State,
@@ -54,31 +53,13 @@ fn prepare_with_row(
     ensures fit { IfOk result (IsFit state.now) }
 {
     match row {
-        Row::Reading(reading) => prepare_with_wait(state, alloc, now, prepare, reading.wait()),
+        Row::Reading(reading) => match reading.wait() {
+            Some(Wait::Prepare(_)) => Ok(state.idles(alloc)),
+            Some(Wait::Commit(_)) => Err(Fault::Stranger),
+            Some(Wait::Read(_)) | None => prepare_fresh(state, alloc, now, prepare),
+        },
         Row::Prepared(prepared) => vote(state, alloc, prepare, Some(prepared.at())),
         Row::Collecting(_) | Row::Decided(_) => Err(Fault::Stranger),
-    }
-}
-
-// A prepare of a transaction that reads, by what it waits with.
-#[tactic(auto, unfolding(protocol::specs::Cells::plan_prepare))]
-fn prepare_with_wait(
-    state: &State,
-    alloc: Global,
-    now: &Reading,
-    prepare: &Prepare,
-    wait: Option<&Wait>,
-) -> Result<Plan, Fault>
-    requires { may_end state.now.memory.rows prepare.now.txn ≡ true }
-    ensures planned { PlansPrepare state.now now.now.earliest prepare.now
-        (standing_by_row state.now prepare.now.txn (phase_of_wait (option_copied wait.entry)))
-        result }
-    ensures fit { IfOk result (IsFit state.now) }
-{
-    match wait {
-        Some(Wait::Prepare(_)) => Ok(state.idles(alloc)),
-        Some(Wait::Commit(_)) => Err(Fault::Stranger),
-        Some(Wait::Read(_)) | None => prepare_fresh(state, alloc, now, prepare),
     }
 }
 
