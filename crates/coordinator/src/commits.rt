@@ -105,7 +105,8 @@ fn commit_fresh(state: &State, alloc: Global, now: &Reading, commit: &Commit) ->
     state.aborts(alloc, commit.txn, commit.parts)
 }
 
-// A commit may come only while there is a timestamp above the reading.
+// A commit may come only while there is a timestamp above the reading. Where the locks of what is written are granted, it goes
+// on; else it waits.
 fn commit_in_time(
     state: &State,
     alloc: Global,
@@ -121,15 +122,6 @@ fn commit_in_time(
     let Ok(_) = Stamp::above(now.latest()) else {
         return Err(Fault::TimeSpent);
     };
-    commit_now(state, alloc, now, commit)
-}
-
-// Exclusive locks of what is written, and so on; or a wait.
-fn commit_now(state: &State, alloc: Global, now: &Reading, commit: &Commit) -> Result<Plan, Fault>
-    requires ends { may_end state.now.memory.rows commit.now.txn ≡ true }
-    ensures planned { PlansCommitNow state.now now.now.latest commit.now result }
-    ensures fit { IfOk result (IsFit state.now) }
-{
     if !state.opens_writes(commit.txn, &commit.writes) {
         return wait(state, alloc, now, commit);
     }
@@ -148,7 +140,10 @@ fn decide_now(state: &State, alloc: Global, now: &Reading, commit: &Commit) -> R
     ensures planned { PlansCommitNow state.now now.now.latest commit.now result }
     ensures fit { IfOk result (IsFit state.now) }
 {
-    let at = commit_time(state, now.latest())?;
+    let at = match commit_time(state, now.latest()) {
+        Ok(at) => at,
+        Err(_) => return Err(Fault::TimeSpent),
+    };
     if state.is_crowded(commit.txn) {
         return Err(Fault::RowsFull);
     }
@@ -282,7 +277,10 @@ pub fn resume_commit(
     if request.parts.has_others(state.setup().shard) {
         return collect_alone(state, alloc, txn, request);
     }
-    let at = commit_time(state, request.latest)?;
+    let at = match commit_time(state, request.latest) {
+        Ok(at) => at,
+        Err(_) => return Err(Fault::TimeSpent),
+    };
     decide_alone(state, alloc, txn, at, request)
 }
 

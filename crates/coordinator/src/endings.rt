@@ -1,6 +1,5 @@
 //! How a transaction that this shard decides ends: given up, asked for, or settled.
 ghost use Rattle.std.specs.Prelude.{◌≡◌, true, [], ◌∷◌, Some, None, Ok, IfOk, IfErr};
-ghost use Rattle.protocol.specs.Rows.{IsDecided};
 ghost use Rattle.protocol.specs.Outputs.{outcome_to};
 ghost use Rattle.protocol.specs.Cells.{plan_abort_for};
 ghost use Rattle.rows.specs.CodeRows.{may_close, phase_of};
@@ -14,7 +13,7 @@ use crate::parts::is_of_part;
 use memory::{PastStanding, Plan, State, done_to, outcome_to};
 use message::{Ask, Envelope, GiveUp, Outcome};
 use record::Record;
-use rows::{Row, RowDecided, Wait};
+use rows::{Row, Wait};
 use std::alloc::Global;
 use truetime::Reading;
 use units::{Fault, Parts, Stamp, TxnId};
@@ -175,7 +174,8 @@ pub fn settle(state: &State, alloc: Global, now: &Reading, txn: TxnId) -> Result
     }
 }
 
-// A settling of a transaction that has a row.
+// A settling of a transaction that has a row. Nobody is told of a commit before its timestamp has passed (commit wait): the
+// end is made of the word that it has.
 #[tactic(auto, unfolding(protocol::specs::Cells::plan_settle))]
 fn settle_with_row(
     state: &State,
@@ -190,29 +190,14 @@ fn settle_with_row(
     ensures fit { IfOk result (IsFit state.now) }
 {
     match row {
-        Row::Decided(decided) => settle_decided(state, alloc, now, txn, decided),
+        Row::Decided(decided) => {
+            let Ok(waited) = pass(decided.at(), now) else {
+                return Err(Fault::Early);
+            };
+            settle_at(state, alloc, txn, waited.spend(), decided.parts())
+        }
         Row::Reading(_) | Row::Collecting(_) | Row::Prepared(_) => Err(Fault::Stranger),
     }
-}
-
-// Nobody is told of a commit before its timestamp has passed (commit wait): the end is made of the word that it has.
-#[tactic(auto, unfolding(protocol::specs::Cells::plan_settle))]
-fn settle_decided(
-    state: &State,
-    alloc: Global,
-    now: &Reading,
-    txn: TxnId,
-    decided: &RowDecided,
-) -> Result<Plan, Fault>
-    requires { has_phase may_close state.now.memory.rows txn ≡ true }
-    ensures planned { PlansSettle state.now now.now.earliest txn
-        (standing_by_row state.now txn (IsDecided decided.now.at decided.now.parts)) result }
-    ensures fit { IfOk result (IsFit state.now) }
-{
-    let Ok(waited) = pass(decided.at(), now) else {
-        return Err(Fault::Early);
-    };
-    settle_at(state, alloc, txn, waited.spend(), decided.parts())
 }
 
 // The row goes, and its session and the other parts are told of the commit.

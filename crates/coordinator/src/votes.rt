@@ -165,7 +165,10 @@ fn decide_last(
         result }
     ensures fit { IfOk result (IsFit state.now) }
 {
-    let at = decision_time(state, collecting, last)?;
+    let at = match decision_time(state, collecting, last) {
+        Ok(at) => at,
+        Err(_) => return Err(Fault::TimeSpent),
+    };
     decide_counted(state, alloc, txn, at, collecting)
 }
 

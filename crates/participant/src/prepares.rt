@@ -165,7 +165,10 @@ fn promise_now(
     ensures planned { PlansPrepareNow state.now now.now.earliest prepare.now result }
     ensures fit { IfOk result (IsFit state.now) }
 {
-    let at = promise_time(state, now)?;
+    let at = match promise_time(state, now) {
+        Ok(at) => at,
+        Err(_) => return Err(Fault::TimeSpent),
+    };
     if state.is_crowded(prepare.txn) {
         return Err(Fault::RowsFull);
     }
@@ -263,7 +266,10 @@ pub fn resume_prepare(
     ensures planned { PlansPromise state.now now.now.earliest txn request.now result }
     ensures fit { IfOk result (IsFit state.now) }
 {
-    let at = promise_time(state, now)?;
+    let at = match promise_time(state, now) {
+        Ok(at) => at,
+        Err(_) => return Err(Fault::TimeSpent),
+    };
     promise_alone(state, alloc, txn, at, request)
 }
 
