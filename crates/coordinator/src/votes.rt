@@ -303,7 +303,9 @@ fn time_by(state: &State, latest: Stamp, votes: &[Voted], last: &Voted) -> Resul
         × (2 ^ 62 ≤ commit_stamp state.now.memory.last latest
         (with_vote last.now.shard last.now.at (map voted_of votes.now)))) }
 {
-    let least = commit_time(state, latest)?;
+    let Ok(least) = commit_time(state, latest) else {
+        return Err(Fault::TimeSpent);
+    };
     let voted = least.later(greatest_vote(votes));
     if has_voted(votes, last.shard.number()) {
         Ok(voted)
