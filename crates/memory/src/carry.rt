@@ -74,9 +74,11 @@ impl State {
         ensures memory { (m : Memory) → Admits m.rows (asker plan.now.change) ready.admitted
             → self.old.memory ≡ admitted_to m (asker plan.now.change) → self.new.memory ≡ m }
     {
+        let Ready { writes, admitted } = ready;
+        drop(writes);
         self.rows.laws();
         match plan.change.asker() {
-            Some(txn) if ready.admitted => self.rows.end(txn),
+            Some(txn) if admitted => self.rows.end(txn),
             _ => {}
         }
     }
