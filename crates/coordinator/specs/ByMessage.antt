@@ -1,9 +1,10 @@
 -- What a coordinator plans for each message, by how its transaction stands.
-use Rattle.std.specs.Prelude.{ℕ, List, [], Ok, None, Option, Result}
+use Rattle.std.specs.Prelude.{ℕ, List, [], ◌∷◌, Ok, None, Some, Option, Result}
 use Rattle.units.specs.Ids.{Id}
 use Rattle.units.specs.Locks.{exclusive}
 use Rattle.units.specs.declared.fault.Fault.{Fault}
 use Rattle.units.specs.declared.lock.Lock.{Lock}
+use Rattle.record.specs.declared.record.Record.{Record}
 use Rattle.message.specs.declared.message.Ask.{Ask}
 use Rattle.message.specs.declared.message.Commit.{Commit}
 use Rattle.message.specs.declared.message.Vote.{Vote}
@@ -11,9 +12,10 @@ use Rattle.rows.specs.States.{CollectingState}
 use Rattle.rows.specs.declared.votes.Voted.{Voted as CastVote}
 use Rattle.rows.specs.declared.wait.CommitRequest.{CommitRequest}
 use Rattle.protocol.specs.Rows.{Standing, find_row, with_vote}
-use Rattle.protocol.specs.Plan.{Before, Planned, in_way, puts}
+use Rattle.protocol.specs.Outputs.{done_to}
+use Rattle.protocol.specs.Plan.{Before, Planned, drops, in_way, puts}
 use Rattle.protocol.specs.Cells.{commit_stamp, of_part, other_parts, plan_ask, plan_commit, plan_commit_granted, plan_commit_now, plan_count}
-use Rattle.protocol.specs.Cells.{plan_give_up, plan_settle, plan_vote}
+use Rattle.protocol.specs.Cells.{plan_give_up, plan_settle, plan_vote, tells}
 use Rattle.memory.specs.Kept.{Kept, start_of, IsPlanned}
 use Rattle.memory.specs.Plans.{counted}
 use Rattle.memory.specs.Standings.{MakesPlan}
@@ -35,6 +37,13 @@ PlansAsk k m standing result = IsPlanned k (plan_ask (start_of k) m.from m.txn s
 
 abbrev pub PlansSettle : Kept → ℕ → Id → Standing → Result Plan Fault → Type 0
 PlansSettle k earliest t standing result = IsPlanned k (plan_settle (start_of k) earliest t standing) result
+
+-- a decided transaction is settled: its session and the other parts are told
+abbrev pub MakesSettled : Kept → Id → ℕ → List ℕ → Result Plan Fault → Type 0
+MakesSettled k t at ps result =
+    MakesPlan k
+    (drops t (Record.Outcome t (Some at)) k.memory.last (done_to t (Some at) ∷ tells (start_of k) t (Some at) (other_parts k.setup.shard ps)))
+    result
 
 abbrev pub PlansVote : Kept → Vote → Standing → Result Plan Fault → Type 0
 PlansVote k m standing result = IsPlanned k (plan_vote (start_of k) m.from m.txn m.vote standing) result

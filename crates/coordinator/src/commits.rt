@@ -1,13 +1,12 @@
 //! Commits.
 ghost use Rattle.std.specs.List.{list_any};
 ghost use Rattle.std.specs.Prelude.{◌≡◌, ℕ, true, false, not, nat_eq, ◌+◌, ◌<◌, ◌≤◌, ◌^◌, IfOk, IfErr, MatchResult, [], ◌∷◌, Some, None, Ok, Err};
-ghost use Rattle.std.specs.Option.{option_copied};
 ghost use Rattle.units.specs.Locks.{exclusive};
 ghost use Rattle.protocol.specs.Rows.{find_row, held_in};
 ghost use Rattle.protocol.specs.Outputs.{decision};
-ghost use Rattle.protocol.specs.Plan.{timed, opens};
+ghost use Rattle.protocol.specs.Plan.{in_way, timed};
 ghost use Rattle.protocol.specs.Cells.{commit_stamp, plan_commit_fresh, plan_commit_now};
-ghost use Rattle.rows.specs.CodeRows.{phase_of, phase_of_wait};
+ghost use Rattle.rows.specs.CodeRows.{phase_of};
 ghost use Rattle.memory.specs.Carry.{Asks, IsFit, MayTurn, may_ask, may_drop, may_end};
 ghost use Rattle.memory.specs.Kept.{start_of, standing_of, IsPlanned};
 ghost use Rattle.coordinator.specs.Granted.{waits_commit};
@@ -42,7 +41,7 @@ pub fn on_commit(
     }
 }
 
-// A commit of a transaction that has a row.
+// A commit of a transaction that has a row: where it reads, by what it waits with.
 #[tactic(auto, unfolding(protocol::specs::Cells::plan_commit))]
 fn commit_with_row(
     state: &State,
@@ -57,32 +56,13 @@ fn commit_with_row(
     ensures fit { IfOk result (IsFit state.now) }
 {
     match row {
-        Row::Reading(reading) => commit_with_wait(state, alloc, now, commit, reading.wait()),
+        Row::Reading(reading) => match reading.wait() {
+            Some(Wait::Prepare(_)) => Err(Fault::Stranger),
+            Some(Wait::Commit(_)) => Ok(state.idles(alloc)),
+            Some(Wait::Read(_)) | None => commit_fresh(state, alloc, now, commit),
+        },
         Row::Collecting(_) | Row::Decided(_) => Ok(state.idles(alloc)),
         Row::Prepared(_) => Err(Fault::Stranger),
-    }
-}
-
-// A commit of a transaction that reads, by what it waits with.
-#[tactic(auto, unfolding(protocol::specs::Cells::plan_commit))]
-fn commit_with_wait(
-    state: &State,
-    alloc: Global,
-    now: &Reading,
-    commit: &Commit,
-    wait: Option<&Wait>,
-) -> Result<Plan, Fault>
-    requires ends { may_end state.now.memory.rows commit.now.txn ≡ true }
-    requires drops { may_drop state.now.memory.rows commit.now.txn ≡ true }
-    ensures planned { PlansCommit state.now now.now.latest commit.now
-        (standing_by_row state.now commit.now.txn (phase_of_wait (option_copied wait.entry)))
-        result }
-    ensures fit { IfOk result (IsFit state.now) }
-{
-    match wait {
-        Some(Wait::Prepare(_)) => Err(Fault::Stranger),
-        Some(Wait::Commit(_)) => Ok(state.idles(alloc)),
-        Some(Wait::Read(_)) | None => commit_fresh(state, alloc, now, commit),
     }
 }
 
@@ -125,7 +105,8 @@ fn commit_fresh(state: &State, alloc: Global, now: &Reading, commit: &Commit) ->
     state.aborts(alloc, commit.txn, commit.parts)
 }
 
-// A commit may come only while there is a timestamp above the reading.
+// A commit may come only while there is a timestamp above the reading. Where the locks of what is written are granted, it goes
+// on; else it waits.
 fn commit_in_time(
     state: &State,
     alloc: Global,
@@ -138,16 +119,9 @@ fn commit_in_time(
         (plan_commit_now (start_of state.now) now.now.latest commit.now)) result }
     ensures fit { IfOk result (IsFit state.now) }
 {
-    Stamp::above(now.latest())?;
-    commit_now(state, alloc, now, commit)
-}
-
-// Exclusive locks of what is written, and so on; or a wait.
-fn commit_now(state: &State, alloc: Global, now: &Reading, commit: &Commit) -> Result<Plan, Fault>
-    requires ends { may_end state.now.memory.rows commit.now.txn ≡ true }
-    ensures planned { PlansCommitNow state.now now.now.latest commit.now result }
-    ensures fit { IfOk result (IsFit state.now) }
-{
+    let Ok(_) = Stamp::above(now.latest()) else {
+        return Err(Fault::TimeSpent);
+    };
     if !state.opens_writes(commit.txn, &commit.writes) {
         return wait(state, alloc, now, commit);
     }
@@ -166,7 +140,10 @@ fn decide_now(state: &State, alloc: Global, now: &Reading, commit: &Commit) -> R
     ensures planned { PlansCommitNow state.now now.now.latest commit.now result }
     ensures fit { IfOk result (IsFit state.now) }
 {
-    let at = commit_time(state, now.latest())?;
+    let at = match commit_time(state, now.latest()) {
+        Ok(at) => at,
+        Err(_) => return Err(Fault::TimeSpent),
+    };
     if state.is_crowded(commit.txn) {
         return Err(Fault::RowsFull);
     }
@@ -187,10 +164,9 @@ fn decide_anew(
     ensures fit { IfOk result (IsFit state.now) }
     ensures memory { IfErr result (λ fault. fault ≡ Fault.Memory) }
 {
-    let (reads, writes) = (commit.reads.keys(), &commit.writes);
-    let request = CommitRequest::copied(alloc, now.latest(), commit.parts, reads, writes)?;
-    let needs = exclusive(alloc, &request.writes)?;
-    let wounded = state.in_way(alloc, commit.txn, &needs)?;
+    let Ok((wounded, needs, request)) = asked_anew(state, alloc, now, commit) else {
+        return Err(Fault::Memory);
+    };
     decide(state, alloc, wounded, needs, commit.txn, at, request)
 }
 
@@ -216,10 +192,9 @@ fn collect_anew(state: &State, alloc: Global, now: &Reading, commit: &Commit) ->
     ensures fit { IfOk result (IsFit state.now) }
     ensures memory { IfErr result (λ fault. fault ≡ Fault.Memory) }
 {
-    let (reads, writes) = (commit.reads.keys(), &commit.writes);
-    let request = CommitRequest::copied(alloc, now.latest(), commit.parts, reads, writes)?;
-    let needs = exclusive(alloc, &request.writes)?;
-    let wounded = state.in_way(alloc, commit.txn, &needs)?;
+    let Ok((wounded, needs, request)) = asked_anew(state, alloc, now, commit) else {
+        return Err(Fault::Memory);
+    };
     collect(state, alloc, wounded, needs, commit.txn, request)
 }
 
@@ -245,16 +220,47 @@ fn wait_in_row(state: &State, alloc: Global, now: &Reading, commit: &Commit) -> 
     ensures fit { IfOk result (IsFit state.now) }
     ensures memory { IfErr result (λ fault. fault ≡ Fault.Memory) }
 {
-    let (reads, writes) = (commit.reads.keys(), &commit.writes);
-    let request = CommitRequest::copied(alloc, now.latest(), commit.parts, reads, writes)?;
-    let needs = exclusive(alloc, &request.writes)?;
-    let wounded = state.in_way(alloc, commit.txn, &needs)?;
+    let Ok((wounded, needs, request)) = asked_anew(state, alloc, now, commit) else {
+        return Err(Fault::Memory);
+    };
     let asked = Request {
         wounded,
         needs,
         change: Change::Waits(commit.txn, Wait::Commit(request)),
     };
     state.puts(alloc, asked, None, state.last(), None)
+}
+
+// Whom a commit ends, the locks that it asks for, and its request, in memory of its own.
+fn asked_anew(
+    state: &State,
+    alloc: Global,
+    now: &Reading,
+    commit: &Commit,
+) -> Result<(Ids, Vec<Lock>, CommitRequest), Fault>
+    ensures ids { IfOk result (λ asked. asked.0 ≡
+        in_way (start_of state.now) commit.now.txn (exclusive commit.now.writes)) }
+    ensures locks { IfOk result (λ asked. asked.1.items ≡ exclusive commit.now.writes) }
+    ensures request { IfOk result (λ asked. asked.2 ≡ record {
+      latest = now.now.latest;
+      parts = commit.now.parts;
+      reads = commit.now.reads.keys;
+      writes = commit.now.writes;
+    }) }
+    ensures memory { IfErr result (λ fault. fault ≡ Fault.Memory) }
+{
+    let Ok(needs) = exclusive(alloc, &commit.writes) else {
+        return Err(Fault::Memory);
+    };
+    let Ok(wounded) = state.in_way(alloc, commit.txn, &needs) else {
+        return Err(Fault::Memory);
+    };
+    let (reads, writes) = (commit.reads.keys(), &commit.writes);
+    let latest = now.latest();
+    let Ok(request) = CommitRequest::copied(alloc, latest, commit.parts, reads, writes) else {
+        return Err(Fault::Memory);
+    };
+    Ok((wounded, needs, request))
 }
 
 /// The commit that a transaction waits with, once its locks are granted.
@@ -271,8 +277,28 @@ pub fn resume_commit(
     if request.parts.has_others(state.setup().shard) {
         return collect_alone(state, alloc, txn, request);
     }
-    let at = commit_time(state, request.latest)?;
+    let at = match commit_time(state, request.latest) {
+        Ok(at) => at,
+        Err(_) => return Err(Fault::TimeSpent),
+    };
     decide_alone(state, alloc, txn, at, request)
+}
+
+// The locks of a request, and the request, in memory of its own.
+fn asked_alone(alloc: Global, request: &CommitRequest) -> Result<(Vec<Lock>, CommitRequest), Fault>
+    ensures locks { IfOk result (λ asked. asked.0.items ≡ exclusive request.now.writes) }
+    ensures same { IfOk result (λ asked. asked.1 ≡ request.now) }
+    ensures memory { IfErr result (λ fault. fault ≡ Fault.Memory) }
+{
+    let Ok(needs) = exclusive(alloc, &request.writes) else {
+        return Err(Fault::Memory);
+    };
+    let (reads, writes) = (&request.reads, &request.writes);
+    let (latest, parts) = (request.latest, request.parts);
+    let Ok(copy) = CommitRequest::copied(alloc, latest, parts, reads, writes) else {
+        return Err(Fault::Memory);
+    };
+    Ok((needs, copy))
 }
 
 // Votes are collected with nobody ended.
@@ -287,9 +313,9 @@ fn collect_alone(
     ensures fit { IfOk result (IsFit state.now) }
     ensures memory { IfErr result (λ fault. fault ≡ Fault.Memory) }
 {
-    let (reads, writes) = (&request.reads, &request.writes);
-    let copy = CommitRequest::copied(alloc, request.latest, request.parts, reads, writes)?;
-    let needs = exclusive(alloc, &copy.writes)?;
+    let Ok((needs, copy)) = asked_alone(alloc, request) else {
+        return Err(Fault::Memory);
+    };
     let nobody = Ids::from_vec(Vec::new(alloc));
     collect(state, alloc, nobody, needs, txn, copy)
 }
@@ -308,9 +334,9 @@ fn decide_alone(
     ensures fit { IfOk result (IsFit state.now) }
     ensures memory { IfErr result (λ fault. fault ≡ Fault.Memory) }
 {
-    let (reads, writes) = (&request.reads, &request.writes);
-    let copy = CommitRequest::copied(alloc, request.latest, request.parts, reads, writes)?;
-    let needs = exclusive(alloc, &copy.writes)?;
+    let Ok((needs, copy)) = asked_alone(alloc, request) else {
+        return Err(Fault::Memory);
+    };
     let nobody = Ids::from_vec(Vec::new(alloc));
     decide(state, alloc, nobody, needs, txn, at, copy)
 }
@@ -322,9 +348,7 @@ pub(crate) fn commit_time(state: &State, latest: Stamp) -> Result<Stamp, Fault>
         (λ fault. (fault ≡ Fault.TimeSpent)
         × (2 ^ 62 ≤ commit_stamp state.now.memory.last latest [])) }
 {
-    let arrived = Stamp::above(latest)?;
-    let served = Stamp::above(state.last())?;
-    Ok(arrived.later(served))
+    Stamp::above(latest.later(state.last()))
 }
 
 // The decision is logged, and its locks are put.
@@ -380,7 +404,9 @@ fn collect(
     ensures fit { IfOk result (IsFit state.now) }
     ensures memory { IfErr result (λ fault. fault ≡ Fault.Memory) }
 {
-    let gathering = Gathering::new(alloc, request)?;
+    let Ok(gathering) = Gathering::new(alloc, request) else {
+        return Err(Fault::Memory);
+    };
     let asked = Request {
         wounded,
         needs,

@@ -1,24 +1,22 @@
 //! How a transaction that this shard decides ends: given up, asked for, or settled.
 ghost use Rattle.std.specs.Prelude.{◌≡◌, true, [], ◌∷◌, Some, None, Ok, IfOk, IfErr};
-ghost use Rattle.std.specs.Option.{option_copied};
-ghost use Rattle.protocol.specs.Rows.{IsDecided};
 ghost use Rattle.protocol.specs.Outputs.{outcome_to};
 ghost use Rattle.protocol.specs.Cells.{plan_abort_for};
-ghost use Rattle.rows.specs.CodeRows.{may_close, phase_of, phase_of_wait};
+ghost use Rattle.rows.specs.CodeRows.{may_close, phase_of};
 ghost use Rattle.rows.specs.RowTable.{has_phase};
 ghost use Rattle.memory.specs.Carry.{IsFit, MayTurn, may_drop, may_end};
 ghost use Rattle.memory.specs.Kept.{start_of, standing_of};
 ghost use Rattle.memory.specs.Standings.{standing_in, standing_by_row, MakesPlan, MakesReply};
-ghost use Rattle.coordinator.specs.ByMessage.{PlansGiveUp, PlansAsk, PlansSettle};
+ghost use Rattle.coordinator.specs.ByMessage.{PlansGiveUp, PlansAsk, PlansSettle, MakesSettled};
 
 use crate::parts::is_of_part;
 use memory::{PastStanding, Plan, State, done_to, outcome_to};
 use message::{Ask, Envelope, GiveUp, Outcome};
 use record::Record;
-use rows::{Row, RowDecided, Wait};
+use rows::{Row, Wait};
 use std::alloc::Global;
 use truetime::Reading;
-use units::{Fault, Stamp, TxnId};
+use units::{Fault, Parts, Stamp, TxnId};
 use waiting::pass;
 
 /// A giving up: a transaction that reads is ended, and one that collects votes is aborted; any other goes on.
@@ -82,7 +80,7 @@ pub fn on_ask(state: &State, alloc: Global, ask: &Ask) -> Result<Plan, Fault>
     }
 }
 
-// A question about a transaction that has a row.
+// A question about a transaction that has a row: where it reads, by what it waits with.
 #[tactic(auto, unfolding(protocol::specs::Cells::plan_ask))]
 fn ask_with_row(state: &State, alloc: Global, ask: &Ask, row: &Row) -> Result<Plan, Fault>
     requires { MayTurn state.now.memory.rows ask.now.txn row.now }
@@ -91,29 +89,13 @@ fn ask_with_row(state: &State, alloc: Global, ask: &Ask, row: &Row) -> Result<Pl
     ensures fit { IfOk result (IsFit state.now) }
 {
     match row {
-        Row::Reading(reading) => ask_with_wait(state, alloc, ask, reading.wait()),
+        Row::Reading(reading) => match reading.wait() {
+            Some(Wait::Prepare(_)) => Err(Fault::Stranger),
+            Some(Wait::Commit(_)) => Ok(state.idles(alloc)),
+            Some(Wait::Read(_)) | None => abort_for(state, alloc, ask),
+        },
         Row::Collecting(_) | Row::Decided(_) => Ok(state.idles(alloc)),
         Row::Prepared(_) => Err(Fault::Stranger),
-    }
-}
-
-// A question about a transaction that reads, by what it waits with.
-#[tactic(auto, unfolding(protocol::specs::Cells::plan_ask))]
-fn ask_with_wait(
-    state: &State,
-    alloc: Global,
-    ask: &Ask,
-    wait: Option<&Wait>,
-) -> Result<Plan, Fault>
-    requires { may_drop state.now.memory.rows ask.now.txn ≡ true }
-    ensures planned { PlansAsk state.now ask.now
-        (standing_by_row state.now ask.now.txn (phase_of_wait (option_copied wait.entry))) result }
-    ensures fit { IfOk result (IsFit state.now) }
-{
-    match wait {
-        Some(Wait::Prepare(_)) => Err(Fault::Stranger),
-        Some(Wait::Commit(_)) => Ok(state.idles(alloc)),
-        Some(Wait::Read(_)) | None => abort_for(state, alloc, ask),
     }
 }
 
@@ -172,8 +154,10 @@ fn abort_for(state: &State, alloc: Global, ask: &Ask) -> Result<Plan, Fault>
     ensures fit { IfOk result (IsFit state.now) }
     ensures memory { IfErr result (λ fault. fault ≡ Fault.Memory) }
 {
-    let mut out = Vec::new(alloc);
-    out.push(told(state, ask, None))?;
+    let Ok(mut out) = Vec::with_capacity(alloc, 1) else {
+        return Err(Fault::Memory);
+    };
+    out.push_reserved(told(state, ask, None));
     let abort = Record::Abort { txn: ask.txn };
     Ok(state.drops(alloc, ask.txn, abort, state.last(), out))
 }
@@ -190,7 +174,8 @@ pub fn settle(state: &State, alloc: Global, now: &Reading, txn: TxnId) -> Result
     }
 }
 
-// A settling of a transaction that has a row.
+// A settling of a transaction that has a row. Nobody is told of a commit before its timestamp has passed (commit wait): the
+// end is made of the word that it has.
 #[tactic(auto, unfolding(protocol::specs::Cells::plan_settle))]
 fn settle_with_row(
     state: &State,
@@ -205,28 +190,33 @@ fn settle_with_row(
     ensures fit { IfOk result (IsFit state.now) }
 {
     match row {
-        Row::Decided(decided) => settle_decided(state, alloc, now, txn, decided),
+        Row::Decided(decided) => {
+            let Ok(waited) = pass(decided.at(), now) else {
+                return Err(Fault::Early);
+            };
+            settle_at(state, alloc, txn, waited.spend(), decided.parts())
+        }
         Row::Reading(_) | Row::Collecting(_) | Row::Prepared(_) => Err(Fault::Stranger),
     }
 }
 
-// Nobody is told of a commit before its timestamp has passed (commit wait): the end is made of the word that it has.
-#[tactic(auto, unfolding(protocol::specs::Cells::plan_settle))]
-fn settle_decided(
+// The row goes, and its session and the other parts are told of the commit.
+fn settle_at(
     state: &State,
     alloc: Global,
-    now: &Reading,
     txn: TxnId,
-    decided: &RowDecided,
+    at: Stamp,
+    parts: Parts,
 ) -> Result<Plan, Fault>
     requires { has_phase may_close state.now.memory.rows txn ≡ true }
-    ensures planned { PlansSettle state.now now.now.earliest txn
-        (standing_by_row state.now txn (IsDecided decided.now.at decided.now.parts)) result }
+    ensures plan { MakesSettled state.now txn at parts result }
     ensures fit { IfOk result (IsFit state.now) }
+    ensures memory { IfErr result (λ fault. fault ≡ Fault.Memory) }
 {
-    let at = pass(decided.at(), now)?.spend();
     let end = done_to(txn, Some(at));
-    let out = state.ending(alloc, end, txn, Some(at), decided.parts())?;
+    let Ok(out) = state.ending(alloc, end, txn, Some(at), parts) else {
+        return Err(Fault::Memory);
+    };
     let outcome = Record::Outcome {
         txn,
         outcome: Some(at),

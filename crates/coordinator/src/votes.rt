@@ -1,12 +1,11 @@
 //! Votes.
 ghost use Rattle.std.specs.List.{list_any};
 ghost use Rattle.std.specs.Prelude.{◌≡◌, ◌+◌, ◌<◌, ◌≤◌, ◌^◌, nat_eq, map, true, false, [], ◌∷◌, Some, None, Ok, IfOk, IfErr, MatchResult};
-ghost use Rattle.std.specs.Option.{option_copied};
 ghost use Rattle.units.specs.Lists.{greatest};
 ghost use Rattle.units.specs.Masks.{shards_from};
 ghost use Rattle.protocol.specs.Rows.{with_vote};
 ghost use Rattle.protocol.specs.Cells.{all_voted, commit_stamp, other_parts, plan_tell};
-ghost use Rattle.rows.specs.CodeRows.{is_collecting, phase_of, phase_of_wait};
+ghost use Rattle.rows.specs.CodeRows.{is_collecting, phase_of};
 ghost use Rattle.rows.specs.RowTable.{has_phase};
 ghost use Rattle.rows.specs.States.{voted_of};
 ghost use Rattle.memory.specs.Carry.{IsFit, MayTurn, may_drop};
@@ -34,7 +33,7 @@ pub fn on_vote(state: &State, alloc: Global, vote: &Vote) -> Result<Plan, Fault>
     }
 }
 
-// A vote for a transaction that has a row.
+// A vote for a transaction that has a row: where it reads, by what it waits with.
 #[tactic(auto, unfolding(protocol::specs::Cells::plan_vote))]
 fn vote_with_row(state: &State, alloc: Global, vote: &Vote, row: &Row) -> Result<Plan, Fault>
     requires row { HasRowIn state.now vote.now.txn (phase_of row.now) }
@@ -44,28 +43,13 @@ fn vote_with_row(state: &State, alloc: Global, vote: &Vote, row: &Row) -> Result
     ensures fit { IfOk result (IsFit state.now) }
 {
     match row {
-        Row::Reading(reading) => vote_with_wait(state, alloc, vote, reading.wait()),
+        Row::Reading(reading) => match reading.wait() {
+            Some(Wait::Prepare(_)) => Err(Fault::Stranger),
+            Some(Wait::Read(_)) | Some(Wait::Commit(_)) | None => Ok(state.idles(alloc)),
+        },
         Row::Collecting(collecting) => vote_collected(state, alloc, vote, collecting),
         Row::Prepared(_) => Err(Fault::Stranger),
         Row::Decided(_) => Ok(state.idles(alloc)),
-    }
-}
-
-// A vote for a transaction that reads, by what it waits with.
-#[tactic(auto, unfolding(protocol::specs::Cells::plan_vote))]
-fn vote_with_wait(
-    state: &State,
-    alloc: Global,
-    vote: &Vote,
-    wait: Option<&Wait>,
-) -> Result<Plan, Fault>
-    ensures planned { PlansVote state.now vote.now
-        (standing_by_row state.now vote.now.txn (phase_of_wait (option_copied wait.entry))) result }
-    ensures fit { IfOk result (IsFit state.now) }
-{
-    match wait {
-        Some(Wait::Prepare(_)) => Err(Fault::Stranger),
-        Some(Wait::Read(_)) | Some(Wait::Commit(_)) | None => Ok(state.idles(alloc)),
     }
 }
 
@@ -181,7 +165,10 @@ fn decide_last(
         result }
     ensures fit { IfOk result (IsFit state.now) }
 {
-    let at = decision_time(state, collecting, last)?;
+    let at = match decision_time(state, collecting, last) {
+        Ok(at) => at,
+        Err(_) => return Err(Fault::TimeSpent),
+    };
     decide_counted(state, alloc, txn, at, collecting)
 }
 
@@ -215,7 +202,9 @@ fn decide_counted(
 {
     let held = collecting.request();
     let (reads, writes) = (&held.reads, &held.writes);
-    let request = CommitRequest::copied(alloc, held.latest, held.parts, reads, writes)?;
+    let Ok(request) = CommitRequest::copied(alloc, held.latest, held.parts, reads, writes) else {
+        return Err(Fault::Memory);
+    };
     let asked = Request {
         wounded: Ids::from_vec(Vec::new(alloc)),
         needs: Vec::new(alloc),
@@ -314,7 +303,9 @@ fn time_by(state: &State, latest: Stamp, votes: &[Voted], last: &Voted) -> Resul
         × (2 ^ 62 ≤ commit_stamp state.now.memory.last latest
         (with_vote last.now.shard last.now.at (map voted_of votes.now)))) }
 {
-    let least = commit_time(state, latest)?;
+    let Ok(least) = commit_time(state, latest) else {
+        return Err(Fault::TimeSpent);
+    };
     let voted = least.later(greatest_vote(votes));
     if has_voted(votes, last.shard.number()) {
         Ok(voted)

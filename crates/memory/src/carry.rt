@@ -74,9 +74,11 @@ impl State {
         ensures memory { (m : Memory) → Admits m.rows (asker plan.now.change) ready.admitted
             → self.old.memory ≡ admitted_to m (asker plan.now.change) → self.new.memory ≡ m }
     {
+        let Ready { writes, admitted } = ready;
+        drop(writes);
         self.rows.laws();
         match plan.change.asker() {
-            Some(txn) if ready.admitted => self.rows.end(txn),
+            Some(txn) if admitted => self.rows.end(txn),
             _ => {}
         }
     }
@@ -95,10 +97,11 @@ impl State {
             wounded,
             needs,
             change,
-            logged: _,
+            logged: moved,
             last,
             outbox,
         } = plan;
+        drop(moved);
         self.times.raise(last);
         let item = make_change(
             &mut self.rows,
@@ -109,6 +112,8 @@ impl State {
             &needs,
             logged,
         );
+        drop(wounded);
+        drop(needs);
         learn(&mut self.ledger, item, ready.writes);
         outbox
     }
@@ -138,9 +143,16 @@ fn ready_for(plan: &Plan, alloc: Global, ledger: &Ledger, rows: &mut Rows) -> Re
     ensures kept { OnErr result (rows.new.rows ≡ rows.old.rows) }
     ensures memory { IfErr result (λ fault. fault ≡ Fault.Memory) }
 {
-    let writes = writes_for(ledger, alloc, plan)?;
-    let admitted = admit_asker(rows, alloc, plan.change.asker(), plan.needs.len())?;
-    Ok(Ready { writes, admitted })
+    let Ok(writes) = writes_for(ledger, alloc, plan) else {
+        return Err(Fault::Memory);
+    };
+    match admit_asker(rows, alloc, plan.change.asker(), plan.needs.len()) {
+        Ok(admitted) => Ok(Ready { writes, admitted }),
+        Err(fault) => {
+            drop(writes);
+            Err(fault)
+        }
+    }
 }
 
 // A copy of the writes that the record of a plan installs.

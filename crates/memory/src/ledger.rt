@@ -136,8 +136,12 @@ impl Ledger {
         ensures succeeds { 1 ≤ self.old.room → IsOk result }
         ensures memory { IfErr result (λ fault. fault ≡ Fault.Memory) }
     {
-        self.facts.reserve()?;
-        self.versions.reserve(MOST_INSTALLS)?;
+        let Ok(()) = self.facts.reserve() else {
+            return Err(Fault::Memory);
+        };
+        let Ok(()) = self.versions.reserve(MOST_INSTALLS) else {
+            return Err(Fault::Memory);
+        };
         Ok(())
     }
 

@@ -21,8 +21,13 @@ impl State {
         ensures memory { IfErr result (λ fault. fault ≡ Fault.Memory) }
     {
         let times = SafeTime::new(alloc, Stamp::zero())?;
-        let ledger = opened_ledger(alloc, setup.shard)?;
-        State::without_rows(alloc, setup, ledger, times)
+        match opened_ledger(alloc, setup.shard) {
+            Ok(ledger) => State::without_rows(alloc, setup, ledger, times),
+            Err(fault) => {
+                drop(times);
+                Err(fault)
+            }
+        }
     }
 
     // A state that has no rows yet. It is refused for want of memory alone.
@@ -40,26 +45,35 @@ impl State {
         ensures empty { IfOk result (λ s. s.memory ≡ record { last = 0; rows = []; ended = [] }) }
         ensures memory { IfErr result (λ fault. fault ≡ Fault.Memory) }
     {
-        let rows = Rows::new(alloc)?;
-        Ok(State {
-            setup,
-            ledger,
-            rows,
-            ended: Ended::none(alloc),
-            times,
-        })
+        match Rows::new(alloc) {
+            Ok(rows) => Ok(State {
+                setup,
+                ledger,
+                rows,
+                ended: Ended::none(alloc),
+                times,
+            }),
+            Err(fault) => {
+                drop(ledger);
+                drop(times);
+                Err(fault)
+            }
+        }
     }
 
     /// Ends the state: the tokens of its rows are spent. It takes no memory.
     pub fn stop(self) {
         let State {
             setup: _,
-            ledger: _,
+            ledger,
             rows,
-            ended: _,
-            times: _,
+            ended,
+            times,
         } = self;
         rows.stop();
+        drop(ledger);
+        drop(ended);
+        drop(times);
     }
 
     /// The n-th transaction, from 0 by ascending id, that is prepared, with its timestamp.
@@ -84,9 +98,16 @@ fn opened_ledger(alloc: Global, shard: ShardNo) -> Result<Ledger, Fault>
     ensures memory { IfErr result (λ fault. fault ≡ Fault.Memory) }
 {
     let mut ledger = Ledger::new(alloc, shard);
-    ledger.reserve()?;
-    learn_opening(&mut ledger, alloc);
-    Ok(ledger)
+    match ledger.reserve() {
+        Ok(()) => {
+            learn_opening(&mut ledger, alloc);
+            Ok(ledger)
+        }
+        Err(fault) => {
+            drop(ledger);
+            Err(fault)
+        }
+    }
 }
 
 // Learns the first opening of a log, as its first record. It takes no memory.

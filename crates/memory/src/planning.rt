@@ -73,7 +73,10 @@ impl State {
         ensures fit { IfOk result (IsFit self.now) }
         ensures memory { IfErr result (λ fault. fault ≡ Fault.Memory) }
     {
-        Ok(self.replies(alloc, one(alloc, envelope)?))
+        let Ok(out) = one(alloc, envelope) else {
+            return Err(Fault::Memory);
+        };
+        Ok(self.replies(alloc, out))
     }
 
     /// The transaction is ended.
@@ -107,7 +110,9 @@ impl State {
         ensures fit { IfOk result (IsFit self.now) }
         ensures memory { IfErr result (λ fault. fault ≡ Fault.Memory) }
     {
-        let out = refused_by(alloc, self.setup().shard, txn, wait)?;
+        let Ok(out) = refused_by(alloc, self.setup().shard, txn, wait) else {
+            return Err(Fault::Memory);
+        };
         Ok(self.ends(alloc, txn, out))
     }
 
@@ -161,7 +166,9 @@ impl State {
         ensures fit { IfOk result (IsFit self.now) }
         ensures memory { IfErr result (λ fault. fault ≡ Fault.Memory) }
     {
-        let out = self.ending(alloc, done_to(txn, None), txn, None, parts)?;
+        let Ok(out) = self.ending(alloc, done_to(txn, None), txn, None, parts) else {
+            return Err(Fault::Memory);
+        };
         Ok(self.drops(alloc, txn, Record::Abort { txn }, self.last(), out))
     }
 
@@ -180,9 +187,16 @@ impl State {
         ensures memory { IfErr result (λ fault. fault ≡ Fault.Memory) }
     {
         let from = self.setup().shard;
-        let mut out = one(alloc, first)?;
-        tell_others(&mut out, alloc, &Outcome { from, txn, outcome }, parts)?;
-        Ok(out)
+        let Ok(mut out) = one(alloc, first) else {
+            return Err(Fault::Memory);
+        };
+        match tell_others(&mut out, alloc, &Outcome { from, txn, outcome }, parts) {
+            Ok(()) => Ok(out),
+            Err(fault) => {
+                drop(out);
+                Err(fault)
+            }
+        }
     }
 
     /// Some are ended, and the row of a transaction is put.
@@ -208,20 +222,28 @@ impl State {
         ensures fit { IfOk result (IsFit self.now) }
         ensures memory { IfErr result (λ fault. fault ≡ Fault.Memory) }
     {
-        let outbox = self.votes_and(alloc, &request.wounded, reply)?;
-        let Request {
-            wounded,
-            needs,
-            change,
-        } = request;
-        Ok(Plan {
-            wounded,
-            needs,
-            change,
-            logged,
-            last,
-            outbox,
-        })
+        match self.votes_and(alloc, &request.wounded, reply) {
+            Ok(outbox) => {
+                let Request {
+                    wounded,
+                    needs,
+                    change,
+                } = request;
+                Ok(Plan {
+                    wounded,
+                    needs,
+                    change,
+                    logged,
+                    last,
+                    outbox,
+                })
+            }
+            Err(fault) => {
+                drop(request);
+                drop(logged);
+                Err(fault)
+            }
+        }
     }
 
     // The refused votes of those that are ended while they wait with a prepare, and then the reply.
@@ -235,11 +257,13 @@ impl State {
             self.now.memory.rows wounded.now ++ option_to_list reply) }
         ensures memory { IfErr result (λ fault. fault ≡ Fault.Memory) }
     {
-        let mut out = self.votes_of(alloc, wounded)?;
-        if let Some(reply) = reply {
-            out.push(reply)?;
+        match self.votes_of(alloc, wounded) {
+            Ok(out) => with_reply(out, reply),
+            Err(fault) => {
+                drop(reply);
+                Err(fault)
+            }
         }
-        Ok(Outbox::from_vec(out))
     }
 
     // The refused votes of those that are ended while they wait with a prepare.
@@ -316,14 +340,42 @@ fn refused_by(
     }
 }
 
+// Some messages, and then the reply.
+fn with_reply(mut out: Vec<Envelope>, reply: Option<Envelope>) -> Result<Outbox, Fault>
+    ensures all { IfOk result (λ all. all ≡ out.items ++ option_to_list reply) }
+    ensures memory { IfErr result (λ fault. fault ≡ Fault.Memory) }
+{
+    let Some(reply) = reply else {
+        return Ok(Outbox::from_vec(out));
+    };
+    match out.reserve(1) {
+        Ok(()) => {
+            out.push_reserved(reply);
+            Ok(Outbox::from_vec(out))
+        }
+        Err(_) => {
+            drop(out);
+            drop(reply);
+            Err(Fault::Memory)
+        }
+    }
+}
+
 // A list of one message.
 fn one(alloc: Global, envelope: Envelope) -> Result<Vec<Envelope>, Fault>
     ensures one { IfOk result (λ out. out.items ≡ envelope ∷ []) }
     ensures memory { IfErr result (λ fault. fault ≡ Fault.Memory) }
 {
-    let mut out = Vec::new(alloc);
-    out.push(envelope)?;
-    Ok(out)
+    match Vec::with_capacity(alloc, 1) {
+        Ok(mut out) => {
+            out.push_reserved(envelope);
+            Ok(out)
+        }
+        Err(_) => {
+            drop(envelope);
+            Err(Fault::Memory)
+        }
+    }
 }
 
 // Tells an outcome to the shards of its transaction other than the one that it comes from.

@@ -63,10 +63,12 @@ fn outcome_with_wait(
         (standing_by_row state.now told.now.txn (phase_of_wait (option_copied wait.entry))) result }
     ensures fit { IfOk result (IsFit state.now) }
 {
-    match (wait, told.outcome) {
-        (Some(Wait::Commit(_)), _) => Err(Fault::Stranger),
-        (_, Some(_)) => Err(Fault::Stranger),
-        (wait, None) => state.ends_reading(alloc, told.txn, wait),
+    match wait {
+        Some(Wait::Commit(_)) => Err(Fault::Stranger),
+        Some(Wait::Read(_)) | Some(Wait::Prepare(_)) | None => match told.outcome {
+            Some(_) => Err(Fault::Stranger),
+            None => state.ends_reading(alloc, told.txn, wait),
+        },
     }
 }
 

@@ -1,12 +1,11 @@
 //! Prepares.
 ghost use Rattle.std.specs.Prelude.{◌≡◌, ℕ, true, false, ◌+◌, ◌<◌, ◌≤◌, ◌^◌, max, IfOk, IfErr, MatchResult, [], ◌∷◌, Some, None, Ok, Err};
-ghost use Rattle.std.specs.Option.{option_copied};
 ghost use Rattle.units.specs.Locks.{exclusive};
 ghost use Rattle.protocol.specs.Rows.{held_in, WaitsPrepare, find_row};
 ghost use Rattle.protocol.specs.Outputs.{vote_to};
 ghost use Rattle.protocol.specs.Plan.{opens, in_way, ends, puts, stands};
 ghost use Rattle.protocol.specs.Cells.{plan_prepare_fresh};
-ghost use Rattle.rows.specs.CodeRows.{phase_of, phase_of_wait};
+ghost use Rattle.rows.specs.CodeRows.{phase_of};
 ghost use Rattle.memory.specs.Carry.{Asks, IsFit, MayTurn, may_ask, may_end};
 ghost use Rattle.memory.specs.Kept.{start_of, standing_of, IsPlanned};
 ghost use Rattle.memory.specs.Standings.{standing_in, standing_by_row, opens_writes, MakesPlan, MakesReply};
@@ -39,7 +38,7 @@ pub fn on_prepare(
     }
 }
 
-// A prepare of a transaction that has a row.
+// A prepare of a transaction that has a row: where it reads, by what it waits with.
 #[tactic(auto, unfolding(protocol::specs::Cells::plan_prepare))]
 fn prepare_with_row(
     state: &State,
@@ -54,31 +53,13 @@ fn prepare_with_row(
     ensures fit { IfOk result (IsFit state.now) }
 {
     match row {
-        Row::Reading(reading) => prepare_with_wait(state, alloc, now, prepare, reading.wait()),
+        Row::Reading(reading) => match reading.wait() {
+            Some(Wait::Prepare(_)) => Ok(state.idles(alloc)),
+            Some(Wait::Commit(_)) => Err(Fault::Stranger),
+            Some(Wait::Read(_)) | None => prepare_fresh(state, alloc, now, prepare),
+        },
         Row::Prepared(prepared) => vote(state, alloc, prepare, Some(prepared.at())),
         Row::Collecting(_) | Row::Decided(_) => Err(Fault::Stranger),
-    }
-}
-
-// A prepare of a transaction that reads, by what it waits with.
-#[tactic(auto, unfolding(protocol::specs::Cells::plan_prepare))]
-fn prepare_with_wait(
-    state: &State,
-    alloc: Global,
-    now: &Reading,
-    prepare: &Prepare,
-    wait: Option<&Wait>,
-) -> Result<Plan, Fault>
-    requires { may_end state.now.memory.rows prepare.now.txn ≡ true }
-    ensures planned { PlansPrepare state.now now.now.earliest prepare.now
-        (standing_by_row state.now prepare.now.txn (phase_of_wait (option_copied wait.entry)))
-        result }
-    ensures fit { IfOk result (IsFit state.now) }
-{
-    match wait {
-        Some(Wait::Prepare(_)) => Ok(state.idles(alloc)),
-        Some(Wait::Commit(_)) => Err(Fault::Stranger),
-        Some(Wait::Read(_)) | None => prepare_fresh(state, alloc, now, prepare),
     }
 }
 
@@ -147,8 +128,10 @@ fn refuse(state: &State, alloc: Global, prepare: &Prepare) -> Result<Plan, Fault
     ensures memory { IfErr result (λ fault. fault ≡ Fault.Memory) }
 {
     let shard = state.setup().shard;
-    let mut out = Vec::new(alloc);
-    out.push(vote_to(shard, prepare.coordinator, prepare.txn, None))?;
+    let Ok(mut out) = Vec::with_capacity(alloc, 1) else {
+        return Err(Fault::Memory);
+    };
+    out.push_reserved(vote_to(shard, prepare.coordinator, prepare.txn, None));
     Ok(state.ends(alloc, prepare.txn, out))
 }
 
@@ -182,7 +165,10 @@ fn promise_now(
     ensures planned { PlansPrepareNow state.now now.now.earliest prepare.now result }
     ensures fit { IfOk result (IsFit state.now) }
 {
-    let at = promise_time(state, now)?;
+    let at = match promise_time(state, now) {
+        Ok(at) => at,
+        Err(_) => return Err(Fault::TimeSpent),
+    };
     if state.is_crowded(prepare.txn) {
         return Err(Fault::RowsFull);
     }
@@ -197,10 +183,9 @@ fn promise_anew(state: &State, alloc: Global, prepare: &Prepare, at: Stamp) -> R
     ensures fit { IfOk result (IsFit state.now) }
     ensures memory { IfErr result (λ fault. fault ≡ Fault.Memory) }
 {
-    let (reads, writes) = (prepare.reads.keys(), &prepare.writes);
-    let request = PrepareRequest::copied(alloc, prepare.coordinator, reads, writes)?;
-    let needs = exclusive(alloc, &request.writes)?;
-    let wounded = state.in_way(alloc, prepare.txn, &needs)?;
+    let Ok((wounded, needs, request)) = asked_anew(state, alloc, prepare) else {
+        return Err(Fault::Memory);
+    };
     promise_at(state, alloc, wounded, needs, prepare.txn, at, request)
 }
 
@@ -229,16 +214,44 @@ fn wait_in_row(state: &State, alloc: Global, prepare: &Prepare) -> Result<Plan, 
     ensures fit { IfOk result (IsFit state.now) }
     ensures memory { IfErr result (λ fault. fault ≡ Fault.Memory) }
 {
-    let (reads, writes) = (prepare.reads.keys(), &prepare.writes);
-    let request = PrepareRequest::copied(alloc, prepare.coordinator, reads, writes)?;
-    let needs = exclusive(alloc, &request.writes)?;
-    let wounded = state.in_way(alloc, prepare.txn, &needs)?;
+    let Ok((wounded, needs, request)) = asked_anew(state, alloc, prepare) else {
+        return Err(Fault::Memory);
+    };
     let waits = Request {
         wounded,
         needs,
         change: Change::Waits(prepare.txn, Wait::Prepare(request)),
     };
     state.puts(alloc, waits, None, state.last(), None)
+}
+
+// Whom a prepare ends, the locks that it asks for, and its request, in memory of its own.
+fn asked_anew(
+    state: &State,
+    alloc: Global,
+    prepare: &Prepare,
+) -> Result<(Ids, Vec<Lock>, PrepareRequest), Fault>
+    ensures ids { IfOk result (λ asked. asked.0 ≡
+        in_way (start_of state.now) prepare.now.txn (exclusive prepare.now.writes)) }
+    ensures locks { IfOk result (λ asked. asked.1.items ≡ exclusive prepare.now.writes) }
+    ensures request { IfOk result (λ asked. asked.2 ≡ record {
+      coordinator = prepare.now.coordinator;
+      reads = prepare.now.reads.keys;
+      writes = prepare.now.writes;
+    }) }
+    ensures memory { IfErr result (λ fault. fault ≡ Fault.Memory) }
+{
+    let Ok(needs) = exclusive(alloc, &prepare.writes) else {
+        return Err(Fault::Memory);
+    };
+    let Ok(wounded) = state.in_way(alloc, prepare.txn, &needs) else {
+        return Err(Fault::Memory);
+    };
+    let (reads, writes) = (prepare.reads.keys(), &prepare.writes);
+    let Ok(request) = PrepareRequest::copied(alloc, prepare.coordinator, reads, writes) else {
+        return Err(Fault::Memory);
+    };
+    Ok((wounded, needs, request))
 }
 
 /// The prepare that a transaction waits with, once its locks are granted.
@@ -253,7 +266,10 @@ pub fn resume_prepare(
     ensures planned { PlansPromise state.now now.now.earliest txn request.now result }
     ensures fit { IfOk result (IsFit state.now) }
 {
-    let at = promise_time(state, now)?;
+    let at = match promise_time(state, now) {
+        Ok(at) => at,
+        Err(_) => return Err(Fault::TimeSpent),
+    };
     promise_alone(state, alloc, txn, at, request)
 }
 
@@ -270,9 +286,13 @@ fn promise_alone(
     ensures fit { IfOk result (IsFit state.now) }
     ensures memory { IfErr result (λ fault. fault ≡ Fault.Memory) }
 {
+    let Ok(needs) = exclusive(alloc, &request.writes) else {
+        return Err(Fault::Memory);
+    };
     let (reads, writes) = (&request.reads, &request.writes);
-    let copy = PrepareRequest::copied(alloc, request.coordinator, reads, writes)?;
-    let needs = exclusive(alloc, &copy.writes)?;
+    let Ok(copy) = PrepareRequest::copied(alloc, request.coordinator, reads, writes) else {
+        return Err(Fault::Memory);
+    };
     let nobody = Ids::from_vec(Vec::new(alloc));
     promise_at(state, alloc, nobody, needs, txn, at, copy)
 }
@@ -284,7 +304,9 @@ fn promise_time(state: &State, now: &Reading) -> Result<Stamp, Fault>
         (λ fault. (fault ≡ Fault.TimeSpent)
         × (2 ^ 62 ≤ max (state.now.memory.last + 1) now.now.earliest)) }
 {
-    let above = Stamp::above(state.last())?;
+    let Ok(above) = Stamp::above(state.last()) else {
+        return Err(Fault::TimeSpent);
+    };
     Ok(above.later(now.earliest()))
 }
 

@@ -89,7 +89,9 @@ fn answer_held(state: &State, alloc: Global, txn: TxnId, key: &Key) -> Result<Pl
     ensures fit { IfOk result (IsFit state.now) }
     ensures memory { IfErr result (λ fault. fault ≡ Fault.Memory) }
 {
-    let answer = state.answer(alloc, txn, key)?;
+    let Ok(answer) = state.answer(alloc, txn, key) else {
+        return Err(Fault::Memory);
+    };
     state.reply(alloc, answer)
 }
 
@@ -112,8 +114,12 @@ fn ask_for_key(state: &State, alloc: Global, txn: TxnId, key: &Key) -> Result<Pl
     ensures fit { IfOk result (IsFit state.now) }
     ensures memory { IfErr result (λ fault. fault ≡ Fault.Memory) }
 {
-    let needs = shared(alloc, key)?;
-    let wounded = state.in_way(alloc, txn, &needs)?;
+    let Ok(needs) = shared(alloc, key) else {
+        return Err(Fault::Memory);
+    };
+    let Ok(wounded) = state.in_way(alloc, txn, &needs) else {
+        return Err(Fault::Memory);
+    };
     if state.opens(txn, &needs) {
         grant(state, alloc, wounded, needs, txn, key)
     } else {
@@ -144,7 +150,9 @@ fn grant_alone(state: &State, alloc: Global, txn: TxnId, key: &Key) -> Result<Pl
     ensures fit { IfOk result (IsFit state.now) }
     ensures memory { IfErr result (λ fault. fault ≡ Fault.Memory) }
 {
-    let needs = shared(alloc, key)?;
+    let Ok(needs) = shared(alloc, key) else {
+        return Err(Fault::Memory);
+    };
     let nobody = Ids::from_vec(Vec::new(alloc));
     grant(state, alloc, nobody, needs, txn, key)
 }
@@ -164,7 +172,9 @@ fn grant(
     ensures fit { IfOk result (IsFit state.now) }
     ensures memory { IfErr result (λ fault. fault ≡ Fault.Memory) }
 {
-    let answer = state.answer(alloc, txn, key)?;
+    let Ok(answer) = state.answer(alloc, txn, key) else {
+        return Err(Fault::Memory);
+    };
     let request = Request {
         wounded,
         needs,
@@ -195,10 +205,12 @@ fn shared(alloc: Global, key: &Key) -> Result<Vec<Lock>, Fault>
     ensures lock { IfOk result (λ locks. locks.items ≡ to_read key.now) }
     ensures memory { IfErr result (λ fault. fault ≡ Fault.Memory) }
 {
-    let mut locks = Vec::new(alloc);
-    locks.push(Lock {
+    let Ok(mut locks) = Vec::with_capacity(alloc, 1) else {
+        return Err(Fault::Memory);
+    };
+    locks.push_reserved(Lock {
         key: *key,
         mode: Mode::Shared,
-    })?;
+    });
     Ok(locks)
 }

@@ -36,8 +36,13 @@ pub(crate) fn begin_book(
     match setting {
         Setting::Off => Ok(None),
         Setting::On(capacity) => {
-            let found = records_of(alloc, entries)?;
-            Ok(Some(Book::new(alloc, capacity, found)?))
+            let Ok(found) = records_of(alloc, entries) else {
+                return Err(Fault::Memory);
+            };
+            let Ok(book) = Book::new(alloc, capacity, found) else {
+                return Err(Fault::Memory);
+            };
+            Ok(Some(book))
         }
     }
 }

@@ -122,7 +122,7 @@ impl<D: Disk> Machine<D> {
     // A machine of a log without records, to which the first opening is added.
     pub(crate) fn begin(
         alloc: Global,
-        gate_log: GateLog<D>,
+        mut gate_log: GateLog<D>,
         setup: Setup,
     ) -> Result<Machine<D>, (Fault, D)>
         requires running { IsFalse (is_stopped gate_log) }
@@ -148,7 +148,6 @@ impl<D: Disk> Machine<D> {
             Ok(state) => state,
             Err(fault) => return Err((fault, gate_log.into_disk())),
         };
-        let mut gate_log = gate_log;
         let first = Record::Opened {
             epoch: Epoch::first(),
         };

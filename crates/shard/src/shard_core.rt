@@ -106,7 +106,10 @@ impl<D: Disk> Core<D> {
     {
         match made {
             Ok(machine) => Ok(Core { machine, book }),
-            Err(refused) => Err(refused),
+            Err(refused) => {
+                drop(book);
+                Err(refused)
+            }
         }
     }
 
@@ -262,10 +265,8 @@ impl<D: Disk> Core<D> {
     pub fn stop(self) -> D
         ensures { result ≡ (seen self).disk }
     {
-        let Core {
-            machine,
-            book: _book,
-        } = self;
+        let Core { machine, book } = self;
+        drop(book);
         machine.stop()
     }
 }

@@ -1,8 +1,8 @@
 use Rattle.std.specs.List.{list_any}
-use Rattle.std.proofs.Common.{◌∙◌, not, nat_eq, [], Err, ap, sym, rules}
+use Rattle.std.proofs.Common.{◌∙◌, not, nat_eq, [], ap, sym}
 use Rattle.units.specs.declared.setup.Setup.{Setup}
 use Rattle.memory.specs.Kept.{start_of}
-use Rattle.memory.proofs.States.{planned-by, planned-err}
+use Rattle.memory.proofs.States.{planned-by, refused-by}
 use Rattle.coordinator.proofs.Granting.{granted_others, resumed_late, resumed_decided}
 use Rattle.coordinator.proofs.commits.resume_commit.Goals as goal
 
@@ -15,20 +15,19 @@ returns-then-has_others-clause-planned c =
     (ap (λ (s : Setup). list_any (λ m. not (nat_eq m s.shard)) r.parts) (sym c.setup.ensures) ∙ sym c.has_others.ensures ∙ c.if-has_others.true))
     c.collect_alone.ensures.plan c.collect_alone.ensures.memory
 
-pub returns-in_err-at-clause-planned : goal.returns-in_err-at-clause-planned
-returns-in_err-at-clause-planned c =
+pub returns-in-Err-clause-planned : goal.returns-in-Err-clause-planned
+returns-in-Err-clause-planned c =
     let k = c.args.state.now in
     let r = c.args.request.now in
-    planned-err k _ c.from_residual.result c.in_err-at.field-0.0
-    (resumed_late (start_of k) c.args.txn r.latest r.parts r.reads r.writes
+    refused-by _ _ (resumed_late (start_of k) c.args.txn r.latest r.parts r.reads r.writes
     (ap (λ (s : Setup). list_any (λ m. not (nat_eq m s.shard)) r.parts) (sym c.setup.ensures) ∙ sym c.has_others.ensures ∙ c.if-has_others.false)
-    c.in_err-at.ensures.1 ∙ ap Err (sym c.in_err-at.ensures.0)) (search rules)
+    c.in-Err.ensures.1)
 
 pub returns-clause-planned : goal.returns-clause-planned
 returns-clause-planned c =
     let k = c.args.state.now in
     let r = c.args.request.now in
     planned-by k _ _ c.decide_alone.result
-    (resumed_decided (start_of k) c.args.txn r.latest r.parts r.reads r.writes c.in_ok-at.at
+    (resumed_decided (start_of k) c.args.txn r.latest r.parts r.reads r.writes c.in-Ok.at
     (ap (λ (s : Setup). list_any (λ m. not (nat_eq m s.shard)) r.parts) (sym c.setup.ensures) ∙ sym c.has_others.ensures ∙ c.if-has_others.false)
-    c.in_ok-at.ensures.0 c.in_ok-at.ensures.1) c.decide_alone.ensures.plan c.decide_alone.ensures.memory
+    c.in-Ok.ensures.0 c.in-Ok.ensures.1) c.decide_alone.ensures.plan c.decide_alone.ensures.memory

@@ -9,4 +9,4 @@ first_epoch = refl
 
 pub without_rows-requires-clause-opened : goal.without_rows-requires-clause-opened
 without_rows-requires-clause-opened c =
-    let epoch : c.in_ok-ledger.ledger.facts.epoch ≡ 1 = ap (λ (f : Facts). f.epoch) c.in_ok-ledger.ensures.facts ∙ first_epoch in omega (arith, epoch)
+    let epoch : c.in-Ok.ledger.facts.epoch ≡ 1 = ap (λ (f : Facts). f.epoch) c.in-Ok.ensures.facts ∙ first_epoch in omega (arith, epoch)

@@ -9,6 +9,6 @@ pub invariant_of-result : goal.invariant_of-result
 invariant_of-result c = (
   c.requires.opened,
   c.requires.shard,
-  subst (λ (rows : List Row). SameHolds c.args.times.holds (stamps_held rows)) (sym c.in_ok-rows.ensures.none)
+  subst (λ (rows : List Row). SameHolds c.args.times.holds (stamps_held rows)) (sym c.in-Ok.ensures.none)
       (subst (λ (times : Times). SameHolds times.holds (stamps_held [])) (sym c.requires.times) (record { each = λ at. refl })),
 )
