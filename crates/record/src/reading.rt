@@ -1,10 +1,10 @@
 // Reading a record from left to right.
-ghost use Rattle.std.specs.Prelude.{◌≡◌, ◌≢◌, ◌↔◌, ◌==◌, [], ◌∷◌, length, nat_le, if◌then◌else◌, Some, None, IfOk, IfErr, MatchResult};
+ghost use Rattle.std.specs.Prelude.{◌≡◌, ◌≢◌, ◌↔◌, ◌==◌, [], ◌∷◌, length, IfOk, IfErr, MatchResult};
 ghost use Rattle.std.specs.Int.{w16, w64};
 ghost use Rattle.record.specs.Gives.{Gives, Finds};
 ghost use Rattle.record.specs.Grammar.{Spells};
-ghost use Rattle.record.specs.Reading.{◌>>=◌, only_if, number_at, text_at, stamp_at, epoch_at, key_at, value_at, write_at, id_at, parts_at, shard_at, outcome_at, many_at};
-ghost use Rattle.record.specs.Reading.{keys_at, writes_at, prepare_at, commit_at, ended_at, record_at, read_record};
+ghost use Rattle.record.specs.Reading.{only_if, number_at, value_text_at, stamp_at, epoch_at, key_at, value_at, write_at, id_at, parts_at, shard_at, outcome_at, many_at};
+ghost use Rattle.record.specs.Reading.{keys_at, writes_at, promise_at, decision_at, ended_at, record_at, read_record};
 
 use crate::record::{Committed, Prepared, Record};
 use crate::unread::Unread;
@@ -120,8 +120,7 @@ fn key_of(bytes: &[u8]) -> Option<(Key, &[u8])>
 
 // The bytes of a value, behind their number.
 fn text_of(bytes: &[u8]) -> Option<(&[u8], &[u8])>
-    ensures { Finds (λ x. (x.0.now, x.1.now)) result (number_at w16 bytes.now >>=
-        λ count. if nat_le count.0 4096 then text_at count.0 count.1 else None) }
+    ensures { Finds (λ x. (x.0.now, x.1.now)) result (value_text_at bytes.now) }
 {
     let Some((count, rest)) = u16_of(bytes) else {
         return None;
@@ -173,12 +172,13 @@ fn key_list<'a>(keys: &mut Vec<Key>, count: u16, bytes: &'a [u8]) -> Result<&'a 
 {
     let mut rest = bytes;
     for _ in 0..count {
-        let Some((key, after)) = key_of(rest) else {
+        let Some(found) = key_of(rest) else {
             return Err(Unread::Malformed);
         };
-        if keys.push(key).is_err() {
+        let (key, after) = found;
+        let Ok(()) = keys.push(key) else {
             return Err(Unread::Memory);
-        }
+        };
         rest = after;
     }
     Ok(rest)
@@ -199,9 +199,9 @@ fn write_list<'a>(
     for _ in 0..count {
         match write_of(alloc, rest) {
             Ok((write, after)) => {
-                if writes.push(write).is_err() {
+                let Ok(()) = writes.push(write) else {
                     return Err(Unread::Memory);
-                }
+                };
                 rest = after;
             }
             Err(unread) => return Err(unread),
@@ -272,8 +272,7 @@ fn outcome_of(bytes: &[u8]) -> Option<(Option<Stamp>, &[u8])>
 
 #[tactic(auto, unfolding(crate::specs::Reading::prepare_at))]
 fn prepare_of(alloc: Global, bytes: &[u8]) -> Result<(Record, &[u8]), Unread>
-    ensures { Gives (λ x. (x.0, x.1.now)) result
-        (prepare_at bytes.now >>= λ p. Some (Record.Prepare p.0, p.1)) }
+    ensures { Gives (λ x. (x.0, x.1.now)) result (promise_at bytes.now) }
 {
     let Some((txn, rest)) = id_of(bytes) else {
         return Err(Unread::Malformed);
@@ -308,8 +307,7 @@ fn prepare_of(alloc: Global, bytes: &[u8]) -> Result<(Record, &[u8]), Unread>
 
 #[tactic(auto, unfolding(crate::specs::Reading::commit_at))]
 fn commit_of(alloc: Global, bytes: &[u8]) -> Result<(Record, &[u8]), Unread>
-    ensures { Gives (λ x. (x.0, x.1.now)) result
-        (commit_at bytes.now >>= λ p. Some (Record.Commit p.0, p.1)) }
+    ensures { Gives (λ x. (x.0, x.1.now)) result (decision_at bytes.now) }
 {
     let Some((txn, rest)) = id_of(bytes) else {
         return Err(Unread::Malformed);
@@ -401,14 +399,14 @@ fn record_of(alloc: Global, bytes: &[u8]) -> Result<(Record, &[u8]), Unread>
 }
 
 // The record, where nothing stands behind it.
-fn only(record: Record, rest: &[u8]) -> Option<Record>
-    ensures { result ≡ only_if (length rest.now == 0) record }
+fn only(found: Record, rest: &[u8]) -> Option<Record>
+    ensures { result ≡ only_if (length rest.now == 0) found }
 {
     if !rest.is_empty() {
-        drop(record);
+        drop(found);
         return None;
     }
-    Some(record)
+    Some(found)
 }
 
 // The record that all of the bytes are.
