@@ -91,12 +91,7 @@ pub(crate) fn settle<R: Wait>(rt: &R, writer: BoardWriter) -> (BoardWriter, Told
         writer = next;
         if published.is_ok() && writer.published().is_second() != was_second {
             let other = writer.published().so_far();
-            let told = if was_second {
-                Told::of(other, one, safe)
-            } else {
-                Told::of(one, other, safe)
-            };
-            return (writer, told);
+            return (writer, Told::of(was_second, one, other, safe));
         }
     }
     unreachable!()
