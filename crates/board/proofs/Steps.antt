@@ -1,6 +1,6 @@
 -- A step that only adds to the board's list keeps its rule.
 use Rattle.std.proofs.Common.{◌≡◌, ℕ, ◌≢◌, List, [], ◌∷◌, ◌++◌, set, get_or, zero, suc, true, refl, ap, sym, ◌∙◌, subst, ⊎_elim, arith, append_assoc}
-use Rattle.std.proofs.Common.{fold, drop, length, Result, Ok, Err, MatchResult}
+use Rattle.std.proofs.Common.{fold, drop, length, Result, Ok, Err}
 use Rattle.std.proofs.lemmas.List.{append-nil}
 use mathlib.Core.List.{IsPrefix}
 use mathlib.Core.Option.{some, some-injective, some-ne-none}

@@ -1,4 +1,3 @@
-use Rattle.std.proofs.Common.{drop}
 use Rattle.board.proofs.Steps.{goes_on}
 use Rattle.board.proofs.press.step.Goals as goal
 
