@@ -144,8 +144,8 @@ impl BoardCopy {
     fn fill(&mut self, installs: &[Install], safe: Stamp) -> bool
         requires { self.old.ahead ≡ [] }
         ensures { IsTrue result → self.new ≡ record self.old {
-            list = first_entries installs.now safe;
-            ahead = first_entries installs.now safe;
+          list = first_entries installs.now safe;
+          ahead = first_entries installs.now safe;
         } }
     {
         for install in installs {
@@ -163,7 +163,7 @@ impl BoardCopy {
     // Prepares a copy of a version. It says whether there was the memory.
     fn prepare_copy(&mut self, install: &Install) -> bool
         ensures { IsTrue result → self.new ≡ record self.old {
-            ahead = self.old.ahead ++ BoardEntry.Installed install.now ∷ [];
+          ahead = self.old.ahead ++ BoardEntry.Installed install.now ∷ [];
         } }
     {
         let Ok(copy) = copy_install(install, self.alloc) else {
@@ -243,11 +243,16 @@ fn add_version(versions: &mut Versions, alloc: Global, install: &Install) -> Res
         (λ fault. (fault ≡ Fault.Memory) × (versions.new.installs ≡ versions.old.installs)) }
 {
     place_does_not_matter();
-    let Install { key, at, value } = copy_install(install, alloc)?;
-    versions.reserve(1)?;
-    if !versions.takes(&key, at) {
+    let Ok(()) = versions.reserve(1) else {
+        return Err(Fault::Memory);
+    };
+    if !versions.takes(&install.key, install.at) {
         return Err(Fault::Memory);
     }
+    let Ok(copy) = copy_install(install, alloc) else {
+        return Err(Fault::Memory);
+    };
+    let Install { key, at, value } = copy;
     versions.install(key, at, value);
     Ok(())
 }
