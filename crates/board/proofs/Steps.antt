@@ -1,6 +1,6 @@
 -- A step that only adds to the board's list keeps its rule.
 use Rattle.std.proofs.Common.{◌≡◌, ℕ, ◌≢◌, List, [], ◌∷◌, ◌++◌, set, get_or, zero, suc, true, refl, ap, sym, ◌∙◌, subst, ⊎_elim, arith, append_assoc}
-use Rattle.std.proofs.Common.{fold, drop, length, Result, Ok, Err, MatchResult}
+use Rattle.std.proofs.Common.{fold, drop, length, Result, Ok, Err}
 use Rattle.std.proofs.lemmas.List.{append-nil}
 use mathlib.Core.List.{IsPrefix}
 use mathlib.Core.Option.{some, some-injective, some-ne-none}
@@ -16,6 +16,7 @@ use Rattle.board.specs.declared.change.BoardChange.{BoardChange}
 use Rattle.board.specs.declared.change.BoardChange.TheVariants.{Prepare, Commit}
 use mathlib.Core.Bool.{true≢false}
 use Rattle.board.specs.OneList.{SeenStates, IsLaterThanAll, IsFair, KeepsOneList, Sees}
+use Rattle.board.specs.Showing.{MayShow, ShowingGives}
 
 -- the board's state follows itself
 pub one_agrees : (s : BoardState) → IsLaterThanAll s (s ∷ [])
@@ -112,35 +113,34 @@ pub followed : (now s : BoardState) (known : SeenStates) → known ≡ s ∷ [] 
 followed now s known is a = subst (IsLaterThanAll now) is a zero s (omega arith)
 
 -- entries are prepared, and the list stays
-pub prepares_on : (seat : ℕ) (known : SeenStates) (x next : Page) (changes : List BoardChange) → board_state next ≡ fold after_board_change
-    (board_state x) changes → is_quiet changes ≡ true → is_board (x.ahead ++ newly_prepared changes) ≡ true → TurnsAt KeepsOneList seat known x next Sees
-prepares_on seat known x next changes is quiet lawful =
+pub prepares_on : (x : Page) (changes : List BoardChange) → is_quiet changes ≡ true → is_board (x.ahead ++ newly_prepared changes) ≡ true → MayShow x changes
+prepares_on x changes quiet lawful next is =
     let all = is ∙ fold_quiet x.list x.ahead x.board changes quiet in
     let list : next.list ≡ x.list = ap (λ (s : BoardState). s.0) all in
-    let ahead : next.ahead ≡ x.ahead ++ newly_prepared changes = ap (λ (s : BoardState). s.1) all in
-    goes_on seat known x next (subst (IsPrefix x.list) (sym list) (prefix_self x.list), sym (ap (λ (s : BoardState). s.2) all))
-    (λ fair. (ap is_board list ∙ fair.list, ap is_board ahead ∙ lawful))
+    let ahead : next.ahead ≡ x.ahead ++ newly_prepared changes = ap (λ (s : BoardState). s.1) all in (
+      (subst (IsPrefix x.list) (sym list) (prefix_self x.list), sym (ap (λ (s : BoardState). s.2) all)),
+      λ fair. (ap is_board list ∙ fair.list, ap is_board ahead ∙ lawful),
+    )
 
 -- nothing changes
-pub settles_on : (seat : ℕ) (known : SeenStates) (x next : Page) (changes : List BoardChange)
-    → board_state next ≡ fold after_board_change (board_state x) changes → changes ≡ [] → TurnsAt KeepsOneList seat known x next Sees
-settles_on seat known x next changes is none =
+pub settles_on : (x : Page) (changes : List BoardChange) → changes ≡ [] → MayShow x changes
+settles_on x changes none next is =
     let all : board_state next ≡ board_state x = is ∙ ap (fold after_board_change (board_state x)) none in
     let list : next.list ≡ x.list = ap (λ (s : BoardState). s.0) all in
-    let ahead : next.ahead ≡ x.ahead = ap (λ (s : BoardState). s.1) all in
-    goes_on seat known x next (subst (IsPrefix x.list) (sym list) (prefix_self x.list), sym (ap (λ (s : BoardState). s.2) all))
-    (λ fair. (ap is_board list ∙ fair.list, ap is_board ahead ∙ fair.ahead))
+    let ahead : next.ahead ≡ x.ahead = ap (λ (s : BoardState). s.1) all in (
+      (subst (IsPrefix x.list) (sym list) (prefix_self x.list), sym (ap (λ (s : BoardState). s.2) all)),
+      λ fair. (ap is_board list ∙ fair.list, ap is_board ahead ∙ fair.ahead),
+    )
 
 -- what is prepared is shown
-pub commits_on : (seat : ℕ) (known : SeenStates) (x next : Page) (changes : List BoardChange)
-    → board_state next ≡ fold after_board_change (board_state x) changes → changes ≡ Commit ∷ [] → IsPrefix x.list x.ahead
-    → TurnsAt KeepsOneList seat known x next Sees
-commits_on seat known x next changes is commit longer =
+pub commits_on : (x : Page) (changes : List BoardChange) → changes ≡ Commit ∷ [] → IsPrefix x.list x.ahead → MayShow x changes
+commits_on x changes commit longer next is =
     let all : board_state next ≡ (x.ahead, x.ahead, x.board) = is ∙ ap (fold after_board_change (board_state x)) commit in
     let list : next.list ≡ x.ahead = ap (λ (s : BoardState). s.0) all in
-    let ahead : next.ahead ≡ x.ahead = ap (λ (s : BoardState). s.1) all in
-    goes_on seat known x next (subst (IsPrefix x.list) (sym list) longer, sym (ap (λ (s : BoardState). s.2) all))
-    (λ fair. (ap is_board list ∙ fair.ahead, ap is_board ahead ∙ fair.ahead))
+    let ahead : next.ahead ≡ x.ahead = ap (λ (s : BoardState). s.1) all in (
+      (subst (IsPrefix x.list) (sym list) longer, sym (ap (λ (s : BoardState). s.2) all)),
+      λ fair. (ap is_board list ∙ fair.ahead, ap is_board ahead ∙ fair.ahead),
+    )
 
 drop_front : (xs ys : List BoardEntry) → drop (length xs) (xs ++ ys) ≡ ys
 drop_front [] ys = refl
@@ -159,11 +159,6 @@ same_pending x y changes changes' p q list ahead =
     let all : y.list ++ pending_of y changes' ≡ x.list ++ pending_of x changes = all_ahead y changes' q ∙ (ahead ∙ sym (all_ahead x changes p)) in
     sym (drop_front y.list (pending_of y changes')) ∙
     (ap (drop (length y.list)) all ∙ (ap (λ l. drop (length l) (x.list ++ pending_of x changes)) list ∙ drop_front x.list (pending_of x changes)))
-
--- what one showing of prepared entries comes to, where there was memory for all and where there was not
-abbrev pub ShowingGives : {A B : Type 0} → Page → Page → List BoardChange → List BoardChange → Result A B → Type 0
-ShowingGives x y changes changes' result = MatchResult result
-    (λ _. (board_state y ≡ fold after_board_change (board_state x) changes) × (changes' ≡ [])) (λ _. (y ≡ x) × (changes' ≡ changes))
 
 module _ {A B : Type 0} (x y : Page) (changes changes' : List BoardChange) where
   pub prepared_list : (result : Result A B) → is_quiet changes ≡ true → ShowingGives x y changes changes' result → (y.list ≡ x.list) × (y.board ≡ x.board)

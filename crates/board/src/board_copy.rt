@@ -1,5 +1,5 @@
 //! One of the two copies of a board.
-ghost use Rattle.std.specs.Prelude.{◌≡◌, true, false, Some, [], ◌∷◌, ◌++◌, length, MatchResult, IfOk, IfErr, OnOk};
+ghost use Rattle.std.specs.Prelude.{◌≡◌, true, false, Some, [], ◌∷◌, ◌++◌, length, IsTrue, MatchResult, IfOk, IfErr, OnOk};
 ghost use mathlib.Core.List.{IsPrefix};
 ghost use Rattle.board.specs.Board.{safe_on, has_safe, first_entries, is_board};
 ghost use Rattle.board.specs.Look.{look_answer, look_buffer, value_seen, buffer_filled};
@@ -133,14 +133,46 @@ impl BoardCopy {
             }) }
         ensures memory { IfErr result (λ fault. fault ≡ Fault.Memory) }
     {
-        let alloc = self.alloc;
-        for install in installs {
-            let entry = BoardEntry::Installed(copy_install(install, alloc)?);
-            self.prepare(&entry)?;
+        if !self.fill(installs, safe) {
+            drop(self);
+            return Err(Fault::Memory);
         }
-        self.prepare(&BoardEntry::Safe(safe))?;
-        self.commit();
         Ok(self)
+    }
+
+    // Adds copies of the installs, and then the safe timestamp. It says whether there was the memory.
+    fn fill(&mut self, installs: &[Install], safe: Stamp) -> bool
+        requires { self.old.ahead ≡ [] }
+        ensures { IsTrue result → self.new ≡ record self.old {
+          list = first_entries installs.now safe;
+          ahead = first_entries installs.now safe;
+        } }
+    {
+        for install in installs {
+            if !self.prepare_copy(install) {
+                return false;
+            }
+        }
+        if self.prepare(&BoardEntry::Safe(safe)).is_err() {
+            return false;
+        }
+        self.commit();
+        true
+    }
+
+    // Prepares a copy of a version. It says whether there was the memory.
+    fn prepare_copy(&mut self, install: &Install) -> bool
+        ensures { IsTrue result → self.new ≡ record self.old {
+          ahead = self.old.ahead ++ BoardEntry.Installed install.now ∷ [];
+        } }
+    {
+        let Ok(copy) = copy_install(install, self.alloc) else {
+            return false;
+        };
+        let entry = BoardEntry::Installed(copy);
+        let taken = self.prepare(&entry).is_ok();
+        drop(entry);
+        taken
     }
 
     pub(crate) fn is_second(&self) -> bool
@@ -211,11 +243,16 @@ fn add_version(versions: &mut Versions, alloc: Global, install: &Install) -> Res
         (λ fault. (fault ≡ Fault.Memory) × (versions.new.installs ≡ versions.old.installs)) }
 {
     place_does_not_matter();
-    let Install { key, at, value } = copy_install(install, alloc)?;
-    versions.reserve(1)?;
-    if !versions.takes(&key, at) {
+    let Ok(()) = versions.reserve(1) else {
+        return Err(Fault::Memory);
+    };
+    if !versions.takes(&install.key, install.at) {
         return Err(Fault::Memory);
     }
+    let Ok(copy) = copy_install(install, alloc) else {
+        return Err(Fault::Memory);
+    };
+    let Install { key, at, value } = copy;
     versions.install(key, at, value);
     Ok(())
 }

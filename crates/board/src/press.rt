@@ -1,11 +1,12 @@
 //! The writer of a board, with its two copies.
-ghost use Rattle.std.specs.Prelude.{◌≡◌, true, [], ◌∷◌, ◌++◌, drop, MatchResult, IsTrue};
+ghost use Rattle.std.specs.Prelude.{◌≡◌, true, [], ◌∷◌, ◌++◌, drop, IsTrue, OnOk};
 ghost use mathlib.Core.List.{IsPrefix};
 ghost use Rattle.board.specs.Board.{is_board};
 ghost use Rattle.left_right.specs.Sides.{view};
 ghost use Rattle.board.specs.State.{board_state, Takes, is_quiet, newly_prepared, pending_of};
 ghost use Rattle.board.specs.Views.{MayAccept, accepting, PublishesAll};
 ghost use Rattle.board.specs.Publications.{IsPublished, IsFinished};
+ghost use Rattle.board.specs.Showing.{MayShow, ShowingGives};
 
 use crate::board_copy::BoardCopy;
 use crate::change::BoardChange;
@@ -13,11 +14,23 @@ use crate::entry::BoardEntry;
 use crate::rule::{OneList, SeenStates, SeesList};
 use crate::told::Told;
 use left_right::writer::Writer;
+use std::alloc::AllocError;
 use std::marker::Model;
 use std::sync::Wait;
 use units::Fault;
 
 pub(crate) type BoardWriter = Writer<BoardCopy, BoardChange, SeenStates, OneList>;
+
+/// Brings the spare copy up with all that came, and shows it. Refused for want of memory, it shows what it showed.
+fn step<R: Wait>(rt: &R, writer: BoardWriter) -> (BoardWriter, Result<(), AllocError>)
+    requires { MayShow writer.desk.shown.value (drop writer.behind writer.log.items) }
+    ensures values { ShowingGives writer.desk.shown.value result.0.desk.shown.value
+        (drop writer.behind writer.log.items) (drop result.0.behind result.0.log.items) result.1 }
+    ensures view { OnOk result.1 (view result.0.desk.place ≡ board_state
+        result.0.desk.shown.value ∷ []) }
+{
+    writer.publish_as::<SeesList, R>(rt)
+}
 
 /// Prepares in the spare copy what it lacks, and shows that copy, by the same list. It says whether there was memory for all.
 fn prepare<R: Wait>(rt: &R, writer: BoardWriter) -> (BoardWriter, bool)
@@ -34,7 +47,7 @@ fn prepare<R: Wait>(rt: &R, writer: BoardWriter) -> (BoardWriter, bool)
     ensures quiet { is_quiet (drop result.0.behind result.0.log.items) ≡ true }
     ensures done { IsTrue result.1 → drop result.0.behind result.0.log.items ≡ [] }
 {
-    let (writer, prepared) = writer.publish_as::<SeesList, R>(rt);
+    let (writer, prepared) = step(rt, writer);
     (writer, prepared.is_ok())
 }
 
@@ -51,7 +64,7 @@ fn commit<R: Wait>(rt: &R, writer: BoardWriter) -> BoardWriter
 {
     let mut writer = writer;
     for _ in rt.forever() {
-        let (next, shown) = writer.publish_as::<SeesList, R>(rt);
+        let (next, shown) = step(rt, writer);
         writer = next;
         if shown.is_ok() {
             return writer;
@@ -74,16 +87,11 @@ pub(crate) fn settle<R: Wait>(rt: &R, writer: BoardWriter) -> (BoardWriter, Told
     let safe = writer.published().safe();
     let mut writer = writer;
     for _ in rt.forever() {
-        let (next, published) = writer.publish_as::<SeesList, R>(rt);
+        let (next, published) = step(rt, writer);
         writer = next;
         if published.is_ok() && writer.published().is_second() != was_second {
             let other = writer.published().so_far();
-            let told = if was_second {
-                Told::of(other, one, safe)
-            } else {
-                Told::of(one, other, safe)
-            };
-            return (writer, told);
+            return (writer, Told::of(was_second, one, other, safe));
         }
     }
     unreachable!()

@@ -1,5 +1,5 @@
 //! Published of a board's list.
-ghost use Rattle.std.specs.Prelude.{◌≡◌, true, false};
+ghost use Rattle.std.specs.Prelude.{◌≡◌, ◌≢◌};
 ghost use Rattle.board.specs.Board.{safe_on};
 
 use crate::entry::BoardEntry;
@@ -29,20 +29,30 @@ impl Model for Told {
 }
 
 impl Told {
+    // A list as one copy has had it, which is the second one or not, and as the other has.
     pub(crate) fn of(
-        first: Beginning<BoardEntry>,
-        second: Beginning<BoardEntry>,
+        is_second: bool,
+        one: Beginning<BoardEntry>,
+        other: Beginning<BoardEntry>,
         safe: Stamp,
     ) -> Told
-        requires sides { (first.second ≡ false) × (second.second ≡ true) }
-        requires same { (second.names ≡ first.names) × (second.entries ≡ first.entries) }
-        requires safe { safe ≡ safe_on first.entries }
-        ensures { result ≡ record { board = first.names; list = first.entries } }
+        requires sides { (one.second ≡ is_second) × (other.second ≢ is_second) }
+        requires same { (other.names ≡ one.names) × (other.entries ≡ one.entries) }
+        requires safe { safe ≡ safe_on one.entries }
+        ensures { result ≡ record { board = one.names; list = one.entries } }
     {
-        Told {
-            first,
-            second,
-            safe,
+        if is_second {
+            Told {
+                first: other,
+                second: one,
+                safe,
+            }
+        } else {
+            Told {
+                first: one,
+                second: other,
+                safe,
+            }
         }
     }
 

@@ -15,12 +15,12 @@ pub fn make_room(buffer: &mut Vec<Lock>, count: usize, more: usize) -> Result<()
     ensures succeeds { count + more ≤ vec_capacity buffer.old → IsOk result }
 {
     buffer.clear();
-    match count.checked_add(more) {
-        Some(all) => {
-            buffer.reserve(all)?;
-            Ok(())
-        }
-        None => Err(Fault::Memory),
+    let Some(all) = count.checked_add(more) else {
+        return Err(Fault::Memory);
+    };
+    match buffer.reserve(all) {
+        Ok(()) => Ok(()),
+        Err(_) => Err(Fault::Memory),
     }
 }
 

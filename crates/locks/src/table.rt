@@ -74,9 +74,13 @@ impl Table {
         ensures err { OnErr result (self.new ≡ self.old) }
         ensures memory { IfErr result (λ fault. fault ≡ Fault.Memory) }
     {
-        self.begin_tally(alloc)?;
+        let Ok(()) = self.begin_tally(alloc) else {
+            return Err(Fault::Memory);
+        };
         let at = place_for(&self.entries, txn);
-        self.entries.insert(at, Claim::new(alloc, txn))?;
+        let Ok(()) = self.entries.insert(at, Claim::new(alloc, txn)) else {
+            return Err(Fault::Memory);
+        };
         Ok(Held {
             txn,
             buffer: Vec::new(alloc),
@@ -88,10 +92,16 @@ impl Table {
         ensures same { self.new ≡ self.old }
         ensures memory { IfErr result (λ fault. fault ≡ Fault.Memory) }
     {
-        if self.entries.is_empty() && self.tally.is_unknown() {
-            self.tally = Tally::none(alloc)?;
+        if !self.entries.is_empty() || !self.tally.is_unknown() {
+            return Ok(());
         }
-        Ok(())
+        match Tally::none(alloc) {
+            Ok(tally) => {
+                self.tally = tally;
+                Ok(())
+            }
+            Err(fault) => Err(fault),
+        }
     }
 
     /// Whether a transaction holds a key. One that has no claim holds nothing.
@@ -246,7 +256,9 @@ impl Table {
     {
         let at = place(&self.entries, held.txn);
         let claim = &self.entries[at];
-        make_room(&mut held.buffer, claim.held_count(), claim.needs_count())?;
+        if let Err(fault) = make_room(&mut held.buffer, claim.held_count(), claim.needs_count()) {
+            return Err(fault);
+        }
         self.entries[at].resume(&mut held.buffer, &mut self.tally);
         Ok(())
     }

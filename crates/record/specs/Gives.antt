@@ -12,3 +12,8 @@ Fails Malformed read = read ≡ None
 abbrev pub Gives : {X Y : Type 0} → (X → Y) → Result X Unread → Option Y → Type 0
 Gives view (Ok x) read = read ≡ Some (view x)
 Gives view (Err unread) read = Fails unread read
+
+-- the same of a reader that takes no memory
+abbrev pub Finds : {X Y : Type 0} → (X → Y) → Option X → Option Y → Type 0
+Finds view (Some x) read = read ≡ Some (view x)
+Finds view None read = read ≡ None

@@ -46,6 +46,10 @@ unfoldable pub key_at : List ℕ → Option (Bytes × List ℕ)
 key_at [] = None
 key_at (count ∷ bytes) = if nat_le 1 count && nat_le count 64 then text_at count bytes else None
 
+-- the bytes of a value, behind their number
+abbrev pub value_text_at : List ℕ → Option (List ℕ × List ℕ)
+value_text_at bytes = number_at w16 bytes >>= λ count. if nat_le count.0 4096 then text_at count.0 count.1 else None
+
 -- an erasure, or a value of at most 4,096 bytes
 unfoldable pub value_at : List ℕ → Option (Option Bytes × List ℕ)
 value_at [] = None
@@ -131,6 +135,13 @@ commit_at bytes = do
   reads ← keys_at parts.1
   writes ← writes_at reads.1
   Some (record { txn = txn.0; at = at.0; parts = parts.0; reads = reads.0; writes = writes.0 }, writes.1)
+
+-- a promise and a decision as records
+abbrev pub promise_at : List ℕ → Option (Record × List ℕ)
+promise_at bytes = prepare_at bytes >>= λ p. Some (records.Prepare p.0, p.1)
+
+abbrev pub decision_at : List ℕ → Option (Record × List ℕ)
+decision_at bytes = commit_at bytes >>= λ c. Some (records.Commit c.0, c.1)
 
 -- an id and how it ended
 unfoldable pub ended_at : List ℕ → Option ((Id × Option ℕ) × List ℕ)

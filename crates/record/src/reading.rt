@@ -1,10 +1,10 @@
 // Reading a record from left to right.
-ghost use Rattle.std.specs.Prelude.{◌≡◌, ◌↔◌, length, Some, IfOk, IfErr, MatchResult};
+ghost use Rattle.std.specs.Prelude.{◌≡◌, ◌≢◌, ◌↔◌, ◌==◌, [], ◌∷◌, length, IfOk, IfErr, MatchResult};
 ghost use Rattle.std.specs.Int.{w16, w64};
-ghost use Rattle.record.specs.Gives.{Gives};
+ghost use Rattle.record.specs.Gives.{Gives, Finds};
 ghost use Rattle.record.specs.Grammar.{Spells};
-ghost use Rattle.record.specs.Reading.{number_at, stamp_at, epoch_at, key_at, value_at, write_at, id_at, parts_at, shard_at, outcome_at, many_at};
-ghost use Rattle.record.specs.Reading.{keys_at, writes_at, prepare_at, commit_at, ended_at, record_at, read_record};
+ghost use Rattle.record.specs.Reading.{only_if, number_at, value_text_at, stamp_at, epoch_at, key_at, value_at, write_at, id_at, parts_at, shard_at, outcome_at, many_at};
+ghost use Rattle.record.specs.Reading.{keys_at, writes_at, promise_at, decision_at, ended_at, record_at, read_record};
 
 use crate::record::{Committed, Prepared, Record};
 use crate::unread::Unread;
@@ -12,109 +12,124 @@ use byteorder::{BigEndian, ByteOrder};
 use std::alloc::Global;
 use units::{Epoch, Fault, Key, Keys, Parts, ShardNo, Stamp, TxnId, Value, Write, Writes};
 
-fn u16_of(bytes: &[u8]) -> Result<(u16, &[u8]), Unread>
-    ensures { Gives (λ x. (x.0, x.1.now)) result (number_at w16 bytes.now) }
+fn u16_of(bytes: &[u8]) -> Option<(u16, &[u8])>
+    ensures { Finds (λ x. (x.0, x.1.now)) result (number_at w16 bytes.now) }
 {
     if bytes.len() < 2 {
-        return Err(Unread::Malformed);
+        return None;
     }
     let (front, rest) = bytes.split_at(2);
-    Ok((BigEndian::read_u16(front), rest))
+    Some((BigEndian::read_u16(front), rest))
 }
 
-fn u64_of(bytes: &[u8]) -> Result<(u64, &[u8]), Unread>
-    ensures { Gives (λ x. (x.0, x.1.now)) result (number_at w64 bytes.now) }
+fn u64_of(bytes: &[u8]) -> Option<(u64, &[u8])>
+    ensures { Finds (λ x. (x.0, x.1.now)) result (number_at w64 bytes.now) }
 {
     if bytes.len() < 8 {
-        return Err(Unread::Malformed);
+        return None;
     }
     let (front, rest) = bytes.split_at(8);
-    Ok((BigEndian::read_u64(front), rest))
+    Some((BigEndian::read_u64(front), rest))
 }
 
 #[tactic(auto, unfolding(crate::specs::Reading::stamp_at))]
-fn stamp_of(bytes: &[u8]) -> Result<(Stamp, &[u8]), Unread>
-    ensures { Gives (λ x. (x.0, x.1.now)) result (stamp_at bytes.now) }
+fn stamp_of(bytes: &[u8]) -> Option<(Stamp, &[u8])>
+    ensures { Finds (λ x. (x.0, x.1.now)) result (stamp_at bytes.now) }
 {
-    let (number, rest) = u64_of(bytes)?;
+    let Some((number, rest)) = u64_of(bytes) else {
+        return None;
+    };
     match Stamp::new(number) {
-        Ok(stamp) => Ok((stamp, rest)),
-        Err(_) => Err(Unread::Malformed),
+        Ok(stamp) => Some((stamp, rest)),
+        Err(_) => None,
     }
 }
 
 #[tactic(auto, unfolding(crate::specs::Reading::epoch_at))]
-fn epoch_of(bytes: &[u8]) -> Result<(Epoch, &[u8]), Unread>
-    ensures { Gives (λ x. (x.0, x.1.now)) result (epoch_at bytes.now) }
+fn epoch_of(bytes: &[u8]) -> Option<(Epoch, &[u8])>
+    ensures { Finds (λ x. (x.0, x.1.now)) result (epoch_at bytes.now) }
 {
-    let (stamp, rest) = match stamp_of(bytes) {
-        Ok(found) => found,
-        Err(unread) => return Err(unread),
+    let Some((stamp, rest)) = stamp_of(bytes) else {
+        return None;
     };
     match Epoch::new(stamp.micros()) {
-        Some(epoch) => Ok((epoch, rest)),
-        None => Err(Unread::Malformed),
+        Some(epoch) => Some((epoch, rest)),
+        None => None,
     }
 }
 
 #[tactic(auto, unfolding(crate::specs::Reading::id_at))]
-fn id_of(bytes: &[u8]) -> Result<(TxnId, &[u8]), Unread>
-    ensures { Gives (λ x. (x.0, x.1.now)) result (id_at bytes.now) }
+fn id_of(bytes: &[u8]) -> Option<(TxnId, &[u8])>
+    ensures { Finds (λ x. (x.0, x.1.now)) result (id_at bytes.now) }
 {
-    let (run, rest) = match epoch_of(bytes) {
-        Ok(found) => found,
-        Err(unread) => return Err(unread),
+    let Some((run, rest)) = epoch_of(bytes) else {
+        return None;
     };
-    let (number, rest) = match stamp_of(rest) {
-        Ok(found) => found,
-        Err(unread) => return Err(unread),
+    let Some((number, rest)) = stamp_of(rest) else {
+        return None;
     };
     match TxnId::new(run.number(), number.micros()) {
-        Some(txn) => Ok((txn, rest)),
-        None => Err(Unread::Malformed),
+        Some(txn) => Some((txn, rest)),
+        None => None,
     }
 }
 
 #[tactic(auto, unfolding(crate::specs::Reading::parts_at))]
-fn parts_of(bytes: &[u8]) -> Result<(Parts, &[u8]), Unread>
-    ensures { Gives (λ x. (x.0, x.1.now)) result (parts_at bytes.now) }
+fn parts_of(bytes: &[u8]) -> Option<(Parts, &[u8])>
+    ensures { Finds (λ x. (x.0, x.1.now)) result (parts_at bytes.now) }
 {
-    let (mask, rest) = u16_of(bytes)?;
+    let Some((mask, rest)) = u16_of(bytes) else {
+        return None;
+    };
     match Parts::from_mask(mask) {
-        Some(parts) => Ok((parts, rest)),
-        None => Err(Unread::Malformed),
+        Some(parts) => Some((parts, rest)),
+        None => None,
     }
 }
 
 #[tactic(auto, unfolding(crate::specs::Reading::shard_at))]
-fn shard_of(bytes: &[u8]) -> Result<(ShardNo, &[u8]), Unread>
-    ensures { Gives (λ x. (x.0, x.1.now)) result (shard_at bytes.now) }
+fn shard_of(bytes: &[u8]) -> Option<(ShardNo, &[u8])>
+    ensures { Finds (λ x. (x.0, x.1.now)) result (shard_at bytes.now) }
 {
     let [number, rest @ ..] = bytes else {
-        return Err(Unread::Malformed);
+        return None;
     };
     match ShardNo::new(*number) {
-        Some(shard) => Ok((shard, rest)),
-        None => Err(Unread::Malformed),
+        Some(shard) => Some((shard, rest)),
+        None => None,
     }
 }
 
 #[tactic(auto, unfolding(crate::specs::Reading::key_at))]
-fn key_of(bytes: &[u8]) -> Result<(Key, &[u8]), Unread>
-    ensures { Gives (λ x. (x.0, x.1.now)) result (key_at bytes.now) }
+fn key_of(bytes: &[u8]) -> Option<(Key, &[u8])>
+    ensures { Finds (λ x. (x.0, x.1.now)) result (key_at bytes.now) }
 {
     let [count, rest @ ..] = bytes else {
-        return Err(Unread::Malformed);
+        return None;
     };
     let count = *count as usize;
     if rest.len() < count {
-        return Err(Unread::Malformed);
+        return None;
     }
     let (text, rest) = rest.split_at(count);
     match Key::new(text) {
-        Ok(key) => Ok((key, rest)),
-        Err(_) => Err(Unread::Malformed),
+        Ok(key) => Some((key, rest)),
+        Err(_) => None,
     }
+}
+
+// The bytes of a value, behind their number.
+fn text_of(bytes: &[u8]) -> Option<(&[u8], &[u8])>
+    ensures { Finds (λ x. (x.0.now, x.1.now)) result (value_text_at bytes.now) }
+{
+    let Some((count, rest)) = u16_of(bytes) else {
+        return None;
+    };
+    let count = count as usize;
+    if count > 4096 || rest.len() < count {
+        return None;
+    }
+    Some(rest.split_at(count))
 }
 
 #[tactic(auto, unfolding(crate::specs::Reading::value_at))]
@@ -124,12 +139,9 @@ fn value_of(alloc: Global, bytes: &[u8]) -> Result<(Option<Value>, &[u8]), Unrea
     match bytes {
         [0, rest @ ..] => Ok((None, rest)),
         [1, rest @ ..] => {
-            let (count, rest) = u16_of(rest)?;
-            let count = count as usize;
-            if count > 4096 || rest.len() < count {
+            let Some((text, rest)) = text_of(rest) else {
                 return Err(Unread::Malformed);
-            }
-            let (text, rest) = rest.split_at(count);
+            };
             match Value::new(alloc, text) {
                 Ok(value) => Ok((Some(value), rest)),
                 Err(_) => Err(Unread::Memory),
@@ -143,9 +155,8 @@ fn value_of(alloc: Global, bytes: &[u8]) -> Result<(Option<Value>, &[u8]), Unrea
 fn write_of(alloc: Global, bytes: &[u8]) -> Result<(Write, &[u8]), Unread>
     ensures { Gives (λ x. (x.0, x.1.now)) result (write_at bytes.now) }
 {
-    let (key, rest) = match key_of(bytes) {
-        Ok(found) => found,
-        Err(unread) => return Err(unread),
+    let Some((key, rest)) = key_of(bytes) else {
+        return Err(Unread::Malformed);
     };
     match value_of(alloc, rest) {
         Ok((value, rest)) => Ok((Write { key, value }, rest)),
@@ -153,55 +164,72 @@ fn write_of(alloc: Global, bytes: &[u8]) -> Result<(Write, &[u8]), Unread>
     }
 }
 
-// That many keys.
-fn key_list(alloc: Global, count: u16, bytes: &[u8]) -> Result<(Vec<Key>, &[u8]), Unread>
-    ensures { Gives (λ x. (x.0.items, x.1.now)) result (many_at key_at count bytes.now) }
+// Reads that many keys.
+fn key_list<'a>(keys: &mut Vec<Key>, count: u16, bytes: &'a [u8]) -> Result<&'a [u8], Unread>
+    requires { keys.old.items ≡ [] }
+    ensures { Gives (λ rest. (keys.new.items, rest.now)) result
+        (many_at key_at count bytes.now) }
 {
-    let mut keys = Vec::new(alloc);
     let mut rest = bytes;
     for _ in 0..count {
-        let (key, after) = match key_of(rest) {
-            Ok(found) => found,
-            Err(unread) => return Err(unread),
+        let Some(found) = key_of(rest) else {
+            return Err(Unread::Malformed);
         };
-        keys.push(key)?;
+        let (key, after) = found;
+        let Ok(()) = keys.push(key) else {
+            return Err(Unread::Memory);
+        };
         rest = after;
     }
-    Ok((keys, rest))
+    Ok(rest)
 }
 
-// That many writes.
-fn write_list(alloc: Global, count: u16, bytes: &[u8]) -> Result<(Vec<Write>, &[u8]), Unread>
-    ensures { Gives (λ x. (x.0.items, x.1.now)) result (many_at write_at count bytes.now) }
+// Reads that many writes.
+fn write_list<'a>(
+    writes: &mut Vec<Write>,
+    count: u16,
+    bytes: &'a [u8],
+    alloc: Global,
+) -> Result<&'a [u8], Unread>
+    requires { writes.old.items ≡ [] }
+    ensures { Gives (λ rest. (writes.new.items, rest.now)) result
+        (many_at write_at count bytes.now) }
 {
-    let mut writes = Vec::new(alloc);
     let mut rest = bytes;
     for _ in 0..count {
-        let (write, after) = match write_of(alloc, rest) {
-            Ok(found) => found,
+        match write_of(alloc, rest) {
+            Ok((write, after)) => {
+                let Ok(()) = writes.push(write) else {
+                    return Err(Unread::Memory);
+                };
+                rest = after;
+            }
             Err(unread) => return Err(unread),
-        };
-        writes.push(write)?;
-        rest = after;
+        }
     }
-    Ok((writes, rest))
+    Ok(rest)
 }
 
 #[tactic(auto, unfolding(crate::specs::Reading::keys_at))]
 fn keys_of(alloc: Global, bytes: &[u8]) -> Result<(Keys, &[u8]), Unread>
     ensures { Gives (λ x. (x.0, x.1.now)) result (keys_at bytes.now) }
 {
-    let (count, rest) = u16_of(bytes)?;
+    let Some((count, rest)) = u16_of(bytes) else {
+        return Err(Unread::Malformed);
+    };
     if count > 128 {
         return Err(Unread::Malformed);
     }
-    let (keys, rest) = match key_list(alloc, count, rest) {
-        Ok(found) => found,
-        Err(unread) => return Err(unread),
-    };
-    match Keys::from_vec(keys) {
-        Ok(keys) => Ok((keys, rest)),
-        Err(_) => Err(Unread::Malformed),
+    let mut keys = Vec::new(alloc);
+    match key_list(&mut keys, count, rest) {
+        Ok(rest) => match Keys::from_vec(keys) {
+            Ok(keys) => Ok((keys, rest)),
+            Err(_) => Err(Unread::Malformed),
+        },
+        Err(unread) => {
+            drop(keys);
+            Err(unread)
+        }
     }
 }
 
@@ -209,114 +237,147 @@ fn keys_of(alloc: Global, bytes: &[u8]) -> Result<(Keys, &[u8]), Unread>
 fn writes_of(alloc: Global, bytes: &[u8]) -> Result<(Writes, &[u8]), Unread>
     ensures { Gives (λ x. (x.0, x.1.now)) result (writes_at bytes.now) }
 {
-    let (count, rest) = u16_of(bytes)?;
+    let Some((count, rest)) = u16_of(bytes) else {
+        return Err(Unread::Malformed);
+    };
     if count > 128 {
         return Err(Unread::Malformed);
     }
-    let (writes, rest) = match write_list(alloc, count, rest) {
-        Ok(found) => found,
-        Err(unread) => return Err(unread),
-    };
-    match Writes::from_vec(writes) {
-        Ok(writes) => Ok((writes, rest)),
-        Err(_) => Err(Unread::Malformed),
+    let mut writes = Vec::new(alloc);
+    match write_list(&mut writes, count, rest, alloc) {
+        Ok(rest) => match Writes::from_vec(writes) {
+            Ok(writes) => Ok((writes, rest)),
+            Err(_) => Err(Unread::Malformed),
+        },
+        Err(unread) => {
+            drop(writes);
+            Err(unread)
+        }
     }
 }
 
 #[tactic(auto, unfolding(crate::specs::Reading::outcome_at))]
-fn outcome_of(bytes: &[u8]) -> Result<(Option<Stamp>, &[u8]), Unread>
-    ensures { Gives (λ x. (x.0, x.1.now)) result (outcome_at bytes.now) }
+fn outcome_of(bytes: &[u8]) -> Option<(Option<Stamp>, &[u8])>
+    ensures { Finds (λ x. (x.0, x.1.now)) result (outcome_at bytes.now) }
 {
     match bytes {
-        [0, rest @ ..] => Ok((None, rest)),
+        [0, rest @ ..] => Some((None, rest)),
         [1, rest @ ..] => match stamp_of(rest) {
-            Ok((at, rest)) => Ok((Some(at), rest)),
-            Err(unread) => Err(unread),
+            Some((at, rest)) => Some((Some(at), rest)),
+            None => None,
         },
-        _ => Err(Unread::Malformed),
+        _ => None,
     }
 }
 
 #[tactic(auto, unfolding(crate::specs::Reading::prepare_at))]
-fn prepare_of(alloc: Global, bytes: &[u8]) -> Result<(Prepared, &[u8]), Unread>
-    ensures { Gives (λ x. (x.0, x.1.now)) result (prepare_at bytes.now) }
+fn prepare_of(alloc: Global, bytes: &[u8]) -> Result<(Record, &[u8]), Unread>
+    ensures { Gives (λ x. (x.0, x.1.now)) result (promise_at bytes.now) }
 {
-    let (txn, rest) = match id_of(bytes) {
-        Ok(found) => found,
-        Err(unread) => return Err(unread),
+    let Some((txn, rest)) = id_of(bytes) else {
+        return Err(Unread::Malformed);
     };
-    let (coordinator, rest) = match shard_of(rest) {
-        Ok(found) => found,
-        Err(unread) => return Err(unread),
+    let Some((coordinator, rest)) = shard_of(rest) else {
+        return Err(Unread::Malformed);
     };
-    let (at, rest) = match stamp_of(rest) {
-        Ok(found) => found,
-        Err(unread) => return Err(unread),
+    let Some((at, rest)) = stamp_of(rest) else {
+        return Err(Unread::Malformed);
     };
     let (reads, rest) = match keys_of(alloc, rest) {
         Ok(found) => found,
         Err(unread) => return Err(unread),
     };
-    let (writes, rest) = match writes_of(alloc, rest) {
-        Ok(found) => found,
-        Err(unread) => return Err(unread),
-    };
-    let prepared = Prepared {
-        txn,
-        coordinator,
-        at,
-        reads,
-        writes,
-    };
-    Ok((prepared, rest))
+    match writes_of(alloc, rest) {
+        Ok((writes, rest)) => {
+            let prepared = Prepared {
+                txn,
+                coordinator,
+                at,
+                reads,
+                writes,
+            };
+            Ok((Record::Prepare(prepared), rest))
+        }
+        Err(unread) => {
+            drop(reads);
+            Err(unread)
+        }
+    }
 }
 
 #[tactic(auto, unfolding(crate::specs::Reading::commit_at))]
-fn commit_of(alloc: Global, bytes: &[u8]) -> Result<(Committed, &[u8]), Unread>
-    ensures { Gives (λ x. (x.0, x.1.now)) result (commit_at bytes.now) }
+fn commit_of(alloc: Global, bytes: &[u8]) -> Result<(Record, &[u8]), Unread>
+    ensures { Gives (λ x. (x.0, x.1.now)) result (decision_at bytes.now) }
 {
-    let (txn, rest) = match id_of(bytes) {
-        Ok(found) => found,
-        Err(unread) => return Err(unread),
+    let Some((txn, rest)) = id_of(bytes) else {
+        return Err(Unread::Malformed);
     };
-    let (at, rest) = match stamp_of(rest) {
-        Ok(found) => found,
-        Err(unread) => return Err(unread),
+    let Some((at, rest)) = stamp_of(rest) else {
+        return Err(Unread::Malformed);
     };
-    let (parts, rest) = match parts_of(rest) {
-        Ok(found) => found,
-        Err(unread) => return Err(unread),
+    let Some((parts, rest)) = parts_of(rest) else {
+        return Err(Unread::Malformed);
     };
     let (reads, rest) = match keys_of(alloc, rest) {
         Ok(found) => found,
         Err(unread) => return Err(unread),
     };
-    let (writes, rest) = match writes_of(alloc, rest) {
-        Ok(found) => found,
-        Err(unread) => return Err(unread),
-    };
-    let committed = Committed {
-        txn,
-        at,
-        parts,
-        reads,
-        writes,
-    };
-    Ok((committed, rest))
+    match writes_of(alloc, rest) {
+        Ok((writes, rest)) => {
+            let committed = Committed {
+                txn,
+                at,
+                parts,
+                reads,
+                writes,
+            };
+            Ok((Record::Commit(committed), rest))
+        }
+        Err(unread) => {
+            drop(reads);
+            Err(unread)
+        }
+    }
 }
 
 // An id and how it ended.
 #[tactic(auto, unfolding(crate::specs::Reading::ended_at))]
-fn ended_of(bytes: &[u8]) -> Result<((TxnId, Option<Stamp>), &[u8]), Unread>
-    ensures { Gives (λ x. (x.0, x.1.now)) result (ended_at bytes.now) }
+fn ended_of(bytes: &[u8]) -> Option<((TxnId, Option<Stamp>), &[u8])>
+    ensures { Finds (λ x. (x.0, x.1.now)) result (ended_at bytes.now) }
 {
-    let (txn, rest) = match id_of(bytes) {
-        Ok(found) => found,
-        Err(unread) => return Err(unread),
+    let Some((txn, rest)) = id_of(bytes) else {
+        return None;
     };
     match outcome_of(rest) {
-        Ok((outcome, rest)) => Ok(((txn, outcome), rest)),
-        Err(unread) => Err(unread),
+        Some((outcome, rest)) => Some(((txn, outcome), rest)),
+        None => None,
+    }
+}
+
+// A record of a kind that takes no memory.
+#[tactic(auto, unfolding(crate::specs::Reading::record_at))]
+fn short_of(kind: u8, bytes: &[u8]) -> Option<(Record, &[u8])>
+    requires { (kind ≢ 3) × (kind ≢ 4) }
+    ensures { Finds (λ x. (x.0, x.1.now)) result (record_at (kind ∷ bytes.now)) }
+{
+    match kind {
+        1 => match epoch_of(bytes) {
+            Some((epoch, rest)) => Some((Record::Opened { epoch }, rest)),
+            None => None,
+        },
+        2 => match stamp_of(bytes) {
+            Some((at, rest)) => Some((Record::Ceiling { at }, rest)),
+            None => None,
+        },
+        5 => match id_of(bytes) {
+            Some((txn, rest)) => Some((Record::Abort { txn }, rest)),
+            None => None,
+        },
+        6 => match ended_of(bytes) {
+            Some(((txn, outcome), rest)) => Some((Record::Outcome { txn, outcome }, rest)),
+            None => None,
+        },
+        _ => None,
     }
 }
 
@@ -328,32 +389,24 @@ fn record_of(alloc: Global, bytes: &[u8]) -> Result<(Record, &[u8]), Unread>
         return Err(Unread::Malformed);
     };
     match *kind {
-        1 => match epoch_of(rest) {
-            Ok((epoch, rest)) => Ok((Record::Opened { epoch }, rest)),
-            Err(unread) => Err(unread),
+        3 => prepare_of(alloc, rest),
+        4 => commit_of(alloc, rest),
+        kind => match short_of(kind, rest) {
+            Some(found) => Ok(found),
+            None => Err(Unread::Malformed),
         },
-        2 => match stamp_of(rest) {
-            Ok((at, rest)) => Ok((Record::Ceiling { at }, rest)),
-            Err(unread) => Err(unread),
-        },
-        3 => match prepare_of(alloc, rest) {
-            Ok((prepared, rest)) => Ok((Record::Prepare(prepared), rest)),
-            Err(unread) => Err(unread),
-        },
-        4 => match commit_of(alloc, rest) {
-            Ok((committed, rest)) => Ok((Record::Commit(committed), rest)),
-            Err(unread) => Err(unread),
-        },
-        5 => match id_of(rest) {
-            Ok((txn, rest)) => Ok((Record::Abort { txn }, rest)),
-            Err(unread) => Err(unread),
-        },
-        6 => match ended_of(rest) {
-            Ok(((txn, outcome), rest)) => Ok((Record::Outcome { txn, outcome }, rest)),
-            Err(unread) => Err(unread),
-        },
-        _ => Err(Unread::Malformed),
     }
+}
+
+// The record, where nothing stands behind it.
+fn only(found: Record, rest: &[u8]) -> Option<Record>
+    ensures { result ≡ only_if (length rest.now == 0) found }
+{
+    if !rest.is_empty() {
+        drop(found);
+        return None;
+    }
+    Some(found)
 }
 
 // The record that all of the bytes are.
@@ -363,8 +416,7 @@ fn whole_record(alloc: Global, bytes: &[u8]) -> Result<Option<Record>, Fault>
         (λ fault. fault ≡ Fault.Memory) }
 {
     match record_of(alloc, bytes) {
-        Ok((record, [])) => Ok(Some(record)),
-        Ok(_) => Ok(None),
+        Ok((record, rest)) => Ok(only(record, rest)),
         Err(Unread::Malformed) => Ok(None),
         Err(Unread::Memory) => Err(Fault::Memory),
     }

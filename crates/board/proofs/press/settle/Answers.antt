@@ -2,6 +2,5 @@ use Rattle.std.proofs.Common.{drop}
 use Rattle.board.proofs.Steps.{settles_on}
 use Rattle.board.proofs.press.settle.Goals as goal
 
-pub publish_as-next-requires : goal.publish_as-next-requires
-publish_as-next-requires g c next is =
-    let w = c.loop.writer in settles_on _ _ w.desk.shown.value next (drop w.behind w.log.items) is c.loop.invariant.2
+pub step-next-requires : goal.step-next-requires
+step-next-requires g c = let w = c.loop.writer in settles_on w.desk.shown.value (drop w.behind w.log.items) c.loop.invariant.2

@@ -34,11 +34,11 @@ returns-clause-ok c =
     ∙ ap (λ (t : List Claim). change_claim t c.held.inside.txn resumed) c.self.view_is ∙ ap
     (λ (h : Token). change_claim c.args.self.now h.txn resumed) c.held.view_is
 
-pub returns-in_err-make_room-clause-succeeds : goal.returns-in_err-make_room-clause-succeeds
-returns-in_err-make_room-clause-succeeds c = λ fits.
+pub returns-in-Err-clause-succeeds : goal.returns-in-Err-clause-succeeds
+returns-in-Err-clause-succeeds c = λ fits.
     let items = c.self.inside.entries.items in
     let most = ap (λ (t : List Claim). most_held t c.args.held.now.txn (needs_in_table t c.args.held.now.txn)) (sym c.self.view_is)
     ∙ ap (λ (h : Token). most_held items h.txn (needs_in_table items h.txn)) (sym c.held.view_is)
     ∙ resumed_at_place c.held.inside.txn items c.place-at.result c.index-claim.result.now (cc) (omega arith) c.index-claim.ensures in
     let spare = ap (λ (h : Token). h.room) c.held.view_is in
-    absurd (false≢true (c.in_err-make_room.ensures.succeeds (omega (arith, c.held_count.ensures, c.needs_count.ensures, most, spare, fits))))
+    absurd (false≢true (c.in-Err.ensures.succeeds (omega (arith, c.held_count.ensures, c.needs_count.ensures, most, spare, fits))))

@@ -1,6 +1,6 @@
 use Rattle.std.proofs.Common.{◌≡◌, map, take}
 use Rattle.board.specs.declared.entry.BoardEntry.TheVariants.{Installed}
-use Rattle.board.proofs.board_copy.BoardCopy.open.Given as goal
+use Rattle.board.proofs.board_copy.BoardCopy.fill.Given as goal
 
 -- the installs so far
 abbrev pub invariant-loop-install : goal.invariant-loop-install
