@@ -30,9 +30,10 @@ impl Request<'_> {
             (closing_client self.now.txn self.now.taken.now self.now.writes.now)) }
         ensures memory { IfErr result (λ fault. fault ≡ Fault.Memory) }
     {
-        match self.parts(alloc)? {
-            None => Ok(Outbox::none(alloc)),
-            Some(parts) => self.messages_to(alloc, parts),
+        match self.parts(alloc) {
+            Ok(None) => Ok(Outbox::none(alloc)),
+            Ok(Some(parts)) => self.messages_to(alloc, parts),
+            Err(fault) => Err(fault),
         }
     }
 
@@ -305,7 +306,10 @@ fn keys_read_at(alloc: Global, taken: &[Answered], shard: ShardNo) -> Result<Vec
         Some((answered, rest)) => {
             let mut keys = keys_read_at(alloc, rest, shard)?;
             if answered.shard == shard {
-                insert_key(&mut keys, answered.key)?;
+                if let Err(fault) = insert_key(&mut keys, answered.key) {
+                    drop(keys);
+                    return Err(fault);
+                }
             }
             Ok(keys)
         }
