@@ -4,12 +4,17 @@ use Rattle.std.specs.Prelude.{flat_map}
 use Rattle.std.proofs.lemmas.List.{append_assoc, drop_more}
 use Rattle.units.specs.Lists.{gather, numbered}
 
+pub put_at : {A B : Type 0} (F G : List A → List B) (g out new : List B) (xs : List A) (i : ℕ) (d : A) → i < length xs
+    → ((rest : List A) → F (get_or xs i d ∷ rest) ≡ g ++ G rest) → new ≡ out ++ g → new ++ G (drop (i + 1) xs) ≡ out ++ F (drop i xs)
+put_at F G g out new xs i d less splits put =
+    ap (λ l. l ++ G (drop (i + 1) xs)) put
+    ∙ append_assoc out g (G (drop (i + 1) xs))
+    ∙ ap (λ l. out ++ l) (sym (splits (drop (i + 1) xs)) ∙ ap F (sym (drop_more xs i d less)))
+
 pub one_put : {A B : Type 0} (F G : List A → List B) (g out new : List B) (x : A) (xs : List A) (i : ℕ) → i < length xs → x ≡ get_or xs i x
     → ((rest : List A) → F (x ∷ rest) ≡ g ++ G rest) → new ≡ out ++ g → new ++ G (drop (i + 1) xs) ≡ out ++ F (drop i xs)
 one_put F G g out new x xs i less is splits put =
-    ap (λ l. l ++ G (drop (i + 1) xs)) put
-    ∙ append_assoc out g (G (drop (i + 1) xs))
-    ∙ ap (λ l. out ++ l) (sym (splits (drop (i + 1) xs)) ∙ ap (λ y. F (y ∷ drop (i + 1) xs)) is ∙ ap F (sym (drop_more xs i x less)))
+    put_at F G g out new xs i x less (λ rest. ap (λ y. F (y ∷ rest)) (sym is) ∙ splits rest) put
 
 pub one_more : (i : ℕ) → suc i ≡ i + 1
 one_more i = omega arith

@@ -35,15 +35,18 @@ impl<'t> LineReader<'t> {
 
     /// The word behind a given one on the next line, where the two are all of it.
     pub fn head(&mut self, alloc: Global, name: &str) -> Result<Option<&'t str>, Fault> {
-        let Some(words) = self.next(alloc)? else {
-            return Ok(None);
-        };
-        let word = match words.as_slice() {
-            [first, word] if *first == name => Some(*word),
-            _ => None,
-        };
-        drop(words);
-        Ok(word)
+        match self.next(alloc) {
+            Ok(Some(words)) => {
+                let word = match words.as_slice() {
+                    [first, word] if *first == name => Some(*word),
+                    _ => None,
+                };
+                drop(words);
+                Ok(word)
+            }
+            Ok(None) => Ok(None),
+            Err(fault) => Err(fault),
+        }
     }
 
     /// What the line of the last words is refused with, by what one of them was refused with.
