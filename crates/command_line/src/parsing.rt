@@ -49,9 +49,19 @@ pub fn read_line<'a>(alloc: Global, words: &'a [&'a str]) -> Result<Line<'a>, Fa
     ensures faults { IfErr result (λ f. (f ≡ Memory) ⊎ (f ≡ BadRequest command_reason)) }
 {
     match shards(alloc)?.try_get_matches_from(words) {
-        Ok(matches) => found_line(alloc, &matches),
-        Err(error) if error.kind() == ErrorKind::OutOfMemory => Err(Fault::Memory),
-        Err(_) => Err(Fault::BadRequest(Reason::Command)),
+        Ok(matches) => {
+            let line = found_line(alloc, &matches);
+            drop(matches);
+            line
+        }
+        Err(error) => {
+            let kind = error.kind();
+            drop(error);
+            if kind == ErrorKind::OutOfMemory {
+                return Err(Fault::Memory);
+            }
+            Err(Fault::BadRequest(Reason::Command))
+        }
     }
 }
 
@@ -138,10 +148,18 @@ fn words<'a>(alloc: Global, matches: &ArgMatches<'a>, id: &str) -> Result<Vec<&'
 fn shards<'a>(alloc: Global) -> Result<Command<'a>, AllocError>
     ensures { IfOk result (λ c. app_of c ≡ shards_app) }
 {
-    let with_once = over_once(alloc)?;
-    let with_format = with_file_command(alloc, with_once, "format")?;
-    let with_play = with_file_command(alloc, with_format, "play")?;
-    let with_inspect = with_inspect_command(alloc, with_play)?;
+    let Ok(with_once) = over_once(alloc) else {
+        return Err(AllocError);
+    };
+    let Ok(with_format) = with_file_command(alloc, with_once, "format") else {
+        return Err(AllocError);
+    };
+    let Ok(with_play) = with_file_command(alloc, with_format, "play") else {
+        return Err(AllocError);
+    };
+    let Ok(with_inspect) = with_inspect_command(alloc, with_play) else {
+        return Err(AllocError);
+    };
     with_file_command(alloc, with_inspect, "drive")
 }
 
@@ -149,7 +167,9 @@ fn shards<'a>(alloc: Global) -> Result<Command<'a>, AllocError>
 fn over_once<'a>(alloc: Global) -> Result<Command<'a>, AllocError>
     ensures { IfOk result (λ c. app_of c ≡ with_subcommand bare_app once_app.top) }
 {
-    let once = once_command(alloc)?;
+    let Ok(once) = once_command(alloc) else {
+        return Err(AllocError);
+    };
     with_command(bare_command(alloc), once)
 }
 
@@ -172,7 +192,13 @@ fn with_file_command<'a>(
     ensures { IfOk result
         (λ c. app_of c ≡ with_subcommand (app_of command.entry) (file_app name.entry.now).top) }
 {
-    with_command(command, file_command(alloc, name)?)
+    match file_command(alloc, name) {
+        Ok(below) => with_command(command, below),
+        Err(error) => {
+            drop(command);
+            Err(error)
+        }
+    }
 }
 
 // The command over `inspect`.
@@ -180,7 +206,13 @@ fn with_inspect_command<'a>(alloc: Global, command: Command<'a>) -> Result<Comma
     ensures { IfOk result
         (λ c. app_of c ≡ with_subcommand (app_of command.entry) inspect_app.top) }
 {
-    with_command(command, inspect_command(alloc)?)
+    match inspect_command(alloc) {
+        Ok(below) => with_command(command, below),
+        Err(error) => {
+            drop(command);
+            Err(error)
+        }
+    }
 }
 
 // `once KEY VALUE E1 L1 E2 L2`.
@@ -188,8 +220,13 @@ fn once_command<'a>(alloc: Global) -> Result<Command<'a>, AllocError>
     ensures app { IfOk result (λ c. app_of c ≡ once_app) }
     ensures local { IfOk result (λ c. (fields_of c).has_globals ≡ false) }
 {
-    let with_pair = with_two_words(alloc, Command::new(alloc, "once"), "key", "value")?;
-    let with_first = with_two_words(alloc, with_pair, "e1", "l1")?;
+    let once = Command::new(alloc, "once");
+    let Ok(with_pair) = with_two_words(alloc, once, "key", "value") else {
+        return Err(AllocError);
+    };
+    let Ok(with_first) = with_two_words(alloc, with_pair, "e1", "l1") else {
+        return Err(AllocError);
+    };
     with_two_words(alloc, with_first, "e2", "l2")
 }
 
@@ -206,8 +243,11 @@ fn inspect_command<'a>(alloc: Global) -> Result<Command<'a>, AllocError>
     ensures app { IfOk result (λ c. app_of c ≡ inspect_app) }
     ensures local { IfOk result (λ c. (fields_of c).has_globals ≡ false) }
 {
-    let with_lines = with_word(alloc, Command::new(alloc, "inspect"), "lines")?;
-    with_words(alloc, with_lines, "logs")
+    let inspect = Command::new(alloc, "inspect");
+    match with_word(alloc, inspect, "lines") {
+        Ok(with_lines) => with_words(alloc, with_lines, "logs"),
+        Err(error) => Err(error),
+    }
 }
 
 // The command with one more word, which has to be given.
@@ -236,8 +276,10 @@ fn with_two_words<'a>(
     ensures local { (fields_of command.entry).has_globals ≡ false
         → IfOk result (λ c. (fields_of c).has_globals ≡ false) }
 {
-    let with_first = with_word(alloc, command, first)?;
-    with_word(alloc, with_first, second)
+    match with_word(alloc, command, first) {
+        Ok(with_first) => with_word(alloc, with_first, second),
+        Err(error) => Err(error),
+    }
 }
 
 // The command with 1 to 16 words more.

@@ -36,10 +36,14 @@ fn acks_of(alloc: Global, lines: &[Line]) -> Result<Vec<Ack>, Fault>
     let mut acks = Vec::new(alloc);
     for line in lines {
         if let Line::Ack(_, at, moment) = line {
-            acks.push(Ack {
+            let ack = Ack {
                 moment: *moment,
                 at: at.micros(),
-            })?;
+            };
+            if acks.push(ack).is_err() {
+                drop(acks);
+                return Err(Fault::Memory);
+            }
         }
     }
     Ok(acks)
@@ -64,10 +68,14 @@ fn raised(alloc: Global, acks: &[Ack]) -> Result<Vec<Ack>, Fault>
     let mut top = 0;
     for ack in acks {
         top = ack.at.max(top);
-        found.push(Ack {
+        let raised = Ack {
             moment: ack.moment,
             at: top,
-        })?;
+        };
+        if found.push(raised).is_err() {
+            drop(found);
+            return Err(Fault::Memory);
+        }
     }
     Ok(found)
 }

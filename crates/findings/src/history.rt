@@ -74,7 +74,10 @@ fn decided(
 {
     let mut found = Vec::new(alloc);
     for (shard, log) in logs.iter().enumerate() {
-        add_decided(alloc, &mut found, about, shard, log)?;
+        if let Err(fault) = add_decided(alloc, &mut found, about, shard, log) {
+            drop(found);
+            return Err(fault);
+        }
     }
     Ok(found)
 }
@@ -96,7 +99,8 @@ fn add_decided(
         if let Record::Commit(committed) = item {
             if shard == committed.parts.least().number() as usize {
                 let run = entries::run_of(about, committed.txn);
-                found.push(whole(alloc, run, shard, committed)?)?;
+                let transaction = whole(alloc, run, shard, committed)?;
+                found.push(transaction)?;
             }
         }
     }
@@ -114,13 +118,34 @@ fn whole(
     ensures memory { IfErr result (λ fault. fault ≡ Fault.Memory) }
 {
     let mut writes = Vec::new(alloc);
-    add_copies(alloc, &mut writes, commit.writes.as_slice())?;
-    add_promised(alloc, &mut writes, run, shard)?;
-    Ok(Transaction {
-        txn: commit.txn,
-        at: commit.at,
-        writes,
-    })
+    match add_whole(alloc, &mut writes, run, shard, commit) {
+        Ok(()) => Ok(Transaction {
+            txn: commit.txn,
+            at: commit.at,
+            writes,
+        }),
+        Err(fault) => {
+            drop(writes);
+            Err(fault)
+        }
+    }
+}
+
+// Puts in the writes of a decision, and those that others promised.
+fn add_whole(
+    alloc: Global,
+    writes: &mut Vec<Write>,
+    run: &[Entry<'_>],
+    shard: usize,
+    commit: &Committed,
+) -> Result<(), Fault>
+    ensures writes { OnOk result
+        (writes.new.items ≡ (writes.old.items ++ commit.now.writes) ++ flat_map (λ p. p.writes)
+        (promised_in shard run.now)) }
+    ensures memory { IfErr result (λ fault. fault ≡ Fault.Memory) }
+{
+    add_copies(alloc, writes, commit.writes.as_slice())?;
+    add_promised(alloc, writes, run, shard)
 }
 
 // Puts in what others than a given shard promised to write.
@@ -151,7 +176,8 @@ fn add_copies(alloc: Global, writes: &mut Vec<Write>, more: &[Write]) -> Result<
     ensures memory { IfErr result (λ fault. fault ≡ Fault.Memory) }
 {
     for write in more {
-        writes.push(write.copy(alloc)?)?;
+        let copy = write.copy(alloc)?;
+        writes.push(copy)?;
     }
     Ok(())
 }

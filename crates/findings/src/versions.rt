@@ -36,8 +36,13 @@ pub fn versions_by_key<'t>(
     ensures memory { IfErr result (λ fault. fault ≡ Fault.Memory) }
 {
     let mut found = versions_of(alloc, ordered)?;
-    sort(&mut found)?;
-    Ok(found)
+    match sort(&mut found) {
+        Ok(()) => Ok(found),
+        Err(fault) => {
+            drop(found);
+            Err(fault)
+        }
+    }
 }
 
 fn versions_of<'t>(alloc: Global, ordered: &'t [Transaction]) -> Result<Vec<Version<'t>>, Fault>
@@ -46,7 +51,10 @@ fn versions_of<'t>(alloc: Global, ordered: &'t [Transaction]) -> Result<Vec<Vers
 {
     let mut found = Vec::new(alloc);
     for (place, transaction) in ordered.iter().enumerate() {
-        add_writes(&mut found, place, transaction.writes.as_slice())?;
+        if let Err(fault) = add_writes(&mut found, place, transaction.writes.as_slice()) {
+            drop(found);
+            return Err(fault);
+        }
     }
     Ok(found)
 }

@@ -1,4 +1,5 @@
 pub mod Filters
 pub mod Kept
+pub mod Pushing
 pub mod Steps
 pub mod Requests
