@@ -49,19 +49,9 @@ pub fn read_line<'a>(alloc: Global, words: &'a [&'a str]) -> Result<Line<'a>, Fa
     ensures faults { IfErr result (λ f. (f ≡ Memory) ⊎ (f ≡ BadRequest command_reason)) }
 {
     match shards(alloc)?.try_get_matches_from(words) {
-        Ok(matches) => {
-            let line = found_line(alloc, &matches);
-            drop(matches);
-            line
-        }
-        Err(error) => {
-            let kind = error.kind();
-            drop(error);
-            if kind == ErrorKind::OutOfMemory {
-                return Err(Fault::Memory);
-            }
-            Err(Fault::BadRequest(Reason::Command))
-        }
+        Ok(matches) => found_line(alloc, &matches),
+        Err(error) if error.kind() == ErrorKind::OutOfMemory => Err(Fault::Memory),
+        Err(_) => Err(Fault::BadRequest(Reason::Command)),
     }
 }
 
@@ -148,18 +138,10 @@ fn words<'a>(alloc: Global, matches: &ArgMatches<'a>, id: &str) -> Result<Vec<&'
 fn shards<'a>(alloc: Global) -> Result<Command<'a>, AllocError>
     ensures { IfOk result (λ c. app_of c ≡ shards_app) }
 {
-    let Ok(with_once) = over_once(alloc) else {
-        return Err(AllocError);
-    };
-    let Ok(with_format) = with_file_command(alloc, with_once, "format") else {
-        return Err(AllocError);
-    };
-    let Ok(with_play) = with_file_command(alloc, with_format, "play") else {
-        return Err(AllocError);
-    };
-    let Ok(with_inspect) = with_inspect_command(alloc, with_play) else {
-        return Err(AllocError);
-    };
+    let with_once = over_once(alloc)?;
+    let with_format = with_file_command(alloc, with_once, "format")?;
+    let with_play = with_file_command(alloc, with_format, "play")?;
+    let with_inspect = with_inspect_command(alloc, with_play)?;
     with_file_command(alloc, with_inspect, "drive")
 }
 
@@ -167,9 +149,7 @@ fn shards<'a>(alloc: Global) -> Result<Command<'a>, AllocError>
 fn over_once<'a>(alloc: Global) -> Result<Command<'a>, AllocError>
     ensures { IfOk result (λ c. app_of c ≡ with_subcommand bare_app once_app.top) }
 {
-    let Ok(once) = once_command(alloc) else {
-        return Err(AllocError);
-    };
+    let once = once_command(alloc)?;
     with_command(bare_command(alloc), once)
 }
 
@@ -192,13 +172,7 @@ fn with_file_command<'a>(
     ensures { IfOk result
         (λ c. app_of c ≡ with_subcommand (app_of command.entry) (file_app name.entry.now).top) }
 {
-    match file_command(alloc, name) {
-        Ok(below) => with_command(command, below),
-        Err(error) => {
-            drop(command);
-            Err(error)
-        }
-    }
+    with_command(command, file_command(alloc, name)?)
 }
 
 // The command over `inspect`.
@@ -206,13 +180,7 @@ fn with_inspect_command<'a>(alloc: Global, command: Command<'a>) -> Result<Comma
     ensures { IfOk result
         (λ c. app_of c ≡ with_subcommand (app_of command.entry) inspect_app.top) }
 {
-    match inspect_command(alloc) {
-        Ok(below) => with_command(command, below),
-        Err(error) => {
-            drop(command);
-            Err(error)
-        }
-    }
+    with_command(command, inspect_command(alloc)?)
 }
 
 // `once KEY VALUE E1 L1 E2 L2`.
@@ -220,13 +188,8 @@ fn once_command<'a>(alloc: Global) -> Result<Command<'a>, AllocError>
     ensures app { IfOk result (λ c. app_of c ≡ once_app) }
     ensures local { IfOk result (λ c. (fields_of c).has_globals ≡ false) }
 {
-    let once = Command::new(alloc, "once");
-    let Ok(with_pair) = with_two_words(alloc, once, "key", "value") else {
-        return Err(AllocError);
-    };
-    let Ok(with_first) = with_two_words(alloc, with_pair, "e1", "l1") else {
-        return Err(AllocError);
-    };
+    let with_pair = with_two_words(alloc, Command::new(alloc, "once"), "key", "value")?;
+    let with_first = with_two_words(alloc, with_pair, "e1", "l1")?;
     with_two_words(alloc, with_first, "e2", "l2")
 }
 
@@ -243,11 +206,8 @@ fn inspect_command<'a>(alloc: Global) -> Result<Command<'a>, AllocError>
     ensures app { IfOk result (λ c. app_of c ≡ inspect_app) }
     ensures local { IfOk result (λ c. (fields_of c).has_globals ≡ false) }
 {
-    let inspect = Command::new(alloc, "inspect");
-    match with_word(alloc, inspect, "lines") {
-        Ok(with_lines) => with_words(alloc, with_lines, "logs"),
-        Err(error) => Err(error),
-    }
+    let with_lines = with_word(alloc, Command::new(alloc, "inspect"), "lines")?;
+    with_words(alloc, with_lines, "logs")
 }
 
 // The command with one more word, which has to be given.
@@ -276,10 +236,8 @@ fn with_two_words<'a>(
     ensures local { (fields_of command.entry).has_globals ≡ false
         → IfOk result (λ c. (fields_of c).has_globals ≡ false) }
 {
-    match with_word(alloc, command, first) {
-        Ok(with_first) => with_word(alloc, with_first, second),
-        Err(error) => Err(error),
-    }
+    let with_first = with_word(alloc, command, first)?;
+    with_word(alloc, with_first, second)
 }
 
 // The command with 1 to 16 words more.

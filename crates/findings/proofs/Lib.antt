@@ -1,7 +1,6 @@
 pub mod VersionLaws
 pub mod SerialOrder
 pub mod SortedLists
-pub mod Filling
 pub mod HistoryByEntries
 pub mod WholeByEntries
 pub mod Numbers

@@ -36,14 +36,10 @@ fn acks_of(alloc: Global, lines: &[Line]) -> Result<Vec<Ack>, Fault>
     let mut acks = Vec::new(alloc);
     for line in lines {
         if let Line::Ack(_, at, moment) = line {
-            let ack = Ack {
+            acks.push(Ack {
                 moment: *moment,
                 at: at.micros(),
-            };
-            if acks.push(ack).is_err() {
-                drop(acks);
-                return Err(Fault::Memory);
-            }
+            })?;
         }
     }
     Ok(acks)
@@ -68,14 +64,10 @@ fn raised(alloc: Global, acks: &[Ack]) -> Result<Vec<Ack>, Fault>
     let mut top = 0;
     for ack in acks {
         top = ack.at.max(top);
-        let raised = Ack {
+        found.push(Ack {
             moment: ack.moment,
             at: top,
-        };
-        if found.push(raised).is_err() {
-            drop(found);
-            return Err(Fault::Memory);
-        }
+        })?;
     }
     Ok(found)
 }

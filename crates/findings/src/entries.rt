@@ -35,13 +35,8 @@ pub fn entries_by_txn<'l>(alloc: Global, logs: &'l [Vec<Record>]) -> Result<Vec<
     ensures memory { IfErr result (λ fault. fault ≡ Fault.Memory) }
 {
     let mut found = entries_of(alloc, logs)?;
-    match sort(&mut found) {
-        Ok(()) => Ok(found),
-        Err(fault) => {
-            drop(found);
-            Err(fault)
-        }
-    }
+    sort(&mut found)?;
+    Ok(found)
 }
 
 fn entries_of<'l>(alloc: Global, logs: &'l [Vec<Record>]) -> Result<Vec<Entry<'l>>, Fault>
@@ -50,10 +45,7 @@ fn entries_of<'l>(alloc: Global, logs: &'l [Vec<Record>]) -> Result<Vec<Entry<'l
 {
     let mut found = Vec::new(alloc);
     for (shard, log) in logs.iter().enumerate() {
-        if let Err(fault) = add_entries(&mut found, shard, log) {
-            drop(found);
-            return Err(fault);
-        }
+        add_entries(&mut found, shard, log)?;
     }
     Ok(found)
 }

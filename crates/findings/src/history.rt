@@ -74,10 +74,7 @@ fn decided(
 {
     let mut found = Vec::new(alloc);
     for (shard, log) in logs.iter().enumerate() {
-        if let Err(fault) = add_decided(alloc, &mut found, about, shard, log) {
-            drop(found);
-            return Err(fault);
-        }
+        add_decided(alloc, &mut found, about, shard, log)?;
     }
     Ok(found)
 }
@@ -99,8 +96,7 @@ fn add_decided(
         if let Record::Commit(committed) = item {
             if shard == committed.parts.least().number() as usize {
                 let run = entries::run_of(about, committed.txn);
-                let transaction = whole(alloc, run, shard, committed)?;
-                found.push(transaction)?;
+                found.push(whole(alloc, run, shard, committed)?)?;
             }
         }
     }
@@ -118,34 +114,13 @@ fn whole(
     ensures memory { IfErr result (λ fault. fault ≡ Fault.Memory) }
 {
     let mut writes = Vec::new(alloc);
-    match add_whole(alloc, &mut writes, run, shard, commit) {
-        Ok(()) => Ok(Transaction {
-            txn: commit.txn,
-            at: commit.at,
-            writes,
-        }),
-        Err(fault) => {
-            drop(writes);
-            Err(fault)
-        }
-    }
-}
-
-// Puts in the writes of a decision, and those that others promised.
-fn add_whole(
-    alloc: Global,
-    writes: &mut Vec<Write>,
-    run: &[Entry<'_>],
-    shard: usize,
-    commit: &Committed,
-) -> Result<(), Fault>
-    ensures writes { OnOk result
-        (writes.new.items ≡ (writes.old.items ++ commit.now.writes) ++ flat_map (λ p. p.writes)
-        (promised_in shard run.now)) }
-    ensures memory { IfErr result (λ fault. fault ≡ Fault.Memory) }
-{
-    add_copies(alloc, writes, commit.writes.as_slice())?;
-    add_promised(alloc, writes, run, shard)
+    add_copies(alloc, &mut writes, commit.writes.as_slice())?;
+    add_promised(alloc, &mut writes, run, shard)?;
+    Ok(Transaction {
+        txn: commit.txn,
+        at: commit.at,
+        writes,
+    })
 }
 
 // Puts in what others than a given shard promised to write.
@@ -176,8 +151,7 @@ fn add_copies(alloc: Global, writes: &mut Vec<Write>, more: &[Write]) -> Result<
     ensures memory { IfErr result (λ fault. fault ≡ Fault.Memory) }
 {
     for write in more {
-        let copy = write.copy(alloc)?;
-        writes.push(copy)?;
+        writes.push(write.copy(alloc)?)?;
     }
     Ok(())
 }

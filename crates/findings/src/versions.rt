@@ -36,13 +36,8 @@ pub fn versions_by_key<'t>(
     ensures memory { IfErr result (λ fault. fault ≡ Fault.Memory) }
 {
     let mut found = versions_of(alloc, ordered)?;
-    match sort(&mut found) {
-        Ok(()) => Ok(found),
-        Err(fault) => {
-            drop(found);
-            Err(fault)
-        }
-    }
+    sort(&mut found)?;
+    Ok(found)
 }
 
 fn versions_of<'t>(alloc: Global, ordered: &'t [Transaction]) -> Result<Vec<Version<'t>>, Fault>
@@ -51,10 +46,7 @@ fn versions_of<'t>(alloc: Global, ordered: &'t [Transaction]) -> Result<Vec<Vers
 {
     let mut found = Vec::new(alloc);
     for (place, transaction) in ordered.iter().enumerate() {
-        if let Err(fault) = add_writes(&mut found, place, transaction.writes.as_slice()) {
-            drop(found);
-            return Err(fault);
-        }
+        add_writes(&mut found, place, transaction.writes.as_slice())?;
     }
     Ok(found)
 }

@@ -1,6 +1,6 @@
 //! Whole runs.
-ghost use Rattle.std.specs.Prelude.{◌≡◌, [], true, IfOk, IfErr, map};
-ghost use Rattle.world.specs.World.{World, counted_lines, start};
+ghost use Rattle.std.specs.Prelude.{◌≡◌, [], true, IfOk, IfErr};
+ghost use Rattle.world.specs.World.{World, start};
 ghost use Rattle.world.specs.Lawful.{lawful};
 ghost use Rattle.lives.specs.Runs.{IsRun};
 ghost use Rattle.playing.specs.Reports.{IsNoReport, IsReport, Plays, Reports};
@@ -27,11 +27,6 @@ pub struct Report {
     pub lines: Vec<Line>,
 }
 
-impl Report {
-    /// The report is kept no longer.
-    pub fn spend(self) {}
-}
-
 /// Plays the events over shards on disks in memory: each step of a shard is a call of its core, each step of a session one of
 /// its transaction, each crash and each failing call one of its disk. Events that are not lawful are refused with the number
 /// of the first that may not happen.
@@ -39,18 +34,13 @@ pub fn play(alloc: Global, config: &Config, events: &[Event]) -> Result<Report, 
     ensures report { IfOk result (λ report. IsReport config.now events.now report) }
     ensures refused { IfErr result (λ fault. IsNoReport config.now events.now fault) }
 {
-    let mut run = match Run::start(alloc, config) {
-        Ok(run) => run,
-        Err(fault) => return Err(fault),
-    };
     let mut replies = Vec::new(alloc);
     let mut counts = Vec::new(alloc);
+    let mut run = Run::start(alloc, config)?;
     match play_all(&mut run, alloc, events, &mut replies, &mut counts) {
         Ok(()) => report_of(run, alloc, replies, counts),
         Err(fault) => {
             run.spend();
-            drop(replies);
-            drop(counts);
             Err(fault)
         }
     }
@@ -63,10 +53,7 @@ pub fn lawful(alloc: Global, config: &Config, events: &[Event]) -> Result<bool, 
     ensures memory { IfErr result (λ fault. fault ≡ Fault.Memory) }
 {
     match play(alloc, config, events) {
-        Ok(report) => {
-            report.spend();
-            Ok(true)
-        }
+        Ok(_report) => Ok(true),
         Err(Fault::BadRequest(Reason::Unlawful(_))) => Ok(false),
         Err(fault) => Err(fault),
     }
@@ -85,10 +72,7 @@ fn play_all(
         → Plays config events.now run.new replies.new.items counts.new.items result }
 {
     for (number, event) in events.iter().enumerate() {
-        let reply = match run.take(alloc, number as u64, event) {
-            Ok(reply) => reply,
-            Err(fault) => return Err(fault),
-        };
+        let reply = run.take(alloc, number as u64, event)?;
         replies.push(reply)?;
         counts.push(run.output.bag.as_slice().len() as u64)?;
     }
@@ -107,51 +91,19 @@ fn report_of(
     ensures memory { (w : World) → IsRun run.entry w
         → IfErr result (λ fault. fault ≡ Fault.Memory) }
 {
-    match run.finish(alloc) {
-        Ok(finished) => report_with(finished, alloc, replies, counts),
-        Err(fault) => {
-            drop(replies);
-            drop(counts);
-            Err(fault)
-        }
-    }
-}
-
-// The same, by what the run ended with.
-fn report_with(
-    finished: Finished,
-    alloc: Global,
-    replies: Vec<Reply>,
-    counts: Vec<u64>,
-) -> Result<Report, Fault>
-    ensures report { IfOk result (λ report. (report.replies ≡ replies) × (report.counts ≡ counts)
-        × (report.bag ≡ finished.bag) × (report.disks ≡ finished.disks)
-        × (report.logs ≡ finished.logs) × (report.lines.items ≡ counted_lines
-        (map (λ log. log.items) finished.logs.items) finished.lines.items)) }
-    ensures memory { IfErr result (λ fault. fault ≡ Fault.Memory) }
-{
     let Finished {
         bag,
         disks,
         logs,
         lines,
-    } = finished;
-    match counted(alloc, &logs, lines) {
-        Ok(lines) => Ok(Report {
-            replies,
-            counts,
-            bag,
-            disks,
-            logs,
-            lines,
-        }),
-        Err(fault) => {
-            drop(replies);
-            drop(counts);
-            drop(bag);
-            drop(disks);
-            drop(logs);
-            Err(fault)
-        }
-    }
+    } = run.finish(alloc)?;
+    let lines = counted(alloc, &logs, lines)?;
+    Ok(Report {
+        replies,
+        counts,
+        bag,
+        disks,
+        logs,
+        lines,
+    })
 }

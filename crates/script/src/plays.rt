@@ -23,15 +23,7 @@ pub fn judged(alloc: Global, config: &Config, events: &[Event]) -> Result<Played
         (λ played. played.verdict ≡ verdict
         (map (λ log. log.items) played.report.logs.items) played.report.lines.items) }
 {
-    let report = match play(alloc, config, events) {
-        Ok(report) => report,
-        Err(fault) => return Err(fault),
-    };
-    match inspect(alloc, &report.logs, &report.lines) {
-        Ok(verdict) => Ok(Played { report, verdict }),
-        Err(fault) => {
-            report.spend();
-            Err(fault)
-        }
-    }
+    let report = play(alloc, config, events)?;
+    let verdict = inspect(alloc, &report.logs, &report.lines)?;
+    Ok(Played { report, verdict })
 }

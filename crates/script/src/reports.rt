@@ -1,12 +1,10 @@
 //! The text of a report.
 use crate::plays::Played;
-use message::Envelope;
 use playing::Report;
-use record::Record;
 use std::alloc::Global;
 use std::fmt;
 use texts::Text;
-use units::{Fault, Line};
+use units::Fault;
 use world::Reply;
 
 /// The text of a report, with the verdict on it.
@@ -17,59 +15,33 @@ pub fn report(alloc: Global, played: &Played) -> Result<String, Fault> {
 impl fmt::Display for Played {
     fn fmt<W: fmt::Write>(&self, f: &mut fmt::Formatter<W>) -> fmt::Result {
         write_events(f, &self.report)?;
-        write_logs(f, &self.report.logs)?;
-        write_lines(f, &self.report.lines)?;
+        for (shard, log) in self.report.logs.iter().enumerate() {
+            writeln!(f, "log {shard}")?;
+            for item in log {
+                writeln!(f, "{}", Text(item))?;
+            }
+        }
+        writeln!(f, "lines")?;
+        for line in &self.report.lines {
+            writeln!(f, "{}", Text(line))?;
+        }
         writeln!(f, "verdict {}", Text(&self.verdict))
     }
 }
 
 // Each event with its reply, and behind it the messages that it put out.
 fn write_events<W: fmt::Write>(f: &mut fmt::Formatter<W>, report: &Report) -> fmt::Result {
+    let envelopes = report.bag.as_slice();
     let mut first = 0;
-    for (event, reply) in report.replies.iter().enumerate() {
-        let Some(count) = report.counts.get(event) else {
-            break;
-        };
+    for (event, (reply, count)) in report.replies.iter().zip(&report.counts).enumerate() {
         writeln!(f, "event {event} {}", Told(reply))?;
-        let end = *count as usize;
-        write_put(f, report.bag.as_slice(), first, end)?;
+        let end = envelopes.len().min(*count as usize);
+        for number in first..end {
+            if let Some(envelope) = envelopes.get(number) {
+                writeln!(f, "put {number} {}", Text(envelope))?;
+            }
+        }
         first = end;
-    }
-    Ok(())
-}
-
-// The messages from one number up to another.
-fn write_put<W: fmt::Write>(
-    f: &mut fmt::Formatter<W>,
-    envelopes: &[Envelope],
-    first: usize,
-    end: usize,
-) -> fmt::Result {
-    for number in first..end.min(envelopes.len()) {
-        writeln!(f, "put {number} {}", Text(&envelopes[number]))?;
-    }
-    Ok(())
-}
-
-fn write_logs<W: fmt::Write>(f: &mut fmt::Formatter<W>, logs: &[Vec<Record>]) -> fmt::Result {
-    for (shard, log) in logs.iter().enumerate() {
-        writeln!(f, "log {shard}")?;
-        write_log(f, log)?;
-    }
-    Ok(())
-}
-
-fn write_log<W: fmt::Write>(f: &mut fmt::Formatter<W>, log: &[Record]) -> fmt::Result {
-    for item in log {
-        writeln!(f, "{}", Text(item))?;
-    }
-    Ok(())
-}
-
-fn write_lines<W: fmt::Write>(f: &mut fmt::Formatter<W>, lines: &[Line]) -> fmt::Result {
-    writeln!(f, "lines")?;
-    for line in lines {
-        writeln!(f, "{}", Text(line))?;
     }
     Ok(())
 }

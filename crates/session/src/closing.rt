@@ -156,11 +156,11 @@ impl<'s, S: Phase> Tx<'s, S> {
             (shards_told self.now.splits self.now.client)) }
         ensures memory { IfErr result (λ fault. fault ≡ Fault.Memory) }
     {
-        match self.told(alloc) {
-            Ok(Some(parts)) => give_ups(alloc, self.txn, parts),
-            Ok(None) => Ok(Outbox::none(alloc)),
-            Err(fault) => Err(fault),
-        }
+        let shards = match self.told(alloc)? {
+            Some(parts) => parts.shards(alloc)?,
+            None => Vec::new(alloc),
+        };
+        give_ups(alloc, self.txn, shards.as_slice())
     }
 
     // The shards that are told.
@@ -195,28 +195,12 @@ impl<'s, S: Phase> Tx<'s, S> {
         ensures memory { IfErr result (λ fault. fault ≡ Fault.Memory) }
     {
         let mut shards = Vec::new(alloc);
-        let pushed = self.push_shards(&mut shards);
-        let parts = Parts::of(shards.as_slice());
-        drop(shards);
-        match pushed {
-            Ok(()) => Ok(parts),
-            Err(fault) => Err(fault),
-        }
-    }
-
-    // Adds the shards that were asked to a list.
-    fn push_shards(&self, shards: &mut Vec<ShardNo>) -> Result<(), Fault>
-        ensures same { IfOk result
-            (λ _. shards.new.items ≡ shards.old.items ++ map (λ a. a.shard) self.now.client.taken
-            ++ map (shard_of self.now.splits)
-            (option_to_list self.now.client.doom ++ self.now.client.awaited)) }
-        ensures memory { IfErr result (λ fault. fault ≡ Fault.Memory) }
-    {
-        push_taken(shards, self.taken.as_slice())?;
+        push_taken(&mut shards, self.taken.as_slice())?;
         if let Some(key) = &self.doom {
             shards.push(self.splits.shard_of(key))?;
         }
-        push_asked(shards, self.splits, self.awaited.as_slice())
+        push_asked(&mut shards, self.splits, self.awaited.as_slice())?;
+        Ok(Parts::of(shards.as_slice()))
     }
 
     // What it asks its shards to commit.
@@ -248,35 +232,17 @@ impl<'s, S: Phase> Tx<'s, S> {
     }
 }
 
-// Each part is told that the transaction is given up.
-fn give_ups(alloc: Global, txn: TxnId, parts: Parts) -> Result<Outbox, Fault>
-    ensures same { IfOk result (λ out. out ≡ map (give_up_to txn) parts) }
+// Each shard is told that the transaction is given up.
+fn give_ups(alloc: Global, txn: TxnId, shards: &[ShardNo]) -> Result<Outbox, Fault>
+    ensures same { IfOk result (λ out. out ≡ map (give_up_to txn) shards.now) }
     ensures memory { IfErr result (λ fault. fault ≡ Fault.Memory) }
 {
-    let shards = parts.shards(alloc)?;
     let mut envelopes = Vec::new(alloc);
-    let pushed = push_give_ups(&mut envelopes, txn, shards.as_slice());
-    drop(shards);
-    match pushed {
-        Ok(()) => Ok(Outbox::from_vec(envelopes)),
-        Err(fault) => {
-            drop(envelopes);
-            Err(fault)
-        }
-    }
-}
-
-// Adds what each shard is told to a list.
-fn push_give_ups(envelopes: &mut Vec<Envelope>, txn: TxnId, shards: &[ShardNo]) -> Result<(), Fault>
-    ensures same { IfOk result
-        (λ _. envelopes.new.items ≡ envelopes.old.items ++ map (give_up_to txn) shards.now) }
-    ensures memory { IfErr result (λ fault. fault ≡ Fault.Memory) }
-{
     for shard in shards {
         envelopes.push(Envelope {
             to: Address::Shard(*shard),
             message: Message::GiveUp(GiveUp { txn }),
         })?;
     }
-    Ok(())
+    Ok(Outbox::from_vec(envelopes))
 }

@@ -30,10 +30,9 @@ impl Request<'_> {
             (closing_client self.now.txn self.now.taken.now self.now.writes.now)) }
         ensures memory { IfErr result (λ fault. fault ≡ Fault.Memory) }
     {
-        match self.parts(alloc) {
-            Ok(None) => Ok(Outbox::none(alloc)),
-            Ok(Some(parts)) => self.messages_to(alloc, parts),
-            Err(fault) => Err(fault),
+        match self.parts(alloc)? {
+            None => Ok(Outbox::none(alloc)),
+            Some(parts) => self.messages_to(alloc, parts),
         }
     }
 
@@ -50,24 +49,9 @@ impl Request<'_> {
         ensures memory { IfErr result (λ fault. fault ≡ Fault.Memory) }
     {
         let mut shards = Vec::new(alloc);
-        let pushed = self.push_parts(&mut shards);
-        let parts = Parts::of(shards.as_slice());
-        drop(shards);
-        match pushed {
-            Ok(()) => Ok(parts),
-            Err(fault) => Err(fault),
-        }
-    }
-
-    // Adds the shards that were read, and those that were written, to a list.
-    fn push_parts(&self, shards: &mut Vec<ShardNo>) -> Result<(), Fault>
-        ensures same { IfOk result
-            (λ _. shards.new.items ≡ (shards.old.items ++ map (λ a. a.shard) self.now.taken.now)
-            ++ map (λ w. shard_of self.now.splits.now w.key) self.now.writes.now) }
-        ensures memory { IfErr result (λ fault. fault ≡ Fault.Memory) }
-    {
-        push_taken(shards, self.taken)?;
-        push_written(shards, self.splits, self.writes)
+        push_taken(&mut shards, self.taken)?;
+        push_written(&mut shards, self.splits, self.writes)?;
+        Ok(Parts::of(shards.as_slice()))
     }
 
     fn messages_to(&self, alloc: Global, parts: Parts) -> Result<Outbox, Fault>
@@ -78,58 +62,13 @@ impl Request<'_> {
     {
         let shards = parts.shards(alloc)?;
         let mut envelopes = Vec::new(alloc);
-        let pushed = self.push_messages(alloc, &mut envelopes, parts, shards.as_slice());
-        drop(shards);
-        match pushed {
-            Ok(()) => Ok(Outbox::from_vec(envelopes)),
-            Err(fault) => {
-                drop(envelopes);
-                Err(fault)
+        if let Some((coordinator, others)) = shards.as_slice().split_first() {
+            envelopes.push(self.commit(alloc, parts, *coordinator)?)?;
+            for shard in others {
+                envelopes.push(self.prepare(alloc, *coordinator, *shard)?)?;
             }
         }
-    }
-
-    // Adds the messages to the parts, which are these shards.
-    fn push_messages(
-        &self,
-        alloc: Global,
-        envelopes: &mut Vec<Envelope>,
-        parts: Parts,
-        shards: &[ShardNo],
-    ) -> Result<(), Fault>
-        requires { shards.now ≡ parts }
-        ensures same { IfOk result
-            (λ _. envelopes.new.items ≡ envelopes.old.items ++ messages_for self.now.splits.now
-            (closing_client self.now.txn self.now.taken.now self.now.writes.now) parts) }
-        ensures memory { IfErr result (λ fault. fault ≡ Fault.Memory) }
-    {
-        let Some((coordinator, others)) = shards.split_first() else {
-            return Ok(());
-        };
-        let commit = self.commit(alloc, parts, *coordinator)?;
-        envelopes.push(commit)?;
-        self.push_prepares(alloc, envelopes, *coordinator, others)
-    }
-
-    // Adds the messages to the parts that do not decide.
-    fn push_prepares(
-        &self,
-        alloc: Global,
-        envelopes: &mut Vec<Envelope>,
-        coordinator: ShardNo,
-        others: &[ShardNo],
-    ) -> Result<(), Fault>
-        ensures same { IfOk result
-            (λ _. envelopes.new.items ≡ envelopes.old.items ++ map (prepare_for self.now.splits.now
-            (closing_client self.now.txn self.now.taken.now self.now.writes.now) coordinator)
-            others.now) }
-        ensures memory { IfErr result (λ fault. fault ≡ Fault.Memory) }
-    {
-        for shard in others {
-            let prepare = self.prepare(alloc, coordinator, *shard)?;
-            envelopes.push(prepare)?;
-        }
-        Ok(())
+        Ok(Outbox::from_vec(envelopes))
     }
 
     // The message to the part that decides.
@@ -147,15 +86,13 @@ impl Request<'_> {
         }) }
         ensures memory { IfErr result (λ fault. fault ≡ Fault.Memory) }
     {
-        let (reads, writes) = self.share(alloc, shard)?;
-        let txn = self.txn;
         Ok(Envelope {
             to: Address::Shard(shard),
             message: Message::Commit(Commit {
-                txn,
+                txn: self.txn,
                 parts,
-                reads,
-                writes,
+                reads: self.reads_at(alloc, shard)?,
+                writes: self.writes_at(alloc, shard)?,
             }),
         })
     }
@@ -173,37 +110,15 @@ impl Request<'_> {
             shard) }
         ensures memory { IfErr result (λ fault. fault ≡ Fault.Memory) }
     {
-        let (reads, writes) = self.share(alloc, shard)?;
-        let txn = self.txn;
         Ok(Envelope {
             to: Address::Shard(shard),
             message: Message::Prepare(Prepare {
-                txn,
+                txn: self.txn,
                 coordinator,
-                reads,
-                writes,
+                reads: self.reads_at(alloc, shard)?,
+                writes: self.writes_at(alloc, shard)?,
             }),
         })
-    }
-
-    // What was read and what is written at a shard.
-    fn share(&self, alloc: Global, shard: ShardNo) -> Result<(Reads, Writes), Fault>
-        ensures reads { IfOk result
-            (λ share. share.0 ≡ read_set
-            (closing_client self.now.txn self.now.taken.now self.now.writes.now) shard) }
-        ensures writes { IfOk result
-            (λ share. share.1 ≡ writes_at_shard self.now.splits.now
-            (closing_client self.now.txn self.now.taken.now self.now.writes.now) shard) }
-        ensures memory { IfErr result (λ fault. fault ≡ Fault.Memory) }
-    {
-        let reads = self.reads_at(alloc, shard)?;
-        match self.writes_at(alloc, shard) {
-            Ok(writes) => Ok((reads, writes)),
-            Err(fault) => {
-                drop(reads);
-                Err(fault)
-            }
-        }
     }
 
     // What was read at a shard.
@@ -306,10 +221,7 @@ fn keys_read_at(alloc: Global, taken: &[Answered], shard: ShardNo) -> Result<Vec
         Some((answered, rest)) => {
             let mut keys = keys_read_at(alloc, rest, shard)?;
             if answered.shard == shard {
-                if let Err(fault) = insert_key(&mut keys, answered.key) {
-                    drop(keys);
-                    return Err(fault);
-                }
+                insert_key(&mut keys, answered.key)?;
             }
             Ok(keys)
         }
@@ -328,33 +240,10 @@ fn writes_of(
     ensures memory { IfErr result (λ fault. fault ≡ Fault.Memory) }
 {
     let mut part = Vec::new(alloc);
-    match push_writes_of(alloc, &mut part, splits, writes, shard) {
-        Ok(()) => Ok(part),
-        Err(fault) => {
-            drop(part);
-            Err(fault)
-        }
-    }
-}
-
-// Adds copies of the writes of a shard to a list.
-fn push_writes_of(
-    alloc: Global,
-    part: &mut Vec<Write>,
-    splits: &Splits,
-    writes: &[Write],
-    shard: ShardNo,
-) -> Result<(), Fault>
-    ensures same { IfOk result
-        (λ _. part.new.items ≡ part.old.items
-        ++ filter (λ w. nat_eq (shard_of splits.now w.key) shard) writes.now) }
-    ensures memory { IfErr result (λ fault. fault ≡ Fault.Memory) }
-{
     for write in writes {
         if splits.shard_of(&write.key) == shard {
-            let copy = write.copy(alloc)?;
-            part.push(copy)?;
+            part.push(write.copy(alloc)?)?;
         }
     }
-    Ok(())
+    Ok(part)
 }

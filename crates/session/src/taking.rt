@@ -31,13 +31,7 @@ impl Tx<'_, Open> {
     {
         self.taken.reserve(1)?;
         let shown = copy_value(alloc, value)?;
-        let kept = match copy_value(alloc, value) {
-            Ok(kept) => kept,
-            Err(fault) => {
-                drop(shown);
-                return Err(fault);
-            }
-        };
+        let kept = copy_value(alloc, value)?;
         self.taken.push_reserved(Answered {
             key: answer.key,
             shard: answer.from,

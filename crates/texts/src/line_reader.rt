@@ -35,17 +35,12 @@ impl<'t> LineReader<'t> {
 
     /// The word behind a given one on the next line, where the two are all of it.
     pub fn head(&mut self, alloc: Global, name: &str) -> Result<Option<&'t str>, Fault> {
-        match self.next(alloc) {
-            Ok(Some(words)) => {
-                let word = match words.as_slice() {
-                    [first, word] if *first == name => Some(*word),
-                    _ => None,
-                };
-                drop(words);
-                Ok(word)
-            }
-            Ok(None) => Ok(None),
-            Err(fault) => Err(fault),
+        match self.next(alloc)? {
+            Some(words) => match words.as_slice() {
+                [first, word] if *first == name => Ok(Some(word)),
+                _ => Ok(None),
+            },
+            None => Ok(None),
         }
     }
 
@@ -66,9 +61,7 @@ pub fn lines(alloc: Global, text: &str) -> Result<Vec<Line>, Fault> {
         let Some(words) = reader.next(alloc)? else {
             break;
         };
-        let told = line(alloc, &words);
-        drop(words);
-        match told {
+        match line(alloc, &words) {
             Ok(line) => lines.push(line)?,
             Err(fault) => return Err(reader.fault(fault)),
         }
@@ -88,38 +81,20 @@ fn line(alloc: Global, words: &[&str]) -> Result<Line, Fault> {
 
 // A session began.
 fn begin_line(id: &str, moment: &str) -> Result<Line, Fault> {
-    let (Ok(id), Ok(moment)) = (txn(id), number(moment)) else {
-        return Err(NO_WORD);
-    };
-    Ok(Line::Begin(id, moment))
+    Ok(Line::Begin(txn(id)?, number(moment)?))
 }
 
 // A commit was acknowledged.
 fn ack_line(id: &str, at: &str, moment: &str) -> Result<Line, Fault> {
-    let (Ok(id), Ok(at), Ok(moment)) = (txn(id), stamp(at), number(moment)) else {
-        return Err(NO_WORD);
-    };
-    Ok(Line::Ack(id, at, moment))
+    Ok(Line::Ack(txn(id)?, stamp(at)?, number(moment)?))
 }
 
 // A read of a session showed a value, or that there is none.
 fn read_line(alloc: Global, id: &str, word: &str, value: &str) -> Result<Line, Fault> {
-    let (Ok(id), Ok(key)) = (txn(id), key(word)) else {
-        return Err(NO_WORD);
-    };
-    match shown(alloc, value) {
-        Ok(value) => Ok(Line::Read(id, key, value)),
-        Err(fault) => Err(fault),
-    }
+    Ok(Line::Read(txn(id)?, key(word)?, shown(alloc, value)?))
 }
 
 // A look at a timestamp showed a value, or that there is none.
 fn look_line(alloc: Global, word: &str, at: &str, value: &str) -> Result<Line, Fault> {
-    let (Ok(key), Ok(at)) = (key(word), stamp(at)) else {
-        return Err(NO_WORD);
-    };
-    match shown(alloc, value) {
-        Ok(value) => Ok(Line::Look(key, at, value)),
-        Err(fault) => Err(fault),
-    }
+    Ok(Line::Look(key(word)?, stamp(at)?, shown(alloc, value)?))
 }

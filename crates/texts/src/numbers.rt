@@ -53,10 +53,5 @@ fn is_decimal_word(word: &[u8]) -> bool
 fn are_digits(word: &[u8]) -> bool
     ensures { result ≡ list_all is_ascii_digit word.now }
 {
-    for byte in word {
-        if !byte.is_ascii_digit() {
-            return false;
-        }
-    }
-    true
+    word.iter().all(|byte| byte.is_ascii_digit())
 }

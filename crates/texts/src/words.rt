@@ -11,25 +11,14 @@ pub const NO_WORD: Fault = Fault::BadRequest(Reason::Command);
 
 /// A shard, by its number.
 pub fn shard(word: &str) -> Result<ShardNo, Fault> {
-    match u8::try_from(number(word)?) {
-        Ok(number) => ShardNo::new(number).ok_or(NO_WORD),
-        Err(_) => Err(NO_WORD),
-    }
+    let number = u8::try_from(number(word)?).map_err(|_error| NO_WORD)?;
+    ShardNo::new(number).ok_or(NO_WORD)
 }
 
 /// An id: two numbers with a dot between them.
 pub fn txn(word: &str) -> Result<TxnId, Fault> {
-    match word.split_once('.') {
-        Some((run, count)) => txn_of(number(run), number(count)),
-        None => Err(NO_WORD),
-    }
-}
-
-fn txn_of(run: Result<u64, Fault>, count: Result<u64, Fault>) -> Result<TxnId, Fault> {
-    match (run, count) {
-        (Ok(run), Ok(count)) => TxnId::new(run, count).ok_or(NO_WORD),
-        (Err(fault), _) | (_, Err(fault)) => Err(fault),
-    }
+    let (run, count) = word.split_once('.').ok_or(NO_WORD)?;
+    TxnId::new(number(run)?, number(count)?).ok_or(NO_WORD)
 }
 
 /// A key of ASCII letters, digits and underlines.
@@ -45,10 +34,7 @@ pub fn value(alloc: Global, word: &str) -> Result<Value, Fault> {
 /// What a look or a read shows: `none`, or `=` and a value.
 pub fn shown(alloc: Global, word: &str) -> Result<Option<Value>, Fault> {
     match word.strip_prefix('=') {
-        Some(word) => match value(alloc, word) {
-            Ok(value) => Ok(Some(value)),
-            Err(fault) => Err(fault),
-        },
+        Some(word) => Ok(Some(value(alloc, word)?)),
         None if word == "none" => Ok(None),
         None => Err(NO_WORD),
     }
@@ -56,20 +42,10 @@ pub fn shown(alloc: Global, word: &str) -> Result<Option<Value>, Fault> {
 
 /// What a crash makes of a change: `old`, `new`, or a byte in two hexadecimal digits of either case.
 pub fn fate(word: &str) -> Result<Fate, Fault> {
-    match word {
-        "old" => Ok(Fate::Old),
-        "new" => Ok(Fate::New),
-        _ => filled(word.as_bytes()),
-    }
-}
-
-// A byte in two hexadecimal digits.
-fn filled(digits: &[u8]) -> Result<Fate, Fault> {
-    let [high, low] = digits else {
-        return Err(NO_WORD);
-    };
-    match (digit(*high), digit(*low)) {
-        (Ok(high), Ok(low)) => Ok(Fate::Filled(high * 16 + low)),
+    match word.as_bytes() {
+        b"old" => Ok(Fate::Old),
+        b"new" => Ok(Fate::New),
+        [high, low] => Ok(Fate::Filled(digit(*high)? * 16 + digit(*low)?)),
         _ => Err(NO_WORD),
     }
 }
@@ -89,12 +65,10 @@ fn digit(byte: u8) -> Result<u8, Fault>
 // Some ASCII letters, digits and underlines.
 fn plain(word: &str) -> Result<&[u8], Fault> {
     let bytes = word.as_bytes();
-    for byte in bytes {
-        if !byte.is_ascii_alphanumeric() && *byte != b'_' {
-            return Err(NO_WORD);
-        }
-    }
-    if bytes.is_empty() {
+    let is_plain = bytes
+        .iter()
+        .all(|byte| byte.is_ascii_alphanumeric() || *byte == b'_');
+    if bytes.is_empty() || !is_plain {
         return Err(NO_WORD);
     }
     Ok(bytes)

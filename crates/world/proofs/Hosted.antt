@@ -22,7 +22,6 @@ use Rattle.message.specs.declared.message.ReadAnswer.{ReadAnswer}
 use Rattle.session.specs.Sessions.{Client, Moved, begun, finishes}
 use Rattle.world.specs.Held.{IsBegun, Moves, Hears, when_open}
 use Rattle.world.specs.Hosts.{AreBegun, Hosts, HearsIn, MovesIn, are_once, session_step, with_client}
-use Rattle.world.specs.Taken.{IsTaken, TakesOut}
 use Rattle.world.proofs.HeldSteps.{hears_keeps}
 use Rattle.world.specs.declared.begun.Begun.{Begun}
 use Rattle.world.specs.declared.hosting.Sessions.{Sessions}
@@ -335,30 +334,3 @@ is_below i n w so not_so = by_test (nat_lt i n) refl
     by_test : (b : Bool) → nat_lt i n ≡ b → b ≡ w
     by_test true e = sym (so (grind (arith, nat_tests)))
     by_test false e = sym (not_so (grind (arith, nat_tests)))
-
--- ---- a session that was taken out
-
-module _ (splits : List Bytes) (s mid new : Sessions) (cs : List Client) (t : Id) (at : ℕ) (old b : Begun) (h : Hosts splits s cs)
-    (k : IsTaken s t mid at old) (same : new.splits.now ≡ mid.splits.now) (ids : new.ids ≡ mid.ids) (put : new.begun.items ≡ set mid.begun.items at b) where
-  all_put : new.begun.items ≡ set s.begun.items at b
-  all_put = put ∙ ap (λ bs. set bs at b) k.begun ∙ set_again s.begun.items at _ b
-
-  pub moves_taken : (f : Client → Moved) (r : Result (List Envelope) Fault) → ((c : Client) → IsBegun splits old c → Moves splits (f c) b c r) →
-      MovesIn splits (session_step f (client_at cs t)) new cs r
-  moves_taken = moves_in splits s new cs t at old b h (k.place h.ids_are) k.within k.stood (same ∙ k.splits ∙ h.splits_are) (ids ∙ k.ids) all_put
-
-  pub hears_taken : (a : ReadAnswer) (r : Result (Option Line) Fault) → ((c : Client) → IsBegun splits old c → Hears splits a b c r) →
-      HearsIn splits a new cs (client_at cs t) r
-  hears_taken = hears_in splits s new cs t at old b h (k.place h.ids_are) k.within k.stood (same ∙ k.splits ∙ h.splits_are) (ids ∙ k.ids) all_put
-
-pub none_taken : (splits : List Bytes) (s new : Sessions) (cs : List Client) (t : Id) (f : Client → Moved) → Hosts splits s cs → TakesOut s t new None
-    → MovesIn splits (session_step f (client_at cs t)) new cs (Err Stranger)
-none_taken splits s new cs t f h k =
-    subst (λ x. MovesIn splits (session_step f (client_at cs t)) x cs (Err Stranger)) (sym k.0)
-    (none_moves splits s cs t (place_of s.begun.items t) f h refl (k.1 h.ids_are))
-
-pub none_heard : (splits : List Bytes) (s new : Sessions) (cs : List Client) (a : ReadAnswer) → Hosts splits s cs → TakesOut s a.txn new None
-    → HearsIn splits a new cs (client_at cs a.txn) (Err Stranger)
-none_heard splits s new cs a h k =
-    subst (λ x. HearsIn splits a x cs (client_at cs a.txn) (Err Stranger)) (sym k.0)
-    (none_hears splits s cs a (place_of s.begun.items a.txn) h refl (k.1 h.ids_are))

@@ -8,6 +8,5 @@ pub mod Hosts
 pub mod Lawful
 pub mod Passed
 pub mod Steady
-pub mod Taken
 pub mod Told
 pub mod World

@@ -29,7 +29,6 @@ pub struct Sessions<'s> {
 impl<'s> Sessions<'s> {
     ghost use Rattle.world.specs.World.{World};
     ghost use Rattle.world.specs.Comes.{TakesMessage};
-    ghost use Rattle.world.specs.Taken.{TakesOut};
 
     /// No session has begun.
     pub fn none(alloc: Global, splits: &'s Splits) -> Sessions<'s>
@@ -64,31 +63,20 @@ impl<'s> Sessions<'s> {
         Ok(())
     }
 
-    // Takes the session of an id out of its place, where there is one. One that is over stands there meanwhile.
-    fn taken(&mut self, txn: TxnId) -> Option<(usize, Begun<'s>)>
-        ensures { TakesOut self.old txn self.new result }
-    {
-        let at = place(&self.ids, &self.begun, txn);
-        if at >= self.begun.len() {
-            return None;
-        }
-        Some((at, take(&mut self.begun, at, txn)))
-    }
-
     /// A session asks for the value of a key.
     pub fn read(&mut self, alloc: Global, txn: TxnId, key: Key) -> Result<Outbox, Fault>
         ensures { (splits : List Bytes) (cs : List Client) → Hosts splits self.old cs
             → MovesIn splits (session_step (when_open (reads splits key))
             (first (λ c. same_id c.txn txn) cs)) self.new cs result }
     {
-        match self.taken(txn) {
-            Some((at, begun)) => {
-                let (begun, result) = begun.read(alloc, key);
-                put(&mut self.begun, at, begun);
-                result
-            }
-            None => Err(Fault::Stranger),
+        let at = place(&self.ids, &self.begun, txn);
+        if at >= self.begun.len() {
+            return Err(Fault::Stranger);
         }
+        let begun = take(&mut self.begun, at, txn);
+        let (begun, result) = begun.read(alloc, key);
+        put(&mut self.begun, at, begun);
+        result
     }
 
     /// A session buffers a write.
@@ -104,14 +92,14 @@ impl<'s> Sessions<'s> {
             (when_open (buffers (record { key = key; value = value })))
             (first (λ c. same_id c.txn txn) cs)) self.new cs result }
     {
-        match self.taken(txn) {
-            Some((at, begun)) => {
-                let (begun, result) = begun.write(alloc, key, value);
-                put(&mut self.begun, at, begun);
-                result
-            }
-            None => Err(Fault::Stranger),
+        let at = place(&self.ids, &self.begun, txn);
+        if at >= self.begun.len() {
+            return Err(Fault::Stranger);
         }
+        let begun = take(&mut self.begun, at, txn);
+        let (begun, result) = begun.write(alloc, key, value);
+        put(&mut self.begun, at, begun);
+        result
     }
 
     /// A session closes.
@@ -120,14 +108,14 @@ impl<'s> Sessions<'s> {
             → MovesIn splits (session_step (when_open (closes splits))
             (first (λ c. same_id c.txn txn) cs)) self.new cs result }
     {
-        match self.taken(txn) {
-            Some((at, begun)) => {
-                let (begun, result) = begun.close(alloc);
-                put(&mut self.begun, at, begun);
-                result
-            }
-            None => Err(Fault::Stranger),
+        let at = place(&self.ids, &self.begun, txn);
+        if at >= self.begun.len() {
+            return Err(Fault::Stranger);
         }
+        let begun = take(&mut self.begun, at, txn);
+        let (begun, result) = begun.close(alloc);
+        put(&mut self.begun, at, begun);
+        result
     }
 
     /// A session gives up.
@@ -136,14 +124,14 @@ impl<'s> Sessions<'s> {
             → MovesIn splits (session_step (when_not_over (gives_up splits))
             (first (λ c. same_id c.txn txn) cs)) self.new cs result }
     {
-        match self.taken(txn) {
-            Some((at, begun)) => {
-                let (begun, result) = begun.quit(alloc);
-                put(&mut self.begun, at, begun);
-                result
-            }
-            None => Err(Fault::Stranger),
+        let at = place(&self.ids, &self.begun, txn);
+        if at >= self.begun.len() {
+            return Err(Fault::Stranger);
         }
+        let begun = take(&mut self.begun, at, txn);
+        let (begun, result) = begun.quit(alloc);
+        put(&mut self.begun, at, begun);
+        result
     }
 
     /// The end of a transaction comes to its session.
@@ -152,14 +140,14 @@ impl<'s> Sessions<'s> {
             → MovesIn splits (session_step when_closing
             (first (λ c. same_id c.txn done.now.txn) cs)) self.new cs result }
     {
-        match self.taken(done.txn) {
-            Some((at, begun)) => {
-                let (begun, result) = begun.finish(alloc, done);
-                put(&mut self.begun, at, begun);
-                result
-            }
-            None => Err(Fault::Stranger),
+        let at = place(&self.ids, &self.begun, done.txn);
+        if at >= self.begun.len() {
+            return Err(Fault::Stranger);
         }
+        let begun = take(&mut self.begun, at, done.txn);
+        let (begun, result) = begun.finish(alloc, done);
+        put(&mut self.begun, at, begun);
+        result
     }
 
     /// An answer comes to a session. A value that it takes is a line.
@@ -168,14 +156,14 @@ impl<'s> Sessions<'s> {
             → HearsIn splits answer.now self.new cs
             (first (λ c. same_id c.txn answer.now.txn) cs) result }
     {
-        match self.taken(answer.txn) {
-            Some((at, begun)) => {
-                let (begun, result) = begun.hear(alloc, answer);
-                put(&mut self.begun, at, begun);
-                result
-            }
-            None => Err(Fault::Stranger),
+        let at = place(&self.ids, &self.begun, answer.txn);
+        if at >= self.begun.len() {
+            return Err(Fault::Stranger);
         }
+        let begun = take(&mut self.begun, at, answer.txn);
+        let (begun, result) = begun.hear(alloc, answer);
+        put(&mut self.begun, at, begun);
+        result
     }
 
     /// A message comes to the session that it names. A value that the session takes is a line.

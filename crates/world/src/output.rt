@@ -45,10 +45,10 @@ impl RunOutput {
         ensures { (w : World) → IsOutput self.old w → HasReplied w answer self.new result }
     {
         match answer {
-            Ok(out) => match self.put_out(out) {
-                Ok(()) => Ok(Reply::Done),
-                Err(fault) => Err(fault),
-            },
+            Ok(out) => {
+                self.put_out(out)?;
+                Ok(Reply::Done)
+            }
             Err(Fault::Memory) => Err(Fault::Memory),
             Err(fault) => Ok(Reply::Refused(fault)),
         }
@@ -59,10 +59,10 @@ impl RunOutput {
         ensures { (w : World) → IsOutput self.old w → HasHeard w answer self.new result }
     {
         match answer {
-            Ok(Some(line)) => match self.note(line) {
-                Ok(()) => Ok(Reply::Done),
-                Err(fault) => Err(fault),
-            },
+            Ok(Some(line)) => {
+                self.note(line)?;
+                Ok(Reply::Done)
+            }
             Ok(None) => Ok(Reply::Done),
             Err(Fault::Memory) => Err(Fault::Memory),
             Err(fault) => Ok(Reply::Refused(fault)),
@@ -79,16 +79,10 @@ impl RunOutput {
     ) -> Result<Reply, Fault>
         ensures { (w : World) → IsOutput self.old w → Notes w key at reply self.new result }
     {
-        match &reply {
-            Reply::Shows(value) => match copy_value(alloc, value) {
-                Ok(value) => match self.note(Line::Look(key, at, value)) {
-                    Ok(()) => Ok(reply),
-                    Err(fault) => Err(fault),
-                },
-                Err(fault) => Err(fault),
-            },
-            _ => Ok(reply),
+        if let Reply::Shows(value) = &reply {
+            self.note(Line::Look(key, at, copy_value(alloc, value)?))?;
         }
+        Ok(reply)
     }
 
     /// Messages are put out. Each that is the first to tell a session that it committed is a line.
@@ -151,9 +145,7 @@ fn note_told(told: &mut IndexSet<TxnId>, out: &[Envelope]) -> Result<(), Fault>
 {
     for envelope in out {
         if let Some(txn) = told_in(envelope) {
-            let Ok(_) = told.insert(txn) else {
-                return Err(Fault::Memory);
-            };
+            told.insert(txn)?;
         }
     }
     Ok(())

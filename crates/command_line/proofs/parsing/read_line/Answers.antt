@@ -17,10 +17,10 @@ returns-in-Ok-clause-exact c plain =
     ap (λ (a : App). fault_of a words) (sym app_is) ∙ c.in-Ok.ensures.kinds (ap is_simple_and_free app_is) in
     let found = line_found words plain quiet in
     let rows = (c.in-Ok.ensures.matches (ap is_simple app_is)).1 ∙ ap (λ (a : App). subcommand_of a words) app_is ∙ found.2 in
-    line_read c.found_line-line.result found.0 _ found.1 (c.found_line-line.ensures.found found.0 rows)
+    line_read c.found_line.result found.0 _ found.1 (c.found_line.ensures.found found.0 rows)
 
-pub returns-else-eq-clause-exact : goal.returns-else-eq-clause-exact
-returns-else-eq-clause-exact c plain =
+pub returns-clause-exact : goal.returns-clause-exact
+returns-clause-exact c plain =
     let words : List Word = map (λ w. w.now) c.args.words.now in
     let app_is = c.in_ok-shards.ensures in
     inr (
@@ -31,9 +31,8 @@ returns-else-eq-clause-exact c plain =
           (c.in-Err.ensures.kinds (ap is_simple_and_free app_is)) in
           elim kinds [
             | inl memory ↦
-                let is : c.kind-kind.result ≡ OutOfMemory = c.kind-kind.ensures ∙ memory in
+                let is : c.kind.result ≡ OutOfMemory = c.kind.ensures ∙ memory in
                 let same = rw is at c.eq.ensures in
-                let other = c.if-eq.false in
                 cc
             | inr none ↦ none
           ]),

@@ -9,7 +9,7 @@ pub invariant_of-self-2 : goal.invariant_of-self-2
 invariant_of-self-2 c =
     let i = c.self.inside in
     let a = c.args.answer.now in
-    let kept : Answered = record { key = a.key; shard = a.from; epoch = a.epoch; value = c.in-Ok.kept } in
+    let kept : Answered = record { key = a.key; shard = a.from; epoch = a.epoch; value = c.in_ok-kept.kept } in
     let awaited : has_key i.awaited.items a.key ≡ true =
     subst (λ (t : Session). has_key t.client.awaited a.key ≡ true) (sym c.self.view_is) c.requires.awaited in
     let pushed : c.push_reserved.new.self.items ≡ i.taken.items ++ kept ∷ [] =

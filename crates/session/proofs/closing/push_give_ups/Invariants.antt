@@ -1,6 +1,0 @@
-use Rattle.std.proofs.Common.{◌≡◌, ◌++◌, map, drop}
-use Rattle.session.specs.Shown.{give_up_to}
-use Rattle.session.proofs.closing.push_give_ups.Given as goal
-
-abbrev pub invariant-loop-shard : goal.invariant-loop-shard
-invariant-loop-shard l = l.envelopes.items ++ map (give_up_to l.txn) (drop l.shard-index l.shards) ≡ l.fn.envelopes.items ++ map (give_up_to l.txn) l.shards
