@@ -137,7 +137,14 @@ fn bytes_of<D: Disk>(alloc: Global, disk: &mut D) -> Result<Vec<u8>, Fault>
     ensures waits { D.obeys → waits (D.plan disk.old) ≡ true →
         IfErr result (λ fault. fault ≡ Fault.Memory) × (D.plan disk.new ≡ D.plan disk.old) }
 {
-    let mut image = Vec::from_elem(alloc, 0, disk.len() as usize)?;
-    disk.read_at(0, &mut image)?;
-    Ok(image)
+    let Ok(mut image) = Vec::from_elem(alloc, 0, disk.len() as usize) else {
+        return Err(Fault::Memory);
+    };
+    match disk.read_at(0, &mut image) {
+        Ok(()) => Ok(image),
+        Err(fault) => {
+            drop(image);
+            Err(fault)
+        }
+    }
 }

@@ -1,5 +1,5 @@
 //! What a log hands out.
-ghost use Rattle.std.specs.Prelude.{◌≡◌, ◌≤◌, ◌+◌, ◌^◌, IfOk, IfErr, OnOk};
+ghost use Rattle.std.specs.Prelude.{◌≡◌, ◌≤◌, ◌+◌, ◌^◌, [], IsTrue, IfOk, IfErr, OnOk};
 ghost use Rattle.gatelog.specs.Frames.{next_gate, staged_bytes};
 ghost use Rattle.record.specs.Grammar.{IsRecord};
 
@@ -91,20 +91,37 @@ impl Staged {
     }
 }
 
-// What an append of a record writes behind the closed gate: the length of its spelling, the spelling, and a closed gate.
+// What an append of a record writes behind the closed gate.
 fn bytes_for(alloc: Global, item: &Record) -> Result<Vec<u8>, Fault>
     ensures bytes { IfOk result (λ bytes. bytes.items ≡ staged_bytes item.now) }
     ensures fits { OnOk result (IsRecord item.now) }
     ensures memory { IfErr result (λ fault. fault ≡ Fault.Memory) }
 {
-    let size = encoded_len(item);
-    let mut bytes = Vec::with_capacity(alloc, size as usize + 5)?;
-    let mut count = [0; 4];
-    BigEndian::write_u32(&mut count, size as u32);
-    bytes.extend_from_slice(&count)?;
-    encode_into(&mut bytes, item)?;
-    bytes.push(0)?;
+    let Ok(mut bytes) = Vec::with_capacity(alloc, encoded_len(item) as usize + 5) else {
+        return Err(Fault::Memory);
+    };
+    if !put_frame(&mut bytes, item) {
+        drop(bytes);
+        return Err(Fault::Memory);
+    }
     Ok(bytes)
+}
+
+// Puts the length of a record's spelling, the spelling, and a closed gate. It says whether there was the memory.
+fn put_frame(bytes: &mut Vec<u8>, item: &Record) -> bool
+    requires { bytes.old.items ≡ [] }
+    ensures bytes { IsTrue result → bytes.new.items ≡ staged_bytes item.now }
+    ensures fits { IsTrue result → IsRecord item.now }
+{
+    let mut count = [0; 4];
+    BigEndian::write_u32(&mut count, encoded_len(item) as u32);
+    let Ok(()) = bytes.extend_from_slice(&count) else {
+        return false;
+    };
+    let Ok(()) = encode_into(bytes, item) else {
+        return false;
+    };
+    bytes.push(0).is_ok()
 }
 
 /// A record that stands in the log for good. Only an append, or an entry that was read, makes it; it has to be spent.
