@@ -1,7 +1,9 @@
 //! Disks in memory: which calls fail, what is read, and what a crash leaves.
+use crate::tables::{numbered_row_holds, row_holds};
 use disk::{Disk, FailurePlan, Fate};
 use simdisk::{Choice, SimDisk};
 use std::alloc::Global;
+use std::mem;
 use units::Fault;
 
 // A call that a plan is asked about.
@@ -63,12 +65,16 @@ fn fails_so(row: &Failing) -> bool {
     matches!(plan, FailurePlan::Never) && !plan.write()
 }
 
+fn are_armed() -> bool {
+    matches!(FailurePlan::armed(Some(1)), FailurePlan::AfterWrite(1))
+        && matches!(FailurePlan::armed(None), FailurePlan::Never)
+}
+
 #[test]
 fn calls_that_fail(rt: HostRuntime) {
-    assert!(rt; matches!(FailurePlan::armed(Some(1)), FailurePlan::AfterWrite(1)));
-    assert!(rt; matches!(FailurePlan::armed(None), FailurePlan::Never));
+    assert!(rt; are_armed());
     for row in &FAILING {
-        assert!(rt; fails_so(row), "{}", row.what);
+        row_holds(&rt, fails_so(row), row.what);
     }
 }
 
@@ -106,24 +112,22 @@ fn cut(disk: &mut SimDisk, len: u64) -> Result<(), Fault> {
     disk.cut(len)
 }
 
-fn content(alloc: Global, disk: &mut SimDisk) -> Result<Vec<u8>, Fault> {
-    let mut bytes = vec![in alloc; 0u8; disk.len() as usize]?;
-    disk.read_at(0, &mut bytes)?;
-    Ok(bytes)
+/// Whether these are all the bytes that are read of a disk.
+pub fn holds<D: Disk>(alloc: Global, disk: &mut D, bytes: &[u8]) -> bool {
+    let Ok(mut found) = Vec::from_elem(alloc, 0u8, disk.len() as usize) else {
+        return false;
+    };
+    let same = disk.read_at(0, &mut found).is_ok() && found.as_slice() == bytes;
+    drop(found);
+    same
 }
 
-fn holds(alloc: Global, disk: &mut SimDisk, bytes: &[u8]) -> bool {
-    match content(alloc, disk) {
-        Ok(found) => found.as_slice() == bytes,
-        Err(_) => false,
-    }
-}
-
-fn has_failed(answer: Result<(), Fault>) -> bool {
+/// Whether the device failed.
+pub fn has_failed(answer: Result<(), Fault>) -> bool {
     matches!(answer, Err(Fault::Device))
 }
 
-// Whether the step, which is no crash, went as it says.
+// Whether the step went as it says.
 fn goes_well(alloc: Global, disk: &mut SimDisk, step: Step) -> bool {
     match step {
         Step::Write(at, bytes) => write(disk, at, bytes).is_ok(),
@@ -142,44 +146,48 @@ fn goes_well(alloc: Global, disk: &mut SimDisk, step: Step) -> bool {
             disk.arm(calls);
             true
         }
-        Step::Crash(_) => false,
+        Step::Crash(fates) => {
+            let torn = mem::replace(disk, SimDisk::new(alloc));
+            *disk = crash(alloc, torn, fates);
+            true
+        }
     }
 }
 
-// A disk may go to another thread.
-fn sent<T: Send>(value: T) -> T {
+// How many steps go as they say, until one does not.
+fn go(alloc: Global, disk: &mut SimDisk, steps: &[Step]) -> usize {
+    let mut gone = 0usize;
+    for step in steps {
+        if !goes_well(alloc, disk, *step) {
+            return gone;
+        }
+        gone = gone.saturating_add(1);
+    }
+    gone
+}
+
+/// A disk may go to another thread.
+pub fn sent<T: Send>(value: T) -> T {
     value
 }
 
-// A synced file of six letters.
-fn six_letters(alloc: Global) -> Result<SimDisk, Fault> {
+// A file of six letters, which is synced then.
+fn six_letters(alloc: Global) -> SimDisk {
     let mut disk = sent(SimDisk::new(alloc));
-    disk.write_at(0, b"abcdef")?;
-    disk.sync()?;
-    Ok(disk)
+    let _ = disk.write_at(0, b"abcdef");
+    let _ = disk.sync();
+    disk
 }
 
-// Without memory every change is lost.
-fn choice(alloc: Global, fates: &[Fate]) -> Choice {
-    match fates.to_vec(alloc) {
+/// What a crash leaves by these fates. Without memory every change is lost.
+pub fn crash(alloc: Global, disk: SimDisk, fates: &[Fate]) -> SimDisk {
+    let choice = match fates.to_vec(alloc) {
         Ok(fates) => Choice::from_vec(fates),
         Err(_) => Choice::none(alloc),
-    }
-}
-
-// The six letters go through the steps; says how many go as they say.
-fn go(alloc: Global, steps: &[Step]) -> usize {
-    let Ok(mut disk) = six_letters(alloc) else {
-        return 0;
     };
-    for (number, step) in steps.iter().enumerate() {
-        if let Step::Crash(fates) = step {
-            disk = disk.crash(&choice(alloc, fates));
-        } else if !goes_well(alloc, &mut disk, *step) {
-            return number;
-        }
-    }
-    steps.len()
+    let left = disk.crash(&choice);
+    drop(choice);
+    left
 }
 
 // What a crash leaves of these changes of the six letters.
@@ -253,29 +261,19 @@ static TORN: [Torn; 10] = [
     },
 ];
 
-fn changed(alloc: Global, changes: &[Step]) -> Option<SimDisk> {
-    let Ok(mut disk) = six_letters(alloc) else {
-        return None;
-    };
-    for step in changes {
-        if !goes_well(alloc, &mut disk, *step) {
-            return None;
-        }
-    }
-    Some(disk)
-}
-
 fn is_torn(alloc: Global, row: &Torn) -> bool {
-    match changed(alloc, row.changes) {
-        Some(disk) => holds(alloc, &mut disk.crash(&choice(alloc, row.fates)), row.left),
-        None => false,
-    }
+    let mut disk = six_letters(alloc);
+    let changed = go(alloc, &mut disk, row.changes) == row.changes.len();
+    let mut left = crash(alloc, disk, row.fates);
+    let torn = changed && holds(alloc, &mut left, row.left);
+    drop(left);
+    torn
 }
 
 #[test]
 fn a_crash_tears_each_change_by_its_fate(rt: HostRuntime) {
     for (number, row) in TORN.iter().enumerate() {
-        assert!(rt; is_torn(rt.alloc(), row), "row {number}");
+        numbered_row_holds(&rt, is_torn(rt.alloc(), row), number);
     }
 }
 
@@ -341,10 +339,18 @@ static LIVES: [&[Step]; 5] = [
     ],
 ];
 
+// How many steps of a life the six letters go.
+fn lived(alloc: Global, steps: &[Step]) -> usize {
+    let mut disk = six_letters(alloc);
+    let gone = go(alloc, &mut disk, steps);
+    drop(disk);
+    gone
+}
+
 #[test]
 fn disks_over_their_lives(rt: HostRuntime) {
     for (number, steps) in LIVES.iter().enumerate() {
-        let gone = go(rt.alloc(), steps);
+        let gone = lived(rt.alloc(), steps);
         assert!(rt; gone == steps.len(), "step {gone} of life {number}");
     }
 }

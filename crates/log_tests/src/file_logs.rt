@@ -1,42 +1,18 @@
 //! Logs in files.
-use crate::disks::holds;
+use crate::disks::keeps;
+use crate::files::{formatted, open, put_line, refusal};
 use crate::folder::Folder;
+use crate::lines::Line;
 use filedisk::FileDisk;
-use gatelog::{Entry, GateLog, Logged};
+use gatelog::{Entry, GateLog};
 use record::Record;
-use std::alloc::Global;
-use units::{Epoch, Fault};
+use units::Fault;
 
 // The header; Opened 1; Opened 2; a closed gate.
 const TWO_OPENINGS: &[u8] = &[
     0x53, 0x50, 0x4e, 0x4c, 0x4f, 0x47, 0x30, 0x31, 0xa5, 0, 0, 0, 9, 1, 0, 0, 0, 0, 0, 0, 0, 1,
     0xa5, 0, 0, 0, 9, 1, 0, 0, 0, 0, 0, 0, 0, 2, 0,
 ];
-
-fn formatted(rt: &HostRuntime, path: &str) -> Option<GateLog<FileDisk>> {
-    GateLog::format(FileDisk::create(rt, path).ok()?).ok()
-}
-
-fn open(rt: &HostRuntime, path: &str) -> Option<(GateLog<FileDisk>, Vec<Entry>)> {
-    GateLog::open(rt.alloc(), FileDisk::open(rt, path).ok()?).ok()
-}
-
-fn spent(logged: Result<Logged, Fault>) -> bool {
-    match logged {
-        Ok(logged) => {
-            let _ = logged.spend();
-            true
-        }
-        Err(_) => false,
-    }
-}
-
-// Whether the opening of an epoch was logged.
-fn put(alloc: Global, log: &mut GateLog<FileDisk>, epoch: u64) -> Option<bool> {
-    let epoch = Epoch::new(epoch)?;
-    let staged = log.stage(alloc, Record::Opened { epoch }).ok()?;
-    Some(spent(log.append(staged)))
-}
 
 // Whether the entries are the openings of the epochs from 1 on, as many.
 fn are_openings(entries: &[Entry], count: usize) -> bool {
@@ -50,45 +26,87 @@ fn are_openings(entries: &[Entry], count: usize) -> bool {
     entries.len() == count
 }
 
-// The log is made, and each later opening finds the records before it and adds one.
-fn goes_on(rt: &HostRuntime, path: &str) -> Option<bool> {
-    let mut log = formatted(rt, path)?;
-    let first = put(rt.alloc(), &mut log, 1)?;
-    let locked_out = open(rt, path).is_none();
-    drop(log);
-    let (mut log, one) = open(rt, path)?;
-    let second = put(rt.alloc(), &mut log, 2)?;
-    drop(log);
-    let (log, two) = open(rt, path)?;
-    let written = holds(rt.alloc(), &mut log.into_disk(), TWO_OPENINGS);
-    Some(first && locked_out && second && written && are_openings(&one, 1) && are_openings(&two, 2))
+type Opened = Option<(GateLog<FileDisk>, Vec<Entry>)>;
+
+fn opened(rt: &HostRuntime, path: &str) -> Opened {
+    let Ok(disk) = FileDisk::open(rt, path) else {
+        return None;
+    };
+    match open(rt.alloc(), disk) {
+        Ok(opened) => Some(opened),
+        Err(_) => None,
+    }
 }
 
-fn goes_on_in_a_folder(rt: &HostRuntime) -> Option<bool> {
-    let folder = Folder::new(rt)?;
-    let path = folder.path(rt.alloc(), "shard-0.log")?;
-    let went = goes_on(rt, path.as_str())?;
-    Some(folder.remove(rt) && went)
+fn is_locked_out(rt: &HostRuntime, path: &str) -> bool {
+    match opened(rt, path) {
+        Some((log, entries)) => {
+            drop(log);
+            drop(entries);
+            false
+        }
+        None => true,
+    }
+}
+
+// The log is made, takes its first record, and is not opened meanwhile.
+fn begins(rt: &HostRuntime, path: &str) -> bool {
+    let Ok(disk) = FileDisk::create(rt, path) else {
+        return false;
+    };
+    let Some(mut log) = formatted(disk) else {
+        return false;
+    };
+    let begun = put_line(rt.alloc(), &mut log, Line::Opened(1)) && is_locked_out(rt, path);
+    drop(log);
+    begun
+}
+
+// It is opened with the first record, and takes a second.
+fn goes_on(rt: &HostRuntime, path: &str) -> bool {
+    let Some((mut log, entries)) = opened(rt, path) else {
+        return false;
+    };
+    let went = are_openings(&entries, 1) && put_line(rt.alloc(), &mut log, Line::Opened(2));
+    drop(entries);
+    drop(log);
+    went
+}
+
+// It is opened with both.
+fn has_both(rt: &HostRuntime, path: &str) -> bool {
+    let Some((log, entries)) = opened(rt, path) else {
+        return false;
+    };
+    drop(log);
+    let both = are_openings(&entries, 2);
+    drop(entries);
+    both
+}
+
+fn is_opened_again(rt: &HostRuntime, path: &str) -> bool {
+    begins(rt, path) && goes_on(rt, path) && has_both(rt, path) && keeps(rt, path, TWO_OPENINGS)
 }
 
 #[test]
 fn a_log_is_opened_again(rt: HostRuntime) {
-    assert!(rt; matches!(goes_on_in_a_folder(&rt), Some(true)));
+    let folder = Folder::new(&rt, &rt);
+    let opened = is_opened_again(&rt, folder.log());
+    folder.remove(&rt, &rt);
+    assert!(rt; opened);
 }
 
-// How a file that is no log is refused.
-fn refusal(rt: &HostRuntime) -> Option<Fault> {
-    let folder = Folder::new(rt)?;
-    let path = folder.path(rt.alloc(), "shard-0.log")?;
-    let empty = FileDisk::create(rt, path.as_str()).ok()?;
-    let fault = match GateLog::open(rt.alloc(), empty) {
-        Ok(_) => None,
-        Err((fault, _)) => Some(fault),
+fn is_no_log(rt: &HostRuntime, path: &str) -> bool {
+    let Ok(empty) = FileDisk::create(rt, path) else {
+        return false;
     };
-    if folder.remove(rt) { fault } else { None }
+    matches!(refusal(rt.alloc(), empty), Some(Fault::NotALog))
 }
 
 #[test]
 fn a_new_file_is_no_log(rt: HostRuntime) {
-    assert!(rt; matches!(refusal(&rt), Some(Fault::NotALog)));
+    let folder = Folder::new(&rt, &rt);
+    let refused = is_no_log(&rt, folder.log());
+    folder.remove(&rt, &rt);
+    assert!(rt; refused);
 }

@@ -1,31 +1,41 @@
 //! What a log determines, and which records may come next.
 use crate::lines::{Line, record_of};
+use crate::tables::row_holds;
 use facts::{Facts, Status};
-use made::{id, shard};
+use made::{id, key, shard};
 use record::{Committed, Prepared};
 use std::alloc::Global;
-use units::{Fault, Stamp};
+use units::{Fault, Install, Stamp};
 
-// Learns a record, where it may come next.
-fn learns(alloc: Global, facts: &mut Facts, line: Line) -> bool {
-    let Some(item) = record_of(alloc, line) else {
-        return false;
-    };
+// Learns a record, where it may come next. Where not, it is refused as damage, handed back, and does not follow.
+fn learn(alloc: Global, facts: &mut Facts, line: Line) -> Option<bool> {
     let Ok(()) = facts.reserve() else {
-        return false;
+        return None;
     };
-    facts.learn(8, item).is_ok()
-}
-
-// What a shard knows after some records.
-fn after(alloc: Global, number: u8, lines: &[Line]) -> Option<Facts> {
-    let mut facts = Facts::new(alloc, shard(number));
-    for line in lines {
-        if !learns(alloc, &mut facts, *line) {
-            return None;
+    let Some(item) = record_of(alloc, line) else {
+        return None;
+    };
+    match facts.learn(64, item) {
+        Ok(()) => Some(true),
+        Err((fault, back)) => {
+            let follows = facts.follows(&back);
+            drop(back);
+            match fault {
+                Fault::Damaged { offset: 64 } if !follows => Some(false),
+                _ => None,
+            }
         }
     }
-    Some(facts)
+}
+
+// Whether each is learnt, or each refused.
+fn all_come(alloc: Global, facts: &mut Facts, lines: &[Line], learnt: bool) -> bool {
+    for line in lines {
+        if learn(alloc, facts, *line) != Some(learnt) {
+            return false;
+        }
+    }
+    true
 }
 
 // How it stands with a transaction: the timestamps of its promise and of its decision, whether it was aborted, its outcome, and
@@ -196,17 +206,24 @@ static DETERMINED: [Determined; 5] = [
 ];
 
 fn promised_at(prepared: Option<&Prepared>) -> Option<u64> {
-    Some(prepared?.at.micros())
+    match prepared {
+        Some(prepared) => Some(prepared.at.micros()),
+        None => None,
+    }
 }
 
 fn decided_at(committed: Option<&Committed>) -> Option<u64> {
-    Some(committed?.at.micros())
+    match committed {
+        Some(committed) => Some(committed.at.micros()),
+        None => None,
+    }
 }
 
 fn ended_at(outcome: Option<Option<Stamp>>) -> Option<Option<u64>> {
-    match outcome? {
-        Some(at) => Some(Some(at.micros())),
-        None => Some(None),
+    match outcome {
+        Some(Some(at)) => Some(Some(at.micros())),
+        Some(None) => Some(None),
+        None => None,
     }
 }
 
@@ -247,13 +264,17 @@ fn are_known(facts: &Facts, rows: &[Known]) -> bool {
     true
 }
 
-fn has_installs(facts: &Facts, rows: &[(u64, u8)]) -> bool {
-    for (install, row) in facts.installs().iter().zip(rows.iter()) {
-        if install.at.micros() != row.0 || install.key.as_bytes() != [row.1].as_slice() {
+fn is_install(install: &Install, row: (u64, u8)) -> bool {
+    install.at.micros() == row.0 && install.key.is(&key(row.1))
+}
+
+fn are_installs(installs: &[Install], rows: &[(u64, u8)]) -> bool {
+    for (install, row) in installs.iter().zip(rows.iter()) {
+        if !is_install(install, *row) {
             return false;
         }
     }
-    facts.installs().len() == rows.len()
+    installs.len() == rows.len()
 }
 
 fn has_ends(facts: &Facts, row: &Determined) -> bool {
@@ -262,20 +283,20 @@ fn has_ends(facts: &Facts, row: &Determined) -> bool {
         && facts.floor().micros() == row.floor
 }
 
-fn determines(alloc: Global, row: &Determined) -> Option<bool> {
-    let facts = after(alloc, row.shard, row.lines)?;
-    let ends = has_ends(&facts, row) && has_installs(&facts, row.installs);
-    Some(ends && are_known(&facts, row.known))
+fn determines(alloc: Global, row: &Determined) -> bool {
+    let mut facts = Facts::new(alloc, shard(row.shard));
+    let determined = all_come(alloc, &mut facts, row.lines, true)
+        && has_ends(&facts, row)
+        && are_installs(facts.installs(), row.installs)
+        && are_known(&facts, row.known);
+    drop(facts);
+    determined
 }
 
 #[test]
 fn what_logs_determine(rt: HostRuntime) {
     for row in &DETERMINED {
-        assert!(rt;
-            matches!(determines(rt.alloc(), row), Some(true)),
-            "{}",
-            row.what
-        );
+        row_holds(&rt, determines(rt.alloc(), row), row.what);
     }
 }
 
@@ -366,39 +387,18 @@ static DAMAGED: [Damaged; 9] = [
     },
 ];
 
-// The record may not come next, and is handed back.
-fn refuses(alloc: Global, facts: &mut Facts, last: Line) -> bool {
-    let Some(item) = record_of(alloc, last) else {
-        return false;
-    };
-    let Ok(()) = facts.reserve() else {
-        return false;
-    };
-    match facts.learn(64, item) {
-        Ok(()) => false,
-        Err((fault, back)) => {
-            matches!(fault, Fault::Damaged { offset: 64 }) && !facts.follows(&back)
-        }
-    }
-}
-
-// The last record may not come next; all before it may.
-fn is_damaged(alloc: Global, row: &Damaged, last: Line) -> bool {
-    match after(alloc, row.shard, row.lines) {
-        Some(mut facts) => refuses(alloc, &mut facts, last),
-        None => false,
-    }
+// None of the last records may come next; all before them may.
+fn are_damaged(alloc: Global, row: &Damaged) -> bool {
+    let mut facts = Facts::new(alloc, shard(row.shard));
+    let damaged = all_come(alloc, &mut facts, row.lines, true)
+        && all_come(alloc, &mut facts, row.last, false);
+    drop(facts);
+    damaged
 }
 
 #[test]
 fn records_that_may_not_come(rt: HostRuntime) {
     for row in &DAMAGED {
-        for (number, last) in row.last.iter().enumerate() {
-            assert!(rt;
-                is_damaged(rt.alloc(), row, *last),
-                "{number} behind {}",
-                row.what
-            );
-        }
+        row_holds(&rt, are_damaged(rt.alloc(), row), row.what);
     }
 }

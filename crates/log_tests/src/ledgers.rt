@@ -2,12 +2,12 @@
 ghost use Rattle.std.specs.Prelude.{◌≡◌, None};
 ghost use Rattle.memory.specs.Ledger.{outcome_stamp};
 
-use crate::lines::{Line, byte, record_of};
+use crate::lines::{byte, promise};
 use made::{id, key, shard, stamp};
 use memory::{Ended, Ledger};
 use record::Record;
 use std::alloc::Global;
-use units::{TxnId, Writes};
+use units::{Epoch, TxnId, Writes};
 
 // Learns a record that installs nothing, where it may come next.
 #[tactic(auto, using(memory::proofs::Learns::installs_nothing))]
@@ -15,22 +15,25 @@ fn learn(alloc: Global, ledger: &mut Ledger, item: Record) -> bool
     requires { outcome_stamp item ≡ None }
 {
     let Ok(()) = ledger.reserve() else {
+        drop(item);
         return false;
     };
-    if !ledger.follows(&item) {
-        return false;
+    let follows = ledger.follows(&item);
+    if follows {
+        ledger.learn(item, Writes::none(alloc));
+    } else {
+        drop(item);
     }
-    ledger.learn(item, Writes::none(alloc));
-    true
+    follows
 }
 
 // Learns that transaction 1 committed at 120, where that may come next.
 fn settle(alloc: Global, ledger: &mut Ledger) -> bool {
     let (txn, at) = (id(1), stamp(120));
-    let Ok(copied) = ledger.copy_of_writes(alloc, txn) else {
+    let Ok(()) = ledger.reserve() else {
         return false;
     };
-    let Ok(()) = ledger.reserve() else {
+    let Ok(copied) = ledger.copy_of_writes(alloc, txn) else {
         return false;
     };
     let item = Record::Outcome {
@@ -40,32 +43,26 @@ fn settle(alloc: Global, ledger: &mut Ledger) -> bool {
     let fits = ledger.follows(&item) && ledger.takes(&copied, at);
     if fits {
         ledger.learn(item, copied);
+    } else {
+        drop(item);
+        drop(copied);
     }
     fits
 }
 
-// Learns a record that is no outcome.
-fn learn_line(alloc: Global, ledger: &mut Ledger, line: Line) -> bool {
-    let Some(item) = record_of(alloc, line) else {
-        return false;
-    };
-    match item {
-        Record::Outcome { .. } => false,
-        Record::Opened { epoch } => learn(alloc, ledger, Record::Opened { epoch }),
-        Record::Ceiling { at } => learn(alloc, ledger, Record::Ceiling { at }),
-        Record::Prepare(promise) => learn(alloc, ledger, Record::Prepare(promise)),
-        Record::Commit(commit) => learn(alloc, ledger, Record::Commit(commit)),
-        Record::Abort { txn } => learn(alloc, ledger, Record::Abort { txn }),
+fn open(alloc: Global, ledger: &mut Ledger) -> bool {
+    match Epoch::new(1) {
+        Some(epoch) => learn(alloc, ledger, Record::Opened { epoch }),
+        None => false,
     }
 }
 
-// The ledger of shard 1, opened once, with one promise that was installed.
-fn settled(alloc: Global) -> Option<Ledger> {
-    let mut ledger = Ledger::new(alloc, shard(1));
-    let learnt = learn_line(alloc, &mut ledger, Line::Opened(1))
-        && learn_line(alloc, &mut ledger, Line::Prepare(1, 111, b'a', 0))
-        && settle(alloc, &mut ledger);
-    if learnt { Some(ledger) } else { None }
+// Transaction 1 promises at 111 to write to `a`.
+fn prepare(alloc: Global, ledger: &mut Ledger) -> bool {
+    match promise(alloc, 1, 111, key(b'a'), 0) {
+        Some(promise) => learn(alloc, ledger, Record::Prepare(promise)),
+        None => false,
+    }
 }
 
 // The one byte that the key `a` holds at a timestamp.
@@ -86,14 +83,21 @@ fn has_ends(ledger: &Ledger) -> bool {
         && ledger.shard().number() == 1
 }
 
-fn is_installed(alloc: Global) -> Option<bool> {
-    let ledger = settled(alloc)?;
-    Some(holds_its_write(&ledger) && has_ends(&ledger))
+// Shard 1 is opened once, and its one promise is settled.
+fn is_installed(alloc: Global) -> bool {
+    let mut ledger = Ledger::new(alloc, shard(1));
+    let installed = open(alloc, &mut ledger)
+        && prepare(alloc, &mut ledger)
+        && settle(alloc, &mut ledger)
+        && holds_its_write(&ledger)
+        && has_ends(&ledger);
+    drop(ledger);
+    installed
 }
 
 #[test]
 fn a_promise_is_installed(rt: HostRuntime) {
-    assert!(rt; matches!(is_installed(rt.alloc()), Some(true)));
+    assert!(rt; is_installed(rt.alloc()));
 }
 
 static ADDED: [u16; 7] = [5, 2, 9, 2, 7, 5, 1];
@@ -141,11 +145,18 @@ fn has_of_another_run(ended: &Ended) -> bool {
     }
 }
 
+fn are_added_once(ended: &mut Ended) -> bool {
+    !ended.has(id(1))
+        && adds(ended, &ADDED)
+        && have_numbers(ended.as_slice(), &KEPT)
+        && !has_any(ended, &ABSENT)
+        && !has_of_another_run(ended)
+}
+
 #[test]
 fn ids_are_added_once(rt: HostRuntime) {
     let mut ended = Ended::none(rt.alloc());
-    assert!(rt; !ended.has(id(1)));
-    assert!(rt; adds(&mut ended, &ADDED));
-    assert!(rt; have_numbers(ended.as_slice(), &KEPT));
-    assert!(rt; !has_any(&ended, &ABSENT) && !has_of_another_run(&ended));
+    let added = are_added_once(&mut ended);
+    drop(ended);
+    assert!(rt; added);
 }

@@ -1,9 +1,11 @@
 //! Logs that are opened again: what they leave, and which are refused.
-use crate::files::{entries_in, log_of, put};
+use crate::files::{entries_in, entries_of, log_of, put};
 use crate::lines::{Line, promise};
+use crate::tables::row_holds;
 use gatelog::{Entry, GateLog};
 use made::{key, shard};
 use memory::State;
+use record::Record;
 use recovery::rebuild;
 use simdisk::SimDisk;
 use std::alloc::Global;
@@ -11,7 +13,9 @@ use units::{Book, Fault, Key, Setup, Splits, Stamp, Stride, TxnId};
 
 // A shard of two, which are split at `m`.
 fn setup(alloc: Global, number: u8) -> Option<Setup> {
-    let stride = Stride::new(0)?;
+    let Some(stride) = Stride::new(0) else {
+        return None;
+    };
     let Ok(splits) = Splits::new(alloc, &[key(b'm')]) else {
         return None;
     };
@@ -65,9 +69,15 @@ fn seen(state: &State) -> Shown {
 type Rebuilt = Result<Option<Shown>, Fault>;
 
 // What these entries leave of a shard, or why they are refused.
-fn left(alloc: Global, number: u8, entries: &[Entry]) -> Rebuilt {
-    let setup = setup(alloc, number).ok_or(Fault::Memory)?;
-    match rebuild(alloc, entries, &setup) {
+fn left(alloc: Global, number: u8, entries: Vec<Entry>) -> Rebuilt {
+    let Some(setup) = setup(alloc, number) else {
+        drop(entries);
+        return Err(Fault::Memory);
+    };
+    let rebuilt = rebuild(alloc, &entries, &setup);
+    drop(entries);
+    drop(setup);
+    match rebuilt {
         Ok(Some(state)) => {
             let left = seen(&state);
             state.stop();
@@ -198,15 +208,16 @@ static REOPENED: [Reopened; 11] = [
 ];
 
 fn what_is_left(alloc: Global, row: &Reopened) -> Rebuilt {
-    let log = log_of(alloc, row.lines).ok_or(Fault::Memory)?;
-    let entries = entries_in(alloc, log.into_disk()).ok_or(Fault::Memory)?;
-    left(alloc, row.shard, &entries)
+    match entries_of(alloc, row.lines) {
+        Some(entries) => left(alloc, row.shard, entries),
+        None => Err(Fault::Memory),
+    }
 }
 
 #[test]
 fn logs_that_are_opened_again(rt: HostRuntime) {
     for row in &REOPENED {
-        assert!(rt; what_is_left(rt.alloc(), row) == row.left, "{}", row.what);
+        row_holds(&rt, what_is_left(rt.alloc(), row) == row.left, row.what);
     }
 }
 
@@ -216,25 +227,38 @@ fn put_promise(alloc: Global, log: &mut GateLog<SimDisk>, number: u16) -> bool {
         return false;
     };
     match promise(alloc, number, 200, key, 0) {
-        Some(item) => put(alloc, log, item),
+        Some(promise) => put(alloc, log, Record::Prepare(promise)),
         None => false,
     }
 }
 
-// The entries of a log with so many promises.
-fn crowd(alloc: Global, count: u16) -> Option<Vec<Entry>> {
-    let mut log = log_of(alloc, &[Line::Opened(1)])?;
+fn put_promises(alloc: Global, log: &mut GateLog<SimDisk>, count: u16) -> bool {
     for number in 0..count {
-        if !put_promise(alloc, &mut log, number) {
-            return None;
+        if !put_promise(alloc, log, number) {
+            return false;
         }
     }
-    entries_in(alloc, log.into_disk())
+    true
+}
+
+// The entries of a log with so many promises.
+fn crowd(alloc: Global, count: u16) -> Option<Vec<Entry>> {
+    let Some(mut log) = log_of(alloc, &[Line::Opened(1)]) else {
+        return None;
+    };
+    if put_promises(alloc, &mut log, count) {
+        entries_in(alloc, log.into_disk())
+    } else {
+        drop(log);
+        None
+    }
 }
 
 fn crowded(alloc: Global, count: u16) -> Rebuilt {
-    let entries = crowd(alloc, count).ok_or(Fault::Memory)?;
-    left(alloc, 1, &entries)
+    match crowd(alloc, count) {
+        Some(entries) => left(alloc, 1, entries),
+        None => Err(Fault::Memory),
+    }
 }
 
 // 1,024 rows may stand, and no more.

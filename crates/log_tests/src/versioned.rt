@@ -1,7 +1,8 @@
 //! The versions of keys.
-ghost use Rattle.std.specs.Prelude.{◌<◌, ◌≤◌, ◌^◌};
+ghost use Rattle.std.specs.Prelude.{◌≡◌, ◌<◌, ◌≤◌, ◌^◌, []};
 
 use crate::lines::byte;
+use crate::tables::row_holds;
 use counts::Count;
 use made::{key, stamp};
 use std::alloc::Global;
@@ -17,35 +18,44 @@ struct Version {
 }
 
 fn value_of(alloc: Global, byte: Option<u8>) -> Option<Option<Value>> {
-    match byte {
-        Some(byte) => Some(Some(Value::new(alloc, &[byte]).ok()?)),
-        None => Some(None),
+    let Some(byte) = byte else {
+        return Some(None);
+    };
+    match Value::new(alloc, &[byte]) {
+        Ok(value) => Some(Some(value)),
+        Err(_) => None,
     }
 }
 
-// Installs the version, where its key takes it.
-fn install(alloc: Global, versions: &mut Versions, row: &Version) -> bool {
-    let Some(value) = value_of(alloc, row.value) else {
-        return false;
-    };
+// Installs the version where its key takes it, and says whether it does.
+fn install(alloc: Global, versions: &mut Versions, new: &Plain) -> Option<bool> {
     let Ok(()) = versions.reserve(1) else {
-        return false;
+        return None;
     };
-    let (key, at) = (key(row.key), stamp(row.at));
-    if versions.takes(&key, at) {
-        versions.install(key, at, value);
+    let value = value_of(alloc, new.value)?;
+    let at = stamp(new.at);
+    let takes = versions.takes(&new.key, at);
+    if takes {
+        versions.install(new.key, at, value);
+    } else {
+        drop(value);
     }
-    true
+    Some(takes)
 }
 
-fn installed(alloc: Global, rows: &[Version]) -> Option<Versions> {
-    let mut versions = Versions::none(alloc);
+// Installs each that its key takes.
+fn install_rows(alloc: Global, versions: &mut Versions, rows: &[Version]) -> bool {
     for row in rows {
-        if !install(alloc, &mut versions, row) {
-            return None;
+        let new = Plain {
+            key: key(row.key),
+            at: row.at,
+            value: row.value,
+        };
+        if install(alloc, versions, &new).is_none() {
+            return false;
         }
     }
-    Some(versions)
+    true
 }
 
 // What is found of a key at a timestamp, or of all where there is none.
@@ -173,19 +183,18 @@ static LOOKED: [Looked; 2] = [
     },
 ];
 
-fn shows(alloc: Global, row: &Looked) -> Option<bool> {
-    let versions = installed(alloc, row.versions)?;
-    Some(all_found(&versions, row.lookups))
+fn shows(alloc: Global, row: &Looked) -> bool {
+    let mut versions = Versions::none(alloc);
+    let shown = install_rows(alloc, &mut versions, row.versions)
+        && all_found(&versions, row.lookups);
+    drop(versions);
+    shown
 }
 
 #[test]
 fn values_at_timestamps(rt: HostRuntime) {
     for row in &LOOKED {
-        assert!(rt;
-            matches!(shows(rt.alloc(), row), Some(true)),
-            "{}",
-            row.what
-        );
+        row_holds(&rt, shows(rt.alloc(), row), row.what);
     }
 }
 
@@ -282,42 +291,45 @@ fn are_places(versions: &Versions, rows: &[Place]) -> bool {
     true
 }
 
-fn is_ordered(alloc: Global) -> Option<bool> {
-    let versions = installed(alloc, &UNORDERED)?;
-    Some(are_places(&versions, &PLACES))
+// There is no place before a version is installed.
+fn is_ordered(alloc: Global) -> bool {
+    let mut versions = Versions::none(alloc);
+    let ordered = is_place(&versions, &NO_PLACE)
+        && install_rows(alloc, &mut versions, &UNORDERED)
+        && are_places(&versions, &PLACES);
+    drop(versions);
+    ordered
 }
 
 #[test]
 fn in_order_by_key_and_timestamp(rt: HostRuntime) {
-    assert!(rt; matches!(is_ordered(rt.alloc()), Some(true)));
-    assert!(rt; is_place(&Versions::none(rt.alloc()), &NO_PLACE));
+    assert!(rt; is_ordered(rt.alloc()));
 }
 
-// `1` is written to `a` and `z` is erased, both at 200.
-fn written(alloc: Global) -> Option<Versions> {
-    let value = Some(Value::new(alloc, b"1").ok()?);
-    let mut list = Vec::new(alloc);
-    let Ok(()) = list.push(Write {
+// The value is written to `a` and `z` is erased, both at 200.
+fn install_two(alloc: Global, versions: &mut Versions, value: Value) -> bool
+    requires none { versions.old.installs ≡ [] }
+{
+    let written = Write {
         key: key(b'a'),
-        value,
-    }) else {
-        return None;
+        value: Some(value),
     };
-    let Ok(()) = list.push(Write {
+    let erased = Write {
         key: key(b'z'),
         value: None,
-    }) else {
-        return None;
+    };
+    let Ok(list) = vec![in alloc; written, erased] else {
+        return false;
     };
     let Ok(writes) = Writes::from_vec(list) else {
-        return None;
+        return false;
     };
-    let mut versions = Versions::none(alloc);
     let Ok(()) = versions.reserve(2) else {
-        return None;
+        drop(writes);
+        return false;
     };
     versions.install_all(writes, stamp(200));
-    Some(versions)
+    true
 }
 
 static WRITTEN: [Lookup; 3] = [
@@ -345,14 +357,21 @@ static SECOND: Place = Place {
     probes: 2,
 };
 
-fn shows_both(alloc: Global) -> Option<bool> {
-    let versions = written(alloc)?;
-    Some(all_found(&versions, &WRITTEN) && is_place(&versions, &SECOND))
+fn shows_both(alloc: Global) -> bool {
+    let Ok(value) = Value::new(alloc, b"1") else {
+        return false;
+    };
+    let mut versions = Versions::none(alloc);
+    let shown = install_two(alloc, &mut versions, value)
+        && all_found(&versions, &WRITTEN)
+        && is_place(&versions, &SECOND);
+    drop(versions);
+    shown
 }
 
 #[test]
 fn writes_at_one_timestamp(rt: HostRuntime) {
-    assert!(rt; matches!(shows_both(rt.alloc()), Some(true)));
+    assert!(rt; shows_both(rt.alloc()));
 }
 
 // A version in a plain list of all, ascending by key and timestamp.
@@ -434,9 +453,11 @@ impl Draws {
 
 // How many are not after the key and timestamp, and the value by then.
 fn plainly(all: &[Plain], key: &Key, at: u64) -> (usize, Option<u8>) {
-    let count = all.iter().filter(|one| one.is_not_after(key, at)).count();
-    let mut value = None;
+    let (mut count, mut value) = (0usize, None);
     for one in all {
+        if one.is_not_after(key, at) {
+            count = count.saturating_add(1);
+        }
         if one.is_by(key, at) {
             value = one.value;
         }
@@ -444,75 +465,105 @@ fn plainly(all: &[Plain], key: &Key, at: u64) -> (usize, Option<u8>) {
     (count, value)
 }
 
-// Both take the version, or neither.
-fn take_one(
-    alloc: Global,
-    versions: &mut Versions,
-    all: &mut Vec<Plain>,
-    new: &Plain,
-) -> Option<bool> {
-    let is_taken = !all
-        .iter()
-        .any(|one| one.is_by(&new.key, Stamp::MAX) && new.at <= one.at);
-    let value = value_of(alloc, new.value)?;
-    versions.reserve(1).ok()?;
-    let (key, at) = (new.key, stamp(new.at));
-    let takes = versions.takes(&key, at);
-    if takes {
-        let (count, _) = plainly(all, &key, new.at);
-        all.insert(count.min(all.len()), *new).ok()?;
-        versions.install(key, at, value);
+fn is_above_all(all: &[Plain], new: &Plain) -> bool {
+    for one in all {
+        if one.is_by(&new.key, Stamp::MAX) && new.at <= one.at {
+            return false;
+        }
     }
-    Some(takes == is_taken)
+    true
 }
 
-fn agree_at(versions: &Versions, all: &[Plain], sought: &Plain) -> bool {
-    let (key, at) = (&sought.key, stamp(sought.at));
-    let (count, value) = plainly(all, key, sought.at);
-    let (_, latest) = plainly(all, key, Stamp::MAX);
-    let (found, probes) = versions.find(key, at, &mut Count::none());
-    // The number's binary digits, or one less.
-    let digits = usize::BITS - all.len().leading_zeros();
-    found == count
-        && (probes == digits || probes.saturating_add(1) == digits)
-        && byte(versions.at(key, at)) == value
-        && byte(versions.latest(key)) == latest
+fn insert(all: &mut Vec<Plain>, new: &Plain) -> bool {
+    let (count, _) = plainly(all, &new.key, new.at);
+    all.insert(count.min(all.len()), *new).is_ok()
 }
 
-// So many drawn versions; at each so many-th turn something drawn is looked for.
-fn agree_drawn(alloc: Global, letters: &[usize], turns: u64, apart: u64) -> Option<bool>
+// Versions, a plain list of them, and what is drawn.
+#[derive(Drop)]
+struct Compared {
+    versions: Versions,
+    all: Vec<Plain>,
+    draws: Draws,
+}
+
+impl Compared {
+    // Both take the version, or neither.
+    fn take(&mut self, alloc: Global, new: &Plain) -> bool {
+        let Some(takes) = install(alloc, &mut self.versions, new) else {
+            return false;
+        };
+        takes == is_above_all(&self.all, new) && (!takes || insert(&mut self.all, new))
+    }
+
+    fn agree_at(&self, sought: &Plain) -> bool {
+        let (key, at) = (&sought.key, stamp(sought.at));
+        let (count, value) = plainly(&self.all, key, sought.at);
+        let (_, latest) = plainly(&self.all, key, Stamp::MAX);
+        let (found, probes) = self.versions.find(key, at, &mut Count::none());
+        // The number's binary digits, or one less.
+        let digits = usize::BITS - self.all.len().leading_zeros();
+        found == count
+            && (probes == digits || probes.saturating_add(1) == digits)
+            && byte(self.versions.at(key, at)) == value
+            && byte(self.versions.latest(key)) == latest
+    }
+
+    // One drawn version; at each so many-th turn it is looked for, and another drawn one.
+    fn turn(&mut self, alloc: Global, letters: &[usize], turn: u64, apart: u64) -> bool
+        requires few { turn < 2 ^ 32 }
+        requires apart { 0 < apart }
+    {
+        let Some(new) = self.draws.version(letters, turn) else {
+            return false;
+        };
+        let before = self.draws.below(turn + 1);
+        let Some(sought) = self.draws.version(&PREFIXES, before) else {
+            return false;
+        };
+        self.take(alloc, &new)
+            && (turn % apart != 0 || (self.agree_at(&new) && self.agree_at(&sought)))
+    }
+
+    fn turns(&mut self, alloc: Global, letters: &[usize], turns: u64, apart: u64) -> bool
+        requires few { turns ≤ 2 ^ 32 }
+        requires apart { 0 < apart }
+    {
+        for turn in 0..turns {
+            if !self.turn(alloc, letters, turn, apart) {
+                return false;
+            }
+        }
+        true
+    }
+}
+
+// Lengths of what keys begin with.
+static PREFIXES: [usize; 5] = [0, 3, 8, 9, 20];
+
+fn agree_drawn(alloc: Global, letters: &[usize], turns: u64, apart: u64) -> bool
     requires few { turns ≤ 2 ^ 32 }
     requires apart { 0 < apart }
 {
-    let mut versions = Versions::none(alloc);
-    let mut all = Vec::new(alloc);
-    let mut draws = Draws { state: turns };
-    for turn in 0..turns {
-        let new = draws.version(letters, turn)?;
-        let before = draws.below(turn + 1);
-        let sought = draws.version(&[0, 3, 8, 9, 20], before)?;
-        if !take_one(alloc, &mut versions, &mut all, &new)? {
-            return Some(false);
-        }
-        if turn % apart == 0
-            && !(agree_at(&versions, &all, &new) && agree_at(&versions, &all, &sought))
-        {
-            return Some(false);
-        }
-    }
-    Some(true)
+    let mut compared = Compared {
+        versions: Versions::none(alloc),
+        all: Vec::new(alloc),
+        draws: Draws { state: turns },
+    };
+    let agreed = compared.turns(alloc, letters, turns, apart);
+    drop(compared);
+    agreed
 }
 
 #[test]
 fn drawn_versions_behind_one_prefix(rt: HostRuntime) {
-    for letters in [0, 3, 8, 9, 20] {
-        let agreed = agree_drawn(rt.alloc(), &[letters], 600, 4);
-        assert!(rt; matches!(agreed, Some(true)), "{letters} letters");
+    for letters in &PREFIXES {
+        let agreed = agree_drawn(rt.alloc(), &[*letters], 600, 4);
+        assert!(rt; agreed, "{letters} letters");
     }
 }
 
 #[test]
 fn drawn_versions_behind_several_prefixes(rt: HostRuntime) {
-    let agreed = agree_drawn(rt.alloc(), &[0, 3, 8, 9, 20], 3_000, 32);
-    assert!(rt; matches!(agreed, Some(true)));
+    assert!(rt; agree_drawn(rt.alloc(), &PREFIXES, 3_000, 32));
 }
