@@ -1,5 +1,5 @@
 //! Disks in memory: which calls fail, what is read, and what a crash leaves.
-use crate::tables::{numbered_row_holds, row_holds};
+use crate::tables::{holds_at, row_holds};
 use disk::{Disk, FailurePlan, Fate};
 use simdisk::{Choice, SimDisk};
 use std::alloc::Global;
@@ -48,17 +48,14 @@ static FAILING: [Failing; 3] = [
     },
 ];
 
-fn fails(plan: &mut FailurePlan, call: Call) -> bool {
-    match call {
-        Call::Write => plan.write(),
-        Call::Other => plan.call(),
-    }
-}
-
 fn fails_so(row: &Failing) -> bool {
     let mut plan = row.plan;
     for (call, wanted) in row.calls {
-        if fails(&mut plan, *call) != *wanted {
+        let fails = match call {
+            Call::Write => plan.write(),
+            Call::Other => plan.call(),
+        };
+        if fails != *wanted {
             return false;
         }
     }
@@ -112,58 +109,56 @@ fn cut(disk: &mut SimDisk, len: u64) -> Result<(), Fault> {
     disk.cut(len)
 }
 
-/// Whether these are all the bytes that are read of a disk.
-pub fn holds<D: Disk>(alloc: Global, disk: &mut D, bytes: &[u8]) -> bool {
+/// Whether these are all the bytes that are read of a disk: where not, there is no room for them.
+pub fn read_back<D: Disk>(alloc: Global, disk: &mut D, bytes: &[u8]) -> Result<(), Fault> {
     let Ok(mut found) = Vec::from_elem(alloc, 0u8, disk.len() as usize) else {
-        return false;
+        return Err(Fault::Memory);
     };
-    let same = disk.read_at(0, &mut found).is_ok() && found.as_slice() == bytes;
+    let read = disk.read_at(0, &mut found);
+    let same = found.as_slice() == bytes;
     drop(found);
-    same
+    if same { read } else { Err(Fault::Room) }
 }
 
-/// Whether the device failed.
-pub fn has_failed(answer: Result<(), Fault>) -> bool {
-    matches!(answer, Err(Fault::Device))
+// What the call of a step answers.
+fn called(alloc: Global, disk: &mut SimDisk, step: Step) -> Result<(), Fault> {
+    match step {
+        Step::Write(at, bytes) | Step::WriteFails(at, bytes) => write(disk, at, bytes),
+        Step::Cut(len) | Step::CutFails(len) => cut(disk, len),
+        Step::Sync | Step::SyncFails => disk.sync(),
+        Step::Reserve(bytes) => disk.reserve(bytes),
+        Step::FailNext(calls) => {
+            disk.fail_next(calls);
+            Ok(())
+        }
+        Step::Arm(calls) => {
+            disk.arm(calls);
+            Ok(())
+        }
+        Step::Crash(fates) => {
+            crash(alloc, disk, fates);
+            Ok(())
+        }
+        Step::Holds(bytes) => read_back(alloc, disk, bytes),
+    }
 }
 
 // Whether the step went as it says.
 fn goes_well(alloc: Global, disk: &mut SimDisk, step: Step) -> bool {
+    let answer = called(alloc, disk, step);
     match step {
-        Step::Write(at, bytes) => write(disk, at, bytes).is_ok(),
-        Step::Cut(len) => cut(disk, len).is_ok(),
-        Step::Sync => disk.sync().is_ok(),
-        Step::WriteFails(at, bytes) => has_failed(write(disk, at, bytes)),
-        Step::CutFails(len) => has_failed(cut(disk, len)),
-        Step::SyncFails => has_failed(disk.sync()),
-        Step::Reserve(bytes) => disk.reserve(bytes).is_ok(),
-        Step::Holds(bytes) => holds(alloc, disk, bytes),
-        Step::FailNext(calls) => {
-            disk.fail_next(calls);
-            true
-        }
-        Step::Arm(calls) => {
-            disk.arm(calls);
-            true
-        }
-        Step::Crash(fates) => {
-            let torn = mem::replace(disk, SimDisk::new(alloc));
-            *disk = crash(alloc, torn, fates);
-            true
-        }
+        Step::WriteFails(..) | Step::CutFails(..) | Step::SyncFails => answer == Err(Fault::Device),
+        _ => answer.is_ok(),
     }
 }
 
-// How many steps go as they say, until one does not.
-fn go(alloc: Global, disk: &mut SimDisk, steps: &[Step]) -> usize {
-    let mut gone = 0usize;
+fn go_well(alloc: Global, disk: &mut SimDisk, steps: &[Step]) -> bool {
     for step in steps {
         if !goes_well(alloc, disk, *step) {
-            return gone;
+            return false;
         }
-        gone = gone.saturating_add(1);
     }
-    gone
+    true
 }
 
 /// A disk may go to another thread.
@@ -171,23 +166,28 @@ pub fn sent<T: Send>(value: T) -> T {
     value
 }
 
-// A file of six letters, which is synced then.
-fn six_letters(alloc: Global) -> SimDisk {
-    let mut disk = sent(SimDisk::new(alloc));
-    let _ = disk.write_at(0, b"abcdef");
-    let _ = disk.sync();
-    disk
-}
-
-/// What a crash leaves by these fates. Without memory every change is lost.
-pub fn crash(alloc: Global, disk: SimDisk, fates: &[Fate]) -> SimDisk {
+/// Leaves what a crash leaves by these fates. Without memory every change is lost.
+pub fn crash(alloc: Global, disk: &mut SimDisk, fates: &[Fate]) {
     let choice = match fates.to_vec(alloc) {
         Ok(fates) => Choice::from_vec(fates),
         Err(_) => Choice::none(alloc),
     };
-    let left = disk.crash(&choice);
+    let torn = mem::replace(disk, SimDisk::new(alloc));
+    drop(mem::replace(disk, torn.crash(&choice)));
     drop(choice);
-    left
+}
+
+// A synced file of six letters.
+const SIX_LETTERS: &[Step] = &[Step::Write(0, b"abcdef"), Step::Sync];
+
+// The six letters go through steps, and then through others.
+fn lives(alloc: Global, steps: &[Step], others: &[Step]) -> bool {
+    let mut disk = sent(SimDisk::new(alloc));
+    let lived = go_well(alloc, &mut disk, SIX_LETTERS)
+        && go_well(alloc, &mut disk, steps)
+        && go_well(alloc, &mut disk, others);
+    drop(disk);
+    lived
 }
 
 // What a crash leaves of these changes of the six letters.
@@ -261,19 +261,11 @@ static TORN: [Torn; 10] = [
     },
 ];
 
-fn is_torn(alloc: Global, row: &Torn) -> bool {
-    let mut disk = six_letters(alloc);
-    let changed = go(alloc, &mut disk, row.changes) == row.changes.len();
-    let mut left = crash(alloc, disk, row.fates);
-    let torn = changed && holds(alloc, &mut left, row.left);
-    drop(left);
-    torn
-}
-
 #[test]
 fn a_crash_tears_each_change_by_its_fate(rt: HostRuntime) {
     for (number, row) in TORN.iter().enumerate() {
-        numbered_row_holds(&rt, is_torn(rt.alloc(), row), number);
+        let crash = [Step::Crash(row.fates), Step::Holds(row.left)];
+        holds_at(&rt, lives(rt.alloc(), row.changes, &crash), number);
     }
 }
 
@@ -339,18 +331,9 @@ static LIVES: [&[Step]; 5] = [
     ],
 ];
 
-// How many steps of a life the six letters go.
-fn lived(alloc: Global, steps: &[Step]) -> usize {
-    let mut disk = six_letters(alloc);
-    let gone = go(alloc, &mut disk, steps);
-    drop(disk);
-    gone
-}
-
 #[test]
 fn disks_over_their_lives(rt: HostRuntime) {
     for (number, steps) in LIVES.iter().enumerate() {
-        let gone = lived(rt.alloc(), steps);
-        assert!(rt; gone == steps.len(), "step {gone} of life {number}");
+        holds_at(&rt, lives(rt.alloc(), steps, &[]), number);
     }
 }

@@ -1,5 +1,5 @@
 //! Disks over files.
-use crate::devices::{has_failed, holds, sent};
+use crate::devices::{read_back, sent};
 use crate::folder::Folder;
 use crate::tables::row_holds;
 use disk::Disk;
@@ -19,7 +19,7 @@ enum There {
 }
 
 #[derive(Clone, Copy)]
-enum Call {
+pub enum Call {
     Create,
     Open,
 }
@@ -92,8 +92,8 @@ fn is_put(rt: &HostRuntime, path: &str, there: There) -> bool {
     }
 }
 
-// The length of the file that is taken, or how it is refused.
-fn answer(rt: &HostRuntime, path: &str, call: Call) -> Result<u64, Fault> {
+/// The length of the file that is taken, or how it is refused.
+pub fn answer(rt: &HostRuntime, path: &str, call: Call) -> Result<u64, Fault> {
     let taken = match call {
         Call::Create => FileDisk::create(rt, path),
         Call::Open => FileDisk::open(rt, path),
@@ -108,37 +108,26 @@ fn answer(rt: &HostRuntime, path: &str, call: Call) -> Result<u64, Fault> {
     }
 }
 
-fn is_answered(rt: &HostRuntime, path: &str, row: &Asked) -> bool {
-    answer(rt, path, row.call) == row.wanted
-}
-
-fn is_answered_while_held(rt: &HostRuntime, path: &str, row: &Asked) -> bool {
-    let Ok(held) = FileDisk::open(rt, path) else {
-        return false;
-    };
-    let answered = is_answered(rt, path, row);
-    drop(held);
-    answered
-}
-
 // The call is answered so at a path where nothing is yet.
-fn goes_so(rt: &HostRuntime, path: &str, row: &Asked) -> bool {
+fn is_answered_so(rt: &HostRuntime, path: &str, row: &Asked) -> bool {
     if !is_put(rt, path, row.there) {
         return false;
     }
-    match row.there {
-        There::Held => is_answered_while_held(rt, path, row),
-        _ => is_answered(rt, path, row),
-    }
+    let held = match row.there {
+        There::Held => FileDisk::open(rt, path).ok(),
+        _ => None,
+    };
+    let answer = answer(rt, path, row.call);
+    drop(held);
+    answer == row.wanted
 }
 
 #[test]
 fn files_that_are_there_or_not(rt: HostRuntime) {
     for row in &ASKED {
         let folder = Folder::new(&rt, &rt);
-        let so = goes_so(&rt, folder.log(), row);
-        folder.remove(&rt, &rt);
-        row_holds(&rt, so, row.what);
+        let so = is_answered_so(&rt, folder.log(), row);
+        row_holds(&rt, folder.remove(&rt) && so, row.what);
     }
 }
 
@@ -187,8 +176,7 @@ fn paths_of_new_files(rt: HostRuntime) {
     for row in &NAMED {
         let folder = Folder::new(&rt, &rt);
         let so = is_made_so(&rt, folder.path(), row);
-        folder.remove(&rt, &rt);
-        row_holds(&rt, so, row.path);
+        row_holds(&rt, folder.remove(&rt) && so, row.path);
     }
 }
 
@@ -200,7 +188,7 @@ enum Step {
     Sync,
     Reserve(u64),
     Arm(Option<u64>),
-    // The system refuses.
+    // The system refuses. A read is of at most 4 bytes.
     ReadFails(u64, usize),
     WriteFails(u64, &'static [u8]),
     CutFails(u64),
@@ -266,29 +254,31 @@ static RUNS: [Run; 4] = [
     },
 ];
 
-fn read_fails(alloc: Global, disk: &mut FileDisk, at: u64, count: usize) -> bool {
-    let Ok(mut bytes) = Vec::from_elem(alloc, 0, count) else {
-        return false;
-    };
-    let failed = has_failed(disk.read_at(at, &mut bytes));
-    drop(bytes);
-    failed
+// What the call of a step answers.
+fn called(alloc: Global, disk: &mut FileDisk, step: Step) -> Result<(), Fault> {
+    match step {
+        Step::Write(at, bytes) | Step::WriteFails(at, bytes) => disk.write_at(at, bytes),
+        Step::Cut(len) | Step::CutFails(len) => disk.cut(len),
+        Step::Sync => disk.sync(),
+        Step::Reserve(bytes) => disk.reserve(bytes),
+        Step::Arm(call) => {
+            disk.arm(call);
+            Ok(())
+        }
+        Step::ReadFails(at, count) => match [0u8; 4].get_mut(..count) {
+            Some(buffer) => disk.read_at(at, buffer),
+            None => Err(Fault::Room),
+        },
+        Step::Holds(bytes) => read_back(alloc, disk, bytes),
+    }
 }
 
 fn goes_well(alloc: Global, disk: &mut FileDisk, step: Step) -> bool {
+    let answer = called(alloc, disk, step);
     match step {
-        Step::Write(at, bytes) => disk.write_at(at, bytes).is_ok(),
-        Step::Cut(len) => disk.cut(len).is_ok(),
-        Step::Sync => disk.sync().is_ok(),
-        Step::Reserve(bytes) => disk.reserve(bytes).is_ok(),
-        Step::Arm(call) => {
-            disk.arm(call);
-            true
-        }
-        Step::ReadFails(at, count) => read_fails(alloc, disk, at, count),
-        Step::WriteFails(at, bytes) => has_failed(disk.write_at(at, bytes)),
-        Step::CutFails(len) => has_failed(disk.cut(len)),
-        Step::Holds(bytes) => holds(alloc, disk, bytes),
+        Step::ReadFails(..) | Step::WriteFails(..) | Step::CutFails(..) => answer
+            == Err(Fault::Device),
+        _ => answer.is_ok(),
     }
 }
 
@@ -306,7 +296,7 @@ pub fn keeps(rt: &HostRuntime, path: &str, bytes: &[u8]) -> bool {
     let Ok(mut disk) = FileDisk::open(rt, path) else {
         return false;
     };
-    let kept = holds(rt.alloc(), &mut disk, bytes);
+    let kept = read_back(rt.alloc(), &mut disk, bytes).is_ok();
     drop(disk);
     kept
 }
@@ -327,7 +317,6 @@ fn runs_of_calls(rt: HostRuntime) {
     for row in &RUNS {
         let folder = Folder::new(&rt, &rt);
         let went = runs(&rt, folder.log(), row);
-        folder.remove(&rt, &rt);
-        row_holds(&rt, went, row.what);
+        row_holds(&rt, folder.remove(&rt) && went, row.what);
     }
 }

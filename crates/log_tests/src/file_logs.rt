@@ -1,6 +1,6 @@
 //! Logs in files.
-use crate::disks::keeps;
-use crate::files::{formatted, open, put_line, refusal};
+use crate::disks::{Call, answer, keeps};
+use crate::files::{open, put_lines, refusal};
 use crate::folder::Folder;
 use crate::lines::Line;
 use filedisk::FileDisk;
@@ -26,87 +26,51 @@ fn are_openings(entries: &[Entry], count: usize) -> bool {
     entries.len() == count
 }
 
-type Opened = Option<(GateLog<FileDisk>, Vec<Entry>)>;
-
-fn opened(rt: &HostRuntime, path: &str) -> Opened {
-    let Ok(disk) = FileDisk::open(rt, path) else {
-        return None;
-    };
-    match open(rt.alloc(), disk) {
-        Ok(opened) => Some(opened),
-        Err(_) => None,
-    }
-}
-
-fn is_locked_out(rt: &HostRuntime, path: &str) -> bool {
-    match opened(rt, path) {
-        Some((log, entries)) => {
-            drop(log);
-            drop(entries);
-            false
-        }
-        None => true,
-    }
-}
-
 // The log is made, takes its first record, and is not opened meanwhile.
 fn begins(rt: &HostRuntime, path: &str) -> bool {
     let Ok(disk) = FileDisk::create(rt, path) else {
         return false;
     };
-    let Some(mut log) = formatted(disk) else {
+    let Ok(mut log) = GateLog::format(disk) else {
         return false;
     };
-    let begun = put_line(rt.alloc(), &mut log, Line::Opened(1)) && is_locked_out(rt, path);
+    let begun = put_lines(rt.alloc(), &mut log, &[Line::Opened(1)])
+        && answer(rt, path, Call::Open).is_err();
     drop(log);
     begun
 }
 
-// It is opened with the first record, and takes a second.
-fn goes_on(rt: &HostRuntime, path: &str) -> bool {
-    let Some((mut log, entries)) = opened(rt, path) else {
+// It is opened with so many records, and takes more.
+fn goes_on(rt: &HostRuntime, path: &str, count: usize, more: &[Line]) -> bool {
+    let Ok(disk) = FileDisk::open(rt, path) else {
         return false;
     };
-    let went = are_openings(&entries, 1) && put_line(rt.alloc(), &mut log, Line::Opened(2));
+    let Ok((mut log, entries)) = open(rt.alloc(), disk) else {
+        return false;
+    };
+    let went = are_openings(&entries, count) && put_lines(rt.alloc(), &mut log, more);
     drop(entries);
     drop(log);
     went
 }
 
-// It is opened with both.
-fn has_both(rt: &HostRuntime, path: &str) -> bool {
-    let Some((log, entries)) = opened(rt, path) else {
-        return false;
-    };
-    drop(log);
-    let both = are_openings(&entries, 2);
-    drop(entries);
-    both
-}
-
-fn is_opened_again(rt: &HostRuntime, path: &str) -> bool {
-    begins(rt, path) && goes_on(rt, path) && has_both(rt, path) && keeps(rt, path, TWO_OPENINGS)
-}
-
 #[test]
 fn a_log_is_opened_again(rt: HostRuntime) {
     let folder = Folder::new(&rt, &rt);
-    let opened = is_opened_again(&rt, folder.log());
-    folder.remove(&rt, &rt);
-    assert!(rt; opened);
-}
-
-fn is_no_log(rt: &HostRuntime, path: &str) -> bool {
-    let Ok(empty) = FileDisk::create(rt, path) else {
-        return false;
-    };
-    matches!(refusal(rt.alloc(), empty), Some(Fault::NotALog))
+    let path = folder.log();
+    let opened = begins(&rt, path)
+        && goes_on(&rt, path, 1, &[Line::Opened(2)])
+        && goes_on(&rt, path, 2, &[])
+        && keeps(&rt, path, TWO_OPENINGS);
+    assert!(rt; folder.remove(&rt) && opened);
 }
 
 #[test]
 fn a_new_file_is_no_log(rt: HostRuntime) {
     let folder = Folder::new(&rt, &rt);
-    let refused = is_no_log(&rt, folder.log());
-    folder.remove(&rt, &rt);
-    assert!(rt; refused);
+    let refused = match FileDisk::create(&rt, folder.log()) {
+        Ok(empty) => refusal(rt.alloc(), empty),
+        Err(_) => None,
+    };
+    assert!(rt; folder.remove(&rt) && refused == Some(Fault::NotALog));
 }

@@ -1,8 +1,8 @@
 //! The log in its file.
-use crate::devices::{crash, holds};
+use crate::devices::{crash, read_back};
 use crate::lines::{Line, is_spelled, record_of};
 use crate::spellings::COMMIT;
-use crate::tables::{numbered_row_holds, row_holds};
+use crate::tables::{holds_at, row_holds};
 use disk::{Disk, Fate};
 use gatelog::{Entry, GateLog, Logged};
 use made::stamp;
@@ -72,37 +72,22 @@ pub fn put<D: Disk>(alloc: Global, log: &mut GateLog<D>, item: Record) -> bool {
     }
 }
 
-/// The same of a plain record.
-pub fn put_line<D: Disk>(alloc: Global, log: &mut GateLog<D>, line: Line) -> bool {
-    match record_of(alloc, line) {
-        Some(item) => put(alloc, log, item),
-        None => false,
-    }
-}
-
-fn put_lines(alloc: Global, log: &mut GateLog<SimDisk>, lines: &[Line]) -> bool {
+/// Whether all of these records were logged.
+pub fn put_lines<D: Disk>(alloc: Global, log: &mut GateLog<D>, lines: &[Line]) -> bool {
     for line in lines {
-        if !put_line(alloc, log, *line) {
+        let Some(item) = record_of(alloc, *line) else {
+            return false;
+        };
+        if !put(alloc, log, item) {
             return false;
         }
     }
     true
 }
 
-/// A new log on a disk.
-pub fn formatted<D: Disk + Drop>(disk: D) -> Option<GateLog<D>> {
-    match GateLog::format(disk) {
-        Ok(log) => Some(log),
-        Err((_, disk)) => {
-            drop(disk);
-            None
-        }
-    }
-}
-
 /// A new log with these records.
 pub fn log_of(alloc: Global, lines: &[Line]) -> Option<GateLog<SimDisk>> {
-    let Some(mut log) = formatted(SimDisk::new(alloc)) else {
+    let Ok(mut log) = GateLog::format(SimDisk::new(alloc)) else {
         return None;
     };
     if put_lines(alloc, &mut log, lines) {
@@ -122,9 +107,10 @@ pub fn entries_of(alloc: Global, lines: &[Line]) -> Option<Vec<Entry>> {
 }
 
 fn have_offsets(entries: &[Entry], offsets: &[u64]) -> bool {
-    for (entry, offset) in entries.iter().zip(offsets.iter()) {
-        if entry.offset() != *offset {
-            return false;
+    for (number, entry) in entries.iter().enumerate() {
+        match offsets.get(number) {
+            Some(offset) if entry.offset() == *offset => {}
+            _ => return false,
         }
     }
     entries.len() == offsets.len()
@@ -138,15 +124,6 @@ fn stand_at(alloc: Global, disk: SimDisk, offsets: &[u64]) -> bool {
     let stand = have_offsets(&entries, offsets);
     drop(entries);
     stand
-}
-
-fn has_entries(alloc: Global, disk: SimDisk, count: usize) -> bool {
-    let Some(entries) = entries_in(alloc, disk) else {
-        return false;
-    };
-    let has = entries.len() == count;
-    drop(entries);
-    has
 }
 
 // A log, its file, and where its entries stand.
@@ -185,7 +162,7 @@ fn is_written(alloc: Global, row: &File) -> bool {
     };
     let goes_on = !log.is_stopped();
     let mut disk = log.into_disk();
-    let written = holds(alloc, &mut disk, row.bytes);
+    let written = read_back(alloc, &mut disk, row.bytes).is_ok();
     stand_at(alloc, disk, row.offsets) && goes_on && written
 }
 
@@ -302,7 +279,9 @@ fn cut_short(alloc: Global, call: u64, fate: Fate) -> Option<SimDisk> {
         return None;
     };
     let _ = append_armed(alloc, &mut log, call);
-    Some(crash(alloc, log.into_disk(), &[fate]))
+    let mut disk = log.into_disk();
+    crash(alloc, &mut disk, &[fate]);
+    Some(disk)
 }
 
 // The call that fails, the fate of what it leaves, and how many entries there are then.
@@ -352,35 +331,36 @@ static CRASHED: [Crashed; 7] = [
 ];
 
 fn leaves(alloc: Global, row: &Crashed) -> bool {
-    match cut_short(alloc, row.call, row.fate) {
-        Some(disk) => has_entries(alloc, disk, row.entries),
-        None => false,
-    }
+    let Some(disk) = cut_short(alloc, row.call, row.fate) else {
+        return false;
+    };
+    let Some(entries) = entries_in(alloc, disk) else {
+        return false;
+    };
+    let count = entries.len();
+    drop(entries);
+    count == row.entries
 }
 
 #[test]
 fn crashes_in_an_append(rt: HostRuntime) {
     for (number, row) in CRASHED.iter().enumerate() {
-        numbered_row_holds(&rt, leaves(rt.alloc(), row), number);
+        holds_at(&rt, leaves(rt.alloc(), row), number);
     }
 }
 
-// Opens it with one entry, and logs another where the closed gate was.
-fn goes_on(alloc: Global, disk: SimDisk) -> bool {
+// The second entry stands where the closed gate was.
+fn is_used_again(alloc: Global) -> bool {
+    let Some(disk) = cut_short(alloc, 2, Fate::Filled(0x37)) else {
+        return false;
+    };
     let Ok((mut log, entries)) = open(alloc, disk) else {
         return false;
     };
     let count = entries.len();
     drop(entries);
-    let logged = put_line(alloc, &mut log, Line::Ceiling(300));
+    let logged = put_lines(alloc, &mut log, &[Line::Ceiling(300)]);
     stand_at(alloc, log.into_disk(), &[8, 22]) && count == 1 && logged
-}
-
-fn is_used_again(alloc: Global) -> bool {
-    match cut_short(alloc, 2, Fate::Filled(0x37)) {
-        Some(disk) => goes_on(alloc, disk),
-        None => false,
-    }
 }
 
 #[test]
@@ -388,20 +368,17 @@ fn a_closed_gate_is_used_again(rt: HostRuntime) {
     assert!(rt; is_used_again(rt.alloc()));
 }
 
-// A failing call stops the log,
-fn stops(alloc: Global, log: &mut GateLog<SimDisk>) -> bool {
-    matches!(append_armed(alloc, log, 3), Err(Fault::Device))
-        && log.is_stopped()
-        && matches!(append_armed(alloc, log, 3), Err(Fault::Stopped))
-}
-
-// and the file has both entries, as it is read.
+// A failing call stops the log, and the file has both entries, as it is read.
 fn is_stopped_by_a_failure(alloc: Global) -> bool {
     let Some(mut log) = log_of(alloc, &[Line::Opened(1)]) else {
         return false;
     };
-    let stopped = stops(alloc, &mut log);
-    has_entries(alloc, log.into_disk(), 2) && stopped
+    let first = append_armed(alloc, &mut log, 3);
+    let is_stopped = log.is_stopped();
+    let second = append_armed(alloc, &mut log, 3);
+    stand_at(alloc, log.into_disk(), &[8, 22])
+        && is_stopped
+        && [first, second] == [Err(Fault::Device), Err(Fault::Stopped)]
 }
 
 #[test]

@@ -1,5 +1,4 @@
 //! A folder for one test.
-use std::alloc::Global;
 use std::process::Abort;
 use std::rt::Files;
 use std::{env, fs, io};
@@ -14,35 +13,19 @@ pub struct Folder {
 impl Folder {
     /// Makes a folder where temporary files go, under a name that nothing has there. Where it fails, the test ends.
     pub fn new(rt: &HostRuntime, test: &impl Abort) -> Folder {
-        let base = env::temp_dir(rt).expect(test, "no folder for temporary files");
-        let made = Folder::within(rt, base.as_str());
-        drop(base);
-        made.expect(test, "no folder is made")
+        Folder::made(rt).expect(test, "no folder is made")
     }
 
-    fn within(rt: &HostRuntime, base: &str) -> Option<Folder> {
-        for number in 0..10_000u64 {
-            if let Some(folder) = Folder::numbered(rt, base, number) {
-                return Some(folder);
-            }
-        }
-        None
-    }
-
-    fn numbered(rt: &HostRuntime, base: &str, number: u64) -> Option<Folder> {
-        let Ok(path) = format!(in rt.alloc(); "{base}/file-tests-{number}") else {
+    fn made(rt: &HostRuntime) -> Option<Folder> {
+        let Ok(base) = env::temp_dir(rt) else {
             return None;
         };
-        if fs::create_dir(rt, path.as_str()).is_ok() {
-            Folder::named(rt.alloc(), path)
-        } else {
-            drop(path);
-            None
-        }
-    }
-
-    fn named(alloc: Global, path: String) -> Option<Folder> {
-        match format!(in alloc; "{}/shard-0.log", path.as_str()) {
+        let path = new_folder(rt, base.as_str());
+        drop(base);
+        let Some(path) = path else {
+            return None;
+        };
+        match format!(in rt.alloc(); "{}/shard-0.log", path.as_str()) {
             Ok(log) => Some(Folder { path, log }),
             Err(_) => {
                 drop(path);
@@ -60,10 +43,24 @@ impl Folder {
         self.log.as_str()
     }
 
-    /// Removes it with all that is in it. Where it fails, the test ends.
-    pub fn remove(self, rt: &HostRuntime, test: &impl Abort) {
-        let is_gone = fs::remove_dir_all(rt, self.path.as_str()).is_ok();
+    /// Removes it with all that is in it. Whether it is gone.
+    pub fn remove(self, rt: &HostRuntime) -> bool {
+        let removed = fs::remove_dir_all(rt, self.path.as_str());
         drop(self);
-        assert!(test; is_gone, "the folder is not removed");
+        removed.is_ok()
     }
+}
+
+// Makes the first of these folders that is not there.
+fn new_folder(rt: &HostRuntime, base: &str) -> Option<String> {
+    for number in 0..10_000u64 {
+        let Ok(path) = format!(in rt.alloc(); "{base}/file-tests-{number}") else {
+            return None;
+        };
+        if fs::create_dir(rt, path.as_str()).is_ok() {
+            return Some(path);
+        }
+        drop(path);
+    }
+    None
 }

@@ -7,23 +7,21 @@ use record::{Committed, Prepared};
 use std::alloc::Global;
 use units::{Fault, Install, Stamp};
 
-// Learns a record, where it may come next. Where not, it is refused as damage, handed back, and does not follow.
-fn learn(alloc: Global, facts: &mut Facts, line: Line) -> Option<bool> {
+// Learns a record, where it may come next; where not, it is refused as damage, handed back, and does not follow. Whether it is as
+// wanted.
+fn comes(alloc: Global, facts: &mut Facts, line: Line, learnt: bool) -> bool {
     let Ok(()) = facts.reserve() else {
-        return None;
+        return false;
     };
     let Some(item) = record_of(alloc, line) else {
-        return None;
+        return false;
     };
     match facts.learn(64, item) {
-        Ok(()) => Some(true),
+        Ok(()) => learnt,
         Err((fault, back)) => {
             let follows = facts.follows(&back);
             drop(back);
-            match fault {
-                Fault::Damaged { offset: 64 } if !follows => Some(false),
-                _ => None,
-            }
+            !learnt && !follows && fault == Fault::Damaged { offset: 64 }
         }
     }
 }
@@ -31,7 +29,7 @@ fn learn(alloc: Global, facts: &mut Facts, line: Line) -> Option<bool> {
 // Whether each is learnt, or each refused.
 fn all_come(alloc: Global, facts: &mut Facts, lines: &[Line], learnt: bool) -> bool {
     for line in lines {
-        if learn(alloc, facts, *line) != Some(learnt) {
+        if !comes(alloc, facts, *line, learnt) {
             return false;
         }
     }
@@ -205,54 +203,63 @@ static DETERMINED: [Determined; 5] = [
     },
 ];
 
-fn promised_at(prepared: Option<&Prepared>) -> Option<u64> {
-    match prepared {
-        Some(prepared) => Some(prepared.at.micros()),
-        None => None,
-    }
-}
-
-fn decided_at(committed: Option<&Committed>) -> Option<u64> {
-    match committed {
-        Some(committed) => Some(committed.at.micros()),
-        None => None,
-    }
-}
-
-fn ended_at(outcome: Option<Option<Stamp>>) -> Option<Option<u64>> {
-    match outcome {
-        Some(Some(at)) => Some(Some(at.micros())),
-        Some(None) => Some(None),
-        None => None,
+// By what readers find.
+fn standing(
+    number: u16,
+    prepared: Option<&Prepared>,
+    decided: Option<&Committed>,
+    outcome: Option<Option<Stamp>>,
+    aborted: bool,
+    settled: bool,
+) -> Known {
+    Known {
+        number,
+        prepared: match prepared {
+            Some(promise) => Some(promise.at.micros()),
+            None => None,
+        },
+        decided: match decided {
+            Some(decision) => Some(decision.at.micros()),
+            None => None,
+        },
+        aborted,
+        outcome: match outcome {
+            Some(Some(at)) => Some(Some(at.micros())),
+            Some(None) => Some(None),
+            None => None,
+        },
+        settled,
     }
 }
 
 // By the readers of the facts.
 fn known_of(facts: &Facts, number: u16) -> Known {
     let txn = id(number);
-    Known {
-        number,
-        prepared: promised_at(facts.prepared(txn)),
-        decided: decided_at(facts.committed(txn)),
-        aborted: facts.aborted(txn),
-        outcome: ended_at(facts.outcome(txn)),
-        settled: matches!(facts.status(txn), Some(Status::Settled { .. })),
-    }
+    let settled = matches!(facts.status(txn), Some(Status::Settled { .. }));
+    let (prepared, decided) = (facts.prepared(txn), facts.committed(txn));
+    let (outcome, aborted) = (facts.outcome(txn), facts.aborted(txn));
+    standing(number, prepared, decided, outcome, aborted, settled)
 }
 
 // By the readers of its status.
 fn known_by_status(facts: &Facts, number: u16) -> Known {
-    match facts.status(id(number)) {
-        Some(status) => Known {
-            number,
-            prepared: promised_at(status.prepared()),
-            decided: decided_at(status.committed()),
-            aborted: matches!(status, Status::Aborted),
-            outcome: ended_at(status.outcome()),
-            settled: matches!(status, Status::Settled { .. }),
-        },
-        None => Known { number, ..UNKNOWN },
-    }
+    let Some(status) = facts.status(id(number)) else {
+        return Known { number, ..UNKNOWN };
+    };
+    let (aborted, settled) = match status {
+        Status::Aborted => (true, false),
+        Status::Settled { .. } => (false, true),
+        _ => (false, false),
+    };
+    let (prepared, decided) = (status.prepared(), status.committed());
+    standing(
+        number,
+        prepared,
+        decided,
+        status.outcome(),
+        aborted,
+        settled,
+    )
 }
 
 fn are_known(facts: &Facts, rows: &[Known]) -> bool {
@@ -264,29 +271,22 @@ fn are_known(facts: &Facts, rows: &[Known]) -> bool {
     true
 }
 
-fn is_install(install: &Install, row: (u64, u8)) -> bool {
-    install.at.micros() == row.0 && install.key.is(&key(row.1))
-}
-
 fn are_installs(installs: &[Install], rows: &[(u64, u8)]) -> bool {
-    for (install, row) in installs.iter().zip(rows.iter()) {
-        if !is_install(install, *row) {
-            return false;
+    for (number, install) in installs.iter().enumerate() {
+        match rows.get(number) {
+            Some((at, letter)) if install.at.micros() == *at && install.key.is(&key(*letter)) => {}
+            _ => return false,
         }
     }
     installs.len() == rows.len()
 }
 
-fn has_ends(facts: &Facts, row: &Determined) -> bool {
-    facts.shard().number() == row.shard
-        && facts.epoch() == row.epoch
-        && facts.floor().micros() == row.floor
-}
-
 fn determines(alloc: Global, row: &Determined) -> bool {
     let mut facts = Facts::new(alloc, shard(row.shard));
-    let determined = all_come(alloc, &mut facts, row.lines, true)
-        && has_ends(&facts, row)
+    let come = all_come(alloc, &mut facts, row.lines, true);
+    let (number, floor) = (facts.shard().number(), facts.floor().micros());
+    let determined = come
+        && (number, facts.epoch(), floor) == (row.shard, row.epoch, row.floor)
         && are_installs(facts.installs(), row.installs)
         && are_known(&facts, row.known);
     drop(facts);

@@ -50,47 +50,36 @@ fn settle(alloc: Global, ledger: &mut Ledger) -> bool {
     fits
 }
 
-fn open(alloc: Global, ledger: &mut Ledger) -> bool {
-    match Epoch::new(1) {
-        Some(epoch) => learn(alloc, ledger, Record::Opened { epoch }),
-        None => false,
-    }
-}
-
-// Transaction 1 promises at 111 to write to `a`.
+// The shard is opened, and transaction 1 promises at 111 to write to `a`.
 fn prepare(alloc: Global, ledger: &mut Ledger) -> bool {
+    let Some(epoch) = Epoch::new(1) else {
+        return false;
+    };
+    if !learn(alloc, ledger, Record::Opened { epoch }) {
+        return false;
+    }
     match promise(alloc, 1, 111, key(b'a'), 0) {
         Some(promise) => learn(alloc, ledger, Record::Prepare(promise)),
         None => false,
     }
 }
 
-// The one byte that the key `a` holds at a timestamp.
-fn byte_at(ledger: &Ledger, at: u64) -> Option<u8> {
-    byte(ledger.at(&key(b'a'), stamp(at)))
-}
-
-fn holds_its_write(ledger: &Ledger) -> bool {
-    matches!(byte_at(ledger, 119), None)
-        && matches!(byte_at(ledger, 120), Some(b'1'))
-        && matches!(byte(ledger.latest(&key(b'a'))), Some(b'1'))
-}
-
-fn has_ends(ledger: &Ledger) -> bool {
-    ledger.installs().len() == 1
-        && ledger.floor().micros() == 120
-        && ledger.epoch() == 1
-        && ledger.shard().number() == 1
+// What the key `a` holds before, at and after the outcome, and what the ledger has of its records.
+fn is_settled(ledger: &Ledger) -> bool {
+    let key = key(b'a');
+    let before = byte(ledger.at(&key, stamp(119)));
+    let at = byte(ledger.at(&key, stamp(120)));
+    let (floor, shard) = (ledger.floor().micros(), ledger.shard().number());
+    [before, at, byte(ledger.latest(&key))] == [None, Some(b'1'), Some(b'1')]
+        && (ledger.installs().len(), floor, ledger.epoch(), shard) == (1, 120, 1, 1)
 }
 
 // Shard 1 is opened once, and its one promise is settled.
 fn is_installed(alloc: Global) -> bool {
     let mut ledger = Ledger::new(alloc, shard(1));
-    let installed = open(alloc, &mut ledger)
-        && prepare(alloc, &mut ledger)
+    let installed = prepare(alloc, &mut ledger)
         && settle(alloc, &mut ledger)
-        && holds_its_write(&ledger)
-        && has_ends(&ledger);
+        && is_settled(&ledger);
     drop(ledger);
     installed
 }
@@ -102,9 +91,8 @@ fn a_promise_is_installed(rt: HostRuntime) {
 
 static ADDED: [u16; 7] = [5, 2, 9, 2, 7, 5, 1];
 
-static KEPT: [u16; 5] = [1, 2, 5, 7, 9];
-
-static ABSENT: [u16; 4] = [0, 3, 8, 10];
+// Runs and numbers in them.
+static ABSENT: [(u64, u64); 5] = [(1, 0), (1, 3), (1, 8), (1, 10), (2, 5)];
 
 // Adds these numbers of run 1, and says whether each is there then.
 fn adds(ended: &mut Ended, numbers: &[u16]) -> bool {
@@ -120,37 +108,22 @@ fn adds(ended: &mut Ended, numbers: &[u16]) -> bool {
     true
 }
 
-fn has_any(ended: &Ended, numbers: &[u16]) -> bool {
-    for number in numbers {
-        if ended.has(id(*number)) {
-            return true;
+fn has_any(ended: &Ended, ids: &[(u64, u64)]) -> bool {
+    for (run, number) in ids {
+        match TxnId::new(*run, *number) {
+            Some(txn) if !ended.has(txn) => {}
+            _ => return true,
         }
     }
     false
 }
 
-fn have_numbers(ids: &[TxnId], numbers: &[u16]) -> bool {
-    for (txn, number) in ids.iter().zip(numbers.iter()) {
-        if txn.number() != u64::from(*number) {
-            return false;
-        }
-    }
-    ids.len() == numbers.len()
-}
-
-fn has_of_another_run(ended: &Ended) -> bool {
-    match TxnId::new(2, 5) {
-        Some(txn) => ended.has(txn),
-        None => true,
-    }
-}
-
 fn are_added_once(ended: &mut Ended) -> bool {
+    let kept = [id(1), id(2), id(5), id(7), id(9)];
     !ended.has(id(1))
         && adds(ended, &ADDED)
-        && have_numbers(ended.as_slice(), &KEPT)
+        && ended.as_slice() == kept.as_slice()
         && !has_any(ended, &ABSENT)
-        && !has_of_another_run(ended)
 }
 
 #[test]

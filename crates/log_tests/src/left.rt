@@ -68,8 +68,11 @@ fn seen(state: &State) -> Shown {
 
 type Rebuilt = Result<Option<Shown>, Fault>;
 
-// What these entries leave of a shard, or why they are refused.
-fn left(alloc: Global, number: u8, entries: Vec<Entry>) -> Rebuilt {
+// What the entries of a log leave of a shard, or why they are refused.
+fn left(alloc: Global, number: u8, entries: Option<Vec<Entry>>) -> Rebuilt {
+    let Some(entries) = entries else {
+        return Err(Fault::Memory);
+    };
     let Some(setup) = setup(alloc, number) else {
         drop(entries);
         return Err(Fault::Memory);
@@ -207,34 +210,25 @@ static REOPENED: [Reopened; 11] = [
     },
 ];
 
-fn what_is_left(alloc: Global, row: &Reopened) -> Rebuilt {
-    match entries_of(alloc, row.lines) {
-        Some(entries) => left(alloc, row.shard, entries),
-        None => Err(Fault::Memory),
-    }
-}
-
 #[test]
 fn logs_that_are_opened_again(rt: HostRuntime) {
     for row in &REOPENED {
-        row_holds(&rt, what_is_left(rt.alloc(), row) == row.left, row.what);
+        let entries = entries_of(rt.alloc(), row.lines);
+        let so = left(rt.alloc(), row.shard, entries) == row.left;
+        row_holds(&rt, so, row.what);
     }
 }
 
-// 1.number promises at 200 to write a key of its own of three bytes.
-fn put_promise(alloc: Global, log: &mut GateLog<SimDisk>, number: u16) -> bool {
-    let Ok(key) = Key::new(&[b'z', (number / 256) as u8, (number % 256) as u8]) else {
-        return false;
-    };
-    match promise(alloc, number, 200, key, 0) {
-        Some(promise) => put(alloc, log, Record::Prepare(promise)),
-        None => false,
-    }
-}
-
+// Each 1.number promises at 200 to write a key of its own of three bytes.
 fn put_promises(alloc: Global, log: &mut GateLog<SimDisk>, count: u16) -> bool {
     for number in 0..count {
-        if !put_promise(alloc, log, number) {
+        let Ok(key) = Key::new(&[b'z', (number / 256) as u8, (number % 256) as u8]) else {
+            return false;
+        };
+        let Some(promise) = promise(alloc, number, 200, key, 0) else {
+            return false;
+        };
+        if !put(alloc, log, Record::Prepare(promise)) {
             return false;
         }
     }
@@ -254,13 +248,6 @@ fn crowd(alloc: Global, count: u16) -> Option<Vec<Entry>> {
     }
 }
 
-fn crowded(alloc: Global, count: u16) -> Rebuilt {
-    match crowd(alloc, count) {
-        Some(entries) => left(alloc, 1, entries),
-        None => Err(Fault::Memory),
-    }
-}
-
 // 1,024 rows may stand, and no more.
 static FULL: Rebuilt = Ok(Some(Shown {
     prepared: (0, 200),
@@ -274,6 +261,7 @@ static TOO_MANY: Rebuilt = Err(Fault::Damaged { offset: 44_054 });
 
 #[test]
 fn a_full_table(rt: HostRuntime) {
-    assert!(rt; crowded(rt.alloc(), 1024) == FULL);
-    assert!(rt; crowded(rt.alloc(), 1025) == TOO_MANY);
+    let full = left(rt.alloc(), 1, crowd(rt.alloc(), 1024));
+    let too_many = left(rt.alloc(), 1, crowd(rt.alloc(), 1025));
+    assert!(rt; full == FULL && too_many == TOO_MANY);
 }

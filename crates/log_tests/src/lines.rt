@@ -75,7 +75,10 @@ pub fn record_of(alloc: Global, line: Line) -> Option<Record> {
             }
         }
         Line::Commit(number, at, letter, mask) => decision(alloc, number, at, letter, mask),
-        Line::Opened(epoch) => opened(epoch),
+        Line::Opened(epoch) => match Epoch::new(epoch) {
+            Some(epoch) => Some(Record::Opened { epoch }),
+            None => None,
+        },
         Line::Ceiling(at) => Some(Record::Ceiling { at: stamp(at) }),
         Line::Abort(number) => Some(Record::Abort { txn: id(number) }),
         Line::Committed(number, at) => Some(Record::Outcome {
@@ -87,13 +90,6 @@ pub fn record_of(alloc: Global, line: Line) -> Option<Record> {
             outcome: None,
         }),
     }
-}
-
-fn opened(epoch: u64) -> Option<Record> {
-    let Some(epoch) = Epoch::new(epoch) else {
-        return None;
-    };
-    Some(Record::Opened { epoch })
 }
 
 /// Whether these are the bytes of a record.

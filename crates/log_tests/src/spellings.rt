@@ -1,6 +1,6 @@
 //! The bytes of records.
 use crate::lines::{Line, is_spelled, record_of};
-use crate::tables::{numbered_row_holds, row_holds};
+use crate::tables::{holds_at, row_holds};
 use record::{Record, decode, encoded_len};
 use std::alloc::Global;
 
@@ -91,7 +91,7 @@ fn spells(alloc: Global, row: &Vector) -> bool {
 #[test]
 fn spellings(rt: HostRuntime) {
     for (number, row) in VECTORS.iter().enumerate() {
-        numbered_row_holds(&rt, spells(rt.alloc(), row), number);
+        holds_at(&rt, spells(rt.alloc(), row), number);
     }
 }
 
@@ -159,21 +159,22 @@ static READ: [Read; 10] = [
     },
 ];
 
-fn is_record(alloc: Global, bytes: &[u8]) -> Option<bool> {
+// Whether the bytes are read as a record, or are none, as it is said.
+fn is_read_so(alloc: Global, bytes: &[u8], is_record: bool) -> bool {
     match decode(alloc, bytes) {
         Ok(Some(item)) => {
             drop(item);
-            Some(true)
+            is_record
         }
-        Ok(None) => Some(false),
-        Err(_) => None,
+        Ok(None) => !is_record,
+        Err(_) => false,
     }
 }
 
 #[test]
 fn nothing_else_is_read(rt: HostRuntime) {
     for row in &READ {
-        let so = is_record(rt.alloc(), row.bytes) == Some(row.is_record);
+        let so = is_read_so(rt.alloc(), row.bytes, row.is_record);
         row_holds(&rt, so, row.what);
     }
 }
@@ -226,22 +227,21 @@ static CHANGED: [Changed; 5] = [
     },
 ];
 
-fn is_record_changed(alloc: Global, row: &Changed) -> Option<bool> {
+fn is_changed_so(alloc: Global, row: &Changed) -> bool {
     let Ok(mut bytes) = row.bytes.to_vec(alloc) else {
-        return None;
+        return false;
     };
     if let Some(byte) = bytes.get_mut(row.place) {
         *byte = row.byte;
     }
-    let found = is_record(alloc, &bytes);
+    let so = is_read_so(alloc, &bytes, row.is_record);
     drop(bytes);
-    found
+    so
 }
 
 #[test]
 fn a_byte_is_changed(rt: HostRuntime) {
     for row in &CHANGED {
-        let so = is_record_changed(rt.alloc(), row) == Some(row.is_record);
-        row_holds(&rt, so, row.what);
+        row_holds(&rt, is_changed_so(rt.alloc(), row), row.what);
     }
 }

@@ -1,8 +1,8 @@
 //! The versions of keys.
-ghost use Rattle.std.specs.Prelude.{◌≡◌, ◌<◌, ◌≤◌, ◌^◌, []};
+ghost use Rattle.std.specs.Prelude.{◌≡◌, ◌<◌, ◌≤◌, ◌^◌, [], length};
 
 use crate::lines::byte;
-use crate::tables::row_holds;
+use crate::tables::{holds_at, row_holds};
 use counts::Count;
 use made::{key, stamp};
 use std::alloc::Global;
@@ -17,22 +17,18 @@ struct Version {
     value: Option<u8>,
 }
 
-fn value_of(alloc: Global, byte: Option<u8>) -> Option<Option<Value>> {
-    let Some(byte) = byte else {
-        return Some(None);
-    };
-    match Value::new(alloc, &[byte]) {
-        Ok(value) => Some(Some(value)),
-        Err(_) => None,
-    }
-}
-
 // Installs the version where its key takes it, and says whether it does.
 fn install(alloc: Global, versions: &mut Versions, new: &Plain) -> Option<bool> {
     let Ok(()) = versions.reserve(1) else {
         return None;
     };
-    let value = value_of(alloc, new.value)?;
+    let value = match new.value {
+        Some(byte) => match Value::new(alloc, &[byte]) {
+            Ok(value) => Some(value),
+            Err(_) => return None,
+        },
+        None => None,
+    };
     let at = stamp(new.at);
     let takes = versions.takes(&new.key, at);
     if takes {
@@ -66,17 +62,14 @@ struct Lookup {
     value: Option<u8>,
 }
 
-fn found(versions: &Versions, row: &Lookup) -> Option<u8> {
-    let key = key(row.key);
-    match row.at {
-        Some(at) => byte(versions.at(&key, stamp(at))),
-        None => byte(versions.latest(&key)),
-    }
-}
-
 fn all_found(versions: &Versions, rows: &[Lookup]) -> bool {
     for row in rows {
-        if found(versions, row) != row.value {
+        let key = key(row.key);
+        let found = match row.at {
+            Some(at) => versions.at(&key, stamp(at)),
+            None => versions.latest(&key),
+        };
+        if byte(found) != row.value {
             return false;
         }
     }
@@ -183,18 +176,11 @@ static LOOKED: [Looked; 2] = [
     },
 ];
 
-fn shows(alloc: Global, row: &Looked) -> bool {
-    let mut versions = Versions::none(alloc);
-    let shown = install_rows(alloc, &mut versions, row.versions)
-        && all_found(&versions, row.lookups);
-    drop(versions);
-    shown
-}
-
 #[test]
 fn values_at_timestamps(rt: HostRuntime) {
     for row in &LOOKED {
-        row_holds(&rt, shows(rt.alloc(), row), row.what);
+        let shown = shows(rt.alloc(), row.versions, row.lookups, &[]);
+        row_holds(&rt, shown, row.what);
     }
 }
 
@@ -205,11 +191,6 @@ struct Place {
     at: u64,
     count: usize,
     probes: u32,
-}
-
-fn is_place(versions: &Versions, row: &Place) -> bool {
-    let (count, probes) = versions.find(&key(row.key), stamp(row.at), &mut Count::none());
-    count == row.count && probes <= row.probes
 }
 
 // Keys and timestamps without an order, one of them twice.
@@ -275,35 +256,37 @@ static PLACES: [Place; 5] = [
     },
 ];
 
-static NO_PLACE: Place = Place {
+static NO_PLACE: [Place; 1] = [Place {
     key: b'b',
     at: 29,
     count: 0,
     probes: 0,
-};
+}];
 
 fn are_places(versions: &Versions, rows: &[Place]) -> bool {
     for row in rows {
-        if !is_place(versions, row) {
+        let (count, probes) = versions.find(&key(row.key), stamp(row.at), &mut Count::none());
+        if count != row.count || probes > row.probes {
             return false;
         }
     }
     true
 }
 
-// There is no place before a version is installed.
-fn is_ordered(alloc: Global) -> bool {
+// The versions are installed, and show what is found of them and their places.
+fn shows(alloc: Global, rows: &[Version], lookups: &[Lookup], places: &[Place]) -> bool {
     let mut versions = Versions::none(alloc);
-    let ordered = is_place(&versions, &NO_PLACE)
-        && install_rows(alloc, &mut versions, &UNORDERED)
-        && are_places(&versions, &PLACES);
+    let shown = install_rows(alloc, &mut versions, rows)
+        && all_found(&versions, lookups)
+        && are_places(&versions, places);
     drop(versions);
-    ordered
+    shown
 }
 
 #[test]
 fn in_order_by_key_and_timestamp(rt: HostRuntime) {
-    assert!(rt; is_ordered(rt.alloc()));
+    let unordered = shows(rt.alloc(), &UNORDERED, &[], &PLACES);
+    assert!(rt; unordered && shows(rt.alloc(), &[], &[], &NO_PLACE));
 }
 
 // The value is written to `a` and `z` is erased, both at 200.
@@ -350,12 +333,12 @@ static WRITTEN: [Lookup; 3] = [
     },
 ];
 
-static SECOND: Place = Place {
+static SECOND: [Place; 1] = [Place {
     key: b'z',
     at: 200,
     count: 2,
     probes: 2,
-};
+}];
 
 fn shows_both(alloc: Global) -> bool {
     let Ok(value) = Value::new(alloc, b"1") else {
@@ -364,7 +347,7 @@ fn shows_both(alloc: Global) -> bool {
     let mut versions = Versions::none(alloc);
     let shown = install_two(alloc, &mut versions, value)
         && all_found(&versions, &WRITTEN)
-        && is_place(&versions, &SECOND);
+        && are_places(&versions, &SECOND);
     drop(versions);
     shown
 }
@@ -383,13 +366,8 @@ struct Plain {
 }
 
 impl Plain {
-    fn is_not_after(&self, key: &Key, at: u64) -> bool {
-        let (bytes, others) = (self.key.as_bytes(), key.as_bytes());
-        bytes < others || (bytes == others && self.at <= at)
-    }
-
     fn is_by(&self, key: &Key, at: u64) -> bool {
-        self.key.as_bytes() == key.as_bytes() && self.at <= at
+        self.key.is(key) && self.at <= at
     }
 }
 
@@ -421,7 +399,7 @@ impl Draws {
     }
 
     // So many letters, mostly up to three bytes behind them, and at times up to 64 in all.
-    fn key(&mut self, letters: usize) -> Option<Key> {
+    fn key(&mut self, letters: usize) -> Key {
         let mut bytes = *b"abcdefghijklmnopqrstuvwxyzabcdefghijklmnopqrstuvwxyzabcdefghijkl";
         let letters = letters.min(20);
         let behind = if self.below(4) == 0 {
@@ -433,21 +411,25 @@ impl Draws {
         for byte in &mut bytes[letters..len] {
             *byte = self.byte();
         }
-        Key::new(&bytes[..len]).ok()
+        match Key::new(&bytes[..len]) {
+            Ok(key) => key,
+            Err(_) => unreachable!(),
+        }
     }
 
     // A version of a key behind that many letters, one of these numbers.
-    fn version(&mut self, letters: &[usize], turn: u64) -> Option<Plain>
-        requires { turn < 2 ^ 32 }
+    fn version(&mut self, letters: &[usize], turn: u64) -> Plain
+        requires turn { turn < 2 ^ 32 }
+        requires some { 0 < length letters.now }
     {
-        let chosen = self.below(letters.len().max(1) as u64) as usize;
-        let key = self.key(*letters.get(chosen)?)?;
+        let chosen = self.below(letters.len() as u64) as usize;
+        let key = self.key(letters[chosen]);
         let at = turn + self.below(60);
         let value = match self.below(5) {
             0 => None,
             drawn => Some(drawn as u8),
         };
-        Some(Plain { key, at, value })
+        Plain { key, at, value }
     }
 }
 
@@ -455,10 +437,11 @@ impl Draws {
 fn plainly(all: &[Plain], key: &Key, at: u64) -> (usize, Option<u8>) {
     let (mut count, mut value) = (0usize, None);
     for one in all {
-        if one.is_not_after(key, at) {
+        let is_by = one.is_by(key, at);
+        if is_by || one.key.is_before(key) {
             count = count.saturating_add(1);
         }
-        if one.is_by(key, at) {
+        if is_by {
             value = one.value;
         }
     }
@@ -472,11 +455,6 @@ fn is_above_all(all: &[Plain], new: &Plain) -> bool {
         }
     }
     true
-}
-
-fn insert(all: &mut Vec<Plain>, new: &Plain) -> bool {
-    let (count, _) = plainly(all, &new.key, new.at);
-    all.insert(count.min(all.len()), *new).is_ok()
 }
 
 // Versions, a plain list of them, and what is drawn.
@@ -493,7 +471,14 @@ impl Compared {
         let Some(takes) = install(alloc, &mut self.versions, new) else {
             return false;
         };
-        takes == is_above_all(&self.all, new) && (!takes || insert(&mut self.all, new))
+        if takes != is_above_all(&self.all, new) {
+            return false;
+        }
+        if !takes {
+            return true;
+        }
+        let (count, _) = plainly(&self.all, &new.key, new.at);
+        self.all.insert(count.min(self.all.len()), *new).is_ok()
     }
 
     fn agree_at(&self, sought: &Plain) -> bool {
@@ -503,34 +488,26 @@ impl Compared {
         let (found, probes) = self.versions.find(key, at, &mut Count::none());
         // The number's binary digits, or one less.
         let digits = usize::BITS - self.all.len().leading_zeros();
-        found == count
-            && (probes == digits || probes.saturating_add(1) == digits)
-            && byte(self.versions.at(key, at)) == value
-            && byte(self.versions.latest(key)) == latest
+        let values = [
+            byte(self.versions.at(key, at)),
+            byte(self.versions.latest(key)),
+        ];
+        (found, values) == (count, [value, latest]) && digits.wrapping_sub(probes) <= 1
     }
 
-    // One drawn version; at each so many-th turn it is looked for, and another drawn one.
-    fn turn(&mut self, alloc: Global, letters: &[usize], turn: u64, apart: u64) -> bool
-        requires few { turn < 2 ^ 32 }
-        requires apart { 0 < apart }
-    {
-        let Some(new) = self.draws.version(letters, turn) else {
-            return false;
-        };
-        let before = self.draws.below(turn + 1);
-        let Some(sought) = self.draws.version(&PREFIXES, before) else {
-            return false;
-        };
-        self.take(alloc, &new)
-            && (turn % apart != 0 || (self.agree_at(&new) && self.agree_at(&sought)))
-    }
-
-    fn turns(&mut self, alloc: Global, letters: &[usize], turns: u64, apart: u64) -> bool
+    // So many drawn versions; at each so many-th turn the new one is looked for, and another drawn one.
+    fn agree(&mut self, alloc: Global, letters: &[usize], turns: u64, apart: u64) -> bool
         requires few { turns ≤ 2 ^ 32 }
         requires apart { 0 < apart }
+        requires some { 0 < length letters.now }
     {
         for turn in 0..turns {
-            if !self.turn(alloc, letters, turn, apart) {
+            let new = self.draws.version(letters, turn);
+            let before = self.draws.below(turn + 1);
+            let sought = self.draws.version(&PREFIXES, before);
+            let agreed = self.take(alloc, &new)
+                && (turn % apart != 0 || (self.agree_at(&new) && self.agree_at(&sought)));
+            if !agreed {
                 return false;
             }
         }
@@ -544,13 +521,14 @@ static PREFIXES: [usize; 5] = [0, 3, 8, 9, 20];
 fn agree_drawn(alloc: Global, letters: &[usize], turns: u64, apart: u64) -> bool
     requires few { turns ≤ 2 ^ 32 }
     requires apart { 0 < apart }
+    requires some { 0 < length letters.now }
 {
     let mut compared = Compared {
         versions: Versions::none(alloc),
         all: Vec::new(alloc),
         draws: Draws { state: turns },
     };
-    let agreed = compared.turns(alloc, letters, turns, apart);
+    let agreed = compared.agree(alloc, letters, turns, apart);
     drop(compared);
     agreed
 }
@@ -559,7 +537,7 @@ fn agree_drawn(alloc: Global, letters: &[usize], turns: u64, apart: u64) -> bool
 fn drawn_versions_behind_one_prefix(rt: HostRuntime) {
     for letters in &PREFIXES {
         let agreed = agree_drawn(rt.alloc(), &[*letters], 600, 4);
-        assert!(rt; agreed, "{letters} letters");
+        holds_at(&rt, agreed, *letters);
     }
 }
 
