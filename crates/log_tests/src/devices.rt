@@ -1,7 +1,9 @@
 //! Disks in memory: which calls fail, what is read, and what a crash leaves.
+use crate::tables::{holds_at, row_holds};
 use disk::{Disk, FailurePlan, Fate};
 use simdisk::{Choice, SimDisk};
 use std::alloc::Global;
+use std::mem;
 use units::Fault;
 
 // A call that a plan is asked about.
@@ -46,29 +48,30 @@ static FAILING: [Failing; 3] = [
     },
 ];
 
-fn fails(plan: &mut FailurePlan, call: Call) -> bool {
-    match call {
-        Call::Write => plan.write(),
-        Call::Other => plan.call(),
-    }
-}
-
 fn fails_so(row: &Failing) -> bool {
     let mut plan = row.plan;
     for (call, wanted) in row.calls {
-        if fails(&mut plan, *call) != *wanted {
+        let fails = match call {
+            Call::Write => plan.write(),
+            Call::Other => plan.call(),
+        };
+        if fails != *wanted {
             return false;
         }
     }
     matches!(plan, FailurePlan::Never) && !plan.write()
 }
 
+fn are_armed() -> bool {
+    matches!(FailurePlan::armed(Some(1)), FailurePlan::AfterWrite(1))
+        && matches!(FailurePlan::armed(None), FailurePlan::Never)
+}
+
 #[test]
 fn calls_that_fail(rt: HostRuntime) {
-    assert!(rt; matches!(FailurePlan::armed(Some(1)), FailurePlan::AfterWrite(1)));
-    assert!(rt; matches!(FailurePlan::armed(None), FailurePlan::Never));
+    assert!(rt; are_armed());
     for row in &FAILING {
-        assert!(rt; fails_so(row), "{}", row.what);
+        row_holds(&rt, fails_so(row), row.what);
     }
 }
 
@@ -106,80 +109,85 @@ fn cut(disk: &mut SimDisk, len: u64) -> Result<(), Fault> {
     disk.cut(len)
 }
 
-fn content(alloc: Global, disk: &mut SimDisk) -> Result<Vec<u8>, Fault> {
-    let mut bytes = vec![in alloc; 0u8; disk.len() as usize]?;
-    disk.read_at(0, &mut bytes)?;
-    Ok(bytes)
+/// Whether these are all the bytes that are read of a disk: where not, there is no room for them.
+pub fn read_back<D: Disk>(alloc: Global, disk: &mut D, bytes: &[u8]) -> Result<(), Fault> {
+    let Ok(mut found) = Vec::from_elem(alloc, 0u8, disk.len() as usize) else {
+        return Err(Fault::Memory);
+    };
+    let read = disk.read_at(0, &mut found);
+    let same = found.as_slice() == bytes;
+    drop(found);
+    if same { read } else { Err(Fault::Room) }
 }
 
-fn holds(alloc: Global, disk: &mut SimDisk, bytes: &[u8]) -> bool {
-    match content(alloc, disk) {
-        Ok(found) => found.as_slice() == bytes,
-        Err(_) => false,
-    }
-}
-
-fn has_failed(answer: Result<(), Fault>) -> bool {
-    matches!(answer, Err(Fault::Device))
-}
-
-// Whether the step, which is no crash, went as it says.
-fn goes_well(alloc: Global, disk: &mut SimDisk, step: Step) -> bool {
+// What the call of a step answers.
+fn called(alloc: Global, disk: &mut SimDisk, step: Step) -> Result<(), Fault> {
     match step {
-        Step::Write(at, bytes) => write(disk, at, bytes).is_ok(),
-        Step::Cut(len) => cut(disk, len).is_ok(),
-        Step::Sync => disk.sync().is_ok(),
-        Step::WriteFails(at, bytes) => has_failed(write(disk, at, bytes)),
-        Step::CutFails(len) => has_failed(cut(disk, len)),
-        Step::SyncFails => has_failed(disk.sync()),
-        Step::Reserve(bytes) => disk.reserve(bytes).is_ok(),
-        Step::Holds(bytes) => holds(alloc, disk, bytes),
+        Step::Write(at, bytes) | Step::WriteFails(at, bytes) => write(disk, at, bytes),
+        Step::Cut(len) | Step::CutFails(len) => cut(disk, len),
+        Step::Sync | Step::SyncFails => disk.sync(),
+        Step::Reserve(bytes) => disk.reserve(bytes),
         Step::FailNext(calls) => {
             disk.fail_next(calls);
-            true
+            Ok(())
         }
         Step::Arm(calls) => {
             disk.arm(calls);
-            true
+            Ok(())
         }
-        Step::Crash(_) => false,
+        Step::Crash(fates) => {
+            crash(alloc, disk, fates);
+            Ok(())
+        }
+        Step::Holds(bytes) => read_back(alloc, disk, bytes),
     }
 }
 
-// A disk may go to another thread.
-fn sent<T: Send>(value: T) -> T {
+// Whether the step went as it says.
+fn goes_well(alloc: Global, disk: &mut SimDisk, step: Step) -> bool {
+    let answer = called(alloc, disk, step);
+    match step {
+        Step::WriteFails(..) | Step::CutFails(..) | Step::SyncFails => answer == Err(Fault::Device),
+        _ => answer.is_ok(),
+    }
+}
+
+fn go_well(alloc: Global, disk: &mut SimDisk, steps: &[Step]) -> bool {
+    for step in steps {
+        if !goes_well(alloc, disk, *step) {
+            return false;
+        }
+    }
+    true
+}
+
+/// A disk may go to another thread.
+pub fn sent<T: Send>(value: T) -> T {
     value
 }
 
-// A synced file of six letters.
-fn six_letters(alloc: Global) -> Result<SimDisk, Fault> {
-    let mut disk = sent(SimDisk::new(alloc));
-    disk.write_at(0, b"abcdef")?;
-    disk.sync()?;
-    Ok(disk)
-}
-
-// Without memory every change is lost.
-fn choice(alloc: Global, fates: &[Fate]) -> Choice {
-    match fates.to_vec(alloc) {
+/// Leaves what a crash leaves by these fates. Without memory every change is lost.
+pub fn crash(alloc: Global, disk: &mut SimDisk, fates: &[Fate]) {
+    let choice = match fates.to_vec(alloc) {
         Ok(fates) => Choice::from_vec(fates),
         Err(_) => Choice::none(alloc),
-    }
+    };
+    let torn = mem::replace(disk, SimDisk::new(alloc));
+    drop(mem::replace(disk, torn.crash(&choice)));
+    drop(choice);
 }
 
-// The six letters go through the steps; says how many go as they say.
-fn go(alloc: Global, steps: &[Step]) -> usize {
-    let Ok(mut disk) = six_letters(alloc) else {
-        return 0;
-    };
-    for (number, step) in steps.iter().enumerate() {
-        if let Step::Crash(fates) = step {
-            disk = disk.crash(&choice(alloc, fates));
-        } else if !goes_well(alloc, &mut disk, *step) {
-            return number;
-        }
-    }
-    steps.len()
+// A synced file of six letters.
+const SIX_LETTERS: &[Step] = &[Step::Write(0, b"abcdef"), Step::Sync];
+
+// The six letters go through steps, and then through others.
+fn lives(alloc: Global, steps: &[Step], others: &[Step]) -> bool {
+    let mut disk = sent(SimDisk::new(alloc));
+    let lived = go_well(alloc, &mut disk, SIX_LETTERS)
+        && go_well(alloc, &mut disk, steps)
+        && go_well(alloc, &mut disk, others);
+    drop(disk);
+    lived
 }
 
 // What a crash leaves of these changes of the six letters.
@@ -253,29 +261,11 @@ static TORN: [Torn; 10] = [
     },
 ];
 
-fn changed(alloc: Global, changes: &[Step]) -> Option<SimDisk> {
-    let Ok(mut disk) = six_letters(alloc) else {
-        return None;
-    };
-    for step in changes {
-        if !goes_well(alloc, &mut disk, *step) {
-            return None;
-        }
-    }
-    Some(disk)
-}
-
-fn is_torn(alloc: Global, row: &Torn) -> bool {
-    match changed(alloc, row.changes) {
-        Some(disk) => holds(alloc, &mut disk.crash(&choice(alloc, row.fates)), row.left),
-        None => false,
-    }
-}
-
 #[test]
 fn a_crash_tears_each_change_by_its_fate(rt: HostRuntime) {
     for (number, row) in TORN.iter().enumerate() {
-        assert!(rt; is_torn(rt.alloc(), row), "row {number}");
+        let crash = [Step::Crash(row.fates), Step::Holds(row.left)];
+        holds_at(&rt, lives(rt.alloc(), row.changes, &crash), number);
     }
 }
 
@@ -344,7 +334,6 @@ static LIVES: [&[Step]; 5] = [
 #[test]
 fn disks_over_their_lives(rt: HostRuntime) {
     for (number, steps) in LIVES.iter().enumerate() {
-        let gone = go(rt.alloc(), steps);
-        assert!(rt; gone == steps.len(), "step {gone} of life {number}");
+        holds_at(&rt, lives(rt.alloc(), steps, &[]), number);
     }
 }

@@ -1,5 +1,7 @@
 //! Disks over files.
+use crate::devices::{read_back, sent};
 use crate::folder::Folder;
+use crate::tables::row_holds;
 use disk::Disk;
 use filedisk::FileDisk;
 use std::alloc::Global;
@@ -17,7 +19,7 @@ enum There {
 }
 
 #[derive(Clone, Copy)]
-enum Call {
+pub enum Call {
     Create,
     Open,
 }
@@ -82,45 +84,50 @@ static ASKED: [Asked; 8] = [
     },
 ];
 
-// Puts it there. A disk that holds the file is handed out.
-fn put(rt: &HostRuntime, path: &str, there: There) -> Option<Option<FileDisk>> {
+fn is_put(rt: &HostRuntime, path: &str, there: There) -> bool {
     match there {
-        There::Nothing => {}
-        There::Folder => fs::create_dir(rt, path).ok()?,
-        There::File | There::Held => fs::write(rt, path, "bytes").ok()?,
-    }
-    match there {
-        There::Held => Some(Some(FileDisk::open(rt, path).ok()?)),
-        _ => Some(None),
+        There::Nothing => true,
+        There::Folder => fs::create_dir(rt, path).is_ok(),
+        There::File | There::Held => fs::write(rt, path, "bytes").is_ok(),
     }
 }
 
-fn answer(rt: &HostRuntime, path: &str, call: Call) -> Result<u64, Fault> {
-    let disk = match call {
-        Call::Create => FileDisk::create(rt, path)?,
-        Call::Open => FileDisk::open(rt, path)?,
+/// The length of the file that is taken, or how it is refused.
+pub fn answer(rt: &HostRuntime, path: &str, call: Call) -> Result<u64, Fault> {
+    let taken = match call {
+        Call::Create => FileDisk::create(rt, path),
+        Call::Open => FileDisk::open(rt, path),
     };
-    Ok(disk.len())
+    match taken {
+        Ok(disk) => {
+            let len = disk.len();
+            drop(disk);
+            Ok(len)
+        }
+        Err(fault) => Err(fault),
+    }
 }
 
-// How the call is answered at a path in a new folder.
-fn answered(rt: &HostRuntime, row: &Asked) -> Option<Result<u64, Fault>> {
-    let folder = Folder::new(rt)?;
-    let path = folder.path(rt.alloc(), "log")?;
-    let held = put(rt, path.as_str(), row.there)?;
-    let answer = answer(rt, path.as_str(), row.call);
-    drop(held);
-    if folder.remove(rt) {
-        Some(answer)
-    } else {
-        None
+// The call is answered so at a path where nothing is yet.
+fn is_answered_so(rt: &HostRuntime, path: &str, row: &Asked) -> bool {
+    if !is_put(rt, path, row.there) {
+        return false;
     }
+    let held = match row.there {
+        There::Held => FileDisk::open(rt, path).ok(),
+        _ => None,
+    };
+    let answer = answer(rt, path, row.call);
+    drop(held);
+    answer == row.wanted
 }
 
 #[test]
 fn files_that_are_there_or_not(rt: HostRuntime) {
     for row in &ASKED {
-        assert!(rt; answered(&rt, row) == Some(row.wanted), "{}", row.what);
+        let folder = Folder::new(&rt, &rt);
+        let so = is_answered_so(&rt, folder.log(), row);
+        row_holds(&rt, folder.remove(&rt) && so, row.what);
     }
 }
 
@@ -158,22 +165,18 @@ static NAMED: [Named; 6] = [
     },
 ];
 
-fn made_at(rt: &HostRuntime, path: &str) -> Option<Result<u64, Fault>> {
-    let folder = Folder::new(rt)?;
-    env::set_current_dir(rt, folder.path(rt.alloc(), "")?.as_str()).ok()?;
-    fs::create_dir(rt, "logs").ok()?;
-    let answer = answer(rt, path, Call::Create);
-    if folder.remove(rt) {
-        Some(answer)
-    } else {
-        None
-    }
+fn is_made_so(rt: &HostRuntime, folder: &str, row: &Named) -> bool {
+    env::set_current_dir(rt, folder).is_ok()
+        && fs::create_dir(rt, "logs").is_ok()
+        && answer(rt, row.path, Call::Create) == row.wanted
 }
 
 #[test]
 fn paths_of_new_files(rt: HostRuntime) {
     for row in &NAMED {
-        assert!(rt; made_at(&rt, row.path) == Some(row.wanted), "{}", row.path);
+        let folder = Folder::new(&rt, &rt);
+        let so = is_made_so(&rt, folder.path(), row);
+        row_holds(&rt, folder.remove(&rt) && so, row.path);
     }
 }
 
@@ -185,7 +188,7 @@ enum Step {
     Sync,
     Reserve(u64),
     Arm(Option<u64>),
-    // The system refuses.
+    // The system refuses. A read is of at most 4 bytes.
     ReadFails(u64, usize),
     WriteFails(u64, &'static [u8]),
     CutFails(u64),
@@ -251,77 +254,69 @@ static RUNS: [Run; 4] = [
     },
 ];
 
-fn content(alloc: Global, disk: &mut FileDisk) -> Result<Vec<u8>, Fault> {
-    let mut bytes = Vec::from_elem(alloc, 0, disk.len() as usize)?;
-    disk.read_at(0, &mut bytes)?;
-    Ok(bytes)
-}
-
-/// Whether these are all the bytes that are read.
-pub fn holds(alloc: Global, disk: &mut FileDisk, bytes: &[u8]) -> bool {
-    match content(alloc, disk) {
-        Ok(found) => found.as_slice() == bytes,
-        Err(_) => false,
-    }
-}
-
-fn has_failed(answer: Result<(), Fault>) -> bool {
-    matches!(answer, Err(Fault::Device))
-}
-
-fn read_fails(alloc: Global, disk: &mut FileDisk, at: u64, count: usize) -> bool {
-    match Vec::from_elem(alloc, 0, count) {
-        Ok(mut bytes) => has_failed(disk.read_at(at, &mut bytes)),
-        Err(_) => false,
+// What the call of a step answers.
+fn called(alloc: Global, disk: &mut FileDisk, step: Step) -> Result<(), Fault> {
+    match step {
+        Step::Write(at, bytes) | Step::WriteFails(at, bytes) => disk.write_at(at, bytes),
+        Step::Cut(len) | Step::CutFails(len) => disk.cut(len),
+        Step::Sync => disk.sync(),
+        Step::Reserve(bytes) => disk.reserve(bytes),
+        Step::Arm(call) => {
+            disk.arm(call);
+            Ok(())
+        }
+        Step::ReadFails(at, count) => match [0u8; 4].get_mut(..count) {
+            Some(buffer) => disk.read_at(at, buffer),
+            None => Err(Fault::Room),
+        },
+        Step::Holds(bytes) => read_back(alloc, disk, bytes),
     }
 }
 
 fn goes_well(alloc: Global, disk: &mut FileDisk, step: Step) -> bool {
+    let answer = called(alloc, disk, step);
     match step {
-        Step::Write(at, bytes) => disk.write_at(at, bytes).is_ok(),
-        Step::Cut(len) => disk.cut(len).is_ok(),
-        Step::Sync => disk.sync().is_ok(),
-        Step::Reserve(bytes) => disk.reserve(bytes).is_ok(),
-        Step::Arm(call) => {
-            disk.arm(call);
-            true
-        }
-        Step::ReadFails(at, count) => read_fails(alloc, disk, at, count),
-        Step::WriteFails(at, bytes) => has_failed(disk.write_at(at, bytes)),
-        Step::CutFails(len) => has_failed(disk.cut(len)),
-        Step::Holds(bytes) => holds(alloc, disk, bytes),
+        Step::ReadFails(..) | Step::WriteFails(..) | Step::CutFails(..) => answer
+            == Err(Fault::Device),
+        _ => answer.is_ok(),
     }
 }
 
-// A disk may go to another thread.
-fn sent<T: Send>(value: T) -> T {
-    value
-}
-
-fn go_well(rt: &HostRuntime, path: &str, steps: &[Step]) -> Option<bool> {
-    let mut disk = sent(FileDisk::create(rt, path).ok()?);
+fn go_well(alloc: Global, disk: &mut FileDisk, steps: &[Step]) -> bool {
     for step in steps {
-        if !goes_well(rt.alloc(), &mut disk, *step) {
-            return Some(false);
+        if !goes_well(alloc, disk, *step) {
+            return false;
         }
     }
-    Some(true)
+    true
 }
 
-// Whether each step goes well, and the file opened again has the bytes.
-fn runs(rt: &HostRuntime, row: &Run) -> Option<bool> {
-    let folder = Folder::new(rt)?;
-    let path = folder.path(rt.alloc(), "log")?;
-    let went = go_well(rt, path.as_str(), row.steps)?;
-    let mut again = FileDisk::open(rt, path.as_str()).ok()?;
-    let kept = holds(rt.alloc(), &mut again, row.left);
-    drop(again);
-    Some(went && kept && folder.remove(rt))
+/// Whether the file, when it is opened, has these bytes.
+pub fn keeps(rt: &HostRuntime, path: &str, bytes: &[u8]) -> bool {
+    let Ok(mut disk) = FileDisk::open(rt, path) else {
+        return false;
+    };
+    let kept = read_back(rt.alloc(), &mut disk, bytes).is_ok();
+    drop(disk);
+    kept
+}
+
+// Whether each step on a new file goes well, and the file opened again has the bytes.
+fn runs(rt: &HostRuntime, path: &str, row: &Run) -> bool {
+    let Ok(created) = FileDisk::create(rt, path) else {
+        return false;
+    };
+    let mut disk = sent(created);
+    let went = go_well(rt.alloc(), &mut disk, row.steps);
+    drop(disk);
+    went && keeps(rt, path, row.left)
 }
 
 #[test]
 fn runs_of_calls(rt: HostRuntime) {
     for row in &RUNS {
-        assert!(rt; matches!(runs(&rt, row), Some(true)), "{}", row.what);
+        let folder = Folder::new(&rt, &rt);
+        let went = runs(&rt, folder.log(), row);
+        row_holds(&rt, folder.remove(&rt) && went, row.what);
     }
 }

@@ -1,42 +1,18 @@
 //! Logs in files.
-use crate::disks::holds;
+use crate::disks::{Call, answer, keeps};
+use crate::files::{open, put_lines, refusal};
 use crate::folder::Folder;
+use crate::lines::Line;
 use filedisk::FileDisk;
-use gatelog::{Entry, GateLog, Logged};
+use gatelog::{Entry, GateLog};
 use record::Record;
-use std::alloc::Global;
-use units::{Epoch, Fault};
+use units::Fault;
 
 // The header; Opened 1; Opened 2; a closed gate.
 const TWO_OPENINGS: &[u8] = &[
     0x53, 0x50, 0x4e, 0x4c, 0x4f, 0x47, 0x30, 0x31, 0xa5, 0, 0, 0, 9, 1, 0, 0, 0, 0, 0, 0, 0, 1,
     0xa5, 0, 0, 0, 9, 1, 0, 0, 0, 0, 0, 0, 0, 2, 0,
 ];
-
-fn formatted(rt: &HostRuntime, path: &str) -> Option<GateLog<FileDisk>> {
-    GateLog::format(FileDisk::create(rt, path).ok()?).ok()
-}
-
-fn open(rt: &HostRuntime, path: &str) -> Option<(GateLog<FileDisk>, Vec<Entry>)> {
-    GateLog::open(rt.alloc(), FileDisk::open(rt, path).ok()?).ok()
-}
-
-fn spent(logged: Result<Logged, Fault>) -> bool {
-    match logged {
-        Ok(logged) => {
-            let _ = logged.spend();
-            true
-        }
-        Err(_) => false,
-    }
-}
-
-// Whether the opening of an epoch was logged.
-fn put(alloc: Global, log: &mut GateLog<FileDisk>, epoch: u64) -> Option<bool> {
-    let epoch = Epoch::new(epoch)?;
-    let staged = log.stage(alloc, Record::Opened { epoch }).ok()?;
-    Some(spent(log.append(staged)))
-}
 
 // Whether the entries are the openings of the epochs from 1 on, as many.
 fn are_openings(entries: &[Entry], count: usize) -> bool {
@@ -50,45 +26,51 @@ fn are_openings(entries: &[Entry], count: usize) -> bool {
     entries.len() == count
 }
 
-// The log is made, and each later opening finds the records before it and adds one.
-fn goes_on(rt: &HostRuntime, path: &str) -> Option<bool> {
-    let mut log = formatted(rt, path)?;
-    let first = put(rt.alloc(), &mut log, 1)?;
-    let locked_out = open(rt, path).is_none();
+// The log is made, takes its first record, and is not opened meanwhile.
+fn begins(rt: &HostRuntime, path: &str) -> bool {
+    let Ok(disk) = FileDisk::create(rt, path) else {
+        return false;
+    };
+    let Ok(mut log) = GateLog::format(disk) else {
+        return false;
+    };
+    let begun = put_lines(rt.alloc(), &mut log, &[Line::Opened(1)])
+        && answer(rt, path, Call::Open).is_err();
     drop(log);
-    let (mut log, one) = open(rt, path)?;
-    let second = put(rt.alloc(), &mut log, 2)?;
-    drop(log);
-    let (log, two) = open(rt, path)?;
-    let written = holds(rt.alloc(), &mut log.into_disk(), TWO_OPENINGS);
-    Some(first && locked_out && second && written && are_openings(&one, 1) && are_openings(&two, 2))
+    begun
 }
 
-fn goes_on_in_a_folder(rt: &HostRuntime) -> Option<bool> {
-    let folder = Folder::new(rt)?;
-    let path = folder.path(rt.alloc(), "shard-0.log")?;
-    let went = goes_on(rt, path.as_str())?;
-    Some(folder.remove(rt) && went)
+// It is opened with so many records, and takes more.
+fn goes_on(rt: &HostRuntime, path: &str, count: usize, more: &[Line]) -> bool {
+    let Ok(disk) = FileDisk::open(rt, path) else {
+        return false;
+    };
+    let Ok((mut log, entries)) = open(rt.alloc(), disk) else {
+        return false;
+    };
+    let went = are_openings(&entries, count) && put_lines(rt.alloc(), &mut log, more);
+    drop(entries);
+    drop(log);
+    went
 }
 
 #[test]
 fn a_log_is_opened_again(rt: HostRuntime) {
-    assert!(rt; matches!(goes_on_in_a_folder(&rt), Some(true)));
-}
-
-// How a file that is no log is refused.
-fn refusal(rt: &HostRuntime) -> Option<Fault> {
-    let folder = Folder::new(rt)?;
-    let path = folder.path(rt.alloc(), "shard-0.log")?;
-    let empty = FileDisk::create(rt, path.as_str()).ok()?;
-    let fault = match GateLog::open(rt.alloc(), empty) {
-        Ok(_) => None,
-        Err((fault, _)) => Some(fault),
-    };
-    if folder.remove(rt) { fault } else { None }
+    let folder = Folder::new(&rt, &rt);
+    let path = folder.log();
+    let opened = begins(&rt, path)
+        && goes_on(&rt, path, 1, &[Line::Opened(2)])
+        && goes_on(&rt, path, 2, &[])
+        && keeps(&rt, path, TWO_OPENINGS);
+    assert!(rt; folder.remove(&rt) && opened);
 }
 
 #[test]
 fn a_new_file_is_no_log(rt: HostRuntime) {
-    assert!(rt; matches!(refusal(&rt), Some(Fault::NotALog)));
+    let folder = Folder::new(&rt, &rt);
+    let refused = match FileDisk::create(&rt, folder.log()) {
+        Ok(empty) => refusal(rt.alloc(), empty),
+        Err(_) => None,
+    };
+    assert!(rt; folder.remove(&rt) && refused == Some(Fault::NotALog));
 }

@@ -1,10 +1,13 @@
 //! The log in its file.
+use crate::devices::{crash, read_back};
 use crate::lines::{Line, is_spelled, record_of};
 use crate::spellings::COMMIT;
+use crate::tables::{holds_at, row_holds};
 use disk::{Disk, Fate};
 use gatelog::{Entry, GateLog, Logged};
+use made::stamp;
 use record::Record;
-use simdisk::{Choice, SimDisk};
+use simdisk::SimDisk;
 use std::alloc::Global;
 use units::Fault;
 
@@ -16,16 +19,37 @@ const WHOLE: &[u8] = &[
     0, 0, 0, 0, 0, 0, 0, 1, 1, 0, 0, 0, 0, 0, 0, 0, 0x6f, 0,
 ];
 
-pub fn open(alloc: Global, disk: SimDisk) -> Result<(GateLog<SimDisk>, Vec<Entry>), Fault> {
+type Opened<D> = Result<(GateLog<D>, Vec<Entry>), Fault>;
+
+/// The log that is on a disk, and its entries.
+pub fn open<D: Disk + Drop>(alloc: Global, disk: D) -> Opened<D> {
     match GateLog::open(alloc, disk) {
         Ok(opened) => Ok(opened),
-        Err((fault, _)) => Err(fault),
+        Err((fault, disk)) => {
+            drop(disk);
+            Err(fault)
+        }
+    }
+}
+
+/// How the log on a disk is refused.
+pub fn refusal<D: Disk + Drop>(alloc: Global, disk: D) -> Option<Fault> {
+    match open(alloc, disk) {
+        Ok((log, entries)) => {
+            drop(log);
+            drop(entries);
+            None
+        }
+        Err(fault) => Some(fault),
     }
 }
 
 pub fn entries_in(alloc: Global, disk: SimDisk) -> Option<Vec<Entry>> {
     match open(alloc, disk) {
-        Ok((_, entries)) => Some(entries),
+        Ok((log, entries)) => {
+            drop(log);
+            Some(entries)
+        }
         Err(_) => None,
     }
 }
@@ -33,7 +57,7 @@ pub fn entries_in(alloc: Global, disk: SimDisk) -> Option<Vec<Entry>> {
 fn spent(logged: Result<Logged, Fault>) -> Result<(), Fault> {
     match logged {
         Ok(logged) => {
-            let _ = logged.spend();
+            drop(logged.spend());
             Ok(())
         }
         Err(fault) => Err(fault),
@@ -41,18 +65,24 @@ fn spent(logged: Result<Logged, Fault>) -> Result<(), Fault> {
 }
 
 /// Whether the record was logged.
-pub fn put(alloc: Global, log: &mut GateLog<SimDisk>, item: Record) -> bool {
+pub fn put<D: Disk>(alloc: Global, log: &mut GateLog<D>, item: Record) -> bool {
     match log.stage(alloc, item) {
         Ok(staged) => spent(log.append(staged)).is_ok(),
         Err(_) => false,
     }
 }
 
-fn put_line(alloc: Global, log: &mut GateLog<SimDisk>, line: Line) -> bool {
-    match record_of(alloc, line) {
-        Some(item) => put(alloc, log, item),
-        None => false,
+/// Whether all of these records were logged.
+pub fn put_lines<D: Disk>(alloc: Global, log: &mut GateLog<D>, lines: &[Line]) -> bool {
+    for line in lines {
+        let Some(item) = record_of(alloc, *line) else {
+            return false;
+        };
+        if !put(alloc, log, item) {
+            return false;
+        }
     }
+    true
 }
 
 /// A new log with these records.
@@ -60,34 +90,40 @@ pub fn log_of(alloc: Global, lines: &[Line]) -> Option<GateLog<SimDisk>> {
     let Ok(mut log) = GateLog::format(SimDisk::new(alloc)) else {
         return None;
     };
-    for line in lines {
-        if !put_line(alloc, &mut log, *line) {
-            return None;
-        }
+    if put_lines(alloc, &mut log, lines) {
+        Some(log)
+    } else {
+        drop(log);
+        None
     }
-    Some(log)
 }
 
-fn bytes_of(alloc: Global, disk: &mut SimDisk) -> Result<Vec<u8>, Fault> {
-    let mut bytes = Vec::from_elem(alloc, 0, disk.len() as usize)?;
-    disk.read_at(0, &mut bytes)?;
-    Ok(bytes)
-}
-
-fn has_bytes(alloc: Global, disk: &mut SimDisk, bytes: &[u8]) -> bool {
-    match bytes_of(alloc, disk) {
-        Ok(found) => found.as_slice() == bytes,
-        Err(_) => false,
+/// The entries of such a log.
+pub fn entries_of(alloc: Global, lines: &[Line]) -> Option<Vec<Entry>> {
+    match log_of(alloc, lines) {
+        Some(log) => entries_in(alloc, log.into_disk()),
+        None => None,
     }
 }
 
 fn have_offsets(entries: &[Entry], offsets: &[u64]) -> bool {
-    for (entry, offset) in entries.iter().zip(offsets.iter()) {
-        if entry.offset() != *offset {
-            return false;
+    for (number, entry) in entries.iter().enumerate() {
+        match offsets.get(number) {
+            Some(offset) if entry.offset() == *offset => {}
+            _ => return false,
         }
     }
     entries.len() == offsets.len()
+}
+
+// The entries on the disk stand there.
+fn stand_at(alloc: Global, disk: SimDisk, offsets: &[u64]) -> bool {
+    let Some(entries) = entries_in(alloc, disk) else {
+        return false;
+    };
+    let stand = have_offsets(&entries, offsets);
+    drop(entries);
+    stand
 }
 
 // A log, its file, and where its entries stand.
@@ -120,36 +156,39 @@ const ONE_COMMIT: &[Line] = &[
     Line::Committed(1, 111),
 ];
 
-fn is_written(alloc: Global, row: &File) -> Option<bool> {
-    let log = log_of(alloc, row.lines)?;
+fn is_written(alloc: Global, row: &File) -> bool {
+    let Some(log) = log_of(alloc, row.lines) else {
+        return false;
+    };
     let goes_on = !log.is_stopped();
     let mut disk = log.into_disk();
-    let written = has_bytes(alloc, &mut disk, row.bytes);
-    let entries = entries_in(alloc, disk)?;
-    Some(goes_on && written && have_offsets(&entries, row.offsets))
+    let written = read_back(alloc, &mut disk, row.bytes).is_ok();
+    stand_at(alloc, disk, row.offsets) && goes_on && written
 }
 
 #[test]
 fn whole_files(rt: HostRuntime) {
     for row in &FILES {
-        assert!(rt;
-            matches!(is_written(rt.alloc(), row), Some(true)),
-            "{}",
-            row.what
-        );
+        row_holds(&rt, is_written(rt.alloc(), row), row.what);
     }
 }
 
 // The second entry has the record of the second line.
-fn has_its_commit(alloc: Global) -> Option<bool> {
-    let entries = entries_in(alloc, log_of(alloc, ONE_COMMIT)?.into_disk())?;
-    let entry = entries.get(1)?;
-    Some(is_spelled(alloc, entry.item(), COMMIT))
+fn has_its_commit(alloc: Global) -> bool {
+    let Some(entries) = entries_of(alloc, ONE_COMMIT) else {
+        return false;
+    };
+    let has = match entries.get(1) {
+        Some(entry) => is_spelled(alloc, entry.item(), COMMIT),
+        None => false,
+    };
+    drop(entries);
+    has
 }
 
 #[test]
 fn an_entry_has_its_record(rt: HostRuntime) {
-    assert!(rt; matches!(has_its_commit(rt.alloc()), Some(true)));
+    assert!(rt; has_its_commit(rt.alloc()));
 }
 
 // How a file is refused.
@@ -200,28 +239,31 @@ static REFUSED: [Refused; 7] = [
     },
 ];
 
-fn refusal(alloc: Global, bytes: &[u8]) -> Option<Fault> {
+fn refusal_of(alloc: Global, bytes: &[u8]) -> Option<Fault> {
     let mut disk = SimDisk::new(alloc);
     match disk.write_at(0, bytes) {
-        Ok(()) => open(alloc, disk).err(),
-        Err(fault) => Some(fault),
+        Ok(()) => refusal(alloc, disk),
+        Err(fault) => {
+            drop(disk);
+            Some(fault)
+        }
     }
 }
 
 #[test]
 fn damaged_files(rt: HostRuntime) {
     for row in &REFUSED {
-        assert!(rt; refusal(rt.alloc(), row.bytes) == row.fault, "{}", row.what);
+        row_holds(
+            &rt,
+            refusal_of(rt.alloc(), row.bytes) == row.fault,
+            row.what,
+        );
     }
 }
 
-// Logs the record while a call of the append is to fail.
-fn put_armed(
-    alloc: Global,
-    log: &mut GateLog<SimDisk>,
-    item: Record,
-    call: u64,
-) -> Result<(), Fault> {
+// Logs Ceiling 200 while a call of the append is to fail.
+fn append_armed(alloc: Global, log: &mut GateLog<SimDisk>, call: u64) -> Result<(), Fault> {
+    let item = Record::Ceiling { at: stamp(200) };
     match log.stage(alloc, item) {
         Ok(staged) => {
             log.arm(Some(call));
@@ -231,20 +273,15 @@ fn put_armed(
     }
 }
 
-// The same of Ceiling 200.
-fn append_armed(alloc: Global, log: &mut GateLog<SimDisk>, call: u64) -> Result<(), Fault> {
-    match record_of(alloc, Line::Ceiling(200)) {
-        Some(item) => put_armed(alloc, log, item, call),
-        None => Err(Fault::Memory),
-    }
-}
-
 // The same on a log that was opened once, whose closed gate is at 22, and crashes then.
 fn cut_short(alloc: Global, call: u64, fate: Fate) -> Option<SimDisk> {
-    let fates = vec![in alloc; fate; 1].ok()?;
-    let mut log = log_of(alloc, &[Line::Opened(1)])?;
+    let Some(mut log) = log_of(alloc, &[Line::Opened(1)]) else {
+        return None;
+    };
     let _ = append_armed(alloc, &mut log, call);
-    Some(log.into_disk().crash(&Choice::from_vec(fates)))
+    let mut disk = log.into_disk();
+    crash(alloc, &mut disk, &[fate]);
+    Some(disk)
 }
 
 // The call that fails, the fate of what it leaves, and how many entries there are then.
@@ -293,48 +330,58 @@ static CRASHED: [Crashed; 7] = [
     },
 ];
 
-fn entries_left(alloc: Global, row: &Crashed) -> Option<usize> {
-    let disk = cut_short(alloc, row.call, row.fate)?;
-    Some(entries_in(alloc, disk)?.len())
+fn leaves(alloc: Global, row: &Crashed) -> bool {
+    let Some(disk) = cut_short(alloc, row.call, row.fate) else {
+        return false;
+    };
+    let Some(entries) = entries_in(alloc, disk) else {
+        return false;
+    };
+    let count = entries.len();
+    drop(entries);
+    count == row.entries
 }
 
 #[test]
 fn crashes_in_an_append(rt: HostRuntime) {
     for (number, row) in CRASHED.iter().enumerate() {
-        assert!(rt;
-            entries_left(rt.alloc(), row) == Some(row.entries),
-            "row {number}"
-        );
+        holds_at(&rt, leaves(rt.alloc(), row), number);
     }
 }
 
 // The second entry stands where the closed gate was.
-fn is_used_again(alloc: Global) -> Option<bool> {
-    let disk = cut_short(alloc, 2, Fate::Filled(0x37))?;
-    let Ok((mut log, entries)) = open(alloc, disk) else {
-        return None;
+fn is_used_again(alloc: Global) -> bool {
+    let Some(disk) = cut_short(alloc, 2, Fate::Filled(0x37)) else {
+        return false;
     };
-    let logged = entries.len() == 1 && put_line(alloc, &mut log, Line::Ceiling(300));
-    let entries = entries_in(alloc, log.into_disk())?;
-    Some(logged && have_offsets(&entries, &[8, 22]))
+    let Ok((mut log, entries)) = open(alloc, disk) else {
+        return false;
+    };
+    let count = entries.len();
+    drop(entries);
+    let logged = put_lines(alloc, &mut log, &[Line::Ceiling(300)]);
+    stand_at(alloc, log.into_disk(), &[8, 22]) && count == 1 && logged
 }
 
 #[test]
 fn a_closed_gate_is_used_again(rt: HostRuntime) {
-    assert!(rt; matches!(is_used_again(rt.alloc()), Some(true)));
+    assert!(rt; is_used_again(rt.alloc()));
 }
 
 // A failing call stops the log, and the file has both entries, as it is read.
-fn is_stopped_by_a_failure(alloc: Global) -> Option<bool> {
-    let mut log = log_of(alloc, &[Line::Opened(1)])?;
-    let fails = matches!(append_armed(alloc, &mut log, 3), Err(Fault::Device));
+fn is_stopped_by_a_failure(alloc: Global) -> bool {
+    let Some(mut log) = log_of(alloc, &[Line::Opened(1)]) else {
+        return false;
+    };
+    let first = append_armed(alloc, &mut log, 3);
     let is_stopped = log.is_stopped();
-    let refuses = matches!(append_armed(alloc, &mut log, 3), Err(Fault::Stopped));
-    let entries = entries_in(alloc, log.into_disk())?;
-    Some(fails && is_stopped && refuses && entries.len() == 2)
+    let second = append_armed(alloc, &mut log, 3);
+    stand_at(alloc, log.into_disk(), &[8, 22])
+        && is_stopped
+        && [first, second] == [Err(Fault::Device), Err(Fault::Stopped)]
 }
 
 #[test]
 fn a_failure_stops_it(rt: HostRuntime) {
-    assert!(rt; matches!(is_stopped_by_a_failure(rt.alloc()), Some(true)));
+    assert!(rt; is_stopped_by_a_failure(rt.alloc()));
 }

@@ -1,5 +1,5 @@
 //! A folder for one test.
-use std::alloc::Global;
+use std::process::Abort;
 use std::rt::Files;
 use std::{env, fs, io};
 
@@ -7,28 +7,60 @@ use std::{env, fs, io};
 #[derive(Drop)]
 pub struct Folder {
     path: String,
+    log: String,
 }
 
 impl Folder {
-    /// Makes a folder where temporary files go, under a name that nothing has there.
-    pub fn new(rt: &HostRuntime) -> Option<Folder> {
-        let base = env::temp_dir(rt).ok()?;
-        for number in 0..10_000u64 {
-            let path = format!(in rt.alloc(); "{}/file-tests-{number}", base.as_str()).ok()?;
-            if fs::create_dir(rt, path.as_str()).is_ok() {
-                return Some(Folder { path });
-            }
-        }
-        None
+    /// Makes a folder where temporary files go, under a name that nothing has there. Where it fails, the test ends.
+    pub fn new(rt: &HostRuntime, test: &impl Abort) -> Folder {
+        Folder::made(rt).expect(test, "no folder is made")
     }
 
-    /// The path of a name in it.
-    pub fn path(&self, alloc: Global, name: &str) -> Option<String> {
-        format!(in alloc; "{}/{name}", self.path.as_str()).ok()
+    fn made(rt: &HostRuntime) -> Option<Folder> {
+        let Ok(base) = env::temp_dir(rt) else {
+            return None;
+        };
+        let path = new_folder(rt, base.as_str());
+        drop(base);
+        let Some(path) = path else {
+            return None;
+        };
+        match format!(in rt.alloc(); "{}/shard-0.log", path.as_str()) {
+            Ok(log) => Some(Folder { path, log }),
+            Err(_) => {
+                drop(path);
+                None
+            }
+        }
+    }
+
+    pub fn path(&self) -> &str {
+        self.path.as_str()
+    }
+
+    /// The path of a log in it, which the test may make.
+    pub fn log(&self) -> &str {
+        self.log.as_str()
     }
 
     /// Removes it with all that is in it. Whether it is gone.
     pub fn remove(self, rt: &HostRuntime) -> bool {
-        fs::remove_dir_all(rt, self.path.as_str()).is_ok()
+        let removed = fs::remove_dir_all(rt, self.path.as_str());
+        drop(self);
+        removed.is_ok()
     }
+}
+
+// Makes the first of these folders that is not there.
+fn new_folder(rt: &HostRuntime, base: &str) -> Option<String> {
+    for number in 0..10_000u64 {
+        let Ok(path) = format!(in rt.alloc(); "{base}/file-tests-{number}") else {
+            return None;
+        };
+        if fs::create_dir(rt, path.as_str()).is_ok() {
+            return Some(path);
+        }
+        drop(path);
+    }
+    None
 }

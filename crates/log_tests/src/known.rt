@@ -1,31 +1,39 @@
 //! What a log determines, and which records may come next.
 use crate::lines::{Line, record_of};
+use crate::tables::row_holds;
 use facts::{Facts, Status};
-use made::{id, shard};
+use made::{id, key, shard};
 use record::{Committed, Prepared};
 use std::alloc::Global;
-use units::{Fault, Stamp};
+use units::{Fault, Install, Stamp};
 
-// Learns a record, where it may come next.
-fn learns(alloc: Global, facts: &mut Facts, line: Line) -> bool {
-    let Some(item) = record_of(alloc, line) else {
-        return false;
-    };
+// Learns a record, where it may come next; where not, it is refused as damage, handed back, and does not follow. Whether it is as
+// wanted.
+fn comes(alloc: Global, facts: &mut Facts, line: Line, learnt: bool) -> bool {
     let Ok(()) = facts.reserve() else {
         return false;
     };
-    facts.learn(8, item).is_ok()
-}
-
-// What a shard knows after some records.
-fn after(alloc: Global, number: u8, lines: &[Line]) -> Option<Facts> {
-    let mut facts = Facts::new(alloc, shard(number));
-    for line in lines {
-        if !learns(alloc, &mut facts, *line) {
-            return None;
+    let Some(item) = record_of(alloc, line) else {
+        return false;
+    };
+    match facts.learn(64, item) {
+        Ok(()) => learnt,
+        Err((fault, back)) => {
+            let follows = facts.follows(&back);
+            drop(back);
+            !learnt && !follows && fault == Fault::Damaged { offset: 64 }
         }
     }
-    Some(facts)
+}
+
+// Whether each is learnt, or each refused.
+fn all_come(alloc: Global, facts: &mut Facts, lines: &[Line], learnt: bool) -> bool {
+    for line in lines {
+        if !comes(alloc, facts, *line, learnt) {
+            return false;
+        }
+    }
+    true
 }
 
 // How it stands with a transaction: the timestamps of its promise and of its decision, whether it was aborted, its outcome, and
@@ -195,47 +203,63 @@ static DETERMINED: [Determined; 5] = [
     },
 ];
 
-fn promised_at(prepared: Option<&Prepared>) -> Option<u64> {
-    Some(prepared?.at.micros())
-}
-
-fn decided_at(committed: Option<&Committed>) -> Option<u64> {
-    Some(committed?.at.micros())
-}
-
-fn ended_at(outcome: Option<Option<Stamp>>) -> Option<Option<u64>> {
-    match outcome? {
-        Some(at) => Some(Some(at.micros())),
-        None => Some(None),
+// By what readers find.
+fn standing(
+    number: u16,
+    prepared: Option<&Prepared>,
+    decided: Option<&Committed>,
+    outcome: Option<Option<Stamp>>,
+    aborted: bool,
+    settled: bool,
+) -> Known {
+    Known {
+        number,
+        prepared: match prepared {
+            Some(promise) => Some(promise.at.micros()),
+            None => None,
+        },
+        decided: match decided {
+            Some(decision) => Some(decision.at.micros()),
+            None => None,
+        },
+        aborted,
+        outcome: match outcome {
+            Some(Some(at)) => Some(Some(at.micros())),
+            Some(None) => Some(None),
+            None => None,
+        },
+        settled,
     }
 }
 
 // By the readers of the facts.
 fn known_of(facts: &Facts, number: u16) -> Known {
     let txn = id(number);
-    Known {
-        number,
-        prepared: promised_at(facts.prepared(txn)),
-        decided: decided_at(facts.committed(txn)),
-        aborted: facts.aborted(txn),
-        outcome: ended_at(facts.outcome(txn)),
-        settled: matches!(facts.status(txn), Some(Status::Settled { .. })),
-    }
+    let settled = matches!(facts.status(txn), Some(Status::Settled { .. }));
+    let (prepared, decided) = (facts.prepared(txn), facts.committed(txn));
+    let (outcome, aborted) = (facts.outcome(txn), facts.aborted(txn));
+    standing(number, prepared, decided, outcome, aborted, settled)
 }
 
 // By the readers of its status.
 fn known_by_status(facts: &Facts, number: u16) -> Known {
-    match facts.status(id(number)) {
-        Some(status) => Known {
-            number,
-            prepared: promised_at(status.prepared()),
-            decided: decided_at(status.committed()),
-            aborted: matches!(status, Status::Aborted),
-            outcome: ended_at(status.outcome()),
-            settled: matches!(status, Status::Settled { .. }),
-        },
-        None => Known { number, ..UNKNOWN },
-    }
+    let Some(status) = facts.status(id(number)) else {
+        return Known { number, ..UNKNOWN };
+    };
+    let (aborted, settled) = match status {
+        Status::Aborted => (true, false),
+        Status::Settled { .. } => (false, true),
+        _ => (false, false),
+    };
+    let (prepared, decided) = (status.prepared(), status.committed());
+    standing(
+        number,
+        prepared,
+        decided,
+        status.outcome(),
+        aborted,
+        settled,
+    )
 }
 
 fn are_known(facts: &Facts, rows: &[Known]) -> bool {
@@ -247,35 +271,32 @@ fn are_known(facts: &Facts, rows: &[Known]) -> bool {
     true
 }
 
-fn has_installs(facts: &Facts, rows: &[(u64, u8)]) -> bool {
-    for (install, row) in facts.installs().iter().zip(rows.iter()) {
-        if install.at.micros() != row.0 || install.key.as_bytes() != [row.1].as_slice() {
-            return false;
+fn are_installs(installs: &[Install], rows: &[(u64, u8)]) -> bool {
+    for (number, install) in installs.iter().enumerate() {
+        match rows.get(number) {
+            Some((at, letter)) if install.at.micros() == *at && install.key.is(&key(*letter)) => {}
+            _ => return false,
         }
     }
-    facts.installs().len() == rows.len()
+    installs.len() == rows.len()
 }
 
-fn has_ends(facts: &Facts, row: &Determined) -> bool {
-    facts.shard().number() == row.shard
-        && facts.epoch() == row.epoch
-        && facts.floor().micros() == row.floor
-}
-
-fn determines(alloc: Global, row: &Determined) -> Option<bool> {
-    let facts = after(alloc, row.shard, row.lines)?;
-    let ends = has_ends(&facts, row) && has_installs(&facts, row.installs);
-    Some(ends && are_known(&facts, row.known))
+fn determines(alloc: Global, row: &Determined) -> bool {
+    let mut facts = Facts::new(alloc, shard(row.shard));
+    let come = all_come(alloc, &mut facts, row.lines, true);
+    let (number, floor) = (facts.shard().number(), facts.floor().micros());
+    let determined = come
+        && (number, facts.epoch(), floor) == (row.shard, row.epoch, row.floor)
+        && are_installs(facts.installs(), row.installs)
+        && are_known(&facts, row.known);
+    drop(facts);
+    determined
 }
 
 #[test]
 fn what_logs_determine(rt: HostRuntime) {
     for row in &DETERMINED {
-        assert!(rt;
-            matches!(determines(rt.alloc(), row), Some(true)),
-            "{}",
-            row.what
-        );
+        row_holds(&rt, determines(rt.alloc(), row), row.what);
     }
 }
 
@@ -366,39 +387,18 @@ static DAMAGED: [Damaged; 9] = [
     },
 ];
 
-// The record may not come next, and is handed back.
-fn refuses(alloc: Global, facts: &mut Facts, last: Line) -> bool {
-    let Some(item) = record_of(alloc, last) else {
-        return false;
-    };
-    let Ok(()) = facts.reserve() else {
-        return false;
-    };
-    match facts.learn(64, item) {
-        Ok(()) => false,
-        Err((fault, back)) => {
-            matches!(fault, Fault::Damaged { offset: 64 }) && !facts.follows(&back)
-        }
-    }
-}
-
-// The last record may not come next; all before it may.
-fn is_damaged(alloc: Global, row: &Damaged, last: Line) -> bool {
-    match after(alloc, row.shard, row.lines) {
-        Some(mut facts) => refuses(alloc, &mut facts, last),
-        None => false,
-    }
+// None of the last records may come next; all before them may.
+fn are_damaged(alloc: Global, row: &Damaged) -> bool {
+    let mut facts = Facts::new(alloc, shard(row.shard));
+    let damaged = all_come(alloc, &mut facts, row.lines, true)
+        && all_come(alloc, &mut facts, row.last, false);
+    drop(facts);
+    damaged
 }
 
 #[test]
 fn records_that_may_not_come(rt: HostRuntime) {
     for row in &DAMAGED {
-        for (number, last) in row.last.iter().enumerate() {
-            assert!(rt;
-                is_damaged(rt.alloc(), row, *last),
-                "{number} behind {}",
-                row.what
-            );
-        }
+        row_holds(&rt, are_damaged(rt.alloc(), row), row.what);
     }
 }

@@ -2,12 +2,12 @@
 ghost use Rattle.std.specs.Prelude.{◌≡◌, None};
 ghost use Rattle.memory.specs.Ledger.{outcome_stamp};
 
-use crate::lines::{Line, byte, record_of};
+use crate::lines::{byte, promise};
 use made::{id, key, shard, stamp};
 use memory::{Ended, Ledger};
 use record::Record;
 use std::alloc::Global;
-use units::{TxnId, Writes};
+use units::{Epoch, TxnId, Writes};
 
 // Learns a record that installs nothing, where it may come next.
 #[tactic(auto, using(memory::proofs::Learns::installs_nothing))]
@@ -15,22 +15,25 @@ fn learn(alloc: Global, ledger: &mut Ledger, item: Record) -> bool
     requires { outcome_stamp item ≡ None }
 {
     let Ok(()) = ledger.reserve() else {
+        drop(item);
         return false;
     };
-    if !ledger.follows(&item) {
-        return false;
+    let follows = ledger.follows(&item);
+    if follows {
+        ledger.learn(item, Writes::none(alloc));
+    } else {
+        drop(item);
     }
-    ledger.learn(item, Writes::none(alloc));
-    true
+    follows
 }
 
 // Learns that transaction 1 committed at 120, where that may come next.
 fn settle(alloc: Global, ledger: &mut Ledger) -> bool {
     let (txn, at) = (id(1), stamp(120));
-    let Ok(copied) = ledger.copy_of_writes(alloc, txn) else {
+    let Ok(()) = ledger.reserve() else {
         return false;
     };
-    let Ok(()) = ledger.reserve() else {
+    let Ok(copied) = ledger.copy_of_writes(alloc, txn) else {
         return false;
     };
     let item = Record::Outcome {
@@ -40,67 +43,56 @@ fn settle(alloc: Global, ledger: &mut Ledger) -> bool {
     let fits = ledger.follows(&item) && ledger.takes(&copied, at);
     if fits {
         ledger.learn(item, copied);
+    } else {
+        drop(item);
+        drop(copied);
     }
     fits
 }
 
-// Learns a record that is no outcome.
-fn learn_line(alloc: Global, ledger: &mut Ledger, line: Line) -> bool {
-    let Some(item) = record_of(alloc, line) else {
+// The shard is opened, and transaction 1 promises at 111 to write to `a`.
+fn prepare(alloc: Global, ledger: &mut Ledger) -> bool {
+    let Some(epoch) = Epoch::new(1) else {
         return false;
     };
-    match item {
-        Record::Outcome { .. } => false,
-        Record::Opened { epoch } => learn(alloc, ledger, Record::Opened { epoch }),
-        Record::Ceiling { at } => learn(alloc, ledger, Record::Ceiling { at }),
-        Record::Prepare(promise) => learn(alloc, ledger, Record::Prepare(promise)),
-        Record::Commit(commit) => learn(alloc, ledger, Record::Commit(commit)),
-        Record::Abort { txn } => learn(alloc, ledger, Record::Abort { txn }),
+    if !learn(alloc, ledger, Record::Opened { epoch }) {
+        return false;
+    }
+    match promise(alloc, 1, 111, key(b'a'), 0) {
+        Some(promise) => learn(alloc, ledger, Record::Prepare(promise)),
+        None => false,
     }
 }
 
-// The ledger of shard 1, opened once, with one promise that was installed.
-fn settled(alloc: Global) -> Option<Ledger> {
+// What the key `a` holds before, at and after the outcome, and what the ledger has of its records.
+fn is_settled(ledger: &Ledger) -> bool {
+    let key = key(b'a');
+    let before = byte(ledger.at(&key, stamp(119)));
+    let at = byte(ledger.at(&key, stamp(120)));
+    let (floor, shard) = (ledger.floor().micros(), ledger.shard().number());
+    [before, at, byte(ledger.latest(&key))] == [None, Some(b'1'), Some(b'1')]
+        && (ledger.installs().len(), floor, ledger.epoch(), shard) == (1, 120, 1, 1)
+}
+
+// Shard 1 is opened once, and its one promise is settled.
+fn is_installed(alloc: Global) -> bool {
     let mut ledger = Ledger::new(alloc, shard(1));
-    let learnt = learn_line(alloc, &mut ledger, Line::Opened(1))
-        && learn_line(alloc, &mut ledger, Line::Prepare(1, 111, b'a', 0))
-        && settle(alloc, &mut ledger);
-    if learnt { Some(ledger) } else { None }
-}
-
-// The one byte that the key `a` holds at a timestamp.
-fn byte_at(ledger: &Ledger, at: u64) -> Option<u8> {
-    byte(ledger.at(&key(b'a'), stamp(at)))
-}
-
-fn holds_its_write(ledger: &Ledger) -> bool {
-    matches!(byte_at(ledger, 119), None)
-        && matches!(byte_at(ledger, 120), Some(b'1'))
-        && matches!(byte(ledger.latest(&key(b'a'))), Some(b'1'))
-}
-
-fn has_ends(ledger: &Ledger) -> bool {
-    ledger.installs().len() == 1
-        && ledger.floor().micros() == 120
-        && ledger.epoch() == 1
-        && ledger.shard().number() == 1
-}
-
-fn is_installed(alloc: Global) -> Option<bool> {
-    let ledger = settled(alloc)?;
-    Some(holds_its_write(&ledger) && has_ends(&ledger))
+    let installed = prepare(alloc, &mut ledger)
+        && settle(alloc, &mut ledger)
+        && is_settled(&ledger);
+    drop(ledger);
+    installed
 }
 
 #[test]
 fn a_promise_is_installed(rt: HostRuntime) {
-    assert!(rt; matches!(is_installed(rt.alloc()), Some(true)));
+    assert!(rt; is_installed(rt.alloc()));
 }
 
 static ADDED: [u16; 7] = [5, 2, 9, 2, 7, 5, 1];
 
-static KEPT: [u16; 5] = [1, 2, 5, 7, 9];
-
-static ABSENT: [u16; 4] = [0, 3, 8, 10];
+// Runs and numbers in them.
+static ABSENT: [(u64, u64); 5] = [(1, 0), (1, 3), (1, 8), (1, 10), (2, 5)];
 
 // Adds these numbers of run 1, and says whether each is there then.
 fn adds(ended: &mut Ended, numbers: &[u16]) -> bool {
@@ -116,36 +108,28 @@ fn adds(ended: &mut Ended, numbers: &[u16]) -> bool {
     true
 }
 
-fn has_any(ended: &Ended, numbers: &[u16]) -> bool {
-    for number in numbers {
-        if ended.has(id(*number)) {
-            return true;
+fn has_any(ended: &Ended, ids: &[(u64, u64)]) -> bool {
+    for (run, number) in ids {
+        match TxnId::new(*run, *number) {
+            Some(txn) if !ended.has(txn) => {}
+            _ => return true,
         }
     }
     false
 }
 
-fn have_numbers(ids: &[TxnId], numbers: &[u16]) -> bool {
-    for (txn, number) in ids.iter().zip(numbers.iter()) {
-        if txn.number() != u64::from(*number) {
-            return false;
-        }
-    }
-    ids.len() == numbers.len()
-}
-
-fn has_of_another_run(ended: &Ended) -> bool {
-    match TxnId::new(2, 5) {
-        Some(txn) => ended.has(txn),
-        None => true,
-    }
+fn are_added_once(ended: &mut Ended) -> bool {
+    let kept = [id(1), id(2), id(5), id(7), id(9)];
+    !ended.has(id(1))
+        && adds(ended, &ADDED)
+        && ended.as_slice() == kept.as_slice()
+        && !has_any(ended, &ABSENT)
 }
 
 #[test]
 fn ids_are_added_once(rt: HostRuntime) {
     let mut ended = Ended::none(rt.alloc());
-    assert!(rt; !ended.has(id(1)));
-    assert!(rt; adds(&mut ended, &ADDED));
-    assert!(rt; have_numbers(ended.as_slice(), &KEPT));
-    assert!(rt; !has_any(&ended, &ABSENT) && !has_of_another_run(&ended));
+    let added = are_added_once(&mut ended);
+    drop(ended);
+    assert!(rt; added);
 }

@@ -1,9 +1,11 @@
 //! Logs that are opened again: what they leave, and which are refused.
-use crate::files::{entries_in, log_of, put};
+use crate::files::{entries_in, entries_of, log_of, put};
 use crate::lines::{Line, promise};
+use crate::tables::row_holds;
 use gatelog::{Entry, GateLog};
 use made::{key, shard};
 use memory::State;
+use record::Record;
 use recovery::rebuild;
 use simdisk::SimDisk;
 use std::alloc::Global;
@@ -11,7 +13,9 @@ use units::{Book, Fault, Key, Setup, Splits, Stamp, Stride, TxnId};
 
 // A shard of two, which are split at `m`.
 fn setup(alloc: Global, number: u8) -> Option<Setup> {
-    let stride = Stride::new(0)?;
+    let Some(stride) = Stride::new(0) else {
+        return None;
+    };
     let Ok(splits) = Splits::new(alloc, &[key(b'm')]) else {
         return None;
     };
@@ -64,10 +68,19 @@ fn seen(state: &State) -> Shown {
 
 type Rebuilt = Result<Option<Shown>, Fault>;
 
-// What these entries leave of a shard, or why they are refused.
-fn left(alloc: Global, number: u8, entries: &[Entry]) -> Rebuilt {
-    let setup = setup(alloc, number).ok_or(Fault::Memory)?;
-    match rebuild(alloc, entries, &setup) {
+// What the entries of a log leave of a shard, or why they are refused.
+fn left(alloc: Global, number: u8, entries: Option<Vec<Entry>>) -> Rebuilt {
+    let Some(entries) = entries else {
+        return Err(Fault::Memory);
+    };
+    let Some(setup) = setup(alloc, number) else {
+        drop(entries);
+        return Err(Fault::Memory);
+    };
+    let rebuilt = rebuild(alloc, &entries, &setup);
+    drop(entries);
+    drop(setup);
+    match rebuilt {
         Ok(Some(state)) => {
             let left = seen(&state);
             state.stop();
@@ -197,44 +210,42 @@ static REOPENED: [Reopened; 11] = [
     },
 ];
 
-fn what_is_left(alloc: Global, row: &Reopened) -> Rebuilt {
-    let log = log_of(alloc, row.lines).ok_or(Fault::Memory)?;
-    let entries = entries_in(alloc, log.into_disk()).ok_or(Fault::Memory)?;
-    left(alloc, row.shard, &entries)
-}
-
 #[test]
 fn logs_that_are_opened_again(rt: HostRuntime) {
     for row in &REOPENED {
-        assert!(rt; what_is_left(rt.alloc(), row) == row.left, "{}", row.what);
+        let entries = entries_of(rt.alloc(), row.lines);
+        let so = left(rt.alloc(), row.shard, entries) == row.left;
+        row_holds(&rt, so, row.what);
     }
 }
 
-// 1.number promises at 200 to write a key of its own of three bytes.
-fn put_promise(alloc: Global, log: &mut GateLog<SimDisk>, number: u16) -> bool {
-    let Ok(key) = Key::new(&[b'z', (number / 256) as u8, (number % 256) as u8]) else {
-        return false;
-    };
-    match promise(alloc, number, 200, key, 0) {
-        Some(item) => put(alloc, log, item),
-        None => false,
+// Each 1.number promises at 200 to write a key of its own of three bytes.
+fn put_promises(alloc: Global, log: &mut GateLog<SimDisk>, count: u16) -> bool {
+    for number in 0..count {
+        let Ok(key) = Key::new(&[b'z', (number / 256) as u8, (number % 256) as u8]) else {
+            return false;
+        };
+        let Some(promise) = promise(alloc, number, 200, key, 0) else {
+            return false;
+        };
+        if !put(alloc, log, Record::Prepare(promise)) {
+            return false;
+        }
     }
+    true
 }
 
 // The entries of a log with so many promises.
 fn crowd(alloc: Global, count: u16) -> Option<Vec<Entry>> {
-    let mut log = log_of(alloc, &[Line::Opened(1)])?;
-    for number in 0..count {
-        if !put_promise(alloc, &mut log, number) {
-            return None;
-        }
+    let Some(mut log) = log_of(alloc, &[Line::Opened(1)]) else {
+        return None;
+    };
+    if put_promises(alloc, &mut log, count) {
+        entries_in(alloc, log.into_disk())
+    } else {
+        drop(log);
+        None
     }
-    entries_in(alloc, log.into_disk())
-}
-
-fn crowded(alloc: Global, count: u16) -> Rebuilt {
-    let entries = crowd(alloc, count).ok_or(Fault::Memory)?;
-    left(alloc, 1, &entries)
 }
 
 // 1,024 rows may stand, and no more.
@@ -250,6 +261,7 @@ static TOO_MANY: Rebuilt = Err(Fault::Damaged { offset: 44_054 });
 
 #[test]
 fn a_full_table(rt: HostRuntime) {
-    assert!(rt; crowded(rt.alloc(), 1024) == FULL);
-    assert!(rt; crowded(rt.alloc(), 1025) == TOO_MANY);
+    let full = left(rt.alloc(), 1, crowd(rt.alloc(), 1024));
+    let too_many = left(rt.alloc(), 1, crowd(rt.alloc(), 1025));
+    assert!(rt; full == FULL && too_many == TOO_MANY);
 }

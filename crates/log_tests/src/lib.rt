@@ -22,4 +22,6 @@ mod lines;
 #[cfg(test)]
 mod spellings;
 #[cfg(test)]
+mod tables;
+#[cfg(test)]
 mod versioned;

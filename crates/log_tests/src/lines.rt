@@ -20,25 +20,43 @@ pub enum Line {
 }
 
 fn one_write(alloc: Global, key: Key) -> Option<Writes> {
-    let value = Some(Value::new(alloc, b"1").ok()?);
-    let write = Write { key, value };
-    Writes::from_vec(vec![in alloc; write].ok()?).ok()
+    let Ok(value) = Value::new(alloc, b"1") else {
+        return None;
+    };
+    let write = Write {
+        key,
+        value: Some(value),
+    };
+    let Ok(list) = vec![in alloc; write] else {
+        return None;
+    };
+    match Writes::from_vec(list) {
+        Ok(writes) => Some(writes),
+        Err(_) => None,
+    }
 }
 
 /// Transaction 1.number promises at a timestamp to write `1` to a key.
-pub fn promise(alloc: Global, number: u16, at: u64, key: Key, coordinator: u8) -> Option<Record> {
-    let writes = one_write(alloc, key)?;
-    Some(Record::Prepare(Prepared {
+pub fn promise(alloc: Global, number: u16, at: u64, key: Key, coordinator: u8) -> Option<Prepared> {
+    let Some(writes) = one_write(alloc, key) else {
+        return None;
+    };
+    Some(Prepared {
         txn: id(number),
         coordinator: shard(coordinator),
         at: stamp(at),
         reads: Keys::none(alloc),
         writes,
-    }))
+    })
 }
 
-fn decision(alloc: Global, number: u16, at: u64, key: Key, parts: Parts) -> Option<Record> {
-    let writes = one_write(alloc, key)?;
+fn decision(alloc: Global, number: u16, at: u64, letter: u8, mask: u16) -> Option<Record> {
+    let Some(parts) = Parts::from_mask(mask) else {
+        return None;
+    };
+    let Some(writes) = one_write(alloc, key(letter)) else {
+        return None;
+    };
     Some(Record::Commit(Committed {
         txn: id(number),
         at: stamp(at),
@@ -51,12 +69,16 @@ fn decision(alloc: Global, number: u16, at: u64, key: Key, parts: Parts) -> Opti
 pub fn record_of(alloc: Global, line: Line) -> Option<Record> {
     match line {
         Line::Prepare(number, at, letter, coordinator) => {
-            promise(alloc, number, at, key(letter), coordinator)
+            match promise(alloc, number, at, key(letter), coordinator) {
+                Some(promise) => Some(Record::Prepare(promise)),
+                None => None,
+            }
         }
-        Line::Commit(number, at, letter, mask) => {
-            decision(alloc, number, at, key(letter), Parts::from_mask(mask)?)
-        }
-        Line::Opened(epoch) => opened(epoch),
+        Line::Commit(number, at, letter, mask) => decision(alloc, number, at, letter, mask),
+        Line::Opened(epoch) => match Epoch::new(epoch) {
+            Some(epoch) => Some(Record::Opened { epoch }),
+            None => None,
+        },
         Line::Ceiling(at) => Some(Record::Ceiling { at: stamp(at) }),
         Line::Abort(number) => Some(Record::Abort { txn: id(number) }),
         Line::Committed(number, at) => Some(Record::Outcome {
@@ -70,22 +92,22 @@ pub fn record_of(alloc: Global, line: Line) -> Option<Record> {
     }
 }
 
-fn opened(epoch: u64) -> Option<Record> {
-    let epoch = Epoch::new(epoch)?;
-    Some(Record::Opened { epoch })
-}
-
 /// Whether these are the bytes of a record.
 pub fn is_spelled(alloc: Global, item: &Record, bytes: &[u8]) -> bool {
-    match encode(alloc, item) {
-        Ok(found) => found.as_slice() == bytes,
-        Err(_) => false,
-    }
+    let Ok(found) = encode(alloc, item) else {
+        return false;
+    };
+    let same = found.as_slice() == bytes;
+    drop(found);
+    same
 }
 
 /// The one byte of a value that was found.
 pub fn byte(found: Option<&Value>) -> Option<u8> {
-    match found?.as_bytes() {
+    let Some(value) = found else {
+        return None;
+    };
+    match value.as_bytes() {
         [byte] => Some(*byte),
         _ => None,
     }

@@ -1,5 +1,6 @@
 //! The bytes of records.
 use crate::lines::{Line, is_spelled, record_of};
+use crate::tables::{holds_at, row_holds};
 use record::{Record, decode, encoded_len};
 use std::alloc::Global;
 
@@ -60,33 +61,37 @@ static VECTORS: [Vector; 6] = [
 ];
 
 fn copy_is_spelled(alloc: Global, item: &Record, bytes: &[u8]) -> bool {
-    match item.copy(alloc) {
-        Ok(copied) => {
-            is_spelled(alloc, &copied, bytes) && encoded_len(&copied) == bytes.len() as u64
-        }
-        Err(_) => false,
-    }
+    let Ok(copied) = item.copy(alloc) else {
+        return false;
+    };
+    let spelled = is_spelled(alloc, &copied, bytes) && encoded_len(&copied) == bytes.len() as u64;
+    drop(copied);
+    spelled
 }
 
 fn is_read_back(alloc: Global, bytes: &[u8]) -> bool {
-    match decode(alloc, bytes) {
-        Ok(Some(item)) => is_spelled(alloc, &item, bytes) && copy_is_spelled(alloc, &item, bytes),
-        _ => false,
-    }
+    let Ok(Some(item)) = decode(alloc, bytes) else {
+        return false;
+    };
+    let read = is_spelled(alloc, &item, bytes) && copy_is_spelled(alloc, &item, bytes);
+    drop(item);
+    read
 }
 
 // It is spelled so, is read from that, and its copy is spelled so too.
 fn spells(alloc: Global, row: &Vector) -> bool {
-    match record_of(alloc, row.line) {
-        Some(item) => is_spelled(alloc, &item, row.bytes) && is_read_back(alloc, row.bytes),
-        None => false,
-    }
+    let Some(item) = record_of(alloc, row.line) else {
+        return false;
+    };
+    let spelled = is_spelled(alloc, &item, row.bytes);
+    drop(item);
+    spelled && is_read_back(alloc, row.bytes)
 }
 
 #[test]
 fn spellings(rt: HostRuntime) {
     for (number, row) in VECTORS.iter().enumerate() {
-        assert!(rt; spells(rt.alloc(), row), "row {number}");
+        holds_at(&rt, spells(rt.alloc(), row), number);
     }
 }
 
@@ -154,21 +159,23 @@ static READ: [Read; 10] = [
     },
 ];
 
-fn is_record(alloc: Global, bytes: &[u8]) -> Option<bool> {
+// Whether the bytes are read as a record, or are none, as it is said.
+fn is_read_so(alloc: Global, bytes: &[u8], is_record: bool) -> bool {
     match decode(alloc, bytes) {
-        Ok(found) => Some(found.is_some()),
-        Err(_) => None,
+        Ok(Some(item)) => {
+            drop(item);
+            is_record
+        }
+        Ok(None) => !is_record,
+        Err(_) => false,
     }
 }
 
 #[test]
 fn nothing_else_is_read(rt: HostRuntime) {
     for row in &READ {
-        assert!(rt;
-            is_record(rt.alloc(), row.bytes) == Some(row.is_record),
-            "{}",
-            row.what
-        );
+        let so = is_read_so(rt.alloc(), row.bytes, row.is_record);
+        row_holds(&rt, so, row.what);
     }
 }
 
@@ -220,21 +227,21 @@ static CHANGED: [Changed; 5] = [
     },
 ];
 
-fn is_record_changed(alloc: Global, row: &Changed) -> Option<bool> {
-    let mut bytes = row.bytes.to_vec(alloc).ok()?;
+fn is_changed_so(alloc: Global, row: &Changed) -> bool {
+    let Ok(mut bytes) = row.bytes.to_vec(alloc) else {
+        return false;
+    };
     if let Some(byte) = bytes.get_mut(row.place) {
         *byte = row.byte;
     }
-    is_record(alloc, &bytes)
+    let so = is_read_so(alloc, &bytes, row.is_record);
+    drop(bytes);
+    so
 }
 
 #[test]
 fn a_byte_is_changed(rt: HostRuntime) {
     for row in &CHANGED {
-        assert!(rt;
-            is_record_changed(rt.alloc(), row) == Some(row.is_record),
-            "{}",
-            row.what
-        );
+        row_holds(&rt, is_changed_so(rt.alloc(), row), row.what);
     }
 }

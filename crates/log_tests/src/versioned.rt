@@ -1,7 +1,8 @@
 //! The versions of keys.
-ghost use Rattle.std.specs.Prelude.{◌<◌, ◌≤◌, ◌^◌};
+ghost use Rattle.std.specs.Prelude.{◌≡◌, ◌<◌, ◌≤◌, ◌^◌, [], length};
 
 use crate::lines::byte;
+use crate::tables::{holds_at, row_holds};
 use counts::Count;
 use made::{key, stamp};
 use std::alloc::Global;
@@ -16,36 +17,41 @@ struct Version {
     value: Option<u8>,
 }
 
-fn value_of(alloc: Global, byte: Option<u8>) -> Option<Option<Value>> {
-    match byte {
-        Some(byte) => Some(Some(Value::new(alloc, &[byte]).ok()?)),
-        None => Some(None),
-    }
-}
-
-// Installs the version, where its key takes it.
-fn install(alloc: Global, versions: &mut Versions, row: &Version) -> bool {
-    let Some(value) = value_of(alloc, row.value) else {
-        return false;
-    };
+// Installs the version where its key takes it, and says whether it does.
+fn install(alloc: Global, versions: &mut Versions, new: &Plain) -> Option<bool> {
     let Ok(()) = versions.reserve(1) else {
-        return false;
+        return None;
     };
-    let (key, at) = (key(row.key), stamp(row.at));
-    if versions.takes(&key, at) {
-        versions.install(key, at, value);
+    let value = match new.value {
+        Some(byte) => match Value::new(alloc, &[byte]) {
+            Ok(value) => Some(value),
+            Err(_) => return None,
+        },
+        None => None,
+    };
+    let at = stamp(new.at);
+    let takes = versions.takes(&new.key, at);
+    if takes {
+        versions.install(new.key, at, value);
+    } else {
+        drop(value);
     }
-    true
+    Some(takes)
 }
 
-fn installed(alloc: Global, rows: &[Version]) -> Option<Versions> {
-    let mut versions = Versions::none(alloc);
+// Installs each that its key takes.
+fn install_rows(alloc: Global, versions: &mut Versions, rows: &[Version]) -> bool {
     for row in rows {
-        if !install(alloc, &mut versions, row) {
-            return None;
+        let new = Plain {
+            key: key(row.key),
+            at: row.at,
+            value: row.value,
+        };
+        if install(alloc, versions, &new).is_none() {
+            return false;
         }
     }
-    Some(versions)
+    true
 }
 
 // What is found of a key at a timestamp, or of all where there is none.
@@ -56,17 +62,14 @@ struct Lookup {
     value: Option<u8>,
 }
 
-fn found(versions: &Versions, row: &Lookup) -> Option<u8> {
-    let key = key(row.key);
-    match row.at {
-        Some(at) => byte(versions.at(&key, stamp(at))),
-        None => byte(versions.latest(&key)),
-    }
-}
-
 fn all_found(versions: &Versions, rows: &[Lookup]) -> bool {
     for row in rows {
-        if found(versions, row) != row.value {
+        let key = key(row.key);
+        let found = match row.at {
+            Some(at) => versions.at(&key, stamp(at)),
+            None => versions.latest(&key),
+        };
+        if byte(found) != row.value {
             return false;
         }
     }
@@ -173,19 +176,11 @@ static LOOKED: [Looked; 2] = [
     },
 ];
 
-fn shows(alloc: Global, row: &Looked) -> Option<bool> {
-    let versions = installed(alloc, row.versions)?;
-    Some(all_found(&versions, row.lookups))
-}
-
 #[test]
 fn values_at_timestamps(rt: HostRuntime) {
     for row in &LOOKED {
-        assert!(rt;
-            matches!(shows(rt.alloc(), row), Some(true)),
-            "{}",
-            row.what
-        );
+        let shown = shows(rt.alloc(), row.versions, row.lookups, &[]);
+        row_holds(&rt, shown, row.what);
     }
 }
 
@@ -196,11 +191,6 @@ struct Place {
     at: u64,
     count: usize,
     probes: u32,
-}
-
-fn is_place(versions: &Versions, row: &Place) -> bool {
-    let (count, probes) = versions.find(&key(row.key), stamp(row.at), &mut Count::none());
-    count == row.count && probes <= row.probes
 }
 
 // Keys and timestamps without an order, one of them twice.
@@ -266,58 +256,63 @@ static PLACES: [Place; 5] = [
     },
 ];
 
-static NO_PLACE: Place = Place {
+static NO_PLACE: [Place; 1] = [Place {
     key: b'b',
     at: 29,
     count: 0,
     probes: 0,
-};
+}];
 
 fn are_places(versions: &Versions, rows: &[Place]) -> bool {
     for row in rows {
-        if !is_place(versions, row) {
+        let (count, probes) = versions.find(&key(row.key), stamp(row.at), &mut Count::none());
+        if count != row.count || probes > row.probes {
             return false;
         }
     }
     true
 }
 
-fn is_ordered(alloc: Global) -> Option<bool> {
-    let versions = installed(alloc, &UNORDERED)?;
-    Some(are_places(&versions, &PLACES))
+// The versions are installed, and show what is found of them and their places.
+fn shows(alloc: Global, rows: &[Version], lookups: &[Lookup], places: &[Place]) -> bool {
+    let mut versions = Versions::none(alloc);
+    let shown = install_rows(alloc, &mut versions, rows)
+        && all_found(&versions, lookups)
+        && are_places(&versions, places);
+    drop(versions);
+    shown
 }
 
 #[test]
 fn in_order_by_key_and_timestamp(rt: HostRuntime) {
-    assert!(rt; matches!(is_ordered(rt.alloc()), Some(true)));
-    assert!(rt; is_place(&Versions::none(rt.alloc()), &NO_PLACE));
+    let unordered = shows(rt.alloc(), &UNORDERED, &[], &PLACES);
+    assert!(rt; unordered && shows(rt.alloc(), &[], &[], &NO_PLACE));
 }
 
-// `1` is written to `a` and `z` is erased, both at 200.
-fn written(alloc: Global) -> Option<Versions> {
-    let value = Some(Value::new(alloc, b"1").ok()?);
-    let mut list = Vec::new(alloc);
-    let Ok(()) = list.push(Write {
+// The value is written to `a` and `z` is erased, both at 200.
+fn install_two(alloc: Global, versions: &mut Versions, value: Value) -> bool
+    requires none { versions.old.installs ≡ [] }
+{
+    let written = Write {
         key: key(b'a'),
-        value,
-    }) else {
-        return None;
+        value: Some(value),
     };
-    let Ok(()) = list.push(Write {
+    let erased = Write {
         key: key(b'z'),
         value: None,
-    }) else {
-        return None;
+    };
+    let Ok(list) = vec![in alloc; written, erased] else {
+        return false;
     };
     let Ok(writes) = Writes::from_vec(list) else {
-        return None;
+        return false;
     };
-    let mut versions = Versions::none(alloc);
     let Ok(()) = versions.reserve(2) else {
-        return None;
+        drop(writes);
+        return false;
     };
     versions.install_all(writes, stamp(200));
-    Some(versions)
+    true
 }
 
 static WRITTEN: [Lookup; 3] = [
@@ -338,21 +333,28 @@ static WRITTEN: [Lookup; 3] = [
     },
 ];
 
-static SECOND: Place = Place {
+static SECOND: [Place; 1] = [Place {
     key: b'z',
     at: 200,
     count: 2,
     probes: 2,
-};
+}];
 
-fn shows_both(alloc: Global) -> Option<bool> {
-    let versions = written(alloc)?;
-    Some(all_found(&versions, &WRITTEN) && is_place(&versions, &SECOND))
+fn shows_both(alloc: Global) -> bool {
+    let Ok(value) = Value::new(alloc, b"1") else {
+        return false;
+    };
+    let mut versions = Versions::none(alloc);
+    let shown = install_two(alloc, &mut versions, value)
+        && all_found(&versions, &WRITTEN)
+        && are_places(&versions, &SECOND);
+    drop(versions);
+    shown
 }
 
 #[test]
 fn writes_at_one_timestamp(rt: HostRuntime) {
-    assert!(rt; matches!(shows_both(rt.alloc()), Some(true)));
+    assert!(rt; shows_both(rt.alloc()));
 }
 
 // A version in a plain list of all, ascending by key and timestamp.
@@ -364,13 +366,8 @@ struct Plain {
 }
 
 impl Plain {
-    fn is_not_after(&self, key: &Key, at: u64) -> bool {
-        let (bytes, others) = (self.key.as_bytes(), key.as_bytes());
-        bytes < others || (bytes == others && self.at <= at)
-    }
-
     fn is_by(&self, key: &Key, at: u64) -> bool {
-        self.key.as_bytes() == key.as_bytes() && self.at <= at
+        self.key.is(key) && self.at <= at
     }
 }
 
@@ -402,7 +399,7 @@ impl Draws {
     }
 
     // So many letters, mostly up to three bytes behind them, and at times up to 64 in all.
-    fn key(&mut self, letters: usize) -> Option<Key> {
+    fn key(&mut self, letters: usize) -> Key {
         let mut bytes = *b"abcdefghijklmnopqrstuvwxyzabcdefghijklmnopqrstuvwxyzabcdefghijkl";
         let letters = letters.min(20);
         let behind = if self.below(4) == 0 {
@@ -414,105 +411,137 @@ impl Draws {
         for byte in &mut bytes[letters..len] {
             *byte = self.byte();
         }
-        Key::new(&bytes[..len]).ok()
+        match Key::new(&bytes[..len]) {
+            Ok(key) => key,
+            Err(_) => unreachable!(),
+        }
     }
 
     // A version of a key behind that many letters, one of these numbers.
-    fn version(&mut self, letters: &[usize], turn: u64) -> Option<Plain>
-        requires { turn < 2 ^ 32 }
+    fn version(&mut self, letters: &[usize], turn: u64) -> Plain
+        requires turn { turn < 2 ^ 32 }
+        requires some { 0 < length letters.now }
     {
-        let chosen = self.below(letters.len().max(1) as u64) as usize;
-        let key = self.key(*letters.get(chosen)?)?;
+        let chosen = self.below(letters.len() as u64) as usize;
+        let key = self.key(letters[chosen]);
         let at = turn + self.below(60);
         let value = match self.below(5) {
             0 => None,
             drawn => Some(drawn as u8),
         };
-        Some(Plain { key, at, value })
+        Plain { key, at, value }
     }
 }
 
 // How many are not after the key and timestamp, and the value by then.
 fn plainly(all: &[Plain], key: &Key, at: u64) -> (usize, Option<u8>) {
-    let count = all.iter().filter(|one| one.is_not_after(key, at)).count();
-    let mut value = None;
+    let (mut count, mut value) = (0usize, None);
     for one in all {
-        if one.is_by(key, at) {
+        let is_by = one.is_by(key, at);
+        if is_by || one.key.is_before(key) {
+            count = count.saturating_add(1);
+        }
+        if is_by {
             value = one.value;
         }
     }
     (count, value)
 }
 
-// Both take the version, or neither.
-fn take_one(
-    alloc: Global,
-    versions: &mut Versions,
-    all: &mut Vec<Plain>,
-    new: &Plain,
-) -> Option<bool> {
-    let is_taken = !all
-        .iter()
-        .any(|one| one.is_by(&new.key, Stamp::MAX) && new.at <= one.at);
-    let value = value_of(alloc, new.value)?;
-    versions.reserve(1).ok()?;
-    let (key, at) = (new.key, stamp(new.at));
-    let takes = versions.takes(&key, at);
-    if takes {
-        let (count, _) = plainly(all, &key, new.at);
-        all.insert(count.min(all.len()), *new).ok()?;
-        versions.install(key, at, value);
+fn is_above_all(all: &[Plain], new: &Plain) -> bool {
+    for one in all {
+        if one.is_by(&new.key, Stamp::MAX) && new.at <= one.at {
+            return false;
+        }
     }
-    Some(takes == is_taken)
+    true
 }
 
-fn agree_at(versions: &Versions, all: &[Plain], sought: &Plain) -> bool {
-    let (key, at) = (&sought.key, stamp(sought.at));
-    let (count, value) = plainly(all, key, sought.at);
-    let (_, latest) = plainly(all, key, Stamp::MAX);
-    let (found, probes) = versions.find(key, at, &mut Count::none());
-    // The number's binary digits, or one less.
-    let digits = usize::BITS - all.len().leading_zeros();
-    found == count
-        && (probes == digits || probes.saturating_add(1) == digits)
-        && byte(versions.at(key, at)) == value
-        && byte(versions.latest(key)) == latest
+// Versions, a plain list of them, and what is drawn.
+#[derive(Drop)]
+struct Compared {
+    versions: Versions,
+    all: Vec<Plain>,
+    draws: Draws,
 }
 
-// So many drawn versions; at each so many-th turn something drawn is looked for.
-fn agree_drawn(alloc: Global, letters: &[usize], turns: u64, apart: u64) -> Option<bool>
+impl Compared {
+    // Both take the version, or neither.
+    fn take(&mut self, alloc: Global, new: &Plain) -> bool {
+        let Some(takes) = install(alloc, &mut self.versions, new) else {
+            return false;
+        };
+        if takes != is_above_all(&self.all, new) {
+            return false;
+        }
+        if !takes {
+            return true;
+        }
+        let (count, _) = plainly(&self.all, &new.key, new.at);
+        self.all.insert(count.min(self.all.len()), *new).is_ok()
+    }
+
+    fn agree_at(&self, sought: &Plain) -> bool {
+        let (key, at) = (&sought.key, stamp(sought.at));
+        let (count, value) = plainly(&self.all, key, sought.at);
+        let (_, latest) = plainly(&self.all, key, Stamp::MAX);
+        let (found, probes) = self.versions.find(key, at, &mut Count::none());
+        // The number's binary digits, or one less.
+        let digits = usize::BITS - self.all.len().leading_zeros();
+        let values = [
+            byte(self.versions.at(key, at)),
+            byte(self.versions.latest(key)),
+        ];
+        (found, values) == (count, [value, latest]) && digits.wrapping_sub(probes) <= 1
+    }
+
+    // So many drawn versions; at each so many-th turn the new one is looked for, and another drawn one.
+    fn agree(&mut self, alloc: Global, letters: &[usize], turns: u64, apart: u64) -> bool
+        requires few { turns ≤ 2 ^ 32 }
+        requires apart { 0 < apart }
+        requires some { 0 < length letters.now }
+    {
+        for turn in 0..turns {
+            let new = self.draws.version(letters, turn);
+            let before = self.draws.below(turn + 1);
+            let sought = self.draws.version(&PREFIXES, before);
+            let agreed = self.take(alloc, &new)
+                && (turn % apart != 0 || (self.agree_at(&new) && self.agree_at(&sought)));
+            if !agreed {
+                return false;
+            }
+        }
+        true
+    }
+}
+
+// Lengths of what keys begin with.
+static PREFIXES: [usize; 5] = [0, 3, 8, 9, 20];
+
+fn agree_drawn(alloc: Global, letters: &[usize], turns: u64, apart: u64) -> bool
     requires few { turns ≤ 2 ^ 32 }
     requires apart { 0 < apart }
+    requires some { 0 < length letters.now }
 {
-    let mut versions = Versions::none(alloc);
-    let mut all = Vec::new(alloc);
-    let mut draws = Draws { state: turns };
-    for turn in 0..turns {
-        let new = draws.version(letters, turn)?;
-        let before = draws.below(turn + 1);
-        let sought = draws.version(&[0, 3, 8, 9, 20], before)?;
-        if !take_one(alloc, &mut versions, &mut all, &new)? {
-            return Some(false);
-        }
-        if turn % apart == 0
-            && !(agree_at(&versions, &all, &new) && agree_at(&versions, &all, &sought))
-        {
-            return Some(false);
-        }
-    }
-    Some(true)
+    let mut compared = Compared {
+        versions: Versions::none(alloc),
+        all: Vec::new(alloc),
+        draws: Draws { state: turns },
+    };
+    let agreed = compared.agree(alloc, letters, turns, apart);
+    drop(compared);
+    agreed
 }
 
 #[test]
 fn drawn_versions_behind_one_prefix(rt: HostRuntime) {
-    for letters in [0, 3, 8, 9, 20] {
-        let agreed = agree_drawn(rt.alloc(), &[letters], 600, 4);
-        assert!(rt; matches!(agreed, Some(true)), "{letters} letters");
+    for letters in &PREFIXES {
+        let agreed = agree_drawn(rt.alloc(), &[*letters], 600, 4);
+        holds_at(&rt, agreed, *letters);
     }
 }
 
 #[test]
 fn drawn_versions_behind_several_prefixes(rt: HostRuntime) {
-    let agreed = agree_drawn(rt.alloc(), &[0, 3, 8, 9, 20], 3_000, 32);
-    assert!(rt; matches!(agreed, Some(true)));
+    assert!(rt; agree_drawn(rt.alloc(), &PREFIXES, 3_000, 32));
 }
