@@ -1,9 +1,6 @@
 //! Commands that ask the system for files.
-use crate::given::{File, Memory, told};
-use cli::{Stream, System, answer};
-use simdisk::SimDisk;
+use crate::given::{File, Wanted, is_answered};
 use std::alloc::Global;
-use std::test::Fail;
 
 static FILES: [File; 17] = [
     File {
@@ -346,35 +343,18 @@ static ASKED: [Asked; 35] = [
     },
 ];
 
-// The status, and what was printed to both outputs.
-fn answered(alloc: Global, words: &'static [&'static str]) -> (u8, Vec<u8>, Vec<u8>) {
-    let mut out = Stream::new(Vec::<u8>::new(alloc));
-    let mut err = Stream::new(Vec::<u8>::new(alloc));
-    let system = System {
-        files: Memory { files: &FILES },
-        drive: told,
+fn is_right(alloc: Global, row: &Asked) -> bool {
+    let wanted = Wanted {
+        printed: row.printed,
+        refused: row.refused,
+        status: row.status,
     };
-    let (status, _) = answer(
-        alloc,
-        words,
-        &system,
-        SimDisk::new(alloc),
-        &mut out,
-        &mut err,
-    );
-    (status, out.into_writer(), err.into_writer())
+    is_answered(alloc, &FILES, row.words, wanted)
 }
 
 #[test]
-fn commands_that_ask_for_files(rt: HostRuntime) -> Result<(), Fail> {
-    let alloc = rt.alloc();
+fn commands_that_ask_for_files(rt: HostRuntime) {
     for row in &ASKED {
-        let (status, out, err) = answered(alloc, row.words);
-        let printed = String::from_utf8(out)?;
-        assert_eq!(rt; printed.as_str(), row.printed, "at {:?}", row.words);
-        let refused = String::from_utf8(err)?;
-        assert_eq!(rt; refused.as_str(), row.refused, "at {:?}", row.words);
-        assert_eq!(rt; status, row.status, "at {:?}", row.words);
+        assert!(rt; is_right(rt.alloc(), row), "at {:?}", row.words);
     }
-    Ok(())
 }

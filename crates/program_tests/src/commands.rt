@@ -5,6 +5,7 @@ use host::{HostFiles, drive_shards};
 use settings::Settings;
 use simdisk::SimDisk;
 use std::alloc::Global;
+use std::process::Abort;
 use units::Fault;
 
 // A command with the names of its files in the folder, how what is printed ends, in how many lines, the fault, and the status.
@@ -177,74 +178,158 @@ fn settings(alloc: Global, folder: &Folder, name: &str) -> Option<String> {
     ).ok()
 }
 
-// A folder with what the commands name.
-fn furnished(rt: &HostRuntime) -> Option<Folder> {
-    let folder = Folder::new(rt)?;
-    let text = settings(rt.alloc(), &folder, ".")?;
+// Puts what the commands name.
+fn is_furnished(rt: &HostRuntime, folder: &Folder) -> bool {
+    let Some(text) = settings(rt.alloc(), folder, ".") else {
+        return false;
+    };
     let stands = folder.put(rt, "no.lines", "")
         && folder.put(rt, "files.settings", text.as_str())
         && folder.put_folder(rt, "folder");
-    if stands { Some(folder) } else { None }
+    drop(text);
+    stands
 }
 
-// The paths of the names.
-fn paths(alloc: Global, folder: &Folder, names: &[&str]) -> Option<Vec<String>> {
-    let mut paths = Vec::new(alloc);
+// A folder with what the commands name.
+fn furnished(rt: &HostRuntime) -> Option<Folder> {
+    let Some(folder) = Folder::new(rt) else {
+        return None;
+    };
+    if is_furnished(rt, &folder) {
+        Some(folder)
+    } else {
+        drop(folder);
+        None
+    }
+}
+
+fn push_paths(paths: &mut Vec<String>, alloc: Global, folder: &Folder, names: &[&str]) -> bool {
     for name in names {
-        paths.push(folder.path(alloc, name)?).ok()?;
+        let Some(path) = folder.path(alloc, name) else {
+            return false;
+        };
+        if paths.push(path).is_err() {
+            return false;
+        }
     }
-    Some(paths)
+    true
 }
 
-// The words of a command.
-fn words<'w>(alloc: Global, command: &'w str, paths: &'w [String]) -> Option<Vec<&'w str>> {
-    let mut words = Vec::new(alloc);
-    words.push(command).ok()?;
+fn push_words<'w>(words: &mut Vec<&'w str>, command: &'w str, paths: &'w [String]) -> bool {
+    if words.push(command).is_err() {
+        return false;
+    }
     for path in paths {
-        words.push(path.as_str()).ok()?;
+        if words.push(path.as_str()).is_err() {
+            return false;
+        }
     }
-    Some(words)
+    true
 }
 
-// Whether a command prints what it should, and gives its status.
+fn lines_in(bytes: &[u8]) -> usize {
+    let mut lines: usize = 0;
+    for byte in bytes {
+        if *byte == b'\n' {
+            lines = lines.saturating_add(1);
+        }
+    }
+    lines
+}
+
+fn is_printed(out: &[u8], err: &[u8], step: &Step) -> bool {
+    out.ends_with(step.ends.as_bytes())
+        && lines_in(out) == step.lines
+        && err == step.fault.as_bytes()
+}
+
+// Whether the words of a command print what they should, and give its status.
+fn are_answered<'a, F: Files, D: Fn(Global, &Settings) -> Result<Driven, Fault>>(
+    alloc: Global,
+    system: &System<F, D>,
+    words: &'a [&'a str],
+    step: &Step,
+) -> bool
+    requires { D.IsAlwaysCallable system.now.drive }
+{
+    let mut out = Stream::new(Vec::<u8>::new(alloc));
+    let mut err = Stream::new(Vec::<u8>::new(alloc));
+    let (status, disk) = answer(
+        alloc,
+        words,
+        system,
+        SimDisk::new(alloc),
+        &mut out,
+        &mut err,
+    );
+    drop(disk);
+    let (out, err) = (out.into_writer(), err.into_writer());
+    let printed = is_printed(&out, &err, step);
+    drop(out);
+    drop(err);
+    status == step.status && printed
+}
+
+// The same of a command and the paths of its files.
+fn is_answered_at<F: Files, D: Fn(Global, &Settings) -> Result<Driven, Fault>>(
+    alloc: Global,
+    system: &System<F, D>,
+    paths: &[String],
+    step: &Step,
+) -> bool
+    requires { D.IsAlwaysCallable system.now.drive }
+{
+    let mut words = Vec::new(alloc);
+    let answered = push_words(&mut words, step.command, paths)
+        && are_answered(alloc, system, words.as_slice(), step);
+    drop(words);
+    answered
+}
+
 fn is_answered<F: Files, D: Fn(Global, &Settings) -> Result<Driven, Fault>>(
     alloc: Global,
     system: &System<F, D>,
     folder: &Folder,
     step: &Step,
-) -> Option<bool>
+) -> bool
     requires { D.IsAlwaysCallable system.now.drive }
 {
-    let paths = paths(alloc, folder, step.names)?;
-    let words = words(alloc, step.command, paths.as_slice())?;
-    let mut out = Stream::new(Vec::<u8>::new(alloc));
-    let mut err = Stream::new(Vec::<u8>::new(alloc));
-    let disk = SimDisk::new(alloc);
-    let (status, _) = answer(alloc, words.as_slice(), system, disk, &mut out, &mut err);
-    Some(status == step.status && is_printed(&out.into_writer(), &err.into_writer(), step))
+    let mut paths = Vec::new(alloc);
+    let answered = push_paths(&mut paths, alloc, folder, step.names)
+        && is_answered_at(alloc, system, paths.as_slice(), step);
+    drop(paths);
+    answered
 }
 
-fn is_printed(out: &[u8], err: &[u8], step: &Step) -> bool {
-    out.ends_with(step.ends.as_bytes())
-        && out.iter().filter(|byte| **byte == b'\n').count() == step.lines
-        && err == step.fault.as_bytes()
-}
+// A command and the names of its files, or something else that is wrong.
+type Wrong = (&'static str, &'static [&'static str]);
 
-// Which of some commands is the first that is not answered as it should be.
-fn first_wrong<'s, F: Files, D: Fn(Global, &Settings) -> Result<Driven, Fault>>(
+const NOTHING: Wrong = ("", &[]);
+
+// The first of some commands that is not answered as it should be.
+fn first_wrong<F: Files, D: Fn(Global, &Settings) -> Result<Driven, Fault>>(
     alloc: Global,
     system: &System<F, D>,
     folder: &Folder,
-    steps: &'s [Step],
-) -> Option<&'s Step>
+    steps: &[Step],
+) -> Wrong
     requires { D.IsAlwaysCallable system.now.drive }
 {
     for step in steps {
-        if is_answered(alloc, system, folder, step) != Some(true) {
-            return Some(step);
+        if !is_answered(alloc, system, folder, step) {
+            return (step.command, step.names);
         }
     }
-    None
+    NOTHING
+}
+
+fn check(rt: &impl Abort, wrong: Wrong, is_removed: bool) {
+    assert!(rt;
+        is_removed && wrong.0.is_empty(),
+        "{} {:?}",
+        wrong.0,
+        wrong.1
+    );
 }
 
 #[test]
@@ -256,26 +341,25 @@ fn commands_over_files(rt: HostRuntime) {
             drive_shards(&rt, alloc, settings, Some(Vec::<u8>::new(alloc)))
         },
     };
-    if let Some(step) = first_wrong(rt.alloc(), &system, &folder, &STEPS) {
-        panic!(rt; "{} {:?}", step.command, step.names);
-    }
-    assert!(rt; folder.remove(&rt));
+    let wrong = first_wrong(rt.alloc(), &system, &folder, &STEPS);
+    check(&rt, wrong, folder.remove(&rt));
 }
 
 #[test]
 fn files_without_rights(rt: HostRuntime) {
     let folder = furnished(&rt).expect(&rt, "a folder");
-    assert!(rt; folder.put(&rt, "closed", ""));
+    let put = folder.put(&rt, "closed", "");
     let system = System {
         files: HostFiles(&rt),
         drive: |alloc: Global, settings: &Settings| {
             drive_shards(&rt, alloc, settings, None::<Vec<u8>>)
         },
     };
-    if folder.close(&rt, "closed") {
-        if let Some(step) = first_wrong(rt.alloc(), &system, &folder, &CLOSED) {
-            panic!(rt; "{} {:?}", step.command, step.names);
-        }
-    }
-    assert!(rt; folder.remove(&rt));
+    let wrong = if folder.close(&rt, "closed") {
+        first_wrong(rt.alloc(), &system, &folder, &CLOSED)
+    } else {
+        NOTHING
+    };
+    let removed = folder.remove(&rt);
+    check(&rt, wrong, put && removed);
 }

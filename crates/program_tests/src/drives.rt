@@ -1,10 +1,10 @@
 //! Drives of two shards.
 use crate::gates::{Meeting, Open};
-use crate::made::{disks, settings};
-use drive::{Driven, drive, drive_by};
+use crate::made::{disks, driven, settings};
+use drive::{Summary, drive_by};
 use node::Gate;
 use progress::NoWatch;
-use simdisk::SimDisk;
+use settings::Settings;
 use std::alloc::Global;
 use std::sync::Wait;
 use std::thread::Threads;
@@ -51,58 +51,74 @@ const ONE_WORKER: Row = Row {
     looks: 1,
 };
 
-// What a drive of two shards comes to.
-fn driven<R: Threads + Wait + time::Clock + Sync, G: Gate + Sync>(
-    rt: &R,
-    alloc: Global,
-    workers: u64,
-    transactions: u64,
-    gate: &G,
-) -> Option<Driven<SimDisk>> {
-    let settings = settings(alloc, workers, transactions)?;
-    let disks = disks(alloc, 2)?;
-    drive(rt, alloc, &settings, disks, gate, &NoWatch).ok()
-}
+const MEETING: Row = Row {
+    name: "six workers",
+    workers: 6,
+    transactions: 50,
+    tried: 300,
+    committed: 0,
+    looks: 0,
+};
 
 // Whether each transaction was counted, and the verdict is yes.
-fn is_sound(driven: &Driven<SimDisk>, tried: u64) -> bool {
-    let counts = driven.summary.counts;
+fn is_sound(summary: &Summary, tried: u64) -> bool {
+    let counts = summary.counts;
     let sum = counts
         .committed
         .saturating_add(counts.aborted)
         .saturating_add(counts.unknown);
-    sum == tried && driven.summary.verdict == Verdict::Yes
+    sum == tried && summary.verdict == Verdict::Yes
 }
 
-fn is_within(driven: &Driven<SimDisk>, row: &Row) -> bool {
-    let counts = driven.summary.counts;
-    is_sound(driven, row.tried) && counts.committed >= row.committed && counts.looks >= row.looks
+fn is_within(summary: &Summary, row: &Row) -> bool {
+    let counts = summary.counts;
+    is_sound(summary, row.tried) && counts.committed >= row.committed && counts.looks >= row.looks
 }
 
-fn holds<R: Threads + Wait + time::Clock + Sync>(rt: &R, alloc: Global, row: &Row) -> bool {
-    match driven(rt, alloc, row.workers, row.transactions, &Open) {
-        Some(driven) => is_within(&driven, row),
-        None => false,
+fn is_driven<R: Threads + Wait + time::Clock + Sync, G: Gate + Sync>(
+    rt: &R,
+    alloc: Global,
+    settings: &Settings,
+    row: &Row,
+    gate: &G,
+) -> bool {
+    match driven(rt, alloc, settings, disks(alloc, 2), gate) {
+        Ok(driven) => {
+            let within = is_within(&driven.summary, row);
+            drop(driven);
+            within
+        }
+        Err(_) => false,
     }
+}
+
+fn holds<R: Threads + Wait + time::Clock + Sync, G: Gate + Sync>(
+    rt: &R,
+    alloc: Global,
+    row: &Row,
+    gate: &G,
+) -> bool {
+    let Some(settings) = settings(alloc, row.workers, row.transactions) else {
+        return false;
+    };
+    let driven = is_driven(rt, alloc, &settings, row, gate);
+    drop(settings);
+    driven
 }
 
 #[test]
 fn drives(rt: HostRuntime) {
     for row in &ROWS {
-        assert!(rt; holds(&rt, rt.alloc(), row), "{}", row.name);
+        assert!(rt; holds(&rt, rt.alloc(), row, &Open), "{}", row.name);
     }
-}
-
-fn meet<R: Threads + Wait + time::Clock + Sync>(rt: &R, alloc: Global) -> Option<bool> {
-    let gate = Meeting::new(rt);
-    let driven = driven(rt, alloc, 6, 50, &gate)?;
-    Some(is_sound(&driven, 300) && gate.have_met())
 }
 
 // It fails where nodes are served one after the other, or one letter at a time over both.
 #[test]
 fn nodes_in_turn(rt: HostRuntime) {
-    assert_eq!(rt; meet(&rt, rt.alloc()), Some(true));
+    let gate = Meeting::new(&rt);
+    let driven = holds(&rt, rt.alloc(), &MEETING, &gate);
+    assert!(rt; driven && gate.have_met());
 }
 
 // Never has a reading, so that each letter is lost.
@@ -115,28 +131,47 @@ impl Clock for Stopped {
     }
 }
 
-// A drive of one worker and one transaction, whose nodes lose each letter.
-fn lost<R: Threads + Wait + time::Clock + Sync>(rt: &R, alloc: Global) -> Option<Driven<SimDisk>> {
-    let settings = settings(alloc, 1, 1)?;
-    let disks = disks(alloc, 2)?;
-    drive_by(rt, alloc, &settings, disks, Stopped, &Open, &NoWatch).ok()
-}
-
 // Whether nothing was committed and no look was answered, so that it is not within the row of one worker.
-fn is_lost(driven: &Driven<SimDisk>) -> bool {
-    let counts = driven.summary.counts;
-    is_sound(driven, 1)
+fn is_lost(summary: &Summary) -> bool {
+    let counts = summary.counts;
+    is_sound(summary, 1)
         && counts.aborted == 1
         && counts.looks == 0
-        && !is_within(driven, &ONE_WORKER)
+        && !is_within(summary, &ONE_WORKER)
+}
+
+// A drive whose nodes lose each letter.
+fn is_lost_by<R: Threads + Wait + time::Clock + Sync>(
+    rt: &R,
+    alloc: Global,
+    settings: &Settings,
+) -> bool {
+    let Some(disks) = disks(alloc, 2) else {
+        return false;
+    };
+    match drive_by(rt, alloc, settings, disks, Stopped, &Open, &NoWatch) {
+        Ok(driven) => {
+            let lost = is_lost(&driven.summary);
+            drop(driven);
+            lost
+        }
+        Err(_) => false,
+    }
+}
+
+// A drive of one worker and one transaction, whose nodes lose each letter.
+fn loses<R: Threads + Wait + time::Clock + Sync>(rt: &R, alloc: Global) -> bool {
+    let Some(settings) = settings(alloc, 1, 1) else {
+        return false;
+    };
+    let lost = is_lost_by(rt, alloc, &settings);
+    drop(settings);
+    lost
 }
 
 // It fails where nodes lose every letter, as they do with a clock that has no reading.
 #[test]
 fn lose_every_letter(rt: HostRuntime) {
-    assert!(rt; holds(&rt, rt.alloc(), &ONE_WORKER));
-    assert_eq!(rt;
-        lost(&rt, rt.alloc()).map(|driven| is_lost(&driven)),
-        Some(true)
-    );
+    assert!(rt; holds(&rt, rt.alloc(), &ONE_WORKER, &Open));
+    assert!(rt; loses(&rt, rt.alloc()));
 }

@@ -11,16 +11,36 @@ pub struct Folder {
 }
 
 impl Folder {
-    /// Makes a folder where temporary files go, under a name that nothing has there.
-    pub fn new(rt: &HostRuntime) -> Option<Folder> {
-        let base = env::temp_dir(rt).ok()?;
+    // Makes a folder under a name, where nothing has that.
+    fn at(rt: &HostRuntime, base: &str, number: u64) -> Option<Folder> {
+        let Ok(path) = format!(in rt.alloc(); "{base}/host-tests-{number}") else {
+            return None;
+        };
+        if fs::create_dir(rt, path.as_str()).is_ok() {
+            Some(Folder { path })
+        } else {
+            drop(path);
+            None
+        }
+    }
+
+    fn below(rt: &HostRuntime, base: &str) -> Option<Folder> {
         for number in 0..10_000u64 {
-            let path = format!(in rt.alloc(); "{}/host-tests-{number}", base.as_str()).ok()?;
-            if fs::create_dir(rt, path.as_str()).is_ok() {
-                return Some(Folder { path });
+            if let Some(folder) = Folder::at(rt, base, number) {
+                return Some(folder);
             }
         }
         None
+    }
+
+    /// Makes a folder where temporary files go, under a name that nothing has there.
+    pub fn new(rt: &HostRuntime) -> Option<Folder> {
+        let Ok(base) = env::temp_dir(rt) else {
+            return None;
+        };
+        let folder = Folder::below(rt, base.as_str());
+        drop(base);
+        folder
     }
 
     /// The path of a name in it.
@@ -31,7 +51,11 @@ impl Folder {
     /// Puts a file in it. Whether that could be done.
     pub fn put(&self, rt: &HostRuntime, name: &str, text: &str) -> bool {
         match self.path(rt.alloc(), name) {
-            Some(path) => fs::write(rt, path.as_str(), text).is_ok(),
+            Some(path) => {
+                let put = fs::write(rt, path.as_str(), text).is_ok();
+                drop(path);
+                put
+            }
             None => false,
         }
     }
@@ -40,8 +64,9 @@ impl Folder {
     pub fn close(&self, rt: &HostRuntime, name: &str) -> bool {
         match self.path(rt.alloc(), name) {
             Some(path) => {
-                fs::set_permissions(rt, path.as_str(), Permissions::from_mode(0)).is_ok()
-                    && fs::read(rt, path.as_str()).is_err()
+                let closed = is_closed(rt, path.as_str());
+                drop(path);
+                closed
             }
             None => false,
         }
@@ -50,7 +75,11 @@ impl Folder {
     /// Puts a folder in it. Whether that could be done.
     pub fn put_folder(&self, rt: &HostRuntime, name: &str) -> bool {
         match self.path(rt.alloc(), name) {
-            Some(path) => fs::create_dir(rt, path.as_str()).is_ok(),
+            Some(path) => {
+                let put = fs::create_dir(rt, path.as_str()).is_ok();
+                drop(path);
+                put
+            }
             None => false,
         }
     }
@@ -59,4 +88,9 @@ impl Folder {
     pub fn remove(self, rt: &HostRuntime) -> bool {
         fs::remove_dir_all(rt, self.path.as_str()).is_ok()
     }
+}
+
+// Takes all rights of a file. Whether it may not be read then.
+fn is_closed(rt: &HostRuntime, path: &str) -> bool {
+    fs::set_permissions(rt, path, Permissions::from_mode(0)).is_ok() && fs::read(rt, path).is_err()
 }

@@ -1,8 +1,6 @@
 //! What `play` prints of a file.
-use crate::given::{File, Memory, told};
-use cli::{Stream, System, answer};
-use simdisk::SimDisk;
-use std::test::Fail;
+use crate::given::{File, Wanted, is_answered};
+use std::alloc::Global;
 
 // The bytes of a file, what is printed to both outputs, and the status.
 #[derive(Clone, Copy)]
@@ -459,55 +457,32 @@ verdict yes
 
 const WORDS: [&str; 2] = ["play", "a.schedule"];
 
-#[test]
-fn schedules_of_files_are_played(rt: HostRuntime) -> Result<(), Fail> {
-    let alloc = rt.alloc();
-    for case in &PLAYED {
-        let files = [File {
-            path: "a.schedule",
-            bytes: case.bytes,
-        }];
-        let system = System {
-            files: Memory { files: &files },
-            drive: told,
-        };
-        let mut out = Stream::new(Vec::<u8>::new(alloc));
-        let mut err = Stream::new(Vec::<u8>::new(alloc));
-        let (status, _) = answer(
-            alloc,
-            WORDS.as_slice(),
-            &system,
-            SimDisk::new(alloc),
-            &mut out,
-            &mut err,
-        );
-        assert_eq!(rt; status, case.status, "at {}", case.name);
-        let printed = String::from_utf8(out.into_writer())?;
-        assert_eq!(rt; printed.as_str(), case.printed, "at {}", case.name);
-        let refused = String::from_utf8(err.into_writer())?;
-        assert_eq!(rt; refused.as_str(), case.refused, "at {}", case.name);
-    }
-    Ok(())
+fn is_played(alloc: Global, row: &Played) -> bool {
+    let wanted = Wanted {
+        printed: row.printed,
+        refused: row.refused,
+        status: row.status,
+    };
+    let file = File {
+        path: "a.schedule",
+        bytes: row.bytes,
+    };
+    is_answered(alloc, &[file], &WORDS, wanted)
 }
 
 #[test]
-fn a_missing_file_is_refused(rt: HostRuntime) -> Result<(), Fail> {
-    let alloc = rt.alloc();
-    let mut out = Stream::new(Vec::<u8>::new(alloc));
-    let mut err = Stream::new(Vec::<u8>::new(alloc));
-    let (status, _) = answer(
-        alloc,
-        WORDS.as_slice(),
-        &System {
-            files: Memory::empty(),
-            drive: told,
-        },
-        SimDisk::new(alloc),
-        &mut out,
-        &mut err,
-    );
-    assert_eq!(rt; status, 2);
-    assert!(rt; out.into_writer().is_empty());
-    assert!(rt; err.into_writer().as_slice() == b"fault: 2 Device\n".as_slice());
-    Ok(())
+fn schedules_of_files_are_played(rt: HostRuntime) {
+    for row in &PLAYED {
+        assert!(rt; is_played(rt.alloc(), row), "at {}", row.name);
+    }
+}
+
+#[test]
+fn a_missing_file_is_refused(rt: HostRuntime) {
+    let wanted = Wanted {
+        printed: "",
+        refused: "fault: 2 Device\n",
+        status: 2,
+    };
+    assert!(rt; is_answered(rt.alloc(), &[], &WORDS, wanted));
 }

@@ -1,11 +1,10 @@
 //! What the program prints.
-use crate::given::{Memory, told};
-use cli::{Command, Stream, System, answer, command};
-use simdisk::SimDisk;
+use crate::given::{Wanted, is_answered, is_written, status_of};
+use cli::{Command, Stream, command};
 use std::alloc::Global;
 use std::io;
 use std::io::Write;
-use std::test::Fail;
+use truetime::Reading;
 use units::{Fault, Reason};
 
 // A command line, what is printed to both outputs, and the status.
@@ -82,45 +81,23 @@ static PRINTED: [Printed; 9] = [
     },
 ];
 
-// The status, and what was printed to both outputs.
-fn answered<'a>(alloc: Global, words: &'a [&'a str]) -> (u8, Vec<u8>, Vec<u8>) {
-    let mut out = Stream::new(Vec::<u8>::new(alloc));
-    let mut err = Stream::new(Vec::<u8>::new(alloc));
-    let (status, _) = answer(
-        alloc,
-        words,
-        &System {
-            files: Memory::empty(),
-            drive: told,
-        },
-        SimDisk::new(alloc),
-        &mut out,
-        &mut err,
-    );
-    (status, out.into_writer(), err.into_writer())
+fn is_right(alloc: Global, row: &Printed) -> bool {
+    let wanted = Wanted {
+        printed: row.printed,
+        refused: row.refused,
+        status: row.status,
+    };
+    is_answered(alloc, &[], &row.words, wanted)
 }
 
 #[test]
-fn answers_of_once(rt: HostRuntime) -> Result<(), Fail> {
-    let alloc = rt.alloc();
+fn answers_of_once(rt: HostRuntime) {
     for row in &PRINTED {
-        let (status, out, err) = answered(alloc, row.words.as_slice());
-        assert_eq!(rt; status, row.status, "at {:?}", row.words);
-        assert!(rt;
-            out.as_slice() == row.printed.as_bytes(),
-            "at {:?}",
-            row.words
-        );
-        assert!(rt;
-            err.as_slice() == row.refused.as_bytes(),
-            "at {:?}",
-            row.words
-        );
+        assert!(rt; is_right(rt.alloc(), row), "at {:?}", row.words);
     }
-    Ok(())
 }
 
-const ASKING_HELP: [&[&str]; 5] = [
+static ASKING_HELP: [&[&str]; 5] = [
     &["--help"],
     &["-h"],
     &["once", "--help"],
@@ -128,45 +105,73 @@ const ASKING_HELP: [&[&str]; 5] = [
     &["-x", "--help"],
 ];
 
+// Whether help is printed.
+fn is_helped(alloc: Global, words: &'static [&'static str]) -> bool {
+    let mut out = Stream::new(Vec::<u8>::new(alloc));
+    let mut err = Stream::new(Vec::<u8>::new(alloc));
+    let status = status_of(alloc, &[], words, &mut out, &mut err);
+    let printed = out.into_writer();
+    let starts = printed.as_slice().starts_with(b"usage: shards COMMAND");
+    drop(printed);
+    let refused = is_written(err, "");
+    status == 0 && starts && refused
+}
+
+const NO_HELP: [&str; 8] = ["once", "--", "-h", "--help", "100", "110", "112", "121"];
+
 // Help is printed before anything else is looked at, but not for words behind `--`.
 #[test]
-fn answers_of_help(rt: HostRuntime) -> Result<(), Fail> {
-    let alloc = rt.alloc();
-    for words in ASKING_HELP {
-        let (status, out, err) = answered(alloc, words);
-        assert_eq!(rt; status, 0, "at {words:?}");
-        assert!(rt;
-            out.as_slice().starts_with(b"usage: shards COMMAND"),
-            "at {words:?}"
-        );
-        assert!(rt; err.is_empty(), "at {words:?}");
+fn answers_of_help(rt: HostRuntime) {
+    for words in &ASKING_HELP {
+        assert!(rt; is_helped(rt.alloc(), words), "at {words:?}");
     }
-    let plain = ["once", "--", "-h", "--help", "100", "110", "112", "121"];
-    let (status, out, err) = answered(alloc, plain.as_slice());
-    assert_eq!(rt; status, 0);
-    assert!(rt; out.as_slice() == b"commit 1.1 at 111\ndone 1.1 committed 111\n".as_slice());
-    assert!(rt; err.is_empty());
-    Ok(())
+    let wanted = Wanted {
+        printed: "commit 1.1 at 111\ndone 1.1 committed 111\n",
+        refused: "",
+        status: 0,
+    };
+    assert!(rt; is_answered(rt.alloc(), &[], &NO_HELP, wanted));
 }
 
 const WORDS: [&str; 7] = ["once", "a", "1", "100", "110", "112", "121"];
 
+fn are_readings(first: &Reading, second: &Reading) -> bool {
+    first.earliest().micros() == 100
+        && first.latest().micros() == 110
+        && second.earliest().micros() == 112
+        && second.latest().micros() == 121
+}
+
+// Whether it is what the words say.
+fn is_once(command: &Command) -> bool {
+    match command {
+        Command::Once {
+            key,
+            value,
+            first,
+            second,
+        } => key.as_bytes() == b"a".as_slice()
+            && value.as_bytes() == b"1".as_slice()
+            && are_readings(first, second),
+        _ => false,
+    }
+}
+
+fn is_taken(alloc: Global) -> bool {
+    match command(alloc, &WORDS) {
+        Ok(command) => {
+            let once = is_once(&command);
+            drop(command);
+            once
+        }
+        Err(_) => false,
+    }
+}
+
 // Where there is memory, want of it is not the answer.
 #[test]
-fn always_memory(rt: HostRuntime) -> Result<(), Fail> {
-    let Command::Once {
-        key,
-        value,
-        first,
-        second,
-    } = command(rt.alloc(), WORDS.as_slice())?
-    else {
-        unreachable!();
-    };
-    assert!(rt; key.as_bytes() == b"a".as_slice() && value.as_bytes() == b"1".as_slice());
-    assert!(rt; first.earliest().micros() == 100 && first.latest().micros() == 110);
-    assert!(rt; second.earliest().micros() == 112 && second.latest().micros() == 121);
-    Ok(())
+fn always_memory(rt: HostRuntime) {
+    assert!(rt; is_taken(rt.alloc()));
 }
 
 static NO_COMMANDS: [&[&str]; 11] = [
@@ -183,15 +188,20 @@ static NO_COMMANDS: [&[&str]; 11] = [
     &["play", "a", "b"],
 ];
 
+fn is_no_command(alloc: Global, words: &'static [&'static str]) -> bool {
+    match command(alloc, words) {
+        Ok(command) => {
+            drop(command);
+            false
+        }
+        Err(fault) => fault == Fault::BadRequest(Reason::Command),
+    }
+}
+
 #[test]
 fn words_that_are_no_command(rt: HostRuntime) {
     for words in &NO_COMMANDS {
-        let refused = command(rt.alloc(), words).err();
-        assert_eq!(rt;
-            refused,
-            Some(Fault::BadRequest(Reason::Command)),
-            "{words:?}"
-        );
+        assert!(rt; is_no_command(rt.alloc(), words), "{words:?}");
     }
 }
 
@@ -215,41 +225,35 @@ impl Write for Failing {
     }
 }
 
+// Whether a command whose standard output takes so many writes has a status and prints no fault.
+fn has_status(alloc: Global, taken: u8, status: u8) -> bool {
+    let mut out = Stream::new(Failing { taken });
+    let mut err = Stream::new(Vec::<u8>::new(alloc));
+    let given = status_of(alloc, &[], &WORDS, &mut out, &mut err);
+    drop(out);
+    let silent = is_written(err, "");
+    given == status && silent
+}
+
+const WRONG: [&str; 7] = ["once", "a", "1", "110", "100", "112", "121"];
+
+// Whether a command that is refused prints nothing where standard error fails.
+fn is_silent(alloc: Global) -> bool {
+    let mut out = Stream::new(Vec::<u8>::new(alloc));
+    let mut err = Stream::new(Failing { taken: 0 });
+    let status = status_of(alloc, &[], &WRONG, &mut out, &mut err);
+    drop(err);
+    let silent = is_written(out, "");
+    status == 2 && silent
+}
+
+static FAILING: [(u8, u8); 3] = [(0, 2), (1, 2), (2, 0)];
+
 // After a failed write nothing more is printed, also no fault.
 #[test]
 fn writes_that_fail(rt: HostRuntime) {
-    let alloc = rt.alloc();
-    for (taken, status) in [(0u8, 2u8), (1, 2), (2, 0)] {
-        let mut out = Stream::new(Failing { taken });
-        let mut err = Stream::new(Vec::<u8>::new(alloc));
-        let (given, _) = answer(
-            alloc,
-            WORDS.as_slice(),
-            &System {
-                files: Memory::empty(),
-                drive: told,
-            },
-            SimDisk::new(alloc),
-            &mut out,
-            &mut err,
-        );
-        assert_eq!(rt; given, status);
-        assert!(rt; err.into_writer().is_empty());
+    for (taken, status) in &FAILING {
+        assert!(rt; has_status(rt.alloc(), *taken, *status), "{taken} writes");
     }
-    let wrong = ["once", "a", "1", "110", "100", "112", "121"];
-    let mut out = Stream::new(Vec::<u8>::new(alloc));
-    let mut err = Stream::new(Failing { taken: 0 });
-    let (status, _) = answer(
-        alloc,
-        wrong.as_slice(),
-        &System {
-            files: Memory::empty(),
-            drive: told,
-        },
-        SimDisk::new(alloc),
-        &mut out,
-        &mut err,
-    );
-    assert_eq!(rt; status, 2);
-    assert!(rt; out.into_writer().is_empty());
+    assert!(rt; is_silent(rt.alloc()));
 }

@@ -1,8 +1,7 @@
 //! Drives that are refused, and a second one over the same disks.
 use crate::gates::Open;
-use crate::made::{disks, settings};
-use drive::{Driven, drive};
-use progress::NoWatch;
+use crate::made::{disks, driven, settings};
+use settings::Settings;
 use simdisk::SimDisk;
 use std::alloc::Global;
 use std::sync::Wait;
@@ -81,61 +80,117 @@ const REFUSALS: [Refusal; 7] = [
     },
 ];
 
+// Why a drive over some disks is refused.
+fn fault_of<R: Threads + Wait + time::Clock + Sync>(
+    rt: &R,
+    alloc: Global,
+    settings: &Settings,
+    disks: Option<Vec<SimDisk>>,
+) -> Option<Fault> {
+    match driven(rt, alloc, settings, disks, &Open) {
+        Ok(driven) => {
+            drop(driven);
+            None
+        }
+        Err(fault) => Some(fault),
+    }
+}
+
 fn refused<R: Threads + Wait + time::Clock + Sync>(
     rt: &R,
     alloc: Global,
     row: &Refusal,
 ) -> Option<Fault> {
-    let mut settings = settings(alloc, row.workers, row.transactions)?;
+    let Some(mut settings) = settings(alloc, row.workers, row.transactions) else {
+        return None;
+    };
     settings.keys = row.keys;
-    let disks = disks(alloc, row.shards)?;
-    drive(rt, alloc, &settings, disks, &Open, &NoWatch).err()
+    let fault = fault_of(rt, alloc, &settings, disks(alloc, row.shards));
+    drop(settings);
+    fault
 }
 
 #[test]
 fn refusals(rt: HostRuntime) {
     for row in &REFUSALS {
-        assert_eq!(rt;
-            refused(&rt, rt.alloc(), row),
-            Some(row.fault),
-            "{}",
-            row.name
-        );
+        let fault = refused(&rt, rt.alloc(), row);
+        assert!(rt; fault == Some(row.fault), "{}", row.name);
     }
 }
 
-// Over disks with no log.
-fn blank<R: Threads + Wait + time::Clock + Sync>(rt: &R, alloc: Global) -> Option<Fault> {
-    let settings = settings(alloc, 1, 1)?;
-    let mut disks = disks(alloc, 1)?;
-    disks.push(SimDisk::new(alloc)).ok()?;
-    drive(rt, alloc, &settings, disks, &Open, &NoWatch).err()
+// Two disks, of which one has no log.
+fn blank(alloc: Global) -> Option<Vec<SimDisk>> {
+    let Some(mut disks) = disks(alloc, 1) else {
+        return None;
+    };
+    if disks.push(SimDisk::new(alloc)).is_ok() {
+        Some(disks)
+    } else {
+        drop(disks);
+        None
+    }
+}
+
+fn refused_blank<R: Threads + Wait + time::Clock + Sync>(rt: &R, alloc: Global) -> Option<Fault> {
+    let Some(settings) = settings(alloc, 1, 1) else {
+        return None;
+    };
+    let fault = fault_of(rt, alloc, &settings, blank(alloc));
+    drop(settings);
+    fault
 }
 
 #[test]
 fn no_log(rt: HostRuntime) {
-    assert_eq!(rt; blank(&rt, rt.alloc()), Some(Fault::NotALog));
+    assert!(rt; refused_blank(&rt, rt.alloc()) == Some(Fault::NotALog));
 }
 
 // Whether each transaction that began is of the run.
-fn are_of(driven: &Driven<SimDisk>, run: u64) -> bool {
-    driven.lines.iter().all(|line| match line {
-        Line::Begin(txn, _) => txn.run() == run,
-        _ => true,
-    })
+fn are_of(lines: &[Line], run: u64) -> bool {
+    for line in lines {
+        if let Line::Begin(txn, _) = line {
+            if txn.run() != run {
+                return false;
+            }
+        }
+    }
+    true
 }
 
-// Two drives of one worker, one after the other over the same disks, whose ids are of runs 1 and 2.
-fn again<R: Threads + Wait + time::Clock + Sync>(rt: &R, alloc: Global) -> Option<bool> {
-    let settings = settings(alloc, 1, 5)?;
-    let first = drive(rt, alloc, &settings, disks(alloc, 2)?, &Open, &NoWatch).ok()?;
-    let of_first = are_of(&first, 1);
-    let second = drive(rt, alloc, &settings, first.disks, &Open, &NoWatch).ok()?;
-    let committed = second.summary.counts.committed;
-    Some(of_first && are_of(&second, 2) && committed >= 1)
+// A drive over some disks, whose ids are of a run, and which commits so much at least: the disks behind it.
+fn once<R: Threads + Wait + time::Clock + Sync>(
+    rt: &R,
+    alloc: Global,
+    settings: &Settings,
+    disks: Option<Vec<SimDisk>>,
+    (run, committed): (u64, u64),
+) -> Option<Vec<SimDisk>> {
+    let Ok(driven) = driven(rt, alloc, settings, disks, &Open) else {
+        return None;
+    };
+    let right = are_of(&driven.lines, run) && driven.summary.counts.committed >= committed;
+    if right {
+        Some(driven.disks)
+    } else {
+        drop(driven);
+        None
+    }
+}
+
+// Two drives, one after the other over the same disks, whose ids are of runs 1 and 2.
+fn again<R: Threads + Wait + time::Clock + Sync>(rt: &R, alloc: Global) -> bool {
+    let Some(settings) = settings(alloc, 1, 5) else {
+        return false;
+    };
+    let first = once(rt, alloc, &settings, disks(alloc, 2), (1, 0));
+    let second = once(rt, alloc, &settings, first, (2, 1));
+    drop(settings);
+    let followed = second.is_some();
+    drop(second);
+    followed
 }
 
 #[test]
 fn runs_follow(rt: HostRuntime) {
-    assert_eq!(rt; again(&rt, rt.alloc()), Some(true));
+    assert!(rt; again(&rt, rt.alloc()));
 }

@@ -1,8 +1,7 @@
 //! Runs of which a part counts most: a promise, an outcome that comes twice, a question, a vote that comes first.
-use crate::comparing::{Case, Wanted, compare};
+use crate::comparing::{Case, Wanted, compare_all};
 use crate::runs::{THREE, TWO};
 use crate::steps::{Step, Timed};
-use std::test::Fail;
 
 // A promise at 200 holds the served time of its shard below it.
 const PROMISED: [Timed; 9] = [
@@ -401,9 +400,6 @@ static CASES: [Case<'static>; 10] = [
 ];
 
 #[test]
-fn cases(rt: HostRuntime) -> Result<(), Fail> {
-    for case in &CASES {
-        compare(&rt, rt.alloc(), case)?;
-    }
-    Ok(())
+fn cases(rt: HostRuntime) {
+    compare_all(&rt, rt.alloc(), &CASES);
 }

@@ -1,11 +1,10 @@
 //! What a run is to come to, and what it comes to.
-use crate::run_texts::{joined, line_texts, log_texts, message_texts, reply_texts};
+use crate::run_texts::{Text, push_lines, push_log, push_messages, push_replies, push_texts};
 use crate::runs::{Shape, run};
 use crate::steps::Timed;
 use playing::Report;
 use std::alloc::Global;
 use std::process::Abort;
-use std::test::Fail;
 
 // What a run is to come to. Of the replies those are listed that are more than `Done`.
 pub struct Wanted<'a> {
@@ -25,87 +24,63 @@ pub struct Case<'a> {
     pub wanted: &'a Wanted<'a>,
 }
 
-// The steps come to what is wanted.
-pub fn compare(rt: &impl Abort, alloc: Global, case: &Case<'_>) -> Result<(), Fail> {
-    let steps = case.steps.get(..case.taken).ok_or("so many steps")?;
-    let report = run(alloc, case.shape, steps).ok_or("a report")?;
-    compare_report(rt, alloc, &report, case)
-}
-
-fn compare_report(
-    rt: &impl Abort,
-    alloc: Global,
-    report: &Report,
-    case: &Case<'_>,
-) -> Result<(), Fail> {
-    assert_eq!(rt; report.replies.len(), case.taken, "{}", case.name);
-    compare_replies(rt, alloc, report, case)?;
-    compare_messages(rt, alloc, report, case)?;
-    compare_lines(rt, alloc, report, case)?;
-    compare_logs(rt, alloc, report, case)
-}
-
-fn compare_replies(
-    rt: &impl Abort,
-    alloc: Global,
-    report: &Report,
-    case: &Case<'_>,
-) -> Result<(), Fail> {
-    let found = reply_texts(alloc, &report.replies)?;
-    assert_eq!(rt; found, joined(alloc, case.wanted.replies)?, "{}", case.name);
-    Ok(())
-}
-
-fn compare_messages(
-    rt: &impl Abort,
-    alloc: Global,
-    report: &Report,
-    case: &Case<'_>,
-) -> Result<(), Fail> {
-    let found = message_texts(alloc, report)?;
-    assert_eq!(rt;
-        found,
-        joined(alloc, case.wanted.messages)?,
-        "{}",
-        case.name
-    );
-    Ok(())
-}
-
-fn compare_lines(
-    rt: &impl Abort,
-    alloc: Global,
-    report: &Report,
-    case: &Case<'_>,
-) -> Result<(), Fail> {
-    let found = line_texts(alloc, report)?;
-    assert_eq!(rt; found, joined(alloc, case.wanted.lines)?, "{}", case.name);
-    Ok(())
-}
-
-fn compare_logs(
-    rt: &impl Abort,
-    alloc: Global,
-    report: &Report,
-    case: &Case<'_>,
-) -> Result<(), Fail> {
-    let logs = case.wanted.logs;
-    assert_eq!(rt; report.logs.len(), logs.len(), "{}", case.name);
-    for (shard, log) in logs.iter().enumerate() {
-        compare_log(rt, alloc, report, (case.name, shard), log)?;
+fn push_report(text: &mut Text, report: &Report) {
+    text.number("events ", report.replies.len() as u64);
+    text.word("\n");
+    push_replies(text, &report.replies);
+    text.word("messages\n");
+    push_messages(text, report.bag.as_slice());
+    push_lines(text, &report.lines);
+    for log in &report.logs {
+        push_log(text, log);
     }
-    Ok(())
 }
 
-// The log of a shard of a case.
-fn compare_log(
-    rt: &impl Abort,
-    alloc: Global,
-    report: &Report,
-    (name, shard): (&str, usize),
-    wanted: &[&str],
-) -> Result<(), Fail> {
-    let found = log_texts(alloc, report, shard)?;
-    assert_eq!(rt; found, joined(alloc, wanted)?, "{name}: shard {shard}");
-    Ok(())
+// What the steps of a case come to, where they may happen.
+fn push_found(text: &mut Text, alloc: Global, case: &Case<'_>) {
+    let Some(steps) = case.steps.get(..case.taken) else {
+        return;
+    };
+    let Ok(report) = run(alloc, case.shape, steps) else {
+        return;
+    };
+    push_report(text, &report);
+    drop(report);
+}
+
+// What is wanted of so many events.
+fn push_wanted(text: &mut Text, events: usize, wanted: &Wanted<'_>) {
+    text.number("events ", events as u64);
+    text.word("\n");
+    push_texts(text, wanted.replies);
+    text.word("messages\n");
+    push_texts(text, wanted.messages);
+    text.word("lines\n");
+    push_texts(text, wanted.lines);
+    for log in wanted.logs {
+        text.word("log\n");
+        push_texts(text, log);
+    }
+}
+
+// What was found is what is wanted, in the case of a name.
+pub fn check(rt: &impl Abort, found: &Text, wanted: &Text, name: &str) {
+    assert!(rt; found.is_same(wanted), "{name}: {}", found.as_str());
+}
+
+// The steps come to what is wanted.
+pub fn compare(rt: &impl Abort, alloc: Global, case: &Case<'_>) {
+    let mut found = Text::new(alloc);
+    push_found(&mut found, alloc, case);
+    let mut wanted = Text::new(alloc);
+    push_wanted(&mut wanted, case.taken, case.wanted);
+    check(rt, &found, &wanted, case.name);
+    drop(found);
+    drop(wanted);
+}
+
+pub fn compare_all(rt: &impl Abort, alloc: Global, cases: &[Case<'_>]) {
+    for case in cases {
+        compare(rt, alloc, case);
+    }
 }

@@ -1,9 +1,8 @@
 //! Runs with crashes, failing calls and openings.
-use crate::comparing::{Case, Wanted, compare};
+use crate::comparing::{Case, Wanted, compare_all};
 use crate::runs::{Shape, TWO};
 use crate::steps::{At, Step, Timed};
 use disk::Fate;
-use std::test::Fail;
 
 // A ceiling is above the time that was served before the crash. What is promised behind the opening is above the ceiling. A
 // view is answered while its shard is down.
@@ -376,9 +375,6 @@ static CASES: [Case<'static>; 7] = [
 ];
 
 #[test]
-fn crashes(rt: HostRuntime) -> Result<(), Fail> {
-    for case in &CASES {
-        compare(&rt, rt.alloc(), case)?;
-    }
-    Ok(())
+fn crashes(rt: HostRuntime) {
+    compare_all(&rt, rt.alloc(), &CASES);
 }

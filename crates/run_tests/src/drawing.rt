@@ -1,16 +1,17 @@
 //! Lawful lists of events are drawn from a seed. A run takes the events as they are drawn, and tells what was put out so far and
 //! which shards are up.
-use crate::runs::{Shape, config};
-use crate::steps::{At, Step, Timed, event};
+use crate::runs::{Shape, config, reply_to};
+use crate::steps::{At, Step, Timed};
 use disk::Fate;
 use lives::{Life, Run, RunShard};
 use message::{Address, Envelope, Message};
 use std::alloc::Global;
 use units::TxnId;
+use world::Config;
 
 // A linear congruential generator modulo 2^64, with the multiplier 6364136223846793005 and the increment
 // 1442695040888963407. Its upper 31 bits are drawn.
-#[derive(Clone, Copy, Debug)]
+#[derive(Clone, Copy)]
 pub struct Random {
     state: u64,
 }
@@ -136,8 +137,11 @@ fn is_for(run: &Run<'_>, shard: u8, number: u64) -> bool {
     }
 }
 
-// The shard and the number of the transaction of a message that is for a coordinator.
-fn for_coordinator(envelope: &Envelope) -> Option<(u8, TxnId)> {
+// The shard and the transaction of the message of a number, where that is for a coordinator.
+fn for_coordinator(run: &Run<'_>, number: u64) -> Option<(u8, TxnId)> {
+    let Some(envelope) = run.output.bag.nth(number) else {
+        return None;
+    };
     let Address::Shard(shard) = envelope.to else {
         return None;
     };
@@ -149,7 +153,10 @@ fn for_coordinator(envelope: &Envelope) -> Option<(u8, TxnId)> {
 }
 
 // The same of a prepare.
-fn for_part(envelope: &Envelope) -> Option<(u8, TxnId)> {
+fn for_part(run: &Run<'_>, number: u64) -> Option<(u8, TxnId)> {
+    let Some(envelope) = run.output.bag.nth(number) else {
+        return None;
+    };
     let Address::Shard(shard) = envelope.to else {
         return None;
     };
@@ -160,8 +167,15 @@ fn for_part(envelope: &Envelope) -> Option<(u8, TxnId)> {
 }
 
 // The first transaction that a shard has decided to commit and not settled.
-fn decided(shard: &RunShard) -> Option<TxnId> {
-    let Life::Up(core) = &shard.life else {
+fn decided(run: &Run<'_>, shard: u8) -> Option<TxnId> {
+    match shard_of(run, shard) {
+        Some(one) => decided_of(&one.life),
+        None => None,
+    }
+}
+
+fn decided_of(life: &Life) -> Option<TxnId> {
+    let Life::Up(core) = life else {
         return None;
     };
     match core.decided(0) {
@@ -172,16 +186,19 @@ fn decided(shard: &RunShard) -> Option<TxnId> {
 
 // The shard and the transaction of some decision that is not settled.
 fn unsettled(run: &Run<'_>) -> Option<(u8, TxnId)> {
-    for number in 0..3 {
-        if let Some(txn) = shard_of(run, number).and_then(decided) {
-            return Some((number, txn));
+    for shard in 0..3 {
+        if let Some(txn) = decided(run, shard) {
+            return Some((shard, txn));
         }
     }
     None
 }
 
-// The session that an answer goes to.
-fn answered(envelope: &Envelope) -> Option<TxnId> {
+// The session that the message of a number goes to, where that is an answer.
+fn answered(run: &Run<'_>, number: u64) -> Option<TxnId> {
+    let Some(envelope) = run.output.bag.nth(number) else {
+        return None;
+    };
     match &envelope.message {
         Message::ReadAnswer(answer) => Some(answer.txn),
         _ => None,
@@ -202,10 +219,10 @@ impl Drawn {
         }
     }
 
-    // Time goes on, and a step is taken.
-    fn push(&mut self, step: Step) -> Option<()> {
+    // Time goes on, and a step is taken. What finds no memory is missed at the end.
+    fn push(&mut self, step: Step) {
         self.time = self.time.saturating_add(self.random.below(6));
-        self.steps.push((self.time, step)).ok()
+        drop(self.steps.push((self.time, step)));
     }
 
     // How far an end of a reading is from the true time: mostly little.
@@ -254,7 +271,7 @@ impl Drawn {
             .saturating_sub(1)
     }
 
-    fn write(&mut self, txn: u64) -> Option<()> {
+    fn write(&mut self, txn: u64) {
         let key = self.key();
         if self.random.below(8) == 0 {
             return self.push(Step::Erase(txn, key));
@@ -263,35 +280,34 @@ impl Drawn {
         self.push(Step::Write(txn, key, digit))
     }
 
-    fn begin(&mut self) -> Option<u64> {
+    fn begin(&mut self) -> u64 {
         self.begun = self.begun.saturating_add(1);
-        self.push(Step::Begin(self.begun))?;
-        Some(self.begun)
+        self.push(Step::Begin(self.begun));
+        self.begun
     }
 
     // A new transaction writes, and closes.
-    fn writer(&mut self) -> Option<()> {
-        let txn = self.begin()?;
+    fn writer(&mut self) {
+        let txn = self.begin();
         for _ in 0..self.random.below(4).saturating_add(1) {
-            self.write(txn)?;
+            self.write(txn);
         }
         self.push(Step::Close(txn))
     }
 
     // A new transaction reads.
-    fn reader(&mut self) -> Option<()> {
-        let txn = self.begin()?;
+    fn reader(&mut self) {
+        let txn = self.begin();
         for _ in 0..self.random.below(2).saturating_add(1) {
             let key = self.key();
-            self.push(Step::Read(txn, key))?;
+            self.push(Step::Read(txn, key));
         }
-        Some(())
     }
 
     // Mostly the next message that was not delivered, at times any.
-    fn deliver(&mut self) -> Option<()> {
+    fn deliver(&mut self) {
         if self.known == 0 {
-            return Some(());
+            return;
         }
         let (earliest, latest) = self.reading();
         if self.next < self.known && self.random.below(5) != 0 {
@@ -304,9 +320,9 @@ impl Drawn {
     }
 
     // Mostly a decided transaction is settled, at times that of any message.
-    fn settle(&mut self, run: &Run<'_>) -> Option<()> {
+    fn settle(&mut self, run: &Run<'_>) {
         let found = if self.random.below(4) == 0 {
-            run.output.bag.nth(self.message()).and_then(for_coordinator)
+            for_coordinator(run, self.message())
         } else {
             unsettled(run)
         };
@@ -318,9 +334,9 @@ impl Drawn {
     }
 
     // The coordinator of a prepare's transaction is asked.
-    fn nudge(&mut self, run: &Run<'_>) -> Option<()> {
+    fn nudge(&mut self, run: &Run<'_>) {
         let (earliest, latest) = self.reading();
-        match run.output.bag.nth(self.message()).and_then(for_part) {
+        match for_part(run, self.message()) {
             Some((shard, txn)) => self.push(Step::Nudge(shard, txn.number(), earliest, latest)),
             None => self.resume(),
         }
@@ -329,7 +345,7 @@ impl Drawn {
     // One of some of the last messages that is an answer: its session.
     fn hearer(&mut self, run: &Run<'_>) -> Option<TxnId> {
         for _ in 0..6 {
-            if let Some(txn) = run.output.bag.nth(self.message()).and_then(answered) {
+            if let Some(txn) = answered(run, self.message()) {
                 return Some(txn);
             }
         }
@@ -337,24 +353,24 @@ impl Drawn {
     }
 
     // A session that was answered writes, and closes.
-    fn close(&mut self, run: &Run<'_>) -> Option<()> {
+    fn close(&mut self, run: &Run<'_>) {
         match self.hearer(run) {
             Some(txn) => {
-                self.write(txn.number())?;
+                self.write(txn.number());
                 self.push(Step::Close(txn.number()))
             }
             None => self.deliver(),
         }
     }
 
-    fn resume(&mut self) -> Option<()> {
+    fn resume(&mut self) {
         let (earliest, latest) = self.reading();
         let shard = self.shard();
         self.push(Step::Resume(shard, earliest, latest))
     }
 
     // A shard serves up to a time near the end of a wide reading. At once some of its keys are looked at then.
-    fn advance(&mut self) -> Option<()> {
+    fn advance(&mut self) {
         let earliest = self.time.saturating_sub(self.width());
         let ahead = self.random.below(40).saturating_add(5);
         let latest = self.time.saturating_add(ahead);
@@ -362,17 +378,16 @@ impl Drawn {
         let to = latest
             .saturating_add(2)
             .saturating_sub(self.random.below(12));
-        self.push(Step::Advance(shard, to, earliest, latest))?;
+        self.push(Step::Advance(shard, to, earliest, latest));
         self.look_at_some(shard, to)
     }
 
-    fn look_at_some(&mut self, shard: u8, at: u64) -> Option<()> {
+    fn look_at_some(&mut self, shard: u8, at: u64) {
         for key in &KEYS {
             if home(self.splits, *key) == shard && self.random.below(2) == 0 {
-                self.push(Step::Look(shard, *key, at))?;
+                self.push(Step::Look(shard, *key, at));
             }
         }
-        Some(())
     }
 
     // A key with mostly its own shard, at times any.
@@ -385,7 +400,7 @@ impl Drawn {
         }
     }
 
-    fn look(&mut self) -> Option<()> {
+    fn look(&mut self) {
         let (shard, key) = self.place();
         let at = self
             .time
@@ -394,16 +409,16 @@ impl Drawn {
         self.push(Step::Look(shard, key, at))
     }
 
-    fn view(&mut self, run: &Run<'_>) -> Option<()> {
+    fn view(&mut self, run: &Run<'_>) {
         let (shard, key) = self.place();
         let number = self.random.below(views(run, shard));
         let at = self.time.saturating_sub(self.random.below(300));
         self.push(Step::View(shard, number, key, at))
     }
 
-    fn quit(&mut self) -> Option<()> {
+    fn quit(&mut self) {
         if self.begun == 0 {
-            return Some(());
+            return;
         }
         let txn = self.session().max(1);
         self.push(Step::Quit(txn))
@@ -425,7 +440,7 @@ impl Drawn {
     }
 
     fn settling(&mut self, run: &Run<'_>, shard: u8, earliest: u64, latest: u64) -> At {
-        match shard_of(run, shard).and_then(decided) {
+        match decided(run, shard) {
             Some(txn) => At::Settle(shard, txn.number(), earliest, latest),
             None => At::Resume(shard, earliest, latest),
         }
@@ -450,7 +465,7 @@ impl Drawn {
     }
 
     // A shard that is up or stopped crashes, between events or in a call, or a call of it fails.
-    fn stop(&mut self, run: &Run<'_>) -> Option<()> {
+    fn stop(&mut self, run: &Run<'_>) {
         let shard = self.shard();
         if is_down(run, shard) {
             return self.open_at(shard);
@@ -467,7 +482,7 @@ impl Drawn {
     }
 
     // A shard that is not up is opened, mostly with success.
-    fn open_at(&mut self, shard: u8) -> Option<()> {
+    fn open_at(&mut self, shard: u8) {
         let call = self.random.below(5);
         match self.random.below(10) {
             0 => self.push(Step::FailIn(shard, call, At::Open(shard))),
@@ -480,7 +495,7 @@ impl Drawn {
     }
 
     // Something happens.
-    fn draw(&mut self, run: &Run<'_>) -> Option<()> {
+    fn draw(&mut self, run: &Run<'_>) {
         if self.random.below(3) == 0 {
             if let Some(shard) = resting(run) {
                 return self.open_at(shard);
@@ -492,6 +507,10 @@ impl Drawn {
         if self.is_behind() && self.random.below(3) != 0 {
             return self.deliver();
         }
+        self.draw_any(run)
+    }
+
+    fn draw_any(&mut self, run: &Run<'_>) {
         match self.random.below(100) {
             0..=8 => self.writer(),
             9..=13 => self.reader(),
@@ -507,38 +526,62 @@ impl Drawn {
         }
     }
 
-    // The steps that were drawn happen.
-    fn catch_up(&mut self, alloc: Global, run: &mut Run<'_>) -> Option<()> {
+    // The steps that were drawn happen, where they may.
+    fn catch_up(&mut self, alloc: Global, run: &mut Run<'_>) -> bool {
         for number in self.taken..self.steps.len() {
-            let event = event(alloc, self.steps[number])?;
-            run.take(alloc, number as u64, &event).ok()?;
+            let reply = reply_to(run, alloc, number, self.steps[number]);
+            let happened = reply.is_some();
+            drop(reply);
+            if !happened {
+                return false;
+            }
         }
         self.taken = self.steps.len();
         self.known = run.output.bag.len();
-        Some(())
+        true
     }
 
     // As many steps are drawn as a list has.
-    fn fill(&mut self, alloc: Global, run: &mut Run<'_>) -> Option<()> {
+    fn fill(&mut self, alloc: Global, run: &mut Run<'_>) -> bool {
         for _ in 0..LENGTH {
             if self.steps.len() >= LENGTH {
                 break;
             }
-            self.draw(run)?;
-            self.catch_up(alloc, run)?;
+            self.draw(run);
+            if !self.catch_up(alloc, run) {
+                return false;
+            }
         }
         self.steps.truncate(LENGTH);
-        Some(())
+        true
     }
+}
+
+fn is_filled(list: &mut Drawn, alloc: Global, config: &Config) -> bool {
+    let Ok(mut run) = Run::start(alloc, config) else {
+        return false;
+    };
+    let filled = list.fill(alloc, &mut run);
+    run.spend();
+    filled
+}
+
+fn is_drawn(list: &mut Drawn, alloc: Global, shape: Shape<'static>) -> bool {
+    let Some(config) = config(alloc, shape) else {
+        return false;
+    };
+    let filled = is_filled(list, alloc, &config);
+    drop(config);
+    filled
 }
 
 // A list of events over shards of some shape.
 pub fn drawn_list(alloc: Global, seed: u64, shape: Shape<'static>) -> Option<Vec<Timed>> {
-    let config = config(alloc, shape)?;
     let mut list = Drawn::new(alloc, seed, shape.splits);
-    let mut run = Run::start(alloc, &config).ok()?;
-    let filled = list.fill(alloc, &mut run);
-    run.spend();
-    filled?;
-    Some(list.steps)
+    if is_drawn(&mut list, alloc, shape) {
+        Some(list.steps)
+    } else {
+        drop(list);
+        None
+    }
 }

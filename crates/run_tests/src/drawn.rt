@@ -2,10 +2,11 @@
 use crate::drawing::{LENGTH, drawn_list, shape_of};
 use crate::judging::{Counts, judge};
 use crate::replying::{Stops, are_due};
-use crate::runs::run;
+use crate::runs::{Shape, run};
+use crate::steps::Timed;
+use playing::Report;
 use std::alloc::Global;
 use std::process::Abort;
-use std::test::Fail;
 
 // What lists and their reports have: lines, and stops of shards.
 #[derive(Clone, Copy, Debug)]
@@ -14,37 +15,57 @@ struct Totals {
     stops: Stops,
 }
 
-// The list of a seed is played, and judged. Its lines and stops are counted too.
-fn draw_one(
-    rt: &impl Abort,
+// The first thing that is wrong with what a list comes to. Its lines and stops are counted too.
+fn wrong_of(report: &Report, steps: &[Timed], totals: &mut Totals) -> &'static str {
+    totals.lines = totals.lines.with(&report.lines);
+    totals.stops = totals.stops.with(steps, &report.replies);
+    if steps.len() != LENGTH {
+        return "the length";
+    }
+    if !are_due(report, steps) {
+        return "the replies";
+    }
+    judge(report)
+}
+
+// A list is played, and judged.
+fn play_one(
     alloc: Global,
-    seed: u64,
-    shards: u64,
-    totals: Totals,
-) -> Result<Totals, Fail> {
+    shape: Shape<'static>,
+    steps: &[Timed],
+    totals: &mut Totals,
+) -> &'static str {
+    let Ok(report) = run(alloc, shape, steps) else {
+        return "an unlawful list";
+    };
+    let wrong = wrong_of(&report, steps, totals);
+    drop(report);
+    wrong
+}
+
+// The list of a seed is played, and judged.
+fn draw_one(alloc: Global, seed: u64, shards: u64, totals: &mut Totals) -> &'static str {
     let shape = shape_of(shards);
-    let steps = drawn_list(alloc, seed, shape).ok_or("a list")?;
-    let report = run(alloc, shape, &steps).ok_or("a lawful list")?;
-    assert_eq!(rt; steps.len(), LENGTH);
-    assert!(rt; are_due(&report, &steps), "the replies of seed {seed}");
-    assert_eq!(rt; judge(alloc, &report)?, "", "the list of seed {seed}");
-    Ok(Totals {
-        lines: totals.lines.with(&report.lines),
-        stops: totals.stops.with(&steps, &report.replies),
-    })
+    let Some(steps) = drawn_list(alloc, seed, shape) else {
+        return "no list";
+    };
+    let wrong = play_one(alloc, shape, &steps, totals);
+    drop(steps);
+    wrong
 }
 
 // Draws 50 lists from a seed on, over 1 to 3 shards in turn.
-fn draw_all(rt: &impl Abort, alloc: Global, first: u64) -> Result<Totals, Fail> {
+fn draw_all(rt: &impl Abort, alloc: Global, first: u64) {
     let mut totals = Totals {
         lines: Counts::NONE,
         stops: Stops::NONE,
     };
     for number in 0..50 {
         let seed = first.saturating_add(number);
-        totals = draw_one(rt, alloc, seed, number % 3 + 1, totals)?;
+        let wrong = draw_one(alloc, seed, number % 3 + 1, &mut totals);
+        assert!(rt; wrong.is_empty(), "seed {seed}: {wrong}");
     }
-    Ok(totals)
+    assert!(rt; are_enough(totals), "{totals:?}");
 }
 
 // The runs are not empty: there are enough lines of each kind to judge.
@@ -62,29 +83,21 @@ fn are_enough(totals: Totals) -> bool {
 }
 
 #[test]
-fn runs_from_1(rt: HostRuntime) -> Result<(), Fail> {
-    let totals = draw_all(&rt, rt.alloc(), 1)?;
-    assert!(rt; are_enough(totals), "{totals:?}");
-    Ok(())
+fn runs_from_1(rt: HostRuntime) {
+    draw_all(&rt, rt.alloc(), 1);
 }
 
 #[test]
-fn runs_from_51(rt: HostRuntime) -> Result<(), Fail> {
-    let totals = draw_all(&rt, rt.alloc(), 51)?;
-    assert!(rt; are_enough(totals), "{totals:?}");
-    Ok(())
+fn runs_from_51(rt: HostRuntime) {
+    draw_all(&rt, rt.alloc(), 51);
 }
 
 #[test]
-fn runs_from_101(rt: HostRuntime) -> Result<(), Fail> {
-    let totals = draw_all(&rt, rt.alloc(), 101)?;
-    assert!(rt; are_enough(totals), "{totals:?}");
-    Ok(())
+fn runs_from_101(rt: HostRuntime) {
+    draw_all(&rt, rt.alloc(), 101);
 }
 
 #[test]
-fn runs_from_151(rt: HostRuntime) -> Result<(), Fail> {
-    let totals = draw_all(&rt, rt.alloc(), 151)?;
-    assert!(rt; are_enough(totals), "{totals:?}");
-    Ok(())
+fn runs_from_151(rt: HostRuntime) {
+    draw_all(&rt, rt.alloc(), 151);
 }

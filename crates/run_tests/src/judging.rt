@@ -1,9 +1,9 @@
 //! Checks of a report by itself: what the logs, the messages and the lines say of each transaction is one history.
-use message::Message;
+use crate::steps::shard;
+use message::{Envelope, Message};
 use playing::Report;
 use record::{Committed, Prepared, Record};
-use std::alloc::Global;
-use units::{Fault, Key, Line, Stamp, TxnId, Value, Writes};
+use units::{Key, Line, ShardNo, Stamp, TxnId, Value, Writes};
 
 // A place in the history: a timestamp, then the number of the transaction.
 type Place = (u64, u64);
@@ -149,25 +149,32 @@ fn stands_by(log: &[Record], txn: TxnId) -> bool {
     is_promised
 }
 
+// The log of a shard stands by a decision, where it is one of its other parts.
+fn is_part_whole(logs: &[Vec<Record>], part: ShardNo, committed: &Committed) -> bool {
+    if !committed.parts.has(part) || part == committed.parts.least() {
+        return true;
+    }
+    match logs.get(part.number() as usize) {
+        Some(log) => stands_by(log, committed.txn),
+        None => false,
+    }
+}
+
 // The logs of the other parts stand by a decision.
-fn is_whole(alloc: Global, logs: &[Vec<Record>], committed: &Committed) -> Result<bool, Fault> {
-    for part in committed.parts.shards(alloc)?.as_slice() {
-        if *part == committed.parts.least() {
-            continue;
-        }
-        match logs.get(part.number() as usize) {
-            Some(log) if stands_by(log, committed.txn) => {}
-            _ => return Ok(false),
+fn is_whole(logs: &[Vec<Record>], committed: &Committed) -> bool {
+    for part in 0..16 {
+        if !is_part_whole(logs, shard(part), committed) {
+            return false;
         }
     }
-    Ok(true)
+    true
 }
 
 // What was acknowledged at a timestamp stands there whole.
-fn is_durable(alloc: Global, logs: &[Vec<Record>], txn: TxnId, at: Stamp) -> Result<bool, Fault> {
+fn is_durable(logs: &[Vec<Record>], txn: TxnId, at: Stamp) -> bool {
     match decision(logs, txn) {
-        Some(committed) if committed.at == at => is_whole(alloc, logs, committed),
-        _ => Ok(false),
+        Some(committed) => committed.at == at && is_whole(logs, committed),
+        None => false,
     }
 }
 
@@ -255,14 +262,14 @@ fn is_true_read(logs: &[Vec<Record>], txn: TxnId, key: &Key, value: &Option<Valu
 
 // ---- lines
 
-fn is_true_line(alloc: Global, logs: &[Vec<Record>], line: &Line) -> Result<bool, Fault> {
+fn is_true_line(logs: &[Vec<Record>], line: &Line) -> bool {
     match line {
-        Line::Begin(_, _) => Ok(true),
-        Line::Ack(txn, at, _) => is_durable(alloc, logs, *txn, *at),
-        Line::Read(txn, key, value) => Ok(is_true_read(logs, *txn, key, value)),
+        Line::Begin(_, _) => true,
+        Line::Ack(txn, at, _) => is_durable(logs, *txn, *at),
+        Line::Read(txn, key, value) => is_true_read(logs, *txn, key, value),
         Line::Look(key, at, value) => {
             let bound = (at.micros(), u64::MAX);
-            Ok(is_same(value_before(logs, key, bound), value))
+            is_same(value_before(logs, key, bound), value)
         }
     }
 }
@@ -327,45 +334,49 @@ fn is_true_message(logs: &[Vec<Record>], message: &Message) -> bool {
     }
 }
 
-fn are_true_messages(report: &Report) -> bool {
-    for envelope in report.bag.as_slice() {
-        if !is_true_message(&report.logs, &envelope.message) {
+fn are_true_messages(logs: &[Vec<Record>], messages: &[Envelope]) -> bool {
+    for envelope in messages {
+        if !is_true_message(logs, &envelope.message) {
             return false;
         }
     }
     true
 }
 
-fn are_true_lines(alloc: Global, report: &Report) -> Result<bool, Fault> {
-    for line in &report.lines {
-        if !is_true_line(alloc, &report.logs, line)? {
-            return Ok(false);
+fn are_true_lines(logs: &[Vec<Record>], lines: &[Line]) -> bool {
+    for line in lines {
+        if !is_true_line(logs, line) {
+            return false;
         }
     }
-    Ok(true)
+    true
 }
 
 // The first thing that is wrong with what a report says of its transactions.
-pub fn judge(alloc: Global, report: &Report) -> Result<&'static str, Fault> {
+pub fn judge(report: &Report) -> &'static str {
     if !are_numbered(&report.logs) {
-        return Ok("an opening");
+        return "an opening";
     }
     if !all_agree(&report.logs) {
-        return Ok("a record");
+        return "a record";
     }
-    if !are_true_messages(report) {
-        return Ok("a message");
+    if !are_true_messages(&report.logs, report.bag.as_slice()) {
+        return "a message";
     }
-    if !are_true_lines(alloc, report)? {
-        return Ok("a line");
+    judge_lines(&report.logs, &report.lines)
+}
+
+fn judge_lines(logs: &[Vec<Record>], lines: &[Line]) -> &'static str {
+    if !are_true_lines(logs, lines) {
+        return "a line";
     }
-    if !are_acknowledged_once(&report.lines) {
-        return Ok("an acknowledgement");
+    if !are_acknowledged_once(lines) {
+        return "an acknowledgement";
     }
-    if !are_ordered(&report.logs, &report.lines) {
-        return Ok("an order");
+    if !are_ordered(logs, lines) {
+        return "an order";
     }
-    Ok("")
+    ""
 }
 
 // ---- counts

@@ -5,9 +5,9 @@ ghost use Rattle.std.specs.Prelude.{◌<◌, ◌^◌};
 use crate::runs::{Shape, run};
 use crate::steps::{At, Step, Timed};
 use disk::Fate;
+use playing::Report;
 use record::Record;
 use std::alloc::Global;
-use std::test::Fail;
 use units::{Fault, Line};
 use world::Reply;
 
@@ -81,68 +81,70 @@ fn begins_at(number: u32) -> u64
 }
 
 // A session writes two keys and closes, which puts out a Commit and a Prepare.
-fn push_session(steps: &mut Vec<Timed>, number: u32, keys: (u8, u8)) -> Result<(), Fault> {
+fn push_session(steps: &mut Vec<Timed>, number: u32, keys: (u8, u8)) -> bool {
     let (time, txn) = (begins_at(number), number as u64);
-    steps.push((time, Step::Begin(txn)))?;
-    steps.push((time, Step::Write(txn, keys.0, b'1')))?;
-    steps.push((time, Step::Write(txn, keys.1, b'2')))?;
-    steps.push((time, Step::Close(txn)))?;
-    Ok(())
+    let session = [
+        (time, Step::Begin(txn)),
+        (time, Step::Write(txn, keys.0, b'1')),
+        (time, Step::Write(txn, keys.1, b'2')),
+        (time, Step::Close(txn)),
+    ];
+    steps.extend_from_slice(&session).is_ok()
 }
 
 // The Commit, the Prepare and the vote come, and the transaction is settled.
-fn push_decision(steps: &mut Vec<Timed>, number: u32, shard: u8) -> Result<(), Fault> {
+fn push_decision(steps: &mut Vec<Timed>, number: u32, shard: u8) -> bool {
     let (time, txn) = (begins_at(number), number as u64);
     let first = 5 * txn;
-    steps.push((time + 2, Step::Deliver(first, time, time + 3)))?;
-    steps.push((time + 4, Step::Deliver(first + 1, time + 2, time + 5)))?;
-    steps.push((time + 6, Step::Deliver(first + 2, time + 4, time + 7)))?;
-    steps.push((time + 16, Step::Settle(shard, txn, time + 14, time + 17)))?;
-    Ok(())
+    let decision = [
+        (time + 2, Step::Deliver(first, time, time + 3)),
+        (time + 4, Step::Deliver(first + 1, time + 2, time + 5)),
+        (time + 6, Step::Deliver(first + 2, time + 4, time + 7)),
+        (time + 16, Step::Settle(shard, txn, time + 14, time + 17)),
+    ];
+    steps.extend_from_slice(&decision).is_ok()
 }
 
 // The outcome comes, and the session hears its end.
-fn push_end(steps: &mut Vec<Timed>, number: u32) -> Result<(), Fault> {
+fn push_end(steps: &mut Vec<Timed>, number: u32) -> bool {
     let (time, first) = (begins_at(number), 5 * number as u64);
-    steps.push((time + 18, Step::Deliver(first + 4, time + 16, time + 19)))?;
-    steps.push((time + 19, Step::Deliver(first + 3, time + 17, time + 20)))?;
-    Ok(())
+    let end = [
+        (time + 18, Step::Deliver(first + 4, time + 16, time + 19)),
+        (time + 19, Step::Deliver(first + 3, time + 17, time + 20)),
+    ];
+    steps.extend_from_slice(&end).is_ok()
 }
 
 // The outcome comes with a stop, and the shard is opened. The session does not hear its end.
-fn push_stop(
-    steps: &mut Vec<Timed>,
-    number: u32,
-    shard: u8,
-    stop: (u64, Option<Fate>),
-) -> Result<(), Fault> {
+fn push_stop(steps: &mut Vec<Timed>, number: u32, shard: u8, stop: (u64, Option<Fate>)) -> bool {
     let (time, first) = (begins_at(number), 5 * number as u64);
     let at = At::Take(shard, first + 4, time + 16, time + 19);
     let step = match stop {
         (call, Some(fate)) => Step::CrashIn(shard, call, fate, at),
         (call, None) => Step::FailIn(shard, call, at),
     };
-    steps.push((time + 18, step))?;
-    steps.push((time + 19, Step::Open(shard)))?;
-    Ok(())
+    let end = [(time + 18, step), (time + 19, Step::Open(shard))];
+    steps.extend_from_slice(&end).is_ok()
 }
 
-fn push_transaction(steps: &mut Vec<Timed>, number: u32) -> Result<(), Fault> {
+fn push_transaction(steps: &mut Vec<Timed>, number: u32) -> bool {
     let pair = pair_of(number);
-    push_session(steps, number, pair.keys)?;
-    push_decision(steps, number, pair.coordinator)?;
+    if !push_session(steps, number, pair.keys) || !push_decision(steps, number, pair.coordinator) {
+        return false;
+    }
     match stop_of(number) {
         Some(stop) => push_stop(steps, number, pair.part, stop),
         None => push_end(steps, number),
     }
 }
 
-fn all_steps(alloc: Global) -> Result<Vec<Timed>, Fault> {
-    let mut steps = Vec::new(alloc);
+fn push_all(steps: &mut Vec<Timed>) -> bool {
     for number in 0..TRANSACTIONS {
-        push_transaction(&mut steps, number)?;
+        if !push_transaction(steps, number) {
+            return false;
+        }
     }
-    Ok(steps)
+    true
 }
 
 // Each was acknowledged by its eighth event, at a timestamp just above the latest end of the reading of its Commit.
@@ -218,16 +220,37 @@ fn counts_of(logs: &[Vec<Record>]) -> (u32, u32) {
     counts
 }
 
-// Each of the two shards of a transaction has its outcome, and each stop made one opening more.
+// What is first wrong with the report. Each of the two shards of a transaction has its outcome, and each stop made one opening
+// more.
+fn wrong_of(report: &Report) -> &'static str {
+    if report.replies.len() != 10_000 || !are_wanted(&report.replies) {
+        return "the replies";
+    }
+    if report.lines.len() != 2_000 || !are_acknowledgements(&report.lines) {
+        return "the lines";
+    }
+    if counts_of(&report.logs) != (51, 2_000) {
+        return "the logs";
+    }
+    ""
+}
+
+fn wrong_behind(alloc: Global, steps: &mut Vec<Timed>) -> &'static str {
+    if !push_all(steps) {
+        return "no steps";
+    }
+    let Ok(report) = run(alloc, FOUR, steps) else {
+        return "no report";
+    };
+    let wrong = wrong_of(&report);
+    drop(report);
+    wrong
+}
+
 #[test]
-fn ten_thousand_events(rt: HostRuntime) -> Result<(), Fail> {
-    let alloc = rt.alloc();
-    let steps = all_steps(alloc)?;
-    let report = run(alloc, FOUR, &steps).ok_or("a report")?;
-    assert_eq!(rt; report.replies.len(), 10_000);
-    assert!(rt; are_wanted(&report.replies));
-    assert_eq!(rt; report.lines.len(), 2_000);
-    assert!(rt; are_acknowledgements(&report.lines));
-    assert_eq!(rt; counts_of(&report.logs), (51, 2_000));
-    Ok(())
+fn ten_thousand_events(rt: HostRuntime) {
+    let mut steps = Vec::new(rt.alloc());
+    let wrong = wrong_behind(rt.alloc(), &mut steps);
+    drop(steps);
+    assert!(rt; wrong.is_empty(), "{wrong}");
 }

@@ -1,13 +1,16 @@
 //! What befalls the core of a shard from outside a run shows in the run: the cores that it plays lie open here.
-use crate::run_texts::{joined, reply_texts};
-use crate::runs::{TWO, config};
-use crate::steps::{Step, Timed, event, reading, stamp};
+ghost use Rattle.std.specs.Prelude.{◌<◌, ◌-◌, ◌^◌};
+
+use crate::comparing::check;
+use crate::run_texts::{Text, push_replies, push_texts};
+use crate::runs::{TWO, config, reply_to};
+use crate::steps::{Step, Timed, reading, stamp};
 use lives::{Life, Run, RunShard};
 use message::{Input, Outbox};
 use std::alloc::Global;
-use std::test::Fail;
+use std::process::Abort;
 use units::Fault;
-use world::Reply;
+use world::{Config, Reply};
 
 // At the number of the first Commit the core of shard 0 is to serve up to 500, with a device call of it armed or with none.
 #[derive(Clone, Copy)]
@@ -70,56 +73,92 @@ fn without(answer: Result<Outbox, Fault>) -> Result<(), Fault> {
     }
 }
 
-// The core of a shard is to serve up to 500.
-fn befalls(shard: &mut RunShard, alloc: Global, call: Option<u64>) -> Option<Result<(), Fault>> {
-    let (now, to) = (reading(500, 510)?, stamp(500)?);
+// Whether the core of a shard, which is to serve up to 500, answers as it should.
+fn befalls(shard: &mut RunShard, alloc: Global, outside: &Outside) -> bool {
     let Life::Up(core) = &mut shard.life else {
-        return None;
+        return false;
     };
-    core.arm(call);
-    Some(without(core.on(alloc, &now, &Input::Advance(to))))
+    core.arm(outside.call);
+    let input = Input::Advance(stamp(500));
+    let answer = without(core.on(alloc, &reading(500, 510), &input));
+    drop(input);
+    answer == outside.answer
 }
 
 // The first shard of a run.
-fn first_befalls(run: &mut Run<'_>, alloc: Global, outside: &Outside) -> Option<bool> {
-    let shard = run.shards.shards.first_mut()?;
-    Some(befalls(shard, alloc, outside.call)? == outside.answer)
-}
-
-// The replies of the run, where the core answered as it should.
-fn replies_of(run: &mut Run<'_>, alloc: Global, outside: &Outside) -> Option<Vec<Reply>> {
-    let mut replies = Vec::new(alloc);
-    for (number, timed) in outside.steps.iter().enumerate() {
-        if number == 3 && !first_befalls(run, alloc, outside)? {
-            return None;
-        }
-        let event = event(alloc, *timed)?;
-        replies
-            .push(run.take(alloc, number as u64, &event).ok()?)
-            .ok()?;
+fn first_befalls(run: &mut Run<'_>, alloc: Global, outside: &Outside) -> bool {
+    match run.shards.shards.first_mut() {
+        Some(shard) => befalls(shard, alloc, outside),
+        None => false,
     }
-    Some(replies)
 }
 
-fn replies(alloc: Global, outside: &Outside) -> Option<Vec<Reply>> {
-    let config = config(alloc, TWO)?;
-    let mut run = Run::start(alloc, &config).ok()?;
-    let replies = replies_of(&mut run, alloc, outside);
+fn is_replied(
+    replies: &mut Vec<Reply>,
+    run: &mut Run<'_>,
+    alloc: Global,
+    number: usize,
+    timed: Timed,
+) -> bool
+    requires { number < 2 ^ 64 - 1 }
+{
+    match reply_to(run, alloc, number, timed) {
+        Some(reply) => replies.push(reply).is_ok(),
+        None => false,
+    }
+}
+
+// Whether the steps had replies, and the core answered as it should.
+fn are_replied(
+    replies: &mut Vec<Reply>,
+    run: &mut Run<'_>,
+    alloc: Global,
+    outside: &Outside,
+) -> bool {
+    for number in 0..outside.steps.len() {
+        if number == 3 && !first_befalls(run, alloc, outside) {
+            return false;
+        }
+        if !is_replied(replies, run, alloc, number, outside.steps[number]) {
+            return false;
+        }
+    }
+    true
+}
+
+fn is_run(replies: &mut Vec<Reply>, alloc: Global, config: &Config, outside: &Outside) -> bool {
+    let Ok(mut run) = Run::start(alloc, config) else {
+        return false;
+    };
+    let replied = are_replied(replies, &mut run, alloc, outside);
     run.spend();
-    replies
+    replied
+}
+
+// What the replies are, where the core answered as it should.
+fn push_found(text: &mut Text, alloc: Global, config: &Config, outside: &Outside) {
+    let mut replies = Vec::new(alloc);
+    if is_run(&mut replies, alloc, config, outside) {
+        push_replies(text, &replies);
+    }
+    drop(replies);
+}
+
+fn compare(rt: &impl Abort, alloc: Global, config: &Config, outside: &Outside) {
+    let mut found = Text::new(alloc);
+    push_found(&mut found, alloc, config, outside);
+    let mut wanted = Text::new(alloc);
+    push_texts(&mut wanted, outside.replies);
+    check(rt, &found, &wanted, outside.name);
+    drop(found);
+    drop(wanted);
 }
 
 #[test]
-fn cores_lie_open(rt: HostRuntime) -> Result<(), Fail> {
-    let alloc = rt.alloc();
+fn cores_lie_open(rt: HostRuntime) {
+    let config = config(rt.alloc(), TWO).expect(&rt, "two shards");
     for outside in &OUTSIDE {
-        let found = replies(alloc, outside).ok_or("replies")?;
-        assert_eq!(rt;
-            reply_texts(alloc, &found)?,
-            joined(alloc, outside.replies)?,
-            "{}",
-            outside.name
-        );
+        compare(&rt, rt.alloc(), &config, outside);
     }
-    Ok(())
+    drop(config);
 }

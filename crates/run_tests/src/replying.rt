@@ -72,6 +72,13 @@ impl Standings {
         }
     }
 
+    // An event has had a reply. Whether that is one that is due.
+    fn takes(&mut self, report: &Report, step: Step, told: Told) -> bool {
+        let due = is_due(self, report, step, told);
+        self.follow(step, told);
+        due
+    }
+
     // A call of an opening, or of something else, was to fail.
     fn follow_failing(&mut self, shard: u8, opens: bool, told: Told) {
         match (opens, told) {
@@ -92,9 +99,12 @@ fn opens(at: At) -> bool {
 
 // The shard that a message goes to.
 fn receiver(report: &Report, message: u64) -> Option<u8> {
-    match report.bag.nth(message)?.to {
-        Address::Shard(shard) => Some(shard.number()),
-        Address::Session(_) => None,
+    match report.bag.nth(message) {
+        Some(envelope) => match envelope.to {
+            Address::Shard(shard) => Some(shard.number()),
+            Address::Session(_) => None,
+        },
+        None => None,
     }
 }
 
@@ -154,11 +164,13 @@ fn is_due(standings: &Standings, report: &Report, step: Step, told: Told) -> boo
 // There is a reply to each event, and each is one that is due.
 pub fn are_due(report: &Report, steps: &[Timed]) -> bool {
     let mut standings = Standings::new();
-    for ((_, step), reply) in steps.iter().zip(report.replies.iter()) {
-        if !is_due(&standings, report, *step, told_by(reply)) {
+    for number in 0..steps.len() {
+        let Some(reply) = report.replies.get(number) else {
+            return false;
+        };
+        if !standings.takes(report, steps[number].1, told_by(reply)) {
             return false;
         }
-        standings.follow(*step, told_by(reply));
     }
     report.replies.len() == steps.len()
 }
@@ -192,8 +204,10 @@ impl Stops {
     // With those of more events.
     pub fn with(self, steps: &[Timed], replies: &[Reply]) -> Stops {
         let mut stops = self;
-        for ((_, step), reply) in steps.iter().zip(replies.iter()) {
-            stops = stops.with_one(*step, told_by(reply));
+        for number in 0..steps.len() {
+            if let Some(reply) = replies.get(number) {
+                stops = stops.with_one(steps[number].1, told_by(reply));
+            }
         }
         stops
     }

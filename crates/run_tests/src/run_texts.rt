@@ -1,291 +1,316 @@
 //! What a run comes to as texts: a line each.
-use message::{Address, Answer, Envelope, Message, ReadAnswer, Reads};
-use playing::Report;
+use crate::steps::shard;
+use message::{Address, Answer, Commit, Envelope, Message, Prepare, ReadAnswer, Reads};
 use record::{Committed, Prepared, Record};
 use std::alloc::Global;
-use units::{Fault, Key, Keys, Line, Parts, ShardNo, Stamp, TxnId, Value, Writes};
+use units::{Fault, Key, Line, Parts, ShardNo, Stamp, TxnId, Value, Writes};
 use world::Reply;
 
-fn push_bytes(text: &mut String, bytes: &[u8]) -> Result<(), Fault> {
-    for byte in bytes {
-        text.push(char::from(*byte))?;
-    }
-    Ok(())
+// A text, which is whole where there was memory for all that was pushed.
+#[derive(Drop)]
+pub struct Text {
+    held: String,
+    is_whole: bool,
 }
 
-fn push_value(text: &mut String, value: &Option<Value>) -> Result<(), Fault> {
-    match value {
-        Some(value) => push_bytes(text, value.as_bytes()),
-        None => {
-            text.push_str("none")?;
-            Ok(())
+impl Text {
+    pub fn new(alloc: Global) -> Text {
+        Text {
+            held: String::new(alloc),
+            is_whole: true,
+        }
+    }
+
+    pub fn as_str(&self) -> &str {
+        self.held.as_str()
+    }
+
+    // Both are whole, and the same.
+    pub fn is_same(&self, other: &Text) -> bool {
+        self.is_whole && other.is_whole && self.held.as_str() == other.held.as_str()
+    }
+
+    pub fn word(&mut self, word: &str) {
+        if self.held.push_str(word).is_err() {
+            self.is_whole = false;
+        }
+    }
+
+    fn bytes(&mut self, bytes: &[u8]) {
+        for byte in bytes {
+            if self.held.push(char::from(*byte)).is_err() {
+                self.is_whole = false;
+            }
+        }
+    }
+
+    // A number behind a word, and so on.
+    pub fn number(&mut self, word: &str, number: u64) {
+        if write!(&mut self.held, "{word}{number}").is_err() {
+            self.is_whole = false;
+        }
+    }
+
+    fn txn(&mut self, word: &str, txn: TxnId) {
+        self.number(word, txn.run());
+        self.number(".", txn.number());
+    }
+
+    fn shard(&mut self, word: &str, shard: ShardNo) {
+        self.number(word, u64::from(shard.number()));
+    }
+
+    fn stamp(&mut self, word: &str, at: Stamp) {
+        self.number(word, at.micros());
+    }
+
+    fn key(&mut self, word: &str, key: &Key) {
+        self.word(word);
+        self.bytes(key.as_bytes());
+    }
+
+    fn value(&mut self, word: &str, value: &Option<Value>) {
+        self.word(word);
+        match value {
+            Some(value) => self.bytes(value.as_bytes()),
+            None => self.word("none"),
         }
     }
 }
 
-fn push_stamp(text: &mut String, at: Option<Stamp>, none: &str) -> Result<(), Fault> {
-    match at {
-        Some(at) => write!(text, " {at}")?,
-        None => text.push_str(none)?,
-    }
-    Ok(())
-}
-
-fn push_outcome(text: &mut String, outcome: Option<Stamp>) -> Result<(), Fault> {
+fn push_outcome(text: &mut Text, outcome: Option<Stamp>) {
     match outcome {
-        Some(at) => write!(text, " committed {at}")?,
-        None => text.push_str(" aborted")?,
+        Some(at) => text.stamp(" committed ", at),
+        None => text.word(" aborted"),
     }
-    Ok(())
 }
 
-fn push_parts(text: &mut String, alloc: Global, parts: Parts) -> Result<(), Fault> {
-    text.push_str(" parts")?;
-    for part in parts.shards(alloc)?.as_slice() {
-        let part: ShardNo = *part;
-        write!(text, " {part}")?;
-    }
-    Ok(())
-}
-
-fn push_keys(text: &mut String, keys: &Keys) -> Result<(), Fault> {
-    for key in keys.as_slice() {
-        text.push_str(" reads ")?;
-        push_bytes(text, key.as_bytes())?;
-    }
-    Ok(())
-}
-
-fn push_reads(text: &mut String, reads: &Reads) -> Result<(), Fault> {
-    let epoch = reads.epoch();
-    write!(text, " epoch {epoch}")?;
-    push_keys(text, reads.keys())
-}
-
-fn push_writes(text: &mut String, writes: &Writes) -> Result<(), Fault> {
-    for write in writes.as_slice() {
-        text.push(' ')?;
-        push_bytes(text, write.key.as_bytes())?;
-        text.push('=')?;
-        push_value(text, &write.value)?;
-    }
-    Ok(())
-}
-
-fn push_answer(text: &mut String, answer: &ReadAnswer) -> Result<(), Fault> {
-    let (from, txn, epoch) = (answer.from, answer.txn, answer.epoch);
-    write!(text, "answer from {from} of {txn} epoch {epoch} ")?;
-    push_bytes(text, answer.key.as_bytes())?;
-    text.push('=')?;
-    match &answer.answer {
-        Answer::Holds(value) => push_value(text, value),
-        Answer::Refused => {
-            text.push_str("refused")?;
-            Ok(())
+fn push_parts(text: &mut Text, parts: Parts) {
+    text.word(" parts");
+    for part in 0..16 {
+        if parts.has(shard(part)) {
+            text.number(" ", u64::from(part));
         }
     }
 }
 
-// A message with reads or writes.
-fn push_request(text: &mut String, alloc: Global, message: &Message) -> Result<(), Fault> {
+fn push_keys(text: &mut Text, keys: &[Key]) {
+    for key in keys {
+        text.key(" reads ", key);
+    }
+}
+
+fn push_reads(text: &mut Text, reads: &Reads) {
+    text.number(" epoch ", reads.epoch());
+    push_keys(text, reads.keys().as_slice());
+}
+
+fn push_writes(text: &mut Text, writes: &Writes) {
+    for write in writes.as_slice() {
+        text.key(" ", &write.key);
+        text.value("=", &write.value);
+    }
+}
+
+fn push_answer(text: &mut Text, answer: &ReadAnswer) {
+    text.shard("answer from ", answer.from);
+    text.txn(" of ", answer.txn);
+    text.number(" epoch ", answer.epoch.number());
+    text.key(" ", &answer.key);
+    match &answer.answer {
+        Answer::Holds(value) => text.value("=", value),
+        Answer::Refused => text.word("=refused"),
+    }
+}
+
+fn push_prepare(text: &mut Text, asked: &Prepare) {
+    text.txn("prepare ", asked.txn);
+    text.shard(" coordinator ", asked.coordinator);
+    push_reads(text, &asked.reads);
+    push_writes(text, &asked.writes);
+}
+
+fn push_commit(text: &mut Text, asked: &Commit) {
+    text.txn("commit ", asked.txn);
+    push_parts(text, asked.parts);
+    push_reads(text, &asked.reads);
+    push_writes(text, &asked.writes);
+}
+
+fn push_vote(text: &mut Text, vote: Option<Stamp>) {
+    match vote {
+        Some(at) => text.stamp(" ", at),
+        None => text.word(" no"),
+    }
+}
+
+fn push_message(text: &mut Text, message: &Message) {
     match message {
         Message::Read(read) => {
-            let txn = read.txn;
-            write!(text, "read {txn} ")?;
-            push_bytes(text, read.key.as_bytes())
+            text.txn("read ", read.txn);
+            text.key(" ", &read.key);
         }
-        Message::Prepare(asked) => {
-            let (txn, coordinator) = (asked.txn, asked.coordinator);
-            write!(text, "prepare {txn} coordinator {coordinator}")?;
-            push_reads(text, &asked.reads)?;
-            push_writes(text, &asked.writes)
-        }
-        Message::Commit(asked) => {
-            let txn = asked.txn;
-            write!(text, "commit {txn}")?;
-            push_parts(text, alloc, asked.parts)?;
-            push_reads(text, &asked.reads)?;
-            push_writes(text, &asked.writes)
-        }
-        _ => Ok(()),
+        Message::Prepare(asked) => push_prepare(text, asked),
+        Message::Commit(asked) => push_commit(text, asked),
+        Message::ReadAnswer(answer) => push_answer(text, answer),
+        _ => push_notice(text, message),
     }
-}
-
-fn push_vote(text: &mut String, from: ShardNo, txn: TxnId) -> Result<(), Fault> {
-    write!(text, "vote of {from} for {txn}")?;
-    Ok(())
 }
 
 // Any other message.
-fn push_notice(text: &mut String, message: &Message) -> Result<(), Fault> {
+fn push_notice(text: &mut Text, message: &Message) {
     match message {
         Message::Vote(vote) => {
-            push_vote(text, vote.from, vote.txn)?;
-            push_stamp(text, vote.vote, " no")
+            text.shard("vote of ", vote.from);
+            text.txn(" for ", vote.txn);
+            push_vote(text, vote.vote);
         }
         Message::Outcome(told) => {
-            let (from, txn) = (told.from, told.txn);
-            write!(text, "outcome from {from} of {txn}")?;
-            push_outcome(text, told.outcome)
+            text.shard("outcome from ", told.from);
+            text.txn(" of ", told.txn);
+            push_outcome(text, told.outcome);
         }
         Message::Done(done) => {
-            let txn = done.txn;
-            write!(text, "done {txn}")?;
-            push_outcome(text, done.outcome)
+            text.txn("done ", done.txn);
+            push_outcome(text, done.outcome);
         }
         Message::Ask(ask) => {
-            let (from, txn) = (ask.from, ask.txn);
-            write!(text, "ask from {from} of {txn}")?;
-            Ok(())
+            text.shard("ask from ", ask.from);
+            text.txn(" of ", ask.txn);
         }
-        Message::GiveUp(given) => {
-            let txn = given.txn;
-            write!(text, "give up {txn}")?;
-            Ok(())
-        }
-        Message::ReadAnswer(answer) => push_answer(text, answer),
-        _ => Ok(()),
+        Message::GiveUp(given) => text.txn("give up ", given.txn),
+        _ => {}
     }
 }
 
-fn push_address(text: &mut String, to: Address) -> Result<(), Fault> {
+fn push_address(text: &mut Text, to: Address) {
     match to {
-        Address::Shard(shard) => write!(text, "{shard}: ")?,
-        Address::Session(txn) => write!(text, "session {txn}: ")?,
+        Address::Shard(shard) => text.shard("", shard),
+        Address::Session(txn) => text.txn("session ", txn),
     }
-    Ok(())
 }
 
-fn push_envelope(text: &mut String, alloc: Global, envelope: &Envelope) -> Result<(), Fault> {
-    push_address(text, envelope.to)?;
-    push_request(text, alloc, &envelope.message)?;
-    push_notice(text, &envelope.message)
+fn push_refusal(text: &mut Text, fault: &Fault) {
+    if write!(&mut text.held, " refused {fault}").is_err() {
+        text.is_whole = false;
+    }
 }
 
-fn push_reply(text: &mut String, reply: &Reply) -> Result<(), Fault> {
+fn push_reply(text: &mut Text, reply: &Reply) {
     match reply {
-        Reply::Done => text.push_str("done")?,
-        Reply::Refused(fault) => write!(text, "refused {fault}")?,
-        Reply::Shows(value) => {
-            text.push_str("shows ")?;
-            push_value(text, value)?;
-        }
-        Reply::Crashed => text.push_str("crashed")?,
+        Reply::Done => text.word(" done"),
+        Reply::Refused(fault) => push_refusal(text, fault),
+        Reply::Shows(value) => text.value(" shows ", value),
+        Reply::Crashed => text.word(" crashed"),
     }
-    Ok(())
 }
 
-fn push_promise(text: &mut String, promise: &Prepared) -> Result<(), Fault> {
-    let (txn, coordinator, at) = (promise.txn, promise.coordinator, promise.at);
-    write!(text, "prepare {txn} coordinator {coordinator} at {at}")?;
-    push_keys(text, &promise.reads)?;
-    push_writes(text, &promise.writes)
+fn push_promise(text: &mut Text, promise: &Prepared) {
+    text.txn("prepare ", promise.txn);
+    text.shard(" coordinator ", promise.coordinator);
+    text.stamp(" at ", promise.at);
+    push_keys(text, promise.reads.as_slice());
+    push_writes(text, &promise.writes);
 }
 
-fn push_decision(text: &mut String, alloc: Global, commit: &Committed) -> Result<(), Fault> {
-    let (txn, at) = (commit.txn, commit.at);
-    write!(text, "commit {txn} at {at}")?;
-    push_parts(text, alloc, commit.parts)?;
-    push_keys(text, &commit.reads)?;
-    push_writes(text, &commit.writes)
+fn push_decision(text: &mut Text, commit: &Committed) {
+    text.txn("commit ", commit.txn);
+    text.stamp(" at ", commit.at);
+    push_parts(text, commit.parts);
+    push_keys(text, commit.reads.as_slice());
+    push_writes(text, &commit.writes);
 }
 
-fn push_record(text: &mut String, alloc: Global, item: &Record) -> Result<(), Fault> {
+fn push_record(text: &mut Text, item: &Record) {
     match item {
-        Record::Opened { epoch } => write!(text, "opened {epoch}")?,
-        Record::Ceiling { at } => write!(text, "ceiling {at}")?,
-        Record::Prepare(promise) => push_promise(text, promise)?,
-        Record::Commit(commit) => push_decision(text, alloc, commit)?,
-        Record::Abort { txn } => write!(text, "abort {txn}")?,
+        Record::Opened { epoch } => text.number("opened ", epoch.number()),
+        Record::Ceiling { at } => text.stamp("ceiling ", *at),
+        Record::Prepare(promise) => push_promise(text, promise),
+        Record::Commit(commit) => push_decision(text, commit),
+        Record::Abort { txn } => text.txn("abort ", *txn),
         Record::Outcome { txn, outcome } => {
-            write!(text, "outcome {txn}")?;
-            push_outcome(text, *outcome)?;
+            text.txn("outcome ", *txn);
+            push_outcome(text, *outcome);
         }
     }
-    Ok(())
+    text.word("\n");
 }
 
-fn push_held(text: &mut String, key: &Key, value: &Option<Value>) -> Result<(), Fault> {
-    push_bytes(text, key.as_bytes())?;
-    text.push(' ')?;
-    push_value(text, value)
-}
-
-fn push_line(text: &mut String, line: &Line) -> Result<(), Fault> {
+fn push_line(text: &mut Text, line: &Line) {
     match line {
-        Line::Begin(txn, event) => write!(text, "begin {txn} {event}")?,
-        Line::Ack(txn, at, event) => write!(text, "ack {txn} {at} {event}")?,
+        Line::Begin(txn, event) => {
+            text.txn("begin ", *txn);
+            text.number(" ", *event);
+        }
+        Line::Ack(txn, at, event) => {
+            text.txn("ack ", *txn);
+            text.stamp(" ", *at);
+            text.number(" ", *event);
+        }
         Line::Read(txn, key, value) => {
-            write!(text, "read {txn} ")?;
-            push_held(text, key, value)?;
+            text.txn("read ", *txn);
+            text.key(" ", key);
+            text.value(" ", value);
         }
         Line::Look(key, at, value) => {
-            text.push_str("look ")?;
-            push_bytes(text, key.as_bytes())?;
-            write!(text, " {at} ")?;
-            push_value(text, value)?;
+            text.key("look ", key);
+            text.stamp(" ", *at);
+            text.value(" ", value);
         }
     }
-    Ok(())
+    text.word("\n");
 }
 
-fn push_one(text: &mut String, alloc: Global, item: &Record) -> Result<(), Fault> {
-    push_record(text, alloc, item)?;
-    text.push('\n')?;
-    Ok(())
+fn is_done(reply: &Reply) -> bool {
+    match reply {
+        Reply::Done => true,
+        Reply::Refused(_) | Reply::Shows(_) | Reply::Crashed => false,
+    }
 }
 
 // The replies that are more than `Done`, each behind the number of its event.
-pub fn reply_texts(alloc: Global, replies: &[Reply]) -> Result<String, Fault> {
-    let mut text = String::new(alloc);
-    for (number, reply) in replies.iter().enumerate() {
-        if let Reply::Done = reply {
-            continue;
+pub fn push_replies(text: &mut Text, replies: &[Reply]) {
+    let mut number: u64 = 0;
+    for reply in replies {
+        if !is_done(reply) {
+            text.number("", number);
+            push_reply(text, reply);
+            text.word("\n");
         }
-        write!(&mut text, "{number} ")?;
-        push_reply(&mut text, reply)?;
-        text.push('\n')?;
+        number = number.saturating_add(1);
     }
-    Ok(text)
 }
 
-// The messages that were put out, each behind the one that it goes to.
-pub fn message_texts(alloc: Global, report: &Report) -> Result<String, Fault> {
-    let mut text = String::new(alloc);
-    for envelope in report.bag.as_slice() {
-        push_envelope(&mut text, alloc, envelope)?;
-        text.push('\n')?;
+// The messages, each behind the one that it goes to.
+pub fn push_messages(text: &mut Text, messages: &[Envelope]) {
+    for envelope in messages {
+        push_address(text, envelope.to);
+        text.word(": ");
+        push_message(text, &envelope.message);
+        text.word("\n");
     }
-    Ok(text)
 }
 
-// The log of a shard, nothing where there is no such shard.
-pub fn log_texts(alloc: Global, report: &Report, shard: usize) -> Result<String, Fault> {
-    let mut text = String::new(alloc);
-    if let Some(log) = report.logs.get(shard) {
-        for item in log {
-            push_one(&mut text, alloc, item)?;
-        }
+// The records of a log.
+pub fn push_log(text: &mut Text, log: &[Record]) {
+    text.word("log\n");
+    for item in log {
+        push_record(text, item);
     }
-    Ok(text)
 }
 
 // The lines that count.
-pub fn line_texts(alloc: Global, report: &Report) -> Result<String, Fault> {
-    let mut text = String::new(alloc);
-    for line in &report.lines {
-        push_line(&mut text, line)?;
-        text.push('\n')?;
+pub fn push_lines(text: &mut Text, lines: &[Line]) {
+    text.word("lines\n");
+    for line in lines {
+        push_line(text, line);
     }
-    Ok(text)
 }
 
 // Texts as lines.
-pub fn joined(alloc: Global, texts: &[&str]) -> Result<String, Fault> {
-    let mut text = String::new(alloc);
-    for one in texts {
-        text.push_str(one)?;
-        text.push('\n')?;
+pub fn push_texts(text: &mut Text, lines: &[&str]) {
+    for line in lines {
+        text.word(line);
+        text.word("\n");
     }
-    Ok(text)
 }

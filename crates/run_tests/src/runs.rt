@@ -1,9 +1,12 @@
 //! Steps are played over shards that are split at single letters.
-use crate::steps::{Timed, events};
+ghost use Rattle.std.specs.Prelude.{◌<◌, ◌-◌, ◌^◌};
+
+use crate::steps::{Timed, event, events, key};
+use lives::Run;
 use playing::{Report, lawful, play};
 use std::alloc::Global;
 use units::{Fault, Key, Splits, Stride};
-use world::Config;
+use world::{Config, Reply};
 
 // The letters at which shards are split, and their stride.
 #[derive(Clone, Copy)]
@@ -24,39 +27,83 @@ pub const THREE: Shape<'static> = Shape {
     stride: 0,
 };
 
+fn push_keys(keys: &mut Vec<Key>, letters: &[u8]) -> bool {
+    for letter in letters {
+        if keys.push(key(*letter)).is_err() {
+            return false;
+        }
+    }
+    true
+}
+
+fn splits(alloc: Global, letters: &[u8]) -> Result<Splits, Fault> {
+    let mut keys = Vec::new(alloc);
+    let splits = if push_keys(&mut keys, letters) {
+        Splits::new(alloc, &keys)
+    } else {
+        Err(Fault::Memory)
+    };
+    drop(keys);
+    splits
+}
+
 // The shards that are split at these letters.
 pub fn config(alloc: Global, shape: Shape<'_>) -> Option<Config> {
-    let stride = Stride::new(shape.stride)?;
-    let keys = keys(alloc, shape.splits)?;
-    let splits = Splits::new(alloc, &keys).ok()?;
-    Some(Config { splits, stride })
-}
-
-fn keys(alloc: Global, letters: &[u8]) -> Option<Vec<Key>> {
-    let mut keys = Vec::new(alloc);
-    for letter in letters {
-        keys.push(Key::new(&[*letter]).ok()?).ok()?;
+    let Some(stride) = Stride::new(shape.stride) else {
+        return None;
+    };
+    match splits(alloc, shape.splits) {
+        Ok(splits) => Some(Config { splits, stride }),
+        Err(_) => None,
     }
-    Some(keys)
 }
 
-// The report of steps that may happen.
-pub fn run(alloc: Global, shape: Shape<'_>, steps: &[Timed]) -> Option<Report> {
-    let config = config(alloc, shape)?;
-    let events = events(alloc, steps)?;
-    play(alloc, &config, &events).ok()
+fn played(alloc: Global, config: &Config, steps: &[Timed]) -> Result<Report, Fault> {
+    let Some(events) = events(alloc, steps) else {
+        return Err(Fault::Memory);
+    };
+    let report = play(alloc, config, &events);
+    drop(events);
+    report
 }
 
-// The refusal to play some steps.
-pub fn refusal(alloc: Global, shape: Shape<'_>, steps: &[Timed]) -> Option<Fault> {
-    let config = config(alloc, shape)?;
-    let events = events(alloc, steps)?;
-    play(alloc, &config, &events).err()
+// The report of some steps, or why they are not played.
+pub fn run(alloc: Global, shape: Shape<'_>, steps: &[Timed]) -> Result<Report, Fault> {
+    let Some(config) = config(alloc, shape) else {
+        return Err(Fault::Memory);
+    };
+    let report = played(alloc, &config, steps);
+    drop(config);
+    report
+}
+
+fn may_happen(alloc: Global, config: &Config, steps: &[Timed]) -> Option<bool> {
+    let Some(events) = events(alloc, steps) else {
+        return None;
+    };
+    let lawful = lawful(alloc, config, &events).ok();
+    drop(events);
+    lawful
 }
 
 // The steps are lawful.
 pub fn is_lawful(alloc: Global, shape: Shape<'_>, steps: &[Timed]) -> Option<bool> {
-    let config = config(alloc, shape)?;
-    let events = events(alloc, steps)?;
-    lawful(alloc, &config, &events).ok()
+    let Some(config) = config(alloc, shape) else {
+        return None;
+    };
+    let lawful = may_happen(alloc, &config, steps);
+    drop(config);
+    lawful
+}
+
+// The reply of a run to the step of a number, where it may happen.
+pub fn reply_to(run: &mut Run<'_>, alloc: Global, number: usize, timed: Timed) -> Option<Reply>
+    requires { number < 2 ^ 64 - 1 }
+{
+    let Some(event) = event(alloc, timed) else {
+        return None;
+    };
+    let reply = run.take(alloc, number as u64, &event).ok();
+    drop(event);
+    reply
 }

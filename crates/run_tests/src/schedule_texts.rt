@@ -1,8 +1,8 @@
 //! Schedules that are read, and lines that are refused.
 use script::schedule;
-use std::test::Fail;
+use std::alloc::Global;
 use units::{Fault, Reason};
-use world::Act;
+use world::{Act, Event};
 
 struct Refused {
     text: &'static str,
@@ -60,15 +60,21 @@ static REFUSED: [Refused; 12] = [
     },
 ];
 
-#[test]
-fn other_lines_are_refused(rt: HostRuntime) -> Result<(), Fail> {
-    for refused in &REFUSED {
-        match schedule(rt.alloc(), refused.text) {
-            Err(fault) => assert_eq!(rt; fault, Fault::BadRequest(refused.reason)),
-            Ok(_) => return Err("it is read".into()),
+fn is_refused(alloc: Global, refused: &Refused) -> bool {
+    match schedule(alloc, refused.text) {
+        Ok(read) => {
+            drop(read);
+            false
         }
+        Err(fault) => fault == Fault::BadRequest(refused.reason),
     }
-    Ok(())
+}
+
+#[test]
+fn other_lines_are_refused(rt: HostRuntime) {
+    for refused in &REFUSED {
+        assert!(rt; is_refused(rt.alloc(), refused), "{}", refused.text);
+    }
 }
 
 const EACH_KIND: &str = "shards 2
@@ -96,11 +102,29 @@ stride 7
 4 fail 0 3 advance 0 5 1 9
 ";
 
+// The events of a text.
+fn events(alloc: Global, text: &str) -> Option<Vec<Event>> {
+    match schedule(alloc, text) {
+        Ok((config, events)) => {
+            drop(config);
+            Some(events)
+        }
+        Err(_) => None,
+    }
+}
+
+fn count(alloc: Global, text: &str) -> Option<usize> {
+    let Some(events) = events(alloc, text) else {
+        return None;
+    };
+    let count = events.len();
+    drop(events);
+    Some(count)
+}
+
 #[test]
-fn each_kind_of_event_is_read(rt: HostRuntime) -> Result<(), Fail> {
-    let (_config, events) = schedule(rt.alloc(), EACH_KIND)?;
-    assert_eq!(rt; events.len(), 20);
-    Ok(())
+fn each_kind_of_event_is_read(rt: HostRuntime) {
+    assert!(rt; count(rt.alloc(), EACH_KIND) == Some(20));
 }
 
 struct Faulty {
@@ -150,22 +174,36 @@ static FAULTY: [Faulty; 6] = [
     },
 ];
 
-#[test]
-fn an_event_within_another_keeps_its_shard(rt: HostRuntime) -> Result<(), Fail> {
-    for faulty in &FAULTY {
-        let text = format!(in rt.alloc(); "shards 2\nsplit m\nstride 0\n{}", faulty.line)?;
-        let (_config, events) = schedule(rt.alloc(), text.as_str())?;
-        let found = match events.first() {
-            Some(event) => both_shards(&event.act),
-            None => None,
-        };
-        assert!(rt;
-            found == Some((faulty.at, faulty.call, faulty.named)),
-            "{}",
-            faulty.line
-        );
+fn first_shards(events: &[Event]) -> Option<(u8, u64, u8)> {
+    match events.first() {
+        Some(event) => both_shards(&event.act),
+        None => None,
     }
-    Ok(())
+}
+
+fn are_kept(alloc: Global, text: &str, faulty: &Faulty) -> bool {
+    let Some(events) = events(alloc, text) else {
+        return false;
+    };
+    let found = first_shards(&events);
+    drop(events);
+    found == Some((faulty.at, faulty.call, faulty.named))
+}
+
+fn is_kept(alloc: Global, faulty: &Faulty) -> bool {
+    let Ok(text) = format!(in alloc; "shards 2\nsplit m\nstride 0\n{}", faulty.line) else {
+        return false;
+    };
+    let kept = are_kept(alloc, text.as_str(), faulty);
+    drop(text);
+    kept
+}
+
+#[test]
+fn an_event_within_another_keeps_its_shard(rt: HostRuntime) {
+    for faulty in &FAULTY {
+        assert!(rt; is_kept(rt.alloc(), faulty), "{}", faulty.line);
+    }
 }
 
 fn both_shards(act: &Act) -> Option<(u8, u64, u8)> {

@@ -1,8 +1,7 @@
 //! Whole schedules.
-use crate::comparing::{Case, Wanted, compare};
+use crate::comparing::{Case, Wanted, compare_all};
 use crate::runs::TWO;
 use crate::steps::{Step, Timed};
-use std::test::Fail;
 
 // One write at one shard. The first settling comes too early.
 pub const ONE_SHARD: [Timed; 6] = [
@@ -89,9 +88,6 @@ static SCHEDULES: [Case<'static>; 2] = [
 ];
 
 #[test]
-fn schedules(rt: HostRuntime) -> Result<(), Fail> {
-    for case in &SCHEDULES {
-        compare(&rt, rt.alloc(), case)?;
-    }
-    Ok(())
+fn schedules(rt: HostRuntime) {
+    compare_all(&rt, rt.alloc(), &SCHEDULES);
 }

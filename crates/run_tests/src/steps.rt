@@ -46,36 +46,52 @@ pub enum Step {
 // A step with its true time.
 pub type Timed = (u64, Step);
 
-fn txn(number: u64) -> Option<TxnId> {
-    TxnId::new(1, number)
+// Transaction 1.number, of the number modulo 2^32.
+fn txn(number: u64) -> TxnId {
+    match TxnId::new(1, number % 4_294_967_296) {
+        Some(txn) => txn,
+        None => unreachable!(),
+    }
 }
 
-fn key(letter: u8) -> Option<Key> {
-    Key::new(&[letter]).ok()
+/// A key of one letter.
+pub fn key(letter: u8) -> Key {
+    match Key::new(&[letter]) {
+        Ok(key) => key,
+        Err(_) => unreachable!(),
+    }
 }
 
-fn value(alloc: Global, letter: u8) -> Option<Value> {
-    Value::new(alloc, &[letter]).ok()
+/// A shard by its number modulo 16.
+pub fn shard(number: u8) -> ShardNo {
+    match ShardNo::new(number % 16) {
+        Some(shard) => shard,
+        None => unreachable!(),
+    }
 }
 
-pub fn stamp(micros: u64) -> Option<Stamp> {
-    Stamp::new(micros).ok()
+/// A timestamp, or 0 where that is none.
+pub fn stamp(micros: u64) -> Stamp {
+    match Stamp::new(micros) {
+        Ok(at) => at,
+        Err(_) => Stamp::zero(),
+    }
 }
 
-pub fn reading(earliest: u64, latest: u64) -> Option<Reading> {
-    Reading::new(stamp(earliest)?, stamp(latest)?).ok()
+// The reading [0,0].
+fn beginning() -> Reading {
+    match Reading::new(Stamp::zero(), Stamp::zero()) {
+        Ok(now) => now,
+        Err(_) => unreachable!(),
+    }
 }
 
-fn settle(number: u64, now: Reading) -> Option<Doing> {
-    Some(Doing::Settle(txn(number)?, now))
-}
-
-fn advance(to: u64, now: Reading) -> Option<Doing> {
-    Some(Doing::Advance(stamp(to)?, now))
-}
-
-fn nudge(number: u64, now: Reading) -> Option<Doing> {
-    Some(Doing::Nudge(txn(number)?, now))
+/// A reading by its two ends, or [0,0] where these are exchanged.
+pub fn reading(earliest: u64, latest: u64) -> Reading {
+    match Reading::new(stamp(earliest), stamp(latest)) {
+        Ok(now) => now,
+        Err(_) => beginning(),
+    }
 }
 
 // The shard that does it, by its number.
@@ -90,61 +106,33 @@ fn named(at: At) -> u8 {
     }
 }
 
-fn doing(at: At) -> Option<Doing> {
+fn doing(at: At) -> Doing {
     match at {
-        At::Take(_, message, e, l) => Some(Doing::Take(message, reading(e, l)?)),
-        At::Resume(_, e, l) => Some(Doing::Resume(reading(e, l)?)),
-        At::Settle(_, number, e, l) => settle(number, reading(e, l)?),
-        At::Advance(_, to, e, l) => advance(to, reading(e, l)?),
-        At::Nudge(_, number, e, l) => nudge(number, reading(e, l)?),
-        At::Open(_) => Some(Doing::Open),
+        At::Take(_, message, e, l) => Doing::Take(message, reading(e, l)),
+        At::Resume(_, e, l) => Doing::Resume(reading(e, l)),
+        At::Settle(_, number, e, l) => Doing::Settle(txn(number), reading(e, l)),
+        At::Advance(_, to, e, l) => Doing::Advance(stamp(to), reading(e, l)),
+        At::Nudge(_, number, e, l) => Doing::Nudge(txn(number), reading(e, l)),
+        At::Open(_) => Doing::Open,
     }
 }
 
-fn act_at(at: At) -> Option<Act> {
-    Some(Act::At(ShardNo::new(named(at))?, doing(at)?))
-}
-
-fn crash_in(shard: u8, call: u64, fate: Fate, at: At) -> Option<Act> {
-    Some(Act::CrashIn(
-        ShardNo::new(shard)?,
-        call,
-        fate,
-        ShardNo::new(named(at))?,
-        doing(at)?,
-    ))
-}
-
-fn fail_in(shard: u8, call: u64, at: At) -> Option<Act> {
-    Some(Act::FailIn(
-        ShardNo::new(shard)?,
-        call,
-        ShardNo::new(named(at))?,
-        doing(at)?,
-    ))
-}
-
-fn look(shard: u8, letter: u8, micros: u64) -> Option<Act> {
-    Some(Act::Look(ShardNo::new(shard)?, key(letter)?, stamp(micros)?))
-}
-
-fn view(shard: u8, number: u64, letter: u8, micros: u64) -> Option<Act> {
-    Some(Act::View(ShardNo::new(shard)?, number, key(letter)?, stamp(micros)?))
+fn write(alloc: Global, number: u64, letter: u8, held: u8) -> Option<Act> {
+    match Value::new(alloc, &[held]) {
+        Ok(value) => Some(Act::Write(txn(number), key(letter), Some(value))),
+        Err(_) => None,
+    }
 }
 
 // What a session does.
 fn act_of_session(alloc: Global, step: Step) -> Option<Act> {
     match step {
-        Step::Begin(number) => Some(Act::Begin(txn(number)?)),
-        Step::Read(number, letter) => Some(Act::Read(txn(number)?, key(letter)?)),
-        Step::Write(number, letter, held) => Some(Act::Write(
-            txn(number)?,
-            key(letter)?,
-            Some(value(alloc, held)?),
-        )),
-        Step::Erase(number, letter) => Some(Act::Write(txn(number)?, key(letter)?, None)),
-        Step::Close(number) => Some(Act::Close(txn(number)?)),
-        Step::Quit(number) => Some(Act::Quit(txn(number)?)),
+        Step::Begin(number) => Some(Act::Begin(txn(number))),
+        Step::Read(number, letter) => Some(Act::Read(txn(number), key(letter))),
+        Step::Write(number, letter, held) => write(alloc, number, letter, held),
+        Step::Erase(number, letter) => Some(Act::Write(txn(number), key(letter), None)),
+        Step::Close(number) => Some(Act::Close(txn(number))),
+        Step::Quit(number) => Some(Act::Quit(txn(number))),
         _ => None,
     }
 }
@@ -161,43 +149,77 @@ fn at_of(step: Step) -> Option<At> {
     }
 }
 
-// What the network does or befalls a shard, or a look.
-fn act_of_world(step: Step) -> Option<Act> {
+// A crash or a failing call in what a shard does, or what a session does.
+fn act_within(alloc: Global, step: Step) -> Option<Act> {
     match step {
-        Step::Deliver(message, e, l) => Some(Act::Deliver(message, reading(e, l)?)),
-        Step::Look(shard, letter, micros) => look(shard, letter, micros),
-        Step::View(shard, number, letter, micros) => view(shard, number, letter, micros),
-        Step::Crash(shard) => Some(Act::Crash(ShardNo::new(shard)?)),
-        Step::CrashIn(shard, call, fate, at) => crash_in(shard, call, fate, at),
-        Step::FailIn(shard, call, at) => fail_in(shard, call, at),
-        _ => None,
+        Step::CrashIn(at, call, fate, within) => Some(Act::CrashIn(
+            shard(at),
+            call,
+            fate,
+            shard(named(within)),
+            doing(within),
+        )),
+        Step::FailIn(at, call, within) => Some(Act::FailIn(
+            shard(at),
+            call,
+            shard(named(within)),
+            doing(within),
+        )),
+        _ => act_of_session(alloc, step),
+    }
+}
+
+// What the network does or befalls a shard, a look, or what a session does.
+fn act_of_world(alloc: Global, step: Step) -> Option<Act> {
+    match step {
+        Step::Deliver(message, e, l) => Some(Act::Deliver(message, reading(e, l))),
+        Step::Look(at, letter, micros) => Some(Act::Look(shard(at), key(letter), stamp(micros))),
+        Step::View(at, number, letter, micros) => {
+            Some(Act::View(shard(at), number, key(letter), stamp(micros)))
+        }
+        Step::Crash(at) => Some(Act::Crash(shard(at))),
+        _ => act_within(alloc, step),
     }
 }
 
 fn act(alloc: Global, step: Step) -> Option<Act> {
-    if let Some(act) = act_of_session(alloc, step) {
-        return Some(act);
-    }
     match at_of(step) {
-        Some(at) => act_at(at),
-        None => act_of_world(step),
+        Some(at) => Some(Act::At(shard(named(at)), doing(at))),
+        None => act_of_world(alloc, step),
     }
 }
 
 // The event that a step is.
 pub fn event(alloc: Global, timed: Timed) -> Option<Event> {
-    let (time, step) = timed;
-    Some(Event {
-        time,
-        act: act(alloc, step)?,
-    })
+    match act(alloc, timed.1) {
+        Some(act) => Some(Event { time: timed.0, act }),
+        None => None,
+    }
+}
+
+fn push_event(events: &mut Vec<Event>, alloc: Global, timed: Timed) -> bool {
+    match event(alloc, timed) {
+        Some(event) => events.push(event).is_ok(),
+        None => false,
+    }
+}
+
+fn push_events(events: &mut Vec<Event>, alloc: Global, steps: &[Timed]) -> bool {
+    for timed in steps {
+        if !push_event(events, alloc, *timed) {
+            return false;
+        }
+    }
+    true
 }
 
 // The events of a list.
 pub fn events(alloc: Global, steps: &[Timed]) -> Option<Vec<Event>> {
     let mut events = Vec::new(alloc);
-    for timed in steps {
-        events.push(event(alloc, *timed)?).ok()?;
+    if push_events(&mut events, alloc, steps) {
+        Some(events)
+    } else {
+        drop(events);
+        None
     }
-    Some(events)
 }

@@ -1,10 +1,10 @@
 //! Lists of events that may not happen.
-use crate::runs::{TWO, is_lawful, refusal};
+use crate::runs::{TWO, is_lawful, run};
 use crate::schedules::{ONE_SHARD, TWO_SHARDS};
 use crate::steps::{At, Step, Timed};
 use disk::Fate;
 use std::alloc::Global;
-use std::test::Fail;
+use std::process::Abort;
 use units::{Fault, Reason};
 
 // A list, with the number of the first event that may not happen.
@@ -179,37 +179,39 @@ const STOPS: [Timed; 9] = [
 
 // The list is refused with that number.
 fn is_refused(alloc: Global, refused: &Refused) -> bool {
-    let fault = Fault::BadRequest(Reason::Unlawful(refused.number));
-    refusal(alloc, TWO, refused.steps) == Some(fault)
-        && is_lawful(alloc, TWO, refused.steps) == Some(false)
+    match run(alloc, TWO, refused.steps) {
+        Ok(report) => {
+            drop(report);
+            false
+        }
+        Err(fault) => fault == Fault::BadRequest(Reason::Unlawful(refused.number))
+            && is_lawful(alloc, TWO, refused.steps) == Some(false),
+    }
+}
+
+fn are_refused(rt: &impl Abort, alloc: Global, lists: &[Refused]) {
+    for refused in lists {
+        assert!(rt; is_refused(alloc, refused), "{}", refused.name);
+    }
 }
 
 #[test]
-fn unlawful_lists(rt: HostRuntime) -> Result<(), Fail> {
-    for refused in &LISTS {
-        assert!(rt; is_refused(rt.alloc(), refused), "{}", refused.name);
-    }
-    Ok(())
+fn unlawful_lists(rt: HostRuntime) {
+    are_refused(&rt, rt.alloc(), &LISTS);
 }
 
 #[test]
-fn unlawful_lists_with_stops(rt: HostRuntime) -> Result<(), Fail> {
-    for refused in &STOPPING_LISTS {
-        assert!(rt; is_refused(rt.alloc(), refused), "{}", refused.name);
-    }
-    Ok(())
+fn unlawful_lists_with_stops(rt: HostRuntime) {
+    are_refused(&rt, rt.alloc(), &STOPPING_LISTS);
 }
 
 // The lists that may happen.
 static LAWFUL: [&[Timed]; 4] = [&[], &ONE_SHARD, &TWO_SHARDS, &STOPS];
 
 #[test]
-fn lawful_lists(rt: HostRuntime) -> Result<(), Fail> {
-    for (number, steps) in LAWFUL.iter().enumerate() {
-        assert!(rt;
-            is_lawful(rt.alloc(), TWO, steps) == Some(true),
-            "list {number}"
-        );
+fn lawful_lists(rt: HostRuntime) {
+    for steps in &LAWFUL {
+        let lawful = is_lawful(rt.alloc(), TWO, steps);
+        assert!(rt; lawful == Some(true), "a list of {}", steps.len());
     }
-    Ok(())
 }
