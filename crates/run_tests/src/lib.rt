@@ -26,10 +26,10 @@ mod runs;
 #[cfg(test)]
 mod schedule_texts;
 #[cfg(test)]
-mod schedules;
-#[cfg(test)]
 mod steps;
 #[cfg(test)]
 mod stops;
 #[cfg(test)]
 mod unlawful;
+#[cfg(test)]
+mod whole_schedules;

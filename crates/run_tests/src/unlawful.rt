@@ -1,7 +1,7 @@
 //! Lists of events that may not happen.
 use crate::runs::{TWO, is_lawful, run};
-use crate::schedules::{ONE_SHARD, TWO_SHARDS};
 use crate::steps::{At, Step, Timed};
+use crate::whole_schedules::{ONE_SHARD, TWO_SHARDS};
 use disk::Fate;
 use std::alloc::Global;
 use std::process::Abort;
