@@ -4,7 +4,7 @@ use Rattle.std.proofs.Common.{get_or, Result, Ok, Err, refl, sym, subst, ap, ◌
 use Rattle.std.specs.Prelude.{IsTrue, IfErr, OnOk, IsOk, IsErr, nat_le, nat_lt}
 use Rattle.std.proofs.lemmas.Bool.{cases_eq, eq-eqb, ne_eqb, false≢true, le-leb, lt-leb, le-ltb}
 use Rattle.record.specs.declared.record.Record.{Record}
-use Rattle.record.specs.Grammar.{IsRecord}
+use Rattle.spelling.specs.Grammar.{IsRecord}
 use Rattle.disk.specs.declared.plan.FailurePlan.{FailurePlan}
 use Rattle.disk.specs.declared.plan.FailurePlan.TheVariants.{Never, After, AfterWrite}
 use Rattle.disk.specs.declared.plan.Fate.{Fate}

@@ -8,8 +8,8 @@ use Rattle.std.proofs.lemmas.List.{take_at, drop_at, length-append, length-take-
 use Rattle.std.proofs.lemmas.List.{get_or-take, get_or-drop, ext_get_or, drop_more, append-nil, get_or_append_left}
 use Rattle.std.proofs.Math.Seq.{get_or-append_seam}
 use Rattle.record.specs.declared.record.Record.{Record}
-use Rattle.record.specs.Grammar.{spelling, IsRecord}
-use Rattle.record.proofs.Again.{wide32, spelling-least, spelling-most}
+use Rattle.spelling.specs.Grammar.{spelling, IsRecord}
+use Rattle.spelling.proofs.Again.{wide32, spelling-least, spelling-most}
 use Rattle.disk.specs.Image.{Surface, MayLeave, IsUntouched, IsSynced, with_bytes, tried_write, after_write, after_sync}
 use Rattle.disk.specs.Moments.{LeavesOnly}
 use Rattle.disk.proofs.Runs.{and_then, weaker}

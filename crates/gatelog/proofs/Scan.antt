@@ -9,9 +9,9 @@ use Rattle.std.proofs.lemmas.Slice.Eq.{bytes_eq-Decides}
 use Rattle.units.specs.declared.fault.Fault.{Fault}
 use Rattle.units.specs.declared.fault.Fault.TheVariants.{NotALog}
 use Rattle.record.specs.declared.record.Record.{Record}
-use Rattle.record.specs.Grammar.{spelling, IsRecord}
-use Rattle.record.specs.Reading.{◌>>=◌, only_if, number_at, text_at, read_record}
-use Rattle.record.proofs.Again.{wide32, read_again}
+use Rattle.spelling.specs.Grammar.{spelling, IsRecord}
+use Rattle.spelling.specs.Reading.{◌>>=◌, only_if, number_at, text_at, read_record}
+use Rattle.spelling.proofs.Again.{wide32, read_again}
 use Rattle.gatelog.specs.Placed.{Placed}
 use Rattle.gatelog.specs.Frames.{header, behind_gate}
 use Rattle.gatelog.specs.Gates.{open_gate}

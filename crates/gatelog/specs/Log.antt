@@ -5,7 +5,7 @@ use Rattle.std.specs.Int.{w32}
 use Rattle.units.specs.declared.fault.Fault.{Fault}
 use Rattle.units.specs.declared.fault.Fault.TheVariants.{Damaged, NotALog}
 use Rattle.record.specs.declared.record.Record.{Record}
-use Rattle.record.specs.Reading.{◌>>=◌, number_at, text_at, read_record}
+use Rattle.spelling.specs.Reading.{◌>>=◌, number_at, text_at, read_record}
 use Rattle.gatelog.specs.Placed.{Placed}
 use Rattle.gatelog.specs.Frames.{header}
 use Rattle.gatelog.specs.Gates.{first_gate, open_gate}

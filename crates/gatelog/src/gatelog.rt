@@ -17,7 +17,8 @@ use crate::frame::{FIRST_GATE, HEADER_AND_GATE, OPEN_GATE};
 use crate::opening::{entries_of, read_synced};
 use crate::token::{Entry, Logged, Staged};
 use disk::Disk;
-use record::{Record, encoded_len};
+use record::Record;
+use spelling::encoded_len;
 use std::alloc::Global;
 use units::Fault;
 

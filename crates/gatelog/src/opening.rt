@@ -6,13 +6,14 @@ ghost use Rattle.disk.specs.Moments.{LeavesOnly};
 ghost use Rattle.gatelog.specs.Armed.{waits};
 ghost use Rattle.gatelog.specs.Frames.{end_of};
 ghost use Rattle.gatelog.specs.Log.{framed, scan, is_no_log};
-ghost use Rattle.record.specs.Grammar.{spelling};
+ghost use Rattle.spelling.specs.Grammar.{spelling};
 
 use crate::frame::{FIRST_GATE, HEADER, OPEN_GATE};
 use crate::token::Entry;
 use byteorder::{BigEndian, ByteOrder};
 use disk::Disk;
-use record::{Record, decode};
+use record::Record;
+use spelling::decode;
 use std::alloc::Global;
 use units::Fault;
 

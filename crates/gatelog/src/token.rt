@@ -1,10 +1,11 @@
 //! What a log hands out.
 ghost use Rattle.std.specs.Prelude.{◌≡◌, ◌≤◌, ◌+◌, ◌^◌, [], IsTrue, IfOk, IfErr, OnOk};
 ghost use Rattle.gatelog.specs.Frames.{next_gate, staged_bytes};
-ghost use Rattle.record.specs.Grammar.{IsRecord};
+ghost use Rattle.spelling.specs.Grammar.{IsRecord};
 
 use byteorder::{BigEndian, ByteOrder};
-use record::{Record, encode_into, encoded_len};
+use record::Record;
+use spelling::{encode_into, encoded_len};
 use std::alloc::Global;
 use std::marker::Model;
 use units::Fault;
@@ -69,7 +70,7 @@ impl Model for Staged {
     ghost use Rattle.std.specs.Prelude.{◌≡◌, ◌≤◌, ◌^◌, ◌+◌};
     ghost use Rattle.gatelog.specs.Placed.{Placed};
     ghost use Rattle.gatelog.specs.Frames.{staged_bytes, next_gate};
-    ghost use Rattle.record.specs.Grammar.{IsRecord};
+    ghost use Rattle.spelling.specs.Grammar.{IsRecord};
 
     ghost Value = { Placed };
 

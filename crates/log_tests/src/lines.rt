@@ -1,6 +1,7 @@
 //! Records as plain values.
 use made::{id, key, shard, stamp};
-use record::{Committed, Prepared, Record, encode};
+use record::{Committed, Prepared, Record};
+use spelling::encode;
 use std::alloc::Global;
 use units::{Epoch, Key, Keys, Parts, Value, Write, Writes};
 

@@ -1,7 +1,8 @@
 //! The bytes of records.
 use crate::lines::{Line, is_spelled, record_of};
 use crate::tables::{holds_at, row_holds};
-use record::{Record, decode, encoded_len};
+use record::Record;
+use spelling::{decode, encoded_len};
 use std::alloc::Global;
 
 #[derive(Clone, Copy)]

@@ -2,11 +2,8 @@ pub mod Accepted
 pub mod Computing
 pub mod FactLaws
 pub mod Facts
-pub mod Gives
-pub mod Grammar
 pub mod History
 pub mod Installs
-pub mod Reading
 pub mod Records
 pub mod Serially
 pub mod Verdict

@@ -1,6 +1,6 @@
 -- The definitions of whole runs that are shut by default, named once: `unfolding computing` lets an example compute through
 -- all of them and through those below.
-use Rattle.record.specs.Grammar.{parts_spelling}
+use Rattle.spelling.specs.Grammar.{parts_spelling}
 use Rattle.protocol.specs.Computing.{computing as computing_steps}
 use Rattle.session.specs.Computing.{computing as computing_sessions}
 use Rattle.world.specs.World.{step_of_opening, wanted, effect, finished, crashed_in, failed_in, put_out, to_session, did, did_with_failure, deliver_to, acts}

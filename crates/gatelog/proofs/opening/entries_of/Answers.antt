@@ -1,7 +1,7 @@
 use Rattle.std.proofs.Common.{◌≡◌, inr, refl, ◌+◌, ◌++◌, ◌∷◌, [], List, map, length, subst, take, drop, sym, ap, ◌∙◌, arith}
 use Rattle.gatelog.specs.Placed.{Placed}
 use Rattle.std.specs.Prelude.{IfSome}
-use Rattle.record.specs.Grammar.{spelling}
+use Rattle.spelling.specs.Grammar.{spelling}
 use Rattle.gatelog.specs.Frames.{end_of, header}
 use Rattle.gatelog.specs.Log.{scan, framed, entries_at}
 use Rattle.gatelog.proofs.Scan.{with_entries, with_entries-nil, scan_from}

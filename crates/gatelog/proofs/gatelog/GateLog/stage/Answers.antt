@@ -1,5 +1,5 @@
 use Rattle.std.proofs.Common.{◌≡◌, ◌+◌, length, sym, arith}
-use Rattle.record.specs.Grammar.{spelling}
+use Rattle.spelling.specs.Grammar.{spelling}
 use Rattle.gatelog.specs.Frames.{staged_bytes}
 use Rattle.gatelog.proofs.Armed.{on_any}
 use Rattle.gatelog.proofs.Images.{bytes-size}

@@ -1,0 +1,4 @@
+pub mod Again
+mod Loop
+mod Put
+mod Taken

@@ -1,0 +1,215 @@
+// The bytes of a record.
+ghost use Rattle.std.specs.Prelude.{◌≡◌, [], ◌∷◌, ◌++◌, IsTrue, OnOk, IfOk, IfErr};
+ghost use Rattle.std.specs.Int.{w16, w64, to_be_bytes};
+ghost use Rattle.spelling.specs.Grammar.{spelling, prepare_spelling, commit_spelling, id_spelling, key_spelling, keys_spelling, write_spelling};
+ghost use Rattle.spelling.specs.Grammar.{writes_spelling, outcome_spelling, parts_spelling, IsId, IsKey, IsKeys, IsParts, IsWrite, IsWrites, IsPrepare};
+ghost use Rattle.spelling.specs.Grammar.{IsCommit, IsOutcome, IsRecord, NoneBeginsAnother};
+
+use byteorder::{BigEndian, ByteOrder};
+use record::{Committed, Prepared, Record};
+use std::alloc::Global;
+use units::{Fault, Key, Keys, Parts, Stamp, TxnId, Write, Writes};
+
+// What follows is put behind what stands in a buffer. Each call says whether there was the memory for it.
+
+fn put_u8(out: &mut Vec<u8>, byte: u8) -> bool
+    ensures { IsTrue result → out.new.items ≡ out.old.items ++ byte ∷ [] }
+{
+    out.push(byte).is_ok()
+}
+
+fn put_bytes(out: &mut Vec<u8>, bytes: &[u8]) -> bool
+    ensures { IsTrue result → out.new.items ≡ out.old.items ++ bytes.now }
+{
+    out.extend_from_slice(bytes).is_ok()
+}
+
+fn put_u16(out: &mut Vec<u8>, number: u16) -> bool
+    ensures { IsTrue result → out.new.items ≡ out.old.items ++ to_be_bytes w16 number }
+{
+    let mut bytes = [0; 2];
+    BigEndian::write_u16(&mut bytes, number);
+    put_bytes(out, &bytes)
+}
+
+fn put_u64(out: &mut Vec<u8>, number: u64) -> bool
+    ensures { IsTrue result → out.new.items ≡ out.old.items ++ to_be_bytes w64 number }
+{
+    let mut bytes = [0; 8];
+    BigEndian::write_u64(&mut bytes, number);
+    put_bytes(out, &bytes)
+}
+
+fn put_key(out: &mut Vec<u8>, key: &Key) -> bool
+    ensures ok { IsTrue result → out.new.items ≡ out.old.items ++ key_spelling key.now }
+    ensures fits { IsTrue result → IsKey key.now }
+{
+    let bytes = key.as_bytes();
+    put_u8(out, bytes.len() as u8) && put_bytes(out, bytes)
+}
+
+fn put_id(out: &mut Vec<u8>, txn: TxnId) -> bool
+    ensures ok { IsTrue result → out.new.items ≡ out.old.items ++ id_spelling txn }
+    ensures fits { IsTrue result → IsId txn }
+{
+    put_u64(out, txn.run()) && put_u64(out, txn.number())
+}
+
+#[tactic(auto, unfolding(crate::specs::Grammar::parts_spelling))]
+fn put_parts(out: &mut Vec<u8>, parts: Parts) -> bool
+    ensures ok { IsTrue result → out.new.items ≡ out.old.items ++ parts_spelling parts }
+    ensures fits { IsTrue result → IsParts parts }
+{
+    put_u16(out, parts.mask())
+}
+
+fn put_write(out: &mut Vec<u8>, write: &Write) -> bool
+    ensures ok { IsTrue result → out.new.items ≡ out.old.items ++ write_spelling write.now }
+    ensures fits { IsTrue result → IsWrite write.now }
+{
+    if !put_key(out, &write.key) {
+        return false;
+    }
+    match &write.value {
+        None => put_u8(out, 0),
+        Some(value) => {
+            let bytes = value.as_bytes();
+            put_u8(out, 1) && put_u16(out, bytes.len() as u16) && put_bytes(out, bytes)
+        }
+    }
+}
+
+fn put_keys(out: &mut Vec<u8>, keys: &Keys) -> bool
+    ensures ok { IsTrue result → out.new.items ≡ out.old.items ++ keys_spelling keys.now }
+    ensures fits { IsTrue result → IsKeys keys.now }
+{
+    let keys = keys.as_slice();
+    if !put_u16(out, keys.len() as u16) {
+        return false;
+    }
+    for key in keys {
+        if !put_key(out, key) {
+            return false;
+        }
+    }
+    true
+}
+
+fn put_writes(out: &mut Vec<u8>, writes: &Writes) -> bool
+    ensures ok { IsTrue result → out.new.items ≡ out.old.items ++ writes_spelling writes.now }
+    ensures fits { IsTrue result → IsWrites writes.now }
+{
+    let writes = writes.as_slice();
+    if !put_u16(out, writes.len() as u16) {
+        return false;
+    }
+    for write in writes {
+        if !put_write(out, write) {
+            return false;
+        }
+    }
+    true
+}
+
+fn put_outcome(out: &mut Vec<u8>, outcome: Option<Stamp>) -> bool
+    ensures ok { IsTrue result → out.new.items ≡ out.old.items ++ outcome_spelling outcome }
+    ensures fits { IsTrue result → IsOutcome outcome }
+{
+    match outcome {
+        None => put_u8(out, 0),
+        Some(at) => put_u8(out, 1) && put_u64(out, at.micros()),
+    }
+}
+
+fn put_ended(out: &mut Vec<u8>, txn: TxnId, outcome: Option<Stamp>) -> bool
+    ensures ok { IsTrue result →
+        out.new.items ≡ out.old.items ++ (id_spelling txn ++ outcome_spelling outcome) }
+    ensures fits { IsTrue result → IsId txn × IsOutcome outcome }
+{
+    put_id(out, txn) && put_outcome(out, outcome)
+}
+
+fn put_prepare(out: &mut Vec<u8>, p: &Prepared) -> bool
+    ensures ok { IsTrue result → out.new.items ≡ out.old.items ++ prepare_spelling p.now }
+    ensures fits { IsTrue result → IsPrepare p.now }
+{
+    if !put_id(out, p.txn) {
+        return false;
+    }
+    if !put_u8(out, p.coordinator.number()) {
+        return false;
+    }
+    if !put_u64(out, p.at.micros()) {
+        return false;
+    }
+    if !put_keys(out, &p.reads) {
+        return false;
+    }
+    put_writes(out, &p.writes)
+}
+
+fn put_commit(out: &mut Vec<u8>, c: &Committed) -> bool
+    ensures ok { IsTrue result → out.new.items ≡ out.old.items ++ commit_spelling c.now }
+    ensures fits { IsTrue result → IsCommit c.now }
+{
+    if !put_id(out, c.txn) {
+        return false;
+    }
+    if !put_u64(out, c.at.micros()) {
+        return false;
+    }
+    if !put_parts(out, c.parts) {
+        return false;
+    }
+    if !put_keys(out, &c.reads) {
+        return false;
+    }
+    put_writes(out, &c.writes)
+}
+
+fn put_record(out: &mut Vec<u8>, record: &Record) -> bool
+    ensures ok { IsTrue result → out.new.items ≡ out.old.items ++ spelling «record».now }
+    ensures fits { IsTrue result → IsRecord «record».now }
+{
+    match record {
+        Record::Opened { epoch } => put_u8(out, 1) && put_u64(out, epoch.number()),
+        Record::Ceiling { at } => put_u8(out, 2) && put_u64(out, at.micros()),
+        Record::Prepare(p) => put_u8(out, 3) && put_prepare(out, p),
+        Record::Commit(c) => put_u8(out, 4) && put_commit(out, c),
+        Record::Abort { txn } => put_u8(out, 5) && put_id(out, *txn),
+        Record::Outcome { txn, outcome } => put_u8(out, 6) && put_ended(out, *txn, *outcome),
+    }
+}
+
+/// The one spelling of a record.
+pub fn encode(alloc: Global, record: &Record) -> Result<Vec<u8>, Fault>
+    ensures spelling { IfOk result (λ bytes. bytes.items ≡ spelling «record».now) }
+    // The types of its parts keep the limits.
+    ensures fits { OnOk result (IsRecord «record».now) }
+    ensures memory { IfErr result (λ fault. fault ≡ Fault.Memory) }
+{
+    let mut out = Vec::new(alloc);
+    if !put_record(&mut out, record) {
+        drop(out);
+        return Err(Fault::Memory);
+    }
+    Ok(out)
+}
+
+/// The one spelling of a record, behind what stands in a buffer.
+pub fn encode_into(out: &mut Vec<u8>, record: &Record) -> Result<(), Fault>
+    ensures spelling { OnOk result (out.new.items ≡ out.old.items ++ spelling «record».now) }
+    ensures fits { OnOk result (IsRecord «record».now) }
+    ensures memory { IfErr result (λ fault. fault ≡ Fault.Memory) }
+{
+    if put_record(out, record) {
+        Ok(())
+    } else {
+        Err(Fault::Memory)
+    }
+}
+
+/// Two spellings, one of them at the beginning of the other, are of one record.
+pub fn none_begins_another()
+    ensures { NoneBeginsAnother }
+{}
