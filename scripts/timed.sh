@@ -1,6 +1,6 @@
 #!/bin/sh
-# Runs the gate, `rt ci`, and the cases of misuse beside its first crates, which leave processors idle. It says above the gate's last
-# line how long each part took, by the times at which its lines came:
+# Runs the gate, `rt ci`, and the cases of misuse from its first proved crate on, while most others wait for `units` and processors are
+# idle. It says above the gate's last line how long each part took, by the times at which its lines came:
 #     proofs    until the last crate was proved
 #     tests     until the tests of the last crate were proved
 #     edits     from the first crate whose wrong bodies were tried, until the last of them was refused
@@ -20,11 +20,10 @@ room=$(mktemp -d)
 trap 'rm -rf "$room"' EXIT
 mkfifo "$room/lines"
 began=$(date +%s)
-(scripts/misuse.sh && echo "time: misuse $(($(date +%s) - began)) seconds") >"$room/misuse" 2>&1 &
-misuse=$!
 rt ci >"$room/lines" &
 gate=$!
-trap 'kill "$gate" "$misuse"' HUP INT TERM
+misuse=
+trap 'kill "$gate" $misuse' HUP INT TERM
 
 # The seconds since the beginning, as minutes and seconds.
 now() {
@@ -34,8 +33,18 @@ minutes() {
     printf '%d:%02d' $(($1 / 60)) $(($1 % 60))
 }
 
+# The cases of misuse, beside the gate.
+start_misuse() {
+    from=$(date +%s)
+    (scripts/misuse.sh && echo "time: misuse $(($(date +%s) - from)) seconds") </dev/null >"$room/misuse" 2>&1 &
+    misuse=$!
+}
+
 proofs=0 tests=0 first=0 edits=0 runs=0
 while IFS= read -r line || [ -n "$line" ]; do
+    if [ -z "$misuse" ]; then
+        start_misuse
+    fi
     case $line in
         'rt: '*': its tests are proved') tests=$(now) ;;
         'rt: '*' proved') proofs=$(now) ;;
@@ -49,8 +58,10 @@ while IFS= read -r line || [ -n "$line" ]; do
 done <"$room/lines"
 wait "$gate"
 status=$?
-wait "$misuse" || misused=yes
-cat "$room/misuse"
+if [ -n "$misuse" ]; then
+    wait "$misuse" || misused=yes
+    cat "$room/misuse"
+fi
 
 whole=$(now)
 times >"$room/times"
