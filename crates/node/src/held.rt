@@ -62,6 +62,13 @@ impl<D: Disk + Drop, R: Wait + Drop> Place<D, R> {
     }
 }
 
+/// The standing of transactions that wait for a node's chores: decided and not settled, or prepared.
+#[derive(Clone, Copy)]
+pub enum Due {
+    Decided,
+    Prepared,
+}
+
 /// What a node's lock holds. It is there whenever the lock is free.
 #[derive(Drop)]
 pub struct Held<D: Disk + Drop, R: Wait + Drop> {
@@ -74,14 +81,6 @@ impl<D: Disk + Drop, R: Wait + Drop> Held<D, R> {
     pub fn serving(desk: Desk<D, R>) -> Held<D, R> {
         Held {
             place: Some(Place::Serving(desk)),
-        }
-    }
-
-    // The desk, where there is one.
-    fn desk(&self) -> Option<&Desk<D, R>> {
-        match &self.place {
-            Some(Place::Serving(desk)) => Some(desk),
-            Some(Place::Resting(_)) | None => None,
         }
     }
 
@@ -101,14 +100,19 @@ impl<D: Disk + Drop, R: Wait + Drop> Held<D, R> {
         }
     }
 
-    /// The n-th transaction that is decided and not settled.
-    pub fn decided(&self, n: usize) -> Option<TxnId> {
-        self.desk()?.core().decided(n).map(|(txn, _)| txn)
-    }
-
-    /// The n-th transaction that is prepared.
-    pub fn prepared(&self, n: usize) -> Option<TxnId> {
-        self.desk()?.core().prepared(n).map(|(txn, _)| txn)
+    /// The n-th transaction of this standing.
+    pub fn due(&self, due: Due, n: usize) -> Option<TxnId> {
+        let Some(Place::Serving(desk)) = &self.place else {
+            return None;
+        };
+        let found = match due {
+            Due::Decided => desk.core().decided(n),
+            Due::Prepared => desk.core().prepared(n),
+        };
+        match found {
+            Some((txn, _)) => Some(txn),
+            None => None,
+        }
     }
 
     /// What is stopped is opened again, as `Place::restart` does.

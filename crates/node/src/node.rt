@@ -3,7 +3,7 @@ ghost use Rattle.std.specs.Prelude.{◌≡◌, length, IfOk, IfErr};
 ghost use Rattle.desk.specs.InStep.{IsNoDesk};
 ghost use Rattle.shard.specs.Core.{seen, book_of};
 
-use crate::held::Held;
+use crate::held::{Due, Held};
 use board::{Told, Viewer};
 use desk::{Desk, copy_setup};
 use disk::Disk;
@@ -88,14 +88,9 @@ impl<D: Disk + Drop, R: Wait + Drop> Node<D, R> {
         Some(held.advance(&now, now.latest()))
     }
 
-    // The n-th transaction that is decided and not settled.
-    pub(crate) fn decided<W: Wait>(&self, rt: &W, n: usize) -> Option<TxnId> {
-        self.held.lock(rt).decided(n)
-    }
-
-    // The n-th transaction that is prepared.
-    pub(crate) fn prepared<W: Wait>(&self, rt: &W, n: usize) -> Option<TxnId> {
-        self.held.lock(rt).prepared(n)
+    // The n-th transaction of this standing.
+    pub(crate) fn due<W: Wait>(&self, rt: &W, due: Due, n: usize) -> Option<TxnId> {
+        self.held.lock(rt).due(due, n)
     }
 
     /// Advances the core and publishes its board, under the lock.

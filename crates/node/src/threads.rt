@@ -1,6 +1,7 @@
 //! Threads that serve nodes.
 ghost use Rattle.std.specs.Thread.{IsSync, IsSend};
 
+use crate::held::Due;
 use crate::node::Node;
 use crate::traits::{Gate, Letter, Post};
 use crossbeam_channel::{Receiver, RecvTimeoutError};
@@ -68,7 +69,7 @@ impl<D: Disk + Drop, R: Wait + Drop> Node<D, R> {
         self.act(rt, post, clock, Input::Resume);
         let mut unsettled: usize = 0;
         for _row in 0..MOST_ROWS {
-            let Some(txn) = self.decided(rt, unsettled) else {
+            let Some(txn) = self.due(rt, Due::Decided, unsettled) else {
                 break;
             };
             if !self.act(rt, post, clock, Input::Settle(txn)) {
@@ -76,7 +77,7 @@ impl<D: Disk + Drop, R: Wait + Drop> Node<D, R> {
             }
         }
         for row in 0..MOST_ROWS {
-            let Some(txn) = self.prepared(rt, row) else {
+            let Some(txn) = self.due(rt, Due::Prepared, row) else {
                 break;
             };
             self.act(rt, post, clock, Input::Nudge(txn));
