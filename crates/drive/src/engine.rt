@@ -98,11 +98,11 @@ pub fn drive_by<
     let course = Course::of(settings)?;
     let opened = Opened::over(rt, alloc, settings, disks, course.workers as usize)?;
     let (report, nodes) = run(rt, alloc, settings, course, opened, clock, gate, watch)?;
-    left(alloc, nodes, report)
+    outcome(alloc, nodes, report)
 }
 
 // What a drive comes to once its workers have reported: the verdict is on what the nodes leave on their disks.
-fn left<D: Disk + Drop, H: Wait + Drop>(
+fn outcome<D: Disk + Drop, H: Wait + Drop>(
     alloc: Global,
     nodes: Vec<Node<D, H>>,
     report: Report,
@@ -266,7 +266,7 @@ fn run_all<
             requires { IsSync R.row × IsSend D.row × IsSend H.row × IsSend P.row × IsSend C.row
                 × IsSync G.row }
         { start(rt, served, gate) },
-        || -> Result<Report, Fault>
+        move || -> Result<Report, Fault>
             requires workers { IsSync R.row × IsSend C.row × IsSync W.row
                 × (length staff.inboxes.items ≡ course.workers) }
             requires staff { IsStaffOf shared.now staff }
