@@ -2,8 +2,9 @@
 use crate::letters_given::read;
 use crate::nodes::{fresh_node, reading};
 use crossbeam_channel::{Receiver, Sender, unbounded};
+use letters::{Letter, Post};
 use message::{Address, Answer, Envelope, Message};
-use node::{Gate, Letter, Post};
+use node::Gate;
 use std::alloc::Global;
 use std::sync::Wait;
 use std::time;

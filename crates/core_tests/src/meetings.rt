@@ -2,8 +2,9 @@
 use crate::letters_served::{Standing, inbox};
 use crate::nodes::fresh_node;
 use crossbeam_channel::Receiver;
+use letters::{Letter, Post};
 use message::Envelope;
-use node::{Gate, Letter, Node, Post, Served, start};
+use node::{Gate, Node, Served, start};
 use simdisk::SimDisk;
 use std::alloc::Global;
 use std::sync::Wait;

@@ -1,26 +1,19 @@
 //! Drives nodes with workers, all on threads.
-ghost use Rattle.std.specs.Prelude.{◌≡◌, ◌+◌, ◌*◌, ◌≤◌, All, IfOk, IsOk, length};
+ghost use Rattle.std.specs.Prelude.{◌≡◌, ◌+◌, ◌*◌, ◌≤◌, IfOk, IsOk, length};
 ghost use Rattle.std.specs.Thread.{IsSync, IsSend};
 ghost use Rattle.disk.specs.File.{surface};
-ghost use Rattle.drive.specs.Course.{IsDrivable};
+ghost use Rattle.workers.specs.Course.{IsDrivable};
+ghost use Rattle.workers.specs.Reports.{IsCounted};
+ghost use Rattle.workers.specs.Staffs.{IsStaffOf};
+ghost use Rattle.workers.specs.Summaries.{tried};
 ghost use Rattle.drive.specs.Logs.{IsJudged};
-ghost use Rattle.drive.specs.Reports.{AreCounted, IsCounted};
-ghost use Rattle.drive.specs.Summaries.{tried};
 
-use crate::course::Course;
-use crate::crew::{Crew, draws};
 use crate::judging::judge;
-use crate::machine_clock::MachineClock;
-use crate::network::{Inboxes, Mail, Network};
 use crate::opening::Opened;
-use crate::shared::{Drawers, Shared};
-use crate::summary::Summary;
-use crate::worker::{Report, Worker, merged};
-use board::Viewer;
 use crossbeam_channel::Receiver;
 use disk::Disk;
-use message::Message;
-use node::{Gate, Letter, Node, Post, Served, start};
+use letters::{Inboxes, Letter, Mail, Post};
+use node::{Gate, Node, Served, start};
 use progress::Watch;
 use settings::Settings;
 use std::alloc::Global;
@@ -29,6 +22,7 @@ use std::thread::Threads;
 use std::{thread, time};
 use truetime::Clock;
 use units::{Fault, Line};
+use workers::{Course, MachineClock, Report, Shared, Staff, Summary, work_and_close};
 
 /// What a drive comes to, and what its verdict is on: the lines of all workers, and the disks with the logs of the shards.
 #[derive(Drop)]
@@ -104,6 +98,21 @@ pub fn drive_by<
     let course = Course::of(settings)?;
     let opened = Opened::over(rt, alloc, settings, disks, course.workers as usize)?;
     let (report, nodes) = run(rt, alloc, settings, course, opened, clock, gate, watch)?;
+    outcome(alloc, nodes, report)
+}
+
+// What a drive comes to once its workers have reported: the verdict is on what the nodes leave on their disks.
+fn outcome<D: Disk + Drop, H: Wait + Drop>(
+    alloc: Global,
+    nodes: Vec<Node<D, H>>,
+    report: Report,
+) -> Result<Driven<D>, Fault>
+    ensures verdict { IfOk result (λ driven. D.keeps_model
+        → IsJudged (λ disk. (surface (D.file disk)).seen) driven.disks.items driven.lines.items
+        driven.summary.verdict) }
+    ensures disks { IfOk result (λ driven. length driven.disks.items ≡ length nodes.items) }
+    ensures counts { IfOk result (λ driven. driven.summary.counts ≡ report.counts) }
+{
     let Report { counts, lines } = report;
     let (verdict, disks) = judge(alloc, closed(alloc, nodes)?, &lines)?;
     Ok(Driven {
@@ -131,24 +140,30 @@ fn run<
     gate: &G,
     watch: &W,
 ) -> Result<(Report, Vec<Node<D, H>>), Fault>
-    requires { length opened.viewers.items ≡ course.workers }
+    requires { length opened.viewers.by_worker.items ≡ course.workers }
     ensures counts { IfOk result (λ ran. (tried ran.0.counts ≡ course.workers * course.transactions)
         × (ran.0.counts.looks ≤ course.workers * course.transactions)) }
     ensures nodes { IfOk result (λ ran. length ran.1.items ≡ length opened.nodes.items) }
 {
-    let run = opened.run();
+    let made = Shared::new(
+        alloc,
+        course,
+        opened.run(),
+        &settings.splits,
+        opened.nodes.len(),
+    );
+    let (shared, inboxes, drawers) = match made {
+        Ok(made) => made,
+        Err(fault) => {
+            drop(opened);
+            return Err(fault);
+        }
+    };
     let Opened {
         nodes,
         viewers,
         epoch: _,
     } = opened;
-    let (shared, inboxes, drawers) = Shared::new(
-        alloc,
-        course,
-        run,
-        &settings.splits,
-        nodes.len(),
-    )?;
     let Inboxes {
         nodes: to_nodes,
         workers: to_workers,
@@ -158,18 +173,11 @@ fn run<
         drawers,
         viewers,
     };
-    let served = served(rt, &shared, &nodes, to_nodes, clock)?;
-    let report = serve_and_work(rt, &shared, course, served, staff, clock, gate, watch);
+    let report = serve_and_work(
+        rt, &shared, course, &nodes, to_nodes, staff, clock, gate, watch,
+    );
     drop(shared);
     Ok((report?, nodes))
-}
-
-// What the workers are made of: each has an inbox, two drawers, and a viewer of each shard.
-#[derive(Drop)]
-struct Staff {
-    inboxes: Vec<Receiver<Message>>,
-    drawers: Drawers,
-    viewers: Vec<Vec<Viewer>>,
 }
 
 // What all workers report, once they have done their turns beside the nodes.
@@ -177,7 +185,6 @@ fn serve_and_work<
     R: Threads + Wait + time::Clock + Sync,
     D: Disk + Drop + Send,
     H: Wait + Drop + Send,
-    P: Post + Send + Drop,
     C: Clock + Copy + Send,
     G: Gate + Sync,
     W: Watch + Sync,
@@ -185,24 +192,24 @@ fn serve_and_work<
     rt: &R,
     shared: &Shared,
     course: Course,
-    served: Vec<Served<D, H, P, C>>,
+    nodes: &[Node<D, H>],
+    inboxes: Vec<Receiver<Letter>>,
     staff: Staff,
     clock: C,
     gate: &G,
     watch: &W,
 ) -> Result<Report, Fault>
-    requires inboxes { length staff.inboxes.items ≡ course.workers }
-    requires ids { (length staff.drawers.ids.items ≡ course.workers)
-        × All (λ drawer. drawer.source ≡ shared.now.ids) staff.drawers.ids.items }
-    requires moments { (length staff.drawers.moments.items ≡ course.workers)
-        × All (λ drawer. drawer.source ≡ shared.now.moments) staff.drawers.moments.items }
-    requires viewers { length staff.viewers.items ≡ course.workers }
-    ensures { IfOk result (λ report. (tried report.counts ≡ course.workers * course.transactions)
-        × (report.counts.looks ≤ course.workers * course.transactions)) }
+    requires workers { length staff.inboxes.items ≡ course.workers }
+    requires staff { IsStaffOf shared.now staff }
+    ensures { IsCounted (course.workers * course.transactions) result }
 {
-    let workers = workers(rt, shared, staff, clock, watch)?;
-    let reports = run_all(rt, &shared.network, course, served, workers, gate)?;
-    merged(shared.alloc, course, reports)
+    match served(rt, shared, nodes, inboxes, clock) {
+        Ok(served) => run_all(rt, shared, course, served, staff, clock, gate, watch),
+        Err(fault) => {
+            drop(staff);
+            Err(fault)
+        }
+    }
 }
 
 // What each node is served with.
@@ -229,36 +236,6 @@ fn served<'r, 's, 'n, R: Wait, D: Disk + Drop, H: Wait + Drop, C: Clock + Copy>(
     Ok(all)
 }
 
-// The workers, each with its inbox.
-fn workers<'r, 's, R, C: Copy, W>(
-    rt: &'r R,
-    shared: &'s Shared,
-    staff: Staff,
-    clock: C,
-    watch: &'r W,
-) -> Result<Vec<Worker<'r, 's, R, C, W>>, Fault>
-    requires few { length staff.inboxes.items ≤ 64 }
-    requires ids { (length staff.drawers.ids.items ≡ length staff.inboxes.items)
-        × All (λ drawer. drawer.source ≡ shared.now.ids) staff.drawers.ids.items }
-    requires moments { (length staff.drawers.moments.items ≡ length staff.inboxes.items)
-        × All (λ drawer. drawer.source ≡ shared.now.moments) staff.drawers.moments.items }
-    requires viewers { length staff.viewers.items ≡ length staff.inboxes.items }
-    ensures { IfOk result (λ workers. length workers.items ≡ length staff.inboxes.items) }
-{
-    let Staff {
-        inboxes,
-        drawers: Drawers { ids, moments },
-        viewers,
-    } = staff;
-    let crew = Crew {
-        inboxes,
-        ids: draws(shared.alloc, &shared.ids, ids)?,
-        moments: draws(shared.alloc, &shared.moments, moments)?,
-        viewers,
-    };
-    crew.workers(rt, shared, clock, watch)
-}
-
 // The nodes on a thread, which starts more, beside the workers. Where it can't be made, the nodes are served behind the workers,
 // whose letters nobody answers then.
 fn run_all<
@@ -266,70 +243,38 @@ fn run_all<
     D: Disk + Drop + Send,
     H: Wait + Drop + Send,
     P: Post + Send + Drop,
-    C: Clock + Send + Drop,
+    C: Clock + Copy + Send,
     G: Gate + Sync,
     W: Watch + Sync,
 >(
     rt: &R,
-    network: &Network,
+    shared: &Shared,
     course: Course,
     served: Vec<Served<D, H, P, C>>,
-    workers: Vec<Worker<R, C, W>>,
+    staff: Staff,
+    clock: C,
     gate: &G,
-) -> Result<Vec<Result<Report, Fault>>, Fault>
-    ensures all { IfOk result (λ reports. length reports.items ≡ length workers.entry.items) }
-    ensures counted { IfOk result (λ reports. AreCounted course.transactions reports.items) }
+    watch: &W,
+) -> Result<Report, Fault>
+    requires workers { length staff.inboxes.items ≡ course.workers }
+    requires staff { IsStaffOf shared.now staff }
+    ensures { IsCounted (course.workers * course.transactions) result }
 {
-    let (served, reports) = thread::join(
+    let (served, report) = thread::join(
         rt,
         || -> Result<(), Fault>
             requires { IsSync R.row × IsSend D.row × IsSend H.row × IsSend P.row × IsSend C.row
                 × IsSync G.row }
         { start(rt, served, gate) },
-        || -> Result<Vec<Result<Report, Fault>>, Fault>
-            requires { IsSync R.row × IsSend C.row × IsSync W.row }
-            ensures all { IfOk result (λ reports.
-                length reports.items ≡ length workers.entry.items) }
-            ensures counted { IfOk result (λ reports.
-                AreCounted course.transactions reports.items) }
-        { work_and_close(rt, network, course, workers) },
+        move || -> Result<Report, Fault>
+            requires workers { IsSync R.row × IsSend C.row × IsSync W.row
+                × (length staff.inboxes.items ≡ course.workers) }
+            requires staff { IsStaffOf shared.now staff }
+            ensures { IsCounted (course.workers * course.transactions) result }
+        { work_and_close(rt, shared, course, staff, clock, watch) },
     );
     served?;
-    reports
-}
-
-// The workers do their turns, and then the nodes are sent the end.
-fn work_and_close<R: Threads + Wait + time::Clock + Sync, C: Clock + Send + Drop, W: Watch + Sync>(
-    rt: &R,
-    network: &Network,
-    course: Course,
-    workers: Vec<Worker<R, C, W>>,
-) -> Result<Vec<Result<Report, Fault>>, Fault>
-    ensures all { IfOk result (λ reports. length reports.items ≡ length workers.entry.items) }
-    ensures counted { IfOk result (λ reports. AreCounted course.transactions reports.items) }
-{
-    let reports = work_all(rt, course, workers);
-    network.close(rt);
-    reports
-}
-
-// Each worker does its turns, on a thread of its own where one can be made.
-fn work_all<R: Threads + Wait + time::Clock + Sync, C: Clock + Send + Drop, W: Watch + Sync>(
-    rt: &R,
-    course: Course,
-    workers: Vec<Worker<R, C, W>>,
-) -> Result<Vec<Result<Report, Fault>>, Fault>
-    ensures all { IfOk result (λ reports. length reports.items ≡ length workers.entry.items) }
-    ensures counted { IfOk result (λ reports. AreCounted course.transactions reports.items) }
-{
-    Ok(thread::map_vec(
-        rt,
-        workers,
-        &|worker: Worker<R, C, W>| -> Result<Report, Fault>
-            requires { IsSync R.row × IsSend C.row × IsSync W.row }
-            ensures { IsCounted course.transactions result }
-        { worker.work(course) },
-    )?)
+    report
 }
 
 // Closes the nodes.

@@ -1,7 +1,6 @@
 //! The nodes of a drive.
-ghost use Rattle.std.specs.Prelude.{◌≡◌, ◌<◌, ◌≤◌, ◌+◌, [], length, IfOk, IsOk, OnOk};
+ghost use Rattle.std.specs.Prelude.{◌≡◌, ◌≤◌, ◌+◌, length, IfOk, IsOk, OnOk};
 
-use board::Viewer;
 use disk::Disk;
 use node::Node;
 use settings::Settings;
@@ -9,32 +8,17 @@ use shard::Core;
 use std::alloc::Global;
 use std::sync::Wait;
 use units::{Book, Epoch, Fault, Reason, Run, Setup, ShardNo};
+use workers::Viewers;
 
 /// Nodes over opened disks, by shard; the viewers of each worker, by shard; and the greatest epoch, which is the run of all ids.
 #[derive(Drop)]
 pub struct Opened<D: Disk + Drop, H: Wait + Drop> {
     pub nodes: Vec<Node<D, H>>,
-    pub viewers: Vec<Vec<Viewer>>,
+    pub viewers: Viewers,
     pub epoch: Epoch,
 }
 
 impl<D: Disk + Drop, H: Wait + Copy> Opened<D, H> {
-    // No node yet.
-    fn none(alloc: Global, workers: usize) -> Result<Opened<D, H>, Fault>
-        ensures viewers { IfOk result (λ opened. length opened.viewers.items ≡ workers) }
-        ensures nodes { IfOk result (λ opened. opened.nodes.items ≡ []) }
-    {
-        let mut viewers = Vec::new(alloc);
-        for _worker in 0..workers {
-            viewers.push(Vec::new(alloc))?;
-        }
-        Ok(Opened {
-            nodes: Vec::new(alloc),
-            viewers,
-            epoch: Epoch::first(),
-        })
-    }
-
     /// Opens the disks of shards 0, 1 and so on, each with a viewer for each worker. Where there are more or fewer disks than shards, that
     /// is refused as `settings`.
     pub fn over(
@@ -44,23 +28,52 @@ impl<D: Disk + Drop, H: Wait + Copy> Opened<D, H> {
         disks: Vec<D>,
         workers: usize,
     ) -> Result<Opened<D, H>, Fault>
-        ensures viewers { IfOk result (λ opened. length opened.viewers.items ≡ workers) }
+        ensures viewers { IfOk result (λ opened.
+            length opened.viewers.by_worker.items ≡ workers) }
         ensures nodes { IfOk result (λ opened. length opened.nodes.items ≡ length disks.items) }
         ensures shards { IsOk result → length disks.items ≡ length settings.now.splits + 1 }
     {
         if disks.len() != settings.splits.as_slice().len() + 1 {
+            drop(disks);
             return Err(Fault::BadRequest(Reason::Settings));
         }
-        let mut opened = Opened::none(alloc, workers)?;
-        for disk in disks {
-            opened.open_next(rt, alloc, settings, disk)?;
+        let mut opened = Opened {
+            nodes: Vec::new(alloc),
+            viewers: Viewers::none(alloc, workers)?,
+            epoch: Epoch::first(),
+        };
+        match opened.open_all(rt, alloc, settings, disks) {
+            Ok(()) => Ok(opened),
+            Err(fault) => {
+                drop(opened);
+                Err(fault)
+            }
         }
-        Ok(opened)
+    }
+
+    // Opens the disks of the next shards.
+    fn open_all(
+        &mut self,
+        rt: H,
+        alloc: Global,
+        settings: &Settings,
+        disks: Vec<D>,
+    ) -> Result<(), Fault>
+        ensures viewers { OnOk result (length self.new.viewers.by_worker.items
+            ≡ length self.old.viewers.by_worker.items) }
+        ensures nodes { OnOk result (length self.new.nodes.items
+            ≡ length self.old.nodes.items + length disks.items) }
+    {
+        for disk in disks {
+            self.open_next(rt, alloc, settings, disk)?;
+        }
+        Ok(())
     }
 
     // Opens the disk of the next shard.
     fn open_next(&mut self, rt: H, alloc: Global, settings: &Settings, disk: D) -> Result<(), Fault>
-        ensures viewers { length self.new.viewers.items ≡ length self.old.viewers.items }
+        ensures viewers { length self.new.viewers.by_worker.items
+            ≡ length self.old.viewers.by_worker.items }
         ensures nodes { OnOk result
             (length self.new.nodes.items ≡ length self.old.nodes.items + 1) }
     {
@@ -92,31 +105,21 @@ impl<D: Disk + Drop, H: Wait + Copy> Opened<D, H> {
 
     // Makes a node of a core, and deals its viewers out.
     fn serve(&mut self, rt: H, alloc: Global, core: Core<D>) -> Result<(), Fault>
-        ensures viewers { length self.new.viewers.items ≡ length self.old.viewers.items }
+        ensures viewers { length self.new.viewers.by_worker.items
+            ≡ length self.old.viewers.by_worker.items }
         ensures nodes { OnOk result
             (length self.new.nodes.items ≡ length self.old.nodes.items + 1) }
     {
-        match Node::new(rt, alloc, core, self.viewers.len()) {
+        match Node::new(rt, alloc, core, self.viewers.by_worker.len()) {
             Ok((node, viewers)) => {
                 self.nodes.push(node)?;
-                self.deal(viewers)
+                self.viewers.deal(viewers)
             }
             Err((fault, core)) => {
                 drop(core.stop());
                 Err(fault)
             }
         }
-    }
-
-    // One viewer to each worker.
-    fn deal(&mut self, viewers: Vec<Viewer>) -> Result<(), Fault>
-        ensures viewers { length self.new.viewers.items ≡ length self.old.viewers.items }
-        ensures nodes { self.new.nodes ≡ self.old.nodes }
-    {
-        for (own, viewer) in self.viewers.iter_mut().zip(viewers) {
-            own.push(viewer)?;
-        }
-        Ok(())
     }
 }
 

@@ -1,11 +1,12 @@
 //! Threads that serve nodes.
 ghost use Rattle.std.specs.Thread.{IsSync, IsSend};
 
+use crate::gate::Gate;
 use crate::held::Due;
 use crate::node::Node;
-use crate::traits::{Gate, Letter, Post};
 use crossbeam_channel::{Receiver, RecvTimeoutError};
 use disk::Disk;
+use letters::{Letter, Post};
 use message::Input;
 use std::sync::Wait;
 use std::thread::Threads;

@@ -1,7 +1,7 @@
 //! Drives of two shards.
 use crate::gates::{Meeting, Open};
 use crate::made::{disks, driven, settings};
-use drive::{Summary, drive_by};
+use drive::drive_by;
 use node::Gate;
 use progress::NoWatch;
 use settings::Settings;
@@ -11,6 +11,7 @@ use std::thread::Threads;
 use std::time;
 use truetime::{Clock, Reading};
 use units::Verdict;
+use workers::Summary;
 
 // A drive of so many workers and transactions of each: how many are tried, and how many commits and answered looks there are at
 // least.

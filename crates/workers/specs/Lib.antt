@@ -1,0 +1,5 @@
+pub mod Course
+pub mod Keys
+pub mod Summaries
+pub mod Reports
+pub mod Staffs

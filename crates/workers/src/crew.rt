@@ -1,0 +1,132 @@
+//! The workers of a drive, and what they do together.
+ghost use Rattle.std.specs.Prelude.{◌≡◌, ◌<◌, ◌≤◌, ◌+◌, ◌*◌, IfOk, OnOk, length};
+ghost use Rattle.std.specs.Thread.{IsSync, IsSend};
+ghost use Rattle.workers.specs.Reports.{IsCounted};
+ghost use Rattle.workers.specs.Staffs.{IsStaffOf};
+
+use crate::course::Course;
+use crate::draws::Draws;
+use crate::shared::{Drawers, Shared};
+use crate::viewers::Viewers;
+use crate::worker::{Report, Worker, merged};
+use crossbeam_channel::Receiver;
+use message::Message;
+use progress::Watch;
+use std::alloc::Global;
+use std::sync::Wait;
+use std::thread::Threads;
+use std::{thread, time};
+use truetime::Clock;
+use units::Fault;
+
+/// What the workers are made of, one of each for each worker: inboxes by the workers' numbers, drawers, and viewers of each shard.
+#[derive(Drop)]
+pub struct Staff {
+    pub inboxes: Vec<Receiver<Message>>,
+    pub drawers: Drawers,
+    pub viewers: Viewers,
+}
+
+impl Staff {
+    // The worker of the last number that has none yet.
+    fn next<'r, 's, R, C: Drop, W>(
+        &mut self,
+        rt: &'r R,
+        shared: &'s Shared,
+        clock: C,
+        watch: &'r W,
+    ) -> Result<Worker<'r, 's, R, C, W>, Fault>
+        requires some { 0 < length self.old.inboxes.items }
+        requires few { length self.old.inboxes.items ≤ 64 }
+        requires staff { IsStaffOf shared.now self.old }
+        ensures staff { OnOk result (IsStaffOf shared.now self.new) }
+        ensures fewer { OnOk result
+            (length self.new.inboxes.items + 1 ≡ length self.old.inboxes.items) }
+    {
+        let buffer = vec![in shared.alloc; 0; 4096]?;
+        let inbox = self.inboxes.pop().unwrap();
+        let ids = Draws::new(&shared.ids, self.drawers.ids.pop().unwrap());
+        let moments = Draws::new(&shared.moments, self.drawers.moments.pop().unwrap());
+        let viewers = self.viewers.by_worker.pop().unwrap();
+        Ok(Worker {
+            rt,
+            shared,
+            number: self.inboxes.len() as u64,
+            inbox,
+            ids,
+            moments,
+            viewers,
+            clock,
+            watch,
+            lines: Vec::new(shared.alloc),
+            buffer,
+            silences: 0,
+        })
+    }
+}
+
+// The workers, as many as there are inboxes.
+fn workers<'r, 's, R, C: Copy, W>(
+    rt: &'r R,
+    shared: &'s Shared,
+    staff: &mut Staff,
+    clock: C,
+    watch: &'r W,
+) -> Result<Vec<Worker<'r, 's, R, C, W>>, Fault>
+    requires few { length staff.old.inboxes.items ≤ 64 }
+    requires staff { IsStaffOf shared.now staff.old }
+    ensures all { IfOk result (λ workers. length workers.items ≡ length staff.old.inboxes.items) }
+{
+    let mut workers = Vec::new(shared.alloc);
+    for _worker in 0..staff.inboxes.len() {
+        workers.push(staff.next(rt, shared, clock, watch)?)?;
+    }
+    Ok(workers)
+}
+
+/// The workers of a course do their turns, each on a thread of its own where one can be made, and then the nodes are sent the end.
+/// What all of them report.
+pub fn work_and_close<
+    R: Threads + Wait + time::Clock + Sync,
+    C: Clock + Copy + Send,
+    W: Watch + Sync,
+>(
+    rt: &R,
+    shared: &Shared,
+    course: Course,
+    staff: Staff,
+    clock: C,
+    watch: &W,
+) -> Result<Report, Fault>
+    requires workers { length staff.inboxes.items ≡ course.workers }
+    requires staff { IsStaffOf shared.now staff }
+    ensures { IsCounted (course.workers * course.transactions) result }
+{
+    let mut staff = staff;
+    let workers = workers(rt, shared, &mut staff, clock, watch);
+    drop(staff);
+    let report = work_all(rt, shared.alloc, course, workers);
+    shared.network.close(rt);
+    report
+}
+
+// What the workers report, once each has done its turns.
+fn work_all<R: Threads + Wait + time::Clock + Sync, C: Clock + Send + Drop, W: Watch + Sync>(
+    rt: &R,
+    alloc: Global,
+    course: Course,
+    workers: Result<Vec<Worker<R, C, W>>, Fault>,
+) -> Result<Report, Fault>
+    requires { IfOk workers (λ workers. length workers.items ≡ course.workers) }
+    ensures { IsCounted (course.workers * course.transactions) result }
+{
+    let reports = thread::map_vec(
+        rt,
+        workers?,
+        &|worker: Worker<R, C, W>| -> Result<Report, Fault>
+            requires { IsSync R.row × IsSend C.row × IsSync W.row }
+            ensures { IsCounted course.transactions result }
+        { worker.work(course) },
+    )?;
+    merged(alloc, course, reports)
+}

@@ -1,0 +1,35 @@
+//! The viewers of the workers.
+ghost use Rattle.std.specs.Prelude.{◌≡◌, length, IfOk};
+
+use board::Viewer;
+use std::alloc::Global;
+use units::Fault;
+
+/// What the workers look through, by the worker's number: a viewer of each shard, by the shard's number.
+#[derive(Drop)]
+pub struct Viewers {
+    pub by_worker: Vec<Vec<Viewer>>,
+}
+
+impl Viewers {
+    /// No viewer yet of so many workers.
+    pub fn none(alloc: Global, workers: usize) -> Result<Viewers, Fault>
+        ensures { IfOk result (λ viewers. length viewers.by_worker.items ≡ workers) }
+    {
+        let mut by_worker = Vec::new(alloc);
+        for _worker in 0..workers {
+            by_worker.push(Vec::new(alloc))?;
+        }
+        Ok(Viewers { by_worker })
+    }
+
+    /// One viewer of the next shard to each worker.
+    pub fn deal(&mut self, viewers: Vec<Viewer>) -> Result<(), Fault>
+        ensures { length self.new.by_worker.items ≡ length self.old.by_worker.items }
+    {
+        for (own, viewer) in self.by_worker.iter_mut().zip(viewers) {
+            own.push(viewer)?;
+        }
+        Ok(())
+    }
+}
