@@ -153,11 +153,7 @@ fn publishes<R: Wait + Drop>(publisher: &mut Publisher<R>) -> bool {
 }
 
 // Looks change with the publication, and not before.
-fn change<R: Wait + Drop>(
-    publisher: &mut Publisher<R>,
-    viewer: &mut Viewer,
-    alloc: Global,
-) -> bool
+fn change<R: Wait + Drop>(publisher: &mut Publisher<R>, viewer: &mut Viewer, alloc: Global) -> bool
     requires first { publisher.old.published ≡ Safe 5 ∷ [] }
     requires none { publisher.old.pending ≡ [] }
 {
@@ -176,11 +172,7 @@ fn shows(snapshot: &Snapshot, viewer: &mut Viewer, answer: Result<Seen, Fault>) 
 }
 
 // A snapshot is answered once its timestamp is served.
-fn serve<R: Wait + Drop>(
-    publisher: &mut Publisher<R>,
-    viewer: &mut Viewer,
-    alloc: Global,
-) -> bool
+fn serve<R: Wait + Drop>(publisher: &mut Publisher<R>, viewer: &mut Viewer, alloc: Global) -> bool
     requires first { publisher.old.published ≡ Safe 5 ∷ [] }
     requires none { publisher.old.pending ≡ [] }
 {

@@ -116,7 +116,8 @@ fn shows(rt: HostRuntime) {
 fn blanks_a_line(alloc: Global) -> bool {
     let screen = Screen::new(alloc, Vec::new(alloc), 3);
     let written: Vec<u8> = screen.finish(alloc, 1);
-    written.as_slice() == b"\r0 of 3 done, 0 commits a second                             \n"
+    let wanted = b"\r0 of 3 done, 0 commits a second                             \n";
+    written.as_slice() == wanted.as_slice()
 }
 
 #[test]
