@@ -1,9 +1,10 @@
 //! Readings of the clock, commit wait, the safe time, and ceilings.
+use crate::checks::check;
 use ceiling::needed;
 use made::stamp;
 use record::Record;
 use safetime::SafeTime;
-use std::test::Fail;
+use std::alloc::Global;
 use truetime::Reading;
 use units::{Fault, Reason, Stamp, Stride};
 use waiting::pass;
@@ -15,6 +16,7 @@ fn reading(earliest: u64, latest: u64) -> Result<Reading, Fault> {
 // A timestamp beside the reading [100, 110].
 #[derive(Clone, Copy)]
 struct Beside {
+    name: &'static str,
     at: u64,
     after: bool,
     before: bool,
@@ -22,21 +24,25 @@ struct Beside {
 
 static BESIDE: [Beside; 4] = [
     Beside {
+        name: "99",
         at: 99,
         after: true,
         before: false,
     },
     Beside {
+        name: "100",
         at: 100,
         after: false,
         before: false,
     },
     Beside {
+        name: "110",
         at: 110,
         after: false,
         before: false,
     },
     Beside {
+        name: "111",
         at: 111,
         after: false,
         before: true,
@@ -58,18 +64,27 @@ fn is_read(earliest: u64, latest: u64) -> bool {
     }
 }
 
+fn is_no_stamp(earliest: u64, latest: u64) -> bool {
+    matches!(
+        reading(earliest, latest),
+        Err(Fault::BadRequest(Reason::Stamp))
+    )
+}
+
 #[test]
 fn the_two_ends(rt: HostRuntime) {
     for row in &BESIDE {
-        assert!(rt; is_beside(row), "{}", row.at);
+        check(&rt, row.name, is_beside(row));
     }
-    assert!(rt; is_read(100, 110) && is_read(100, 100));
-    assert!(rt; matches!(reading(110, 100), Err(Fault::BadRequest(Reason::Stamp))));
+    check(&rt, "100 to 110", is_read(100, 110));
+    check(&rt, "100 to 100", is_read(100, 100));
+    check(&rt, "110 to 100", is_no_stamp(110, 100));
 }
 
 // 111 at a reading.
 #[derive(Clone, Copy)]
 struct Waits {
+    name: &'static str,
     earliest: u64,
     latest: u64,
     passed: bool,
@@ -77,16 +92,19 @@ struct Waits {
 
 static WAITS: [Waits; 3] = [
     Waits {
+        name: "105 to 112",
         earliest: 105,
         latest: 112,
         passed: false,
     },
     Waits {
+        name: "111 to 120",
         earliest: 111,
         latest: 120,
         passed: false,
     },
     Waits {
+        name: "112 to 121",
         earliest: 112,
         latest: 121,
         passed: true,
@@ -115,12 +133,13 @@ fn goes_by(row: &Waits) -> bool {
 #[test]
 fn the_wait_of_111(rt: HostRuntime) {
     for row in &WAITS {
-        assert!(rt; goes_by(row), "{} to {}", row.earliest, row.latest);
+        check(&rt, row.name, goes_by(row));
     }
 }
 
 #[derive(Clone, Copy)]
 struct Ahead {
+    name: &'static str,
     floor: u64,
     to: u64,
     stride: u64,
@@ -130,30 +149,35 @@ struct Ahead {
 // Above the floor alone, and not past the greatest timestamp.
 static AHEAD: [Ahead; 5] = [
     Ahead {
+        name: "0 to 110",
         floor: 0,
         to: 110,
         stride: 0,
         ceiling: Some(110),
     },
     Ahead {
+        name: "110 to 110",
         floor: 110,
         to: 110,
         stride: 0,
         ceiling: None,
     },
     Ahead {
+        name: "200 to 150",
         floor: 200,
         to: 150,
         stride: 50,
         ceiling: None,
     },
     Ahead {
+        name: "0 to 150",
         floor: 0,
         to: 150,
         stride: 50,
         ceiling: Some(200),
     },
     Ahead {
+        name: "0 to the greatest but three",
         floor: 0,
         to: 4_611_686_018_427_387_900,
         stride: 50,
@@ -161,22 +185,28 @@ static AHEAD: [Ahead; 5] = [
     },
 ];
 
+fn is_ceiling(needed: &Option<Record>, ceiling: Option<u64>) -> bool {
+    match needed {
+        Some(Record::Ceiling { at }) => ceiling == Some(at.micros()),
+        Some(_) => false,
+        None => ceiling.is_none(),
+    }
+}
+
 fn is_needed(row: &Ahead) -> bool {
     let Some(stride) = Stride::new(row.stride) else {
         return false;
     };
-    let needed = needed(stamp(row.floor), stamp(row.to), stride);
-    match &needed {
-        Some(Record::Ceiling { at }) => row.ceiling == Some(at.micros()),
-        Some(_) => false,
-        None => row.ceiling.is_none(),
-    }
+    is_ceiling(
+        &needed(stamp(row.floor), stamp(row.to), stride),
+        row.ceiling,
+    )
 }
 
 #[test]
 fn ceilings(rt: HostRuntime) {
     for row in &AHEAD {
-        assert!(rt; is_needed(row), "{} to {}", row.floor, row.to);
+        check(&rt, row.name, is_needed(row));
     }
 }
 
@@ -184,29 +214,43 @@ fn stands(times: &SafeTime, last: u64, safe: u64) -> bool {
     times.last().micros() == last && times.safe().micros() == safe
 }
 
-#[test]
-fn below_a_promise_until_it_is_settled(rt: HostRuntime) -> Result<(), Fail> {
-    let mut times = SafeTime::new(rt.alloc(), Stamp::zero())?;
+// The safe time stays below a promise until that is settled.
+fn is_held_below(alloc: Global) -> bool {
+    let Ok(mut times) = SafeTime::new(alloc, Stamp::zero()) else {
+        return false;
+    };
     times.assign(stamp(200));
     times.hold(stamp(200));
-    assert!(rt; stands(&times, 200, 199));
+    let held = stands(&times, 200, 199);
     times.raise(stamp(250));
-    assert!(rt; stands(&times, 250, 199));
+    let raised = stands(&times, 250, 199);
     times.lift(stamp(200));
-    assert!(rt; stands(&times, 250, 250));
-    Ok(())
+    held && raised && stands(&times, 250, 250)
 }
 
 #[test]
-fn one_hold_is_lifted_at_a_time(rt: HostRuntime) -> Result<(), Fail> {
-    let mut times = SafeTime::new(rt.alloc(), stamp(111))?;
+fn below_a_promise_until_it_is_settled(rt: HostRuntime) {
+    check(&rt, "200", is_held_below(rt.alloc()));
+}
+
+// Each lift takes one hold of two, and a third takes none.
+fn are_lifted(alloc: Global) -> bool {
+    let Ok(mut times) = SafeTime::new(alloc, stamp(111)) else {
+        return false;
+    };
     times.hold(stamp(111));
     times.hold(stamp(111));
-    for safe in [110, 110, 111] {
-        assert!(rt; stands(&times, 111, safe), "{safe}");
-        times.lift(stamp(111));
-    }
+    let two = stands(&times, 111, 110);
+    times.lift(stamp(111));
+    let one = stands(&times, 111, 110);
+    times.lift(stamp(111));
+    let none = stands(&times, 111, 111);
+    times.lift(stamp(111));
     times.raise(stamp(110));
-    assert!(rt; stands(&times, 111, 111));
-    Ok(())
+    two && one && none && stands(&times, 111, 111)
+}
+
+#[test]
+fn one_hold_is_lifted_at_a_time(rt: HostRuntime) {
+    check(&rt, "111", are_lifted(rt.alloc()));
 }

@@ -1,4 +1,5 @@
 //! Documents with settings.
+use crate::checks::check;
 use settings::Settings;
 use std::alloc::Global;
 use units::{Fault, Key, Reason};
@@ -119,10 +120,9 @@ fn are(splits: &[Key], wanted: &[&[u8]]) -> bool {
 }
 
 fn is_folder(dir: &Option<String>, wanted: Option<&str>) -> bool {
-    match (dir, wanted) {
-        (Some(dir), Some(wanted)) => dir.as_str() == wanted,
-        (None, None) => true,
-        _ => false,
+    match dir {
+        Some(dir) => wanted == Some(dir.as_str()),
+        None => wanted.is_none(),
     }
 }
 
@@ -146,7 +146,7 @@ fn is_taken(alloc: Global, row: &Taken) -> bool {
 #[test]
 fn documents_that_are_taken(rt: HostRuntime) {
     for row in &TAKEN {
-        assert!(rt; is_taken(rt.alloc(), row), "{}", row.what);
+        check(&rt, row.what, is_taken(rt.alloc(), row));
     }
 }
 
@@ -243,36 +243,38 @@ static CHANGED: [Changed; 7] = [
     },
 ];
 
-// The document with a text in place of one line.
-fn document(alloc: Global, at: usize, text: &str) -> Result<String, Fault> {
+// The document with a text in place of one line. A line that memory is wanting for is left out.
+fn document(alloc: Global, at: usize, text: &str) -> String {
     let mut whole = String::new(alloc);
     for (n, line) in LINES.iter().enumerate() {
-        whole.push_str(if n == at { text } else { *line })?;
-        whole.push('\n')?;
+        let _ = whole.push_str(if n == at { text } else { *line });
+        let _ = whole.push('\n');
     }
-    Ok(whole)
+    whole
 }
 
 // How the document is refused.
 fn refusal(alloc: Global, at: usize, text: &str) -> Option<Fault> {
-    match document(alloc, at, text) {
-        Ok(whole) => Settings::read(alloc, whole.as_str()).err(),
-        Err(fault) => Some(fault),
-    }
+    let whole = document(alloc, at, text);
+    Settings::read(alloc, whole.as_str()).err()
+}
+
+fn is_accepted(alloc: Global, at: usize, text: &str) -> bool {
+    refusal(alloc, at, text).is_none()
+}
+
+fn is_refused(alloc: Global, at: usize, text: &str) -> bool {
+    refusal(alloc, at, text) == Some(Fault::BadRequest(Reason::Settings))
 }
 
 #[test]
 fn documents_with_a_line_changed(rt: HostRuntime) {
     for row in &CHANGED {
         for text in row.taken {
-            assert!(rt; refusal(rt.alloc(), row.line, *text).is_none(), "{text}");
+            check(&rt, *text, is_accepted(rt.alloc(), row.line, *text));
         }
         for text in row.refused {
-            let fault = refusal(rt.alloc(), row.line, *text);
-            assert!(rt;
-                fault == Some(Fault::BadRequest(Reason::Settings)),
-                "{text}"
-            );
+            check(&rt, *text, is_refused(rt.alloc(), row.line, *text));
         }
     }
 }

@@ -1,66 +1,80 @@
 //! Numbers that threads draw.
 ghost use Rattle.std.specs.Prelude.{◌≡◌, All};
 
-use std::alloc::{AllocError, Global};
-use std::test::Fail;
+use crate::checks::check;
+use std::alloc::Global;
 use std::thread;
 use std::thread::Threads;
 use tickets::{Drawer, Tickets};
 use units::{Fault, Reason};
 
-// The first two draws of a source with one drawer.
-fn first_draws(alloc: Global) -> Option<(u64, u64)> {
+// The drawer's draws are 0 and 1.
+fn draws_two(tickets: &Tickets, drawer: &mut Drawer) -> bool
+    requires { drawer.old.source ≡ tickets.now }
+{
+    let first = tickets.draw(drawer);
+    let second = tickets.draw(drawer);
+    matches!((first, second), (Ok(0), Ok(1)))
+}
+
+fn are_zero_and_one(alloc: Global) -> bool {
     let Ok((tickets, mut drawers)) = Tickets::new(alloc, 1) else {
-        return None;
+        return false;
     };
-    let mut drawer = drawers.pop()?;
-    let first = tickets.draw(&mut drawer).ok()?;
-    let second = tickets.draw(&mut drawer).ok()?;
-    Some((first, second))
+    match drawers.pop() {
+        Some(mut drawer) => draws_two(&tickets, &mut drawer),
+        None => false,
+    }
 }
 
 #[test]
 fn the_first_draws_are_zero_and_one(rt: HostRuntime) {
-    assert!(rt; matches!(first_draws(rt.alloc()), Some((0, 1))));
+    check(&rt, "0 and 1", are_zero_and_one(rt.alloc()));
 }
 
 fn are_refused(alloc: Global, drawers: usize) -> bool {
-    let made = Tickets::new(alloc, drawers);
-    matches!(made, Err(Fault::BadRequest(Reason::Many)))
+    match Tickets::new(alloc, drawers) {
+        Err(fault) => fault == Fault::BadRequest(Reason::Many),
+        Ok(_) => false,
+    }
 }
 
 #[test]
 fn a_source_has_one_drawer_or_more(rt: HostRuntime) {
-    assert!(rt; are_refused(rt.alloc(), 0));
-    assert!(rt; are_refused(rt.alloc(), 257));
+    check(&rt, "0", are_refused(rt.alloc(), 0));
+    check(&rt, "257", are_refused(rt.alloc(), 257));
 }
 
-fn draw_many(tickets: &Tickets, alloc: Global, mut drawer: Drawer) -> Result<Vec<u64>, AllocError>
+// A thousand draws. Those that memory is wanting for are not in the list.
+fn draw_many(tickets: &Tickets, alloc: Global, mut drawer: Drawer) -> Vec<u64>
     requires { drawer.source ≡ tickets.now }
 {
     let mut drawn = Vec::new(alloc);
     for _draw in 0..1000 {
         if let Ok(n) = tickets.draw(&mut drawer) {
-            drawn.push(n)?;
+            let _ = drawn.push(n);
         }
     }
-    Ok(drawn)
+    drawn
 }
 
+// What all of them draw, each on a thread of its own.
 fn draw_all<R: Threads + Sync>(
     rt: &R,
     alloc: Global,
     tickets: &Tickets,
     drawers: Vec<Drawer>,
-) -> Result<Vec<u64>, AllocError>
+) -> Vec<u64>
     requires { All (λ d. d.source ≡ tickets.now) drawers.items }
 {
     let mut all = Vec::new(alloc);
-    let lists = thread::map_vec(rt, drawers, &|drawer| draw_many(tickets, alloc, drawer))?;
-    for list in lists {
-        all.extend_from_slice(list?.as_slice())?;
+    let lists = thread::map_vec(rt, drawers, &|drawer| draw_many(tickets, alloc, drawer));
+    if let Ok(lists) = lists {
+        for list in &lists {
+            let _ = all.extend_from_slice(list.as_slice());
+        }
     }
-    Ok(all)
+    all
 }
 
 // Whether these are 0, 1, 2 .. in turn.
@@ -73,11 +87,15 @@ fn count_up(numbers: &[u64]) -> bool {
     true
 }
 
+fn draw_each_once<R: Threads + Sync>(rt: &R, alloc: Global) -> bool {
+    let Ok((tickets, drawers)) = Tickets::new(alloc, 8) else {
+        return false;
+    };
+    let mut all = draw_all(rt, alloc, &tickets, drawers);
+    all.sort().is_ok() && all.len() == 8000 && count_up(all.as_slice())
+}
+
 #[test]
-fn eight_threads_draw_each_number_once(rt: HostRuntime) -> Result<(), Fail> {
-    let (tickets, drawers) = Tickets::new(rt.alloc(), 8)?;
-    let mut all = draw_all(&rt, rt.alloc(), &tickets, drawers)?;
-    all.sort()?;
-    assert!(rt; all.len() == 8000 && count_up(all.as_slice()));
-    Ok(())
+fn eight_threads_draw_each_number_once(rt: HostRuntime) {
+    check(&rt, "8000", draw_each_once(&rt, rt.alloc()));
 }

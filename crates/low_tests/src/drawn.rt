@@ -1,6 +1,7 @@
 //! Drawn requests, answered by the rows and by a plain table of who holds what and waits for what.
 ghost use Rattle.std.specs.Prelude.{◌<◌};
 
+use crate::checks::check;
 use crate::ids::{id, key, needs};
 use rows::{Rows, Wait};
 use std::alloc::Global;
@@ -233,5 +234,5 @@ fn all_agree(alloc: Global) -> bool {
 
 #[test]
 fn drawn_requests(rt: HostRuntime) {
-    assert!(rt; all_agree(rt.alloc()));
+    check(&rt, "400 turns", all_agree(rt.alloc()));
 }

@@ -1,7 +1,7 @@
 //! Lines of a drive.
+use crate::checks::check;
 use progress::{Ended, Progress, Turn};
 use std::alloc::{AllocError, Global};
-use std::test::Fail;
 
 // So many turns that ended alike.
 struct Group {
@@ -115,35 +115,36 @@ static ROWS: [Row; 4] = [
 ];
 
 // Counts the turns of a group.
-fn count(progress: &mut Progress, group: &Group) -> Result<(), AllocError> {
+fn count(progress: &mut Progress, group: &Group) {
     for _turn in 0..group.times {
         if !progress.is_done() {
-            progress.count(Turn {
+            let _ = progress.count(Turn {
                 ended: group.ended,
                 micros: group.micros,
-            })?;
+            });
         }
     }
-    Ok(())
 }
 
-// The lines of a row.
-fn lines(alloc: Global, row: &Row) -> Result<(String, String), AllocError> {
+fn is_text(text: Result<String, AllocError>, wanted: &str) -> bool {
+    match text {
+        Ok(text) => text.as_str() == wanted,
+        Err(_) => false,
+    }
+}
+
+fn has_its_lines(alloc: Global, row: &Row) -> bool {
     let mut progress = Progress::new(alloc, row.turns);
     for group in &row.groups {
-        count(&mut progress, group)?;
+        count(&mut progress, group);
     }
-    let line = progress.line(alloc, row.micros)?;
-    let last_line = progress.last_line(alloc, row.micros)?;
-    Ok((line, last_line))
+    is_text(progress.line(alloc, row.micros), row.line)
+        && is_text(progress.last_line(alloc, row.micros), row.last_line)
 }
 
 #[test]
-fn tells(rt: HostRuntime) -> Result<(), Fail> {
+fn tells(rt: HostRuntime) {
     for row in &ROWS {
-        let (line, last_line) = lines(rt.alloc(), row)?;
-        assert_eq!(rt; line.as_str(), row.line);
-        assert_eq!(rt; last_line.as_str(), row.last_line);
+        check(&rt, row.last_line, has_its_lines(rt.alloc(), row));
     }
-    Ok(())
 }

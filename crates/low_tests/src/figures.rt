@@ -38,14 +38,9 @@ static RATES: [Rate; 5] = [
 
 #[test]
 fn rates(rt: HostRuntime) {
-    for row in &RATES {
-        assert_eq!(rt;
-            per_second(row.count, row.micros),
-            row.want,
-            "{} in {}",
-            row.count,
-            row.micros
-        );
+    for (number, row) in RATES.iter().enumerate() {
+        let rate = per_second(row.count, row.micros);
+        assert!(rt; rate == row.want, "row {number}: {rate}");
     }
 }
 
@@ -109,13 +104,7 @@ fn ranked(row: &Rank) -> Option<u64> {
 
 #[test]
 fn ranks(rt: HostRuntime) {
-    for row in &RANKS {
-        assert_eq!(rt;
-            ranked(row),
-            row.want,
-            "{} of {:?}",
-            row.percent,
-            row.sorted
-        );
+    for (number, row) in RANKS.iter().enumerate() {
+        assert!(rt; ranked(row) == row.want, "row {number}");
     }
 }

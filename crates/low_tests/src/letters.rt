@@ -1,4 +1,5 @@
 //! Messages and the bag that they are put into.
+use crate::checks::check;
 use bag::Bag;
 use made::{id, key, shard};
 use message::{Address, Envelope, GiveUp, Message, Reads};
@@ -17,15 +18,21 @@ fn shape(keys: Keys) -> Option<(u64, usize)> {
     }
 }
 
-fn shape_of_one(alloc: Global) -> Option<(u64, usize)> {
-    shape(one_key(alloc)?)
+fn is_one_of_one(alloc: Global) -> bool {
+    match one_key(alloc) {
+        Some(keys) => matches!(shape(keys), Some((1, 1))),
+        None => false,
+    }
+}
+
+fn is_no_epoch(alloc: Global) -> bool {
+    Reads::none(alloc).epoch() == 0 && shape(Keys::none(alloc)).is_none()
 }
 
 #[test]
 fn the_epoch_of_reads(rt: HostRuntime) {
-    assert!(rt; Reads::none(rt.alloc()).epoch() == 0);
-    assert!(rt; matches!(shape_of_one(rt.alloc()), Some((1, 1))));
-    assert!(rt; shape(Keys::none(rt.alloc())).is_none());
+    check(&rt, "none", is_no_epoch(rt.alloc()));
+    check(&rt, "one", is_one_of_one(rt.alloc()));
 }
 
 fn give_up(number: u16) -> Envelope {
@@ -61,12 +68,18 @@ fn has(bag: &Bag, number: u64, txn: u64) -> bool {
     }
 }
 
+fn have_numbers(alloc: Global) -> bool {
+    let mut bag = Bag::new(alloc);
+    let empty = bag.len() == 0;
+    for (number, txn) in NUMBERS.iter().enumerate() {
+        if !is_put(&mut bag, *txn, number) {
+            return false;
+        }
+    }
+    empty && bag.len() == 2 && has(&bag, 0, 5) && has(&bag, 1, 7) && bag.nth(2).is_none()
+}
+
 #[test]
 fn messages_have_numbers_from_0(rt: HostRuntime) {
-    let mut bag = Bag::new(rt.alloc());
-    assert!(rt; bag.len() == 0);
-    for (number, txn) in NUMBERS.iter().enumerate() {
-        assert!(rt; is_put(&mut bag, *txn, number), "{txn}");
-    }
-    assert!(rt; bag.len() == 2 && has(&bag, 0, 5) && has(&bag, 1, 7) && bag.nth(2).is_none());
+    check(&rt, "two", have_numbers(rt.alloc()));
 }

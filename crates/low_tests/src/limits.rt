@@ -1,4 +1,5 @@
 //! The small types: their limits and orders, and the texts of faults.
+use crate::checks::{check, is_printed};
 use made::key;
 use std::alloc::Global;
 use units::{Epoch, Fault, Key, Keys, Reason, Run, ShardNo, Splits, Stamp, TxnId, Value};
@@ -32,17 +33,10 @@ static TEXTS: [Text; 5] = [
     },
 ];
 
-fn reads(alloc: Global, row: &Text) -> bool {
-    match row.fault.to_string(alloc) {
-        Ok(text) => text.as_str() == row.text,
-        Err(_) => false,
-    }
-}
-
 #[test]
 fn texts_of_faults(rt: HostRuntime) {
     for row in &TEXTS {
-        assert!(rt; reads(rt.alloc(), row), "{}", row.text);
+        check(&rt, row.text, is_printed(rt.alloc(), &row.fault, row.text));
     }
 }
 
@@ -108,8 +102,7 @@ static LIMITS: [Limit; 6] = [
 
 fn is_taken(alloc: Global, made: Made, number: u64) -> bool {
     match made {
-        Made::Key => is_key(alloc, number as usize),
-        Made::Value => is_value(alloc, number as usize),
+        Made::Key | Made::Value => is_made_of(alloc, made, number as usize),
         Made::Stamp => Stamp::new(number).is_ok(),
         Made::Epoch => Epoch::new(number).is_some(),
         Made::Run => Run::new(number).is_some(),
@@ -117,16 +110,16 @@ fn is_taken(alloc: Global, made: Made, number: u64) -> bool {
     }
 }
 
-fn is_key(alloc: Global, len: usize) -> bool {
-    match vec![in alloc; 7u8; len] {
-        Ok(bytes) => Key::new(&bytes).is_ok(),
-        Err(_) => false,
+fn is_made(alloc: Global, made: Made, bytes: &[u8]) -> bool {
+    match made {
+        Made::Key => Key::new(bytes).is_ok(),
+        _ => Value::new(alloc, bytes).is_ok(),
     }
 }
 
-fn is_value(alloc: Global, len: usize) -> bool {
+fn is_made_of(alloc: Global, made: Made, len: usize) -> bool {
     match vec![in alloc; 7u8; len] {
-        Ok(bytes) => Value::new(alloc, &bytes).is_ok(),
+        Ok(bytes) => is_made(alloc, made, &bytes),
         Err(_) => false,
     }
 }
@@ -140,19 +133,14 @@ fn all_are(alloc: Global, made: Made, numbers: &[u64], taken: bool) -> bool {
     true
 }
 
+fn has_its_limits(alloc: Global, row: &Limit) -> bool {
+    all_are(alloc, row.made, row.taken, true) && all_are(alloc, row.made, row.refused, false)
+}
+
 #[test]
 fn limits(rt: HostRuntime) {
     for row in &LIMITS {
-        assert!(rt;
-            all_are(rt.alloc(), row.made, row.taken, true),
-            "{}",
-            row.what
-        );
-        assert!(rt;
-            all_are(rt.alloc(), row.made, row.refused, false),
-            "{}",
-            row.what
-        );
+        check(&rt, row.what, has_its_limits(rt.alloc(), row));
     }
 }
 
@@ -160,30 +148,16 @@ fn is_older(old: TxnId, young: TxnId) -> bool {
     old < young && old.is_older_than(young) && !young.is_older_than(old)
 }
 
-fn has_text(alloc: Global, txn: TxnId, text: &str) -> bool {
-    match txn.to_string(alloc) {
-        Ok(found) => found.as_str() == text,
-        Err(_) => false,
-    }
-}
-
-fn are_ordered(alloc: Global) -> Option<bool> {
-    let (old, young) = (TxnId::new(1, 10)?, TxnId::new(2, 9)?);
-    let same = old.is(old) && !old.is(young);
-    Some(same && is_older(old, young) && has_text(alloc, old, "1.10"))
+fn are_ordered(alloc: Global) -> bool {
+    let (Some(old), Some(young)) = (TxnId::new(1, 10), TxnId::new(2, 9)) else {
+        return false;
+    };
+    old.is(old) && !old.is(young) && is_older(old, young) && is_printed(alloc, &old, "1.10")
 }
 
 #[test]
 fn ids_by_run_and_number(rt: HostRuntime) {
-    assert!(rt; matches!(are_ordered(rt.alloc()), Some(true)));
-}
-
-fn split_at(alloc: Global, first: Key, second: Key) -> Option<Splits> {
-    Splits::new(alloc, &[first, second]).ok()
-}
-
-fn ascend(alloc: Global, first: Key, second: Key) -> Option<bool> {
-    Some(Keys::from_vec([first, second].to_vec(alloc).ok()?).is_ok())
+    check(&rt, "1.10 and 2.9", are_ordered(rt.alloc()));
 }
 
 // `a` lies on shard 0, `ab` on shard 1, `b` on shard 2.
@@ -197,17 +171,34 @@ fn stand_in_order(a: Key, ab: Key, b: Key) -> bool {
     a.is_before(&ab) && ab.is_before(&b) && !b.is_before(&ab)
 }
 
-fn are_split(alloc: Global) -> Option<bool> {
-    let (a, ab, b) = (key(b'a'), Key::new(b"ab").ok()?, key(b'b'));
-    let splits = split_at(alloc, ab, b)?;
-    let refused = split_at(alloc, b, ab).is_none();
-    Some(refused && stand_in_order(a, ab, b) && split(&splits, a, ab, b))
+fn are_split(alloc: Global, a: Key, ab: Key, b: Key) -> bool {
+    match Splits::new(alloc, &[ab, b]) {
+        Ok(splits) => split(&splits, a, ab, b),
+        Err(_) => false,
+    }
+}
+
+// Whether keys may stand so in a list, if it is known.
+fn ascend(alloc: Global, first: Key, second: Key) -> Option<bool> {
+    match [first, second].to_vec(alloc) {
+        Ok(keys) => Some(Keys::from_vec(keys).is_ok()),
+        Err(_) => None,
+    }
+}
+
+fn go_by_bytes(alloc: Global, a: Key, b: Key) -> bool {
+    let Ok(ab) = Key::new(b"ab") else {
+        return false;
+    };
+    stand_in_order(a, ab, b)
+        && are_split(alloc, a, ab, b)
+        && Splits::new(alloc, &[b, ab]).is_err()
+        && matches!(ascend(alloc, a, b), Some(true))
+        && matches!(ascend(alloc, b, a), Some(false))
 }
 
 #[test]
 fn keys_by_bytes(rt: HostRuntime) {
-    let (a, b) = (key(b'a'), key(b'b'));
-    assert!(rt; matches!(are_split(rt.alloc()), Some(true)));
-    assert!(rt; matches!(ascend(rt.alloc(), a, b), Some(true)));
-    assert!(rt; matches!(ascend(rt.alloc(), b, a), Some(false)));
+    let holds = go_by_bytes(rt.alloc(), key(b'a'), key(b'b'));
+    check(&rt, "a, ab and b", holds);
 }

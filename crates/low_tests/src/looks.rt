@@ -2,16 +2,16 @@
 ghost use Rattle.std.specs.Prelude.{◌≡◌, [], ◌∷◌, IfOk};
 ghost use Rattle.board.specs.declared.entry.BoardEntry.TheVariants.{Safe};
 
+use crate::checks::check;
 use board::{Publisher, Viewer, start};
+use made::{key, stamp};
 use snapshot::Snapshot;
 use std::alloc::Global;
-use std::process::Abort;
 use std::sync::Wait;
-use std::test::Fail;
 use std::thread;
 use std::thread::Threads;
 use truetime::Reading;
-use units::{Fault, Install, Key, Reason, Seen, Splits, Stamp, Value};
+use units::{Fault, Install, Reason, Seen, Splits, Value};
 
 // A look for a key of one byte, in a buffer of so many bytes.
 #[derive(Clone, Copy)]
@@ -84,19 +84,30 @@ static AFTER_ONE: [Look; 5] = [
     },
 ];
 
-fn answered(rt: &impl Abort, viewer: &mut Viewer, looks: &[Look]) -> Result<(), Fail> {
+// The answer, and what the buffer holds then, are those of the row: a value is `xyz`.
+fn is_answer(seen: Result<Seen, Fault>, buffer: [u8; 3], answer: Result<Seen, Fault>) -> bool {
+    let bytes = if matches!(seen, Ok(Seen::Value(3))) {
+        *b"xyz"
+    } else {
+        [0; 3]
+    };
+    seen == answer && buffer == bytes
+}
+
+fn is_seen(viewer: &mut Viewer, look: &Look) -> bool {
+    let mut buffer = [0; 3];
+    let room = &mut buffer[..look.room.min(3)];
+    let seen = viewer.look(&key(look.key), stamp(look.at), room);
+    is_answer(seen, buffer, look.answer)
+}
+
+fn are_seen(viewer: &mut Viewer, looks: &[Look]) -> bool {
     for look in looks {
-        let mut buffer = [0u8; 3];
-        let seen = viewer.look(
-            &Key::new(&[look.key])?,
-            Stamp::new(look.at)?,
-            &mut buffer[..look.room.min(3)],
-        );
-        assert_eq!(rt; seen, look.answer);
-        let value = seen == Ok(Seen::Value(3));
-        assert_eq!(rt; buffer, if value { *b"xyz" } else { [0u8; 3] });
+        if !is_seen(viewer, look) {
+            return false;
+        }
     }
-    Ok(())
+    true
 }
 
 #[tactic(auto, unfolding(board::specs::Board::may_follow))]
@@ -107,113 +118,169 @@ fn new_board<R: Wait + Drop>(
 ) -> Result<(Publisher<R>, Vec<Viewer>), Fault>
     ensures { IfOk result (λ made. (made.0.published ≡ Safe 5 ∷ []) × (made.0.pending ≡ [])) }
 {
-    let splits = Splits::new(alloc, &[Key::new(b"m")?])?;
-    let shard = splits.shard_of(&Key::new(b"a")?);
-    start(rt, alloc, &[], Stamp::new(5)?, splits, shard, viewers)
+    match Splits::new(alloc, &[key(b'm')]) {
+        Ok(splits) => {
+            let shard = splits.shard_of(&key(b'a'));
+            start(rt, alloc, &[], stamp(5), splits, shard, viewers)
+        }
+        Err(fault) => Err(fault),
+    }
 }
 
 // Accepts the value `xyz` of `a` from 7 on, and then that 9 is served.
 #[tactic(auto, unfolding(board::specs::Board::may_follow))]
-fn accept<R: Wait + Drop>(alloc: Global, publisher: &mut Publisher<R>) -> Result<(), Fail>
+fn accepts<R: Wait + Drop>(publisher: &mut Publisher<R>, alloc: Global) -> bool
     requires first { publisher.old.published ≡ Safe 5 ∷ [] }
     requires none { publisher.old.pending ≡ [] }
 {
-    publisher.install(Install {
-        key: Key::new(b"a")?,
-        at: Stamp::new(7)?,
-        value: Some(Value::new(alloc, b"xyz")?),
-    })?;
-    publisher.safe(Stamp::new(9)?)?;
-    Ok(())
-}
-
-#[test]
-fn looks_change_with_the_publication(rt: HostRuntime) -> Result<(), Fail> {
-    let alloc: Global = rt.alloc();
-    let (mut publisher, mut viewers) = new_board(&rt, alloc, 1)?;
-    let mut viewer = viewers.pop().ok_or("a viewer")?;
-    answered(&rt, &mut viewer, &AT_FIRST)?;
-    accept(alloc, &mut publisher)?;
-    answered(&rt, &mut viewer, &AT_FIRST)?;
-    assert_eq!(rt; publisher.publish()?.safe().micros(), 9);
-    answered(&rt, &mut viewer, &AFTER_ONE)
-}
-
-#[test]
-fn a_snapshot_is_answered_once_its_timestamp_is_served(rt: HostRuntime) -> Result<(), Fail> {
-    let alloc: Global = rt.alloc();
-    let (mut publisher, mut viewers) = new_board(&rt, alloc, 1)?;
-    let mut viewer = viewers.pop().ok_or("a viewer")?;
-    let snapshot = Snapshot::start(&Reading::new(Stamp::new(6)?, Stamp::new(9)?)?);
-    let a = Key::new(b"a")?;
-    let mut buffer = [0u8; 3];
-    assert_eq!(rt;
-        snapshot.look(&mut viewer, &a, &mut buffer),
-        Err(Fault::NotYet)
-    );
-    accept(alloc, &mut publisher)?;
-    publisher.publish()?;
-    assert_eq!(rt;
-        snapshot.look(&mut viewer, &a, &mut buffer),
-        Ok(Seen::Value(3))
-    );
-    assert_eq!(rt; buffer, *b"xyz");
-    Ok(())
-}
-
-#[test]
-fn a_viewer_is_stopped_once_the_publisher_has_ended(rt: HostRuntime) -> Result<(), Fail> {
-    let (publisher, mut viewers) = new_board(&rt, rt.alloc(), 2)?;
-    let mut viewer = viewers.pop().ok_or("a viewer")?;
-    answered(&rt, &mut viewer, &AT_FIRST)?;
-    drop(publisher);
-    let a = Key::new(b"a")?;
-    assert_eq!(rt;
-        viewer.look(&a, Stamp::zero(), &mut [0u8; 3]),
-        Err(Fault::Stopped)
-    );
-    Ok(())
-}
-
-#[test]
-fn a_board_has_1_to_64_viewers(rt: HostRuntime) -> Result<(), Fail> {
-    for viewers in [0, 65] {
-        let refused = new_board(&rt, rt.alloc(), viewers).err();
-        assert_eq!(rt; refused, Some(Fault::BadRequest(Reason::Many)));
-    }
-    assert_eq!(rt; new_board(&rt, rt.alloc(), 64)?.1.len(), 64);
-    Ok(())
-}
-
-// A look on another thread, of what was published here before that thread began.
-fn seen_there<R: Threads + Sync, W: Wait + Drop>(
-    rt: &R,
-    alloc: Global,
-    publisher: &mut Publisher<W>,
-    mut viewer: Viewer,
-) -> Result<(Result<Seen, Fault>, [u8; 3]), Fail>
-    requires first { publisher.old.published ≡ Safe 5 ∷ [] }
-    requires none { publisher.old.pending ≡ [] }
-{
-    let a = Key::new(b"a")?;
-    let at = Stamp::new(8)?;
-    accept(alloc, publisher)?;
-    publisher.publish()?;
-    let look = move || {
-        let mut buffer = [0u8; 3];
-        let seen = viewer.look(&a, at, &mut buffer);
-        (seen, buffer)
+    let Ok(value) = Value::new(alloc, b"xyz") else {
+        return false;
     };
-    Ok(thread::join(rt, look, || ()).0)
+    let install = Install {
+        key: key(b'a'),
+        at: stamp(7),
+        value: Some(value),
+    };
+    publisher.install(install).is_ok() && publisher.safe(stamp(9)).is_ok()
+}
+
+// What is shown is served up to 9.
+fn publishes<R: Wait + Drop>(publisher: &mut Publisher<R>) -> bool {
+    match publisher.publish() {
+        Ok(told) => told.safe().micros() == 9,
+        Err(_) => false,
+    }
+}
+
+// Looks change with the publication, and not before.
+fn change<R: Wait + Drop>(publisher: &mut Publisher<R>, viewer: &mut Viewer, alloc: Global) -> bool
+    requires first { publisher.old.published ≡ Safe 5 ∷ [] }
+    requires none { publisher.old.pending ≡ [] }
+{
+    are_seen(viewer, &AT_FIRST)
+        && accepts(publisher, alloc)
+        && are_seen(viewer, &AT_FIRST)
+        && publishes(publisher)
+        && are_seen(viewer, &AFTER_ONE)
+}
+
+// The snapshot's look for `a` has this answer.
+fn shows(snapshot: &Snapshot, viewer: &mut Viewer, answer: Result<Seen, Fault>) -> bool {
+    let mut buffer = [0; 3];
+    let seen = snapshot.look(viewer, &key(b'a'), &mut buffer);
+    is_answer(seen, buffer, answer)
+}
+
+// A snapshot is answered once its timestamp is served.
+fn serve<R: Wait + Drop>(publisher: &mut Publisher<R>, viewer: &mut Viewer, alloc: Global) -> bool
+    requires first { publisher.old.published ≡ Safe 5 ∷ [] }
+    requires none { publisher.old.pending ≡ [] }
+{
+    let Ok(now) = Reading::new(stamp(6), stamp(9)) else {
+        return false;
+    };
+    let snapshot = Snapshot::start(&now);
+    shows(&snapshot, viewer, Err(Fault::NotYet))
+        && accepts(publisher, alloc)
+        && publishes(publisher)
+        && shows(&snapshot, viewer, Ok(Seen::Value(3)))
+}
+
+// A look on another thread sees what was published here before that thread began.
+fn read_back<R: Threads + Sync, W: Wait + Drop>(
+    rt: &R,
+    publisher: &mut Publisher<W>,
+    viewer: &mut Viewer,
+    alloc: Global,
+) -> bool
+    requires first { publisher.old.published ≡ Safe 5 ∷ [] }
+    requires none { publisher.old.pending ≡ [] }
+{
+    if !accepts(publisher, alloc) || !publishes(publisher) {
+        return false;
+    }
+    let look = Look {
+        key: b'a',
+        at: 8,
+        room: 3,
+        answer: Ok(Seen::Value(3)),
+    };
+    thread::join(rt, || is_seen(viewer, &look), || ()).0
+}
+
+#[derive(Clone, Copy)]
+enum Story {
+    Change,
+    Serve,
+    ReadBack,
+}
+
+fn is_told<R: Threads + Wait + Sync>(rt: &R, alloc: Global, story: Story) -> bool {
+    let Ok((mut publisher, mut viewers)) = new_board(rt, alloc, 1) else {
+        return false;
+    };
+    let Some(viewer) = viewers.first_mut() else {
+        return false;
+    };
+    match story {
+        Story::Change => change(&mut publisher, viewer, alloc),
+        Story::Serve => serve(&mut publisher, viewer, alloc),
+        Story::ReadBack => read_back(rt, &mut publisher, viewer, alloc),
+    }
 }
 
 #[test]
-fn a_look_on_another_thread_reads_a_published_write_back(rt: HostRuntime) -> Result<(), Fail> {
-    let alloc: Global = rt.alloc();
-    let (mut publisher, mut viewers) = new_board(&rt, alloc, 1)?;
-    let viewer = viewers.pop().ok_or("a viewer")?;
-    let (seen, buffer) = seen_there(&rt, alloc, &mut publisher, viewer)?;
-    assert_eq!(rt; seen, Ok(Seen::Value(3)));
-    assert_eq!(rt; buffer, *b"xyz");
-    Ok(())
+fn looks_change_with_the_publication(rt: HostRuntime) {
+    check(&rt, "change", is_told(&rt, rt.alloc(), Story::Change));
+}
+
+#[test]
+fn a_snapshot_is_answered_once_its_timestamp_is_served(rt: HostRuntime) {
+    check(&rt, "serve", is_told(&rt, rt.alloc(), Story::Serve));
+}
+
+#[test]
+fn a_look_on_another_thread_reads_a_published_write_back(rt: HostRuntime) {
+    check(&rt, "read back", is_told(&rt, rt.alloc(), Story::ReadBack));
+}
+
+// The board of shard 0 of two whose publisher has ended.
+static AT_THE_END: [Look; 1] = [Look {
+    key: b'a',
+    at: 0,
+    room: 3,
+    answer: Err(Fault::Stopped),
+}];
+
+fn stops<R: Wait + Drop>(rt: R, alloc: Global) -> bool {
+    let Ok((publisher, mut viewers)) = new_board(rt, alloc, 2) else {
+        return false;
+    };
+    let Some(viewer) = viewers.first_mut() else {
+        return false;
+    };
+    let before = are_seen(viewer, &AT_FIRST);
+    drop(publisher);
+    before && are_seen(viewer, &AT_THE_END)
+}
+
+#[test]
+fn a_viewer_is_stopped_once_the_publisher_has_ended(rt: HostRuntime) {
+    check(&rt, "stopped", stops(&rt, rt.alloc()));
+}
+
+// How many viewers a board has that is asked for so many.
+fn count<R: Wait + Drop>(rt: R, alloc: Global, viewers: usize) -> Result<usize, Fault> {
+    match new_board(rt, alloc, viewers) {
+        Ok((_publisher, viewers)) => Ok(viewers.len()),
+        Err(fault) => Err(fault),
+    }
+}
+
+#[test]
+fn a_board_has_1_to_64_viewers(rt: HostRuntime) {
+    let many = Err(Fault::BadRequest(Reason::Many));
+    check(&rt, "0", count(&rt, rt.alloc(), 0) == many);
+    check(&rt, "65", count(&rt, rt.alloc(), 65) == many);
+    check(&rt, "64", count(&rt, rt.alloc(), 64) == Ok(64));
 }

@@ -1,25 +1,14 @@
 //! Messages as they are printed.
-use crate::text_logs::{keys_of, parts_of, writes_of};
+use crate::checks::{check, is_printed};
+use crate::text_logs::{keys_of, parts_of, value_of, writes_of};
+use made::{id, key, shard, stamp};
 use message::{
     Address, Answer, Ask, Commit, Done, Envelope, GiveUp, Message, Outcome, Prepare, Read,
     ReadAnswer, Reads, Vote,
 };
 use std::alloc::Global;
-use std::test::Fail;
-use texts::{Text, key, shard, stamp, txn, value};
-use units::{Epoch, Key, ShardNo, Stamp, TxnId};
-
-// What the messages of the table name.
-#[derive(Clone, Copy)]
-struct Names {
-    txn: TxnId,
-    key: Key,
-    epoch: Epoch,
-    coordinator: ShardNo,
-    from: ShardNo,
-    to: ShardNo,
-    at: Stamp,
-}
+use texts::Text;
+use units::{Epoch, Stamp};
 
 // The messages of a session, and then those of a shard.
 #[derive(Clone, Copy)]
@@ -108,89 +97,76 @@ static ROWS: [Row; 12] = [
     },
 ];
 
-fn all_names() -> Result<Names, Fail> {
-    Ok(Names {
-        txn: txn("1.2")?,
-        key: key("a")?,
-        epoch: Epoch::new(3).ok_or("an epoch")?,
-        coordinator: shard("0")?,
-        from: shard("1")?,
-        to: shard("2")?,
-        at: stamp("200")?,
+fn message(alloc: Global, sent: Sent) -> Message {
+    match sent {
+        Sent::Prepare => prepare(alloc),
+        Sent::Commit => commit(alloc),
+        Sent::NoValue => answer(Answer::Holds(None)),
+        Sent::Value => answer(Answer::Holds(value_of(alloc, "7"))),
+        Sent::RefusedRead => answer(Answer::Refused),
+        _ => plain(sent),
+    }
+}
+
+fn prepare(alloc: Global) -> Message {
+    Message::Prepare(Prepare {
+        txn: id(2),
+        coordinator: shard(0),
+        reads: reads(alloc),
+        writes: writes_of(alloc, "y=1,z!"),
     })
 }
 
-fn message(alloc: Global, names: Names, sent: Sent) -> Result<Message, Fail> {
-    match sent {
-        Sent::Read | Sent::Prepare | Sent::Commit | Sent::GiveUp => of_session(alloc, names, sent),
-        Sent::NoValue => Ok(answer(names, Answer::Holds(None))),
-        Sent::Value => Ok(answer(names, Answer::Holds(Some(value(alloc, "7")?)))),
-        Sent::RefusedRead => Ok(answer(names, Answer::Refused)),
-        _ => Ok(of_shard(names, sent)),
+// The epoch of all reads.
+fn epoch() -> Epoch {
+    Epoch::new(3).unwrap_or(Epoch::first())
+}
+
+fn reads(alloc: Global) -> Reads {
+    match Reads::new(epoch(), keys_of(alloc, "z")) {
+        Ok(reads) => reads,
+        Err(_) => Reads::none(alloc),
     }
 }
 
-fn of_session(alloc: Global, names: Names, sent: Sent) -> Result<Message, Fail> {
-    match sent {
-        Sent::Prepare => prepare(alloc, names),
-        Sent::Commit => commit(alloc, names),
-        Sent::Read => Ok(Message::Read(Read {
-            txn: names.txn,
-            key: names.key,
-        })),
-        _ => Ok(Message::GiveUp(GiveUp { txn: names.txn })),
-    }
-}
-
-fn prepare(alloc: Global, names: Names) -> Result<Message, Fail> {
-    let reads = reads(alloc, names.epoch, "z")?;
-    let writes = writes_of(alloc, "y=1,z!")?;
-    Ok(Message::Prepare(Prepare {
-        txn: names.txn,
-        coordinator: names.coordinator,
-        reads,
-        writes,
-    }))
-}
-
-fn reads(alloc: Global, epoch: Epoch, word: &str) -> Result<Reads, Fail> {
-    Reads::new(epoch, keys_of(alloc, word)?).map_err(|_keys| "no reads".into())
-}
-
-fn commit(alloc: Global, names: Names) -> Result<Message, Fail> {
-    let parts = parts_of(alloc, "0,1")?;
-    let writes = writes_of(alloc, "a=1")?;
-    Ok(Message::Commit(Commit {
-        txn: names.txn,
-        parts,
+fn commit(alloc: Global) -> Message {
+    Message::Commit(Commit {
+        txn: id(2),
+        parts: parts_of("0,1"),
         reads: Reads::none(alloc),
-        writes,
-    }))
+        writes: writes_of(alloc, "a=1"),
+    })
 }
 
-fn answer(names: Names, answer: Answer) -> Message {
+fn answer(answer: Answer) -> Message {
     Message::ReadAnswer(ReadAnswer {
-        from: names.from,
-        txn: names.txn,
-        key: names.key,
-        epoch: names.epoch,
+        from: shard(1),
+        txn: id(2),
+        key: key(b'a'),
+        epoch: epoch(),
         answer,
     })
 }
 
-fn of_shard(names: Names, sent: Sent) -> Message {
-    let Names { txn, from, at, .. } = names;
+fn vote(vote: Option<Stamp>) -> Message {
+    Message::Vote(Vote {
+        from: shard(1),
+        txn: id(2),
+        vote,
+    })
+}
+
+// A message without keys and values, but the key of a read.
+fn plain(sent: Sent) -> Message {
+    let (txn, from, at) = (id(2), shard(1), stamp(200));
     match sent {
-        Sent::Vote => Message::Vote(Vote {
-            from,
+        Sent::Read => Message::Read(Read {
             txn,
-            vote: Some(at),
+            key: key(b'a'),
         }),
-        Sent::RefusedVote => Message::Vote(Vote {
-            from,
-            txn,
-            vote: None,
-        }),
+        Sent::GiveUp => Message::GiveUp(GiveUp { txn }),
+        Sent::Vote => vote(Some(at)),
+        Sent::RefusedVote => vote(None),
         Sent::Outcome => Message::Outcome(Outcome {
             from,
             txn,
@@ -201,24 +177,19 @@ fn of_shard(names: Names, sent: Sent) -> Message {
     }
 }
 
-// The row's message as it is printed.
-fn printed(alloc: Global, names: Names, row: Row) -> Result<String, Fail> {
+fn is_sent(alloc: Global, row: &Row) -> bool {
     let to = if row.to_session {
-        Address::Session(names.txn)
+        Address::Session(id(2))
     } else {
-        Address::Shard(names.to)
+        Address::Shard(shard(2))
     };
-    let message = message(alloc, names, row.sent)?;
-    let envelope = Envelope { to, message };
-    Ok(Text(&envelope).to_string(alloc)?)
+    let message = message(alloc, row.sent);
+    is_printed(alloc, &Text(&Envelope { to, message }), row.line)
 }
 
 #[test]
-fn messages_are_printed(rt: HostRuntime) -> Result<(), Fail> {
-    let alloc = rt.alloc();
-    let names = all_names()?;
+fn messages_are_printed(rt: HostRuntime) {
     for row in &ROWS {
-        assert_eq!(rt; printed(alloc, names, *row)?.as_str(), row.line);
+        check(&rt, row.line, is_sent(rt.alloc(), row));
     }
-    Ok(())
 }

@@ -1,6 +1,7 @@
 //! Words and lines that are refused.
+use crate::checks::check;
 use disk::Fate;
-use std::test::Fail;
+use std::alloc::Global;
 use texts::{fate, key, lines, number, reading, txn};
 use units::{Fault, Reason};
 
@@ -48,15 +49,18 @@ static REFUSED: [Refused; 9] = [
     },
 ];
 
-#[test]
-fn other_lines_are_refused(rt: HostRuntime) -> Result<(), Fail> {
-    for refused in &REFUSED {
-        match lines(rt.alloc(), refused.text) {
-            Err(fault) => assert_eq!(rt; fault, Fault::BadRequest(Reason::Syntax(refused.line))),
-            Ok(_) => return Err("it is read".into()),
-        }
+fn is_refused(alloc: Global, row: &Refused) -> bool {
+    match lines(alloc, row.text) {
+        Err(fault) => fault == Fault::BadRequest(Reason::Syntax(row.line)),
+        Ok(_) => false,
     }
-    Ok(())
+}
+
+#[test]
+fn other_lines_are_refused(rt: HostRuntime) {
+    for row in &REFUSED {
+        check(&rt, row.text, is_refused(rt.alloc(), row));
+    }
 }
 
 struct Spelt {
@@ -103,28 +107,75 @@ static FATES: [Spelt; 9] = [
     },
 ];
 
-#[test]
-fn fates_are_read(rt: HostRuntime) -> Result<(), Fail> {
-    for spelt in &FATES {
-        match fate(spelt.word) {
-            Ok(found) => assert_eq!(rt; Some(found), spelt.fate),
-            Err(_) => assert_eq!(rt; None, spelt.fate),
-        }
+fn is_read(row: &Spelt) -> bool {
+    match (fate(row.word), row.fate) {
+        (Ok(found), Some(wanted)) => found == wanted,
+        (Err(_), None) => true,
+        _ => false,
     }
-    Ok(())
 }
 
-// Each is outside the limits of its type.
 #[test]
-fn words_within_limits_are_read(rt: HostRuntime) -> Result<(), Fail> {
-    let long = "k23456789_123456789_123456789_123456789_123456789_123456789_1234";
-    assert!(rt; key(long).is_ok());
-    assert!(rt; key("k23456789_123456789_123456789_123456789_123456789_123456789_12345").is_err());
-    assert_eq!(rt; number("18446744073709551615")?, u64::MAX);
-    assert!(rt; number("18446744073709551616").is_err());
-    assert!(rt; txn("1.4611686018427387903").is_ok());
-    assert!(rt; txn("1.4611686018427387904").is_err());
-    assert!(rt; reading("110", "110").is_ok());
-    assert!(rt; reading("111", "110").is_err());
-    Ok(())
+fn fates_are_read(rt: HostRuntime) {
+    for row in &FATES {
+        check(&rt, row.word, is_read(row));
+    }
+}
+
+#[derive(Clone, Copy)]
+enum Kind {
+    Key,
+    Number,
+    Txn,
+    // A reading with this word and `110`.
+    Reading,
+}
+
+// The greatest word that is taken, and one that is outside the limits of its type.
+struct Limit {
+    kind: Kind,
+    taken: &'static str,
+    refused: &'static str,
+}
+
+static LIMITS: [Limit; 4] = [
+    Limit {
+        kind: Kind::Key,
+        taken: "k23456789_123456789_123456789_123456789_123456789_123456789_1234",
+        refused: "k23456789_123456789_123456789_123456789_123456789_123456789_12345",
+    },
+    Limit {
+        kind: Kind::Number,
+        taken: "18446744073709551615",
+        refused: "18446744073709551616",
+    },
+    Limit {
+        kind: Kind::Txn,
+        taken: "1.4611686018427387903",
+        refused: "1.4611686018427387904",
+    },
+    Limit {
+        kind: Kind::Reading,
+        taken: "110",
+        refused: "111",
+    },
+];
+
+fn is_taken(kind: Kind, word: &str) -> bool {
+    match kind {
+        Kind::Key => key(word).is_ok(),
+        Kind::Number => number(word).is_ok(),
+        Kind::Txn => txn(word).is_ok(),
+        Kind::Reading => reading(word, "110").is_ok(),
+    }
+}
+
+#[test]
+fn words_within_limits_are_read(rt: HostRuntime) {
+    for row in &LIMITS {
+        check(&rt, row.taken, is_taken(row.kind, row.taken));
+        check(&rt, row.refused, !is_taken(row.kind, row.refused));
+    }
+    let greatest = number("18446744073709551615").ok();
+    check(&rt, "the greatest number", greatest == Some(u64::MAX));
 }

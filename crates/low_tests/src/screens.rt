@@ -1,9 +1,9 @@
 //! Screens that are told of turns at given moments.
+use crate::checks::check;
 use progress::{Ended, Screen, Turn};
 use std::alloc::Global;
 use std::io;
 use std::io::Write;
-use std::test::Fail;
 
 // A writer that keeps what it was given, but for the first writes, which fail.
 #[derive(Drop)]
@@ -101,26 +101,26 @@ fn written(alloc: Global, row: &Row) -> Vec<u8> {
     written
 }
 
+fn shows_its_lines(alloc: Global, row: &Row) -> bool {
+    written(alloc, row).as_slice() == row.written.as_bytes()
+}
+
 #[test]
-fn shows(rt: HostRuntime) -> Result<(), Fail> {
+fn shows(rt: HostRuntime) {
     for row in &ROWS {
-        let written = written(rt.alloc(), row);
-        assert_eq!(rt;
-            str::from_utf8(written.as_slice())?,
-            row.written,
-            "{}",
-            row.name
-        );
+        check(&rt, row.name, shows_its_lines(rt.alloc(), row));
     }
-    Ok(())
 }
 
 // A drive that ends without any commit leaves nothing of a longer line.
+fn blanks_a_line(alloc: Global) -> bool {
+    let screen = Screen::new(alloc, Vec::new(alloc), 3);
+    let written: Vec<u8> = screen.finish(alloc, 1);
+    let wanted = b"\r0 of 3 done, 0 commits a second                             \n";
+    written.as_slice() == wanted.as_slice()
+}
+
 #[test]
-fn blanks(rt: HostRuntime) -> Result<(), Fail> {
-    let screen = Screen::new(rt.alloc(), Vec::new(rt.alloc()), 3);
-    let written: Vec<u8> = screen.finish(rt.alloc(), 1);
-    let wanted = "\r0 of 3 done, 0 commits a second                             \n";
-    assert_eq!(rt; str::from_utf8(written.as_slice())?, wanted);
-    Ok(())
+fn blanks(rt: HostRuntime) {
+    check(&rt, "no commit", blanks_a_line(rt.alloc()));
 }

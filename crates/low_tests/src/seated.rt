@@ -2,6 +2,7 @@
 ghost use Rattle.std.specs.Prelude.{◌≡◌, ◌<◌, [], ◌∷◌, Some, IfSome};
 ghost use Rattle.rows.specs.RowTable.{idle_row};
 
+use crate::checks::check;
 use crate::ids::{id, key, needs, stamp};
 use gatelog::{GateLog, Logged};
 use record::{Committed, Prepared, Record};
@@ -99,16 +100,14 @@ fn outcome() -> Record
     }
 }
 
-fn is_promise(spent: Record) -> bool {
-    matches!(spent, Record::Prepare(_))
-}
-
-fn is_decision(spent: Record) -> bool {
-    matches!(spent, Record::Commit(_))
-}
-
-fn is_abort(spent: Record) -> bool {
-    matches!(spent, Record::Abort { .. })
+// The kind of a record: a promise, a decision, an abort or another.
+fn kind(record: Record) -> u8 {
+    match record {
+        Record::Prepare(_) => b'p',
+        Record::Commit(_) => b'c',
+        Record::Abort { .. } => b'a',
+        _ => b'?',
+    }
 }
 
 // 1.1, at a timestamp.
@@ -135,7 +134,7 @@ fn is_decided(rows: &Rows) -> bool {
 fn promise_kept(rows: &mut Rows, alloc: Global) -> Option<bool>
     requires { rows.old.rows ≡ idle_row (record { run = 1; number = 1 }) ∷ [] }
 {
-    let prepares = is_promise(rows.prepare(id(1), logged(alloc, promise(alloc))?));
+    let prepares = kind(rows.prepare(id(1), logged(alloc, promise(alloc))?)) == b'p';
     let prepared = is_prepared(rows);
     let _ = rows.close(id(1), logged(alloc, outcome())?);
     Some(prepares && prepared && rows.find(id(1)).is_none())
@@ -171,7 +170,7 @@ fn decision_kept(rows: &mut Rows, alloc: Global) -> Option<bool>
     rows.vote(id(1), shard(1), stamp(108));
     rows.vote(id(1), shard(1), stamp(109));
     let collects = collects_one(rows);
-    let decides = is_decision(rows.decide(id(1), logged(alloc, decision(alloc))?));
+    let decides = kind(rows.decide(id(1), logged(alloc, decision(alloc))?)) == b'c';
     let decided = is_decided(rows);
     let _ = rows.close(id(1), logged(alloc, outcome())?);
     Some(collects && decides && decided && rows.find(id(1)).is_none())
@@ -182,53 +181,42 @@ fn aborts(rows: &mut Rows, alloc: Global) -> Option<bool>
     requires { rows.old.rows ≡ idle_row (record { run = 1; number = 1 }) ∷ [] }
 {
     rows.collect(id(1), gathering(alloc)?);
-    let first = is_abort(rows.abort(id(1), logged(alloc, Record::Abort { txn: id(1) })?));
+    let first = kind(rows.abort(id(1), logged(alloc, Record::Abort { txn: id(1) })?)) == b'a';
     let gone = rows.find(id(1)).is_none();
     let Ok(()) = rows.admit(alloc, id(1)) else {
         return None;
     };
-    let second = is_abort(rows.abort(id(1), logged(alloc, Record::Abort { txn: id(1) })?));
+    let second = kind(rows.abort(id(1), logged(alloc, Record::Abort { txn: id(1) })?)) == b'a';
     Some(first && gone && second && rows.find(id(1)).is_none())
 }
 
-// Asks for a key exclusive, and says whether it was granted.
-fn own(rows: &mut Rows, alloc: Global, txn: TxnId, key: Key) -> bool {
+// Asks for a key and says whether it was granted. Where it was not, it waits if it only reads the key.
+fn asked(rows: &mut Rows, alloc: Global, txn: TxnId, key: Key, mode: Mode) -> Option<bool> {
     if !rows.is_reading(txn) {
-        return false;
+        return None;
     }
-    let needs = needs(key, Mode::Exclusive);
+    let needs = needs(key, mode);
     let Ok(()) = rows.make_room(txn, 1) else {
-        return false;
+        return None;
     };
     let Ok(ended) = rows.wounded(alloc, txn, &needs) else {
-        return false;
+        return None;
     };
     let opens = rows.opens(txn, &needs);
     if opens {
         rows.grant(txn, ended.as_slice(), &needs);
-    }
-    opens
-}
-
-// Asks for a key shared, and waits with the read where it is not granted. Says whether it waits.
-fn waits_to_read(rows: &mut Rows, alloc: Global, txn: TxnId, key: Key) -> bool {
-    if !rows.is_reading(txn) {
-        return false;
-    }
-    let needs = needs(key, Mode::Shared);
-    let Ok(()) = rows.make_room(txn, 1) else {
-        return false;
-    };
-    let Ok(ended) = rows.wounded(alloc, txn, &needs) else {
-        return false;
-    };
-    let opens = rows.opens(txn, &needs);
-    if opens {
-        rows.grant(txn, ended.as_slice(), &needs);
-    } else {
+    } else if matches!(mode, Mode::Shared) {
         rows.wait(txn, ended.as_slice(), &needs, Wait::Read(key));
     }
-    !opens
+    Some(opens)
+}
+
+fn owns(rows: &mut Rows, alloc: Global, txn: TxnId, key: Key) -> bool {
+    matches!(asked(rows, alloc, txn, key, Mode::Exclusive), Some(true))
+}
+
+fn waits_to_read(rows: &mut Rows, alloc: Global, txn: TxnId, key: Key) -> bool {
+    matches!(asked(rows, alloc, txn, key, Mode::Shared), Some(false))
 }
 
 fn only(alloc: Global, key: Key) -> Option<Keys> {
@@ -252,8 +240,8 @@ fn wounds(rows: &mut Rows, alloc: Global, a: Key) -> Option<bool>
     let Ok(()) = rows.admit(alloc, id(2)) else {
         return None;
     };
-    let younger = own(rows, alloc, id(2), a);
-    let older = own(rows, alloc, id(1), a);
+    let younger = owns(rows, alloc, id(2), a);
+    let older = owns(rows, alloc, id(1), a);
     Some(younger && older && holds_alone(rows, a, &keys))
 }
 
@@ -264,7 +252,7 @@ fn waits(rows: &mut Rows, alloc: Global, a: Key) -> Option<bool>
     let Ok(()) = rows.admit(alloc, id(2)) else {
         return None;
     };
-    let older = own(rows, alloc, id(1), a);
+    let older = owns(rows, alloc, id(1), a);
     let younger = waits_to_read(rows, alloc, id(2), a);
     let blocked = rows.ready().is_none();
     if rows.is_reading(id(1)) {
@@ -282,12 +270,12 @@ enum Story {
     Waits,
 }
 
-static STORIES: [Story; 5] = [
-    Story::PromiseKept,
-    Story::DecisionKept,
-    Story::Aborts,
-    Story::Wounds,
-    Story::Waits,
+static STORIES: [(&str, Story); 5] = [
+    ("a promise is kept", Story::PromiseKept),
+    ("a decision is kept", Story::DecisionKept),
+    ("aborts", Story::Aborts),
+    ("wounds", Story::Wounds),
+    ("waits", Story::Waits),
 ];
 
 fn told(rows: &mut Rows, alloc: Global, story: Story) -> Option<bool>
@@ -313,7 +301,7 @@ fn is_told(alloc: Global, story: Story) -> bool {
 
 #[test]
 fn stories(rt: HostRuntime) {
-    for (number, story) in STORIES.iter().enumerate() {
-        assert!(rt; is_told(rt.alloc(), *story), "story {number}");
+    for (name, story) in &STORIES {
+        check(&rt, *name, is_told(rt.alloc(), *story));
     }
 }

@@ -1,6 +1,7 @@
 //! Transactions at their clients. Shard 0 has the keys below `m`, and shard 1 all others.
 ghost use Rattle.std.specs.Prelude.{◌≡◌};
 
+use crate::checks::check;
 use made::{id, key, shard, stamp};
 use message::{Address, Answer, Done, Envelope, Message, Outbox, ReadAnswer};
 use session::{Closing, Finished, Heard, Open, Tx};
@@ -293,7 +294,7 @@ fn is_told(alloc: Global, story: &Story) -> bool {
 #[test]
 fn sessions(rt: HostRuntime) {
     for story in &STORIES {
-        assert!(rt; is_told(rt.alloc(), story), "{}", story.name);
+        check(&rt, story.name, is_told(rt.alloc(), story));
     }
 }
 
@@ -309,14 +310,8 @@ fn closed<'s>(alloc: Global, splits: &'s Splits) -> Result<Tx<'s, Closing>, Faul
     }
 }
 
-// What a closed 1.2 makes of the end of a transaction.
-fn end_of(alloc: Global, txn: TxnId, outcome: Option<Stamp>) -> Result<Finished, Fault> {
-    let splits = split_at_m(alloc)?;
-    let tx = match closed(alloc, &splits) {
-        Ok(tx) => tx,
-        Err(fault) => return Err(fault),
-    };
-    match tx.take(&Done { txn, outcome }) {
+fn taken(tx: Tx<'_, Closing>, done: &Done) -> Result<Finished, Fault> {
+    match tx.take(done) {
         Ok(finished) => Ok(finished),
         Err((fault, tx)) => {
             tx.spend();
@@ -325,27 +320,34 @@ fn end_of(alloc: Global, txn: TxnId, outcome: Option<Stamp>) -> Result<Finished,
     }
 }
 
+// What a closed 1.2 makes of the end of a transaction.
+fn end_of(alloc: Global, txn: TxnId, outcome: Option<Stamp>) -> Result<Finished, Fault> {
+    let splits = split_at_m(alloc)?;
+    match closed(alloc, &splits) {
+        Ok(tx) => taken(tx, &Done { txn, outcome }),
+        Err(fault) => Err(fault),
+    }
+}
+
 // It takes its own end, and no other.
 #[test]
 fn an_end_is_heard(rt: HostRuntime) {
-    let stranger = end_of(rt.alloc(), id(3), None).err();
-    assert!(rt; stranger == Some(Fault::Stranger));
-    let own = end_of(rt.alloc(), id(2), Some(stamp(200))).ok();
-    assert!(rt; own == Some(Finished::Committed(stamp(200))));
-}
-
-fn reader(envelope: &Envelope) -> Option<TxnId> {
-    match &envelope.message {
-        Message::Read(read) => Some(read.txn),
-        _ => None,
-    }
+    let stranger = end_of(rt.alloc(), id(3), None);
+    check(&rt, "another's", stranger == Err(Fault::Stranger));
+    let own = end_of(rt.alloc(), id(2), Some(stamp(200)));
+    check(&rt, "its own", own == Ok(Finished::Committed(stamp(200))));
 }
 
 // The id that it asks for a key with.
 fn asking(tx: &mut Tx<'_, Open>) -> Option<TxnId> {
     match tx.read(key(b'a')) {
-        Ok(envelope) => reader(&envelope),
-        Err(_) => None,
+        Ok(
+            Envelope {
+                to: _,
+                message: Message::Read(read),
+            },
+        ) => Some(read.txn),
+        _ => None,
     }
 }
 
@@ -389,15 +391,17 @@ fn are_drawn(alloc: Global, tickets: &Tickets, drawer: &mut Drawer) -> bool
     is(first, 0) && is(second, 1)
 }
 
-fn draws_ids(alloc: Global) -> Option<bool> {
+fn draws_ids(alloc: Global) -> bool {
     let Ok((tickets, mut drawers)) = Tickets::new(alloc, 1) else {
-        return None;
+        return false;
     };
-    let mut drawer = drawers.pop()?;
-    Some(are_drawn(alloc, &tickets, &mut drawer))
+    match drawers.pop() {
+        Some(mut drawer) => are_drawn(alloc, &tickets, &mut drawer),
+        None => false,
+    }
 }
 
 #[test]
 fn numbers_are_drawn(rt: HostRuntime) {
-    assert!(rt; matches!(draws_ids(rt.alloc()), Some(true)));
+    check(&rt, "7.0 and 7.1", draws_ids(rt.alloc()));
 }

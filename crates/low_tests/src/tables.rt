@@ -2,6 +2,7 @@
 ghost use Rattle.std.specs.Prelude.{◌≡◌, [], ◌∷◌, IfSome};
 ghost use Rattle.locks.specs.Table.{entrant};
 
+use crate::checks::check;
 use crate::ids::{id, key, needs};
 use locks::{Held, Table};
 use std::alloc::Global;
@@ -15,19 +16,29 @@ fn owns(key: Key) -> [Lock; 1] {
     needs(key, Mode::Exclusive)
 }
 
-fn is_granted(answer: Result<Asked, Fault>) -> bool {
-    matches!(answer, Ok(Asked::Granted))
+// What a request gets.
+#[derive(Clone, Copy, PartialEq, Eq)]
+enum Got {
+    Granted,
+    Waits,
+    // It ends this transaction alone.
+    Wounds(TxnId),
+    Other,
 }
 
-fn waits(answer: Result<Asked, Fault>) -> bool {
-    matches!(answer, Ok(Asked::Waits))
+fn ends(ids: &[TxnId]) -> Got {
+    match ids {
+        [txn] => Got::Wounds(*txn),
+        _ => Got::Other,
+    }
 }
 
-// Ends this transaction alone, and no other.
-fn wounds(answer: Result<Asked, Fault>, txn: TxnId) -> bool {
+fn outcome_of(answer: Result<Asked, Fault>) -> Got {
     match answer {
-        Ok(Asked::Wounds(ids)) => ids.as_slice() == [txn].as_slice(),
-        _ => false,
+        Ok(Asked::Granted) => Got::Granted,
+        Ok(Asked::Waits) => Got::Waits,
+        Ok(Asked::Wounds(ids)) => ends(ids.as_slice()),
+        Err(_) => Got::Other,
     }
 }
 
@@ -59,9 +70,9 @@ fn wait_for_sharers(alloc: Global, key: Key) -> Option<bool> {
         table.release(second);
         return None;
     };
-    let holds = is_granted(table.request(alloc, &mut first, &shares(key)));
-    let younger = waits(table.request(alloc, &mut third, &owns(key)));
-    let between = is_granted(table.request(alloc, &mut second, &shares(key)));
+    let holds = outcome_of(table.request(alloc, &mut first, &shares(key))) == Got::Granted;
+    let younger = outcome_of(table.request(alloc, &mut third, &owns(key))) == Got::Waits;
+    let between = outcome_of(table.request(alloc, &mut second, &shares(key))) == Got::Granted;
     table.release(first);
     let early = table.ready().is_none();
     table.release(second);
@@ -75,11 +86,11 @@ fn wait_for_sharers(alloc: Global, key: Key) -> Option<bool> {
 fn wound_a_sharer(alloc: Global, key: Key) -> Option<bool> {
     let (mut table, mut first, mut second) = enter_two(alloc)?;
     let names = first.txn() == id(1) && second.txn() == id(2);
-    let older = is_granted(table.request(alloc, &mut first, &shares(key)));
-    let younger = is_granted(table.request(alloc, &mut second, &shares(key)));
-    let wounding = wounds(table.request(alloc, &mut first, &owns(key)), id(2));
+    let older = outcome_of(table.request(alloc, &mut first, &shares(key))) == Got::Granted;
+    let younger = outcome_of(table.request(alloc, &mut second, &shares(key))) == Got::Granted;
+    let wounding = outcome_of(table.request(alloc, &mut first, &owns(key))) == Got::Wounds(id(2));
     let nobody = table.ready().is_none();
-    let again = is_granted(table.request(alloc, &mut second, &shares(key)));
+    let again = outcome_of(table.request(alloc, &mut second, &shares(key))) == Got::Granted;
     table.release(first);
     table.release(second);
     Some(names && older && younger && wounding && nobody && again)
@@ -88,10 +99,10 @@ fn wound_a_sharer(alloc: Global, key: Key) -> Option<bool> {
 // 1.2 holds a shared, and 1.1 wounds it. When 1.2 is released the same request is granted.
 fn ask_once_more(alloc: Global, key: Key) -> Option<bool> {
     let (mut table, mut first, mut second) = enter_two(alloc)?;
-    let younger = is_granted(table.request(alloc, &mut second, &shares(key)));
-    let wounding = wounds(table.request(alloc, &mut first, &owns(key)), id(2));
+    let younger = outcome_of(table.request(alloc, &mut second, &shares(key))) == Got::Granted;
+    let wounding = outcome_of(table.request(alloc, &mut first, &owns(key))) == Got::Wounds(id(2));
     table.release(second);
-    let alone = is_granted(table.request(alloc, &mut first, &owns(key)));
+    let alone = outcome_of(table.request(alloc, &mut first, &owns(key))) == Got::Granted;
     table.release(first);
     Some(younger && wounding && alone)
 }
@@ -100,9 +111,9 @@ fn ask_once_more(alloc: Global, key: Key) -> Option<bool> {
 // holds a, so that 1.3 waits for it.
 fn wait_for_a_firm_one(alloc: Global, key: Key) -> Option<bool> {
     let (mut table, mut first, mut second) = enter_two(alloc)?;
-    let younger = is_granted(table.request(alloc, &mut second, &owns(key)));
+    let younger = outcome_of(table.request(alloc, &mut second, &owns(key))) == Got::Granted;
     table.firm(&second);
-    let older = waits(table.request(alloc, &mut first, &shares(key)));
+    let older = outcome_of(table.request(alloc, &mut first, &shares(key))) == Got::Waits;
     table.release(second);
     let is_ready = table.ready() == Some(id(1));
     if !is_ready {
@@ -115,7 +126,7 @@ fn wait_for_a_firm_one(alloc: Global, key: Key) -> Option<bool> {
         table.release(first);
         return None;
     };
-    let behind = waits(table.request(alloc, &mut third, &owns(key)));
+    let behind = outcome_of(table.request(alloc, &mut third, &owns(key))) == Got::Waits;
     table.release(first);
     table.release(third);
     Some(younger && older && went_on && nobody && behind)
@@ -124,8 +135,8 @@ fn wait_for_a_firm_one(alloc: Global, key: Key) -> Option<bool> {
 // 1.1 holds a exclusive, 1.2 waits for it and gives the wait up, so that nobody is ready when 1.1 is released.
 fn give_a_wait_up(alloc: Global, key: Key) -> Option<bool> {
     let (mut table, mut first, mut second) = enter_two(alloc)?;
-    let older = is_granted(table.request(alloc, &mut first, &owns(key)));
-    let younger = waits(table.request(alloc, &mut second, &shares(key)));
+    let older = outcome_of(table.request(alloc, &mut first, &owns(key))) == Got::Granted;
+    let younger = outcome_of(table.request(alloc, &mut second, &shares(key))) == Got::Waits;
     table.withdraw(&second);
     table.release(first);
     let nobody = table.ready().is_none();
@@ -142,12 +153,12 @@ enum Story {
     GiveAWaitUp,
 }
 
-static STORIES: [Story; 5] = [
-    Story::WaitForSharers,
-    Story::WoundASharer,
-    Story::AskOnceMore,
-    Story::WaitForAFirmOne,
-    Story::GiveAWaitUp,
+static STORIES: [(&str, Story); 5] = [
+    ("wait for sharers", Story::WaitForSharers),
+    ("wound a sharer", Story::WoundASharer),
+    ("ask once more", Story::AskOnceMore),
+    ("wait for a firm one", Story::WaitForAFirmOne),
+    ("give a wait up", Story::GiveAWaitUp),
 ];
 
 fn told(alloc: Global, story: Story) -> Option<bool> {
@@ -161,12 +172,13 @@ fn told(alloc: Global, story: Story) -> Option<bool> {
     }
 }
 
+fn is_told(alloc: Global, story: Story) -> bool {
+    matches!(told(alloc, story), Some(true))
+}
+
 #[test]
 fn stories_of_one_key(rt: HostRuntime) {
-    for (number, story) in STORIES.iter().enumerate() {
-        assert!(rt;
-            matches!(told(rt.alloc(), *story), Some(true)),
-            "story {number}"
-        );
+    for (name, story) in &STORIES {
+        check(&rt, *name, is_told(rt.alloc(), *story));
     }
 }

@@ -1,133 +1,161 @@
-//! Logs that are read from the text of their records.
+//! Logs that are read from the text of their records. A word that cannot be read stands for something else, so that the
+//! record is not printed as it was written.
+use crate::checks::is_printed;
 use record::{Committed, Prepared, Record};
 use std::alloc::Global;
-use std::test::Fail;
-use texts::{LineReader, key, number, shard, stamp, txn, value};
-use units::{Epoch, Keys, Parts, ShardNo, Stamp, TxnId, Write, Writes};
+use texts::Text;
+use units::{Epoch, Key, Keys, Parts, ShardNo, Stamp, TxnId, Value, Write, Writes};
 
-/// The records of a text, one a line.
-pub fn log_of(alloc: Global, text: &str) -> Result<Vec<Record>, Fail> {
-    let mut reader = LineReader::of(text);
-    let mut log = Vec::new(alloc);
-    for _ in 0..1000 {
-        let Some(words) = reader.next(alloc)? else {
-            break;
-        };
-        log.push(record_of(alloc, &words)?)?;
+/// Adds the records of a text to a log, one a line. Says whether each is printed as its line.
+pub fn reads(alloc: Global, text: &str, log: &mut Vec<Record>) -> bool {
+    for line in text.split_inclusive('\n') {
+        if !reads_line(alloc, line.strip_suffix('\n').unwrap_or("no end"), log) {
+            return false;
+        }
     }
-    Ok(log)
+    true
 }
 
-fn record_of(alloc: Global, words: &[&str]) -> Result<Record, Fail> {
-    match words {
-        ["opened", epoch] => opened(epoch),
-        ["ceiling", at] => Ok(Record::Ceiling { at: stamp(at)? }),
-        ["prepare", id, coordinator, at, reads, writes] => {
-            let promise = (txn(id)?, shard(coordinator)?, stamp(at)?);
-            prepare_of(alloc, promise, reads, writes)
-        }
-        ["commit", id, at, parts, reads, writes] => {
-            let decision = (txn(id)?, stamp(at)?, parts_of(alloc, parts)?);
-            commit_of(alloc, decision, reads, writes)
-        }
-        ["abort", id] => Ok(Record::Abort { txn: txn(id)? }),
-        ["outcome", id, outcome @ ..] => Ok(Record::Outcome {
-            txn: txn(id)?,
-            outcome: outcome_of(outcome)?,
-        }),
-        _ => Err("no record".into()),
+fn reads_line(alloc: Global, line: &str, log: &mut Vec<Record>) -> bool {
+    let record = record_of(alloc, &words(line));
+    let printed = is_printed(alloc, &Text(&record), line);
+    log.push(record).is_ok() && printed
+}
+
+// The words of a line, and empty ones behind them.
+fn words(line: &str) -> [&str; 6] {
+    let mut words = [""; 6];
+    for (place, word) in words.iter_mut().zip(line.split(' ')) {
+        *place = word;
+    }
+    words
+}
+
+fn record_of(alloc: Global, words: &[&str; 6]) -> Record {
+    match words[0] {
+        "prepare" => prepare_of(alloc, words),
+        "commit" => commit_of(alloc, words),
+        _ => short_record_of(words),
     }
 }
 
-fn opened(word: &str) -> Result<Record, Fail> {
-    let epoch = Epoch::new(number(word)?).ok_or("an epoch")?;
-    Ok(Record::Opened { epoch })
+// A record without keys.
+fn short_record_of(words: &[&str; 6]) -> Record {
+    let txn = txn_of(words[1]);
+    match words[0] {
+        "opened" => Record::Opened {
+            epoch: epoch_of(words[1]),
+        },
+        "ceiling" => Record::Ceiling {
+            at: stamp_of(words[1]),
+        },
+        "outcome" => Record::Outcome {
+            txn,
+            outcome: outcome_of(words),
+        },
+        _ => Record::Abort { txn },
+    }
 }
 
-// A promise, by its transaction, its coordinator and its timestamp.
-fn prepare_of(
-    alloc: Global,
-    (txn, coordinator, at): (TxnId, ShardNo, Stamp),
-    reads: &str,
-    writes: &str,
-) -> Result<Record, Fail> {
-    let reads = keys_of(alloc, reads)?;
-    let writes = writes_of(alloc, writes)?;
-    Ok(Record::Prepare(Prepared {
-        txn,
-        coordinator,
-        at,
-        reads,
-        writes,
-    }))
+fn prepare_of(alloc: Global, words: &[&str; 6]) -> Record {
+    Record::Prepare(Prepared {
+        txn: txn_of(words[1]),
+        coordinator: shard_of(words[2]),
+        at: stamp_of(words[3]),
+        reads: keys_of(alloc, words[4]),
+        writes: writes_of(alloc, words[5]),
+    })
 }
 
-// A decision, by its transaction, its timestamp and its parts.
-fn commit_of(
-    alloc: Global,
-    (txn, at, parts): (TxnId, Stamp, Parts),
-    reads: &str,
-    writes: &str,
-) -> Result<Record, Fail> {
-    let reads = keys_of(alloc, reads)?;
-    let writes = writes_of(alloc, writes)?;
-    Ok(Record::Commit(Committed {
-        txn,
-        at,
-        parts,
-        reads,
-        writes,
-    }))
+fn commit_of(alloc: Global, words: &[&str; 6]) -> Record {
+    Record::Commit(Committed {
+        txn: txn_of(words[1]),
+        at: stamp_of(words[2]),
+        parts: parts_of(words[3]),
+        reads: keys_of(alloc, words[4]),
+        writes: writes_of(alloc, words[5]),
+    })
 }
 
-fn outcome_of(words: &[&str]) -> Result<Option<Stamp>, Fail> {
-    match words {
-        ["committed", at] => Ok(Some(stamp(at)?)),
-        ["aborted"] => Ok(None),
-        _ => Err("no outcome".into()),
+fn outcome_of(words: &[&str; 6]) -> Option<Stamp> {
+    match words[2] {
+        "committed" => Some(stamp_of(words[3])),
+        _ => None,
+    }
+}
+
+fn epoch_of(word: &str) -> Epoch {
+    match texts::number(word) {
+        Ok(number) => Epoch::new(number).unwrap_or(Epoch::first()),
+        Err(_) => Epoch::first(),
+    }
+}
+
+fn stamp_of(word: &str) -> Stamp {
+    texts::stamp(word).unwrap_or(Stamp::zero())
+}
+
+fn txn_of(word: &str) -> TxnId {
+    texts::txn(word).unwrap_or(made::id(0))
+}
+
+fn shard_of(word: &str) -> ShardNo {
+    texts::shard(word).unwrap_or(made::shard(15))
+}
+
+fn key_of(word: &str) -> Key {
+    texts::key(word).unwrap_or(made::key(b'?'))
+}
+
+/// The value of a word, if it is one.
+pub fn value_of(alloc: Global, word: &str) -> Option<Value> {
+    match texts::value(alloc, word) {
+        Ok(value) => Some(value),
+        Err(_) => None,
     }
 }
 
 /// Shards between commas.
-pub fn parts_of(alloc: Global, word: &str) -> Result<Parts, Fail> {
-    let mut shards = Vec::new(alloc);
+pub fn parts_of(word: &str) -> Parts {
+    let mut mask = 0;
     for part in word.split(',') {
-        shards.push(shard(part)?)?;
+        mask |= 1 << shard_of(part).number();
     }
-    Ok(Parts::of(&shards).ok_or("no parts")?)
+    Parts::from_mask(mask).unwrap_or(Parts::only(made::shard(15)))
 }
 
 /// Keys between commas.
-pub fn keys_of(alloc: Global, word: &str) -> Result<Keys, Fail> {
+pub fn keys_of(alloc: Global, word: &str) -> Keys {
     let mut keys = Vec::new(alloc);
-    if word != "-" {
-        for part in word.split(',') {
-            keys.push(key(part)?)?;
+    for part in word.split(',') {
+        if part != "-" {
+            let _ = keys.push(key_of(part));
         }
     }
-    Ok(Keys::from_vec(keys).ok().ok_or("no keys")?)
+    match Keys::from_vec(keys) {
+        Ok(keys) => keys,
+        Err(_) => Keys::none(alloc),
+    }
 }
 
 /// Writes between commas, each a key with `=` and a value or with `!`.
-pub fn writes_of(alloc: Global, word: &str) -> Result<Writes, Fail> {
+pub fn writes_of(alloc: Global, word: &str) -> Writes {
     let mut writes = Vec::new(alloc);
-    if word != "-" {
-        for part in word.split(',') {
-            writes.push(write_of(alloc, part)?)?;
+    for part in word.split(',') {
+        if part != "-" {
+            let _ = writes.push(write_of(alloc, part));
         }
     }
-    Ok(Writes::from_vec(writes).ok().ok_or("no writes")?)
+    match Writes::from_vec(writes) {
+        Ok(writes) => writes,
+        Err(_) => Writes::none(alloc),
+    }
 }
 
-fn write_of(alloc: Global, word: &str) -> Result<Write, Fail> {
-    match word.split_once('=') {
-        Some((name, text)) => Ok(Write {
-            key: key(name)?,
-            value: Some(value(alloc, text)?),
-        }),
-        None => Ok(Write {
-            key: key(word.strip_suffix('!').ok_or("no write")?)?,
-            value: None,
-        }),
+fn write_of(alloc: Global, word: &str) -> Write {
+    let (name, text) = word.split_once('=').unwrap_or((word, "!"));
+    Write {
+        key: key_of(name.strip_suffix('!').unwrap_or(name)),
+        value: value_of(alloc, text),
     }
 }

@@ -1,10 +1,11 @@
 //! Verdicts on logs and lines.
-use crate::text_logs::log_of;
+use crate::checks::{check, is_printed};
+use crate::text_logs::reads;
 use inspector::inspect;
 use record::Record;
 use std::alloc::Global;
-use std::test::Fail;
 use texts::{Text, lines};
+use units::Line;
 
 struct Case {
     name: &'static str,
@@ -196,28 +197,39 @@ static CASES: [Case; 24] = [
 ];
 
 // The logs of all shards.
-fn logs_of(alloc: Global, texts: &[&str]) -> Result<Vec<Vec<Record>>, Fail> {
-    let mut logs = Vec::new(alloc);
+fn read_logs(alloc: Global, texts: &[&str], logs: &mut Vec<Vec<Record>>) -> bool {
     for text in texts {
-        logs.push(log_of(alloc, text)?)?;
+        let mut log = Vec::new(alloc);
+        let read = reads(alloc, text, &mut log);
+        if logs.push(log).is_err() || !read {
+            return false;
+        }
     }
-    Ok(logs)
+    true
 }
 
-// The verdict on a case, behind its name.
-fn verdict_on(alloc: Global, case: &Case) -> Result<String, Fail> {
-    let logs = logs_of(alloc, case.logs)?;
-    let lines = lines(alloc, case.lines)?;
-    let verdict = inspect(alloc, &logs, &lines)?;
-    Ok(format!(in alloc; "{}: {}", case.name, Text(&verdict))?)
+fn is_found(alloc: Global, logs: &[Vec<Record>], lines: &[Line], wanted: &str) -> bool {
+    match inspect(alloc, logs, lines) {
+        Ok(verdict) => is_printed(alloc, &Text(&verdict), wanted),
+        Err(_) => false,
+    }
+}
+
+fn is_given(alloc: Global, logs: &[Vec<Record>], case: &Case) -> bool {
+    match lines(alloc, case.lines) {
+        Ok(lines) => is_found(alloc, logs, lines.as_slice(), case.verdict),
+        Err(_) => false,
+    }
+}
+
+fn has_its_verdict(alloc: Global, case: &Case) -> bool {
+    let mut logs = Vec::new(alloc);
+    read_logs(alloc, case.logs, &mut logs) && is_given(alloc, logs.as_slice(), case)
 }
 
 #[test]
-fn verdicts_are_given(rt: HostRuntime) -> Result<(), Fail> {
-    let alloc = rt.alloc();
+fn verdicts_are_given(rt: HostRuntime) {
     for case in &CASES {
-        let wanted = format!(in alloc; "{}: {}", case.name, case.verdict)?;
-        assert_eq!(rt; verdict_on(alloc, case)?.as_str(), wanted.as_str());
+        check(&rt, case.name, has_its_verdict(rt.alloc(), case));
     }
-    Ok(())
 }
