@@ -3,7 +3,7 @@ ghost use Rattle.std.specs.Prelude.{◌<◌, ◌-◌, ◌^◌};
 
 use crate::steps::{Timed, event, events, key};
 use lives::Run;
-use playing::{Report, lawful, play};
+use playing::{Report, play};
 use std::alloc::Global;
 use units::{Fault, Key, Splits, Stride};
 use world::{Config, Reply};
@@ -14,18 +14,6 @@ pub struct Shape<'a> {
     pub splits: &'a [u8],
     pub stride: u64,
 }
-
-// Two shards without a stride.
-pub const TWO: Shape<'static> = Shape {
-    splits: b"m",
-    stride: 0,
-};
-
-// Three shards without a stride.
-pub const THREE: Shape<'static> = Shape {
-    splits: b"ms",
-    stride: 0,
-};
 
 fn push_keys(keys: &mut Vec<Key>, letters: &[u8]) -> bool {
     for letter in letters {
@@ -75,25 +63,6 @@ pub fn run(alloc: Global, shape: Shape<'_>, steps: &[Timed]) -> Result<Report, F
     let report = played(alloc, &config, steps);
     drop(config);
     report
-}
-
-fn may_happen(alloc: Global, config: &Config, steps: &[Timed]) -> Option<bool> {
-    let Some(events) = events(alloc, steps) else {
-        return None;
-    };
-    let lawful = lawful(alloc, config, &events).ok();
-    drop(events);
-    lawful
-}
-
-// The steps are lawful.
-pub fn is_lawful(alloc: Global, shape: Shape<'_>, steps: &[Timed]) -> Option<bool> {
-    let Some(config) = config(alloc, shape) else {
-        return None;
-    };
-    let lawful = may_happen(alloc, &config, steps);
-    drop(config);
-    lawful
 }
 
 // The reply of a run to the step of a number, where it may happen.
