@@ -38,15 +38,16 @@ fn played(alloc: Global, text: &str) -> Option<String> {
     report
 }
 
-fn is_event(line: &str) -> bool {
-    line.starts_with("event ")
+// A line of a report tells of an event that was not only done, or of something else.
+fn is_told(line: &str, events: bool) -> bool {
+    line.starts_with("event ") == events && !line.ends_with(" ok\n")
 }
 
 // What is left of the wanted text behind the lines of a report that tell of events, or behind the others.
 fn behind<'w>(wanted: &'w str, report: &str, events: bool) -> Option<&'w str> {
     let mut rest = wanted;
     for line in report.split_inclusive('\n') {
-        if is_event(line) == events && !(events && line.ends_with(" ok\n")) {
+        if is_told(line, events) {
             rest = rest.strip_prefix(line)?;
         }
     }
