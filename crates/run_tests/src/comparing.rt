@@ -1,86 +1,83 @@
-//! What a run is to come to, and what it comes to.
-use crate::run_texts::{Text, push_lines, push_log, push_messages, push_replies, push_texts};
-use crate::runs::{Shape, run};
-use crate::steps::Timed;
-use playing::Report;
+//! Schedules are played, and what their reports say is compared.
+use script::{judged, report, schedule};
 use std::alloc::Global;
 use std::process::Abort;
+use world::{Config, Event};
 
-// What a run is to come to. Of the replies those are listed that are more than `Done`.
-pub struct Wanted<'a> {
-    pub replies: &'a [&'a str],
-    pub messages: &'a [&'a str],
-    pub logs: &'a [&'a [&'a str]],
-    pub lines: &'a [&'a str],
-}
-
-// Steps over shards of some shape, of which so many are taken, and what they are to come to.
+// A schedule and what its report says, without the events that were only done: first the other events, and then the messages,
+// the logs, the lines and the verdict.
 #[derive(Clone, Copy)]
-pub struct Case<'a> {
-    pub name: &'a str,
-    pub shape: Shape<'a>,
-    pub steps: &'a [Timed],
-    pub taken: usize,
-    pub wanted: &'a Wanted<'a>,
+pub struct Case {
+    pub name: &'static str,
+    pub schedule: &'static str,
+    pub report: &'static str,
 }
 
-fn push_report(text: &mut Text, report: &Report) {
-    text.number("events ", report.replies.len() as u64);
-    text.word("\n");
-    push_replies(text, &report.replies);
-    text.word("messages\n");
-    push_messages(text, report.bag.as_slice());
-    push_lines(text, &report.lines);
-    for log in &report.logs {
-        push_log(text, log);
+// The report of events, where each has a reply.
+fn report_of(alloc: Global, config: &Config, events: &[Event]) -> Option<String> {
+    let Ok(played) = judged(alloc, config, events) else {
+        return None;
+    };
+    let text = if played.report.replies.len() == events.len() {
+        report(alloc, &played).ok()
+    } else {
+        None
+    };
+    drop(played);
+    text
+}
+
+// The report of a schedule, or none.
+fn played(alloc: Global, text: &str) -> Option<String> {
+    let Ok((config, events)) = schedule(alloc, text) else {
+        return None;
+    };
+    let report = report_of(alloc, &config, &events);
+    drop(config);
+    drop(events);
+    report
+}
+
+// A line of a report tells of an event that was not only done, or of something else.
+fn is_told(line: &str, events: bool) -> bool {
+    line.starts_with("event ") == events && !line.ends_with(" ok\n")
+}
+
+// What is left of the wanted text behind the lines of a report that tell of events, or behind the others.
+fn behind<'w>(wanted: &'w str, report: &str, events: bool) -> Option<&'w str> {
+    let mut rest = wanted;
+    for line in report.split_inclusive('\n') {
+        if is_told(line, events) {
+            rest = rest.strip_prefix(line)?;
+        }
+    }
+    Some(rest)
+}
+
+fn is_wanted(report: &str, wanted: &str) -> bool {
+    match behind(wanted, report, true) {
+        Some(rest) => behind(rest, report, false) == Some(""),
+        None => false,
     }
 }
 
-// What the steps of a case come to, where they may happen.
-fn push_found(text: &mut Text, alloc: Global, case: &Case<'_>) {
-    let Some(steps) = case.steps.get(..case.taken) else {
-        return;
-    };
-    let Ok(report) = run(alloc, case.shape, steps) else {
-        return;
-    };
-    push_report(text, &report);
-    drop(report);
+fn check(rt: &impl Abort, name: &str, report: &str, wanted: &str) {
+    assert!(rt; is_wanted(report, wanted), "{name}: {report}");
 }
 
-// What is wanted of so many events.
-fn push_wanted(text: &mut Text, events: usize, wanted: &Wanted<'_>) {
-    text.number("events ", events as u64);
-    text.word("\n");
-    push_texts(text, wanted.replies);
-    text.word("messages\n");
-    push_texts(text, wanted.messages);
-    text.word("lines\n");
-    push_texts(text, wanted.lines);
-    for log in wanted.logs {
-        text.word("log\n");
-        push_texts(text, log);
+// The schedule comes to what is wanted.
+pub fn compare(rt: &impl Abort, alloc: Global, name: &str, text: &str, wanted: &str) {
+    match played(alloc, text) {
+        Some(report) => {
+            check(rt, name, report.as_str(), wanted);
+            drop(report);
+        }
+        None => check(rt, name, "", wanted),
     }
 }
 
-// What was found is what is wanted, in the case of a name.
-pub fn check(rt: &impl Abort, found: &Text, wanted: &Text, name: &str) {
-    assert!(rt; found.is_same(wanted), "{name}: {}", found.as_str());
-}
-
-// The steps come to what is wanted.
-pub fn compare(rt: &impl Abort, alloc: Global, case: &Case<'_>) {
-    let mut found = Text::new(alloc);
-    push_found(&mut found, alloc, case);
-    let mut wanted = Text::new(alloc);
-    push_wanted(&mut wanted, case.taken, case.wanted);
-    check(rt, &found, &wanted, case.name);
-    drop(found);
-    drop(wanted);
-}
-
-pub fn compare_all(rt: &impl Abort, alloc: Global, cases: &[Case<'_>]) {
+pub fn compare_all(rt: &impl Abort, alloc: Global, cases: &[Case]) {
     for case in cases {
-        compare(rt, alloc, case);
+        compare(rt, alloc, case.name, case.schedule, case.report);
     }
 }

@@ -1,13 +1,14 @@
 //! Lawful lists of events are drawn from a seed. A run takes the events as they are drawn, and tells what was put out so far and
 //! which shards are up.
-use crate::runs::{Shape, config, reply_to};
-use crate::steps::{At, Step, Timed};
+use crate::runs::happens;
+use crate::steps::{Step, Timed, reading, stamp};
 use disk::Fate;
 use lives::{Life, Run, RunShard};
-use message::{Address, Envelope, Message};
+use message::{Address, Message};
 use std::alloc::Global;
+use truetime::Reading;
 use units::TxnId;
-use world::Config;
+use world::{Config, Doing};
 
 // A linear congruential generator modulo 2^64, with the multiplier 6364136223846793005 and the increment
 // 1442695040888963407. Its upper 31 bits are drawn.
@@ -45,12 +46,12 @@ impl Random {
 }
 
 // Three keys for each of the shards that the splits `m` and `s` make.
-const KEYS: [u8; 9] = [b'a', b'c', b'f', b'n', b'p', b'r', b't', b'w', b'y'];
+static KEYS: [u8; 9] = [b'a', b'c', b'f', b'n', b'p', b'r', b't', b'w', b'y'];
 
-const DIGITS: [u8; 10] = [b'0', b'1', b'2', b'3', b'4', b'5', b'6', b'7', b'8', b'9'];
+static DIGITS: [u8; 10] = [b'0', b'1', b'2', b'3', b'4', b'5', b'6', b'7', b'8', b'9'];
 
 // What a crash may leave of each byte of a write: that of an open gate, that of a closed one, and others.
-const BYTES: [u8; 4] = [0xa5, 0x00, 0x37, 0xff];
+static BYTES: [u8; 4] = [0xa5, 0x00, 0x37, 0xff];
 
 // The length of a list.
 pub const LENGTH: usize = 300;
@@ -69,14 +70,13 @@ struct Drawn {
     steps: Vec<Timed>,
 }
 
-// So many shards, without a stride.
-pub fn shape_of(shards: u64) -> Shape<'static> {
-    let splits: &[u8] = match shards {
+// Where so many shards are split.
+pub fn splits_of(shards: u64) -> &'static [u8] {
+    match shards {
         1 => b"",
         2 => b"m",
         _ => b"ms",
-    };
-    Shape { splits, stride: 0 }
+    }
 }
 
 // The shard of a key.
@@ -95,13 +95,6 @@ fn shard_of<'a>(run: &'a Run<'_>, shard: u8) -> Option<&'a RunShard> {
     run.shards.shards.get(shard as usize)
 }
 
-fn is_up(run: &Run<'_>, shard: u8) -> bool {
-    match shard_of(run, shard) {
-        Some(one) => one.is_up(),
-        None => false,
-    }
-}
-
 fn is_down(run: &Run<'_>, shard: u8) -> bool {
     match shard_of(run, shard) {
         Some(one) => one.is_down(),
@@ -112,8 +105,9 @@ fn is_down(run: &Run<'_>, shard: u8) -> bool {
 // The first shard that is not up.
 fn resting(run: &Run<'_>) -> Option<u8> {
     for shard in 0..3 {
-        if shard_of(run, shard).is_some() && !is_up(run, shard) {
-            return Some(shard);
+        match shard_of(run, shard) {
+            Some(one) if !one.is_up() => return Some(shard),
+            _ => {}
         }
     }
     None
@@ -126,42 +120,38 @@ fn views(run: &Run<'_>, shard: u8) -> u64 {
     }
 }
 
-// The message of a number is for this shard.
-fn is_for(run: &Run<'_>, shard: u8, number: u64) -> bool {
+// The shard that the message of a number is for, with the message.
+fn sent<'a>(run: &'a Run<'_>, number: u64) -> Option<(u8, &'a Message)> {
     match run.output.bag.nth(number) {
         Some(envelope) => match envelope.to {
-            Address::Shard(to) => to.number() == shard,
-            Address::Session(_) => false,
+            Address::Shard(shard) => Some((shard.number(), &envelope.message)),
+            Address::Session(_) => None,
         },
+        None => None,
+    }
+}
+
+// The message of a number is for this shard.
+fn is_for(run: &Run<'_>, shard: u8, number: u64) -> bool {
+    match sent(run, number) {
+        Some((to, _)) => to == shard,
         None => false,
     }
 }
 
 // The shard and the transaction of the message of a number, where that is for a coordinator.
 fn for_coordinator(run: &Run<'_>, number: u64) -> Option<(u8, TxnId)> {
-    let Some(envelope) = run.output.bag.nth(number) else {
-        return None;
-    };
-    let Address::Shard(shard) = envelope.to else {
-        return None;
-    };
-    match &envelope.message {
-        Message::Commit(asked) => Some((shard.number(), asked.txn)),
-        Message::Vote(vote) => Some((shard.number(), vote.txn)),
+    match sent(run, number) {
+        Some((shard, Message::Commit(asked))) => Some((shard, asked.txn)),
+        Some((shard, Message::Vote(vote))) => Some((shard, vote.txn)),
         _ => None,
     }
 }
 
 // The same of a prepare.
 fn for_part(run: &Run<'_>, number: u64) -> Option<(u8, TxnId)> {
-    let Some(envelope) = run.output.bag.nth(number) else {
-        return None;
-    };
-    let Address::Shard(shard) = envelope.to else {
-        return None;
-    };
-    match &envelope.message {
-        Message::Prepare(asked) => Some((shard.number(), asked.txn)),
+    match sent(run, number) {
+        Some((shard, Message::Prepare(asked))) => Some((shard, asked.txn)),
         _ => None,
     }
 }
@@ -184,6 +174,14 @@ fn decided_of(life: &Life) -> Option<TxnId> {
     }
 }
 
+// Such a transaction is settled, where there is one.
+fn settling(run: &Run<'_>, shard: u8, now: Reading) -> Doing {
+    match decided(run, shard) {
+        Some(txn) => Doing::Settle(txn, now),
+        None => Doing::Resume(now),
+    }
+}
+
 // The shard and the transaction of some decision that is not settled.
 fn unsettled(run: &Run<'_>) -> Option<(u8, TxnId)> {
     for shard in 0..3 {
@@ -196,12 +194,12 @@ fn unsettled(run: &Run<'_>) -> Option<(u8, TxnId)> {
 
 // The session that the message of a number goes to, where that is an answer.
 fn answered(run: &Run<'_>, number: u64) -> Option<TxnId> {
-    let Some(envelope) = run.output.bag.nth(number) else {
-        return None;
-    };
-    match &envelope.message {
-        Message::ReadAnswer(answer) => Some(answer.txn),
-        _ => None,
+    match run.output.bag.nth(number) {
+        Some(envelope) => match &envelope.message {
+            Message::ReadAnswer(answer) => Some(answer.txn),
+            _ => None,
+        },
+        None => None,
     }
 }
 
@@ -234,11 +232,11 @@ impl Drawn {
         self.random.below(widest)
     }
 
-    // The ends of a reading that holds the time of the next step, whatever that will be.
-    fn reading(&mut self) -> (u64, u64) {
+    // A reading that holds the time of the next step, whatever that will be.
+    fn reading(&mut self) -> Reading {
         let earliest = self.time.saturating_sub(self.width());
         let latest = self.time.saturating_add(self.width().saturating_add(5));
-        (earliest, latest)
+        reading(earliest, latest)
     }
 
     fn shard(&mut self) -> u8 {
@@ -309,14 +307,14 @@ impl Drawn {
         if self.known == 0 {
             return;
         }
-        let (earliest, latest) = self.reading();
+        let now = self.reading();
         if self.next < self.known && self.random.below(5) != 0 {
             let next = self.next;
             self.next = next.saturating_add(1);
-            return self.push(Step::Deliver(next, earliest, latest));
+            return self.push(Step::Deliver(next, now));
         }
         let message = self.message();
-        self.push(Step::Deliver(message, earliest, latest))
+        self.push(Step::Deliver(message, now))
     }
 
     // Mostly a decided transaction is settled, at times that of any message.
@@ -326,18 +324,18 @@ impl Drawn {
         } else {
             unsettled(run)
         };
-        let (earliest, latest) = self.reading();
+        let now = self.reading();
         match found {
-            Some((shard, txn)) => self.push(Step::Settle(shard, txn.number(), earliest, latest)),
+            Some((shard, txn)) => self.push(Step::At(shard, Doing::Settle(txn, now))),
             None => self.resume(),
         }
     }
 
     // The coordinator of a prepare's transaction is asked.
     fn nudge(&mut self, run: &Run<'_>) {
-        let (earliest, latest) = self.reading();
+        let now = self.reading();
         match for_part(run, self.message()) {
-            Some((shard, txn)) => self.push(Step::Nudge(shard, txn.number(), earliest, latest)),
+            Some((shard, txn)) => self.push(Step::At(shard, Doing::Nudge(txn, now))),
             None => self.resume(),
         }
     }
@@ -364,9 +362,9 @@ impl Drawn {
     }
 
     fn resume(&mut self) {
-        let (earliest, latest) = self.reading();
+        let now = self.reading();
         let shard = self.shard();
-        self.push(Step::Resume(shard, earliest, latest))
+        self.push(Step::At(shard, Doing::Resume(now)))
     }
 
     // A shard serves up to a time near the end of a wide reading. At once some of its keys are looked at then.
@@ -378,7 +376,8 @@ impl Drawn {
         let to = latest
             .saturating_add(2)
             .saturating_sub(self.random.below(12));
-        self.push(Step::Advance(shard, to, earliest, latest));
+        let now = reading(earliest, latest);
+        self.push(Step::At(shard, Doing::Advance(stamp(to), now)));
         self.look_at_some(shard, to)
     }
 
@@ -430,30 +429,23 @@ impl Drawn {
     }
 
     // What a shard does where a call of it fails, or where it crashes.
-    fn doing(&mut self, run: &Run<'_>, shard: u8) -> At {
-        let (earliest, latest) = self.reading();
+    fn doing(&mut self, run: &Run<'_>, shard: u8) -> Doing {
+        let now = self.reading();
         match self.random.below(4) {
-            0 => At::Advance(shard, latest, earliest, latest),
-            1 => self.settling(run, shard, earliest, latest),
-            _ => self.taking(run, shard, earliest, latest),
-        }
-    }
-
-    fn settling(&mut self, run: &Run<'_>, shard: u8, earliest: u64, latest: u64) -> At {
-        match decided(run, shard) {
-            Some(txn) => At::Settle(shard, txn.number(), earliest, latest),
-            None => At::Resume(shard, earliest, latest),
+            0 => Doing::Advance(now.latest(), now),
+            1 => settling(run, shard, now),
+            _ => self.taking(run, shard, now),
         }
     }
 
     // One of the next messages, where it is for the shard.
-    fn taking(&mut self, run: &Run<'_>, shard: u8, earliest: u64, latest: u64) -> At {
+    fn taking(&mut self, run: &Run<'_>, shard: u8, now: Reading) -> Doing {
         for number in self.next..self.next.saturating_add(8) {
             if is_for(run, shard, number) {
-                return At::Take(shard, number, earliest, latest);
+                return Doing::Take(number, now);
             }
         }
-        At::Resume(shard, earliest, latest)
+        Doing::Resume(now)
     }
 
     fn fate(&mut self) -> Fate {
@@ -470,13 +462,13 @@ impl Drawn {
         if is_down(run, shard) {
             return self.open_at(shard);
         }
-        let (call, at) = (self.random.below(5), self.doing(run, shard));
+        let (call, doing) = (self.random.below(5), self.doing(run, shard));
         match self.random.below(5) {
             0 => self.push(Step::Crash(shard)),
-            1 | 2 => self.push(Step::FailIn(shard, call, at)),
+            1 | 2 => self.push(Step::FailIn(shard, call, doing)),
             _ => {
                 let fate = self.fate();
-                self.push(Step::CrashIn(shard, call, fate, at))
+                self.push(Step::CrashIn(shard, call, fate, doing))
             }
         }
     }
@@ -485,12 +477,12 @@ impl Drawn {
     fn open_at(&mut self, shard: u8) {
         let call = self.random.below(5);
         match self.random.below(10) {
-            0 => self.push(Step::FailIn(shard, call, At::Open(shard))),
+            0 => self.push(Step::FailIn(shard, call, Doing::Open)),
             1 => {
                 let fate = self.fate();
-                self.push(Step::CrashIn(shard, call, fate, At::Open(shard)))
+                self.push(Step::CrashIn(shard, call, fate, Doing::Open))
             }
-            _ => self.push(Step::Open(shard)),
+            _ => self.push(Step::At(shard, Doing::Open)),
         }
     }
 
@@ -529,10 +521,7 @@ impl Drawn {
     // The steps that were drawn happen, where they may.
     fn catch_up(&mut self, alloc: Global, run: &mut Run<'_>) -> bool {
         for number in self.taken..self.steps.len() {
-            let reply = reply_to(run, alloc, number, self.steps[number]);
-            let happened = reply.is_some();
-            drop(reply);
-            if !happened {
+            if !happens(run, alloc, number, self.steps[number]) {
                 return false;
             }
         }
@@ -557,7 +546,7 @@ impl Drawn {
     }
 }
 
-fn is_filled(list: &mut Drawn, alloc: Global, config: &Config) -> bool {
+fn is_drawn(list: &mut Drawn, alloc: Global, config: &Config) -> bool {
     let Ok(mut run) = Run::start(alloc, config) else {
         return false;
     };
@@ -566,19 +555,15 @@ fn is_filled(list: &mut Drawn, alloc: Global, config: &Config) -> bool {
     filled
 }
 
-fn is_drawn(list: &mut Drawn, alloc: Global, shape: Shape<'static>) -> bool {
-    let Some(config) = config(alloc, shape) else {
-        return false;
-    };
-    let filled = is_filled(list, alloc, &config);
-    drop(config);
-    filled
-}
-
-// A list of events over shards of some shape.
-pub fn drawn_list(alloc: Global, seed: u64, shape: Shape<'static>) -> Option<Vec<Timed>> {
-    let mut list = Drawn::new(alloc, seed, shape.splits);
-    if is_drawn(&mut list, alloc, shape) {
+// A list of events over shards with these splits.
+pub fn drawn_list(
+    alloc: Global,
+    seed: u64,
+    splits: &'static [u8],
+    config: &Config,
+) -> Option<Vec<Timed>> {
+    let mut list = Drawn::new(alloc, seed, splits);
+    if is_drawn(&mut list, alloc, config) {
         Some(list.steps)
     } else {
         drop(list);

@@ -1,24 +1,87 @@
 //! Drawn runs, 50 in a test: each list is lawful, and each report is judged by itself.
-use crate::drawing::{LENGTH, drawn_list, shape_of};
-use crate::judging::{Counts, judge};
+use crate::drawing::{LENGTH, drawn_list, splits_of};
+use crate::judging::judge;
 use crate::replying::{Stops, are_due};
-use crate::runs::{Shape, run};
+use crate::runs::{config, run};
 use crate::steps::Timed;
 use playing::Report;
 use std::alloc::Global;
 use std::process::Abort;
+use units::{Line, Value};
+use world::Config;
 
-// What lists and their reports have: lines, and stops of shards.
-#[derive(Clone, Copy, Debug)]
+// What lists and their reports have: lines of some kinds, values in those of reads and looks, and stops of shards.
+#[derive(Clone, Copy)]
 struct Totals {
-    lines: Counts,
+    acknowledged: u64,
+    read: u64,
+    looked: u64,
+    valued: u64,
     stops: Stops,
+}
+
+const NOTHING: Totals = Totals {
+    acknowledged: 0,
+    read: 0,
+    looked: 0,
+    valued: 0,
+    stops: Stops {
+        crashed: 0,
+        failed: 0,
+        opened: 0,
+    },
+};
+
+impl Totals {
+    fn count_value(&mut self, value: &Option<Value>) {
+        if value.is_some() {
+            self.valued = self.valued.saturating_add(1);
+        }
+    }
+
+    fn count(&mut self, line: &Line) {
+        match line {
+            Line::Begin(_, _) => {}
+            Line::Ack(_, _, _) => self.acknowledged = self.acknowledged.saturating_add(1),
+            Line::Read(_, _, value) => {
+                self.read = self.read.saturating_add(1);
+                self.count_value(value)
+            }
+            Line::Look(_, _, value) => {
+                self.looked = self.looked.saturating_add(1);
+                self.count_value(value)
+            }
+        }
+    }
+
+    fn count_lines(&mut self, lines: &[Line]) {
+        for line in lines {
+            self.count(line);
+        }
+    }
+
+    // The runs are not empty: what there is too little of, to judge.
+    fn scarce(&self) -> &'static str {
+        if self.acknowledged < 100 {
+            return "acknowledgements";
+        }
+        if self.read < 10 {
+            return "reads";
+        }
+        if self.looked < 300 {
+            return "looks";
+        }
+        if self.valued < 100 {
+            return "values";
+        }
+        self.stops.scarce()
+    }
 }
 
 // The first thing that is wrong with what a list comes to. Its lines and stops are counted too.
 fn wrong_of(report: &Report, steps: &[Timed], totals: &mut Totals) -> &'static str {
-    totals.lines = totals.lines.with(&report.lines);
-    totals.stops = totals.stops.with(steps, &report.replies);
+    totals.count_lines(&report.lines);
+    totals.stops.count_all(steps, &report.replies);
     if steps.len() != LENGTH {
         return "the length";
     }
@@ -29,13 +92,8 @@ fn wrong_of(report: &Report, steps: &[Timed], totals: &mut Totals) -> &'static s
 }
 
 // A list is played, and judged.
-fn play_one(
-    alloc: Global,
-    shape: Shape<'static>,
-    steps: &[Timed],
-    totals: &mut Totals,
-) -> &'static str {
-    let Ok(report) = run(alloc, shape, steps) else {
+fn play_one(alloc: Global, config: &Config, steps: &[Timed], totals: &mut Totals) -> &'static str {
+    let Ok(report) = run(alloc, config, steps) else {
         return "an unlawful list";
     };
     let wrong = wrong_of(&report, steps, totals);
@@ -43,43 +101,47 @@ fn play_one(
     wrong
 }
 
-// The list of a seed is played, and judged.
-fn draw_one(alloc: Global, seed: u64, shards: u64, totals: &mut Totals) -> &'static str {
-    let shape = shape_of(shards);
-    let Some(steps) = drawn_list(alloc, seed, shape) else {
+// A list over some shards is drawn, played, and judged.
+fn draw_one(
+    alloc: Global,
+    seed: u64,
+    splits: &'static [u8],
+    config: &Config,
+    totals: &mut Totals,
+) -> &'static str {
+    let Some(steps) = drawn_list(alloc, seed, splits, config) else {
         return "no list";
     };
-    let wrong = play_one(alloc, shape, &steps, totals);
+    let wrong = play_one(alloc, config, &steps, totals);
     drop(steps);
     wrong
 }
 
+// The list of a seed, over so many shards.
+fn wrong_at(alloc: Global, seed: u64, shards: u64, totals: &mut Totals) -> &'static str {
+    let splits = splits_of(shards);
+    let Ok(config) = config(alloc, splits) else {
+        return "no shards";
+    };
+    let wrong = draw_one(alloc, seed, splits, &config, totals);
+    drop(config);
+    wrong
+}
+
+fn check(rt: &impl Abort, seed: u64, wrong: &str) {
+    assert!(rt; wrong.is_empty(), "seed {seed}: {wrong}");
+}
+
 // Draws 50 lists from a seed on, over 1 to 3 shards in turn.
 fn draw_all(rt: &impl Abort, alloc: Global, first: u64) {
-    let mut totals = Totals {
-        lines: Counts::NONE,
-        stops: Stops::NONE,
-    };
+    let mut totals = NOTHING;
     for number in 0..50 {
         let seed = first.saturating_add(number);
-        let wrong = draw_one(alloc, seed, number % 3 + 1, &mut totals);
-        assert!(rt; wrong.is_empty(), "seed {seed}: {wrong}");
+        let wrong = wrong_at(alloc, seed, number % 3 + 1, &mut totals);
+        check(rt, seed, wrong);
     }
-    assert!(rt; are_enough(totals), "{totals:?}");
-}
-
-// The runs are not empty: there are enough lines of each kind to judge.
-fn have_lines(counts: Counts) -> bool {
-    counts.acknowledged >= 100 && counts.read >= 10 && counts.looked >= 300 && counts.valued >= 100
-}
-
-// So of stops.
-fn have_stops(stops: Stops) -> bool {
-    stops.crashed >= 100 && stops.failed >= 30 && stops.opened >= 100
-}
-
-fn are_enough(totals: Totals) -> bool {
-    have_lines(totals.lines) && have_stops(totals.stops)
+    let scarce = totals.scarce();
+    assert!(rt; scarce.is_empty(), "few {scarce}");
 }
 
 #[test]

@@ -18,21 +18,13 @@ fn place_of(committed: &Committed) -> Place {
 
 // ---- decisions
 
-// The commit decision that a record is.
-pub fn decision_of(item: &Record) -> Option<&Committed> {
-    match item {
-        Record::Commit(committed) => Some(committed),
-        Record::Opened { .. } | Record::Ceiling { .. } | Record::Prepare(_) => None,
-        Record::Abort { .. } | Record::Outcome { .. } => None,
-    }
-}
-
 // The commit decision of a transaction that a log has.
 fn decision_in(log: &[Record], txn: TxnId) -> Option<&Committed> {
     for item in log {
-        match decision_of(item) {
-            Some(committed) if committed.txn == txn => return Some(committed),
-            Some(_) | None => {}
+        if let Record::Commit(committed) = item {
+            if committed.txn == txn {
+                return Some(committed);
+            }
         }
     }
     None
@@ -82,12 +74,10 @@ fn agrees(logs: &[Vec<Record>], shard: usize, item: &Record) -> bool {
     }
 }
 
-fn all_agree(logs: &[Vec<Record>]) -> bool {
-    for (shard, log) in logs.iter().enumerate() {
-        for item in log {
-            if !agrees(logs, shard, item) {
-                return false;
-            }
+fn all_agree(logs: &[Vec<Record>], shard: usize, log: &[Record]) -> bool {
+    for item in log {
+        if !agrees(logs, shard, item) {
+            return false;
         }
     }
     true
@@ -107,43 +97,40 @@ fn is_numbered(log: &[Record]) -> bool {
     last > 0
 }
 
-fn are_numbered(logs: &[Vec<Record>]) -> bool {
-    for log in logs {
-        if !is_numbered(log) {
-            return false;
+// What is wrong with a log.
+fn judge_log(logs: &[Vec<Record>], shard: usize, log: &[Record]) -> &'static str {
+    if !is_numbered(log) {
+        return "an opening";
+    }
+    if !all_agree(logs, shard, log) {
+        return "a record";
+    }
+    ""
+}
+
+fn judge_logs(logs: &[Vec<Record>]) -> &'static str {
+    for (shard, log) in logs.iter().enumerate() {
+        let wrong = judge_log(logs, shard, log);
+        if !wrong.is_empty() {
+            return wrong;
         }
     }
-    true
+    ""
 }
 
 // ---- acknowledgements
-
-fn is_promise_of(item: &Record, txn: TxnId) -> bool {
-    match item {
-        Record::Prepare(promise) => promise.txn == txn,
-        Record::Opened { .. } | Record::Ceiling { .. } | Record::Commit(_) => false,
-        Record::Abort { .. } | Record::Outcome { .. } => false,
-    }
-}
-
-fn is_abort_of(item: &Record, txn: TxnId) -> bool {
-    match item {
-        Record::Outcome {
-            txn: other,
-            outcome,
-        } => *other == txn && outcome.is_none(),
-        Record::Opened { .. } | Record::Ceiling { .. } | Record::Prepare(_) => false,
-        Record::Commit(_) | Record::Abort { .. } => false,
-    }
-}
 
 // The log has a promise of the transaction, and not that it aborted.
 fn stands_by(log: &[Record], txn: TxnId) -> bool {
     let mut is_promised = false;
     for item in log {
-        is_promised = is_promised || is_promise_of(item, txn);
-        if is_abort_of(item, txn) {
-            return false;
+        match item {
+            Record::Prepare(promise) if promise.txn == txn => is_promised = true,
+            Record::Outcome {
+                txn: other,
+                outcome: None,
+            } if *other == txn => return false,
+            _ => {}
         }
     }
     is_promised
@@ -225,8 +212,7 @@ fn newer_of<'a>(
             Some(committed) => newer(newest, bound, place_of(committed), &promise.writes, key),
             None => newest,
         },
-        Record::Opened { .. } | Record::Ceiling { .. } => newest,
-        Record::Abort { .. } | Record::Outcome { .. } => newest,
+        _ => newest,
     }
 }
 
@@ -245,10 +231,12 @@ fn value_before<'a>(logs: &'a [Vec<Record>], key: &Key, bound: Place) -> Option<
 }
 
 fn is_same(one: Option<&Value>, other: &Option<Value>) -> bool {
-    match (one, other) {
-        (None, None) => true,
-        (Some(one), Some(other)) => one.as_bytes() == other.as_bytes(),
-        _ => false,
+    match one {
+        Some(one) => match other {
+            Some(other) => one.as_bytes() == other.as_bytes(),
+            None => false,
+        },
+        None => other.is_none(),
     }
 }
 
@@ -286,18 +274,6 @@ fn was_acknowledged(lines: &[Line], txn: TxnId) -> bool {
     false
 }
 
-// Each is acknowledged once.
-fn are_acknowledged_once(lines: &[Line]) -> bool {
-    for (number, line) in lines.iter().enumerate() {
-        if let Line::Ack(txn, _, _) = line {
-            if was_acknowledged(&lines[..number], *txn) {
-                return false;
-            }
-        }
-    }
-    true
-}
-
 // A transaction that has committed is above a timestamp.
 fn is_above(logs: &[Vec<Record>], txn: TxnId, micros: u64) -> bool {
     match decision(logs, txn) {
@@ -306,21 +282,31 @@ fn is_above(logs: &[Vec<Record>], txn: TxnId, micros: u64) -> bool {
     }
 }
 
-// What began after an acknowledgement has the larger timestamp.
-fn are_ordered(logs: &[Vec<Record>], lines: &[Line]) -> bool {
-    let mut acknowledged: u64 = 0;
-    for line in lines {
-        match line {
-            Line::Begin(txn, _) => {
-                if !is_above(logs, *txn, acknowledged) {
-                    return false;
-                }
-            }
-            Line::Ack(_, at, _) => acknowledged = acknowledged.max(at.micros()),
-            _ => {}
+// What is wrong with a line. What began after an acknowledgement has the larger timestamp, and each is acknowledged once.
+fn judge_line(logs: &[Vec<Record>], before: &[Line], line: &Line, last: u64) -> &'static str {
+    if !is_true_line(logs, line) {
+        return "a line";
+    }
+    match line {
+        Line::Begin(txn, _) if !is_above(logs, *txn, last) => "an order",
+        Line::Ack(txn, _, _) if was_acknowledged(before, *txn) => "an acknowledgement",
+        _ => "",
+    }
+}
+
+// What is wrong with the first line that is not right.
+fn judge_lines(logs: &[Vec<Record>], lines: &[Line]) -> &'static str {
+    let mut last: u64 = 0;
+    for (number, line) in lines.iter().enumerate() {
+        let wrong = judge_line(logs, &lines[..number], line, last);
+        if !wrong.is_empty() {
+            return wrong;
+        }
+        if let Line::Ack(_, at, _) = line {
+            last = last.max(at.micros());
         }
     }
-    true
+    ""
 }
 
 // ---- messages
@@ -343,94 +329,14 @@ fn are_true_messages(logs: &[Vec<Record>], messages: &[Envelope]) -> bool {
     true
 }
 
-fn are_true_lines(logs: &[Vec<Record>], lines: &[Line]) -> bool {
-    for line in lines {
-        if !is_true_line(logs, line) {
-            return false;
-        }
-    }
-    true
-}
-
 // The first thing that is wrong with what a report says of its transactions.
 pub fn judge(report: &Report) -> &'static str {
-    if !are_numbered(&report.logs) {
-        return "an opening";
-    }
-    if !all_agree(&report.logs) {
-        return "a record";
+    let wrong = judge_logs(&report.logs);
+    if !wrong.is_empty() {
+        return wrong;
     }
     if !are_true_messages(&report.logs, report.bag.as_slice()) {
         return "a message";
     }
     judge_lines(&report.logs, &report.lines)
-}
-
-fn judge_lines(logs: &[Vec<Record>], lines: &[Line]) -> &'static str {
-    if !are_true_lines(logs, lines) {
-        return "a line";
-    }
-    if !are_acknowledged_once(lines) {
-        return "an acknowledgement";
-    }
-    if !are_ordered(logs, lines) {
-        return "an order";
-    }
-    ""
-}
-
-// ---- counts
-
-// How many lines of each kind there are, and how many of those of reads and looks have a value.
-#[derive(Clone, Copy, Debug)]
-pub struct Counts {
-    pub begun: u64,
-    pub acknowledged: u64,
-    pub read: u64,
-    pub looked: u64,
-    pub valued: u64,
-}
-
-impl Counts {
-    pub const NONE: Counts = Counts {
-        begun: 0,
-        acknowledged: 0,
-        read: 0,
-        looked: 0,
-        valued: 0,
-    };
-
-    fn with_value(self, value: &Option<Value>) -> Counts {
-        let mut counts = self;
-        if value.is_some() {
-            counts.valued = counts.valued.saturating_add(1);
-        }
-        counts
-    }
-
-    fn with_line(self, line: &Line) -> Counts {
-        let mut counts = self;
-        match line {
-            Line::Begin(_, _) => counts.begun = counts.begun.saturating_add(1),
-            Line::Ack(_, _, _) => counts.acknowledged = counts.acknowledged.saturating_add(1),
-            Line::Read(_, _, value) => {
-                counts.read = counts.read.saturating_add(1);
-                counts = counts.with_value(value);
-            }
-            Line::Look(_, _, value) => {
-                counts.looked = counts.looked.saturating_add(1);
-                counts = counts.with_value(value);
-            }
-        }
-        counts
-    }
-
-    // With those of more lines.
-    pub fn with(self, lines: &[Line]) -> Counts {
-        let mut counts = self;
-        for line in lines {
-            counts = counts.with_line(line);
-        }
-        counts
-    }
 }

@@ -20,8 +20,6 @@ mod outside;
 #[cfg(test)]
 mod replying;
 #[cfg(test)]
-mod run_texts;
-#[cfg(test)]
 mod runs;
 #[cfg(test)]
 mod schedule_texts;

@@ -1,24 +1,22 @@
 //! What befalls the core of a shard from outside a run shows in the run: the cores that it plays lie open here.
 ghost use Rattle.std.specs.Prelude.{◌<◌, ◌-◌, ◌^◌};
 
-use crate::comparing::check;
-use crate::run_texts::{Text, push_replies, push_texts};
-use crate::runs::{TWO, config, reply_to};
-use crate::steps::{Step, Timed, reading, stamp};
+use crate::steps::{reading, stamp};
 use lives::{Life, Run, RunShard};
-use message::{Input, Outbox};
+use message::Input;
+use script::schedule;
 use std::alloc::Global;
-use std::process::Abort;
 use units::Fault;
-use world::{Config, Reply};
+use world::{Config, Event, Reply};
 
-// At the number of the first Commit the core of shard 0 is to serve up to 500, with a device call of it armed or with none.
+// Before the first Commit comes, which is event 3, the core of shard 0 is to serve up to 500, with a device call of it armed or
+// with none. It answers `Ok` or fails, and each event has its reply.
 #[derive(Clone, Copy)]
 struct Outside {
     name: &'static str,
     call: Option<u64>,
-    answer: Result<(), Fault>,
-    steps: &'static [Timed],
+    fails: bool,
+    schedule: &'static str,
     replies: &'static [&'static str],
 }
 
@@ -27,49 +25,55 @@ static OUTSIDE: [Outside; 2] = [
     Outside {
         name: "a call fails",
         call: Some(0),
-        answer: Err(Fault::Device),
-        steps: &[
-            (100, Step::Begin(1)),
-            (100, Step::Write(1, b'a', b'1')),
-            (100, Step::Close(1)),
-            (105, Step::Deliver(0, 100, 110)),
-            (106, Step::Open(0)),
-            (107, Step::Look(0, b'a', 1)),
-            (108, Step::Deliver(0, 100, 110)),
-            (112, Step::Settle(0, 1, 112, 121)),
-        ],
-        replies: &["3 refused 3 Stopped", "5 refused 9 NotYet"],
+        fails: true,
+        schedule: "shards 2
+split m
+stride 0
+100 begin 1.1
+100 write 1.1 a 1
+100 close 1.1
+105 deliver 0 100 110
+106 open 0
+107 look 0 a 1
+108 deliver 0 100 110
+112 settle 0 1.1 112 121
+",
+        replies: &["ok", "ok", "ok", "Stopped", "ok", "NotYet", "ok", "ok"],
     },
     // The Commit is above the time that is served.
     Outside {
         name: "a time is served",
         call: None,
-        answer: Ok(()),
-        steps: &[
-            (100, Step::Begin(1)),
-            (100, Step::Write(1, b'a', b'1')),
-            (100, Step::Close(1)),
-            (105, Step::Deliver(0, 100, 110)),
-            (106, Step::Look(0, b'a', 500)),
-            (107, Step::Look(0, b'a', 501)),
-            (501, Step::Settle(0, 1, 501, 510)),
-            (502, Step::Settle(0, 1, 502, 510)),
-            (503, Step::Look(0, b'a', 501)),
-        ],
+        fails: false,
+        schedule: "shards 2
+split m
+stride 0
+100 begin 1.1
+100 write 1.1 a 1
+100 close 1.1
+105 deliver 0 100 110
+106 look 0 a 500
+107 look 0 a 501
+501 settle 0 1.1 501 510
+502 settle 0 1.1 502 510
+503 look 0 a 501
+",
         replies: &[
-            "4 shows none",
-            "5 refused 9 NotYet",
-            "6 refused 13 Early",
-            "8 shows 1",
+            "ok", "ok", "ok", "ok", "none", "NotYet", "Early", "ok", "=1",
         ],
     },
 ];
 
-// What a core answers, without its messages.
-fn without(answer: Result<Outbox, Fault>) -> Result<(), Fault> {
-    match answer {
-        Ok(_) => Ok(()),
-        Err(fault) => Err(fault),
+// A reply by one word.
+fn word_of(reply: &Reply) -> &'static str {
+    match reply {
+        Reply::Done => "ok",
+        Reply::Refused(Fault::Stopped) => "Stopped",
+        Reply::Refused(Fault::NotYet) => "NotYet",
+        Reply::Refused(Fault::Early) => "Early",
+        Reply::Shows(None) => "none",
+        Reply::Shows(Some(value)) if value.as_bytes() == b"1".as_slice() => "=1",
+        _ => "another",
     }
 }
 
@@ -80,9 +84,15 @@ fn befalls(shard: &mut RunShard, alloc: Global, outside: &Outside) -> bool {
     };
     core.arm(outside.call);
     let input = Input::Advance(stamp(500));
-    let answer = without(core.on(alloc, &reading(500, 510), &input));
+    let answer = core.on(alloc, &reading(500, 510), &input);
     drop(input);
-    answer == outside.answer
+    match answer {
+        Ok(outbox) => {
+            drop(outbox);
+            !outside.fails
+        }
+        Err(fault) => outside.fails && fault == Fault::Device,
+    }
 }
 
 // The first shard of a run.
@@ -93,72 +103,56 @@ fn first_befalls(run: &mut Run<'_>, alloc: Global, outside: &Outside) -> bool {
     }
 }
 
-fn is_replied(
-    replies: &mut Vec<Reply>,
-    run: &mut Run<'_>,
-    alloc: Global,
-    number: usize,
-    timed: Timed,
-) -> bool
+// The event has a reply of that word.
+fn is_replied(run: &mut Run<'_>, alloc: Global, number: usize, event: &Event, word: &str) -> bool
     requires { number < 2 ^ 64 - 1 }
 {
-    match reply_to(run, alloc, number, timed) {
-        Some(reply) => replies.push(reply).is_ok(),
-        None => false,
+    match run.take(alloc, number as u64, event) {
+        Ok(reply) => {
+            let same = word_of(&reply) == word;
+            drop(reply);
+            same
+        }
+        Err(_) => false,
     }
 }
 
-// Whether the steps had replies, and the core answered as it should.
-fn are_replied(
-    replies: &mut Vec<Reply>,
-    run: &mut Run<'_>,
-    alloc: Global,
-    outside: &Outside,
-) -> bool {
-    for number in 0..outside.steps.len() {
+// Each event has its reply, and the core answers as it should.
+fn are_replied(run: &mut Run<'_>, alloc: Global, events: &[Event], outside: &Outside) -> bool {
+    for (number, event) in events.iter().enumerate() {
         if number == 3 && !first_befalls(run, alloc, outside) {
             return false;
         }
-        if !is_replied(replies, run, alloc, number, outside.steps[number]) {
-            return false;
+        match outside.replies.get(number) {
+            Some(word) if is_replied(run, alloc, number, event, word) => {}
+            _ => return false,
         }
     }
-    true
+    events.len() == outside.replies.len()
 }
 
-fn is_run(replies: &mut Vec<Reply>, alloc: Global, config: &Config, outside: &Outside) -> bool {
+fn is_run(alloc: Global, config: &Config, events: &[Event], outside: &Outside) -> bool {
     let Ok(mut run) = Run::start(alloc, config) else {
         return false;
     };
-    let replied = are_replied(replies, &mut run, alloc, outside);
+    let replied = are_replied(&mut run, alloc, events, outside);
     run.spend();
     replied
 }
 
-// What the replies are, where the core answered as it should.
-fn push_found(text: &mut Text, alloc: Global, config: &Config, outside: &Outside) {
-    let mut replies = Vec::new(alloc);
-    if is_run(&mut replies, alloc, config, outside) {
-        push_replies(text, &replies);
-    }
-    drop(replies);
-}
-
-fn compare(rt: &impl Abort, alloc: Global, config: &Config, outside: &Outside) {
-    let mut found = Text::new(alloc);
-    push_found(&mut found, alloc, config, outside);
-    let mut wanted = Text::new(alloc);
-    push_texts(&mut wanted, outside.replies);
-    check(rt, &found, &wanted, outside.name);
-    drop(found);
-    drop(wanted);
+fn is_so(alloc: Global, outside: &Outside) -> bool {
+    let Ok((config, events)) = schedule(alloc, outside.schedule) else {
+        return false;
+    };
+    let so = is_run(alloc, &config, &events, outside);
+    drop(config);
+    drop(events);
+    so
 }
 
 #[test]
 fn cores_lie_open(rt: HostRuntime) {
-    let config = config(rt.alloc(), TWO).expect(&rt, "two shards");
     for outside in &OUTSIDE {
-        compare(&rt, rt.alloc(), &config, outside);
+        assert!(rt; is_so(rt.alloc(), outside), "{}", outside.name);
     }
-    drop(config);
 }

@@ -1,9 +1,9 @@
 //! Checks of the replies of a run by themselves. Which shards are up before an event tells which refusals are due.
-use crate::steps::{At, Step, Timed};
+use crate::steps::{Step, Timed};
 use message::Address;
 use playing::Report;
 use units::Fault;
-use world::Reply;
+use world::{Doing, Reply};
 
 // What a reply says, as far as it is told by which shards are up.
 #[derive(Clone, Copy, PartialEq, Eq)]
@@ -66,8 +66,8 @@ impl Standings {
         match step {
             Step::Crash(shard) => self.set(shard, Standing::Down),
             Step::CrashIn(shard, _, _, _) => self.set(shard, Standing::Down),
-            Step::Open(shard) => self.set(shard, Standing::Up),
-            Step::FailIn(shard, _, at) => self.follow_failing(shard, opens(at), told),
+            Step::At(shard, Doing::Open) => self.set(shard, Standing::Up),
+            Step::FailIn(shard, _, doing) => self.follow_failing(shard, opens(doing), told),
             _ => {}
         }
     }
@@ -90,9 +90,9 @@ impl Standings {
     }
 }
 
-fn opens(at: At) -> bool {
-    match at {
-        At::Open(_) => true,
+fn opens(doing: Doing) -> bool {
+    match doing {
+        Doing::Open => true,
         _ => false,
     }
 }
@@ -111,11 +111,8 @@ fn receiver(report: &Report, message: u64) -> Option<u8> {
 // The shard that an event is a step of.
 fn shard_of(report: &Report, step: Step) -> Option<u8> {
     match step {
-        Step::Deliver(message, _, _) => receiver(report, message),
-        Step::Resume(shard, _, _) => Some(shard),
-        Step::Settle(shard, _, _, _) => Some(shard),
-        Step::Advance(shard, _, _, _) => Some(shard),
-        Step::Nudge(shard, _, _, _) => Some(shard),
+        Step::Deliver(message, _) => receiver(report, message),
+        Step::At(shard, _) => Some(shard),
         _ => None,
     }
 }
@@ -135,11 +132,8 @@ fn rests(standings: &Standings, report: &Report, step: Step) -> bool {
 fn is_plain(told: Told, rests: bool) -> bool {
     match told {
         Told::Stopped => rests,
-        Told::Done => !rests,
-        Told::Other => !rests,
-        Told::Device => false,
-        Told::Memory => false,
-        Told::Crashed => false,
+        Told::Done | Told::Other => !rests,
+        Told::Device | Told::Memory | Told::Crashed => false,
     }
 }
 
@@ -153,9 +147,9 @@ fn is_due(standings: &Standings, report: &Report, step: Step, told: Told) -> boo
     match step {
         Step::Crash(_) => told == Told::Crashed,
         Step::CrashIn(_, _, _, _) => told == Told::Crashed,
-        Step::Open(_) => told == Told::Done,
-        Step::FailIn(shard, _, at) => {
-            is_failing(told, !opens(at) && standings.of(shard) != Standing::Up)
+        Step::At(_, Doing::Open) => told == Told::Done,
+        Step::FailIn(shard, _, doing) => {
+            is_failing(told, !opens(doing) && standings.of(shard) != Standing::Up)
         }
         _ => is_plain(told, rests(standings, report, step)),
     }
@@ -164,11 +158,8 @@ fn is_due(standings: &Standings, report: &Report, step: Step, told: Told) -> boo
 // There is a reply to each event, and each is one that is due.
 pub fn are_due(report: &Report, steps: &[Timed]) -> bool {
     let mut standings = Standings::new();
-    for number in 0..steps.len() {
-        let Some(reply) = report.replies.get(number) else {
-            return false;
-        };
-        if !standings.takes(report, steps[number].1, told_by(reply)) {
+    for (timed, reply) in steps.iter().zip(&report.replies) {
+        if !standings.takes(report, timed.1, told_by(reply)) {
             return false;
         }
     }
@@ -176,7 +167,7 @@ pub fn are_due(report: &Report, steps: &[Timed]) -> bool {
 }
 
 // How many crashes, failures of calls, and accepted openings there are.
-#[derive(Clone, Copy, Debug)]
+#[derive(Clone, Copy)]
 pub struct Stops {
     pub crashed: u64,
     pub failed: u64,
@@ -184,31 +175,34 @@ pub struct Stops {
 }
 
 impl Stops {
-    pub const NONE: Stops = Stops {
-        crashed: 0,
-        failed: 0,
-        opened: 0,
-    };
-
-    fn with_one(self, step: Step, told: Told) -> Stops {
-        let mut stops = self;
-        match (step, told) {
-            (_, Told::Crashed) => stops.crashed = stops.crashed.saturating_add(1),
-            (_, Told::Device) => stops.failed = stops.failed.saturating_add(1),
-            (Step::Open(_), Told::Done) => stops.opened = stops.opened.saturating_add(1),
+    // With one more, where that was one.
+    fn count(&mut self, step: Step, told: Told) {
+        match (told, step) {
+            (Told::Crashed, _) => self.crashed = self.crashed.saturating_add(1),
+            (Told::Device, _) => self.failed = self.failed.saturating_add(1),
+            (Told::Done, Step::At(_, Doing::Open)) => self.opened = self.opened.saturating_add(1),
             _ => {}
         }
-        stops
     }
 
     // With those of more events.
-    pub fn with(self, steps: &[Timed], replies: &[Reply]) -> Stops {
-        let mut stops = self;
-        for number in 0..steps.len() {
-            if let Some(reply) = replies.get(number) {
-                stops = stops.with_one(steps[number].1, told_by(reply));
-            }
+    pub fn count_all(&mut self, steps: &[Timed], replies: &[Reply]) {
+        for (timed, reply) in steps.iter().zip(replies) {
+            self.count(timed.1, told_by(reply));
         }
-        stops
+    }
+
+    // What there is too little of.
+    pub fn scarce(&self) -> &'static str {
+        if self.crashed < 100 {
+            return "crashes";
+        }
+        if self.failed < 30 {
+            return "failing calls";
+        }
+        if self.opened < 100 {
+            return "openings";
+        }
+        ""
     }
 }

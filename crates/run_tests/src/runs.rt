@@ -1,109 +1,57 @@
 //! Steps are played over shards that are split at single letters.
 ghost use Rattle.std.specs.Prelude.{◌<◌, ◌-◌, ◌^◌};
 
-use crate::steps::{Timed, event, events, key};
+use crate::steps::{Timed, event, key, push_events};
 use lives::Run;
-use playing::{Report, lawful, play};
+use playing::{Report, play};
 use std::alloc::Global;
 use units::{Fault, Key, Splits, Stride};
-use world::{Config, Reply};
+use world::{Config, Event};
 
-// The letters at which shards are split, and their stride.
-#[derive(Clone, Copy)]
-pub struct Shape<'a> {
-    pub splits: &'a [u8],
-    pub stride: u64,
-}
-
-// Two shards without a stride.
-pub const TWO: Shape<'static> = Shape {
-    splits: b"m",
-    stride: 0,
-};
-
-// Three shards without a stride.
-pub const THREE: Shape<'static> = Shape {
-    splits: b"ms",
-    stride: 0,
-};
-
-fn push_keys(keys: &mut Vec<Key>, letters: &[u8]) -> bool {
+fn push_keys(keys: &mut Vec<Key>, letters: &[u8]) -> Result<(), Fault> {
     for letter in letters {
-        if keys.push(key(*letter)).is_err() {
-            return false;
-        }
+        keys.push(key(*letter))?;
     }
-    true
+    Ok(())
 }
 
-fn splits(alloc: Global, letters: &[u8]) -> Result<Splits, Fault> {
-    let mut keys = Vec::new(alloc);
-    let splits = if push_keys(&mut keys, letters) {
-        Splits::new(alloc, &keys)
-    } else {
-        Err(Fault::Memory)
-    };
-    drop(keys);
-    splits
-}
-
-// The shards that are split at these letters.
-pub fn config(alloc: Global, shape: Shape<'_>) -> Option<Config> {
-    let Some(stride) = Stride::new(shape.stride) else {
-        return None;
-    };
-    match splits(alloc, shape.splits) {
-        Ok(splits) => Some(Config { splits, stride }),
-        Err(_) => None,
-    }
-}
-
-fn played(alloc: Global, config: &Config, steps: &[Timed]) -> Result<Report, Fault> {
-    let Some(events) = events(alloc, steps) else {
+// The shards that are split at these letters, without a stride.
+pub fn config(alloc: Global, letters: &[u8]) -> Result<Config, Fault> {
+    let Some(stride) = Stride::new(0) else {
         return Err(Fault::Memory);
     };
-    let report = play(alloc, config, &events);
-    drop(events);
-    report
+    let mut keys = Vec::new(alloc);
+    push_keys(&mut keys, letters)?;
+    let splits = Splits::new(alloc, &keys)?;
+    Ok(Config { splits, stride })
+}
+
+fn played(
+    alloc: Global,
+    config: &Config,
+    events: &mut Vec<Event>,
+    steps: &[Timed],
+) -> Result<Report, Fault> {
+    push_events(events, alloc, steps)?;
+    play(alloc, config, events)
 }
 
 // The report of some steps, or why they are not played.
-pub fn run(alloc: Global, shape: Shape<'_>, steps: &[Timed]) -> Result<Report, Fault> {
-    let Some(config) = config(alloc, shape) else {
-        return Err(Fault::Memory);
-    };
-    let report = played(alloc, &config, steps);
-    drop(config);
+pub fn run(alloc: Global, config: &Config, steps: &[Timed]) -> Result<Report, Fault> {
+    let mut events = Vec::new(alloc);
+    let report = played(alloc, config, &mut events, steps);
+    drop(events);
     report
 }
 
-fn may_happen(alloc: Global, config: &Config, steps: &[Timed]) -> Option<bool> {
-    let Some(events) = events(alloc, steps) else {
-        return None;
-    };
-    let lawful = lawful(alloc, config, &events).ok();
-    drop(events);
-    lawful
-}
-
-// The steps are lawful.
-pub fn is_lawful(alloc: Global, shape: Shape<'_>, steps: &[Timed]) -> Option<bool> {
-    let Some(config) = config(alloc, shape) else {
-        return None;
-    };
-    let lawful = may_happen(alloc, &config, steps);
-    drop(config);
-    lawful
-}
-
-// The reply of a run to the step of a number, where it may happen.
-pub fn reply_to(run: &mut Run<'_>, alloc: Global, number: usize, timed: Timed) -> Option<Reply>
+// The step of a number happens in a run, where it may.
+pub fn happens(run: &mut Run<'_>, alloc: Global, number: usize, timed: Timed) -> bool
     requires { number < 2 ^ 64 - 1 }
 {
-    let Some(event) = event(alloc, timed) else {
-        return None;
+    let Ok(event) = event(alloc, timed) else {
+        return false;
     };
-    let reply = run.take(alloc, number as u64, &event).ok();
+    let reply = run.take(alloc, number as u64, &event);
     drop(event);
-    reply
+    reply.is_ok()
 }

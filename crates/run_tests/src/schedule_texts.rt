@@ -2,7 +2,7 @@
 use script::schedule;
 use std::alloc::Global;
 use units::{Fault, Reason};
-use world::{Act, Event};
+use world::Act;
 
 struct Refused {
     text: &'static str,
@@ -77,7 +77,7 @@ fn other_lines_are_refused(rt: HostRuntime) {
     }
 }
 
-const EACH_KIND: &str = "shards 2
+static EACH_KIND: &str = "shards 2
 split m
 stride 7
 1 begin 1.1
@@ -102,33 +102,23 @@ stride 7
 4 fail 0 3 advance 0 5 1 9
 ";
 
-// The events of a text.
-fn events(alloc: Global, text: &str) -> Option<Vec<Event>> {
-    match schedule(alloc, text) {
-        Ok((config, events)) => {
-            drop(config);
-            Some(events)
-        }
-        Err(_) => None,
-    }
-}
-
-fn count(alloc: Global, text: &str) -> Option<usize> {
-    let Some(events) = events(alloc, text) else {
-        return None;
+fn has_events(alloc: Global, text: &str, count: usize) -> bool {
+    let Ok((config, events)) = schedule(alloc, text) else {
+        return false;
     };
-    let count = events.len();
+    drop(config);
+    let same = events.len() == count;
     drop(events);
-    Some(count)
+    same
 }
 
 #[test]
 fn each_kind_of_event_is_read(rt: HostRuntime) {
-    assert!(rt; count(rt.alloc(), EACH_KIND) == Some(20));
+    assert!(rt; has_events(rt.alloc(), EACH_KIND, 20));
 }
 
 struct Faulty {
-    line: &'static str,
+    text: &'static str,
     at: u8,
     call: u64,
     named: u8,
@@ -137,79 +127,69 @@ struct Faulty {
 // An event within another names its own shard, which is kept beside the first: whether they agree is no matter of the grammar.
 static FAULTY: [Faulty; 6] = [
     Faulty {
-        line: "2 crash 0 1 old open 0\n",
+        text: "shards 2\nsplit m\nstride 0\n2 crash 0 1 old open 0\n",
         at: 0,
         call: 1,
         named: 0,
     },
     Faulty {
-        line: "2 crash 0 1 old open 1\n",
+        text: "shards 2\nsplit m\nstride 0\n2 crash 0 1 old open 1\n",
         at: 0,
         call: 1,
         named: 1,
     },
     Faulty {
-        line: "2 crash 1 3 a5 advance 0 5 1 9\n",
+        text: "shards 2\nsplit m\nstride 0\n2 crash 1 3 a5 advance 0 5 1 9\n",
         at: 1,
         call: 3,
         named: 0,
     },
     Faulty {
-        line: "2 crash 1 0 new deliver 0 1 9\n",
+        text: "shards 2\nsplit m\nstride 0\n2 crash 1 0 new deliver 0 1 9\n",
         at: 1,
         call: 0,
         named: 1,
     },
     Faulty {
-        line: "2 fail 1 2 settle 0 1.1 1 9\n",
+        text: "shards 2\nsplit m\nstride 0\n2 fail 1 2 settle 0 1.1 1 9\n",
         at: 1,
         call: 2,
         named: 0,
     },
     Faulty {
-        line: "2 fail 0 3 nudge 0 1.1 1 9\n",
+        text: "shards 2\nsplit m\nstride 0\n2 fail 0 3 nudge 0 1.1 1 9\n",
         at: 0,
         call: 3,
         named: 0,
     },
 ];
 
-fn first_shards(events: &[Event]) -> Option<(u8, u64, u8)> {
-    match events.first() {
-        Some(event) => both_shards(&event.act),
-        None => None,
+// The event has these shards and this call.
+fn keeps(act: &Act, faulty: &Faulty) -> bool {
+    match act {
+        Act::CrashIn(at, call, _, named, _) | Act::FailIn(at, call, named, _) => {
+            at.number() == faulty.at && *call == faulty.call && named.number() == faulty.named
+        }
+        _ => false,
     }
 }
 
-fn are_kept(alloc: Global, text: &str, faulty: &Faulty) -> bool {
-    let Some(events) = events(alloc, text) else {
-        return false;
-    };
-    let found = first_shards(&events);
-    drop(events);
-    found == Some((faulty.at, faulty.call, faulty.named))
-}
-
 fn is_kept(alloc: Global, faulty: &Faulty) -> bool {
-    let Ok(text) = format!(in alloc; "shards 2\nsplit m\nstride 0\n{}", faulty.line) else {
+    let Ok((config, events)) = schedule(alloc, faulty.text) else {
         return false;
     };
-    let kept = are_kept(alloc, text.as_str(), faulty);
-    drop(text);
+    drop(config);
+    let kept = match events.first() {
+        Some(event) => keeps(&event.act, faulty),
+        None => false,
+    };
+    drop(events);
     kept
 }
 
 #[test]
 fn an_event_within_another_keeps_its_shard(rt: HostRuntime) {
     for faulty in &FAULTY {
-        assert!(rt; is_kept(rt.alloc(), faulty), "{}", faulty.line);
-    }
-}
-
-fn both_shards(act: &Act) -> Option<(u8, u64, u8)> {
-    match act {
-        Act::CrashIn(at, call, _, named, _) => Some((at.number(), *call, named.number())),
-        Act::FailIn(at, call, named, _) => Some((at.number(), *call, named.number())),
-        _ => None,
+        assert!(rt; is_kept(rt.alloc(), faulty), "{}", faulty.text);
     }
 }

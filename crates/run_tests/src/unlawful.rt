@@ -1,217 +1,352 @@
 //! Lists of events that may not happen.
-use crate::runs::{TWO, is_lawful, run};
-use crate::steps::{At, Step, Timed};
 use crate::whole_schedules::{ONE_SHARD, TWO_SHARDS};
-use disk::Fate;
+use playing::{lawful, play};
+use script::schedule;
 use std::alloc::Global;
 use std::process::Abort;
 use units::{Fault, Reason};
+use world::{Config, Event};
 
-// A list, with the number of the first event that may not happen.
+// A list, with the number of the first event that may not happen, where there is one.
 #[derive(Clone, Copy)]
-struct Refused {
+struct List {
     name: &'static str,
-    steps: &'static [Timed],
-    number: u64,
+    schedule: &'static str,
+    first: Option<u64>,
 }
 
-static LISTS: [Refused; 11] = [
-    Refused {
+static LISTS: [List; 11] = [
+    List {
         name: "a message that was not put out",
-        steps: &[(100, Step::Deliver(0, 100, 110))],
-        number: 0,
+        schedule: "shards 2
+split m
+stride 0
+100 deliver 0 100 110
+",
+        first: Some(0),
     },
-    Refused {
+    List {
         name: "one id twice",
-        steps: &[(100, Step::Begin(1)), (100, Step::Begin(1))],
-        number: 1,
+        schedule: "shards 2
+split m
+stride 0
+100 begin 1.1
+100 begin 1.1
+",
+        first: Some(1),
     },
-    Refused {
+    List {
         name: "a time below the former one",
-        steps: &[(100, Step::Begin(1)), (99, Step::Begin(2))],
-        number: 1,
+        schedule: "shards 2
+split m
+stride 0
+100 begin 1.1
+99 begin 1.2
+",
+        first: Some(1),
     },
-    Refused {
+    List {
         name: "a reading above the true time",
-        steps: &[(100, Step::Resume(0, 101, 110))],
-        number: 0,
+        schedule: "shards 2
+split m
+stride 0
+100 resume 0 101 110
+",
+        first: Some(0),
     },
-    Refused {
+    List {
         name: "a reading below the true time",
-        steps: &[(100, Step::Resume(1, 90, 99))],
-        number: 0,
+        schedule: "shards 2
+split m
+stride 0
+100 resume 1 90 99
+",
+        first: Some(0),
     },
-    Refused {
+    List {
         name: "a look at a shard that does not exist",
-        steps: &[(100, Step::Look(2, b'z', 0))],
-        number: 0,
+        schedule: "shards 2
+split m
+stride 0
+100 look 2 z 0
+",
+        first: Some(0),
     },
-    Refused {
+    List {
         name: "a step of a shard that does not exist",
-        steps: &[
-            (100, Step::Look(1, b'z', 0)),
-            (100, Step::Resume(2, 90, 110)),
-        ],
-        number: 1,
+        schedule: "shards 2
+split m
+stride 0
+100 look 1 z 0
+100 resume 2 90 110
+",
+        first: Some(1),
     },
-    Refused {
+    List {
         name: "a view that does not exist",
-        steps: &[
-            (100, Step::View(0, 0, b'a', 0)),
-            (100, Step::View(0, 1, b'a', 0)),
-        ],
-        number: 1,
+        schedule: "shards 2
+split m
+stride 0
+100 view 0 0 a 0
+100 view 0 1 a 0
+",
+        first: Some(1),
     },
-    Refused {
+    List {
         name: "a view of a shard that does not exist",
-        steps: &[(100, Step::View(2, 0, b'z', 0))],
-        number: 0,
+        schedule: "shards 2
+split m
+stride 0
+100 view 2 0 z 0
+",
+        first: Some(0),
     },
-    Refused {
+    List {
         name: "a read of a session that has not begun",
-        steps: &[(100, Step::Read(1, b'a'))],
-        number: 0,
+        schedule: "shards 2
+split m
+stride 0
+100 read 1.1 a
+",
+        first: Some(0),
     },
-    Refused {
+    List {
         name: "a close of a session that has not begun",
-        steps: &[(100, Step::Begin(1)), (100, Step::Close(2))],
-        number: 1,
+        schedule: "shards 2
+split m
+stride 0
+100 begin 1.1
+100 close 1.2
+",
+        first: Some(1),
     },
 ];
 
 // Lists with crashes, failing calls and openings.
-static STOPPING_LISTS: [Refused; 14] = [
-    Refused {
+static STOPPING_LISTS: [List; 14] = [
+    List {
         name: "an opening of a shard that is up",
-        steps: &[(100, Step::Open(0))],
-        number: 0,
+        schedule: "shards 2
+split m
+stride 0
+100 open 0
+",
+        first: Some(0),
     },
-    Refused {
+    List {
         name: "a second opening",
-        steps: &[
-            (100, Step::Crash(0)),
-            (100, Step::Open(0)),
-            (100, Step::Open(0)),
-        ],
-        number: 2,
+        schedule: "shards 2
+split m
+stride 0
+100 crash 0
+100 open 0
+100 open 0
+",
+        first: Some(2),
     },
-    Refused {
+    List {
         name: "a crash in an opening of a shard that is up",
-        steps: &[(100, Step::CrashIn(0, 0, Fate::Old, At::Open(0)))],
-        number: 0,
+        schedule: "shards 2
+split m
+stride 0
+100 crash 0 0 old open 0
+",
+        first: Some(0),
     },
-    Refused {
+    List {
         name: "a failing call in an opening of a shard that is up",
-        steps: &[(100, Step::FailIn(0, 0, At::Open(0)))],
-        number: 0,
+        schedule: "shards 2
+split m
+stride 0
+100 fail 0 0 open 0
+",
+        first: Some(0),
     },
-    Refused {
+    List {
         name: "a crash of a shard that is down",
-        steps: &[(100, Step::Crash(1)), (100, Step::Crash(1))],
-        number: 1,
+        schedule: "shards 2
+split m
+stride 0
+100 crash 1
+100 crash 1
+",
+        first: Some(1),
     },
-    Refused {
+    List {
         name: "a crash in a step of a shard that is down",
-        steps: &[
-            (100, Step::Crash(1)),
-            (100, Step::CrashIn(1, 0, Fate::Old, At::Resume(1, 90, 110))),
-        ],
-        number: 1,
+        schedule: "shards 2
+split m
+stride 0
+100 crash 1
+100 crash 1 0 old resume 1 90 110
+",
+        first: Some(1),
     },
-    Refused {
+    List {
         name: "a crash of a shard that does not exist",
-        steps: &[(100, Step::Crash(2))],
-        number: 0,
+        schedule: "shards 2
+split m
+stride 0
+100 crash 2
+",
+        first: Some(0),
     },
-    Refused {
+    List {
         name: "an opening of a shard that does not exist",
-        steps: &[(100, Step::Crash(0)), (100, Step::Open(2))],
-        number: 1,
+        schedule: "shards 2
+split m
+stride 0
+100 crash 0
+100 open 2
+",
+        first: Some(1),
     },
-    Refused {
+    List {
         name: "a crash of one shard in a step of another",
-        steps: &[(100, Step::CrashIn(0, 0, Fate::Old, At::Resume(1, 90, 110)))],
-        number: 0,
+        schedule: "shards 2
+split m
+stride 0
+100 crash 0 0 old resume 1 90 110
+",
+        first: Some(0),
     },
-    Refused {
+    List {
         name: "a failing call of one shard in a step of another",
-        steps: &[(100, Step::FailIn(1, 0, At::Resume(0, 90, 110)))],
-        number: 0,
+        schedule: "shards 2
+split m
+stride 0
+100 fail 1 0 resume 0 90 110
+",
+        first: Some(0),
     },
-    Refused {
+    List {
         name: "a crash in a step with a reading above the true time",
-        steps: &[(100, Step::CrashIn(0, 0, Fate::New, At::Resume(0, 101, 110)))],
-        number: 0,
+        schedule: "shards 2
+split m
+stride 0
+100 crash 0 0 new resume 0 101 110
+",
+        first: Some(0),
     },
-    Refused {
+    List {
         name: "a failing call in a step with a reading below the true time",
-        steps: &[(100, Step::FailIn(0, 0, At::Advance(0, 99, 90, 99)))],
-        number: 0,
+        schedule: "shards 2
+split m
+stride 0
+100 fail 0 0 advance 0 99 90 99
+",
+        first: Some(0),
     },
-    Refused {
+    List {
         name: "a crash where a message comes that was not put out",
-        steps: &[(100, Step::CrashIn(0, 0, Fate::New, At::Take(0, 0, 90, 110)))],
-        number: 0,
+        schedule: "shards 2
+split m
+stride 0
+100 crash 0 0 new deliver 0 90 110
+",
+        first: Some(0),
     },
-    Refused {
+    List {
         name: "a failing call where a message comes that is for another shard",
-        steps: &[
-            (100, Step::Begin(1)),
-            (100, Step::Read(1, b'z')),
-            (100, Step::FailIn(0, 0, At::Take(0, 0, 90, 110))),
-        ],
-        number: 2,
+        schedule: "shards 2
+split m
+stride 0
+100 begin 1.1
+100 read 1.1 z
+100 fail 0 0 deliver 0 90 110
+",
+        first: Some(2),
     },
 ];
 
-// A stopped shard may crash, and be opened. A call that fails may be one of a shard that is down.
-const STOPS: [Timed; 9] = [
-    (100, Step::FailIn(0, 0, At::Advance(0, 100, 90, 110))),
-    (100, Step::Crash(0)),
-    (100, Step::FailIn(0, 0, At::Resume(0, 90, 110))),
-    (100, Step::View(0, 0, b'a', 0)),
-    (100, Step::Look(0, b'a', 0)),
-    (100, Step::FailIn(0, 2, At::Open(0))),
-    (100, Step::Open(0)),
-    (100, Step::FailIn(0, 1, At::Advance(0, 100, 90, 110))),
-    (100, Step::Open(0)),
+// The lists that may happen.
+static LAWFUL: [List; 4] = [
+    List {
+        name: "no event",
+        schedule: "shards 2
+split m
+stride 0
+",
+        first: None,
+    },
+    List {
+        name: "a commit at one shard",
+        schedule: ONE_SHARD,
+        first: None,
+    },
+    List {
+        name: "a commit at two shards",
+        schedule: TWO_SHARDS,
+        first: None,
+    },
+    // A stopped shard may crash, and be opened. A call that fails may be one of a shard that is down.
+    List {
+        name: "stops",
+        schedule: "shards 2
+split m
+stride 0
+100 fail 0 0 advance 0 100 90 110
+100 crash 0
+100 fail 0 0 resume 0 90 110
+100 view 0 0 a 0
+100 look 0 a 0
+100 fail 0 2 open 0
+100 open 0
+100 fail 0 1 advance 0 100 90 110
+100 open 0
+",
+        first: None,
+    },
 ];
 
-// The list is refused with that number.
-fn is_refused(alloc: Global, refused: &Refused) -> bool {
-    match run(alloc, TWO, refused.steps) {
+// The events are played, or refused with that number.
+fn are_played(alloc: Global, config: &Config, events: &[Event], first: Option<u64>) -> bool {
+    match play(alloc, config, events) {
         Ok(report) => {
             drop(report);
-            false
+            first.is_none()
         }
-        Err(fault) => fault == Fault::BadRequest(Reason::Unlawful(refused.number))
-            && is_lawful(alloc, TWO, refused.steps) == Some(false),
+        Err(Fault::BadRequest(Reason::Unlawful(number))) => first == Some(number),
+        Err(_) => false,
     }
 }
 
-fn are_refused(rt: &impl Abort, alloc: Global, lists: &[Refused]) {
-    for refused in lists {
-        assert!(rt; is_refused(alloc, refused), "{}", refused.name);
+// The events are lawful where no number is given.
+fn are_judged(alloc: Global, config: &Config, events: &[Event], first: Option<u64>) -> bool {
+    match lawful(alloc, config, events) {
+        Ok(lawful) => lawful == first.is_none(),
+        Err(_) => false,
+    }
+}
+
+fn is_so(alloc: Global, list: &List) -> bool {
+    let Ok((config, events)) = schedule(alloc, list.schedule) else {
+        return false;
+    };
+    let so = are_played(alloc, &config, &events, list.first)
+        && are_judged(alloc, &config, &events, list.first);
+    drop(config);
+    drop(events);
+    so
+}
+
+fn are_so(rt: &impl Abort, alloc: Global, lists: &[List]) {
+    for list in lists {
+        assert!(rt; is_so(alloc, list), "{}", list.name);
     }
 }
 
 #[test]
 fn unlawful_lists(rt: HostRuntime) {
-    are_refused(&rt, rt.alloc(), &LISTS);
+    are_so(&rt, rt.alloc(), &LISTS);
 }
 
 #[test]
 fn unlawful_lists_with_stops(rt: HostRuntime) {
-    are_refused(&rt, rt.alloc(), &STOPPING_LISTS);
+    are_so(&rt, rt.alloc(), &STOPPING_LISTS);
 }
-
-// The lists that may happen.
-static LAWFUL: [&[Timed]; 4] = [&[], &ONE_SHARD, &TWO_SHARDS, &STOPS];
 
 #[test]
 fn lawful_lists(rt: HostRuntime) {
-    for steps in &LAWFUL {
-        let lawful = is_lawful(rt.alloc(), TWO, steps);
-        assert!(rt; lawful == Some(true), "a list of {}", steps.len());
-    }
+    are_so(&rt, rt.alloc(), &LAWFUL);
 }
