@@ -75,8 +75,8 @@ struct Inboxes {
 }
 
 fn filled<R: Wait>(rt: &R, alloc: Global) -> Option<Inboxes> {
-    let first = inbox(rt, alloc, b'a', LETTERS)?;
-    let second = inbox(rt, alloc, b'z', LETTERS)?;
+    let first = inbox(rt, alloc, b"a", LETTERS)?;
+    let second = inbox(rt, alloc, b"z", LETTERS)?;
     Some(Inboxes { first, second })
 }
 
@@ -126,7 +126,7 @@ fn meet_beside<R: Threads + Wait + time::Clock + Sync, H: Wait + Drop + Send>(
     first: &Node<SimDisk, H>,
     inboxes: Inboxes,
 ) -> Option<bool> {
-    let (second, _viewer) = fresh_node(own, alloc, 1)?;
+    let (second, _viewers) = fresh_node(own, alloc, 1, None)?;
     let met = both_meet(rt, alloc, first, &second, inboxes);
     drop(second.close());
     Some(met)
@@ -137,7 +137,7 @@ fn meet<R: Threads + Wait + time::Clock + Sync>(
     alloc: Global,
     inboxes: Inboxes,
 ) -> Option<bool> {
-    let (first, _viewer) = fresh_node(rt, alloc, 0)?;
+    let (first, _viewers) = fresh_node(rt, alloc, 0, None)?;
     let met = meet_beside(rt, rt, alloc, &first, inboxes);
     drop(first.close());
     met
