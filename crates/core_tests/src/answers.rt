@@ -8,9 +8,7 @@ pub type Shape = (u8, u8, u64, u64);
 
 #[derive(Clone, Copy)]
 pub enum Told {
-    Nothing,
-    One(Shape),
-    Two(Shape, Shape),
+    Says(&'static [Shape]),
     Refused(Fault),
 }
 
@@ -21,48 +19,34 @@ fn micros(at: Option<Stamp>) -> u64 {
     }
 }
 
-fn shape(envelope: &Envelope) -> Shape {
+fn is_shaped(envelope: &Envelope, wanted: &Shape) -> bool {
     let to = match envelope.to {
         Address::Shard(shard) => shard.number(),
         Address::Session(_) => 9,
     };
-    match &envelope.message {
-        Message::Vote(vote) => (b'v', to, vote.txn.number(), micros(vote.vote)),
-        Message::Outcome(told) => (b'o', to, told.txn.number(), micros(told.outcome)),
-        Message::Done(done) => (b'd', to, done.txn.number(), micros(done.outcome)),
-        Message::Ask(ask) => (b'a', to, ask.txn.number(), 0),
-        Message::ReadAnswer(answer) => (b'r', to, answer.txn.number(), answer.epoch.number()),
-        _ => (b'?', to, 0, 0),
-    }
-}
-
-fn is_shaped(envelope: &Envelope, wanted: Shape) -> bool {
-    let (kind, to, number, at) = shape(envelope);
+    let (kind, number, at) = match &envelope.message {
+        Message::Vote(vote) => (b'v', vote.txn.number(), micros(vote.vote)),
+        Message::Outcome(told) => (b'o', told.txn.number(), micros(told.outcome)),
+        Message::Done(done) => (b'd', done.txn.number(), micros(done.outcome)),
+        Message::Ask(ask) => (b'a', ask.txn.number(), 0),
+        Message::ReadAnswer(answer) => (b'r', answer.txn.number(), answer.epoch.number()),
+        _ => (b'?', 0, 0),
+    };
     kind == wanted.0 && to == wanted.1 && number == wanted.2 && at == wanted.3
 }
 
-pub fn says(out: &[Envelope], told: Told) -> bool {
-    match (out, told) {
-        ([], Told::Nothing) => true,
-        ([only], Told::One(wanted)) => is_shaped(only, wanted),
-        ([first, second], Told::Two(one, two)) => is_shaped(first, one) && is_shaped(second, two),
-        _ => false,
-    }
-}
-
-// The messages have the same shapes.
-pub fn are_alike(these: &[Envelope], those: &[Envelope]) -> bool {
-    for (this, that) in these.iter().zip(those) {
-        if shape(this) != shape(that) {
+pub fn are_shaped(out: &[Envelope], shapes: &[Shape]) -> bool {
+    for (envelope, wanted) in out.iter().zip(shapes) {
+        if !is_shaped(envelope, wanted) {
             return false;
         }
     }
-    these.len() == those.len()
+    out.len() == shapes.len()
 }
 
 pub fn is_told(answer: Result<Outbox, Fault>, told: Told) -> bool {
     match (answer, told) {
-        (Ok(out), told) => says(out.as_slice(), told),
+        (Ok(out), Told::Says(shapes)) => are_shaped(out.as_slice(), shapes),
         (Err(why), Told::Refused(fault)) => why == fault,
         _ => false,
     }

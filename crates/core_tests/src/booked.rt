@@ -1,57 +1,58 @@
 //! Cores that keep a book.
-use crate::answers::{Told, are_alike, says};
+use crate::answers::{Shape, Told, are_shaped, is_told};
+use crate::cores::{Setting, opened, plain};
 use crate::given::Given;
-use crate::stories::{Exchange, crashed, meets_all, setup};
-use book::{Book, Page};
-use gatelog::GateLog;
+use crate::stories::{Exchange, Origin, Shows, are_shown, disk_of, meets_all};
+use crate::verdict::told;
+use book::Page;
 use shard::Core;
 use simdisk::SimDisk;
 use std::alloc::Global;
-use std::process::Abort;
-use units::{Book as Setting, Capacity, Fault, Setup};
+use units::Fault;
 
 // The two ends of a reading, and what was put out at it.
-type Kept = (u64, u64, Told);
+type Kept = (u64, u64, &'static [Shape]);
 
-// What a core of shard 0 is given, once its disk crashed behind what was given before, where that is anything; and then: how
-// many records its opening found, its pages, and what it shows.
+// What a core of shard 0 is given that keeps a book; and then: how many records its opening found, its pages, and what it shows.
 struct Row {
     name: &'static str,
     capacity: u32,
-    before: &'static [Exchange],
+    origin: Origin,
     exchanges: &'static [Exchange],
     found: usize,
     pages: &'static [Kept],
-    last: u64,
-    decided: bool,
-    installs: usize,
+    shows: &'static [Shows],
 }
 
 const A: Given = Given::Commit(1, 0, b"a", b"1");
 
-const DONE: Told = Told::One((b'd', 9, 1, 111));
+const SETTLES: Shape = (b'd', 9, 1, 111);
+
+const DONE: Told = Told::Says(&[SETTLES]);
 
 const FULL: Told = Told::Refused(Fault::BookFull);
 
-const DECIDED: Exchange = (100, 110, A, Told::Nothing);
+const DECIDED: Exchange = (100, 110, A, Told::Says(&[]));
+
+const WAITS: &[Shows] = &[Shows::Last(111), Shows::Decided(1, 111), Shows::Installs(0)];
+
+const SETTLED: &[Shows] = &[Shows::Last(111), Shows::Decided(0, 0), Shows::Installs(1)];
 
 static ROWS: [Row; 5] = [
     Row {
         name: "a second input that would else be accepted",
         capacity: 1,
-        before: &[],
+        origin: Origin::New,
         exchanges: &[DECIDED, (112, 121, Given::Settle(1), FULL)],
         found: 0,
-        pages: &[(100, 110, Told::Nothing)],
-        last: 111,
-        decided: true,
-        installs: 0,
+        pages: &[(100, 110, &[])],
+        shows: WAITS,
     },
     // The step's own refusals come before that of the book.
     Row {
         name: "refusals of a full book",
         capacity: 1,
-        before: &[],
+        origin: Origin::New,
         exchanges: &[
             DECIDED,
             (112, 121, Given::Settle(2), Told::Refused(Fault::Stranger)),
@@ -61,164 +62,106 @@ static ROWS: [Row; 5] = [
             (111, 120, A, FULL),
         ],
         found: 0,
-        pages: &[(100, 110, Told::Nothing)],
-        last: 111,
-        decided: true,
-        installs: 0,
+        pages: &[(100, 110, &[])],
+        shows: WAITS,
     },
     // What is refused is no page.
     Row {
         name: "three inputs",
         capacity: 3,
-        before: &[],
+        origin: Origin::New,
         exchanges: &[
             DECIDED,
             (105, 112, Given::Settle(1), Told::Refused(Fault::Early)),
-            (111, 120, A, Told::Nothing),
+            (111, 120, A, Told::Says(&[])),
             (112, 121, Given::Settle(1), DONE),
             (112, 121, A, FULL),
         ],
         found: 0,
-        pages: &[
-            (100, 110, Told::Nothing),
-            (111, 120, Told::Nothing),
-            (112, 121, DONE),
-        ],
-        last: 111,
-        decided: false,
-        installs: 1,
+        pages: &[(100, 110, &[]), (111, 120, &[]), (112, 121, &[SETTLES])],
+        shows: SETTLED,
     },
     // Its opening found Opened 1 and the decision.
     Row {
         name: "a book behind a crash",
         capacity: 2,
-        before: &[DECIDED],
+        origin: Origin::Crashed(&[DECIDED]),
         exchanges: &[(112, 121, Given::Settle(1), DONE), (112, 121, A, DONE)],
         found: 2,
-        pages: &[(112, 121, DONE), (112, 121, DONE)],
-        last: 111,
-        decided: false,
-        installs: 1,
+        pages: &[(112, 121, &[SETTLES]), (112, 121, &[SETTLES])],
+        shows: SETTLED,
     },
     Row {
         name: "the largest book",
         capacity: 65_536,
-        before: &[],
+        origin: Origin::New,
         exchanges: &[DECIDED],
         found: 0,
-        pages: &[(100, 110, Told::Nothing)],
-        last: 111,
-        decided: true,
-        installs: 0,
+        pages: &[(100, 110, &[])],
+        shows: WAITS,
     },
 ];
 
-fn told_to_keep(alloc: Global, capacity: u32) -> Option<Setup> {
-    let capacity = Capacity::new(capacity)?;
-    let told = setup(alloc, 0, 0)?;
-    Some(Setup {
-        book: Setting::On(capacity),
-        ..told
-    })
-}
-
-// The disk on which the core begins.
-fn disk_of(alloc: Global, row: &Row) -> Option<SimDisk> {
-    if row.before.is_empty() {
-        let log = GateLog::format(SimDisk::new(alloc)).ok()?;
-        return Some(log.into_disk());
-    }
-    crashed(alloc, 0, 0, row.before)
-}
-
-fn begun(alloc: Global, row: &Row, told: Setup) -> Option<Core<SimDisk>> {
-    let Some(disk) = disk_of(alloc, row) else {
-        drop(told);
-        return None;
-    };
-    Core::open(alloc, disk, told).ok()
-}
-
-fn shows(core: &Core<SimDisk>, row: &Row) -> bool {
-    core.last().micros() == row.last
-        && core.decided(0).is_some() == row.decided
-        && core.installs().len() == row.installs
-}
-
-fn is_page(page: &Page, kept: Kept) -> bool {
-    let (earliest, latest, told) = kept;
-    page.reading().earliest().micros() == earliest
-        && page.reading().latest().micros() == latest
-        && says(page.outbox(), told)
-}
-
-fn are_pages(pages: &[Page], row: &Row) -> bool {
-    for (page, kept) in pages.iter().zip(row.pages) {
-        if !is_page(page, *kept) {
+// Whether the pages are these, and a core that is given them puts out the same.
+fn replays(core: &mut Core<SimDisk>, alloc: Global, pages: &[Page], kept: &[Kept]) -> bool {
+    for (page, (earliest, latest, shapes)) in pages.iter().zip(kept) {
+        let now = page.reading();
+        if now.earliest().micros() != *earliest
+            || now.latest().micros() != *latest
+            || !are_shaped(page.outbox(), shapes)
+            || !is_told(core.on(alloc, &now, page.input()), Told::Says(shapes))
+        {
             return false;
         }
     }
-    pages.len() == row.pages.len()
-}
-
-// The same inputs at the same readings are accepted, and put out the same.
-fn follows(core: &mut Core<SimDisk>, alloc: Global, pages: &[Page]) -> bool {
-    for page in pages {
-        match core.on(alloc, &page.reading(), page.input()) {
-            Ok(out) => {
-                let alike = are_alike(out.as_slice(), page.outbox());
-                drop(out);
-                if !alike {
-                    return false;
-                }
-            }
-            Err(_) => return false,
-        }
-    }
-    true
+    pages.len() == kept.len()
 }
 
 // A core that came to be in the same way and keeps no book, given the pages, comes to the same.
-fn replays(alloc: Global, row: &Row, book: &Book) -> bool {
-    let Some(told) = setup(alloc, 0, 0) else {
+fn is_kept(core: &Core<SimDisk>, again: &mut Core<SimDisk>, alloc: Global, row: &Row) -> bool {
+    let Some(book) = core.book() else {
         return false;
     };
-    let Some(mut again) = begun(alloc, row, told) else {
+    book.found().len() == row.found
+        && replays(again, alloc, book.pages(), row.pages)
+        && again.book().is_none()
+        && are_shown(core, row.shows)
+        && are_shown(again, row.shows)
+}
+
+fn begun(alloc: Global, row: &Row, capacity: u32) -> Option<Core<SimDisk>> {
+    let setting = Setting {
+        capacity,
+        ..plain(0, 0)
+    };
+    match disk_of(alloc, setting, row.origin) {
+        Some(disk) => opened(alloc, disk, setting).ok(),
+        None => None,
+    }
+}
+
+// Beside a core that is given what the row says, and keeps a book.
+fn replays_beside(core: &Core<SimDisk>, alloc: Global, row: &Row) -> bool {
+    let Some(mut again) = begun(alloc, row, 0) else {
         return false;
     };
-    let same = follows(&mut again, alloc, book.pages());
-    let shown = again.book().is_none() && shows(&again, row);
+    let kept = is_kept(core, &mut again, alloc, row);
     drop(again.stop());
-    same && shown
+    kept
 }
 
-fn is_kept(alloc: Global, core: &Core<SimDisk>, row: &Row) -> bool {
-    match core.book() {
-        Some(book) => {
-            book.found().len() == row.found
-                && are_pages(book.pages(), row)
-                && replays(alloc, row, book)
-        }
-        None => false,
-    }
-}
-
-fn holds(alloc: Global, row: &Row) -> Option<bool> {
-    let told = told_to_keep(alloc, row.capacity)?;
-    let mut core = begun(alloc, row, told)?;
-    let met = meets_all(&mut core, alloc, row.exchanges);
-    let kept = shows(&core, row) && is_kept(alloc, &core, row);
+fn holds(alloc: Global, row: &Row) -> bool {
+    let Some(mut core) = begun(alloc, row, row.capacity) else {
+        return false;
+    };
+    let met = meets_all(&mut core, alloc, row.exchanges) && replays_beside(&core, alloc, row);
     drop(core.stop());
-    Some(met && kept)
-}
-
-fn tell(rt: &impl Abort, alloc: Global) {
-    for row in &ROWS {
-        assert!(rt; matches!(holds(alloc, row), Some(true)), "{}", row.name);
-    }
+    met
 }
 
 #[test]
 fn a_book_is_kept_and_replays(rt: HostRuntime) {
-    tell(&rt, rt.alloc());
+    for row in &ROWS {
+        told(&rt, holds(rt.alloc(), row), row.name, 0);
+    }
 }

@@ -10,14 +10,19 @@ static COORDINATING: [Story; 4] = [
         stride: 0,
         origin: Origin::New,
         exchanges: &[
-            (100, 110, Given::Vote(2, 200), Told::Nothing),
-            (100, 110, Given::CommitOfBoth(2, b"a", b"1"), Told::Nothing),
-            (100, 110, Given::Vote(2, 200), Told::Nothing),
+            (100, 110, Given::Vote(2, 200), Told::Says(&[])),
+            (
+                100,
+                110,
+                Given::CommitOfBoth(2, b"a", b"1"),
+                Told::Says(&[]),
+            ),
+            (100, 110, Given::Vote(2, 200), Told::Says(&[])),
             (
                 201,
                 230,
                 Given::Settle(2),
-                Told::Two((b'd', 9, 2, 200), (b'o', 1, 2, 200)),
+                Told::Says(&[(b'd', 9, 2, 200), (b'o', 1, 2, 200)]),
             ),
         ],
         moments: &[
@@ -41,12 +46,12 @@ static COORDINATING: [Story; 4] = [
         stride: 0,
         origin: Origin::New,
         exchanges: &[
-            (100, 110, Given::GiveUp(4), Told::Nothing),
+            (100, 110, Given::GiveUp(4), Told::Says(&[])),
             (
                 100,
                 110,
                 Given::Commit(4, 0, b"a", b"1"),
-                Told::One((b'd', 9, 4, 0)),
+                Told::Says(&[(b'd', 9, 4, 0)]),
             ),
         ],
         // The opening, the abort and a closed gate.
@@ -61,12 +66,12 @@ static COORDINATING: [Story; 4] = [
         stride: 0,
         origin: Origin::New,
         exchanges: &[
-            (100, 110, Given::Ask(9), Told::One((b'o', 1, 9, 0))),
+            (100, 110, Given::Ask(9), Told::Says(&[(b'o', 1, 9, 0)])),
             (
                 100,
                 110,
                 Given::CommitOfBoth(9, b"a", b"1"),
-                Told::One((b'd', 9, 9, 0)),
+                Told::Says(&[(b'd', 9, 9, 0)]),
             ),
         ],
         moments: &[Moment {
@@ -81,13 +86,18 @@ static COORDINATING: [Story; 4] = [
         stride: 0,
         origin: Origin::New,
         exchanges: &[
-            (100, 110, Given::CommitOfBoth(3, b"a", b"1"), Told::Nothing),
-            (100, 110, Given::Vote(3, 90), Told::Nothing),
+            (
+                100,
+                110,
+                Given::CommitOfBoth(3, b"a", b"1"),
+                Told::Says(&[]),
+            ),
+            (100, 110, Given::Vote(3, 90), Told::Says(&[])),
             (
                 112,
                 121,
                 Given::Settle(3),
-                Told::Two((b'd', 9, 3, 111), (b'o', 1, 3, 111)),
+                Told::Says(&[(b'd', 9, 3, 111), (b'o', 1, 3, 111)]),
             ),
         ],
         moments: &[Moment {

@@ -1,38 +1,28 @@
-//! What viewers see beside a desk, and on another thread beside a node.
-use crate::letters_given::{outcome, prepare};
+//! What a viewer sees beside a desk.
+use crate::answers::{Told, is_told};
+use crate::given::{Given, input_of, reading};
 use crate::logs::{Line, holds};
-use crate::nodes::{fresh_desk, fresh_node, reading};
+use crate::looks::{Look, are_seen, is_seen};
+use crate::nodes::fresh;
+use crate::verdict::told;
 use board::Viewer;
 use desk::Desk;
-use made::{key, stamp};
-use message::{Address, Envelope, Input, Message};
-use node::Node;
+use made::stamp;
 use simdisk::SimDisk;
 use std::alloc::Global;
 use std::sync::Wait;
-use std::thread;
-use std::thread::Threads;
 use truetime::Reading;
 use units::{Fault, Seen};
 
-// What the desk is given, and what it answers: the timestamp of its vote, or the served time that it tells.
+// What the desk is given, and what it answers, or the served time of an advance and what it tells of it.
 #[derive(Clone, Copy)]
 enum Act {
     Nothing,
-    Prepare { votes: u64 },
-    Outcome { at: u64 },
-    Advance { to: u64, tells: u64 },
-}
-
-// A look for `z`.
-#[derive(Clone, Copy)]
-struct Look {
-    at: u64,
-    sees: Result<Seen, Fault>,
+    Deliver(Given, Told),
+    Advance(u64, u64),
 }
 
 // What the desk is given at a reading, and what its viewer sees and its log holds then.
-#[derive(Clone, Copy)]
 struct Scene {
     name: &'static str,
     earliest: u64,
@@ -49,70 +39,34 @@ static SCENES: [Scene; 5] = [
         earliest: 0,
         latest: 0,
         act: Act::Nothing,
-        looks: &[
-            Look {
-                at: 0,
-                sees: Ok(Seen::Absent),
-            },
-            Look {
-                at: 1,
-                sees: Err(Fault::NotYet),
-            },
-        ],
+        looks: &[(0, Ok(Seen::Absent)), (1, Err(Fault::NotYet))],
         log: &[Line::Opened(1)],
     },
     Scene {
         name: "a promise is not shown",
         earliest: 200,
         latest: 210,
-        act: Act::Prepare { votes: 200 },
-        looks: &[
-            Look {
-                at: 0,
-                sees: Ok(Seen::Absent),
-            },
-            Look {
-                at: 1,
-                sees: Err(Fault::NotYet),
-            },
-        ],
+        act: Act::Deliver(
+            Given::Prepare(2, b"z", b"2"),
+            Told::Says(&[(b'v', 0, 2, 200)]),
+        ),
+        looks: &[(0, Ok(Seen::Absent)), (1, Err(Fault::NotYet))],
         log: &[Line::Opened(1), Line::Promised(200)],
     },
     Scene {
         name: "an advance shows what is below the promise",
         earliest: 250,
         latest: 260,
-        act: Act::Advance {
-            to: 250,
-            tells: 199,
-        },
-        looks: &[
-            Look {
-                at: 199,
-                sees: Ok(Seen::Absent),
-            },
-            Look {
-                at: 200,
-                sees: Err(Fault::NotYet),
-            },
-        ],
+        act: Act::Advance(250, 199),
+        looks: &[(199, Ok(Seen::Absent)), (200, Err(Fault::NotYet))],
         log: &[Line::Opened(1), Line::Promised(200), Line::Ceiling(250)],
     },
     Scene {
         name: "an outcome is not shown",
         earliest: 260,
         latest: 270,
-        act: Act::Outcome { at: 200 },
-        looks: &[
-            Look {
-                at: 199,
-                sees: Ok(Seen::Absent),
-            },
-            Look {
-                at: 200,
-                sees: Err(Fault::NotYet),
-            },
-        ],
+        act: Act::Deliver(Given::Outcome(2, 200), Told::Says(&[])),
+        looks: &[(199, Ok(Seen::Absent)), (200, Err(Fault::NotYet))],
         log: &[
             Line::Opened(1),
             Line::Promised(200),
@@ -124,27 +78,12 @@ static SCENES: [Scene; 5] = [
         name: "the next advance shows it",
         earliest: 270,
         latest: 280,
-        act: Act::Advance {
-            to: 250,
-            tells: 250,
-        },
+        act: Act::Advance(250, 250),
         looks: &[
-            Look {
-                at: 199,
-                sees: Ok(Seen::Absent),
-            },
-            Look {
-                at: 200,
-                sees: Ok(Seen::Value(1)),
-            },
-            Look {
-                at: 250,
-                sees: Ok(Seen::Value(1)),
-            },
-            Look {
-                at: 251,
-                sees: Err(Fault::NotYet),
-            },
+            (199, Ok(Seen::Absent)),
+            (200, Ok(Seen::Value(1))),
+            (250, Ok(Seen::Value(1))),
+            (251, Err(Fault::NotYet)),
         ],
         // Nothing was logged.
         log: &[
@@ -156,83 +95,19 @@ static SCENES: [Scene; 5] = [
     },
 ];
 
-// Whether a look sees this, in a buffer of four bytes which were 9 before: the value is 2.
-fn is_seen(viewer: &mut Viewer, look: Look) -> bool {
-    let mut buffer = [9u8; 4];
-    let seen = viewer.look(&key(b'z'), stamp(look.at), &mut buffer);
-    let bytes = match look.sees {
-        Ok(Seen::Value(_)) => [b'2', 9, 9, 9],
-        _ => [9; 4],
-    };
-    seen == look.sees && buffer == bytes
-}
-
-fn are_seen(viewer: &mut Viewer, looks: &[Look]) -> bool {
-    for look in looks {
-        if !is_seen(viewer, *look) {
-            return false;
-        }
-    }
-    true
-}
-
-fn is_to_shard_0(to: Address) -> bool {
-    match to {
-        Address::Shard(shard) => shard.number() == 0,
-        Address::Session(_) => false,
-    }
-}
-
-fn is_yes(message: &Message, at: u64) -> bool {
-    match message {
-        Message::Vote(vote) => match vote.vote {
-            Some(yes) => yes.micros() == at,
-            None => false,
-        },
-        _ => false,
-    }
-}
-
-// Whether it is one yes vote to shard 0; of no timestamp, whether it is nothing.
-fn votes(out: &[Envelope], at: Option<u64>) -> bool {
-    match (out, at) {
-        ([], None) => true,
-        ([only], Some(at)) => is_to_shard_0(only.to) && is_yes(&only.message, at),
-        _ => false,
-    }
-}
-
 fn is_delivered<R: Wait + Drop>(
     desk: &mut Desk<SimDisk, R>,
+    alloc: Global,
     now: &Reading,
-    input: Option<Input>,
-    at: Option<u64>,
+    given: Given,
+    told: Told,
 ) -> bool {
-    let Some(input) = input else {
+    let Some(input) = input_of(alloc, given) else {
         return false;
     };
     let delivered = desk.deliver(now, &input);
     drop(input);
-    match delivered {
-        Ok(out) => {
-            let voted = votes(out.as_slice(), at);
-            drop(out);
-            voted
-        }
-        Err(_) => false,
-    }
-}
-
-fn is_advanced<R: Wait + Drop>(
-    desk: &mut Desk<SimDisk, R>,
-    now: &Reading,
-    to: u64,
-    tells: u64,
-) -> bool {
-    match desk.advance(now, stamp(to)) {
-        Ok(told) => told.safe().micros() == tells,
-        Err(_) => false,
-    }
+    is_told(delivered, told)
 }
 
 fn is_acted<R: Wait + Drop>(
@@ -243,21 +118,11 @@ fn is_acted<R: Wait + Drop>(
 ) -> bool {
     match act {
         Act::Nothing => true,
-        Act::Prepare { votes } => is_delivered(desk, now, prepare(alloc), Some(votes)),
-        Act::Outcome { at } => is_delivered(desk, now, Some(outcome(at)), None),
-        Act::Advance { to, tells } => is_advanced(desk, now, to, tells),
-    }
-}
-
-fn is_played<R: Wait + Drop>(
-    desk: &mut Desk<SimDisk, R>,
-    alloc: Global,
-    viewer: &mut Viewer,
-    scene: &Scene,
-) -> bool {
-    match reading(scene.earliest, scene.latest) {
-        Some(now) => is_acted(desk, alloc, &now, scene.act) && are_seen(viewer, scene.looks),
-        None => false,
+        Act::Deliver(given, told) => is_delivered(desk, alloc, now, given, told),
+        Act::Advance(to, tells) => match desk.advance(now, stamp(to)) {
+            Ok(told) => told.safe().micros() == tells,
+            Err(_) => false,
+        },
     }
 }
 
@@ -268,7 +133,10 @@ fn are_played<R: Wait + Drop>(
     scenes: &[Scene],
 ) -> bool {
     for scene in scenes {
-        if !is_played(desk, alloc, viewer, scene) {
+        let Some(now) = reading(scene.earliest, scene.latest) else {
+            return false;
+        };
+        if !is_acted(desk, alloc, &now, scene.act) || !are_seen(viewer, scene.looks) {
             return false;
         }
     }
@@ -276,81 +144,51 @@ fn are_played<R: Wait + Drop>(
 }
 
 // Whether the scenes go as they are told, and the log holds this at their end. The viewer is refused from then on.
-fn go<R: Wait + Drop>(rt: R, alloc: Global, scenes: &[Scene], log: &[Line]) -> Option<bool> {
-    let (mut desk, mut viewer) = fresh_desk(rt, alloc, 1)?;
-    let played = are_played(&mut desk, alloc, &mut viewer, scenes);
+fn are_held<R: Wait + Drop>(
+    mut desk: Desk<SimDisk, R>,
+    alloc: Global,
+    viewer: &mut Viewer,
+    scenes: &[Scene],
+    log: &[Line],
+) -> bool {
+    let played = are_played(&mut desk, alloc, viewer, scenes);
     let held = holds(alloc, desk.close(), log);
-    let ended = Look {
-        at: 0,
-        sees: Err(Fault::Stopped),
-    };
-    let refused = is_seen(&mut viewer, ended);
-    drop(viewer);
-    Some(played && held && refused)
+    played && held && is_seen(viewer, (0, Err(Fault::Stopped)))
 }
 
-fn go_until<R: Wait + Drop>(rt: R, alloc: Global, last: usize) -> Option<bool> {
-    let log = SCENES.get(last)?.log;
-    go(rt, alloc, SCENES.get(..=last)?, log)
+// Of a new shard on a new disk.
+fn go<R: Wait + Drop>(rt: R, alloc: Global, scenes: &[Scene], log: &[Line]) -> bool {
+    let Some(core) = fresh(alloc, 1, None) else {
+        return false;
+    };
+    match Desk::new(rt, alloc, core, 1) {
+        Ok((desk, mut viewers)) => match viewers.as_mut_slice() {
+            [viewer] => are_held(desk, alloc, viewer, scenes, log),
+            _ => false,
+        },
+        Err((_, core)) => {
+            drop(core.stop());
+            false
+        }
+    }
+}
+
+fn go_until<R: Wait + Drop>(rt: R, alloc: Global, last: usize, scene: &Scene) -> bool {
+    match SCENES.get(..=last) {
+        Some(scenes) => go(rt, alloc, scenes, scene.log),
+        None => false,
+    }
 }
 
 // It fails where viewers always answer that they are stopped.
 #[test]
 fn always_stopped_viewer(rt: HostRuntime) {
     for (last, scene) in SCENES.iter().enumerate() {
-        let went = go_until(&rt, rt.alloc(), last);
-        assert_eq!(rt; went, Some(true), "{}", scene.name);
+        told(
+            &rt,
+            go_until(&rt, rt.alloc(), last, scene),
+            scene.name,
+            last,
+        );
     }
-}
-
-fn is_taken<R: Wait>(rt: &R, node: &Node<SimDisk, &R>, now: &Reading, input: &Input) -> bool {
-    let delivered = node.deliver(rt, now, input);
-    let taken = delivered.is_ok();
-    drop(delivered);
-    taken
-}
-
-fn is_shown<R: Wait>(rt: &R, node: &Node<SimDisk, &R>, now: &Reading) -> bool {
-    node.advance(rt, now, now.latest()).is_ok()
-}
-
-fn is_seen_there<R: Threads + Sync>(rt: &R, mut viewer: Viewer, look: Look) -> bool {
-    thread::join(rt, move || is_seen(&mut viewer, look), || ()).0
-}
-
-// Whether a look on another thread sees what 1.2 wrote at 200, once the node has advanced to 210.
-fn is_read_back<R: Threads + Wait + Sync>(
-    rt: &R,
-    alloc: Global,
-    now: &Reading,
-    promise: &Input,
-) -> Option<bool> {
-    let (node, viewer) = fresh_node(rt, alloc, 1)?;
-    let decided = outcome(200);
-    let taken = is_taken(rt, &node, now, promise) && is_taken(rt, &node, now, &decided);
-    drop(decided);
-    let shown = is_shown(rt, &node, now);
-    let seen = is_seen_there(
-        rt,
-        viewer,
-        Look {
-            at: 210,
-            sees: Ok(Seen::Value(1)),
-        },
-    );
-    drop(node.close());
-    Some(taken && shown && seen)
-}
-
-fn reads_back<R: Threads + Wait + Sync>(rt: &R, alloc: Global) -> Option<bool> {
-    let now = reading(200, 210)?;
-    let promise = prepare(alloc)?;
-    let read = is_read_back(rt, alloc, &now, &promise);
-    drop(promise);
-    read
-}
-
-#[test]
-fn a_look_on_another_thread_reads_an_advanced_write_back(rt: HostRuntime) {
-    assert_eq!(rt; reads_back(&rt, rt.alloc()), Some(true));
 }

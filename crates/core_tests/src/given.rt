@@ -39,78 +39,66 @@ pub fn reading(earliest: u64, latest: u64) -> Option<Reading> {
 }
 
 fn one_write(alloc: Global, key: &[u8], value: &[u8]) -> Option<Writes> {
-    let key = Key::new(key).ok()?;
-    let value = Some(Value::new(alloc, value).ok()?);
-    let write = Write { key, value };
+    let Ok(key) = Key::new(key) else {
+        return None;
+    };
+    let Ok(value) = Value::new(alloc, value) else {
+        return None;
+    };
+    let write = Write {
+        key,
+        value: Some(value),
+    };
     Writes::from_vec(vec![in alloc; write].ok()?).ok()
 }
 
 fn has_read(alloc: Global, key: &[u8]) -> Option<Reads> {
-    let key = Key::new(key).ok()?;
+    let Ok(key) = Key::new(key) else {
+        return None;
+    };
     let keys = Keys::from_vec(vec![in alloc; key].ok()?).ok()?;
     Reads::new(Epoch::first(), keys).ok()
 }
 
-fn commit(alloc: Global, number: u16, parts: Parts, key: &[u8], value: &[u8]) -> Option<Message> {
-    let writes = one_write(alloc, key, value)?;
-    Some(Message::Commit(Commit {
-        txn: id(number),
-        parts,
-        reads: Reads::none(alloc),
-        writes,
-    }))
-}
-
-fn prepare(number: u16, reads: Reads, writes: Writes) -> Message {
-    Message::Prepare(Prepare {
-        txn: id(number),
-        coordinator: shard(0),
-        reads,
-        writes,
-    })
-}
-
-fn prepare_of_writer(alloc: Global, number: u16, key: &[u8], value: &[u8]) -> Option<Message> {
-    let writes = one_write(alloc, key, value)?;
-    Some(prepare(number, Reads::none(alloc), writes))
-}
-
-fn prepare_of_reader(alloc: Global, number: u16, key: &[u8], value: &[u8]) -> Option<Message> {
-    let writes = one_write(alloc, key, value)?;
-    let reads = has_read(alloc, key)?;
-    Some(prepare(number, reads, writes))
-}
-
-fn prepare_of_read(alloc: Global, number: u16, key: &[u8]) -> Option<Message> {
-    let reads = has_read(alloc, key)?;
-    Some(prepare(number, reads, Writes::none(alloc)))
-}
-
-// A request, with its keys and values.
-fn request(alloc: Global, given: Given) -> Option<Message> {
-    match given {
-        Given::Commit(number, part, key, value) => {
-            commit(alloc, number, Parts::only(shard(part)), key, value)
-        }
-        Given::CommitOfBoth(number, key, value) => {
-            commit(alloc, number, Parts::from_mask(3)?, key, value)
-        }
-        Given::Prepare(number, key, value) => prepare_of_writer(alloc, number, key, value),
-        Given::PrepareOfReader(number, key, value) => prepare_of_reader(alloc, number, key, value),
-        Given::PrepareOfRead(number, key) => prepare_of_read(alloc, number, key),
+fn commit(
+    alloc: Global,
+    number: u16,
+    parts: Option<Parts>,
+    writes: Option<Writes>,
+) -> Option<Input> {
+    match (parts, writes) {
+        (Some(parts), Some(writes)) => Some(Input::Deliver(Message::Commit(Commit {
+            txn: id(number),
+            parts,
+            reads: Reads::none(alloc),
+            writes,
+        }))),
         _ => None,
     }
 }
 
-fn read(number: u16, key: &[u8]) -> Option<Message> {
-    let key = Key::new(key).ok()?;
-    Some(Message::Read(Read {
-        txn: id(number),
-        key,
-    }))
+fn prepare(number: u16, reads: Option<Reads>, writes: Option<Writes>) -> Option<Input> {
+    match (reads, writes) {
+        (Some(reads), Some(writes)) => Some(Input::Deliver(Message::Prepare(Prepare {
+            txn: id(number),
+            coordinator: shard(0),
+            reads,
+            writes,
+        }))),
+        _ => None,
+    }
 }
 
-// Any other message.
+pub fn read(number: u16, key: &[u8]) -> Option<Message> {
+    match Key::new(key) {
+        Ok(key) => Some(Message::Read(Read {
+            txn: id(number),
+            key,
+        })),
+        Err(_) => None,
+    }
+}
+
 fn notice(given: Given) -> Option<Message> {
     match given {
         Given::Read(number, key) => read(number, key),
@@ -133,19 +121,47 @@ fn notice(given: Given) -> Option<Message> {
     }
 }
 
-fn message_of(alloc: Global, given: Given) -> Option<Message> {
-    match request(alloc, given) {
-        Some(message) => Some(message),
-        None => notice(given),
-    }
-}
-
-pub fn input_of(alloc: Global, given: Given) -> Option<Input> {
+// A chore, or a message without writes.
+fn plain(given: Given) -> Option<Input> {
     match given {
         Given::Settle(number) => Some(Input::Settle(id(number))),
         Given::Nudge(number) => Some(Input::Nudge(id(number))),
         Given::Advance(to) => Some(Input::Advance(stamp(to))),
         Given::Resume => Some(Input::Resume),
-        _ => Some(Input::Deliver(message_of(alloc, given)?)),
+        _ => match notice(given) {
+            Some(message) => Some(Input::Deliver(message)),
+            None => None,
+        },
+    }
+}
+
+pub fn input_of(alloc: Global, given: Given) -> Option<Input> {
+    match given {
+        Given::Commit(number, part, key, value) => {
+            let parts = Parts::only(shard(part));
+            commit(alloc, number, Some(parts), one_write(alloc, key, value))
+        }
+        Given::CommitOfBoth(number, key, value) => {
+            commit(
+                alloc,
+                number,
+                Parts::from_mask(3),
+                one_write(alloc, key, value),
+            )
+        }
+        Given::Prepare(number, key, value) => {
+            prepare(
+                number,
+                Some(Reads::none(alloc)),
+                one_write(alloc, key, value),
+            )
+        }
+        Given::PrepareOfReader(number, key, value) => {
+            prepare(number, has_read(alloc, key), one_write(alloc, key, value))
+        }
+        Given::PrepareOfRead(number, key) => {
+            prepare(number, has_read(alloc, key), Some(Writes::none(alloc)))
+        }
+        _ => plain(given),
     }
 }

@@ -1,8 +1,10 @@
 //! A node that is served by the letters of its inbox.
-use crate::letters_given::read;
-use crate::nodes::{fresh_node, reading};
+use crate::given::{read, reading};
+use crate::nodes::fresh_node;
+use crate::verdict::told;
 use crossbeam_channel::{Receiver, Sender, unbounded};
 use letters::{Letter, Post};
+use made::id;
 use message::{Address, Answer, Envelope, Message};
 use node::Gate;
 use std::alloc::Global;
@@ -51,53 +53,48 @@ fn is_sent<R: Wait>(rt: &R, to: &Sender<Letter>, letter: Letter) -> bool {
 }
 
 // Sends reads of a key, of 1.1 and on, and then the end.
-fn is_filled<R: Wait>(rt: &R, to: &Sender<Letter>, key: u8, letters: u16) -> bool {
+fn is_filled<R: Wait>(rt: &R, to: &Sender<Letter>, key: &[u8], letters: u16) -> bool {
     for before in 0..letters {
-        if !is_sent(rt, to, Letter::Carry(read(before + 1, key))) {
+        let Some(message) = read(before + 1, key) else {
+            return false;
+        };
+        if !is_sent(rt, to, Letter::Carry(message)) {
             return false;
         }
     }
     is_sent(rt, to, Letter::Close)
 }
 
-/// An inbox with so many reads of a key of one letter, of 1.1 and on, and then the end.
-pub fn inbox<R: Wait>(rt: &R, alloc: Global, key: u8, letters: u16) -> Option<Receiver<Letter>> {
+/// An inbox with so many reads of a key, of 1.1 and on, and then the end.
+pub fn inbox<R: Wait>(rt: &R, alloc: Global, key: &[u8], letters: u16) -> Option<Receiver<Letter>> {
     let (to, from) = unbounded(alloc).ok()?;
     let filled = is_filled(rt, &to, key, letters);
     if filled { Some(from) } else { None }
 }
 
-// What a node of shard 1 posts while it is served from an inbox.
-fn posted<R: Wait + time::Clock>(
-    rt: &R,
-    alloc: Global,
-    inbox: &Receiver<Letter>,
-) -> Option<Vec<Envelope>> {
-    let (node, _viewer) = fresh_node(rt, alloc, 1)?;
-    let mut post = Kept {
-        envelopes: Vec::new(alloc),
+// Serves a node of shard 1 by an inbox of so many reads of `z`.
+fn is_served<R: Wait + time::Clock>(rt: &R, alloc: Global, letters: u16, post: &mut Kept) -> bool {
+    let Some((node, viewers)) = fresh_node(rt, alloc, 1, None) else {
+        return false;
     };
-    node.serve(rt, inbox, &mut post, &mut Standing, &Open);
+    drop(viewers);
+    let filled = match inbox(rt, alloc, b"z", letters) {
+        Some(inbox) => {
+            node.serve(rt, &inbox, post, &mut Standing, &Open);
+            drop(inbox);
+            true
+        }
+        None => false,
+    };
     drop(node.close());
-    Some(post.envelopes)
+    filled
 }
 
-fn is_of(txn: TxnId, number: u16) -> bool {
-    txn.run() == 1 && txn.number() == u64::from(number)
-}
-
-// Whether it goes to the session of 1.number.
-fn is_to(to: Address, number: u16) -> bool {
-    match to {
-        Address::Session(txn) => is_of(txn, number),
-        Address::Shard(_) => false,
-    }
-}
-
-// Whether it says of 1.number that shard 1 holds no `z`, in its first epoch.
-fn is_told(message: &Message, number: u16) -> bool {
-    match message {
-        Message::ReadAnswer(told) => is_of(told.txn, number)
+// Whether it says to the session of the transaction that shard 1 holds no `z`, in its first epoch.
+fn is_answer(envelope: &Envelope, txn: TxnId) -> bool {
+    match (envelope.to, &envelope.message) {
+        (Address::Session(to), Message::ReadAnswer(told)) => to == txn
+            && told.txn == txn
             && told.from.number() == 1
             && told.key.as_bytes() == b"z".as_slice()
             && told.epoch.number() == 1
@@ -111,7 +108,7 @@ fn are_answers(envelopes: &[Envelope], letters: u16) -> bool {
     for before in 0..letters {
         match envelopes.get(usize::from(before)) {
             Some(envelope) => {
-                if !is_to(envelope.to, before + 1) || !is_told(&envelope.message, before + 1) {
+                if !is_answer(envelope, id(before + 1)) {
                     return false;
                 }
             }
@@ -121,14 +118,18 @@ fn are_answers(envelopes: &[Envelope], letters: u16) -> bool {
     envelopes.len() == usize::from(letters)
 }
 
-fn answers<R: Wait + time::Clock>(rt: &R, alloc: Global, letters: u16) -> Option<bool> {
-    let inbox = inbox(rt, alloc, b'z', letters)?;
-    let envelopes = posted(rt, alloc, &inbox)?;
-    Some(are_answers(envelopes.as_slice(), letters))
+fn answers<R: Wait + time::Clock>(rt: &R, alloc: Global, letters: u16) -> bool {
+    let mut post = Kept {
+        envelopes: Vec::new(alloc),
+    };
+    let served = is_served(rt, alloc, letters, &mut post);
+    let answered = are_answers(post.envelopes.as_slice(), letters);
+    drop(post);
+    served && answered
 }
 
 // It fails where serving loses letters or answers.
 #[test]
 fn lose_letters(rt: HostRuntime) {
-    assert_eq!(rt; answers(&rt, rt.alloc(), 100), Some(true));
+    told(&rt, answers(&rt, rt.alloc(), 100), "letters", 100);
 }

@@ -8,15 +8,17 @@ mod booked;
 #[cfg(test)]
 mod coordinating;
 #[cfg(test)]
+mod cores;
+#[cfg(test)]
 mod desks;
 #[cfg(test)]
 mod given;
 #[cfg(test)]
-mod letters_given;
-#[cfg(test)]
 mod letters_served;
 #[cfg(test)]
 mod logs;
+#[cfg(test)]
+mod looks;
 #[cfg(test)]
 mod meetings;
 #[cfg(test)]
@@ -33,3 +35,5 @@ mod restarts;
 mod served;
 #[cfg(test)]
 mod stories;
+#[cfg(test)]
+mod verdict;

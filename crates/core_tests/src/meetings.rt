@@ -1,8 +1,8 @@
 //! Two nodes, each on a thread of its own, whose letters wait for each other.
 use crate::letters_served::{Standing, inbox};
 use crate::nodes::fresh_node;
-use crossbeam_channel::Receiver;
-use letters::{Letter, Post};
+use crate::verdict::told;
+use letters::Post;
 use message::Envelope;
 use node::{Gate, Node, Served, start};
 use simdisk::SimDisk;
@@ -37,6 +37,7 @@ struct Meeting<'a, R> {
     first: AtomicU64,
     second: AtomicU64,
     missed: AtomicU64,
+    posted: AtomicU64,
 }
 
 impl<R: time::Clock> Meeting<'_, R> {
@@ -68,89 +69,90 @@ impl<R: time::Clock> Gate for Meeting<'_, R> {
     fn after(&self, _shard: ShardNo, _n: u64) {}
 }
 
-// An inbox for each node.
-#[derive(Drop)]
-struct Inboxes {
-    first: Receiver<Letter>,
-    second: Receiver<Letter>,
-}
-
-fn filled<R: Wait>(rt: &R, alloc: Global) -> Option<Inboxes> {
-    let first = inbox(rt, alloc, b'a', LETTERS)?;
-    let second = inbox(rt, alloc, b'z', LETTERS)?;
-    Some(Inboxes { first, second })
-}
-
-// Whether no letter was held in vain, and each was answered.
-fn have_met<R>(gate: &Meeting<R>, posted: &AtomicU64) -> bool {
-    gate.missed.load(Ordering::SeqCst) == 0 && posted.load(Ordering::SeqCst) == 20
-}
-
-fn served<'n, 'p, H: Wait + Drop>(
-    node: &'n Node<SimDisk, H>,
-    inbox: Receiver<Letter>,
+// Adds a node that is to be served, with its inbox.
+fn is_added<'n, 'r, 'p, R: Wait>(
+    served: &mut Vec<Served<'n, SimDisk, &'r R, Counts<'p>, Standing>>,
+    rt: &R,
+    alloc: Global,
+    node: &'n Node<SimDisk, &'r R>,
+    key: &[u8],
     posted: &'p AtomicU64,
-) -> Served<'n, SimDisk, H, Counts<'p>, Standing> {
-    Served {
-        node,
-        inbox,
-        post: Counts { posted },
-        clock: Standing,
+) -> bool {
+    match inbox(rt, alloc, key, LETTERS) {
+        Some(inbox) => served
+            .push(Served {
+                node,
+                inbox,
+                post: Counts { posted },
+                clock: Standing,
+            })
+            .is_ok(),
+        None => false,
     }
 }
 
-fn both_meet<'n, R: Threads + Wait + time::Clock + Sync, H: Wait + Drop + Send>(
+fn are_served<'n, 'r, R: Threads + Wait + time::Clock + Sync>(
     rt: &R,
     alloc: Global,
-    first: &'n Node<SimDisk, H>,
-    second: &'n Node<SimDisk, H>,
-    inboxes: Inboxes,
+    first: &'n Node<SimDisk, &'r R>,
+    second: &'n Node<SimDisk, &'r R>,
+    gate: &Meeting<R>,
 ) -> bool {
-    let posted = AtomicU64::new(0);
+    let mut both = Vec::new(alloc);
+    let added = is_added(&mut both, rt, alloc, first, b"a", &gate.posted)
+        && is_added(&mut both, rt, alloc, second, b"z", &gate.posted);
+    let started = start(rt, both, gate).is_ok();
+    added && started
+}
+
+// Beside the node of shard 0, that of shard 1.
+fn are_served_beside<'r, R: Threads + Wait + time::Clock + Sync>(
+    rt: &'r R,
+    alloc: Global,
+    first: &Node<SimDisk, &'r R>,
+    gate: &Meeting<R>,
+) -> bool {
+    let Some((second, viewers)) = fresh_node(rt, alloc, 1, None) else {
+        return false;
+    };
+    drop(viewers);
+    let served = are_served(rt, alloc, first, &second, gate);
+    drop(second.close());
+    served
+}
+
+fn both_are_served<R: Threads + Wait + time::Clock + Sync>(
+    rt: &R,
+    alloc: Global,
+    gate: &Meeting<R>,
+) -> bool {
+    let Some((first, viewers)) = fresh_node(rt, alloc, 0, None) else {
+        return false;
+    };
+    drop(viewers);
+    let served = are_served_beside(rt, alloc, &first, gate);
+    drop(first.close());
+    served
+}
+
+// Whether no letter was held in vain, and each was answered.
+fn meet<R: Threads + Wait + time::Clock + Sync>(rt: &R, alloc: Global) -> bool {
     let gate = Meeting {
         rt,
         first: AtomicU64::new(0),
         second: AtomicU64::new(0),
         missed: AtomicU64::new(0),
+        posted: AtomicU64::new(0),
     };
-    let mut both = Vec::new(alloc);
-    let one = both.push(served(first, inboxes.first, &posted)).is_ok();
-    let other = both.push(served(second, inboxes.second, &posted)).is_ok();
-    one && other && start(rt, both, &gate).is_ok() && have_met(&gate, &posted)
-}
-
-// Beside the node of shard 0, that of shard 1.
-fn meet_beside<R: Threads + Wait + time::Clock + Sync, H: Wait + Drop + Send>(
-    rt: &R,
-    own: H,
-    alloc: Global,
-    first: &Node<SimDisk, H>,
-    inboxes: Inboxes,
-) -> Option<bool> {
-    let (second, _viewer) = fresh_node(own, alloc, 1)?;
-    let met = both_meet(rt, alloc, first, &second, inboxes);
-    drop(second.close());
-    Some(met)
-}
-
-fn meet<R: Threads + Wait + time::Clock + Sync>(
-    rt: &R,
-    alloc: Global,
-    inboxes: Inboxes,
-) -> Option<bool> {
-    let (first, _viewer) = fresh_node(rt, alloc, 0)?;
-    let met = meet_beside(rt, rt, alloc, &first, inboxes);
-    drop(first.close());
-    met
-}
-
-fn all_meet<R: Threads + Wait + time::Clock + Sync>(rt: &R, alloc: Global) -> Option<bool> {
-    let inboxes = filled(rt, alloc)?;
-    meet(rt, alloc, inboxes)
+    let served = both_are_served(rt, alloc, &gate);
+    let missed = gate.missed.load(Ordering::SeqCst);
+    let posted = gate.posted.load(Ordering::SeqCst);
+    drop(gate);
+    served && missed == 0 && posted == 20
 }
 
 // It fails where nodes are served one after the other, or one letter at a time over both.
 #[test]
 fn nodes_in_turn(rt: HostRuntime) {
-    assert_eq!(rt; all_meet(&rt, rt.alloc()), Some(true));
+    told(&rt, meet(&rt, rt.alloc()), "letters of two nodes", 20);
 }

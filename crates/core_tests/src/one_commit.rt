@@ -6,7 +6,7 @@ use units::Fault;
 
 const A: Given = Given::Commit(1, 0, b"a", b"1");
 
-const DONE: Told = Told::One((b'd', 9, 1, 111));
+const DONE: Told = Told::Says(&[(b'd', 9, 1, 111)]);
 
 static COMMITS: [Story; 4] = [
     Story {
@@ -16,11 +16,11 @@ static COMMITS: [Story; 4] = [
         origin: Origin::New,
         exchanges: &[
             (112, 121, Given::Settle(1), Told::Refused(Fault::Stranger)),
-            (100, 110, A, Told::Nothing),
+            (100, 110, A, Told::Says(&[])),
             (105, 112, Given::Settle(1), Told::Refused(Fault::Early)),
             (111, 120, Given::Settle(1), Told::Refused(Fault::Early)),
             // The same commit again changes nothing.
-            (111, 120, A, Told::Nothing),
+            (111, 120, A, Told::Says(&[])),
             (112, 121, Given::Settle(1), DONE),
             (112, 121, Given::Settle(1), Told::Refused(Fault::Stranger)),
             // Once it is settled, the session is told again, and nothing is logged.
@@ -71,7 +71,7 @@ static COMMITS: [Story; 4] = [
             ),
             // A reading whose latest end is the last timestamp leaves no time, and changes nothing.
             (100, LAST, A, Told::Refused(Fault::TimeSpent)),
-            (100, 110, A, Told::Nothing),
+            (100, 110, A, Told::Says(&[])),
         ],
         // The header, Opened 1, the commit and a closed gate.
         moments: &[Moment {
@@ -86,11 +86,11 @@ static COMMITS: [Story; 4] = [
         stride: 0,
         origin: Origin::New,
         exchanges: &[
-            (100, 110, A, Told::Nothing),
-            (100, 110, Given::Commit(2, 0, b"b", b"1"), Told::Nothing),
-            (100, 110, Given::Commit(3, 0, b"a", b"2"), Told::Nothing),
+            (100, 110, A, Told::Says(&[])),
+            (100, 110, Given::Commit(2, 0, b"b", b"1"), Told::Says(&[])),
+            (100, 110, Given::Commit(3, 0, b"a", b"2"), Told::Says(&[])),
             (112, 121, Given::Settle(1), DONE),
-            (112, 121, Given::Resume, Told::Nothing),
+            (112, 121, Given::Resume, Told::Says(&[])),
         ],
         moments: &[
             Moment {
@@ -127,7 +127,7 @@ static COMMITS: [Story; 4] = [
                 100,
                 110,
                 Given::Commit(1, 0, &[7; 64], &[9; 4096]),
-                Told::Nothing,
+                Told::Says(&[]),
             ),
             (112, 121, Given::Settle(1), DONE),
         ],

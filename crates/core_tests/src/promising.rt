@@ -14,7 +14,7 @@ static PROMISING: [Story; 5] = [
             200,
             210,
             Given::Prepare(2, b"z", b"7"),
-            Told::One((b'v', 0, 2, 200)),
+            Told::Says(&[(b'v', 0, 2, 200)]),
         )],
         moments: &[Moment {
             after: 1,
@@ -38,11 +38,11 @@ static PROMISING: [Story; 5] = [
                 200,
                 210,
                 Given::Prepare(2, b"z", b"7"),
-                Told::One((b'v', 0, 2, 200)),
+                Told::Says(&[(b'v', 0, 2, 200)]),
             ),
-            (201, 230, Given::Nudge(2), Told::One((b'a', 0, 2, 0))),
-            (201, 230, Given::Outcome(2, 200), Told::Nothing),
-            (201, 230, Given::Outcome(2, 200), Told::Nothing),
+            (201, 230, Given::Nudge(2), Told::Says(&[(b'a', 0, 2, 0)])),
+            (201, 230, Given::Outcome(2, 200), Told::Says(&[])),
+            (201, 230, Given::Outcome(2, 200), Told::Says(&[])),
         ],
         // The opening, the promise, one outcome and a closed gate.
         moments: &[Moment {
@@ -62,18 +62,23 @@ static PROMISING: [Story; 5] = [
         stride: 0,
         origin: Origin::New,
         exchanges: &[
-            (200, 210, Given::Read(2, b"z"), Told::One((b'r', 9, 2, 1))),
+            (
+                200,
+                210,
+                Given::Read(2, b"z"),
+                Told::Says(&[(b'r', 9, 2, 1)]),
+            ),
             (
                 200,
                 210,
                 Given::Prepare(1, b"z", b"1"),
-                Told::One((b'v', 0, 1, 200)),
+                Told::Says(&[(b'v', 0, 1, 200)]),
             ),
             (
                 200,
                 210,
                 Given::PrepareOfReader(2, b"z", b"2"),
-                Told::One((b'v', 0, 2, 0)),
+                Told::Says(&[(b'v', 0, 2, 0)]),
             ),
         ],
         // The opening, one promise and a closed gate.
@@ -88,11 +93,16 @@ static PROMISING: [Story; 5] = [
         stride: 0,
         origin: Origin::New,
         exchanges: &[
-            (200, 210, Given::Read(1, b"z"), Told::One((b'r', 9, 1, 1))),
-            (200, 210, Given::Prepare(2, b"z", b"2"), Told::Nothing),
-            (202, 212, Given::Resume, Told::Nothing),
-            (205, 215, Given::GiveUp(1), Told::Nothing),
-            (220, 230, Given::Resume, Told::One((b'v', 0, 2, 220))),
+            (
+                200,
+                210,
+                Given::Read(1, b"z"),
+                Told::Says(&[(b'r', 9, 1, 1)]),
+            ),
+            (200, 210, Given::Prepare(2, b"z", b"2"), Told::Says(&[])),
+            (202, 212, Given::Resume, Told::Says(&[])),
+            (205, 215, Given::GiveUp(1), Told::Says(&[])),
+            (220, 230, Given::Resume, Told::Says(&[(b'v', 0, 2, 220)])),
         ],
         moments: &[
             Moment {
@@ -112,14 +122,14 @@ static PROMISING: [Story; 5] = [
         stride: 0,
         origin: Origin::New,
         exchanges: &[
-            (90, 95, Given::Read(3, b"z"), Told::One((b'r', 9, 3, 1))),
+            (90, 95, Given::Read(3, b"z"), Told::Says(&[(b'r', 9, 3, 1)])),
             (
                 90,
                 95,
                 Given::PrepareOfRead(3, b"z"),
-                Told::One((b'v', 0, 3, 90)),
+                Told::Says(&[(b'v', 0, 3, 90)]),
             ),
-            (112, 121, Given::Outcome(3, 111), Told::Nothing),
+            (112, 121, Given::Outcome(3, 111), Told::Says(&[])),
         ],
         moments: &[Moment {
             after: 3,

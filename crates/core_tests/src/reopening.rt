@@ -1,23 +1,29 @@
 //! Shards whose disks crash and are opened again.
 use crate::answers::Told;
+use crate::cores::{formatted, opened, plain};
 use crate::given::Given;
-use crate::stories::{Exchange, Moment, Origin, Shows, Story, disk_behind, fresh, setup, tell};
-use shard::Core;
+use crate::stories::{Exchange, Moment, Origin, Shows, Story, left, tell};
+use crate::verdict::told;
 use simdisk::SimDisk;
 use std::alloc::Global;
 use units::{Fault, Seen};
 
-const SERVED: &[Exchange] = &[(150, 160, Given::Advance(150), Told::Nothing)];
+const SERVED: &[Exchange] = &[(150, 160, Given::Advance(150), Told::Says(&[]))];
 
-const HAS_READ: &[Exchange] = &[(100, 110, Given::Read(1, b"z"), Told::One((b'r', 9, 1, 1)))];
+const HAS_READ: &[Exchange] = &[(
+    100,
+    110,
+    Given::Read(1, b"z"),
+    Told::Says(&[(b'r', 9, 1, 1)]),
+)];
 
-const DECIDED: &[Exchange] = &[(100, 110, Given::Commit(1, 0, b"a", b"1"), Told::Nothing)];
+const DECIDED: &[Exchange] = &[(100, 110, Given::Commit(1, 0, b"a", b"1"), Told::Says(&[]))];
 
 const PROMISED: &[Exchange] = &[(
     200,
     210,
     Given::Prepare(2, b"z", b"7"),
-    Told::One((b'v', 0, 2, 200)),
+    Told::Says(&[(b'v', 0, 2, 200)]),
 )];
 
 const FAILS: &[Exchange] = &[
@@ -46,7 +52,7 @@ static REOPENED: [Story; 5] = [
             160,
             170,
             Given::Prepare(2, b"z", b"7"),
-            Told::One((b'v', 0, 2, 201)),
+            Told::Says(&[(b'v', 0, 2, 201)]),
         )],
         moments: &[
             Moment {
@@ -69,7 +75,7 @@ static REOPENED: [Story; 5] = [
             200,
             210,
             Given::PrepareOfReader(1, b"z", b"2"),
-            Told::One((b'v', 0, 1, 0)),
+            Told::Says(&[(b'v', 0, 1, 0)]),
         )],
         // Two openings and a closed gate.
         moments: &[Moment {
@@ -84,7 +90,7 @@ static REOPENED: [Story; 5] = [
         origin: Origin::Crashed(DECIDED),
         exchanges: &[
             (105, 112, Given::Settle(1), Told::Refused(Fault::Early)),
-            (112, 121, Given::Settle(1), Told::One((b'd', 9, 1, 111))),
+            (112, 121, Given::Settle(1), Told::Says(&[(b'd', 9, 1, 111)])),
         ],
         moments: &[
             Moment {
@@ -112,8 +118,8 @@ static REOPENED: [Story; 5] = [
         stride: 0,
         origin: Origin::Crashed(PROMISED),
         exchanges: &[
-            (210, 220, Given::Read(3, b"z"), Told::Nothing),
-            (210, 220, Given::Nudge(2), Told::One((b'a', 0, 2, 0))),
+            (210, 220, Given::Read(3, b"z"), Told::Says(&[])),
+            (210, 220, Given::Nudge(2), Told::Says(&[(b'a', 0, 2, 0)])),
         ],
         moments: &[Moment {
             after: 2,
@@ -125,7 +131,7 @@ static REOPENED: [Story; 5] = [
         shard: 1,
         stride: 0,
         origin: Origin::Crashed(PROMISED),
-        exchanges: &[(210, 220, Given::Outcome(2, 200), Told::Nothing)],
+        exchanges: &[(210, 220, Given::Outcome(2, 200), Told::Says(&[]))],
         moments: &[Moment {
             after: 1,
             shows: &[Shows::Prepared(0, 0), Shows::Installs(1), Shows::Safe(200)],
@@ -178,7 +184,6 @@ fn a_failing_call_stops_the_core(rt: HostRuntime) {
 }
 
 // A disk, as these leave it of a shard, or without a log; and why it is not opened as that of another.
-#[derive(Clone, Copy)]
 struct Refused {
     left: Option<(u8, &'static [Exchange])>,
     shard: u8,
@@ -204,33 +209,36 @@ static REFUSED: [Refused; 3] = [
 ];
 
 fn disk_of(alloc: Global, row: &Refused) -> Option<SimDisk> {
-    let Some((shard, exchanges)) = row.left else {
-        return Some(SimDisk::new(alloc));
-    };
-    let core = fresh(alloc, SimDisk::new(alloc), shard, 0)?;
-    disk_behind(core, alloc, exchanges)
+    match row.left {
+        Some((shard, exchanges)) => {
+            left(alloc, formatted(alloc)?, plain(shard, 0), exchanges, &[])
+        }
+        None => Some(SimDisk::new(alloc)),
+    }
 }
 
 // Why the disk of the row is not opened.
-fn refusal(alloc: Global, row: &Refused) -> Result<(), Fault> {
-    let setup = setup(alloc, row.shard, 0).ok_or(Fault::Memory)?;
-    let disk = disk_of(alloc, row).ok_or(Fault::Memory)?;
-    match Core::open(alloc, disk, setup) {
+fn refusal(alloc: Global, row: &Refused) -> Option<Fault> {
+    let Some(disk) = disk_of(alloc, row) else {
+        return Some(Fault::Memory);
+    };
+    match opened(alloc, disk, plain(row.shard, 0)) {
         Ok(core) => {
-            let _ = core.stop();
-            Ok(())
+            drop(core.stop());
+            None
         }
-        Err((fault, _)) => Err(fault),
+        Err(fault) => Some(fault),
     }
 }
 
 #[test]
 fn disks_that_are_not_opened(rt: HostRuntime) {
     for row in &REFUSED {
-        assert!(rt;
-            refusal(rt.alloc(), row).err() == row.fault,
-            "as shard {}",
-            row.shard
+        told(
+            &rt,
+            refusal(rt.alloc(), row) == row.fault,
+            "as shard",
+            row.shard as usize,
         );
     }
 }

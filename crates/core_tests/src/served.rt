@@ -5,8 +5,8 @@ use crate::stories::{Exchange, Moment, Origin, Shows, Story, tell};
 use units::{Fault, Seen};
 
 const COMMITTED: &[Exchange] = &[
-    (100, 110, Given::Commit(1, 0, b"a", b"1"), Told::Nothing),
-    (112, 121, Given::Settle(1), Told::One((b'd', 9, 1, 111))),
+    (100, 110, Given::Commit(1, 0, b"a", b"1"), Told::Says(&[])),
+    (112, 121, Given::Settle(1), Told::Says(&[(b'd', 9, 1, 111)])),
 ];
 
 static SERVING: [Story; 6] = [
@@ -18,9 +18,9 @@ static SERVING: [Story; 6] = [
         origin: Origin::New,
         exchanges: &[
             (100, 110, Given::Advance(111), Told::Refused(Fault::Future)),
-            (100, 110, Given::Advance(110), Told::Nothing),
+            (100, 110, Given::Advance(110), Told::Says(&[])),
             // The same again logs nothing.
-            (100, 110, Given::Advance(110), Told::Nothing),
+            (100, 110, Given::Advance(110), Told::Says(&[])),
         ],
         moments: &[
             Moment {
@@ -46,8 +46,8 @@ static SERVING: [Story; 6] = [
         stride: 50,
         origin: Origin::New,
         exchanges: &[
-            (150, 160, Given::Advance(150), Told::Nothing),
-            (150, 160, Given::Advance(160), Told::Nothing),
+            (150, 160, Given::Advance(150), Told::Says(&[])),
+            (150, 160, Given::Advance(160), Told::Says(&[])),
         ],
         moments: &[Moment {
             after: 2,
@@ -67,7 +67,7 @@ static SERVING: [Story; 6] = [
             0,
             LAST,
             Given::Advance(4_611_686_018_427_387_900),
-            Told::Nothing,
+            Told::Says(&[]),
         )],
         moments: &[Moment {
             after: 1,
@@ -104,8 +104,8 @@ static SERVING: [Story; 6] = [
         stride: 0,
         origin: Origin::New,
         exchanges: &[
-            (100, 110, Given::Commit(1, 0, b"a", b"abc"), Told::Nothing),
-            (112, 121, Given::Settle(1), Told::One((b'd', 9, 1, 111))),
+            (100, 110, Given::Commit(1, 0, b"a", b"abc"), Told::Says(&[])),
+            (112, 121, Given::Settle(1), Told::Says(&[(b'd', 9, 1, 111)])),
         ],
         moments: &[Moment {
             after: 2,
