@@ -338,16 +338,18 @@ fn an_end_is_heard(rt: HostRuntime) {
     check(&rt, "its own", own == Ok(Finished::Committed(stamp(200))));
 }
 
+fn reader(envelope: &Envelope) -> Option<TxnId> {
+    match &envelope.message {
+        Message::Read(read) => Some(read.txn),
+        _ => None,
+    }
+}
+
 // The id that it asks for a key with.
 fn asking(tx: &mut Tx<'_, Open>) -> Option<TxnId> {
     match tx.read(key(b'a')) {
-        Ok(
-            Envelope {
-                to: _,
-                message: Message::Read(read),
-            },
-        ) => Some(read.txn),
-        _ => None,
+        Ok(envelope) => reader(&envelope),
+        Err(_) => None,
     }
 }
 

@@ -25,8 +25,12 @@ fn reads_line(alloc: Global, line: &str, log: &mut Vec<Record>) -> bool {
 // The words of a line, and empty ones behind them.
 fn words(line: &str) -> [&str; 6] {
     let mut words = [""; 6];
-    for (place, word) in words.iter_mut().zip(line.split(' ')) {
-        *place = word;
+    let mut count = 0;
+    for word in line.split(' ') {
+        if count < 6 {
+            words[count] = word;
+            count += 1;
+        }
     }
     words
 }
