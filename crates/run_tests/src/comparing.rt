@@ -43,36 +43,37 @@ fn is_told(line: &str, events: bool) -> bool {
     line.starts_with("event ") == events && !line.ends_with(" ok\n")
 }
 
-// What is left of the wanted text behind the lines of a report that tell of events, or behind the others.
-fn behind<'w>(wanted: &'w str, report: &str, events: bool) -> Option<&'w str> {
-    let mut rest = wanted;
+// Pushes the lines of a report that tell of events, or the others. False where there is no memory for them.
+fn push_told(told: &mut String, report: &str, events: bool) -> bool {
     for line in report.split_inclusive('\n') {
-        if is_told(line, events) {
-            rest = rest.strip_prefix(line)?;
+        if is_told(line, events) && told.push_str(line).is_err() {
+            return false;
         }
     }
-    Some(rest)
+    true
 }
 
-fn is_wanted(report: &str, wanted: &str) -> bool {
-    match behind(wanted, report, true) {
-        Some(rest) => behind(rest, report, false) == Some(""),
-        None => false,
-    }
+fn is_wanted(alloc: Global, report: &str, wanted: &str) -> bool {
+    let mut told = String::new(alloc);
+    let same = push_told(&mut told, report, true)
+        && push_told(&mut told, report, false)
+        && told.as_str() == wanted;
+    drop(told);
+    same
 }
 
-fn check(rt: &impl Abort, name: &str, report: &str, wanted: &str) {
-    assert!(rt; is_wanted(report, wanted), "{name}: {report}");
+fn check(rt: &impl Abort, alloc: Global, name: &str, report: &str, wanted: &str) {
+    assert!(rt; is_wanted(alloc, report, wanted), "{name}: {report}");
 }
 
 // The schedule comes to what is wanted.
 pub fn compare(rt: &impl Abort, alloc: Global, name: &str, text: &str, wanted: &str) {
     match played(alloc, text) {
         Some(report) => {
-            check(rt, name, report.as_str(), wanted);
+            check(rt, alloc, name, report.as_str(), wanted);
             drop(report);
         }
-        None => check(rt, name, "", wanted),
+        None => check(rt, alloc, name, "", wanted),
     }
 }
 

@@ -1,14 +1,13 @@
 //! Lawful lists of events are drawn from a seed. A run takes the events as they are drawn, and tells what was put out so far and
 //! which shards are up.
-use crate::runs::happens;
-use crate::steps::{Step, Timed, reading, stamp};
+use crate::runs::{Shape, config, happens};
+use crate::steps::{At, Step, Timed};
 use disk::Fate;
 use lives::{Life, Run, RunShard};
 use message::{Address, Message};
 use std::alloc::Global;
-use truetime::Reading;
 use units::TxnId;
-use world::{Config, Doing};
+use world::Config;
 
 // A linear congruential generator modulo 2^64, with the multiplier 6364136223846793005 and the increment
 // 1442695040888963407. Its upper 31 bits are drawn.
@@ -46,12 +45,12 @@ impl Random {
 }
 
 // Three keys for each of the shards that the splits `m` and `s` make.
-static KEYS: [u8; 9] = [b'a', b'c', b'f', b'n', b'p', b'r', b't', b'w', b'y'];
+const KEYS: [u8; 9] = [b'a', b'c', b'f', b'n', b'p', b'r', b't', b'w', b'y'];
 
-static DIGITS: [u8; 10] = [b'0', b'1', b'2', b'3', b'4', b'5', b'6', b'7', b'8', b'9'];
+const DIGITS: [u8; 10] = [b'0', b'1', b'2', b'3', b'4', b'5', b'6', b'7', b'8', b'9'];
 
 // What a crash may leave of each byte of a write: that of an open gate, that of a closed one, and others.
-static BYTES: [u8; 4] = [0xa5, 0x00, 0x37, 0xff];
+const BYTES: [u8; 4] = [0xa5, 0x00, 0x37, 0xff];
 
 // The length of a list.
 pub const LENGTH: usize = 300;
@@ -70,13 +69,14 @@ struct Drawn {
     steps: Vec<Timed>,
 }
 
-// Where so many shards are split.
-pub fn splits_of(shards: u64) -> &'static [u8] {
-    match shards {
+// So many shards, without a stride.
+pub fn shape_of(shards: u64) -> Shape<'static> {
+    let splits: &[u8] = match shards {
         1 => b"",
         2 => b"m",
         _ => b"ms",
-    }
+    };
+    Shape { splits, stride: 0 }
 }
 
 // The shard of a key.
@@ -174,14 +174,6 @@ fn decided_of(life: &Life) -> Option<TxnId> {
     }
 }
 
-// Such a transaction is settled, where there is one.
-fn settling(run: &Run<'_>, shard: u8, now: Reading) -> Doing {
-    match decided(run, shard) {
-        Some(txn) => Doing::Settle(txn, now),
-        None => Doing::Resume(now),
-    }
-}
-
 // The shard and the transaction of some decision that is not settled.
 fn unsettled(run: &Run<'_>) -> Option<(u8, TxnId)> {
     for shard in 0..3 {
@@ -232,11 +224,11 @@ impl Drawn {
         self.random.below(widest)
     }
 
-    // A reading that holds the time of the next step, whatever that will be.
-    fn reading(&mut self) -> Reading {
+    // The ends of a reading that holds the time of the next step, whatever that will be.
+    fn reading(&mut self) -> (u64, u64) {
         let earliest = self.time.saturating_sub(self.width());
         let latest = self.time.saturating_add(self.width().saturating_add(5));
-        reading(earliest, latest)
+        (earliest, latest)
     }
 
     fn shard(&mut self) -> u8 {
@@ -307,14 +299,14 @@ impl Drawn {
         if self.known == 0 {
             return;
         }
-        let now = self.reading();
+        let (earliest, latest) = self.reading();
         if self.next < self.known && self.random.below(5) != 0 {
             let next = self.next;
             self.next = next.saturating_add(1);
-            return self.push(Step::Deliver(next, now));
+            return self.push(Step::Deliver(next, earliest, latest));
         }
         let message = self.message();
-        self.push(Step::Deliver(message, now))
+        self.push(Step::Deliver(message, earliest, latest))
     }
 
     // Mostly a decided transaction is settled, at times that of any message.
@@ -324,18 +316,18 @@ impl Drawn {
         } else {
             unsettled(run)
         };
-        let now = self.reading();
+        let (earliest, latest) = self.reading();
         match found {
-            Some((shard, txn)) => self.push(Step::At(shard, Doing::Settle(txn, now))),
+            Some((shard, txn)) => self.push(Step::Settle(shard, txn.number(), earliest, latest)),
             None => self.resume(),
         }
     }
 
     // The coordinator of a prepare's transaction is asked.
     fn nudge(&mut self, run: &Run<'_>) {
-        let now = self.reading();
+        let (earliest, latest) = self.reading();
         match for_part(run, self.message()) {
-            Some((shard, txn)) => self.push(Step::At(shard, Doing::Nudge(txn, now))),
+            Some((shard, txn)) => self.push(Step::Nudge(shard, txn.number(), earliest, latest)),
             None => self.resume(),
         }
     }
@@ -362,9 +354,9 @@ impl Drawn {
     }
 
     fn resume(&mut self) {
-        let now = self.reading();
+        let (earliest, latest) = self.reading();
         let shard = self.shard();
-        self.push(Step::At(shard, Doing::Resume(now)))
+        self.push(Step::Resume(shard, earliest, latest))
     }
 
     // A shard serves up to a time near the end of a wide reading. At once some of its keys are looked at then.
@@ -376,8 +368,7 @@ impl Drawn {
         let to = latest
             .saturating_add(2)
             .saturating_sub(self.random.below(12));
-        let now = reading(earliest, latest);
-        self.push(Step::At(shard, Doing::Advance(stamp(to), now)));
+        self.push(Step::Advance(shard, to, earliest, latest));
         self.look_at_some(shard, to)
     }
 
@@ -429,23 +420,30 @@ impl Drawn {
     }
 
     // What a shard does where a call of it fails, or where it crashes.
-    fn doing(&mut self, run: &Run<'_>, shard: u8) -> Doing {
-        let now = self.reading();
+    fn doing(&mut self, run: &Run<'_>, shard: u8) -> At {
+        let (earliest, latest) = self.reading();
         match self.random.below(4) {
-            0 => Doing::Advance(now.latest(), now),
-            1 => settling(run, shard, now),
-            _ => self.taking(run, shard, now),
+            0 => At::Advance(shard, latest, earliest, latest),
+            1 => self.settling(run, shard, earliest, latest),
+            _ => self.taking(run, shard, earliest, latest),
+        }
+    }
+
+    fn settling(&mut self, run: &Run<'_>, shard: u8, earliest: u64, latest: u64) -> At {
+        match decided(run, shard) {
+            Some(txn) => At::Settle(shard, txn.number(), earliest, latest),
+            None => At::Resume(shard, earliest, latest),
         }
     }
 
     // One of the next messages, where it is for the shard.
-    fn taking(&mut self, run: &Run<'_>, shard: u8, now: Reading) -> Doing {
+    fn taking(&mut self, run: &Run<'_>, shard: u8, earliest: u64, latest: u64) -> At {
         for number in self.next..self.next.saturating_add(8) {
             if is_for(run, shard, number) {
-                return Doing::Take(number, now);
+                return At::Take(shard, number, earliest, latest);
             }
         }
-        Doing::Resume(now)
+        At::Resume(shard, earliest, latest)
     }
 
     fn fate(&mut self) -> Fate {
@@ -462,13 +460,13 @@ impl Drawn {
         if is_down(run, shard) {
             return self.open_at(shard);
         }
-        let (call, doing) = (self.random.below(5), self.doing(run, shard));
+        let (call, at) = (self.random.below(5), self.doing(run, shard));
         match self.random.below(5) {
             0 => self.push(Step::Crash(shard)),
-            1 | 2 => self.push(Step::FailIn(shard, call, doing)),
+            1 | 2 => self.push(Step::FailIn(shard, call, at)),
             _ => {
                 let fate = self.fate();
-                self.push(Step::CrashIn(shard, call, fate, doing))
+                self.push(Step::CrashIn(shard, call, fate, at))
             }
         }
     }
@@ -477,12 +475,12 @@ impl Drawn {
     fn open_at(&mut self, shard: u8) {
         let call = self.random.below(5);
         match self.random.below(10) {
-            0 => self.push(Step::FailIn(shard, call, Doing::Open)),
+            0 => self.push(Step::FailIn(shard, call, At::Open(shard))),
             1 => {
                 let fate = self.fate();
-                self.push(Step::CrashIn(shard, call, fate, Doing::Open))
+                self.push(Step::CrashIn(shard, call, fate, At::Open(shard)))
             }
-            _ => self.push(Step::At(shard, Doing::Open)),
+            _ => self.push(Step::Open(shard)),
         }
     }
 
@@ -546,7 +544,7 @@ impl Drawn {
     }
 }
 
-fn is_drawn(list: &mut Drawn, alloc: Global, config: &Config) -> bool {
+fn is_filled(list: &mut Drawn, alloc: Global, config: &Config) -> bool {
     let Ok(mut run) = Run::start(alloc, config) else {
         return false;
     };
@@ -555,15 +553,19 @@ fn is_drawn(list: &mut Drawn, alloc: Global, config: &Config) -> bool {
     filled
 }
 
-// A list of events over shards with these splits.
-pub fn drawn_list(
-    alloc: Global,
-    seed: u64,
-    splits: &'static [u8],
-    config: &Config,
-) -> Option<Vec<Timed>> {
-    let mut list = Drawn::new(alloc, seed, splits);
-    if is_drawn(&mut list, alloc, config) {
+fn is_drawn(list: &mut Drawn, alloc: Global, shape: Shape<'static>) -> bool {
+    let Some(config) = config(alloc, shape) else {
+        return false;
+    };
+    let filled = is_filled(list, alloc, &config);
+    drop(config);
+    filled
+}
+
+// A list of events over shards of some shape.
+pub fn drawn_list(alloc: Global, seed: u64, shape: Shape<'static>) -> Option<Vec<Timed>> {
+    let mut list = Drawn::new(alloc, seed, shape.splits);
+    if is_drawn(&mut list, alloc, shape) {
         Some(list.steps)
     } else {
         drop(list);

@@ -1,14 +1,13 @@
 //! Drawn runs, 50 in a test: each list is lawful, and each report is judged by itself.
-use crate::drawing::{LENGTH, drawn_list, splits_of};
+use crate::drawing::{LENGTH, drawn_list, shape_of};
 use crate::judging::judge;
 use crate::replying::{Stops, are_due};
-use crate::runs::{config, run};
+use crate::runs::{Shape, run};
 use crate::steps::Timed;
 use playing::Report;
 use std::alloc::Global;
 use std::process::Abort;
 use units::{Line, Value};
-use world::Config;
 
 // What lists and their reports have: lines of some kinds, values in those of reads and looks, and stops of shards.
 #[derive(Clone, Copy)]
@@ -92,8 +91,13 @@ fn wrong_of(report: &Report, steps: &[Timed], totals: &mut Totals) -> &'static s
 }
 
 // A list is played, and judged.
-fn play_one(alloc: Global, config: &Config, steps: &[Timed], totals: &mut Totals) -> &'static str {
-    let Ok(report) = run(alloc, config, steps) else {
+fn play_one(
+    alloc: Global,
+    shape: Shape<'static>,
+    steps: &[Timed],
+    totals: &mut Totals,
+) -> &'static str {
+    let Ok(report) = run(alloc, shape, steps) else {
         return "an unlawful list";
     };
     let wrong = wrong_of(&report, steps, totals);
@@ -101,30 +105,14 @@ fn play_one(alloc: Global, config: &Config, steps: &[Timed], totals: &mut Totals
     wrong
 }
 
-// A list over some shards is drawn, played, and judged.
-fn draw_one(
-    alloc: Global,
-    seed: u64,
-    splits: &'static [u8],
-    config: &Config,
-    totals: &mut Totals,
-) -> &'static str {
-    let Some(steps) = drawn_list(alloc, seed, splits, config) else {
+// The list of a seed is played, and judged.
+fn draw_one(alloc: Global, seed: u64, shards: u64, totals: &mut Totals) -> &'static str {
+    let shape = shape_of(shards);
+    let Some(steps) = drawn_list(alloc, seed, shape) else {
         return "no list";
     };
-    let wrong = play_one(alloc, config, &steps, totals);
+    let wrong = play_one(alloc, shape, &steps, totals);
     drop(steps);
-    wrong
-}
-
-// The list of a seed, over so many shards.
-fn wrong_at(alloc: Global, seed: u64, shards: u64, totals: &mut Totals) -> &'static str {
-    let splits = splits_of(shards);
-    let Ok(config) = config(alloc, splits) else {
-        return "no shards";
-    };
-    let wrong = draw_one(alloc, seed, splits, &config, totals);
-    drop(config);
     wrong
 }
 
@@ -137,7 +125,7 @@ fn draw_all(rt: &impl Abort, alloc: Global, first: u64) {
     let mut totals = NOTHING;
     for number in 0..50 {
         let seed = first.saturating_add(number);
-        let wrong = wrong_at(alloc, seed, number % 3 + 1, &mut totals);
+        let wrong = draw_one(alloc, seed, number % 3 + 1, &mut totals);
         check(rt, seed, wrong);
     }
     let scarce = totals.scarce();

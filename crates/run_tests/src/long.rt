@@ -2,17 +2,23 @@
 //! some of them a shard stops, by a crash or a failing call, and is opened again.
 ghost use Rattle.std.specs.Prelude.{◌<◌, ◌^◌};
 
-use crate::runs::{config, run};
-use crate::steps::{Step, Timed, reading, txn};
+use crate::runs::{Shape, run};
+use crate::steps::{At, Step, Timed};
 use disk::Fate;
 use playing::Report;
 use record::Record;
 use std::alloc::Global;
 use units::{Fault, Line};
-use world::{Config, Doing, Reply};
+use world::Reply;
 
 // How many transactions there are, of ten events each.
 const TRANSACTIONS: u32 = 1_000;
+
+// Four shards without a stride.
+const FOUR: Shape<'static> = Shape {
+    splits: b"gms",
+    stride: 0,
+};
 
 // The shards of a transaction, and the key that it writes at each.
 #[derive(Clone, Copy)]
@@ -88,19 +94,13 @@ fn push_session(steps: &mut Vec<Timed>, number: u32, keys: (u8, u8)) -> bool {
 
 // The Commit, the Prepare and the vote come, and the transaction is settled.
 fn push_decision(steps: &mut Vec<Timed>, number: u32, shard: u8) -> bool {
-    let (time, first) = (begins_at(number), 5 * number as u64);
-    let settle = Doing::Settle(txn(number as u64), reading(time + 14, time + 17));
+    let (time, txn) = (begins_at(number), number as u64);
+    let first = 5 * txn;
     let decision = [
-        (time + 2, Step::Deliver(first, reading(time, time + 3))),
-        (
-            time + 4,
-            Step::Deliver(first + 1, reading(time + 2, time + 5)),
-        ),
-        (
-            time + 6,
-            Step::Deliver(first + 2, reading(time + 4, time + 7)),
-        ),
-        (time + 16, Step::At(shard, settle)),
+        (time + 2, Step::Deliver(first, time, time + 3)),
+        (time + 4, Step::Deliver(first + 1, time + 2, time + 5)),
+        (time + 6, Step::Deliver(first + 2, time + 4, time + 7)),
+        (time + 16, Step::Settle(shard, txn, time + 14, time + 17)),
     ];
     steps.extend_from_slice(&decision).is_ok()
 }
@@ -109,14 +109,8 @@ fn push_decision(steps: &mut Vec<Timed>, number: u32, shard: u8) -> bool {
 fn push_end(steps: &mut Vec<Timed>, number: u32) -> bool {
     let (time, first) = (begins_at(number), 5 * number as u64);
     let end = [
-        (
-            time + 18,
-            Step::Deliver(first + 4, reading(time + 16, time + 19)),
-        ),
-        (
-            time + 19,
-            Step::Deliver(first + 3, reading(time + 17, time + 20)),
-        ),
+        (time + 18, Step::Deliver(first + 4, time + 16, time + 19)),
+        (time + 19, Step::Deliver(first + 3, time + 17, time + 20)),
     ];
     steps.extend_from_slice(&end).is_ok()
 }
@@ -124,12 +118,12 @@ fn push_end(steps: &mut Vec<Timed>, number: u32) -> bool {
 // The outcome comes with a stop, and the shard is opened. The session does not hear its end.
 fn push_stop(steps: &mut Vec<Timed>, number: u32, shard: u8, stop: (u64, Option<Fate>)) -> bool {
     let (time, first) = (begins_at(number), 5 * number as u64);
-    let take = Doing::Take(first + 4, reading(time + 16, time + 19));
+    let at = At::Take(shard, first + 4, time + 16, time + 19);
     let step = match stop {
-        (call, Some(fate)) => Step::CrashIn(shard, call, fate, take),
-        (call, None) => Step::FailIn(shard, call, take),
+        (call, Some(fate)) => Step::CrashIn(shard, call, fate, at),
+        (call, None) => Step::FailIn(shard, call, at),
     };
-    let end = [(time + 18, step), (time + 19, Step::At(shard, Doing::Open))];
+    let end = [(time + 18, step), (time + 19, Step::Open(shard))];
     steps.extend_from_slice(&end).is_ok()
 }
 
@@ -241,11 +235,11 @@ fn wrong_of(report: &Report) -> &'static str {
     ""
 }
 
-fn wrong_behind(alloc: Global, config: &Config, steps: &mut Vec<Timed>) -> &'static str {
+fn wrong_behind(alloc: Global, steps: &mut Vec<Timed>) -> &'static str {
     if !push_all(steps) {
         return "no steps";
     }
-    let Ok(report) = run(alloc, config, steps) else {
+    let Ok(report) = run(alloc, FOUR, steps) else {
         return "no report";
     };
     let wrong = wrong_of(&report);
@@ -253,20 +247,10 @@ fn wrong_behind(alloc: Global, config: &Config, steps: &mut Vec<Timed>) -> &'sta
     wrong
 }
 
-// What is first wrong with the run, over four shards.
-fn wrong_over(alloc: Global) -> &'static str {
-    let Ok(config) = config(alloc, b"gms") else {
-        return "no shards";
-    };
-    let mut steps = Vec::new(alloc);
-    let wrong = wrong_behind(alloc, &config, &mut steps);
-    drop(steps);
-    drop(config);
-    wrong
-}
-
 #[test]
 fn ten_thousand_events(rt: HostRuntime) {
-    let wrong = wrong_over(rt.alloc());
+    let mut steps = Vec::new(rt.alloc());
+    let wrong = wrong_behind(rt.alloc(), &mut steps);
+    drop(steps);
     assert!(rt; wrong.is_empty(), "{wrong}");
 }

@@ -1,9 +1,9 @@
 //! Checks of the replies of a run by themselves. Which shards are up before an event tells which refusals are due.
-use crate::steps::{Step, Timed};
+use crate::steps::{At, Step, Timed};
 use message::Address;
 use playing::Report;
 use units::Fault;
-use world::{Doing, Reply};
+use world::Reply;
 
 // What a reply says, as far as it is told by which shards are up.
 #[derive(Clone, Copy, PartialEq, Eq)]
@@ -66,8 +66,8 @@ impl Standings {
         match step {
             Step::Crash(shard) => self.set(shard, Standing::Down),
             Step::CrashIn(shard, _, _, _) => self.set(shard, Standing::Down),
-            Step::At(shard, Doing::Open) => self.set(shard, Standing::Up),
-            Step::FailIn(shard, _, doing) => self.follow_failing(shard, opens(doing), told),
+            Step::Open(shard) => self.set(shard, Standing::Up),
+            Step::FailIn(shard, _, at) => self.follow_failing(shard, opens(at), told),
             _ => {}
         }
     }
@@ -90,9 +90,9 @@ impl Standings {
     }
 }
 
-fn opens(doing: Doing) -> bool {
-    match doing {
-        Doing::Open => true,
+fn opens(at: At) -> bool {
+    match at {
+        At::Open(_) => true,
         _ => false,
     }
 }
@@ -111,8 +111,11 @@ fn receiver(report: &Report, message: u64) -> Option<u8> {
 // The shard that an event is a step of.
 fn shard_of(report: &Report, step: Step) -> Option<u8> {
     match step {
-        Step::Deliver(message, _) => receiver(report, message),
-        Step::At(shard, _) => Some(shard),
+        Step::Deliver(message, _, _) => receiver(report, message),
+        Step::Resume(shard, _, _) => Some(shard),
+        Step::Settle(shard, _, _, _) => Some(shard),
+        Step::Advance(shard, _, _, _) => Some(shard),
+        Step::Nudge(shard, _, _, _) => Some(shard),
         _ => None,
     }
 }
@@ -147,9 +150,9 @@ fn is_due(standings: &Standings, report: &Report, step: Step, told: Told) -> boo
     match step {
         Step::Crash(_) => told == Told::Crashed,
         Step::CrashIn(_, _, _, _) => told == Told::Crashed,
-        Step::At(_, Doing::Open) => told == Told::Done,
-        Step::FailIn(shard, _, doing) => {
-            is_failing(told, !opens(doing) && standings.of(shard) != Standing::Up)
+        Step::Open(_) => told == Told::Done,
+        Step::FailIn(shard, _, at) => {
+            is_failing(told, !opens(at) && standings.of(shard) != Standing::Up)
         }
         _ => is_plain(told, rests(standings, report, step)),
     }
@@ -180,7 +183,7 @@ impl Stops {
         match (told, step) {
             (Told::Crashed, _) => self.crashed = self.crashed.saturating_add(1),
             (Told::Device, _) => self.failed = self.failed.saturating_add(1),
-            (Told::Done, Step::At(_, Doing::Open)) => self.opened = self.opened.saturating_add(1),
+            (Told::Done, Step::Open(_)) => self.opened = self.opened.saturating_add(1),
             _ => {}
         }
     }
