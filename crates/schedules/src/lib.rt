@@ -3,5 +3,6 @@
 
 mod events;
 mod reader;
+mod words;
 
 pub use reader::schedule;
