@@ -45,9 +45,18 @@ pub fn are_shaped(out: &[Envelope], shapes: &[Shape]) -> bool {
 }
 
 pub fn is_told(answer: Result<Outbox, Fault>, told: Told) -> bool {
-    match (answer, told) {
-        (Ok(out), Told::Says(shapes)) => are_shaped(out.as_slice(), shapes),
-        (Err(why), Told::Refused(fault)) => why == fault,
-        _ => false,
+    match answer {
+        Ok(out) => {
+            let said = match told {
+                Told::Says(shapes) => are_shaped(out.as_slice(), shapes),
+                Told::Refused(_) => false,
+            };
+            drop(out);
+            said
+        }
+        Err(why) => match told {
+            Told::Refused(fault) => why == fault,
+            Told::Says(_) => false,
+        },
     }
 }

@@ -102,15 +102,19 @@ static ROWS: [Row; 5] = [
     },
 ];
 
+fn is_page(page: &Page, kept: &Kept) -> bool {
+    let (earliest, latest, shapes) = *kept;
+    let now = page.reading();
+    now.earliest().micros() == earliest
+        && now.latest().micros() == latest
+        && are_shaped(page.outbox(), shapes)
+}
+
 // Whether the pages are these, and a core that is given them puts out the same.
 fn replays(core: &mut Core<SimDisk>, alloc: Global, pages: &[Page], kept: &[Kept]) -> bool {
-    for (page, (earliest, latest, shapes)) in pages.iter().zip(kept) {
-        let now = page.reading();
-        if now.earliest().micros() != *earliest
-            || now.latest().micros() != *latest
-            || !are_shaped(page.outbox(), shapes)
-            || !is_told(core.on(alloc, &now, page.input()), Told::Says(shapes))
-        {
+    for (page, row) in pages.iter().zip(kept) {
+        let answer = core.on(alloc, &page.reading(), page.input());
+        if !is_told(answer, Told::Says(row.2)) || !is_page(page, row) {
             return false;
         }
     }

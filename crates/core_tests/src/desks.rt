@@ -129,14 +129,14 @@ fn is_acted<R: Wait + Drop>(
 fn are_played<R: Wait + Drop>(
     desk: &mut Desk<SimDisk, R>,
     alloc: Global,
-    viewer: &mut Viewer,
+    viewers: &mut [Viewer],
     scenes: &[Scene],
 ) -> bool {
     for scene in scenes {
         let Some(now) = reading(scene.earliest, scene.latest) else {
             return false;
         };
-        if !is_acted(desk, alloc, &now, scene.act) || !are_seen(viewer, scene.looks) {
+        if !is_acted(desk, alloc, &now, scene.act) || !are_seen(viewers, scene.looks) {
             return false;
         }
     }
@@ -147,13 +147,13 @@ fn are_played<R: Wait + Drop>(
 fn are_held<R: Wait + Drop>(
     mut desk: Desk<SimDisk, R>,
     alloc: Global,
-    viewer: &mut Viewer,
+    viewers: &mut [Viewer],
     scenes: &[Scene],
     log: &[Line],
 ) -> bool {
-    let played = are_played(&mut desk, alloc, viewer, scenes);
+    let played = are_played(&mut desk, alloc, viewers, scenes);
     let held = holds(alloc, desk.close(), log);
-    played && held && is_seen(viewer, (0, Err(Fault::Stopped)))
+    played && held && is_seen(viewers, (0, Err(Fault::Stopped)))
 }
 
 // Of a new shard on a new disk.
@@ -162,10 +162,11 @@ fn go<R: Wait + Drop>(rt: R, alloc: Global, scenes: &[Scene], log: &[Line]) -> b
         return false;
     };
     match Desk::new(rt, alloc, core, 1) {
-        Ok((desk, mut viewers)) => match viewers.as_mut_slice() {
-            [viewer] => are_held(desk, alloc, viewer, scenes, log),
-            _ => false,
-        },
+        Ok((desk, mut viewers)) => {
+            let held = are_held(desk, alloc, &mut viewers, scenes, log);
+            drop(viewers);
+            held
+        }
         Err((_, core)) => {
             drop(core.stop());
             false

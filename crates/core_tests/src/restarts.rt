@@ -154,16 +154,8 @@ static STORIES: [Story; 5] = [
     },
 ];
 
-// Of the viewer of the node's last opening.
-fn looks(viewers: &mut [Viewer], look: Look) -> bool {
-    match viewers.first_mut() {
-        Some(viewer) => is_seen(viewer, look),
-        None => false,
-    }
-}
-
-fn looks_there<R: Threads + Sync>(rt: &R, viewers: &mut [Viewer], look: Look) -> bool {
-    thread::join(rt, || looks(viewers, look), || ()).0
+fn is_seen_there<R: Threads + Sync>(rt: &R, viewers: &mut [Viewer], look: Look) -> bool {
+    thread::join(rt, || is_seen(viewers, look), || ()).0
 }
 
 fn is_delivered<R: Wait>(
@@ -217,8 +209,8 @@ fn is_answered<'a, R: Threads + Wait + Sync>(
             viewers: count,
             gives,
         } => { restarted(rt, alloc, node, viewers, count) == gives }
-        Ask::Look(look) => looks(viewers, look),
-        Ask::LookThere(look) => looks_there(rt, viewers, look),
+        Ask::Look(look) => is_seen(viewers, look),
+        Ask::LookThere(look) => is_seen_there(rt, viewers, look),
     }
 }
 

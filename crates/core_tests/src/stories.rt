@@ -83,25 +83,26 @@ pub fn meets_all(core: &mut Core<SimDisk>, alloc: Global, exchanges: &[Exchange]
     true
 }
 
-// What a look sees in a buffer of four bytes, of which it may take some.
-fn glance(
+// Whether a look sees this and leaves these, in a buffer of four bytes of which it may take some.
+fn is_seen(
     core: &Core<SimDisk>,
     key: &[u8],
     at: u64,
     room: usize,
-) -> Option<(Result<Seen, Fault>, [u8; 4])> {
+    seen: Result<Seen, Fault>,
+    bytes: [u8; 4],
+) -> bool {
     let Ok(key) = Key::new(key) else {
-        return None;
+        return false;
     };
     let mut buffer = [9; 4];
-    let seen = core.look(&key, stamp(at), &mut buffer[..room.min(4)]);
-    Some((seen, buffer))
+    core.look(&key, stamp(at), &mut buffer[..room.min(4)]) == seen && buffer == bytes
 }
 
-fn standing(found: Option<(TxnId, Stamp)>) -> (u64, u64) {
+fn stands(found: Option<(TxnId, Stamp)>, number: u64, at: u64) -> bool {
     match found {
-        Some((txn, at)) => (txn.number(), at.micros()),
-        None => (0, 0),
+        Some((txn, stamp)) => txn.number() == number && stamp.micros() == at,
+        None => number == 0 && at == 0,
     }
 }
 
@@ -115,15 +116,14 @@ fn number_of(found: Option<TxnId>) -> u64 {
 fn is_shown(core: &Core<SimDisk>, fact: &Shows) -> bool {
     match *fact {
         Shows::Ready(number) => number_of(core.ready()) == number,
-        Shows::Prepared(number, at) => standing(core.prepared(0)) == (number, at),
-        Shows::Decided(number, at) => standing(core.decided(0)) == (number, at),
-        Shows::Second(number, at) => standing(core.decided(1)) == (number, at),
+        Shows::Prepared(number, at) => stands(core.prepared(0), number, at),
+        Shows::Decided(number, at) => stands(core.decided(0), number, at),
+        Shows::Second(number, at) => stands(core.decided(1), number, at),
         Shows::Last(at) => core.last().micros() == at,
         Shows::Safe(at) => core.safe().micros() == at,
         Shows::Epoch(epoch) => core.epoch().number() == epoch,
         Shows::Installs(installs) => core.installs().len() == installs,
-        Shows::Look(key, at, room, seen, bytes) => glance(core, key, at, room)
-            == Some((seen, bytes)),
+        Shows::Look(key, at, room, seen, bytes) => is_seen(core, key, at, room, seen, bytes),
         Shows::Size(_) | Shows::Log(_, _) => true,
     }
 }
@@ -191,19 +191,19 @@ fn crashed(alloc: Global, disk: SimDisk) -> SimDisk {
 
 // The disk on which a core of such an origin begins.
 pub fn disk_of(alloc: Global, setting: Setting, origin: Origin) -> Option<SimDisk> {
-    let before = plain(setting.shard, setting.stride);
+    let Some(disk) = formatted(alloc) else {
+        return None;
+    };
+    let mut before = plain(setting.shard, setting.stride);
     match origin {
-        Origin::New | Origin::Failing(_) => formatted(alloc),
-        Origin::Crashed(exchanges) => {
-            let left = left(alloc, formatted(alloc)?, before, exchanges, &[])?;
-            Some(crashed(alloc, left))
-        }
+        Origin::New | Origin::Failing(_) => Some(disk),
+        Origin::Crashed(exchanges) => match left(alloc, disk, before, exchanges, &[]) {
+            Some(disk) => Some(crashed(alloc, disk)),
+            None => None,
+        },
         Origin::Armed(call, exchanges) => {
-            let armed = Setting {
-                fails: Some(call),
-                ..before
-            };
-            left(alloc, formatted(alloc)?, armed, exchanges, NOTHING)
+            before.fails = Some(call);
+            left(alloc, disk, before, exchanges, NOTHING)
         }
     }
 }
