@@ -1,4 +1,4 @@
-use Rattle.std.proofs.Common.{arith, length, ◌≤◌, ◌≡◌, ap, ◌∙◌, sym, ◌<◌, ◌^◌}
+use Rattle.std.proofs.Common.{arith, length, ◌≤◌, ◌≡◌, ap, ◌∙◌}
 use Rattle.std.proofs.lemmas.Fmt.{length-decimal-le}
 use Rattle.std.specs.Fmt.{decimal}
 use Rattle.workers.proofs.Values.{only_memory}
