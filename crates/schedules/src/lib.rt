@@ -3,6 +3,5 @@
 
 mod events;
 mod reader;
-mod words;
 
 pub use reader::schedule;

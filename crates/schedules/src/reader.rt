@@ -10,50 +10,32 @@ use world::{Config, Event};
 pub fn schedule(alloc: Global, text: &str) -> Result<(Config, Vec<Event>), Fault> {
     let mut reader = LineReader::of(text);
     let config = config(alloc, &mut reader)?;
-    match events(alloc, &mut reader) {
-        Ok(events) => Ok((config, events)),
-        Err(fault) => {
-            drop(config);
-            Err(fault)
-        }
-    }
-}
-
-// The events of the lines that are left.
-fn events(alloc: Global, reader: &mut LineReader<'_>) -> Result<Vec<Event>, Fault> {
     let mut events = Vec::new(alloc);
     for _ in 0..u64::MAX {
-        let Some(event) = next_event(alloc, reader)? else {
+        let Some(words) = reader.next(alloc)? else {
             break;
         };
-        events.push(event)?;
+        match event(alloc, &words) {
+            Ok(event) => events.push(event)?,
+            Err(fault) => return Err(reader.fault(fault)),
+        }
     }
-    Ok(events)
-}
-
-// The event of the next line, where there is one.
-fn next_event(alloc: Global, reader: &mut LineReader<'_>) -> Result<Option<Event>, Fault> {
-    let Some(words) = reader.next(alloc)? else {
-        return Ok(None);
-    };
-    let event = event(alloc, &words);
-    drop(words);
-    match event {
-        Ok(event) => Ok(Some(event)),
-        Err(fault) => Err(reader.fault(fault)),
-    }
+    Ok((config, events))
 }
 
 // The shards, by the first lines.
 fn config(alloc: Global, reader: &mut LineReader<'_>) -> Result<Config, Fault> {
-    let count = head_number(alloc, reader, "shards")?;
-    if count == 0 || count > 16 {
-        return Err(reader.fault(NO_WORD));
-    }
+    let count = match reader.head(alloc, "shards")?.map(count) {
+        Some(Ok(count)) => count,
+        _ => return Err(reader.fault(NO_WORD)),
+    };
     let keys = splits(alloc, reader, count)?;
-    let config = config_of(alloc, reader, &keys);
-    drop(keys);
-    config
+    let stride = match reader.head(alloc, "stride")?.map(stride) {
+        Some(Ok(stride)) => stride,
+        _ => return Err(reader.fault(NO_WORD)),
+    };
+    let splits = Splits::new(alloc, &keys)?;
+    Ok(Config { splits, stride })
 }
 
 // One key fewer than there are shards.
@@ -68,23 +50,16 @@ fn splits(alloc: Global, reader: &mut LineReader<'_>, count: u64) -> Result<Vec<
     Ok(keys)
 }
 
-// The shards between some splits, with the stride by the line behind those.
-fn config_of(alloc: Global, reader: &mut LineReader<'_>, keys: &[Key]) -> Result<Config, Fault> {
-    let number = head_number(alloc, reader, "stride")?;
-    let Some(stride) = Stride::new(number) else {
-        return Err(reader.fault(NO_WORD));
-    };
-    let splits = Splits::new(alloc, keys)?;
-    Ok(Config { splits, stride })
+// How many shards there are.
+fn count(word: &str) -> Result<u64, Fault> {
+    let count = number(word)?;
+    if count >= 1 && count <= 16 {
+        Ok(count)
+    } else {
+        Err(NO_WORD)
+    }
 }
 
-// The number behind a name, where the two are the next line.
-fn head_number(alloc: Global, reader: &mut LineReader<'_>, name: &str) -> Result<u64, Fault> {
-    let Some(word) = reader.head(alloc, name)? else {
-        return Err(reader.fault(NO_WORD));
-    };
-    match number(word) {
-        Ok(number) => Ok(number),
-        Err(fault) => Err(reader.fault(fault)),
-    }
+fn stride(word: &str) -> Result<Stride, Fault> {
+    Stride::new(number(word)?).ok_or(NO_WORD)
 }
