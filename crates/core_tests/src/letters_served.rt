@@ -4,7 +4,6 @@ use crate::nodes::fresh_node;
 use crate::verdict::told;
 use crossbeam_channel::{Receiver, Sender, unbounded};
 use letters::{Letter, Post};
-use made::id;
 use message::{Address, Answer, Envelope, Message};
 use node::Gate;
 use std::alloc::Global;
@@ -90,11 +89,15 @@ fn is_served<R: Wait + time::Clock>(rt: &R, alloc: Global, letters: u16, post: &
     filled
 }
 
-// Whether it says to the session of the transaction that shard 1 holds no `z`, in its first epoch.
-fn is_answer(envelope: &Envelope, txn: TxnId) -> bool {
+fn is_of(txn: TxnId, number: u16) -> bool {
+    txn.run() == 1 && txn.number() == u64::from(number)
+}
+
+// Whether it says to the session of 1.number that shard 1 holds no `z`, in its first epoch.
+fn is_answer(envelope: &Envelope, number: u16) -> bool {
     match (envelope.to, &envelope.message) {
-        (Address::Session(to), Message::ReadAnswer(told)) => to == txn
-            && told.txn == txn
+        (Address::Session(txn), Message::ReadAnswer(told)) => is_of(txn, number)
+            && is_of(told.txn, number)
             && told.from.number() == 1
             && told.key.as_bytes() == b"z".as_slice()
             && told.epoch.number() == 1
@@ -108,7 +111,7 @@ fn are_answers(envelopes: &[Envelope], letters: u16) -> bool {
     for before in 0..letters {
         match envelopes.get(usize::from(before)) {
             Some(envelope) => {
-                if !is_answer(envelope, id(before + 1)) {
+                if !is_answer(envelope, before + 1) {
                     return false;
                 }
             }

@@ -44,7 +44,7 @@ pub enum Shows {
     Look(&'static [u8], u64, usize, Result<Seen, Fault>, [u8; 4]),
     // The length of its log's file, and bytes from a place on.
     Size(u64),
-    Log(u64, &'static [u8]),
+    Log(usize, &'static [u8]),
 }
 
 // Once so many of the exchanges were made.
@@ -137,21 +137,20 @@ pub fn are_shown(core: &Core<SimDisk>, facts: &[Shows]) -> bool {
     true
 }
 
-// Whether these bytes stand at a place of the file.
-fn stand_at(disk: &mut SimDisk, place: u64, wanted: &[u8]) -> bool {
-    let mut buffer = [0; 128];
-    match buffer.get_mut(..wanted.len()) {
-        Some(bytes) => disk.read_at(place, bytes).is_ok() && bytes.starts_with(wanted),
-        None => false,
-    }
+fn content(alloc: Global, disk: &mut SimDisk) -> Result<Vec<u8>, Fault> {
+    let mut bytes = vec![in alloc; 0u8; disk.len() as usize]?;
+    disk.read_at(0, &mut bytes)?;
+    Ok(bytes)
 }
 
-// The facts on the file.
-fn are_kept(disk: &mut SimDisk, facts: &[Shows]) -> bool {
+fn are_in(bytes: &[u8], facts: &[Shows]) -> bool {
     for fact in facts {
         let kept = match *fact {
-            Shows::Size(size) => disk.len() == size,
-            Shows::Log(place, wanted) => stand_at(disk, place, wanted),
+            Shows::Size(size) => bytes.len() as u64 == size,
+            Shows::Log(place, wanted) => match bytes.get(place..) {
+                Some(rest) => rest.starts_with(wanted),
+                None => false,
+            },
             _ => true,
         };
         if !kept {
@@ -159,6 +158,14 @@ fn are_kept(disk: &mut SimDisk, facts: &[Shows]) -> bool {
         }
     }
     true
+}
+
+// The facts on the file.
+fn are_kept(alloc: Global, disk: &mut SimDisk, facts: &[Shows]) -> bool {
+    match content(alloc, disk) {
+        Ok(bytes) => are_in(bytes.as_slice(), facts),
+        Err(_) => false,
+    }
 }
 
 // The disk that a core leaves behind which begins on this one, where it meets all and shows this then.
@@ -174,7 +181,7 @@ pub fn left(
     };
     let met = meets_all(&mut core, alloc, exchanges) && are_shown(&core, facts);
     let mut disk = core.stop();
-    if met && are_kept(&mut disk, facts) {
+    if met && are_kept(alloc, &mut disk, facts) {
         Some(disk)
     } else {
         drop(disk);
