@@ -243,6 +243,7 @@ fn run_all<
     D: Disk + Drop + Send,
     H: Wait + Drop + Send,
     P: Post + Send + Drop,
+    N: Clock + Send + Drop,
     C: Clock + Copy + Send,
     G: Gate + Sync,
     W: Watch + Sync,
@@ -250,7 +251,7 @@ fn run_all<
     rt: &R,
     shared: &Shared,
     course: Course,
-    served: Vec<Served<D, H, P, C>>,
+    served: Vec<Served<D, H, P, N>>,
     staff: Staff,
     clock: C,
     gate: &G,
@@ -263,7 +264,7 @@ fn run_all<
     let (served, report) = thread::join(
         rt,
         || -> Result<(), Fault>
-            requires { IsSync R.row × IsSend D.row × IsSend H.row × IsSend P.row × IsSend C.row
+            requires { IsSync R.row × IsSend D.row × IsSend H.row × IsSend P.row × IsSend N.row
                 × IsSync G.row }
         { start(rt, served, gate) },
         move || -> Result<Report, Fault>
