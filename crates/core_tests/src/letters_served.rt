@@ -93,17 +93,31 @@ fn is_of(txn: TxnId, number: u16) -> bool {
     txn.run() == 1 && txn.number() == u64::from(number)
 }
 
-// Whether it says to the session of 1.number that shard 1 holds no `z`, in its first epoch.
-fn is_answer(envelope: &Envelope, number: u16) -> bool {
-    match (envelope.to, &envelope.message) {
-        (Address::Session(txn), Message::ReadAnswer(told)) => is_of(txn, number)
-            && is_of(told.txn, number)
-            && told.from.number() == 1
-            && told.key.as_bytes() == b"z".as_slice()
-            && told.epoch.number() == 1
-            && matches!(told.answer, Answer::Holds(None)),
+// Whether it goes to the session of 1.number.
+fn is_to(to: Address, number: u16) -> bool {
+    match to {
+        Address::Session(txn) => is_of(txn, number),
+        Address::Shard(_) => false,
+    }
+}
+
+// Whether it says of 1.number that shard 1 holds no `z`, in its first epoch.
+fn is_told(message: &Message, number: u16) -> bool {
+    match message {
+        Message::ReadAnswer(told) => {
+            is_of(told.txn, number)
+                && told.from.number() == 1
+                && told.key.as_bytes() == b"z".as_slice()
+                && told.epoch.number() == 1
+                && matches!(told.answer, Answer::Holds(None))
+        }
         _ => false,
     }
+}
+
+// Whether it tells that to this session.
+fn is_answer(envelope: &Envelope, number: u16) -> bool {
+    is_to(envelope.to, number) && is_told(&envelope.message, number)
 }
 
 // Whether these answer so many reads, in order.
