@@ -3,7 +3,7 @@ ghost use Rattle.std.specs.Prelude.{◌≡◌};
 ghost use Rattle.disk.specs.Planned.{fails, next, at_write, armed};
 
 /// Which of the calls `read_at`, `write_at`, `cut` and `sync` is to fail.
-#[derive(Clone, Copy, Debug, PartialEq, Eq)]
+#[derive(Clone, Copy, PartialEq, Eq)]
 pub enum FailurePlan {
     /// No call.
     Never,
@@ -55,7 +55,7 @@ impl FailurePlan {
 }
 
 /// What a crash makes of a change that is not synced.
-#[derive(Clone, Copy, Debug, PartialEq, Eq)]
+#[derive(Clone, Copy, PartialEq, Eq)]
 pub enum Fate {
     /// It is as if the change had not been made.
     Old,

@@ -2,7 +2,7 @@
 use crate::{Key, Stamp, TxnId, Value};
 
 /// What a look saw: nothing, or a value of that many bytes at the front of the buffer.
-#[derive(Clone, Copy, Debug, PartialEq, Eq)]
+#[derive(Clone, Copy, PartialEq, Eq)]
 pub enum Seen {
     Absent,
     Value(usize),

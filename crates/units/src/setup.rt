@@ -6,7 +6,7 @@ use crate::{Key, ShardNo, Splits, Writes};
 use std::marker::Model;
 
 /// How far ahead of the served time a ceiling is logged, in microseconds: 0 to 10,000,000.
-#[derive(Clone, Copy, Debug, PartialEq, Eq)]
+#[derive(Clone, Copy, PartialEq, Eq)]
 pub struct Stride {
     micros: u64,
 }

@@ -6,7 +6,7 @@ use std::fmt;
 use std::marker::Model;
 
 /// A shard's number, from 0 to 15.
-#[derive(Clone, Copy, Debug, PartialEq, Eq, PartialOrd, Ord)]
+#[derive(Clone, Copy, PartialEq, Eq, PartialOrd, Ord)]
 pub struct ShardNo {
     number: u8,
 }

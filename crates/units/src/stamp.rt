@@ -9,7 +9,7 @@ use std::fmt;
 use std::marker::Model;
 
 /// A timestamp: whole microseconds from 0 to 2^62 - 1.
-#[derive(Clone, Copy, Debug, PartialEq, Eq, PartialOrd, Ord)]
+#[derive(Clone, Copy, PartialEq, Eq, PartialOrd, Ord)]
 pub struct Stamp {
     micros: u64,
 }
@@ -93,7 +93,7 @@ impl fmt::Display for Stamp {
 }
 
 /// The epoch of a shard: its openings are counted from 1 on, up to 2^62 - 1.
-#[derive(Clone, Copy, Debug, PartialEq, Eq, PartialOrd, Ord)]
+#[derive(Clone, Copy, PartialEq, Eq, PartialOrd, Ord)]
 pub struct Epoch {
     number: u64,
 }

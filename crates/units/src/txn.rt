@@ -49,7 +49,7 @@ impl Run {
 
 /// A transaction's id: the run that made it, from 1 on, and its number in that run, both below 2^62. Its text is
 /// `run.number`. Ids are ordered by run, then by number; a smaller id is an older transaction.
-#[derive(Clone, Copy, Debug, PartialEq, Eq, PartialOrd, Ord, Hash)]
+#[derive(Clone, Copy, PartialEq, Eq, PartialOrd, Ord, Hash)]
 pub struct TxnId {
     run: u64,
     number: u64,
