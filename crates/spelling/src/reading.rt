@@ -3,8 +3,8 @@ ghost use Rattle.std.specs.Prelude.{◌≡◌, ◌≢◌, ◌↔◌, ◌==◌, [
 ghost use Rattle.std.specs.Int.{w16, w64};
 ghost use Rattle.spelling.specs.Gives.{Gives, Finds};
 ghost use Rattle.spelling.specs.Grammar.{Spells};
-ghost use Rattle.spelling.specs.Reading.{only_if, number_at, value_text_at, stamp_at, epoch_at, key_at, value_at, write_at, id_at, parts_at, shard_at, outcome_at, many_at};
-ghost use Rattle.spelling.specs.Reading.{keys_at, writes_at, promise_at, decision_at, ended_at, record_at, read_record};
+ghost use Rattle.spelling.specs.Reading.{only_if, number_at, value_text_at, stamp_at, epoch_at, key_at, value_at, write_at, id_at, parts_at};
+ghost use Rattle.spelling.specs.Reading.{shard_at, outcome_at, many_at, keys_at, writes_at, promise_at, decision_at, ended_at, record_at, read_record};
 
 use crate::unread::Unread;
 use byteorder::{BigEndian, ByteOrder};
