@@ -1,0 +1,9 @@
+//! Promises of a core, each stated once more over the public call that keeps it. Wrong bodies of such a call are tried here, where a
+//! body is small: what refuses them is the contract of that call.
+#![tactic(auto)]
+
+mod cores;
+mod openings;
+
+pub use cores::{look, on, safe};
+pub use openings::rebuild;

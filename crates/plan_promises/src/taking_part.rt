@@ -1,0 +1,41 @@
+//! What a shard does that takes part in a transaction.
+ghost use Rattle.std.specs.Prelude.{IfOk};
+ghost use Rattle.memory.specs.Carry.{IsFit};
+ghost use Rattle.memory.specs.Standings.{standing_in};
+ghost use Rattle.participant.specs.ByMessage.{PlansOutcome, PlansPrepare, PlansRead};
+
+use memory::{Plan, State};
+use message::{Outcome, Prepare, Read};
+use std::alloc::Global;
+use truetime::Reading;
+use units::Fault;
+
+/// A read is answered under its lock; nobody who has promised is ended for it.
+pub fn read(state: &State, alloc: Global, read: &Read) -> Result<Plan, Fault>
+    ensures planned { PlansRead state.now read.now (standing_in state.now read.now.txn) result }
+    ensures fit { IfOk result (IsFit state.now) }
+{
+    participant::on_read(state, alloc, read)
+}
+
+/// A promise is made where the reads still stand, of this epoch and under their locks, which it keeps.
+pub fn prepare(
+    state: &State,
+    alloc: Global,
+    now: &Reading,
+    prepare: &Prepare,
+) -> Result<Plan, Fault>
+    ensures planned { PlansPrepare state.now now.now.earliest prepare.now
+        (standing_in state.now prepare.now.txn) result }
+    ensures fit { IfOk result (IsFit state.now) }
+{
+    participant::on_prepare(state, alloc, now, prepare)
+}
+
+/// An outcome closes a promise once.
+pub fn outcome(state: &State, alloc: Global, told: &Outcome) -> Result<Plan, Fault>
+    ensures planned { PlansOutcome state.now told.now (standing_in state.now told.now.txn) result }
+    ensures fit { IfOk result (IsFit state.now) }
+{
+    participant::on_outcome(state, alloc, told)
+}
