@@ -2,7 +2,6 @@
 ghost use Rattle.std.specs.Prelude.{◌≡◌, [], ◌∷◌, IfSome};
 ghost use Rattle.locks.specs.Table.{entrant};
 
-use crate::checks::check;
 use crate::ids::{id, key, needs};
 use locks::{Held, Table};
 use std::alloc::Global;
@@ -176,9 +175,12 @@ fn is_told(alloc: Global, story: Story) -> bool {
     matches!(told(alloc, story), Some(true))
 }
 
-#[test]
-fn stories_of_one_key(rt: HostRuntime) {
+/// The first row that is wrong.
+pub fn wrong(alloc: Global) -> &'static str {
     for (name, story) in &STORIES {
-        check(&rt, *name, is_told(rt.alloc(), *story));
+        if !is_told(alloc, *story) {
+            return *name;
+        }
     }
+    ""
 }
