@@ -1,5 +1,4 @@
 //! Disks in memory: which calls fail, what is read, and what a crash leaves.
-use crate::tables::{holds_at, row_holds};
 use disk::{Disk, FailurePlan, Fate};
 use simdisk::{Choice, SimDisk};
 use std::alloc::Global;
@@ -65,14 +64,6 @@ fn fails_so(row: &Failing) -> bool {
 fn are_armed() -> bool {
     matches!(FailurePlan::armed(Some(1)), FailurePlan::AfterWrite(1))
         && matches!(FailurePlan::armed(None), FailurePlan::Never)
-}
-
-#[test]
-fn calls_that_fail(rt: HostRuntime) {
-    assert!(rt; are_armed());
-    for row in &FAILING {
-        row_holds(&rt, fails_so(row), row.what);
-    }
 }
 
 // What is done with a disk.
@@ -193,6 +184,7 @@ fn lives(alloc: Global, steps: &[Step], others: &[Step]) -> bool {
 // What a crash leaves of these changes of the six letters.
 #[derive(Clone, Copy)]
 struct Torn {
+    what: &'static str,
     changes: &'static [Step],
     fates: &'static [Fate],
     left: &'static [u8],
@@ -210,130 +202,171 @@ const A_CUT: &[Step] = &[Step::Cut(2), Step::Write(2, b"Z")];
 
 static TORN: [Torn; 10] = [
     Torn {
+        what: "no write",
         changes: WRITES,
         fates: &[],
         left: b"abcdef",
     },
     Torn {
+        what: "the first write",
         changes: WRITES,
         fates: &[Fate::New],
         left: b"aXYdef",
     },
     Torn {
+        what: "the second write",
         changes: WRITES,
         fates: &[Fate::Old, Fate::New],
         left: b"abcdefgh",
     },
     Torn {
+        what: "a filled write",
         changes: WRITES,
         fates: &[Fate::Filled(0x2a)],
         left: b"a**def",
     },
     Torn {
+        what: "a filled write between two",
         changes: WRITES,
         fates: &[Fate::New, Fate::Filled(0x2a), Fate::New],
         left: b"aXYdef**ij",
     },
     Torn {
+        what: "the third write",
         changes: WRITES,
         fates: &[Fate::Old, Fate::Old, Fate::New],
         left: b"abcdef\0\0ij",
     },
     Torn {
+        what: "no cut, no write",
         changes: A_CUT,
         fates: &[Fate::Old, Fate::Old],
         left: b"abcdef",
     },
     Torn {
+        what: "a cut alone",
         changes: A_CUT,
         fates: &[Fate::New, Fate::Old],
         left: b"ab",
     },
     Torn {
+        what: "a write alone",
         changes: A_CUT,
         fates: &[Fate::Old, Fate::New],
         left: b"abZdef",
     },
     Torn {
+        what: "a filled cut and a write",
         changes: A_CUT,
         fates: &[Fate::Filled(1), Fate::New],
         left: b"abZ",
     },
 ];
 
-#[test]
-fn a_crash_tears_each_change_by_its_fate(rt: HostRuntime) {
-    for (number, row) in TORN.iter().enumerate() {
-        let crash = [Step::Crash(row.fates), Step::Holds(row.left)];
-        holds_at(&rt, lives(rt.alloc(), row.changes, &crash), number);
-    }
+// What is done with the six letters.
+#[derive(Clone, Copy)]
+struct Life {
+    what: &'static str,
+    steps: &'static [Step],
 }
 
-static LIVES: [&[Step]; 5] = [
-    // What is synced stays.
-    &[
-        Step::Write(4, b"EFG"),
-        Step::Sync,
-        Step::Crash(&[]),
-        Step::Holds(b"abcdEFG"),
-        Step::Write(7, b"h"),
-        Step::Crash(&[]),
-        Step::Holds(b"abcdEFG"),
-    ],
-    // A failed write may come out of a crash.
-    &[
-        Step::FailNext(0),
-        Step::WriteFails(1, b"XY"),
-        Step::Holds(b"abcdef"),
-        Step::Crash(&[Fate::New]),
-        Step::Holds(b"aXYdef"),
-    ],
-    // The next call but one fails, once.
-    &[
-        Step::FailNext(1),
-        Step::Write(6, b"g"),
-        Step::CutFails(3),
-        Step::Holds(b"abcdefg"),
-        Step::Cut(3),
-        Step::Sync,
-        Step::Holds(b"abc"),
-    ],
-    // An armed call is counted from the next write.
-    &[
-        Step::Arm(Some(1)),
-        Step::Sync,
-        Step::Sync,
-        Step::Write(0, b"A"),
-        Step::SyncFails,
-        Step::Sync,
-        Step::Arm(Some(0)),
-        Step::Sync,
-        Step::WriteFails(0, b"B"),
-        Step::Arm(Some(0)),
-        Step::Arm(None),
-        Step::Write(1, b"C"),
-        Step::FailNext(0),
-        Step::Arm(None),
-        Step::Holds(b"ACcdef"),
-    ],
-    // Eight calls on what was reserved.
-    &[
-        Step::Reserve(8),
-        Step::Write(6, b"gh"),
-        Step::Sync,
-        Step::Cut(7),
-        Step::Write(7, b"HI"),
-        Step::Sync,
-        Step::Write(9, b"jk"),
-        Step::Write(0, b"AB"),
-        Step::Sync,
-        Step::Holds(b"ABcdefgHIjk"),
-    ],
+static LIVES: [Life; 5] = [
+    Life {
+        what: "what is synced stays",
+        steps: &[
+            Step::Write(4, b"EFG"),
+            Step::Sync,
+            Step::Crash(&[]),
+            Step::Holds(b"abcdEFG"),
+            Step::Write(7, b"h"),
+            Step::Crash(&[]),
+            Step::Holds(b"abcdEFG"),
+        ],
+    },
+    Life {
+        what: "a failed write may come out of a crash",
+        steps: &[
+            Step::FailNext(0),
+            Step::WriteFails(1, b"XY"),
+            Step::Holds(b"abcdef"),
+            Step::Crash(&[Fate::New]),
+            Step::Holds(b"aXYdef"),
+        ],
+    },
+    Life {
+        what: "the next call but one fails, once",
+        steps: &[
+            Step::FailNext(1),
+            Step::Write(6, b"g"),
+            Step::CutFails(3),
+            Step::Holds(b"abcdefg"),
+            Step::Cut(3),
+            Step::Sync,
+            Step::Holds(b"abc"),
+        ],
+    },
+    Life {
+        what: "an armed call is counted from the next write",
+        steps: &[
+            Step::Arm(Some(1)),
+            Step::Sync,
+            Step::Sync,
+            Step::Write(0, b"A"),
+            Step::SyncFails,
+            Step::Sync,
+            Step::Arm(Some(0)),
+            Step::Sync,
+            Step::WriteFails(0, b"B"),
+            Step::Arm(Some(0)),
+            Step::Arm(None),
+            Step::Write(1, b"C"),
+            Step::FailNext(0),
+            Step::Arm(None),
+            Step::Holds(b"ACcdef"),
+        ],
+    },
+    Life {
+        what: "eight calls on what was reserved",
+        steps: &[
+            Step::Reserve(8),
+            Step::Write(6, b"gh"),
+            Step::Sync,
+            Step::Cut(7),
+            Step::Write(7, b"HI"),
+            Step::Sync,
+            Step::Write(9, b"jk"),
+            Step::Write(0, b"AB"),
+            Step::Sync,
+            Step::Holds(b"ABcdefgHIjk"),
+        ],
+    },
 ];
 
-#[test]
-fn disks_over_their_lives(rt: HostRuntime) {
-    for (number, steps) in LIVES.iter().enumerate() {
-        holds_at(&rt, lives(rt.alloc(), steps, &[]), number);
+// The row's changes are torn so by a crash.
+fn is_torn(alloc: Global, row: &Torn) -> bool {
+    let crash = [Step::Crash(row.fates), Step::Holds(row.left)];
+    lives(alloc, row.changes, &crash)
+}
+
+/// The first row that is wrong.
+pub fn wrong(alloc: Global) -> &'static str {
+    if !are_armed() {
+        return "armed plans";
     }
+    for row in &FAILING {
+        if !fails_so(row) {
+            return row.what;
+        }
+    }
+    for row in &TORN {
+        if !is_torn(alloc, row) {
+            return row.what;
+        }
+    }
+    for row in &LIVES {
+        if !lives(alloc, row.steps, &[]) {
+            return row.what;
+        }
+    }
+    ""
 }

@@ -1,10 +1,10 @@
 //! Disks over files.
 use crate::devices::{read_back, sent};
 use crate::folder::Folder;
-use crate::tables::row_holds;
 use disk::Disk;
 use filedisk::FileDisk;
 use std::alloc::Global;
+use std::process::Abort;
 use std::{env, fs};
 use units::Fault;
 
@@ -122,15 +122,6 @@ fn is_answered_so(rt: &HostRuntime, path: &str, row: &Asked) -> bool {
     answer == row.wanted
 }
 
-#[test]
-fn files_that_are_there_or_not(rt: HostRuntime) {
-    for row in &ASKED {
-        let folder = Folder::new(&rt, &rt);
-        let so = is_answered_so(&rt, folder.log(), row);
-        row_holds(&rt, folder.remove(&rt) && so, row.what);
-    }
-}
-
 // A path of a new file, from a folder with the folder `logs` in it.
 #[derive(Clone, Copy)]
 struct Named {
@@ -169,15 +160,6 @@ fn is_made_so(rt: &HostRuntime, folder: &str, row: &Named) -> bool {
     env::set_current_dir(rt, folder).is_ok()
         && fs::create_dir(rt, "logs").is_ok()
         && answer(rt, row.path, Call::Create) == row.wanted
-}
-
-#[test]
-fn paths_of_new_files(rt: HostRuntime) {
-    for row in &NAMED {
-        let folder = Folder::new(&rt, &rt);
-        let so = is_made_so(&rt, folder.path(), row);
-        row_holds(&rt, folder.remove(&rt) && so, row.path);
-    }
 }
 
 // What is done with a disk.
@@ -312,11 +294,32 @@ fn runs(rt: &HostRuntime, path: &str, row: &Run) -> bool {
     went && keeps(rt, path, row.left)
 }
 
-#[test]
-fn runs_of_calls(rt: HostRuntime) {
-    for row in &RUNS {
-        let folder = Folder::new(&rt, &rt);
-        let went = runs(&rt, folder.log(), row);
-        row_holds(&rt, folder.remove(&rt) && went, row.what);
+/// The first row that is wrong, each in a folder of its own.
+pub fn wrong(rt: &HostRuntime, test: &impl Abort) -> &'static str {
+    for row in &ASKED {
+        let folder = Folder::new(rt, test);
+        let so = is_answered_so(rt, folder.log(), row);
+        if !folder.remove(rt) || !so {
+            return row.what;
+        }
     }
+    for row in &RUNS {
+        let folder = Folder::new(rt, test);
+        let went = runs(rt, folder.log(), row);
+        if !folder.remove(rt) || !went {
+            return row.what;
+        }
+    }
+    for row in &NAMED {
+        let folder = Folder::new(rt, test);
+        let so = is_made_so(rt, folder.path(), row);
+        if !folder.remove(rt) || !so {
+            return if row.path.is_empty() {
+                "no path"
+            } else {
+                row.path
+            };
+        }
+    }
+    ""
 }

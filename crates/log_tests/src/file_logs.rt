@@ -6,6 +6,7 @@ use crate::lines::Line;
 use filedisk::FileDisk;
 use gatelog::{Entry, GateLog};
 use record::Record;
+use std::process::Abort;
 use units::Fault;
 
 // The header; Opened 1; Opened 2; a closed gate.
@@ -54,23 +55,30 @@ fn goes_on(rt: &HostRuntime, path: &str, count: usize, more: &[Line]) -> bool {
     went
 }
 
-#[test]
-fn a_log_is_opened_again(rt: HostRuntime) {
-    let folder = Folder::new(&rt, &rt);
-    let path = folder.log();
-    let opened = begins(&rt, path)
-        && goes_on(&rt, path, 1, &[Line::Opened(2)])
-        && goes_on(&rt, path, 2, &[])
-        && keeps(&rt, path, TWO_OPENINGS);
-    assert!(rt; folder.remove(&rt) && opened);
+// A new file is no log.
+fn is_refused(rt: &HostRuntime, path: &str) -> bool {
+    match FileDisk::create(rt, path) {
+        Ok(empty) => refusal(rt.alloc(), empty) == Some(Fault::NotALog),
+        Err(_) => false,
+    }
 }
 
-#[test]
-fn a_new_file_is_no_log(rt: HostRuntime) {
-    let folder = Folder::new(&rt, &rt);
-    let refused = match FileDisk::create(&rt, folder.log()) {
-        Ok(empty) => refusal(rt.alloc(), empty),
-        Err(_) => None,
-    };
-    assert!(rt; folder.remove(&rt) && refused == Some(Fault::NotALog));
+/// The first row that is wrong, each in a folder of its own.
+pub fn wrong(rt: &HostRuntime, test: &impl Abort) -> &'static str {
+    let folder = Folder::new(rt, test);
+    let path = folder.log();
+    let opened = begins(rt, path)
+        && goes_on(rt, path, 1, &[Line::Opened(2)])
+        && goes_on(rt, path, 2, &[])
+        && keeps(rt, path, TWO_OPENINGS);
+    if !folder.remove(rt) || !opened {
+        return "a log is opened again";
+    }
+    let folder = Folder::new(rt, test);
+    let refused = is_refused(rt, folder.log());
+    if folder.remove(rt) && refused {
+        ""
+    } else {
+        "a new file is no log"
+    }
 }

@@ -2,7 +2,6 @@
 use crate::devices::{crash, read_back};
 use crate::lines::{Line, is_spelled, record_of};
 use crate::spellings::COMMIT;
-use crate::tables::{holds_at, row_holds};
 use disk::{Disk, Fate};
 use gatelog::{Entry, GateLog, Logged};
 use made::stamp;
@@ -166,13 +165,6 @@ fn is_written(alloc: Global, row: &File) -> bool {
     stand_at(alloc, disk, row.offsets) && goes_on && written
 }
 
-#[test]
-fn whole_files(rt: HostRuntime) {
-    for row in &FILES {
-        row_holds(&rt, is_written(rt.alloc(), row), row.what);
-    }
-}
-
 // The second entry has the record of the second line.
 fn has_its_commit(alloc: Global) -> bool {
     let Some(entries) = entries_of(alloc, ONE_COMMIT) else {
@@ -184,11 +176,6 @@ fn has_its_commit(alloc: Global) -> bool {
     };
     drop(entries);
     has
-}
-
-#[test]
-fn an_entry_has_its_record(rt: HostRuntime) {
-    assert!(rt; has_its_commit(rt.alloc()));
 }
 
 // How a file is refused.
@@ -250,17 +237,6 @@ fn refusal_of(alloc: Global, bytes: &[u8]) -> Option<Fault> {
     }
 }
 
-#[test]
-fn damaged_files(rt: HostRuntime) {
-    for row in &REFUSED {
-        row_holds(
-            &rt,
-            refusal_of(rt.alloc(), row.bytes) == row.fault,
-            row.what,
-        );
-    }
-}
-
 // Logs Ceiling 200 while a call of the append is to fail.
 fn append_armed(alloc: Global, log: &mut GateLog<SimDisk>, call: u64) -> Result<(), Fault> {
     let item = Record::Ceiling { at: stamp(200) };
@@ -287,6 +263,7 @@ fn cut_short(alloc: Global, call: u64, fate: Fate) -> Option<SimDisk> {
 // The call that fails, the fate of what it leaves, and how many entries there are then.
 #[derive(Clone, Copy)]
 struct Crashed {
+    what: &'static str,
     call: u64,
     fate: Fate,
     entries: usize,
@@ -294,36 +271,43 @@ struct Crashed {
 
 static CRASHED: [Crashed; 7] = [
     Crashed {
+        what: "the first call fails",
         call: 0,
         fate: Fate::New,
         entries: 1,
     },
     Crashed {
+        what: "the second call fails",
         call: 1,
         fate: Fate::Filled(0xa5),
         entries: 1,
     },
     Crashed {
+        what: "the third call fails, with its change lost",
         call: 2,
         fate: Fate::Old,
         entries: 1,
     },
     Crashed {
+        what: "the third call fails, with its change kept",
         call: 2,
         fate: Fate::New,
         entries: 2,
     },
     Crashed {
+        what: "the third call fails, with its change filled",
         call: 2,
         fate: Fate::Filled(0xa5),
         entries: 2,
     },
     Crashed {
+        what: "the fourth call fails",
         call: 3,
         fate: Fate::Filled(0x37),
         entries: 1,
     },
     Crashed {
+        what: "the fifth call fails",
         call: 4,
         fate: Fate::Old,
         entries: 2,
@@ -342,13 +326,6 @@ fn leaves(alloc: Global, row: &Crashed) -> bool {
     count == row.entries
 }
 
-#[test]
-fn crashes_in_an_append(rt: HostRuntime) {
-    for (number, row) in CRASHED.iter().enumerate() {
-        holds_at(&rt, leaves(rt.alloc(), row), number);
-    }
-}
-
 // The second entry stands where the closed gate was.
 fn is_used_again(alloc: Global) -> bool {
     let Some(disk) = cut_short(alloc, 2, Fate::Filled(0x37)) else {
@@ -361,11 +338,6 @@ fn is_used_again(alloc: Global) -> bool {
     drop(entries);
     let logged = put_lines(alloc, &mut log, &[Line::Ceiling(300)]);
     stand_at(alloc, log.into_disk(), &[8, 22]) && count == 1 && logged
-}
-
-#[test]
-fn a_closed_gate_is_used_again(rt: HostRuntime) {
-    assert!(rt; is_used_again(rt.alloc()));
 }
 
 // A failing call stops the log, and the file has both entries, as it is read.
@@ -381,7 +353,32 @@ fn is_stopped_by_a_failure(alloc: Global) -> bool {
         && [first, second] == [Err(Fault::Device), Err(Fault::Stopped)]
 }
 
-#[test]
-fn a_failure_stops_it(rt: HostRuntime) {
-    assert!(rt; is_stopped_by_a_failure(rt.alloc()));
+/// The first row that is wrong.
+pub fn wrong(alloc: Global) -> &'static str {
+    for row in &FILES {
+        if !is_written(alloc, row) {
+            return row.what;
+        }
+    }
+    if !has_its_commit(alloc) {
+        return "an entry has its record";
+    }
+    for row in &REFUSED {
+        if refusal_of(alloc, row.bytes) != row.fault {
+            return row.what;
+        }
+    }
+    for row in &CRASHED {
+        if !leaves(alloc, row) {
+            return row.what;
+        }
+    }
+    if !is_used_again(alloc) {
+        return "a closed gate is used again";
+    }
+    if is_stopped_by_a_failure(alloc) {
+        ""
+    } else {
+        "a failure stops it"
+    }
 }

@@ -1,6 +1,5 @@
 //! What a log determines, and which records may come next.
 use crate::lines::{Line, record_of};
-use crate::tables::row_holds;
 use facts::{Facts, Status};
 use made::{id, key, shard};
 use record::{Committed, Prepared};
@@ -293,13 +292,6 @@ fn determines(alloc: Global, row: &Determined) -> bool {
     determined
 }
 
-#[test]
-fn what_logs_determine(rt: HostRuntime) {
-    for row in &DETERMINED {
-        row_holds(&rt, determines(rt.alloc(), row), row.what);
-    }
-}
-
 // Records of which none may come behind these, at the log of a shard.
 #[derive(Clone, Copy)]
 struct Damaged {
@@ -396,9 +388,17 @@ fn are_damaged(alloc: Global, row: &Damaged) -> bool {
     damaged
 }
 
-#[test]
-fn records_that_may_not_come(rt: HostRuntime) {
-    for row in &DAMAGED {
-        row_holds(&rt, are_damaged(rt.alloc(), row), row.what);
+/// The first row that is wrong.
+pub fn wrong(alloc: Global) -> &'static str {
+    for row in &DETERMINED {
+        if !determines(alloc, row) {
+            return row.what;
+        }
     }
+    for row in &DAMAGED {
+        if !are_damaged(alloc, row) {
+            return row.what;
+        }
+    }
+    ""
 }

@@ -1,7 +1,6 @@
 //! Logs that are opened again: what they leave, and which are refused.
 use crate::files::{entries_in, entries_of, log_of, put};
 use crate::lines::{Line, promise};
-use crate::tables::row_holds;
 use gatelog::{Entry, GateLog};
 use made::{key, shard};
 use memory::State;
@@ -210,15 +209,6 @@ static REOPENED: [Reopened; 11] = [
     },
 ];
 
-#[test]
-fn logs_that_are_opened_again(rt: HostRuntime) {
-    for row in &REOPENED {
-        let entries = entries_of(rt.alloc(), row.lines);
-        let so = left(rt.alloc(), row.shard, entries) == row.left;
-        row_holds(&rt, so, row.what);
-    }
-}
-
 // Each 1.number promises at 200 to write a key of its own of three bytes.
 fn put_promises(alloc: Global, log: &mut GateLog<SimDisk>, count: u16) -> bool {
     for number in 0..count {
@@ -259,9 +249,19 @@ static FULL: Rebuilt = Ok(Some(Shown {
 // Each frame has 43 bytes; the first stands behind that of the opening, at 22.
 static TOO_MANY: Rebuilt = Err(Fault::Damaged { offset: 44_054 });
 
-#[test]
-fn a_full_table(rt: HostRuntime) {
-    let full = left(rt.alloc(), 1, crowd(rt.alloc(), 1024));
-    let too_many = left(rt.alloc(), 1, crowd(rt.alloc(), 1025));
-    assert!(rt; full == FULL && too_many == TOO_MANY);
+/// The first row that is wrong.
+pub fn wrong(alloc: Global) -> &'static str {
+    for row in &REOPENED {
+        if left(alloc, row.shard, entries_of(alloc, row.lines)) != row.left {
+            return row.what;
+        }
+    }
+    if left(alloc, 1, crowd(alloc, 1024)) != FULL {
+        return "a full table";
+    }
+    if left(alloc, 1, crowd(alloc, 1025)) == TOO_MANY {
+        ""
+    } else {
+        "too many rows"
+    }
 }

@@ -2,6 +2,8 @@
 #![tactic(auto)]
 
 #[cfg(test)]
+mod checks;
+#[cfg(test)]
 mod devices;
 #[cfg(test)]
 mod disks;
@@ -22,6 +24,6 @@ mod lines;
 #[cfg(test)]
 mod spellings;
 #[cfg(test)]
-mod tables;
+mod tests;
 #[cfg(test)]
 mod versioned;

@@ -2,7 +2,6 @@
 ghost use Rattle.std.specs.Prelude.{◌≡◌, ◌<◌, ◌≤◌, ◌^◌, [], length};
 
 use crate::lines::byte;
-use crate::tables::{holds_at, row_holds};
 use counts::Count;
 use made::{key, stamp};
 use std::alloc::Global;
@@ -176,14 +175,6 @@ static LOOKED: [Looked; 2] = [
     },
 ];
 
-#[test]
-fn values_at_timestamps(rt: HostRuntime) {
-    for row in &LOOKED {
-        let shown = shows(rt.alloc(), row.versions, row.lookups, &[]);
-        row_holds(&rt, shown, row.what);
-    }
-}
-
 // How many versions stand up to a key and a timestamp, and how many of all are compared at most.
 #[derive(Clone, Copy)]
 struct Place {
@@ -283,12 +274,6 @@ fn shows(alloc: Global, rows: &[Version], lookups: &[Lookup], places: &[Place]) 
     shown
 }
 
-#[test]
-fn in_order_by_key_and_timestamp(rt: HostRuntime) {
-    let unordered = shows(rt.alloc(), &UNORDERED, &[], &PLACES);
-    assert!(rt; unordered && shows(rt.alloc(), &[], &[], &NO_PLACE));
-}
-
 // The value is written to `a` and `z` is erased, both at 200.
 fn install_two(alloc: Global, versions: &mut Versions, value: Value) -> bool
     requires none { versions.old.installs ≡ [] }
@@ -350,11 +335,6 @@ fn shows_both(alloc: Global) -> bool {
         && are_places(&versions, &SECOND);
     drop(versions);
     shown
-}
-
-#[test]
-fn writes_at_one_timestamp(rt: HostRuntime) {
-    assert!(rt; shows_both(rt.alloc()));
 }
 
 // A version in a plain list of all, ascending by key and timestamp.
@@ -518,6 +498,36 @@ impl Compared {
 // Lengths of what keys begin with.
 static PREFIXES: [usize; 5] = [0, 3, 8, 9, 20];
 
+// Drawn keys that all begin with so many letters.
+#[derive(Clone, Copy)]
+struct Behind {
+    what: &'static str,
+    letters: usize,
+}
+
+static BEHIND: [Behind; 5] = [
+    Behind {
+        what: "behind no letter",
+        letters: 0,
+    },
+    Behind {
+        what: "behind 3 letters",
+        letters: 3,
+    },
+    Behind {
+        what: "behind 8 letters",
+        letters: 8,
+    },
+    Behind {
+        what: "behind 9 letters",
+        letters: 9,
+    },
+    Behind {
+        what: "behind 20 letters",
+        letters: 20,
+    },
+];
+
 fn agree_drawn(alloc: Global, letters: &[usize], turns: u64, apart: u64) -> bool
     requires few { turns ≤ 2 ^ 32 }
     requires apart { 0 < apart }
@@ -533,15 +543,33 @@ fn agree_drawn(alloc: Global, letters: &[usize], turns: u64, apart: u64) -> bool
     agreed
 }
 
-#[test]
-fn drawn_versions_behind_one_prefix(rt: HostRuntime) {
-    for letters in &PREFIXES {
-        let agreed = agree_drawn(rt.alloc(), &[*letters], 600, 4);
-        holds_at(&rt, agreed, *letters);
+/// The first row that is wrong.
+pub fn wrong(alloc: Global) -> &'static str {
+    for row in &LOOKED {
+        if !shows(alloc, row.versions, row.lookups, &[]) {
+            return row.what;
+        }
+    }
+    if !shows(alloc, &UNORDERED, &[], &PLACES) || !shows(alloc, &[], &[], &NO_PLACE) {
+        return "in order by key and timestamp";
+    }
+    if shows_both(alloc) {
+        ""
+    } else {
+        "writes at one timestamp"
     }
 }
 
-#[test]
-fn drawn_versions_behind_several_prefixes(rt: HostRuntime) {
-    assert!(rt; agree_drawn(rt.alloc(), &PREFIXES, 3_000, 32));
+/// The first row of drawn versions that is wrong.
+pub fn wrong_draws(alloc: Global) -> &'static str {
+    for row in &BEHIND {
+        if !agree_drawn(alloc, &[row.letters], 600, 4) {
+            return row.what;
+        }
+    }
+    if agree_drawn(alloc, &PREFIXES, 3_000, 32) {
+        ""
+    } else {
+        "behind several prefixes"
+    }
 }

@@ -1,17 +1,36 @@
 //! What the tests end with, and what more than one asks.
-use std::alloc::Global;
+use message::Envelope;
+use std::alloc::{AllocError, Global};
 use std::fmt::Display;
 use std::process::Abort;
+use texts::Text;
 
-/// Ends the test with the row's name, unless the row holds.
-pub fn check(rt: &impl Abort, row: &str, holds: bool) {
-    assert!(rt; holds, "{row}");
+/// Ends the test with the row that is wrong, if there is one: each area names the first of its rows that does not hold, and
+/// else gives an empty text.
+pub fn check(rt: &impl Abort, area: &str, wrong: &str) {
+    assert!(rt; wrong.is_empty(), "{area}: {wrong}");
+}
+
+/// Whether there is memory for the text, and it is this one.
+pub fn is_text(text: Result<String, AllocError>, wanted: &str) -> bool {
+    match text {
+        Ok(text) => {
+            let same = text.as_str() == wanted;
+            drop(text);
+            same
+        }
+        Err(_) => false,
+    }
 }
 
 /// Whether the thing is printed as this text.
 pub fn is_printed(alloc: Global, thing: &impl Display, text: &str) -> bool {
-    match thing.to_string(alloc) {
-        Ok(printed) => printed.as_str() == text,
-        Err(_) => false,
-    }
+    is_text(thing.to_string(alloc), text)
+}
+
+/// Whether the message is printed as this line.
+pub fn is_line(alloc: Global, envelope: Envelope, line: &str) -> bool {
+    let printed = is_printed(alloc, &Text(&envelope), line);
+    drop(envelope);
+    printed
 }

@@ -1,5 +1,4 @@
 //! Readings of the clock, commit wait, the safe time, and ceilings.
-use crate::checks::check;
 use ceiling::needed;
 use made::stamp;
 use record::Record;
@@ -56,29 +55,44 @@ fn is_beside(row: &Beside) -> bool {
     }
 }
 
-// It is the reading of these two ends.
-fn is_read(earliest: u64, latest: u64) -> bool {
-    match reading(earliest, latest) {
-        Ok(now) => now.earliest().micros() == earliest && now.latest().micros() == latest,
-        Err(_) => false,
-    }
+// Two ends, and whether a reading has them.
+#[derive(Clone, Copy)]
+struct Ends {
+    name: &'static str,
+    earliest: u64,
+    latest: u64,
+    read: bool,
 }
 
-fn is_no_stamp(earliest: u64, latest: u64) -> bool {
-    matches!(
-        reading(earliest, latest),
-        Err(Fault::BadRequest(Reason::Stamp))
-    )
-}
+static ENDS: [Ends; 3] = [
+    Ends {
+        name: "100 to 110",
+        earliest: 100,
+        latest: 110,
+        read: true,
+    },
+    Ends {
+        name: "100 to 100",
+        earliest: 100,
+        latest: 100,
+        read: true,
+    },
+    Ends {
+        name: "110 to 100",
+        earliest: 110,
+        latest: 100,
+        read: false,
+    },
+];
 
-#[test]
-fn the_two_ends(rt: HostRuntime) {
-    for row in &BESIDE {
-        check(&rt, row.name, is_beside(row));
+fn is_read(row: &Ends) -> bool {
+    match reading(row.earliest, row.latest) {
+        Ok(now) => {
+            let (earliest, latest) = (now.earliest().micros(), now.latest().micros());
+            row.read && earliest == row.earliest && latest == row.latest
+        }
+        Err(fault) => !row.read && fault == Fault::BadRequest(Reason::Stamp),
     }
-    check(&rt, "100 to 110", is_read(100, 110));
-    check(&rt, "100 to 100", is_read(100, 100));
-    check(&rt, "110 to 100", is_no_stamp(110, 100));
 }
 
 // 111 at a reading.
@@ -130,13 +144,6 @@ fn goes_by(row: &Waits) -> bool {
     }
 }
 
-#[test]
-fn the_wait_of_111(rt: HostRuntime) {
-    for row in &WAITS {
-        check(&rt, row.name, goes_by(row));
-    }
-}
-
 #[derive(Clone, Copy)]
 struct Ahead {
     name: &'static str,
@@ -185,29 +192,18 @@ static AHEAD: [Ahead; 5] = [
     },
 ];
 
-fn is_ceiling(needed: &Option<Record>, ceiling: Option<u64>) -> bool {
-    match needed {
-        Some(Record::Ceiling { at }) => ceiling == Some(at.micros()),
-        Some(_) => false,
-        None => ceiling.is_none(),
-    }
-}
-
 fn is_needed(row: &Ahead) -> bool {
     let Some(stride) = Stride::new(row.stride) else {
         return false;
     };
-    is_ceiling(
-        &needed(stamp(row.floor), stamp(row.to), stride),
-        row.ceiling,
-    )
-}
-
-#[test]
-fn ceilings(rt: HostRuntime) {
-    for row in &AHEAD {
-        check(&rt, row.name, is_needed(row));
-    }
+    let needed = needed(stamp(row.floor), stamp(row.to), stride);
+    let right = match &needed {
+        Some(Record::Ceiling { at }) => row.ceiling == Some(at.micros()),
+        Some(_) => false,
+        None => row.ceiling.is_none(),
+    };
+    drop(needed);
+    right
 }
 
 fn stands(times: &SafeTime, last: u64, safe: u64) -> bool {
@@ -228,11 +224,6 @@ fn is_held_below(alloc: Global) -> bool {
     held && raised && stands(&times, 250, 250)
 }
 
-#[test]
-fn below_a_promise_until_it_is_settled(rt: HostRuntime) {
-    check(&rt, "200", is_held_below(rt.alloc()));
-}
-
 // Each lift takes one hold of two, and a third takes none.
 fn are_lifted(alloc: Global) -> bool {
     let Ok(mut times) = SafeTime::new(alloc, stamp(111)) else {
@@ -250,7 +241,34 @@ fn are_lifted(alloc: Global) -> bool {
     two && one && none && stands(&times, 111, 111)
 }
 
-#[test]
-fn one_hold_is_lifted_at_a_time(rt: HostRuntime) {
-    check(&rt, "111", are_lifted(rt.alloc()));
+/// The first row that is wrong.
+pub fn wrong(alloc: Global) -> &'static str {
+    for row in &BESIDE {
+        if !is_beside(row) {
+            return row.name;
+        }
+    }
+    for row in &ENDS {
+        if !is_read(row) {
+            return row.name;
+        }
+    }
+    for row in &WAITS {
+        if !goes_by(row) {
+            return row.name;
+        }
+    }
+    for row in &AHEAD {
+        if !is_needed(row) {
+            return row.name;
+        }
+    }
+    if !is_held_below(alloc) {
+        return "below a promise until it is settled";
+    }
+    if are_lifted(alloc) {
+        ""
+    } else {
+        "one hold is lifted at a time"
+    }
 }

@@ -1,5 +1,4 @@
 //! Documents with settings.
-use crate::checks::check;
 use settings::Settings;
 use std::alloc::Global;
 use units::{Fault, Key, Reason};
@@ -143,13 +142,6 @@ fn is_taken(alloc: Global, row: &Taken) -> bool {
     }
 }
 
-#[test]
-fn documents_that_are_taken(rt: HostRuntime) {
-    for row in &TAKEN {
-        check(&rt, row.what, is_taken(rt.alloc(), row));
-    }
-}
-
 // A document that is taken, a line for each key.
 static LINES: [&str; 7] = [
     "shards = 3",
@@ -259,22 +251,37 @@ fn refusal(alloc: Global, at: usize, text: &str) -> Option<Fault> {
     Settings::read(alloc, whole.as_str()).err()
 }
 
-fn is_accepted(alloc: Global, at: usize, text: &str) -> bool {
-    refusal(alloc, at, text).is_none()
-}
-
-fn is_refused(alloc: Global, at: usize, text: &str) -> bool {
-    refusal(alloc, at, text) == Some(Fault::BadRequest(Reason::Settings))
-}
-
-#[test]
-fn documents_with_a_line_changed(rt: HostRuntime) {
-    for row in &CHANGED {
-        for text in row.taken {
-            check(&rt, *text, is_accepted(rt.alloc(), row.line, *text));
-        }
-        for text in row.refused {
-            check(&rt, *text, is_refused(rt.alloc(), row.line, *text));
+// The first text of a row that is not taken, or not refused, as it should be.
+fn wrong_in(alloc: Global, row: &Changed) -> &'static str {
+    for text in row.taken {
+        if refusal(alloc, row.line, *text).is_some() {
+            return *text;
         }
     }
+    for text in row.refused {
+        if refusal(alloc, row.line, *text) != Some(Fault::BadRequest(Reason::Settings)) {
+            return if text.is_empty() {
+                "a line left out"
+            } else {
+                *text
+            };
+        }
+    }
+    ""
+}
+
+/// The first row that is wrong.
+pub fn wrong(alloc: Global) -> &'static str {
+    for row in &TAKEN {
+        if !is_taken(alloc, row) {
+            return row.what;
+        }
+    }
+    for row in &CHANGED {
+        let wrong = wrong_in(alloc, row);
+        if !wrong.is_empty() {
+            return wrong;
+        }
+    }
+    ""
 }

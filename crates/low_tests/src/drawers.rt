@@ -1,7 +1,6 @@
 //! Numbers that threads draw.
 ghost use Rattle.std.specs.Prelude.{◌≡◌, All};
 
-use crate::checks::check;
 use std::alloc::Global;
 use std::thread;
 use std::thread::Threads;
@@ -27,22 +26,11 @@ fn are_zero_and_one(alloc: Global) -> bool {
     }
 }
 
-#[test]
-fn the_first_draws_are_zero_and_one(rt: HostRuntime) {
-    check(&rt, "0 and 1", are_zero_and_one(rt.alloc()));
-}
-
 fn are_refused(alloc: Global, drawers: usize) -> bool {
     match Tickets::new(alloc, drawers) {
         Err(fault) => fault == Fault::BadRequest(Reason::Many),
         Ok(_) => false,
     }
-}
-
-#[test]
-fn a_source_has_one_drawer_or_more(rt: HostRuntime) {
-    check(&rt, "0", are_refused(rt.alloc(), 0));
-    check(&rt, "257", are_refused(rt.alloc(), 257));
 }
 
 // A thousand draws. Those that memory is wanting for are not in the list.
@@ -95,7 +83,20 @@ fn draw_each_once<R: Threads + Sync>(rt: &R, alloc: Global) -> bool {
     all.sort().is_ok() && all.len() == 8000 && count_up(all.as_slice())
 }
 
-#[test]
-fn eight_threads_draw_each_number_once(rt: HostRuntime) {
-    check(&rt, "8000", draw_each_once(&rt, rt.alloc()));
+/// The first row that is wrong.
+pub fn wrong<R: Threads + Sync>(rt: &R, alloc: Global) -> &'static str {
+    if !are_zero_and_one(alloc) {
+        return "the first draws are 0 and 1";
+    }
+    if !are_refused(alloc, 0) {
+        return "no drawer";
+    }
+    if !are_refused(alloc, 257) {
+        return "257 drawers";
+    }
+    if draw_each_once(rt, alloc) {
+        ""
+    } else {
+        "eight threads draw each number once"
+    }
 }

@@ -1,9 +1,8 @@
 //! Drawn requests, answered by the rows and by a plain table of who holds what and waits for what.
 ghost use Rattle.std.specs.Prelude.{◌<◌};
 
-use crate::checks::check;
-use crate::ids::{id, key, needs};
-use rows::{Rows, Wait};
+use crate::ids::{ask, id, key};
+use rows::Rows;
 use std::alloc::Global;
 use units::{Mode, TxnId};
 
@@ -151,23 +150,19 @@ fn is_in(rows: &mut Rows, alloc: Global, txn: TxnId) -> bool {
 fn agrees_on(rows: &mut Rows, alloc: Global, table: &mut Table, asked: Asked) -> bool {
     let txn = id(u64::from(asked.number));
     let key = key(LETTERS[usize::from(asked.key) % 4]);
-    let wanted = needs(key, asked.mode);
-    if !is_in(rows, alloc, txn) || !rows.is_reading(txn) {
+    if !is_in(rows, alloc, txn) {
         return false;
     }
-    let Ok(()) = rows.make_room(txn, 1) else {
+    let Some(got) = ask(rows, alloc, txn, key, asked.mode) else {
         return false;
     };
-    let Ok(ended) = rows.wounded(alloc, txn, &wanted) else {
-        return false;
-    };
-    let opens = rows.opens(txn, &wanted);
-    let agrees = wounded_are(table, asked, ended.as_slice()) && opens != is_kept_out(table, asked);
+    let opens = got.opens;
+    let agrees = wounded_are(table, asked, got.ended.as_slice());
+    drop(got);
+    let agrees = agrees && opens != is_kept_out(table, asked);
     if opens {
-        rows.grant(txn, ended.as_slice(), &wanted);
         take(table, asked);
     } else if matches!(asked.mode, Mode::Shared) {
-        rows.wait(txn, ended.as_slice(), &wanted, Wait::Read(key));
         put_off(table, asked);
     }
     agrees
@@ -223,16 +218,12 @@ fn drawn_request(drawn: u64) -> Asked {
     }
 }
 
-fn all_agree(alloc: Global) -> bool {
+/// The first row that is wrong.
+pub fn wrong(alloc: Global) -> &'static str {
     let Ok(mut rows) = Rows::new(alloc) else {
-        return false;
+        return "no rows";
     };
     let agreed = agrees(&mut rows, alloc, 400);
     rows.stop();
-    agreed
-}
-
-#[test]
-fn drawn_requests(rt: HostRuntime) {
-    check(&rt, "400 turns", all_agree(rt.alloc()));
+    if agreed { "" } else { "400 drawn requests" }
 }

@@ -1,7 +1,9 @@
 //! What both speak of.
 ghost use Rattle.std.specs.Prelude.{◌≡◌, ◌<◌, ◌^◌, [], ◌∷◌};
 
-use units::{Key, Lock, Mode, Stamp, TxnId};
+use rows::{Rows, Wait};
+use std::alloc::Global;
+use units::{Ids, Key, Lock, Mode, Stamp, TxnId};
 
 /// Transaction 1.number.
 pub fn id(number: u64) -> TxnId
@@ -36,4 +38,32 @@ pub fn stamp(micros: u32) -> Stamp
         Ok(at) => at,
         Err(_) => unreachable!(),
     }
+}
+
+/// What a request of a key gets: whether it is granted, and whom it ends.
+#[derive(Drop)]
+pub struct Got {
+    pub opens: bool,
+    pub ended: Ids,
+}
+
+/// Asks for a key. Where that is not granted, it waits if it only reads the key.
+pub fn ask(rows: &mut Rows, alloc: Global, txn: TxnId, key: Key, mode: Mode) -> Option<Got> {
+    if !rows.is_reading(txn) {
+        return None;
+    }
+    let needs = needs(key, mode);
+    let Ok(()) = rows.make_room(txn, 1) else {
+        return None;
+    };
+    let Ok(ended) = rows.wounded(alloc, txn, &needs) else {
+        return None;
+    };
+    let opens = rows.opens(txn, &needs);
+    if opens {
+        rows.grant(txn, ended.as_slice(), &needs);
+    } else if matches!(mode, Mode::Shared) {
+        rows.wait(txn, ended.as_slice(), &needs, Wait::Read(key));
+    }
+    Some(Got { opens, ended })
 }

@@ -1,85 +1,73 @@
 //! Messages and the bag that they are put into.
-use crate::checks::check;
+use crate::checks::is_printed;
+use crate::text_logs::keys_of;
 use bag::Bag;
-use made::{id, key, shard};
+use made::{id, shard};
 use message::{Address, Envelope, GiveUp, Message, Reads};
 use std::alloc::Global;
+use texts::Text;
 use units::{Epoch, Keys};
-
-fn one_key(alloc: Global) -> Option<Keys> {
-    Keys::from_vec([key(b'z')].to_vec(alloc).ok()?).ok()
-}
 
 // The epoch of what was read in the first, and how many keys it has.
 fn shape(keys: Keys) -> Option<(u64, usize)> {
     match Reads::new(Epoch::first(), keys) {
-        Ok(reads) => Some((reads.epoch(), reads.keys().as_slice().len())),
+        Ok(reads) => {
+            let shape = (reads.epoch(), reads.keys().as_slice().len());
+            drop(reads);
+            Some(shape)
+        }
         Err(_) => None,
     }
 }
 
-fn is_one_of_one(alloc: Global) -> bool {
-    match one_key(alloc) {
-        Some(keys) => matches!(shape(keys), Some((1, 1))),
-        None => false,
-    }
+// The epoch of no reads.
+fn no_epoch(alloc: Global) -> u64 {
+    let reads = Reads::none(alloc);
+    let epoch = reads.epoch();
+    drop(reads);
+    epoch
 }
 
-fn is_no_epoch(alloc: Global) -> bool {
-    Reads::none(alloc).epoch() == 0 && shape(Keys::none(alloc)).is_none()
-}
-
-#[test]
-fn the_epoch_of_reads(rt: HostRuntime) {
-    check(&rt, "none", is_no_epoch(rt.alloc()));
-    check(&rt, "one", is_one_of_one(rt.alloc()));
-}
-
-fn give_up(number: u16) -> Envelope {
-    Envelope {
+// Puts the message that a transaction gives up into the bag, where it gets this number.
+fn is_put(bag: &mut Bag, txn: u16, number: u64) -> bool {
+    let given_up = Envelope {
         to: Address::Shard(shard(0)),
-        message: Message::GiveUp(GiveUp { txn: id(number) }),
-    }
-}
-
-fn number_of(envelope: &Envelope) -> u64 {
-    match &envelope.message {
-        Message::GiveUp(given) => given.txn.number(),
-        _ => 99,
-    }
-}
-
-// Transactions 1.5 and 1.7 give up.
-static NUMBERS: [u16; 2] = [5, 7];
-
-// Puts the message of the transaction into the bag, where it gets this number.
-fn is_put(bag: &mut Bag, txn: u16, number: usize) -> bool {
-    match bag.put(give_up(txn)) {
-        Ok(found) => found == number as u64,
+        message: Message::GiveUp(GiveUp { txn: id(txn) }),
+    };
+    match bag.put(given_up) {
+        Ok(found) => found == number,
         Err(_) => false,
     }
 }
 
-// The message with this number is that of the transaction.
-fn has(bag: &Bag, number: u64, txn: u64) -> bool {
+fn has(alloc: Global, bag: &Bag, number: u64, line: &str) -> bool {
     match bag.nth(number) {
-        Some(envelope) => number_of(envelope) == txn,
+        Some(envelope) => is_printed(alloc, &Text(envelope), line),
         None => false,
     }
 }
 
-fn have_numbers(alloc: Global) -> bool {
-    let mut bag = Bag::new(alloc);
-    let empty = bag.len() == 0;
-    for (number, txn) in NUMBERS.iter().enumerate() {
-        if !is_put(&mut bag, *txn, number) {
-            return false;
-        }
-    }
-    empty && bag.len() == 2 && has(&bag, 0, 5) && has(&bag, 1, 7) && bag.nth(2).is_none()
+// Messages have numbers from 0 on.
+fn have_numbers(alloc: Global, bag: &mut Bag) -> bool {
+    bag.len() == 0
+        && is_put(bag, 5, 0)
+        && is_put(bag, 7, 1)
+        && bag.len() == 2
+        && has(alloc, bag, 0, "shard 0 giveup 1.5")
+        && has(alloc, bag, 1, "shard 0 giveup 1.7")
+        && bag.nth(2).is_none()
 }
 
-#[test]
-fn messages_have_numbers_from_0(rt: HostRuntime) {
-    check(&rt, "two", have_numbers(rt.alloc()));
+/// The first row that is wrong.
+pub fn wrong(alloc: Global) -> &'static str {
+    if no_epoch(alloc) != 0 || shape(Keys::none(alloc)).is_some() {
+        return "no reads";
+    }
+    if shape(keys_of(alloc, "z")) != Some((1, 1)) {
+        return "one read";
+    }
+    let mut bag = Bag::new(alloc);
+    let numbered = have_numbers(alloc, &mut bag);
+    drop(bag);
+    if numbered { "" } else { "two messages" }
 }

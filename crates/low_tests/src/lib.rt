@@ -40,6 +40,8 @@ mod tables;
 #[cfg(test)]
 mod terminals;
 #[cfg(test)]
+mod tests;
+#[cfg(test)]
 mod text_logs;
 #[cfg(test)]
 mod verdicts;

@@ -1,5 +1,5 @@
 //! The small types: their limits and orders, and the texts of faults.
-use crate::checks::{check, is_printed};
+use crate::checks::is_printed;
 use made::key;
 use std::alloc::Global;
 use units::{Epoch, Fault, Key, Keys, Reason, Run, ShardNo, Splits, Stamp, TxnId, Value};
@@ -32,13 +32,6 @@ static TEXTS: [Text; 5] = [
         text: "14 Stranger",
     },
 ];
-
-#[test]
-fn texts_of_faults(rt: HostRuntime) {
-    for row in &TEXTS {
-        check(&rt, row.text, is_printed(rt.alloc(), &row.fault, row.text));
-    }
-}
 
 // What is made of a number.
 #[derive(Clone, Copy)]
@@ -137,13 +130,6 @@ fn has_its_limits(alloc: Global, row: &Limit) -> bool {
     all_are(alloc, row.made, row.taken, true) && all_are(alloc, row.made, row.refused, false)
 }
 
-#[test]
-fn limits(rt: HostRuntime) {
-    for row in &LIMITS {
-        check(&rt, row.what, has_its_limits(rt.alloc(), row));
-    }
-}
-
 fn is_older(old: TxnId, young: TxnId) -> bool {
     old < young && old.is_older_than(young) && !young.is_older_than(old)
 }
@@ -153,11 +139,6 @@ fn are_ordered(alloc: Global) -> bool {
         return false;
     };
     old.is(old) && !old.is(young) && is_older(old, young) && is_printed(alloc, &old, "1.10")
-}
-
-#[test]
-fn ids_by_run_and_number(rt: HostRuntime) {
-    check(&rt, "1.10 and 2.9", are_ordered(rt.alloc()));
 }
 
 // `a` lies on shard 0, `ab` on shard 1, `b` on shard 2.
@@ -197,8 +178,24 @@ fn go_by_bytes(alloc: Global, a: Key, b: Key) -> bool {
         && matches!(ascend(alloc, b, a), Some(false))
 }
 
-#[test]
-fn keys_by_bytes(rt: HostRuntime) {
-    let holds = go_by_bytes(rt.alloc(), key(b'a'), key(b'b'));
-    check(&rt, "a, ab and b", holds);
+/// The first row that is wrong.
+pub fn wrong(alloc: Global) -> &'static str {
+    for row in &TEXTS {
+        if !is_printed(alloc, &row.fault, row.text) {
+            return row.text;
+        }
+    }
+    for row in &LIMITS {
+        if !has_its_limits(alloc, row) {
+            return row.what;
+        }
+    }
+    if !are_ordered(alloc) {
+        return "1.10 and 2.9";
+    }
+    if go_by_bytes(alloc, key(b'a'), key(b'b')) {
+        ""
+    } else {
+        "a, ab and b"
+    }
 }

@@ -2,7 +2,6 @@
 ghost use Rattle.std.specs.Prelude.{◌≡◌, [], ◌∷◌, IfOk};
 ghost use Rattle.board.specs.declared.entry.BoardEntry.TheVariants.{Safe};
 
-use crate::checks::check;
 use board::{Publisher, Viewer, start};
 use made::{key, stamp};
 use snapshot::Snapshot;
@@ -152,18 +151,6 @@ fn publishes<R: Wait + Drop>(publisher: &mut Publisher<R>) -> bool {
     }
 }
 
-// Looks change with the publication, and not before.
-fn change<R: Wait + Drop>(publisher: &mut Publisher<R>, viewer: &mut Viewer, alloc: Global) -> bool
-    requires first { publisher.old.published ≡ Safe 5 ∷ [] }
-    requires none { publisher.old.pending ≡ [] }
-{
-    are_seen(viewer, &AT_FIRST)
-        && accepts(publisher, alloc)
-        && are_seen(viewer, &AT_FIRST)
-        && publishes(publisher)
-        && are_seen(viewer, &AFTER_ONE)
-}
-
 // The snapshot's look for `a` has this answer.
 fn shows(snapshot: &Snapshot, viewer: &mut Viewer, answer: Result<Seen, Fault>) -> bool {
     let mut buffer = [0; 3];
@@ -171,77 +158,61 @@ fn shows(snapshot: &Snapshot, viewer: &mut Viewer, answer: Result<Seen, Fault>) 
     is_answer(seen, buffer, answer)
 }
 
-// A snapshot is answered once its timestamp is served.
-fn serve<R: Wait + Drop>(publisher: &mut Publisher<R>, viewer: &mut Viewer, alloc: Global) -> bool
-    requires first { publisher.old.published ≡ Safe 5 ∷ [] }
-    requires none { publisher.old.pending ≡ [] }
-{
-    let Ok(now) = Reading::new(stamp(6), stamp(9)) else {
-        return false;
-    };
-    let snapshot = Snapshot::start(&now);
-    shows(&snapshot, viewer, Err(Fault::NotYet))
-        && accepts(publisher, alloc)
-        && publishes(publisher)
-        && shows(&snapshot, viewer, Ok(Seen::Value(3)))
-}
+// What `a` is after the publication.
+static AT_8: Look = Look {
+    key: b'a',
+    at: 8,
+    room: 3,
+    answer: Ok(Seen::Value(3)),
+};
 
 // A look on another thread sees what was published here before that thread began.
-fn read_back<R: Threads + Sync, W: Wait + Drop>(
+fn is_read_back<R: Threads + Sync>(rt: &R, viewer: &mut Viewer) -> bool {
+    thread::join(rt, || is_seen(viewer, &AT_8), || ()).0
+}
+
+// Looks change with the publication, and not before; a snapshot is answered once its timestamp is served. Each of three
+// viewers looks for the first time after it.
+fn wrong_look<R: Threads + Sync, W: Wait + Drop>(
     rt: &R,
     publisher: &mut Publisher<W>,
-    viewer: &mut Viewer,
+    viewers: &mut [Viewer],
     alloc: Global,
-) -> bool
+) -> &'static str
     requires first { publisher.old.published ≡ Safe 5 ∷ [] }
     requires none { publisher.old.pending ≡ [] }
 {
-    if !accepts(publisher, alloc) || !publishes(publisher) {
-        return false;
+    let ([first, second, third], Ok(now)) = (viewers, Reading::new(stamp(6), stamp(9))) else {
+        return "no viewers";
+    };
+    let snapshot = Snapshot::start(&now);
+    if !are_seen(first, &AT_FIRST) || !shows(&snapshot, second, Err(Fault::NotYet)) {
+        return "at first";
     }
-    let look = Look {
-        key: b'a',
-        at: 8,
-        room: 3,
-        answer: Ok(Seen::Value(3)),
-    };
-    thread::join(rt, || is_seen(viewer, &look), || ()).0
-}
-
-#[derive(Clone, Copy)]
-enum Story {
-    Change,
-    Serve,
-    ReadBack,
-}
-
-fn is_told<R: Threads + Wait + Sync>(rt: &R, alloc: Global, story: Story) -> bool {
-    let Ok((mut publisher, mut viewers)) = new_board(rt, alloc, 1) else {
-        return false;
-    };
-    let Some(viewer) = viewers.first_mut() else {
-        return false;
-    };
-    match story {
-        Story::Change => change(&mut publisher, viewer, alloc),
-        Story::Serve => serve(&mut publisher, viewer, alloc),
-        Story::ReadBack => read_back(rt, &mut publisher, viewer, alloc),
+    if !accepts(publisher, alloc) || !are_seen(first, &AT_FIRST) {
+        return "before the publication";
+    }
+    if !publishes(publisher) || !are_seen(first, &AFTER_ONE) {
+        return "after the publication";
+    }
+    if !shows(&snapshot, second, Ok(Seen::Value(3))) {
+        return "a snapshot is answered once its timestamp is served";
+    }
+    if is_read_back(rt, third) {
+        ""
+    } else {
+        "another thread reads a published write back"
     }
 }
 
-#[test]
-fn looks_change_with_the_publication(rt: HostRuntime) {
-    check(&rt, "change", is_told(&rt, rt.alloc(), Story::Change));
-}
-
-#[test]
-fn a_snapshot_is_answered_once_its_timestamp_is_served(rt: HostRuntime) {
-    check(&rt, "serve", is_told(&rt, rt.alloc(), Story::Serve));
-}
-
-#[test]
-fn a_look_on_another_thread_reads_a_published_write_back(rt: HostRuntime) {
-    check(&rt, "read back", is_told(&rt, rt.alloc(), Story::ReadBack));
+fn wrong_looks<R: Threads + Wait + Sync>(rt: &R, alloc: Global) -> &'static str {
+    let Ok((mut publisher, mut viewers)) = new_board(rt, alloc, 3) else {
+        return "no board";
+    };
+    let wrong = wrong_look(rt, &mut publisher, &mut viewers, alloc);
+    drop(publisher);
+    drop(viewers);
+    wrong
 }
 
 // The board of shard 0 of two whose publisher has ended.
@@ -252,35 +223,53 @@ static AT_THE_END: [Look; 1] = [Look {
     answer: Err(Fault::Stopped),
 }];
 
+fn first_sees(viewers: &mut [Viewer], looks: &[Look]) -> bool {
+    match viewers.first_mut() {
+        Some(viewer) => are_seen(viewer, looks),
+        None => false,
+    }
+}
+
 fn stops<R: Wait + Drop>(rt: R, alloc: Global) -> bool {
     let Ok((publisher, mut viewers)) = new_board(rt, alloc, 2) else {
         return false;
     };
-    let Some(viewer) = viewers.first_mut() else {
-        return false;
-    };
-    let before = are_seen(viewer, &AT_FIRST);
+    let before = first_sees(&mut viewers, &AT_FIRST);
     drop(publisher);
-    before && are_seen(viewer, &AT_THE_END)
-}
-
-#[test]
-fn a_viewer_is_stopped_once_the_publisher_has_ended(rt: HostRuntime) {
-    check(&rt, "stopped", stops(&rt, rt.alloc()));
+    let after = first_sees(&mut viewers, &AT_THE_END);
+    drop(viewers);
+    before && after
 }
 
 // How many viewers a board has that is asked for so many.
 fn count<R: Wait + Drop>(rt: R, alloc: Global, viewers: usize) -> Result<usize, Fault> {
     match new_board(rt, alloc, viewers) {
-        Ok((_publisher, viewers)) => Ok(viewers.len()),
+        Ok((publisher, viewers)) => {
+            let count = viewers.len();
+            drop(publisher);
+            drop(viewers);
+            Ok(count)
+        }
         Err(fault) => Err(fault),
     }
 }
 
-#[test]
-fn a_board_has_1_to_64_viewers(rt: HostRuntime) {
-    let many = Err(Fault::BadRequest(Reason::Many));
-    check(&rt, "0", count(&rt, rt.alloc(), 0) == many);
-    check(&rt, "65", count(&rt, rt.alloc(), 65) == many);
-    check(&rt, "64", count(&rt, rt.alloc(), 64) == Ok(64));
+// A board has 1 to 64 viewers.
+static COUNTS: [(&str, usize, Result<usize, Fault>); 3] = [
+    ("no viewer", 0, Err(Fault::BadRequest(Reason::Many))),
+    ("65 viewers", 65, Err(Fault::BadRequest(Reason::Many))),
+    ("64 viewers", 64, Ok(64)),
+];
+
+/// The first row that is wrong.
+pub fn wrong<R: Threads + Wait + Sync>(rt: &R, alloc: Global) -> &'static str {
+    for (name, viewers, wanted) in &COUNTS {
+        if count(rt, alloc, *viewers) != *wanted {
+            return *name;
+        }
+    }
+    if !stops(rt, alloc) {
+        return "a viewer is stopped once the publisher has ended";
+    }
+    wrong_looks(rt, alloc)
 }

@@ -1,5 +1,5 @@
 //! Records and lines as they are printed.
-use crate::checks::{check, is_printed};
+use crate::checks::is_printed;
 use crate::text_logs::reads;
 use std::alloc::Global;
 use texts::{Text, lines};
@@ -17,13 +17,6 @@ outcome 1.1 committed 111
 outcome 1.2 aborted
 ";
 
-#[test]
-fn records_are_printed(rt: HostRuntime) {
-    let mut log = Vec::new(rt.alloc());
-    let printed = reads(rt.alloc(), RECORDS, &mut log);
-    check(&rt, "each is printed", printed && log.len() == 9);
-}
-
 // One of each kind. A value may be empty of bytes only where there is none.
 static LINES: &str = "begin 1.1 0
 ack 1.1 111 5
@@ -33,8 +26,8 @@ look a 111 none
 look key_1 0 =1
 ";
 
-fn are_printed(alloc: Global, found: &[Line]) -> bool {
-    for (line, text) in found.iter().zip(LINES.split('\n')) {
+fn are_printed(alloc: Global, found: &[Line], texts: &str) -> bool {
+    for (line, text) in found.iter().zip(texts.split('\n')) {
         if !is_printed(alloc, &Text(line), text) {
             return false;
         }
@@ -42,16 +35,32 @@ fn are_printed(alloc: Global, found: &[Line]) -> bool {
     true
 }
 
-// How many lines are read, where each is printed as it was.
-fn count(alloc: Global, text: &str) -> Option<usize> {
+// So many lines are read, and each is printed as it was.
+fn are_lines(alloc: Global, text: &str, count: usize) -> bool {
     match lines(alloc, text) {
-        Ok(found) if are_printed(alloc, found.as_slice()) => Some(found.len()),
-        _ => None,
+        Ok(found) => {
+            let same = found.len() == count && are_printed(alloc, found.as_slice(), text);
+            drop(found);
+            same
+        }
+        Err(_) => false,
     }
 }
 
-#[test]
-fn lines_are_read_and_printed(rt: HostRuntime) {
-    check(&rt, "six", count(rt.alloc(), LINES) == Some(6));
-    check(&rt, "none", count(rt.alloc(), "") == Some(0));
+/// The first row that is wrong.
+pub fn wrong(alloc: Global) -> &'static str {
+    let mut log = Vec::new(alloc);
+    let printed = reads(alloc, RECORDS, &mut log) && log.len() == 9;
+    drop(log);
+    if !printed {
+        return "a record of each kind";
+    }
+    if !are_lines(alloc, LINES, 6) {
+        return "a line of each kind";
+    }
+    if are_lines(alloc, "", 0) {
+        ""
+    } else {
+        "no line"
+    }
 }

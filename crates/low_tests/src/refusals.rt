@@ -1,5 +1,4 @@
 //! Words and lines that are refused.
-use crate::checks::check;
 use disk::Fate;
 use std::alloc::Global;
 use texts::{fate, key, lines, number, reading, txn};
@@ -56,13 +55,6 @@ fn is_refused(alloc: Global, row: &Refused) -> bool {
     }
 }
 
-#[test]
-fn other_lines_are_refused(rt: HostRuntime) {
-    for row in &REFUSED {
-        check(&rt, row.text, is_refused(rt.alloc(), row));
-    }
-}
-
 struct Spelt {
     word: &'static str,
     fate: Option<Fate>,
@@ -115,13 +107,6 @@ fn is_read(row: &Spelt) -> bool {
     }
 }
 
-#[test]
-fn fates_are_read(rt: HostRuntime) {
-    for row in &FATES {
-        check(&rt, row.word, is_read(row));
-    }
-}
-
 #[derive(Clone, Copy)]
 enum Kind {
     Key,
@@ -170,12 +155,28 @@ fn is_taken(kind: Kind, word: &str) -> bool {
     }
 }
 
-#[test]
-fn words_within_limits_are_read(rt: HostRuntime) {
-    for row in &LIMITS {
-        check(&rt, row.taken, is_taken(row.kind, row.taken));
-        check(&rt, row.refused, !is_taken(row.kind, row.refused));
+/// The first row that is wrong.
+pub fn wrong(alloc: Global) -> &'static str {
+    for row in &REFUSED {
+        if !is_refused(alloc, row) {
+            return row.text;
+        }
     }
-    let greatest = number("18446744073709551615").ok();
-    check(&rt, "the greatest number", greatest == Some(u64::MAX));
+    for row in &FATES {
+        if !is_read(row) {
+            return row.word;
+        }
+    }
+    for row in &LIMITS {
+        if !is_taken(row.kind, row.taken) {
+            return row.taken;
+        }
+        if is_taken(row.kind, row.refused) {
+            return row.refused;
+        }
+    }
+    match number("18446744073709551615") {
+        Ok(u64::MAX) => "",
+        _ => "the greatest number",
+    }
 }

@@ -2,14 +2,18 @@
 ghost use Rattle.std.specs.Prelude.{◌≡◌, ◌<◌, [], ◌∷◌, Some, IfSome};
 ghost use Rattle.rows.specs.RowTable.{idle_row};
 
-use crate::checks::check;
-use crate::ids::{id, key, needs, stamp};
+use crate::checks::is_printed;
+use crate::ids::{ask, id, key, stamp};
+use crate::text_logs::keys_of;
 use gatelog::{GateLog, Logged};
 use record::{Committed, Prepared, Record};
-use rows::{CommitRequest, Gathering, Row, Rows, Wait};
+use rows::{CommitRequest, Gathering, Row, Rows};
 use simdisk::SimDisk;
 use std::alloc::Global;
-use units::{Key, Keys, Mode, Parts, ShardNo, Stamp, TxnId, Writes};
+use texts::Text;
+use units::{Keys, Mode, Parts, ShardNo, Stamp, TxnId, Writes};
+
+type Log = GateLog<SimDisk>;
 
 fn shard(number: u8) -> ShardNo
     requires { number < 16 }
@@ -21,13 +25,10 @@ fn shard(number: u8) -> ShardNo
     }
 }
 
-// The record, once it stands in a new log.
-fn logged(alloc: Global, record: Record) -> Option<Logged>
+// The record, once it stands in the log.
+fn logged(log: &mut Log, alloc: Global, record: Record) -> Option<Logged>
     ensures { IfSome result (λ logged. logged ≡ «record») }
 {
-    let Ok(mut log) = GateLog::format(SimDisk::new(alloc)) else {
-        return None;
-    };
     let Ok(staged) = log.stage(alloc, record) else {
         return None;
     };
@@ -100,14 +101,11 @@ fn outcome() -> Record
     }
 }
 
-// The kind of a record: a promise, a decision, an abort or another.
-fn kind(record: Record) -> u8 {
-    match record {
-        Record::Prepare(_) => b'p',
-        Record::Commit(_) => b'c',
-        Record::Abort { .. } => b'a',
-        _ => b'?',
-    }
+// The record is printed so.
+fn is_text(alloc: Global, record: Record, text: &str) -> bool {
+    let printed = is_printed(alloc, &Text(&record), text);
+    drop(record);
+    printed
 }
 
 // 1.1, at a timestamp.
@@ -118,26 +116,26 @@ fn is_first_at(found: Option<(TxnId, Stamp)>, at: u64) -> bool {
     }
 }
 
-// 1.1 alone stands, prepared at 107.
-fn is_prepared(rows: &Rows) -> bool {
-    is_first_at(rows.nth_prepared(0), 107)
-        && rows.nth_prepared(1).is_none()
-        && rows.nth_decided(0).is_none()
-}
-
-// 1.1 alone stands, decided at 111.
-fn is_decided(rows: &Rows) -> bool {
-    is_first_at(rows.nth_decided(0), 111) && rows.nth_prepared(0).is_none()
-}
-
 // 1.1 is prepared at 107 and closed at 111.
-fn promise_kept(rows: &mut Rows, alloc: Global) -> Option<bool>
+fn promise_kept(rows: &mut Rows, log: &mut Log, alloc: Global) -> bool
     requires { rows.old.rows ≡ idle_row (record { run = 1; number = 1 }) ∷ [] }
 {
-    let prepares = kind(rows.prepare(id(1), logged(alloc, promise(alloc))?)) == b'p';
-    let prepared = is_prepared(rows);
-    let _ = rows.close(id(1), logged(alloc, outcome())?);
-    Some(prepares && prepared && rows.find(id(1)).is_none())
+    let Some(promise) = logged(log, alloc, promise(alloc)) else {
+        return false;
+    };
+    let prepares = is_text(alloc, rows.prepare(id(1), promise), "prepare 1.1 0 107 - -");
+    let prepared = is_first_at(rows.nth_prepared(0), 107)
+        && rows.nth_prepared(1).is_none()
+        && rows.nth_decided(0).is_none();
+    let Some(outcome) = logged(log, alloc, outcome()) else {
+        return false;
+    };
+    let closes = is_text(
+        alloc,
+        rows.close(id(1), outcome),
+        "outcome 1.1 committed 111",
+    );
+    prepares && prepared && closes && rows.find(id(1)).is_none()
 }
 
 fn gathering(alloc: Global) -> Option<Gathering> {
@@ -163,102 +161,105 @@ fn collects_one(rows: &Rows) -> bool {
 }
 
 // 1.1 collects a vote of shard 1, whose first counts, is decided at 111 and closed.
-fn decision_kept(rows: &mut Rows, alloc: Global) -> Option<bool>
+fn decision_kept(rows: &mut Rows, log: &mut Log, alloc: Global) -> bool
     requires { rows.old.rows ≡ idle_row (record { run = 1; number = 1 }) ∷ [] }
 {
-    rows.collect(id(1), gathering(alloc)?);
+    let Some(gathering) = gathering(alloc) else {
+        return false;
+    };
+    rows.collect(id(1), gathering);
     rows.vote(id(1), shard(1), stamp(108));
     rows.vote(id(1), shard(1), stamp(109));
     let collects = collects_one(rows);
-    let decides = kind(rows.decide(id(1), logged(alloc, decision(alloc))?)) == b'c';
-    let decided = is_decided(rows);
-    let _ = rows.close(id(1), logged(alloc, outcome())?);
-    Some(collects && decides && decided && rows.find(id(1)).is_none())
+    let Some(decision) = logged(log, alloc, decision(alloc)) else {
+        return false;
+    };
+    let decides = is_text(alloc, rows.decide(id(1), decision), "commit 1.1 111 0 - -");
+    let decided = is_first_at(rows.nth_decided(0), 111) && rows.nth_prepared(0).is_none();
+    let Some(outcome) = logged(log, alloc, outcome()) else {
+        return false;
+    };
+    let closes = is_text(
+        alloc,
+        rows.close(id(1), outcome),
+        "outcome 1.1 committed 111",
+    );
+    collects && decides && decided && closes && rows.find(id(1)).is_none()
 }
 
 // 1.1 collects votes and is aborted; taken in once more, it is aborted while it is idle.
-fn aborts(rows: &mut Rows, alloc: Global) -> Option<bool>
+fn aborts(rows: &mut Rows, log: &mut Log, alloc: Global) -> bool
     requires { rows.old.rows ≡ idle_row (record { run = 1; number = 1 }) ∷ [] }
 {
-    rows.collect(id(1), gathering(alloc)?);
-    let first = kind(rows.abort(id(1), logged(alloc, Record::Abort { txn: id(1) })?)) == b'a';
+    let Some(gathering) = gathering(alloc) else {
+        return false;
+    };
+    rows.collect(id(1), gathering);
+    let Some(abort) = logged(log, alloc, Record::Abort { txn: id(1) }) else {
+        return false;
+    };
+    let first = is_text(alloc, rows.abort(id(1), abort), "abort 1.1");
     let gone = rows.find(id(1)).is_none();
     let Ok(()) = rows.admit(alloc, id(1)) else {
-        return None;
+        return false;
     };
-    let second = kind(rows.abort(id(1), logged(alloc, Record::Abort { txn: id(1) })?)) == b'a';
-    Some(first && gone && second && rows.find(id(1)).is_none())
+    let Some(abort) = logged(log, alloc, Record::Abort { txn: id(1) }) else {
+        return false;
+    };
+    let second = is_text(alloc, rows.abort(id(1), abort), "abort 1.1");
+    first && gone && second && rows.find(id(1)).is_none()
 }
 
-// Asks for a key and says whether it was granted. Where it was not, it waits if it only reads the key.
-fn asked(rows: &mut Rows, alloc: Global, txn: TxnId, key: Key, mode: Mode) -> Option<bool> {
-    if !rows.is_reading(txn) {
-        return None;
+// Asks for `a` and says whether it was granted. Where it was not, it waits if it only reads the key.
+fn asked(rows: &mut Rows, alloc: Global, txn: TxnId, mode: Mode) -> Option<bool> {
+    match ask(rows, alloc, txn, key(b'a'), mode) {
+        Some(got) => {
+            let opens = got.opens;
+            drop(got);
+            Some(opens)
+        }
+        None => None,
     }
-    let needs = needs(key, mode);
-    let Ok(()) = rows.make_room(txn, 1) else {
-        return None;
-    };
-    let Ok(ended) = rows.wounded(alloc, txn, &needs) else {
-        return None;
-    };
-    let opens = rows.opens(txn, &needs);
-    if opens {
-        rows.grant(txn, ended.as_slice(), &needs);
-    } else if matches!(mode, Mode::Shared) {
-        rows.wait(txn, ended.as_slice(), &needs, Wait::Read(key));
-    }
-    Some(opens)
 }
 
-fn owns(rows: &mut Rows, alloc: Global, txn: TxnId, key: Key) -> bool {
-    matches!(asked(rows, alloc, txn, key, Mode::Exclusive), Some(true))
-}
-
-fn waits_to_read(rows: &mut Rows, alloc: Global, txn: TxnId, key: Key) -> bool {
-    matches!(asked(rows, alloc, txn, key, Mode::Shared), Some(false))
-}
-
-fn only(alloc: Global, key: Key) -> Option<Keys> {
-    Keys::from_vec([key].to_vec(alloc).ok()?).ok()
-}
-
-// 1.1 alone stands, and holds these keys.
-fn holds_alone(rows: &Rows, key: Key, keys: &Keys) -> bool {
+// 1.1 alone stands, and holds `a`.
+fn holds_alone(rows: &Rows, keys: &Keys) -> bool {
     rows.find(id(2)).is_none()
-        && rows.holds(id(1), &key)
+        && rows.holds(id(1), &key(b'a'))
         && rows.holds_all(id(1), keys)
         && !rows.holds_all(id(2), keys)
         && !rows.is_full()
 }
 
-// 1.2 holds a, and 1.1 asks for it: 1.2 is ended.
-fn wounds(rows: &mut Rows, alloc: Global, a: Key) -> Option<bool>
+// 1.2 holds `a`, and 1.1 asks for it: 1.2 is ended.
+fn wounds(rows: &mut Rows, alloc: Global) -> bool
     requires { rows.old.rows ≡ idle_row (record { run = 1; number = 1 }) ∷ [] }
 {
-    let keys = only(alloc, a)?;
     let Ok(()) = rows.admit(alloc, id(2)) else {
-        return None;
+        return false;
     };
-    let younger = owns(rows, alloc, id(2), a);
-    let older = owns(rows, alloc, id(1), a);
-    Some(younger && older && holds_alone(rows, a, &keys))
+    let younger = asked(rows, alloc, id(2), Mode::Exclusive);
+    let older = asked(rows, alloc, id(1), Mode::Exclusive);
+    let keys = keys_of(alloc, "a");
+    let holds = holds_alone(rows, &keys);
+    drop(keys);
+    holds && younger == Some(true) && older == Some(true)
 }
 
-// 1.1 holds a, and 1.2 waits for it with a read. When 1.1 ends, 1.2 is ready.
-fn waits(rows: &mut Rows, alloc: Global, a: Key) -> Option<bool>
+// 1.1 holds `a`, and 1.2 waits for it with a read. When 1.1 ends, 1.2 is ready.
+fn waits(rows: &mut Rows, alloc: Global) -> bool
     requires { rows.old.rows ≡ idle_row (record { run = 1; number = 1 }) ∷ [] }
 {
     let Ok(()) = rows.admit(alloc, id(2)) else {
-        return None;
+        return false;
     };
-    let older = owns(rows, alloc, id(1), a);
-    let younger = waits_to_read(rows, alloc, id(2), a);
+    let older = asked(rows, alloc, id(1), Mode::Exclusive);
+    let younger = asked(rows, alloc, id(2), Mode::Shared);
     let blocked = rows.ready().is_none();
     if rows.is_reading(id(1)) {
         rows.end(id(1));
     }
-    Some(older && younger && blocked && rows.ready() == Some(id(2)))
+    blocked && older == Some(true) && younger == Some(false) && rows.ready() == Some(id(2))
 }
 
 #[derive(Clone, Copy)]
@@ -278,30 +279,43 @@ static STORIES: [(&str, Story); 5] = [
     ("waits", Story::Waits),
 ];
 
-fn told(rows: &mut Rows, alloc: Global, story: Story) -> Option<bool>
+fn told(rows: &mut Rows, log: &mut Log, alloc: Global, story: Story) -> bool
     requires { rows.old.rows ≡ idle_row (record { run = 1; number = 1 }) ∷ [] }
 {
     match story {
-        Story::PromiseKept => promise_kept(rows, alloc),
-        Story::DecisionKept => decision_kept(rows, alloc),
-        Story::Aborts => aborts(rows, alloc),
-        Story::Wounds => wounds(rows, alloc, key(b'a')),
-        Story::Waits => waits(rows, alloc, key(b'a')),
+        Story::PromiseKept => promise_kept(rows, log, alloc),
+        Story::DecisionKept => decision_kept(rows, log, alloc),
+        Story::Aborts => aborts(rows, log, alloc),
+        Story::Wounds => wounds(rows, alloc),
+        Story::Waits => waits(rows, alloc),
     }
 }
 
-fn is_told(alloc: Global, story: Story) -> bool {
+fn is_told(log: &mut Log, alloc: Global, story: Story) -> bool {
     let Some(mut rows) = one(alloc) else {
         return false;
     };
-    let told = told(&mut rows, alloc, story);
+    let told = told(&mut rows, log, alloc, story);
     rows.stop();
-    matches!(told, Some(true))
+    told
 }
 
-#[test]
-fn stories(rt: HostRuntime) {
+// The first story that is wrong, with a log of all records.
+fn wrong_by(log: &mut Log, alloc: Global) -> &'static str {
     for (name, story) in &STORIES {
-        check(&rt, *name, is_told(rt.alloc(), *story));
+        if !is_told(log, alloc, *story) {
+            return *name;
+        }
     }
+    ""
+}
+
+/// The first row that is wrong.
+pub fn wrong(alloc: Global) -> &'static str {
+    let Ok(mut log) = GateLog::format(SimDisk::new(alloc)) else {
+        return "no log";
+    };
+    let wrong = wrong_by(&mut log, alloc);
+    drop(log);
+    wrong
 }

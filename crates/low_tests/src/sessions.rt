@@ -1,228 +1,190 @@
 //! Transactions at their clients. Shard 0 has the keys below `m`, and shard 1 all others.
 ghost use Rattle.std.specs.Prelude.{◌≡◌};
 
-use crate::checks::check;
+use crate::checks::{is_line, is_printed};
 use made::{id, key, shard, stamp};
-use message::{Address, Answer, Done, Envelope, Message, Outbox, ReadAnswer};
-use session::{Closing, Finished, Heard, Open, Tx};
+use message::{Answer, Done, Outbox, ReadAnswer};
+use session::{Closing, Finished, Heard, Open, Phase, Tx};
 use std::alloc::Global;
+use texts::Text;
 use tickets::{Drawer, Tickets};
-use units::{Epoch, Fault, Key, Reason, Run, Splits, Stamp, TxnId, Value};
+use units::{Epoch, Fault, Key, Run, Splits, Value};
 
-fn split_at_m(alloc: Global) -> Result<Splits, Fault> {
-    Splits::new(alloc, &[key(b'm')])
-}
-
-// What transaction 1.2 does while it is open, with keys and values of one letter.
+// What transaction 1.2 does while it is open, with keys of one letter.
 #[derive(Clone, Copy)]
 enum Does {
     Read(u8),
-    Write(u8, u8),
+    Write(u8, &'static [u8]),
     Erase(u8),
     // It hears the answer of shard 1 for a key, in an epoch.
-    Hears(u8, u64, u8),
-}
-
-// What comes of it.
-#[derive(Clone, Copy, PartialEq, Eq)]
-enum Gets {
-    Done,
-    Refused(Reason),
-    Value(u8),
-    Again,
-    Doomed,
-    Other,
-}
-
-// A message by its shard, its kind, the epoch of its reads, and the number of its writes.
-type Shape = (u8, u8, u64, usize);
-
-// How it ends.
-#[derive(Clone, Copy)]
-enum Ends {
-    NotClosed(Reason),
-    // It is closed and says this, once more too. Then it is given up, and says that.
-    Closes(&'static [Shape], &'static [Shape]),
-    GivesUp(&'static [Shape]),
+    Hears(u8, u64, &'static [u8]),
 }
 
 #[derive(Clone, Copy)]
 struct Story {
     name: &'static str,
-    does: &'static [(Does, Gets)],
-    ends: Ends,
+    // What comes of each step: a message, a value, a word, or a fault.
+    does: &'static [(Does, &'static str)],
+    // What it says when it is closed, and once more, or else how that is refused.
+    closing: &'static [&'static str],
+    refused: &'static str,
+    // What it says when it is given up then, unless it hears its end.
+    farewells: &'static [&'static str],
+    hears: bool,
 }
 
 static STORIES: [Story; 5] = [
     Story {
-        name: "nothing is not closed",
+        name: "nothing is not closed, and is given up",
         does: &[],
-        ends: Ends::NotClosed(Reason::Nothing),
-    },
-    Story {
-        name: "nothing is given up",
-        does: &[],
-        ends: Ends::GivesUp(&[]),
+        closing: &[],
+        refused: "7 BadRequest(nothing)",
+        farewells: &[],
+        hears: false,
     },
     Story {
         name: "two shards are written",
         does: &[
-            (Does::Write(b'z', b'2'), Gets::Done),
-            (Does::Erase(b'a'), Gets::Done),
-            (Does::Write(b'a', b'1'), Gets::Done),
+            (Does::Write(b'z', b"2"), "done"),
+            (Does::Erase(b'a'), "done"),
+            (Does::Write(b'a', b"1"), "done"),
         ],
-        ends: Ends::Closes(
-            &[(0, b'c', 0, 1), (1, b'p', 0, 1)],
-            &[(0, b'g', 0, 0), (1, b'g', 0, 0)],
-        ),
+        closing: &[
+            "shard 0 commit 1.2 0,1 0 - a=1",
+            "shard 1 prepare 1.2 0 0 - z=2",
+        ],
+        refused: "",
+        farewells: &["shard 0 giveup 1.2", "shard 1 giveup 1.2"],
+        hears: false,
     },
     Story {
         name: "a read is answered once",
         does: &[
-            (Does::Read(b'z'), Gets::Done),
-            (Does::Read(b'z'), Gets::Refused(Reason::Awaited)),
-            (Does::Hears(b'z', 1, b'2'), Gets::Value(b'2')),
-            (Does::Hears(b'z', 1, b'2'), Gets::Again),
-            (Does::Read(b'z'), Gets::Refused(Reason::Again)),
+            (Does::Read(b'z'), "shard 1 read 1.2 z"),
+            (Does::Read(b'z'), "7 BadRequest(awaited)"),
+            (Does::Hears(b'z', 1, b"2"), "=2"),
+            (Does::Hears(b'z', 1, b"2"), "again"),
+            (Does::Read(b'z'), "7 BadRequest(again)"),
         ],
-        ends: Ends::Closes(&[(1, b'c', 1, 0)], &[(1, b'g', 0, 0)]),
+        closing: &["shard 1 commit 1.2 1 1 z -"],
+        refused: "",
+        farewells: &["shard 1 giveup 1.2"],
+        hears: false,
     },
     Story {
         name: "a second epoch dooms",
         does: &[
-            (Does::Read(b'z'), Gets::Done),
-            (Does::Read(b'n'), Gets::Done),
-            (Does::Hears(b'z', 1, b'2'), Gets::Value(b'2')),
-            (Does::Hears(b'n', 2, b'3'), Gets::Doomed),
-            (Does::Erase(b'z'), Gets::Refused(Reason::Doomed)),
+            (Does::Read(b'z'), "shard 1 read 1.2 z"),
+            (Does::Read(b'n'), "shard 1 read 1.2 n"),
+            (Does::Hears(b'z', 1, b"2"), "=2"),
+            (Does::Hears(b'n', 2, b"3"), "doomed"),
+            (Does::Erase(b'z'), "7 BadRequest(doomed)"),
         ],
-        ends: Ends::GivesUp(&[(1, b'g', 0, 0)]),
+        closing: &[],
+        refused: "7 BadRequest(doomed)",
+        farewells: &["shard 1 giveup 1.2"],
+        hears: false,
+    },
+    Story {
+        name: "it takes its own end, and no other",
+        does: &[(Does::Erase(b'a'), "done")],
+        closing: &["shard 0 commit 1.2 0 0 - a!"],
+        refused: "",
+        farewells: &[],
+        hears: true,
     },
 ];
 
-fn shape(envelope: &Envelope) -> Shape {
-    let to = match envelope.to {
-        Address::Shard(shard) => shard.number(),
-        Address::Session(_) => 99,
-    };
-    match &envelope.message {
-        Message::Read(_) => (to, b'r', 0, 0),
-        Message::Commit(told) => (to, b'c', told.reads.epoch(), told.writes.as_slice().len()),
-        Message::Prepare(told) => (to, b'p', told.reads.epoch(), told.writes.as_slice().len()),
-        Message::GiveUp(_) => (to, b'g', 0, 0),
-        _ => (to, b'?', 0, 0),
-    }
-}
-
-fn is_shaped(envelope: &Envelope, wanted: Shape) -> bool {
-    let (to, kind, epoch, writes) = shape(envelope);
-    to == wanted.0 && kind == wanted.1 && epoch == wanted.2 && writes == wanted.3
-}
-
-fn says(out: &Outbox, shapes: &[Shape]) -> bool {
+fn says(alloc: Global, out: &Outbox, lines: &[&str]) -> bool {
     let envelopes = out.as_slice();
-    for (envelope, wanted) in envelopes.iter().zip(shapes.iter()) {
-        if !is_shaped(envelope, *wanted) {
+    for (envelope, line) in envelopes.iter().zip(lines.iter()) {
+        if !is_printed(alloc, &Text(envelope), *line) {
             return false;
         }
     }
-    envelopes.len() == shapes.len()
+    envelopes.len() == lines.len()
 }
 
-fn refused(fault: Fault) -> Gets {
-    match fault {
-        Fault::BadRequest(reason) => Gets::Refused(reason),
-        _ => Gets::Other,
-    }
-}
-
-// It asks shard 1.
-fn asks(envelope: &Envelope) -> Gets {
-    if is_shaped(envelope, (1, b'r', 0, 0)) {
-        Gets::Done
-    } else {
-        Gets::Other
-    }
-}
-
-fn asked(tx: &mut Tx<'_, Open>, key: Key) -> Gets {
+fn reads(tx: &mut Tx<'_, Open>, alloc: Global, key: Key, gets: &str) -> bool {
     match tx.read(key) {
-        Ok(envelope) => asks(&envelope),
-        Err(fault) => refused(fault),
+        Ok(envelope) => is_line(alloc, envelope, gets),
+        Err(fault) => is_printed(alloc, &fault, gets),
     }
 }
 
-fn buffered(tx: &mut Tx<'_, Open>, key: Key, value: Option<Value>) -> Gets {
+fn buffers(
+    tx: &mut Tx<'_, Open>,
+    alloc: Global,
+    key: Key,
+    value: Option<Value>,
+    gets: &str,
+) -> bool {
     match tx.buffer(key, value) {
-        Ok(()) => Gets::Done,
-        Err(fault) => refused(fault),
+        Ok(()) => gets == "done",
+        Err(fault) => is_printed(alloc, &fault, gets),
     }
 }
 
-fn written(tx: &mut Tx<'_, Open>, alloc: Global, key: Key, byte: u8) -> Gets {
-    match Value::new(alloc, &[byte]) {
-        Ok(value) => buffered(tx, key, Some(value)),
-        Err(_) => Gets::Other,
-    }
-}
-
-fn value_of(value: &Value) -> Gets {
-    match value.as_bytes() {
-        [byte] => Gets::Value(*byte),
-        _ => Gets::Other,
-    }
-}
-
-fn heard(tx: &mut Tx<'_, Open>, alloc: Global, answer: &ReadAnswer) -> Gets {
+fn takes(tx: &mut Tx<'_, Open>, alloc: Global, answer: &ReadAnswer, gets: &str) -> bool {
     match tx.answered(alloc, answer) {
-        Ok(Heard::Value(Some(value))) => value_of(&value),
-        Ok(Heard::Again) => Gets::Again,
-        Ok(Heard::Doomed) => Gets::Doomed,
-        Ok(_) => Gets::Other,
-        Err(fault) => refused(fault),
+        Ok(Heard::Value(value)) => is_printed(alloc, &Text(&value), gets),
+        Ok(Heard::Again) => gets == "again",
+        Ok(Heard::Doomed) => gets == "doomed",
+        Err(fault) => is_printed(alloc, &fault, gets),
     }
 }
 
-fn answer_of(alloc: Global, key: Key, epoch: u64, byte: u8) -> Option<ReadAnswer> {
-    let epoch = Epoch::new(epoch)?;
-    let value = Value::new(alloc, &[byte]).ok()?;
-    Some(ReadAnswer {
+fn hears(
+    tx: &mut Tx<'_, Open>,
+    alloc: Global,
+    key: Key,
+    epoch: u64,
+    value: Value,
+    gets: &str,
+) -> bool {
+    let answer = ReadAnswer {
         from: shard(1),
         txn: id(2),
         key,
-        epoch,
+        epoch: Epoch::new(epoch).unwrap_or(Epoch::first()),
         answer: Answer::Holds(Some(value)),
-    })
+    };
+    let taken = takes(tx, alloc, &answer, gets);
+    drop(answer);
+    taken
 }
 
-fn hears(tx: &mut Tx<'_, Open>, alloc: Global, key: Key, epoch: u64, byte: u8) -> Gets {
-    match answer_of(alloc, key, epoch, byte) {
-        Some(answer) => heard(tx, alloc, &answer),
-        None => Gets::Other,
-    }
-}
-
-fn got(tx: &mut Tx<'_, Open>, alloc: Global, does: Does) -> Gets {
+fn goes_so(tx: &mut Tx<'_, Open>, alloc: Global, does: Does, gets: &str) -> bool {
     match does {
-        Does::Read(letter) => asked(tx, key(letter)),
-        Does::Write(letter, byte) => written(tx, alloc, key(letter), byte),
-        Does::Erase(letter) => buffered(tx, key(letter), None),
-        Does::Hears(letter, epoch, byte) => hears(tx, alloc, key(letter), epoch, byte),
+        Does::Read(letter) => reads(tx, alloc, key(letter), gets),
+        Does::Erase(letter) => buffers(tx, alloc, key(letter), None, gets),
+        Does::Write(letter, bytes) => match Value::new(alloc, bytes) {
+            Ok(value) => buffers(tx, alloc, key(letter), Some(value), gets),
+            Err(_) => false,
+        },
+        Does::Hears(letter, epoch, bytes) => match Value::new(alloc, bytes) {
+            Ok(value) => hears(tx, alloc, key(letter), epoch, value, gets),
+            Err(_) => false,
+        },
     }
 }
 
-fn gets_all(tx: &mut Tx<'_, Open>, alloc: Global, does: &[(Does, Gets)]) -> bool {
-    for (does, wanted) in does {
-        if got(tx, alloc, *does) != *wanted {
+fn goes_on(tx: &mut Tx<'_, Open>, alloc: Global, does: &[(Does, &str)]) -> bool {
+    for (does, gets) in does {
+        if !goes_so(tx, alloc, *does, *gets) {
             return false;
         }
     }
     true
 }
 
-fn gives_up(tx: Tx<'_, Open>, alloc: Global, shapes: &[Shape]) -> bool {
+fn gives_up<S: Phase>(tx: Tx<'_, S>, alloc: Global, lines: &[&str]) -> bool {
     match tx.give_up(alloc) {
-        Ok(out) => says(&out, shapes),
+        Ok(out) => {
+            let gives_up = says(alloc, &out, lines);
+            drop(out);
+            gives_up
+        }
         Err((_, tx)) => {
             tx.spend();
             false
@@ -230,180 +192,111 @@ fn gives_up(tx: Tx<'_, Open>, alloc: Global, shapes: &[Shape]) -> bool {
     }
 }
 
-fn is_not_closed(tx: Tx<'_, Open>, alloc: Global, reason: Reason) -> bool {
-    match tx.close(alloc) {
-        Ok((tx, _)) => {
+fn takes_its_end(tx: Tx<'_, Closing>) -> bool {
+    let (txn, outcome) = (id(2), Some(stamp(200)));
+    match tx.take(&Done { txn, outcome }) {
+        Ok(finished) => finished == Finished::Committed(stamp(200)),
+        Err((_, tx)) => {
             tx.spend();
             false
-        }
-        Err((fault, tx)) => {
-            tx.spend();
-            fault == Fault::BadRequest(reason)
         }
     }
 }
 
-fn says_again(tx: &Tx<'_, Closing>, alloc: Global, closing: &[Shape]) -> bool {
+fn takes_no_other(tx: Tx<'_, Closing>) -> bool {
+    let (txn, outcome) = (id(3), None);
+    match tx.take(&Done { txn, outcome }) {
+        Ok(_) => false,
+        Err((fault, tx)) => takes_its_end(tx) && fault == Fault::Stranger,
+    }
+}
+
+fn says_again(tx: &Tx<'_, Closing>, alloc: Global, out: &Outbox, lines: &[&str]) -> bool {
     match tx.again(alloc) {
-        Ok(out) => says(&out, closing),
+        Ok(again) => {
+            let same = says(alloc, &again, lines) && says(alloc, out, lines);
+            drop(again);
+            same
+        }
         Err(_) => false,
     }
 }
 
-// A closed one says this when it is given up.
-fn parts(tx: Tx<'_, Closing>, alloc: Global, farewells: &[Shape]) -> bool {
-    match tx.give_up(alloc) {
-        Ok(out) => says(&out, farewells),
-        Err((_, tx)) => {
-            tx.spend();
-            false
-        }
-    }
-}
-
-fn closes(tx: Tx<'_, Open>, alloc: Global, closing: &[Shape], farewells: &[Shape]) -> bool {
+fn closes(tx: Tx<'_, Open>, alloc: Global, story: &Story) -> bool {
     match tx.close(alloc) {
         Ok((tx, out)) => {
-            let again = says_again(&tx, alloc, closing);
-            parts(tx, alloc, farewells) && again && says(&out, closing)
+            let said = says_again(&tx, alloc, &out, story.closing);
+            drop(out);
+            ends(tx, alloc, story) && said
         }
-        Err((_, tx)) => {
-            tx.spend();
-            false
+        Err((fault, tx)) => {
+            gives_up(tx, alloc, story.farewells) && is_printed(alloc, &fault, story.refused)
         }
     }
 }
 
-fn ended_as(tx: Tx<'_, Open>, alloc: Global, ends: Ends) -> bool {
-    match ends {
-        Ends::NotClosed(reason) => is_not_closed(tx, alloc, reason),
-        Ends::Closes(closing, farewells) => closes(tx, alloc, closing, farewells),
-        Ends::GivesUp(shapes) => gives_up(tx, alloc, shapes),
+fn ends(tx: Tx<'_, Closing>, alloc: Global, story: &Story) -> bool {
+    if story.hears {
+        takes_no_other(tx)
+    } else {
+        gives_up(tx, alloc, story.farewells)
     }
 }
 
-fn is_told(alloc: Global, story: &Story) -> bool {
-    let Ok(splits) = split_at_m(alloc) else {
-        return false;
-    };
-    let mut tx = Tx::begin(alloc, id(2), &splits);
-    let met = gets_all(&mut tx, alloc, story.does);
-    ended_as(tx, alloc, story.ends) && met
-}
-
-#[test]
-fn sessions(rt: HostRuntime) {
-    for story in &STORIES {
-        check(&rt, story.name, is_told(rt.alloc(), story));
-    }
-}
-
-fn closed<'s>(alloc: Global, splits: &'s Splits) -> Result<Tx<'s, Closing>, Fault> {
+fn is_told(alloc: Global, splits: &Splits, story: &Story) -> bool {
     let mut tx = Tx::begin(alloc, id(2), splits);
-    let _ = tx.buffer(key(b'a'), None);
-    match tx.close(alloc) {
-        Ok((tx, _)) => Ok(tx),
-        Err((fault, tx)) => {
-            tx.spend();
-            Err(fault)
-        }
-    }
+    let went = goes_on(&mut tx, alloc, story.does);
+    closes(tx, alloc, story) && went
 }
 
-fn taken(tx: Tx<'_, Closing>, done: &Done) -> Result<Finished, Fault> {
-    match tx.take(done) {
-        Ok(finished) => Ok(finished),
-        Err((fault, tx)) => {
-            tx.spend();
-            Err(fault)
-        }
-    }
-}
-
-// What a closed 1.2 makes of the end of a transaction.
-fn end_of(alloc: Global, txn: TxnId, outcome: Option<Stamp>) -> Result<Finished, Fault> {
-    let splits = split_at_m(alloc)?;
-    match closed(alloc, &splits) {
-        Ok(tx) => taken(tx, &Done { txn, outcome }),
-        Err(fault) => Err(fault),
-    }
-}
-
-// It takes its own end, and no other.
-#[test]
-fn an_end_is_heard(rt: HostRuntime) {
-    let stranger = end_of(rt.alloc(), id(3), None);
-    check(&rt, "another's", stranger == Err(Fault::Stranger));
-    let own = end_of(rt.alloc(), id(2), Some(stamp(200)));
-    check(&rt, "its own", own == Ok(Finished::Committed(stamp(200))));
-}
-
-fn reader(envelope: &Envelope) -> Option<TxnId> {
-    match &envelope.message {
-        Message::Read(read) => Some(read.txn),
-        _ => None,
-    }
-}
-
-// The id that it asks for a key with.
-fn asking(tx: &mut Tx<'_, Open>) -> Option<TxnId> {
-    match tx.read(key(b'a')) {
-        Ok(envelope) => reader(&envelope),
-        Err(_) => None,
-    }
-}
-
-// The id that a new transaction of run 7 asks with.
-fn begin_and_ask(
-    alloc: Global,
-    splits: &Splits,
-    tickets: &Tickets,
-    drawer: &mut Drawer,
-) -> Option<TxnId>
+// A new transaction of run 7 asks for `a` by this line.
+fn asks(alloc: Global, splits: &Splits, tickets: &Tickets, drawer: &mut Drawer, line: &str) -> bool
     requires { drawer.old.source ≡ tickets.now }
     ensures { drawer.new.source ≡ drawer.old.source }
 {
-    let run = Run::new(7)?;
+    let Some(run) = Run::new(7) else {
+        return false;
+    };
     match Tx::begin_drawn(alloc, run, splits, tickets, drawer) {
         Ok(mut tx) => {
-            let asking = asking(&mut tx);
+            let asks = reads(&mut tx, alloc, key(b'a'), line);
             tx.spend();
-            asking
+            asks
         }
-        Err(_) => None,
-    }
-}
-
-fn is(txn: Option<TxnId>, number: u64) -> bool {
-    match (txn, TxnId::new(7, number)) {
-        (Some(txn), Some(wanted)) => txn.is(wanted),
-        _ => false,
+        Err(_) => false,
     }
 }
 
 // The first transactions of a source are 7.0 and 7.1.
-fn are_drawn(alloc: Global, tickets: &Tickets, drawer: &mut Drawer) -> bool
-    requires { drawer.old.source ≡ tickets.now }
-{
-    let Ok(splits) = split_at_m(alloc) else {
-        return false;
-    };
-    let first = begin_and_ask(alloc, &splits, tickets, drawer);
-    let second = begin_and_ask(alloc, &splits, tickets, drawer);
-    is(first, 0) && is(second, 1)
-}
-
-fn draws_ids(alloc: Global) -> bool {
+fn draw_ids(alloc: Global, splits: &Splits) -> bool {
     let Ok((tickets, mut drawers)) = Tickets::new(alloc, 1) else {
         return false;
     };
-    match drawers.pop() {
-        Some(mut drawer) => are_drawn(alloc, &tickets, &mut drawer),
-        None => false,
+    let Some(mut drawer) = drawers.pop() else {
+        return false;
+    };
+    asks(alloc, splits, &tickets, &mut drawer, "shard 0 read 7.0 a")
+        && asks(alloc, splits, &tickets, &mut drawer, "shard 0 read 7.1 a")
+}
+
+// The first row that is wrong.
+fn wrong_by(alloc: Global, splits: &Splits) -> &'static str {
+    for story in &STORIES {
+        if !is_told(alloc, splits, story) {
+            return story.name;
+        }
+    }
+    if draw_ids(alloc, splits) {
+        ""
+    } else {
+        "7.0 and 7.1"
     }
 }
 
-#[test]
-fn numbers_are_drawn(rt: HostRuntime) {
-    check(&rt, "7.0 and 7.1", draws_ids(rt.alloc()));
+/// The first row that is wrong.
+pub fn wrong(alloc: Global) -> &'static str {
+    match Splits::new(alloc, &[key(b'm')]) {
+        Ok(splits) => wrong_by(alloc, &splits),
+        Err(_) => "no splits",
+    }
 }

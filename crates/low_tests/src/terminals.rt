@@ -19,34 +19,32 @@ fn tell<W: Watch>(watch: &W) {
     }
 }
 
-// What is written of a drive of twenty turns.
-fn written<R: Threads + Wait + time::Clock + Sync>(rt: &R, alloc: Global) -> Vec<u8> {
-    let terminal = Terminal::new(rt, alloc, Vec::new(alloc), 20);
-    work(rt, &terminal);
-    terminal.finish()
-}
-
 fn is_last(text: &str) -> bool {
     text.contains("\r20 of 20 done, ")
         && text.ends_with(" commits a second, half within 4 us, 99 of 100 within 9 us\n")
 }
 
-fn has_its_last_line(written: &[u8]) -> bool {
-    match str::from_utf8(written) {
+// The last line of a drive of twenty turns.
+fn counts<R: Threads + Wait + time::Clock + Sync>(rt: &R, alloc: Global) -> bool {
+    let terminal = Terminal::new(rt, alloc, Vec::new(alloc), 20);
+    work(rt, &terminal);
+    let written: Vec<u8> = terminal.finish();
+    let counts = match str::from_utf8(&written) {
         Ok(text) => is_last(text),
         Err(_) => false,
-    }
+    };
+    drop(written);
+    counts
 }
 
-#[test]
-fn counts(rt: HostRuntime) {
-    let written = written(&rt, rt.alloc());
-    assert!(rt; has_its_last_line(&written), "{written:?}");
-}
-
-#[test]
-fn may_be_absent(rt: HostRuntime) {
+/// The first row that is wrong. A watch may be absent.
+pub fn wrong<R: Threads + Wait + time::Clock + Sync>(rt: &R, alloc: Global) -> &'static str {
     let none: Option<NoWatch> = None;
-    work(&rt, &none);
-    work(&rt, &Some(NoWatch));
+    work(rt, &none);
+    work(rt, &Some(NoWatch));
+    if counts(rt, alloc) {
+        ""
+    } else {
+        "twenty turns"
+    }
 }

@@ -1,5 +1,5 @@
 //! Verdicts on logs and lines.
-use crate::checks::{check, is_printed};
+use crate::checks::is_printed;
 use crate::text_logs::reads;
 use inspector::inspect;
 use record::Record;
@@ -227,9 +227,12 @@ fn has_its_verdict(alloc: Global, case: &Case) -> bool {
     read_logs(alloc, case.logs, &mut logs) && is_given(alloc, logs.as_slice(), case)
 }
 
-#[test]
-fn verdicts_are_given(rt: HostRuntime) {
+/// The first row that is wrong.
+pub fn wrong(alloc: Global) -> &'static str {
     for case in &CASES {
-        check(&rt, case.name, has_its_verdict(rt.alloc(), case));
+        if !has_its_verdict(alloc, case) {
+            return case.name;
+        }
     }
+    ""
 }
