@@ -1,31 +1,37 @@
 -- What the parser of command lines is made of, and what it finds in a line.
-use Rattle.std.specs.Prelude.{List, [], ◌∷◌, Some, None, true, codes}
-use Rattle.clap.specs.Words.{App, Row, Rule, Text, new_app, new_rule, with_rule, with_subcommand}
+use Rattle.std.specs.Prelude.{ℕ, List, [], ◌∷◌, Some, None, true, codes, fold, max}
+use Rattle.clap.specs.Words.{App, Row, Rule, Shape, Text, new_app, new_rule, with_rule, with_subcommand}
 use Rattle.clap.specs.declared.parser.matches.ValueSource.TheVariants.{CommandLine as given}
 use Rattle.clap.specs.declared.builder.value_parser.Reading.TheVariants.{AsWritten}
 use Rattle.command_line.specs.Lines.{CommandLine, Word, once, format, play, inspect, drive}
 
--- a word that has to be given
-abbrev pub needed : Text → Rule
-needed id = record (new_rule id) { required = true }
+-- an argument of which 1 to `most` words have to be given
+abbrev pub needed : Text × ℕ → Rule
+needed word = record (new_rule word.0) {
+  required = true;
+  range = Some (record { start_inclusive = 1; end_inclusive = max word.1 1 });
+}
+
+-- a command with its arguments
+abbrev pub command_app : Text → List (Text × ℕ) → App
+command_app name words = fold (λ app word. with_rule app (needed word)) (new_app name) words
 
 -- KEY VALUE E1 L1 E2 L2
 abbrev pub once_app : App
-once_app = with_rule (with_rule (with_rule (with_rule (with_rule (with_rule (new_app (codes "once"))
-    (needed (codes "key"))) (needed (codes "value"))) (needed (codes "e1"))) (needed (codes "l1")))
-    (needed (codes "e2"))) (needed (codes "l2"))
+once_app = command_app (codes "once")
+    ((codes "key", 1) ∷ (codes "value", 1) ∷ (codes "e1", 1) ∷ (codes "l1", 1) ∷ (codes "e2", 1) ∷ (codes "l2", 1) ∷ [])
 
 -- FILE
 abbrev pub file_app : Text → App
-file_app name = with_rule (new_app name) (needed (codes "file"))
-
--- 1 to 16 words
-abbrev pub several : Text → Rule
-several id = record (needed id) { range = Some (record { start_inclusive = 1; end_inclusive = 16 }) }
+file_app name = command_app name ((codes "file", 1) ∷ [])
 
 -- LINES and 1 to 16 LOGs
 abbrev pub inspect_app : App
-inspect_app = with_rule (with_rule (new_app (codes "inspect")) (needed (codes "lines"))) (several (codes "logs"))
+inspect_app = command_app (codes "inspect") ((codes "lines", 1) ∷ (codes "logs", 16) ∷ [])
+
+-- the commands
+abbrev pub shapes : List Shape
+shapes = once_app.top ∷ (file_app (codes "format")).top ∷ (file_app (codes "play")).top ∷ inspect_app.top ∷ (file_app (codes "drive")).top ∷ []
 
 -- the program: one command is wanted
 abbrev pub bare_app : App
@@ -39,8 +45,7 @@ bare_app = record (new_app (codes "shards")) {
 
 -- the program with its commands
 abbrev pub shards_app : App
-shards_app = with_subcommand (with_subcommand (with_subcommand (with_subcommand (with_subcommand bare_app once_app.top)
-    (file_app (codes "format")).top) (file_app (codes "play")).top) inspect_app.top) (file_app (codes "drive")).top
+shards_app = fold with_subcommand bare_app shapes
 
 -- an argument with its words
 abbrev pub row_with : Text → List Word → Row

@@ -1,11 +1,22 @@
 -- Command lines and commands of the code, by their words.
-use Rattle.std.specs.Prelude.{map}
+use Rattle.std.specs.Prelude.{ℕ, List, map}
+use denote.Ref.{Bor}
+use Rattle.clap.specs.Words.{Shape, Text}
 use Rattle.command_line.specs.Commands.{Asked, help, once_asked, format_asked, play_asked, inspect_asked, drive_asked}
-use Rattle.command_line.specs.Lines.{CommandLine, once, format, play, inspect, drive}
+use Rattle.command_line.specs.Lines.{CommandLine, Word, once, format, play, inspect, drive}
+use Rattle.command_line.specs.Parser.{command_app}
 use Rattle.command_line.specs.declared.commands.Command.{Command}
 use Rattle.command_line.specs.declared.commands.Command.TheVariants as command
 use Rattle.command_line.specs.declared.parsing.Line.{Line}
 use Rattle.command_line.specs.declared.parsing.Line.TheVariants as code
+
+-- the arguments of a command, each with how many words it takes at most
+abbrev pub told_words : List (Bor Word × ℕ) → List (Text × ℕ)
+told_words words = map (λ w. (w.0.now, w.1)) words
+
+-- a command as the parser is told it
+abbrev pub told_shape : Bor Word × Bor (List (Bor Word × ℕ)) → Shape
+told_shape form = (command_app form.0.now (told_words form.1.now)).top
 
 -- its words
 abbrev pub line_view : Line → CommandLine

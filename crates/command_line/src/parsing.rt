@@ -1,17 +1,39 @@
 //! The words of a command line, told apart by `clap`.
-ghost use Rattle.std.specs.Prelude.{◌≡◌, ◌⊎◌, List, Some, None, IfOk, IfErr, MatchResult, codes, map, true, false};
-ghost use Rattle.clap.specs.Words.{all_of, app_of, first_value, found_of, rows_of, shape_of, subcommand_rows_of, with_rule, with_subcommand};
-ghost use Rattle.clap.specs.declared.builder.command.Command.TheViews.{out-Command as fields_of};
+ghost use Rattle.std.specs.Prelude.{◌≡◌, ◌⊎◌, ◌++◌, ◌∷◌, [], List, Some, None, IfOk, IfErr, MatchResult, OnOk, codes, map, true};
+ghost use Rattle.clap.specs.Words.{all_of, app_of, first_value, found_of, rows_of, shape_of, subcommand_rows_of};
 ghost use Rattle.units.specs.declared.fault.Fault.TheVariants.{BadRequest, Memory};
 ghost use Rattle.units.specs.declared.fault.Reason.TheVariants.{Command as command_reason};
 ghost use Rattle.command_line.specs.Lines.{are_plain, line_of, CommandLine, Word};
-ghost use Rattle.command_line.specs.Views.{line_view};
-ghost use Rattle.command_line.specs.Parser.{bare_app, entry_of, file_app, inspect_app, needed, once_app, several, shards_app};
+ghost use Rattle.command_line.specs.Views.{line_view, told_shape, told_words};
+ghost use Rattle.command_line.specs.Parser.{command_app, entry_of, shards_app};
 
 use clap::error::ErrorKind;
 use clap::{Arg, ArgMatches, Command};
 use std::alloc::{AllocError, Global};
 use units::{Fault, Reason};
+
+/// A command as the parser is told it: its name, and its arguments, each with how many words it
+/// takes at most.
+type Form<'a> = (&'a str, &'a [(&'a str, usize)]);
+
+/// The program's commands.
+static COMMANDS: [Form<'static>; 5] = [
+    (
+        "once",
+        &[
+            ("key", 1),
+            ("value", 1),
+            ("e1", 1),
+            ("l1", 1),
+            ("e2", 1),
+            ("l2", 1),
+        ],
+    ),
+    ("format", &[("file", 1)]),
+    ("play", &[("file", 1)]),
+    ("inspect", &[("lines", 1), ("logs", 16)]),
+    ("drive", &[("file", 1)]),
+];
 
 /// A command, with its words.
 #[derive(Drop)]
@@ -134,130 +156,48 @@ fn words<'a>(alloc: Global, matches: &ArgMatches<'a>, id: &str) -> Result<Vec<&'
     }
 }
 
-// The program's commands.
+// The program with its commands.
 fn shards<'a>(alloc: Global) -> Result<Command<'a>, AllocError>
     ensures { IfOk result (λ c. app_of c ≡ shards_app) }
 {
-    let with_once = over_once(alloc)?;
-    let with_format = with_file_command(alloc, with_once, "format")?;
-    let with_play = with_file_command(alloc, with_format, "play")?;
-    let with_inspect = with_inspect_command(alloc, with_play)?;
-    with_file_command(alloc, with_inspect, "drive")
-}
-
-// The program over its first command.
-fn over_once<'a>(alloc: Global) -> Result<Command<'a>, AllocError>
-    ensures { IfOk result (λ c. app_of c ≡ with_subcommand bare_app once_app.top) }
-{
-    let once = once_command(alloc)?;
-    with_command(bare_command(alloc), once)
-}
-
-// The program without its commands.
-fn bare_command<'a>(alloc: Global) -> Command<'a>
-    ensures { app_of result ≡ bare_app }
-{
+    let mut commands = Vec::new(alloc);
+    add_commands(alloc, &mut commands, &COMMANDS)?;
     Command::new(alloc, "shards")
         .no_binary_name(true)
         .disable_help_subcommand(true)
         .subcommand_required(true)
+        .subcommands(commands)
 }
 
-// The command over one more with one file.
-fn with_file_command<'a>(
+// Adds commands to others.
+fn add_commands<'a>(
     alloc: Global,
-    command: Command<'a>,
+    commands: &mut Vec<Command<'a>>,
+    forms: &[Form<'a>],
+) -> Result<(), AllocError>
+    ensures { OnOk result (map shape_of commands.new.items
+        ≡ map shape_of commands.old.items ++ map told_shape forms.now) }
+{
+    for (name, words) in forms {
+        add_command(alloc, commands, *name, *words)?;
+    }
+    Ok(())
+}
+
+// Adds a command to others. Each of its arguments takes a word at least, and so many at most.
+fn add_command<'a>(
+    alloc: Global,
+    commands: &mut Vec<Command<'a>>,
     name: &'a str,
-) -> Result<Command<'a>, AllocError>
-    ensures { IfOk result
-        (λ c. app_of c ≡ with_subcommand (app_of command.entry) (file_app name.entry.now).top) }
+    words: &[(&'a str, usize)],
+) -> Result<(), AllocError>
+    ensures { OnOk result (map shape_of commands.new.items ≡ map shape_of commands.old.items
+        ++ (command_app name.entry.now (told_words words.now)).top ∷ []) }
 {
-    with_command(command, file_command(alloc, name)?)
-}
-
-// The command over `inspect`.
-fn with_inspect_command<'a>(alloc: Global, command: Command<'a>) -> Result<Command<'a>, AllocError>
-    ensures { IfOk result
-        (λ c. app_of c ≡ with_subcommand (app_of command.entry) inspect_app.top) }
-{
-    with_command(command, inspect_command(alloc)?)
-}
-
-// `once KEY VALUE E1 L1 E2 L2`.
-fn once_command<'a>(alloc: Global) -> Result<Command<'a>, AllocError>
-    ensures app { IfOk result (λ c. app_of c ≡ once_app) }
-    ensures local { IfOk result (λ c. (fields_of c).has_globals ≡ false) }
-{
-    let with_pair = with_two_words(alloc, Command::new(alloc, "once"), "key", "value")?;
-    let with_first = with_two_words(alloc, with_pair, "e1", "l1")?;
-    with_two_words(alloc, with_first, "e2", "l2")
-}
-
-// A command with one file.
-fn file_command<'a>(alloc: Global, name: &'a str) -> Result<Command<'a>, AllocError>
-    ensures app { IfOk result (λ c. app_of c ≡ file_app name.entry.now) }
-    ensures local { IfOk result (λ c. (fields_of c).has_globals ≡ false) }
-{
-    with_word(alloc, Command::new(alloc, name), "file")
-}
-
-// `inspect LINES LOG..`.
-fn inspect_command<'a>(alloc: Global) -> Result<Command<'a>, AllocError>
-    ensures app { IfOk result (λ c. app_of c ≡ inspect_app) }
-    ensures local { IfOk result (λ c. (fields_of c).has_globals ≡ false) }
-{
-    let with_lines = with_word(alloc, Command::new(alloc, "inspect"), "lines")?;
-    with_words(alloc, with_lines, "logs")
-}
-
-// The command with one more word, which has to be given.
-fn with_word<'a>(
-    alloc: Global,
-    command: Command<'a>,
-    id: &'a str,
-) -> Result<Command<'a>, AllocError>
-    ensures app { IfOk result
-        (λ c. app_of c ≡ with_rule (app_of command.entry) (needed id.entry.now)) }
-    ensures local { (fields_of command.entry).has_globals ≡ false
-        → IfOk result (λ c. (fields_of c).has_globals ≡ false) }
-{
-    command.arg(Arg::new(alloc, id).required(true))
-}
-
-// The command with two more words, which have to be given.
-fn with_two_words<'a>(
-    alloc: Global,
-    command: Command<'a>,
-    first: &'a str,
-    second: &'a str,
-) -> Result<Command<'a>, AllocError>
-    ensures app { IfOk result (λ c. app_of c ≡
-        with_rule (with_rule (app_of command.entry) (needed first.entry.now)) (needed second.entry.now)) }
-    ensures local { (fields_of command.entry).has_globals ≡ false
-        → IfOk result (λ c. (fields_of c).has_globals ≡ false) }
-{
-    let with_first = with_word(alloc, command, first)?;
-    with_word(alloc, with_first, second)
-}
-
-// The command with 1 to 16 words more.
-fn with_words<'a>(
-    alloc: Global,
-    command: Command<'a>,
-    id: &'a str,
-) -> Result<Command<'a>, AllocError>
-    ensures app { IfOk result
-        (λ c. app_of c ≡ with_rule (app_of command.entry) (several id.entry.now)) }
-    ensures local { (fields_of command.entry).has_globals ≡ false
-        → IfOk result (λ c. (fields_of c).has_globals ≡ false) }
-{
-    command.arg(Arg::new(alloc, id).required(true).num_args(1..=16))
-}
-
-// The command over one more.
-fn with_command<'a>(command: Command<'a>, below: Command<'a>) -> Result<Command<'a>, AllocError>
-    ensures { IfOk result (λ c. (fields_of below.entry).has_globals ≡ false
-        → app_of c ≡ with_subcommand (app_of command.entry) (shape_of below.entry)) }
-{
-    command.subcommand(below)
+    let mut command = Command::new(alloc, name);
+    for (id, most) in words {
+        command = command.arg(Arg::new(alloc, *id).required(true).num_args(1..=*most))?;
+    }
+    commands.push(command)?;
+    Ok(())
 }

@@ -51,8 +51,13 @@ printed (2).
 pub fn asks_help(words: &[&str]) -> bool
     ensures { result ≡ asks_help (map (λ w. w.now) words.now) }
 {
-    words
-        .iter()
-        .take_while(|word| **word != "--")
-        .any(|word| *word == "-h" || *word == "--help")
+    for word in words {
+        if *word == "--" {
+            return false;
+        }
+        if *word == "-h" || *word == "--help" {
+            return true;
+        }
+    }
+    false
 }
