@@ -255,8 +255,9 @@ fn count<R: Wait + Drop>(rt: R, alloc: Global, viewers: usize) -> Result<usize, 
 }
 
 // A board has 1 to 64 viewers.
-static COUNTS: [(&str, usize, Result<usize, Fault>); 3] = [
+static COUNTS: [(&str, usize, Result<usize, Fault>); 4] = [
     ("no viewer", 0, Err(Fault::BadRequest(Reason::Many))),
+    ("1 viewer", 1, Ok(1)),
     ("65 viewers", 65, Err(Fault::BadRequest(Reason::Many))),
     ("64 viewers", 64, Ok(64)),
 ];
