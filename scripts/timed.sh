@@ -20,10 +20,14 @@ room=$(mktemp -d)
 trap 'rm -rf "$room"' EXIT
 mkfifo "$room/lines"
 began=$(date +%s)
+# Nearly all stands on `units`, and while one processor proves it the others have little to do. So a second call proves it with all of
+# them, and the gate takes that over, as it does whatever was proved on this machine. Where nothing is kept here, it proves `units` itself.
+env -u RT_JOBS rt ci units >/dev/null 2>&1 &
+first_crate=$!
 rt ci >"$room/lines" &
 gate=$!
 misuse=
-trap 'kill "$gate" $misuse' HUP INT TERM
+trap 'kill "$gate" "$first_crate" $misuse' HUP INT TERM
 
 # The seconds since the beginning, as minutes and seconds.
 now() {
@@ -58,6 +62,7 @@ while IFS= read -r line || [ -n "$line" ]; do
 done <"$room/lines"
 wait "$gate"
 status=$?
+wait "$first_crate"
 if [ -n "$misuse" ]; then
     wait "$misuse" || misused=yes
     cat "$room/misuse"

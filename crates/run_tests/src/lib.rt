@@ -1,4 +1,4 @@
-//! Tests of whole runs: lists of events are played over real shards, and what they come to is compared; and of schedules.
+//! Tests of whole runs: schedules are played over real shards, and what they come to is compared.
 #![tactic(auto)]
 
 #[cfg(test)]
@@ -8,23 +8,9 @@ mod comparing;
 #[cfg(test)]
 mod crashes;
 #[cfg(test)]
-mod drawing;
-#[cfg(test)]
-mod drawn;
-#[cfg(test)]
-mod judging;
-#[cfg(test)]
-mod long;
-#[cfg(test)]
 mod outside;
 #[cfg(test)]
-mod replying;
-#[cfg(test)]
-mod runs;
-#[cfg(test)]
 mod schedule_texts;
-#[cfg(test)]
-mod steps;
 #[cfg(test)]
 mod stops;
 #[cfg(test)]

@@ -1,12 +1,12 @@
 //! What befalls the core of a shard from outside a run shows in the run: the cores that it plays lie open here.
 ghost use Rattle.std.specs.Prelude.{◌<◌, ◌-◌, ◌^◌};
 
-use crate::steps::{reading, stamp};
 use lives::{Life, Run, RunShard};
 use message::Input;
 use script::schedule;
 use std::alloc::Global;
-use units::Fault;
+use truetime::Reading;
+use units::{Fault, Stamp};
 use world::{Config, Event, Reply};
 
 // Before the first Commit comes, which is event 3, the core of shard 0 is to serve up to 500, with a device call of it armed or
@@ -82,9 +82,15 @@ fn befalls(shard: &mut RunShard, alloc: Global, outside: &Outside) -> bool {
     let Life::Up(core) = &mut shard.life else {
         return false;
     };
+    let (Ok(to), Ok(latest)) = (Stamp::new(500), Stamp::new(510)) else {
+        return false;
+    };
+    let Ok(now) = Reading::new(to, latest) else {
+        return false;
+    };
     core.arm(outside.call);
-    let input = Input::Advance(stamp(500));
-    let answer = core.on(alloc, &reading(500, 510), &input);
+    let input = Input::Advance(to);
+    let answer = core.on(alloc, &now, &input);
     drop(input);
     match answer {
         Ok(outbox) => {

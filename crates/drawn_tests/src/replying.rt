@@ -65,9 +65,9 @@ impl Standings {
     fn follow(&mut self, step: Step, told: Told) {
         match step {
             Step::Crash(shard) => self.set(shard, Standing::Down),
-            Step::CrashIn(shard, _, _, _) => self.set(shard, Standing::Down),
-            Step::Open(shard) => self.set(shard, Standing::Up),
-            Step::FailIn(shard, _, at) => self.follow_failing(shard, opens(at), told),
+            Step::CrashIn(_, _, at) => self.set(at.shard, Standing::Down),
+            Step::Do(at) if at.opens() => self.set(at.shard, Standing::Up),
+            Step::FailIn(_, at) => self.follow_failing(at, told),
             _ => {}
         }
     }
@@ -80,20 +80,13 @@ impl Standings {
     }
 
     // A call of an opening, or of something else, was to fail.
-    fn follow_failing(&mut self, shard: u8, opens: bool, told: Told) {
-        match (opens, told) {
-            (true, Told::Device) => self.set(shard, Standing::Down),
-            (true, _) => self.set(shard, Standing::Up),
-            (false, Told::Device) => self.set(shard, Standing::Stopped),
+    fn follow_failing(&mut self, at: At, told: Told) {
+        match (at.opens(), told) {
+            (true, Told::Device) => self.set(at.shard, Standing::Down),
+            (true, _) => self.set(at.shard, Standing::Up),
+            (false, Told::Device) => self.set(at.shard, Standing::Stopped),
             (false, _) => {}
         }
-    }
-}
-
-fn opens(at: At) -> bool {
-    match at {
-        At::Open(_) => true,
-        _ => false,
     }
 }
 
@@ -108,14 +101,11 @@ fn receiver(report: &Report, message: u64) -> Option<u8> {
     }
 }
 
-// The shard that an event is a step of.
+// The shard that an event is a step of, but for an opening.
 fn shard_of(report: &Report, step: Step) -> Option<u8> {
     match step {
-        Step::Deliver(message, _, _) => receiver(report, message),
-        Step::Resume(shard, _, _) => Some(shard),
-        Step::Settle(shard, _, _, _) => Some(shard),
-        Step::Advance(shard, _, _, _) => Some(shard),
-        Step::Nudge(shard, _, _, _) => Some(shard),
+        Step::Deliver(message, _) => receiver(report, message),
+        Step::Do(at) if !at.opens() => Some(at.shard),
         _ => None,
     }
 }
@@ -148,11 +138,10 @@ fn is_failing(told: Told, rests: bool) -> bool {
 // The reply to an event is one that is due.
 fn is_due(standings: &Standings, report: &Report, step: Step, told: Told) -> bool {
     match step {
-        Step::Crash(_) => told == Told::Crashed,
-        Step::CrashIn(_, _, _, _) => told == Told::Crashed,
-        Step::Open(_) => told == Told::Done,
-        Step::FailIn(shard, _, at) => {
-            is_failing(told, !opens(at) && standings.of(shard) != Standing::Up)
+        Step::Crash(_) | Step::CrashIn(_, _, _) => told == Told::Crashed,
+        Step::Do(at) if at.opens() => told == Told::Done,
+        Step::FailIn(_, at) => {
+            is_failing(told, !at.opens() && standings.of(at.shard) != Standing::Up)
         }
         _ => is_plain(told, rests(standings, report, step)),
     }
@@ -183,7 +172,9 @@ impl Stops {
         match (told, step) {
             (Told::Crashed, _) => self.crashed = self.crashed.saturating_add(1),
             (Told::Device, _) => self.failed = self.failed.saturating_add(1),
-            (Told::Done, Step::Open(_)) => self.opened = self.opened.saturating_add(1),
+            (Told::Done, Step::Do(at)) if at.opens() => {
+                self.opened = self.opened.saturating_add(1)
+            }
             _ => {}
         }
     }

@@ -3,7 +3,7 @@
 ghost use Rattle.std.specs.Prelude.{◌<◌, ◌^◌};
 
 use crate::runs::{Shape, run};
-use crate::steps::{At, Step, Timed};
+use crate::steps::{At, Does, Step, Timed};
 use disk::Fate;
 use playing::Report;
 use record::Record;
@@ -96,11 +96,16 @@ fn push_session(steps: &mut Vec<Timed>, number: u32, keys: (u8, u8)) -> bool {
 fn push_decision(steps: &mut Vec<Timed>, number: u32, shard: u8) -> bool {
     let (time, txn) = (begins_at(number), number as u64);
     let first = 5 * txn;
+    let settle = At {
+        shard,
+        does: Does::Settle(txn),
+        reading: (time + 14, time + 17),
+    };
     let decision = [
-        (time + 2, Step::Deliver(first, time, time + 3)),
-        (time + 4, Step::Deliver(first + 1, time + 2, time + 5)),
-        (time + 6, Step::Deliver(first + 2, time + 4, time + 7)),
-        (time + 16, Step::Settle(shard, txn, time + 14, time + 17)),
+        (time + 2, Step::Deliver(first, (time, time + 3))),
+        (time + 4, Step::Deliver(first + 1, (time + 2, time + 5))),
+        (time + 6, Step::Deliver(first + 2, (time + 4, time + 7))),
+        (time + 16, Step::Do(settle)),
     ];
     steps.extend_from_slice(&decision).is_ok()
 }
@@ -109,8 +114,8 @@ fn push_decision(steps: &mut Vec<Timed>, number: u32, shard: u8) -> bool {
 fn push_end(steps: &mut Vec<Timed>, number: u32) -> bool {
     let (time, first) = (begins_at(number), 5 * number as u64);
     let end = [
-        (time + 18, Step::Deliver(first + 4, time + 16, time + 19)),
-        (time + 19, Step::Deliver(first + 3, time + 17, time + 20)),
+        (time + 18, Step::Deliver(first + 4, (time + 16, time + 19))),
+        (time + 19, Step::Deliver(first + 3, (time + 17, time + 20))),
     ];
     steps.extend_from_slice(&end).is_ok()
 }
@@ -118,12 +123,21 @@ fn push_end(steps: &mut Vec<Timed>, number: u32) -> bool {
 // The outcome comes with a stop, and the shard is opened. The session does not hear its end.
 fn push_stop(steps: &mut Vec<Timed>, number: u32, shard: u8, stop: (u64, Option<Fate>)) -> bool {
     let (time, first) = (begins_at(number), 5 * number as u64);
-    let at = At::Take(shard, first + 4, time + 16, time + 19);
-    let step = match stop {
-        (call, Some(fate)) => Step::CrashIn(shard, call, fate, at),
-        (call, None) => Step::FailIn(shard, call, at),
+    let at = At {
+        shard,
+        does: Does::Take(first + 4),
+        reading: (time + 16, time + 19),
     };
-    let end = [(time + 18, step), (time + 19, Step::Open(shard))];
+    let open = At {
+        shard,
+        does: Does::Open,
+        reading: (0, 0),
+    };
+    let step = match stop {
+        (call, Some(fate)) => Step::CrashIn(call, fate, at),
+        (call, None) => Step::FailIn(call, at),
+    };
+    let end = [(time + 18, step), (time + 19, Step::Do(open))];
     steps.extend_from_slice(&end).is_ok()
 }
 

@@ -1,0 +1,17 @@
+//! Tests of whole runs whose events are drawn or counted, not written out: they are played over real shards, and judged here.
+#![tactic(auto)]
+
+#[cfg(test)]
+mod drawing;
+#[cfg(test)]
+mod drawn;
+#[cfg(test)]
+mod judging;
+#[cfg(test)]
+mod long;
+#[cfg(test)]
+mod replying;
+#[cfg(test)]
+mod runs;
+#[cfg(test)]
+mod steps;
