@@ -1,9 +1,9 @@
 //! Shards that decide for transactions of several parts.
 use crate::answers::Told;
 use crate::given::Given;
-use crate::stories::{Moment, Origin, Shows, Story, tell};
+use crate::stories::{Moment, Origin, Shows, Story};
 
-static COORDINATING: [Story; 4] = [
+pub static COORDINATING: [Story; 4] = [
     Story {
         name: "a vote that comes before its commit changes nothing; the same vote again decides",
         shard: 0,
@@ -106,8 +106,3 @@ static COORDINATING: [Story; 4] = [
         }],
     },
 ];
-
-#[test]
-fn coordinating(rt: HostRuntime) {
-    tell(&rt, rt.alloc(), &COORDINATING);
-}

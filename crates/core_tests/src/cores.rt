@@ -4,6 +4,7 @@ use made::{key, shard};
 use shard::Core;
 use simdisk::SimDisk;
 use std::alloc::Global;
+use std::process::Abort;
 use units::{Book, Capacity, Fault, Setup, Splits, Stride};
 
 // What a core is told when it is opened.
@@ -28,50 +29,39 @@ pub fn plain(shard: u8, stride: u64) -> Setting {
 }
 
 // A shard of two, which are split at `m`.
-fn setup(alloc: Global, setting: Setting) -> Option<Setup> {
-    let Some(stride) = Stride::new(setting.stride) else {
-        return None;
-    };
+fn setup(rt: &impl Abort, alloc: Global, setting: Setting) -> Setup {
+    let stride = Stride::new(setting.stride).expect(rt, "a stride");
     let book = match Capacity::new(setting.capacity) {
         Some(capacity) => Book::On(capacity),
         None => Book::Off,
     };
-    match Splits::new(alloc, &[key(b'm')]) {
-        Ok(splits) => Some(Setup {
-            shard: shard(setting.shard),
-            splits,
-            stride,
-            book,
-        }),
-        Err(_) => None,
+    let splits = Splits::new(alloc, &[key(b'm')]).expect(rt, "splits");
+    Setup {
+        shard: shard(setting.shard),
+        splits,
+        stride,
+        book,
     }
 }
 
 /// A new disk with a log of nothing.
-pub fn formatted(alloc: Global) -> Option<SimDisk> {
-    match GateLog::format(SimDisk::new(alloc)) {
-        Ok(log) => Some(log.into_disk()),
-        Err((_, disk)) => {
-            drop(disk);
-            None
-        }
-    }
+pub fn formatted(rt: &impl Abort, alloc: Global) -> SimDisk {
+    let log = GateLog::format(SimDisk::new(alloc)).ok();
+    log.expect(rt, "a log").into_disk()
 }
 
-/// The core of a shard on a disk, or why it is not opened.
-pub fn opened(alloc: Global, disk: SimDisk, setting: Setting) -> Result<Core<SimDisk>, Fault> {
-    let Some(setup) = setup(alloc, setting) else {
-        drop(disk);
-        return Err(Fault::Memory);
-    };
-    match Core::open(alloc, disk, setup) {
+/// The core of a shard on a disk; or why it is not opened, and the disk.
+pub fn opened(
+    rt: &impl Abort,
+    alloc: Global,
+    disk: SimDisk,
+    setting: Setting,
+) -> Result<Core<SimDisk>, (Fault, SimDisk)> {
+    match Core::open(alloc, disk, setup(rt, alloc, setting)) {
         Ok(mut core) => {
             core.arm(setting.fails);
             Ok(core)
         }
-        Err((fault, disk)) => {
-            drop(disk);
-            Err(fault)
-        }
+        Err(refused) => Err(refused),
     }
 }

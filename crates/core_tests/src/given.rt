@@ -2,6 +2,7 @@
 use made::{id, shard, stamp};
 use message::{Ask, Commit, GiveUp, Input, Message, Outcome, Prepare, Read, Reads, Vote};
 use std::alloc::Global;
+use std::process::Abort;
 use truetime::Reading;
 use units::{Epoch, Key, Keys, Parts, Value, Write, Writes};
 
@@ -34,134 +35,109 @@ pub enum Given {
     Resume,
 }
 
-pub fn reading(earliest: u64, latest: u64) -> Option<Reading> {
-    Reading::new(stamp(earliest), stamp(latest)).ok()
+pub fn reading(rt: &impl Abort, earliest: u64, latest: u64) -> Reading {
+    Reading::new(stamp(earliest), stamp(latest)).expect(rt, "a reading")
 }
 
-fn one_write(alloc: Global, key: &[u8], value: &[u8]) -> Option<Writes> {
-    let Ok(key) = Key::new(key) else {
-        return None;
-    };
-    let Ok(value) = Value::new(alloc, value) else {
-        return None;
-    };
+fn one_write(rt: &impl Abort, alloc: Global, key: &[u8], value: &[u8]) -> Writes {
+    let key = Key::new(key).expect(rt, "a key");
+    let value = Value::new(alloc, value).expect(rt, "a value");
     let write = Write {
         key,
         value: Some(value),
     };
-    Writes::from_vec(vec![in alloc; write].ok()?).ok()
+    let writes = vec![in alloc; write].ok().expect(rt, "memory");
+    Writes::from_vec(writes).ok().expect(rt, "writes")
 }
 
-fn has_read(alloc: Global, key: &[u8]) -> Option<Reads> {
-    let Ok(key) = Key::new(key) else {
-        return None;
-    };
-    let keys = Keys::from_vec(vec![in alloc; key].ok()?).ok()?;
-    Reads::new(Epoch::first(), keys).ok()
+fn has_read(rt: &impl Abort, alloc: Global, key: &[u8]) -> Reads {
+    let key = Key::new(key).expect(rt, "a key");
+    let keys = vec![in alloc; key].ok().expect(rt, "memory");
+    let keys = Keys::from_vec(keys).ok().expect(rt, "keys");
+    Reads::new(Epoch::first(), keys).ok().expect(rt, "reads")
 }
 
-fn commit(
-    alloc: Global,
-    number: u16,
-    parts: Option<Parts>,
-    writes: Option<Writes>,
-) -> Option<Input> {
-    match (parts, writes) {
-        (Some(parts), Some(writes)) => Some(Input::Deliver(Message::Commit(Commit {
-            txn: id(number),
-            parts,
-            reads: Reads::none(alloc),
-            writes,
-        }))),
-        _ => None,
-    }
+fn commit(alloc: Global, number: u16, parts: Parts, writes: Writes) -> Message {
+    Message::Commit(Commit {
+        txn: id(number),
+        parts,
+        reads: Reads::none(alloc),
+        writes,
+    })
 }
 
-fn prepare(number: u16, reads: Option<Reads>, writes: Option<Writes>) -> Option<Input> {
-    match (reads, writes) {
-        (Some(reads), Some(writes)) => Some(Input::Deliver(Message::Prepare(Prepare {
-            txn: id(number),
-            coordinator: shard(0),
-            reads,
-            writes,
-        }))),
-        _ => None,
-    }
+fn prepare(number: u16, reads: Reads, writes: Writes) -> Message {
+    Message::Prepare(Prepare {
+        txn: id(number),
+        coordinator: shard(0),
+        reads,
+        writes,
+    })
 }
 
-pub fn read(number: u16, key: &[u8]) -> Option<Message> {
-    match Key::new(key) {
-        Ok(key) => Some(Message::Read(Read {
-            txn: id(number),
-            key,
-        })),
-        Err(_) => None,
-    }
-}
-
-fn notice(given: Given) -> Option<Message> {
+pub fn message_of(rt: &impl Abort, alloc: Global, given: Given) -> Message {
     match given {
-        Given::Read(number, key) => read(number, key),
-        Given::Vote(number, at) => Some(Message::Vote(Vote {
+        Given::Commit(number, part, key, value) => commit(
+            alloc,
+            number,
+            Parts::only(shard(part)),
+            one_write(rt, alloc, key, value),
+        ),
+        Given::CommitOfBoth(number, key, value) => commit(
+            alloc,
+            number,
+            Parts::from_mask(3).expect(rt, "parts"),
+            one_write(rt, alloc, key, value),
+        ),
+        Given::Prepare(number, key, value) => {
+            prepare(number, Reads::none(alloc), one_write(rt, alloc, key, value))
+        }
+        Given::PrepareOfReader(number, key, value) => {
+            prepare(
+                number,
+                has_read(rt, alloc, key),
+                one_write(rt, alloc, key, value),
+            )
+        }
+        Given::PrepareOfRead(number, key) => {
+            prepare(number, has_read(rt, alloc, key), Writes::none(alloc))
+        }
+        _ => notice(rt, given),
+    }
+}
+
+// A message without writes.
+fn notice(rt: &impl Abort, given: Given) -> Message {
+    match given {
+        Given::Read(number, key) => Message::Read(Read {
+            txn: id(number),
+            key: Key::new(key).expect(rt, "a key"),
+        }),
+        Given::Vote(number, at) => Message::Vote(Vote {
             from: shard(1),
             txn: id(number),
             vote: Some(stamp(at)),
-        })),
-        Given::Outcome(number, at) => Some(Message::Outcome(Outcome {
+        }),
+        Given::Outcome(number, at) => Message::Outcome(Outcome {
             from: shard(0),
             txn: id(number),
             outcome: Some(stamp(at)),
-        })),
-        Given::GiveUp(number) => Some(Message::GiveUp(GiveUp { txn: id(number) })),
-        Given::Ask(number) => Some(Message::Ask(Ask {
+        }),
+        Given::GiveUp(number) => Message::GiveUp(GiveUp { txn: id(number) }),
+        Given::Ask(number) => Message::Ask(Ask {
             from: shard(1),
             txn: id(number),
-        })),
-        _ => None,
+        }),
+        _ => rt.panic("a chore is no message"),
     }
 }
 
-// A chore, or a message without writes.
-fn plain(given: Given) -> Option<Input> {
+pub fn input_of(rt: &impl Abort, alloc: Global, given: Given) -> Input {
     match given {
-        Given::Settle(number) => Some(Input::Settle(id(number))),
-        Given::Nudge(number) => Some(Input::Nudge(id(number))),
-        Given::Advance(to) => Some(Input::Advance(stamp(to))),
-        Given::Resume => Some(Input::Resume),
-        _ => match notice(given) {
-            Some(message) => Some(Input::Deliver(message)),
-            None => None,
-        },
-    }
-}
-
-pub fn input_of(alloc: Global, given: Given) -> Option<Input> {
-    match given {
-        Given::Commit(number, part, key, value) => {
-            let parts = Parts::only(shard(part));
-            commit(alloc, number, Some(parts), one_write(alloc, key, value))
-        }
-        Given::CommitOfBoth(number, key, value) => {
-            commit(
-                alloc,
-                number,
-                Parts::from_mask(3),
-                one_write(alloc, key, value),
-            )
-        }
-        Given::Prepare(number, key, value) => {
-            prepare(
-                number,
-                Some(Reads::none(alloc)),
-                one_write(alloc, key, value),
-            )
-        }
-        Given::PrepareOfReader(number, key, value) => {
-            prepare(number, has_read(alloc, key), one_write(alloc, key, value))
-        }
-        Given::PrepareOfRead(number, key) => {
-            prepare(number, has_read(alloc, key), Some(Writes::none(alloc)))
-        }
-        _ => plain(given),
+        Given::Settle(number) => Input::Settle(id(number)),
+        Given::Nudge(number) => Input::Nudge(id(number)),
+        Given::Advance(to) => Input::Advance(stamp(to)),
+        Given::Resume => Input::Resume,
+        _ => Input::Deliver(message_of(rt, alloc, given)),
     }
 }

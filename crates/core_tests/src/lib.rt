@@ -1,4 +1,4 @@
-//! Tests that cross crates: shards, desks and nodes on disks in memory.
+//! Tests that cross crates: shards and nodes on disks in memory.
 #![tactic(auto)]
 
 #[cfg(test)]
@@ -10,17 +10,11 @@ mod coordinating;
 #[cfg(test)]
 mod cores;
 #[cfg(test)]
-mod desks;
-#[cfg(test)]
 mod given;
 #[cfg(test)]
-mod letters_served;
+mod inboxes;
 #[cfg(test)]
 mod logs;
-#[cfg(test)]
-mod looks;
-#[cfg(test)]
-mod meetings;
 #[cfg(test)]
 mod nodes;
 #[cfg(test)]
@@ -36,4 +30,8 @@ mod served;
 #[cfg(test)]
 mod stories;
 #[cfg(test)]
+mod tests;
+#[cfg(test)]
 mod verdict;
+#[cfg(test)]
+mod viewed;

@@ -1,8 +1,10 @@
 //! The records of a log.
-use gatelog::{Entry, GateLog};
+use crate::verdict::told;
+use gatelog::GateLog;
 use record::Record;
 use simdisk::SimDisk;
 use std::alloc::Global;
+use std::process::Abort;
 
 /// A record: an opening with its epoch, a ceiling, or a promise or a commit of 1.2 with its timestamp.
 #[derive(Clone, Copy)]
@@ -30,25 +32,13 @@ fn is_line(record: &Record, line: Line) -> bool {
     }
 }
 
-fn are_lines(entries: &[Entry], lines: &[Line]) -> bool {
-    if entries.len() != lines.len() {
-        return false;
-    }
+/// Compares the log that a disk holds with these records.
+pub fn compare_log(rt: &impl Abort, alloc: Global, disk: SimDisk, name: &str, lines: &[Line]) {
+    let (log, entries) = GateLog::open(alloc, disk).ok().expect(rt, name);
+    drop(log.into_disk());
+    told(rt, entries.len() == lines.len(), name, entries.len() as u64);
     for (entry, line) in entries.iter().zip(lines) {
-        if !is_line(entry.item(), *line) {
-            return false;
-        }
+        told(rt, is_line(entry.item(), *line), name, entry.offset());
     }
-    true
-}
-
-/// Whether a disk holds a log of these records.
-pub fn holds(alloc: Global, disk: SimDisk, lines: &[Line]) -> bool {
-    match GateLog::open(alloc, disk) {
-        Ok((log, entries)) => {
-            drop(log.into_disk());
-            are_lines(&entries, lines)
-        }
-        Err(_) => false,
-    }
+    drop(entries);
 }

@@ -1,37 +1,150 @@
-//! Nodes of fresh shards, with one viewer.
+//! Stories of a node with one viewer, of fresh shard 1: what is asked of both, and what the log holds then.
+use crate::answers::{Told, is_told};
 use crate::cores::{Setting, formatted, opened, plain};
+use crate::given::{Given, input_of, reading};
+use crate::logs::{Line, compare_log};
+use crate::verdict::told;
 use board::Viewer;
+use made::{key, stamp};
 use node::Node;
-use shard::Core;
 use simdisk::SimDisk;
 use std::alloc::Global;
+use std::process::Abort;
 use std::sync::Wait;
+use std::thread;
+use std::thread::Threads;
+use units::{Fault, Seen};
 
-/// A new shard on a new disk, of which a device call of its next append is to fail where there is one.
-pub fn fresh(alloc: Global, shard: u8, fails: Option<u64>) -> Option<Core<SimDisk>> {
+/// A look at `z` at a timestamp, and what it sees.
+pub type Look = (u64, Result<Seen, Fault>);
+
+// What is asked of the node, or of the viewer of its last opening, and the answer: the served time of an advance, how many
+// viewers there are, what a look sees, also on another thread.
+#[derive(Clone, Copy)]
+pub enum Ask {
+    Deliver(Given, Told),
+    Advance {
+        to: u64,
+        tells: Result<u64, Fault>,
+    },
+    Restart {
+        viewers: usize,
+        gives: Result<usize, Fault>,
+    },
+    Look(Look),
+    LookThere(Look),
+}
+
+// The two ends of a reading, and what is asked at it.
+pub type Asked = (u64, u64, Ask);
+
+// Once so many were asked the node is closed, and its log holds this.
+pub struct Moment {
+    pub name: &'static str,
+    pub after: usize,
+    pub log: &'static [Line],
+}
+
+// A device call of the next append fails, where there is one.
+pub struct Story {
+    pub fails: Option<u64>,
+    pub asks: &'static [Asked],
+    pub moments: &'static [Moment],
+}
+
+/// The node of a new shard on a new disk, of which a device call of its next append is to fail where there is one.
+pub fn fresh_node<R: Wait + Drop>(
+    own: R,
+    rt: &impl Abort,
+    alloc: Global,
+    shard: u8,
+    fails: Option<u64>,
+) -> (Node<SimDisk, R>, Vec<Viewer>) {
     let setting = Setting {
         fails,
         ..plain(shard, 0)
     };
-    match formatted(alloc) {
-        Some(disk) => opened(alloc, disk, setting).ok(),
-        None => None,
+    let core = opened(rt, alloc, formatted(rt, alloc), setting).ok();
+    match Node::new(own, alloc, core.expect(rt, "a core"), 1) {
+        Ok(made) => made,
+        Err((_, core)) => {
+            drop(core.stop());
+            rt.panic("no node")
+        }
     }
 }
 
-/// The node of a new shard on a new disk.
-pub fn fresh_node<R: Wait + Drop>(
-    rt: R,
+// Whether a look of the viewer sees this, in a buffer of four bytes which were 9 before: the value is 2.
+fn is_seen(viewers: &mut [Viewer], look: Look) -> bool {
+    let Some(viewer) = viewers.first_mut() else {
+        return false;
+    };
+    let (at, sees) = look;
+    let mut buffer = [9u8; 4];
+    let seen = viewer.look(&key(b'z'), stamp(at), &mut buffer);
+    let first = match sees {
+        Ok(Seen::Value(_)) => b'2',
+        _ => 9,
+    };
+    seen == sees && buffer == [first, 9, 9, 9]
+}
+
+fn is_seen_there<R: Threads + Sync>(rt: &R, viewers: &mut [Viewer], look: Look) -> bool {
+    thread::join(rt, || is_seen(viewers, look), || ()).0
+}
+
+// Asks the node or its viewer, and says whether the answer is as told.
+fn is_answered<'a, R: Threads + Wait + Sync + Abort>(
+    rt: &'a R,
     alloc: Global,
-    shard: u8,
-    fails: Option<u64>,
-) -> Option<(Node<SimDisk, R>, Vec<Viewer>)> {
-    let core = fresh(alloc, shard, fails)?;
-    match Node::new(rt, alloc, core, 1) {
-        Ok(made) => Some(made),
-        Err((_, core)) => {
-            drop(core.stop());
-            None
+    node: &Node<SimDisk, &'a R>,
+    viewers: &mut Vec<Viewer>,
+    asked: &Asked,
+) -> bool {
+    let now = reading(rt, asked.0, asked.1);
+    match asked.2 {
+        Ask::Deliver(given, wanted) => {
+            let input = input_of(rt, alloc, given);
+            let answer = node.deliver(rt, &now, &input);
+            drop(input);
+            is_told(answer, wanted)
+        }
+        Ask::Advance { to, tells } => match node.advance(rt, &now, stamp(to)) {
+            Ok(told) => tells == Ok(told.safe().micros()),
+            Err(fault) => tells == Err(fault),
+        },
+        Ask::Restart {
+            viewers: count,
+            gives,
+        } => match node.restart(rt, rt, alloc, count) {
+            Ok(opened) => {
+                *viewers = opened;
+                gives == Ok(viewers.len())
+            }
+            Err(fault) => gives == Err(fault),
+        },
+        Ask::Look(look) => is_seen(viewers, look),
+        Ask::LookThere(look) => is_seen_there(rt, viewers, look),
+    }
+}
+
+// The story goes as it is told, up to the moment. The viewer is refused once the node is closed.
+fn go<R: Threads + Wait + Sync + Abort>(rt: &R, alloc: Global, story: &Story, moment: &Moment) {
+    let (node, mut viewers) = fresh_node(rt, rt, alloc, 1, story.fails);
+    for asked in story.asks.get(..moment.after).expect(rt, moment.name) {
+        let answered = is_answered(rt, alloc, &node, &mut viewers, asked);
+        told(rt, answered, moment.name, asked.0);
+    }
+    compare_log(rt, alloc, node.close(), moment.name, moment.log);
+    let stopped = is_seen(&mut viewers, (0, Err(Fault::Stopped)));
+    drop(viewers);
+    told(rt, stopped, moment.name, 0);
+}
+
+pub fn tell<R: Threads + Wait + Sync + Abort>(rt: &R, alloc: Global, stories: &[Story]) {
+    for story in stories {
+        for moment in story.moments {
+            go(rt, alloc, story, moment);
         }
     }
 }

@@ -1,14 +1,14 @@
 //! Commits of one part.
 use crate::answers::Told;
 use crate::given::{Given, LAST};
-use crate::stories::{Moment, Origin, Shows, Story, tell};
+use crate::stories::{Moment, Origin, Shows, Story};
 use units::Fault;
 
 const A: Given = Given::Commit(1, 0, b"a", b"1");
 
 const DONE: Told = Told::Says(&[(b'd', 9, 1, 111)]);
 
-static COMMITS: [Story; 4] = [
+pub static COMMITS: [Story; 4] = [
     Story {
         name: "one commit and its log",
         shard: 0,
@@ -138,11 +138,6 @@ static COMMITS: [Story; 4] = [
     },
 ];
 
-#[test]
-fn commits(rt: HostRuntime) {
-    tell(&rt, rt.alloc(), &COMMITS);
-}
-
 // Formatting makes three calls and the opening four; each of the commit's four fails in turn.
 const FAILS: Story = Story {
     name: "a failing device stops the core",
@@ -160,7 +155,7 @@ const FAILS: Story = Story {
     }],
 };
 
-static FAILING: [Story; 4] = [
+pub static FAILING: [Story; 4] = [
     FAILS,
     Story {
         origin: Origin::Failing(1),
@@ -175,8 +170,3 @@ static FAILING: [Story; 4] = [
         ..FAILS
     },
 ];
-
-#[test]
-fn a_failing_device_stops_the_core(rt: HostRuntime) {
-    tell(&rt, rt.alloc(), &FAILING);
-}

@@ -1,10 +1,10 @@
 //! Shards that take part in transactions which another decides.
 use crate::answers::Told;
 use crate::given::Given;
-use crate::stories::{Moment, Origin, Shows, Story, tell};
+use crate::stories::{Moment, Origin, Shows, Story};
 use units::{Fault, Seen};
 
-static PROMISING: [Story; 5] = [
+pub static PROMISING: [Story; 5] = [
     Story {
         name: "a promise holds the served time",
         shard: 1,
@@ -137,8 +137,3 @@ static PROMISING: [Story; 5] = [
         }],
     },
 ];
-
-#[test]
-fn promising(rt: HostRuntime) {
-    tell(&rt, rt.alloc(), &PROMISING);
-}

@@ -1,11 +1,7 @@
 //! Shards whose disks crash and are opened again.
 use crate::answers::Told;
-use crate::cores::{formatted, opened, plain};
 use crate::given::Given;
-use crate::stories::{Exchange, Moment, Origin, Shows, Story, left, tell};
-use crate::verdict::told;
-use simdisk::SimDisk;
-use std::alloc::Global;
+use crate::stories::{Exchange, Moment, Origin, Shows, Story};
 use units::{Fault, Seen};
 
 const SERVED: &[Exchange] = &[(150, 160, Given::Advance(150), Told::Says(&[]))];
@@ -41,7 +37,7 @@ const FAILS: &[Exchange] = &[
     ),
 ];
 
-static REOPENED: [Story; 5] = [
+pub static REOPENED: [Story; 5] = [
     // The greatest timestamp is the log's, and promises go on above it.
     Story {
         name: "a ceiling outlives a crash",
@@ -139,11 +135,6 @@ static REOPENED: [Story; 5] = [
     },
 ];
 
-#[test]
-fn reopened(rt: HostRuntime) {
-    tell(&rt, rt.alloc(), &REOPENED);
-}
-
 // A commit whose append meets a failing device call: before the last one the record is hidden, and behind it is there.
 const HIDDEN: Story = Story {
     name: "a failing call stops the core",
@@ -157,7 +148,7 @@ const HIDDEN: Story = Story {
     }],
 };
 
-static ARMED: [Story; 4] = [
+pub static ARMED: [Story; 4] = [
     HIDDEN,
     Story {
         origin: Origin::Armed(1, FAILS),
@@ -178,67 +169,40 @@ static ARMED: [Story; 4] = [
     },
 ];
 
-#[test]
-fn a_failing_call_stops_the_core(rt: HostRuntime) {
-    tell(&rt, rt.alloc(), &ARMED);
-}
-
-// A disk, as these leave it of a shard, or without a log; and why it is not opened as that of another.
-struct Refused {
-    left: Option<(u8, &'static [Exchange])>,
-    shard: u8,
-    fault: Option<Fault>,
-}
-
-static REFUSED: [Refused; 3] = [
-    Refused {
-        left: None,
+// Disks that are opened as that of another shard, or that have no log.
+pub static REFUSED: [Story; 3] = [
+    Story {
+        name: "a disk without a log",
         shard: 0,
-        fault: Some(Fault::NotALog),
+        stride: 0,
+        origin: Origin::Blank,
+        exchanges: &[],
+        moments: &[Moment {
+            after: 0,
+            shows: &[Shows::Refused(Fault::NotALog)],
+        }],
     },
-    Refused {
-        left: Some((1, PROMISED)),
+    Story {
+        name: "the log of another shard's promise",
         shard: 0,
-        fault: Some(Fault::Stranger),
+        stride: 0,
+        origin: Origin::Of(1, PROMISED),
+        exchanges: &[],
+        moments: &[Moment {
+            after: 0,
+            shows: &[Shows::Refused(Fault::Stranger)],
+        }],
     },
-    Refused {
-        left: Some((0, &[])),
+    // It names no shard.
+    Story {
+        name: "the log of another shard's opening",
         shard: 1,
-        fault: None,
+        stride: 0,
+        origin: Origin::Of(0, &[]),
+        exchanges: &[],
+        moments: &[Moment {
+            after: 0,
+            shows: &[],
+        }],
     },
 ];
-
-fn disk_of(alloc: Global, row: &Refused) -> Option<SimDisk> {
-    match row.left {
-        Some((shard, exchanges)) => {
-            left(alloc, formatted(alloc)?, plain(shard, 0), exchanges, &[])
-        }
-        None => Some(SimDisk::new(alloc)),
-    }
-}
-
-// Why the disk of the row is not opened.
-fn refusal(alloc: Global, row: &Refused) -> Option<Fault> {
-    let Some(disk) = disk_of(alloc, row) else {
-        return Some(Fault::Memory);
-    };
-    match opened(alloc, disk, plain(row.shard, 0)) {
-        Ok(core) => {
-            drop(core.stop());
-            None
-        }
-        Err(fault) => Some(fault),
-    }
-}
-
-#[test]
-fn disks_that_are_not_opened(rt: HostRuntime) {
-    for row in &REFUSED {
-        told(
-            &rt,
-            refusal(rt.alloc(), row) == row.fault,
-            "as shard",
-            row.shard as usize,
-        );
-    }
-}

@@ -1,7 +1,7 @@
 //! Served time and looks.
 use crate::answers::Told;
 use crate::given::{Given, LAST};
-use crate::stories::{Exchange, Moment, Origin, Shows, Story, tell};
+use crate::stories::{Exchange, Moment, Origin, Shows, Story};
 use units::{Fault, Seen};
 
 const COMMITTED: &[Exchange] = &[
@@ -9,7 +9,7 @@ const COMMITTED: &[Exchange] = &[
     (112, 121, Given::Settle(1), Told::Says(&[(b'd', 9, 1, 111)])),
 ];
 
-static SERVING: [Story; 6] = [
+pub static SERVING: [Story; 6] = [
     // A ceiling in the log of a fresh shard is a frame of nine bytes behind the opening, and its gate.
     Story {
         name: "advances",
@@ -135,8 +135,3 @@ static SERVING: [Story; 6] = [
         }],
     },
 ];
-
-#[test]
-fn served(rt: HostRuntime) {
-    tell(&rt, rt.alloc(), &SERVING);
-}

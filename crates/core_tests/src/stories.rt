@@ -26,10 +26,16 @@ pub enum Origin {
     // These were given while a device call of the next append was to fail, nothing was seen at `a`, and the disk was opened
     // again as it was.
     Armed(u64, &'static [Exchange]),
+    // These were given to a core of a shard, and the disk was opened again as it was.
+    Of(u8, &'static [Exchange]),
+    // The disk has no log.
+    Blank,
 }
 
 // What it shows. Where there is no transaction its number and timestamp are 0.
 pub enum Shows {
+    // It is not opened. Nothing else is shown then.
+    Refused(Fault),
     Ready(u64),
     // The first that is prepared, and the first two that are decided.
     Prepared(u64, u64),
@@ -62,42 +68,16 @@ pub struct Story {
     pub moments: &'static [Moment],
 }
 
+// What a core is given, one after the other, and what it shows then.
+#[derive(Clone, Copy)]
+pub struct Part {
+    pub name: &'static str,
+    pub exchanges: &'static [Exchange],
+    pub shows: &'static [Shows],
+}
+
 // What is seen where nothing was written.
 const NOTHING: &[Shows] = &[Shows::Look(b"a", 0, 1, Ok(Seen::Absent), [9; 4])];
-
-pub fn meets_all(core: &mut Core<SimDisk>, alloc: Global, exchanges: &[Exchange]) -> bool {
-    for exchange in exchanges {
-        let (earliest, latest, given, told) = *exchange;
-        let Some(now) = reading(earliest, latest) else {
-            return false;
-        };
-        let Some(input) = input_of(alloc, given) else {
-            return false;
-        };
-        let answer = core.on(alloc, &now, &input);
-        drop(input);
-        if !is_told(answer, told) {
-            return false;
-        }
-    }
-    true
-}
-
-// Whether a look sees this and leaves these, in a buffer of four bytes of which it may take some.
-fn is_seen(
-    core: &Core<SimDisk>,
-    key: &[u8],
-    at: u64,
-    room: usize,
-    seen: Result<Seen, Fault>,
-    bytes: [u8; 4],
-) -> bool {
-    let Ok(key) = Key::new(key) else {
-        return false;
-    };
-    let mut buffer = [9; 4];
-    core.look(&key, stamp(at), &mut buffer[..room.min(4)]) == seen && buffer == bytes
-}
 
 fn stands(found: Option<(TxnId, Stamp)>, number: u64, at: u64) -> bool {
     match found {
@@ -113,8 +93,9 @@ fn number_of(found: Option<TxnId>) -> u64 {
     }
 }
 
-fn is_shown(core: &Core<SimDisk>, fact: &Shows) -> bool {
+fn is_shown(rt: &impl Abort, core: &Core<SimDisk>, fact: &Shows) -> bool {
     match *fact {
+        Shows::Refused(_) => false,
         Shows::Ready(number) => number_of(core.ready()) == number,
         Shows::Prepared(number, at) => stands(core.prepared(0), number, at),
         Shows::Decided(number, at) => stands(core.decided(0), number, at),
@@ -123,123 +104,138 @@ fn is_shown(core: &Core<SimDisk>, fact: &Shows) -> bool {
         Shows::Safe(at) => core.safe().micros() == at,
         Shows::Epoch(epoch) => core.epoch().number() == epoch,
         Shows::Installs(installs) => core.installs().len() == installs,
-        Shows::Look(key, at, room, seen, bytes) => is_seen(core, key, at, room, seen, bytes),
+        Shows::Look(key, at, room, seen, bytes) => {
+            let key = Key::new(key).expect(rt, "a key");
+            let mut buffer = [9; 4];
+            let look = core.look(&key, stamp(at), &mut buffer[..room.min(4)]);
+            look == seen && buffer == bytes
+        }
         Shows::Size(_) | Shows::Log(_, _) => true,
     }
 }
 
-pub fn are_shown(core: &Core<SimDisk>, facts: &[Shows]) -> bool {
-    for fact in facts {
-        if !is_shown(core, fact) {
-            return false;
+// Gives the core what the part says, and compares what it answers and shows.
+pub fn play(rt: &impl Abort, alloc: Global, core: &mut Core<SimDisk>, part: &Part) {
+    for exchange in part.exchanges {
+        let (earliest, latest, given, wanted) = *exchange;
+        let now = reading(rt, earliest, latest);
+        let input = input_of(rt, alloc, given);
+        let answer = core.on(alloc, &now, &input);
+        drop(input);
+        told(rt, is_told(answer, wanted), part.name, earliest);
+    }
+    for fact in part.shows {
+        told(
+            rt,
+            is_shown(rt, core, fact),
+            part.name,
+            part.exchanges.len() as u64,
+        );
+    }
+}
+
+fn is_in(bytes: &[u8], fact: &Shows) -> bool {
+    match *fact {
+        Shows::Size(size) => bytes.len() as u64 == size,
+        Shows::Log(place, wanted) => match bytes.get(place..) {
+            Some(rest) => rest.starts_with(wanted),
+            None => false,
+        },
+        _ => true,
+    }
+}
+
+// Compares the bytes of the file with what the part says of them.
+fn compare_file(rt: &impl Abort, alloc: Global, disk: &mut SimDisk, part: &Part) {
+    let mut bytes = vec![in alloc; 0u8; disk.len() as usize]
+        .ok()
+        .expect(rt, "memory");
+    disk.read_at(0, &mut bytes).expect(rt, "a read");
+    for fact in part.shows {
+        told(
+            rt,
+            is_in(bytes.as_slice(), fact),
+            part.name,
+            part.exchanges.len() as u64,
+        );
+    }
+    drop(bytes);
+}
+
+// The disk that a core leaves behind which begins on this one and plays the part, or is refused as that says.
+fn left(rt: &impl Abort, alloc: Global, disk: SimDisk, setting: Setting, part: &Part) -> SimDisk {
+    match opened(rt, alloc, disk, setting) {
+        Ok(mut core) => {
+            play(rt, alloc, &mut core, part);
+            let mut disk = core.stop();
+            compare_file(rt, alloc, &mut disk, part);
+            disk
+        }
+        Err((fault, disk)) => {
+            let refused = match part.shows.first() {
+                Some(Shows::Refused(wanted)) => *wanted == fault,
+                _ => false,
+            };
+            told(rt, refused, part.name, 0);
+            disk
         }
     }
-    true
-}
-
-fn content(alloc: Global, disk: &mut SimDisk) -> Result<Vec<u8>, Fault> {
-    let mut bytes = vec![in alloc; 0u8; disk.len() as usize]?;
-    disk.read_at(0, &mut bytes)?;
-    Ok(bytes)
-}
-
-fn are_in(bytes: &[u8], facts: &[Shows]) -> bool {
-    for fact in facts {
-        let kept = match *fact {
-            Shows::Size(size) => bytes.len() as u64 == size,
-            Shows::Log(place, wanted) => match bytes.get(place..) {
-                Some(rest) => rest.starts_with(wanted),
-                None => false,
-            },
-            _ => true,
-        };
-        if !kept {
-            return false;
-        }
-    }
-    true
-}
-
-// The facts on the file.
-fn are_kept(alloc: Global, disk: &mut SimDisk, facts: &[Shows]) -> bool {
-    match content(alloc, disk) {
-        Ok(bytes) => are_in(bytes.as_slice(), facts),
-        Err(_) => false,
-    }
-}
-
-// The disk that a core leaves behind which begins on this one, where it meets all and shows this then.
-pub fn left(
-    alloc: Global,
-    disk: SimDisk,
-    setting: Setting,
-    exchanges: &[Exchange],
-    facts: &[Shows],
-) -> Option<SimDisk> {
-    let Ok(mut core) = opened(alloc, disk, setting) else {
-        return None;
-    };
-    let met = meets_all(&mut core, alloc, exchanges) && are_shown(&core, facts);
-    let mut disk = core.stop();
-    if met && are_kept(alloc, &mut disk, facts) {
-        Some(disk)
-    } else {
-        drop(disk);
-        None
-    }
-}
-
-fn crashed(alloc: Global, disk: SimDisk) -> SimDisk {
-    let choice = Choice::none(alloc);
-    let crashed = disk.crash(&choice);
-    drop(choice);
-    crashed
 }
 
 // The disk on which a core of such an origin begins.
-pub fn disk_of(alloc: Global, setting: Setting, origin: Origin) -> Option<SimDisk> {
-    let Some(disk) = formatted(alloc) else {
-        return None;
-    };
+pub fn disk_of(
+    rt: &impl Abort,
+    alloc: Global,
+    name: &'static str,
+    setting: Setting,
+    origin: Origin,
+) -> SimDisk {
     let mut before = plain(setting.shard, setting.stride);
+    let mut part = Part {
+        name,
+        exchanges: &[],
+        shows: &[],
+    };
     match origin {
-        Origin::New | Origin::Failing(_) => Some(disk),
-        Origin::Crashed(exchanges) => match left(alloc, disk, before, exchanges, &[]) {
-            Some(disk) => Some(crashed(alloc, disk)),
-            None => None,
-        },
+        Origin::Blank => return SimDisk::new(alloc),
+        Origin::New | Origin::Failing(_) => return formatted(rt, alloc),
+        Origin::Crashed(exchanges) => part.exchanges = exchanges,
         Origin::Armed(call, exchanges) => {
             before.fails = Some(call);
-            left(alloc, disk, before, exchanges, NOTHING)
+            part.exchanges = exchanges;
+            part.shows = NOTHING;
         }
+        Origin::Of(shard, exchanges) => {
+            before.shard = shard;
+            part.exchanges = exchanges;
+        }
+    }
+    let disk = left(rt, alloc, formatted(rt, alloc), before, &part);
+    match origin {
+        Origin::Crashed(_) => disk.crash(&Choice::none(alloc)),
+        _ => disk,
     }
 }
 
 // The story goes as it is told, up to the moment.
-fn goes(alloc: Global, story: &Story, moment: &Moment) -> bool {
-    let Some(exchanges) = story.exchanges.get(..moment.after) else {
-        return false;
-    };
+fn go(rt: &impl Abort, alloc: Global, story: &Story, moment: &Moment) {
     let mut setting = plain(story.shard, story.stride);
     if let Origin::Failing(call) = story.origin {
         setting.fails = Some(call);
     }
-    let Some(disk) = disk_of(alloc, setting, story.origin) else {
-        return false;
+    let part = Part {
+        name: story.name,
+        exchanges: story.exchanges.get(..moment.after).expect(rt, story.name),
+        shows: moment.shows,
     };
-    match left(alloc, disk, setting, exchanges, moment.shows) {
-        Some(disk) => {
-            drop(disk);
-            true
-        }
-        None => false,
-    }
+    let disk = disk_of(rt, alloc, story.name, setting, story.origin);
+    drop(left(rt, alloc, disk, setting, &part));
 }
 
 pub fn tell(rt: &impl Abort, alloc: Global, stories: &[Story]) {
     for story in stories {
         for moment in story.moments {
-            told(rt, goes(alloc, story, moment), story.name, moment.after);
+            go(rt, alloc, story, moment);
         }
     }
 }

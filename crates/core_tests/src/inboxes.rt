@@ -1,0 +1,238 @@
+//! Nodes that are served by the letters of their inboxes, each on a thread of its own.
+use crate::given::{Given, message_of, reading};
+use crate::nodes::fresh_node;
+use crate::verdict::told;
+use crossbeam_channel::{Receiver, unbounded};
+use letters::{Letter, Post};
+use made::id;
+use message::{Address, Answer, Envelope, Message};
+use node::{Gate, Node, Served, start};
+use simdisk::SimDisk;
+use std::alloc::Global;
+use std::process::Abort;
+use std::sync::Wait;
+use std::sync::atomic::{AtomicU64, Ordering};
+use std::thread::Threads;
+use std::time::Duration;
+use std::{thread, time};
+use truetime::{Clock, Reading};
+use units::ShardNo;
+
+// Nodes of fresh shards, each with a key of its own, and how many letters come to each: reads of that key, of 1.1 and on.
+struct Row {
+    name: &'static str,
+    nodes: &'static [(u8, &'static [u8])],
+    letters: u16,
+    // The letters of shards 0 and 1 wait for each other.
+    meet: bool,
+    // How many answers there are.
+    answers: u64,
+}
+
+// Always has this reading.
+#[derive(Clone, Copy)]
+struct Standing {
+    now: Reading,
+}
+
+impl Clock for Standing {
+    fn now(&mut self) -> Option<Reading> {
+        Some(self.now)
+    }
+}
+
+// Counts what is posted, and of that each answer which comes in its turn.
+#[derive(Drop)]
+struct Answers<'a> {
+    from: u8,
+    key: &'static [u8],
+    next: u16,
+    posted: &'a AtomicU64,
+    right: &'a AtomicU64,
+}
+
+// Whether it goes to the session of 1.number.
+fn is_to(to: Address, number: u16) -> bool {
+    match to {
+        Address::Session(txn) => txn.is(id(number)),
+        Address::Shard(_) => false,
+    }
+}
+
+// Whether it tells of 1.number that the shard holds no such key, in its first epoch.
+fn is_answer(message: &Message, from: u8, key: &[u8], number: u16) -> bool {
+    match message {
+        Message::ReadAnswer(told) => told.txn.is(id(number))
+            && told.from.number() == from
+            && told.key.as_bytes() == key
+            && told.epoch.number() == 1
+            && matches!(told.answer, Answer::Holds(None)),
+        _ => false,
+    }
+}
+
+impl Post for Answers<'_> {
+    fn post(&mut self, envelope: Envelope) {
+        let right = is_to(envelope.to, self.next)
+            && is_answer(&envelope.message, self.from, self.key, self.next);
+        drop(envelope);
+        self.next = self.next.saturating_add(1);
+        self.posted.fetch_add(1, Ordering::SeqCst);
+        if right {
+            self.right.fetch_add(1, Ordering::SeqCst);
+        }
+    }
+}
+
+// Holds the n-th letters of shards 0 and 1, each until the other's has come, for 10,000 turns at most. Once one was held in vain
+// no other is held. It counts what the nodes post.
+#[derive(Drop)]
+struct Meeting<'a, R> {
+    rt: &'a R,
+    holds: bool,
+    first: AtomicU64,
+    second: AtomicU64,
+    missed: AtomicU64,
+    posted: AtomicU64,
+    right: AtomicU64,
+}
+
+impl<R: time::Clock> Meeting<'_, R> {
+    // Whether the letter behind the first n comes in time.
+    fn has_come(&self, letters: &AtomicU64, n: u64) -> bool {
+        for _turn in 0..10_000 {
+            if letters.load(Ordering::SeqCst) > n {
+                return true;
+            }
+            thread::sleep(self.rt, Duration::from_millis(1));
+        }
+        false
+    }
+}
+
+impl<R: time::Clock> Gate for Meeting<'_, R> {
+    fn before(&self, shard: ShardNo, n: u64) {
+        let (own, other) = if shard.number() == 0 {
+            (&self.first, &self.second)
+        } else {
+            (&self.second, &self.first)
+        };
+        own.fetch_add(1, Ordering::SeqCst);
+        if self.holds && self.missed.load(Ordering::SeqCst) == 0 && !self.has_come(other, n) {
+            self.missed.fetch_add(1, Ordering::SeqCst);
+        }
+    }
+
+    fn after(&self, _shard: ShardNo, _n: u64) {}
+}
+
+// An inbox with so many reads of a key, of 1.1 and on, and then the end.
+fn inbox<R: Wait + Abort>(
+    rt: &R,
+    alloc: Global,
+    key: &'static [u8],
+    letters: u16,
+) -> Receiver<Letter> {
+    let (to, from) = unbounded(alloc).ok().expect(rt, "a channel");
+    for before in 0..letters {
+        let message = message_of(rt, alloc, Given::Read(before + 1, key));
+        to.send(rt, Letter::Carry(message))
+            .ok()
+            .expect(rt, "a letter");
+    }
+    to.send(rt, Letter::Close).ok().expect(rt, "the end");
+    drop(to);
+    from
+}
+
+// Fresh nodes of the row.
+fn nodes_of<'r, R: Wait + Abort>(rt: &'r R, alloc: Global, row: &Row) -> Vec<Node<SimDisk, &'r R>> {
+    let mut nodes = Vec::new(alloc);
+    for (shard, _) in row.nodes {
+        let (node, viewers) = fresh_node(rt, rt, alloc, *shard, None);
+        drop(viewers);
+        nodes.push(node).ok().expect(rt, row.name);
+    }
+    nodes
+}
+
+// Serves the nodes until all letters are answered.
+fn serve<'r, R: Threads + Wait + time::Clock + Sync + Abort>(
+    rt: &R,
+    alloc: Global,
+    nodes: &[Node<SimDisk, &'r R>],
+    gate: &Meeting<R>,
+    row: &Row,
+) {
+    let mut served = Vec::new(alloc);
+    for (node, (from, key)) in nodes.iter().zip(row.nodes) {
+        let post = Answers {
+            from: *from,
+            key,
+            next: 1,
+            posted: &gate.posted,
+            right: &gate.right,
+        };
+        let pushed = served.push(Served {
+            node,
+            inbox: inbox(rt, alloc, key, row.letters),
+            post,
+            clock: Standing {
+                now: reading(rt, 100, 110),
+            },
+        });
+        told(rt, pushed.is_ok(), row.name, 0);
+    }
+    start(rt, served, gate).expect(rt, row.name);
+}
+
+// Each letter is answered, in order, and none was held in vain.
+fn meet<R: Threads + Wait + time::Clock + Sync + Abort>(rt: &R, alloc: Global, row: &Row) {
+    let gate = Meeting {
+        rt,
+        holds: row.meet,
+        first: AtomicU64::new(0),
+        second: AtomicU64::new(0),
+        missed: AtomicU64::new(0),
+        posted: AtomicU64::new(0),
+        right: AtomicU64::new(0),
+    };
+    let nodes = nodes_of(rt, alloc, row);
+    serve(rt, alloc, nodes.as_slice(), &gate, row);
+    drop(nodes);
+    let missed = gate.missed.load(Ordering::SeqCst);
+    let posted = gate.posted.load(Ordering::SeqCst);
+    let right = gate.right.load(Ordering::SeqCst);
+    drop(gate);
+    told(rt, missed == 0, row.name, missed);
+    told(rt, posted == row.answers, row.name, posted);
+    told(rt, right == row.answers, row.name, right);
+}
+
+static LETTERS: Row = Row {
+    name: "letters",
+    nodes: &[(1, b"z")],
+    letters: 100,
+    meet: false,
+    answers: 100,
+};
+
+// It fails where serving loses letters or answers.
+#[test]
+fn lose_letters(rt: HostRuntime) {
+    meet(&rt, rt.alloc(), &LETTERS);
+}
+
+static MEETING: Row = Row {
+    name: "letters of two nodes",
+    nodes: &[(0, b"a"), (1, b"z")],
+    letters: 10,
+    meet: true,
+    answers: 20,
+};
+
+// It fails where nodes are served one after the other, or one letter at a time over both.
+#[test]
+fn nodes_in_turn(rt: HostRuntime) {
+    meet(&rt, rt.alloc(), &MEETING);
+}

@@ -1,0 +1,34 @@
+//! The tests of cores, and of nodes with their viewers.
+use crate::booked::keep_books;
+use crate::coordinating::COORDINATING;
+use crate::one_commit::{COMMITS, FAILING};
+use crate::promising::PROMISING;
+use crate::reopening::{ARMED, REFUSED, REOPENED};
+use crate::restarts::NODES;
+use crate::served::SERVING;
+use crate::viewed::VIEWED;
+use crate::{nodes, stories};
+
+#[test]
+fn cores(rt: HostRuntime) {
+    stories::tell(&rt, rt.alloc(), &COMMITS);
+    stories::tell(&rt, rt.alloc(), &FAILING);
+    stories::tell(&rt, rt.alloc(), &COORDINATING);
+    stories::tell(&rt, rt.alloc(), &PROMISING);
+    stories::tell(&rt, rt.alloc(), &SERVING);
+    stories::tell(&rt, rt.alloc(), &REOPENED);
+    stories::tell(&rt, rt.alloc(), &ARMED);
+    stories::tell(&rt, rt.alloc(), &REFUSED);
+    keep_books(&rt, rt.alloc());
+}
+
+#[test]
+fn what_was_stopped_is_opened_again(rt: HostRuntime) {
+    nodes::tell(&rt, rt.alloc(), &NODES);
+}
+
+// It fails where viewers always answer that they are stopped.
+#[test]
+fn always_stopped_viewer(rt: HostRuntime) {
+    nodes::tell(&rt, rt.alloc(), &VIEWED);
+}
