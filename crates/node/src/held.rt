@@ -69,21 +69,14 @@ pub enum Due {
     Prepared,
 }
 
-/// What a node's lock holds. It is there whenever the lock is free.
+/// What a node's lock holds. The place is there whenever the lock is free.
 #[derive(Drop)]
 pub struct Held<D: Disk + Drop, R: Wait + Drop> {
-    place: Option<Place<D, R>>,
+    pub place: Option<Place<D, R>>,
     ghost there: { IsSome place },
 }
 
 impl<D: Disk + Drop, R: Wait + Drop> Held<D, R> {
-    /// A desk.
-    pub fn serving(desk: Desk<D, R>) -> Held<D, R> {
-        Held {
-            place: Some(Place::Serving(desk)),
-        }
-    }
-
     /// One step of the core. A disk alone is refused as a core that is stopped.
     pub fn deliver(&mut self, now: &Reading, input: &Input) -> Result<Outbox, Fault> {
         match &mut self.place {
@@ -112,31 +105,6 @@ impl<D: Disk + Drop, R: Wait + Drop> Held<D, R> {
         match found {
             Some((txn, _)) => Some(txn),
             None => None,
-        }
-    }
-
-    /// What is stopped is opened again, as `Place::restart` does.
-    pub fn restart(
-        &mut self,
-        rt: R,
-        alloc: Global,
-        setup: &Setup,
-        n: usize,
-    ) -> Result<Vec<Viewer>, Fault> {
-        let Some(place) = self.place.take() else {
-            return Err(Fault::Stopped);
-        };
-        let (place, result) = place.restart(rt, alloc, setup, n);
-        self.place = Some(place);
-        result
-    }
-
-    /// Ends it, and gives its disk back as it is.
-    pub fn close(self) -> D {
-        let Held { place } = self;
-        match place {
-            Some(place) => place.close(),
-            None => unreachable!(),
         }
     }
 }

@@ -3,7 +3,7 @@ ghost use Rattle.std.specs.Prelude.{◌≡◌, length, IfOk, IfErr};
 ghost use Rattle.desk.specs.InStep.{IsNoDesk};
 ghost use Rattle.shard.specs.Core.{seen, book_of};
 
-use crate::held::{Due, Held};
+use crate::held::{Held, Place};
 use board::{Told, Viewer};
 use desk::{Desk, copy_setup};
 use disk::Disk;
@@ -11,13 +11,13 @@ use message::{Input, Outbox};
 use shard::Core;
 use std::alloc::Global;
 use std::sync::{Mutex, Wait};
-use truetime::{Clock, Reading};
-use units::{Fault, Setup, ShardNo, Stamp, TxnId};
+use truetime::Reading;
+use units::{Fault, Setup, ShardNo, Stamp};
 
 /// A node. Whenever its lock is free, the desk keeps what a desk keeps, or the disk is there alone.
 pub struct Node<D: Disk + Drop, R: Wait + Drop> {
     setup: Setup,
-    held: Mutex<Held<D, R>>,
+    pub(crate) held: Mutex<Held<D, R>>,
 }
 
 impl<D: Disk + Drop, R: Wait + Drop> Drop for Node<D, R> {
@@ -49,7 +49,9 @@ impl<D: Disk + Drop, R: Wait + Drop> Node<D, R> {
         Ok((
             Node {
                 setup,
-                held: Mutex::new(Held::serving(desk)),
+                held: Mutex::new(Held {
+                    place: Some(Place::Serving(desk)),
+                }),
             },
             viewers,
         ))
@@ -63,34 +65,6 @@ impl<D: Disk + Drop, R: Wait + Drop> Node<D, R> {
     /// One step of the core, under the lock.
     pub fn deliver<W: Wait>(&self, rt: &W, now: &Reading, input: &Input) -> Result<Outbox, Fault> {
         self.held.lock(rt).deliver(now, input)
-    }
-
-    /// One step of the core at a reading that is taken under the lock. There is none where the clock has none.
-    pub(crate) fn take<W: Wait, C: Clock>(
-        &self,
-        rt: &W,
-        clock: &mut C,
-        input: &Input,
-    ) -> Option<Result<Outbox, Fault>> {
-        let mut held = self.held.lock(rt);
-        let now = clock.now()?;
-        Some(held.deliver(&now, input))
-    }
-
-    // Advances to the latest of a reading that is taken under the lock.
-    pub(crate) fn catch_up<W: Wait, C: Clock>(
-        &self,
-        rt: &W,
-        clock: &mut C,
-    ) -> Option<Result<Told, Fault>> {
-        let mut held = self.held.lock(rt);
-        let now = clock.now()?;
-        Some(held.advance(&now, now.latest()))
-    }
-
-    // The n-th transaction of this standing.
-    pub(crate) fn due<W: Wait>(&self, rt: &W, due: Due, n: usize) -> Option<TxnId> {
-        self.held.lock(rt).due(due, n)
     }
 
     /// Advances the core and publishes its board, under the lock.
@@ -108,13 +82,24 @@ impl<D: Disk + Drop, R: Wait + Drop> Node<D, R> {
         alloc: Global,
         n: usize,
     ) -> Result<Vec<Viewer>, Fault> {
-        self.held.lock(rt).restart(own, alloc, &self.setup, n)
+        let mut guard = self.held.lock(rt);
+        let held = &mut *guard;
+        let Some(place) = held.place.take() else {
+            unreachable!()
+        };
+        let (place, viewers) = place.restart(own, alloc, &self.setup, n);
+        held.place = Some(place);
+        viewers
     }
 
     /// Ends the node, and gives its disk back.
     pub fn close(self) -> D {
         let Node { setup, held } = self;
         drop(setup);
-        held.into_inner().close()
+        let Held { place } = held.into_inner();
+        match place {
+            Some(place) => place.close(),
+            None => unreachable!(),
+        }
     }
 }

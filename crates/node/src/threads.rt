@@ -45,7 +45,7 @@ impl<D: Disk + Drop, R: Wait + Drop> Node<D, R> {
         unreachable!()
     }
 
-    // Takes an input, and posts what it puts out. It says whether it was taken.
+    // Takes an input at a reading that is taken under the lock, and posts what it puts out. It says whether it was taken.
     fn act<W: Wait, P: Post, C: Clock>(
         &self,
         rt: &W,
@@ -53,9 +53,14 @@ impl<D: Disk + Drop, R: Wait + Drop> Node<D, R> {
         clock: &mut C,
         input: Input,
     ) -> bool {
-        let taken = self.take(rt, clock, &input);
+        let mut held = self.held.lock(rt);
+        let taken = match clock.now() {
+            Some(now) => held.deliver(&now, &input).ok(),
+            None => None,
+        };
+        drop(held);
         drop(input);
-        let Some(Ok(outbox)) = taken else {
+        let Some(outbox) = taken else {
             return false;
         };
         for envelope in outbox.into_vec() {
@@ -70,7 +75,8 @@ impl<D: Disk + Drop, R: Wait + Drop> Node<D, R> {
         self.act(rt, post, clock, Input::Resume);
         let mut unsettled: usize = 0;
         for _row in 0..MOST_ROWS {
-            let Some(txn) = self.due(rt, Due::Decided, unsettled) else {
+            let due = self.held.lock(rt).due(Due::Decided, unsettled);
+            let Some(txn) = due else {
                 break;
             };
             if !self.act(rt, post, clock, Input::Settle(txn)) {
@@ -78,12 +84,16 @@ impl<D: Disk + Drop, R: Wait + Drop> Node<D, R> {
             }
         }
         for row in 0..MOST_ROWS {
-            let Some(txn) = self.due(rt, Due::Prepared, row) else {
+            let due = self.held.lock(rt).due(Due::Prepared, row);
+            let Some(txn) = due else {
                 break;
             };
             self.act(rt, post, clock, Input::Nudge(txn));
         }
-        let _ = self.catch_up(rt, clock);
+        let mut held = self.held.lock(rt);
+        if let Some(now) = clock.now() {
+            drop(held.advance(&now, now.latest()));
+        }
     }
 }
 

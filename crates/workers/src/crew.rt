@@ -5,9 +5,9 @@ ghost use Rattle.workers.specs.Reports.{IsCounted};
 ghost use Rattle.workers.specs.Staffs.{IsStaffOf};
 
 use crate::course::Course;
-use crate::draws::Draws;
 use crate::shared::{Drawers, Shared};
 use crate::viewers::Viewers;
+use crate::wire::Wire;
 use crate::worker::{Report, Worker, merged};
 use crossbeam_channel::Receiver;
 use message::Message;
@@ -35,33 +35,31 @@ impl Staff {
         shared: &'s Shared,
         clock: C,
         watch: &'r W,
-    ) -> Result<Worker<'r, 's, R, C, W>, Fault>
+    ) -> Worker<'r, 's, R, C, W>
         requires some { 0 < length self.old.inboxes.items }
         requires few { length self.old.inboxes.items ≤ 64 }
         requires staff { IsStaffOf shared.now self.old }
-        ensures staff { OnOk result (IsStaffOf shared.now self.new) }
-        ensures fewer { OnOk result
-            (length self.new.inboxes.items + 1 ≡ length self.old.inboxes.items) }
+        ensures staff { IsStaffOf shared.now self.new }
+        ensures fewer { length self.new.inboxes.items + 1 ≡ length self.old.inboxes.items }
     {
-        let buffer = vec![in shared.alloc; 0; 4096]?;
-        let inbox = self.inboxes.pop().unwrap();
-        let ids = Draws::new(&shared.ids, self.drawers.ids.pop().unwrap());
-        let moments = Draws::new(&shared.moments, self.drawers.moments.pop().unwrap());
-        let viewers = self.viewers.by_worker.pop().unwrap();
-        Ok(Worker {
+        let wire = Wire {
             rt,
+            alloc: shared.alloc,
+            network: &shared.network,
+            inbox: self.inboxes.pop().unwrap(),
+            silences: 0,
+        };
+        Worker {
+            wire,
             shared,
-            number: self.inboxes.len() as u64,
-            inbox,
-            ids,
-            moments,
-            viewers,
+            number: self.inboxes.len(),
+            ids: self.drawers.ids.pop().unwrap(),
+            moments: self.drawers.moments.pop().unwrap(),
+            viewers: self.viewers.by_worker.pop().unwrap(),
             clock,
             watch,
             lines: Vec::new(shared.alloc),
-            buffer,
-            silences: 0,
-        })
+        }
     }
 }
 
@@ -79,7 +77,7 @@ fn workers<'r, 's, R, C: Copy, W>(
 {
     let mut workers = Vec::new(shared.alloc);
     for _worker in 0..staff.inboxes.len() {
-        workers.push(staff.next(rt, shared, clock, watch)?)?;
+        workers.push(staff.next(rt, shared, clock, watch))?;
     }
     Ok(workers)
 }
@@ -126,7 +124,12 @@ fn work_all<R: Threads + Wait + time::Clock + Sync, C: Clock + Send + Drop, W: W
         &|worker: Worker<R, C, W>| -> Result<Report, Fault>
             requires { IsSync R.row × IsSend C.row × IsSync W.row }
             ensures { IsCounted course.transactions result }
-        { worker.work(course) },
+        {
+            let mut worker = worker;
+            let report = worker.work(course);
+            drop(worker);
+            report
+        },
     )?;
     merged(alloc, course, reports)
 }

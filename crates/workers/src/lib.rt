@@ -4,7 +4,6 @@
 mod counting;
 mod course;
 mod crew;
-mod draws;
 mod keys;
 mod machine_clock;
 mod reads;
@@ -12,6 +11,7 @@ mod shared;
 mod summary;
 mod transactions;
 mod viewers;
+mod wire;
 mod worker;
 
 pub use course::Course;

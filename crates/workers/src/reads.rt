@@ -1,11 +1,11 @@
 //! The reads of a transaction, and their answers.
 use crate::counting::next_value;
 use letters::Network;
-use message::{Address, Done, Envelope, Message, Read};
-use session::{Open, Tx};
+use message::{Address, Envelope, Message, Read, ReadAnswer};
+use session::{Heard, Open, Tx};
 use std::alloc::Global;
 use std::sync::Wait;
-use units::{Fault, Key, Line, TxnId, Value};
+use units::{Fault, Key, Line, Stamp, TxnId, Value};
 
 // A read that was asked for, where, and its answer once it is taken.
 #[derive(Drop)]
@@ -22,13 +22,19 @@ pub struct Reads {
 }
 
 impl Reads {
+    /// No read.
+    pub fn none(alloc: Global) -> Reads {
+        Reads {
+            asked: Vec::new(alloc),
+        }
+    }
+
     /// Asks for each key. Nothing is sent.
-    pub fn ask(alloc: Global, tx: &mut Tx<'_, Open>, keys: &[Key]) -> Result<Reads, Fault> {
-        let mut asked = Vec::new(alloc);
+    pub fn ask(&mut self, tx: &mut Tx<'_, Open>, keys: &[Key]) -> Result<(), Fault> {
         for key in keys {
             let Envelope { to, message } = tx.read(*key)?;
             match message {
-                Message::Read(read) => asked.push(Asked {
+                Message::Read(read) => self.asked.push(Asked {
                     to,
                     read,
                     answer: None,
@@ -36,34 +42,25 @@ impl Reads {
                 other => drop(other),
             }
         }
-        Ok(Reads { asked })
+        Ok(())
     }
 
     /// The transaction, where there is a read.
     pub fn txn(&self) -> Option<TxnId> {
-        self.asked.first().map(|one| one.read.txn)
-    }
-
-    /// The end of this transaction, where the message tells it.
-    pub fn end_in(&self, message: Message) -> Option<Done> {
-        match message {
-            Message::Done(done) => {
-                if self.txn() == Some(done.txn) {
-                    Some(done)
-                } else {
-                    None
-                }
-            }
-            other => {
-                drop(other);
-                None
-            }
+        match self.asked.first() {
+            Some(one) => Some(one.read.txn),
+            None => None,
         }
     }
 
     /// Each read has its answer.
     pub fn are_answered(&self) -> bool {
-        self.asked.iter().all(|one| one.answer.is_some())
+        for one in &self.asked {
+            if one.answer.is_none() {
+                return false;
+            }
+        }
+        true
     }
 
     /// Sends each read that has no answer.
@@ -81,14 +78,33 @@ impl Reads {
         }
     }
 
-    /// Keeps the answer of a key.
-    pub fn keep(&mut self, key: &Key, value: Option<Value>) {
-        let place = self.asked.iter().position(|one| one.read.key.is(key));
-        if let Some(place) = place {
-            if place < self.asked.len() {
-                self.asked[place].answer = Some(value);
+    /// Takes an answer, which may be to an earlier transaction. It says whether the transaction may go on.
+    pub fn take(
+        &mut self,
+        alloc: Global,
+        tx: &mut Tx<'_, Open>,
+        answer: &ReadAnswer,
+    ) -> Result<bool, Fault> {
+        match tx.answered(alloc, answer) {
+            Ok(Heard::Value(value)) => {
+                self.keep(&answer.key, value);
+                Ok(true)
+            }
+            Ok(Heard::Again) | Err(Fault::Stranger) => Ok(true),
+            Ok(Heard::Doomed) => Ok(false),
+            Err(fault) => Err(fault),
+        }
+    }
+
+    // Keeps the answer of a key.
+    fn keep(&mut self, key: &Key, value: Option<Value>) {
+        for one in self.asked.iter_mut() {
+            if one.read.key.is(key) {
+                one.answer = Some(value);
+                return;
             }
         }
+        drop(value);
     }
 
     /// Buffers what follows each answer, as a write of its key.
@@ -101,17 +117,14 @@ impl Reads {
         Ok(())
     }
 
-    /// Adds a line for each answer.
-    pub fn report(self, lines: &mut Vec<Line>) -> Result<(), Fault> {
-        let Reads { asked } = self;
-        for one in asked {
-            let Asked {
-                to: _,
-                read,
-                answer,
-            } = one;
-            if let Some(value) = answer {
-                lines.push(Line::Read(read.txn, read.key, value))?;
+    /// Adds the lines of a commit, acknowledged at a moment, and takes the answers for them.
+    pub fn report(&mut self, lines: &mut Vec<Line>, at: Stamp, moment: u64) -> Result<(), Fault> {
+        if let Some(txn) = self.txn() {
+            lines.push(Line::Ack(txn, at, moment))?;
+        }
+        for one in self.asked.iter_mut() {
+            if let Some(value) = one.answer.take() {
+                lines.push(Line::Read(one.read.txn, one.read.key, value))?;
             }
         }
         Ok(())

@@ -1,116 +1,103 @@
 //! The transaction of a worker's turn: it reads, writes what follows, and hears its end.
 use crate::reads::Reads;
-use crate::worker::{Hearing, Worker};
-use message::{Done, Message, Outbox, ReadAnswer};
+use crate::wire::{Hearing, Wire};
+use crate::worker::Worker;
+use message::Done;
 use progress::{Ended, Watch};
-use session::{Closing, Finished, Heard, Open, Phase, Tx};
+use session::{Closing, Finished, Open, Phase, Tx};
 use std::sync::Wait;
 use std::time;
 use truetime::Clock;
-use units::{Fault, Key, Line, Stamp, TxnId};
+use units::{Fault, Key, Line};
 
 impl<'s, R: Wait + time::Clock, C: Clock + Drop, W: Watch> Worker<'_, 's, R, C, W> {
     /// A transaction that reads keys, and writes to each the number that follows.
     pub fn transact(&mut self, keys: &[Key]) -> Result<Ended, Fault> {
-        let moment = self.moments.draw()?;
-        let shared = self.shared;
-        let mut tx = self.ids.begin(shared.alloc, shared.run, &shared.splits)?;
-        self.silences = 0;
-        match self.read(&mut tx, keys, moment) {
-            Ok(Some(reads)) => self.commit(tx, reads),
-            Ok(None) => self.give_up(tx, Ended::Aborted),
+        let moment = self.shared.moments.draw(&mut self.moments)?;
+        let mut tx = Tx::begin_drawn(
+            self.shared.alloc,
+            self.shared.run,
+            &self.shared.splits,
+            &self.shared.ids,
+            &mut self.ids,
+        )?;
+        let mut reads = Reads::none(self.shared.alloc);
+        let finished = match self.read(&mut tx, &mut reads, keys, moment) {
+            Ok(true) => self.wire.close(tx, &reads),
+            Ok(false) => self.wire.give_up(tx, Some(Finished::Aborted)),
             Err(fault) => {
                 tx.spend();
                 Err(fault)
             }
-        }
+        };
+        let ended = match finished {
+            Ok(Some(finished)) => self.report(&mut reads, finished),
+            Ok(None) => Ok(Ended::Unknown),
+            Err(fault) => Err(fault),
+        };
+        drop(reads);
+        ended
     }
 
-    // Reads the keys. There is nothing where the transaction can only give up.
+    // Reads the keys, and writes what follows. It says whether the transaction may close.
     fn read(
         &mut self,
         tx: &mut Tx<'s, Open>,
+        reads: &mut Reads,
         keys: &[Key],
         moment: u64,
-    ) -> Result<Option<Reads>, Fault> {
-        let mut reads = Reads::ask(self.shared.alloc, tx, keys)?;
+    ) -> Result<bool, Fault> {
+        self.wire.silences = 0;
+        reads.ask(tx, keys)?;
         if let Some(txn) = reads.txn() {
-            self.begin(txn, moment)?;
+            self.lines.push(Line::Begin(txn, moment))?;
+            self.shared.network.run(self.wire.rt, self.number, txn);
         }
-        reads.send(self.rt, &self.shared.network);
-        let answered = self.await_answers(tx, &mut reads)?;
-        Ok(if answered { Some(reads) } else { None })
+        let answered = self.wire.await_answers(tx, reads)?;
+        if answered {
+            reads.write_next(self.shared.alloc, tx)?;
+        }
+        Ok(answered)
     }
 
-    // From now on this worker runs the transaction.
-    fn begin(&mut self, txn: TxnId, moment: u64) -> Result<(), Fault> {
-        self.lines.push(Line::Begin(txn, moment))?;
-        let worker = usize::try_from(self.number).unwrap_or(usize::MAX);
-        self.shared.network.run(self.rt, worker, txn);
-        Ok(())
+    // Says how a transaction ended, and adds the lines of a commit: its acknowledgement, and what it read.
+    fn report(&mut self, reads: &mut Reads, finished: Finished) -> Result<Ended, Fault> {
+        let Finished::Committed(at) = finished else {
+            return Ok(Ended::Aborted);
+        };
+        let moment = self.shared.moments.draw(&mut self.moments)?;
+        reads.report(&mut self.lines, at, moment)?;
+        Ok(Ended::Committed)
     }
+}
 
-    // Waits for all answers. It says whether they have come.
+impl<'s, R: Wait + time::Clock> Wire<'_, 's, R> {
+    // Sends the reads, and waits for all answers. It says whether they have come.
     fn await_answers(&mut self, tx: &mut Tx<'s, Open>, reads: &mut Reads) -> Result<bool, Fault> {
+        reads.send(self.rt, self.network);
         for _heard in self.rt.forever() {
             if reads.are_answered() {
                 return Ok(true);
             }
             match self.hear() {
-                Hearing::Told(message) => {
-                    if !self.take_message(tx, reads, message)? {
+                Hearing::Answer(answer) => {
+                    let goes_on = reads.take(self.alloc, tx, &answer);
+                    drop(answer);
+                    if !goes_on? {
                         return Ok(false);
                     }
                 }
-                Hearing::Silence => reads.send(self.rt, &self.shared.network),
+                Hearing::Done(_) | Hearing::Other => {}
+                Hearing::Silence => reads.send(self.rt, self.network),
                 Hearing::Enough => return Ok(false),
             }
         }
         unreachable!()
     }
 
-    // Takes a message, where it is an answer. It says whether the transaction may go on.
-    fn take_message(
-        &self,
-        tx: &mut Tx<'s, Open>,
-        reads: &mut Reads,
-        message: Message,
-    ) -> Result<bool, Fault> {
-        match message {
-            Message::ReadAnswer(answer) => self.take_answer(tx, reads, &answer),
-            other => {
-                drop(other);
-                Ok(true)
-            }
-        }
-    }
-
-    // Takes an answer, which may be to an earlier transaction. It says whether the transaction may go on.
-    fn take_answer(
-        &self,
-        tx: &mut Tx<'s, Open>,
-        reads: &mut Reads,
-        answer: &ReadAnswer,
-    ) -> Result<bool, Fault> {
-        match tx.answered(self.shared.alloc, answer) {
-            Ok(Heard::Value(value)) => {
-                reads.keep(&answer.key, value);
-                Ok(true)
-            }
-            Ok(Heard::Again) | Err(Fault::Stranger) => Ok(true),
-            Ok(Heard::Doomed) => Ok(false),
-            Err(fault) => Err(fault),
-        }
-    }
-
-    // Writes what follows the answers, and closes.
-    fn commit(&mut self, tx: Tx<'s, Open>, reads: Reads) -> Result<Ended, Fault> {
-        let mut tx = tx;
-        if let Err(fault) = reads.write_next(self.shared.alloc, &mut tx) {
-            tx.spend();
-            return Err(fault);
-        }
-        match tx.close(self.shared.alloc) {
+    // Closes the transaction. It tells how that ended, where the end comes.
+    fn close(&mut self, tx: Tx<'s, Open>, reads: &Reads) -> Result<Option<Finished>, Fault> {
+        match tx.close(self.alloc) {
             Ok((tx, outbox)) => {
                 self.send_all(outbox);
                 self.end(tx, reads)
@@ -123,11 +110,18 @@ impl<'s, R: Wait + time::Clock, C: Clock + Drop, W: Watch> Worker<'_, 's, R, C, 
     }
 
     // Hears the end of a transaction that is closing.
-    fn end(&mut self, tx: Tx<'s, Closing>, reads: Reads) -> Result<Ended, Fault> {
-        match self.await_done(&tx, &reads) {
-            Ok(Some(done)) => self.take_done(tx, reads, &done),
-            Ok(None) => self.give_up(tx, Ended::Unknown),
+    fn end(&mut self, tx: Tx<'s, Closing>, reads: &Reads) -> Result<Option<Finished>, Fault> {
+        let done = match self.await_done(&tx, reads) {
+            Ok(Some(done)) => done,
+            Ok(None) => return self.give_up(tx, None),
             Err(fault) => {
+                tx.spend();
+                return Err(fault);
+            }
+        };
+        match tx.take(&done) {
+            Ok(finished) => Ok(Some(finished)),
+            Err((fault, tx)) => {
                 tx.spend();
                 Err(fault)
             }
@@ -138,13 +132,15 @@ impl<'s, R: Wait + time::Clock, C: Clock + Drop, W: Watch> Worker<'_, 's, R, C, 
     fn await_done(&mut self, tx: &Tx<'s, Closing>, reads: &Reads) -> Result<Option<Done>, Fault> {
         for _heard in self.rt.forever() {
             match self.hear() {
-                Hearing::Told(message) => {
-                    if let Some(done) = reads.end_in(message) {
+                Hearing::Done(done) => {
+                    if reads.txn() == Some(done.txn) {
                         return Ok(Some(done));
                     }
                 }
+                Hearing::Answer(answer) => drop(answer),
+                Hearing::Other => {}
                 Hearing::Silence => {
-                    let outbox = tx.again(self.shared.alloc)?;
+                    let outbox = tx.again(self.alloc)?;
                     self.send_all(outbox);
                 }
                 Hearing::Enough => return Ok(None),
@@ -153,57 +149,21 @@ impl<'s, R: Wait + time::Clock, C: Clock + Drop, W: Watch> Worker<'_, 's, R, C, 
         unreachable!()
     }
 
-    // Takes the end.
-    fn take_done(
-        &mut self,
-        tx: Tx<'s, Closing>,
-        reads: Reads,
-        done: &Done,
-    ) -> Result<Ended, Fault> {
-        match tx.take(done) {
-            Ok(finished) => self.finish(done.txn, reads, finished),
-            Err((fault, tx)) => {
-                tx.spend();
-                Err(fault)
-            }
-        }
-    }
-
-    // A transaction has ended.
-    fn finish(&mut self, txn: TxnId, reads: Reads, finished: Finished) -> Result<Ended, Fault> {
-        match finished {
-            Finished::Committed(at) => {
-                self.acknowledge(txn, at, reads)?;
-                Ok(Ended::Committed)
-            }
-            Finished::Aborted => Ok(Ended::Aborted),
-        }
-    }
-
-    // Adds the lines of a commit: its acknowledgement, and what it read.
-    fn acknowledge(&mut self, txn: TxnId, at: Stamp, reads: Reads) -> Result<(), Fault> {
-        let moment = self.moments.draw()?;
-        self.lines.push(Line::Ack(txn, at, moment))?;
-        reads.report(&mut self.lines)
-    }
-
     // Gives a transaction up, which has then ended so.
-    fn give_up<S: Phase>(&self, tx: Tx<'s, S>, ended: Ended) -> Result<Ended, Fault> {
-        match tx.give_up(self.shared.alloc) {
+    fn give_up<S: Phase>(
+        &self,
+        tx: Tx<'s, S>,
+        finished: Option<Finished>,
+    ) -> Result<Option<Finished>, Fault> {
+        match tx.give_up(self.alloc) {
             Ok(outbox) => {
                 self.send_all(outbox);
-                Ok(ended)
+                Ok(finished)
             }
             Err((fault, tx)) => {
                 tx.spend();
                 Err(fault)
             }
-        }
-    }
-
-    fn send_all(&self, outbox: Outbox) {
-        for envelope in outbox.into_vec() {
-            self.shared.network.send(self.rt, envelope);
         }
     }
 }

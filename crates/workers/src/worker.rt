@@ -1,41 +1,39 @@
 //! A worker: turns of a transaction and a look, one after the other.
-ghost use Rattle.std.specs.Prelude.{◌≡◌, ◌<◌, ◌+◌, ◌*◌, ◌^◌, IfOk, length};
+ghost use Rattle.std.specs.Prelude.{◌≡◌, ◌<◌, ◌+◌, ◌*◌, ◌^◌, length};
 ghost use Rattle.workers.specs.Reports.{AreCounted, IsCounted};
 ghost use Rattle.workers.specs.Summaries.{tried};
 
 use crate::course::Course;
-use crate::draws::Draws;
 use crate::shared::Shared;
 use crate::summary::Counts;
+use crate::wire::Wire;
 use board::Viewer;
-use crossbeam_channel::Receiver;
-use message::Message;
 use progress::{Ended, Stopwatch, Turn, Watch};
 use snapshot::Snapshot;
 use std::alloc::Global;
+use std::mem::replace;
 use std::sync::Wait;
 use std::time::Duration;
 use std::{thread, time};
+use tickets::Drawer;
 use truetime::Clock;
 use units::{Fault, Key, Line, Seen, Value};
 
-/// A worker, with its inbox, and a viewer of each shard, by the shard's number. The clock of `rt` is for waiting, and for what
-/// the watch is told.
+/// A worker, with its wire, and a viewer of each shard, by the shard's number. The watch is told by the clock of the wire's `rt`.
 #[derive(Drop)]
 pub struct Worker<'r, 's, R, C, W> {
-    pub rt: &'r R,
+    pub wire: Wire<'r, 's, R>,
     pub shared: &'s Shared,
-    pub number: u64,
-    pub inbox: Receiver<Message>,
-    pub ids: Draws<'s>,
-    pub moments: Draws<'s>,
+    pub number: usize,
+    pub ids: Drawer,
+    pub moments: Drawer,
     pub viewers: Vec<Viewer>,
     pub clock: C,
     pub watch: &'r W,
     pub lines: Vec<Line>,
-    pub buffer: Vec<u8>,
-    pub silences: u32,
     ghost few: { number < 64 },
+    ghost ids_drawn: { ids.source ≡ shared.now.ids },
+    ghost moments_drawn: { moments.source ≡ shared.now.moments },
 }
 
 /// What a worker did: counts, and the lines of a report.
@@ -45,41 +43,32 @@ pub struct Report {
     pub lines: Vec<Line>,
 }
 
-/// What a worker hears: a message, nothing for 20 milliseconds, or that for the hundredth time in a transaction.
-#[derive(Drop)]
-pub enum Hearing {
-    Told(Message),
-    Silence,
-    Enough,
-}
-
 impl<R: Wait + time::Clock, C: Clock + Drop, W: Watch> Worker<'_, '_, R, C, W> {
     /// Does its turns of a course.
-    pub fn work(self, course: Course) -> Result<Report, Fault>
+    pub fn work(&mut self, course: Course) -> Result<Report, Fault>
         ensures { IsCounted course.transactions result }
     {
-        let mut worker = self;
         let mut counts = Counts::none();
         for turn in 0..course.transactions {
-            let (ended, looked) = worker.turn(course, turn)?;
+            let keys = course.turn_keys(self.shared.alloc, self.number as u64, turn)?;
+            let turned = self.turn(&keys);
+            drop(keys);
+            let (ended, looked) = turned?;
             counts.add(ended, looked);
         }
         Ok(Report {
             counts,
-            lines: worker.lines,
+            lines: replace(&mut self.lines, Vec::new(self.shared.alloc)),
         })
     }
 
     // A transaction, whose end the watch is told, and then a look at its first key. It says whether that was answered.
-    fn turn(&mut self, course: Course, turn: u64) -> Result<(Ended, bool), Fault>
-        requires { turn < course.transactions }
-    {
-        let keys = course.turn_keys(self.shared.alloc, self.number, turn)?;
-        let stopwatch = Stopwatch::start(self.rt);
-        let ended = self.transact(&keys)?;
+    fn turn(&mut self, keys: &[Key]) -> Result<(Ended, bool), Fault> {
+        let stopwatch = Stopwatch::start(self.wire.rt);
+        let ended = self.transact(keys)?;
         self.watch.turned(Turn {
             ended,
-            micros: stopwatch.micros(self.rt),
+            micros: stopwatch.micros(self.wire.rt),
         });
         let looked = match keys.first() {
             Some(key) => self.look(key)?,
@@ -88,43 +77,49 @@ impl<R: Wait + time::Clock, C: Clock + Drop, W: Watch> Worker<'_, '_, R, C, W> {
         Ok((ended, looked))
     }
 
-    /// Waits for a message.
-    pub fn hear(&mut self) -> Hearing {
-        match self.inbox.recv_timeout(self.rt, Duration::from_millis(20)) {
-            Ok(message) => Hearing::Told(message),
-            Err(_) => {
-                self.silences = self.silences.saturating_add(1);
-                if self.silences >= 100 {
-                    Hearing::Enough
-                } else {
-                    Hearing::Silence
-                }
-            }
-        }
-    }
-
-    // Looks at a key at the latest of a reading, a hundred times at most, a millisecond apart. It says whether it was answered.
+    // Looks at a key at the latest of a reading. It says whether it was answered.
     fn look(&mut self, key: &Key) -> Result<bool, Fault> {
         let Some(now) = self.clock.now() else {
             return Ok(false);
         };
         let snapshot = Snapshot::start(&now);
-        for _try in 0..100 {
-            if let Some(seen) = self.look_once(&snapshot, key) {
-                let value = value_seen(self.shared.alloc, seen, &self.buffer)?;
-                self.lines.push(Line::Look(*key, now.latest(), value))?;
-                return Ok(true);
-            }
-            thread::sleep(self.rt, Duration::from_millis(1));
-        }
-        Ok(false)
-    }
-
-    fn look_once(&mut self, snapshot: &Snapshot, key: &Key) -> Option<Seen> {
         let shard = usize::from(self.shared.splits.shard_of(key).number());
-        let viewer = self.viewers.get_mut(shard)?;
-        snapshot.look(viewer, key, self.buffer.as_mut_slice()).ok()
+        let mut buffer = [0; 4096];
+        let found = look_for(
+            self.wire.rt,
+            &mut self.viewers,
+            shard,
+            &snapshot,
+            key,
+            &mut buffer,
+        );
+        let Some(seen) = found else {
+            return Ok(false);
+        };
+        let value = value_seen(self.shared.alloc, seen, &buffer)?;
+        self.lines.push(Line::Look(*key, now.latest(), value))?;
+        Ok(true)
     }
+}
+
+// Looks at a key through the viewer of a shard, a hundred times at most, a millisecond apart.
+fn look_for<R: time::Clock>(
+    rt: &R,
+    viewers: &mut Vec<Viewer>,
+    shard: usize,
+    snapshot: &Snapshot,
+    key: &Key,
+    buffer: &mut [u8],
+) -> Option<Seen> {
+    for _try in 0..100 {
+        if let Some(viewer) = viewers.get_mut(shard) {
+            if let Ok(seen) = snapshot.look(viewer, key, buffer) {
+                return Some(seen);
+            }
+        }
+        thread::sleep(rt, Duration::from_millis(1));
+    }
+    None
 }
 
 // The value that a look put at the front of the buffer.

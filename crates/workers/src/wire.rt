@@ -1,0 +1,57 @@
+//! How a worker sends and hears.
+use crossbeam_channel::Receiver;
+use letters::Network;
+use message::{Done, Message, Outbox, ReadAnswer};
+use std::alloc::Global;
+use std::sync::Wait;
+use std::time;
+use std::time::Duration;
+
+/// What a worker sends and hears with, and how often it has heard nothing in this transaction. The clock of `rt` is for waiting.
+#[derive(Drop)]
+pub struct Wire<'r, 's, R> {
+    pub rt: &'r R,
+    pub alloc: Global,
+    pub network: &'s Network,
+    pub inbox: Receiver<Message>,
+    pub silences: u32,
+}
+
+/// What a worker hears: an answer, an end, or another message, which is nothing to it; nothing for 20 milliseconds, or that for the
+/// hundredth time in a transaction.
+pub enum Hearing {
+    Answer(ReadAnswer),
+    Done(Done),
+    Other,
+    Silence,
+    Enough,
+}
+
+impl<R: Wait + time::Clock> Wire<'_, '_, R> {
+    /// Waits for a message.
+    pub fn hear(&mut self) -> Hearing {
+        match self.inbox.recv_timeout(self.rt, Duration::from_millis(20)) {
+            Ok(Message::ReadAnswer(answer)) => Hearing::Answer(answer),
+            Ok(Message::Done(done)) => Hearing::Done(done),
+            Ok(other) => {
+                drop(other);
+                Hearing::Other
+            }
+            Err(_) => {
+                self.silences = self.silences.saturating_add(1);
+                if self.silences >= 100 {
+                    Hearing::Enough
+                } else {
+                    Hearing::Silence
+                }
+            }
+        }
+    }
+
+    /// Sends each message of an outbox.
+    pub fn send_all(&self, outbox: Outbox) {
+        for envelope in outbox.into_vec() {
+            self.network.send(self.rt, envelope);
+        }
+    }
+}
