@@ -1,120 +1,80 @@
-//! The events of a schedule, word by word.
+//! The events of a schedule, line by line.
+use crate::forms::{FORMS, Happening};
 use std::alloc::Global;
-use texts::{NO_WORD, fate, key, number, reading, shard, stamp, txn, value};
-use units::{Fault, ShardNo};
+use texts::{NO_WORD, Values, number, value};
+use units::Fault;
 use world::{Act, Doing, Event};
 
 /// The event of a line: its true time, and what happens.
 pub fn event(alloc: Global, words: &[&str]) -> Result<Event, Fault> {
-    let [time, act @ ..] = words else {
+    let [time, words @ ..] = words else {
         return Err(NO_WORD);
     };
-    Ok(Event {
-        time: number(time)?,
-        act: act_of(alloc, act)?,
-    })
+    let time = number(time)?;
+    let mut values = Values::none();
+    let act = match values.read_form(&FORMS, words) {
+        Some((Happening::Write, [word])) => {
+            let value = value(alloc, word)?;
+            Act::Write(values.txn, values.key, Some(value))
+        }
+        Some((happening, [])) => act(happening, &values)?,
+        Some((happening, words)) => stop_in(happening, &values, words)?,
+        None => return Err(NO_WORD),
+    };
+    Ok(Event { time, act })
 }
 
-fn act_of(alloc: Global, words: &[&str]) -> Result<Act, Fault> {
-    let Some(name) = words.first() else {
+// What happens, where no more words stand behind its own.
+fn act(happening: Happening, values: &Values) -> Result<Act, Fault> {
+    match happening {
+        Happening::Begin => Ok(Act::Begin(values.txn)),
+        Happening::Close => Ok(Act::Close(values.txn)),
+        Happening::Quit => Ok(Act::Quit(values.txn)),
+        Happening::Read => Ok(Act::Read(values.txn, values.key)),
+        Happening::Erase => Ok(Act::Write(values.txn, values.key, None)),
+        Happening::Deliver => Ok(Act::Deliver(values.number, values.reading)),
+        Happening::Look => Ok(Act::Look(values.shard, values.key, values.stamp)),
+        Happening::View => Ok(Act::View(values.shard, values.number, values.key, values.stamp)),
+        Happening::Crash => Ok(Act::Crash(values.shard)),
+        _ => match doing(happening, values) {
+            Some(doing) => Ok(Act::At(values.shard, doing)),
+            None => Err(NO_WORD),
+        },
+    }
+}
+
+// A crash or a failure in what the words behind its own say. Where they name no shard, as those of a delivery, it is the same
+// one.
+fn stop_in(happening: Happening, stop: &Values, words: &[&str]) -> Result<Act, Fault> {
+    let mut values = *stop;
+    let Some((inner, [])) = values.read_form(&FORMS, words) else {
         return Err(NO_WORD);
     };
-    match *name {
-        "begin" | "close" | "quit" => end_of_session(words),
-        "read" | "write" | "erase" => access(alloc, words),
-        "deliver" => deliver(words),
-        "look" | "view" => look(words),
-        "crash" => crash(words),
-        "fail" => fail(words),
-        _ => {
-            let (s, doing) = chore(words)?;
-            Ok(Act::At(s, doing))
-        }
-    }
-}
-
-// A session begins or ends.
-fn end_of_session(words: &[&str]) -> Result<Act, Fault> {
-    match words {
-        ["begin", id] => Ok(Act::Begin(txn(id)?)),
-        ["close", id] => Ok(Act::Close(txn(id)?)),
-        ["quit", id] => Ok(Act::Quit(txn(id)?)),
-        _ => Err(NO_WORD),
-    }
-}
-
-// A session reads or writes.
-fn access(alloc: Global, words: &[&str]) -> Result<Act, Fault> {
-    match words {
-        ["read", id, k] => Ok(Act::Read(txn(id)?, key(k)?)),
-        ["write", id, k, v] => Ok(Act::Write(txn(id)?, key(k)?, Some(value(alloc, v)?))),
-        ["erase", id, k] => Ok(Act::Write(txn(id)?, key(k)?, None)),
-        _ => Err(NO_WORD),
-    }
-}
-
-fn deliver(words: &[&str]) -> Result<Act, Fault> {
-    match words {
-        ["deliver", m, e, l] => Ok(Act::Deliver(number(m)?, reading(e, l)?)),
-        _ => Err(NO_WORD),
-    }
-}
-
-fn look(words: &[&str]) -> Result<Act, Fault> {
-    match words {
-        ["look", s, k, at] => Ok(Act::Look(shard(s)?, key(k)?, stamp(at)?)),
-        ["view", s, n, k, at] => Ok(Act::View(shard(s)?, number(n)?, key(k)?, stamp(at)?)),
-        _ => Err(NO_WORD),
-    }
-}
-
-fn crash(words: &[&str]) -> Result<Act, Fault> {
-    match words {
-        ["crash", s] => Ok(Act::Crash(shard(s)?)),
-        ["crash", s, n, c, doing @ ..] => {
-            let (s, n, c) = (shard(s)?, number(n)?, fate(c)?);
-            let (named, doing) = doing_at(s, doing)?;
-            Ok(Act::CrashIn(s, n, c, named, doing))
-        }
-        _ => Err(NO_WORD),
-    }
-}
-
-fn fail(words: &[&str]) -> Result<Act, Fault> {
-    match words {
-        ["fail", s, n, doing @ ..] => {
-            let (s, n) = (shard(s)?, number(n)?);
-            let (named, doing) = doing_at(s, doing)?;
-            Ok(Act::FailIn(s, n, named, doing))
-        }
-        _ => Err(NO_WORD),
-    }
-}
-
-// What is under way at a shard that crashes or fails, and the shard that it names: a delivery names none, and is at that shard.
-fn doing_at(at: ShardNo, words: &[&str]) -> Result<(ShardNo, Doing), Fault> {
-    match words {
-        ["deliver", m, e, l] => Ok((at, Doing::Take(number(m)?, reading(e, l)?))),
-        _ => chore(words),
-    }
-}
-
-// A shard, and what it does of its own.
-fn chore(words: &[&str]) -> Result<(ShardNo, Doing), Fault> {
-    let [name, s, rest @ ..] = words else {
+    let Some(doing) = doing(inner, &values) else {
         return Err(NO_WORD);
     };
-    Ok((shard(s)?, doing(name, rest)?))
+    match happening {
+        Happening::CrashIn => Ok(Act::CrashIn(
+            stop.shard,
+            stop.number,
+            stop.fate,
+            values.shard,
+            doing,
+        )),
+        Happening::FailIn => Ok(Act::FailIn(stop.shard, stop.number, values.shard, doing)),
+        _ => Err(NO_WORD),
+    }
 }
 
-// What a shard does of its own.
-fn doing(name: &str, words: &[&str]) -> Result<Doing, Fault> {
-    match (name, words) {
-        ("resume", [e, l]) => Ok(Doing::Resume(reading(e, l)?)),
-        ("settle", [id, e, l]) => Ok(Doing::Settle(txn(id)?, reading(e, l)?)),
-        ("advance", [at, e, l]) => Ok(Doing::Advance(stamp(at)?, reading(e, l)?)),
-        ("nudge", [id, e, l]) => Ok(Doing::Nudge(txn(id)?, reading(e, l)?)),
-        ("open", []) => Ok(Doing::Open),
-        _ => Err(NO_WORD),
+// What a shard does.
+fn doing(happening: Happening, values: &Values) -> Option<Doing> {
+    match happening {
+        Happening::Deliver => Some(Doing::Take(values.number, values.reading)),
+        Happening::Resume => Some(Doing::Resume(values.reading)),
+        Happening::Settle => Some(Doing::Settle(values.txn, values.reading)),
+        Happening::Advance => Some(Doing::Advance(values.stamp, values.reading)),
+        Happening::Nudge => Some(Doing::Nudge(values.txn, values.reading)),
+        Happening::Open => Some(Doing::Open),
+        _ => None,
     }
 }

@@ -2,6 +2,7 @@
 #![tactic(auto)]
 
 mod events;
+mod forms;
 mod reader;
 
 pub use reader::schedule;

@@ -1,7 +1,7 @@
 //! Schedules, line by line.
 use crate::events::event;
 use std::alloc::Global;
-use texts::{LineReader, NO_WORD, key, number};
+use texts::{Kind, LineReader, NO_WORD, Values};
 use units::{Fault, Key, Splits, Stride};
 use world::{Config, Event};
 
@@ -11,55 +11,91 @@ pub fn schedule(alloc: Global, text: &str) -> Result<(Config, Vec<Event>), Fault
     let mut reader = LineReader::of(text);
     let config = config(alloc, &mut reader)?;
     let mut events = Vec::new(alloc);
+    match add_events(alloc, &mut reader, &mut events) {
+        Ok(()) => Ok((config, events)),
+        Err(fault) => {
+            drop(events);
+            drop(config);
+            Err(fault)
+        }
+    }
+}
+
+// Puts in the events of the lines that are left.
+fn add_events(
+    alloc: Global,
+    reader: &mut LineReader<'_>,
+    events: &mut Vec<Event>,
+) -> Result<(), Fault> {
     for _ in 0..u64::MAX {
         let Some(words) = reader.next(alloc)? else {
             break;
         };
-        match event(alloc, &words) {
+        let event = event(alloc, &words);
+        drop(words);
+        match event {
             Ok(event) => events.push(event)?,
             Err(fault) => return Err(reader.fault(fault)),
         }
     }
-    Ok((config, events))
+    Ok(())
 }
 
 // The shards, by the first lines.
 fn config(alloc: Global, reader: &mut LineReader<'_>) -> Result<Config, Fault> {
-    let count = match reader.head(alloc, "shards")?.map(count) {
-        Some(Ok(count)) => count,
-        _ => return Err(reader.fault(NO_WORD)),
+    let mut keys = Vec::new(alloc);
+    let config = config_of(alloc, reader, &mut keys);
+    drop(keys);
+    config
+}
+
+// The same, with a list for the keys of the splits.
+fn config_of(
+    alloc: Global,
+    reader: &mut LineReader<'_>,
+    keys: &mut Vec<Key>,
+) -> Result<Config, Fault> {
+    let mut values = Values::none();
+    read_head(alloc, reader, &mut values, "shards", Kind::Number)?;
+    add_splits(alloc, reader, values.number, keys)?;
+    read_head(alloc, reader, &mut values, "stride", Kind::Number)?;
+    let Some(stride) = Stride::new(values.number) else {
+        return Err(reader.fault(NO_WORD));
     };
-    let keys = splits(alloc, reader, count)?;
-    let stride = match reader.head(alloc, "stride")?.map(stride) {
-        Some(Ok(stride)) => stride,
-        _ => return Err(reader.fault(NO_WORD)),
-    };
-    let splits = Splits::new(alloc, &keys)?;
+    let splits = Splits::new(alloc, keys)?;
     Ok(Config { splits, stride })
 }
 
-// One key fewer than there are shards.
-fn splits(alloc: Global, reader: &mut LineReader<'_>, count: u64) -> Result<Vec<Key>, Fault> {
-    let mut keys = Vec::new(alloc);
+// Puts in one key fewer than there are shards.
+fn add_splits(
+    alloc: Global,
+    reader: &mut LineReader<'_>,
+    count: u64,
+    keys: &mut Vec<Key>,
+) -> Result<(), Fault> {
+    if count == 0 || count > 16 {
+        return Err(reader.fault(NO_WORD));
+    }
+    let mut values = Values::none();
     for _ in 1..count {
-        match reader.head(alloc, "split")?.map(key) {
-            Some(Ok(key)) => keys.push(key)?,
-            _ => return Err(reader.fault(NO_WORD)),
+        read_head(alloc, reader, &mut values, "split", Kind::Key)?;
+        keys.push(values.key)?;
+    }
+    Ok(())
+}
+
+// Reads the next line, which has to be this name and one word of a kind.
+fn read_head(
+    alloc: Global,
+    reader: &mut LineReader<'_>,
+    values: &mut Values,
+    name: &str,
+    kind: Kind,
+) -> Result<(), Fault> {
+    if let Some(word) = reader.head(alloc, name)? {
+        if values.read_word(kind, word) {
+            return Ok(());
         }
     }
-    Ok(keys)
-}
-
-// How many shards there are.
-fn count(word: &str) -> Result<u64, Fault> {
-    let count = number(word)?;
-    if count >= 1 && count <= 16 {
-        Ok(count)
-    } else {
-        Err(NO_WORD)
-    }
-}
-
-fn stride(word: &str) -> Result<Stride, Fault> {
-    Stride::new(number(word)?).ok_or(NO_WORD)
+    Err(reader.fault(NO_WORD))
 }

@@ -1,11 +1,14 @@
 //! The texts of schedules and reports: words and lines are read, and each thing is printed.
 #![tactic(auto)]
 
+mod forms;
 mod line_reader;
 mod numbers;
+mod printed;
 mod printing;
 mod words;
 
+pub use forms::{Form, Kind, Values};
 pub use line_reader::{LineReader, lines};
 pub use numbers::{number, reading, stamp};
 pub use printing::Text;

@@ -1,6 +1,6 @@
 //! Texts, line by line.
-use crate::numbers::{number, stamp};
-use crate::words::{NO_WORD, key, shown, txn};
+use crate::forms::{Form, Kind, Values};
+use crate::words::{NO_WORD, shown};
 use std::alloc::Global;
 use std::str::SplitInclusive;
 use units::{Fault, Line, Reason};
@@ -33,7 +33,7 @@ impl<'t> LineReader<'t> {
         Ok(Some(line.split(' ').collect(alloc)?))
     }
 
-    /// The word behind a given one on the next line, where the two are all of it.
+    /// The word behind a values one on the next line, where the two are all of it.
     pub fn head(&mut self, alloc: Global, name: &str) -> Result<Option<&'t str>, Fault> {
         match self.next(alloc)? {
             Some(words) => match words.as_slice() {
@@ -57,44 +57,81 @@ impl<'t> LineReader<'t> {
 pub fn lines(alloc: Global, text: &str) -> Result<Vec<Line>, Fault> {
     let mut reader = LineReader::of(text);
     let mut lines = Vec::new(alloc);
+    match add_lines(alloc, &mut reader, &mut lines) {
+        Ok(()) => Ok(lines),
+        Err(fault) => {
+            drop(lines);
+            Err(fault)
+        }
+    }
+}
+
+// Puts in the lines that are left.
+fn add_lines(
+    alloc: Global,
+    reader: &mut LineReader<'_>,
+    lines: &mut Vec<Line>,
+) -> Result<(), Fault> {
     for _ in 0..u64::MAX {
         let Some(words) = reader.next(alloc)? else {
             break;
         };
-        match line(alloc, &words) {
+        let line = line(alloc, &words);
+        drop(words);
+        match line {
             Ok(line) => lines.push(line)?,
             Err(fault) => return Err(reader.fault(fault)),
         }
     }
-    Ok(lines)
+    Ok(())
 }
+
+// What a line tells: a session began, a commit was acknowledged, or a read of a session or a look at a timestamp showed
+// what the word behind its own says.
+#[derive(Clone, Copy)]
+enum Told {
+    Begin,
+    Ack,
+    Read,
+    Look,
+}
+
+static FORMS: [Form<Told>; 4] = [
+    Form {
+        name: "begin",
+        words: &[Kind::Txn, Kind::Number],
+        is: Told::Begin,
+    },
+    Form {
+        name: "ack",
+        words: &[Kind::Txn, Kind::Stamp, Kind::Number],
+        is: Told::Ack,
+    },
+    Form {
+        name: "read",
+        words: &[Kind::Txn, Kind::Key],
+        is: Told::Read,
+    },
+    Form {
+        name: "look",
+        words: &[Kind::Key, Kind::Stamp],
+        is: Told::Look,
+    },
+];
 
 fn line(alloc: Global, words: &[&str]) -> Result<Line, Fault> {
-    match words {
-        ["begin", id, m] => begin_line(id, m),
-        ["ack", id, at, m] => ack_line(id, at, m),
-        ["read", id, k, x] => read_line(alloc, id, k, x),
-        ["look", k, at, x] => look_line(alloc, k, at, x),
+    let mut values = Values::none();
+    match values.read_form(&FORMS, words) {
+        Some((Told::Begin, [])) => Ok(Line::Begin(values.txn, values.number)),
+        Some((Told::Ack, [])) => Ok(Line::Ack(values.txn, values.stamp, values.number)),
+        Some((Told::Read, [value])) => {
+            let value = shown(alloc, value)?;
+            Ok(Line::Read(values.txn, values.key, value))
+        }
+        Some((Told::Look, [value])) => {
+            let value = shown(alloc, value)?;
+            Ok(Line::Look(values.key, values.stamp, value))
+        }
         _ => Err(NO_WORD),
     }
-}
-
-// A session began.
-fn begin_line(id: &str, moment: &str) -> Result<Line, Fault> {
-    Ok(Line::Begin(txn(id)?, number(moment)?))
-}
-
-// A commit was acknowledged.
-fn ack_line(id: &str, at: &str, moment: &str) -> Result<Line, Fault> {
-    Ok(Line::Ack(txn(id)?, stamp(at)?, number(moment)?))
-}
-
-// A read of a session showed a value, or that there is none.
-fn read_line(alloc: Global, id: &str, word: &str, value: &str) -> Result<Line, Fault> {
-    Ok(Line::Read(txn(id)?, key(word)?, shown(alloc, value)?))
-}
-
-// A look at a timestamp showed a value, or that there is none.
-fn look_line(alloc: Global, word: &str, at: &str, value: &str) -> Result<Line, Fault> {
-    Ok(Line::Look(key(word)?, stamp(at)?, shown(alloc, value)?))
 }

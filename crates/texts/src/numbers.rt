@@ -53,5 +53,10 @@ fn is_decimal_word(word: &[u8]) -> bool
 fn are_digits(word: &[u8]) -> bool
     ensures { result ≡ list_all is_ascii_digit word.now }
 {
-    word.iter().all(|byte| byte.is_ascii_digit())
+    for byte in word {
+        if !byte.is_ascii_digit() {
+            return false;
+        }
+    }
+    true
 }

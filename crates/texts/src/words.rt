@@ -11,13 +11,18 @@ pub const NO_WORD: Fault = Fault::BadRequest(Reason::Command);
 
 /// A shard, by its number.
 pub fn shard(word: &str) -> Result<ShardNo, Fault> {
-    let number = u8::try_from(number(word)?).map_err(|_error| NO_WORD)?;
-    ShardNo::new(number).ok_or(NO_WORD)
+    let number = number(word)?;
+    if number > 15 {
+        return Err(NO_WORD);
+    }
+    ShardNo::new(number as u8).ok_or(NO_WORD)
 }
 
 /// An id: two numbers with a dot between them.
 pub fn txn(word: &str) -> Result<TxnId, Fault> {
-    let (run, count) = word.split_once('.').ok_or(NO_WORD)?;
+    let Some((run, count)) = word.split_once('.') else {
+        return Err(NO_WORD);
+    };
     TxnId::new(number(run)?, number(count)?).ok_or(NO_WORD)
 }
 
@@ -65,11 +70,14 @@ fn digit(byte: u8) -> Result<u8, Fault>
 // Some ASCII letters, digits and underlines.
 fn plain(word: &str) -> Result<&[u8], Fault> {
     let bytes = word.as_bytes();
-    let is_plain = bytes
-        .iter()
-        .all(|byte| byte.is_ascii_alphanumeric() || *byte == b'_');
-    if bytes.is_empty() || !is_plain {
-        return Err(NO_WORD);
+    for byte in bytes {
+        if !byte.is_ascii_alphanumeric() && *byte != b'_' {
+            return Err(NO_WORD);
+        }
     }
-    Ok(bytes)
+    if bytes.is_empty() {
+        Err(NO_WORD)
+    } else {
+        Ok(bytes)
+    }
 }
