@@ -1,13 +1,15 @@
-use Rattle.std.proofs.Common.{◌+◌, refl, sym, ap, ◌∙◌, subst}
+use Rattle.std.proofs.Common.{◌+◌, Some, None, refl, sym, ap, ◌∙◌, subst}
 use Rattle.session.specs.Sessions.{reads, buffers, closes, gives_up}
-use Rattle.world.specs.World.{acts, client_of, if_open, look_noted}
+use Rattle.world.specs.World.{acts, client_of, if_open}
+use Rattle.disk.specs.declared.plan.Fate.{Fate}
+use Rattle.lives.specs.Fleet.{CrashesAt, IsOrderlyAt, crash_within, looked}
 use Rattle.lives.specs.Runs.{ComesAfter}
 use Rattle.world.specs.Held.{when_not_over, when_open}
 use Rattle.world.specs.Hosts.{session_step}
 use Rattle.world.specs.Lawful.{may_act}
 use Rattle.lives.specs.declared.run.Run.{Run}
 use Rattle.world.proofs.Replying.{is_new, not_over_moves, open_moves}
-use Rattle.lives.proofs.Replying.{look_comes, looks, looks_back, session_comes}
+use Rattle.lives.proofs.Replying.{crash_comes, crash_in_comes, look_comes, looks, orderly_at, session_comes}
 use Rattle.lives.proofs.run.Run.act.Goals as goal
 
 pub returns-in-Begin : goal.returns-in-Begin
@@ -75,35 +77,49 @@ returns-in-At c time w h steady may =
 pub returns-in-Crash : goal.returns-in-Crash
 unfolding acts
 returns-in-Crash c time w h steady may =
-    subst (λ a. ComesAfter a c.crash.new.self c.crash.result) (sym (ap (acts w) c.in-Crash.is)) (c.crash.ensures w h)
+    let old : Run = c.args.self.now in
+    let new : Run = record { sessions = old.sessions; shards = c.crash.new.self; output = old.output; time = old.time } in
+    let n = c.in-Crash.shard in
+    let bag = c.as_slice-bag.ensures ∙ h.output.bag in
+    subst (λ a. ComesAfter a new c.crash.result) (sym (ap (acts w) c.in-Crash.is))
+    (crash_comes w old new h n c.crash.result
+    (subst (λ b. CrashesAt w.config (crash_within w.config b n None Fate.Old) w.shards n new.shards c.crash.result) bag
+    (c.crash.ensures w.config w.shards h.shards
+    (λ doing. subst (λ b. IsOrderlyAt w.config b w.shards n doing) (sym bag) (orderly_at w old new h n doing steady)))) refl refl refl)
 
 pub returns-in-CrashIn : goal.returns-in-CrashIn
 unfolding acts
 returns-in-CrashIn c time w h steady may =
-    subst (λ a. ComesAfter a c.crash_in.new.self c.crash_in.result) (sym (ap (acts w) c.in-CrashIn.is)) (c.crash_in.ensures w h steady)
+    let old : Run = c.args.self.now in
+    let new : Run = record { sessions = old.sessions; shards = c.crash-in-CrashIn.new.self; output = old.output; time = old.time } in
+    let v = c.in-CrashIn in
+    let bag = c.as_slice-bag-in-CrashIn.ensures ∙ h.output.bag in
+    subst (λ a. ComesAfter a new c.crash-in-CrashIn.result) (sym (ap (acts w) v.is))
+    (crash_in_comes w old new h v.shard v.call v.fate v.doing c.crash-in-CrashIn.result
+    (subst (λ b. CrashesAt w.config (crash_within w.config b v.shard (Some (v.call, v.doing)) v.fate) w.shards v.shard new.shards c.crash-in-CrashIn.result) bag
+    (c.crash-in-CrashIn.ensures w.config w.shards h.shards
+    (λ doing. subst (λ b. IsOrderlyAt w.config b w.shards v.shard doing) (sym bag) (orderly_at w old new h v.shard doing steady)))) refl refl refl)
 
 pub returns-in-FailIn : goal.returns-in-FailIn
 unfolding acts
 returns-in-FailIn c time w h steady may =
     subst (λ a. ComesAfter a c.act_at-in-FailIn.new.self c.act_at-in-FailIn.result) (sym (ap (acts w) c.in-FailIn.is)) (c.act_at-in-FailIn.ensures w h steady)
 
-pub returns-in-Ok-look : goal.returns-in-Ok-look
+pub returns-in-Look : goal.returns-in-Look
 unfolding acts
-returns-in-Ok-look c time w h steady may =
+returns-in-Look c time w h steady may =
     let old : Run = c.args.self.now in
-    let new : Run = record { sessions = old.sessions; shards = old.shards; output = c.note_look.new.self; time = old.time } in
+    let new : Run = record { sessions = old.sessions; shards = old.shards; output = c.look.new.output; time = old.time } in
     let v = c.in-Look in
-    let shown = c.in-Ok-look.ensures.shown w.config w.shards h.shards in
-    subst (λ a. ComesAfter a new c.note_look.result) (sym (ap (acts w) v.is ∙ looks w v.shard v.key v.at ∙ ap (look_noted w v.key v.at) (sym shown)))
-    (look_comes w old new h v.key v.at c.in-Ok-look.reply c.note_look.result c.note_look.ensures refl refl refl)
+    subst (λ a. ComesAfter a new c.look.result) (sym (ap (acts w) v.is ∙ looks w v.shard None v.key v.at))
+    (look_comes w old new h v.key v.at (looked w.config w.shards v.shard None v.key v.at) c.look.result (c.look.ensures w h.shards h.output) refl refl refl)
 
-pub returns-in-Ok-look_back : goal.returns-in-Ok-look_back
+pub returns-in-View : goal.returns-in-View
 unfolding acts
-returns-in-Ok-look_back c time w h steady may =
+returns-in-View c time w h steady may =
     let old : Run = c.args.self.now in
-    let new : Run = record { sessions = old.sessions; shards = old.shards; output = c.note_look-in-Ok-look_back.new.self; time = old.time } in
+    let new : Run = record { sessions = old.sessions; shards = old.shards; output = c.look-in-View.new.output; time = old.time } in
     let v = c.in-View in
-    let shown = c.in-Ok-look_back.ensures.shown w.config w.shards h.shards in
-    subst (λ a. ComesAfter a new c.note_look-in-Ok-look_back.result) (sym (ap (acts w) v.is ∙ looks_back w v.shard v.number v.key v.at
-    ∙ ap (look_noted w v.key v.at) (sym shown)))
-    (look_comes w old new h v.key v.at c.in-Ok-look_back.reply c.note_look-in-Ok-look_back.result c.note_look-in-Ok-look_back.ensures refl refl refl)
+    subst (λ a. ComesAfter a new c.look-in-View.result) (sym (ap (acts w) v.is ∙ looks w v.shard (Some v.number) v.key v.at))
+    (look_comes w old new h v.key v.at (looked w.config w.shards v.shard (Some v.number) v.key v.at) c.look-in-View.result
+    (c.look-in-View.ensures w h.shards h.output) refl refl refl)
