@@ -239,7 +239,21 @@ impl<'s> Run<'s> {
         let taken = take_logs(&mut shards, alloc, &mut disks, &mut logs);
         spend_all(shards);
         match taken {
-            Ok(()) => Ok(end_with(output, disks, logs)),
+            Ok(()) => {
+                let RunOutput {
+                    bag,
+                    told,
+                    lines,
+                    event: _,
+                } = output;
+                drop(told);
+                Ok(Finished {
+                    bag,
+                    disks,
+                    logs,
+                    lines,
+                })
+            }
             Err(fault) => {
                 drop(output);
                 drop(disks);
@@ -261,25 +275,5 @@ impl<'s> Run<'s> {
         sessions.spend();
         spend_all(shards);
         drop(output);
-    }
-}
-
-// What a run ends with, by what it has put out.
-fn end_with(output: RunOutput, disks: Vec<SimDisk>, logs: Vec<Vec<Record>>) -> Finished
-    ensures { (result.bag ≡ output.bag) × (result.lines ≡ output.lines)
-        × (result.disks ≡ disks) × (result.logs ≡ logs) }
-{
-    let RunOutput {
-        bag,
-        told,
-        lines,
-        event: _,
-    } = output;
-    drop(told);
-    Finished {
-        bag,
-        disks,
-        logs,
-        lines,
     }
 }
