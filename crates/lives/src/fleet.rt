@@ -155,11 +155,9 @@ pub fn take_logs(
         → AreStanding config n shards.old.items ss → IfErr result (λ fault. fault ≡ Fault.Memory) }
 {
     while !shards.is_empty() {
-        disks.reserve(1)?;
-        logs.reserve(1)?;
         let (disk, log) = read_back(alloc, shards.remove(0).into_disk())?;
-        disks.push_reserved(disk);
-        logs.push_reserved(log);
+        disks.push(disk)?;
+        logs.push(log)?;
     }
     Ok(())
 }

@@ -1,5 +1,5 @@
 //! A shard of a run: what there is of it, and the views that it has made.
-ghost use Rattle.std.specs.Prelude.{◌≡◌, ◌≢◌, ◌++◌, ◌≤◌, [], Err, true, not, IfOk, IfErr, OnOk, length, map};
+ghost use Rattle.std.specs.Prelude.{◌≡◌, ◌≢◌, ◌++◌, ◌≤◌, Err, true, not, IfOk, IfErr, OnOk, length, map};
 ghost use Rattle.units.specs.declared.setup.Setup.{Setup};
 ghost use Rattle.world.specs.World.{ShardNow, effect, fresh_shard, makes_view, read_log, setup_of};
 ghost use Rattle.world.specs.declared.event.Config.{Config};
@@ -235,15 +235,13 @@ pub fn read_back(alloc: Global, disk: SimDisk) -> Result<(SimDisk, Vec<Record>),
 {
     match GateLog::open(alloc, disk) {
         Ok((log, entries)) => {
-            let mut records = Vec::new(alloc);
-            let copied = push_records(&mut records, alloc, &entries);
+            let records = records_of(alloc, &entries);
             drop(entries);
             let disk = log.into_disk();
-            match copied {
-                Ok(()) => Ok((disk, records)),
+            match records {
+                Ok(records) => Ok((disk, records)),
                 Err(fault) => {
                     drop(disk);
-                    drop(records);
                     Err(fault)
                 }
             }
@@ -255,16 +253,16 @@ pub fn read_back(alloc: Global, disk: SimDisk) -> Result<(SimDisk, Vec<Record>),
     }
 }
 
-// The records of a log, each with memory of its own, behind none.
-fn push_records(records: &mut Vec<Record>, alloc: Global, entries: &[Entry]) -> Result<(), Fault>
-    requires { records.old.items ≡ [] }
-    ensures same { OnOk result (records.new.items ≡ map (λ e. e.item) entries.now) }
+// The records of a log, each with memory of its own.
+fn records_of(alloc: Global, entries: &[Entry]) -> Result<Vec<Record>, Fault>
+    ensures same { IfOk result (λ records. records.items ≡ map (λ e. e.item) entries.now) }
     ensures memory { IfErr result (λ fault. fault ≡ Fault.Memory) }
 {
+    let mut records = Vec::new(alloc);
     for entry in entries {
         records.push(entry.item().copy(alloc)?)?;
     }
-    Ok(())
+    Ok(records)
 }
 
 // Copies of versions behind others.
