@@ -1,5 +1,5 @@
 -- The running shards of a run, by their places.
-use Rattle.std.proofs.Common.{◌≡◌, inl, inr, ℕ, zero, suc, ◌+◌, ◌<◌, ◌≤◌, Bool, false, List, [], ◌∷◌, ◌++◌, length, map, replicate, set, slice_get}
+use Rattle.std.proofs.Common.{◌≡◌, inl, inr, ℕ, zero, suc, ◌+◌, ◌<◌, ◌≤◌, Bool, true, false, not, nat_lt, List, [], ◌∷◌, ◌++◌, length, map, replicate, set, slice_get}
 use Rattle.std.proofs.Common.{Option, Some, None, ◌⊎◌, Result, Ok, Err, IfOk, IfErr, OnOk, get_or, drop, ◌==◌, refl, sym, ap, ◌∙◌, subst, append_assoc, arith}
 use Rattle.std.proofs.lemmas.Bool.Decides.{nat_tests}
 use Rattle.std.proofs.lemmas.List.{length-replicate, map-append, replicate-append-replicate}
@@ -13,13 +13,14 @@ use Rattle.message.specs.declared.message.Envelope.{Envelope}
 use Rattle.shard.specs.Logs.{records_in}
 use Rattle.simdisk.specs.declared.simdisk.SimDisk.{SimDisk}
 use Rattle.world.specs.World.{ShardNow, effect, fresh_shard, read_log, setup_of}
+use Rattle.world.specs.Lawful.{is_down, is_up}
 use Rattle.world.specs.declared.event.Config.{Config}
 use Rattle.world.specs.declared.event.Doing.{Doing}
 use Rattle.world.specs.declared.event.Reply.{Reply}
-use Rattle.world.proofs.Puts.{on_ok}
 use Rattle.lives.specs.Carries.{Comes, answer_of}
-use Rattle.lives.specs.Fleet.{ActsAt, AreOn, AreShards, AreStanding, IsOn, changed_at}
+use Rattle.lives.specs.Fleet.{ActsAt, AreOn, AreShards, AreStanding, CrashesAt, IsOn, known_of}
 use Rattle.lives.specs.Shows.{Acts, StandsFor, done_by}
+use Rattle.lives.specs.declared.fleet.Known.{Known}
 use Rattle.lives.specs.declared.fleet.Shards.{Shards}
 use Rattle.lives.specs.declared.run_shard.RunShard.{RunShard}
 
@@ -104,25 +105,6 @@ one_more_fresh config k rs new r h fresh put =
 
 -- ---- a shard that does something, or is looked at
 
--- there is none
-pub nowhere : {A : Type 0} (config : Config) (shards : Shards) (ss : List ShardNow) (n : ℕ) (none : A) (f : ShardNow → A) →
-    AreShards config shards ss → length shards.shards.items ≤ n
-    → elim (slice_get ss n) as (λ x. A) [ None ↦ none | Some s ↦ f s ] ≡ none
-nowhere {A = A} config shards ss n none f h over =
-    let many = as_many config 0 shards.shards.items ss h.standing in
-    ap (λ o. elim o as (λ x. A) [ None ↦ none | Some s ↦ f s ]) (slice_get_past ss n (omega (arith, many, over)))
-
--- there is none in the code, so there is none
-pub no_such : {A : Type 0} (config : Config) (shards : Shards) (ss : List ShardNow) (n : ℕ) (none : A) (f : ShardNow → A) →
-    AreShards config shards ss → slice_get shards.shards.items n ≡ None
-    → elim (slice_get ss n) as (λ x. A) [ None ↦ none | Some s ↦ f s ] ≡ none
-no_such config shards ss n none f h missing = nowhere config shards ss n none f h (past shards.shards.items n missing)
-  where
-    past : (rs : List RunShard) (i : ℕ) → slice_get rs i ≡ None → length rs ≤ i
-    past [] i e = omega arith
-    past (r ∷ rs) zero e = absurd (not_none r (sym e))
-    past (r ∷ rs) (suc i) e = omega (arith, past rs i e)
-
 -- there is one
 pub looks_there : (config : Config) (shards : Shards) (ss : List ShardNow) (n : ℕ) (r : RunShard) (result : Result Reply Fault)
     (f : ShardNow → Reply) → AreShards config shards ss
@@ -133,19 +115,61 @@ looks_there config shards ss n r result f h there look =
     in_place config 0 n n shards.shards.items ss r h.standing (omega arith) there in
     subst (λ x. IfOk result (λ reply. reply ≡ x)) (sym (ap (λ o. elim o as (λ x. Reply) [ None ↦ Reply.Refused Stranger | Some s ↦ f s ]) p.1)) (look p.0 p.2)
 
--- a test of one
-pub tests_there : (config : Config) (shards : Shards) (ss : List ShardNow) (n : ℕ) (r : RunShard) (b : Bool) (f : ShardNow → Bool) →
-    AreShards config shards ss
-    → slice_get shards.shards.items n ≡ Some r → ((s : ShardNow) → StandsFor (setup_of config n) r s → b ≡ f s) → b ≡ when f (slice_get ss n)
-tests_there config shards ss n r b f h there tested =
+-- there is none to look at
+pub looks_nowhere : (config : Config) (shards : Shards) (ss : List ShardNow) (n : ℕ) (f : ShardNow → Reply) → AreShards config shards ss
+    → length shards.shards.items ≤ n
+    → Reply.Refused Stranger ≡ elim (slice_get ss n) as (λ x. Reply) [ None ↦ Reply.Refused Stranger | Some s ↦ f s ]
+looks_nowhere config shards ss n f h over =
+    sym (ap (λ o. elim o as (λ x. Reply) [ None ↦ Reply.Refused Stranger | Some s ↦ f s ])
+    (slice_get_past ss n (omega (arith, as_many config 0 shards.shards.items ss h.standing, over))))
+
+-- what is known of one, and of none
+pub known_there : (config : Config) (shards : Shards) (ss : List ShardNow) (n : ℕ) (r : RunShard) (rests stands : Bool) (views : ℕ) →
+    AreShards config shards ss → slice_get shards.shards.items n ≡ Some r
+    → ((s : ShardNow) → StandsFor (setup_of config n) r s →
+    (rests ≡ not (is_up s.state)) × (stands ≡ not (is_down s.state)) × (views ≡ length s.views))
+    → ◌≡◌ {A = Known} (record { exists = true; rests = rests; stands = stands; views = views }) (known_of ss n)
+known_there config shards ss n r rests stands views h there told =
     let p : (s : ShardNow) × (slice_get ss n ≡ Some s) × StandsFor (setup_of config n) r s =
     in_place config 0 n n shards.shards.items ss r h.standing (omega arith) there in
-    tested p.0 p.2 ∙ ap (when f) (sym p.1)
+    let t = told p.0 p.2 in
+    let here : true ≡ nat_lt n (length ss) = within n (length ss) (slice_get_within ss n p.0 p.1) in
+    λ i. record {
+      exists = here i;
+      rests = (t.0 ∙ ap (when (λ s. not (is_up s.state))) (sym p.1)) i;
+      stands = (t.1 ∙ ap (when (λ s. not (is_down s.state))) (sym p.1)) i;
+      views = (t.2 ∙ ap (λ o. elim o as (λ x. ℕ) [ None ↦ 0 | Some s ↦ length s.views ]) (sym p.1)) i;
+    }
+  where
+    within : (m k : ℕ) → m < k → true ≡ nat_lt m k
+    within m k lt = grind (arith, nat_tests)
 
-pub tests_nowhere : (config : Config) (shards : Shards) (ss : List ShardNow) (n : ℕ) (f : ShardNow → Bool) →
-    AreShards config shards ss → slice_get shards.shards.items n ≡ None
-    → false ≡ when f (slice_get ss n)
-tests_nowhere config shards ss n f h missing = sym (no_such config shards ss n false f h missing)
+pub known_nowhere : (config : Config) (shards : Shards) (ss : List ShardNow) (n : ℕ) → AreShards config shards ss
+    → length shards.shards.items ≤ n
+    → ◌≡◌ {A = Known} (record { exists = false; rests = false; stands = false; views = 0 }) (known_of ss n)
+known_nowhere config shards ss n h over =
+    let past : length ss ≤ n = omega (arith, as_many config 0 shards.shards.items ss h.standing, over) in
+    let none : slice_get ss n ≡ None = slice_get_past ss n past in
+    λ i. record {
+      exists = beyond n (length ss) past i;
+      rests = sym (ap (when (λ s. not (is_up s.state))) none) i;
+      stands = sym (ap (when (λ s. not (is_down s.state))) none) i;
+      views = sym (ap (λ o. elim o as (λ x. ℕ) [ None ↦ 0 | Some s ↦ length s.views ]) none) i;
+    }
+  where
+    beyond : (m k : ℕ) → k ≤ m → false ≡ nat_lt m k
+    beyond m k le = grind (arith, nat_tests)
+
+pub has_view : (ss : List ShardNow) (n v : ℕ) (known : Known) → known ≡ known_of ss n
+    → nat_lt v known.views ≡ when (λ s. nat_lt v (length s.views)) (slice_get ss n)
+has_view ss n v known is = ap (λ (k : Known). nat_lt v k.views) is ∙ by_place (slice_get ss n)
+  where
+    none : false ≡ nat_lt v 0
+    none = grind (arith, nat_tests)
+
+    by_place : (o : Option ShardNow) → nat_lt v (elim o as (λ x. ℕ) [ None ↦ 0 | Some s ↦ length s.views ]) ≡ when (λ s. nat_lt v (length s.views)) o
+    by_place None = sym none
+    by_place (Some s) = refl
 
 -- what is answered, and the shards, by what stands in a place
 abbrev by_place : Config → List ShardNow → ℕ → List Envelope → Option ℕ → Doing → Option ShardNow → Result (List Envelope) Fault × List ShardNow
@@ -189,12 +213,14 @@ module _ (config : Config) (ss : List ShardNow) (n : ℕ) (old new : Shards) (be
           (inr (k.0, changed (done_by place.0 call doing (effect (setup_of config n) bag place.0 doing)) k.1))
 
   -- one that crashed
-  pub crash_there : (f : ShardNow → ShardNow) (r : Result (Unit {0}) Fault)
+  pub crash_there : (f : ShardNow → ShardNow) (r : Result Reply Fault)
       → ((s : ShardNow) → slice_get ss n ≡ Some s → StandsFor (setup_of config n) before s → OnOk r (StandsFor (setup_of config n) after (f s)))
-      → OnOk r (AreShards config new (changed_at f ss n))
-  crash_there f r crash = on_ok r (crash place.0 place.1 place.2)
-      (λ k. subst (λ o. AreShards config new (elim o as (λ x. List ShardNow) [ None ↦ ss | Some s ↦ replaced ss n (f s) ])) (sym place.1)
-      (changed (f place.0) k))
+      → IfOk r (λ reply. reply ≡ Reply.Crashed) → IfErr r (λ fault. fault ≡ Memory) → CrashesAt config f ss n new r
+  crash_there f (Err fault) crash replies memory = memory
+  crash_there f (Ok reply) crash replies memory =
+      subst (λ o. (reply ≡ elim o as (λ x. Reply) [ None ↦ Reply.Refused Stranger | Some s ↦ Reply.Crashed ])
+      × AreShards config new (elim o as (λ x. List ShardNow) [ None ↦ ss | Some s ↦ replaced ss n (f s) ])) (sym place.1)
+      (replies, changed (f place.0) (crash place.0 place.1 place.2))
 
 -- there is none
 pub acts_nowhere : (config : Config) (shards : Shards) (ss : List ShardNow) (n : ℕ) (bag : List Envelope) (call : Option ℕ) (doing : Doing)
@@ -206,8 +232,11 @@ acts_nowhere config shards ss n bag call doing h over = λ orderly.
 
 -- there is none to crash
 pub nothing_crashes : (config : Config) (shards : Shards) (ss : List ShardNow) (n : ℕ) (f : ShardNow → ShardNow) → AreShards config shards ss
-    → length shards.shards.items ≤ n → AreShards config shards (changed_at f ss n)
-nothing_crashes config shards ss n f h over = subst (AreShards config shards) (sym (nowhere config shards ss n ss (λ s. replaced ss n (f s)) h over)) h
+    → length shards.shards.items ≤ n → CrashesAt config f ss n shards (Ok (Reply.Refused Stranger))
+nothing_crashes config shards ss n f h over =
+    let none : slice_get ss n ≡ None = slice_get_past ss n (omega (arith, as_many config 0 shards.shards.items ss h.standing, over)) in
+    subst (λ o. (Reply.Refused Stranger ≡ elim o as (λ x. Reply) [ None ↦ Reply.Refused Stranger | Some s ↦ Reply.Crashed ])
+    × AreShards config shards (elim o as (λ x. List ShardNow) [ None ↦ ss | Some s ↦ replaced ss n (f s) ])) (sym none) (refl, h)
 
 -- ---- the logs, one after another
 

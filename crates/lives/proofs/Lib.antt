@@ -5,7 +5,8 @@ pub mod Formatting
 pub mod Happened
 pub mod Holding
 pub mod Living
-pub mod Newest
+pub mod Naming
+mod Newest
 pub mod Opening
 pub mod Replying
 pub mod Showing

@@ -29,10 +29,9 @@ use Rattle.world.specs.Comes.{HasHeard, HasReplied, Notes, TakesMessage}
 use Rattle.world.specs.declared.event.Doing.{Doing}
 use Rattle.world.specs.declared.event.Reply.{Reply}
 use Rattle.lives.specs.Carries.{answer_of, left_by_refusal, unopened}
-use Rattle.lives.specs.Fleet.{ActsAt, AreShards, IsOrderlyAt, changed_at, crashed_at, crashed_in_at, looked, looked_back, shards_by}
-use Rattle.lives.specs.Lives.{crash_by}
-use Rattle.lives.specs.Runs.{ComesAfter, IsRun, act_at, crash_at, crash_in_at, crash_reply}
-use Rattle.lives.specs.Shows.{done_by}
+use Rattle.lives.specs.Fleet.{ActsAt, AreShards, CrashesAt, IsOrderlyAt, crash_within, looked, shards_by}
+use Rattle.lives.specs.Runs.{ComesAfter, IsRun, act_at}
+use Rattle.lives.specs.Shows.{done_by, look_by}
 use Rattle.lives.proofs.Crashing.{crash_is_old}
 use Rattle.lives.specs.declared.run.Run.{Run}
 
@@ -44,11 +43,6 @@ replaced_same (t ∷ ss) zero s there = ap (λ u. u ∷ ss) (sym (some_same t s 
     some_same : (x y : ShardNow) → Some x ≡ Some y → x ≡ y
     some_same x y e = ap (λ o. elim o as (λ p. ShardNow) [ None ↦ x | Some z ↦ z ]) e
 replaced_same (t ∷ ss) (suc n) s there = ap (λ l. t ∷ l) (replaced_same ss n s there)
-
-past_none : (ss : List ShardNow) (n : ℕ) → nat_lt n (length ss) ≡ true → slice_get ss n ≡ None → ⊥
-past_none [] n within none = grind (arith, nat_tests)
-past_none (s ∷ ss) zero within none = cc
-past_none (s ∷ ss) (suc n) within none = past_none ss n (grind (arith, nat_tests)) none
 
 -- ---- a run after an event
 
@@ -115,11 +109,11 @@ module _ (w : World) (old new : Run) (h : IsRun old w) where
 
   -- a look
   pub look_comes : (k : Bytes) (at : ℕ) (shows : Reply) (result : Result Reply Fault)
-      → ((v : World) → IsOutput old.output v → Notes v k at shows new.output result)
+      → Notes w k at shows new.output result
       → new.sessions ≡ old.sessions → new.shards ≡ old.shards → new.time ≡ old.time → ComesAfter (look_noted w k at shows) new result
-  look_comes k at shows (Err fault) notes sessions shards time = notes w h.output
+  look_comes k at shows (Err fault) notes sessions shards time = notes
   look_comes k at (Reply.Shows x) (Ok reply) notes sessions shards time =
-      let r = notes w h.output in (
+      let r = notes in (
         r.0,
         record {
           sessions = subst (λ s. Hosts w.config.splits s w.clients) (sym sessions) h.sessions;
@@ -129,7 +123,7 @@ module _ (w : World) (old new : Run) (h : IsRun old w) where
         },
       )
   look_comes k at (Reply.Refused fault) (Ok reply) notes sessions shards time =
-      let r = notes w h.output in (
+      let r = notes in (
         r.0,
         record {
           sessions = subst (λ s. Hosts w.config.splits s w.clients) (sym sessions) h.sessions;
@@ -139,7 +133,7 @@ module _ (w : World) (old new : Run) (h : IsRun old w) where
         },
       )
   look_comes k at Reply.Done (Ok reply) notes sessions shards time =
-      let r = notes w h.output in (
+      let r = notes in (
         r.0,
         record {
           sessions = subst (λ s. Hosts w.config.splits s w.clients) (sym sessions) h.sessions;
@@ -149,7 +143,7 @@ module _ (w : World) (old new : Run) (h : IsRun old w) where
         },
       )
   look_comes k at Reply.Crashed (Ok reply) notes sessions shards time =
-      let r = notes w h.output in (
+      let r = notes in (
         r.0,
         record {
           sessions = subst (λ s. Hosts w.config.splits s w.clients) (sym sessions) h.sessions;
@@ -279,54 +273,47 @@ module _ (w : World) (old new : Run) (h : IsRun old w) where
           (answered_so p result shards (subst (λ a. HasReplied (record w { shards = p.1 }) a new.output result) same (replies (record w { shards = p.1 })
           (output_with p.1))) sessions time)
 
-  -- a crash of a shard that is there
-  changes : (n : ℕ) (f : ShardNow → ShardNow) → nat_lt n (length w.shards) ≡ true → AreShards w.config new.shards (changed_at f w.shards n)
+  -- a crash, where the shard exists
+  crashes : (n : ℕ) (f : ShardNow → ShardNow) (result : Result Reply Fault) → CrashesAt w.config f w.shards n new.shards result
       → new.sessions ≡ old.sessions → new.output ≡ old.output → new.time ≡ old.time
-      → ComesAfter (at_shard w n (λ setup s. (set_shard n (f s) w, Reply.Crashed))) new (Ok Reply.Crashed)
-  changes n f within shards sessions output time = by_place (slice_get w.shards n) refl shards
+      → ComesAfter (at_shard w n (λ setup s. (set_shard n (f s) w, Reply.Crashed))) new result
+  crashes n f (Err fault) c sessions output time = c
+  crashes n f (Ok reply) c sessions output time = by_place (slice_get w.shards n) c
     where
-      over : slice_get w.shards n ≡ None → ⊥
-      over none = past_none w.shards n within none
-
-      by_place : (o : Option ShardNow) → slice_get w.shards n ≡ o
-          → AreShards w.config new.shards (elim o as (λ x. List ShardNow) [ None ↦ w.shards | Some s ↦ replaced w.shards n (f s) ])
-          → ComesAfter (elim o as (λ x. After) [ None ↦ refused w Stranger | Some s ↦ (set_shard n (f s) w, Reply.Crashed) ]) new (Ok Reply.Crashed)
-      by_place None there k = absurd (over there)
-      by_place (Some s) there k = (
-        refl,
+      by_place : (o : Option ShardNow)
+          → (reply ≡ elim o as (λ x. Reply) [ None ↦ Reply.Refused Stranger | Some s ↦ Reply.Crashed ])
+          × AreShards w.config new.shards (elim o as (λ x. List ShardNow) [ None ↦ w.shards | Some s ↦ replaced w.shards n (f s) ])
+          → ComesAfter (elim o as (λ x. After) [ None ↦ refused w Stranger | Some s ↦ (set_shard n (f s) w, Reply.Crashed) ]) new (Ok reply)
+      by_place None k = (
+        k.0,
         record {
           sessions = hosts_in sessions;
-          shards = k;
+          shards = k.1;
+          output = subst (λ p. IsOutput p w) (sym output) h.output;
+          time = time ∙ h.time;
+        },
+      )
+      by_place (Some s) k = (
+        k.0,
+        record {
+          sessions = hosts_in sessions;
+          shards = k.1;
           output = subst (λ p. IsOutput p (record w { shards = replaced w.shards n (f s) })) (sym output) (output_with (replaced w.shards n (f s)));
           time = time ∙ h.time;
         },
       )
 
-  pub crash_comes : (n : ℕ) → nat_lt n (length w.shards) ≡ true → AreShards w.config new.shards (crashed_at w.shards n Left.Old)
-      → new.sessions ≡ old.sessions → new.output ≡ old.output → new.time ≡ old.time → ComesAfter (crash_at w n) new (Ok Reply.Crashed)
-  crash_comes n within shards = changes n (λ s. crashed s s.log) within (subst (AreShards w.config new.shards) (by_place (slice_get w.shards n)) shards)
-    where
-      by_place : (o : Option ShardNow) → elim o as (λ x. List ShardNow) [ None ↦ w.shards | Some s ↦ replaced w.shards n (crash_by Left.Old s) ]
-          ≡ elim o as (λ x. List ShardNow) [ None ↦ w.shards | Some s ↦ replaced w.shards n (crashed s s.log) ]
-      by_place None = refl
-      by_place (Some s) = ap (replaced w.shards n) (crash_is_old s)
+  pub crash_comes : (n : ℕ) (result : Result Reply Fault) → CrashesAt w.config (crash_within w.config w.bag n None Left.Old) w.shards n new.shards result
+      → new.sessions ≡ old.sessions → new.output ≡ old.output → new.time ≡ old.time
+      → ComesAfter (at_shard w n (λ setup s. (set_shard n (crashed s s.log) w, Reply.Crashed))) new result
+  crash_comes n result c =
+      crashes n (λ s. crashed s s.log) result (subst (λ f. CrashesAt w.config f w.shards n new.shards result) (λ i s. crash_is_old s i) c)
 
-  pub crash_in_comes : (n call : ℕ) (fate : Left) (doing : Doing) → nat_lt n (length w.shards) ≡ true
-      → AreShards w.config new.shards (crashed_in_at w.config w.bag w.shards n call fate doing)
-      → new.sessions ≡ old.sessions → new.output ≡ old.output → new.time ≡ old.time → ComesAfter (crash_in_at w n call fate doing) new (Ok Reply.Crashed)
-  crash_in_comes n call fate doing within shards = changes n (λ s. crashed_in s call fate doing (effect (setup_of w.config n) w.bag s doing)) within shards
-
-  -- there is no shard to crash
-  pub none_crashes : (n : ℕ) (f : Setup → ShardNow → After) → nat_lt n (length w.shards) ≡ false → ComesAfter (at_shard w n f) old (Ok (Reply.Refused Stranger))
-  none_crashes n f over =
-      subst (λ o. ComesAfter (elim o as (λ x. After) [ None ↦ refused w Stranger | Some s ↦ f (setup_of w.config n) s ]) old (Ok (Reply.Refused Stranger)))
-      (sym (slice_get_past w.shards n (grind (arith, nat_tests)))) (refl, h)
-
--- a crash that is done, but for want of memory
-pub when_done : {P : Type 0} (new : Run) (after : After) (done : Result (Unit {0}) Fault) → OnOk done P → IfErr done (λ fault. fault ≡ Memory)
-    → (P → ComesAfter after new (Ok Reply.Crashed)) → ComesAfter after new (crash_reply done)
-when_done new after (Ok x) h memory f = f h
-when_done new after (Err fault) h memory f = memory
+  pub crash_in_comes : (n call : ℕ) (fate : Left) (doing : Doing) (result : Result Reply Fault)
+      → CrashesAt w.config (crash_within w.config w.bag n (Some (call, doing)) fate) w.shards n new.shards result
+      → new.sessions ≡ old.sessions → new.output ≡ old.output → new.time ≡ old.time
+      → ComesAfter (at_shard w n (λ setup s. (set_shard n (crashed_in s call fate doing (effect setup w.bag s doing)) w, Reply.Crashed))) new result
+  crash_in_comes n call fate doing result c = crashes n (crash_within w.config w.bag n (Some (call, doing)) fate) result c
 
 -- a message to a shard, and one to a session
 pub for_shard : (w : World) (m n : ℕ) (now : Interval) (e : Envelope) → slice_get w.bag m ≡ Some e → e.to ≡ Shard n →
@@ -341,29 +328,16 @@ unfolding deliver_to
 for_session w m t now e there to =
     ap (deliver_to w m now) there ∙ ap (λ a. elim a as (λ x. After) [ Shard k ↦ do_at w k (Doing.Take m now) | Session u ↦ to_session w e.message ]) to
 
--- a look at a shard, and at a view of it
-pub looks : (w : World) (n : ℕ) (k : Bytes) (at : ℕ) → at_shard w n (λ setup s. look_noted w k at (look_shard setup s k at)) ≡
-    look_noted w k at (looked w.config w.shards n k at)
-looks w n k at = by_place (slice_get w.shards n)
+-- a look at a shard, or at a view of it
+pub looks : (w : World) (n : ℕ) (view : Option ℕ) (k : Bytes) (at : ℕ) → at_shard w n (λ setup s. look_noted w k at (look_by setup s view k at)) ≡
+    look_noted w k at (looked w.config w.shards n view k at)
+looks w n view k at = by_place (slice_get w.shards n)
   where
     by_place : (o : Option ShardNow) → elim o as (λ x. After) [
       | None ↦ refused w Stranger
       | Some s ↦
-          look_noted w k at (look_shard (setup_of w.config n) s k at)
+          look_noted w k at (look_by (setup_of w.config n) s view k at)
     ]
-        ≡ look_noted w k at (elim o as (λ x. Reply) [ None ↦ Reply.Refused Stranger | Some s ↦ look_shard (setup_of w.config n) s k at ])
-    by_place None = refl
-    by_place (Some s) = refl
-
-pub looks_back : (w : World) (n v : ℕ) (k : Bytes) (at : ℕ) →
-    at_shard w n (λ setup s. look_noted w k at (look_at_view setup (slice_get s.views v) k at)) ≡ look_noted w k at (looked_back w.config w.shards n v k at)
-looks_back w n v k at = by_place (slice_get w.shards n)
-  where
-    by_place : (o : Option ShardNow) → elim o as (λ x. After) [
-      | None ↦ refused w Stranger
-      | Some s ↦
-          look_noted w k at (look_at_view (setup_of w.config n) (slice_get s.views v) k at)
-    ]
-        ≡ look_noted w k at (elim o as (λ x. Reply) [ None ↦ Reply.Refused Stranger | Some s ↦ look_at_view (setup_of w.config n) (slice_get s.views v) k at ])
+        ≡ look_noted w k at (elim o as (λ x. Reply) [ None ↦ Reply.Refused Stranger | Some s ↦ look_by (setup_of w.config n) s view k at ])
     by_place None = refl
     by_place (Some s) = refl

@@ -443,26 +443,26 @@ crash_in_stands setup bag s call fate doing old new h kept l =
     (crash_stands setup s (left_by s (Some call) doing st) fate old new h kept (left_views setup bag s (Some call) doing old new h kept st) l)
 
 -- so by the contracts of the code
-pub crash_so : (setup : Setup) (s : ShardNow) (fate : Left) (old new : RunShard) (r : Result (Unit {0}) Fault) → StandsFor setup old s → OnOk r (IsKept old new)
+pub crash_so : (setup : Setup) (s : ShardNow) (fate : Left) (old new : RunShard) (r : Result Reply Fault) → StandsFor setup old s → IsKept old new
     → ((t : ShardNow) → LivesAs old.setup t old.life → OnOk r (LivesAs old.setup (crash_by fate t) new.life)) → OnOk r (StandsFor setup new (crash_by fate s))
 crash_so setup s fate old new (Err fault) h kept fallen = tt
-crash_so setup s fate old new (Ok done) h kept fallen =
+crash_so setup s fate old new (Ok reply) h kept fallen =
     crash_stands setup s s fate old new h kept refl
     (subst (λ x. LivesAs x (crash_by fate s) new.life) h.setup_is (fallen s (subst (λ x. LivesAs x s old.life) (sym h.setup_is) h.lives)))
 
 pub crash_in_so : (setup : Setup) (bag : List Envelope) (s : ShardNow) (call : ℕ) (fate : Left) (doing : Doing) (old mid new : RunShard)
-    (answer : Result (List Envelope) Fault) (r : Result (Unit {0}) Fault) → StandsFor setup old s → IsKept old mid
+    (answer : Result (List Envelope) Fault) (r : Result Reply Fault) → StandsFor setup old s → IsKept old mid
     → ((t : ShardNow) → LivesAs old.setup t old.life → Carries old.setup bag t (Some call) doing mid.life answer) → answer ≢ Err Memory
-    → OnOk r (IsKept mid new) → ((t : ShardNow) → LivesAs mid.setup t mid.life → OnOk r (LivesAs mid.setup (crash_by fate t) new.life))
+    → IsKept mid new → ((t : ShardNow) → LivesAs mid.setup t mid.life → OnOk r (LivesAs mid.setup (crash_by fate t) new.life))
     → IsOrderly setup s (effect setup bag s doing) → OnOk r (StandsFor setup new (crashed_in s call fate doing (effect setup bag s doing)))
-crash_in_so setup bag s call fate doing old mid new answer (Err fault) h kept carried other more fallen orderly = tt
-crash_in_so setup bag s call fate doing old mid new answer (Ok done) h kept carried other more fallen orderly =
+crash_in_so setup bag s call fate doing old mid new answer (Err fault) h kept carried other later fallen orderly = tt
+crash_in_so setup bag s call fate doing old mid new answer (Ok reply) h kept carried other later fallen orderly =
     crash_in_stands setup bag s call fate doing old new h
     (record {
-      setup = more.setup ∙ kept.setup;
-      installs = more.installs ∙ kept.installs;
-      from = more.from ∙ kept.from;
-      views = more.views ∙ kept.views;
+      setup = later.setup ∙ kept.setup;
+      installs = later.installs ∙ kept.installs;
+      from = later.from ∙ kept.from;
+      views = later.views ∙ kept.views;
     })
     (subst (λ x. LivesAs x (crash_by fate t) new.life) told (fallen t (subst (λ x. LivesAs x t mid.life) (sym told) lives)))
   where

@@ -1,7 +1,7 @@
 -- How the shards of a run in the code stand for those of the definitions.
-use Rattle.std.specs.Prelude.{ℕ, suc, ◌≡◌, ◌⊎◌, List, [], ◌∷◌, length, replicate, slice_get, Option, Some, None, Result, Ok, Err}
+use Rattle.std.specs.Prelude.{ℕ, suc, ◌≡◌, ◌⊎◌, not, nat_lt, List, [], ◌∷◌, length, replicate, slice_get, Option, Some, None, Result, Ok, Err}
 use Rattle.units.specs.Keys.{Bytes}
-use Rattle.units.specs.Lists.{replaced}
+use Rattle.units.specs.Lists.{replaced, when}
 use Rattle.units.specs.declared.fault.Fault.{Fault}
 use Rattle.units.specs.declared.fault.Fault.TheVariants.{Memory, Stranger}
 use Rattle.disk.specs.File.{surface}
@@ -11,13 +11,14 @@ use Rattle.message.specs.declared.message.Envelope.{Envelope}
 use Rattle.shard.specs.Logs.{records_in}
 use Rattle.simdisk.specs.State.{disk_file}
 use Rattle.simdisk.specs.declared.simdisk.SimDisk.{SimDisk}
-use Rattle.world.specs.World.{ShardNow, crashed_in, effect, fresh_shard, look_at_view, look_shard, setup_of}
+use Rattle.world.specs.World.{ShardNow, effect, fresh_shard, setup_of}
+use Rattle.world.specs.Lawful.{is_down, is_up}
 use Rattle.world.specs.declared.event.Config.{Config}
 use Rattle.world.specs.declared.event.Doing.{Doing}
 use Rattle.world.specs.declared.event.Reply.{Reply}
 use Rattle.lives.specs.Carries.{IsOrderly, answer_of}
-use Rattle.lives.specs.Lives.{crash_by}
-use Rattle.lives.specs.Shows.{StandsFor, done_by}
+use Rattle.lives.specs.Shows.{StandsFor, crashed_within, done_by, look_by}
+use Rattle.lives.specs.declared.fleet.Known.{Known}
 use Rattle.lives.specs.declared.fleet.Shards.{Shards}
 use Rattle.lives.specs.declared.run_shard.RunShard.{RunShard}
 
@@ -59,21 +60,28 @@ ActsAt config bag ss n call doing new result =
 abbrev pub changed_at : (ShardNow → ShardNow) → List ShardNow → ℕ → List ShardNow
 changed_at f ss n = elim (slice_get ss n) [ None ↦ ss | Some s ↦ replaced ss n (f s) ]
 
--- a crash of a shard
-abbrev pub crashed_at : List ShardNow → ℕ → Left → List ShardNow
-crashed_at ss n fate = changed_at (crash_by fate) ss n
+-- a shard crashes, where it exists, and is then this; or memory was refused
+abbrev pub CrashesAt : Config → (ShardNow → ShardNow) → List ShardNow → ℕ → Shards → Result Reply Fault → Type 0
+CrashesAt config f ss n new (Ok reply) =
+    (reply ≡ elim (slice_get ss n) [ None ↦ Reply.Refused Stranger | Some s ↦ Reply.Crashed ]) × AreShards config new (changed_at f ss n)
+CrashesAt config f ss n new (Err fault) = fault ≡ Memory
 
--- a crash in a call of a doing
-abbrev pub crashed_in_at : Config → List Envelope → List ShardNow → ℕ → ℕ → Left → Doing → List ShardNow
-crashed_in_at config bag ss n call fate doing = changed_at (λ s. crashed_in s call fate doing (effect (setup_of config n) bag s doing)) ss n
+-- a crash in a call of a doing, or in none
+abbrev pub crash_within : Config → List Envelope → ℕ → Option (ℕ × Doing) → Left → ShardNow → ShardNow
+crash_within config bag n within fate s = crashed_within (setup_of config n) bag within fate s
 
--- the reply to a look at a shard, where it exists
-abbrev pub looked : Config → List ShardNow → ℕ → Bytes → ℕ → Reply
-looked config ss n k at = elim (slice_get ss n) [ None ↦ Reply.Refused Stranger | Some s ↦ look_shard (setup_of config n) s k at ]
+-- the reply to a look at a view of a shard, or at what it shows now, where it exists
+abbrev pub looked : Config → List ShardNow → ℕ → Option ℕ → Bytes → ℕ → Reply
+looked config ss n view k at = elim (slice_get ss n) [ None ↦ Reply.Refused Stranger | Some s ↦ look_by (setup_of config n) s view k at ]
 
--- the reply to a look at a view of it
-abbrev pub looked_back : Config → List ShardNow → ℕ → ℕ → Bytes → ℕ → Reply
-looked_back config ss n v k at = elim (slice_get ss n) [ None ↦ Reply.Refused Stranger | Some s ↦ look_at_view (setup_of config n) (slice_get s.views v) k at ]
+-- what is known of a shard: it exists or not, it does not run, it is not down, and it has made so many views
+abbrev pub known_of : List ShardNow → ℕ → Known
+known_of ss n = record {
+  exists = nat_lt n (length ss);
+  rests = when (λ s. not (is_up s.state)) (slice_get ss n);
+  stands = when (λ s. not (is_down s.state)) (slice_get ss n);
+  views = elim (slice_get ss n) [ None ↦ 0 | Some s ↦ length s.views ];
+}
 
 -- ---- what is left of them
 

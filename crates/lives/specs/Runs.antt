@@ -1,23 +1,18 @@
 -- How a run in the code stands for a world of the definitions, and what its events come to.
-use Rattle.std.specs.Prelude.{ℕ, ◌≡◌, ◌⊎◌, true, false, List, Option, None, Some, Result, Ok, Err}
+use Rattle.std.specs.Prelude.{ℕ, ◌≡◌, ◌⊎◌, Bool, true, false, List, Option, None, Some, Result, Ok, Err}
 use Rattle.units.specs.declared.fault.Fault.{Fault}
 use Rattle.units.specs.declared.fault.Fault.TheVariants.{Memory, BadRequest}
 use Rattle.units.specs.declared.fault.Reason.TheVariants.{Unlawful}
-use Rattle.disk.specs.declared.plan.Fate.{Fate as Left}
-use Rattle.world.specs.World.{World, After, at_shard, crashed, crashed_in, did, did_with_failure, do_at, effect, happens, refused, set_shard}
+use Rattle.world.specs.World.{World, After, at_shard, did_with_failure, do_at, effect, happens}
 use Rattle.world.specs.Lawful.{may_happen}
 use Rattle.world.specs.Hosts.{Hosts}
 use Rattle.world.specs.Passed.{IsOutput}
+use Rattle.world.specs.declared.event.Act.{Act}
 use Rattle.world.specs.declared.event.Doing.{Doing}
 use Rattle.world.specs.declared.event.Event.{Event}
 use Rattle.world.specs.declared.event.Reply.{Reply}
 use Rattle.lives.specs.Fleet.{AreShards}
 use Rattle.lives.specs.declared.run.Run.{Run}
-
--- the reply to a crash
-abbrev pub crash_reply : Result (Unit {0}) Fault → Result Reply Fault
-crash_reply (Ok done) = Ok Reply.Crashed
-crash_reply (Err fault) = Err fault
 
 -- its sessions, its shards, what was put out, and its time
 pub record IsRun (r : Run) (w : World) : Type 0 where
@@ -31,18 +26,20 @@ abbrev pub ComesAfter : After → Run → Result Reply Fault → Type 0
 ComesAfter after new (Ok reply) = (reply ≡ after.1) × IsRun new after.0
 ComesAfter after new (Err fault) = fault ≡ Memory
 
+-- the act names a shard
+abbrev pub names_shard : Act → Bool
+names_shard (Act.At n doing) = true
+names_shard (Act.Look n k at) = true
+names_shard (Act.View n v k at) = true
+names_shard (Act.Crash n) = true
+names_shard (Act.CrashIn n call fate named doing) = true
+names_shard (Act.FailIn n call named doing) = true
+names_shard _ = false
+
 -- a doing at a shard, with a call that fails or with none
 abbrev pub act_at : World → ℕ → Option ℕ → Doing → After
 act_at w n None doing = do_at w n doing
 act_at w n (Some call) doing = at_shard w n (λ setup s. did_with_failure w n s call doing (effect setup w.bag s doing))
-
--- a crash of a shard
-abbrev pub crash_at : World → ℕ → After
-crash_at w n = at_shard w n (λ setup s. (set_shard n (crashed s s.log) w, Reply.Crashed))
-
--- a crash in a call of a doing
-abbrev pub crash_in_at : World → ℕ → ℕ → Left → Doing → After
-crash_in_at w n call fate doing = at_shard w n (λ setup s. (set_shard n (crashed_in s call fate doing (effect setup w.bag s doing)) w, Reply.Crashed))
 
 -- the event may happen, and the run is the world after it; or it may not; or memory was refused
 abbrev pub TakesEvent : World → Event → Run → Result Reply Fault → Type 0

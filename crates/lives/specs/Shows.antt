@@ -1,10 +1,12 @@
 -- How a shard of a run in the code stands for one of the definitions, with its views.
 use Rattle.std.specs.List.{list_all}
 use Rattle.std.specs.Prelude.{◌≡◌, ◌≤◌, ℕ, ◌+◌, ◌-◌, Bool, true, false, not, cond, nat_le, List, [], ◌∷◌, ◌++◌, length, map, take, drop, Option, Some}
-use Rattle.std.specs.Prelude.{None, Result}
+use Rattle.std.specs.Prelude.{None, Result, slice_get}
+use Rattle.units.specs.Keys.{Bytes}
 use Rattle.units.specs.declared.fault.Fault.{Fault}
 use Rattle.units.specs.declared.setup.Setup.{Setup}
 use Rattle.units.specs.declared.writes.Install.{Install}
+use Rattle.disk.specs.declared.plan.Fate.{Fate}
 use Rattle.record.specs.Facts.{facts_of}
 use Rattle.record.specs.declared.record.Record.{Record}
 use Rattle.message.specs.declared.message.Envelope.{Envelope}
@@ -13,11 +15,12 @@ use Rattle.shard.specs.Core.{seen}
 use Rattle.shard.specs.Look.{safe_at}
 use Rattle.shard.specs.On.{CoreView}
 use Rattle.simdisk.specs.declared.simdisk.SimDisk.{SimDisk}
-use Rattle.world.specs.World.{ShardNow, State, Runs, IsStopped, IsDown, View, effect, failed_in, finished, makes_view}
+use Rattle.world.specs.World.{ShardNow, State, Runs, IsStopped, IsDown, View, crashed_in, effect, failed_in, finished, look_at_view, look_shard, makes_view}
 use Rattle.lives.specs.Inputs.{goes_on}
 use Rattle.world.specs.declared.event.Doing.{Doing}
+use Rattle.world.specs.declared.event.Reply.{Reply}
 use Rattle.lives.specs.Carries.{Comes, IsOrderly, by_call, left_by_refusal}
-use Rattle.lives.specs.Lives.{LivesAs}
+use Rattle.lives.specs.Lives.{LivesAs, crash_by}
 use Rattle.lives.specs.declared.life.Life.{Life}
 use Rattle.lives.specs.declared.life.Life.TheVariants.{Up, Down}
 use Rattle.lives.specs.declared.run_shard.RunShard.{RunShard}
@@ -90,3 +93,15 @@ pub record HasNoted (doing : Doing) (core : CoreView SimDisk) (old new : RunShar
 abbrev pub NotesOfLife : Doing → RunShard → RunShard → Life → Type 0
 NotesOfLife doing old new (Up core) = HasNoted doing (seen core) old new
 NotesOfLife doing old new (Down disk) = Unit {0}
+
+-- ---- crashes and looks
+
+-- a shard behind a crash in a call of a doing, or in none
+abbrev pub crashed_within : Setup → List Envelope → Option (ℕ × Doing) → Fate → ShardNow → ShardNow
+crashed_within setup bag None fate s = crash_by fate s
+crashed_within setup bag (Some (call, doing)) fate s = crashed_in s call fate doing (effect setup bag s doing)
+
+-- the reply to a look at a view, by its number, or at what the shard shows now
+abbrev pub look_by : Setup → ShardNow → Option ℕ → Bytes → ℕ → Reply
+look_by setup s None k at = look_shard setup s k at
+look_by setup s (Some n) k at = look_at_view setup (slice_get s.views n) k at

@@ -1,24 +1,24 @@
 //! A core while it is up, and its disk while it is down.
 
-ghost use Rattle.std.specs.Prelude.{◌≡◌, ◌∷◌, [], List, Some, true, false, not, IfOk, IfErr, OnOk, ℕ};
+ghost use Rattle.std.specs.Prelude.{◌≡◌, Some, true, not, IfOk, IfErr, OnOk};
 ghost use Rattle.units.specs.declared.setup.Setup.{Setup};
-ghost use Rattle.disk.specs.declared.plan.Fate.{Fate as Left};
 ghost use Rattle.shard.specs.Core.{seen};
 ghost use Rattle.world.specs.World.{ShardNow, input_of};
 ghost use Rattle.lives.specs.Inputs.{goes_on};
 ghost use Rattle.lives.specs.Inputs.{IsNoInput};
-ghost use Rattle.world.specs.Lawful.{is_down, is_up};
+ghost use Rattle.world.specs.Lawful.{is_up};
 ghost use Rattle.lives.specs.Lives.{HoldsLog, LivesAs, crash_by};
-ghost use Rattle.lives.specs.Carries.{Carries, DoesInput, OpensDisk, TakesInput};
+ghost use Rattle.lives.specs.Carries.{Carries, DoesInput, OpensDisk};
 
-use disk::Disk;
+use disk::{Disk, Fate};
 use message::{Envelope, Input, Outbox};
 use shard::Core;
 use simdisk::{Choice, SimDisk};
 use std::alloc::Global;
+use std::mem::replace;
 use truetime::Reading;
-use units::{Fault, Setup};
-use world::Doing;
+use units::{Book, Fault, Setup, ShardNo, Splits, Stride};
+use world::{Doing, Reply};
 
 /// The core of a shard, which runs or was stopped by its device, or the disk that is left of one that is down. It has to
 /// be spent.
@@ -39,17 +39,6 @@ impl Life {
         }
     }
 
-    /// It is down.
-    pub fn is_down(&self) -> bool
-        ensures { (setup : Setup) (s : ShardNow) → LivesAs setup s self.now
-            → result ≡ is_down s.state }
-    {
-        match self {
-            Life::Up(_) => false,
-            Life::Down(_) => true,
-        }
-    }
-
     /// Its disk as it is.
     #[tactic(none)]
     pub fn into_disk(self) -> SimDisk
@@ -61,46 +50,51 @@ impl Life {
         }
     }
 
-    /// A crash, by a choice for each change that is not synced. Of these there is one at most.
-    #[tactic(none)]
-    pub fn crash(self, choice: &Choice) -> Life
-        ensures { (setup : Setup) (s : ShardNow) (fate : Left) → choice.now ≡ fate ∷ []
-            → LivesAs setup s self → LivesAs setup (crash_by fate s) result }
+    /// A crash. The oldest change that is not synced has this fate.
+    pub fn crash(&mut self, alloc: Global, fate: Fate) -> Result<Reply, Fault>
+        ensures crashed { (setup : Setup) (s : ShardNow) → LivesAs setup s self.old
+            → OnOk result (LivesAs setup (crash_by fate s) self.new) }
+        ensures reply { IfOk result (λ reply. reply ≡ Reply.Crashed) }
+        ensures memory { IfErr result (λ fault. fault ≡ Fault.Memory) }
     {
-        Life::Down(self.into_disk().crash(choice))
+        let mut fates = Vec::new(alloc);
+        fates.push(fate)?;
+        let disk = replace(self, Life::Down(SimDisk::new(alloc))).into_disk();
+        let disk = disk.crash(&Choice::from_vec(fates));
+        drop(replace(self, Life::Down(disk)).into_disk());
+        Ok(Reply::Crashed)
     }
 
     /// What a shard does, with a device call of its append, by its number from 0, armed to fail, or with none.
     #[tactic(none)]
     pub fn carry(
-        self,
+        &mut self,
         alloc: Global,
         setup: &Setup,
         bag: &[Envelope],
         call: Option<u64>,
         doing: &Doing,
-    ) -> (Life, Result<Outbox, Fault>)
-        ensures { (s : ShardNow) → LivesAs setup.now s self
-            → Carries setup.now bag.now s call doing.now result.0 result.1 }
+    ) -> Result<Outbox, Fault>
+        ensures { (s : ShardNow) → LivesAs setup.now s self.old
+            → Carries setup.now bag.now s call doing.now self.new result }
     {
         if opens(doing) {
             if self.is_up() {
-                return (self, Err(Fault::Stopped));
+                return Err(Fault::Stopped);
             }
-            return open(self.into_disk(), alloc, setup, call);
+            let disk = replace(self, Life::Down(SimDisk::new(alloc))).into_disk();
+            let (life, result) = open(disk, alloc, setup, call);
+            drop(replace(self, life).into_disk());
+            return result;
         }
         match self {
-            Life::Up(core) => {
-                let mut core = core;
-                let result = do_input(&mut core, alloc, bag, call, doing);
-                (Life::Up(core), result)
-            }
-            Life::Down(disk) => (Life::Down(disk), Err(Fault::Stopped)),
+            Life::Up(core) => do_input(core, alloc, bag, call, doing),
+            Life::Down(_) => Err(Fault::Stopped),
         }
     }
 }
 
-// A core takes the input of a doing.
+// A core takes the input of a doing, with a device call of its append armed, or with none. Behind it no call is armed.
 #[tactic(none)]
 fn do_input(
     core: &mut Core<SimDisk>,
@@ -114,29 +108,14 @@ fn do_input(
 {
     match input_of(alloc, bag, doing) {
         Ok((now, input)) => {
-            let result = take(core, alloc, call, &now, &input);
+            core.arm(call);
+            let result = core.on(alloc, &now, &input);
+            core.arm(None);
             drop(input);
             result
         }
         Err(fault) => Err(fault),
     }
-}
-
-// A core takes an input, with a device call of its append armed, or with none. Behind it no call is armed.
-#[tactic(none)]
-fn take(
-    core: &mut Core<SimDisk>,
-    alloc: Global,
-    call: Option<u64>,
-    now: &Reading,
-    input: &Input,
-) -> Result<Outbox, Fault>
-    ensures { TakesInput (seen core.old) (seen core.new) call now.now input.now result }
-{
-    core.arm(call);
-    let result = core.on(alloc, now, input);
-    core.arm(None);
-    result
 }
 
 // A disk is opened, with a device call of the append armed, or with none. It stays down where that is refused, or fails.
@@ -150,7 +129,7 @@ fn open(
     ensures { OpensDisk disk setup.now call result.0 result.1 }
 {
     let mut disk = disk;
-    let told = match copy_of(alloc, setup) {
+    let told = match setup_with(alloc, setup.shard, &setup.splits, setup.stride, setup.book) {
         Ok(told) => told,
         Err(fault) => return (Life::Down(disk), Err(fault)),
     };
@@ -170,16 +149,27 @@ fn open(
 }
 
 // What a shard is told, with memory of its own.
-fn copy_of(alloc: Global, setup: &Setup) -> Result<Setup, Fault>
-    ensures same { IfOk result (λ copy. copy ≡ setup.now) }
+pub fn setup_with(
+    alloc: Global,
+    shard: ShardNo,
+    splits: &Splits,
+    stride: Stride,
+    book: Book,
+) -> Result<Setup, Fault>
+    ensures same { IfOk result (λ told. told ≡ record {
+      shard = shard;
+      splits = splits.now;
+      stride = stride;
+      book = book;
+    }) }
     ensures memory { IfErr result (λ fault. fault ≡ Fault.Memory) }
 {
-    match setup.splits.copy(alloc) {
+    match splits.copy(alloc) {
         Ok(splits) => Ok(Setup {
-            shard: setup.shard,
+            shard,
             splits,
-            stride: setup.stride,
-            book: setup.book,
+            stride,
+            book,
         }),
         Err(fault) => Err(fault),
     }

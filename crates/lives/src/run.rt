@@ -1,13 +1,14 @@
 //! A run of events.
 ghost use Rattle.std.specs.Prelude.{◌≡◌, ◌<◌, ◌-◌, ◌^◌, ℕ, None, true, map, slice_get, IfOk, IfErr};
 ghost use Rattle.world.specs.World.{World, acts, begin, client_of, deliver_to, logs_of, start};
-ghost use Rattle.world.specs.Lawful.{may_act, may_happen};
+ghost use Rattle.world.specs.Lawful.{may_act};
 ghost use Rattle.world.specs.Steady.{IsSteady};
 ghost use Rattle.lives.specs.Fleet.{AreOn};
-ghost use Rattle.lives.specs.Runs.{ComesAfter, IsRun, TakesEvent, act_at, crash_at, crash_in_at, crash_reply};
+ghost use Rattle.lives.specs.Runs.{ComesAfter, IsRun, TakesEvent, act_at, names_shard};
 
-use crate::fleet::Shards;
-use crate::lawfulness::{may_crash, may_deliver, may_do};
+use crate::fleet::{Shards, fill, spend_all, take_logs};
+use crate::lawfulness::{may_deliver, may_do};
+use crate::life::opens;
 use bag::Bag;
 use disk::Fate;
 use message::Address;
@@ -41,25 +42,25 @@ impl<'s> Run<'s> {
         ensures started { IfOk result (λ run. IsRun run (start config.now)) }
         ensures memory { IfErr result (λ fault. fault ≡ Fault.Memory) }
     {
-        match Shards::start(alloc, config) {
-            Ok(shards) => Ok(Run {
+        let mut shards = Vec::new(alloc);
+        match fill(&mut shards, alloc, config) {
+            Ok(()) => Ok(Run {
                 sessions: Sessions::none(alloc, &config.splits),
-                shards,
+                shards: Shards {
+                    splits: &config.splits,
+                    shards,
+                },
                 output: RunOutput::new(alloc),
                 time: 0,
             }),
-            Err(fault) => Err(fault),
+            Err(fault) => {
+                spend_all(shards);
+                Err(fault)
+            }
         }
     }
 
-    // The event may happen now.
-    fn may_happen(&self, event: &Event) -> bool
-        ensures { (w : World) → IsRun self.now w → result ≡ may_happen w event.now }
-    {
-        self.time <= event.time && self.may_act(event.time, &event.act)
-    }
-
-    // So may the act, at a true time.
+    // The act may happen at a true time.
     #[tactic(auto, unfolding(world::specs::Lawful::may_act))]
     fn may_act(&self, time: u64, act: &Act) -> bool
         ensures { (w : World) → IsRun self.now w → result ≡ may_act w time act.now }
@@ -71,25 +72,40 @@ impl<'s> Run<'s> {
             Act::Close(txn) => self.sessions.has(*txn),
             Act::Quit(txn) => self.sessions.has(*txn),
             Act::Deliver(number, now) => {
-                may_deliver(&self.sessions, &self.output, time, *number, now)
+                may_deliver(&self.sessions, &self.output.bag, time, *number, now)
             }
+            _ => self.may_act_at(time, act),
+        }
+    }
+
+    // So may one that names a shard.
+    #[tactic(auto, unfolding(world::specs::Lawful::may_act))]
+    fn may_act_at(&self, time: u64, act: &Act) -> bool
+        requires { names_shard act.now ≡ true }
+        ensures { (w : World) → IsRun self.now w → result ≡ may_act w time act.now }
+    {
+        match act {
             Act::At(shard, doing) => {
-                self.shards.has(*shard) && may_do(&self.shards, &self.output, time, *shard, doing)
+                let known = self.shards.known(*shard);
+                known.exists && may_do(known, &self.output.bag, time, *shard, doing)
             }
-            Act::Look(shard, _, _) => self.shards.has(*shard),
-            Act::View(shard, number, _, _) => self.shards.has_view(*shard, *number),
-            Act::Crash(shard) => self.shards.stands(*shard),
+            Act::Look(shard, _, _) => self.shards.known(*shard).exists,
+            Act::View(shard, number, _, _) => *number < self.shards.known(*shard).views,
+            Act::Crash(shard) => self.shards.known(*shard).stands,
             Act::CrashIn(shard, _, _, at, doing) => {
-                self.shards.has(*shard)
+                let known = self.shards.known(*shard);
+                known.exists
                     && shard.number() == at.number()
-                    && may_do(&self.shards, &self.output, time, *shard, doing)
-                    && may_crash(&self.shards, *shard, doing)
+                    && may_do(known, &self.output.bag, time, *shard, doing)
+                    && (opens(doing) || known.stands)
             }
             Act::FailIn(shard, _, at, doing) => {
-                self.shards.has(*shard)
+                let known = self.shards.known(*shard);
+                known.exists
                     && shard.number() == at.number()
-                    && may_do(&self.shards, &self.output, time, *shard, doing)
+                    && may_do(known, &self.output.bag, time, *shard, doing)
             }
+            _ => unreachable!(),
         }
     }
 
@@ -99,7 +115,7 @@ impl<'s> Run<'s> {
         ensures { (w : World) → w.event ≡ number → IsRun self.old w → IsSteady w
             → TakesEvent w event.now self.new result }
     {
-        if !self.may_happen(event) {
+        if event.time < self.time || !self.may_act(event.time, &event.act) {
             return Err(Fault::BadRequest(Reason::Unlawful(number)));
         }
         match self.act(alloc, &event.act) {
@@ -139,22 +155,37 @@ impl<'s> Run<'s> {
                 self.output.reply(moved)
             }
             Act::Deliver(number, now) => self.deliver(alloc, *number, *now),
+            _ => self.act_named(alloc, act),
+        }
+    }
+
+    // So is one that names a shard.
+    fn act_named(&mut self, alloc: Global, act: &Act) -> Result<Reply, Fault>
+        requires { names_shard act.now ≡ true }
+        ensures { (w : World) → IsRun self.old w → IsSteady w
+            → ComesAfter (acts w act.now) self.new result }
+    {
+        match act {
             Act::At(shard, doing) => self.act_at(alloc, *shard, None, doing),
-            Act::Look(shard, key, at) => match self.shards.look(alloc, *shard, key, *at) {
-                Ok(reply) => self.output.note_look(alloc, *key, *at, reply),
-                Err(fault) => Err(fault),
-            },
-            Act::View(shard, number, key, at) => {
-                match self.shards.look_back(alloc, *shard, *number, key, *at) {
-                    Ok(reply) => self.output.note_look(alloc, *key, *at, reply),
-                    Err(fault) => Err(fault),
-                }
+            Act::Look(shard, key, at) => {
+                self.shards
+                    .look(alloc, &mut self.output, *shard, None, key, *at)
             }
-            Act::Crash(shard) => self.crash(alloc, *shard),
+            Act::View(shard, number, key, at) => {
+                self.shards
+                    .look(alloc, &mut self.output, *shard, Some(*number), key, *at)
+            }
+            Act::Crash(shard) => {
+                let bag = self.output.bag.as_slice();
+                self.shards.crash(alloc, bag, *shard, None, Fate::Old)
+            }
             Act::CrashIn(shard, call, fate, _, doing) => {
-                self.crash_in(alloc, *shard, *call, *fate, doing)
+                let bag = self.output.bag.as_slice();
+                self.shards
+                    .crash(alloc, bag, *shard, Some((*call, *doing)), *fate)
             }
             Act::FailIn(shard, call, _, doing) => self.act_at(alloc, *shard, Some(*call), doing),
+            _ => unreachable!(),
         }
     }
 
@@ -206,35 +237,6 @@ impl<'s> Run<'s> {
         self.output.reply(done)
     }
 
-    // A shard crashes: what it has not synced is as it was.
-    fn crash(&mut self, alloc: Global, shard: ShardNo) -> Result<Reply, Fault>
-        ensures { (w : World) → IsRun self.old w → ComesAfter (crash_at w shard) self.new result }
-    {
-        if !self.shards.has(shard) {
-            return Ok(Reply::Refused(Fault::Stranger));
-        }
-        crashed(self.shards.crash(alloc, shard, Fate::Old))
-    }
-
-    // A shard crashes in a device call of a doing.
-    fn crash_in(
-        &mut self,
-        alloc: Global,
-        shard: ShardNo,
-        call: u64,
-        fate: Fate,
-        doing: &Doing,
-    ) -> Result<Reply, Fault>
-        ensures { (w : World) → IsRun self.old w → IsSteady w
-            → ComesAfter (crash_in_at w shard call fate doing.now) self.new result }
-    {
-        if !self.shards.has(shard) {
-            return Ok(Reply::Refused(Fault::Stranger));
-        }
-        let bag = self.output.bag.as_slice();
-        crashed(self.shards.crash_in(alloc, bag, shard, call, fate, doing))
-    }
-
     /// Ends the run: its messages, the disks that it ends with, the logs as reads of these give them, and all lines.
     pub fn finish(self, alloc: Global) -> Result<Finished, Fault>
         ensures disks { IfOk result
@@ -251,11 +253,35 @@ impl<'s> Run<'s> {
             output,
             time: _,
         } = self;
+        let Shards {
+            splits: _,
+            mut shards,
+        } = shards;
         sessions.spend();
-        match shards.finish(alloc) {
-            Ok((disks, logs)) => Ok(end_with(output, disks, logs)),
+        let mut disks = Vec::new(alloc);
+        let mut logs = Vec::new(alloc);
+        let taken = take_logs(&mut shards, alloc, &mut disks, &mut logs);
+        spend_all(shards);
+        match taken {
+            Ok(()) => {
+                let RunOutput {
+                    bag,
+                    told,
+                    lines,
+                    event: _,
+                } = output;
+                drop(told);
+                Ok(Finished {
+                    bag,
+                    disks,
+                    logs,
+                    lines,
+                })
+            }
             Err(fault) => {
-                spend_output(output);
+                drop(output);
+                drop(disks);
+                drop(logs);
                 Err(fault)
             }
         }
@@ -269,40 +295,9 @@ impl<'s> Run<'s> {
             output,
             time: _,
         } = self;
+        let Shards { splits: _, shards } = shards;
         sessions.spend();
-        shards.spend();
-        spend_output(output);
-    }
-}
-
-// The reply to a crash.
-fn crashed(done: Result<(), Fault>) -> Result<Reply, Fault>
-    ensures { result ≡ crash_reply done }
-{
-    match done {
-        Ok(()) => Ok(Reply::Crashed),
-        Err(fault) => Err(fault),
-    }
-}
-
-// What was put out is kept no longer.
-fn spend_output(_output: RunOutput) {}
-
-// What a run ends with, by what it has put out.
-fn end_with(output: RunOutput, disks: Vec<SimDisk>, logs: Vec<Vec<Record>>) -> Finished
-    ensures { (result.bag ≡ output.bag) × (result.lines ≡ output.lines)
-        × (result.disks ≡ disks) × (result.logs ≡ logs) }
-{
-    let RunOutput {
-        bag,
-        told: _,
-        lines,
-        event: _,
-    } = output;
-    Finished {
-        bag,
-        disks,
-        logs,
-        lines,
+        spend_all(shards);
+        drop(output);
     }
 }

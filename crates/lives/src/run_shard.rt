@@ -1,25 +1,24 @@
 //! A shard of a run: what there is of it, and the views that it has made.
-ghost use Rattle.std.specs.Prelude.{◌≡◌, ◌≢◌, ◌∷◌, ◌++◌, [], ℕ, Some, None, Err, true, not, IfOk, IfErr, OnOk, length, map};
-ghost use Rattle.units.specs.declared.setup.Book.{Book};
+ghost use Rattle.std.specs.Prelude.{◌≡◌, ◌≢◌, ◌++◌, ◌≤◌, Err, true, not, IfOk, IfErr, OnOk, length, map};
 ghost use Rattle.units.specs.declared.setup.Setup.{Setup};
-ghost use Rattle.disk.specs.declared.plan.Fate.{Fate as Left};
-ghost use Rattle.world.specs.World.{ShardNow, crashed_in, effect, fresh_shard, makes_view, read_log};
+ghost use Rattle.world.specs.World.{ShardNow, effect, fresh_shard, makes_view, read_log, setup_of};
+ghost use Rattle.world.specs.declared.event.Config.{Config};
 ghost use Rattle.lives.specs.Unopened.{unopened_shard};
-ghost use Rattle.lives.specs.Lives.{HoldsLog, LivesAs, crash_by};
+ghost use Rattle.lives.specs.Lives.{HoldsLog};
 ghost use Rattle.lives.specs.Carries.{IsOrderly};
+ghost use Rattle.lives.specs.Fleet.{IsOn};
 ghost use Rattle.lives.specs.Shows.{StandsFor, begins_at};
 
-use crate::life::{Life, opens};
+use crate::life::{Life, opens, setup_with};
 use crate::view::{View, behind};
 use disk::Fate;
 use gatelog::{Entry, GateLog};
 use message::{Envelope, Outbox};
 use record::Record;
-use simdisk::{Choice, SimDisk};
+use simdisk::SimDisk;
 use std::alloc::Global;
-use std::mem::replace;
-use units::{Fault, Install, Key, Setup, Stamp, copy_value};
-use world::{Doing, Reply};
+use units::{Book, Fault, Install, Key, Setup, ShardNo, Stamp, copy_value};
+use world::{Config, Doing, Reply};
 
 /// A shard of a run: what it is told, its core or its disk, every version that a core of it ever showed, where those of the
 /// last core begin, and the views that count into them. It has to be spent.
@@ -32,21 +31,20 @@ pub struct RunShard {
 }
 
 impl RunShard {
-    ghost use Rattle.std.specs.Prelude.{nat_eq, slice_get};
+    ghost use Rattle.std.specs.Prelude.{nat_eq};
     ghost use Rattle.units.specs.Keys.{shard_of};
-    ghost use Rattle.world.specs.World.{look_at_view, look_shard};
     ghost use Rattle.world.specs.Lawful.{is_down, is_up};
-    ghost use Rattle.lives.specs.Carries.{Carries};
-    ghost use Rattle.lives.specs.Fleet.{IsOn};
-    ghost use Rattle.lives.specs.Shows.{Acts, IsKept, NotesOfLife};
+    ghost use Rattle.world.specs.declared.event.Doing.{Doing};
+    ghost use Rattle.lives.specs.Shows.{Acts, NotesOfLife, crashed_within, look_by};
 
-    /// A shard on a new disk, formatted and opened, with its first view. It is told to keep no book.
-    pub fn fresh(alloc: Global, setup: Setup) -> Result<RunShard, Fault>
-        requires { setup.book ≡ Book.Off }
-        ensures fresh { IfOk result (λ shard. StandsFor setup shard fresh_shard) }
+    /// The shard of a number on a new disk, formatted and opened, with its first view. It is told to keep no book.
+    pub fn fresh(alloc: Global, config: &Config, number: usize) -> Result<RunShard, Fault>
+        requires { number ≤ 15 }
+        ensures fresh { IfOk result
+            (λ shard. StandsFor (setup_of config.now number) shard fresh_shard) }
         ensures memory { IfErr result (λ fault. fault ≡ Fault.Memory) }
     {
-        let mut shard = match formatted(alloc, setup) {
+        let mut shard = match formatted(alloc, config, number) {
             Ok(shard) => shard,
             Err(fault) => return Err(fault),
         };
@@ -56,7 +54,7 @@ impl RunShard {
                 Ok(shard)
             }
             Err(fault) => {
-                shard.spend();
+                drop(shard.into_disk());
                 Err(fault)
             }
         }
@@ -75,7 +73,10 @@ impl RunShard {
         ensures { (setup : Setup) (s : ShardNow) → StandsFor setup self.now s
             → result ≡ is_down s.state }
     {
-        self.life.is_down()
+        match self.life {
+            Life::Up(_) => false,
+            Life::Down(_) => true,
+        }
     }
 
     /// How many views it has made.
@@ -97,7 +98,7 @@ impl RunShard {
         ensures { (setup : Setup) (s : ShardNow) → StandsFor setup self.old s
             → Acts setup bag.now s call doing.now self.new result }
     {
-        match self.carry(alloc, bag, call, doing) {
+        match self.life.carry(alloc, &self.setup, bag, call, doing) {
             Ok(out) => match self.note(alloc, doing) {
                 Ok(()) => Ok(out),
                 Err(fault) => {
@@ -107,24 +108,6 @@ impl RunShard {
             },
             Err(fault) => Err(fault),
         }
-    }
-
-    // Carries it out, but for the view that is made.
-    fn carry(
-        &mut self,
-        alloc: Global,
-        bag: &[Envelope],
-        call: Option<u64>,
-        doing: &Doing,
-    ) -> Result<Outbox, Fault>
-        ensures kept { IsKept self.old self.new }
-        ensures carried { (s : ShardNow) → LivesAs self.old.setup s self.old.life
-            → Carries self.old.setup bag.now s call doing.now self.new.life result }
-    {
-        let life = replace(&mut self.life, Life::Down(SimDisk::new(alloc)));
-        let (life, result) = life.carry(alloc, &self.setup, bag, call, doing);
-        drop(replace(&mut self.life, life).into_disk());
-        result
     }
 
     // Keeps what its core shows more than before, and the view that the doing makes.
@@ -145,115 +128,60 @@ impl RunShard {
         Ok(())
     }
 
-    // What lives of it falls, by the fate of the oldest change that is not synced.
-    fn fall(&mut self, alloc: Global, fate: Fate) -> Result<(), Fault>
-        ensures kept { OnOk result (IsKept self.old self.new) }
-        ensures fallen { (s : ShardNow) → LivesAs self.old.setup s self.old.life
-            → OnOk result (LivesAs self.old.setup (crash_by fate s) self.new.life) }
-        ensures memory { IfErr result (λ fault. fault ≡ Fault.Memory) }
-    {
-        let mut fates = Vec::new(alloc);
-        fates.push(fate)?;
-        let life = replace(&mut self.life, Life::Down(SimDisk::new(alloc)));
-        let life = life.crash(&Choice::from_vec(fates));
-        drop(replace(&mut self.life, life).into_disk());
-        Ok(())
-    }
-
-    /// A crash. The oldest change that is not synced has this fate.
-    pub fn crash(&mut self, alloc: Global, fate: Fate) -> Result<(), Fault>
-        ensures crashed { (setup : Setup) (s : ShardNow) → StandsFor setup self.old s
-            → OnOk result (StandsFor setup self.new (crash_by fate s)) }
-        ensures memory { IfErr result (λ fault. fault ≡ Fault.Memory) }
-    {
-        self.fall(alloc, fate)
-    }
-
-    /// A crash in a device call of a doing, by its number from 0.
-    pub fn crash_in(
+    /// A crash in a device call of a doing, by its number from 0, or in none. The oldest change that is not synced has this fate.
+    pub fn crash(
         &mut self,
         alloc: Global,
         bag: &[Envelope],
-        call: u64,
+        within: Option<(u64, Doing)>,
         fate: Fate,
-        doing: &Doing,
-    ) -> Result<(), Fault>
+    ) -> Result<Reply, Fault>
         ensures crashed { (setup : Setup) (s : ShardNow) → StandsFor setup self.old s
-            → IsOrderly setup s (effect setup bag.now s doing.now)
-            → OnOk result (StandsFor setup self.new
-            (crashed_in s call fate doing.now (effect setup bag.now s doing.now))) }
+            → ((doing : Doing) → IsOrderly setup s (effect setup bag.now s doing))
+            → OnOk result (StandsFor setup self.new (crashed_within setup bag.now within fate s)) }
+        ensures reply { IfOk result (λ reply. reply ≡ Reply.Crashed) }
         ensures memory { IfErr result (λ fault. fault ≡ Fault.Memory) }
     {
-        match unless_memory(self.carry(alloc, bag, Some(call), doing)) {
-            Ok(()) => self.fall(alloc, fate),
-            Err(fault) => Err(fault),
+        match within {
+            Some((call, doing)) => {
+                let answer = self.life.carry(alloc, &self.setup, bag, Some(call), &doing);
+                match unless_memory(answer) {
+                    Ok(()) => self.life.crash(alloc, fate),
+                    Err(fault) => Err(fault),
+                }
+            }
+            None => self.life.crash(alloc, fate),
         }
     }
 
-    /// A look at what it shows now.
-    pub fn look(&self, alloc: Global, is_here: bool, key: &Key, at: Stamp) -> Result<Reply, Fault>
-        ensures shown { (setup : Setup) (s : ShardNow) → StandsFor setup self.now s
-            → is_here ≡ nat_eq (shard_of setup.splits key.now) setup.shard
-            → IfOk result (λ reply. reply ≡ look_shard setup s key.now at) }
-        ensures memory { IfErr result (λ fault. fault ≡ Fault.Memory) }
-    {
-        match &self.life {
-            Life::Up(core) => View::of(core, 0).look(alloc, core.installs(), is_here, key, at),
-            Life::Down(_) => Ok(Reply::Refused(Fault::Stopped)),
-        }
-    }
-
-    /// A look at a view, by its number from 0.
-    pub fn look_back(
+    /// A look at a view, by its number from 0, or at what it shows now.
+    pub fn look(
         &self,
         alloc: Global,
-        number: u64,
+        view: Option<u64>,
         is_here: bool,
         key: &Key,
         at: Stamp,
     ) -> Result<Reply, Fault>
         ensures shown { (setup : Setup) (s : ShardNow) → StandsFor setup self.now s
             → is_here ≡ nat_eq (shard_of setup.splits key.now) setup.shard
-            → IfOk result (λ reply. reply ≡ look_at_view setup
-            (slice_get s.views number) key.now at) }
+            → IfOk result (λ reply. reply ≡ look_by setup s view key.now at) }
         ensures memory { IfErr result (λ fault. fault ≡ Fault.Memory) }
     {
-        match self.views.get(number as usize) {
-            Some(view) => view.look(alloc, &self.installs, is_here, key, at),
-            None => Ok(Reply::Refused(Fault::Stranger)),
+        match view {
+            Some(number) => match self.views.get(number as usize) {
+                Some(view) => view.look(alloc, &self.installs, is_here, key, at),
+                None => Ok(Reply::Refused(Fault::Stranger)),
+            },
+            None => match &self.life {
+                Life::Up(core) => View::of(core, 0).look(alloc, core.installs(), is_here, key, at),
+                Life::Down(_) => Ok(Reply::Refused(Fault::Stopped)),
+            },
         }
     }
 
-    /// Ends it: its disk, and the log that a read of the disk gives.
-    pub fn finish(self, alloc: Global) -> Result<(SimDisk, Vec<Record>), Fault>
-        ensures disk { IfOk result (λ r. IsOn r.0 r.1.items) }
-        ensures log { (setup : Setup) (s : ShardNow) → StandsFor setup self s
-            → IfOk result (λ r. r.1.items ≡ read_log s) }
-        ensures memory { (setup : Setup) (s : ShardNow) → StandsFor setup self s
-            → IfErr result (λ fault. fault ≡ Fault.Memory) }
-    {
-        match GateLog::open(alloc, self.into_disk()) {
-            Ok((log, entries)) => {
-                let disk = log.into_disk();
-                let records = records_of(alloc, &entries);
-                drop(entries);
-                match records {
-                    Ok(records) => Ok((disk, records)),
-                    Err(fault) => {
-                        drop(disk);
-                        Err(fault)
-                    }
-                }
-            }
-            Err((fault, disk)) => {
-                drop(disk);
-                Err(fault)
-            }
-        }
-    }
-
-    // Its disk as it is.
-    fn into_disk(self) -> SimDisk
+    /// Its disk as it is.
+    pub fn into_disk(self) -> SimDisk
         ensures { (setup : Setup) (s : ShardNow) → StandsFor setup self s → HoldsLog s result }
     {
         let RunShard {
@@ -265,18 +193,22 @@ impl RunShard {
         } = self;
         life.into_disk()
     }
-
-    /// Ends it.
-    pub fn spend(self) {
-        drop(self.into_disk());
-    }
 }
 
-// A shard that was formatted and not yet opened.
-fn formatted(alloc: Global, setup: Setup) -> Result<RunShard, Fault>
-    ensures formatted { IfOk result (λ shard. StandsFor setup shard unopened_shard) }
+// The shard of a number, formatted and not yet opened.
+fn formatted(alloc: Global, config: &Config, number: usize) -> Result<RunShard, Fault>
+    requires { number ≤ 15 }
+    ensures formatted { IfOk result
+        (λ shard. StandsFor (setup_of config.now number) shard unopened_shard) }
     ensures memory { IfErr result (λ fault. fault ≡ Fault.Memory) }
 {
+    let Some(shard) = ShardNo::new(number as u8) else {
+        unreachable!()
+    };
+    let setup = match setup_with(alloc, shard, &config.splits, config.stride, Book::Off) {
+        Ok(setup) => setup,
+        Err(fault) => return Err(fault),
+    };
     match GateLog::format(SimDisk::new(alloc)) {
         Ok(log) => Ok(RunShard {
             setup,
@@ -285,6 +217,35 @@ fn formatted(alloc: Global, setup: Setup) -> Result<RunShard, Fault>
             from: 0,
             views: Vec::new(alloc),
         }),
+        Err((fault, disk)) => {
+            drop(setup);
+            drop(disk);
+            Err(fault)
+        }
+    }
+}
+
+/// A disk, and the log that a read of it gives.
+pub fn read_back(alloc: Global, disk: SimDisk) -> Result<(SimDisk, Vec<Record>), Fault>
+    ensures disk { IfOk result (λ r. IsOn r.0 r.1.items) }
+    ensures log { (s : ShardNow) → HoldsLog s disk
+        → IfOk result (λ r. r.1.items ≡ read_log s) }
+    ensures memory { (s : ShardNow) → HoldsLog s disk
+        → IfErr result (λ fault. fault ≡ Fault.Memory) }
+{
+    match GateLog::open(alloc, disk) {
+        Ok((log, entries)) => {
+            let records = records_of(alloc, &entries);
+            drop(entries);
+            let disk = log.into_disk();
+            match records {
+                Ok(records) => Ok((disk, records)),
+                Err(fault) => {
+                    drop(disk);
+                    Err(fault)
+                }
+            }
+        }
         Err((fault, disk)) => {
             drop(disk);
             Err(fault)

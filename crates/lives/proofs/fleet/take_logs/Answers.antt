@@ -10,7 +10,7 @@ returns-in_err-disk-clause-memory c config n ss h =
     passed c.from_residual.result c.in_err-disk.field-0.0 (search rules)
     (stands_first c.args.shards.now.items left.items c.remove.new.self.items (map (λ log. log.items) c.loop-alloc.logs.items) c.remove.result _
     (first_left left.items c.remove.new.self.items c.remove.result there c.remove.ensures.value c.remove.ensures.items)
-    (λ setup s is. c.in_err-disk.ensures.memory setup s is) c.loop-alloc.invariant.0 config n ss h)
+    (λ setup s is. c.in_err-disk.ensures.memory s (c.into_disk.ensures setup s is)) c.loop-alloc.invariant.0 config n ss h)
 
 pub loop-alloc-preserved : goal.loop-alloc-preserved
 loop-alloc-preserved c =
@@ -23,7 +23,7 @@ loop-alloc-preserved c =
       subst (λ ls. AreTaken all ls after) more
           (one_taken all left.items after (map (λ l. l.items) c.loop-alloc.logs.items) c.remove.result log.items
           (first_left left.items after c.remove.result there c.remove.ensures.value c.remove.ensures.items)
-          (λ setup s is. c.in_ok-disk.ensures.log setup s is) c.loop-alloc.invariant.0),
+          (λ setup s is. c.in_ok-disk.ensures.log s (c.into_disk.ensures setup s is)) c.loop-alloc.invariant.0),
       subst (λ ds. AreOn ds (map (λ l. l.items) c.push-in-loop-alloc.new.self.items)) (sym c.in_ok-push.ensures.items)
           (subst (λ ls. AreOn (c.loop-alloc.disks.items ++ c.in_ok-disk.disk ∷ []) ls) more
           (on_more c.loop-alloc.disks.items (map

@@ -1,5 +1,7 @@
-use Rattle.std.proofs.Common.{sym, ◌∙◌, subst}
+use Rattle.std.proofs.Common.{Err, sym, ◌∙◌, subst}
+use Rattle.units.specs.declared.fault.Fault.TheVariants.{Stopped}
 use Rattle.shard.specs.Core.{seen}
+use Rattle.lives.specs.Carries.{Carries}
 use Rattle.lives.specs.Inputs.{goes_on}
 use Rattle.lives.specs.Lives.{LivesAs}
 use Rattle.lives.specs.declared.life.Life.TheVariants.{Up}
@@ -8,24 +10,27 @@ use Rattle.lives.proofs.life.Life.carry.Goals as goal
 
 pub returns-then-is_up : goal.returns-then-is_up
 returns-then-is_up c s h =
-    up_carries c.args.setup.now c.args.bag.now s c.args.call c.args.doing.now (sym c.opens.ensures ∙ c.if-opens.true) c.args.self
+    up_carries c.args.setup.now c.args.bag.now s c.args.call c.args.doing.now (sym c.opens.ensures ∙ c.if-opens.true) c.args.self.now
     (sym (c.is_up.ensures c.args.setup.now s h) ∙ c.if-is_up.true) h
 
 pub returns-then-opens : goal.returns-then-opens
 returns-then-opens c s h =
-    open_carries c.args.setup.now c.args.bag.now s c.args.call c.args.doing.now (sym c.opens.ensures ∙ c.if-opens.true) c.into_disk.result c.open.result.0
-    c.open.result.1 (sym (c.is_up.ensures c.args.setup.now s h) ∙ c.if-is_up.false) (c.into_disk.ensures c.args.setup.now s h) c.open.ensures
+    subst (λ l. Carries c.args.setup.now c.args.bag.now s c.args.call c.args.doing.now l c.open-life.result.1) (sym c.replace-then-opens.ensures.after)
+    (open_carries c.args.setup.now c.args.bag.now s c.args.call c.args.doing.now (sym c.opens.ensures ∙ c.if-opens.true) c.into_disk-disk.result
+    c.open-life.result.0 c.open-life.result.1 (sym (c.is_up.ensures c.args.setup.now s h) ∙ c.if-is_up.false)
+    (c.into_disk-disk.ensures c.args.setup.now s (subst (LivesAs c.args.setup.now s) (sym c.replace.ensures.value) h)) c.open-life.ensures)
 
-pub do_input-result-requires : goal.do_input-result-requires
-do_input-result-requires c = goes_so (goes_on c.args.doing.now) (sym c.opens.ensures ∙ c.if-opens.false)
+pub do_input-requires : goal.do_input-requires
+do_input-requires c = goes_so (goes_on c.args.doing.now) (sym c.opens.ensures ∙ c.if-opens.false)
 
 pub returns-in-Up : goal.returns-in-Up
 returns-in-Up c s h =
-    core_carries c.args.setup.now c.args.bag.now s c.args.call c.args.doing.now (seen c.do_input-result.new.core) (seen c.in-Up.core)
-    (Up c.do_input-result.new.core) (λ t state k. k) c.do_input-result.result (goes_so (goes_on c.args.doing.now) (sym c.opens.ensures ∙ c.if-opens.false))
-    (subst (LivesAs c.args.setup.now s) c.in-Up.is h) c.do_input-result.ensures
+    core_carries c.args.setup.now c.args.bag.now s c.args.call c.args.doing.now (seen c.do_input.new.core) (seen c.in-Up.core)
+    (Up c.do_input.new.core) (λ t state k. k) c.do_input.result (goes_so (goes_on c.args.doing.now) (sym c.opens.ensures ∙ c.if-opens.false))
+    (subst (LivesAs c.args.setup.now s) c.in-Up.is h) c.do_input.ensures
 
 pub returns-in-Down : goal.returns-in-Down
 returns-in-Down c s h =
-    down_carries c.args.setup.now c.args.bag.now s c.args.call c.args.doing.now c.in-Down.disk
-    (goes_so (goes_on c.args.doing.now) (sym c.opens.ensures ∙ c.if-opens.false)) (subst (LivesAs c.args.setup.now s) c.in-Down.is h)
+    subst (λ l. Carries c.args.setup.now c.args.bag.now s c.args.call c.args.doing.now l (Err Stopped)) (sym c.in-Down.is)
+    (down_carries c.args.setup.now c.args.bag.now s c.args.call c.args.doing.now c.in-Down.field-0
+    (goes_so (goes_on c.args.doing.now) (sym c.opens.ensures ∙ c.if-opens.false)) (subst (LivesAs c.args.setup.now s) c.in-Down.is h))

@@ -1,13 +1,14 @@
-use Rattle.std.proofs.Common.{◌+◌, refl, sym, ap, ◌∙◌, subst}
+use Rattle.std.proofs.Common.{◌+◌, Some, None, refl, sym, ap, ◌∙◌, subst}
 use Rattle.session.specs.Sessions.{reads, buffers, closes, gives_up}
-use Rattle.world.specs.World.{acts, client_of, if_open, look_noted}
+use Rattle.world.specs.World.{acts, client_of, if_open}
 use Rattle.lives.specs.Runs.{ComesAfter}
 use Rattle.world.specs.Held.{when_not_over, when_open}
 use Rattle.world.specs.Hosts.{session_step}
 use Rattle.world.specs.Lawful.{may_act}
 use Rattle.lives.specs.declared.run.Run.{Run}
 use Rattle.world.proofs.Replying.{is_new, not_over_moves, open_moves}
-use Rattle.lives.proofs.Replying.{look_comes, looks, looks_back, session_comes}
+use Rattle.lives.proofs.Naming.{named}
+use Rattle.lives.proofs.Replying.{session_comes}
 use Rattle.lives.proofs.run.Run.act.Goals as goal
 
 pub returns-in-Begin : goal.returns-in-Begin
@@ -67,43 +68,5 @@ unfolding acts
 returns-in-Deliver c time w h steady may =
     subst (λ a. ComesAfter a c.deliver.new.self c.deliver.result) (sym (ap (acts w) c.in-Deliver.is)) (c.deliver.ensures w h steady)
 
-pub returns-in-At : goal.returns-in-At
-unfolding acts
-returns-in-At c time w h steady may =
-    subst (λ a. ComesAfter a c.act_at.new.self c.act_at.result) (sym (ap (acts w) c.in-At.is)) (c.act_at.ensures w h steady)
-
-pub returns-in-Crash : goal.returns-in-Crash
-unfolding acts
-returns-in-Crash c time w h steady may =
-    subst (λ a. ComesAfter a c.crash.new.self c.crash.result) (sym (ap (acts w) c.in-Crash.is)) (c.crash.ensures w h)
-
-pub returns-in-CrashIn : goal.returns-in-CrashIn
-unfolding acts
-returns-in-CrashIn c time w h steady may =
-    subst (λ a. ComesAfter a c.crash_in.new.self c.crash_in.result) (sym (ap (acts w) c.in-CrashIn.is)) (c.crash_in.ensures w h steady)
-
-pub returns-in-FailIn : goal.returns-in-FailIn
-unfolding acts
-returns-in-FailIn c time w h steady may =
-    subst (λ a. ComesAfter a c.act_at-in-FailIn.new.self c.act_at-in-FailIn.result) (sym (ap (acts w) c.in-FailIn.is)) (c.act_at-in-FailIn.ensures w h steady)
-
-pub returns-in-Ok-look : goal.returns-in-Ok-look
-unfolding acts
-returns-in-Ok-look c time w h steady may =
-    let old : Run = c.args.self.now in
-    let new : Run = record { sessions = old.sessions; shards = old.shards; output = c.note_look.new.self; time = old.time } in
-    let v = c.in-Look in
-    let shown = c.in-Ok-look.ensures.shown w.config w.shards h.shards in
-    subst (λ a. ComesAfter a new c.note_look.result) (sym (ap (acts w) v.is ∙ looks w v.shard v.key v.at ∙ ap (look_noted w v.key v.at) (sym shown)))
-    (look_comes w old new h v.key v.at c.in-Ok-look.reply c.note_look.result c.note_look.ensures refl refl refl)
-
-pub returns-in-Ok-look_back : goal.returns-in-Ok-look_back
-unfolding acts
-returns-in-Ok-look_back c time w h steady may =
-    let old : Run = c.args.self.now in
-    let new : Run = record { sessions = old.sessions; shards = old.shards; output = c.note_look-in-Ok-look_back.new.self; time = old.time } in
-    let v = c.in-View in
-    let shown = c.in-Ok-look_back.ensures.shown w.config w.shards h.shards in
-    subst (λ a. ComesAfter a new c.note_look-in-Ok-look_back.result) (sym (ap (acts w) v.is ∙ looks_back w v.shard v.number v.key v.at
-    ∙ ap (look_noted w v.key v.at) (sym shown)))
-    (look_comes w old new h v.key v.at c.in-Ok-look_back.reply c.note_look-in-Ok-look_back.result c.note_look-in-Ok-look_back.ensures refl refl refl)
+pub act_named-requires : goal.act_named-requires
+act_named-requires c = named _ c.in_default.not-Begin c.in_default.not-Read c.in_default.not-Write c.in_default.not-Close c.in_default.not-Quit c.in_default.not-Deliver

@@ -7,7 +7,7 @@ pub returns-in-Ok-clause-started : goal.returns-in-Ok-clause-started
 unfolding start
 returns-in-Ok-clause-started c = record {
   sessions = c.none.ensures;
-  shards = c.in-Ok.ensures.started;
+  shards = record { splits_are = refl; standing = c.in-Ok.ensures.filled };
   output = record { bag = c.new.ensures.0; told = λ t. ap (λ ids. is_among ids t) c.new.ensures.1; lines = c.new.ensures.2; event = c.new.ensures.3 };
   time = refl;
 }

@@ -1,4 +1,4 @@
-use Rattle.std.proofs.Common.{◌≡◌, ◌+◌, true, refl, sym, ◌∙◌}
+use Rattle.std.proofs.Common.{◌≡◌, ◌+◌, true, refl, sym, ◌∙◌, rules}
 use Rattle.world.specs.Lawful.{may_happen}
 use Rattle.lives.specs.declared.run.Run.{Run}
 use Rattle.lives.proofs.Happened.{acts_may, happened}
@@ -8,8 +8,8 @@ pub returns-in-Ok : goal.returns-in-Ok
 returns-in-Ok c w at h steady =
     let e = c.args.event.now in
     let number = c.args.number in
-    let yes : c.may_happen.result ≡ true = cc in
-    let may : may_happen w e ≡ true = sym (c.may_happen.ensures w h) ∙ yes in
+    let yes : c.may_act.result ≡ true = cc in
+    let may : may_happen w e ≡ true = search rules in
     let mid : Run = c.act.new.self in
     let new : Run = record {
       sessions = mid.sessions;

@@ -1,11 +1,15 @@
 use Rattle.std.proofs.Common.{refl}
+use Rattle.lives.specs.Shows.{IsKept}
+use Rattle.lives.specs.declared.run_shard.RunShard.{RunShard}
 use Rattle.lives.proofs.Showing.{acts_err, acts_memory, acts_ok}
 use Rattle.lives.proofs.run_shard.RunShard.act.Goals as goal
 
 pub returns-in-Err : goal.returns-in-Err
 returns-in-Err c setup s h =
-    acts_err setup c.args.bag.now s c.args.call c.args.doing.now c.args.self.now c.carry.new.self h c.in-Err.ensures.kept _
-    c.in-Err.fault refl c.in-Err.ensures.carried
+    let old : RunShard = c.args.self.now in
+    let mid : RunShard = record { setup = old.setup; life = c.carry.new.self; installs = old.installs; from = old.from; views = old.views } in
+    let kept : IsKept old mid = record { setup = refl; installs = refl; from = refl; views = refl } in
+    acts_err setup c.args.bag.now s c.args.call c.args.doing.now old mid h kept _ c.in-Err.fault refl c.in-Err.ensures
 
 pub returns-in-Err-note : goal.returns-in-Err-note
 returns-in-Err-note c setup s h =
@@ -13,5 +17,8 @@ returns-in-Err-note c setup s h =
 
 pub returns-in-Ok-note : goal.returns-in-Ok-note
 returns-in-Ok-note c setup s h =
-    acts_ok setup c.args.bag.now s c.args.call c.args.doing.now c.args.self.now c.carry.new.self h c.in-Ok.ensures.kept c.note.new.self c.in-Ok.out
-    c.in-Ok.ensures.carried c.in-Ok-note.ensures.noted
+    let old : RunShard = c.args.self.now in
+    let mid : RunShard = record { setup = old.setup; life = c.carry.new.self; installs = old.installs; from = old.from; views = old.views } in
+    let kept : IsKept old mid = record { setup = refl; installs = refl; from = refl; views = refl } in
+    acts_ok setup c.args.bag.now s c.args.call c.args.doing.now old mid h kept c.note.new.self c.in-Ok.out
+    c.in-Ok.ensures c.in-Ok-note.ensures.noted

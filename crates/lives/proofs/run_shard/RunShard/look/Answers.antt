@@ -1,18 +1,44 @@
-use Rattle.std.proofs.Common.{◌≡◌, IfOk, take, drop, ap, ◌∙◌, subst}
+use Rattle.std.proofs.Common.{◌≡◌, IfOk, Some, slice_get, take, drop, refl, sym, ap, ◌∙◌, subst}
+use Rattle.std.proofs.lemmas.Option.{slice_get_past, slice_get_read}
 use Rattle.shard.specs.Core.{seen}
 use Rattle.lives.specs.Lives.{LivesAs}
 use Rattle.lives.specs.Looks.{look_at}
-use Rattle.lives.proofs.Showing.{looked, looked_down}
+use Rattle.lives.specs.Shows.{look_by}
+use Rattle.lives.proofs.Showing.{looked, looked_at, looked_at_none, looked_down}
 use Rattle.lives.proofs.run_shard.RunShard.look.Goals as goal
+
+pub returns-in-Some-get-clause-shown : goal.returns-in-Some-get-clause-shown
+returns-in-Some-get-clause-shown c setup s h here =
+    let r = c.args.self.now in
+    let n = c.in-Some.number in
+    let v = c.in-Some-get.view.now in
+    let found = c.in-Some-get.ensures.lookup in
+    let there : slice_get r.views.items n ≡ Some v =
+    ap (λ vs. slice_get vs n) (sym c.deref.ensures.value) ∙ slice_get_read c.deref.result.now _ n v refl found.3.0 found.1 in
+    subst (λ x. IfOk c.look.result (λ reply. reply ≡ x))
+    (ap (λ is. look_at c.args.is_here (take v.count (drop v.from is)) v.safe c.args.key.now c.args.at) c.deref-in-Some-get.ensures.value
+    ∙ looked_at setup r.installs.items r.views.items s.views n v c.args.is_here c.args.key.now c.args.at h.views there here
+    ∙ ap (λ o. look_by setup s o c.args.key.now c.args.at) (sym c.in-Some.is))
+    c.look.ensures.shown
+
+pub returns-in-None-get-clause-shown : goal.returns-in-None-get-clause-shown
+returns-in-None-get-clause-shown c setup s h here =
+    let r = c.args.self.now in
+    let n = c.in-Some.number in
+    looked_at_none setup r.installs.items r.views.items s.views n c.args.key.now c.args.at h.views
+    (ap (λ vs. slice_get vs n) (sym c.deref.ensures.value) ∙ slice_get_past c.deref.result.now n c.in-None-get.ensures.lookup.3)
+    ∙ ap (λ o. look_by setup s o c.args.key.now c.args.at) (sym c.in-Some.is)
 
 pub returns-in-Up-clause-shown : goal.returns-in-Up-clause-shown
 returns-in-Up-clause-shown c setup s h here =
     let k = c.args.key.now in
     let at = c.args.at in
-    subst (λ x. IfOk c.look.result (λ reply. reply ≡ x))
+    subst (λ x. IfOk c.look-in-Up.result (λ reply. reply ≡ x))
     ((λ i. look_at c.args.is_here (take (c.of.ensures i).count (drop (c.of.ensures i).from (c.installs.ensures i))) (c.of.ensures i).safe k at)
-    ∙ looked setup s (seen c.in-Up.core) c.args.is_here k at (subst (LivesAs setup s) c.in-Up.is h.lives) here) c.look.ensures.shown
+    ∙ looked setup s (seen c.in-Up.core) c.args.is_here k at (subst (LivesAs setup s) c.in-Up.is h.lives) here
+    ∙ ap (λ o. look_by setup s o k at) (sym c.in-None.is)) c.look-in-Up.ensures.shown
 
 pub returns-in-Down-clause-shown : goal.returns-in-Down-clause-shown
 returns-in-Down-clause-shown c setup s h here =
     looked_down setup s c.in-Down.field-0 c.args.key.now c.args.at (subst (LivesAs setup s) c.in-Down.is h.lives)
+    ∙ ap (λ o. look_by setup s o c.args.key.now c.args.at) (sym c.in-None.is)
