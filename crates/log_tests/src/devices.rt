@@ -1,19 +1,18 @@
 //! Disks in memory: which calls fail, what is read, and what a crash leaves.
-use disk::{Disk, FailurePlan, Fate};
+use crate::steps::{Step, Stepped, call_any, go_well};
+use disk::{FailurePlan, Fate};
 use simdisk::{Choice, SimDisk};
 use std::alloc::Global;
 use std::mem;
 use units::Fault;
 
 // A call that a plan is asked about.
-#[derive(Clone, Copy)]
 enum Call {
     Write,
     Other,
 }
 
 // A plan, and calls with whether each fails. Then no call is to fail any more.
-#[derive(Clone, Copy)]
 struct Failing {
     what: &'static str,
     plan: FailurePlan,
@@ -66,92 +65,6 @@ fn are_armed() -> bool {
         && matches!(FailurePlan::armed(None), FailurePlan::Never)
 }
 
-// What is done with a disk.
-#[derive(Clone, Copy)]
-enum Step {
-    Write(u64, &'static [u8]),
-    Cut(u64),
-    Sync,
-    // The call after so many more fails, of any calls or of those from the next write on.
-    FailNext(u64),
-    Arm(Option<u64>),
-    Reserve(u64),
-    // The device fails at the write, the cut or the sync.
-    WriteFails(u64, &'static [u8]),
-    CutFails(u64),
-    SyncFails,
-    // A crash, by these fates of the changes that are not synced.
-    Crash(&'static [Fate]),
-    // These bytes are read.
-    Holds(&'static [u8]),
-}
-
-fn write(disk: &mut SimDisk, at: u64, bytes: &[u8]) -> Result<(), Fault> {
-    if at > disk.len() {
-        return Err(Fault::Room);
-    }
-    disk.write_at(at, bytes)
-}
-
-fn cut(disk: &mut SimDisk, len: u64) -> Result<(), Fault> {
-    if len > disk.len() {
-        return Err(Fault::Room);
-    }
-    disk.cut(len)
-}
-
-/// Whether these are all the bytes that are read of a disk: where not, there is no room for them.
-pub fn read_back<D: Disk>(alloc: Global, disk: &mut D, bytes: &[u8]) -> Result<(), Fault> {
-    let Ok(mut found) = Vec::from_elem(alloc, 0u8, disk.len() as usize) else {
-        return Err(Fault::Memory);
-    };
-    let read = disk.read_at(0, &mut found);
-    let same = found.as_slice() == bytes;
-    drop(found);
-    if same { read } else { Err(Fault::Room) }
-}
-
-// What the call of a step answers.
-fn called(alloc: Global, disk: &mut SimDisk, step: Step) -> Result<(), Fault> {
-    match step {
-        Step::Write(at, bytes) | Step::WriteFails(at, bytes) => write(disk, at, bytes),
-        Step::Cut(len) | Step::CutFails(len) => cut(disk, len),
-        Step::Sync | Step::SyncFails => disk.sync(),
-        Step::Reserve(bytes) => disk.reserve(bytes),
-        Step::FailNext(calls) => {
-            disk.fail_next(calls);
-            Ok(())
-        }
-        Step::Arm(calls) => {
-            disk.arm(calls);
-            Ok(())
-        }
-        Step::Crash(fates) => {
-            crash(alloc, disk, fates);
-            Ok(())
-        }
-        Step::Holds(bytes) => read_back(alloc, disk, bytes),
-    }
-}
-
-// Whether the step went as it says.
-fn goes_well(alloc: Global, disk: &mut SimDisk, step: Step) -> bool {
-    let answer = called(alloc, disk, step);
-    match step {
-        Step::WriteFails(..) | Step::CutFails(..) | Step::SyncFails => answer == Err(Fault::Device),
-        _ => answer.is_ok(),
-    }
-}
-
-fn go_well(alloc: Global, disk: &mut SimDisk, steps: &[Step]) -> bool {
-    for step in steps {
-        if !goes_well(alloc, disk, *step) {
-            return false;
-        }
-    }
-    true
-}
-
 /// A disk may go to another thread.
 pub fn sent<T: Send>(value: T) -> T {
     value
@@ -168,26 +81,22 @@ pub fn crash(alloc: Global, disk: &mut SimDisk, fates: &[Fate]) {
     drop(choice);
 }
 
-// A synced file of six letters.
-const SIX_LETTERS: &[Step] = &[Step::Write(0, b"abcdef"), Step::Sync];
-
-// The six letters go through steps, and then through others.
-fn lives(alloc: Global, steps: &[Step], others: &[Step]) -> bool {
-    let mut disk = sent(SimDisk::new(alloc));
-    let lived = go_well(alloc, &mut disk, SIX_LETTERS)
-        && go_well(alloc, &mut disk, steps)
-        && go_well(alloc, &mut disk, others);
-    drop(disk);
-    lived
+impl Stepped for SimDisk {
+    fn called(&mut self, alloc: Global, step: &Step) -> Result<(), Fault> {
+        match step {
+            Step::FailNext(calls) => self.fail_next(*calls),
+            Step::Crash(fates) => crash(alloc, self, fates),
+            _ => return call_any(alloc, self, step),
+        }
+        Ok(())
+    }
 }
 
-// What a crash leaves of these changes of the six letters.
-#[derive(Clone, Copy)]
-struct Torn {
+// What is done with a synced file of six letters, `abcdef`: changes, and what comes then.
+struct Life {
     what: &'static str,
     changes: &'static [Step],
-    fates: &'static [Fate],
-    left: &'static [u8],
+    then: &'static [Step],
 }
 
 // `XY` over the second and third letter, `gh` and `ij` behind all.
@@ -200,80 +109,73 @@ const WRITES: &[Step] = &[
 // `Z` behind the first two letters alone.
 const A_CUT: &[Step] = &[Step::Cut(2), Step::Write(2, b"Z")];
 
-static TORN: [Torn; 10] = [
-    Torn {
+static LIVES: [Life; 15] = [
+    Life {
         what: "no write",
         changes: WRITES,
-        fates: &[],
-        left: b"abcdef",
+        then: &[Step::Crash(&[]), Step::Holds(b"abcdef")],
     },
-    Torn {
+    Life {
         what: "the first write",
         changes: WRITES,
-        fates: &[Fate::New],
-        left: b"aXYdef",
+        then: &[Step::Crash(&[Fate::New]), Step::Holds(b"aXYdef")],
     },
-    Torn {
+    Life {
         what: "the second write",
         changes: WRITES,
-        fates: &[Fate::Old, Fate::New],
-        left: b"abcdefgh",
+        then: &[
+            Step::Crash(&[Fate::Old, Fate::New]),
+            Step::Holds(b"abcdefgh"),
+        ],
     },
-    Torn {
+    Life {
         what: "a filled write",
         changes: WRITES,
-        fates: &[Fate::Filled(0x2a)],
-        left: b"a**def",
+        then: &[Step::Crash(&[Fate::Filled(0x2a)]), Step::Holds(b"a**def")],
     },
-    Torn {
+    Life {
         what: "a filled write between two",
         changes: WRITES,
-        fates: &[Fate::New, Fate::Filled(0x2a), Fate::New],
-        left: b"aXYdef**ij",
+        then: &[
+            Step::Crash(&[Fate::New, Fate::Filled(0x2a), Fate::New]),
+            Step::Holds(b"aXYdef**ij"),
+        ],
     },
-    Torn {
+    Life {
         what: "the third write",
         changes: WRITES,
-        fates: &[Fate::Old, Fate::Old, Fate::New],
-        left: b"abcdef\0\0ij",
+        then: &[
+            Step::Crash(&[Fate::Old, Fate::Old, Fate::New]),
+            Step::Holds(b"abcdef\0\0ij"),
+        ],
     },
-    Torn {
+    Life {
         what: "no cut, no write",
         changes: A_CUT,
-        fates: &[Fate::Old, Fate::Old],
-        left: b"abcdef",
+        then: &[Step::Crash(&[Fate::Old, Fate::Old]), Step::Holds(b"abcdef")],
     },
-    Torn {
+    Life {
         what: "a cut alone",
         changes: A_CUT,
-        fates: &[Fate::New, Fate::Old],
-        left: b"ab",
+        then: &[Step::Crash(&[Fate::New, Fate::Old]), Step::Holds(b"ab")],
     },
-    Torn {
+    Life {
         what: "a write alone",
         changes: A_CUT,
-        fates: &[Fate::Old, Fate::New],
-        left: b"abZdef",
+        then: &[Step::Crash(&[Fate::Old, Fate::New]), Step::Holds(b"abZdef")],
     },
-    Torn {
+    Life {
         what: "a filled cut and a write",
         changes: A_CUT,
-        fates: &[Fate::Filled(1), Fate::New],
-        left: b"abZ",
+        then: &[
+            Step::Crash(&[Fate::Filled(1), Fate::New]),
+            Step::Holds(b"abZ"),
+        ],
     },
-];
-
-// What is done with the six letters.
-#[derive(Clone, Copy)]
-struct Life {
-    what: &'static str,
-    steps: &'static [Step],
-}
-
-static LIVES: [Life; 5] = [
     Life {
         what: "what is synced stays",
-        steps: &[
+        changes: &[],
+        then: &[
             Step::Write(4, b"EFG"),
             Step::Sync,
             Step::Crash(&[]),
@@ -285,7 +187,8 @@ static LIVES: [Life; 5] = [
     },
     Life {
         what: "a failed write may come out of a crash",
-        steps: &[
+        changes: &[],
+        then: &[
             Step::FailNext(0),
             Step::WriteFails(1, b"XY"),
             Step::Holds(b"abcdef"),
@@ -295,7 +198,8 @@ static LIVES: [Life; 5] = [
     },
     Life {
         what: "the next call but one fails, once",
-        steps: &[
+        changes: &[],
+        then: &[
             Step::FailNext(1),
             Step::Write(6, b"g"),
             Step::CutFails(3),
@@ -307,7 +211,8 @@ static LIVES: [Life; 5] = [
     },
     Life {
         what: "an armed call is counted from the next write",
-        steps: &[
+        changes: &[],
+        then: &[
             Step::Arm(Some(1)),
             Step::Sync,
             Step::Sync,
@@ -327,7 +232,8 @@ static LIVES: [Life; 5] = [
     },
     Life {
         what: "eight calls on what was reserved",
-        steps: &[
+        changes: &[],
+        then: &[
             Step::Reserve(8),
             Step::Write(6, b"gh"),
             Step::Sync,
@@ -342,10 +248,17 @@ static LIVES: [Life; 5] = [
     },
 ];
 
-// The row's changes are torn so by a crash.
-fn is_torn(alloc: Global, row: &Torn) -> bool {
-    let crash = [Step::Crash(row.fates), Step::Holds(row.left)];
-    lives(alloc, row.changes, &crash)
+// A synced file of six letters.
+static SIX_LETTERS: [Step; 2] = [Step::Write(0, b"abcdef"), Step::Sync];
+
+// Whether each step of the row goes as it says.
+fn lives(alloc: Global, row: &Life) -> bool {
+    let mut disk = sent(SimDisk::new(alloc));
+    let lived = go_well(alloc, &mut disk, &SIX_LETTERS)
+        && go_well(alloc, &mut disk, row.changes)
+        && go_well(alloc, &mut disk, row.then);
+    drop(disk);
+    lived
 }
 
 /// The first row that is wrong.
@@ -358,13 +271,8 @@ pub fn wrong(alloc: Global) -> &'static str {
             return row.what;
         }
     }
-    for row in &TORN {
-        if !is_torn(alloc, row) {
-            return row.what;
-        }
-    }
     for row in &LIVES {
-        if !lives(alloc, row.steps, &[]) {
+        if !lives(alloc, row) {
             return row.what;
         }
     }

@@ -1,6 +1,7 @@
 //! Disks over files.
-use crate::devices::{read_back, sent};
+use crate::devices::sent;
 use crate::folder::Folder;
+use crate::steps::{Step, Stepped, call_any, go_well, read_back};
 use disk::Disk;
 use filedisk::FileDisk;
 use std::alloc::Global;
@@ -9,7 +10,6 @@ use std::{env, fs};
 use units::Fault;
 
 // What is there under a name.
-#[derive(Clone, Copy)]
 enum There {
     Nothing,
     File,
@@ -24,67 +24,118 @@ pub enum Call {
     Open,
 }
 
-#[derive(Clone, Copy)]
 struct Asked {
     what: &'static str,
+    // From a folder with the folder `logs` in it; and else the path of a log there.
+    path: Option<&'static str>,
     there: There,
     call: Call,
     // The length of the file that is taken, or how it is refused.
     wanted: Result<u64, Fault>,
 }
 
-static ASKED: [Asked; 8] = [
+static ASKED: [Asked; 14] = [
     Asked {
         what: "a new file",
+        path: None,
         there: There::Nothing,
         call: Call::Create,
         wanted: Ok(0),
     },
     Asked {
         what: "a file is made anew",
+        path: None,
         there: There::File,
         call: Call::Create,
         wanted: Err(Fault::Device),
     },
     Asked {
         what: "a file that is held is made anew",
+        path: None,
         there: There::Held,
         call: Call::Create,
         wanted: Err(Fault::Device),
     },
     Asked {
         what: "a file is made in place of a folder",
+        path: None,
         there: There::Folder,
         call: Call::Create,
         wanted: Err(Fault::Device),
     },
     Asked {
         what: "a file that is missing",
+        path: None,
         there: There::Nothing,
         call: Call::Open,
         wanted: Err(Fault::Device),
     },
     Asked {
         what: "a file",
+        path: None,
         there: There::File,
         call: Call::Open,
         wanted: Ok(5),
     },
     Asked {
         what: "a file that is held",
+        path: None,
         there: There::Held,
         call: Call::Open,
         wanted: Err(Fault::Device),
     },
     Asked {
         what: "a folder is opened",
+        path: None,
         there: There::Folder,
         call: Call::Open,
         wanted: Err(Fault::Device),
     },
+    Asked {
+        what: "log",
+        path: Some("log"),
+        there: There::Nothing,
+        call: Call::Create,
+        wanted: Ok(0),
+    },
+    Asked {
+        what: "./log",
+        path: Some("./log"),
+        there: There::Nothing,
+        call: Call::Create,
+        wanted: Ok(0),
+    },
+    Asked {
+        what: "logs/shard-0.log",
+        path: Some("logs/shard-0.log"),
+        there: There::Nothing,
+        call: Call::Create,
+        wanted: Ok(0),
+    },
+    Asked {
+        what: "missing/log",
+        path: Some("missing/log"),
+        there: There::Nothing,
+        call: Call::Create,
+        wanted: Err(Fault::Device),
+    },
+    Asked {
+        what: "logs/",
+        path: Some("logs/"),
+        there: There::Nothing,
+        call: Call::Create,
+        wanted: Err(Fault::Device),
+    },
+    Asked {
+        what: "no path",
+        path: Some(""),
+        there: There::Nothing,
+        call: Call::Create,
+        wanted: Err(Fault::Device),
+    },
 ];
 
-fn is_put(rt: &HostRuntime, path: &str, there: There) -> bool {
+fn is_put(rt: &HostRuntime, path: &str, there: &There) -> bool {
     match there {
         There::Nothing => true,
         There::Folder => fs::create_dir(rt, path).is_ok(),
@@ -108,9 +159,16 @@ pub fn answer(rt: &HostRuntime, path: &str, call: Call) -> Result<u64, Fault> {
     }
 }
 
-// The call is answered so at a path where nothing is yet.
-fn is_answered_so(rt: &HostRuntime, path: &str, row: &Asked) -> bool {
-    if !is_put(rt, path, row.there) {
+// The call is answered so in a folder of its own.
+fn is_answered_so(rt: &HostRuntime, folder: &Folder, row: &Asked) -> bool {
+    let path = match row.path {
+        Some(path) => path,
+        None => folder.log.as_str(),
+    };
+    let ready = env::set_current_dir(rt, folder.path.as_str()).is_ok()
+        && fs::create_dir(rt, "logs").is_ok()
+        && is_put(rt, path, &row.there);
+    if !ready {
         return false;
     }
     let held = match row.there {
@@ -122,63 +180,6 @@ fn is_answered_so(rt: &HostRuntime, path: &str, row: &Asked) -> bool {
     answer == row.wanted
 }
 
-// A path of a new file, from a folder with the folder `logs` in it.
-#[derive(Clone, Copy)]
-struct Named {
-    path: &'static str,
-    wanted: Result<u64, Fault>,
-}
-
-static NAMED: [Named; 6] = [
-    Named {
-        path: "log",
-        wanted: Ok(0),
-    },
-    Named {
-        path: "./log",
-        wanted: Ok(0),
-    },
-    Named {
-        path: "logs/shard-0.log",
-        wanted: Ok(0),
-    },
-    Named {
-        path: "missing/log",
-        wanted: Err(Fault::Device),
-    },
-    Named {
-        path: "logs/",
-        wanted: Err(Fault::Device),
-    },
-    Named {
-        path: "",
-        wanted: Err(Fault::Device),
-    },
-];
-
-fn is_made_so(rt: &HostRuntime, folder: &str, row: &Named) -> bool {
-    env::set_current_dir(rt, folder).is_ok()
-        && fs::create_dir(rt, "logs").is_ok()
-        && answer(rt, row.path, Call::Create) == row.wanted
-}
-
-// What is done with a disk.
-#[derive(Clone, Copy)]
-enum Step {
-    Write(u64, &'static [u8]),
-    Cut(u64),
-    Sync,
-    Reserve(u64),
-    Arm(Option<u64>),
-    // The system refuses. A read is of at most 4 bytes.
-    ReadFails(u64, usize),
-    WriteFails(u64, &'static [u8]),
-    CutFails(u64),
-    // These bytes are read, and they are all.
-    Holds(&'static [u8]),
-}
-
-#[derive(Clone, Copy)]
 struct Run {
     what: &'static str,
     steps: &'static [Step],
@@ -236,41 +237,18 @@ static RUNS: [Run; 4] = [
     },
 ];
 
-// What the call of a step answers.
-fn called(alloc: Global, disk: &mut FileDisk, step: Step) -> Result<(), Fault> {
-    match step {
-        Step::Write(at, bytes) | Step::WriteFails(at, bytes) => disk.write_at(at, bytes),
-        Step::Cut(len) | Step::CutFails(len) => disk.cut(len),
-        Step::Sync => disk.sync(),
-        Step::Reserve(bytes) => disk.reserve(bytes),
-        Step::Arm(call) => {
-            disk.arm(call);
-            Ok(())
-        }
-        Step::ReadFails(at, count) => match [0u8; 4].get_mut(..count) {
-            Some(buffer) => disk.read_at(at, buffer),
-            None => Err(Fault::Room),
-        },
-        Step::Holds(bytes) => read_back(alloc, disk, bytes),
-    }
-}
-
-fn goes_well(alloc: Global, disk: &mut FileDisk, step: Step) -> bool {
-    let answer = called(alloc, disk, step);
-    match step {
-        Step::ReadFails(..) | Step::WriteFails(..) | Step::CutFails(..) => answer
-            == Err(Fault::Device),
-        _ => answer.is_ok(),
-    }
-}
-
-fn go_well(alloc: Global, disk: &mut FileDisk, steps: &[Step]) -> bool {
-    for step in steps {
-        if !goes_well(alloc, disk, *step) {
-            return false;
+impl Stepped for FileDisk {
+    fn called(&mut self, alloc: Global, step: &Step) -> Result<(), Fault> {
+        match step {
+            Step::ReadFails(at, count) => match [0u8; 4].get_mut(..*count) {
+                Some(buffer) => self.read_at(*at, buffer),
+                None => Err(Fault::Room),
+            },
+            Step::WriteFails(at, bytes) => self.write_at(*at, bytes),
+            Step::CutFails(len) => self.cut(*len),
+            _ => call_any(alloc, self, step),
         }
     }
-    true
 }
 
 /// Whether the file, when it is opened, has these bytes.
@@ -298,27 +276,16 @@ fn runs(rt: &HostRuntime, path: &str, row: &Run) -> bool {
 pub fn wrong(rt: &HostRuntime, test: &impl Abort) -> &'static str {
     for row in &ASKED {
         let folder = Folder::new(rt, test);
-        let so = is_answered_so(rt, folder.log(), row);
+        let so = is_answered_so(rt, &folder, row);
         if !folder.remove(rt) || !so {
             return row.what;
         }
     }
     for row in &RUNS {
         let folder = Folder::new(rt, test);
-        let went = runs(rt, folder.log(), row);
+        let went = runs(rt, folder.log.as_str(), row);
         if !folder.remove(rt) || !went {
             return row.what;
-        }
-    }
-    for row in &NAMED {
-        let folder = Folder::new(rt, test);
-        let so = is_made_so(rt, folder.path(), row);
-        if !folder.remove(rt) || !so {
-            return if row.path.is_empty() {
-                "no path"
-            } else {
-                row.path
-            };
         }
     }
     ""

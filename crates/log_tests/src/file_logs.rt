@@ -1,11 +1,11 @@
 //! Logs in files.
 use crate::disks::{Call, answer, keeps};
-use crate::files::{open, put_lines, refusal};
+use crate::files::{Place, open, put_lines, refusal};
 use crate::folder::Folder;
 use crate::lines::Line;
+use crate::spellings::OPENED;
 use filedisk::FileDisk;
-use gatelog::{Entry, GateLog};
-use record::Record;
+use gatelog::GateLog;
 use std::process::Abort;
 use units::Fault;
 
@@ -15,17 +15,8 @@ const TWO_OPENINGS: &[u8] = &[
     0xa5, 0, 0, 0, 9, 1, 0, 0, 0, 0, 0, 0, 0, 2, 0,
 ];
 
-// Whether the entries are the openings of the epochs from 1 on, as many.
-fn are_openings(entries: &[Entry], count: usize) -> bool {
-    let mut next = 1u64;
-    for entry in entries {
-        match entry.item() {
-            Record::Opened { epoch } if epoch.number() == next => next = next.saturating_add(1),
-            _ => return false,
-        }
-    }
-    entries.len() == count
-}
+// The entries of the same.
+const OPENINGS: &[Place] = &[(8, OPENED), (22, &[1, 0, 0, 0, 0, 0, 0, 0, 2])];
 
 // The log is made, takes its first record, and is not opened meanwhile.
 fn begins(rt: &HostRuntime, path: &str) -> bool {
@@ -41,16 +32,15 @@ fn begins(rt: &HostRuntime, path: &str) -> bool {
     begun
 }
 
-// It is opened with so many records, and takes more.
-fn goes_on(rt: &HostRuntime, path: &str, count: usize, more: &[Line]) -> bool {
+// It is opened with these entries, and takes more.
+fn goes_on(rt: &HostRuntime, path: &str, places: &[Place], more: &[Line]) -> bool {
     let Ok(disk) = FileDisk::open(rt, path) else {
         return false;
     };
-    let Ok((mut log, entries)) = open(rt.alloc(), disk) else {
+    let Ok(mut log) = open(rt.alloc(), disk, places) else {
         return false;
     };
-    let went = are_openings(&entries, count) && put_lines(rt.alloc(), &mut log, more);
-    drop(entries);
+    let went = put_lines(rt.alloc(), &mut log, more);
     drop(log);
     went
 }
@@ -58,7 +48,7 @@ fn goes_on(rt: &HostRuntime, path: &str, count: usize, more: &[Line]) -> bool {
 // A new file is no log.
 fn is_refused(rt: &HostRuntime, path: &str) -> bool {
     match FileDisk::create(rt, path) {
-        Ok(empty) => refusal(rt.alloc(), empty) == Some(Fault::NotALog),
+        Ok(empty) => refusal(rt.alloc(), empty, &[]) == Some(Fault::NotALog),
         Err(_) => false,
     }
 }
@@ -66,16 +56,16 @@ fn is_refused(rt: &HostRuntime, path: &str) -> bool {
 /// The first row that is wrong, each in a folder of its own.
 pub fn wrong(rt: &HostRuntime, test: &impl Abort) -> &'static str {
     let folder = Folder::new(rt, test);
-    let path = folder.log();
+    let path = folder.log.as_str();
     let opened = begins(rt, path)
-        && goes_on(rt, path, 1, &[Line::Opened(2)])
-        && goes_on(rt, path, 2, &[])
+        && goes_on(rt, path, &[(8, OPENED)], &[Line::Opened(2)])
+        && goes_on(rt, path, OPENINGS, &[])
         && keeps(rt, path, TWO_OPENINGS);
     if !folder.remove(rt) || !opened {
         return "a log is opened again";
     }
     let folder = Folder::new(rt, test);
-    let refused = is_refused(rt, folder.log());
+    let refused = is_refused(rt, folder.log.as_str());
     if folder.remove(rt) && refused {
         ""
     } else {

@@ -1,9 +1,10 @@
 //! The log in its file.
-use crate::devices::{crash, read_back};
+use crate::devices::crash;
 use crate::lines::{Line, is_spelled, record_of};
-use crate::spellings::COMMIT;
+use crate::spellings::{CEILING, COMMIT, OPENED, OUTCOME};
+use crate::steps::read_back;
 use disk::{Disk, Fate};
-use gatelog::{Entry, GateLog, Logged};
+use gatelog::{Entry, GateLog};
 use made::stamp;
 use record::Record;
 use simdisk::SimDisk;
@@ -18,12 +19,32 @@ const WHOLE: &[u8] = &[
     0, 0, 0, 0, 0, 0, 0, 1, 1, 0, 0, 0, 0, 0, 0, 0, 0x6f, 0,
 ];
 
-type Opened<D> = Result<(GateLog<D>, Vec<Entry>), Fault>;
+/// Where an entry stands, and the bytes of its record.
+pub type Place = (u64, &'static [u8]);
 
-/// The log that is on a disk, and its entries.
-pub fn open<D: Disk + Drop>(alloc: Global, disk: D) -> Opened<D> {
+fn are_entries(alloc: Global, entries: &[Entry], places: &[Place]) -> bool {
+    for (number, entry) in entries.iter().enumerate() {
+        match places.get(number) {
+            Some((offset, bytes))
+                if entry.offset() == *offset && is_spelled(alloc, entry.item(), bytes) => {}
+            _ => return false,
+        }
+    }
+    entries.len() == places.len()
+}
+
+/// The log on a disk, with these entries: where they are others, there is no room for them.
+pub fn open<D: Disk + Drop>(alloc: Global, disk: D, places: &[Place]) -> Result<GateLog<D>, Fault> {
     match GateLog::open(alloc, disk) {
-        Ok(opened) => Ok(opened),
+        Ok((log, entries)) => {
+            let same = are_entries(alloc, &entries, places);
+            drop(entries);
+            if same {
+                return Ok(log);
+            }
+            drop(log);
+            Err(Fault::Room)
+        }
         Err((fault, disk)) => {
             drop(disk);
             Err(fault)
@@ -31,43 +52,36 @@ pub fn open<D: Disk + Drop>(alloc: Global, disk: D) -> Opened<D> {
     }
 }
 
-/// How the log on a disk is refused.
-pub fn refusal<D: Disk + Drop>(alloc: Global, disk: D) -> Option<Fault> {
-    match open(alloc, disk) {
-        Ok((log, entries)) => {
+/// How the log on a disk is refused, which else has these entries.
+pub fn refusal<D: Disk + Drop>(alloc: Global, disk: D, places: &[Place]) -> Option<Fault> {
+    match open(alloc, disk, places) {
+        Ok(log) => {
             drop(log);
-            drop(entries);
             None
         }
         Err(fault) => Some(fault),
     }
 }
 
-pub fn entries_in(alloc: Global, disk: SimDisk) -> Option<Vec<Entry>> {
-    match open(alloc, disk) {
-        Ok((log, entries)) => {
-            drop(log);
-            Some(entries)
-        }
-        Err(_) => None,
-    }
-}
-
-fn spent(logged: Result<Logged, Fault>) -> Result<(), Fault> {
-    match logged {
-        Ok(logged) => {
-            drop(logged.spend());
-            Ok(())
+/// Logs a record, while that call of the append is to fail, where one is.
+pub fn put<D: Disk>(
+    alloc: Global,
+    log: &mut GateLog<D>,
+    item: Record,
+    call: Option<u64>,
+) -> Result<(), Fault> {
+    match log.stage(alloc, item) {
+        Ok(staged) => {
+            log.arm(call);
+            match log.append(staged) {
+                Ok(logged) => {
+                    drop(logged.spend());
+                    Ok(())
+                }
+                Err(fault) => Err(fault),
+            }
         }
         Err(fault) => Err(fault),
-    }
-}
-
-/// Whether the record was logged.
-pub fn put<D: Disk>(alloc: Global, log: &mut GateLog<D>, item: Record) -> bool {
-    match log.stage(alloc, item) {
-        Ok(staged) => spent(log.append(staged)).is_ok(),
-        Err(_) => false,
     }
 }
 
@@ -77,109 +91,191 @@ pub fn put_lines<D: Disk>(alloc: Global, log: &mut GateLog<D>, lines: &[Line]) -
         let Some(item) = record_of(alloc, *line) else {
             return false;
         };
-        if !put(alloc, log, item) {
+        if put(alloc, log, item, None).is_err() {
             return false;
         }
     }
     true
 }
 
-/// A new log with these records.
-pub fn log_of(alloc: Global, lines: &[Line]) -> Option<GateLog<SimDisk>> {
-    let Ok(mut log) = GateLog::format(SimDisk::new(alloc)) else {
-        return None;
-    };
-    if put_lines(alloc, &mut log, lines) {
-        Some(log)
-    } else {
-        drop(log);
-        None
-    }
-}
-
-/// The entries of such a log.
-pub fn entries_of(alloc: Global, lines: &[Line]) -> Option<Vec<Entry>> {
-    match log_of(alloc, lines) {
-        Some(log) => entries_in(alloc, log.into_disk()),
-        None => None,
-    }
-}
-
-fn have_offsets(entries: &[Entry], offsets: &[u64]) -> bool {
-    for (number, entry) in entries.iter().enumerate() {
-        match offsets.get(number) {
-            Some(offset) if entry.offset() == *offset => {}
-            _ => return false,
-        }
-    }
-    entries.len() == offsets.len()
-}
-
-// The entries on the disk stand there.
-fn stand_at(alloc: Global, disk: SimDisk, offsets: &[u64]) -> bool {
-    let Some(entries) = entries_in(alloc, disk) else {
-        return false;
-    };
-    let stand = have_offsets(&entries, offsets);
-    drop(entries);
-    stand
-}
-
-// A log, its file, and where its entries stand.
+// Records that are logged, what is done then, and what the log is when it is opened again.
 #[derive(Clone, Copy)]
-struct File {
+struct Case {
     what: &'static str,
     lines: &'static [Line],
-    bytes: &'static [u8],
-    offsets: &'static [u64],
+    // Ceiling 200 is to be logged, each time while that call of the append is to fail, and it is answered so.
+    armed: &'static [(u64, Result<(), Fault>)],
+    is_stopped: bool,
+    // The fate of what is not synced, where there is a crash then.
+    fate: Option<Fate>,
+    // All bytes of the file.
+    bytes: Option<&'static [u8]>,
+    places: &'static [Place],
+    // More records that are logged then, and the entries with these.
+    more: &'static [Line],
+    places_with_more: &'static [Place],
 }
 
-static FILES: [File; 2] = [
-    File {
+const AT_FIRST: &[Place] = &[(8, OPENED)];
+
+// The closed gate of a log that was opened once is at 22.
+const WITH_CEILING: &[Place] = &[(8, OPENED), (22, CEILING)];
+
+// Ceiling 300, where the closed gate was.
+const WITH_HIGHER: &[Place] = &[(8, OPENED), (22, &[2, 0, 0, 0, 0, 0, 0, 1, 0x2c])];
+
+const ONE_COMMIT: &[Place] = &[(8, OPENED), (22, COMMIT), (64, OUTCOME)];
+
+// A log that was opened once.
+const OPENED_ONCE: Case = Case {
+    what: "an opening",
+    lines: &[Line::Opened(1)],
+    armed: &[],
+    is_stopped: false,
+    fate: None,
+    bytes: None,
+    places: AT_FIRST,
+    more: &[],
+    places_with_more: AT_FIRST,
+};
+
+static CASES: [Case; 11] = [
+    Case {
         what: "an empty log",
         lines: &[],
-        bytes: b"SPNLOG01\0",
-        offsets: &[],
+        bytes: Some(b"SPNLOG01\0"),
+        places: &[],
+        places_with_more: &[],
+        ..OPENED_ONCE
     },
-    File {
+    Case {
         what: "one commit",
-        lines: ONE_COMMIT,
-        bytes: WHOLE,
-        offsets: &[8, 22, 64],
+        lines: &[
+            Line::Opened(1),
+            Line::Commit(1, 111, b'a', 1),
+            Line::Committed(1, 111),
+        ],
+        bytes: Some(WHOLE),
+        places: ONE_COMMIT,
+        places_with_more: ONE_COMMIT,
+        ..OPENED_ONCE
+    },
+    Case {
+        what: "the first call fails",
+        armed: &[(0, Err(Fault::Device))],
+        is_stopped: true,
+        fate: Some(Fate::New),
+        ..OPENED_ONCE
+    },
+    Case {
+        what: "the second call fails",
+        armed: &[(1, Err(Fault::Device))],
+        is_stopped: true,
+        fate: Some(Fate::Filled(0xa5)),
+        ..OPENED_ONCE
+    },
+    Case {
+        what: "the third call fails, with its change lost",
+        armed: &[(2, Err(Fault::Device))],
+        is_stopped: true,
+        fate: Some(Fate::Old),
+        ..OPENED_ONCE
+    },
+    Case {
+        what: "the third call fails, with its change kept",
+        armed: &[(2, Err(Fault::Device))],
+        is_stopped: true,
+        fate: Some(Fate::New),
+        places: WITH_CEILING,
+        places_with_more: WITH_CEILING,
+        ..OPENED_ONCE
+    },
+    Case {
+        what: "the third call fails, with its change filled",
+        armed: &[(2, Err(Fault::Device))],
+        is_stopped: true,
+        fate: Some(Fate::Filled(0xa5)),
+        places: WITH_CEILING,
+        places_with_more: WITH_CEILING,
+        ..OPENED_ONCE
+    },
+    Case {
+        what: "the fourth call fails",
+        armed: &[(3, Err(Fault::Device))],
+        is_stopped: true,
+        fate: Some(Fate::Filled(0x37)),
+        ..OPENED_ONCE
+    },
+    Case {
+        what: "the fifth call fails",
+        armed: &[(4, Ok(()))],
+        fate: Some(Fate::Old),
+        places: WITH_CEILING,
+        places_with_more: WITH_CEILING,
+        ..OPENED_ONCE
+    },
+    Case {
+        what: "a closed gate is used again",
+        armed: &[(2, Err(Fault::Device))],
+        is_stopped: true,
+        fate: Some(Fate::Filled(0x37)),
+        more: &[Line::Ceiling(300)],
+        places_with_more: WITH_HIGHER,
+        ..OPENED_ONCE
+    },
+    // The file has both entries, as it is read.
+    Case {
+        what: "a failure stops it",
+        armed: &[(3, Err(Fault::Device)), (3, Err(Fault::Stopped))],
+        is_stopped: true,
+        places: WITH_CEILING,
+        places_with_more: WITH_CEILING,
+        ..OPENED_ONCE
     },
 ];
 
-const ONE_COMMIT: &[Line] = &[
-    Line::Opened(1),
-    Line::Commit(1, 111, b'a', 1),
-    Line::Committed(1, 111),
-];
-
-fn is_written(alloc: Global, row: &File) -> bool {
-    let Some(log) = log_of(alloc, row.lines) else {
+// The row's records are logged, and each call that is to fail is answered so.
+fn is_filled(alloc: Global, log: &mut GateLog<SimDisk>, row: &Case) -> bool {
+    if !put_lines(alloc, log, row.lines) {
         return false;
-    };
-    let goes_on = !log.is_stopped();
-    let mut disk = log.into_disk();
-    let written = read_back(alloc, &mut disk, row.bytes).is_ok();
-    stand_at(alloc, disk, row.offsets) && goes_on && written
+    }
+    for (call, answer) in row.armed {
+        let item = Record::Ceiling { at: stamp(200) };
+        if put(alloc, log, item, Some(*call)) != *answer {
+            return false;
+        }
+    }
+    log.is_stopped() == row.is_stopped
 }
 
-// The second entry has the record of the second line.
-fn has_its_commit(alloc: Global) -> bool {
-    let Some(entries) = entries_of(alloc, ONE_COMMIT) else {
+// The file is left so, by the crash where there is one.
+fn is_left(alloc: Global, disk: &mut SimDisk, row: &Case) -> bool {
+    if let Some(fate) = row.fate {
+        crash(alloc, disk, &[fate]);
+    }
+    match row.bytes {
+        Some(bytes) => read_back(alloc, disk, bytes).is_ok(),
+        None => true,
+    }
+}
+
+// The log is filled, and opened again; then it takes more.
+fn goes_on(alloc: Global, row: &Case) -> bool {
+    let Ok(mut log) = GateLog::format(SimDisk::new(alloc)) else {
         return false;
     };
-    let has = match entries.get(1) {
-        Some(entry) => is_spelled(alloc, entry.item(), COMMIT),
-        None => false,
+    let filled = is_filled(alloc, &mut log, row);
+    let mut disk = log.into_disk();
+    let left = is_left(alloc, &mut disk, row);
+    let Ok(mut again) = open(alloc, disk, row.places) else {
+        return false;
     };
-    drop(entries);
-    has
+    let logged = put_lines(alloc, &mut again, row.more);
+    let refused = refusal(alloc, again.into_disk(), row.places_with_more);
+    filled && left && logged && refused.is_none()
 }
 
 // How a file is refused.
-#[derive(Clone, Copy)]
 struct Refused {
     what: &'static str,
     bytes: &'static [u8],
@@ -229,7 +325,7 @@ static REFUSED: [Refused; 7] = [
 fn refusal_of(alloc: Global, bytes: &[u8]) -> Option<Fault> {
     let mut disk = SimDisk::new(alloc);
     match disk.write_at(0, bytes) {
-        Ok(()) => refusal(alloc, disk),
+        Ok(()) => refusal(alloc, disk, &[]),
         Err(fault) => {
             drop(disk);
             Some(fault)
@@ -237,148 +333,17 @@ fn refusal_of(alloc: Global, bytes: &[u8]) -> Option<Fault> {
     }
 }
 
-// Logs Ceiling 200 while a call of the append is to fail.
-fn append_armed(alloc: Global, log: &mut GateLog<SimDisk>, call: u64) -> Result<(), Fault> {
-    let item = Record::Ceiling { at: stamp(200) };
-    match log.stage(alloc, item) {
-        Ok(staged) => {
-            log.arm(Some(call));
-            spent(log.append(staged))
-        }
-        Err(fault) => Err(fault),
-    }
-}
-
-// The same on a log that was opened once, whose closed gate is at 22, and crashes then.
-fn cut_short(alloc: Global, call: u64, fate: Fate) -> Option<SimDisk> {
-    let Some(mut log) = log_of(alloc, &[Line::Opened(1)]) else {
-        return None;
-    };
-    let _ = append_armed(alloc, &mut log, call);
-    let mut disk = log.into_disk();
-    crash(alloc, &mut disk, &[fate]);
-    Some(disk)
-}
-
-// The call that fails, the fate of what it leaves, and how many entries there are then.
-#[derive(Clone, Copy)]
-struct Crashed {
-    what: &'static str,
-    call: u64,
-    fate: Fate,
-    entries: usize,
-}
-
-static CRASHED: [Crashed; 7] = [
-    Crashed {
-        what: "the first call fails",
-        call: 0,
-        fate: Fate::New,
-        entries: 1,
-    },
-    Crashed {
-        what: "the second call fails",
-        call: 1,
-        fate: Fate::Filled(0xa5),
-        entries: 1,
-    },
-    Crashed {
-        what: "the third call fails, with its change lost",
-        call: 2,
-        fate: Fate::Old,
-        entries: 1,
-    },
-    Crashed {
-        what: "the third call fails, with its change kept",
-        call: 2,
-        fate: Fate::New,
-        entries: 2,
-    },
-    Crashed {
-        what: "the third call fails, with its change filled",
-        call: 2,
-        fate: Fate::Filled(0xa5),
-        entries: 2,
-    },
-    Crashed {
-        what: "the fourth call fails",
-        call: 3,
-        fate: Fate::Filled(0x37),
-        entries: 1,
-    },
-    Crashed {
-        what: "the fifth call fails",
-        call: 4,
-        fate: Fate::Old,
-        entries: 2,
-    },
-];
-
-fn leaves(alloc: Global, row: &Crashed) -> bool {
-    let Some(disk) = cut_short(alloc, row.call, row.fate) else {
-        return false;
-    };
-    let Some(entries) = entries_in(alloc, disk) else {
-        return false;
-    };
-    let count = entries.len();
-    drop(entries);
-    count == row.entries
-}
-
-// The second entry stands where the closed gate was.
-fn is_used_again(alloc: Global) -> bool {
-    let Some(disk) = cut_short(alloc, 2, Fate::Filled(0x37)) else {
-        return false;
-    };
-    let Ok((mut log, entries)) = open(alloc, disk) else {
-        return false;
-    };
-    let count = entries.len();
-    drop(entries);
-    let logged = put_lines(alloc, &mut log, &[Line::Ceiling(300)]);
-    stand_at(alloc, log.into_disk(), &[8, 22]) && count == 1 && logged
-}
-
-// A failing call stops the log, and the file has both entries, as it is read.
-fn is_stopped_by_a_failure(alloc: Global) -> bool {
-    let Some(mut log) = log_of(alloc, &[Line::Opened(1)]) else {
-        return false;
-    };
-    let first = append_armed(alloc, &mut log, 3);
-    let is_stopped = log.is_stopped();
-    let second = append_armed(alloc, &mut log, 3);
-    stand_at(alloc, log.into_disk(), &[8, 22])
-        && is_stopped
-        && [first, second] == [Err(Fault::Device), Err(Fault::Stopped)]
-}
-
 /// The first row that is wrong.
 pub fn wrong(alloc: Global) -> &'static str {
-    for row in &FILES {
-        if !is_written(alloc, row) {
+    for row in &CASES {
+        if !goes_on(alloc, row) {
             return row.what;
         }
-    }
-    if !has_its_commit(alloc) {
-        return "an entry has its record";
     }
     for row in &REFUSED {
         if refusal_of(alloc, row.bytes) != row.fault {
             return row.what;
         }
     }
-    for row in &CRASHED {
-        if !leaves(alloc, row) {
-            return row.what;
-        }
-    }
-    if !is_used_again(alloc) {
-        return "a closed gate is used again";
-    }
-    if is_stopped_by_a_failure(alloc) {
-        ""
-    } else {
-        "a failure stops it"
-    }
+    ""
 }

@@ -6,8 +6,9 @@ use std::{env, fs, io};
 /// A folder in which nothing was when the test began.
 #[derive(Drop)]
 pub struct Folder {
-    path: String,
-    log: String,
+    pub path: String,
+    /// The path of a log in it, which the test may make.
+    pub log: String,
 }
 
 impl Folder {
@@ -32,15 +33,6 @@ impl Folder {
                 None
             }
         }
-    }
-
-    pub fn path(&self) -> &str {
-        self.path.as_str()
-    }
-
-    /// The path of a log in it, which the test may make.
-    pub fn log(&self) -> &str {
-        self.log.as_str()
     }
 
     /// Removes it with all that is in it. Whether it is gone.

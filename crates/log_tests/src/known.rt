@@ -35,9 +35,12 @@ fn all_come(alloc: Global, facts: &mut Facts, lines: &[Line], learnt: bool) -> b
     true
 }
 
+// The timestamps of a transaction's promise and of its decision, and its outcome.
+type Standing = (Option<u64>, Option<u64>, Option<Option<u64>>);
+
 // How it stands with a transaction: the timestamps of its promise and of its decision, whether it was aborted, its outcome, and
 // whether it was settled where it was decided.
-#[derive(Clone, Copy, PartialEq, Eq)]
+#[derive(Clone, Copy)]
 struct Known {
     number: u16,
     prepared: Option<u64>,
@@ -56,33 +59,45 @@ const UNKNOWN: Known = Known {
     settled: false,
 };
 
-// What the log of a shard determines, whatever the turn of the ids in it. An install is its timestamp and the letter of its key.
-#[derive(Clone, Copy)]
+// What a log determines, whatever the turn of the ids in it. An install is its timestamp and the letter of its key.
 struct Determined {
-    what: &'static str,
-    shard: u8,
-    lines: &'static [Line],
     epoch: u64,
     floor: u64,
     installs: &'static [(u64, u8)],
     known: &'static [Known],
 }
 
-static DETERMINED: [Determined; 5] = [
-    Determined {
+// The log of a shard, records of which none may come next, and what it determines where that is looked at.
+struct Case {
+    what: &'static str,
+    shard: u8,
+    lines: &'static [Line],
+    refused: &'static [Line],
+    determined: Option<Determined>,
+}
+
+const PROMISE: Line = Line::Prepare(1, 5, b'a', 0);
+
+const DECISION: Line = Line::Commit(1, 5, b'a', 2);
+
+static CASES: [Case; 14] = [
+    Case {
         what: "a decision",
         shard: 0,
         lines: &[Line::Opened(1), Line::Commit(1, 111, b'a', 1)],
-        epoch: 1,
-        floor: 111,
-        installs: &[],
-        known: &[Known {
-            number: 1,
-            decided: Some(111),
-            ..UNKNOWN
-        }],
+        refused: &[],
+        determined: Some(Determined {
+            epoch: 1,
+            floor: 111,
+            installs: &[],
+            known: &[Known {
+                number: 1,
+                decided: Some(111),
+                ..UNKNOWN
+            }],
+        }),
     },
-    Determined {
+    Case {
         what: "a decision that was settled",
         shard: 0,
         lines: &[
@@ -90,18 +105,21 @@ static DETERMINED: [Determined; 5] = [
             Line::Commit(1, 111, b'a', 1),
             Line::Committed(1, 111),
         ],
-        epoch: 1,
-        floor: 111,
-        installs: &[(111, b'a')],
-        known: &[Known {
-            number: 1,
-            outcome: Some(Some(111)),
-            settled: true,
-            ..UNKNOWN
-        }],
+        refused: &[],
+        determined: Some(Determined {
+            epoch: 1,
+            floor: 111,
+            installs: &[(111, b'a')],
+            known: &[Known {
+                number: 1,
+                outcome: Some(Some(111)),
+                settled: true,
+                ..UNKNOWN
+            }],
+        }),
     },
     // An outcome aborted follows a promise, and is no abort decision.
-    Determined {
+    Case {
         what: "two promises that ended",
         shard: 1,
         lines: &[
@@ -113,23 +131,26 @@ static DETERMINED: [Determined; 5] = [
             Line::Aborted(2),
             Line::Opened(2),
         ],
-        epoch: 2,
-        floor: 300,
-        installs: &[(250, b'a')],
-        known: &[
-            Known {
-                number: 2,
-                outcome: Some(None),
-                ..UNKNOWN
-            },
-            Known {
-                number: 3,
-                outcome: Some(Some(250)),
-                ..UNKNOWN
-            },
-        ],
+        refused: &[],
+        determined: Some(Determined {
+            epoch: 2,
+            floor: 300,
+            installs: &[(250, b'a')],
+            known: &[
+                Known {
+                    number: 2,
+                    outcome: Some(None),
+                    ..UNKNOWN
+                },
+                Known {
+                    number: 3,
+                    outcome: Some(Some(250)),
+                    ..UNKNOWN
+                },
+            ],
+        }),
     },
-    Determined {
+    Case {
         what: "aborts beside promises",
         shard: 1,
         lines: &[
@@ -141,42 +162,45 @@ static DETERMINED: [Determined; 5] = [
             Line::Aborted(3),
             Line::Abort(7),
         ],
-        epoch: 1,
-        floor: 300,
-        installs: &[],
-        known: &[
-            Known {
-                number: 3,
-                outcome: Some(None),
-                ..UNKNOWN
-            },
-            Known {
-                number: 1,
-                prepared: Some(300),
-                ..UNKNOWN
-            },
-            Known {
-                number: 4,
-                ..UNKNOWN
-            },
-            Known {
-                number: 5,
-                aborted: true,
-                ..UNKNOWN
-            },
-            Known {
-                number: 7,
-                aborted: true,
-                ..UNKNOWN
-            },
-            Known {
-                number: 9,
-                aborted: true,
-                ..UNKNOWN
-            },
-        ],
+        refused: &[],
+        determined: Some(Determined {
+            epoch: 1,
+            floor: 300,
+            installs: &[],
+            known: &[
+                Known {
+                    number: 3,
+                    outcome: Some(None),
+                    ..UNKNOWN
+                },
+                Known {
+                    number: 1,
+                    prepared: Some(300),
+                    ..UNKNOWN
+                },
+                Known {
+                    number: 4,
+                    ..UNKNOWN
+                },
+                Known {
+                    number: 5,
+                    aborted: true,
+                    ..UNKNOWN
+                },
+                Known {
+                    number: 7,
+                    aborted: true,
+                    ..UNKNOWN
+                },
+                Known {
+                    number: 9,
+                    aborted: true,
+                    ..UNKNOWN
+                },
+            ],
+        }),
     },
-    Determined {
+    Case {
         what: "a promise that stands",
         shard: 1,
         lines: &[
@@ -184,86 +208,151 @@ static DETERMINED: [Determined; 5] = [
             Line::Prepare(2, 200, b'a', 0),
             Line::Abort(9),
         ],
-        epoch: 1,
-        floor: 200,
-        installs: &[],
-        known: &[
-            Known {
-                number: 2,
-                prepared: Some(200),
-                ..UNKNOWN
-            },
-            Known {
-                number: 9,
-                aborted: true,
-                ..UNKNOWN
-            },
+        refused: &[],
+        determined: Some(Determined {
+            epoch: 1,
+            floor: 200,
+            installs: &[],
+            known: &[
+                Known {
+                    number: 2,
+                    prepared: Some(200),
+                    ..UNKNOWN
+                },
+                Known {
+                    number: 9,
+                    aborted: true,
+                    ..UNKNOWN
+                },
+            ],
+        }),
+    },
+    Case {
+        what: "behind nothing",
+        shard: 0,
+        lines: &[],
+        refused: &[Line::Opened(2), Line::Abort(1), Line::Ceiling(5)],
+        determined: None,
+    },
+    Case {
+        what: "behind an opening",
+        shard: 0,
+        lines: &[Line::Opened(1)],
+        refused: &[Line::Opened(1)],
+        determined: None,
+    },
+    Case {
+        what: "behind two openings",
+        shard: 0,
+        lines: &[Line::Opened(1), Line::Opened(2)],
+        refused: &[Line::Opened(4)],
+        determined: None,
+    },
+    // A timestamp 0, a coordinator that is not below the shard, a least part that is another shard, an end of nothing.
+    Case {
+        what: "behind an opening of shard 1",
+        shard: 1,
+        lines: &[Line::Opened(1)],
+        refused: &[
+            Line::Prepare(1, 0, b'a', 0),
+            Line::Prepare(1, 5, b'a', 1),
+            Line::Commit(1, 0, b'a', 2),
+            Line::Commit(1, 5, b'a', 3),
+            Line::Commit(1, 5, b'a', 4),
+            Line::Committed(1, 5),
+            Line::Aborted(1),
         ],
+        determined: None,
+    },
+    // A second promise, decision or abort, and an end that is not the one that was begun.
+    Case {
+        what: "behind a promise",
+        shard: 1,
+        lines: &[Line::Opened(1), PROMISE],
+        refused: &[PROMISE, DECISION, Line::Abort(1), Line::Committed(1, 4)],
+        determined: None,
+    },
+    Case {
+        what: "behind a decision",
+        shard: 1,
+        lines: &[Line::Opened(1), DECISION],
+        refused: &[
+            PROMISE,
+            DECISION,
+            Line::Abort(1),
+            Line::Committed(1, 6),
+            Line::Aborted(1),
+        ],
+        determined: None,
+    },
+    Case {
+        what: "behind an abort",
+        shard: 1,
+        lines: &[Line::Opened(1), Line::Abort(1)],
+        refused: &[PROMISE, DECISION, Line::Abort(1), Line::Aborted(1)],
+        determined: None,
+    },
+    // A second end.
+    Case {
+        what: "behind a decision that was settled",
+        shard: 1,
+        lines: &[Line::Opened(1), DECISION, Line::Committed(1, 5)],
+        refused: &[Line::Committed(1, 5)],
+        determined: None,
+    },
+    Case {
+        what: "behind a promise that was aborted",
+        shard: 1,
+        lines: &[Line::Opened(1), PROMISE, Line::Aborted(1)],
+        refused: &[Line::Committed(1, 6)],
+        determined: None,
     },
 ];
 
 // By what readers find.
-fn standing(
-    number: u16,
+fn stands_as(
     prepared: Option<&Prepared>,
     decided: Option<&Committed>,
     outcome: Option<Option<Stamp>>,
-    aborted: bool,
-    settled: bool,
-) -> Known {
-    Known {
-        number,
-        prepared: match prepared {
-            Some(promise) => Some(promise.at.micros()),
-            None => None,
-        },
-        decided: match decided {
-            Some(decision) => Some(decision.at.micros()),
-            None => None,
-        },
-        aborted,
-        outcome: match outcome {
-            Some(Some(at)) => Some(Some(at.micros())),
-            Some(None) => Some(None),
-            None => None,
-        },
-        settled,
-    }
-}
-
-// By the readers of the facts.
-fn known_of(facts: &Facts, number: u16) -> Known {
-    let txn = id(number);
-    let settled = matches!(facts.status(txn), Some(Status::Settled { .. }));
-    let (prepared, decided) = (facts.prepared(txn), facts.committed(txn));
-    let (outcome, aborted) = (facts.outcome(txn), facts.aborted(txn));
-    standing(number, prepared, decided, outcome, aborted, settled)
-}
-
-// By the readers of its status.
-fn known_by_status(facts: &Facts, number: u16) -> Known {
-    let Some(status) = facts.status(id(number)) else {
-        return Known { number, ..UNKNOWN };
+) -> Standing {
+    let prepared = match prepared {
+        Some(promise) => Some(promise.at.micros()),
+        None => None,
     };
-    let (aborted, settled) = match status {
-        Status::Aborted => (true, false),
-        Status::Settled { .. } => (false, true),
-        _ => (false, false),
+    let decided = match decided {
+        Some(decision) => Some(decision.at.micros()),
+        None => None,
     };
-    let (prepared, decided) = (status.prepared(), status.committed());
-    standing(
-        number,
-        prepared,
-        decided,
-        status.outcome(),
-        aborted,
-        settled,
-    )
+    let outcome = match outcome {
+        Some(Some(at)) => Some(Some(at.micros())),
+        Some(None) => Some(None),
+        None => None,
+    };
+    (prepared, decided, outcome)
 }
 
+// Each stands so by the readers of the facts, and by those of its status.
 fn are_known(facts: &Facts, rows: &[Known]) -> bool {
     for row in rows {
-        if known_of(facts, row.number) != *row || known_by_status(facts, row.number) != *row {
+        let txn = id(row.number);
+        let status = facts.status(txn);
+        let by_status = match status {
+            Some(status) => stands_as(status.prepared(), status.committed(), status.outcome()),
+            None => (None, None, None),
+        };
+        let by_facts = stands_as(
+            facts.prepared(txn),
+            facts.committed(txn),
+            facts.outcome(txn),
+        );
+        let aborted = matches!(status, Some(Status::Aborted));
+        let settled = matches!(status, Some(Status::Settled { .. }));
+        let wanted = (row.prepared, row.decided, row.outcome);
+        let same = by_status == wanted
+            && by_facts == wanted
+            && (aborted, settled) == (row.aborted, row.settled)
+            && facts.aborted(txn) == row.aborted;
+        if !same {
             return false;
         }
     }
@@ -280,123 +369,30 @@ fn are_installs(installs: &[Install], rows: &[(u64, u8)]) -> bool {
     installs.len() == rows.len()
 }
 
-fn determines(alloc: Global, row: &Determined) -> bool {
-    let mut facts = Facts::new(alloc, shard(row.shard));
-    let come = all_come(alloc, &mut facts, row.lines, true);
-    let (number, floor) = (facts.shard().number(), facts.floor().micros());
-    let determined = come
-        && (number, facts.epoch(), floor) == (row.shard, row.epoch, row.floor)
+fn is_determined(facts: &Facts, row: &Determined) -> bool {
+    (facts.epoch(), facts.floor().micros()) == (row.epoch, row.floor)
         && are_installs(facts.installs(), row.installs)
-        && are_known(&facts, row.known);
-    drop(facts);
-    determined
+        && are_known(facts, row.known)
 }
 
-// Records of which none may come behind these, at the log of a shard.
-#[derive(Clone, Copy)]
-struct Damaged {
-    what: &'static str,
-    shard: u8,
-    lines: &'static [Line],
-    last: &'static [Line],
-}
-
-const PROMISE: Line = Line::Prepare(1, 5, b'a', 0);
-
-const DECISION: Line = Line::Commit(1, 5, b'a', 2);
-
-static DAMAGED: [Damaged; 9] = [
-    Damaged {
-        what: "nothing",
-        shard: 0,
-        lines: &[],
-        last: &[Line::Opened(2), Line::Abort(1), Line::Ceiling(5)],
-    },
-    Damaged {
-        what: "an opening",
-        shard: 0,
-        lines: &[Line::Opened(1)],
-        last: &[Line::Opened(1)],
-    },
-    Damaged {
-        what: "two openings",
-        shard: 0,
-        lines: &[Line::Opened(1), Line::Opened(2)],
-        last: &[Line::Opened(4)],
-    },
-    // A timestamp 0, a coordinator that is not below the shard, a least part that is another shard, an end of nothing.
-    Damaged {
-        what: "an opening of shard 1",
-        shard: 1,
-        lines: &[Line::Opened(1)],
-        last: &[
-            Line::Prepare(1, 0, b'a', 0),
-            Line::Prepare(1, 5, b'a', 1),
-            Line::Commit(1, 0, b'a', 2),
-            Line::Commit(1, 5, b'a', 3),
-            Line::Commit(1, 5, b'a', 4),
-            Line::Committed(1, 5),
-            Line::Aborted(1),
-        ],
-    },
-    // A second promise, decision or abort, and an end that is not the one that was begun.
-    Damaged {
-        what: "a promise",
-        shard: 1,
-        lines: &[Line::Opened(1), PROMISE],
-        last: &[PROMISE, DECISION, Line::Abort(1), Line::Committed(1, 4)],
-    },
-    Damaged {
-        what: "a decision",
-        shard: 1,
-        lines: &[Line::Opened(1), DECISION],
-        last: &[
-            PROMISE,
-            DECISION,
-            Line::Abort(1),
-            Line::Committed(1, 6),
-            Line::Aborted(1),
-        ],
-    },
-    Damaged {
-        what: "an abort",
-        shard: 1,
-        lines: &[Line::Opened(1), Line::Abort(1)],
-        last: &[PROMISE, DECISION, Line::Abort(1), Line::Aborted(1)],
-    },
-    // A second end.
-    Damaged {
-        what: "a decision that was settled",
-        shard: 1,
-        lines: &[Line::Opened(1), DECISION, Line::Committed(1, 5)],
-        last: &[Line::Committed(1, 5)],
-    },
-    Damaged {
-        what: "a promise that was aborted",
-        shard: 1,
-        lines: &[Line::Opened(1), PROMISE, Line::Aborted(1)],
-        last: &[Line::Committed(1, 6)],
-    },
-];
-
-// None of the last records may come next; all before them may.
-fn are_damaged(alloc: Global, row: &Damaged) -> bool {
+// The records come one after another, none of the refused ones may come next, and the log determines what it should.
+fn holds(alloc: Global, row: &Case) -> bool {
     let mut facts = Facts::new(alloc, shard(row.shard));
-    let damaged = all_come(alloc, &mut facts, row.lines, true)
-        && all_come(alloc, &mut facts, row.last, false);
+    let come = all_come(alloc, &mut facts, row.lines, true)
+        && all_come(alloc, &mut facts, row.refused, false);
+    let determined = match &row.determined {
+        Some(determined) => is_determined(&facts, determined),
+        None => true,
+    };
+    let same = facts.shard().number() == row.shard;
     drop(facts);
-    damaged
+    come && determined && same
 }
 
 /// The first row that is wrong.
 pub fn wrong(alloc: Global) -> &'static str {
-    for row in &DETERMINED {
-        if !determines(alloc, row) {
-            return row.what;
-        }
-    }
-    for row in &DAMAGED {
-        if !are_damaged(alloc, row) {
+    for row in &CASES {
+        if !holds(alloc, row) {
             return row.what;
         }
     }

@@ -1,5 +1,5 @@
 //! Logs that are opened again: what they leave, and which are refused.
-use crate::files::{entries_in, entries_of, log_of, put};
+use crate::files::{put, put_lines};
 use crate::lines::{Line, promise};
 use gatelog::{Entry, GateLog};
 use made::{key, shard};
@@ -67,39 +67,16 @@ fn seen(state: &State) -> Shown {
 
 type Rebuilt = Result<Option<Shown>, Fault>;
 
-// What the entries of a log leave of a shard, or why they are refused.
-fn left(alloc: Global, number: u8, entries: Option<Vec<Entry>>) -> Rebuilt {
-    let Some(entries) = entries else {
-        return Err(Fault::Memory);
-    };
-    let Some(setup) = setup(alloc, number) else {
-        drop(entries);
-        return Err(Fault::Memory);
-    };
-    let rebuilt = rebuild(alloc, &entries, &setup);
-    drop(entries);
-    drop(setup);
-    match rebuilt {
-        Ok(Some(state)) => {
-            let left = seen(&state);
-            state.stop();
-            Ok(Some(left))
-        }
-        Ok(None) => Ok(None),
-        Err(fault) => Err(fault),
-    }
-}
-
-// The log of a shard, and what it leaves.
-#[derive(Clone, Copy)]
+// The log of a shard with so many promises at its end, and what it leaves.
 struct Reopened {
     what: &'static str,
     shard: u8,
     lines: &'static [Line],
+    promises: u16,
     left: Rebuilt,
 }
 
-static REOPENED: [Reopened; 11] = [
+static REOPENED: [Reopened; 13] = [
     Reopened {
         what: "a promise stands",
         shard: 1,
@@ -108,6 +85,7 @@ static REOPENED: [Reopened; 11] = [
             Line::Prepare(2, 200, b'z', 0),
             Line::Opened(2),
         ],
+        promises: 0,
         left: Ok(Some(Shown {
             prepared: (2, 200),
             last: 200,
@@ -120,6 +98,7 @@ static REOPENED: [Reopened; 11] = [
         what: "a decision stands until its outcome",
         shard: 0,
         lines: &[Line::Opened(1), Line::Commit(1, 111, b'a', 1)],
+        promises: 0,
         left: Ok(Some(Shown {
             decided: (1, 111),
             last: 111,
@@ -135,6 +114,7 @@ static REOPENED: [Reopened; 11] = [
             Line::Commit(1, 111, b'a', 1),
             Line::Committed(1, 111),
         ],
+        promises: 0,
         left: Ok(Some(Shown {
             last: 111,
             safe: 111,
@@ -146,6 +126,7 @@ static REOPENED: [Reopened; 11] = [
         what: "a ceiling is the last timestamp",
         shard: 1,
         lines: &[Line::Opened(1), Line::Ceiling(200)],
+        promises: 0,
         left: Ok(Some(Shown {
             last: 200,
             safe: 200,
@@ -156,24 +137,28 @@ static REOPENED: [Reopened; 11] = [
         what: "no record",
         shard: 1,
         lines: &[],
+        promises: 0,
         left: Ok(None),
     },
     Reopened {
         what: "another epoch than the first",
         shard: 1,
         lines: &[Line::Opened(2)],
+        promises: 0,
         left: Err(Fault::Damaged { offset: 8 }),
     },
     Reopened {
         what: "a promise before any opening",
         shard: 1,
         lines: &[Line::Prepare(2, 200, b'z', 0)],
+        promises: 0,
         left: Err(Fault::Damaged { offset: 8 }),
     },
     Reopened {
         what: "a strange key before any opening",
         shard: 1,
         lines: &[Line::Prepare(2, 200, b'a', 0)],
+        promises: 0,
         left: Err(Fault::Stranger),
     },
     Reopened {
@@ -184,6 +169,7 @@ static REOPENED: [Reopened; 11] = [
             Line::Prepare(2, 200, b'a', 0),
             Line::Opened(9),
         ],
+        promises: 0,
         left: Err(Fault::Stranger),
     },
     Reopened {
@@ -194,6 +180,7 @@ static REOPENED: [Reopened; 11] = [
             Line::Prepare(2, 200, b'z', 0),
             Line::Prepare(3, 300, b'z', 0),
         ],
+        promises: 0,
         left: Err(Fault::Damaged { offset: 63 }),
     },
     Reopened {
@@ -205,7 +192,29 @@ static REOPENED: [Reopened; 11] = [
             Line::Committed(1, 111),
             Line::Commit(2, 111, b'a', 1),
         ],
+        promises: 0,
         left: Err(Fault::Damaged { offset: 95 }),
+    },
+    // 1,024 rows may stand, and no more.
+    Reopened {
+        what: "a full table",
+        shard: 1,
+        lines: &[Line::Opened(1)],
+        promises: 1024,
+        left: Ok(Some(Shown {
+            prepared: (0, 200),
+            last: 200,
+            safe: 199,
+            ..NOTHING
+        })),
+    },
+    // Each frame has 43 bytes; the first stands behind that of the opening, at 22.
+    Reopened {
+        what: "too many rows",
+        shard: 1,
+        lines: &[Line::Opened(1)],
+        promises: 1025,
+        left: Err(Fault::Damaged { offset: 44_054 }),
     },
 ];
 
@@ -218,50 +227,57 @@ fn put_promises(alloc: Global, log: &mut GateLog<SimDisk>, count: u16) -> bool {
         let Some(promise) = promise(alloc, number, 200, key, 0) else {
             return false;
         };
-        if !put(alloc, log, Record::Prepare(promise)) {
+        if put(alloc, log, Record::Prepare(promise), None).is_err() {
             return false;
         }
     }
     true
 }
 
-// The entries of a log with so many promises.
-fn crowd(alloc: Global, count: u16) -> Option<Vec<Entry>> {
-    let Some(mut log) = log_of(alloc, &[Line::Opened(1)]) else {
-        return None;
+// What the entries of its log leave of a shard, or why they are refused.
+fn rebuilt(alloc: Global, number: u8, entries: &[Entry]) -> Rebuilt {
+    let Some(setup) = setup(alloc, number) else {
+        return Err(Fault::Memory);
     };
-    if put_promises(alloc, &mut log, count) {
-        entries_in(alloc, log.into_disk())
-    } else {
-        drop(log);
-        None
+    let state = rebuild(alloc, entries, &setup);
+    drop(setup);
+    match state {
+        Ok(Some(state)) => {
+            let left = seen(&state);
+            state.stop();
+            Ok(Some(left))
+        }
+        Ok(None) => Ok(None),
+        Err(fault) => Err(fault),
     }
 }
 
-// 1,024 rows may stand, and no more.
-static FULL: Rebuilt = Ok(Some(Shown {
-    prepared: (0, 200),
-    last: 200,
-    safe: 199,
-    ..NOTHING
-}));
-
-// Each frame has 43 bytes; the first stands behind that of the opening, at 22.
-static TOO_MANY: Rebuilt = Err(Fault::Damaged { offset: 44_054 });
+// The same of the row's log. Where a record is not logged, there is no room for it.
+fn left(alloc: Global, row: &Reopened) -> Rebuilt {
+    let Ok(mut log) = GateLog::format(SimDisk::new(alloc)) else {
+        return Err(Fault::Memory);
+    };
+    let put = put_lines(alloc, &mut log, row.lines) && put_promises(alloc, &mut log, row.promises);
+    match GateLog::open(alloc, log.into_disk()) {
+        Ok((log, entries)) => {
+            drop(log);
+            let left = rebuilt(alloc, row.shard, &entries);
+            drop(entries);
+            if put { left } else { Err(Fault::Room) }
+        }
+        Err((fault, disk)) => {
+            drop(disk);
+            Err(fault)
+        }
+    }
+}
 
 /// The first row that is wrong.
 pub fn wrong(alloc: Global) -> &'static str {
     for row in &REOPENED {
-        if left(alloc, row.shard, entries_of(alloc, row.lines)) != row.left {
+        if left(alloc, row) != row.left {
             return row.what;
         }
     }
-    if left(alloc, 1, crowd(alloc, 1024)) != FULL {
-        return "a full table";
-    }
-    if left(alloc, 1, crowd(alloc, 1025)) == TOO_MANY {
-        ""
-    } else {
-        "too many rows"
-    }
+    ""
 }

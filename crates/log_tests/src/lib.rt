@@ -24,6 +24,8 @@ mod lines;
 #[cfg(test)]
 mod spellings;
 #[cfg(test)]
+mod steps;
+#[cfg(test)]
 mod tests;
 #[cfg(test)]
 mod versioned;

@@ -4,16 +4,17 @@ use record::Record;
 use spelling::{decode, encoded_len};
 use std::alloc::Global;
 
-#[derive(Clone, Copy)]
 struct Vector {
     what: &'static str,
     line: Line,
     bytes: &'static [u8],
 }
 
-const OPENED: &[u8] = &[1, 0, 0, 0, 0, 0, 0, 0, 1];
+/// An opening of epoch 1.
+pub const OPENED: &[u8] = &[1, 0, 0, 0, 0, 0, 0, 0, 1];
 
-const CEILING: &[u8] = &[2, 0, 0, 0, 0, 0, 0, 0, 0xc8];
+/// A ceiling at 200.
+pub const CEILING: &[u8] = &[2, 0, 0, 0, 0, 0, 0, 0, 0xc8];
 
 const PREPARE: &[u8] = &[
     3, 0, 0, 0, 0, 0, 0, 0, 1, 0, 0, 0, 0, 0, 0, 0, 2, 0, 0, 0, 0, 0, 0, 0, 0, 0xc8, 0, 0, 0, 1, 1,
@@ -24,6 +25,11 @@ const PREPARE: &[u8] = &[
 pub const COMMIT: &[u8] = &[
     4, 0, 0, 0, 0, 0, 0, 0, 1, 0, 0, 0, 0, 0, 0, 0, 1, 0, 0, 0, 0, 0, 0, 0, 0x6f, 0, 1, 0, 0, 0, 1,
     1, 0x61, 1, 0, 1, 0x31,
+];
+
+/// Transaction 1.1 committed at 111.
+pub const OUTCOME: &[u8] = &[
+    6, 0, 0, 0, 0, 0, 0, 0, 1, 0, 0, 0, 0, 0, 0, 0, 1, 1, 0, 0, 0, 0, 0, 0, 0, 0x6f,
 ];
 
 // A commit of 1.1 at 111, parts 0, that reads a and b and writes nothing.
@@ -61,9 +67,7 @@ static VECTORS: [Vector; 6] = [
     Vector {
         what: "an outcome",
         line: Line::Committed(1, 111),
-        bytes: &[
-            6, 0, 0, 0, 0, 0, 0, 0, 1, 0, 0, 0, 0, 0, 0, 0, 1, 1, 0, 0, 0, 0, 0, 0, 0, 0x6f,
-        ],
+        bytes: OUTCOME,
     },
 ];
 
@@ -95,33 +99,37 @@ fn spells(alloc: Global, row: &Vector) -> bool {
     spelled && is_read_back(alloc, row.bytes)
 }
 
-// Bytes that are a record, or not.
-#[derive(Clone, Copy)]
+// Bytes, one of them changed where a place and a byte are given: they are a record, or not.
 struct Read {
     what: &'static str,
     bytes: &'static [u8],
+    change: Option<(usize, u8)>,
     is_record: bool,
 }
 
-static READ: [Read; 10] = [
+static READ: [Read; 15] = [
     Read {
         what: "no byte",
         bytes: &[],
+        change: None,
         is_record: false,
     },
     Read {
         what: "kind 0",
         bytes: &[0, 0, 0, 0, 0, 0, 0, 0, 1],
+        change: None,
         is_record: false,
     },
     Read {
         what: "kind 7",
         bytes: &[7, 0, 0, 0, 0, 0, 0, 0, 1],
+        change: None,
         is_record: false,
     },
     Read {
         what: "a byte left over",
         bytes: &[2, 0, 0, 0, 0, 0, 0, 0, 0xc8, 0],
+        change: None,
         is_record: false,
     },
     Read {
@@ -130,105 +138,91 @@ static READ: [Read; 10] = [
             4, 0, 0, 0, 0, 0, 0, 0, 1, 0, 0, 0, 0, 0, 0, 0, 1, 0, 0, 0, 0, 0, 0, 0, 0x6f, 0, 1, 0,
             0, 0, 1, 1, 0x61, 1, 0, 1,
         ],
+        change: None,
         is_record: false,
     },
     Read {
         what: "epoch 0",
         bytes: &[1, 0, 0, 0, 0, 0, 0, 0, 0],
+        change: None,
         is_record: false,
     },
     Read {
         what: "epoch 2^62",
         bytes: &[1, 0x40, 0, 0, 0, 0, 0, 0, 0],
+        change: None,
         is_record: false,
     },
     Read {
         what: "stamp 2^62",
         bytes: &[2, 0x40, 0, 0, 0, 0, 0, 0, 0],
+        change: None,
         is_record: false,
     },
     Read {
         what: "the last stamp",
         bytes: &[2, 0x3f, 255, 255, 255, 255, 255, 255, 255],
+        change: None,
         is_record: true,
     },
     Read {
         what: "reads a and b",
         bytes: READS,
+        change: None,
         is_record: true,
+    },
+    Read {
+        what: "coordinator 15",
+        bytes: PREPARE,
+        change: Some((17, 15)),
+        is_record: true,
+    },
+    Read {
+        what: "coordinator 16",
+        bytes: PREPARE,
+        change: Some((17, 16)),
+        is_record: false,
+    },
+    Read {
+        what: "no shard takes part",
+        bytes: COMMIT,
+        change: Some((26, 0)),
+        is_record: false,
+    },
+    Read {
+        what: "reads b and b",
+        bytes: READS,
+        change: Some((30, 0x62)),
+        is_record: false,
+    },
+    Read {
+        what: "reads c and b",
+        bytes: READS,
+        change: Some((30, 0x63)),
+        is_record: false,
     },
 ];
 
 // Whether the bytes are read as a record, or are none, as it is said.
-fn is_read_so(alloc: Global, bytes: &[u8], is_record: bool) -> bool {
-    match decode(alloc, bytes) {
-        Ok(Some(item)) => {
-            drop(item);
-            is_record
-        }
-        Ok(None) => !is_record,
-        Err(_) => false,
-    }
-}
-
-// A record of which one byte is changed.
-#[derive(Clone, Copy)]
-struct Changed {
-    what: &'static str,
-    bytes: &'static [u8],
-    place: usize,
-    byte: u8,
-    is_record: bool,
-}
-
-static CHANGED: [Changed; 5] = [
-    Changed {
-        what: "coordinator 15",
-        bytes: PREPARE,
-        place: 17,
-        byte: 15,
-        is_record: true,
-    },
-    Changed {
-        what: "coordinator 16",
-        bytes: PREPARE,
-        place: 17,
-        byte: 16,
-        is_record: false,
-    },
-    Changed {
-        what: "no shard takes part",
-        bytes: COMMIT,
-        place: 26,
-        byte: 0,
-        is_record: false,
-    },
-    Changed {
-        what: "reads b and b",
-        bytes: READS,
-        place: 30,
-        byte: 0x62,
-        is_record: false,
-    },
-    Changed {
-        what: "reads c and b",
-        bytes: READS,
-        place: 30,
-        byte: 0x63,
-        is_record: false,
-    },
-];
-
-fn is_changed_so(alloc: Global, row: &Changed) -> bool {
+fn is_read_so(alloc: Global, row: &Read) -> bool {
     let Ok(mut bytes) = row.bytes.to_vec(alloc) else {
         return false;
     };
-    if let Some(byte) = bytes.get_mut(row.place) {
-        *byte = row.byte;
+    if let Some((place, new)) = row.change {
+        if let Some(byte) = bytes.get_mut(place) {
+            *byte = new;
+        }
     }
-    let so = is_read_so(alloc, &bytes, row.is_record);
+    let found = decode(alloc, &bytes);
     drop(bytes);
-    so
+    match found {
+        Ok(Some(item)) => {
+            drop(item);
+            row.is_record
+        }
+        Ok(None) => !row.is_record,
+        Err(_) => false,
+    }
 }
 
 /// The first row that is wrong.
@@ -239,12 +233,7 @@ pub fn wrong(alloc: Global) -> &'static str {
         }
     }
     for row in &READ {
-        if !is_read_so(alloc, row.bytes, row.is_record) {
-            return row.what;
-        }
-    }
-    for row in &CHANGED {
-        if !is_changed_so(alloc, row) {
+        if !is_read_so(alloc, row) {
             return row.what;
         }
     }

@@ -1,0 +1,75 @@
+//! Steps on a disk.
+use disk::{Disk, Fate};
+use std::alloc::Global;
+use units::Fault;
+
+/// What is done with a disk.
+pub enum Step {
+    Write(u64, &'static [u8]),
+    Cut(u64),
+    Sync,
+    Reserve(u64),
+    Arm(Option<u64>),
+    /// The device fails, or the system refuses. A read is of at most 4 bytes.
+    ReadFails(u64, usize),
+    WriteFails(u64, &'static [u8]),
+    CutFails(u64),
+    SyncFails,
+    /// These bytes are read, and they are all.
+    Holds(&'static [u8]),
+    /// In memory alone: the call after so many more fails.
+    FailNext(u64),
+    /// In memory alone: a crash, by these fates of the changes that are not synced.
+    Crash(&'static [Fate]),
+}
+
+/// A disk on which a step is done in its own way, or as on any.
+pub trait Stepped: Disk {
+    /// What the call of the step answers.
+    fn called(&mut self, alloc: Global, step: &Step) -> Result<(), Fault>;
+}
+
+/// Whether these are all the bytes that are read of a disk: where not, there is no room for them.
+pub fn read_back<D: Disk>(alloc: Global, disk: &mut D, bytes: &[u8]) -> Result<(), Fault> {
+    let Ok(mut found) = Vec::from_elem(alloc, 0u8, disk.len() as usize) else {
+        return Err(Fault::Memory);
+    };
+    let read = disk.read_at(0, &mut found);
+    let same = found.as_slice() == bytes;
+    drop(found);
+    if same { read } else { Err(Fault::Room) }
+}
+
+/// What the call of a step answers on any disk. Past its end there is no room, nor for a step that is not for any.
+pub fn call_any<D: Disk>(alloc: Global, disk: &mut D, step: &Step) -> Result<(), Fault> {
+    match step {
+        Step::Write(at, bytes) | Step::WriteFails(at, bytes) if *at <= disk.len() => {
+            disk.write_at(*at, bytes)
+        }
+        Step::Cut(len) | Step::CutFails(len) if *len <= disk.len() => disk.cut(*len),
+        Step::Sync | Step::SyncFails => disk.sync(),
+        Step::Reserve(bytes) => disk.reserve(*bytes),
+        Step::Arm(call) => {
+            disk.arm(*call);
+            Ok(())
+        }
+        Step::Holds(bytes) => read_back(alloc, disk, bytes),
+        _ => Err(Fault::Room),
+    }
+}
+
+/// Whether each step goes as it says.
+pub fn go_well<D: Stepped>(alloc: Global, disk: &mut D, steps: &[Step]) -> bool {
+    for step in steps {
+        let wanted = match step {
+            Step::ReadFails(..) | Step::WriteFails(..) | Step::CutFails(..) | Step::SyncFails => {
+                Err(Fault::Device)
+            }
+            _ => Ok(()),
+        };
+        if disk.called(alloc, step) != wanted {
+            return false;
+        }
+    }
+    true
+}
