@@ -8,143 +8,148 @@ use truetime::Reading;
 use units::{Fault, Reason, Stamp, Stride};
 use waiting::pass;
 
-fn reading(earliest: u64, latest: u64) -> Result<Reading, Fault> {
-    Reading::new(stamp(earliest), stamp(latest))
-}
-
-// A timestamp beside the reading [100, 110].
-#[derive(Clone, Copy)]
+// A reading, and how a timestamp stands beside it. Commit wait for the timestamp passes once all of the reading is after it.
 struct Beside {
-    name: &'static str,
-    at: u64,
-    after: bool,
-    before: bool,
-}
-
-static BESIDE: [Beside; 4] = [
-    Beside {
-        name: "99",
-        at: 99,
-        after: true,
-        before: false,
-    },
-    Beside {
-        name: "100",
-        at: 100,
-        after: false,
-        before: false,
-    },
-    Beside {
-        name: "110",
-        at: 110,
-        after: false,
-        before: false,
-    },
-    Beside {
-        name: "111",
-        at: 111,
-        after: false,
-        before: true,
-    },
-];
-
-fn is_beside(row: &Beside) -> bool {
-    match reading(100, 110) {
-        Ok(now) => now.after(stamp(row.at)) == row.after && now.before(stamp(row.at)) == row.before,
-        Err(_) => false,
-    }
-}
-
-// Two ends, and whether a reading has them.
-#[derive(Clone, Copy)]
-struct Ends {
     name: &'static str,
     earliest: u64,
     latest: u64,
     read: bool,
+    at: u64,
+    after: bool,
+    before: bool,
+    passed: bool,
 }
 
-static ENDS: [Ends; 3] = [
-    Ends {
+static BESIDE: [Beside; 10] = [
+    Beside {
+        name: "99",
+        earliest: 100,
+        latest: 110,
+        read: true,
+        at: 99,
+        after: true,
+        before: false,
+        passed: true,
+    },
+    Beside {
+        name: "100",
+        earliest: 100,
+        latest: 110,
+        read: true,
+        at: 100,
+        after: false,
+        before: false,
+        passed: false,
+    },
+    Beside {
+        name: "110",
+        earliest: 100,
+        latest: 110,
+        read: true,
+        at: 110,
+        after: false,
+        before: false,
+        passed: false,
+    },
+    Beside {
+        name: "111",
+        earliest: 100,
+        latest: 110,
+        read: true,
+        at: 111,
+        after: false,
+        before: true,
+        passed: false,
+    },
+    Beside {
         name: "100 to 110",
         earliest: 100,
         latest: 110,
         read: true,
+        at: 105,
+        after: false,
+        before: false,
+        passed: false,
     },
-    Ends {
+    Beside {
         name: "100 to 100",
         earliest: 100,
         latest: 100,
         read: true,
+        at: 100,
+        after: false,
+        before: false,
+        passed: false,
     },
-    Ends {
+    Beside {
         name: "110 to 100",
         earliest: 110,
         latest: 100,
         read: false,
+        at: 105,
+        after: false,
+        before: false,
+        passed: false,
     },
-];
-
-fn is_read(row: &Ends) -> bool {
-    match reading(row.earliest, row.latest) {
-        Ok(now) => {
-            let (earliest, latest) = (now.earliest().micros(), now.latest().micros());
-            row.read && earliest == row.earliest && latest == row.latest
-        }
-        Err(fault) => !row.read && fault == Fault::BadRequest(Reason::Stamp),
-    }
-}
-
-// 111 at a reading.
-#[derive(Clone, Copy)]
-struct Waits {
-    name: &'static str,
-    earliest: u64,
-    latest: u64,
-    passed: bool,
-}
-
-static WAITS: [Waits; 3] = [
-    Waits {
+    Beside {
         name: "105 to 112",
         earliest: 105,
         latest: 112,
+        read: true,
+        at: 111,
+        after: false,
+        before: false,
         passed: false,
     },
-    Waits {
+    Beside {
         name: "111 to 120",
         earliest: 111,
         latest: 120,
+        read: true,
+        at: 111,
+        after: false,
+        before: false,
         passed: false,
     },
-    Waits {
+    Beside {
         name: "112 to 121",
         earliest: 112,
         latest: 121,
+        read: true,
+        at: 111,
+        after: true,
+        before: false,
         passed: true,
     },
 ];
 
-// Whether 111 has passed, or else is early.
-fn has_passed(now: &Reading) -> Option<bool> {
-    match pass(stamp(111), now) {
+// Whether a timestamp has passed, or else is early.
+fn has_passed(at: Stamp, now: &Reading) -> Option<bool> {
+    match pass(at, now) {
         Ok(waited) => {
-            let at = waited.at().micros();
-            Some(waited.spend().micros() == 111 && at == 111)
+            let told = waited.at();
+            Some(waited.spend() == at && told == at)
         }
         Err(Fault::Early) => Some(false),
         Err(_) => None,
     }
 }
 
-fn goes_by(row: &Waits) -> bool {
-    match reading(row.earliest, row.latest) {
-        Ok(now) => has_passed(&now) == Some(row.passed),
-        Err(_) => false,
+fn is_beside(row: &Beside) -> bool {
+    let (earliest, latest, at) = (stamp(row.earliest), stamp(row.latest), stamp(row.at));
+    match Reading::new(earliest, latest) {
+        Ok(now) => {
+            row.read
+                && now.earliest() == earliest
+                && now.latest() == latest
+                && now.after(at) == row.after
+                && now.before(at) == row.before
+                && has_passed(at, &now) == Some(row.passed)
+        }
+        Err(fault) => !row.read && fault == Fault::BadRequest(Reason::Stamp),
     }
 }
 
-#[derive(Clone, Copy)]
 struct Ahead {
     name: &'static str,
     floor: u64,
@@ -215,46 +220,42 @@ fn is_held_below(alloc: Global) -> bool {
     let Ok(mut times) = SafeTime::new(alloc, Stamp::zero()) else {
         return false;
     };
-    times.assign(stamp(200));
-    times.hold(stamp(200));
+    let at = stamp(200);
+    times.assign(at);
+    times.hold(at);
     let held = stands(&times, 200, 199);
     times.raise(stamp(250));
     let raised = stands(&times, 250, 199);
-    times.lift(stamp(200));
-    held && raised && stands(&times, 250, 250)
+    times.lift(at);
+    let lifted = stands(&times, 250, 250);
+    drop(times);
+    held && raised && lifted
 }
 
 // Each lift takes one hold of two, and a third takes none.
 fn are_lifted(alloc: Global) -> bool {
-    let Ok(mut times) = SafeTime::new(alloc, stamp(111)) else {
+    let at = stamp(111);
+    let Ok(mut times) = SafeTime::new(alloc, at) else {
         return false;
     };
-    times.hold(stamp(111));
-    times.hold(stamp(111));
+    times.hold(at);
+    times.hold(at);
     let two = stands(&times, 111, 110);
-    times.lift(stamp(111));
+    times.lift(at);
     let one = stands(&times, 111, 110);
-    times.lift(stamp(111));
+    times.lift(at);
     let none = stands(&times, 111, 111);
-    times.lift(stamp(111));
+    times.lift(at);
     times.raise(stamp(110));
-    two && one && none && stands(&times, 111, 111)
+    let still = stands(&times, 111, 111);
+    drop(times);
+    two && one && none && still
 }
 
 /// The first row that is wrong.
 pub fn wrong(alloc: Global) -> &'static str {
     for row in &BESIDE {
         if !is_beside(row) {
-            return row.name;
-        }
-    }
-    for row in &ENDS {
-        if !is_read(row) {
-            return row.name;
-        }
-    }
-    for row in &WAITS {
-        if !goes_by(row) {
             return row.name;
         }
     }

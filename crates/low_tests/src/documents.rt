@@ -4,7 +4,6 @@ use std::alloc::Global;
 use units::{Fault, Key, Reason};
 
 // The settings that a document is to give.
-#[derive(Clone, Copy)]
 struct Wanted {
     splits: &'static [&'static [u8]],
     stride: u64,
@@ -15,7 +14,6 @@ struct Wanted {
     dir: Option<&'static str>,
 }
 
-#[derive(Clone, Copy)]
 struct Taken {
     what: &'static str,
     text: &'static str,
@@ -110,9 +108,10 @@ static TAKEN: [Taken; 4] = [
 ];
 
 fn are(splits: &[Key], wanted: &[&[u8]]) -> bool {
-    for (split, bytes) in splits.iter().zip(wanted.iter()) {
-        if split.as_bytes() != *bytes {
-            return false;
+    for (place, bytes) in wanted.iter().enumerate() {
+        match splits.get(place) {
+            Some(split) if split.as_bytes() == *bytes => {}
+            _ => return false,
         }
     }
     splits.len() == wanted.len()
@@ -137,7 +136,11 @@ fn gives(settings: &Settings, wanted: &Wanted) -> bool {
 
 fn is_taken(alloc: Global, row: &Taken) -> bool {
     match Settings::read(alloc, row.text) {
-        Ok(settings) => gives(&settings, &row.wanted),
+        Ok(settings) => {
+            let gives = gives(&settings, &row.wanted);
+            drop(settings);
+            gives
+        }
         Err(_) => false,
     }
 }
@@ -154,7 +157,6 @@ static LINES: [&str; 7] = [
 ];
 
 // Texts in place of one of its lines.
-#[derive(Clone, Copy)]
 struct Changed {
     line: usize,
     taken: &'static [&'static str],
@@ -248,18 +250,20 @@ fn document(alloc: Global, at: usize, text: &str) -> String {
 // How the document is refused.
 fn refusal(alloc: Global, at: usize, text: &str) -> Option<Fault> {
     let whole = document(alloc, at, text);
-    Settings::read(alloc, whole.as_str()).err()
+    let refusal = Settings::read(alloc, whole.as_str()).err();
+    drop(whole);
+    refusal
 }
 
-// The first text of a row that is not taken, or not refused, as it should be.
-fn wrong_in(alloc: Global, row: &Changed) -> &'static str {
-    for text in row.taken {
-        if refusal(alloc, row.line, *text).is_some() {
-            return *text;
-        }
-    }
-    for text in row.refused {
-        if refusal(alloc, row.line, *text) != Some(Fault::BadRequest(Reason::Settings)) {
+// The first text for a line that is not refused so, or not taken.
+fn wrong_in(
+    alloc: Global,
+    line: usize,
+    texts: &'static [&'static str],
+    refused: Option<Fault>,
+) -> &'static str {
+    for text in texts {
+        if refusal(alloc, line, *text) != refused {
             return if text.is_empty() {
                 "a line left out"
             } else {
@@ -278,7 +282,12 @@ pub fn wrong(alloc: Global) -> &'static str {
         }
     }
     for row in &CHANGED {
-        let wrong = wrong_in(alloc, row);
+        let wrong = wrong_in(alloc, row.line, row.taken, None);
+        if !wrong.is_empty() {
+            return wrong;
+        }
+        let refused = Some(Fault::BadRequest(Reason::Settings));
+        let wrong = wrong_in(alloc, row.line, row.refused, refused);
         if !wrong.is_empty() {
             return wrong;
         }

@@ -8,11 +8,12 @@ use tickets::{Drawer, Tickets};
 use units::{Fault, Reason};
 
 // The drawer's draws are 0 and 1.
-fn draws_two(tickets: &Tickets, drawer: &mut Drawer) -> bool
-    requires { drawer.old.source ≡ tickets.now }
+fn draws_two(tickets: &Tickets, mut drawer: Drawer) -> bool
+    requires { drawer.source ≡ tickets.now }
 {
-    let first = tickets.draw(drawer);
-    let second = tickets.draw(drawer);
+    let first = tickets.draw(&mut drawer);
+    let second = tickets.draw(&mut drawer);
+    drop(drawer);
     matches!((first, second), (Ok(0), Ok(1)))
 }
 
@@ -20,16 +21,23 @@ fn are_zero_and_one(alloc: Global) -> bool {
     let Ok((tickets, mut drawers)) = Tickets::new(alloc, 1) else {
         return false;
     };
-    match drawers.pop() {
-        Some(mut drawer) => draws_two(&tickets, &mut drawer),
+    let drawn = match drawers.pop() {
+        Some(drawer) => draws_two(&tickets, drawer),
         None => false,
-    }
+    };
+    drop(drawers);
+    drop(tickets);
+    drawn
 }
 
 fn are_refused(alloc: Global, drawers: usize) -> bool {
     match Tickets::new(alloc, drawers) {
+        Ok((tickets, drawers)) => {
+            drop(tickets);
+            drop(drawers);
+            false
+        }
         Err(fault) => fault == Fault::BadRequest(Reason::Many),
-        Ok(_) => false,
     }
 }
 
@@ -43,6 +51,7 @@ fn draw_many(tickets: &Tickets, alloc: Global, mut drawer: Drawer) -> Vec<u64>
             let _ = drawn.push(n);
         }
     }
+    drop(drawer);
     drawn
 }
 
@@ -61,6 +70,7 @@ fn draw_all<R: Threads + Sync>(
         for list in &lists {
             let _ = all.extend_from_slice(list.as_slice());
         }
+        drop(lists);
     }
     all
 }
@@ -80,7 +90,11 @@ fn draw_each_once<R: Threads + Sync>(rt: &R, alloc: Global) -> bool {
         return false;
     };
     let mut all = draw_all(rt, alloc, &tickets, drawers);
-    all.sort().is_ok() && all.len() == 8000 && count_up(all.as_slice())
+    let sorted = all.sort().is_ok();
+    let once = all.len() == 8000 && count_up(all.as_slice());
+    drop(all);
+    drop(tickets);
+    sorted && once
 }
 
 /// The first row that is wrong.

@@ -1,20 +1,9 @@
-//! What both speak of.
-ghost use Rattle.std.specs.Prelude.{◌≡◌, ◌<◌, ◌^◌, [], ◌∷◌};
+//! Requests of rows for one key.
+ghost use Rattle.std.specs.Prelude.{◌≡◌, [], ◌∷◌};
 
 use rows::{Rows, Wait};
 use std::alloc::Global;
-use units::{Ids, Key, Lock, Mode, Stamp, TxnId};
-
-/// Transaction 1.number.
-pub fn id(number: u64) -> TxnId
-    requires { number < 2 ^ 62 }
-    ensures { result ≡ record { run = 1; number = number } }
-{
-    match TxnId::new(1, number) {
-        Some(id) => id,
-        None => unreachable!(),
-    }
-}
+use units::{Key, Lock, Mode, TxnId};
 
 /// A need of one key.
 pub fn needs(key: Key, mode: Mode) -> [Lock; 1]
@@ -23,32 +12,13 @@ pub fn needs(key: Key, mode: Mode) -> [Lock; 1]
     [Lock { key, mode }]
 }
 
-/// A key of one letter.
-pub fn key(letter: u8) -> Key {
-    match Key::new(&[letter]) {
-        Ok(key) => key,
-        Err(_) => unreachable!(),
-    }
+/// Takes in a transaction that has no row.
+pub fn admits(rows: &mut Rows, alloc: Global, txn: TxnId) -> bool {
+    rows.find(txn).is_none() && !rows.is_full() && rows.admit(alloc, txn).is_ok()
 }
 
-pub fn stamp(micros: u32) -> Stamp
-    ensures { result ≡ micros }
-{
-    match Stamp::new(u64::from(micros)) {
-        Ok(at) => at,
-        Err(_) => unreachable!(),
-    }
-}
-
-/// What a request of a key gets: whether it is granted, and whom it ends.
-#[derive(Drop)]
-pub struct Got {
-    pub opens: bool,
-    pub ended: Ids,
-}
-
-/// Asks for a key. Where that is not granted, it waits if it only reads the key.
-pub fn ask(rows: &mut Rows, alloc: Global, txn: TxnId, key: Key, mode: Mode) -> Option<Got> {
+/// Asks for a key, and says whether it is granted. Where it is not, the transaction waits if it only reads the key.
+pub fn ask(rows: &mut Rows, alloc: Global, txn: TxnId, key: Key, mode: Mode) -> Option<bool> {
     if !rows.is_reading(txn) {
         return None;
     }
@@ -65,5 +35,6 @@ pub fn ask(rows: &mut Rows, alloc: Global, txn: TxnId, key: Key, mode: Mode) -> 
     } else if matches!(mode, Mode::Shared) {
         rows.wait(txn, ended.as_slice(), &needs, Wait::Read(key));
     }
-    Some(Got { opens, ended })
+    drop(ended);
+    Some(opens)
 }

@@ -18,8 +18,6 @@ mod figures;
 #[cfg(test)]
 mod ids;
 #[cfg(test)]
-mod letters;
-#[cfg(test)]
 mod limits;
 #[cfg(test)]
 mod looks;

@@ -1,40 +1,39 @@
 //! The small types: their limits and orders, and the texts of faults.
 use crate::checks::is_printed;
-use made::key;
+use crate::text_logs::{key_of, keys_of, txn_of};
 use std::alloc::Global;
-use units::{Epoch, Fault, Key, Keys, Reason, Run, ShardNo, Splits, Stamp, TxnId, Value};
+use texts::Text;
+use units::{Epoch, Fault, Key, Reason, Run, ShardNo, Splits, Stamp, Value};
 
-#[derive(Clone, Copy)]
-struct Text {
+struct Printed {
     fault: Fault,
     text: &'static str,
 }
 
-static TEXTS: [Text; 5] = [
-    Text {
+static PRINTED: [Printed; 5] = [
+    Printed {
         fault: Fault::BadRequest(Reason::Stamp),
         text: "7 BadRequest(stamp)",
     },
-    Text {
+    Printed {
         fault: Fault::BadRequest(Reason::Syntax(4)),
         text: "7 BadRequest(syntax 4)",
     },
-    Text {
+    Printed {
         fault: Fault::Damaged { offset: 22 },
         text: "11 Damaged at 22",
     },
-    Text {
+    Printed {
         fault: Fault::TimeSpent,
         text: "4 TimeSpent",
     },
-    Text {
+    Printed {
         fault: Fault::Stranger,
         text: "14 Stranger",
     },
 ];
 
 // What is made of a number.
-#[derive(Clone, Copy)]
 enum Made {
     // Of so many bytes.
     Key,
@@ -46,7 +45,6 @@ enum Made {
 }
 
 // The numbers at the limits.
-#[derive(Clone, Copy)]
 struct Limit {
     what: &'static str,
     made: Made,
@@ -93,9 +91,10 @@ static LIMITS: [Limit; 6] = [
     },
 ];
 
-fn is_taken(alloc: Global, made: Made, number: u64) -> bool {
+fn is_taken(alloc: Global, made: &Made, number: u64) -> bool {
     match made {
-        Made::Key | Made::Value => is_made_of(alloc, made, number as usize),
+        Made::Key => is_made_of(alloc, number as usize, true),
+        Made::Value => is_made_of(alloc, number as usize, false),
         Made::Stamp => Stamp::new(number).is_ok(),
         Made::Epoch => Epoch::new(number).is_some(),
         Made::Run => Run::new(number).is_some(),
@@ -103,21 +102,21 @@ fn is_taken(alloc: Global, made: Made, number: u64) -> bool {
     }
 }
 
-fn is_made(alloc: Global, made: Made, bytes: &[u8]) -> bool {
-    match made {
-        Made::Key => Key::new(bytes).is_ok(),
-        _ => Value::new(alloc, bytes).is_ok(),
-    }
+// Whether so many bytes make a key, or else a value.
+fn is_made_of(alloc: Global, len: usize, key: bool) -> bool {
+    let Ok(bytes) = vec![in alloc; 7u8; len] else {
+        return false;
+    };
+    let made = if key {
+        Key::new(&bytes).is_ok()
+    } else {
+        Value::new(alloc, &bytes).is_ok()
+    };
+    drop(bytes);
+    made
 }
 
-fn is_made_of(alloc: Global, made: Made, len: usize) -> bool {
-    match vec![in alloc; 7u8; len] {
-        Ok(bytes) => is_made(alloc, made, &bytes),
-        Err(_) => false,
-    }
-}
-
-fn all_are(alloc: Global, made: Made, numbers: &[u64], taken: bool) -> bool {
+fn all_are(alloc: Global, made: &Made, numbers: &[u64], taken: bool) -> bool {
     for number in numbers {
         if is_taken(alloc, made, *number) != taken {
             return false;
@@ -126,74 +125,72 @@ fn all_are(alloc: Global, made: Made, numbers: &[u64], taken: bool) -> bool {
     true
 }
 
-fn has_its_limits(alloc: Global, row: &Limit) -> bool {
-    all_are(alloc, row.made, row.taken, true) && all_are(alloc, row.made, row.refused, false)
-}
-
-fn is_older(old: TxnId, young: TxnId) -> bool {
-    old < young && old.is_older_than(young) && !young.is_older_than(old)
-}
-
 fn are_ordered(alloc: Global) -> bool {
-    let (Some(old), Some(young)) = (TxnId::new(1, 10), TxnId::new(2, 9)) else {
-        return false;
-    };
-    old.is(old) && !old.is(young) && is_older(old, young) && is_printed(alloc, &old, "1.10")
+    let old = txn_of("1.10");
+    let young = txn_of("2.9");
+    old.is(old)
+        && !old.is(young)
+        && old < young
+        && old.is_older_than(young)
+        && !young.is_older_than(old)
+        && is_printed(alloc, &old, "1.10")
 }
 
-// `a` lies on shard 0, `ab` on shard 1, `b` on shard 2.
-fn split(splits: &Splits, a: Key, ab: Key, b: Key) -> bool {
-    splits.shard_of(&a).number() == 0
-        && splits.shard_of(&ab).number() == 1
-        && splits.shard_of(&b).number() == 2
-}
-
-fn stand_in_order(a: Key, ab: Key, b: Key) -> bool {
-    a.is_before(&ab) && ab.is_before(&b) && !b.is_before(&ab)
-}
-
-fn are_split(alloc: Global, a: Key, ab: Key, b: Key) -> bool {
-    match Splits::new(alloc, &[ab, b]) {
-        Ok(splits) => split(&splits, a, ab, b),
-        Err(_) => false,
-    }
-}
-
-// Whether keys may stand so in a list, if it is known.
-fn ascend(alloc: Global, first: Key, second: Key) -> Option<bool> {
-    match [first, second].to_vec(alloc) {
-        Ok(keys) => Some(Keys::from_vec(keys).is_ok()),
+// The shards of `a`, `ab` and `b`, where these keys may split so.
+fn shards(alloc: Global, splits: [Key; 2]) -> Option<[u8; 3]> {
+    match Splits::new(alloc, &splits) {
+        Ok(splits) => {
+            let shards = [
+                splits.shard_of(&key_of("a")).number(),
+                splits.shard_of(&key_of("ab")).number(),
+                splits.shard_of(&key_of("b")).number(),
+            ];
+            drop(splits);
+            Some(shards)
+        }
         Err(_) => None,
     }
 }
 
-fn go_by_bytes(alloc: Global, a: Key, b: Key) -> bool {
-    let Ok(ab) = Key::new(b"ab") else {
-        return false;
-    };
-    stand_in_order(a, ab, b)
-        && are_split(alloc, a, ab, b)
-        && Splits::new(alloc, &[b, ab]).is_err()
-        && matches!(ascend(alloc, a, b), Some(true))
-        && matches!(ascend(alloc, b, a), Some(false))
+// A list of keys is printed so. Keys that do not ascend are no list.
+fn are_listed(alloc: Global, keys: &str, text: &str) -> bool {
+    let keys = keys_of(alloc, keys);
+    let printed = is_printed(alloc, &Text(&keys), text);
+    drop(keys);
+    printed
+}
+
+fn go_by_bytes(alloc: Global) -> bool {
+    let a = key_of("a");
+    let ab = key_of("ab");
+    let b = key_of("b");
+    a.is_before(&ab)
+        && ab.is_before(&b)
+        && !b.is_before(&ab)
+        && shards(alloc, [ab, b]) == Some([0, 1, 2])
+        && shards(alloc, [b, ab]).is_none()
+        && are_listed(alloc, "a,b", "a,b")
+        && are_listed(alloc, "b,a", "-")
 }
 
 /// The first row that is wrong.
 pub fn wrong(alloc: Global) -> &'static str {
-    for row in &TEXTS {
+    for row in &PRINTED {
         if !is_printed(alloc, &row.fault, row.text) {
             return row.text;
         }
     }
     for row in &LIMITS {
-        if !has_its_limits(alloc, row) {
+        if !all_are(alloc, &row.made, row.taken, true)
+            || !all_are(alloc, &row.made, row.refused, false)
+        {
             return row.what;
         }
     }
     if !are_ordered(alloc) {
         return "1.10 and 2.9";
     }
-    if go_by_bytes(alloc, key(b'a'), key(b'b')) {
+    if go_by_bytes(alloc) {
         ""
     } else {
         "a, ab and b"

@@ -13,7 +13,6 @@ use truetime::Reading;
 use units::{Fault, Install, Reason, Seen, Splits, Value};
 
 // A look for a key of one byte, in a buffer of so many bytes.
-#[derive(Clone, Copy)]
 struct Look {
     key: u8,
     at: u64,
@@ -100,7 +99,11 @@ fn is_seen(viewer: &mut Viewer, look: &Look) -> bool {
     is_answer(seen, buffer, look.answer)
 }
 
-fn are_seen(viewer: &mut Viewer, looks: &[Look]) -> bool {
+// The viewer of a number sees these.
+fn sees(viewers: &mut [Viewer], number: usize, looks: &[Look]) -> bool {
+    let Some(viewer) = viewers.get_mut(number) else {
+        return false;
+    };
     for look in looks {
         if !is_seen(viewer, look) {
             return false;
@@ -146,29 +149,36 @@ fn accepts<R: Wait + Drop>(publisher: &mut Publisher<R>, alloc: Global) -> bool
 // What is shown is served up to 9.
 fn publishes<R: Wait + Drop>(publisher: &mut Publisher<R>) -> bool {
     match publisher.publish() {
-        Ok(told) => told.safe().micros() == 9,
+        Ok(told) => {
+            let safe = told.safe().micros();
+            drop(told);
+            safe == 9
+        }
         Err(_) => false,
     }
 }
 
-// The snapshot's look for `a` has this answer.
-fn shows(snapshot: &Snapshot, viewer: &mut Viewer, answer: Result<Seen, Fault>) -> bool {
+// The look of viewer 1 for `a` at the snapshot has this answer.
+fn shows(snapshot: &Snapshot, viewers: &mut [Viewer], answer: Result<Seen, Fault>) -> bool {
+    let Some(viewer) = viewers.get_mut(1) else {
+        return false;
+    };
     let mut buffer = [0; 3];
     let seen = snapshot.look(viewer, &key(b'a'), &mut buffer);
     is_answer(seen, buffer, answer)
 }
 
 // What `a` is after the publication.
-static AT_8: Look = Look {
+static AT_8: [Look; 1] = [Look {
     key: b'a',
     at: 8,
     room: 3,
     answer: Ok(Seen::Value(3)),
-};
+}];
 
 // A look on another thread sees what was published here before that thread began.
-fn is_read_back<R: Threads + Sync>(rt: &R, viewer: &mut Viewer) -> bool {
-    thread::join(rt, || is_seen(viewer, &AT_8), || ()).0
+fn is_read_back<R: Threads + Sync>(rt: &R, viewers: &mut [Viewer]) -> bool {
+    thread::join(rt, || sees(viewers, 2, &AT_8), || ()).0
 }
 
 // Looks change with the publication, and not before; a snapshot is answered once its timestamp is served. Each of three
@@ -182,37 +192,27 @@ fn wrong_look<R: Threads + Sync, W: Wait + Drop>(
     requires first { publisher.old.published ≡ Safe 5 ∷ [] }
     requires none { publisher.old.pending ≡ [] }
 {
-    let ([first, second, third], Ok(now)) = (viewers, Reading::new(stamp(6), stamp(9))) else {
-        return "no viewers";
+    let Ok(now) = Reading::new(stamp(6), stamp(9)) else {
+        return "no reading";
     };
     let snapshot = Snapshot::start(&now);
-    if !are_seen(first, &AT_FIRST) || !shows(&snapshot, second, Err(Fault::NotYet)) {
+    if !sees(viewers, 0, &AT_FIRST) || !shows(&snapshot, viewers, Err(Fault::NotYet)) {
         return "at first";
     }
-    if !accepts(publisher, alloc) || !are_seen(first, &AT_FIRST) {
+    if !accepts(publisher, alloc) || !sees(viewers, 0, &AT_FIRST) {
         return "before the publication";
     }
-    if !publishes(publisher) || !are_seen(first, &AFTER_ONE) {
+    if !publishes(publisher) || !sees(viewers, 0, &AFTER_ONE) {
         return "after the publication";
     }
-    if !shows(&snapshot, second, Ok(Seen::Value(3))) {
+    if !shows(&snapshot, viewers, Ok(Seen::Value(3))) {
         return "a snapshot is answered once its timestamp is served";
     }
-    if is_read_back(rt, third) {
+    if is_read_back(rt, viewers) {
         ""
     } else {
         "another thread reads a published write back"
     }
-}
-
-fn wrong_looks<R: Threads + Wait + Sync>(rt: &R, alloc: Global) -> &'static str {
-    let Ok((mut publisher, mut viewers)) = new_board(rt, alloc, 3) else {
-        return "no board";
-    };
-    let wrong = wrong_look(rt, &mut publisher, &mut viewers, alloc);
-    drop(publisher);
-    drop(viewers);
-    wrong
 }
 
 // The board of shard 0 of two whose publisher has ended.
@@ -223,54 +223,79 @@ static AT_THE_END: [Look; 1] = [Look {
     answer: Err(Fault::Stopped),
 }];
 
-fn first_sees(viewers: &mut [Viewer], looks: &[Look]) -> bool {
-    match viewers.first_mut() {
-        Some(viewer) => are_seen(viewer, looks),
-        None => false,
-    }
-}
-
-fn stops<R: Wait + Drop>(rt: R, alloc: Global) -> bool {
-    let Ok((publisher, mut viewers)) = new_board(rt, alloc, 2) else {
-        return false;
-    };
-    let before = first_sees(&mut viewers, &AT_FIRST);
-    drop(publisher);
-    let after = first_sees(&mut viewers, &AT_THE_END);
-    drop(viewers);
-    before && after
-}
-
 // How many viewers a board has that is asked for so many.
-fn count<R: Wait + Drop>(rt: R, alloc: Global, viewers: usize) -> Result<usize, Fault> {
-    match new_board(rt, alloc, viewers) {
-        Ok((publisher, viewers)) => {
-            let count = viewers.len();
-            drop(publisher);
-            drop(viewers);
-            Ok(count)
-        }
-        Err(fault) => Err(fault),
-    }
+struct Board {
+    name: &'static str,
+    viewers: usize,
+    made: Result<usize, Fault>,
 }
 
-// A board has 1 to 64 viewers.
-static COUNTS: [(&str, usize, Result<usize, Fault>); 4] = [
-    ("no viewer", 0, Err(Fault::BadRequest(Reason::Many))),
-    ("1 viewer", 1, Ok(1)),
-    ("65 viewers", 65, Err(Fault::BadRequest(Reason::Many))),
-    ("64 viewers", 64, Ok(64)),
+// A board has 1 to 64 viewers. Those of the board of three look while it goes on.
+static BOARDS: [Board; 6] = [
+    Board {
+        name: "no viewer",
+        viewers: 0,
+        made: Err(Fault::BadRequest(Reason::Many)),
+    },
+    Board {
+        name: "1 viewer",
+        viewers: 1,
+        made: Ok(1),
+    },
+    Board {
+        name: "65 viewers",
+        viewers: 65,
+        made: Err(Fault::BadRequest(Reason::Many)),
+    },
+    Board {
+        name: "64 viewers",
+        viewers: 64,
+        made: Ok(64),
+    },
+    Board {
+        name: "2 viewers",
+        viewers: 2,
+        made: Ok(2),
+    },
+    Board {
+        name: "3 viewers",
+        viewers: 3,
+        made: Ok(3),
+    },
 ];
+
+// A viewer of each board that is made sees it at first, and is stopped once the publisher has ended.
+fn wrong_board<R: Threads + Wait + Sync>(rt: &R, alloc: Global, row: &Board) -> &'static str {
+    match new_board(rt, alloc, row.viewers) {
+        Ok((mut publisher, mut viewers)) => {
+            let counted = row.made == Ok(viewers.len());
+            let before = sees(&mut viewers, 0, &AT_FIRST);
+            let wrong = if viewers.len() == 3 {
+                wrong_look(rt, &mut publisher, &mut viewers, alloc)
+            } else {
+                ""
+            };
+            drop(publisher);
+            let after = sees(&mut viewers, 0, &AT_THE_END);
+            drop(viewers);
+            if counted && before && after {
+                wrong
+            } else {
+                row.name
+            }
+        }
+        Err(fault) if row.made == Err(fault) => "",
+        Err(_) => row.name,
+    }
+}
 
 /// The first row that is wrong.
 pub fn wrong<R: Threads + Wait + Sync>(rt: &R, alloc: Global) -> &'static str {
-    for (name, viewers, wanted) in &COUNTS {
-        if count(rt, alloc, *viewers) != *wanted {
-            return *name;
+    for row in &BOARDS {
+        let wrong = wrong_board(rt, alloc, row);
+        if !wrong.is_empty() {
+            return wrong;
         }
     }
-    if !stops(rt, alloc) {
-        return "a viewer is stopped once the publisher has ended";
-    }
-    wrong_looks(rt, alloc)
+    ""
 }

@@ -1,21 +1,24 @@
-//! Messages as they are printed.
-use crate::checks::is_line;
+//! Messages as they are printed, and the bag that they are put into.
+use crate::checks::is_printed;
 use crate::text_logs::{keys_of, parts_of, value_of, writes_of};
+use bag::Bag;
 use made::{id, key, shard, stamp};
 use message::{
     Address, Answer, Ask, Commit, Done, Envelope, GiveUp, Message, Outcome, Prepare, Read,
     ReadAnswer, Reads, Vote,
 };
 use std::alloc::Global;
-use units::{Epoch, Stamp};
+use texts::Text;
+use units::Epoch;
 
 // The messages of a session, and then those of a shard.
-#[derive(Clone, Copy)]
 enum Sent {
     Read,
-    Prepare,
+    // With an epoch, and the keys that are read in it.
+    Prepare(u64, &'static str),
     Commit,
-    GiveUp,
+    // By transaction 1.n.
+    GiveUp(u16),
     Vote,
     RefusedVote,
     Outcome,
@@ -26,115 +29,106 @@ enum Sent {
     Done,
 }
 
-#[derive(Clone, Copy)]
 struct Row {
     sent: Sent,
-    to_session: bool,
+    // To this shard, or else to the session.
+    shard: Option<u8>,
     line: &'static str,
 }
 
-static ROWS: [Row; 12] = [
+static ROWS: [Row; 16] = [
     Row {
         sent: Sent::Read,
-        to_session: false,
+        shard: Some(2),
         line: "shard 2 read 1.2 a",
     },
     Row {
-        sent: Sent::Prepare,
-        to_session: false,
+        sent: Sent::Prepare(3, "z"),
+        shard: Some(2),
         line: "shard 2 prepare 1.2 0 3 z y=1,z!",
     },
     Row {
+        sent: Sent::Prepare(1, "z"),
+        shard: Some(2),
+        line: "shard 2 prepare 1.2 0 1 z y=1,z!",
+    },
+    Row {
+        sent: Sent::Prepare(1, "-"),
+        shard: Some(2),
+        line: "shard 2 prepare 1.2 0 0 - y=1,z!",
+    },
+    Row {
         sent: Sent::Commit,
-        to_session: false,
+        shard: Some(2),
         line: "shard 2 commit 1.2 0,1 0 - a=1",
     },
     Row {
-        sent: Sent::GiveUp,
-        to_session: false,
+        sent: Sent::GiveUp(2),
+        shard: Some(2),
         line: "shard 2 giveup 1.2",
     },
     Row {
+        sent: Sent::GiveUp(5),
+        shard: Some(0),
+        line: "shard 0 giveup 1.5",
+    },
+    Row {
+        sent: Sent::GiveUp(7),
+        shard: Some(0),
+        line: "shard 0 giveup 1.7",
+    },
+    Row {
         sent: Sent::Vote,
-        to_session: true,
+        shard: None,
         line: "session 1.2 vote 1 1.2 yes 200",
     },
     Row {
         sent: Sent::RefusedVote,
-        to_session: true,
+        shard: None,
         line: "session 1.2 vote 1 1.2 refused",
     },
     Row {
         sent: Sent::Outcome,
-        to_session: true,
+        shard: None,
         line: "session 1.2 outcome 1 1.2 committed 200",
     },
     Row {
         sent: Sent::Ask,
-        to_session: true,
+        shard: None,
         line: "session 1.2 ask 1 1.2",
     },
     Row {
         sent: Sent::NoValue,
-        to_session: true,
+        shard: None,
         line: "session 1.2 answer 1 1.2 a 3 none",
     },
     Row {
         sent: Sent::Value,
-        to_session: true,
+        shard: None,
         line: "session 1.2 answer 1 1.2 a 3 =7",
     },
     Row {
         sent: Sent::RefusedRead,
-        to_session: true,
+        shard: None,
         line: "session 1.2 answer 1 1.2 a 3 refused",
     },
     Row {
         sent: Sent::Done,
-        to_session: true,
+        shard: None,
         line: "session 1.2 done 1.2 aborted",
     },
 ];
 
-fn message(alloc: Global, sent: Sent) -> Message {
-    match sent {
-        Sent::Prepare => prepare(alloc),
-        Sent::Commit => commit(alloc),
-        Sent::NoValue => answer(Answer::Holds(None)),
-        Sent::Value => answer(Answer::Holds(value_of(alloc, "7"))),
-        Sent::RefusedRead => answer(Answer::Refused),
-        _ => plain(sent),
-    }
+fn epoch(number: u64) -> Epoch {
+    Epoch::new(number).unwrap_or(Epoch::first())
 }
 
-fn prepare(alloc: Global) -> Message {
-    Message::Prepare(Prepare {
-        txn: id(2),
-        coordinator: shard(0),
-        reads: reads(alloc),
-        writes: writes_of(alloc, "y=1,z!"),
-    })
-}
-
-// The epoch of all reads.
-fn epoch() -> Epoch {
-    Epoch::new(3).unwrap_or(Epoch::first())
-}
-
-fn reads(alloc: Global) -> Reads {
-    match Reads::new(epoch(), keys_of(alloc, "z")) {
+// No key is read in no epoch.
+fn reads(alloc: Global, number: u64, keys: &str) -> Reads {
+    match Reads::new(epoch(number), keys_of(alloc, keys)) {
         Ok(reads) => reads,
         Err(_) => Reads::none(alloc),
     }
-}
-
-fn commit(alloc: Global) -> Message {
-    Message::Commit(Commit {
-        txn: id(2),
-        parts: parts_of("0,1"),
-        reads: Reads::none(alloc),
-        writes: writes_of(alloc, "a=1"),
-    })
 }
 
 fn answer(answer: Answer) -> Message {
@@ -142,56 +136,106 @@ fn answer(answer: Answer) -> Message {
         from: shard(1),
         txn: id(2),
         key: key(b'a'),
-        epoch: epoch(),
+        epoch: epoch(3),
         answer,
     })
 }
 
-fn vote(vote: Option<Stamp>) -> Message {
-    Message::Vote(Vote {
-        from: shard(1),
-        txn: id(2),
-        vote,
-    })
-}
-
-// A message without keys and values, but the key of a read.
-fn plain(sent: Sent) -> Message {
-    let (txn, from, at) = (id(2), shard(1), stamp(200));
+fn message(alloc: Global, sent: &Sent) -> Message {
+    let (txn, from, at) = (id(2), shard(1), Some(stamp(200)));
     match sent {
         Sent::Read => Message::Read(Read {
             txn,
             key: key(b'a'),
         }),
-        Sent::GiveUp => Message::GiveUp(GiveUp { txn }),
-        Sent::Vote => vote(Some(at)),
-        Sent::RefusedVote => vote(None),
+        Sent::Prepare(number, keys) => Message::Prepare(Prepare {
+            txn,
+            coordinator: shard(0),
+            reads: reads(alloc, *number, *keys),
+            writes: writes_of(alloc, "y=1,z!"),
+        }),
+        Sent::Commit => Message::Commit(Commit {
+            txn,
+            parts: parts_of("0,1"),
+            reads: Reads::none(alloc),
+            writes: writes_of(alloc, "a=1"),
+        }),
+        Sent::GiveUp(number) => Message::GiveUp(GiveUp { txn: id(*number) }),
+        Sent::Vote => Message::Vote(Vote {
+            from,
+            txn,
+            vote: at,
+        }),
+        Sent::RefusedVote => Message::Vote(Vote {
+            from,
+            txn,
+            vote: None,
+        }),
         Sent::Outcome => Message::Outcome(Outcome {
             from,
             txn,
-            outcome: Some(at),
+            outcome: at,
         }),
         Sent::Ask => Message::Ask(Ask { from, txn }),
-        _ => Message::Done(Done { txn, outcome: None }),
+        Sent::NoValue => answer(Answer::Holds(None)),
+        Sent::Value => answer(Answer::Holds(value_of(alloc, "7"))),
+        Sent::RefusedRead => answer(Answer::Refused),
+        Sent::Done => Message::Done(Done { txn, outcome: None }),
     }
 }
 
-fn is_sent(alloc: Global, row: &Row) -> bool {
-    let to = if row.to_session {
-        Address::Session(id(2))
-    } else {
-        Address::Shard(shard(2))
+fn envelope(alloc: Global, row: &Row) -> Envelope {
+    let to = match row.shard {
+        Some(number) => Address::Shard(shard(number)),
+        None => Address::Session(id(2)),
     };
-    let message = message(alloc, row.sent);
-    is_line(alloc, Envelope { to, message }, row.line)
+    Envelope {
+        to,
+        message: message(alloc, &row.sent),
+    }
+}
+
+// Puts a message into the bag, where it gets this number.
+fn is_put(bag: &mut Bag, number: u64, envelope: Envelope) -> bool {
+    match bag.put(envelope) {
+        Ok(found) => found == number,
+        Err(_) => false,
+    }
+}
+
+fn has(alloc: Global, bag: &Bag, number: u64, line: &str) -> bool {
+    match bag.nth(number) {
+        Some(envelope) => is_printed(alloc, &Text(envelope), line),
+        None => false,
+    }
+}
+
+// Messages have numbers from 0 on.
+fn wrong_in(alloc: Global, bag: &mut Bag) -> &'static str {
+    if bag.len() != 0 {
+        return "no message";
+    }
+    for (number, row) in ROWS.iter().enumerate() {
+        if !is_put(bag, number as u64, envelope(alloc, row)) {
+            return row.line;
+        }
+    }
+    for (number, row) in ROWS.iter().enumerate() {
+        if !has(alloc, bag, number as u64, row.line) {
+            return row.line;
+        }
+    }
+    if bag.len() == 16 && bag.nth(16).is_none() {
+        ""
+    } else {
+        "16 messages"
+    }
 }
 
 /// The first row that is wrong.
 pub fn wrong(alloc: Global) -> &'static str {
-    for row in &ROWS {
-        if !is_sent(alloc, row) {
-            return row.line;
-        }
-    }
-    ""
+    let mut bag = Bag::new(alloc);
+    let wrong = wrong_in(alloc, &mut bag);
+    drop(bag);
+    wrong
 }

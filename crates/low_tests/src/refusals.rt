@@ -49,10 +49,7 @@ static REFUSED: [Refused; 9] = [
 ];
 
 fn is_refused(alloc: Global, row: &Refused) -> bool {
-    match lines(alloc, row.text) {
-        Err(fault) => fault == Fault::BadRequest(Reason::Syntax(row.line)),
-        Ok(_) => false,
-    }
+    lines(alloc, row.text).err() == Some(Fault::BadRequest(Reason::Syntax(row.line)))
 }
 
 struct Spelt {
@@ -100,14 +97,9 @@ static FATES: [Spelt; 9] = [
 ];
 
 fn is_read(row: &Spelt) -> bool {
-    match (fate(row.word), row.fate) {
-        (Ok(found), Some(wanted)) => found == wanted,
-        (Err(_), None) => true,
-        _ => false,
-    }
+    fate(row.word).ok() == row.fate
 }
 
-#[derive(Clone, Copy)]
 enum Kind {
     Key,
     Number,
@@ -146,7 +138,7 @@ static LIMITS: [Limit; 4] = [
     },
 ];
 
-fn is_taken(kind: Kind, word: &str) -> bool {
+fn is_taken(kind: &Kind, word: &str) -> bool {
     match kind {
         Kind::Key => key(word).is_ok(),
         Kind::Number => number(word).is_ok(),
@@ -168,10 +160,10 @@ pub fn wrong(alloc: Global) -> &'static str {
         }
     }
     for row in &LIMITS {
-        if !is_taken(row.kind, row.taken) {
+        if !is_taken(&row.kind, row.taken) {
             return row.taken;
         }
-        if is_taken(row.kind, row.refused) {
+        if is_taken(&row.kind, row.refused) {
             return row.refused;
         }
     }

@@ -3,7 +3,7 @@ ghost use Rattle.std.specs.Prelude.{◌≡◌};
 
 use crate::checks::{is_line, is_printed};
 use made::{id, key, shard, stamp};
-use message::{Answer, Done, Outbox, ReadAnswer};
+use message::{Answer, Done, Envelope, Outbox, ReadAnswer};
 use session::{Closing, Finished, Heard, Open, Phase, Tx};
 use std::alloc::Global;
 use texts::Text;
@@ -11,7 +11,6 @@ use tickets::{Drawer, Tickets};
 use units::{Epoch, Fault, Key, Run, Splits, Value};
 
 // What transaction 1.2 does while it is open, with keys of one letter.
-#[derive(Clone, Copy)]
 enum Does {
     Read(u8),
     Write(u8, &'static [u8]),
@@ -20,7 +19,6 @@ enum Does {
     Hears(u8, u64, &'static [u8]),
 }
 
-#[derive(Clone, Copy)]
 struct Story {
     name: &'static str,
     // What comes of each step: a message, a value, a word, or a fault.
@@ -95,14 +93,21 @@ static STORIES: [Story; 5] = [
     },
 ];
 
-fn says(alloc: Global, out: &Outbox, lines: &[&str]) -> bool {
-    let envelopes = out.as_slice();
-    for (envelope, line) in envelopes.iter().zip(lines.iter()) {
-        if !is_printed(alloc, &Text(envelope), *line) {
-            return false;
+// The messages are printed so.
+fn are_said(alloc: Global, envelopes: &[Envelope], lines: &[&str]) -> bool {
+    for (place, line) in lines.iter().enumerate() {
+        match envelopes.get(place) {
+            Some(envelope) if is_printed(alloc, &Text(envelope), *line) => {}
+            _ => return false,
         }
     }
     envelopes.len() == lines.len()
+}
+
+fn says(alloc: Global, out: Outbox, lines: &[&str]) -> bool {
+    let said = are_said(alloc, out.as_slice(), lines);
+    drop(out);
+    said
 }
 
 fn reads(tx: &mut Tx<'_, Open>, alloc: Global, key: Key, gets: &str) -> bool {
@@ -125,53 +130,58 @@ fn buffers(
     }
 }
 
+// The value that is heard is shown so.
+fn is_shown(alloc: Global, value: Option<Value>, text: &str) -> bool {
+    let shown = is_printed(alloc, &Text(&value), text);
+    drop(value);
+    shown
+}
+
 fn takes(tx: &mut Tx<'_, Open>, alloc: Global, answer: &ReadAnswer, gets: &str) -> bool {
     match tx.answered(alloc, answer) {
-        Ok(Heard::Value(value)) => is_printed(alloc, &Text(&value), gets),
+        Ok(Heard::Value(value)) => is_shown(alloc, value, gets),
         Ok(Heard::Again) => gets == "again",
         Ok(Heard::Doomed) => gets == "doomed",
         Err(fault) => is_printed(alloc, &fault, gets),
     }
 }
 
-fn hears(
-    tx: &mut Tx<'_, Open>,
-    alloc: Global,
-    key: Key,
-    epoch: u64,
-    value: Value,
-    gets: &str,
-) -> bool {
-    let answer = ReadAnswer {
+// An answer of shard 1. A value that memory is wanting for is none.
+fn answer(alloc: Global, key: Key, epoch: u64, bytes: &[u8]) -> ReadAnswer {
+    ReadAnswer {
         from: shard(1),
         txn: id(2),
         key,
         epoch: Epoch::new(epoch).unwrap_or(Epoch::first()),
-        answer: Answer::Holds(Some(value)),
-    };
-    let taken = takes(tx, alloc, &answer, gets);
-    drop(answer);
-    taken
+        answer: Answer::Holds(Value::new(alloc, bytes).ok()),
+    }
 }
 
-fn goes_so(tx: &mut Tx<'_, Open>, alloc: Global, does: Does, gets: &str) -> bool {
+fn goes_so(tx: &mut Tx<'_, Open>, alloc: Global, does: &Does, gets: &str) -> bool {
     match does {
-        Does::Read(letter) => reads(tx, alloc, key(letter), gets),
-        Does::Erase(letter) => buffers(tx, alloc, key(letter), None, gets),
-        Does::Write(letter, bytes) => match Value::new(alloc, bytes) {
-            Ok(value) => buffers(tx, alloc, key(letter), Some(value), gets),
-            Err(_) => false,
-        },
-        Does::Hears(letter, epoch, bytes) => match Value::new(alloc, bytes) {
-            Ok(value) => hears(tx, alloc, key(letter), epoch, value, gets),
-            Err(_) => false,
-        },
+        Does::Read(letter) => reads(tx, alloc, key(*letter), gets),
+        Does::Erase(letter) => buffers(tx, alloc, key(*letter), None, gets),
+        Does::Write(letter, bytes) => {
+            buffers(
+                tx,
+                alloc,
+                key(*letter),
+                Value::new(alloc, *bytes).ok(),
+                gets,
+            )
+        }
+        Does::Hears(letter, epoch, bytes) => {
+            let answer = answer(alloc, key(*letter), *epoch, *bytes);
+            let taken = takes(tx, alloc, &answer, gets);
+            drop(answer);
+            taken
+        }
     }
 }
 
 fn goes_on(tx: &mut Tx<'_, Open>, alloc: Global, does: &[(Does, &str)]) -> bool {
     for (does, gets) in does {
-        if !goes_so(tx, alloc, *does, *gets) {
+        if !goes_so(tx, alloc, does, *gets) {
             return false;
         }
     }
@@ -180,11 +190,7 @@ fn goes_on(tx: &mut Tx<'_, Open>, alloc: Global, does: &[(Does, &str)]) -> bool 
 
 fn gives_up<S: Phase>(tx: Tx<'_, S>, alloc: Global, lines: &[&str]) -> bool {
     match tx.give_up(alloc) {
-        Ok(out) => {
-            let gives_up = says(alloc, &out, lines);
-            drop(out);
-            gives_up
-        }
+        Ok(out) => says(alloc, out, lines),
         Err((_, tx)) => {
             tx.spend();
             false
@@ -211,13 +217,9 @@ fn takes_no_other(tx: Tx<'_, Closing>) -> bool {
     }
 }
 
-fn says_again(tx: &Tx<'_, Closing>, alloc: Global, out: &Outbox, lines: &[&str]) -> bool {
+fn says_again(tx: &Tx<'_, Closing>, alloc: Global, lines: &[&str]) -> bool {
     match tx.again(alloc) {
-        Ok(again) => {
-            let same = says(alloc, &again, lines) && says(alloc, out, lines);
-            drop(again);
-            same
-        }
+        Ok(out) => says(alloc, out, lines),
         Err(_) => false,
     }
 }
@@ -225,21 +227,16 @@ fn says_again(tx: &Tx<'_, Closing>, alloc: Global, out: &Outbox, lines: &[&str])
 fn closes(tx: Tx<'_, Open>, alloc: Global, story: &Story) -> bool {
     match tx.close(alloc) {
         Ok((tx, out)) => {
-            let said = says_again(&tx, alloc, &out, story.closing);
-            drop(out);
-            ends(tx, alloc, story) && said
+            let said = says(alloc, out, story.closing) && says_again(&tx, alloc, story.closing);
+            if story.hears {
+                takes_no_other(tx) && said
+            } else {
+                gives_up(tx, alloc, story.farewells) && said
+            }
         }
         Err((fault, tx)) => {
             gives_up(tx, alloc, story.farewells) && is_printed(alloc, &fault, story.refused)
         }
-    }
-}
-
-fn ends(tx: Tx<'_, Closing>, alloc: Global, story: &Story) -> bool {
-    if story.hears {
-        takes_no_other(tx)
-    } else {
-        gives_up(tx, alloc, story.farewells)
     }
 }
 
@@ -268,15 +265,26 @@ fn asks(alloc: Global, splits: &Splits, tickets: &Tickets, drawer: &mut Drawer, 
 }
 
 // The first transactions of a source are 7.0 and 7.1.
-fn draw_ids(alloc: Global, splits: &Splits) -> bool {
+fn draw_ids(alloc: Global, splits: &Splits, tickets: &Tickets, mut drawer: Drawer) -> bool
+    requires { drawer.source ≡ tickets.now }
+{
+    let first = asks(alloc, splits, tickets, &mut drawer, "shard 0 read 7.0 a");
+    let second = asks(alloc, splits, tickets, &mut drawer, "shard 0 read 7.1 a");
+    drop(drawer);
+    first && second
+}
+
+fn are_drawn(alloc: Global, splits: &Splits) -> bool {
     let Ok((tickets, mut drawers)) = Tickets::new(alloc, 1) else {
         return false;
     };
-    let Some(mut drawer) = drawers.pop() else {
-        return false;
+    let drawn = match drawers.pop() {
+        Some(drawer) => draw_ids(alloc, splits, &tickets, drawer),
+        None => false,
     };
-    asks(alloc, splits, &tickets, &mut drawer, "shard 0 read 7.0 a")
-        && asks(alloc, splits, &tickets, &mut drawer, "shard 0 read 7.1 a")
+    drop(drawers);
+    drop(tickets);
+    drawn
 }
 
 // The first row that is wrong.
@@ -286,7 +294,7 @@ fn wrong_by(alloc: Global, splits: &Splits) -> &'static str {
             return story.name;
         }
     }
-    if draw_ids(alloc, splits) {
+    if are_drawn(alloc, splits) {
         ""
     } else {
         "7.0 and 7.1"
@@ -296,7 +304,11 @@ fn wrong_by(alloc: Global, splits: &Splits) -> &'static str {
 /// The first row that is wrong.
 pub fn wrong(alloc: Global) -> &'static str {
     match Splits::new(alloc, &[key(b'm')]) {
-        Ok(splits) => wrong_by(alloc, &splits),
+        Ok(splits) => {
+            let wrong = wrong_by(alloc, &splits);
+            drop(splits);
+            wrong
+        }
         Err(_) => "no splits",
     }
 }

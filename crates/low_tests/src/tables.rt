@@ -1,214 +1,340 @@
 //! The lock table: who is granted, who waits, who is ended, and who is ready.
-ghost use Rattle.std.specs.Prelude.{◌≡◌, [], ◌∷◌};
-ghost use Rattle.locks.specs.Table.{entrant};
+ghost use Rattle.std.specs.Prelude.{◌≡◌, ◌<◌, ◌^◌, [], false, true};
+ghost use Rattle.locks.specs.Table.{has_claim};
+ghost use Rattle.low_tests.specs.Seats.{nth, Sits, AreSeated, KeepsClaims, KeepsOthers};
 
-use crate::ids::{id, key, needs};
+use crate::ids::needs;
 use locks::{Held, Table};
+use made::key;
 use std::alloc::Global;
-use units::{Asked, Fault, Lock, Mode};
+use units::{Asked, Mode, TxnId};
 
-// The requests for one key.
-#[derive(Drop)]
-struct Needs {
-    shared: [Lock; 1],
-    owned: [Lock; 1],
+// What a transaction does.
+enum Does {
+    // It asks for `a`, and gets this: `granted`, `waits`, or `wounds 1.2`, which it ends alone.
+    Asks(Mode, &'static str),
+    // From now on nobody ends it.
+    BecomesFirm,
+    GivesItsWaitUp,
+    // It is ready, and gets what it waits for.
+    GoesOn,
+    IsReleased,
 }
 
-// What a request gets is this: `granted`, `waits`, or `wounds 1.2`, which it ends alone.
-fn gets(answer: Result<Asked, Fault>, wanted: &str) -> bool {
-    match answer {
-        Ok(Asked::Granted) => wanted == "granted",
-        Ok(Asked::Waits) => wanted == "waits",
+// What 1.number does, and who is ready then.
+struct Step {
+    number: u64,
+    does: Does,
+    ready: Option<u64>,
+}
+
+struct Story {
+    name: &'static str,
+    steps: &'static [Step],
+}
+
+static STORIES: [Story; 5] = [
+    // 1.1 holds a shared. 1.3 asks for it exclusive and waits, 1.2 asks for it shared and is granted. When 1.1 is released
+    // nobody is ready; when 1.2 is released 1.3 is.
+    Story {
+        name: "wait for sharers",
+        steps: &[
+            Step {
+                number: 1,
+                does: Does::Asks(Mode::Shared, "granted"),
+                ready: None,
+            },
+            Step {
+                number: 3,
+                does: Does::Asks(Mode::Exclusive, "waits"),
+                ready: None,
+            },
+            Step {
+                number: 2,
+                does: Does::Asks(Mode::Shared, "granted"),
+                ready: None,
+            },
+            Step {
+                number: 1,
+                does: Does::IsReleased,
+                ready: None,
+            },
+            Step {
+                number: 2,
+                does: Does::IsReleased,
+                ready: Some(3),
+            },
+        ],
+    },
+    // 1.1 and 1.2 hold a shared. 1.1 asks for it exclusive and wounds 1.2, and nothing is changed: nobody waits, and 1.2 is
+    // granted what it holds once more.
+    Story {
+        name: "wound a sharer",
+        steps: &[
+            Step {
+                number: 1,
+                does: Does::Asks(Mode::Shared, "granted"),
+                ready: None,
+            },
+            Step {
+                number: 2,
+                does: Does::Asks(Mode::Shared, "granted"),
+                ready: None,
+            },
+            Step {
+                number: 1,
+                does: Does::Asks(Mode::Exclusive, "wounds 1.2"),
+                ready: None,
+            },
+            Step {
+                number: 2,
+                does: Does::Asks(Mode::Shared, "granted"),
+                ready: None,
+            },
+        ],
+    },
+    // 1.2 holds a shared, and 1.1 wounds it. When 1.2 is released the same request is granted.
+    Story {
+        name: "ask once more",
+        steps: &[
+            Step {
+                number: 2,
+                does: Does::Asks(Mode::Shared, "granted"),
+                ready: None,
+            },
+            Step {
+                number: 1,
+                does: Does::Asks(Mode::Exclusive, "wounds 1.2"),
+                ready: None,
+            },
+            Step {
+                number: 2,
+                does: Does::IsReleased,
+                ready: None,
+            },
+            Step {
+                number: 1,
+                does: Does::Asks(Mode::Exclusive, "granted"),
+                ready: None,
+            },
+        ],
+    },
+    // 1.2 is firm and holds a exclusive. 1.1 asks for it shared and waits. When 1.2 is released 1.1 is ready, goes on, and
+    // holds a, so that 1.3 waits for it.
+    Story {
+        name: "wait for a firm one",
+        steps: &[
+            Step {
+                number: 2,
+                does: Does::Asks(Mode::Exclusive, "granted"),
+                ready: None,
+            },
+            Step {
+                number: 2,
+                does: Does::BecomesFirm,
+                ready: None,
+            },
+            Step {
+                number: 1,
+                does: Does::Asks(Mode::Shared, "waits"),
+                ready: None,
+            },
+            Step {
+                number: 2,
+                does: Does::IsReleased,
+                ready: Some(1),
+            },
+            Step {
+                number: 1,
+                does: Does::GoesOn,
+                ready: None,
+            },
+            Step {
+                number: 3,
+                does: Does::Asks(Mode::Exclusive, "waits"),
+                ready: None,
+            },
+        ],
+    },
+    // 1.1 holds a exclusive, 1.2 waits for it and gives the wait up, so that nobody is ready when 1.1 is released.
+    Story {
+        name: "give a wait up",
+        steps: &[
+            Step {
+                number: 1,
+                does: Does::Asks(Mode::Exclusive, "granted"),
+                ready: None,
+            },
+            Step {
+                number: 2,
+                does: Does::Asks(Mode::Shared, "waits"),
+                ready: None,
+            },
+            Step {
+                number: 2,
+                does: Does::GivesItsWaitUp,
+                ready: None,
+            },
+            Step {
+                number: 1,
+                does: Does::IsReleased,
+                ready: None,
+            },
+        ],
+    },
+];
+
+fn id(number: u64) -> TxnId
+    requires { number < 2 ^ 62 }
+    ensures { result ≡ nth number }
+{
+    match TxnId::new(1, number) {
+        Some(id) => id,
+        None => unreachable!(),
+    }
+}
+
+// The token of a transaction that is not in the table, if there is memory.
+fn enters(table: &mut Table, alloc: Global, number: u64) -> Option<Held>
+    requires small { number < 2 ^ 62 }
+    requires absent { has_claim table.old (nth number) ≡ false }
+    ensures own { Sits table.new number result }
+    ensures others { KeepsOthers number table.old table.new }
+{
+    match table.enter(alloc, id(number)) {
+        Ok(held) => Some(held),
+        Err(_) => None,
+    }
+}
+
+fn asks(table: &mut Table, alloc: Global, held: &mut Held, mode: Mode, gets: &str) -> bool
+    requires { has_claim table.old held.old.txn ≡ true }
+    ensures txn { held.new.txn ≡ held.old.txn }
+    ensures claims { KeepsClaims table.old table.new }
+{
+    match table.request(alloc, held, &needs(key(b'a'), mode)) {
+        Ok(Asked::Granted) => gets == "granted",
+        Ok(Asked::Waits) => gets == "waits",
         Ok(Asked::Wounds(ids)) => {
             let ends = ids.as_slice() == [id(2)].as_slice();
             drop(ids);
-            ends && wanted == "wounds 1.2"
+            ends && gets == "wounds 1.2"
         }
         Err(_) => false,
     }
 }
 
-// 1.1 holds a shared. 1.3 asks for it exclusive and waits, 1.2 asks for it shared and is granted. When 1.1 is released
-// nobody is ready; when 1.2 is released 1.3 is.
-fn wait_for_sharers(
-    table: &mut Table,
-    alloc: Global,
-    mut first: Held,
-    mut second: Held,
-    needs: &Needs,
-) -> bool
-    requires claims { table.old ≡ entrant (record { run = 1; number = 1 })
-        ∷ entrant (record { run = 1; number = 2 }) ∷ [] }
-    requires first { first.txn ≡ record { run = 1; number = 1 } }
-    requires second { second.txn ≡ record { run = 1; number = 2 } }
+// A step of a transaction that stays in the table.
+fn acts(table: &mut Table, alloc: Global, held: &mut Held, does: &Does) -> bool
+    requires { has_claim table.old held.old.txn ≡ true }
+    ensures txn { held.new.txn ≡ held.old.txn }
+    ensures claims { KeepsClaims table.old table.new }
 {
-    let Ok(mut third) = table.enter(alloc, id(3)) else {
-        table.release(first);
-        table.release(second);
-        return false;
-    };
-    let holds = gets(table.request(alloc, &mut first, &needs.shared), "granted");
-    let younger = gets(table.request(alloc, &mut third, &needs.owned), "waits");
-    let between = gets(table.request(alloc, &mut second, &needs.shared), "granted");
-    table.release(first);
-    let early = table.ready().is_none();
-    table.release(second);
-    let late = table.ready() == Some(id(3));
-    table.release(third);
-    holds && younger && between && early && late
-}
-
-// 1.1 and 1.2 hold a shared. 1.1 asks for it exclusive and wounds 1.2, and nothing is changed: nobody waits, and 1.2 is
-// granted what it holds once more.
-fn wound_a_sharer(
-    table: &mut Table,
-    alloc: Global,
-    mut first: Held,
-    mut second: Held,
-    needs: &Needs,
-) -> bool
-    requires claims { table.old ≡ entrant (record { run = 1; number = 1 })
-        ∷ entrant (record { run = 1; number = 2 }) ∷ [] }
-    requires first { first.txn ≡ record { run = 1; number = 1 } }
-    requires second { second.txn ≡ record { run = 1; number = 2 } }
-{
-    let names = first.txn() == id(1) && second.txn() == id(2);
-    let older = gets(table.request(alloc, &mut first, &needs.shared), "granted");
-    let younger = gets(table.request(alloc, &mut second, &needs.shared), "granted");
-    let wounding = gets(table.request(alloc, &mut first, &needs.owned), "wounds 1.2");
-    let nobody = table.ready().is_none();
-    let again = gets(table.request(alloc, &mut second, &needs.shared), "granted");
-    table.release(first);
-    table.release(second);
-    names && older && younger && wounding && nobody && again
-}
-
-// 1.2 holds a shared, and 1.1 wounds it. When 1.2 is released the same request is granted.
-fn ask_once_more(
-    table: &mut Table,
-    alloc: Global,
-    mut first: Held,
-    mut second: Held,
-    needs: &Needs,
-) -> bool
-    requires claims { table.old ≡ entrant (record { run = 1; number = 1 })
-        ∷ entrant (record { run = 1; number = 2 }) ∷ [] }
-    requires first { first.txn ≡ record { run = 1; number = 1 } }
-    requires second { second.txn ≡ record { run = 1; number = 2 } }
-{
-    let younger = gets(table.request(alloc, &mut second, &needs.shared), "granted");
-    let wounding = gets(table.request(alloc, &mut first, &needs.owned), "wounds 1.2");
-    table.release(second);
-    let alone = gets(table.request(alloc, &mut first, &needs.owned), "granted");
-    table.release(first);
-    younger && wounding && alone
-}
-
-// 1.2 is firm and holds a exclusive. 1.1 asks for it shared and waits. When 1.2 is released 1.1 is ready, goes on, and
-// holds a, so that 1.3 waits for it.
-fn wait_for_a_firm_one(
-    table: &mut Table,
-    alloc: Global,
-    mut first: Held,
-    mut second: Held,
-    needs: &Needs,
-) -> bool
-    requires claims { table.old ≡ entrant (record { run = 1; number = 1 })
-        ∷ entrant (record { run = 1; number = 2 }) ∷ [] }
-    requires first { first.txn ≡ record { run = 1; number = 1 } }
-    requires second { second.txn ≡ record { run = 1; number = 2 } }
-{
-    let younger = gets(table.request(alloc, &mut second, &needs.owned), "granted");
-    table.firm(&second);
-    let older = gets(table.request(alloc, &mut first, &needs.shared), "waits");
-    table.release(second);
-    if table.ready() != Some(id(1)) {
-        table.release(first);
-        return false;
+    match does {
+        Does::Asks(mode, gets) => asks(table, alloc, held, *mode, *gets),
+        Does::BecomesFirm => {
+            table.firm(held);
+            true
+        }
+        Does::GivesItsWaitUp => {
+            table.withdraw(held);
+            true
+        }
+        Does::GoesOn => table.ready() == Some(held.txn()) && table.resume(held).is_ok(),
+        Does::IsReleased => false,
     }
-    let went_on = table.resume(&mut first).is_ok();
-    let nobody = table.ready().is_none();
-    let Ok(mut third) = table.enter(alloc, id(3)) else {
-        table.release(first);
-        return false;
-    };
-    let behind = gets(table.request(alloc, &mut third, &needs.owned), "waits");
-    table.release(first);
-    table.release(third);
-    younger && older && went_on && nobody && behind
 }
 
-// 1.1 holds a exclusive, 1.2 waits for it and gives the wait up, so that nobody is ready when 1.1 is released.
-fn give_a_wait_up(
+// The token goes, where there is one.
+fn releases(table: &mut Table, own: &mut Option<Held>, number: u64) -> bool
+    requires { Sits table.old number own.old }
+    ensures own { Sits table.new number own.new }
+    ensures others { KeepsOthers number table.old table.new }
+{
+    let _number = number;
+    match own.take() {
+        Some(held) => {
+            table.release(held);
+            true
+        }
+        None => false,
+    }
+}
+
+fn takes(table: &mut Table, alloc: Global, own: &mut Option<Held>, step: &Step) -> bool
+    requires { Sits table.old step.now.number own.old }
+    ensures own { Sits table.new step.now.number own.new }
+    ensures others { KeepsOthers step.now.number table.old table.new }
+{
+    if matches!(step.does, Does::IsReleased) {
+        return releases(table, own, step.number);
+    }
+    match own {
+        Some(held) => {
+            let named = held.txn().number() == step.number;
+            acts(table, alloc, held, &step.does) && named
+        }
+        None => false,
+    }
+}
+
+// Each step is as it is told.
+fn goes_on(
     table: &mut Table,
     alloc: Global,
-    mut first: Held,
-    mut second: Held,
-    needs: &Needs,
+    first: &mut Option<Held>,
+    second: &mut Option<Held>,
+    third: &mut Option<Held>,
+    steps: &[Step],
 ) -> bool
-    requires claims { table.old ≡ entrant (record { run = 1; number = 1 })
-        ∷ entrant (record { run = 1; number = 2 }) ∷ [] }
-    requires first { first.txn ≡ record { run = 1; number = 1 } }
-    requires second { second.txn ≡ record { run = 1; number = 2 } }
+    requires { AreSeated table.old first.old second.old third.old }
 {
-    let older = gets(table.request(alloc, &mut first, &needs.owned), "granted");
-    let younger = gets(table.request(alloc, &mut second, &needs.shared), "waits");
-    table.withdraw(&second);
-    table.release(first);
-    let nobody = table.ready().is_none();
-    table.release(second);
-    older && younger && nobody
+    let mut told = true;
+    for step in steps {
+        let taken = match step.number {
+            1 => takes(table, alloc, first, step),
+            2 => takes(table, alloc, second, step),
+            3 => takes(table, alloc, third, step),
+            _ => false,
+        };
+        let ready = match step.ready {
+            Some(number) => TxnId::new(1, number),
+            None => None,
+        };
+        told = told && taken && table.ready() == ready;
+    }
+    told
 }
 
-#[derive(Clone, Copy)]
-enum Story {
-    WaitForSharers,
-    WoundASharer,
-    AskOnceMore,
-    WaitForAFirmOne,
-    GiveAWaitUp,
+fn leaves(table: &mut Table, own: Option<Held>) {
+    match own {
+        Some(held) => table.release(held),
+        None => {}
+    }
 }
 
-static STORIES: [(&str, Story); 5] = [
-    ("wait for sharers", Story::WaitForSharers),
-    ("wound a sharer", Story::WoundASharer),
-    ("ask once more", Story::AskOnceMore),
-    ("wait for a firm one", Story::WaitForAFirmOne),
-    ("give a wait up", Story::GiveAWaitUp),
-];
-
-// The story of 1.1 and 1.2, in a new table.
-fn told(table: &mut Table, alloc: Global, needs: &Needs, story: Story) -> bool
+// The story of 1.1, 1.2 and 1.3, in a new table.
+fn is_told(table: &mut Table, alloc: Global, steps: &[Step]) -> bool
     requires { table.old ≡ [] }
 {
-    let Ok(first) = table.enter(alloc, id(1)) else {
-        return false;
-    };
-    let Ok(second) = table.enter(alloc, id(2)) else {
-        table.release(first);
-        return false;
-    };
-    match story {
-        Story::WaitForSharers => wait_for_sharers(table, alloc, first, second, needs),
-        Story::WoundASharer => wound_a_sharer(table, alloc, first, second, needs),
-        Story::AskOnceMore => ask_once_more(table, alloc, first, second, needs),
-        Story::WaitForAFirmOne => wait_for_a_firm_one(table, alloc, first, second, needs),
-        Story::GiveAWaitUp => give_a_wait_up(table, alloc, first, second, needs),
-    }
+    let mut first = enters(table, alloc, 1);
+    let mut second = enters(table, alloc, 2);
+    let mut third = enters(table, alloc, 3);
+    let told = goes_on(table, alloc, &mut first, &mut second, &mut third, steps);
+    leaves(table, first);
+    leaves(table, second);
+    leaves(table, third);
+    told
 }
 
 /// The first row that is wrong.
 pub fn wrong(alloc: Global) -> &'static str {
-    let needs = Needs {
-        shared: needs(key(b'a'), Mode::Shared),
-        owned: needs(key(b'a'), Mode::Exclusive),
-    };
-    for (name, story) in &STORIES {
+    for story in &STORIES {
         let mut table = Table::new(alloc);
-        let told = told(&mut table, alloc, &needs, *story);
+        let told = is_told(&mut table, alloc, story.steps);
         drop(table);
         if !told {
-            return *name;
+            return story.name;
         }
     }
     ""

@@ -1,48 +1,37 @@
 //! The tests, each of some areas.
 use crate::checks::check;
 use crate::{
-    clocks, documents, drawers, drawn, drive_lines, figures, letters, limits, looks, messages,
-    records, refusals, screens, seated, sessions, tables, terminals, verdicts,
+    clocks, documents, drawers, drive_lines, figures, limits, looks, messages, records, refusals,
+    screens, seated, sessions, tables, terminals, verdicts,
 };
 
 #[test]
 fn small_types_and_texts(rt: HostRuntime) {
-    check(&rt, "limits", limits::wrong(rt.alloc()));
-    check(&rt, "refusals", refusals::wrong(rt.alloc()));
-    check(&rt, "records", records::wrong(rt.alloc()));
-    check(&rt, "messages", messages::wrong(rt.alloc()));
-    check(&rt, "letters", letters::wrong(rt.alloc()));
-    check(&rt, "settings", documents::wrong(rt.alloc()));
-    check(&rt, "verdicts", verdicts::wrong(rt.alloc()));
+    let alloc = rt.alloc();
+    check(&rt, "limits", limits::wrong(alloc));
+    check(&rt, "refusals", refusals::wrong(alloc));
+    check(&rt, "records", records::wrong(alloc));
+    check(&rt, "messages", messages::wrong(alloc));
+    check(&rt, "settings", documents::wrong(alloc));
+    check(&rt, "verdicts", verdicts::wrong(alloc));
+    check(&rt, "clocks", clocks::wrong(alloc));
 }
 
 #[test]
-fn times_and_tickets(rt: HostRuntime) {
-    check(&rt, "clocks", clocks::wrong(rt.alloc()));
-    check(&rt, "tickets", drawers::wrong(&rt, rt.alloc()));
+fn locks_rows_and_sessions(rt: HostRuntime) {
+    let alloc = rt.alloc();
+    check(&rt, "the lock table", tables::wrong(alloc));
+    check(&rt, "rows", seated::wrong(alloc));
+    check(&rt, "sessions", sessions::wrong(alloc));
 }
 
 #[test]
-fn locks_and_rows(rt: HostRuntime) {
-    check(&rt, "the lock table", tables::wrong(rt.alloc()));
-    check(&rt, "rows", seated::wrong(rt.alloc()));
-    check(&rt, "rows by draws", drawn::wrong(rt.alloc()));
-}
-
-#[test]
-fn sessions_at_clients(rt: HostRuntime) {
-    check(&rt, "sessions", sessions::wrong(rt.alloc()));
-}
-
-#[test]
-fn boards(rt: HostRuntime) {
-    check(&rt, "looks", looks::wrong(&rt, rt.alloc()));
-}
-
-#[test]
-fn drives(rt: HostRuntime) {
+fn boards_and_drives(rt: HostRuntime) {
+    let alloc = rt.alloc();
+    check(&rt, "tickets", drawers::wrong(&rt, alloc));
+    check(&rt, "looks", looks::wrong(&rt, alloc));
     check(&rt, "figures", figures::wrong());
-    check(&rt, "lines", drive_lines::wrong(rt.alloc()));
-    check(&rt, "screens", screens::wrong(rt.alloc()));
-    check(&rt, "terminals", terminals::wrong(&rt, rt.alloc()));
+    check(&rt, "lines", drive_lines::wrong(alloc));
+    check(&rt, "screens", screens::wrong(alloc));
+    check(&rt, "terminals", terminals::wrong(&rt, alloc));
 }

@@ -1,159 +1,120 @@
 //! Logs that are read from the text of their records. A word that cannot be read stands for something else, so that the
 //! record is not printed as it was written.
 use crate::checks::is_printed;
+use made::{shard, stamp};
 use record::{Committed, Prepared, Record};
 use std::alloc::Global;
 use texts::Text;
-use units::{Epoch, Key, Keys, Parts, ShardNo, Stamp, TxnId, Value, Write, Writes};
+use units::{Epoch, Key, Keys, Parts, TxnId, Value, Write, Writes};
 
 /// Adds the records of a text to a log, one a line. Says whether each is printed as its line.
 pub fn reads(alloc: Global, text: &str, log: &mut Vec<Record>) -> bool {
+    let mut printed = true;
     for line in text.split_inclusive('\n') {
-        if !reads_line(alloc, line.strip_suffix('\n').unwrap_or("no end"), log) {
-            return false;
-        }
+        let line = line.strip_suffix('\n').unwrap_or("no end");
+        let record = record_of(alloc, line);
+        printed = is_printed(alloc, &Text(&record), line) && printed;
+        printed = log.push(record).is_ok() && printed;
     }
-    true
+    printed
 }
 
-fn reads_line(alloc: Global, line: &str, log: &mut Vec<Record>) -> bool {
-    let record = record_of(alloc, &words(line));
-    let printed = is_printed(alloc, &Text(&record), line);
-    log.push(record).is_ok() && printed
-}
-
-// The words of a line, and empty ones behind them.
-fn words(line: &str) -> [&str; 6] {
-    let mut words = [""; 6];
+// The pieces of a text between separators, and empty ones behind them.
+fn pieces(text: &str, separator: char) -> [&str; 6] {
+    let mut pieces = [""; 6];
     let mut count = 0;
-    for word in line.split(' ') {
+    for piece in text.split(separator) {
         if count < 6 {
-            words[count] = word;
+            pieces[count] = piece;
             count += 1;
         }
     }
-    words
+    pieces
 }
 
-fn record_of(alloc: Global, words: &[&str; 6]) -> Record {
-    match words[0] {
-        "prepare" => prepare_of(alloc, words),
-        "commit" => commit_of(alloc, words),
-        _ => short_record_of(words),
-    }
-}
-
-// A record without keys.
-fn short_record_of(words: &[&str; 6]) -> Record {
+/// The record of a line.
+pub fn record_of(alloc: Global, line: &str) -> Record {
+    let words = pieces(line, ' ');
     let txn = txn_of(words[1]);
+    let (first, second, third) = (number(words[1]), number(words[2]), number(words[3]));
     match words[0] {
         "opened" => Record::Opened {
-            epoch: epoch_of(words[1]),
+            epoch: Epoch::new(first).unwrap_or(Epoch::first()),
         },
-        "ceiling" => Record::Ceiling {
-            at: stamp_of(words[1]),
-        },
-        "outcome" => Record::Outcome {
+        "ceiling" => Record::Ceiling { at: stamp(first) },
+        "prepare" => Record::Prepare(Prepared {
             txn,
-            outcome: outcome_of(words),
+            coordinator: shard((second % 16) as u8),
+            at: stamp(third),
+            reads: keys_of(alloc, words[4]),
+            writes: writes_of(alloc, words[5]),
+        }),
+        "commit" => Record::Commit(Committed {
+            txn,
+            at: stamp(second),
+            parts: parts_of(words[3]),
+            reads: keys_of(alloc, words[4]),
+            writes: writes_of(alloc, words[5]),
+        }),
+        "outcome" if words[2] == "committed" => Record::Outcome {
+            txn,
+            outcome: Some(stamp(third)),
         },
+        "outcome" => Record::Outcome { txn, outcome: None },
         _ => Record::Abort { txn },
     }
 }
 
-fn prepare_of(alloc: Global, words: &[&str; 6]) -> Record {
-    Record::Prepare(Prepared {
-        txn: txn_of(words[1]),
-        coordinator: shard_of(words[2]),
-        at: stamp_of(words[3]),
-        reads: keys_of(alloc, words[4]),
-        writes: writes_of(alloc, words[5]),
-    })
-}
-
-fn commit_of(alloc: Global, words: &[&str; 6]) -> Record {
-    Record::Commit(Committed {
-        txn: txn_of(words[1]),
-        at: stamp_of(words[2]),
-        parts: parts_of(words[3]),
-        reads: keys_of(alloc, words[4]),
-        writes: writes_of(alloc, words[5]),
-    })
-}
-
-fn outcome_of(words: &[&str; 6]) -> Option<Stamp> {
-    match words[2] {
-        "committed" => Some(stamp_of(words[3])),
-        _ => None,
-    }
-}
-
-fn epoch_of(word: &str) -> Epoch {
-    match texts::number(word) {
-        Ok(number) => Epoch::new(number).unwrap_or(Epoch::first()),
-        Err(_) => Epoch::first(),
-    }
-}
-
-fn stamp_of(word: &str) -> Stamp {
-    texts::stamp(word).unwrap_or(Stamp::zero())
-}
-
-fn txn_of(word: &str) -> TxnId {
+/// The id of a word.
+pub fn txn_of(word: &str) -> TxnId {
     texts::txn(word).unwrap_or(made::id(0))
 }
 
-fn shard_of(word: &str) -> ShardNo {
-    texts::shard(word).unwrap_or(made::shard(15))
+fn number(word: &str) -> u64 {
+    texts::number(word).unwrap_or(0)
 }
 
-fn key_of(word: &str) -> Key {
+/// The key of a word.
+pub fn key_of(word: &str) -> Key {
     texts::key(word).unwrap_or(made::key(b'?'))
 }
 
 /// The value of a word, if it is one.
 pub fn value_of(alloc: Global, word: &str) -> Option<Value> {
-    match texts::value(alloc, word) {
-        Ok(value) => Some(value),
-        Err(_) => None,
-    }
+    texts::value(alloc, word).ok()
 }
 
 /// Shards between commas.
 pub fn parts_of(word: &str) -> Parts {
     let mut mask = 0;
-    for part in word.split(',') {
-        mask |= 1 << shard_of(part).number();
+    for part in &pieces(word, ',') {
+        if !part.is_empty() {
+            mask |= 1 << (number(*part) % 16) as u8;
+        }
     }
-    Parts::from_mask(mask).unwrap_or(Parts::only(made::shard(15)))
+    Parts::from_mask(mask).unwrap_or(Parts::only(shard(15)))
 }
 
 /// Keys between commas.
 pub fn keys_of(alloc: Global, word: &str) -> Keys {
     let mut keys = Vec::new(alloc);
-    for part in word.split(',') {
-        if part != "-" {
-            let _ = keys.push(key_of(part));
+    for part in &pieces(word, ',') {
+        if !part.is_empty() && *part != "-" {
+            let _ = keys.push(key_of(*part));
         }
     }
-    match Keys::from_vec(keys) {
-        Ok(keys) => keys,
-        Err(_) => Keys::none(alloc),
-    }
+    Keys::from_vec(keys).unwrap_or(Keys::none(alloc))
 }
 
 /// Writes between commas, each a key with `=` and a value or with `!`.
 pub fn writes_of(alloc: Global, word: &str) -> Writes {
     let mut writes = Vec::new(alloc);
-    for part in word.split(',') {
-        if part != "-" {
-            let _ = writes.push(write_of(alloc, part));
+    for part in &pieces(word, ',') {
+        if !part.is_empty() && *part != "-" {
+            let _ = writes.push(write_of(alloc, *part));
         }
     }
-    match Writes::from_vec(writes) {
-        Ok(writes) => writes,
-        Err(_) => Writes::none(alloc),
-    }
+    Writes::from_vec(writes).unwrap_or(Writes::none(alloc))
 }
 
 fn write_of(alloc: Global, word: &str) -> Write {

@@ -5,7 +5,6 @@ use inspector::inspect;
 use record::Record;
 use std::alloc::Global;
 use texts::{Text, lines};
-use units::Line;
 
 struct Case {
     name: &'static str,
@@ -196,35 +195,40 @@ static CASES: [Case; 24] = [
     },
 ];
 
+fn read_log(alloc: Global, text: &str, logs: &mut Vec<Vec<Record>>) -> bool {
+    let mut log = Vec::new(alloc);
+    let read = reads(alloc, text, &mut log);
+    logs.push(log).is_ok() && read
+}
+
 // The logs of all shards.
 fn read_logs(alloc: Global, texts: &[&str], logs: &mut Vec<Vec<Record>>) -> bool {
     for text in texts {
-        let mut log = Vec::new(alloc);
-        let read = reads(alloc, text, &mut log);
-        if logs.push(log).is_err() || !read {
+        if !read_log(alloc, *text, logs) {
             return false;
         }
     }
     true
 }
 
-fn is_found(alloc: Global, logs: &[Vec<Record>], lines: &[Line], wanted: &str) -> bool {
-    match inspect(alloc, logs, lines) {
-        Ok(verdict) => is_printed(alloc, &Text(&verdict), wanted),
-        Err(_) => false,
-    }
-}
-
 fn is_given(alloc: Global, logs: &[Vec<Record>], case: &Case) -> bool {
-    match lines(alloc, case.lines) {
-        Ok(lines) => is_found(alloc, logs, lines.as_slice(), case.verdict),
+    let Ok(lines) = lines(alloc, case.lines) else {
+        return false;
+    };
+    let verdict = inspect(alloc, logs, lines.as_slice());
+    drop(lines);
+    match verdict {
+        Ok(verdict) => is_printed(alloc, &Text(&verdict), case.verdict),
         Err(_) => false,
     }
 }
 
 fn has_its_verdict(alloc: Global, case: &Case) -> bool {
     let mut logs = Vec::new(alloc);
-    read_logs(alloc, case.logs, &mut logs) && is_given(alloc, logs.as_slice(), case)
+    let read = read_logs(alloc, case.logs, &mut logs);
+    let given = is_given(alloc, logs.as_slice(), case);
+    drop(logs);
+    read && given
 }
 
 /// The first row that is wrong.
