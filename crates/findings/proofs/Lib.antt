@@ -1,3 +1,4 @@
+pub mod FitsByRecord
 pub mod VersionLaws
 pub mod SerialOrder
 pub mod SortedLists

@@ -1,6 +1,6 @@
 -- The logs from one number on.
 use Rattle.std.specs.List.{list_all}
-use Rattle.std.proofs.Common.{◌≡◌, ◌∙◌, ℕ, zero, suc, ◌+◌, ◌-◌, ◌<◌, Bool, true, ◌&&◌, List, ◌∷◌, flat_map, length, refl, sym, ap, arith}
+use Rattle.std.proofs.Common.{◌≡◌, ◌∙◌, ℕ, zero, suc, ◌+◌, ◌-◌, ◌<◌, Bool, true, false, ◌&&◌, List, ◌∷◌, flat_map, length, refl, sym, ap, arith}
 use Rattle.units.specs.Ids.{Id}
 use Rattle.units.specs.Lists.{numbered}
 use Rattle.record.specs.Whole.{Decision}
@@ -34,6 +34,13 @@ all_numbered_step test count n es lt passes =
     let rest : List (List Record) = logs_from (count - (n + 1)) (n + 1) es in
     ap (λ m. list_all test (numbered m rest)) next
     ∙ sym (ap (λ ls. list_all test (numbered n ls)) (from_step count n es lt) ∙ ap (λ b. b && list_all test (numbered (suc n) rest)) passes)
+
+-- where the first of them fails a test, not all pass it
+pub all_numbered_stop : (test : ℕ × List Record → Bool) (count n : ℕ) (es : List About) → n < count → test (n, log_numbered n es) ≡ false
+    → false ≡ list_all test (numbered n (logs_from (count - n) n es))
+all_numbered_stop test count n es lt fails =
+    let rest : List (List Record) = logs_from (count - (n + 1)) (n + 1) es in
+    sym (ap (λ ls. list_all test (numbered n ls)) (from_step count n es lt) ∙ ap (λ b. b && list_all test (numbered (suc n) rest)) fails)
 
 -- the decisions of one more log are found
 pub tally_number : (fits : Decision → Bool) (found : Tally) (t : Id) (count n : ℕ) (es : List About) → n < count

@@ -1,15 +1,14 @@
 -- What the loops over decisions compute is what the definitions say.
 use Rattle.std.specs.List.{list_all}
 use Rattle.std.specs.Prelude.{flat_map}
-use Rattle.std.proofs.Common.{◌≡◌, ℕ, suc, Bool, false, List, [], ◌∷◌, ◌++◌, None, ◌&&◌, nat_eq, nat_le, refl, sym, ap, ◌∙◌}
+use Rattle.std.proofs.Common.{◌≡◌, ℕ, suc, Bool, false, List, [], ◌∷◌, ◌++◌, refl, sym, ap, ◌∙◌}
 use Rattle.units.specs.Ids.{Id}
 use Rattle.units.specs.Lists.{numbered}
-use Rattle.record.specs.Whole.{Decision, is_promise_for, is_whole_by, outcomes_fit}
-use Rattle.record.specs.declared.record.Prepared.{Prepared}
+use Rattle.record.specs.Whole.{Decision, is_whole_by, outcomes_fit}
 use Rattle.record.specs.declared.record.Record.{Record}
 use Rattle.findings.specs.declared.whole.Tally.{Tally}
 use Rattle.findings.specs.declared.whole.Tally.TheVariants.{Never, Again}
-use Rattle.findings.specs.Tallies.{after, decisions_here, fits_all, with_decision, settled_tally, sole}
+use Rattle.findings.specs.Tallies.{after, decisions_here, fits_all, with_decision, settled_tally}
 
 pub after_append : (fits : Decision → Bool) (found : Tally) (ds es : List Decision) → after fits found (ds ++ es) ≡ after fits (after fits found ds) es
 after_append fits found [] es = refl
@@ -24,11 +23,6 @@ pub whole_is_settled : (logs : List (List Record)) (t : Id) (ds : List Decision)
 whole_is_settled logs t [] = refl
 whole_is_settled logs t (d ∷ []) = refl
 whole_is_settled logs t (d ∷ e ∷ ds) = sym (ap (settled_tally (list_all (λ l. outcomes_fit l t (λ s. false)) logs)) (stays_again (fits_all logs t) ds))
-
-pub sole_promise : (d : Decision) (ps : List Prepared) → is_promise_for d ps ≡ sole (λ p. nat_eq p.coordinator d.shard && nat_le p.at d.commit.at) None ps
-sole_promise d [] = refl
-sole_promise d (p ∷ []) = refl
-sole_promise d (p ∷ q ∷ ps) = refl
 
 -- ---- steps from one log to the next
 

@@ -1,12 +1,15 @@
 -- The decisions of a transaction that logs hold, counted one by one.
 use Rattle.std.specs.List.{list_all}
-use Rattle.std.specs.Prelude.{ℕ, Bool, false, ◌&&◌, List, [], ◌∷◌, map, filter, nat_eq, Option, Some, None}
+use Rattle.std.specs.Prelude.{ℕ, Bool, true, false, not, cond, ◌&&◌, List, [], ◌∷◌, map, filter, nat_eq, nat_le, Some, None}
 use Rattle.units.specs.Ids.{Id, same_id}
 use Rattle.units.specs.Lists.{gather, head, when}
 use Rattle.record.specs.History.{by_shard}
 use Rattle.record.specs.Records.{as_committed}
 use Rattle.record.specs.Whole.{Decision, fits_decision, parts_exist}
 use Rattle.record.specs.declared.record.Record.{Record}
+use Rattle.record.specs.declared.record.Record.TheVariants.{Opened, Ceiling, Prepare, Commit, Abort, Outcome}
+use Rattle.findings.specs.declared.whole.Stand.{Stand}
+use Rattle.findings.specs.declared.whole.Stand.TheVariants.{Nothing, Otherwise, Promised}
 use Rattle.findings.specs.declared.whole.Tally.{Tally}
 use Rattle.findings.specs.declared.whole.Tally.TheVariants.{Never, Once, Again}
 
@@ -35,9 +38,20 @@ settled_tally never Never = never
 settled_tally never (Once b) = b
 settled_tally never Again = false
 
--- a test of the one member that a list has, where one was tested before
-abbrev pub sole : {A : Type 0} → (A → Bool) → Option Bool → List A → Bool
-sole test None [] = false
-sole test (Some b) [] = b
-sole test None (x ∷ xs) = sole test (Some (test x)) xs
-sole test (Some b) (x ∷ xs) = false
+-- how a record stands to a decision of an id
+abbrev pub stand_of : Id → Decision → Record → Stand
+stand_of t d (Opened epoch) = Nothing
+stand_of t d (Ceiling at) = Nothing
+stand_of t d (Prepare p) = cond (same_id p.txn t) (Promised (nat_eq p.coordinator d.shard && nat_le p.at d.commit.at)) Nothing
+stand_of t d (Commit c) = Nothing
+stand_of t d (Abort u) = cond (same_id t u) Otherwise Nothing
+stand_of t d (Outcome u None) = cond (same_id u t) Otherwise Nothing
+stand_of t d (Outcome u (Some s)) = cond (same_id t u && not (nat_eq d.commit.at s)) Otherwise Nothing
+
+-- what stands in a log fits a decision, in the coordinator's log, in that of a part, or in another, where a promise was found before or not
+abbrev pub all_fit : Bool → Bool → Bool → List Stand → Bool
+all_fit is_own is_part found [] = cond is_own true (cond is_part found true)
+all_fit is_own is_part found (Nothing ∷ xs) = all_fit is_own is_part found xs
+all_fit is_own is_part found (Otherwise ∷ xs) = false
+all_fit is_own is_part found (Promised fits ∷ xs) =
+    cond is_own (all_fit is_own is_part found xs) (cond (is_part && not found && fits) (all_fit is_own is_part true xs) false)

@@ -1,13 +1,11 @@
 //! Whether a transaction is whole over all logs.
-ghost use Rattle.std.specs.Prelude.{◌≡◌, IfOk, IfErr, ◌&&◌, not, length, nat_eq, nat_le, nat_lt, true, false};
-ghost use Rattle.std.specs.List.{list_any, list_all};
-ghost use Rattle.units.specs.Ids.{same_id};
-ghost use Rattle.units.specs.Lists.{gather, has, numbered, when};
-ghost use Rattle.record.specs.Records.{as_ended, is_aborted};
-ghost use Rattle.record.specs.Whole.{decisions, fits_decision, is_promise_for, promises_of, turns_down, outcomes_fit, is_whole};
+ghost use Rattle.std.specs.Prelude.{◌≡◌, IfOk, IfErr, ◌&&◌, map, not, nat_eq, nat_le, nat_lt, false};
+ghost use Rattle.std.specs.List.{list_all};
+ghost use Rattle.units.specs.Lists.{has, numbered};
+ghost use Rattle.record.specs.Whole.{decisions, fits_decision, outcomes_fit, is_whole};
 ghost use Rattle.findings.specs.declared.whole.Tally.TheVariants.{Never};
 ghost use Rattle.findings.specs.Entries.{log_numbered, logs_from};
-ghost use Rattle.findings.specs.Tallies.{after, decisions_here, fits_all};
+ghost use Rattle.findings.specs.Tallies.{after, all_fit, decisions_here, fits_all, stand_of};
 
 use crate::entries::Entry;
 use record::{Committed, Prepared, Record};
@@ -20,6 +18,14 @@ pub enum Tally {
     Never,
     Once(bool),
     Again,
+}
+
+// How a record stands to a decision: it says nothing of it, or otherwise, or promises it, and whether that fits.
+#[derive(Clone, Copy)]
+pub enum Stand {
+    Nothing,
+    Otherwise,
+    Promised(bool),
 }
 
 /// The transaction is whole over a number of logs, of which these are the records.
@@ -151,20 +157,30 @@ fn log_fits(
     parts: &[ShardNo],
 ) -> bool
     requires { parts.now ≡ commit.now.parts }
-    ensures { result ≡ fits_decision txn (record { shard = shard; commit = commit.now })
-        (number, log_numbered number entries.now) }
+    ensures { result ≡ all_fit (nat_eq number shard) (has commit.now.parts number) false
+        (map (stand_of txn (record { shard = shard; commit = commit.now }))
+        (log_numbered number entries.now)) }
 {
-    if is_turned_down(number, entries, txn) || !ends_at(number, entries, txn, commit.at) {
-        return false;
+    let is_own = number == shard;
+    let is_part = is_part(parts, number);
+    let mut found = false;
+    for entry in entries {
+        if number == entry.shard {
+            match stand_of(entry.item, txn, shard, commit) {
+                Stand::Nothing => {}
+                Stand::Otherwise => return false,
+                Stand::Promised(fits) => {
+                    if !is_own {
+                        if !is_part || found || !fits {
+                            return false;
+                        }
+                        found = true;
+                    }
+                }
+            }
+        }
     }
-    if number == shard {
-        return true;
-    }
-    if is_part(parts, number) {
-        has_promise(number, entries, txn, shard, commit)
-    } else {
-        has_no_promise(number, entries, txn)
-    }
+    is_own || found || !is_part
 }
 
 // The shard of this number is a part.
@@ -179,66 +195,55 @@ fn is_part(parts: &[ShardNo], number: usize) -> bool
     false
 }
 
-// The log has an abort of the transaction, or its outcome aborted.
-fn is_turned_down(number: usize, entries: &[Entry<'_>], txn: TxnId) -> bool
-    ensures { result ≡ turns_down (log_numbered number entries.now) txn }
+// How a record stands to the decision.
+fn stand_of(item: &Record, txn: TxnId, shard: usize, commit: &Committed) -> Stand
+    ensures { result ≡ stand_of txn (record { shard = shard; commit = commit.now }) item.now }
 {
-    is_aborted(number, entries, txn) || ends_aborted(number, entries, txn)
-}
-
-fn is_aborted(number: usize, entries: &[Entry<'_>], txn: TxnId) -> bool
-    ensures { result ≡ is_aborted (log_numbered number entries.now) txn }
-{
-    for entry in entries {
-        if number == entry.shard {
-            if let Record::Abort { txn: aborted } = entry.item {
-                if txn.is(*aborted) {
-                    return true;
-                }
+    match item {
+        Record::Opened { .. } | Record::Ceiling { .. } | Record::Commit(_) => Stand::Nothing,
+        Record::Prepare(prepared) => {
+            if prepared.txn.is(txn) {
+                Stand::Promised(promise_fits(prepared, shard, commit))
+            } else {
+                Stand::Nothing
             }
         }
-    }
-    false
-}
-
-fn ends_aborted(number: usize, entries: &[Entry<'_>], txn: TxnId) -> bool
-    ensures { result ≡ list_any (λ e. same_id e.txn txn && not (when (λ s. true) e.outcome))
-        (gather as_ended (log_numbered number entries.now)) }
-{
-    for entry in entries {
-        if number == entry.shard {
-            if let Record::Outcome {
-                txn: ended,
-                outcome,
-            } = entry.item
-            {
-                if ended.is(txn) && outcome.is_none() {
-                    return true;
-                }
+        Record::Abort { txn: aborted } => {
+            if txn.is(*aborted) {
+                Stand::Otherwise
+            } else {
+                Stand::Nothing
             }
         }
-    }
-    false
-}
-
-// The log's outcomes of the transaction at a timestamp all have this one.
-fn ends_at(number: usize, entries: &[Entry<'_>], txn: TxnId, at: Stamp) -> bool
-    ensures { result ≡ outcomes_fit (log_numbered number entries.now) txn (nat_eq at) }
-{
-    for entry in entries {
-        if number == entry.shard {
-            if let Record::Outcome {
-                txn: ended,
-                outcome: Some(other),
-            } = entry.item
-            {
-                if txn.is(*ended) && at.micros() != other.micros() {
-                    return false;
-                }
+        Record::Outcome {
+            txn: ended,
+            outcome: None,
+        } => {
+            if ended.is(txn) {
+                Stand::Otherwise
+            } else {
+                Stand::Nothing
             }
         }
+        Record::Outcome {
+            txn: ended,
+            outcome: Some(at),
+        } => {
+            if txn.is(*ended) && commit.at.micros() != at.micros() {
+                Stand::Otherwise
+            } else {
+                Stand::Nothing
+            }
+        },
     }
-    true
+}
+
+// The promise names the coordinator and is not above the commit's timestamp.
+fn promise_fits(prepared: &Prepared, shard: usize, commit: &Committed) -> bool
+    ensures { result ≡ (nat_eq prepared.now.coordinator shard
+        && nat_le prepared.now.at commit.now.at) }
+{
+    prepared.coordinator.number() as usize == shard && prepared.at.micros() <= commit.at.micros()
 }
 
 // No log ends the transaction at a timestamp.
@@ -272,56 +277,4 @@ fn ends(number: usize, entries: &[Entry<'_>], txn: TxnId) -> bool
         }
     }
     false
-}
-
-// The log has exactly one promise of the transaction, which fits the decision at a shard.
-#[tactic(auto, using(crate::proofs::TallyLaws::sole_promise))]
-fn has_promise(
-    number: usize,
-    entries: &[Entry<'_>],
-    txn: TxnId,
-    shard: usize,
-    commit: &Committed,
-) -> bool
-    ensures { result ≡ is_promise_for (record { shard = shard; commit = commit.now })
-        (promises_of (log_numbered number entries.now) txn) }
-{
-    let mut fits = None;
-    for entry in entries {
-        if number == entry.shard {
-            if let Record::Prepare(prepared) = entry.item {
-                if prepared.txn.is(txn) {
-                    if fits.is_some() {
-                        return false;
-                    }
-                    fits = Some(promise_fits(prepared, shard, commit));
-                }
-            }
-        }
-    }
-    fits.unwrap_or(false)
-}
-
-// The promise names the coordinator and is not above the commit's timestamp.
-fn promise_fits(prepared: &Prepared, shard: usize, commit: &Committed) -> bool
-    ensures { result ≡ (nat_eq prepared.now.coordinator shard
-        && nat_le prepared.now.at commit.now.at) }
-{
-    prepared.coordinator.number() as usize == shard && prepared.at.micros() <= commit.at.micros()
-}
-
-// The log has no promise of the transaction.
-fn has_no_promise(number: usize, entries: &[Entry<'_>], txn: TxnId) -> bool
-    ensures { result ≡ nat_eq (length (promises_of (log_numbered number entries.now) txn)) 0 }
-{
-    for entry in entries {
-        if number == entry.shard {
-            if let Record::Prepare(prepared) = entry.item {
-                if prepared.txn.is(txn) {
-                    return false;
-                }
-            }
-        }
-    }
-    true
 }
