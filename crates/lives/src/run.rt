@@ -207,9 +207,12 @@ impl<'s> Run<'s> {
         ensures { (w : World) → IsRun self.old w → IsSteady w
             → ComesAfter (act_at w shard call doing.now) self.new result }
     {
-        let done = self
-            .shards
-            .act(alloc, self.output.bag.as_slice(), shard, call, doing);
+        let at = shard.number() as usize;
+        if at >= self.shards.shards.len() {
+            return Ok(Reply::Refused(Fault::Stranger));
+        }
+        let bag = self.output.bag.as_slice();
+        let done = self.shards.shards[at].act(alloc, bag, call, doing);
         self.output.reply(done)
     }
 
