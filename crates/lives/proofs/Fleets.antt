@@ -115,13 +115,17 @@ looks_there config shards ss n r result f h there look =
     in_place config 0 n n shards.shards.items ss r h.standing (omega arith) there in
     subst (λ x. IfOk result (λ reply. reply ≡ x)) (sym (ap (λ o. elim o as (λ x. Reply) [ None ↦ Reply.Refused Stranger | Some s ↦ f s ]) p.1)) (look p.0 p.2)
 
+-- there is none
+pub none_past : (config : Config) (shards : Shards) (ss : List ShardNow) (n : ℕ) → AreShards config shards ss → length shards.shards.items ≤ n
+    → slice_get ss n ≡ None
+none_past config shards ss n h over = slice_get_past ss n (omega (arith, as_many config 0 shards.shards.items ss h.standing, over))
+
 -- there is none to look at
 pub looks_nowhere : (config : Config) (shards : Shards) (ss : List ShardNow) (n : ℕ) (f : ShardNow → Reply) → AreShards config shards ss
     → length shards.shards.items ≤ n
     → Reply.Refused Stranger ≡ elim (slice_get ss n) as (λ x. Reply) [ None ↦ Reply.Refused Stranger | Some s ↦ f s ]
 looks_nowhere config shards ss n f h over =
-    sym (ap (λ o. elim o as (λ x. Reply) [ None ↦ Reply.Refused Stranger | Some s ↦ f s ])
-    (slice_get_past ss n (omega (arith, as_many config 0 shards.shards.items ss h.standing, over))))
+    sym (ap (λ o. elim o as (λ x. Reply) [ None ↦ Reply.Refused Stranger | Some s ↦ f s ]) (none_past config shards ss n h over))
 
 -- what is known of one, and of none
 pub known_there : (config : Config) (shards : Shards) (ss : List ShardNow) (n : ℕ) (r : RunShard) (rests stands : Bool) (views : ℕ) →
@@ -222,19 +226,11 @@ module _ (config : Config) (ss : List ShardNow) (n : ℕ) (old new : Shards) (be
       × AreShards config new (elim o as (λ x. List ShardNow) [ None ↦ ss | Some s ↦ replaced ss n (f s) ])) (sym place.1)
       (replies, changed (f place.0) (crash place.0 place.1 place.2))
 
--- there is none
-pub acts_nowhere : (config : Config) (shards : Shards) (ss : List ShardNow) (n : ℕ) (bag : List Envelope) (call : Option ℕ) (doing : Doing)
-    → AreShards config shards ss
-    → length shards.shards.items ≤ n → ActsAt config bag ss n call doing shards (Err Stranger)
-acts_nowhere config shards ss n bag call doing h over = λ orderly.
-    let none : slice_get ss n ≡ None = slice_get_past ss n (omega (arith, as_many config 0 shards.shards.items ss h.standing, over)) in
-    subst (Answers config ss n shards bag call doing (Err Stranger)) (sym none) (inr (refl, h))
-
 -- there is none to crash
 pub nothing_crashes : (config : Config) (shards : Shards) (ss : List ShardNow) (n : ℕ) (f : ShardNow → ShardNow) → AreShards config shards ss
     → length shards.shards.items ≤ n → CrashesAt config f ss n shards (Ok (Reply.Refused Stranger))
 nothing_crashes config shards ss n f h over =
-    let none : slice_get ss n ≡ None = slice_get_past ss n (omega (arith, as_many config 0 shards.shards.items ss h.standing, over)) in
+    let none : slice_get ss n ≡ None = none_past config shards ss n h over in
     subst (λ o. (Reply.Refused Stranger ≡ elim o as (λ x. Reply) [ None ↦ Reply.Refused Stranger | Some s ↦ Reply.Crashed ])
     × AreShards config shards (elim o as (λ x. List ShardNow) [ None ↦ ss | Some s ↦ replaced ss n (f s) ])) (sym none) (refl, h)
 

@@ -5,8 +5,7 @@ pub mod Formatting
 pub mod Happened
 pub mod Holding
 pub mod Living
-pub mod Naming
-mod Newest
+pub mod Newest
 pub mod Opening
 pub mod Replying
 pub mod Showing

@@ -273,6 +273,17 @@ module _ (w : World) (old new : Run) (h : IsRun old w) where
           (answered_so p result shards (subst (λ a. HasReplied (record w { shards = p.1 }) a new.output result) same (replies (record w { shards = p.1 })
           (output_with p.1))) sessions time)
 
+  -- there is no shard to do it
+  pub none_acts : (n : ℕ) (call : Option ℕ) (doing : Doing) → slice_get w.shards n ≡ None → ComesAfter (act_at w n call doing) old (Ok (Reply.Refused Stranger))
+  none_acts n None doing none = subst (λ o. ComesAfter (elim o as (λ x. After) [
+    | None ↦ refused w Stranger
+    | Some s ↦ did w n s doing (effect (setup_of w.config n) w.bag s doing)
+  ]) old (Ok (Reply.Refused Stranger))) (sym none) (refl, h)
+  none_acts n (Some call) doing none = subst (λ o. ComesAfter (elim o as (λ x. After) [
+    | None ↦ refused w Stranger
+    | Some s ↦ did_with_failure w n s call doing (effect (setup_of w.config n) w.bag s doing)
+  ]) old (Ok (Reply.Refused Stranger))) (sym none) (refl, h)
+
   -- a crash, where the shard exists
   crashes : (n : ℕ) (f : ShardNow → ShardNow) (result : Result Reply Fault) → CrashesAt w.config f w.shards n new.shards result
       → new.sessions ≡ old.sessions → new.output ≡ old.output → new.time ≡ old.time

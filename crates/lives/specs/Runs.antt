@@ -1,5 +1,5 @@
 -- How a run in the code stands for a world of the definitions, and what its events come to.
-use Rattle.std.specs.Prelude.{ℕ, ◌≡◌, ◌⊎◌, Bool, true, false, List, Option, None, Some, Result, Ok, Err}
+use Rattle.std.specs.Prelude.{ℕ, ◌≡◌, ◌⊎◌, true, false, List, Option, None, Some, Result, Ok, Err}
 use Rattle.units.specs.declared.fault.Fault.{Fault}
 use Rattle.units.specs.declared.fault.Fault.TheVariants.{Memory, BadRequest}
 use Rattle.units.specs.declared.fault.Reason.TheVariants.{Unlawful}
@@ -7,7 +7,6 @@ use Rattle.world.specs.World.{World, After, at_shard, did_with_failure, do_at, e
 use Rattle.world.specs.Lawful.{may_happen}
 use Rattle.world.specs.Hosts.{Hosts}
 use Rattle.world.specs.Passed.{IsOutput}
-use Rattle.world.specs.declared.event.Act.{Act}
 use Rattle.world.specs.declared.event.Doing.{Doing}
 use Rattle.world.specs.declared.event.Event.{Event}
 use Rattle.world.specs.declared.event.Reply.{Reply}
@@ -25,16 +24,6 @@ pub record IsRun (r : Run) (w : World) : Type 0 where
 abbrev pub ComesAfter : After → Run → Result Reply Fault → Type 0
 ComesAfter after new (Ok reply) = (reply ≡ after.1) × IsRun new after.0
 ComesAfter after new (Err fault) = fault ≡ Memory
-
--- the act names a shard
-abbrev pub names_shard : Act → Bool
-names_shard (Act.At n doing) = true
-names_shard (Act.Look n k at) = true
-names_shard (Act.View n v k at) = true
-names_shard (Act.Crash n) = true
-names_shard (Act.CrashIn n call fate named doing) = true
-names_shard (Act.FailIn n call named doing) = true
-names_shard _ = false
 
 -- a doing at a shard, with a call that fails or with none
 abbrev pub act_at : World → ℕ → Option ℕ → Doing → After

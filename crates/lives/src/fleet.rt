@@ -6,7 +6,7 @@ ghost use Rattle.lives.specs.Fleet.{AreOn, AreStanding, are_fresh};
 
 use crate::run_shard::{RunShard, read_back};
 use disk::Fate;
-use message::{Envelope, Outbox};
+use message::Envelope;
 use record::Record;
 use simdisk::SimDisk;
 use std::alloc::Global;
@@ -33,7 +33,7 @@ impl Shards<'_> {
     ghost use Rattle.world.specs.Comes.{Notes};
     ghost use Rattle.world.specs.Passed.{IsOutput};
     ghost use Rattle.world.specs.declared.event.Doing.{Doing};
-    ghost use Rattle.lives.specs.Fleet.{AreShards, ActsAt, CrashesAt, IsOrderlyAt, crash_within, known_of, looked};
+    ghost use Rattle.lives.specs.Fleet.{AreShards, CrashesAt, IsOrderlyAt, crash_within, known_of, looked};
 
     /// What is known of the shard of this number.
     pub fn known(&self, shard: ShardNo) -> Known
@@ -54,25 +54,6 @@ impl Shards<'_> {
                 views: 0,
             },
         }
-    }
-
-    /// A shard does something, with a device call of its append, by its number from 0, armed to fail, or with none.
-    pub fn act(
-        &mut self,
-        alloc: Global,
-        bag: &[Envelope],
-        shard: ShardNo,
-        call: Option<u64>,
-        doing: &Doing,
-    ) -> Result<Outbox, Fault>
-        ensures { (config : Config) (ss : List ShardNow) → AreShards config self.old ss
-            → ActsAt config bag.now ss shard call doing.now self.new result }
-    {
-        let at = shard.number() as usize;
-        if at >= self.shards.len() {
-            return Err(Fault::Stranger);
-        }
-        self.shards[at].act(alloc, bag, call, doing)
     }
 
     /// A shard crashes, in a device call of a doing, by its number from 0, or in none. Its oldest change that is not synced has

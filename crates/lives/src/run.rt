@@ -4,7 +4,7 @@ ghost use Rattle.world.specs.World.{World, acts, begin, client_of, deliver_to, l
 ghost use Rattle.world.specs.Lawful.{may_act};
 ghost use Rattle.world.specs.Steady.{IsSteady};
 ghost use Rattle.lives.specs.Fleet.{AreOn};
-ghost use Rattle.lives.specs.Runs.{ComesAfter, IsRun, TakesEvent, act_at, names_shard};
+ghost use Rattle.lives.specs.Runs.{ComesAfter, IsRun, TakesEvent, act_at};
 
 use crate::fleet::{Shards, fill, spend_all, take_logs};
 use crate::lawfulness::{may_deliver, may_do};
@@ -74,17 +74,6 @@ impl<'s> Run<'s> {
             Act::Deliver(number, now) => {
                 may_deliver(&self.sessions, &self.output.bag, time, *number, now)
             }
-            _ => self.may_act_at(time, act),
-        }
-    }
-
-    // So may one that names a shard.
-    #[tactic(auto, unfolding(world::specs::Lawful::may_act))]
-    fn may_act_at(&self, time: u64, act: &Act) -> bool
-        requires { names_shard act.now ≡ true }
-        ensures { (w : World) → IsRun self.now w → result ≡ may_act w time act.now }
-    {
-        match act {
             Act::At(shard, doing) => {
                 let known = self.shards.known(*shard);
                 known.exists && may_do(known, &self.output.bag, time, *shard, doing)
@@ -105,7 +94,6 @@ impl<'s> Run<'s> {
                     && shard.number() == at.number()
                     && may_do(known, &self.output.bag, time, *shard, doing)
             }
-            _ => unreachable!(),
         }
     }
 
@@ -155,17 +143,6 @@ impl<'s> Run<'s> {
                 self.output.reply(moved)
             }
             Act::Deliver(number, now) => self.deliver(alloc, *number, *now),
-            _ => self.act_named(alloc, act),
-        }
-    }
-
-    // So is one that names a shard.
-    fn act_named(&mut self, alloc: Global, act: &Act) -> Result<Reply, Fault>
-        requires { names_shard act.now ≡ true }
-        ensures { (w : World) → IsRun self.old w → IsSteady w
-            → ComesAfter (acts w act.now) self.new result }
-    {
-        match act {
             Act::At(shard, doing) => self.act_at(alloc, *shard, None, doing),
             Act::Look(shard, key, at) => {
                 self.shards
@@ -185,7 +162,6 @@ impl<'s> Run<'s> {
                     .crash(alloc, bag, *shard, Some((*call, *doing)), *fate)
             }
             Act::FailIn(shard, call, _, doing) => self.act_at(alloc, *shard, Some(*call), doing),
-            _ => unreachable!(),
         }
     }
 
@@ -231,9 +207,12 @@ impl<'s> Run<'s> {
         ensures { (w : World) → IsRun self.old w → IsSteady w
             → ComesAfter (act_at w shard call doing.now) self.new result }
     {
-        let done = self
-            .shards
-            .act(alloc, self.output.bag.as_slice(), shard, call, doing);
+        let at = shard.number() as usize;
+        if at >= self.shards.shards.len() {
+            return Ok(Reply::Refused(Fault::Stranger));
+        }
+        let bag = self.output.bag.as_slice();
+        let done = self.shards.shards[at].act(alloc, bag, call, doing);
         self.output.reply(done)
     }
 

@@ -185,12 +185,15 @@ impl RunShard {
         ensures { (setup : Setup) (s : ShardNow) → StandsFor setup self s → HoldsLog s result }
     {
         let RunShard {
-            setup: _,
+            setup,
             life,
-            installs: _,
+            installs,
             from: _,
-            views: _,
+            views,
         } = self;
+        drop(setup);
+        drop(installs);
+        drop(views);
         life.into_disk()
     }
 }
