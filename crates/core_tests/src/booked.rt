@@ -121,18 +121,13 @@ fn replay(
     row: &Row,
 ) {
     let book = core.book().expect(rt, row.name);
-    told(rt, book.found().len() == row.found, row.name, 0);
-    told(rt, book.pages().len() == row.pages.len(), row.name, 0);
+    let mut held = book.found().len() == row.found && book.pages().len() == row.pages.len();
     for (page, kept) in book.pages().iter().zip(row.pages) {
         let answer = again.on(alloc, &page.reading(), page.input());
-        told(
-            rt,
-            is_told(answer, Told::Says(kept.2)) && is_page(page, kept),
-            row.name,
-            kept.0,
-        );
+        let answered = is_told(answer, Told::Says(kept.2));
+        held = held && answered && is_page(page, kept);
     }
-    told(rt, again.book().is_none(), row.name, 0);
+    told(rt, held && again.book().is_none(), row.name, 0);
 }
 
 fn keep(rt: &impl Abort, alloc: Global, row: &Row) {

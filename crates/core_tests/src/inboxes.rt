@@ -204,9 +204,8 @@ fn meet<R: Threads + Wait + time::Clock + Sync + Abort>(rt: &R, alloc: Global, r
     let posted = gate.posted.load(Ordering::SeqCst);
     let right = gate.right.load(Ordering::SeqCst);
     drop(gate);
-    told(rt, missed == 0, row.name, missed);
-    told(rt, posted == row.answers, row.name, posted);
-    told(rt, right == row.answers, row.name, right);
+    let answered = posted == row.answers && right == row.answers;
+    told(rt, answered && missed == 0, row.name, right);
 }
 
 static LETTERS: Row = Row {

@@ -36,9 +36,10 @@ fn is_line(record: &Record, line: Line) -> bool {
 pub fn compare_log(rt: &impl Abort, alloc: Global, disk: SimDisk, name: &str, lines: &[Line]) {
     let (log, entries) = GateLog::open(alloc, disk).ok().expect(rt, name);
     drop(log.into_disk());
-    told(rt, entries.len() == lines.len(), name, entries.len() as u64);
+    let mut held = entries.len() == lines.len();
     for (entry, line) in entries.iter().zip(lines) {
-        told(rt, is_line(entry.item(), *line), name, entry.offset());
+        held = held && is_line(entry.item(), *line);
     }
     drop(entries);
+    told(rt, held, name, lines.len() as u64);
 }
