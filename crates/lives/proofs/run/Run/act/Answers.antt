@@ -1,4 +1,4 @@
-use Rattle.std.proofs.Common.{◌+◌, Some, None, refl, sym, ap, ◌∙◌, subst}
+use Rattle.std.proofs.Common.{Some, None, refl, sym, ap, ◌∙◌, subst}
 use Rattle.session.specs.Sessions.{reads, buffers, closes, gives_up}
 use Rattle.world.specs.World.{acts, client_of, if_open}
 use Rattle.disk.specs.declared.plan.Fate.{Fate}

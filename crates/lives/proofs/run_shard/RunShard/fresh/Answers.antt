@@ -6,7 +6,7 @@ use Rattle.gatelog.specs.Log.{log}
 use Rattle.simdisk.specs.State.{disk_file, disk_plan}
 use Rattle.world.specs.World.{setup_of}
 use Rattle.world.specs.declared.event.Doing.{Doing}
-use Rattle.lives.specs.Shows.{Acts, StandsFor}
+use Rattle.lives.specs.Shows.{Acts}
 use Rattle.lives.specs.Unopened.{unopened_shard}
 use Rattle.lives.proofs.Formatting.{formatted_stands, fresh_refused, fresh_stands}
 use Rattle.lives.proofs.run_shard.RunShard.fresh.Goals as goal
