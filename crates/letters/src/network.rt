@@ -1,9 +1,9 @@
 //! How letters get to nodes and to workers.
-ghost use Rattle.std.specs.Prelude.{◌≡◌, length, IfOk, IfErr};
+ghost use Rattle.std.specs.Prelude.{◌≡◌, [], length, IfOk, IfErr, OnOk};
 
 use crate::letter::{Letter, Post};
 use crate::sessions::Sessions;
-use crossbeam_channel::{Receiver, SendError, Sender, unbounded};
+use crossbeam_channel::{Receiver, Sender, unbounded};
 use message::{Address, Envelope, Message};
 use std::alloc::Global;
 use std::sync::{Mutex, Wait};
@@ -34,19 +34,27 @@ impl Network {
             (length made.1.nodes.items ≡ nodes) × (length made.1.workers.items ≡ workers)) }
         ensures memory { IfErr result (λ fault. fault ≡ Fault.Memory) }
     {
-        let (to_nodes, from_nodes) = channels(alloc, nodes)?;
-        let (to_workers, from_workers) = channels(alloc, workers)?;
-        let sessions = Mutex::new(Sessions::new(alloc, workers)?);
-        let network = Network {
-            nodes: to_nodes,
-            workers: to_workers,
+        let sessions = match Sessions::new(alloc, workers) {
+            Ok(sessions) => Mutex::new(sessions),
+            Err(fault) => return Err(fault),
+        };
+        let mut network = Network {
+            nodes: Vec::new(alloc),
+            workers: Vec::new(alloc),
             sessions,
         };
-        let inboxes = Inboxes {
-            nodes: from_nodes,
-            workers: from_workers,
+        let mut inboxes = Inboxes {
+            nodes: Vec::new(alloc),
+            workers: Vec::new(alloc),
         };
-        Ok((network, inboxes))
+        match connect(alloc, nodes, workers, &mut network, &mut inboxes) {
+            Ok(()) => Ok((network, inboxes)),
+            Err(fault) => {
+                drop(network);
+                drop(inboxes);
+                Err(fault)
+            }
+        }
     }
 
     /// From now on what goes to the session of a transaction goes to this worker.
@@ -58,21 +66,23 @@ impl Network {
     pub fn send<R: Wait>(&self, rt: &R, envelope: Envelope) {
         let Envelope { to, message } = envelope;
         match to {
-            Address::Shard(shard) => self.send_to_node(rt, shard, message),
-            Address::Session(txn) => self.send_to_worker(rt, txn, message),
+            Address::Shard(shard) => match self.nodes.get(usize::from(shard.number())) {
+                Some(inbox) => drop(inbox.send(rt, Letter::Carry(message))),
+                None => drop(message),
+            },
+            Address::Session(txn) => match self.inbox_of(rt, txn) {
+                Some(inbox) => drop(inbox.send(rt, message)),
+                None => drop(message),
+            },
         }
     }
 
-    fn send_to_node<R: Wait>(&self, rt: &R, shard: ShardNo, message: Message) {
-        if let Some(inbox) = self.nodes.get(usize::from(shard.number())) {
-            drop(inbox.send(rt, Letter::Carry(message)));
-        }
-    }
-
-    fn send_to_worker<R: Wait>(&self, rt: &R, txn: TxnId, message: Message) {
+    // The inbox of the worker that runs the transaction.
+    fn inbox_of<R: Wait>(&self, rt: &R, txn: TxnId) -> Option<&Sender<Message>> {
         let worker = self.sessions.lock(rt).worker_of(txn);
-        if let Some(inbox) = worker.and_then(|worker| self.workers.get(worker)) {
-            drop(inbox.send(rt, message));
+        match worker {
+            Some(worker) => self.workers.get(worker),
+            None => None,
         }
     }
 
@@ -84,10 +94,16 @@ impl Network {
     }
 }
 
-// Sends the end until it is taken.
+// Sends the end until it is taken, or nobody is there to take it.
 fn close_one<R: Wait + time::Clock>(rt: &R, inbox: &Sender<Letter>) {
     for _try in rt.forever() {
-        if is_over(inbox.send(rt, Letter::Close)) {
+        let sent = inbox.send(rt, Letter::Close);
+        let is_over = match &sent {
+            Ok(()) => true,
+            Err(refused) => refused.is_disconnected(),
+        };
+        drop(sent);
+        if is_over {
             return;
         }
         thread::sleep(rt, Duration::from_millis(1));
@@ -95,29 +111,42 @@ fn close_one<R: Wait + time::Clock>(rt: &R, inbox: &Sender<Letter>) {
     unreachable!()
 }
 
-// Whether a letter was taken, or nobody is there to take it.
-fn is_over(sent: Result<(), SendError<Letter>>) -> bool {
-    let is_over = match &sent {
-        Ok(()) => true,
-        Err(refused) => refused.is_disconnected(),
-    };
-    drop(sent);
-    is_over
+// So many channels of each kind.
+fn connect(
+    alloc: Global,
+    nodes: usize,
+    workers: usize,
+    network: &mut Network,
+    inboxes: &mut Inboxes,
+) -> Result<(), Fault>
+    requires { (inboxes.old.nodes.items ≡ []) × (inboxes.old.workers.items ≡ []) }
+    ensures inboxes { OnOk result ((length inboxes.new.nodes.items ≡ nodes)
+        × (length inboxes.new.workers.items ≡ workers)) }
+    ensures memory { IfErr result (λ fault. fault ≡ Fault.Memory) }
+{
+    match channels(alloc, nodes, &mut network.nodes, &mut inboxes.nodes) {
+        Ok(()) => channels(alloc, workers, &mut network.workers, &mut inboxes.workers),
+        Err(fault) => Err(fault),
+    }
 }
 
 // So many channels without a limit.
-fn channels<T: Drop>(alloc: Global, n: usize) -> Result<(Vec<Sender<T>>, Vec<Receiver<T>>), Fault>
-    ensures receivers { IfOk result (λ made. length made.1.items ≡ n) }
+fn channels<T: Drop>(
+    alloc: Global,
+    n: usize,
+    senders: &mut Vec<Sender<T>>,
+    receivers: &mut Vec<Receiver<T>>,
+) -> Result<(), Fault>
+    requires { receivers.old.items ≡ [] }
+    ensures receivers { OnOk result (length receivers.new.items ≡ n) }
     ensures memory { IfErr result (λ fault. fault ≡ Fault.Memory) }
 {
-    let mut senders = Vec::new(alloc);
-    let mut receivers = Vec::new(alloc);
     for _made in 0..n {
         let (sender, receiver) = unbounded(alloc)?;
         senders.push(sender)?;
         receivers.push(receiver)?;
     }
-    Ok((senders, receivers))
+    Ok(())
 }
 
 /// Posts what a node puts out.

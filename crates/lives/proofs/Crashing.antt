@@ -1,6 +1,6 @@
 -- A crash in a call is that call's failure, and then a crash.
-use Rattle.std.proofs.Common.{◌≡◌, ℕ, Bool, true, false, cond, nat_le, nat_lt, List, [], ◌∷◌, ◌++◌, get_or, Option, Some, None, Ok, refl, sym, ap}
-use Rattle.std.proofs.Common.{◌∙◌, subst, arith}
+use Rattle.std.proofs.Common.{◌≡◌, ℕ, Bool, true, false, cond, nat_le, nat_lt, [], ◌∷◌, ◌++◌, Some, None, Ok, refl, sym, ap}
+use Rattle.std.proofs.Common.{◌∙◌, arith}
 use Rattle.std.proofs.lemmas.Bool.Decides.{nat_tests}
 use Rattle.std.proofs.lemmas.List.{append-nil}
 use Rattle.disk.specs.File.{surface, crash_leaves}
@@ -9,7 +9,6 @@ use Rattle.disk.specs.declared.plan.Fate.{Fate}
 use Rattle.gatelog.specs.Gates.{is_left}
 use Rattle.protocol.specs.Rows.{Memory}
 use Rattle.protocol.specs.Step.{Stepped, Refuses, Does}
-use Rattle.record.specs.declared.record.Record.{Record}
 use Rattle.shard.specs.Logs.{records_in}
 use Rattle.simdisk.specs.Replay.{settled}
 use Rattle.simdisk.specs.State.{disk_file, disk_plan}

@@ -10,7 +10,6 @@ use Rattle.units.specs.declared.fault.Fault.TheVariants.{Memory, Stranger}
 use Rattle.units.specs.declared.setup.Setup.{Setup}
 use Rattle.record.specs.declared.record.Record.{Record}
 use Rattle.message.specs.declared.message.Envelope.{Envelope}
-use Rattle.shard.specs.Logs.{records_in}
 use Rattle.simdisk.specs.declared.simdisk.SimDisk.{SimDisk}
 use Rattle.world.specs.World.{ShardNow, effect, fresh_shard, read_log, setup_of}
 use Rattle.world.specs.Lawful.{is_down, is_up}

@@ -1,6 +1,6 @@
 -- A shard that was formatted, and the first opening of it.
 use Rattle.std.specs.List.{list_all}
-use Rattle.std.proofs.Common.{◌≡◌, ◌⊎◌, inl, inr, ℕ, true, IsTrue, List, [], ◌∷◌, ◌++◌, map, Option, Some, None, Result, Ok, Err, IfOk, refl, sym, ap}
+use Rattle.std.proofs.Common.{◌≡◌, inl, inr, ℕ, IsTrue, List, [], ◌∷◌, map, Some, None, Ok, Err, refl, sym, ap}
 use Rattle.std.proofs.Common.{◌∙◌, subst}
 use Rattle.units.specs.declared.fault.Fault.{Fault}
 use Rattle.units.specs.declared.fault.Fault.TheVariants.{Memory}
@@ -8,18 +8,17 @@ use Rattle.units.specs.declared.setup.Book.TheVariants.{Off}
 use Rattle.units.specs.declared.setup.Setup.{Setup}
 use Rattle.disk.specs.File.{surface, crash_leaves}
 use Rattle.disk.specs.declared.plan.FailurePlan.{FailurePlan}
-use Rattle.disk.specs.declared.plan.Fate.{Fate as Left}
 use Rattle.disk.proofs.Crashes.{crashed_may}
 use Rattle.gatelog.specs.Crash.{Stands}
 use Rattle.gatelog.specs.Log.{log}
 use Rattle.message.specs.declared.message.Envelope.{Envelope}
 use Rattle.protocol.specs.Rows.{Memory as Kept, rebuilt}
-use Rattle.protocol.specs.Step.{Stepped, Refuses, Does}
+use Rattle.protocol.specs.Step.{Does}
 use Rattle.record.specs.Accepted.{Accepted, followed, follows, taken}
 use Rattle.record.specs.Facts.{facts_of}
 use Rattle.record.specs.Installs.{installs_of}
 use Rattle.record.specs.declared.record.Record.{Record}
-use Rattle.shard.specs.Logs.{items_of, records_in}
+use Rattle.shard.specs.Logs.{items_of}
 use Rattle.simdisk.specs.State.{disk_file, disk_plan}
 use Rattle.simdisk.specs.declared.simdisk.SimDisk.{SimDisk}
 use Rattle.world.specs.World.{effect, finished, fresh_shard, step_of_opening, wanted}

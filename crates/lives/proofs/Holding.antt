@@ -1,8 +1,8 @@
 -- What a disk holds behind a call of a core.
-use Rattle.std.proofs.Common.{◌≡◌, ℕ, zero, suc, Bool, true, false, nat_lt, cond, List, [], ◌∷◌, ◌++◌, get_or, Result, Ok, refl, sym, ap, ◌∙◌, subst, arith}
+use Rattle.std.proofs.Common.{◌≡◌, ℕ, zero, suc, Bool, true, false, nat_lt, cond, List, [], ◌∷◌, ◌++◌, get_or, Ok, refl, sym, ap, ◌∙◌, arith}
 use Rattle.std.proofs.lemmas.Bool.Decides.{nat_tests}
 use Rattle.std.proofs.lemmas.List.{append-nil}
-use Rattle.disk.specs.File.{File, surface, crash_leaves}
+use Rattle.disk.specs.File.{surface, crash_leaves}
 use Rattle.disk.specs.declared.plan.FailurePlan.{FailurePlan}
 use Rattle.disk.specs.declared.plan.Fate.{Fate}
 use Rattle.disk.proofs.Crashes.{crashed_may}
@@ -12,7 +12,7 @@ use Rattle.shard.specs.Armed.{AreArmed, records_with_if}
 use Rattle.shard.specs.Logs.{KeepsRecords, records_in}
 use Rattle.simdisk.specs.State.{disk_file, disk_plan}
 use Rattle.simdisk.specs.declared.simdisk.SimDisk.{SimDisk}
-use Rattle.world.specs.World.{ShardNow, Unsure, Nothing, Shown, Hidden, failed_in, left_of, left_unsure, read_log, shown_records}
+use Rattle.world.specs.World.{ShardNow, Nothing, failed_in, left_of, left_unsure, read_log, shown_records}
 use Rattle.lives.specs.Lives.{HoldsLog, disk_log, left_log}
 
 -- with a record where a test holds

@@ -1,17 +1,15 @@
 -- What lives of a shard does what its doing comes to.
-use Rattle.std.proofs.Common.{◌≡◌, ◌⊎◌, inl, inr, ℕ, Bool, true, false, not, List, Option, Some, None, Result, Ok, Err, refl, sym, ap, ◌∙◌, subst}
+use Rattle.std.proofs.Common.{◌≡◌, inl, inr, ℕ, Bool, true, false, not, List, Option, Some, None, Result, Err, refl, sym, ap, ◌∙◌, subst}
 use Rattle.std.proofs.lemmas.Bool.{false≢true}
 use Rattle.units.specs.declared.fault.Fault.{Fault}
-use Rattle.units.specs.declared.fault.Fault.TheVariants.{Memory as WantsMemory, Stopped}
+use Rattle.units.specs.declared.fault.Fault.TheVariants.{Stopped}
 use Rattle.units.specs.declared.setup.Setup.{Setup}
 use Rattle.truetime.specs.Interval.{Interval}
 use Rattle.gatelog.specs.Frames.{end_of}
 use Rattle.record.specs.Facts.{facts_of}
 use Rattle.message.specs.declared.message.Envelope.{Envelope}
 use Rattle.message.specs.declared.message.Input.{Input}
-use Rattle.protocol.specs.Rows.{Memory}
-use Rattle.protocol.specs.Step.{Stepped, Refuses, Does}
-use Rattle.shard.specs.Core.{seen}
+use Rattle.protocol.specs.Step.{Stepped, Refuses}
 use Rattle.shard.specs.On.{CoreView}
 use Rattle.simdisk.specs.declared.simdisk.SimDisk.{SimDisk}
 use Rattle.world.specs.World.{ShardNow, State, Runs, IsStopped, IsDown, crashed, effect, input_of, step_of_opening, step_with, wanted, where_room}
@@ -20,10 +18,10 @@ use Rattle.lives.specs.Inputs.{IsNoInput}
 use Rattle.world.specs.Lawful.{is_up}
 use Rattle.world.specs.declared.event.Doing.{Doing}
 use Rattle.lives.specs.Lives.{HoldsLog, IsCoreIn, IsDiskIn, LivesAs, LivesIn, disk_log}
-use Rattle.lives.specs.Carries.{Carries, Comes, DoesInput, IsOrderly, OpensDisk, TakesInput, answer_of, asked_if_room, asked_in, comes_to, left_by, opened_by}
+use Rattle.lives.specs.Carries.{Carries, Comes, DoesInput, IsOrderly, OpensDisk, TakesInput, asked_if_room, asked_in, comes_to, left_by}
 use Rattle.lives.specs.Carries.{opens_as, left_by_refusal, unopened}
 use Rattle.lives.specs.declared.life.Life.{Life}
-use Rattle.lives.specs.declared.life.Life.TheVariants.{Up, Down}
+use Rattle.lives.specs.declared.life.Life.TheVariants.{Down}
 
 -- ---- the disk of what lives
 

@@ -1,6 +1,6 @@
 -- A disk that is opened with a call armed, or with none, comes to what the definitions say.
-use Rattle.std.proofs.Common.{◌≡◌, ◌≢◌, ◌⊎◌, ⊎_elim, inl, inr, ℕ, ◌+◌, ◌-◌, ◌^◌, ◌<◌, ◌≤◌, Bool, true, false, cond, nat_lt, IsTrue, List, [], ◌∷◌}
-use Rattle.std.proofs.Common.{◌++◌, map, Option, Some, None, Result, Ok, Err}
+use Rattle.std.proofs.Common.{◌≡◌, ◌⊎◌, ⊎_elim, inl, inr, ℕ, ◌+◌, ◌-◌, ◌^◌, ◌<◌, ◌≤◌, Bool, true, false, cond, nat_lt, IsTrue, List, [], ◌∷◌}
+use Rattle.std.proofs.Common.{◌++◌, Option, Some, None, Result, Ok, Err}
 use Rattle.std.proofs.Common.{refl, sym, ap, ◌∙◌, subst, arith}
 use Rattle.std.proofs.lemmas.Bool.{false≢true}
 use Rattle.std.proofs.lemmas.Bool.Decides.{nat_tests}
@@ -10,30 +10,29 @@ use Rattle.units.specs.declared.fault.Fault.{Fault}
 use Rattle.units.specs.declared.fault.Fault.TheVariants.{Device, Memory as WantsMemory, TimeSpent}
 use Rattle.units.specs.declared.setup.Setup.{Setup}
 use Rattle.disk.specs.File.{surface}
-use Rattle.disk.specs.Image.{Surface, MayLeave, after_sync}
+use Rattle.disk.specs.Image.{after_sync}
 use Rattle.disk.specs.Planned.{armed}
 use Rattle.disk.specs.declared.plan.FailurePlan.{FailurePlan}
 use Rattle.gatelog.specs.Frames.{IsFull, end_of, next_gate}
 use Rattle.gatelog.specs.Gates.{first_gate}
 use Rattle.gatelog.specs.Log.{log as scanned_log}
 use Rattle.gatelog.specs.Placed.{Placed}
-use Rattle.record.specs.Accepted.{Accepted, Taken, followed, taken}
+use Rattle.record.specs.Accepted.{Accepted, followed, taken}
 use Rattle.record.specs.Facts.{Facts, facts_of, learn}
 use Rattle.record.specs.Records.{epoch_of}
 use Rattle.record.specs.declared.record.Record.{Record}
 use Rattle.record.proofs.LearnAgrees.{accepted_follows, learn_agrees}
 use Rattle.recovery.specs.Recovered.{fault_in, items}
-use Rattle.message.specs.declared.message.Envelope.{Envelope}
 use Rattle.protocol.specs.Plan.{time_limit}
-use Rattle.protocol.specs.Rows.{Memory, rebuilt}
+use Rattle.protocol.specs.Rows.{rebuilt}
 use Rattle.protocol.specs.Step.{Stepped, Refuses, Does}
-use Rattle.shard.specs.Armed.{AreArmed, FailsIn, HasPlace}
+use Rattle.shard.specs.Armed.{AreArmed, HasPlace}
 use Rattle.shard.specs.Logs.{KeepsRecords, records_in, and_logged, items_of}
 use Rattle.shard.specs.On.{CoreView}
-use Rattle.shard.specs.Opened.{HasOpened, HasNotOpened, IsReason, IsSpent, IsTaken, fault_of, is_reason, next_opening, opening_of}
+use Rattle.shard.specs.Opened.{HasOpened, HasNotOpened, IsReason, IsTaken, fault_of, is_reason, next_opening, opening_of}
 use Rattle.simdisk.specs.State.{disk_clock, disk_failures, disk_file, disk_plan, LeftSince}
 use Rattle.simdisk.specs.declared.simdisk.SimDisk.{SimDisk}
-use Rattle.world.specs.World.{ShardNow, State, Runs, IsStopped, IsDown, Nothing, crashed, failed_in, read_log, step_of_opening}
+use Rattle.world.specs.World.{ShardNow, State, Runs, IsStopped, IsDown, crashed, failed_in, step_of_opening}
 use Rattle.world.specs.World.{stopped as stopped_state, where_room}
 use Rattle.world.specs.Lawful.{is_up}
 use Rattle.world.proofs.Openings.{opening_follows}

@@ -1,16 +1,13 @@
 -- What the parts of a run answer is what the event comes to.
-use Rattle.std.proofs.Common.{◌≡◌, ◌⊎◌, inl, inr, ℕ, zero, suc, ◌≤◌, Bool, true, false, cond, nat_lt, List, [], ◌∷◌, ◌++◌, length, slice_get, Option}
-use Rattle.std.proofs.Common.{Some, None, Result, Ok, Err, OnOk, IfErr}
-use Rattle.std.proofs.Common.{refl, sym, ap, ◌∙◌, subst, arith}
-use Rattle.std.proofs.lemmas.Bool.Decides.{nat_tests}
-use Rattle.std.proofs.lemmas.Option.{slice_get_past}
+use Rattle.std.proofs.Common.{◌≡◌, ◌⊎◌, inl, inr, ℕ, zero, suc, Bool, true, false, cond, nat_lt, List, [], ◌∷◌, ◌++◌, slice_get, Option}
+use Rattle.std.proofs.Common.{Some, None, Result, Ok, Err}
+use Rattle.std.proofs.Common.{refl, sym, ap, ◌∙◌, subst}
 use Rattle.units.specs.Ids.{Id}
 use Rattle.units.specs.Keys.{Bytes}
 use Rattle.units.specs.Lists.{replaced}
 use Rattle.units.specs.declared.fault.Fault.{Fault}
 use Rattle.units.specs.declared.fault.Fault.TheVariants.{Device, Memory, Stranger}
 use Rattle.units.specs.declared.line.Line.{Line}
-use Rattle.units.specs.declared.setup.Setup.{Setup}
 use Rattle.disk.specs.declared.plan.Fate.{Fate as Left}
 use Rattle.truetime.specs.Interval.{Interval}
 use Rattle.message.specs.declared.message.Address.TheVariants.{Shard, Session}
@@ -20,7 +17,7 @@ use Rattle.protocol.specs.Step.{Stepped, Refuses, Does}
 use Rattle.session.specs.Sessions.{Moved, begun}
 use Rattle.world.specs.World.{World, After, ShardNow, State, Runs, IsStopped, IsDown, at_shard, begin, crashed, crashed_in, deliver_to, did}
 use Rattle.world.specs.World.{did_with_failure, do_at}
-use Rattle.world.specs.World.{effect, failed_in, finished, look_at_view, look_noted, look_shard, moved, note, put_out, read_log, refused, refused_doing}
+use Rattle.world.specs.World.{effect, failed_in, finished, look_noted, moved, note, put_out, read_log, refused, refused_doing}
 use Rattle.world.specs.World.{set_client, set_shard, setup_of, to_session}
 use Rattle.world.specs.Steady.{IsSteady}
 use Rattle.world.specs.Hosts.{Hosts, MovesIn}

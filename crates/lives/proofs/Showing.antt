@@ -1,9 +1,9 @@
 -- The views of a shard stay what they are, and what a doing shows more is kept.
 use Rattle.std.specs.List.{list_all}
-use Rattle.std.proofs.Common.{◌≡◌, ◌≢◌, ◌⊎◌, inl, inr, ◌≤◌, ◌+◌, ◌-◌, ℕ, Bool, true, false, not, cond, ◌&&◌, nat_lt, nat_eq, nat_le, IsTrue, List, []}
+use Rattle.std.proofs.Common.{◌≡◌, ◌≢◌, inl, inr, ◌≤◌, ◌+◌, ◌-◌, ℕ, Bool, true, false, cond, ◌&&◌, nat_lt, nat_eq, IsTrue, List, []}
 use Rattle.std.proofs.Common.{◌∷◌, ◌++◌, length, map, take, drop, slice_get, option_map}
 use Rattle.std.proofs.Common.{Option, Some, None, Result, Ok, Err, OnOk, refl, sym, ap, ◌∙◌, subst, arith, option_to_list}
-use Rattle.std.proofs.lemmas.Bool.{and_parts, false≢true}
+use Rattle.std.proofs.lemmas.Bool.{and_parts}
 use Rattle.std.proofs.lemmas.Bool.Decides.{nat_tests}
 use Rattle.std.proofs.lemmas.List.{length-append, length-drop, take-append-le, drop-append-le, take_all, map-append, append-nil}
 use Rattle.std.proofs.Math.Seq.{drop-append_seam}
@@ -29,10 +29,10 @@ use Rattle.world.specs.World.{look_at_view, look_shard, look_view, makes_view, r
 use Rattle.lives.specs.Inputs.{goes_on}
 use Rattle.world.specs.declared.event.Doing.{Doing}
 use Rattle.world.specs.declared.event.Reply.{Reply}
-use Rattle.lives.specs.Lives.{HoldsLog, IsCoreIn, IsCoreOf, IsDiskIn, IsRunningAs, IsStoppedAs, LivesAs, LivesIn, crash_by, disk_log}
-use Rattle.lives.specs.Carries.{Carries, Comes, IsOrderly, answer_of, by_call, left_by, left_by_refusal, stepped_shard, unopened}
+use Rattle.lives.specs.Lives.{IsCoreIn, IsCoreOf, IsDiskIn, IsRunningAs, LivesAs, LivesIn, crash_by, disk_log}
+use Rattle.lives.specs.Carries.{Carries, Comes, IsOrderly, by_call, left_by, left_by_refusal, stepped_shard, unopened}
 use Rattle.lives.specs.Looks.{look_at}
-use Rattle.lives.specs.Shows.{Acts, HasNoted, IsKept, NotesOfLife, ShowsLog, StandsFor, begins_at, done_by, is_within, leads_to, shown_view, view_now}
+use Rattle.lives.specs.Shows.{Acts, HasNoted, IsKept, NotesOfLife, ShowsLog, StandsFor, done_by, is_within, shown_view, view_now}
 use Rattle.lives.specs.declared.life.Life.{Life}
 use Rattle.lives.specs.declared.life.Life.TheVariants.{Up, Down}
 use Rattle.lives.specs.declared.run_shard.RunShard.{RunShard}

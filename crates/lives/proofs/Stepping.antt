@@ -1,5 +1,5 @@
 -- A core that takes an input with a call armed, or with none, does what the definitions say.
-use Rattle.std.proofs.Common.{◌≡◌, ◌≢◌, ◌⊎◌, inl, inr, ℕ, ◌<◌, Bool, true, false, cond, nat_lt, IsTrue, IsFalse, List, [], ◌∷◌, ◌++◌, Option, Some}
+use Rattle.std.proofs.Common.{◌≡◌, ◌≢◌, ◌⊎◌, inl, inr, ℕ, ◌<◌, false, cond, IsTrue, List, [], ◌∷◌, ◌++◌, Option, Some}
 use Rattle.std.proofs.Common.{None, Result, Ok, Err}
 use Rattle.std.proofs.Common.{refl, sym, ap, ◌∙◌, subst, option_to_list}
 use Rattle.std.proofs.lemmas.Bool.{false≢true}
@@ -29,10 +29,10 @@ use Rattle.shard.specs.Logs.{KeepsRecords, records_in, and_logged}
 use Rattle.shard.specs.On.{CoreView, HasStepped, IsCause, StandsAsBefore, IsLogFull, gate_behind, record_of, step_of}
 use Rattle.simdisk.specs.State.{disk_clock, disk_failures, disk_file, disk_plan, LeftSince}
 use Rattle.simdisk.specs.declared.simdisk.SimDisk.{SimDisk}
-use Rattle.world.specs.World.{ShardNow, State, Runs, IsStopped, IsDown, Nothing, failed_in, read_log, shown_records, stopped as stopped_state, where_room}
+use Rattle.world.specs.World.{ShardNow, State, Runs, IsStopped, IsDown, failed_in, read_log, shown_records, stopped as stopped_state, where_room}
 use Rattle.world.proofs.Rooms.{full_is, room_is}
-use Rattle.lives.specs.Lives.{HoldsLog, IsCoreIn, IsCoreOf, IsRunningAs, IsStoppedAs, disk_log}
-use Rattle.lives.specs.Carries.{Comes, IsOrderly, TakesInput, answer_of, asked_if_room, asked_in, by_call, comes_to, stepped_shard}
+use Rattle.lives.specs.Lives.{IsCoreIn, IsCoreOf, IsRunningAs, IsStoppedAs, disk_log}
+use Rattle.lives.specs.Carries.{Comes, IsOrderly, TakesInput, answer_of, asked_if_room, asked_in, comes_to, stepped_shard}
 use Rattle.lives.proofs.Holding.{holds_failed, holds_kept, holds_same}
 
 -- a step for whose record, where it has one, there is room

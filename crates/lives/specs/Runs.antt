@@ -1,5 +1,5 @@
 -- How a run in the code stands for a world of the definitions, and what its events come to.
-use Rattle.std.specs.Prelude.{ℕ, ◌≡◌, ◌⊎◌, true, false, List, Option, None, Some, Result, Ok, Err}
+use Rattle.std.specs.Prelude.{ℕ, ◌≡◌, ◌⊎◌, true, false, Option, None, Some, Result, Ok, Err}
 use Rattle.units.specs.declared.fault.Fault.{Fault}
 use Rattle.units.specs.declared.fault.Fault.TheVariants.{Memory, BadRequest}
 use Rattle.units.specs.declared.fault.Reason.TheVariants.{Unlawful}

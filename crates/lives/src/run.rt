@@ -1,6 +1,6 @@
 //! A run of events.
-ghost use Rattle.std.specs.Prelude.{◌≡◌, ◌<◌, ◌-◌, ◌^◌, ℕ, None, true, map, slice_get, IfOk, IfErr};
-ghost use Rattle.world.specs.World.{World, acts, begin, client_of, deliver_to, logs_of, start};
+ghost use Rattle.std.specs.Prelude.{◌≡◌, ◌<◌, ◌-◌, ◌^◌, ℕ, true, map, slice_get, IfOk, IfErr};
+ghost use Rattle.world.specs.World.{World, acts, deliver_to, logs_of, start};
 ghost use Rattle.world.specs.Lawful.{may_act};
 ghost use Rattle.world.specs.Steady.{IsSteady};
 ghost use Rattle.lives.specs.Fleet.{AreOn};
@@ -16,7 +16,7 @@ use record::Record;
 use simdisk::SimDisk;
 use std::alloc::Global;
 use truetime::Reading;
-use units::{Fault, Line, Reason, ShardNo, TxnId, copy_value};
+use units::{Fault, Line, Reason, ShardNo, copy_value};
 use world::{Act, Config, Doing, Event, Reply, RunOutput, Sessions};
 
 /// What a run ends with: its messages, the disk of each shard, the log that a read of each gives, and its lines.
@@ -122,7 +122,13 @@ impl<'s> Run<'s> {
             → may_act w time act.now ≡ true → ComesAfter (acts w act.now) self.new result }
     {
         match act {
-            Act::Begin(txn) => self.begin(alloc, *txn),
+            Act::Begin(txn) => match self.sessions.begin(alloc, *txn) {
+                Ok(()) => {
+                    let line = Line::Begin(*txn, self.output.event);
+                    self.output.reply_line(Ok(Some(line)))
+                }
+                Err(fault) => Err(fault),
+            },
             Act::Read(txn, key) => {
                 let moved = self.sessions.read(alloc, *txn, *key);
                 self.output.reply(moved)
@@ -162,20 +168,6 @@ impl<'s> Run<'s> {
                     .crash(alloc, bag, *shard, Some((*call, *doing)), *fate)
             }
             Act::FailIn(shard, call, _, doing) => self.act_at(alloc, *shard, Some(*call), doing),
-        }
-    }
-
-    // A session begins.
-    fn begin(&mut self, alloc: Global, txn: TxnId) -> Result<Reply, Fault>
-        ensures { (w : World) → IsRun self.old w → client_of w txn ≡ None
-            → ComesAfter (begin txn w, Reply.Done) self.new result }
-    {
-        match self.sessions.begin(alloc, txn) {
-            Ok(()) => {
-                let line = Line::Begin(txn, self.output.event);
-                self.output.reply_line(Ok(Some(line)))
-            }
-            Err(fault) => Err(fault),
         }
     }
 

@@ -3,7 +3,6 @@ ghost use Rattle.std.specs.Prelude.{◌≡◌, ◌≢◌, ◌++◌, ◌≤◌, E
 ghost use Rattle.units.specs.declared.setup.Setup.{Setup};
 ghost use Rattle.world.specs.World.{ShardNow, effect, fresh_shard, makes_view, read_log, setup_of};
 ghost use Rattle.world.specs.declared.event.Config.{Config};
-ghost use Rattle.lives.specs.Unopened.{unopened_shard};
 ghost use Rattle.lives.specs.Lives.{HoldsLog};
 ghost use Rattle.lives.specs.Carries.{IsOrderly};
 ghost use Rattle.lives.specs.Fleet.{IsOn};
@@ -44,9 +43,27 @@ impl RunShard {
             (λ shard. StandsFor (setup_of config.now number) shard fresh_shard) }
         ensures memory { IfErr result (λ fault. fault ≡ Fault.Memory) }
     {
-        let mut shard = match formatted(alloc, config, number) {
-            Ok(shard) => shard,
+        let Some(shard) = ShardNo::new(number as u8) else {
+            unreachable!()
+        };
+        let setup = match setup_with(alloc, shard, &config.splits, config.stride, Book::Off) {
+            Ok(setup) => setup,
             Err(fault) => return Err(fault),
+        };
+        let log = match GateLog::format(SimDisk::new(alloc)) {
+            Ok(log) => log,
+            Err((fault, disk)) => {
+                drop(setup);
+                drop(disk);
+                return Err(fault);
+            }
+        };
+        let mut shard = RunShard {
+            setup,
+            life: Life::Down(log.into_disk()),
+            installs: Vec::new(alloc),
+            from: 0,
+            views: Vec::new(alloc),
         };
         match shard.act(alloc, &[], None, &Doing::Open) {
             Ok(out) => {
@@ -195,36 +212,6 @@ impl RunShard {
         drop(installs);
         drop(views);
         life.into_disk()
-    }
-}
-
-// The shard of a number, formatted and not yet opened.
-fn formatted(alloc: Global, config: &Config, number: usize) -> Result<RunShard, Fault>
-    requires { number ≤ 15 }
-    ensures formatted { IfOk result
-        (λ shard. StandsFor (setup_of config.now number) shard unopened_shard) }
-    ensures memory { IfErr result (λ fault. fault ≡ Fault.Memory) }
-{
-    let Some(shard) = ShardNo::new(number as u8) else {
-        unreachable!()
-    };
-    let setup = match setup_with(alloc, shard, &config.splits, config.stride, Book::Off) {
-        Ok(setup) => setup,
-        Err(fault) => return Err(fault),
-    };
-    match GateLog::format(SimDisk::new(alloc)) {
-        Ok(log) => Ok(RunShard {
-            setup,
-            life: Life::Down(log.into_disk()),
-            installs: Vec::new(alloc),
-            from: 0,
-            views: Vec::new(alloc),
-        }),
-        Err((fault, disk)) => {
-            drop(setup);
-            drop(disk);
-            Err(fault)
-        }
     }
 }
 

@@ -3,7 +3,7 @@ ghost use Rattle.std.specs.Prelude.{◌≡◌, [], ◌++◌, map, true, false, n
 ghost use Rattle.units.specs.Ids.{same_id};
 ghost use Rattle.units.specs.Keys.{shard_of};
 ghost use Rattle.units.specs.Lists.{once, sorted};
-ghost use Rattle.session.specs.Sessions.{asked_keys, is_none, IsClosing, IsOver, Goes, Denies, closes, closing_messages, gives_up, shards_told, asked_shards};
+ghost use Rattle.session.specs.Sessions.{asked_keys, is_none, IsClosing, IsOver, Goes, closes, closing_messages, gives_up, shards_told, asked_shards};
 ghost use Rattle.session.specs.Shown.{IsDenied, finished_as, give_up_to, is_closing};
 
 use crate::request::{Request, push_asked, push_taken};
@@ -36,18 +36,6 @@ impl<'s> Tx<'s, Open> {
             Goes (record self.now.client { stage = IsClosing }) out)
             (λ fault. IsDenied (closes self.now.splits self.now.client) fault) }
     {
-        self.may_close()?;
-        self.request().messages(alloc)
-    }
-
-    // It may close.
-    fn may_close(&self) -> Result<(), Fault>
-        ensures { MatchResult result
-            (λ _. closes self.now.splits self.now.client ≡
-            Goes (record self.now.client { stage = IsClosing })
-            (closing_messages self.now.splits self.now.client))
-            (λ fault. closes self.now.splits self.now.client ≡ Denies fault) }
-    {
         if self.is_blank() {
             return Err(Fault::BadRequest(Reason::Nothing));
         }
@@ -57,7 +45,7 @@ impl<'s> Tx<'s, Open> {
         if self.is_doomed() {
             return Err(Fault::BadRequest(Reason::Doomed));
         }
-        Ok(())
+        self.request().messages(alloc)
     }
 
     // It has no read and no write.

@@ -1,9 +1,9 @@
 //! The messages that close a transaction.
-ghost use Rattle.std.specs.Prelude.{◌≡◌, ◌≤◌, [], ◌∷◌, ◌++◌, length, map, IfOk, IfErr, IfNone, IfSome, nat_eq, nat_lt, filter};
+ghost use Rattle.std.specs.Prelude.{◌≡◌, ◌≤◌, [], ◌∷◌, ◌++◌, length, map, IfOk, IfErr, OnOk, IfNone, IfSome, nat_eq, nat_lt, filter};
 ghost use Rattle.units.specs.Keys.{key_before, shard_of};
 ghost use Rattle.units.specs.Lists.{first, once, sorted};
-ghost use Rattle.session.specs.Sessions.{closing_messages, epoch_or_none, messages_for, parts_of, prepare_for, reads_at, read_set, writes_at_shard};
-ghost use Rattle.session.specs.Shown.{IsWithinLimits, closing_client};
+ghost use Rattle.session.specs.Sessions.{closing_messages, epoch_or_none, messages_for, parts_of, reads_at, read_set, writes_at_shard};
+ghost use Rattle.session.specs.Shown.{IsWithinLimits, closing_client, message_for};
 
 use crate::Answered;
 use crate::lists::insert_key;
@@ -30,9 +30,22 @@ impl Request<'_> {
             (closing_client self.now.txn self.now.taken.now self.now.writes.now)) }
         ensures memory { IfErr result (λ fault. fault ≡ Fault.Memory) }
     {
-        match self.parts(alloc)? {
-            None => Ok(Outbox::none(alloc)),
-            Some(parts) => self.messages_to(alloc, parts),
+        let parts = match self.parts(alloc) {
+            Ok(Some(parts)) => parts,
+            Ok(None) => return Ok(Outbox::none(alloc)),
+            Err(fault) => return Err(fault),
+        };
+        let shards = match parts.shards(alloc) {
+            Ok(shards) => shards,
+            Err(fault) => return Err(fault),
+        };
+        let mut envelopes = Vec::new(alloc);
+        match self.push_messages(alloc, parts, shards.as_slice(), &mut envelopes) {
+            Ok(()) => Ok(Outbox::from_vec(envelopes)),
+            Err(fault) => {
+                drop(envelopes);
+                Err(fault)
+            }
         }
     }
 
@@ -54,71 +67,75 @@ impl Request<'_> {
         Ok(Parts::of(shards.as_slice()))
     }
 
-    fn messages_to(&self, alloc: Global, parts: Parts) -> Result<Outbox, Fault>
-        ensures same { IfOk result
-            (λ out. out ≡ messages_for self.now.splits.now
+    // Adds the messages to these parts, whose shards are given, to none.
+    fn push_messages(
+        &self,
+        alloc: Global,
+        parts: Parts,
+        shards: &[ShardNo],
+        envelopes: &mut Vec<Envelope>,
+    ) -> Result<(), Fault>
+        requires { (envelopes.old.items ≡ []) × (shards.now ≡ parts) }
+        ensures same { OnOk result
+            (envelopes.new.items ≡ messages_for self.now.splits.now
             (closing_client self.now.txn self.now.taken.now self.now.writes.now) parts) }
         ensures memory { IfErr result (λ fault. fault ≡ Fault.Memory) }
     {
-        let shards = parts.shards(alloc)?;
-        let mut envelopes = Vec::new(alloc);
-        if let Some((coordinator, others)) = shards.as_slice().split_first() {
-            envelopes.push(self.commit(alloc, parts, *coordinator)?)?;
+        if let Some((coordinator, others)) = shards.split_first() {
+            self.push_message(alloc, Some(parts), *coordinator, *coordinator, envelopes)?;
             for shard in others {
-                envelopes.push(self.prepare(alloc, *coordinator, *shard)?)?;
+                self.push_message(alloc, None, *coordinator, *shard, envelopes)?;
             }
         }
-        Ok(Outbox::from_vec(envelopes))
+        Ok(())
     }
 
-    // The message to the part that decides.
-    fn commit(&self, alloc: Global, parts: Parts, shard: ShardNo) -> Result<Envelope, Fault>
-        ensures same { IfOk result (λ e. e ≡ record {
-          to = Address.Shard shard;
-          message = Message.Commit (record {
-            txn = self.now.txn;
-            parts = parts;
-            reads = read_set
-                (closing_client self.now.txn self.now.taken.now self.now.writes.now) shard;
-            writes = writes_at_shard self.now.splits.now
-                (closing_client self.now.txn self.now.taken.now self.now.writes.now) shard;
-          });
-        }) }
-        ensures memory { IfErr result (λ fault. fault ≡ Fault.Memory) }
-    {
-        Ok(Envelope {
-            to: Address::Shard(shard),
-            message: Message::Commit(Commit {
-                txn: self.txn,
-                parts,
-                reads: self.reads_at(alloc, shard)?,
-                writes: self.writes_at(alloc, shard)?,
-            }),
-        })
-    }
-
-    // The message to a part that does not decide.
-    fn prepare(
+    // Adds the message to a part: Commit with all parts to the one that decides, Prepare to any other.
+    fn push_message(
         &self,
         alloc: Global,
+        parts: Option<Parts>,
         coordinator: ShardNo,
         shard: ShardNo,
-    ) -> Result<Envelope, Fault>
-        ensures same { IfOk result
-            (λ e. e ≡ prepare_for self.now.splits.now
-            (closing_client self.now.txn self.now.taken.now self.now.writes.now) coordinator
-            shard) }
+        envelopes: &mut Vec<Envelope>,
+    ) -> Result<(), Fault>
+        ensures same { OnOk result
+            (envelopes.new.items ≡ envelopes.old.items ++ message_for self.now.splits.now
+            (closing_client self.now.txn self.now.taken.now self.now.writes.now) parts coordinator
+            shard ∷ []) }
         ensures memory { IfErr result (λ fault. fault ≡ Fault.Memory) }
     {
-        Ok(Envelope {
-            to: Address::Shard(shard),
-            message: Message::Prepare(Prepare {
-                txn: self.txn,
-                coordinator,
-                reads: self.reads_at(alloc, shard)?,
-                writes: self.writes_at(alloc, shard)?,
-            }),
-        })
+        let txn = self.txn;
+        let to = Address::Shard(shard);
+        let reads = self.reads_at(alloc, shard)?;
+        let writes = match self.writes_at(alloc, shard) {
+            Ok(writes) => writes,
+            Err(fault) => {
+                drop(reads);
+                return Err(fault);
+            }
+        };
+        match parts {
+            Some(parts) => envelopes.push(Envelope {
+                to,
+                message: Message::Commit(Commit {
+                    txn,
+                    parts,
+                    reads,
+                    writes,
+                }),
+            })?,
+            None => envelopes.push(Envelope {
+                to,
+                message: Message::Prepare(Prepare {
+                    txn,
+                    coordinator,
+                    reads,
+                    writes,
+                }),
+            })?,
+        }
+        Ok(())
     }
 
     // What was read at a shard.
@@ -128,16 +145,17 @@ impl Request<'_> {
             (closing_client self.now.txn self.now.taken.now self.now.writes.now) shard) }
         ensures memory { IfErr result (λ fault. fault ≡ Fault.Memory) }
     {
-        let keys = match Keys::from_vec(keys_read_at(alloc, self.taken, shard)?) {
-            Ok(keys) => keys,
-            Err(_) => unreachable!(),
+        let Some(answered) = first_read_at(self.taken, shard) else {
+            return Ok(Reads::none(alloc));
         };
-        match first_read_at(self.taken, shard) {
-            None => Ok(Reads::none(alloc)),
-            Some(answered) => match Reads::new(answered.epoch, keys) {
+        let mut keys = Vec::new(alloc);
+        push_keys_read_at(&mut keys, self.taken, shard)?;
+        match Keys::from_vec(keys) {
+            Ok(keys) => match Reads::new(answered.epoch, keys) {
                 Ok(reads) => Ok(reads),
                 Err(_) => unreachable!(),
             },
+            Err(_) => unreachable!(),
         }
     }
 
@@ -148,9 +166,16 @@ impl Request<'_> {
             (closing_client self.now.txn self.now.taken.now self.now.writes.now) shard) }
         ensures memory { IfErr result (λ fault. fault ≡ Fault.Memory) }
     {
-        match Writes::from_vec(writes_of(alloc, self.splits, self.writes, shard)?) {
-            Ok(writes) => Ok(writes),
-            Err(_) => unreachable!(),
+        let mut part = Vec::new(alloc);
+        match push_writes_of(&mut part, alloc, self.splits, self.writes, shard) {
+            Ok(()) => match Writes::from_vec(part) {
+                Ok(writes) => Ok(writes),
+                Err(_) => unreachable!(),
+            },
+            Err(fault) => {
+                drop(part);
+                Err(fault)
+            }
         }
     }
 }
@@ -209,41 +234,43 @@ fn first_read_at(taken: &[Answered], shard: ShardNo) -> Option<&Answered>
     }
 }
 
-// The keys that were read at a shard, ascending.
-fn keys_read_at(alloc: Global, taken: &[Answered], shard: ShardNo) -> Result<Vec<Key>, Fault>
-    ensures same { IfOk result
-        (λ keys. keys.items ≡
+// Adds the keys that were read at a shard, ascending, to none.
+fn push_keys_read_at(keys: &mut Vec<Key>, taken: &[Answered], shard: ShardNo) -> Result<(), Fault>
+    requires { keys.old.items ≡ [] }
+    ensures same { OnOk result
+        (keys.new.items ≡
         sorted key_before (map (λ a. a.key) (filter (λ a. nat_eq a.shard shard) taken.now))) }
     ensures memory { IfErr result (λ fault. fault ≡ Fault.Memory) }
 {
     match taken.split_first() {
-        None => Ok(Vec::new(alloc)),
+        None => Ok(()),
         Some((answered, rest)) => {
-            let mut keys = keys_read_at(alloc, rest, shard)?;
+            push_keys_read_at(keys, rest, shard)?;
             if answered.shard == shard {
-                insert_key(&mut keys, answered.key)?;
+                insert_key(keys, answered.key)?;
             }
-            Ok(keys)
+            Ok(())
         }
     }
 }
 
-// Copies of the writes of a shard.
-fn writes_of(
+// Adds copies of the writes of a shard to none.
+fn push_writes_of(
+    part: &mut Vec<Write>,
     alloc: Global,
     splits: &Splits,
     writes: &[Write],
     shard: ShardNo,
-) -> Result<Vec<Write>, Fault>
-    ensures same { IfOk result
-        (λ part. part.items ≡ filter (λ w. nat_eq (shard_of splits.now w.key) shard) writes.now) }
+) -> Result<(), Fault>
+    requires { part.old.items ≡ [] }
+    ensures same { OnOk result
+        (part.new.items ≡ filter (λ w. nat_eq (shard_of splits.now w.key) shard) writes.now) }
     ensures memory { IfErr result (λ fault. fault ≡ Fault.Memory) }
 {
-    let mut part = Vec::new(alloc);
     for write in writes {
         if splits.shard_of(&write.key) == shard {
             part.push(write.copy(alloc)?)?;
         }
     }
-    Ok(part)
+    Ok(())
 }

@@ -1,4 +1,4 @@
-use Rattle.std.proofs.Common.{◌<◌, [], ◌∷◌, ◌++◌, length, map, subst, sym, ap, ◌∙◌, arith, rules}
+use Rattle.std.proofs.Common.{◌<◌, [], ◌∷◌, ◌++◌, length, map, subst, sym, arith, rules}
 use Rattle.lives.specs.Fleet.{AreOn}
 use Rattle.lives.proofs.Fleets.{AreTaken, first_left, logs_more, not_empty, on_more, one_taken, passed, stands_first}
 use Rattle.lives.proofs.fleet.take_logs.Goals as goal

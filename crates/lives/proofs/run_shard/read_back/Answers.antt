@@ -1,4 +1,4 @@
-use Rattle.std.proofs.Common.{◌⊎◌, inl, inr, map, refl, sym, ap, ◌∙◌}
+use Rattle.std.proofs.Common.{inl, inr, map, ap, ◌∙◌}
 use Rattle.disk.specs.File.{surface}
 use Rattle.simdisk.specs.State.{disk_file}
 use Rattle.lives.proofs.Ending.{ends_on, ends_with, no_fault, waits_for_none}

@@ -1,4 +1,4 @@
-use Rattle.std.proofs.Common.{◌+◌, Some, None, refl, sym, ap, ◌∙◌, subst}
+use Rattle.std.proofs.Common.{Some, None, refl, sym, ap, ◌∙◌, subst}
 use Rattle.session.specs.Sessions.{reads, buffers, closes, gives_up}
 use Rattle.world.specs.World.{acts, client_of, if_open}
 use Rattle.disk.specs.declared.plan.Fate.{Fate}
@@ -9,14 +9,19 @@ use Rattle.world.specs.Hosts.{session_step}
 use Rattle.world.specs.Lawful.{may_act}
 use Rattle.lives.specs.declared.run.Run.{Run}
 use Rattle.world.proofs.Replying.{is_new, not_over_moves, open_moves}
-use Rattle.lives.proofs.Replying.{crash_comes, crash_in_comes, look_comes, looks, orderly_at, session_comes}
+use Rattle.lives.proofs.Replying.{begin_comes, crash_comes, crash_in_comes, look_comes, looks, orderly_at, session_comes}
 use Rattle.lives.proofs.run.Run.act.Goals as goal
 
-pub returns-in-Begin : goal.returns-in-Begin
+pub returns-in-Ok : goal.returns-in-Ok
 unfolding acts
-returns-in-Begin c time w h steady may =
-    subst (λ a. ComesAfter a c.begin.new.self c.begin.result) (sym (ap (acts w) c.in-Begin.is))
-    (c.begin.ensures w h (is_new w time c.in-Begin.txn (sym (ap (may_act w time) c.in-Begin.is) ∙ may)))
+returns-in-Ok c time w h steady may =
+    let old : Run = c.args.self.now in
+    let new : Run = record { sessions = c.begin.new.self; shards = old.shards; output = c.reply_line.new.self; time = old.time } in
+    let t = c.in-Begin.txn in
+    subst (λ a. ComesAfter a new c.reply_line.result) (sym (ap (acts w) c.in-Begin.is))
+    (begin_comes w old new h t old.output.event c.reply_line.result h.output.event
+    (c.in-Ok.ensures.begun w.config.splits w.clients h.sessions (is_new w time t (sym (ap (may_act w time) c.in-Begin.is) ∙ may)))
+    c.reply_line.ensures refl refl)
 
 pub returns-in-Read : goal.returns-in-Read
 unfolding acts
@@ -29,18 +34,18 @@ returns-in-Read c time w h steady may =
     (session_comes w old new h (session_step (when_open f) (client_of w t)) c.read-moved.result c.reply.result
     (c.read-moved.ensures w.config.splits w.clients h.sessions) c.reply.ensures refl refl)
 
-pub returns-in-Ok : goal.returns-in-Ok
+pub returns-in-Ok-copy_value : goal.returns-in-Ok-copy_value
 unfolding acts
-returns-in-Ok c time w h steady may =
+returns-in-Ok-copy_value c time w h steady may =
     let old : Run = c.args.self.now in
-    let new : Run = record { sessions = c.write-moved.new.self; shards = old.shards; output = c.reply-in-Ok.new.self; time = old.time } in
+    let new : Run = record { sessions = c.write-moved.new.self; shards = old.shards; output = c.reply-in-Ok-copy_value.new.self; time = old.time } in
     let t = c.in-Write.txn in
-    let f = buffers (record { key = c.in-Write.key; value = c.in-Ok.value }) in
-    subst (λ a. ComesAfter a new c.reply-in-Ok.result)
+    let f = buffers (record { key = c.in-Write.key; value = c.in-Ok-copy_value.value }) in
+    subst (λ a. ComesAfter a new c.reply-in-Ok-copy_value.result)
     (sym (ap (acts w) c.in-Write.is ∙ ap (λ x. if_open w (client_of w t) (buffers (record { key = c.in-Write.key; value = x })))
-    (sym c.in-Ok.ensures.same) ∙ open_moves w (client_of w t) f))
-    (session_comes w old new h (session_step (when_open f) (client_of w t)) c.write-moved.result c.reply-in-Ok.result
-    (c.write-moved.ensures w.config.splits w.clients h.sessions) c.reply-in-Ok.ensures refl refl)
+    (sym c.in-Ok-copy_value.ensures.same) ∙ open_moves w (client_of w t) f))
+    (session_comes w old new h (session_step (when_open f) (client_of w t)) c.write-moved.result c.reply-in-Ok-copy_value.result
+    (c.write-moved.ensures w.config.splits w.clients h.sessions) c.reply-in-Ok-copy_value.ensures refl refl)
 
 pub returns-in-Close : goal.returns-in-Close
 unfolding acts

@@ -1,4 +1,4 @@
-use Rattle.std.proofs.Common.{◌+◌, refl, sym, ap, ◌∙◌, subst, slice_get}
+use Rattle.std.proofs.Common.{refl, sym, ap, ◌∙◌, subst, slice_get}
 use Rattle.std.specs.Option.{option_copied}
 use Rattle.lives.specs.Runs.{ComesAfter}
 use Rattle.lives.specs.declared.run.Run.{Run}

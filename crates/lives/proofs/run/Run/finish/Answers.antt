@@ -1,6 +1,4 @@
-use Rattle.std.proofs.Common.{ap, ◌∙◌, map, subst}
 use Rattle.world.specs.World.{logs_of}
-use Rattle.lives.specs.Fleet.{AreOn}
 use Rattle.lives.proofs.run.Run.finish.Goals as goal
 
 pub returns-in-Ok-clause-done : goal.returns-in-Ok-clause-done

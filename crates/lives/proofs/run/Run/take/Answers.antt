@@ -1,4 +1,4 @@
-use Rattle.std.proofs.Common.{◌≡◌, ◌+◌, true, refl, sym, ◌∙◌, rules}
+use Rattle.std.proofs.Common.{◌≡◌, ◌+◌, true, refl, rules}
 use Rattle.world.specs.Lawful.{may_happen}
 use Rattle.lives.specs.declared.run.Run.{Run}
 use Rattle.lives.proofs.Happened.{acts_may, happened}

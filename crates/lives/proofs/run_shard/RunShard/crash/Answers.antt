@@ -1,4 +1,4 @@
-use Rattle.std.proofs.Common.{Some, None, OnOk, refl, sym, ap, subst}
+use Rattle.std.proofs.Common.{OnOk, refl, sym, subst}
 use Rattle.lives.specs.Shows.{IsKept, StandsFor, crashed_within}
 use Rattle.lives.specs.declared.run_shard.RunShard.{RunShard}
 use Rattle.lives.proofs.Showing.{crash_in_so, crash_so}

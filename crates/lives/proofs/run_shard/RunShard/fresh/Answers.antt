@@ -1,19 +1,40 @@
-use Rattle.std.proofs.Common.{[], None, refl, subst}
+use Rattle.std.proofs.Common.{◌≡◌, [], None, Ok, refl, sym, subst, rules}
+use Rattle.disk.specs.File.{surface}
+use Rattle.disk.specs.declared.plan.FailurePlan.{FailurePlan}
+use Rattle.gatelog.specs.Crash.{Stands}
+use Rattle.gatelog.specs.Log.{log}
+use Rattle.simdisk.specs.State.{disk_file, disk_plan}
 use Rattle.world.specs.World.{setup_of}
 use Rattle.world.specs.declared.event.Doing.{Doing}
 use Rattle.lives.specs.Shows.{Acts}
 use Rattle.lives.specs.Unopened.{unopened_shard}
-use Rattle.lives.proofs.Formatting.{fresh_refused, fresh_stands}
+use Rattle.lives.proofs.Formatting.{formatted_stands, fresh_refused, fresh_stands}
 use Rattle.lives.proofs.run_shard.RunShard.fresh.Goals as goal
 
 pub returns-in-Ok-act-clause-fresh : goal.returns-in-Ok-act-clause-fresh
 returns-in-Ok-act-clause-fresh c =
     let setup = setup_of c.args.config.now c.args.number in
+    let disk = c.into_disk.result in
+    let same = sym c.into_disk.ensures in
+    let told : c.in-Ok.setup ≡ setup = search rules in
+    let unopened = formatted_stands setup disk _
+    (subst (λ d. disk_plan d ≡ FailurePlan.Never) same (c.in-Ok-format.ensures.planned tt c.new-2.ensures.plan).0)
+    (subst (λ d. Stands (surface (disk_file d)) (Ok [])) same (c.in-Ok-format.ensures.empty tt))
+    (subst (λ d. log (surface (disk_file d)).seen ≡ Ok []) same (c.in-Ok-format.ensures.read tt)) told refl
+    c.new-3.ensures.items c.new-4.ensures.items in
     fresh_stands setup refl c.act.new.self _ (subst (Acts setup [] unopened_shard None Doing.Open c.act.new.self) c.in-Ok-act.is
-    (c.act.ensures setup unopened_shard c.in-Ok.ensures.formatted))
+    (c.act.ensures setup unopened_shard unopened))
 
 pub returns-in-Err-act-clause-memory : goal.returns-in-Err-act-clause-memory
 returns-in-Err-act-clause-memory c =
     let setup = setup_of c.args.config.now c.args.number in
+    let disk = c.into_disk.result in
+    let same = sym c.into_disk.ensures in
+    let told : c.in-Ok.setup ≡ setup = search rules in
+    let unopened = formatted_stands setup disk _
+    (subst (λ d. disk_plan d ≡ FailurePlan.Never) same (c.in-Ok-format.ensures.planned tt c.new-2.ensures.plan).0)
+    (subst (λ d. Stands (surface (disk_file d)) (Ok [])) same (c.in-Ok-format.ensures.empty tt))
+    (subst (λ d. log (surface (disk_file d)).seen ≡ Ok []) same (c.in-Ok-format.ensures.read tt)) told refl
+    c.new-3.ensures.items c.new-4.ensures.items in
     fresh_refused setup refl c.act.new.self _ (subst (Acts setup [] unopened_shard None Doing.Open c.act.new.self) c.in-Err-act.is
-    (c.act.ensures setup unopened_shard c.in-Ok.ensures.formatted))
+    (c.act.ensures setup unopened_shard unopened))

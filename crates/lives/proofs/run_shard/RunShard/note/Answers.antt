@@ -1,7 +1,6 @@
-use Rattle.std.proofs.Common.{◌≡◌, ◌∷◌, ◌++◌, ◌-◌, [], length, drop, cond, sym, refl, ap, ◌∙◌, subst, arith}
+use Rattle.std.proofs.Common.{◌∷◌, ◌++◌, ◌-◌, [], drop, cond, sym, refl, ap, ◌∙◌, subst, arith}
 use Rattle.std.proofs.lemmas.List.{append-nil}
 use Rattle.shard.specs.Core.{seen}
-use Rattle.world.specs.World.{makes_view}
 use Rattle.lives.specs.Shows.{NotesOfLife, begins_at, view_now}
 use Rattle.lives.specs.declared.run_shard.RunShard.{RunShard}
 use Rattle.lives.proofs.run_shard.RunShard.note.Goals as goal

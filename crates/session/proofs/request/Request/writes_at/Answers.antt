@@ -7,4 +7,4 @@ use Rattle.session.proofs.request.Request.writes_at.Goals as goal
 pub unreachable-requires : goal.unreachable-requires
 unreachable-requires c =
     writes_taken (λ (w : Write). nat_eq (shard_of c.args.self.now.splits.now w.key) c.args.shard) c.args.self.now.taken.now c.args.self.now.writes.now
-    c.in_ok-writes_of.field-0.items c.args.self.now.kept c.in_ok-writes_of.ensures.same c.in-Err.ensures.1
+    c.push_writes_of.new.part.items c.args.self.now.kept c.in-Ok.ensures.same c.in-Err-from_vec.ensures.1

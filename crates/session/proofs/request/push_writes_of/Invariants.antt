@@ -1,7 +1,7 @@
 use Rattle.std.proofs.Common.{◌≡◌, ◌++◌, drop}
 use Rattle.std.specs.Prelude.{nat_eq, filter}
 use Rattle.units.specs.Keys.{shard_of}
-use Rattle.session.proofs.request.writes_of.Given as goal
+use Rattle.session.proofs.request.push_writes_of.Given as goal
 
 abbrev pub invariant-loop-write : goal.invariant-loop-write
 invariant-loop-write l =

@@ -1,7 +1,7 @@
 use Rattle.std.proofs.Common.{◌≡◌, ◌++◌, ◌∷◌, map, drop}
 use Rattle.session.specs.Sessions.{messages_for, prepare_for}
 use Rattle.session.specs.Shown.{closing_client}
-use Rattle.session.proofs.request.Request.messages_to.Given as goal
+use Rattle.session.proofs.request.Request.push_messages.Given as goal
 
 abbrev pub invariant-loop-shard : goal.invariant-loop-shard
 invariant-loop-shard l =
