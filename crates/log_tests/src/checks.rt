@@ -1,8 +1,18 @@
 //! How tests end.
 use std::process::Abort;
 
-/// Ends the test with the row that is wrong, if there is one: each area names the first of its rows that does not hold, and
-/// else gives an empty text.
-pub fn check(rt: &impl Abort, area: &str, wrong: &str) {
-    assert!(rt; wrong.is_empty(), "{area}: {wrong}");
+/// A row of a table.
+pub trait Row {
+    /// What it is about.
+    fn what(&self) -> &'static str;
+
+    fn holds(&self, rt: &HostRuntime) -> bool;
+}
+
+/// Ends the test with the first row that does not hold, if there is one.
+pub fn check<R: Row>(rt: &HostRuntime, test: &impl Abort, area: &str, rows: &[R]) {
+    for row in rows {
+        let (what, holds) = (row.what(), row.holds(rt));
+        assert!(test; holds, "{area}: {what}");
+    }
 }

@@ -1,4 +1,5 @@
 //! Disks in memory: which calls fail, what is read, and what a crash leaves.
+use crate::checks::Row;
 use crate::steps::{Step, Stepped, call_any, go_well};
 use disk::{FailurePlan, Fate};
 use simdisk::{Choice, SimDisk};
@@ -12,17 +13,20 @@ enum Call {
     Other,
 }
 
-// A plan, and calls with whether each fails. Then no call is to fail any more.
-struct Failing {
+/// A plan, and calls with whether each fails. Then no call is to fail any more.
+pub struct Failing {
     what: &'static str,
     plan: FailurePlan,
+    // The call by which `armed` makes that plan, where it does.
+    armed_by: Option<Option<u64>>,
     calls: &'static [(Call, bool)],
 }
 
-static FAILING: [Failing; 3] = [
+pub static FAILING: [Failing; 3] = [
     Failing {
         what: "the third call fails",
         plan: FailurePlan::After(2),
+        armed_by: None,
         calls: &[
             (Call::Other, false),
             (Call::Write, false),
@@ -32,6 +36,7 @@ static FAILING: [Failing; 3] = [
     Failing {
         what: "what is armed waits for a write",
         plan: FailurePlan::AfterWrite(1),
+        armed_by: Some(Some(1)),
         calls: &[
             (Call::Other, false),
             (Call::Other, false),
@@ -42,13 +47,13 @@ static FAILING: [Failing; 3] = [
     Failing {
         what: "no call fails",
         plan: FailurePlan::Never,
+        armed_by: Some(None),
         calls: &[(Call::Write, false)],
     },
 ];
 
-fn fails_so(row: &Failing) -> bool {
-    let mut plan = row.plan;
-    for (call, wanted) in row.calls {
+fn fails_so(plan: &mut FailurePlan, calls: &[(Call, bool)]) -> bool {
+    for (call, wanted) in calls {
         let fails = match call {
             Call::Write => plan.write(),
             Call::Other => plan.call(),
@@ -57,12 +62,25 @@ fn fails_so(row: &Failing) -> bool {
             return false;
         }
     }
-    matches!(plan, FailurePlan::Never) && !plan.write()
+    true
 }
 
-fn are_armed() -> bool {
-    matches!(FailurePlan::armed(Some(1)), FailurePlan::AfterWrite(1))
-        && matches!(FailurePlan::armed(None), FailurePlan::Never)
+impl Row for Failing {
+    fn what(&self) -> &'static str {
+        self.what
+    }
+
+    fn holds(&self, _rt: &HostRuntime) -> bool {
+        let armed = match self.armed_by {
+            Some(call) => FailurePlan::armed(call) == self.plan,
+            None => true,
+        };
+        let mut plan = self.plan;
+        armed
+            && fails_so(&mut plan, self.calls)
+            && matches!(plan, FailurePlan::Never)
+            && !plan.write()
+    }
 }
 
 /// A disk may go to another thread.
@@ -92,8 +110,8 @@ impl Stepped for SimDisk {
     }
 }
 
-// What is done with a synced file of six letters, `abcdef`: changes, and what comes then.
-struct Life {
+/// What is done with a synced file of six letters, `abcdef`: changes, and what comes then.
+pub struct Life {
     what: &'static str,
     changes: &'static [Step],
     then: &'static [Step],
@@ -109,7 +127,7 @@ const WRITES: &[Step] = &[
 // `Z` behind the first two letters alone.
 const A_CUT: &[Step] = &[Step::Cut(2), Step::Write(2, b"Z")];
 
-static LIVES: [Life; 15] = [
+pub static LIVES: [Life; 15] = [
     Life {
         what: "no write",
         changes: WRITES,
@@ -190,7 +208,7 @@ static LIVES: [Life; 15] = [
         changes: &[],
         then: &[
             Step::FailNext(0),
-            Step::WriteFails(1, b"XY"),
+            Step::Fails(&Step::Write(1, b"XY")),
             Step::Holds(b"abcdef"),
             Step::Crash(&[Fate::New]),
             Step::Holds(b"aXYdef"),
@@ -202,7 +220,7 @@ static LIVES: [Life; 15] = [
         then: &[
             Step::FailNext(1),
             Step::Write(6, b"g"),
-            Step::CutFails(3),
+            Step::Fails(&Step::Cut(3)),
             Step::Holds(b"abcdefg"),
             Step::Cut(3),
             Step::Sync,
@@ -217,11 +235,11 @@ static LIVES: [Life; 15] = [
             Step::Sync,
             Step::Sync,
             Step::Write(0, b"A"),
-            Step::SyncFails,
+            Step::Fails(&Step::Sync),
             Step::Sync,
             Step::Arm(Some(0)),
             Step::Sync,
-            Step::WriteFails(0, b"B"),
+            Step::Fails(&Step::Write(0, b"B")),
             Step::Arm(Some(0)),
             Step::Arm(None),
             Step::Write(1, b"C"),
@@ -251,30 +269,18 @@ static LIVES: [Life; 15] = [
 // A synced file of six letters.
 static SIX_LETTERS: [Step; 2] = [Step::Write(0, b"abcdef"), Step::Sync];
 
-// Whether each step of the row goes as it says.
-fn lives(alloc: Global, row: &Life) -> bool {
-    let mut disk = sent(SimDisk::new(alloc));
-    let lived = go_well(alloc, &mut disk, &SIX_LETTERS)
-        && go_well(alloc, &mut disk, row.changes)
-        && go_well(alloc, &mut disk, row.then);
-    drop(disk);
-    lived
-}
+impl Row for Life {
+    fn what(&self) -> &'static str {
+        self.what
+    }
 
-/// The first row that is wrong.
-pub fn wrong(alloc: Global) -> &'static str {
-    if !are_armed() {
-        return "armed plans";
+    fn holds(&self, rt: &HostRuntime) -> bool {
+        let alloc = rt.alloc();
+        let mut disk = sent(SimDisk::new(alloc));
+        let lived = go_well(alloc, &mut disk, &SIX_LETTERS)
+            && go_well(alloc, &mut disk, self.changes)
+            && go_well(alloc, &mut disk, self.then);
+        drop(disk);
+        lived
     }
-    for row in &FAILING {
-        if !fails_so(row) {
-            return row.what;
-        }
-    }
-    for row in &LIVES {
-        if !lives(alloc, row) {
-            return row.what;
-        }
-    }
-    ""
 }

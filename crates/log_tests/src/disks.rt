@@ -1,11 +1,12 @@
 //! Disks over files.
+use crate::checks::Row;
 use crate::devices::sent;
+use crate::file_logs::{is_no_log, is_opened_again};
 use crate::folder::Folder;
 use crate::steps::{Step, Stepped, call_any, go_well, read_back};
 use disk::Disk;
 use filedisk::FileDisk;
 use std::alloc::Global;
-use std::process::Abort;
 use std::{env, fs};
 use units::Fault;
 
@@ -18,29 +19,42 @@ enum There {
     Folder,
 }
 
-#[derive(Clone, Copy)]
-pub enum Call {
+enum Call {
     Create,
     Open,
 }
 
-struct Asked {
+// What the file is, when it is opened again.
+enum Left {
+    Anything,
+    Bytes(&'static [u8]),
+    NoLog,
+    // A log, once it was formatted.
+    Log,
+}
+
+/// A call in a folder of its own, with the folder `logs` in it, and what is done with the disk.
+pub struct Asked {
     what: &'static str,
-    // From a folder with the folder `logs` in it; and else the path of a log there.
+    // From that folder; and else the path of a log there.
     path: Option<&'static str>,
     there: There,
     call: Call,
     // The length of the file that is taken, or how it is refused.
     wanted: Result<u64, Fault>,
+    steps: &'static [Step],
+    left: Left,
 }
 
-static ASKED: [Asked; 14] = [
+pub static ROWS: [Asked; 20] = [
     Asked {
         what: "a new file",
         path: None,
         there: There::Nothing,
         call: Call::Create,
         wanted: Ok(0),
+        steps: &[],
+        left: Left::Anything,
     },
     Asked {
         what: "a file is made anew",
@@ -48,6 +62,8 @@ static ASKED: [Asked; 14] = [
         there: There::File,
         call: Call::Create,
         wanted: Err(Fault::Device),
+        steps: &[],
+        left: Left::Anything,
     },
     Asked {
         what: "a file that is held is made anew",
@@ -55,6 +71,8 @@ static ASKED: [Asked; 14] = [
         there: There::Held,
         call: Call::Create,
         wanted: Err(Fault::Device),
+        steps: &[],
+        left: Left::Anything,
     },
     Asked {
         what: "a file is made in place of a folder",
@@ -62,6 +80,8 @@ static ASKED: [Asked; 14] = [
         there: There::Folder,
         call: Call::Create,
         wanted: Err(Fault::Device),
+        steps: &[],
+        left: Left::Anything,
     },
     Asked {
         what: "a file that is missing",
@@ -69,6 +89,8 @@ static ASKED: [Asked; 14] = [
         there: There::Nothing,
         call: Call::Open,
         wanted: Err(Fault::Device),
+        steps: &[],
+        left: Left::Anything,
     },
     Asked {
         what: "a file",
@@ -76,6 +98,8 @@ static ASKED: [Asked; 14] = [
         there: There::File,
         call: Call::Open,
         wanted: Ok(5),
+        steps: &[],
+        left: Left::Anything,
     },
     Asked {
         what: "a file that is held",
@@ -83,6 +107,8 @@ static ASKED: [Asked; 14] = [
         there: There::Held,
         call: Call::Open,
         wanted: Err(Fault::Device),
+        steps: &[],
+        left: Left::Anything,
     },
     Asked {
         what: "a folder is opened",
@@ -90,6 +116,8 @@ static ASKED: [Asked; 14] = [
         there: There::Folder,
         call: Call::Open,
         wanted: Err(Fault::Device),
+        steps: &[],
+        left: Left::Anything,
     },
     Asked {
         what: "log",
@@ -97,6 +125,8 @@ static ASKED: [Asked; 14] = [
         there: There::Nothing,
         call: Call::Create,
         wanted: Ok(0),
+        steps: &[],
+        left: Left::Anything,
     },
     Asked {
         what: "./log",
@@ -104,6 +134,8 @@ static ASKED: [Asked; 14] = [
         there: There::Nothing,
         call: Call::Create,
         wanted: Ok(0),
+        steps: &[],
+        left: Left::Anything,
     },
     Asked {
         what: "logs/shard-0.log",
@@ -111,6 +143,8 @@ static ASKED: [Asked; 14] = [
         there: There::Nothing,
         call: Call::Create,
         wanted: Ok(0),
+        steps: &[],
+        left: Left::Anything,
     },
     Asked {
         what: "missing/log",
@@ -118,6 +152,8 @@ static ASKED: [Asked; 14] = [
         there: There::Nothing,
         call: Call::Create,
         wanted: Err(Fault::Device),
+        steps: &[],
+        left: Left::Anything,
     },
     Asked {
         what: "logs/",
@@ -125,6 +161,8 @@ static ASKED: [Asked; 14] = [
         there: There::Nothing,
         call: Call::Create,
         wanted: Err(Fault::Device),
+        steps: &[],
+        left: Left::Anything,
     },
     Asked {
         what: "no path",
@@ -132,6 +170,89 @@ static ASKED: [Asked; 14] = [
         there: There::Nothing,
         call: Call::Create,
         wanted: Err(Fault::Device),
+        steps: &[],
+        left: Left::Anything,
+    },
+    Asked {
+        what: "an empty file",
+        path: None,
+        there: There::Nothing,
+        call: Call::Create,
+        wanted: Ok(0),
+        steps: &[Step::Holds(b""), Step::Sync],
+        left: Left::Bytes(b""),
+    },
+    Asked {
+        what: "writes behind and over each other",
+        path: None,
+        there: There::Nothing,
+        call: Call::Create,
+        wanted: Ok(0),
+        steps: &[
+            Step::Reserve(20),
+            Step::Write(0, b"SPNLOG01"),
+            Step::Write(8, b"\0frame"),
+            Step::Write(8, b"\xa5"),
+            Step::Write(14, b""),
+            Step::Holds(b"SPNLOG01\xa5frame"),
+            Step::Sync,
+        ],
+        left: Left::Bytes(b"SPNLOG01\xa5frame"),
+    },
+    Asked {
+        what: "cuts",
+        path: None,
+        there: There::Nothing,
+        call: Call::Create,
+        wanted: Ok(0),
+        steps: &[
+            Step::Write(0, b"SPNLOG01"),
+            Step::Cut(8),
+            Step::Cut(3),
+            Step::Holds(b"SPN"),
+            Step::Write(3, b"!"),
+            Step::Sync,
+            Step::Holds(b"SPN!"),
+        ],
+        left: Left::Bytes(b"SPN!"),
+    },
+    Asked {
+        what: "calls that the system refuses change nothing, and what is armed does nothing",
+        path: None,
+        there: There::Nothing,
+        call: Call::Create,
+        wanted: Ok(0),
+        steps: &[
+            Step::Write(0, b"bytes"),
+            Step::Arm(Some(0)),
+            Step::Fails(&Step::ReadAnywhere(2, 4)),
+            Step::Fails(&Step::ReadAnywhere(u64::MAX, 1)),
+            Step::Fails(&Step::WriteAnywhere(u64::MAX, b"xy")),
+            Step::Fails(&Step::WriteAnywhere(1 << 63, b"x")),
+            Step::Fails(&Step::CutAnywhere(u64::MAX)),
+            Step::Write(5, b"."),
+            Step::Sync,
+            Step::Holds(b"bytes."),
+        ],
+        left: Left::Bytes(b"bytes."),
+    },
+    Asked {
+        what: "a log is opened again",
+        path: None,
+        there: There::Nothing,
+        call: Call::Create,
+        wanted: Ok(0),
+        steps: &[],
+        left: Left::Log,
+    },
+    Asked {
+        what: "a new file is no log",
+        path: None,
+        there: There::Nothing,
+        call: Call::Create,
+        wanted: Ok(0),
+        steps: &[],
+        left: Left::NoLog,
     },
 ];
 
@@ -143,112 +264,44 @@ fn is_put(rt: &HostRuntime, path: &str, there: &There) -> bool {
     }
 }
 
-/// The length of the file that is taken, or how it is refused.
-pub fn answer(rt: &HostRuntime, path: &str, call: Call) -> Result<u64, Fault> {
-    let taken = match call {
-        Call::Create => FileDisk::create(rt, path),
-        Call::Open => FileDisk::open(rt, path),
-    };
-    match taken {
-        Ok(disk) => {
-            let len = disk.len();
-            drop(disk);
-            Ok(len)
+impl Stepped for FileDisk {
+    fn called(&mut self, alloc: Global, step: &Step) -> Result<(), Fault> {
+        match step {
+            Step::ReadAnywhere(at, count) => { self.read_at(*at, &mut [0u8; 4][..(*count).min(4)]) }
+            Step::WriteAnywhere(at, bytes) => self.write_at(*at, bytes),
+            Step::CutAnywhere(len) => self.cut(*len),
+            _ => call_any(alloc, self, step),
         }
-        Err(fault) => Err(fault),
     }
 }
 
-// The call is answered so in a folder of its own.
-fn is_answered_so(rt: &HostRuntime, folder: &Folder, row: &Asked) -> bool {
-    let path = match row.path {
-        Some(path) => path,
-        None => folder.log.as_str(),
-    };
-    let ready = env::set_current_dir(rt, folder.path.as_str()).is_ok()
-        && fs::create_dir(rt, "logs").is_ok()
-        && is_put(rt, path, &row.there);
-    if !ready {
+// The file is taken with that length, and each step on it goes well.
+fn goes_on(alloc: Global, taken: FileDisk, row: &Asked) -> bool {
+    let mut disk = sent(taken);
+    let went = row.wanted == Ok(disk.len()) && go_well(alloc, &mut disk, row.steps);
+    drop(disk);
+    went
+}
+
+// The call is answered so at a path where nothing is yet.
+fn is_answered_so(rt: &HostRuntime, path: &str, row: &Asked) -> bool {
+    if !is_put(rt, path, &row.there) {
         return false;
     }
     let held = match row.there {
         There::Held => FileDisk::open(rt, path).ok(),
         _ => None,
     };
-    let answer = answer(rt, path, row.call);
+    let taken = match row.call {
+        Call::Create => FileDisk::create(rt, path),
+        Call::Open => FileDisk::open(rt, path),
+    };
+    let answered = match taken {
+        Ok(disk) => goes_on(rt.alloc(), disk, row),
+        Err(fault) => row.wanted == Err(fault),
+    };
     drop(held);
-    answer == row.wanted
-}
-
-struct Run {
-    what: &'static str,
-    steps: &'static [Step],
-    // What the file holds when it is opened again.
-    left: &'static [u8],
-}
-
-static RUNS: [Run; 4] = [
-    Run {
-        what: "an empty file",
-        steps: &[Step::Holds(b""), Step::Sync],
-        left: b"",
-    },
-    Run {
-        what: "writes behind and over each other",
-        steps: &[
-            Step::Reserve(20),
-            Step::Write(0, b"SPNLOG01"),
-            Step::Write(8, b"\0frame"),
-            Step::Write(8, b"\xa5"),
-            Step::Write(14, b""),
-            Step::Holds(b"SPNLOG01\xa5frame"),
-            Step::Sync,
-        ],
-        left: b"SPNLOG01\xa5frame",
-    },
-    Run {
-        what: "cuts",
-        steps: &[
-            Step::Write(0, b"SPNLOG01"),
-            Step::Cut(8),
-            Step::Cut(3),
-            Step::Holds(b"SPN"),
-            Step::Write(3, b"!"),
-            Step::Sync,
-            Step::Holds(b"SPN!"),
-        ],
-        left: b"SPN!",
-    },
-    Run {
-        what: "calls that the system refuses change nothing, and what is armed does nothing",
-        steps: &[
-            Step::Write(0, b"bytes"),
-            Step::Arm(Some(0)),
-            Step::ReadFails(2, 4),
-            Step::ReadFails(u64::MAX, 1),
-            Step::WriteFails(u64::MAX, b"xy"),
-            Step::WriteFails(1 << 63, b"x"),
-            Step::CutFails(u64::MAX),
-            Step::Write(5, b"."),
-            Step::Sync,
-            Step::Holds(b"bytes."),
-        ],
-        left: b"bytes.",
-    },
-];
-
-impl Stepped for FileDisk {
-    fn called(&mut self, alloc: Global, step: &Step) -> Result<(), Fault> {
-        match step {
-            Step::ReadFails(at, count) => match [0u8; 4].get_mut(..*count) {
-                Some(buffer) => self.read_at(*at, buffer),
-                None => Err(Fault::Room),
-            },
-            Step::WriteFails(at, bytes) => self.write_at(*at, bytes),
-            Step::CutFails(len) => self.cut(*len),
-            _ => call_any(alloc, self, step),
-        }
-    }
+    answered
 }
 
 /// Whether the file, when it is opened, has these bytes.
@@ -261,32 +314,36 @@ pub fn keeps(rt: &HostRuntime, path: &str, bytes: &[u8]) -> bool {
     kept
 }
 
-// Whether each step on a new file goes well, and the file opened again has the bytes.
-fn runs(rt: &HostRuntime, path: &str, row: &Run) -> bool {
-    let Ok(created) = FileDisk::create(rt, path) else {
-        return false;
-    };
-    let mut disk = sent(created);
-    let went = go_well(rt.alloc(), &mut disk, row.steps);
-    drop(disk);
-    went && keeps(rt, path, row.left)
+fn is_left(rt: &HostRuntime, path: &str, left: &Left) -> bool {
+    match left {
+        Left::Anything => true,
+        Left::Bytes(bytes) => keeps(rt, path, bytes),
+        Left::NoLog => is_no_log(rt, path),
+        Left::Log => is_opened_again(rt, path),
+    }
 }
 
-/// The first row that is wrong, each in a folder of its own.
-pub fn wrong(rt: &HostRuntime, test: &impl Abort) -> &'static str {
-    for row in &ASKED {
-        let folder = Folder::new(rt, test);
-        let so = is_answered_so(rt, &folder, row);
-        if !folder.remove(rt) || !so {
-            return row.what;
-        }
+fn is_so(rt: &HostRuntime, folder: &Folder, row: &Asked) -> bool {
+    let path = match row.path {
+        Some(path) => path,
+        None => folder.log.as_str(),
+    };
+    env::set_current_dir(rt, folder.path.as_str()).is_ok()
+        && fs::create_dir(rt, "logs").is_ok()
+        && is_answered_so(rt, path, row)
+        && is_left(rt, path, &row.left)
+}
+
+impl Row for Asked {
+    fn what(&self) -> &'static str {
+        self.what
     }
-    for row in &RUNS {
-        let folder = Folder::new(rt, test);
-        let went = runs(rt, folder.log.as_str(), row);
-        if !folder.remove(rt) || !went {
-            return row.what;
-        }
+
+    fn holds(&self, rt: &HostRuntime) -> bool {
+        let Some(folder) = Folder::new(rt) else {
+            return false;
+        };
+        let so = is_so(rt, &folder, self);
+        folder.remove(rt) && so
     }
-    ""
 }

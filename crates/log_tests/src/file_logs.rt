@@ -1,12 +1,10 @@
 //! Logs in files.
-use crate::disks::{Call, answer, keeps};
+use crate::disks::keeps;
 use crate::files::{Place, open, put_lines, refusal};
-use crate::folder::Folder;
 use crate::lines::Line;
 use crate::spellings::OPENED;
 use filedisk::FileDisk;
 use gatelog::GateLog;
-use std::process::Abort;
 use units::Fault;
 
 // The header; Opened 1; Opened 2; a closed gate.
@@ -18,16 +16,16 @@ const TWO_OPENINGS: &[u8] = &[
 // The entries of the same.
 const OPENINGS: &[Place] = &[(8, OPENED), (22, &[1, 0, 0, 0, 0, 0, 0, 0, 2])];
 
-// The log is made, takes its first record, and is not opened meanwhile.
+// The log is made in a file, takes its first record, and is not opened meanwhile.
 fn begins(rt: &HostRuntime, path: &str) -> bool {
-    let Ok(disk) = FileDisk::create(rt, path) else {
+    let Ok(disk) = FileDisk::open(rt, path) else {
         return false;
     };
     let Ok(mut log) = GateLog::format(disk) else {
         return false;
     };
     let begun = put_lines(rt.alloc(), &mut log, &[Line::Opened(1)])
-        && answer(rt, path, Call::Open).is_err();
+        && FileDisk::open(rt, path).is_err();
     drop(log);
     begun
 }
@@ -45,30 +43,18 @@ fn goes_on(rt: &HostRuntime, path: &str, places: &[Place], more: &[Line]) -> boo
     went
 }
 
-// A new file is no log.
-fn is_refused(rt: &HostRuntime, path: &str) -> bool {
-    match FileDisk::create(rt, path) {
-        Ok(empty) => refusal(rt.alloc(), empty, &[]) == Some(Fault::NotALog),
+/// Whether the file is refused, as one that is no log.
+pub fn is_no_log(rt: &HostRuntime, path: &str) -> bool {
+    match FileDisk::open(rt, path) {
+        Ok(disk) => refusal(rt.alloc(), disk, &[]) == Some(Fault::NotALog),
         Err(_) => false,
     }
 }
 
-/// The first row that is wrong, each in a folder of its own.
-pub fn wrong(rt: &HostRuntime, test: &impl Abort) -> &'static str {
-    let folder = Folder::new(rt, test);
-    let path = folder.log.as_str();
-    let opened = begins(rt, path)
+/// Whether the file, once it was formatted, is opened as a log, and opened again with what was put behind.
+pub fn is_opened_again(rt: &HostRuntime, path: &str) -> bool {
+    begins(rt, path)
         && goes_on(rt, path, &[(8, OPENED)], &[Line::Opened(2)])
         && goes_on(rt, path, OPENINGS, &[])
-        && keeps(rt, path, TWO_OPENINGS);
-    if !folder.remove(rt) || !opened {
-        return "a log is opened again";
-    }
-    let folder = Folder::new(rt, test);
-    let refused = is_refused(rt, folder.log.as_str());
-    if folder.remove(rt) && refused {
-        ""
-    } else {
-        "a new file is no log"
-    }
+        && keeps(rt, path, TWO_OPENINGS)
 }

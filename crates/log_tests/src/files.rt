@@ -1,4 +1,5 @@
 //! The log in its file.
+use crate::checks::Row;
 use crate::devices::crash;
 use crate::lines::{Line, is_spelled, record_of};
 use crate::spellings::{CEILING, COMMIT, OPENED, OUTCOME};
@@ -98,9 +99,9 @@ pub fn put_lines<D: Disk>(alloc: Global, log: &mut GateLog<D>, lines: &[Line]) -
     true
 }
 
-// Records that are logged, what is done then, and what the log is when it is opened again.
+/// Records that are logged, what is done then, and what the log is when it is opened again.
 #[derive(Clone, Copy)]
-struct Case {
+pub struct Case {
     what: &'static str,
     lines: &'static [Line],
     // Ceiling 200 is to be logged, each time while that call of the append is to fail, and it is answered so.
@@ -139,7 +140,7 @@ const OPENED_ONCE: Case = Case {
     places_with_more: AT_FIRST,
 };
 
-static CASES: [Case; 11] = [
+pub static CASES: [Case; 11] = [
     Case {
         what: "an empty log",
         lines: &[],
@@ -260,23 +261,30 @@ fn is_left(alloc: Global, disk: &mut SimDisk, row: &Case) -> bool {
 }
 
 // The log is filled, and opened again; then it takes more.
-fn goes_on(alloc: Global, row: &Case) -> bool {
-    let Ok(mut log) = GateLog::format(SimDisk::new(alloc)) else {
-        return false;
-    };
-    let filled = is_filled(alloc, &mut log, row);
-    let mut disk = log.into_disk();
-    let left = is_left(alloc, &mut disk, row);
-    let Ok(mut again) = open(alloc, disk, row.places) else {
-        return false;
-    };
-    let logged = put_lines(alloc, &mut again, row.more);
-    let refused = refusal(alloc, again.into_disk(), row.places_with_more);
-    filled && left && logged && refused.is_none()
+impl Row for Case {
+    fn what(&self) -> &'static str {
+        self.what
+    }
+
+    fn holds(&self, rt: &HostRuntime) -> bool {
+        let alloc = rt.alloc();
+        let Ok(mut log) = GateLog::format(SimDisk::new(alloc)) else {
+            return false;
+        };
+        let filled = is_filled(alloc, &mut log, self);
+        let mut disk = log.into_disk();
+        let left = is_left(alloc, &mut disk, self);
+        let Ok(mut again) = open(alloc, disk, self.places) else {
+            return false;
+        };
+        let logged = put_lines(alloc, &mut again, self.more);
+        let refused = refusal(alloc, again.into_disk(), self.places_with_more);
+        filled && left && logged && refused.is_none()
+    }
 }
 
-// How a file is refused.
-struct Refused {
+/// How a file is refused.
+pub struct Refused {
     what: &'static str,
     bytes: &'static [u8],
     fault: Option<Fault>,
@@ -284,7 +292,7 @@ struct Refused {
 
 const DAMAGED: Option<Fault> = Some(Fault::Damaged { offset: 8 });
 
-static REFUSED: [Refused; 7] = [
+pub static REFUSED: [Refused; 7] = [
     Refused {
         what: "past the end",
         bytes: b"SPNLOG01\xa5\0\0\0\x09",
@@ -322,28 +330,15 @@ static REFUSED: [Refused; 7] = [
     },
 ];
 
-fn refusal_of(alloc: Global, bytes: &[u8]) -> Option<Fault> {
-    let mut disk = SimDisk::new(alloc);
-    match disk.write_at(0, bytes) {
-        Ok(()) => refusal(alloc, disk, &[]),
-        Err(fault) => {
-            drop(disk);
-            Some(fault)
-        }
+impl Row for Refused {
+    fn what(&self) -> &'static str {
+        self.what
     }
-}
 
-/// The first row that is wrong.
-pub fn wrong(alloc: Global) -> &'static str {
-    for row in &CASES {
-        if !goes_on(alloc, row) {
-            return row.what;
-        }
+    fn holds(&self, rt: &HostRuntime) -> bool {
+        let alloc = rt.alloc();
+        let mut disk = SimDisk::new(alloc);
+        let written = disk.write_at(0, self.bytes).is_ok();
+        refusal(alloc, disk, &[]) == self.fault && written
     }
-    for row in &REFUSED {
-        if refusal_of(alloc, row.bytes) != row.fault {
-            return row.what;
-        }
-    }
-    ""
 }

@@ -1,5 +1,4 @@
 //! A folder for one test.
-use std::process::Abort;
 use std::rt::Files;
 use std::{env, fs, io};
 
@@ -12,12 +11,8 @@ pub struct Folder {
 }
 
 impl Folder {
-    /// Makes a folder where temporary files go, under a name that nothing has there. Where it fails, the test ends.
-    pub fn new(rt: &HostRuntime, test: &impl Abort) -> Folder {
-        Folder::made(rt).expect(test, "no folder is made")
-    }
-
-    fn made(rt: &HostRuntime) -> Option<Folder> {
+    /// Makes a folder where temporary files go, under a name that nothing has there.
+    pub fn new(rt: &HostRuntime) -> Option<Folder> {
         let Ok(base) = env::temp_dir(rt) else {
             return None;
         };

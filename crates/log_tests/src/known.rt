@@ -1,4 +1,5 @@
 //! What a log determines, and which records may come next.
+use crate::checks::Row;
 use crate::lines::{Line, record_of};
 use facts::{Facts, Status};
 use made::{id, key, shard};
@@ -67,8 +68,8 @@ struct Determined {
     known: &'static [Known],
 }
 
-// The log of a shard, records of which none may come next, and what it determines where that is looked at.
-struct Case {
+/// The log of a shard, records of which none may come next, and what it determines where that is looked at.
+pub struct Case {
     what: &'static str,
     shard: u8,
     lines: &'static [Line],
@@ -80,7 +81,7 @@ const PROMISE: Line = Line::Prepare(1, 5, b'a', 0);
 
 const DECISION: Line = Line::Commit(1, 5, b'a', 2);
 
-static CASES: [Case; 14] = [
+pub static CASES: [Case; 14] = [
     Case {
         what: "a decision",
         shard: 0,
@@ -331,28 +332,31 @@ fn stands_as(
     (prepared, decided, outcome)
 }
 
-// Each stands so by the readers of the facts, and by those of its status.
+// It stands so by the readers of the facts, and by those of its status.
+fn is_known(facts: &Facts, row: &Known) -> bool {
+    let txn = id(row.number);
+    let status = facts.status(txn);
+    let by_status = match status {
+        Some(status) => stands_as(status.prepared(), status.committed(), status.outcome()),
+        None => (None, None, None),
+    };
+    let by_facts = stands_as(
+        facts.prepared(txn),
+        facts.committed(txn),
+        facts.outcome(txn),
+    );
+    let aborted = matches!(status, Some(Status::Aborted));
+    let settled = matches!(status, Some(Status::Settled { .. }));
+    let wanted = (row.prepared, row.decided, row.outcome);
+    by_status == wanted
+        && by_facts == wanted
+        && (aborted, settled) == (row.aborted, row.settled)
+        && facts.aborted(txn) == row.aborted
+}
+
 fn are_known(facts: &Facts, rows: &[Known]) -> bool {
     for row in rows {
-        let txn = id(row.number);
-        let status = facts.status(txn);
-        let by_status = match status {
-            Some(status) => stands_as(status.prepared(), status.committed(), status.outcome()),
-            None => (None, None, None),
-        };
-        let by_facts = stands_as(
-            facts.prepared(txn),
-            facts.committed(txn),
-            facts.outcome(txn),
-        );
-        let aborted = matches!(status, Some(Status::Aborted));
-        let settled = matches!(status, Some(Status::Settled { .. }));
-        let wanted = (row.prepared, row.decided, row.outcome);
-        let same = by_status == wanted
-            && by_facts == wanted
-            && (aborted, settled) == (row.aborted, row.settled)
-            && facts.aborted(txn) == row.aborted;
-        if !same {
+        if !is_known(facts, row) {
             return false;
         }
     }
@@ -376,25 +380,22 @@ fn is_determined(facts: &Facts, row: &Determined) -> bool {
 }
 
 // The records come one after another, none of the refused ones may come next, and the log determines what it should.
-fn holds(alloc: Global, row: &Case) -> bool {
-    let mut facts = Facts::new(alloc, shard(row.shard));
-    let come = all_come(alloc, &mut facts, row.lines, true)
-        && all_come(alloc, &mut facts, row.refused, false);
-    let determined = match &row.determined {
-        Some(determined) => is_determined(&facts, determined),
-        None => true,
-    };
-    let same = facts.shard().number() == row.shard;
-    drop(facts);
-    come && determined && same
-}
-
-/// The first row that is wrong.
-pub fn wrong(alloc: Global) -> &'static str {
-    for row in &CASES {
-        if !holds(alloc, row) {
-            return row.what;
-        }
+impl Row for Case {
+    fn what(&self) -> &'static str {
+        self.what
     }
-    ""
+
+    fn holds(&self, rt: &HostRuntime) -> bool {
+        let alloc = rt.alloc();
+        let mut facts = Facts::new(alloc, shard(self.shard));
+        let come = all_come(alloc, &mut facts, self.lines, true)
+            && all_come(alloc, &mut facts, self.refused, false);
+        let determined = match &self.determined {
+            Some(determined) => is_determined(&facts, determined),
+            None => true,
+        };
+        let same = facts.shard().number() == self.shard;
+        drop(facts);
+        come && determined && same
+    }
 }

@@ -74,8 +74,8 @@ fn is_settled(ledger: &Ledger) -> bool {
         && (ledger.installs().len(), floor, ledger.epoch(), shard) == (1, 120, 1, 1)
 }
 
-// Shard 1 is opened once, and its one promise is settled.
-fn is_installed(alloc: Global) -> bool {
+/// Whether shard 1 is opened once, and its one promise is settled.
+pub fn is_installed(alloc: Global) -> bool {
     let mut ledger = Ledger::new(alloc, shard(1));
     let installed = prepare(alloc, &mut ledger)
         && settle(alloc, &mut ledger)
@@ -84,46 +84,46 @@ fn is_installed(alloc: Global) -> bool {
     installed
 }
 
-static ADDED: [u16; 7] = [5, 2, 9, 2, 7, 5, 1];
+// An id by its run and its number: whether it is added, and there then.
+static IDS: [(u64, u64, bool); 13] = [
+    (1, 1, false),
+    (1, 5, true),
+    (1, 2, true),
+    (1, 9, true),
+    (1, 2, true),
+    (1, 7, true),
+    (1, 5, true),
+    (1, 1, true),
+    (1, 0, false),
+    (1, 3, false),
+    (1, 8, false),
+    (1, 10, false),
+    (2, 5, false),
+];
 
-// Runs and numbers in them.
-static ABSENT: [(u64, u64); 5] = [(1, 0), (1, 3), (1, 8), (1, 10), (2, 5)];
-
-fn has_any(ended: &Ended, ids: &[(u64, u64)]) -> bool {
-    for (run, number) in ids {
-        match TxnId::new(*run, *number) {
-            Some(txn) if !ended.has(txn) => {}
-            _ => return true,
-        }
-    }
-    false
-}
-
-// Each number of run 1 is there once it was added, and no other.
-fn are_added_once(ended: &mut Ended) -> bool {
-    if ended.has(id(1)) {
-        return false;
-    }
-    for number in &ADDED {
-        let Ok(()) = ended.reserve(1) else {
+fn are_there(ended: &mut Ended) -> bool {
+    for (run, number, added) in &IDS {
+        let Some(txn) = TxnId::new(*run, *number) else {
             return false;
         };
-        ended.add(id(*number));
-        if !ended.has(id(*number)) {
+        if *added {
+            let Ok(()) = ended.reserve(1) else {
+                return false;
+            };
+            ended.add(txn);
+        }
+        if ended.has(txn) != *added {
             return false;
         }
     }
-    let kept = [id(1), id(2), id(5), id(7), id(9)];
-    ended.as_slice() == kept.as_slice() && !has_any(ended, &ABSENT)
+    true
 }
 
-/// The first row that is wrong.
-pub fn wrong(alloc: Global) -> &'static str {
-    if !is_installed(alloc) {
-        return "a promise is installed";
-    }
+/// Whether each id stands once among those that were added.
+pub fn are_added_once(alloc: Global) -> bool {
     let mut ended = Ended::none(alloc);
-    let added = are_added_once(&mut ended);
+    let kept = [id(1), id(2), id(5), id(7), id(9)];
+    let there = are_there(&mut ended) && ended.as_slice() == kept.as_slice();
     drop(ended);
-    if added { "" } else { "ids are added once" }
+    there
 }

@@ -1,4 +1,5 @@
 //! Logs that are opened again: what they leave, and which are refused.
+use crate::checks::Row;
 use crate::files::{put, put_lines};
 use crate::lines::{Line, promise};
 use gatelog::{Entry, GateLog};
@@ -67,8 +68,8 @@ fn seen(state: &State) -> Shown {
 
 type Rebuilt = Result<Option<Shown>, Fault>;
 
-// The log of a shard with so many promises at its end, and what it leaves.
-struct Reopened {
+/// The log of a shard with so many promises at its end, and what it leaves.
+pub struct Reopened {
     what: &'static str,
     shard: u8,
     lines: &'static [Line],
@@ -76,7 +77,7 @@ struct Reopened {
     left: Rebuilt,
 }
 
-static REOPENED: [Reopened; 13] = [
+pub static REOPENED: [Reopened; 13] = [
     Reopened {
         what: "a promise stands",
         shard: 1,
@@ -252,32 +253,29 @@ fn rebuilt(alloc: Global, number: u8, entries: &[Entry]) -> Rebuilt {
     }
 }
 
-// The same of the row's log. Where a record is not logged, there is no room for it.
-fn left(alloc: Global, row: &Reopened) -> Rebuilt {
-    let Ok(mut log) = GateLog::format(SimDisk::new(alloc)) else {
-        return Err(Fault::Memory);
-    };
-    let put = put_lines(alloc, &mut log, row.lines) && put_promises(alloc, &mut log, row.promises);
-    match GateLog::open(alloc, log.into_disk()) {
-        Ok((log, entries)) => {
-            drop(log);
-            let left = rebuilt(alloc, row.shard, &entries);
-            drop(entries);
-            if put { left } else { Err(Fault::Room) }
-        }
-        Err((fault, disk)) => {
-            drop(disk);
-            Err(fault)
-        }
+impl Row for Reopened {
+    fn what(&self) -> &'static str {
+        self.what
     }
-}
 
-/// The first row that is wrong.
-pub fn wrong(alloc: Global) -> &'static str {
-    for row in &REOPENED {
-        if left(alloc, row) != row.left {
-            return row.what;
+    fn holds(&self, rt: &HostRuntime) -> bool {
+        let alloc = rt.alloc();
+        let Ok(mut log) = GateLog::format(SimDisk::new(alloc)) else {
+            return false;
+        };
+        let put = put_lines(alloc, &mut log, self.lines)
+            && put_promises(alloc, &mut log, self.promises);
+        match GateLog::open(alloc, log.into_disk()) {
+            Ok((log, entries)) => {
+                drop(log);
+                let same = rebuilt(alloc, self.shard, &entries) == self.left;
+                drop(entries);
+                put && same
+            }
+            Err((_, disk)) => {
+                drop(disk);
+                false
+            }
         }
     }
-    ""
 }

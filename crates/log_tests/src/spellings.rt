@@ -1,10 +1,12 @@
 //! The bytes of records.
+use crate::checks::Row;
 use crate::lines::{Line, is_spelled, record_of};
 use record::Record;
 use spelling::{decode, encoded_len};
 use std::alloc::Global;
 
-struct Vector {
+/// A record, and its bytes.
+pub struct Vector {
     what: &'static str,
     line: Line,
     bytes: &'static [u8],
@@ -38,7 +40,7 @@ const READS: &[u8] = &[
     0x61, 1, 0x62, 0, 0,
 ];
 
-static VECTORS: [Vector; 6] = [
+pub static VECTORS: [Vector; 6] = [
     Vector {
         what: "an opening",
         line: Line::Opened(1),
@@ -90,46 +92,48 @@ fn is_read_back(alloc: Global, bytes: &[u8]) -> bool {
 }
 
 // It is spelled so, is read from that, and its copy is spelled so too.
-fn spells(alloc: Global, row: &Vector) -> bool {
-    let Some(item) = record_of(alloc, row.line) else {
-        return false;
-    };
-    let spelled = is_spelled(alloc, &item, row.bytes);
-    drop(item);
-    spelled && is_read_back(alloc, row.bytes)
+impl Row for Vector {
+    fn what(&self) -> &'static str {
+        self.what
+    }
+
+    fn holds(&self, rt: &HostRuntime) -> bool {
+        let alloc = rt.alloc();
+        let Some(item) = record_of(alloc, self.line) else {
+            return false;
+        };
+        let spelled = is_spelled(alloc, &item, self.bytes);
+        drop(item);
+        spelled && is_read_back(alloc, self.bytes)
+    }
 }
 
-// Bytes, one of them changed where a place and a byte are given: they are a record, or not.
-struct Read {
+/// Bytes that are a record, or not.
+pub struct Read {
     what: &'static str,
     bytes: &'static [u8],
-    change: Option<(usize, u8)>,
     is_record: bool,
 }
 
-static READ: [Read; 15] = [
+pub static READ: [Read; 15] = [
     Read {
         what: "no byte",
         bytes: &[],
-        change: None,
         is_record: false,
     },
     Read {
         what: "kind 0",
         bytes: &[0, 0, 0, 0, 0, 0, 0, 0, 1],
-        change: None,
         is_record: false,
     },
     Read {
         what: "kind 7",
         bytes: &[7, 0, 0, 0, 0, 0, 0, 0, 1],
-        change: None,
         is_record: false,
     },
     Read {
         what: "a byte left over",
         bytes: &[2, 0, 0, 0, 0, 0, 0, 0, 0xc8, 0],
-        change: None,
         is_record: false,
     },
     Read {
@@ -138,104 +142,88 @@ static READ: [Read; 15] = [
             4, 0, 0, 0, 0, 0, 0, 0, 1, 0, 0, 0, 0, 0, 0, 0, 1, 0, 0, 0, 0, 0, 0, 0, 0x6f, 0, 1, 0,
             0, 0, 1, 1, 0x61, 1, 0, 1,
         ],
-        change: None,
         is_record: false,
     },
     Read {
         what: "epoch 0",
         bytes: &[1, 0, 0, 0, 0, 0, 0, 0, 0],
-        change: None,
         is_record: false,
     },
     Read {
         what: "epoch 2^62",
         bytes: &[1, 0x40, 0, 0, 0, 0, 0, 0, 0],
-        change: None,
         is_record: false,
     },
     Read {
         what: "stamp 2^62",
         bytes: &[2, 0x40, 0, 0, 0, 0, 0, 0, 0],
-        change: None,
         is_record: false,
     },
     Read {
         what: "the last stamp",
         bytes: &[2, 0x3f, 255, 255, 255, 255, 255, 255, 255],
-        change: None,
         is_record: true,
     },
     Read {
         what: "reads a and b",
         bytes: READS,
-        change: None,
         is_record: true,
     },
     Read {
         what: "coordinator 15",
-        bytes: PREPARE,
-        change: Some((17, 15)),
+        bytes: &[
+            3, 0, 0, 0, 0, 0, 0, 0, 1, 0, 0, 0, 0, 0, 0, 0, 2, 15, 0, 0, 0, 0, 0, 0, 0, 0xc8, 0, 0,
+            0, 1, 1, 0x7a, 1, 0, 1, 0x31,
+        ],
         is_record: true,
     },
     Read {
         what: "coordinator 16",
-        bytes: PREPARE,
-        change: Some((17, 16)),
+        bytes: &[
+            3, 0, 0, 0, 0, 0, 0, 0, 1, 0, 0, 0, 0, 0, 0, 0, 2, 16, 0, 0, 0, 0, 0, 0, 0, 0xc8, 0, 0,
+            0, 1, 1, 0x7a, 1, 0, 1, 0x31,
+        ],
         is_record: false,
     },
     Read {
         what: "no shard takes part",
-        bytes: COMMIT,
-        change: Some((26, 0)),
+        bytes: &[
+            4, 0, 0, 0, 0, 0, 0, 0, 1, 0, 0, 0, 0, 0, 0, 0, 1, 0, 0, 0, 0, 0, 0, 0, 0x6f, 0, 0, 0,
+            0, 0, 1, 1, 0x61, 1, 0, 1, 0x31,
+        ],
         is_record: false,
     },
     Read {
         what: "reads b and b",
-        bytes: READS,
-        change: Some((30, 0x62)),
+        bytes: &[
+            4, 0, 0, 0, 0, 0, 0, 0, 1, 0, 0, 0, 0, 0, 0, 0, 1, 0, 0, 0, 0, 0, 0, 0, 0x6f, 0, 1, 0,
+            2, 1, 0x62, 1, 0x62, 0, 0,
+        ],
         is_record: false,
     },
     Read {
         what: "reads c and b",
-        bytes: READS,
-        change: Some((30, 0x63)),
+        bytes: &[
+            4, 0, 0, 0, 0, 0, 0, 0, 1, 0, 0, 0, 0, 0, 0, 0, 1, 0, 0, 0, 0, 0, 0, 0, 0x6f, 0, 1, 0,
+            2, 1, 0x63, 1, 0x62, 0, 0,
+        ],
         is_record: false,
     },
 ];
 
-// Whether the bytes are read as a record, or are none, as it is said.
-fn is_read_so(alloc: Global, row: &Read) -> bool {
-    let Ok(mut bytes) = row.bytes.to_vec(alloc) else {
-        return false;
-    };
-    if let Some((place, new)) = row.change {
-        if let Some(byte) = bytes.get_mut(place) {
-            *byte = new;
-        }
+impl Row for Read {
+    fn what(&self) -> &'static str {
+        self.what
     }
-    let found = decode(alloc, &bytes);
-    drop(bytes);
-    match found {
-        Ok(Some(item)) => {
-            drop(item);
-            row.is_record
-        }
-        Ok(None) => !row.is_record,
-        Err(_) => false,
-    }
-}
 
-/// The first row that is wrong.
-pub fn wrong(alloc: Global) -> &'static str {
-    for row in &VECTORS {
-        if !spells(alloc, row) {
-            return row.what;
+    fn holds(&self, rt: &HostRuntime) -> bool {
+        match decode(rt.alloc(), self.bytes) {
+            Ok(Some(item)) => {
+                drop(item);
+                self.is_record
+            }
+            Ok(None) => !self.is_record,
+            Err(_) => false,
         }
     }
-    for row in &READ {
-        if !is_read_so(alloc, row) {
-            return row.what;
-        }
-    }
-    ""
 }

@@ -10,17 +10,18 @@ pub enum Step {
     Sync,
     Reserve(u64),
     Arm(Option<u64>),
-    /// The device fails, or the system refuses. A read is of at most 4 bytes.
-    ReadFails(u64, usize),
-    WriteFails(u64, &'static [u8]),
-    CutFails(u64),
-    SyncFails,
     /// These bytes are read, and they are all.
     Holds(&'static [u8]),
+    /// The device fails, or the system refuses.
+    Fails(&'static Step),
     /// In memory alone: the call after so many more fails.
     FailNext(u64),
     /// In memory alone: a crash, by these fates of the changes that are not synced.
     Crash(&'static [Fate]),
+    /// Of a file alone: a read of at most 4 bytes, a write and a cut, wherever its end is.
+    ReadAnywhere(u64, usize),
+    WriteAnywhere(u64, &'static [u8]),
+    CutAnywhere(u64),
 }
 
 /// A disk on which a step is done in its own way, or as on any.
@@ -43,11 +44,9 @@ pub fn read_back<D: Disk>(alloc: Global, disk: &mut D, bytes: &[u8]) -> Result<(
 /// What the call of a step answers on any disk. Past its end there is no room, nor for a step that is not for any.
 pub fn call_any<D: Disk>(alloc: Global, disk: &mut D, step: &Step) -> Result<(), Fault> {
     match step {
-        Step::Write(at, bytes) | Step::WriteFails(at, bytes) if *at <= disk.len() => {
-            disk.write_at(*at, bytes)
-        }
-        Step::Cut(len) | Step::CutFails(len) if *len <= disk.len() => disk.cut(*len),
-        Step::Sync | Step::SyncFails => disk.sync(),
+        Step::Write(at, bytes) if *at <= disk.len() => disk.write_at(*at, bytes),
+        Step::Cut(len) if *len <= disk.len() => disk.cut(*len),
+        Step::Sync => disk.sync(),
         Step::Reserve(bytes) => disk.reserve(*bytes),
         Step::Arm(call) => {
             disk.arm(*call);
@@ -61,13 +60,11 @@ pub fn call_any<D: Disk>(alloc: Global, disk: &mut D, step: &Step) -> Result<(),
 /// Whether each step goes as it says.
 pub fn go_well<D: Stepped>(alloc: Global, disk: &mut D, steps: &[Step]) -> bool {
     for step in steps {
-        let wanted = match step {
-            Step::ReadFails(..) | Step::WriteFails(..) | Step::CutFails(..) | Step::SyncFails => {
-                Err(Fault::Device)
-            }
-            _ => Ok(()),
+        let went = match step {
+            Step::Fails(step) => disk.called(alloc, step) == Err(Fault::Device),
+            _ => disk.called(alloc, step).is_ok(),
         };
-        if disk.called(alloc, step) != wanted {
+        if !went {
             return false;
         }
     }

@@ -1,10 +1,12 @@
 //! The versions of keys.
 ghost use Rattle.std.specs.Prelude.{◌≡◌, ◌<◌, []};
 
+use crate::checks::Row;
 use crate::lines::byte;
 use counts::Count;
 use made::{key, stamp};
 use std::alloc::Global;
+use std::cmp::Ordering;
 use units::{Key, Stamp, Value, Write, Writes};
 use versions::Versions;
 
@@ -98,8 +100,8 @@ struct Lookup {
     place: Option<(usize, u32)>,
 }
 
-// Versions, and what is found of them.
-struct Looked {
+/// Versions, and what is found of them.
+pub struct Looked {
     what: &'static str,
     versions: &'static [Version],
     // Instead of them, a value of `1` is written to `a` and `z` is erased, by writes at 200.
@@ -107,7 +109,7 @@ struct Looked {
     lookups: &'static [Lookup],
 }
 
-static LOOKED: [Looked; 5] = [
+pub static LOOKED: [Looked; 5] = [
     Looked {
         what: "a value from its timestamp on",
         versions: &[
@@ -337,17 +339,23 @@ fn all_found(versions: &Versions, rows: &[Lookup]) -> bool {
     true
 }
 
-// The row's versions are installed, and show what is found of them.
-fn shows(alloc: Global, row: &Looked) -> bool {
-    let mut versions = Versions::none(alloc);
-    let installed = if row.written {
-        install_two(alloc, &mut versions)
-    } else {
-        install_rows(alloc, &mut versions, row.versions)
-    };
-    let shown = installed && all_found(&versions, row.lookups);
-    drop(versions);
-    shown
+impl Row for Looked {
+    fn what(&self) -> &'static str {
+        self.what
+    }
+
+    fn holds(&self, rt: &HostRuntime) -> bool {
+        let alloc = rt.alloc();
+        let mut versions = Versions::none(alloc);
+        let installed = if self.written {
+            install_two(alloc, &mut versions)
+        } else {
+            install_rows(alloc, &mut versions, self.versions)
+        };
+        let shown = installed && all_found(&versions, self.lookups);
+        drop(versions);
+        shown
+    }
 }
 
 // Draws a number below a limit.
@@ -413,17 +421,17 @@ fn told(all: &[Plain], key: &Key, at: u64) -> Listed {
         is_above: true,
     };
     for one in all {
-        let same = one.key.is(key);
-        let is_by = same && one.at <= at;
-        if is_by || one.key.is_before(key) {
-            listed.count = listed.count.saturating_add(1);
-        }
-        if is_by {
-            listed.value = one.value;
-        }
-        if same {
-            listed.latest = one.value;
-            listed.is_above &= one.at < at;
+        match one.key.compare(key) {
+            Ordering::Less => listed.count = listed.count.saturating_add(1),
+            Ordering::Greater => {}
+            Ordering::Equal => {
+                if one.at <= at {
+                    listed.count = listed.count.saturating_add(1);
+                    listed.value = one.value;
+                }
+                listed.latest = one.value;
+                listed.is_above &= one.at < at;
+            }
         }
     }
     listed
@@ -451,9 +459,9 @@ fn agree_at(versions: &Versions, all: &[Plain], sought: &Plain) -> bool {
         && digits.wrapping_sub(probes) <= 1
 }
 
-// So many drawn versions of keys behind one of these numbers of letters. At each so many-th turn the new one is looked for, and
-// another drawn one.
-struct Drawn {
+/// So many drawn versions of keys behind one of these numbers of letters. At each so many-th turn the new one is looked for, and
+/// another drawn one.
+pub struct Drawn {
     what: &'static str,
     letters: [usize; 5],
     turns: u32,
@@ -463,7 +471,7 @@ struct Drawn {
 // Lengths of what keys begin with.
 const PREFIXES: [usize; 5] = [0, 3, 8, 9, 20];
 
-static DRAWN: [Drawn; 6] = [
+pub static DRAWN: [Drawn; 6] = [
     Drawn {
         what: "behind no letter",
         letters: [0; 5],
@@ -518,26 +526,17 @@ fn agree(alloc: Global, versions: &mut Versions, all: &mut Vec<Plain>, row: &Dra
     true
 }
 
-/// The first row that is wrong.
-pub fn wrong(alloc: Global) -> &'static str {
-    for row in &LOOKED {
-        if !shows(alloc, row) {
-            return row.what;
-        }
+impl Row for Drawn {
+    fn what(&self) -> &'static str {
+        self.what
     }
-    ""
-}
 
-/// The first row of drawn versions that is wrong.
-pub fn wrong_draws(alloc: Global) -> &'static str {
-    for row in &DRAWN {
+    fn holds(&self, rt: &HostRuntime) -> bool {
+        let alloc = rt.alloc();
         let (mut versions, mut all) = (Versions::none(alloc), Vec::new(alloc));
-        let agreed = agree(alloc, &mut versions, &mut all, row);
+        let agreed = agree(alloc, &mut versions, &mut all, self);
         drop(versions);
         drop(all);
-        if !agreed {
-            return row.what;
-        }
+        agreed
     }
-    ""
 }
