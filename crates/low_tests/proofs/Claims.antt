@@ -1,6 +1,6 @@
 -- Which transactions have claims once a call has changed the lock table.
-use Rattle.std.proofs.Common.{◌≡◌, ℕ, nat_eq, Bool, true, false, ◌||◌, cond, List, [], ◌∷◌, Option, None, Some, Result, Ok, Err, refl, sym, ap, subst, ◌∙◌, is_some}
-use Rattle.std.specs.Prelude.{OnOk, OnErr}
+use Rattle.std.proofs.Common.{◌≡◌, ℕ, true, false, ◌||◌, cond, List, [], ◌∷◌, Option, None, Some, Result, Ok, Err, refl, sym, ap, subst, ◌∙◌, is_some}
+use Rattle.std.specs.Prelude.{IfOk, OnOk, OnErr}
 use Rattle.units.specs.Ids.{Id, same_id}
 use Rattle.units.specs.Locks.{Claim}
 use Rattle.units.specs.declared.lock.Asked.{Asked}
@@ -9,7 +9,7 @@ use Rattle.units.specs.declared.lock.Lock.{Lock}
 use Rattle.units.proofs.ByIdLaws.{has-without_other, find-with_same, find-with_other}
 use Rattle.units.proofs.ByIdHalves.{found_or_not}
 use Rattle.locks.specs.Table.{Token, has_claim, change_claim, without_claim, with_claim, entrant, granted, waiting, resumed, after_request}
-use Rattle.low_tests.specs.Seats.{nth, Sits, AreSeated, KeepsClaims, KeepsOthers}
+use Rattle.low_tests.specs.Seats.{nth, Sits, KeepsClaims, KeepsOthers}
 
 -- a change that keeps ids keeps them where it is made at one claim
 keeps_id : (f : Claim → Claim) → ((c : Claim) → (f c).txn ≡ c.txn) → (t : Id) (c : Claim) → (cond (same_id c.txn t) (f c) c).txn ≡ c.txn
@@ -37,6 +37,12 @@ pub keeps_asked : (old new : List Claim) (answer : Asked) (t : Id) (needs : List
 keeps_asked old new Granted t needs is = keeps_changed old new t (granted needs) (λ c. refl) is
 keeps_asked old new Waits t needs is = keeps_changed old new t (waiting needs) (λ c. refl) is
 keeps_asked old new (Wounds ids) t needs is = keeps_same old new is
+
+-- or there is no memory
+pub keeps_requested : {E : Type 0} (old new : List Claim) (t : Id) (needs : List Lock) (result : Result Asked E)
+    → IfOk result (λ answer. new ≡ after_request answer old t needs) → OnErr result (new ≡ old) → KeepsClaims old new
+keeps_requested old new t needs (Ok answer) ok err = keeps_asked old new answer t needs ok
+keeps_requested old new t needs (Err e) ok err = keeps_same old new err
 
 -- a wait is granted, or there is no memory
 pub keeps_resumed : {T E : Type 0} (old new : List Claim) (t : Id) (result : Result T E) → OnOk result (new ≡ change_claim old t resumed)

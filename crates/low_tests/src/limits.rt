@@ -137,8 +137,8 @@ fn are_ordered(alloc: Global) -> bool {
 }
 
 // The shards of `a`, `ab` and `b`, where these keys may split so.
-fn shards(alloc: Global, splits: [Key; 2]) -> Option<[u8; 3]> {
-    match Splits::new(alloc, &splits) {
+fn shards(alloc: Global, first: Key, second: Key) -> Option<[u8; 3]> {
+    match Splits::new(alloc, &[first, second]) {
         Ok(splits) => {
             let shards = [
                 splits.shard_of(&key_of("a")).number(),
@@ -167,8 +167,8 @@ fn go_by_bytes(alloc: Global) -> bool {
     a.is_before(&ab)
         && ab.is_before(&b)
         && !b.is_before(&ab)
-        && shards(alloc, [ab, b]) == Some([0, 1, 2])
-        && shards(alloc, [b, ab]).is_none()
+        && shards(alloc, ab, b) == Some([0, 1, 2])
+        && shards(alloc, b, ab).is_none()
         && are_listed(alloc, "a,b", "a,b")
         && are_listed(alloc, "b,a", "-")
 }

@@ -48,10 +48,6 @@ static REFUSED: [Refused; 9] = [
     },
 ];
 
-fn is_refused(alloc: Global, row: &Refused) -> bool {
-    lines(alloc, row.text).err() == Some(Fault::BadRequest(Reason::Syntax(row.line)))
-}
-
 struct Spelt {
     word: &'static str,
     fate: Option<Fate>,
@@ -95,10 +91,6 @@ static FATES: [Spelt; 9] = [
         fate: None,
     },
 ];
-
-fn is_read(row: &Spelt) -> bool {
-    fate(row.word).ok() == row.fate
-}
 
 enum Kind {
     Key,
@@ -150,12 +142,13 @@ fn is_taken(kind: &Kind, word: &str) -> bool {
 /// The first row that is wrong.
 pub fn wrong(alloc: Global) -> &'static str {
     for row in &REFUSED {
-        if !is_refused(alloc, row) {
+        let refused = Fault::BadRequest(Reason::Syntax(row.line));
+        if lines(alloc, row.text).err() != Some(refused) {
             return row.text;
         }
     }
     for row in &FATES {
-        if !is_read(row) {
+        if fate(row.word).ok() != row.fate {
             return row.word;
         }
     }

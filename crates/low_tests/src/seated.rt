@@ -262,30 +262,21 @@ fn goes_on(rows: &mut Rows, alloc: Global, step: &Step) -> bool {
     }
 }
 
-// Each step is as it is told.
-fn are_so(rows: &mut Rows, log: &mut Log, alloc: Global, steps: &[Step]) -> bool {
+// The story of rows that are new: each step is as it is told.
+fn is_told(log: &mut Log, alloc: Global, steps: &[Step]) -> bool {
+    let Ok(mut rows) = Rows::new(alloc) else {
+        return false;
+    };
+    let mut told = true;
     for step in steps {
         let so = match step {
-            Step::GoesBy(line) => goes_by(rows, log, alloc, *line),
-            _ => goes_on(rows, alloc, step),
+            Step::GoesBy(line) => goes_by(&mut rows, log, alloc, *line),
+            _ => goes_on(&mut rows, alloc, step),
         };
-        if !so {
-            return false;
-        }
+        told = told && so;
     }
-    true
-}
-
-// The story of rows that are new.
-fn is_told(log: &mut Log, alloc: Global, steps: &[Step]) -> bool {
-    match Rows::new(alloc) {
-        Ok(mut rows) => {
-            let told = are_so(&mut rows, log, alloc, steps);
-            rows.stop();
-            told
-        }
-        Err(_) => false,
-    }
+    rows.stop();
+    told
 }
 
 // The first story that is wrong, with a log of all records.

@@ -130,16 +130,15 @@ fn buffers(
     }
 }
 
-// The value that is heard is shown so.
-fn is_shown(alloc: Global, value: Option<Value>, text: &str) -> bool {
-    let shown = is_printed(alloc, &Text(&value), text);
-    drop(value);
-    shown
-}
-
-fn takes(tx: &mut Tx<'_, Open>, alloc: Global, answer: &ReadAnswer, gets: &str) -> bool {
-    match tx.answered(alloc, answer) {
-        Ok(Heard::Value(value)) => is_shown(alloc, value, gets),
+fn hears(tx: &mut Tx<'_, Open>, alloc: Global, answer: ReadAnswer, gets: &str) -> bool {
+    let heard = tx.answered(alloc, &answer);
+    drop(answer);
+    match heard {
+        Ok(Heard::Value(value)) => {
+            let printed = is_printed(alloc, &Text(&value), gets);
+            drop(value);
+            printed
+        }
         Ok(Heard::Again) => gets == "again",
         Ok(Heard::Doomed) => gets == "doomed",
         Err(fault) => is_printed(alloc, &fault, gets),
@@ -157,35 +156,24 @@ fn answer(alloc: Global, key: Key, epoch: u64, bytes: &[u8]) -> ReadAnswer {
     }
 }
 
-fn goes_so(tx: &mut Tx<'_, Open>, alloc: Global, does: &Does, gets: &str) -> bool {
-    match does {
-        Does::Read(letter) => reads(tx, alloc, key(*letter), gets),
-        Does::Erase(letter) => buffers(tx, alloc, key(*letter), None, gets),
-        Does::Write(letter, bytes) => {
-            buffers(
-                tx,
-                alloc,
-                key(*letter),
-                Value::new(alloc, *bytes).ok(),
-                gets,
-            )
-        }
-        Does::Hears(letter, epoch, bytes) => {
-            let answer = answer(alloc, key(*letter), *epoch, *bytes);
-            let taken = takes(tx, alloc, &answer, gets);
-            drop(answer);
-            taken
-        }
-    }
-}
-
 fn goes_on(tx: &mut Tx<'_, Open>, alloc: Global, does: &[(Does, &str)]) -> bool {
+    let mut went = true;
     for (does, gets) in does {
-        if !goes_so(tx, alloc, does, *gets) {
-            return false;
-        }
+        let goes = match does {
+            Does::Read(letter) => reads(tx, alloc, key(*letter), *gets),
+            Does::Erase(letter) => buffers(tx, alloc, key(*letter), None, *gets),
+            Does::Write(letter, bytes) => {
+                let value = Value::new(alloc, *bytes).ok();
+                buffers(tx, alloc, key(*letter), value, *gets)
+            }
+            Does::Hears(letter, epoch, bytes) => {
+                let answer = answer(alloc, key(*letter), *epoch, *bytes);
+                hears(tx, alloc, answer, *gets)
+            }
+        };
+        went = went && goes;
     }
-    true
+    went
 }
 
 fn gives_up<S: Phase>(tx: Tx<'_, S>, alloc: Global, lines: &[&str]) -> bool {

@@ -7,7 +7,7 @@ use crate::ids::needs;
 use locks::{Held, Table};
 use made::key;
 use std::alloc::Global;
-use units::{Asked, Mode, TxnId};
+use units::{Asked, Fault, Mode, TxnId};
 
 // What a transaction does.
 enum Does {
@@ -207,21 +207,26 @@ fn enters(table: &mut Table, alloc: Global, number: u64) -> Option<Held>
     }
 }
 
-fn asks(table: &mut Table, alloc: Global, held: &mut Held, mode: Mode, gets: &str) -> bool
+// What a request gets is this.
+fn gets(answer: Result<Asked, Fault>, wanted: &str) -> bool {
+    match answer {
+        Ok(Asked::Granted) => wanted == "granted",
+        Ok(Asked::Waits) => wanted == "waits",
+        Ok(Asked::Wounds(ids)) => {
+            let ends = ids.as_slice() == [id(2)].as_slice();
+            drop(ids);
+            ends && wanted == "wounds 1.2"
+        }
+        Err(_) => false,
+    }
+}
+
+fn asks(table: &mut Table, alloc: Global, held: &mut Held, mode: Mode, wanted: &str) -> bool
     requires { has_claim table.old held.old.txn ≡ true }
     ensures txn { held.new.txn ≡ held.old.txn }
     ensures claims { KeepsClaims table.old table.new }
 {
-    match table.request(alloc, held, &needs(key(b'a'), mode)) {
-        Ok(Asked::Granted) => gets == "granted",
-        Ok(Asked::Waits) => gets == "waits",
-        Ok(Asked::Wounds(ids)) => {
-            let ends = ids.as_slice() == [id(2)].as_slice();
-            drop(ids);
-            ends && gets == "wounds 1.2"
-        }
-        Err(_) => false,
-    }
+    gets(table.request(alloc, held, &needs(key(b'a'), mode)), wanted)
 }
 
 // A step of a transaction that stays in the table.
