@@ -1,8 +1,7 @@
 //! Commands that ask the system for files.
-use crate::given::{File, Wanted, is_answered};
-use std::alloc::Global;
+use crate::given::{Asked, File};
 
-static FILES: [File; 17] = [
+pub static FILES: [File; 17] = [
     File {
         path: "empty",
         bytes: b"",
@@ -82,16 +81,7 @@ static FILES: [File; 17] = [
     },
 ];
 
-// A command line, what is printed to both outputs, and the status.
-#[derive(Clone, Copy)]
-struct Asked {
-    words: &'static [&'static str],
-    printed: &'static str,
-    refused: &'static str,
-    status: u8,
-}
-
-static ASKED: [Asked; 35] = [
+pub static ASKED: [Asked; 36] = [
     Asked {
         words: &["format", "new.log"],
         printed: "",
@@ -100,6 +90,12 @@ static ASKED: [Asked; 35] = [
     },
     Asked {
         words: &["format", "opened.log"],
+        printed: "",
+        refused: "fault: 2 Device\n",
+        status: 2,
+    },
+    Asked {
+        words: &["play", "a.schedule"],
         printed: "",
         refused: "fault: 2 Device\n",
         status: 2,
@@ -342,19 +338,3 @@ static ASKED: [Asked; 35] = [
         status: 2,
     },
 ];
-
-fn is_right(alloc: Global, row: &Asked) -> bool {
-    let wanted = Wanted {
-        printed: row.printed,
-        refused: row.refused,
-        status: row.status,
-    };
-    is_answered(alloc, &FILES, row.words, wanted)
-}
-
-#[test]
-fn commands_that_ask_for_files(rt: HostRuntime) {
-    for row in &ASKED {
-        assert!(rt; is_right(rt.alloc(), row), "at {:?}", row.words);
-    }
-}

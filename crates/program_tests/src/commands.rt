@@ -1,9 +1,9 @@
 //! Commands, one after the other in one folder.
 use crate::folder::Folder;
-use cli::{Driven, Files, Stream, System, answer};
+use crate::given::{AMPLE, Printed, print};
+use cli::{Driven, Files, System};
 use host::{HostFiles, drive_shards};
 use settings::Settings;
-use simdisk::SimDisk;
 use std::alloc::Global;
 use std::process::Abort;
 use units::Fault;
@@ -170,61 +170,20 @@ static CLOSED: [Step; 5] = [
     },
 ];
 
-// The settings of a drive whose logs are in the folder of that name.
-fn settings(alloc: Global, folder: &Folder, name: &str) -> Option<String> {
-    let dir = folder.path(alloc, name)?;
-    format!(in alloc;
-        "shards = 2\nsplits = [\"k0005\"]\nstride = 1000\nepsilon = 100\nworkers = 4\ntransactions = 50\nkeys = 10\ndir = \"{dir}\"\n"
-    ).ok()
-}
-
-// Puts what the commands name.
-fn is_furnished(rt: &HostRuntime, folder: &Folder) -> bool {
-    let Some(text) = settings(rt.alloc(), folder, ".") else {
-        return false;
-    };
-    let stands = folder.put(rt, "no.lines", "")
-        && folder.put(rt, "files.settings", text.as_str())
-        && folder.put_folder(rt, "folder");
-    drop(text);
-    stands
-}
-
 // A folder with what the commands name.
-fn furnished(rt: &HostRuntime) -> Option<Folder> {
-    let Some(folder) = Folder::new(rt) else {
-        return None;
-    };
-    if is_furnished(rt, &folder) {
-        Some(folder)
-    } else {
-        drop(folder);
-        None
-    }
-}
-
-fn push_paths(paths: &mut Vec<String>, alloc: Global, folder: &Folder, names: &[&str]) -> bool {
-    for name in names {
-        let Some(path) = folder.path(alloc, name) else {
-            return false;
-        };
-        if paths.push(path).is_err() {
-            return false;
-        }
-    }
-    true
-}
-
-fn push_words<'w>(words: &mut Vec<&'w str>, command: &'w str, paths: &'w [String]) -> bool {
-    if words.push(command).is_err() {
-        return false;
-    }
-    for path in paths {
-        if words.push(path.as_str()).is_err() {
-            return false;
-        }
-    }
-    true
+fn furnished(rt: &HostRuntime, test: &impl Abort) -> Folder {
+    let folder = Folder::new(rt, test);
+    let dir = folder.path(rt, test, ".");
+    let text = format!(in rt.alloc();
+        "shards = 2\nsplits = [\"k0005\"]\nstride = 1000\nepsilon = 100\nworkers = 4\ntransactions = 50\nkeys = 10\ndir = \"{dir}\"\n"
+    );
+    drop(dir);
+    let text = text.ok().expect(test, "settings");
+    folder.put(rt, test, "no.lines", Some(""));
+    folder.put(rt, test, "files.settings", Some(text.as_str()));
+    folder.put(rt, test, "folder", None);
+    drop(text);
+    folder
 }
 
 fn lines_in(bytes: &[u8]) -> usize {
@@ -237,129 +196,89 @@ fn lines_in(bytes: &[u8]) -> usize {
     lines
 }
 
-fn is_printed(out: &[u8], err: &[u8], step: &Step) -> bool {
-    out.ends_with(step.ends.as_bytes())
-        && lines_in(out) == step.lines
-        && err == step.fault.as_bytes()
+fn paths_of(rt: &HostRuntime, test: &impl Abort, folder: &Folder, names: &[&str]) -> Vec<String> {
+    let mut paths = Vec::new(rt.alloc());
+    for name in names {
+        let pushed = paths.push(folder.path(rt, test, name));
+        pushed.ok().expect(test, "memory");
+    }
+    paths
 }
 
-// Whether the words of a command print what they should, and give its status.
-fn are_answered<'a, F: Files, D: Fn(Global, &Settings) -> Result<Driven, Fault>>(
+fn words_of<'w>(
+    test: &impl Abort,
     alloc: Global,
-    system: &System<F, D>,
-    words: &'a [&'a str],
-    step: &Step,
-) -> bool
-    requires { D.IsAlwaysCallable system.now.drive }
-{
-    let mut out = Stream::new(Vec::<u8>::new(alloc));
-    let mut err = Stream::new(Vec::<u8>::new(alloc));
-    let (status, disk) = answer(
-        alloc,
-        words,
-        system,
-        SimDisk::new(alloc),
-        &mut out,
-        &mut err,
-    );
-    drop(disk);
-    let (out, err) = (out.into_writer(), err.into_writer());
-    let printed = is_printed(&out, &err, step);
-    drop(out);
-    drop(err);
-    status == step.status && printed
-}
-
-// The same of a command and the paths of its files.
-fn is_answered_at<F: Files, D: Fn(Global, &Settings) -> Result<Driven, Fault>>(
-    alloc: Global,
-    system: &System<F, D>,
-    paths: &[String],
-    step: &Step,
-) -> bool
-    requires { D.IsAlwaysCallable system.now.drive }
-{
+    command: &'w str,
+    paths: &'w [String],
+) -> Vec<&'w str> {
     let mut words = Vec::new(alloc);
-    let answered = push_words(&mut words, step.command, paths)
-        && are_answered(alloc, system, words.as_slice(), step);
-    drop(words);
-    answered
+    words.push(command).ok().expect(test, "memory");
+    for path in paths {
+        words.push(path.as_str()).ok().expect(test, "memory");
+    }
+    words
 }
 
+// Whether this is printed, and the status.
+fn is_right(printed: &Printed, step: &Step) -> bool {
+    printed.out.ends_with(step.ends.as_bytes())
+        && lines_in(&printed.out) == step.lines
+        && printed.err.as_slice() == step.fault.as_bytes()
+        && printed.status == step.status
+}
+
+// Whether a command prints what it should, and gives its status.
 fn is_answered<F: Files, D: Fn(Global, &Settings) -> Result<Driven, Fault>>(
-    alloc: Global,
+    rt: &HostRuntime,
+    test: &impl Abort,
     system: &System<F, D>,
     folder: &Folder,
     step: &Step,
 ) -> bool
     requires { D.IsAlwaysCallable system.now.drive }
 {
-    let mut paths = Vec::new(alloc);
-    let answered = push_paths(&mut paths, alloc, folder, step.names)
-        && is_answered_at(alloc, system, paths.as_slice(), step);
+    let paths = paths_of(rt, test, folder, step.names);
+    let words = words_of(test, rt.alloc(), step.command, paths.as_slice());
+    let printed = print(rt.alloc(), system, words.as_slice(), AMPLE);
+    drop(words);
     drop(paths);
-    answered
+    let right = is_right(&printed, step);
+    drop(printed);
+    right
 }
 
-// A command and the names of its files, or something else that is wrong.
-type Wrong = (&'static str, &'static [&'static str]);
-
-const NOTHING: Wrong = ("", &[]);
-
-// The first of some commands that is not answered as it should be.
+// The first of some commands that is not answered as it should be: it and the names of its files.
 fn first_wrong<F: Files, D: Fn(Global, &Settings) -> Result<Driven, Fault>>(
-    alloc: Global,
+    rt: &HostRuntime,
+    test: &impl Abort,
     system: &System<F, D>,
     folder: &Folder,
     steps: &[Step],
-) -> Wrong
+) -> Option<(&'static str, &'static [&'static str])>
     requires { D.IsAlwaysCallable system.now.drive }
 {
     for step in steps {
-        if !is_answered(alloc, system, folder, step) {
-            return (step.command, step.names);
+        if !is_answered(rt, test, system, folder, step) {
+            return Some((step.command, step.names));
         }
     }
-    NOTHING
-}
-
-fn check(rt: &impl Abort, wrong: Wrong, is_removed: bool) {
-    assert!(rt;
-        is_removed && wrong.0.is_empty(),
-        "{} {:?}",
-        wrong.0,
-        wrong.1
-    );
+    None
 }
 
 #[test]
 fn commands_over_files(rt: HostRuntime) {
-    let folder = furnished(&rt).expect(&rt, "a folder");
+    let folder = furnished(&rt, &rt);
     let system = System {
         files: HostFiles(&rt),
         drive: |alloc: Global, settings: &Settings| {
             drive_shards(&rt, alloc, settings, Some(Vec::<u8>::new(alloc)))
         },
     };
-    let wrong = first_wrong(rt.alloc(), &system, &folder, &STEPS);
-    check(&rt, wrong, folder.remove(&rt));
-}
-
-#[test]
-fn files_without_rights(rt: HostRuntime) {
-    let folder = furnished(&rt).expect(&rt, "a folder");
-    let put = folder.put(&rt, "closed", "");
-    let system = System {
-        files: HostFiles(&rt),
-        drive: |alloc: Global, settings: &Settings| {
-            drive_shards(&rt, alloc, settings, None::<Vec<u8>>)
-        },
-    };
-    let wrong = if folder.close(&rt, "closed") {
-        first_wrong(rt.alloc(), &system, &folder, &CLOSED)
-    } else {
-        NOTHING
-    };
+    let mut wrong = first_wrong(&rt, &rt, &system, &folder, &STEPS);
+    folder.put(&rt, &rt, "closed", Some(""));
+    if wrong.is_none() && folder.close(&rt, &rt, "closed") {
+        wrong = first_wrong(&rt, &rt, &system, &folder, &CLOSED);
+    }
     let removed = folder.remove(&rt);
-    check(&rt, wrong, put && removed);
+    assert!(rt; removed && wrong.is_none(), "{wrong:?}");
 }

@@ -1,45 +1,178 @@
-//! Drives of two shards.
-use crate::gates::{Meeting, Open};
-use crate::made::{disks, driven, settings};
-use drive::drive_by;
-use node::Gate;
+//! Drives of two shards, which part at `k0005`, with a stride of 1,000 and a clock that is within 100.
+use crate::gates::Meeting;
+use drive::{Driven, drive, drive_by};
+use gatelog::GateLog;
 use progress::NoWatch;
 use settings::Settings;
+use simdisk::SimDisk;
 use std::alloc::Global;
+use std::process::Abort;
 use std::sync::Wait;
 use std::thread::Threads;
 use std::time;
 use truetime::{Clock, Reading};
-use units::Verdict;
+use units::{Fault, Key, Line, Reason, Splits, Stride, Verdict};
 use workers::Summary;
 
-// A drive of so many workers and transactions of each: how many are tried, and how many commits and answered looks there are at
-// least.
+// Why a drive is refused; or how many transactions are tried, how many commits and answered looks there are at least, and of
+// which run the ids are.
+#[derive(Clone, Copy)]
+enum Comes {
+    Refused(Fault),
+    Driven {
+        tried: u64,
+        committed: u64,
+        looks: u64,
+        run: u64,
+    },
+}
+
+// A drive over so many disks with an empty log, and one without, of so many workers and transactions of each.
+#[derive(Clone, Copy)]
 struct Row {
     name: &'static str,
     workers: u64,
     transactions: u64,
-    tried: u64,
-    committed: u64,
-    looks: u64,
+    keys: u64,
+    logs: u8,
+    blank: bool,
+    comes: Comes,
 }
 
-const ROWS: [Row; 2] = [
+const SETTINGS: Comes = Comes::Refused(Fault::BadRequest(Reason::Settings));
+
+static ROWS: [Row; 10] = [
     Row {
         name: "four workers",
         workers: 4,
         transactions: 50,
-        tried: 200,
-        committed: 0,
-        looks: 0,
+        keys: 10,
+        logs: 2,
+        blank: false,
+        comes: Comes::Driven {
+            tried: 200,
+            committed: 0,
+            looks: 0,
+            run: 1,
+        },
     },
     Row {
         name: "many workers",
         workers: 16,
         transactions: 5,
-        tried: 80,
-        committed: 0,
-        looks: 0,
+        keys: 10,
+        logs: 2,
+        blank: false,
+        comes: Comes::Driven {
+            tried: 80,
+            committed: 0,
+            looks: 0,
+            run: 1,
+        },
+    },
+    Row {
+        name: "no worker",
+        workers: 0,
+        transactions: 1,
+        keys: 1,
+        logs: 2,
+        blank: false,
+        comes: SETTINGS,
+    },
+    Row {
+        name: "65 workers",
+        workers: 65,
+        transactions: 1,
+        keys: 1,
+        logs: 2,
+        blank: false,
+        comes: SETTINGS,
+    },
+    Row {
+        name: "no transaction",
+        workers: 1,
+        transactions: 0,
+        keys: 1,
+        logs: 2,
+        blank: false,
+        comes: SETTINGS,
+    },
+    Row {
+        name: "no key",
+        workers: 1,
+        transactions: 1,
+        keys: 0,
+        logs: 2,
+        blank: false,
+        comes: SETTINGS,
+    },
+    Row {
+        name: "10,001 keys",
+        workers: 1,
+        transactions: 1,
+        keys: 10_001,
+        logs: 2,
+        blank: false,
+        comes: SETTINGS,
+    },
+    Row {
+        name: "one disk for two shards",
+        workers: 1,
+        transactions: 1,
+        keys: 1,
+        logs: 1,
+        blank: false,
+        comes: SETTINGS,
+    },
+    Row {
+        name: "three disks for two shards",
+        workers: 1,
+        transactions: 1,
+        keys: 1,
+        logs: 3,
+        blank: false,
+        comes: SETTINGS,
+    },
+    Row {
+        name: "a disk without a log",
+        workers: 1,
+        transactions: 1,
+        keys: 10,
+        logs: 1,
+        blank: true,
+        comes: Comes::Refused(Fault::NotALog),
+    },
+];
+
+// Two drives, one after the other over the same disks.
+static AGAIN: [Row; 2] = [
+    Row {
+        name: "a drive",
+        workers: 1,
+        transactions: 5,
+        keys: 10,
+        logs: 2,
+        blank: false,
+        comes: Comes::Driven {
+            tried: 5,
+            committed: 0,
+            looks: 0,
+            run: 1,
+        },
+    },
+    Row {
+        name: "a second one over the same disks",
+        workers: 1,
+        transactions: 5,
+        keys: 10,
+        logs: 2,
+        blank: false,
+        comes: Comes::Driven {
+            tried: 5,
+            committed: 1,
+            looks: 0,
+            run: 2,
+        },
     },
 ];
 
@@ -47,19 +180,58 @@ const ONE_WORKER: Row = Row {
     name: "one worker",
     workers: 1,
     transactions: 50,
-    tried: 50,
-    committed: 1,
-    looks: 1,
+    keys: 10,
+    logs: 2,
+    blank: false,
+    comes: Comes::Driven {
+        tried: 50,
+        committed: 1,
+        looks: 1,
+        run: 1,
+    },
 };
 
 const MEETING: Row = Row {
     name: "six workers",
     workers: 6,
     transactions: 50,
-    tried: 300,
-    committed: 0,
-    looks: 0,
+    keys: 10,
+    logs: 2,
+    blank: false,
+    comes: Comes::Driven {
+        tried: 300,
+        committed: 0,
+        looks: 0,
+        run: 1,
+    },
 };
+
+fn settings_of(rt: &impl Abort, alloc: Global, row: &Row) -> Settings {
+    let split = Key::new(b"k0005").expect(rt, "a key");
+    Settings {
+        splits: Splits::new(alloc, &[split]).expect(rt, "splits"),
+        stride: Stride::new(1_000).expect(rt, "a stride"),
+        epsilon: 100,
+        workers: row.workers,
+        transactions: row.transactions,
+        keys: row.keys,
+        dir: None,
+    }
+}
+
+fn disks_of(rt: &impl Abort, alloc: Global, row: &Row) -> Vec<SimDisk> {
+    let mut disks = Vec::new(alloc);
+    for _shard in 0..row.logs {
+        let log = GateLog::format(SimDisk::new(alloc))
+            .ok()
+            .expect(rt, "a log");
+        disks.push(log.into_disk()).ok().expect(rt, "memory");
+    }
+    if row.blank {
+        disks.push(SimDisk::new(alloc)).ok().expect(rt, "memory");
+    }
+    disks
+}
 
 // Whether each transaction was counted, and the verdict is yes.
 fn is_sound(summary: &Summary, tried: u64) -> bool {
@@ -71,55 +243,93 @@ fn is_sound(summary: &Summary, tried: u64) -> bool {
     sum == tried && summary.verdict == Verdict::Yes
 }
 
-fn is_within(summary: &Summary, row: &Row) -> bool {
-    let counts = summary.counts;
-    is_sound(summary, row.tried) && counts.committed >= row.committed && counts.looks >= row.looks
+// Whether each transaction that began is of the run.
+fn are_of(lines: &[Line], run: u64) -> bool {
+    for line in lines {
+        if let Line::Begin(txn, _) = line {
+            if txn.run() != run {
+                return false;
+            }
+        }
+    }
+    true
 }
 
-fn is_driven<R: Threads + Wait + time::Clock + Sync, G: Gate + Sync>(
-    rt: &R,
-    alloc: Global,
-    settings: &Settings,
-    row: &Row,
-    gate: &G,
-) -> bool {
-    match driven(rt, alloc, settings, disks(alloc, 2), gate) {
-        Ok(driven) => {
-            let within = is_within(&driven.summary, row);
-            drop(driven);
-            within
-        }
-        Err(_) => false,
+fn is_driven(summary: &Summary, lines: &[Line], comes: Comes) -> bool {
+    match comes {
+        Comes::Refused(_) => false,
+        Comes::Driven {
+            tried,
+            committed,
+            looks,
+            run,
+        } => is_sound(summary, tried)
+            && summary.counts.committed >= committed
+            && summary.counts.looks >= looks
+            && are_of(lines, run),
     }
 }
 
-fn holds<R: Threads + Wait + time::Clock + Sync, G: Gate + Sync>(
+// Drives the disks as the row says, and compares what that comes to. The disks behind it, where it is not refused.
+fn go<R: Threads + Wait + time::Clock + Sync + Abort>(
     rt: &R,
     alloc: Global,
     row: &Row,
-    gate: &G,
-) -> bool {
-    let Some(settings) = settings(alloc, row.workers, row.transactions) else {
-        return false;
-    };
-    let driven = is_driven(rt, alloc, &settings, row, gate);
+    disks: Vec<SimDisk>,
+    gate: &Meeting<R>,
+) -> Vec<SimDisk> {
+    let settings = settings_of(rt, alloc, row);
+    let driven = drive(rt, alloc, &settings, disks, gate, &NoWatch);
     drop(settings);
-    driven
+    let (held, disks) = match driven {
+        Ok(
+            Driven {
+                summary,
+                lines,
+                disks,
+            },
+        ) => {
+            let held = is_driven(&summary, lines.as_slice(), row.comes);
+            drop(lines);
+            (held, disks)
+        }
+        Err(why) => {
+            let held = match row.comes {
+                Comes::Refused(fault) => why == fault,
+                _ => false,
+            };
+            (held, Vec::new(alloc))
+        }
+    };
+    assert!(rt; held, "{}", row.name);
+    disks
 }
 
 #[test]
 fn drives(rt: HostRuntime) {
+    let gate = Meeting::new(&rt, false);
     for row in &ROWS {
-        assert!(rt; holds(&rt, rt.alloc(), row, &Open), "{}", row.name);
+        drop(go(&rt, rt.alloc(), row, disks_of(&rt, rt.alloc(), row), &gate));
     }
+    let mut left = disks_of(&rt, rt.alloc(), &AGAIN[0]);
+    for row in &AGAIN {
+        left = go(&rt, rt.alloc(), row, left, &gate);
+    }
+    drop(left);
 }
 
 // It fails where nodes are served one after the other, or one letter at a time over both.
 #[test]
 fn nodes_in_turn(rt: HostRuntime) {
-    let gate = Meeting::new(&rt);
-    let driven = holds(&rt, rt.alloc(), &MEETING, &gate);
-    assert!(rt; driven && gate.have_met());
+    let gate = Meeting::new(&rt, true);
+    drop(go(
+        &rt,
+        rt.alloc(),
+        &MEETING,
+        disks_of(&rt, rt.alloc(), &MEETING),
+        &gate,
+    ));
+    assert!(rt; gate.have_met());
 }
 
 // Never has a reading, so that each letter is lost.
@@ -132,47 +342,40 @@ impl Clock for Stopped {
     }
 }
 
-// Whether nothing was committed and no look was answered, so that it is not within the row of one worker.
-fn is_lost(summary: &Summary) -> bool {
-    let counts = summary.counts;
-    is_sound(summary, 1)
+const LOST: Row = Row {
+    name: "one transaction",
+    transactions: 1,
+    ..ONE_WORKER
+};
+
+// Whether a drive of one worker and one transaction, whose nodes lose each letter, commits nothing and has no look answered,
+// so that it does not come to what one worker comes to.
+fn loses<R: Threads + Wait + time::Clock + Sync + Abort>(rt: &R, alloc: Global) -> bool {
+    let settings = settings_of(rt, alloc, &LOST);
+    let gate = Meeting::new(rt, false);
+    let disks = disks_of(rt, alloc, &LOST);
+    let driven = drive_by(rt, alloc, &settings, disks, Stopped, &gate, &NoWatch);
+    drop(settings);
+    let driven = driven.expect(rt, LOST.name);
+    let counts = driven.summary.counts;
+    let lost = is_sound(&driven.summary, 1)
         && counts.aborted == 1
         && counts.looks == 0
-        && !is_within(summary, &ONE_WORKER)
-}
-
-// A drive whose nodes lose each letter.
-fn is_lost_by<R: Threads + Wait + time::Clock + Sync>(
-    rt: &R,
-    alloc: Global,
-    settings: &Settings,
-) -> bool {
-    let Some(disks) = disks(alloc, 2) else {
-        return false;
-    };
-    match drive_by(rt, alloc, settings, disks, Stopped, &Open, &NoWatch) {
-        Ok(driven) => {
-            let lost = is_lost(&driven.summary);
-            drop(driven);
-            lost
-        }
-        Err(_) => false,
-    }
-}
-
-// A drive of one worker and one transaction, whose nodes lose each letter.
-fn loses<R: Threads + Wait + time::Clock + Sync>(rt: &R, alloc: Global) -> bool {
-    let Some(settings) = settings(alloc, 1, 1) else {
-        return false;
-    };
-    let lost = is_lost_by(rt, alloc, &settings);
-    drop(settings);
+        && !is_driven(&driven.summary, driven.lines.as_slice(), LOST.comes);
+    drop(driven);
     lost
 }
 
 // It fails where nodes lose every letter, as they do with a clock that has no reading.
 #[test]
 fn lose_every_letter(rt: HostRuntime) {
-    assert!(rt; holds(&rt, rt.alloc(), &ONE_WORKER, &Open));
+    let gate = Meeting::new(&rt, false);
+    drop(go(
+        &rt,
+        rt.alloc(),
+        &ONE_WORKER,
+        disks_of(&rt, rt.alloc(), &ONE_WORKER),
+        &gate,
+    ));
     assert!(rt; loses(&rt, rt.alloc()));
 }

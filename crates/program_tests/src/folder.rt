@@ -1,7 +1,7 @@
-//! A folder for one test.
-use std::alloc::Global;
+//! A folder for one test. Where something cannot be done in it, the test ends.
 use std::fs::Permissions;
 use std::os::unix::fs::PermissionsExt;
+use std::process::Abort;
 use std::{env, fs};
 
 /// A folder in which nothing was when the test began.
@@ -11,86 +11,51 @@ pub struct Folder {
 }
 
 impl Folder {
-    // Makes a folder under a name, where nothing has that.
-    fn at(rt: &HostRuntime, base: &str, number: u64) -> Option<Folder> {
-        let Ok(path) = format!(in rt.alloc(); "{base}/host-tests-{number}") else {
-            return None;
-        };
-        if fs::create_dir(rt, path.as_str()).is_ok() {
-            Some(Folder { path })
-        } else {
-            drop(path);
-            None
-        }
-    }
-
-    fn below(rt: &HostRuntime, base: &str) -> Option<Folder> {
-        for number in 0..10_000u64 {
-            if let Some(folder) = Folder::at(rt, base, number) {
-                return Some(folder);
-            }
-        }
-        None
-    }
-
     /// Makes a folder where temporary files go, under a name that nothing has there.
-    pub fn new(rt: &HostRuntime) -> Option<Folder> {
-        let Ok(base) = env::temp_dir(rt) else {
-            return None;
-        };
-        let folder = Folder::below(rt, base.as_str());
-        drop(base);
-        folder
+    pub fn new(rt: &HostRuntime, test: &impl Abort) -> Folder {
+        let base = env::temp_dir(rt)
+            .ok()
+            .expect(test, "where temporary files go");
+        for number in 0..10_000u64 {
+            let path = format!(in rt.alloc(); "{}/host-tests-{number}", base.as_str());
+            let path = path.ok().expect(test, "memory");
+            if fs::create_dir(rt, path.as_str()).is_ok() {
+                drop(base);
+                return Folder { path };
+            }
+            drop(path);
+        }
+        test.panic("no folder is made")
     }
 
     /// The path of a name in it.
-    pub fn path(&self, alloc: Global, name: &str) -> Option<String> {
-        format!(in alloc; "{}/{name}", self.path.as_str()).ok()
+    pub fn path(&self, rt: &HostRuntime, test: &impl Abort, name: &str) -> String {
+        let path = format!(in rt.alloc(); "{}/{name}", self.path.as_str());
+        path.ok().expect(test, "memory")
     }
 
-    /// Puts a file in it. Whether that could be done.
-    pub fn put(&self, rt: &HostRuntime, name: &str, text: &str) -> bool {
-        match self.path(rt.alloc(), name) {
-            Some(path) => {
-                let put = fs::write(rt, path.as_str(), text).is_ok();
-                drop(path);
-                put
-            }
-            None => false,
-        }
+    /// Puts a file in it, or a folder where there is no text.
+    pub fn put(&self, rt: &HostRuntime, test: &impl Abort, name: &str, text: Option<&str>) {
+        let path = self.path(rt, test, name);
+        let put = match text {
+            Some(text) => fs::write(rt, path.as_str(), text),
+            None => fs::create_dir(rt, path.as_str()),
+        };
+        drop(path);
+        put.ok().expect(test, name);
     }
 
     /// Takes all rights of a file. Whether it may not be read then: a process of root reads it nevertheless.
-    pub fn close(&self, rt: &HostRuntime, name: &str) -> bool {
-        match self.path(rt.alloc(), name) {
-            Some(path) => {
-                let closed = is_closed(rt, path.as_str());
-                drop(path);
-                closed
-            }
-            None => false,
-        }
-    }
-
-    /// Puts a folder in it. Whether that could be done.
-    pub fn put_folder(&self, rt: &HostRuntime, name: &str) -> bool {
-        match self.path(rt.alloc(), name) {
-            Some(path) => {
-                let put = fs::create_dir(rt, path.as_str()).is_ok();
-                drop(path);
-                put
-            }
-            None => false,
-        }
+    pub fn close(&self, rt: &HostRuntime, test: &impl Abort, name: &str) -> bool {
+        let path = self.path(rt, test, name);
+        let closed = fs::set_permissions(rt, path.as_str(), Permissions::from_mode(0)).is_ok()
+            && fs::read(rt, path.as_str()).is_err();
+        drop(path);
+        closed
     }
 
     /// Removes it with all that is in it. Whether it is gone.
     pub fn remove(self, rt: &HostRuntime) -> bool {
         fs::remove_dir_all(rt, self.path.as_str()).is_ok()
     }
-}
-
-// Takes all rights of a file. Whether it may not be read then.
-fn is_closed(rt: &HostRuntime, path: &str) -> bool {
-    fs::set_permissions(rt, path, Permissions::from_mode(0)).is_ok() && fs::read(rt, path).is_err()
 }

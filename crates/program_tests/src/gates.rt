@@ -1,32 +1,25 @@
-//! Gates of drives.
+//! The gate of drives.
 use node::Gate;
 use std::sync::atomic::{AtomicU64, Ordering};
 use std::time::Duration;
 use std::{thread, time};
 use units::ShardNo;
 
-/// Holds nothing.
-pub struct Open;
-
-impl Gate for Open {
-    fn before(&self, _shard: ShardNo, _n: u64) {}
-
-    fn after(&self, _shard: ShardNo, _n: u64) {}
-}
-
-/// Holds the first letters of shards 0 and 1, each until the other's has come, for 10,000 turns at most.
+/// Holds the first letters of shards 0 and 1, each until the other's has come, for 10,000 turns at most; or holds nothing.
 #[derive(Drop)]
 pub struct Meeting<'a, R> {
     rt: &'a R,
+    holds: bool,
     first: AtomicU64,
     second: AtomicU64,
     missed: AtomicU64,
 }
 
 impl<'a, R> Meeting<'a, R> {
-    pub fn new(rt: &'a R) -> Meeting<'a, R> {
+    pub fn new(rt: &'a R, holds: bool) -> Meeting<'a, R> {
         Meeting {
             rt,
+            holds,
             first: AtomicU64::new(0),
             second: AtomicU64::new(0),
             missed: AtomicU64::new(0),
@@ -56,7 +49,7 @@ impl<R: time::Clock> Meeting<'_, R> {
 
 impl<R: time::Clock> Gate for Meeting<'_, R> {
     fn before(&self, shard: ShardNo, n: u64) {
-        if n > 0 {
+        if n > 0 || !self.holds {
             return;
         }
         let (own, other) = if shard.number() == 0 {

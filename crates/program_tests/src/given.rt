@@ -7,7 +7,9 @@ use disk::Disk;
 use settings::Settings;
 use simdisk::SimDisk;
 use std::alloc::Global;
+use std::io;
 use std::io::Write;
+use std::process::Abort;
 use units::{Fault, TxnId, Verdict};
 
 /// A file.
@@ -19,8 +21,8 @@ pub struct File {
 
 /// Some files.
 #[derive(Clone, Copy)]
-pub struct Memory<'f> {
-    pub files: &'f [File],
+struct Memory<'f> {
+    files: &'f [File],
 }
 
 impl Memory<'_> {
@@ -90,50 +92,105 @@ fn told(alloc: Global, settings: &Settings) -> Result<Driven, Fault> {
     }
 }
 
-/// Carries a command out over some files. The status is told.
-pub fn status_of<'a, O: Write, E: Write>(
-    alloc: Global,
-    files: &'a [File],
-    words: &'a [&'a str],
-    out: &mut Stream<O>,
-    err: &mut Stream<E>,
-) -> u8 {
-    let system = System {
-        files: Memory { files },
-        drive: told,
-    };
-    let (status, disk) = answer(alloc, words, &system, SimDisk::new(alloc), out, err);
-    drop(disk);
-    status
+/// How many writes each output takes before it fails, and whether all that is printed is compared, or how it begins.
+#[derive(Clone, Copy)]
+pub struct Writes {
+    pub out: u32,
+    pub err: u32,
+    pub whole: bool,
 }
 
-/// What a command is to print to both outputs, and its status.
+/// All is printed and compared.
+pub const AMPLE: Writes = Writes {
+    out: 1_000_000,
+    err: 1_000_000,
+    whole: true,
+};
+
+// Keeps what it takes, and fails once it took so many writes.
+#[derive(Drop)]
+struct Paper {
+    bytes: Vec<u8>,
+    left: u32,
+}
+
+impl Write for Paper {
+    fn write(&mut self, buf: &[u8]) -> io::Result<usize> {
+        if self.left == 0 {
+            return Err(io::Error::from(io::ErrorKind::BrokenPipe));
+        }
+        self.left -= 1;
+        self.bytes.write(buf)
+    }
+
+    fn flush(&mut self) -> io::Result<()> {
+        Ok(())
+    }
+}
+
+/// What was printed to both outputs, and the status.
+#[derive(Drop)]
+pub struct Printed {
+    pub out: Vec<u8>,
+    pub err: Vec<u8>,
+    pub status: u8,
+}
+
+/// Carries a command out.
+pub fn print<'a, F: Files, D: Fn(Global, &Settings) -> Result<Driven, Fault>>(
+    alloc: Global,
+    system: &System<F, D>,
+    words: &'a [&'a str],
+    writes: Writes,
+) -> Printed
+    requires { D.IsAlwaysCallable system.now.drive }
+{
+    let mut out = Stream::new(Paper {
+        bytes: Vec::new(alloc),
+        left: writes.out,
+    });
+    let mut err = Stream::new(Paper {
+        bytes: Vec::new(alloc),
+        left: writes.err,
+    });
+    let disk = SimDisk::new(alloc);
+    let (status, disk) = answer(alloc, words, system, disk, &mut out, &mut err);
+    drop(disk);
+    Printed {
+        out: out.into_writer().bytes,
+        err: err.into_writer().bytes,
+        status,
+    }
+}
+
+/// A command line, what is printed to both outputs, and the status.
 #[derive(Clone, Copy)]
-pub struct Wanted {
+pub struct Asked {
+    pub words: &'static [&'static str],
     pub printed: &'static str,
     pub refused: &'static str,
     pub status: u8,
 }
 
-/// Whether it was this that was written.
-pub fn is_written(stream: Stream<Vec<u8>>, text: &str) -> bool {
-    let bytes = stream.into_writer();
-    let same = bytes.as_slice() == text.as_bytes();
-    drop(bytes);
-    same
-}
-
-/// Whether a command over some files comes to what is wanted.
-pub fn is_answered<'a>(
+/// Compares what a command over some files comes to with the row.
+pub fn compare(
+    rt: &impl Abort,
     alloc: Global,
-    files: &'a [File],
-    words: &'a [&'a str],
-    wanted: Wanted,
-) -> bool {
-    let mut out = Stream::new(Vec::<u8>::new(alloc));
-    let mut err = Stream::new(Vec::<u8>::new(alloc));
-    let status = status_of(alloc, files, words, &mut out, &mut err);
-    let printed = is_written(out, wanted.printed);
-    let refused = is_written(err, wanted.refused);
-    status == wanted.status && printed && refused
+    files: &[File],
+    row: &Asked,
+    writes: Writes,
+    name: &str,
+) {
+    let system = System {
+        files: Memory { files },
+        drive: told,
+    };
+    let printed = print(alloc, &system, row.words, writes);
+    let wanted = row.printed.as_bytes();
+    let right = printed.out.starts_with(wanted)
+        && (!writes.whole || printed.out.len() == wanted.len())
+        && printed.err.as_slice() == row.refused.as_bytes()
+        && printed.status == row.status;
+    drop(printed);
+    assert!(rt; right, "{}: {:?}", name, row.words);
 }

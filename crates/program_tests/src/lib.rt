@@ -14,10 +14,6 @@ mod gates;
 #[cfg(test)]
 mod given;
 #[cfg(test)]
-mod made;
-#[cfg(test)]
 mod played;
 #[cfg(test)]
 mod printed;
-#[cfg(test)]
-mod refusals;

@@ -1,6 +1,5 @@
 //! What `play` prints of a file.
-use crate::given::{File, Wanted, is_answered};
-use std::alloc::Global;
+use crate::given::{AMPLE, Asked, File, compare};
 
 // The bytes of a file, what is printed to both outputs, and the status.
 #[derive(Clone, Copy)]
@@ -455,34 +454,20 @@ verdict yes
     },
 ];
 
-const WORDS: [&str; 2] = ["play", "a.schedule"];
-
-fn is_played(alloc: Global, row: &Played) -> bool {
-    let wanted = Wanted {
-        printed: row.printed,
-        refused: row.refused,
-        status: row.status,
-    };
-    let file = File {
-        path: "a.schedule",
-        bytes: row.bytes,
-    };
-    is_answered(alloc, &[file], &WORDS, wanted)
-}
-
+// Each of them is a file that is played.
 #[test]
 fn schedules_of_files_are_played(rt: HostRuntime) {
     for row in &PLAYED {
-        assert!(rt; is_played(rt.alloc(), row), "at {}", row.name);
+        let file = File {
+            path: "a.schedule",
+            bytes: row.bytes,
+        };
+        let asked = Asked {
+            words: &["play", "a.schedule"],
+            printed: row.printed,
+            refused: row.refused,
+            status: row.status,
+        };
+        compare(&rt, rt.alloc(), &[file], &asked, AMPLE, row.name);
     }
-}
-
-#[test]
-fn a_missing_file_is_refused(rt: HostRuntime) {
-    let wanted = Wanted {
-        printed: "",
-        refused: "fault: 2 Device\n",
-        status: 2,
-    };
-    assert!(rt; is_answered(rt.alloc(), &[], &WORDS, wanted));
 }

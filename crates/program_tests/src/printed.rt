@@ -1,60 +1,50 @@
 //! What the program prints.
-use crate::given::{Wanted, is_answered, is_written, status_of};
-use cli::{Command, Stream, command};
+use crate::asked::{ASKED, FILES};
+use crate::given::{AMPLE, Asked, Writes, compare};
+use cli::{Command, command};
 use std::alloc::Global;
-use std::io;
-use std::io::Write;
 use truetime::Reading;
 use units::{Fault, Reason};
 
-// A command line, what is printed to both outputs, and the status.
-#[derive(Clone, Copy)]
-struct Printed {
-    words: [&'static str; 7],
-    printed: &'static str,
-    refused: &'static str,
-    status: u8,
-}
-
-static PRINTED: [Printed; 9] = [
-    Printed {
-        words: ["once", "a", "1", "100", "110", "112", "121"],
+static PRINTED: [Asked; 10] = [
+    Asked {
+        words: &["once", "a", "1", "100", "110", "112", "121"],
         printed: "commit 1.1 at 111\ndone 1.1 committed 111\n",
         refused: "",
         status: 0,
     },
-    Printed {
-        words: ["once", "a", "1", "100", "110", "111", "120"],
+    Asked {
+        words: &["once", "a", "1", "100", "110", "111", "120"],
         printed: "commit 1.1 at 111\nearly\n",
         refused: "",
         status: 1,
     },
-    Printed {
-        words: ["once", "a", "1", "110", "100", "112", "121"],
+    Asked {
+        words: &["once", "a", "1", "110", "100", "112", "121"],
         printed: "",
         refused: "fault: 7 BadRequest(stamp)\n",
         status: 2,
     },
-    Printed {
-        words: ["once", "a", "1", "0x", "110", "112", "121"],
+    Asked {
+        words: &["once", "a", "1", "0x", "110", "112", "121"],
         printed: "",
         refused: "fault: 7 BadRequest(command)\n",
         status: 2,
     },
-    Printed {
-        words: ["once", "a", "1", "100", "4611686018427387903", "112", "121"],
+    Asked {
+        words: &["once", "a", "1", "100", "4611686018427387903", "112", "121"],
         printed: "",
         refused: "fault: 4 TimeSpent\n",
         status: 2,
     },
-    Printed {
-        words: ["once", "a", "1", "100", "4611686018427387904", "112", "0x"],
+    Asked {
+        words: &["once", "a", "1", "100", "4611686018427387904", "112", "0x"],
         printed: "",
         refused: "fault: 7 BadRequest(stamp)\n",
         status: 2,
     },
-    Printed {
-        words: [
+    Asked {
+        words: &[
             "once",
             "a",
             "1",
@@ -67,112 +57,136 @@ static PRINTED: [Printed; 9] = [
         refused: "fault: 7 BadRequest(stamp)\n",
         status: 2,
     },
-    Printed {
-        words: ["once", "a", "1", "0100", "110", "121", "112"],
+    Asked {
+        words: &["once", "a", "1", "0100", "110", "121", "112"],
         printed: "",
         refused: "fault: 7 BadRequest(command)\n",
         status: 2,
     },
-    Printed {
-        words: ["once", "", "1", "0100", "110", "112", "121"],
+    Asked {
+        words: &["once", "", "1", "0100", "110", "112", "121"],
         printed: "",
         refused: "fault: 7 BadRequest(key)\n",
         status: 2,
     },
-];
-
-fn is_right(alloc: Global, row: &Printed) -> bool {
-    let wanted = Wanted {
-        printed: row.printed,
-        refused: row.refused,
-        status: row.status,
-    };
-    is_answered(alloc, &[], &row.words, wanted)
-}
-
-#[test]
-fn answers_of_once(rt: HostRuntime) {
-    for row in &PRINTED {
-        assert!(rt; is_right(rt.alloc(), row), "at {:?}", row.words);
-    }
-}
-
-static ASKING_HELP: [&[&str]; 5] = [
-    &["--help"],
-    &["-h"],
-    &["once", "--help"],
-    &["once", "a", "-h", "--", "1"],
-    &["-x", "--help"],
-];
-
-// Whether help is printed.
-fn is_helped(alloc: Global, words: &'static [&'static str]) -> bool {
-    let mut out = Stream::new(Vec::<u8>::new(alloc));
-    let mut err = Stream::new(Vec::<u8>::new(alloc));
-    let status = status_of(alloc, &[], words, &mut out, &mut err);
-    let printed = out.into_writer();
-    let starts = printed.as_slice().starts_with(b"usage: shards COMMAND");
-    drop(printed);
-    let refused = is_written(err, "");
-    status == 0 && starts && refused
-}
-
-const NO_HELP: [&str; 8] = ["once", "--", "-h", "--help", "100", "110", "112", "121"];
-
-// Help is printed before anything else is looked at, but not for words behind `--`.
-#[test]
-fn answers_of_help(rt: HostRuntime) {
-    for words in &ASKING_HELP {
-        assert!(rt; is_helped(rt.alloc(), words), "at {words:?}");
-    }
-    let wanted = Wanted {
+    // Words behind `--` ask for no help.
+    Asked {
+        words: &["once", "--", "-h", "--help", "100", "110", "112", "121"],
         printed: "commit 1.1 at 111\ndone 1.1 committed 111\n",
         refused: "",
         status: 0,
-    };
-    assert!(rt; is_answered(rt.alloc(), &[], &NO_HELP, wanted));
+    },
+];
+
+// Help is printed before anything else is looked at. It begins like this.
+const HELP: Asked = Asked {
+    words: &[],
+    printed: "usage: shards COMMAND",
+    refused: "",
+    status: 0,
+};
+
+static ASKING_HELP: [Asked; 5] = [
+    Asked {
+        words: &["--help"],
+        ..HELP
+    },
+    Asked {
+        words: &["-h"],
+        ..HELP
+    },
+    Asked {
+        words: &["once", "--help"],
+        ..HELP
+    },
+    Asked {
+        words: &["once", "a", "-h", "--", "1"],
+        ..HELP
+    },
+    Asked {
+        words: &["-x", "--help"],
+        ..HELP
+    },
+];
+
+// A command line, and how many writes each output takes.
+struct Failing {
+    writes: Writes,
+    asked: Asked,
 }
 
-const WORDS: [&str; 7] = ["once", "a", "1", "100", "110", "112", "121"];
+const ONCE: Asked = Asked {
+    words: &["once", "a", "1", "100", "110", "112", "121"],
+    printed: "",
+    refused: "",
+    status: 2,
+};
 
-fn are_readings(first: &Reading, second: &Reading) -> bool {
-    first.earliest().micros() == 100
-        && first.latest().micros() == 110
-        && second.earliest().micros() == 112
-        && second.latest().micros() == 121
-}
+// After a failed write nothing more is printed, also no fault.
+static FAILING: [Failing; 4] = [
+    Failing {
+        writes: Writes { out: 0, ..AMPLE },
+        asked: ONCE,
+    },
+    Failing {
+        writes: Writes { out: 1, ..AMPLE },
+        asked: Asked {
+            printed: "commit 1.1 at 111\n",
+            ..ONCE
+        },
+    },
+    Failing {
+        writes: Writes { out: 2, ..AMPLE },
+        asked: Asked {
+            printed: "commit 1.1 at 111\ndone 1.1 committed 111\n",
+            status: 0,
+            ..ONCE
+        },
+    },
+    // It is refused, and nothing says so.
+    Failing {
+        writes: Writes { err: 0, ..AMPLE },
+        asked: Asked {
+            words: &["once", "a", "1", "110", "100", "112", "121"],
+            ..ONCE
+        },
+    },
+];
 
-// Whether it is what the words say.
-fn is_once(command: &Command) -> bool {
-    match command {
-        Command::Once {
-            key,
-            value,
-            first,
-            second,
-        } => key.as_bytes() == b"a".as_slice()
-            && value.as_bytes() == b"1".as_slice()
-            && are_readings(first, second),
-        _ => false,
-    }
-}
-
-fn is_taken(alloc: Global) -> bool {
-    match command(alloc, &WORDS) {
-        Ok(command) => {
-            let once = is_once(&command);
-            drop(command);
-            once
-        }
-        Err(_) => false,
-    }
-}
-
-// Where there is memory, want of it is not the answer.
 #[test]
-fn always_memory(rt: HostRuntime) {
-    assert!(rt; is_taken(rt.alloc()));
+fn answers(rt: HostRuntime) {
+    for row in &PRINTED {
+        compare(&rt, rt.alloc(), &[], row, AMPLE, "once");
+    }
+    for row in &ASKED {
+        compare(&rt, rt.alloc(), &FILES, row, AMPLE, "files");
+    }
+    for row in &ASKING_HELP {
+        compare(
+            &rt,
+            rt.alloc(),
+            &[],
+            row,
+            Writes {
+                whole: false,
+                ..AMPLE
+            },
+            "help",
+        );
+    }
+    for row in &FAILING {
+        compare(
+            &rt,
+            rt.alloc(),
+            &[],
+            &row.asked,
+            row.writes,
+            "writes that fail",
+        );
+    }
 }
+
+static WORDS: [&str; 7] = ["once", "a", "1", "100", "110", "112", "121"];
 
 static NO_COMMANDS: [&[&str]; 11] = [
     &[],
@@ -188,72 +202,47 @@ static NO_COMMANDS: [&[&str]; 11] = [
     &["play", "a", "b"],
 ];
 
-fn is_no_command(alloc: Global, words: &'static [&'static str]) -> bool {
+fn is_reading(now: &Reading, earliest: u64, latest: u64) -> bool {
+    now.earliest().micros() == earliest && now.latest().micros() == latest
+}
+
+// Whether it is what the words say.
+fn is_once(command: &Command) -> bool {
+    match command {
+        Command::Once {
+            key,
+            value,
+            first,
+            second,
+        } => key.as_bytes() == b"a".as_slice()
+            && value.as_bytes() == b"1".as_slice()
+            && is_reading(first, 100, 110)
+            && is_reading(second, 112, 121),
+        _ => false,
+    }
+}
+
+// Whether the words are the command, and else why they are none.
+fn taken(alloc: Global, words: &'static [&'static str]) -> Result<bool, Fault> {
     match command(alloc, words) {
         Ok(command) => {
+            let once = is_once(&command);
             drop(command);
-            false
+            Ok(once)
         }
-        Err(fault) => fault == Fault::BadRequest(Reason::Command),
+        Err(fault) => Err(fault),
     }
 }
 
+// Where there is memory, want of it is not the answer.
 #[test]
-fn words_that_are_no_command(rt: HostRuntime) {
+fn always_memory(rt: HostRuntime) {
+    assert!(rt; taken(rt.alloc(), &WORDS) == Ok(true));
     for words in &NO_COMMANDS {
-        assert!(rt; is_no_command(rt.alloc(), words), "{words:?}");
+        let fault = taken(rt.alloc(), words);
+        assert!(rt;
+            fault == Err(Fault::BadRequest(Reason::Command)),
+            "{words:?}"
+        );
     }
-}
-
-// A writer that takes some writes, and then fails.
-#[derive(Drop)]
-struct Failing {
-    taken: u8,
-}
-
-impl Write for Failing {
-    fn write(&mut self, buf: &[u8]) -> io::Result<usize> {
-        if self.taken == 0 {
-            return Err(io::Error::from(io::ErrorKind::BrokenPipe));
-        }
-        self.taken -= 1;
-        Ok(buf.len())
-    }
-
-    fn flush(&mut self) -> io::Result<()> {
-        Ok(())
-    }
-}
-
-// Whether a command whose standard output takes so many writes has a status and prints no fault.
-fn has_status(alloc: Global, taken: u8, status: u8) -> bool {
-    let mut out = Stream::new(Failing { taken });
-    let mut err = Stream::new(Vec::<u8>::new(alloc));
-    let given = status_of(alloc, &[], &WORDS, &mut out, &mut err);
-    drop(out);
-    let silent = is_written(err, "");
-    given == status && silent
-}
-
-const WRONG: [&str; 7] = ["once", "a", "1", "110", "100", "112", "121"];
-
-// Whether a command that is refused prints nothing where standard error fails.
-fn is_silent(alloc: Global) -> bool {
-    let mut out = Stream::new(Vec::<u8>::new(alloc));
-    let mut err = Stream::new(Failing { taken: 0 });
-    let status = status_of(alloc, &[], &WRONG, &mut out, &mut err);
-    drop(err);
-    let silent = is_written(out, "");
-    status == 2 && silent
-}
-
-static FAILING: [(u8, u8); 3] = [(0, 2), (1, 2), (2, 0)];
-
-// After a failed write nothing more is printed, also no fault.
-#[test]
-fn writes_that_fail(rt: HostRuntime) {
-    for (taken, status) in &FAILING {
-        assert!(rt; has_status(rt.alloc(), *taken, *status), "{taken} writes");
-    }
-    assert!(rt; is_silent(rt.alloc()));
 }
