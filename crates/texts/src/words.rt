@@ -1,5 +1,5 @@
 //! The words of a line, each read as a value. What is not such a word is refused.
-ghost use Rattle.std.specs.Prelude.{◌<◌, IfOk};
+ghost use Rattle.std.specs.Prelude.{◌<◌, IfSome};
 
 use crate::numbers::number;
 use disk::Fate;
@@ -50,20 +50,23 @@ pub fn fate(word: &str) -> Result<Fate, Fault> {
     match word.as_bytes() {
         b"old" => Ok(Fate::Old),
         b"new" => Ok(Fate::New),
-        [high, low] => Ok(Fate::Filled(digit(*high)? * 16 + digit(*low)?)),
+        [high, low] => match (digit(*high), digit(*low)) {
+            (Some(high), Some(low)) => Ok(Fate::Filled(high * 16 + low)),
+            _ => Err(NO_WORD),
+        },
         _ => Err(NO_WORD),
     }
 }
 
 // A hexadecimal digit.
-fn digit(byte: u8) -> Result<u8, Fault>
-    ensures { IfOk result (λ digit. digit < 16) }
+fn digit(byte: u8) -> Option<u8>
+    ensures { IfSome result (λ digit. digit < 16) }
 {
     match byte {
-        b'0'..=b'9' => Ok(byte - b'0'),
-        b'a'..=b'f' => Ok(byte - b'a' + 10),
-        b'A'..=b'F' => Ok(byte - b'A' + 10),
-        _ => Err(NO_WORD),
+        b'0'..=b'9' => Some(byte - b'0'),
+        b'a'..=b'f' => Some(byte - b'a' + 10),
+        b'A'..=b'F' => Some(byte - b'A' + 10),
+        _ => None,
     }
 }
 
