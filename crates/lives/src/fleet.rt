@@ -1,5 +1,5 @@
 //! The shards of a run.
-ghost use Rattle.std.specs.Prelude.{◌≡◌, [], ℕ, List, IfOk, IfErr, OnOk, map};
+ghost use Rattle.std.specs.Prelude.{◌≡◌, [], ℕ, Some, List, IfOk, IfErr, OnOk, map};
 ghost use Rattle.world.specs.World.{ShardNow, read_log};
 ghost use Rattle.world.specs.declared.event.Config.{Config};
 ghost use Rattle.lives.specs.Fleet.{AreOn, AreStanding, are_fresh};
@@ -67,7 +67,8 @@ impl Shards<'_> {
         fate: Fate,
     ) -> Result<Reply, Fault>
         ensures { (config : Config) (ss : List ShardNow) → AreShards config self.old ss
-            → ((doing : Doing) → IsOrderlyAt config bag.now ss shard doing)
+            → ((call : ℕ) (doing : Doing) → within ≡ Some (call, doing)
+            → IsOrderlyAt config bag.now ss shard doing)
             → CrashesAt config (crash_within config bag.now shard within fate) ss shard
             self.new result }
     {

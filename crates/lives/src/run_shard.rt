@@ -1,5 +1,5 @@
 //! A shard of a run: what there is of it, and the views that it has made.
-ghost use Rattle.std.specs.Prelude.{◌≡◌, ◌≢◌, ◌++◌, ◌≤◌, Err, true, not, IfOk, IfErr, OnOk, length, map};
+ghost use Rattle.std.specs.Prelude.{◌≡◌, ◌≢◌, ◌++◌, ◌≤◌, ℕ, Some, Err, true, not, IfOk, IfErr, OnOk, length, map};
 ghost use Rattle.units.specs.declared.setup.Setup.{Setup};
 ghost use Rattle.world.specs.World.{ShardNow, effect, fresh_shard, makes_view, read_log, setup_of};
 ghost use Rattle.world.specs.declared.event.Config.{Config};
@@ -154,7 +154,8 @@ impl RunShard {
         fate: Fate,
     ) -> Result<Reply, Fault>
         ensures crashed { (setup : Setup) (s : ShardNow) → StandsFor setup self.old s
-            → ((doing : Doing) → IsOrderly setup s (effect setup bag.now s doing))
+            → ((call : ℕ) (doing : Doing) → within ≡ Some (call, doing)
+            → IsOrderly setup s (effect setup bag.now s doing))
             → OnOk result (StandsFor setup self.new (crashed_within setup bag.now within fate s)) }
         ensures reply { IfOk result (λ reply. reply ≡ Reply.Crashed) }
         ensures memory { IfErr result (λ fault. fault ≡ Fault.Memory) }

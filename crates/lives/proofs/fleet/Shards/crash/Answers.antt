@@ -25,5 +25,5 @@ returns c config ss h orderly =
     crash_there config ss c.args.shard s new before c.crash.new.self h refl
     (ap (λ n. set s.shards.items n c.crash.new.self) c.number-at.ensures.same) there
     (crash_within config c.args.bag.now c.args.shard c.args.within c.args.fate) c.crash.result
-    (λ t is k. c.crash.ensures.crashed (setup_of config c.args.shard) t k (λ doing. orderly doing t is))
+    (λ t is k. c.crash.ensures.crashed (setup_of config c.args.shard) t k (λ call doing within. orderly call doing within t is))
     c.crash.ensures.reply c.crash.ensures.memory

@@ -90,7 +90,7 @@ returns-in-Crash c time w h steady may =
     (crash_comes w old new h n c.crash.result
     (subst (λ b. CrashesAt w.config (crash_within w.config b n None Fate.Old) w.shards n new.shards c.crash.result) bag
     (c.crash.ensures w.config w.shards h.shards
-    (λ doing. subst (λ b. IsOrderlyAt w.config b w.shards n doing) (sym bag) (orderly_at w old new h n doing steady)))) refl refl refl)
+    (λ call doing within. subst (λ b. IsOrderlyAt w.config b w.shards n doing) (sym bag) (orderly_at w old new h n doing steady)))) refl refl refl)
 
 pub returns-in-CrashIn : goal.returns-in-CrashIn
 unfolding acts
@@ -103,7 +103,7 @@ returns-in-CrashIn c time w h steady may =
     (crash_in_comes w old new h v.shard v.call v.fate v.doing c.crash-in-CrashIn.result
     (subst (λ b. CrashesAt w.config (crash_within w.config b v.shard (Some (v.call, v.doing)) v.fate) w.shards v.shard new.shards c.crash-in-CrashIn.result) bag
     (c.crash-in-CrashIn.ensures w.config w.shards h.shards
-    (λ doing. subst (λ b. IsOrderlyAt w.config b w.shards v.shard doing) (sym bag) (orderly_at w old new h v.shard doing steady)))) refl refl refl)
+    (λ call doing within. subst (λ b. IsOrderlyAt w.config b w.shards v.shard doing) (sym bag) (orderly_at w old new h v.shard doing steady)))) refl refl refl)
 
 pub returns-in-FailIn : goal.returns-in-FailIn
 unfolding acts
