@@ -51,8 +51,7 @@ impl Buffers {
         self.seen.reserve(bytes)?;
         let capacity = self.seen.capacity();
         self.durable
-            .reserve(capacity.saturating_sub(self.durable.len()))?;
-        Ok(())
+            .reserve(capacity.saturating_sub(self.durable.len()))
     }
 
     /// Takes the memory that a write needs.
@@ -69,9 +68,7 @@ impl Buffers {
         self.store.reserve(count)?;
         self.seen.reserve(count - over)?;
         let end = at + count;
-        self.durable
-            .reserve(end.saturating_sub(self.durable.len()))?;
-        Ok(())
+        self.durable.reserve(end.saturating_sub(self.durable.len()))
     }
 
     /// A write that is seen.
@@ -125,15 +122,13 @@ impl Buffers {
     }
 
     /// Nothing is unsynced any more. Its time goes by the changes since the last sync, and not by the file's length.
-    pub fn sync(&mut self) -> Result<(), AllocError>
-        ensures ok { OnOk result (held_file self.new ≡ synced (held_file self.old)) }
-        ensures err { OnErr result (held_file self.new ≡ held_file self.old) }
+    pub fn sync(&mut self)
+        ensures file { held_file self.new ≡ synced (held_file self.old) }
         ensures room { (calls more : ℕ) → HasRoomFor self.old (calls + 1) more
-            → IsOk result × HasRoomFor self.new calls more }
+            → HasRoomFor self.new calls more }
     {
         make_changes(&mut self.durable, &self.changes, &self.store, Fates::AsSeen);
         forget(&mut self.changes, &mut self.store);
-        Ok(())
     }
 
     /// Each change comes out by its fate, the oldest first.

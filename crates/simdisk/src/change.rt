@@ -4,7 +4,7 @@ ghost use Rattle.std.specs.Prelude.{◌≡◌};
 use disk::Fate;
 
 /// The bytes of writes are kept elsewhere, one behind another.
-#[derive(Clone, Copy, PartialEq, Eq)]
+#[derive(Clone, Copy)]
 pub enum Change {
     /// A write that succeeded.
     Write { at: u64, count: u64 },

@@ -166,13 +166,8 @@ impl Disk for SimDisk {
             self.failures.rise();
             return Err(Fault::Device);
         }
-        match self.buffers.sync() {
-            Ok(()) => Ok(()),
-            Err(_) => {
-                self.failures.rise();
-                Err(Fault::Device)
-            }
-        }
+        self.buffers.sync();
+        Ok(())
     }
 
     fn arm(&mut self, call: Option<u64>) {

@@ -8,16 +8,16 @@ use Rattle.disk.proofs.Crashes.{kept-seen}
 use Rattle.simdisk.specs.Held.{held_file, HasRoomFor}
 use Rattle.simdisk.proofs.simdisk.SimDiskDisk.sync.Goals as goal
 
-pub returns-in-Ok-clause-planned : goal.returns-in-Ok-clause-planned
-returns-in-Ok-clause-planned c calls more room =
+pub returns-clause-planned : goal.returns-clause-planned
+returns-clause-planned c calls more room =
     let old = held_file c.args.self.now.buffers in
     let new = c.sync.new.self in
     subst (λ (failed : Bool). IsAsPlanned {T = Unit {0}} {E = Fault} failed (Ok tt) × HasRoomFor new calls more
     × (held_file new ≡ (if failed then old else synced old))) c.if-call.ensures.fails
-    (refl, (c.in-Ok.ensures.room calls more room).1, c.in-Ok.ensures.ok)
+    (refl, c.sync.ensures.room calls more room, c.sync.ensures.file)
 
-pub returns-in-Ok-clause-crash : goal.returns-in-Ok-clause-crash
-returns-in-Ok-clause-crash c keeps image may =
+pub returns-clause-crash : goal.returns-clause-crash
+returns-clause-crash c keeps image may =
     let old = held_file c.args.self.now.buffers in
-    let is : surface (held_file c.sync.new.self) ≡ after_sync (surface old) = ap surface c.in-Ok.ensures.ok in
+    let is : surface (held_file c.sync.new.self) ≡ after_sync (surface old) = ap surface c.sync.ensures.file in
     after_sync_within (surface old) (kept-seen old.durable old.changes) image (rw (← is) may)
