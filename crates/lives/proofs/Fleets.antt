@@ -1,5 +1,6 @@
 -- The running shards of a run, by their places.
-use Rattle.std.proofs.Common.{◌≡◌, inl, inr, ℕ, zero, suc, ◌+◌, ◌<◌, ◌≤◌, Bool, true, false, not, nat_lt, List, [], ◌∷◌, ◌++◌, length, map, replicate, set, slice_get}
+use Rattle.std.proofs.Common.{◌≡◌, inl, inr, ℕ, zero, suc, ◌+◌, ◌<◌, ◌≤◌, Bool, true}
+use Rattle.std.proofs.Common.{false, not, nat_lt, List, [], ◌∷◌, ◌++◌, length, map, replicate, set, slice_get}
 use Rattle.std.proofs.Common.{Option, Some, None, ◌⊎◌, Result, Ok, Err, IfOk, IfErr, OnOk, get_or, drop, ◌==◌, refl, sym, ap, ◌∙◌, subst, append_assoc, arith}
 use Rattle.std.proofs.lemmas.Bool.Decides.{nat_tests}
 use Rattle.std.proofs.lemmas.List.{length-replicate, map-append, replicate-append-replicate}

@@ -90,7 +90,8 @@ impl Shards<'_> {
         at: Stamp,
     ) -> Result<Reply, Fault>
         ensures { (w : World) → AreShards w.config self.now w.shards → IsOutput output.old w
-            → Notes w key.now at (looked w.config w.shards shard view key.now at) output.new result }
+            → Notes w key.now at (looked w.config w.shards shard view key.now at) output.new
+            result }
     {
         let is_here = self.splits.shard_of(key).number() == shard.number();
         match self.shards.get(shard.number() as usize) {
