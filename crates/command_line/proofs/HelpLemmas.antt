@@ -1,5 +1,6 @@
 -- Words that ask for help, and those that do not.
-use Rattle.std.proofs.Common.{◌≡◌, ◌∙◌, ◌||◌, ℕ, ◌+◌, ◌<◌, suc, arith, Bool, true, false, not, sym, ap, List, [], ◌∷◌, length, map, drop, slice_index_or, codes, Bor, cond}
+use Rattle.std.proofs.Common.{◌≡◌, ◌∙◌, ◌||◌, ℕ, ◌+◌, ◌<◌, suc, arith, Bool, true, false, not, sym, ap, List, [], ◌∷◌, length, map, drop, slice_index_or}
+use Rattle.std.proofs.Common.{codes, Bor, cond}
 use Rattle.std.specs.List.{list_any, take_while}
 use Rattle.std.specs.Str.{bytes_eq}
 use Rattle.std.proofs.lemmas.List.Sums.{take_while-cons}
