@@ -5,6 +5,8 @@
 set -eu
 root=$(dirname "$(dirname "$(readlink -f "$0")")")
 jobs=${JOBS:-$(nproc)}
+# Each crate has one processor.
+export RT_JOBS="${RT_JOBS:-1}"
 copy=$(mktemp -d)
 trap 'rm -rf "$copy"' EXIT
 
