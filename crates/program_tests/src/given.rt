@@ -128,23 +128,20 @@ impl Write for Paper {
     }
 }
 
-/// What was printed to both outputs, and the status.
+// What was printed to both outputs, and the status.
 #[derive(Drop)]
-pub struct Printed {
-    pub out: Vec<u8>,
-    pub err: Vec<u8>,
-    pub status: u8,
+struct Printed {
+    out: Vec<u8>,
+    err: Vec<u8>,
+    status: u8,
 }
 
-/// Carries a command out.
-pub fn print<'a, F: Files, D: Fn(Global, &Settings) -> Result<Driven, Fault>>(
-    alloc: Global,
-    system: &System<F, D>,
-    words: &'a [&'a str],
-    writes: Writes,
-) -> Printed
-    requires { D.IsAlwaysCallable system.now.drive }
-{
+// Carries a command over some files out.
+fn print<'a>(alloc: Global, files: &[File], words: &'a [&'a str], writes: Writes) -> Printed {
+    let system = System {
+        files: Memory { files },
+        drive: told,
+    };
     let mut out = Stream::new(Paper {
         bytes: Vec::new(alloc),
         left: writes.out,
@@ -154,7 +151,7 @@ pub fn print<'a, F: Files, D: Fn(Global, &Settings) -> Result<Driven, Fault>>(
         left: writes.err,
     });
     let disk = SimDisk::new(alloc);
-    let (status, disk) = answer(alloc, words, system, disk, &mut out, &mut err);
+    let (status, disk) = answer(alloc, words, &system, disk, &mut out, &mut err);
     drop(disk);
     Printed {
         out: out.into_writer().bytes,
@@ -181,11 +178,7 @@ pub fn compare(
     writes: Writes,
     name: &str,
 ) {
-    let system = System {
-        files: Memory { files },
-        drive: told,
-    };
-    let printed = print(alloc, &system, row.words, writes);
+    let printed = print(alloc, files, row.words, writes);
     let wanted = row.printed.as_bytes();
     let right = printed.out.starts_with(wanted)
         && (!writes.whole || printed.out.len() == wanted.len())

@@ -1,16 +1,8 @@
-//! Tests of what the program prints, of commands over files of the machine, and of whole drives.
+//! Tests of what the program prints.
 #![tactic(auto)]
 
 #[cfg(test)]
 mod asked;
-#[cfg(test)]
-mod commands;
-#[cfg(test)]
-mod drives;
-#[cfg(test)]
-mod folder;
-#[cfg(test)]
-mod gates;
 #[cfg(test)]
 mod given;
 #[cfg(test)]

@@ -1,9 +1,9 @@
 //! Commands, one after the other in one folder.
 use crate::folder::Folder;
-use crate::given::{AMPLE, Printed, print};
-use cli::{Driven, Files, System};
+use cli::{Driven, Files, Stream, System, answer};
 use host::{HostFiles, drive_shards};
 use settings::Settings;
+use simdisk::SimDisk;
 use std::alloc::Global;
 use std::process::Abort;
 use units::Fault;
@@ -219,12 +219,32 @@ fn words_of<'w>(
     words
 }
 
-// Whether this is printed, and the status.
-fn is_right(printed: &Printed, step: &Step) -> bool {
-    printed.out.ends_with(step.ends.as_bytes())
-        && lines_in(&printed.out) == step.lines
-        && printed.err.as_slice() == step.fault.as_bytes()
-        && printed.status == step.status
+// Whether this is printed to both outputs.
+fn is_right(out: &[u8], err: &[u8], step: &Step) -> bool {
+    out.ends_with(step.ends.as_bytes())
+        && lines_in(out) == step.lines
+        && err == step.fault.as_bytes()
+}
+
+// Whether the words print what the step says, and give its status.
+fn prints<'w, F: Files, D: Fn(Global, &Settings) -> Result<Driven, Fault>>(
+    alloc: Global,
+    system: &System<F, D>,
+    words: &'w [&'w str],
+    step: &Step,
+) -> bool
+    requires { D.IsAlwaysCallable system.now.drive }
+{
+    let mut out = Stream::new(Vec::new(alloc));
+    let mut err = Stream::new(Vec::new(alloc));
+    let disk = SimDisk::new(alloc);
+    let (status, disk) = answer(alloc, words, system, disk, &mut out, &mut err);
+    drop(disk);
+    let (out, err) = (out.into_writer(), err.into_writer());
+    let right = is_right(&out, &err, step) && status == step.status;
+    drop(out);
+    drop(err);
+    right
 }
 
 // Whether a command prints what it should, and gives its status.
@@ -239,11 +259,9 @@ fn is_answered<F: Files, D: Fn(Global, &Settings) -> Result<Driven, Fault>>(
 {
     let paths = paths_of(rt, test, folder, step.names);
     let words = words_of(test, rt.alloc(), step.command, paths.as_slice());
-    let printed = print(rt.alloc(), system, words.as_slice(), AMPLE);
+    let right = prints(rt.alloc(), system, words.as_slice(), step);
     drop(words);
     drop(paths);
-    let right = is_right(&printed, step);
-    drop(printed);
     right
 }
 
