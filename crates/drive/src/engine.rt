@@ -6,12 +6,12 @@ ghost use Rattle.workers.specs.Course.{IsDrivable};
 ghost use Rattle.workers.specs.Reports.{IsCounted};
 ghost use Rattle.workers.specs.Staffs.{IsStaffOf};
 ghost use Rattle.workers.specs.Summaries.{tried};
-ghost use Rattle.drive.specs.Logs.{IsJudged};
+ghost use Rattle.inspection.specs.Judged.{IsJudged};
 
-use crate::judging::judge;
 use crate::opening::Opened;
 use crossbeam_channel::Receiver;
 use disk::Disk;
+use inspection::judge;
 use letters::{Inboxes, Letter, Mail, Post};
 use node::{Gate, Node, Served, start};
 use progress::Watch;

@@ -2,7 +2,6 @@
 #![tactic(auto)]
 
 mod engine;
-mod judging;
 mod opening;
 
 pub use engine::{Driven, drive, drive_by};

@@ -1,7 +1,8 @@
 //! Commands, one after the other in one folder.
 use crate::folder::Folder;
 use cli::{Driven, Files, Stream, System, answer};
-use host::{HostFiles, drive_shards};
+use host::drive_shards;
+use host_files::HostFiles;
 use settings::Settings;
 use simdisk::SimDisk;
 use std::alloc::Global;

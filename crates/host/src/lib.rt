@@ -1,10 +1,6 @@
-//! The system that the program runs on: files of the machine, and threads.
+//! Drives on the machine's threads, over its files.
 #![tactic(auto)]
 
-mod folder;
-mod host_files;
 mod shards;
 
-pub use folder::{logs_in, logs_in_memory};
-pub use host_files::HostFiles;
 pub use shards::drive_shards;

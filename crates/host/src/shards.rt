@@ -1,7 +1,7 @@
 //! Shards on the machine's threads.
-use crate::folder::{logs_in, logs_in_memory};
 use disk::Disk;
 use drive::drive;
+use host_files::{logs_in, logs_in_memory};
 use node::Gate;
 use progress::{Terminal, Watch};
 use settings::Settings;

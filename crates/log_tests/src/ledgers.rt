@@ -1,16 +1,16 @@
 //! The ledger of a shard, and the ids that ended there.
 ghost use Rattle.std.specs.Prelude.{◌≡◌, None};
-ghost use Rattle.memory.specs.Ledger.{outcome_stamp};
+ghost use Rattle.ledger.specs.Ledger.{outcome_stamp};
 
 use crate::lines::{byte, promise};
+use ledger::{Ended, Ledger};
 use made::{id, key, shard, stamp};
-use memory::{Ended, Ledger};
 use record::Record;
 use std::alloc::Global;
 use units::{Epoch, TxnId, Writes};
 
 // Learns a record that installs nothing, where it may come next.
-#[tactic(auto, using(memory::proofs::Learns::installs_nothing))]
+#[tactic(auto, using(ledger::proofs::Learns::installs_nothing))]
 fn learn(alloc: Global, ledger: &mut Ledger, item: Record) -> bool
     requires { outcome_stamp item ≡ None }
 {

@@ -2,7 +2,6 @@ pub mod Admission
 pub mod Carried
 pub mod Changing
 pub mod Fits
-pub mod Learns
 pub mod Logged
 pub mod Served
 pub mod States

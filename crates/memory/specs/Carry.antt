@@ -16,7 +16,7 @@ use Rattle.rows.specs.RowTable.{RowTable, put_row, has_phase, room}
 use Rattle.rows.specs.declared.row.Row.{Row as CodeRow}
 use Rattle.memory.specs.Kept.{Kept}
 use Rattle.protocol.specs.Sound.{writes_standing}
-use Rattle.memory.specs.Ledger.{CanInstall}
+use Rattle.ledger.specs.Ledger.{CanInstall}
 use Rattle.memory.specs.Plans.{plan_of}
 use Rattle.memory.specs.declared.plan.Plan.{Plan}
 use Rattle.memory.specs.declared.plan.Change.{Change}

@@ -1,7 +1,5 @@
 pub mod Carry
-pub mod Ended
 pub mod Kept
-pub mod Ledger
 pub mod Plans
 pub mod Served
 pub mod ServedLaws

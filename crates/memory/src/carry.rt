@@ -10,11 +10,10 @@ ghost use Rattle.memory.specs.Carry.{writes_installed, may_ask, may_end};
 ghost use Rattle.memory.specs.Plans.{plan_of, change_of, logging};
 ghost use Rattle.memory.specs.Served.{IsHolding, stamp_held};
 
-use crate::ended::Ended;
-use crate::ledger::Ledger;
 use crate::plan::{Change, Plan};
 use crate::state::State;
 use gatelog::Logged;
+use ledger::{Ended, Ledger};
 use message::Outbox;
 use record::Record;
 use rows::{Row, Rows};

@@ -3,20 +3,16 @@
 #![tactic(auto)]
 
 mod carry;
-mod ended;
 mod envelopes;
 mod laws;
-mod ledger;
 mod making;
 pub mod plan;
 mod planning;
 pub mod state;
 
 pub use carry::{Ready, ready_plans_can_be_carried};
-pub use ended::Ended;
 pub use envelopes::{answer_to, ask_to, done_to, outcome_to, vote_to};
 pub use laws::holds_follow_rows;
-pub use ledger::Ledger;
 pub use plan::{Change, Plan, Request};
 pub use planning::reads_stand;
 pub use state::{PastStanding, State};

@@ -3,9 +3,8 @@ ghost use Rattle.std.specs.Prelude.{◌≡◌, ◌<◌, ◌≤◌, [], ◌∷◌
 ghost use Rattle.record.specs.Facts.{facts_of};
 ghost use Rattle.rows.specs.RowTable.{nth_prepared, nth_decided};
 
-use crate::ended::Ended;
-use crate::ledger::Ledger;
 use crate::state::State;
+use ledger::{Ended, Ledger};
 use record::Record;
 use rows::Rows;
 use safetime::SafeTime;

@@ -17,9 +17,8 @@ ghost use Rattle.memory.specs.Kept.{start_of, StandsAs};
 ghost use Rattle.protocol.specs.Sound.{writes_standing};
 ghost use Rattle.memory.specs.Standings.{standing_in, HasRowIn};
 
-use crate::ended::Ended;
-use crate::ledger::Ledger;
 use facts::Status;
+use ledger::{Ended, Ledger};
 use record::Record;
 use rows::{Row, Rows};
 use safetime::SafeTime;

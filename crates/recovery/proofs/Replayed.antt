@@ -15,7 +15,7 @@ use Rattle.protocol.specs.Step.{facts_after}
 use Rattle.protocol.proofs.OpenedRows.{by_id-gather}
 use Rattle.memory.specs.Carry.{AdmissionIsUnseen, IsCarriable, IsFit, HasMemoryFor, MayFollow, MayInstall, ReadyIsCarriable, writes_installed}
 use Rattle.memory.specs.Kept.{Kept}
-use Rattle.memory.specs.Ledger.{CanInstall}
+use Rattle.ledger.specs.Ledger.{CanInstall}
 use Rattle.memory.specs.Plans.{plan_of, logging}
 use Rattle.memory.specs.declared.plan.Plan.{Plan}
 use Rattle.recovery.specs.Recovered.{IsGood, IsOwn, IsRecovered, fits_facts}

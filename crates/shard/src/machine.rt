@@ -17,12 +17,12 @@ ghost use Rattle.shard.specs.Logs.{records_in, facts_logged, KeepsRecords};
 ghost use Rattle.shard.specs.On.{HasStepped, IsLogFull, step_of};
 ghost use Rattle.shard.specs.Opened.{HasAppended, HasNotAppended};
 
+use crate::inputs::plan_input;
 use crate::logging::append_record;
 use disk::Disk;
 use gatelog::GateLog;
 use memory::{Plan, State, ready_plans_can_be_carried};
 use message::{Input, Outbox};
-use planning::plan_input;
 use protocol::{
     fresh_is_sound, installs_above, logged_follows, opening_keeps_sound, own_refusals,
     step_keeps_sound,

@@ -1,6 +1,6 @@
 use Rattle.std.proofs.Common.{rules, ◌≡◌, subst}
 use Rattle.disk.specs.File.{surface}
-use Rattle.drive.specs.Logs.{IsJudged}
+use Rattle.inspection.specs.Judged.{IsJudged}
 use Rattle.drive.proofs.engine.outcome.Goals as goal
 
 pub returns-clause-verdict : goal.returns-clause-verdict

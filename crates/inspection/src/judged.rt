@@ -1,0 +1,77 @@
+//! The verdict on disks that are handed back.
+ghost use Rattle.std.specs.Prelude.{◌≡◌, IfOk, IfErr, Ok, List, map, length};
+ghost use Rattle.disk.specs.File.{surface};
+ghost use Rattle.record.specs.declared.record.Record.{Record};
+ghost use Rattle.record.specs.Verdict.{verdict};
+ghost use Rattle.inspection.specs.Judged.{HaveLogs, IsJudged, records_held};
+
+use disk::Disk;
+use gatelog::{Entry, GateLog};
+use inspector::inspect;
+use record::Record;
+use std::alloc::Global;
+use units::{Fault, Line, Verdict};
+
+/// The verdict on the logs that some disks hold, of shards 0, 1 and so on, and on the lines of a report. The disks are handed back.
+pub fn judge<D: Disk + Drop>(
+    alloc: Global,
+    disks: Vec<D>,
+    lines: &[Line],
+) -> Result<(Verdict, Vec<D>), Fault>
+    ensures verdict { IfOk result (λ judged. D.keeps_model
+        → IsJudged (λ disk. (surface (D.file disk)).seen) judged.1.items lines.now judged.0) }
+    ensures disks { IfOk result (λ judged. length judged.1.items ≡ length disks.items) }
+{
+    let (logs, disks) = logs_of(alloc, disks)?;
+    let found = inspect(alloc, &logs, lines)?;
+    Ok((found, disks))
+}
+
+// The logs that the disks hold, and the disks.
+fn logs_of<D: Disk + Drop>(
+    alloc: Global,
+    disks: Vec<D>,
+) -> Result<(Vec<Vec<Record>>, Vec<D>), Fault>
+    ensures logs { IfOk result (λ read. D.keeps_model
+        → HaveLogs (λ disk. (surface (D.file disk)).seen) read.1.items
+        (map (λ log. log.items) read.0.items)) }
+    ensures disks { IfOk result (λ read. length read.1.items ≡ length disks.items) }
+{
+    let mut logs = Vec::new(alloc);
+    let mut read = Vec::new(alloc);
+    for disk in disks {
+        let (log, disk) = log_of(alloc, disk)?;
+        logs.push(log)?;
+        read.push(disk)?;
+    }
+    Ok((logs, read))
+}
+
+// The records of the log that a disk holds, and the disk.
+fn log_of<D: Disk + Drop>(alloc: Global, disk: D) -> Result<(Vec<Record>, D), Fault>
+    ensures { IfOk result (λ read. D.keeps_model
+        → records_held (surface (D.file read.1)).seen ≡ Ok read.0.items) }
+{
+    match GateLog::open(alloc, disk) {
+        Ok((gate_log, entries)) => {
+            let records = items_of(alloc, &entries)?;
+            Ok((records, gate_log.into_disk()))
+        }
+        Err((fault, disk)) => {
+            drop(disk);
+            Err(fault)
+        }
+    }
+}
+
+// The records of some entries, with memory of their own.
+fn items_of(alloc: Global, entries: &[Entry]) -> Result<Vec<Record>, Fault>
+    ensures same { IfOk result (λ records. records.items ≡ map (λ e. e.item) entries.now) }
+    ensures memory { IfErr result (λ fault. fault ≡ Fault.Memory) }
+{
+    let mut records = Vec::new(alloc);
+    for entry in entries {
+        records.push(entry.item().copy(alloc)?)?;
+    }
+    Ok(records)
+}

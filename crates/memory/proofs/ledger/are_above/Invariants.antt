@@ -1,8 +1,0 @@
-use Rattle.std.proofs.Common.{◌≡◌, drop}
-use Rattle.units.specs.Versions.{above_versions}
-use Rattle.memory.proofs.ledger.are_above.Given as goal
-
--- the writes that are left tell
-abbrev pub invariant-loop-write : goal.invariant-loop-write
-invariant-loop-write l =
-    above_versions l.versions.installs l.at (drop l.write-index l.writes) ≡ above_versions l.versions.installs l.at l.writes

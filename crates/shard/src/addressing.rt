@@ -1,0 +1,28 @@
+//! Which messages are for a shard.
+ghost use Rattle.std.specs.Prelude.{◌≡◌};
+ghost use Rattle.protocol.specs.Step.{is_for};
+
+use message::Message;
+use recovery::owns_all;
+use units::Setup;
+
+/// The message is for this shard: its keys belong here; a prepare comes from a coordinator below, and a commit to the least
+/// of its parts. Answers and ends go to sessions.
+#[tactic(auto, unfolding(protocol::specs::Step::is_for))]
+pub(crate) fn is_for(setup: &Setup, message: &Message) -> bool
+    ensures { result ≡ is_for setup.now message.now }
+{
+    match message {
+        Message::Read(read) => setup.owns(&read.key),
+        Message::Prepare(prepare) => {
+            owns_all(setup, prepare.reads.keys(), &prepare.writes)
+                && prepare.coordinator.number() < setup.shard.number()
+        }
+        Message::Commit(commit) => {
+            owns_all(setup, commit.reads.keys(), &commit.writes)
+                && setup.shard == commit.parts.least()
+        }
+        Message::GiveUp(_) | Message::Vote(_) | Message::Outcome(_) | Message::Ask(_) => true,
+        Message::ReadAnswer(_) | Message::Done(_) => false,
+    }
+}

@@ -1,0 +1,171 @@
+//! The plan of each input.
+ghost use Rattle.std.specs.Prelude.{◌≡◌, [], true, Some, Ok, IfOk};
+ghost use Rattle.std.specs.Option.{option_copied};
+ghost use Rattle.protocol.specs.Rows.{held_in, WaitsRead, find_row, needs_of};
+ghost use Rattle.protocol.specs.Cells.{plan_advance, plan_resume, plan_resume_id, plan_resume_row, plan_go_on, to_read};
+ghost use Rattle.protocol.specs.Step.{is_for, plan_input, plan_message};
+ghost use Rattle.rows.specs.CodeRows.{phase_of, phase_of_wait};
+ghost use Rattle.rows.specs.RowTable.{needs_in};
+ghost use Rattle.memory.specs.Carry.{Asks, IsFit};
+ghost use Rattle.memory.specs.Kept.{start_of, IsPlanned};
+
+use crate::addressing::is_for;
+use ceiling::needed;
+use coordinator::{give_up, on_ask, on_commit, on_vote, resume_commit, settle};
+use memory::{Plan, State};
+use message::{Input, Message};
+use participant::{on_nudge, on_outcome, on_prepare, on_read, resume_prepare, resume_read};
+use rows::{Row, Wait};
+use std::alloc::Global;
+use truetime::Reading;
+use units::{Fault, Key, Stamp, TxnId};
+
+/// What an input comes to. Nothing is changed by it.
+#[tactic(auto, unfolding(protocol::specs::Step::plan_input))]
+pub(crate) fn plan_input(
+    state: &State,
+    alloc: Global,
+    now: &Reading,
+    input: &Input,
+) -> Result<Plan, Fault>
+    ensures planned { IsPlanned state.now
+        (plan_input state.now.setup (start_of state.now) now.now input.now) result }
+    ensures fit { IfOk result (IsFit state.now) }
+{
+    match input {
+        Input::Deliver(message) => {
+            if !is_for(state.setup(), message) {
+                return Err(Fault::Stranger);
+            }
+            plan_message(state, alloc, now, message)
+        }
+        Input::Resume => plan_resume(state, alloc, now),
+        Input::Settle(txn) => settle(state, alloc, now, *txn),
+        Input::Advance(to) => plan_advance(state, alloc, now, *to),
+        Input::Nudge(txn) => on_nudge(state, alloc, *txn),
+    }
+}
+
+// The plan of a message that is for this shard.
+#[tactic(auto, unfolding(protocol::specs::Step::plan_message))]
+fn plan_message(
+    state: &State,
+    alloc: Global,
+    now: &Reading,
+    message: &Message,
+) -> Result<Plan, Fault>
+    ensures planned { IsPlanned state.now
+        (plan_message (start_of state.now) now.now message.now) result }
+    ensures fit { IfOk result (IsFit state.now) }
+{
+    match message {
+        Message::Read(read) => on_read(state, alloc, read),
+        Message::Prepare(prepare) => on_prepare(state, alloc, now, prepare),
+        Message::Commit(commit) => on_commit(state, alloc, now, commit),
+        Message::GiveUp(given) => give_up(state, alloc, given),
+        Message::Vote(vote) => on_vote(state, alloc, vote),
+        Message::Outcome(told) => on_outcome(state, alloc, told),
+        Message::Ask(ask) => on_ask(state, alloc, ask),
+        Message::ReadAnswer(_) | Message::Done(_) => Err(Fault::Stranger),
+    }
+}
+
+// The oldest wait that would be granted now goes on.
+#[tactic(auto, unfolding(protocol::specs::Cells::plan_resume))]
+fn plan_resume(state: &State, alloc: Global, now: &Reading) -> Result<Plan, Fault>
+    ensures planned { IsPlanned state.now
+        (plan_resume (start_of state.now) now.now.earliest) result }
+    ensures fit { IfOk result (IsFit state.now) }
+{
+    match state.ready() {
+        Some(txn) => resume_of(state, alloc, now, txn),
+        None => Ok(state.idles(alloc)),
+    }
+}
+
+// What a transaction waits with goes on.
+fn resume_of(state: &State, alloc: Global, now: &Reading, txn: TxnId) -> Result<Plan, Fault>
+    requires { Asks state.now.memory.rows txn [] (needs_in state.now.memory.rows txn) true }
+    ensures planned { IsPlanned state.now
+        (plan_resume_id (start_of state.now) now.now.earliest (Some txn)) result }
+    ensures fit { IfOk result (IsFit state.now) }
+{
+    match state.row(txn) {
+        Some(row) => resume_row(state, alloc, now, txn, row),
+        None => Ok(state.idles(alloc)),
+    }
+}
+
+// The row of a transaction goes on.
+#[tactic(auto, unfolding(protocol::specs::Cells::plan_go_on))]
+fn resume_row(
+    state: &State,
+    alloc: Global,
+    now: &Reading,
+    txn: TxnId,
+    row: &Row,
+) -> Result<Plan, Fault>
+    requires { Asks state.now.memory.rows txn [] (needs_of (phase_of row.now)) true }
+    ensures planned { IsPlanned state.now
+        (plan_go_on (start_of state.now) now.now.earliest txn (phase_of row.now)) result }
+    ensures fit { IfOk result (IsFit state.now) }
+{
+    match row {
+        Row::Reading(reading) => resume_wait(state, alloc, now, txn, reading.wait()),
+        Row::Collecting(_) | Row::Prepared(_) | Row::Decided(_) => Ok(state.idles(alloc)),
+    }
+}
+
+// What a row waits with goes on: a prepare takes this reading, a commit the one at its arrival.
+#[tactic(auto, unfolding(protocol::specs::Cells::plan_go_on))]
+fn resume_wait(
+    state: &State,
+    alloc: Global,
+    now: &Reading,
+    txn: TxnId,
+    wait: Option<&Wait>,
+) -> Result<Plan, Fault>
+    requires { Asks state.now.memory.rows txn []
+        (needs_of (phase_of_wait (option_copied wait))) true }
+    ensures planned { IsPlanned state.now
+        (plan_go_on (start_of state.now) now.now.earliest txn
+        (phase_of_wait (option_copied wait.entry))) result }
+    ensures fit { IfOk result (IsFit state.now) }
+{
+    match wait {
+        Some(Wait::Read(key)) => resume_key(state, alloc, now, txn, key),
+        Some(Wait::Prepare(request)) => resume_prepare(state, alloc, now, txn, request),
+        Some(Wait::Commit(request)) => resume_commit(state, alloc, txn, request),
+        None => Ok(state.idles(alloc)),
+    }
+}
+
+// A read that a row waits with goes on: no reading of time is needed for it.
+fn resume_key(
+    state: &State,
+    alloc: Global,
+    now: &Reading,
+    txn: TxnId,
+    key: &Key,
+) -> Result<Plan, Fault>
+    requires { Asks state.now.memory.rows txn [] (to_read key.now) true }
+    ensures planned { IsPlanned state.now
+        (plan_go_on (start_of state.now) now.now.earliest txn (WaitsRead key.now)) result }
+    ensures fit { IfOk result (IsFit state.now) }
+{
+    resume_read(state, alloc, txn, key)
+}
+
+// Reads are served up to a time that has come. A ceiling is logged before, where the log's greatest timestamp is below it.
+#[tactic(auto, unfolding(protocol::specs::Cells::plan_advance))]
+fn plan_advance(state: &State, alloc: Global, now: &Reading, to: Stamp) -> Result<Plan, Fault>
+    ensures planned { IsPlanned state.now
+        (plan_advance (start_of state.now) now.now.latest state.now.setup.stride to) result }
+    ensures fit { IfOk result (IsFit state.now) }
+{
+    if now.before(to) {
+        return Err(Fault::Future);
+    }
+    let ceiling = needed(state.floor(), to, state.setup().stride);
+    Ok(state.serves(alloc, ceiling, state.last().later(to)))
+}
