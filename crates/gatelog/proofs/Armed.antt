@@ -1,7 +1,7 @@
 -- An append on a disk that fails by a plan.
 use Rattle.std.proofs.Common.{◌≡◌, ◌⊎◌, inl, inr, ◌+◌, ◌-◌, ◌≤◌, ◌||◌, ℕ, zero, suc, eqb, Bool, true, false, if◌then◌else◌, List, [], ◌∷◌, length}
 use Rattle.std.proofs.Common.{get_or, Result, Ok, Err, refl, sym, subst, ap, ◌∙◌, arith}
-use Rattle.std.specs.Prelude.{IsTrue, IfErr, OnOk, IsOk, IsErr, nat_le, nat_lt}
+use Rattle.std.specs.Prelude.{IsTrue, IfErr, OnOk, IsErr, nat_le, nat_lt}
 use Rattle.std.proofs.lemmas.Bool.{cases_eq, eq-eqb, ne_eqb, false≢true, le-leb, lt-leb, le-ltb}
 use Rattle.record.specs.declared.record.Record.{Record}
 use Rattle.spelling.specs.Grammar.{IsRecord}
@@ -40,10 +40,6 @@ pub on_any : {T E : Type 0} (result : Result T E) (P : Type 0) → P → OnOk re
 on_any (Ok value) P holds = holds
 on_any (Err error) P holds = tt
 
-pub as_ok : (E : Type 0) {T : Type 0} (failed : Bool) (value : T) → failed ≡ false → IsAsPlanned {T = T} {E = E} failed (Ok value)
-as_ok E true value is = absurd (false≢true (sym is))
-as_ok E false value is = refl
-
 pub as_err : {T E : Type 0} (result : Result T E) (failed : Bool) → failed ≡ true → IsErr result → IsAsPlanned failed result
 as_err result true is err = err
 as_err result false is err = absurd (false≢true is)
@@ -55,10 +51,6 @@ on_ok (Err error) a = tt
 pub on_err : (A : Type 0) {T E : Type 0} (result : Result T E) → IsErr result → OnOk result A
 on_err A (Ok value) err = absurd (false≢true err)
 on_err A (Err error) err = tt
-
-pub of_ok : {T E : Type 0} (A : Type 0) (result : Result T E) → IsOk result → OnOk result A → A
-of_ok A (Ok value) ok a = a
-of_ok A (Err error) ok a = absurd (false≢true ok)
 
 -- what waits for a write does not fail before, and goes on waiting
 pub waits_on : (plan : FailurePlan) → waits plan ≡ true → (fails plan ≡ false) × (next plan ≡ plan)

@@ -1,12 +1,17 @@
-//! One change that is synced.
-ghost use Rattle.std.specs.Prelude.{◌≡◌, ◌≤◌, ◌<◌, length, OnOk, ℕ, ◌+◌};
-ghost use Rattle.disk.specs.Image.{MayLeave, after_write, after_sync, tried_write};
+//! Changes that are synced.
+ghost use Rattle.std.specs.Prelude.{◌≡◌, ◌≤◌, ◌<◌, length, IsTrue, OnOk, ℕ, ◌+◌, nat_lt};
+ghost use Rattle.disk.specs.Image.{MayLeave, IsSynced, after_write, after_sync, tried_write};
 ghost use Rattle.disk.specs.File.{surface};
-ghost use Rattle.disk.specs.declared.plan.FailurePlan.TheVariants.{Never};
+ghost use Rattle.disk.specs.declared.plan.FailurePlan.TheVariants.{Never, AfterWrite};
 ghost use Rattle.disk.specs.Planned.{IsAsPlanned};
-ghost use Rattle.gatelog.specs.Armed.{fails_in_two, after_two, two_made};
+ghost use Rattle.gatelog.specs.Armed.{fails_in_two, after_two, two_made, fails_in_append, appended, IsArmed};
+ghost use Rattle.gatelog.specs.Crash.{IsOldOrWith};
+ghost use Rattle.gatelog.specs.Frames.{next_gate, staged_bytes};
+ghost use Rattle.gatelog.specs.Log.{log, ends_at, and_entry};
 ghost use Rattle.disk.specs.Moments.{LeavesOnly, HasCause};
 
+use crate::frame::OPEN_GATE;
+use crate::token::Staged;
 use disk::Disk;
 use units::Fault;
 
@@ -30,4 +35,33 @@ pub fn write_and_sync<D: Disk>(disk: &mut D, at: u64, bytes: &[u8]) -> Result<()
 {
     disk.write_at(at, bytes)?;
     disk.sync()
+}
+
+/// Writes the frame of a record behind the closed gate of a log, and opens the gate once it is on the disk.
+pub fn write_frame<D: Disk>(disk: &mut D, staged: &Staged) -> Result<(), Fault>
+    requires synced { D.keeps_model → IsSynced (surface (D.file disk.old)) }
+    requires whole { D.keeps_model
+        → IsTrue (ends_at (surface (D.file disk.old)).seen staged.now.offset) }
+    ensures any_moment { D.keeps_model → LeavesOnly D.clock D.since disk.old disk.new
+        (IsOldOrWith (log (surface (D.file disk.old)).seen) staged.now) }
+    ensures done { OnOk result (D.keeps_model → IsSynced (surface (D.file disk.new))
+        × IsTrue (ends_at (surface (D.file disk.new)).seen
+        (next_gate staged.now.offset staged.now.item))
+        × (log (surface (D.file disk.new)).seen ≡
+        and_entry (log (surface (D.file disk.old)).seen) staged.now)) }
+    ensures planned { D.has_room disk.old 4 (length (staged_bytes staged.now.item) + 1) →
+        IsAsPlanned (fails_in_append (D.plan disk.old)) result
+        × (D.file disk.new ≡ appended (D.plan disk.old) staged.now.offset
+        (staged_bytes staged.now.item) (D.file disk.old)) }
+    ensures armed { (call : ℕ) → D.keeps_model
+        → D.has_room disk.old 4 (length (staged_bytes staged.now.item) + 1)
+        → D.plan disk.old ≡ AfterWrite call →
+        IsAsPlanned (nat_lt call 4) result
+        × IsArmed call (log (surface (D.file disk.old)).seen) staged.now (D.file disk.new) }
+    ensures never { D.plan disk.old ≡ Never → D.plan disk.new ≡ Never }
+    ensures failures_stay { D.failures disk.old ≤ D.failures disk.new }
+    ensures cause { HasCause (D.failures disk.old) (D.failures disk.new) result }
+{
+    write_and_sync(disk, staged.gate + 1, &staged.bytes)?;
+    write_and_sync(disk, staged.gate, &[OPEN_GATE])
 }

@@ -1,19 +1,19 @@
 //! The log. A closed gate stands behind the last frame, on the disk before anything is written behind it. It is opened by
 //! a write of its own, once the frame behind it is on the disk.
-ghost use Rattle.std.specs.Prelude.{◌≡◌, ◌⊎◌, ◌+◌, ◌≤◌, ◌<◌, ◌^◌, [], length, IsTrue, IsFalse, IfOk, IfErr, IsOk, OnOk, ℕ, nat_lt, map, true, Ok, Err};
+ghost use Rattle.std.specs.Prelude.{◌≡◌, ◌⊎◌, ◌+◌, ◌≤◌, ◌<◌, ◌^◌, [], length, IsTrue, IsFalse, IfOk, IfErr, OnOk, ℕ, nat_lt, map, true, Ok, Err};
 ghost use Rattle.disk.specs.Image.{MayLeave, IsSynced, after_sync};
 ghost use Rattle.disk.specs.File.{surface, synced};
 ghost use Rattle.disk.specs.declared.plan.FailurePlan.TheVariants.{Never, AfterWrite};
 ghost use Rattle.disk.specs.Planned.{IsAsPlanned, armed};
-ghost use Rattle.disk.specs.Moments.{LeavesOnly, HasCause};
+ghost use Rattle.disk.specs.Moments.{LeavesOnly};
 ghost use Rattle.gatelog.specs.Armed.{fails_in_append, appended, waits, IsArmed};
 ghost use Rattle.gatelog.specs.Crash.{Stands, IsOldOrWith};
 ghost use Rattle.gatelog.specs.Frames.{end_of, next_gate, staged_bytes, IsFull};
 ghost use Rattle.gatelog.specs.Gates.{first_gate};
 ghost use Rattle.gatelog.specs.Log.{log, and_entry, ends_at, is_no_log};
 
-use crate::change::write_and_sync;
-use crate::frame::{FIRST_GATE, HEADER_AND_GATE, OPEN_GATE};
+use crate::change::{write_and_sync, write_frame};
+use crate::frame::{FIRST_GATE, HEADER_AND_GATE};
 use crate::opening::{entries_of, read_synced};
 use crate::token::{Entry, Logged, Staged};
 use disk::Disk;
@@ -34,17 +34,21 @@ pub struct GateLog<D: Disk> {
     ghost whole: { IsFalse stopped → D.keeps_model → IsTrue (ends_at (surface (D.file disk)).seen gate) },
 }
 
-fn cut_and_write<D: Disk>(disk: &mut D) -> Result<(), Fault>
+// Makes a file the empty log, synced. Refused for memory, it is as it was.
+fn lay_out<D: Disk>(disk: &mut D) -> Result<(), Fault>
     ensures done { OnOk result
         (D.keeps_model → ((surface (D.file disk.new)).seen ≡ HEADER_AND_GATE)
         × IsSynced (surface (D.file disk.new))) }
-    // With room for three changes, and no call armed, the device does not fail. What room there is beyond is kept.
-    ensures planned { (calls more : ℕ) → D.has_room disk.old (calls + 3) (9 + more)
-        → D.plan disk.old ≡ Never →
-        IsOk result × (D.plan disk.new ≡ Never) × D.has_room disk.new calls more }
+    // With no call armed, the device does not fail.
+    ensures planned { D.obeys → D.plan disk.old ≡ Never →
+        IfErr result (λ fault. fault ≡ Fault.Memory) × (D.plan disk.new ≡ Never) }
     ensures failures_stay { D.failures disk.old ≤ D.failures disk.new }
-    ensures cause { HasCause (D.failures disk.old) (D.failures disk.new) result }
+    ensures cause { IfErr result (λ fault.
+        ((fault ≡ Fault.Memory) × (D.file disk.new ≡ D.file disk.old)
+        × (D.plan disk.new ≡ D.plan disk.old))
+        ⊎ ((fault ≡ Fault.Device) × (D.failures disk.old < D.failures disk.new))) }
 {
+    disk.reserve(9)?;
     disk.cut(0)?;
     write_and_sync(disk, 0, &HEADER_AND_GATE)
 }
@@ -72,30 +76,7 @@ impl<D: Disk> GateLog<D> {
             × IfErr result (λ refused. refused.0 ≡ Fault.Memory) }
     {
         let mut disk = disk;
-        if let Err(fault) = disk.reserve(9) {
-            return Err((fault, disk));
-        }
-        GateLog::laid_out(disk)
-    }
-
-    // Makes an empty log of a file. It has room for that.
-    fn laid_out(disk: D) -> Result<GateLog<D>, (Fault, D)>
-        ensures empty { IfOk result
-            (λ made. D.keeps_model → Stands (surface (D.file (disk_of made))) (Ok [])) }
-        ensures read { IfOk result
-            (λ made. D.keeps_model → log (surface (D.file (disk_of made))).seen ≡ Ok []) }
-        ensures running { IfOk result (λ made. IsFalse (is_stopped made)) }
-        ensures gate { IfOk result (λ made. gate_at made ≡ first_gate) }
-        ensures failures_stay { IfOk result (λ made. D.failures disk ≤ D.failures (disk_of made)) }
-        ensures cause { IfErr result
-            (λ refused. (refused.0 ≡ Fault.Device) × (D.failures disk < D.failures refused.1)) }
-        ensures planned { (calls more : ℕ) → D.has_room disk (calls + 3) (9 + more)
-            → D.plan disk ≡ Never →
-            IsOk result × IfOk result
-            (λ made. (D.plan (disk_of made) ≡ Never) × D.has_room (disk_of made) calls more) }
-    {
-        let mut disk = disk;
-        if let Err(fault) = cut_and_write(&mut disk) {
+        if let Err(fault) = lay_out(&mut disk) {
             return Err((fault, disk));
         }
         Ok(GateLog {
@@ -227,7 +208,10 @@ impl<D: Disk> GateLog<D> {
             return Err(Fault::TimeSpent);
         }
         let size = encoded_len(&item) + 6;
-        self.disk.reserve(size)?;
+        if let Err(fault) = self.disk.reserve(size) {
+            drop(item);
+            return Err(fault);
+        }
         Staged::at(alloc, self.gate, item)
     }
 
@@ -288,13 +272,20 @@ impl<D: Disk> GateLog<D> {
             drop(staged);
             return Err(Fault::Stopped);
         }
-        let Staged { gate, item, bytes } = staged;
         self.stopped = true;
-        write_and_sync(&mut self.disk, gate + 1, &bytes)?;
-        write_and_sync(&mut self.disk, gate, &[OPEN_GATE])?;
-        self.gate = gate + bytes.len() as u64;
-        self.stopped = false;
-        Ok(Logged::new(item))
+        match write_frame(&mut self.disk, &staged) {
+            Ok(()) => {
+                let Staged { gate, item, bytes } = staged;
+                self.gate = gate + bytes.len() as u64;
+                self.stopped = false;
+                drop(bytes);
+                Ok(Logged::new(item))
+            }
+            Err(fault) => {
+                drop(staged);
+                Err(fault)
+            }
+        }
     }
 
     /// For tests: the device call that comes that many calls after the next append begins fails once, or none does.

@@ -87,8 +87,13 @@ impl Staged {
             (λ staged. (staged.offset ≡ gate) × (staged.item ≡ item)) }
         ensures memory { IfErr result (λ fault. fault ≡ Fault.Memory) }
     {
-        let bytes = bytes_for(alloc, &item)?;
-        Ok(Staged { gate, item, bytes })
+        match bytes_for(alloc, &item) {
+            Ok(bytes) => Ok(Staged { gate, item, bytes }),
+            Err(fault) => {
+                drop(item);
+                Err(fault)
+            }
+        }
     }
 }
 

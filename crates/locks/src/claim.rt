@@ -190,9 +190,12 @@ pub fn seems_clear(tally: &Tally, table: &[Claim], txn: TxnId, needs: &[Lock]) -
     requires { IsById (λ c. c.txn) table.now }
     ensures { result ≡ seems_clear tally.now table.now txn needs.now }
 {
-    needs
-        .iter()
-        .all(|need| seems_alone(tally, table, txn, &need.key))
+    for need in needs {
+        if !seems_alone(tally, table, txn, &need.key) {
+            return false;
+        }
+    }
+    true
 }
 
 fn seems_alone(tally: &Tally, table: &[Claim], txn: TxnId, key: &Key) -> bool
@@ -207,14 +210,24 @@ fn seems_alone(tally: &Tally, table: &[Claim], txn: TxnId, key: &Key) -> bool
 pub fn is_wounding(table: &[Claim], txn: TxnId, needs: &[Lock]) -> bool
     ensures { result ≡ is_wounding txn needs.now table.now }
 {
-    table.iter().any(|claim| claim.gives_way(txn, needs))
+    for claim in table {
+        if claim.gives_way(txn, needs) {
+            return true;
+        }
+    }
+    false
 }
 
 /// Whether a request waits for some claim of one that it does not end.
 pub fn is_kept_out(table: &[Claim], txn: TxnId, needs: &[Lock]) -> bool
     ensures { result ≡ is_kept_out txn needs.now table.now }
 {
-    table.iter().any(|claim| claim.keeps_out(txn, needs))
+    for claim in table {
+        if claim.keeps_out(txn, needs) {
+            return true;
+        }
+    }
+    false
 }
 
 /// Whom a request ends, the oldest first.
@@ -226,11 +239,13 @@ pub fn wounded(
 ) -> Result<Vec<TxnId>, AllocError>
     ensures { IfOk result (λ ids. ids.items ≡ ids_in_way txn needs.now table.now) }
 {
-    table
-        .iter()
-        .filter(|claim| claim.gives_way(txn, needs))
-        .map(|claim| claim.txn())
-        .collect(alloc)
+    let mut ids = Vec::new(alloc);
+    for claim in table {
+        if claim.gives_way(txn, needs) {
+            ids.push(claim.txn())?;
+        }
+    }
+    Ok(ids)
 }
 
 /// The oldest that waits and would be granted now. Many may wait for one, so who stood in the way of one waiter is asked
