@@ -1,5 +1,5 @@
 -- What a desk keeps of its core and its board.
-use Rattle.std.proofs.Common.{Result, Ok, Err, ◌≡◌, ℕ, ◌+◌, ◌<◌, ◌≤◌, true, List, [], ◌∷◌, ◌++◌, length, take, drop, get_or}
+use Rattle.std.proofs.Common.{Result, Ok, Err, IfOk, ◌≡◌, ℕ, ◌+◌, ◌<◌, ◌≤◌, true, List, [], ◌∷◌, ◌++◌, length, take, drop, get_or}
 use Rattle.std.proofs.Common.{nat_lt, ap, sym, ◌∙◌, subst, arith, append_assoc, length-append, drop_of_length-le}
 use Rattle.std.specs.List.{list_all}
 use Rattle.std.proofs.lemmas.List.{append-nil, take_more, drop_more, drop-append-le, take-append-le, take_all}
@@ -13,7 +13,7 @@ use Rattle.board.proofs.Longer.{front_is_board, versions_on-more, safe_from-inst
 use Rattle.serving.specs.Showable.{rises_by_key}
 use Rattle.desk.proofs.Follow.{board_news, board_safe, opening_is_board, as_entries-more, versions_on-entries, safe_from-more_entries, take_drop}
 use Rattle.desk.proofs.Follow.{entries_follow}
-use Rattle.desk.specs.InStep.{InStep, as_entries}
+use Rattle.desk.specs.InStep.{InStep, ShowsAll, as_entries}
 
 pub opened_in_step : (installs : List Install) (t : ℕ) → rises_by_key [] installs ≡ true → InStep installs t (length installs)
     (first_entries installs t ++ [])
@@ -117,6 +117,20 @@ module _ (installs : List Install) (served handed : ℕ) (one two new : Publishi
   published_in_step result is =
       subst (λ (l : List BoardEntry). InStep installs served handed l) (sym (all_published result two new is ∙ with_safe))
       (safe_handed installs served handed (one.published ++ one.pending) step all)
+
+  -- what is published is shown
+  pub published_shows : (old : Publishing) → (one.published ≡ old.published) × (one.board ≡ old.board) → (result : Result Published Fault)
+      → PublishesAll two result new → IfOk result (λ told. ShowsAll installs served old new told)
+  published_shows old same (Err fault) is = tt
+  published_shows old same (Ok told) is =
+      let list : new.published ≡ two.published ++ two.pending = ap (λ (s : Publishing). s.published) is.0 in
+      let board : two.board ≡ old.board = ap (λ (s : Publishing). s.board) ends ∙ same.1 in
+      record {
+        installs = ap versions_on (list ∙ with_safe) ∙ all_shown installs served handed (one.published ++ one.pending) step all;
+        ends = (one.published ++ one.pending, list ∙ with_safe);
+        same = ap (λ (s : Publishing). s.board) is.0 ∙ board;
+        told = is.1 ∙ (λ i. record { board = board i; list = sym list i });
+      }
 
 -- a new board is in step
 pub opened_desk : (installs given held : List Install) (t at : ℕ) (published pending : List BoardEntry) → rises_by_key [] installs ≡ true → held ≡ installs

@@ -58,12 +58,16 @@ pub record DeskView (D : Type 0) : Type 0 where
 abbrev pub EndsSafe : List BoardEntry → ℕ → Type 0
 EndsSafe entries t = (before : List BoardEntry) × (entries ≡ before ++ Safe t ∷ [])
 
--- The board shows all versions of the core, in order, and then its served time. The news is of that list.
-pub record ShowsCore {D : Type 0} (old new : DeskView D) (news : Published) : Type 0 where
-  pub installs : versions_on new.board.published ≡ old.core.facts.installs
-  pub ends : EndsSafe new.board.published (safe_at old.core)
-  pub same : new.board.board ≡ old.board.board
-  pub told : news ≡ record { board = old.board.board; list = new.board.published }
+-- The board shows these versions, in order, and then this served time. The news is of that list.
+pub record ShowsAll (versions : List Install) (served : ℕ) (old new : Publishing) (news : Published) : Type 0 where
+  pub installs : versions_on new.published ≡ versions
+  pub ends : EndsSafe new.published served
+  pub same : new.board ≡ old.board
+  pub told : news ≡ record { board = old.board; list = new.published }
+
+-- the board shows all versions of the core, and its served time
+abbrev pub ShowsCore : {D : Type 0} → DeskView D → DeskView D → Published → Type 0
+ShowsCore old new news = ShowsAll old.core.facts.installs (safe_at old.core) old.board new.board news
 
 -- the core's own refusal, or want of memory
 abbrev pub WhyNot : Result (List Envelope) Fault → Fault → Type 0

@@ -1,8 +1,8 @@
 //! The core of a shard, and the publisher of its board.
-ghost use Rattle.std.specs.Prelude.{◌≡◌, ◌<◌, ◌+◌, length, IfOk, IfErr, OnOk};
+ghost use Rattle.std.specs.Prelude.{◌≡◌, ◌<◌, ◌+◌, ◌++◌, true, length, IfOk, IfErr, OnOk};
 ghost use Rattle.std.specs.Option.{option_copied};
-ghost use Rattle.board.specs.Board.{first_entries};
-ghost use Rattle.desk.specs.InStep.{IsInStep, IsNewBoard, AreOnBoard, IsNoDesk, StillShows, ShowsCore, HasAdvanced, HasNotAdvanced, HasTaken};
+ghost use Rattle.board.specs.Board.{first_entries, is_board};
+ghost use Rattle.desk.specs.InStep.{InStep, IsInStep, IsNewBoard, AreOnBoard, IsNoDesk, StillShows, ShowsAll, HasAdvanced, HasNotAdvanced, HasTaken};
 ghost use Rattle.desk.specs.Opening.{HasNoDesk, IsBegun};
 ghost use Rattle.book.specs.Books.{IsBookOf};
 ghost use Rattle.shard.specs.Booked.{stand_of};
@@ -19,7 +19,7 @@ use shard::Core;
 use std::alloc::Global;
 use std::sync::Wait;
 use truetime::Reading;
-use units::{Fault, Setup, Stamp};
+use units::{Fault, Install, Setup, Stamp};
 
 /// A core, the publisher of its board, and how many of its versions the board was handed: the first ones. The board's served
 /// time is at most the core's. The handle is for the publisher, which waits for viewers.
@@ -33,14 +33,7 @@ pub struct Desk<D: Disk + Drop, R: Wait + Drop> {
 
 impl<D: Disk + Drop, R: Wait + Drop> Drop for Desk<D, R> {
     fn drop(self) {
-        let Desk {
-            alloc: _,
-            core,
-            publisher,
-            handed: _,
-        } = self;
-        drop(publisher);
-        drop(core.stop());
+        drop(self.close());
     }
 }
 
@@ -66,13 +59,8 @@ impl<D: Disk + Drop, R: Wait + Drop> Desk<D, R> {
             × (book_of refused.1 ≡ book_of core)) }
     {
         core.is_sound();
-        let splits = match core.setup().splits.copy(alloc) {
-            Ok(splits) => splits,
-            Err(fault) => return Err((fault, core)),
-        };
-        let shard = core.setup().shard;
         let handed = core.installs().len();
-        match start(rt, alloc, core.installs(), core.safe(), splits, shard, n) {
+        match board_of(rt, alloc, core.setup(), core.installs(), core.safe(), n) {
             Ok((publisher, viewers)) => Ok((
                 Desk {
                     alloc,
@@ -148,27 +136,13 @@ impl<D: Disk + Drop, R: Wait + Drop> Desk<D, R> {
         let told = self.deliver(now, &input);
         drop(input);
         drop(told?);
-        self.show()
-    }
-
-    // Hands the board the versions that it lacks and the served time, and publishes them.
-    fn show(&mut self) -> Result<Told, Fault>
-        ensures core { ((seen_desk self.new).core ≡ (seen_desk self.old).core)
-            × ((seen_desk self.new).book ≡ (seen_desk self.old).book) }
-        ensures shown { IfOk result
-            (λ told. ShowsCore (seen_desk self.old) (seen_desk self.new) told) }
-        ensures refused { IfErr result (λ fault.
-            (fault ≡ Fault.Memory)
-            × StillShows (seen_desk self.old).board (seen_desk self.new).board) }
-    {
-        hand_over(
-            &self.core,
+        show(
+            self.core.installs(),
+            self.core.safe(),
             &mut self.publisher,
             &mut self.handed,
             self.alloc,
-        )?;
-        self.publisher.safe(self.core.safe())?;
-        self.publisher.publish()
+        )
     }
 
     /// The book of the core, where it keeps one: from the state that the opening left, the step over its pages leads to what the
@@ -217,40 +191,87 @@ pub fn copy_setup(alloc: Global, setup: &Setup) -> Result<Setup, Fault>
     })
 }
 
+// The board of a shard that is set up so, with its versions and its served time, and so many viewers.
+fn board_of<R: Wait + Drop>(
+    rt: R,
+    alloc: Global,
+    setup: &Setup,
+    installs: &[Install],
+    safe: Stamp,
+    n: usize,
+) -> Result<(Publisher<R>, Vec<Viewer>), Fault>
+    requires { is_board (first_entries installs.now safe) ≡ true }
+    ensures board { IfOk result
+        (λ made. IsNewBoard made.0 (first_entries installs.now safe)) }
+    ensures viewers { IfOk result (λ made. AreOnBoard n made.0 made.1.items) }
+    ensures refused { IfErr result (λ fault. IsNoDesk n fault) }
+{
+    let splits = setup.splits.copy(alloc)?;
+    start(rt, alloc, installs, safe, splits, setup.shard, n)
+}
+
+// Hands the board the versions that it lacks and the served time, and publishes them.
+fn show<R: Wait + Drop>(
+    installs: &[Install],
+    safe: Stamp,
+    publisher: &mut Publisher<R>,
+    handed: &mut usize,
+    alloc: Global,
+) -> Result<Told, Fault>
+    requires { InStep installs.now safe handed.old
+        (publisher.old.published ++ publisher.old.pending) }
+    ensures step { InStep installs.now safe handed.new
+        (publisher.new.published ++ publisher.new.pending) }
+    ensures shown { IfOk result
+        (λ told. ShowsAll installs.now safe publisher.old publisher.new told) }
+    ensures refused { IfErr result
+        (λ fault. (fault ≡ Fault.Memory) × StillShows publisher.old publisher.new) }
+{
+    hand_over(installs, safe, publisher, handed, alloc)?;
+    publisher.safe(safe)?;
+    publisher.publish()
+}
+
 // Hands the versions to the board that it was not handed yet.
-fn hand_over<D: Disk, R: Wait + Drop>(
-    core: &Core<D>,
+fn hand_over<R: Wait + Drop>(
+    installs: &[Install],
+    safe: Stamp,
     publisher: &mut Publisher<R>,
     handed: &mut usize,
     alloc: Global,
 ) -> Result<(), Fault>
-    requires { IsInStep (seen core.now) handed.old publisher.old }
-    ensures step { IsInStep (seen core.now) handed.new publisher.new }
+    requires { InStep installs.now safe handed.old
+        (publisher.old.published ++ publisher.old.pending) }
+    ensures step { InStep installs.now safe handed.new
+        (publisher.new.published ++ publisher.new.pending) }
     ensures published { StillShows publisher.old publisher.new }
-    ensures all { OnOk result (handed.new ≡ length (seen core.now).facts.installs) }
+    ensures all { OnOk result (handed.new ≡ length installs.now) }
     ensures memory { IfErr result (λ fault. fault ≡ Fault.Memory) }
 {
-    let installs = core.installs();
     while *handed < installs.len() {
-        hand_one(core, publisher, handed, alloc)?;
+        hand_one(installs, safe, publisher, handed, alloc)?;
     }
     Ok(())
 }
 
-fn hand_one<D: Disk, R: Wait + Drop>(
-    core: &Core<D>,
+// Hands the board the next version.
+fn hand_one<R: Wait + Drop>(
+    installs: &[Install],
+    safe: Stamp,
     publisher: &mut Publisher<R>,
     handed: &mut usize,
     alloc: Global,
 ) -> Result<(), Fault>
-    requires step { IsInStep (seen core.now) handed.old publisher.old }
-    requires left { handed.old < length (seen core.now).facts.installs }
-    ensures step { IsInStep (seen core.now) handed.new publisher.new }
+    requires step { InStep installs.now safe handed.old
+        (publisher.old.published ++ publisher.old.pending) }
+    requires left { handed.old < length installs.now }
+    ensures step { InStep installs.now safe handed.new
+        (publisher.new.published ++ publisher.new.pending) }
     ensures published { StillShows publisher.old publisher.new }
     ensures count { OnOk result (handed.new ≡ handed.old + 1) }
     ensures memory { IfErr result (λ fault. fault ≡ Fault.Memory) }
 {
-    let install = copy_install(&core.installs()[*handed], alloc)?;
+    let install = copy_install(&installs[*handed], alloc)?;
     publisher.install(install)?;
     *handed += 1;
     Ok(())

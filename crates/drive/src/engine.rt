@@ -8,7 +8,7 @@ ghost use Rattle.workers.specs.Staffs.{IsStaffOf};
 ghost use Rattle.workers.specs.Summaries.{tried};
 ghost use Rattle.inspection.specs.Judged.{IsJudged};
 
-use crate::opening::Opened;
+use crate::opening::{Opened, run_of};
 use crossbeam_channel::Receiver;
 use disk::Disk;
 use inspection::judge;
@@ -21,8 +21,8 @@ use std::sync::Wait;
 use std::thread::Threads;
 use std::{thread, time};
 use truetime::Clock;
-use units::{Fault, Line};
-use workers::{Course, MachineClock, Report, Shared, Staff, Summary, work_and_close};
+use units::{Fault, Line, Run};
+use workers::{Course, MachineClock, Report, Shared, Staff, Summary, Viewers, work_and_close};
 
 /// What a drive comes to, and what its verdict is on: the lines of all workers, and the disks with the logs of the shards.
 #[derive(Drop)]
@@ -97,8 +97,21 @@ pub fn drive_by<
 {
     let course = Course::of(settings)?;
     let opened = Opened::over(rt, alloc, settings, disks, course.workers as usize)?;
-    let (report, nodes) = run(rt, alloc, settings, course, opened, clock, gate, watch)?;
-    outcome(alloc, nodes, report)
+    let Opened {
+        nodes,
+        viewers,
+        epoch,
+    } = opened;
+    let ids = run_of(epoch);
+    match run(
+        rt, alloc, settings, course, ids, &nodes, viewers, clock, gate, watch,
+    ) {
+        Ok(report) => outcome(alloc, nodes, report),
+        Err(fault) => {
+            drop(nodes);
+            Err(fault)
+        }
+    }
 }
 
 // What a drive comes to once its workers have reported: the verdict is on what the nodes leave on their disks.
@@ -135,35 +148,24 @@ fn run<
     alloc: Global,
     settings: &Settings,
     course: Course,
-    opened: Opened<D, H>,
+    ids: Run,
+    nodes: &[Node<D, H>],
+    viewers: Viewers,
     clock: C,
     gate: &G,
     watch: &W,
-) -> Result<(Report, Vec<Node<D, H>>), Fault>
-    requires { length opened.viewers.by_worker.items ≡ course.workers }
-    ensures counts { IfOk result (λ ran. (tried ran.0.counts ≡ course.workers * course.transactions)
-        × (ran.0.counts.looks ≤ course.workers * course.transactions)) }
-    ensures nodes { IfOk result (λ ran. length ran.1.items ≡ length opened.nodes.items) }
+) -> Result<Report, Fault>
+    requires { length viewers.by_worker.items ≡ course.workers }
+    ensures { IsCounted (course.workers * course.transactions) result }
 {
-    let made = Shared::new(
-        alloc,
-        course,
-        opened.run(),
-        &settings.splits,
-        opened.nodes.len(),
-    );
+    let made = Shared::new(alloc, course, ids, &settings.splits, nodes.len());
     let (shared, inboxes, drawers) = match made {
         Ok(made) => made,
         Err(fault) => {
-            drop(opened);
+            drop(viewers);
             return Err(fault);
         }
     };
-    let Opened {
-        nodes,
-        viewers,
-        epoch: _,
-    } = opened;
     let Inboxes {
         nodes: to_nodes,
         workers: to_workers,
@@ -173,43 +175,15 @@ fn run<
         drawers,
         viewers,
     };
-    let report = serve_and_work(
-        rt, &shared, course, &nodes, to_nodes, staff, clock, gate, watch,
-    );
-    drop(shared);
-    Ok((report?, nodes))
-}
-
-// What all workers report, once they have done their turns beside the nodes.
-fn serve_and_work<
-    R: Threads + Wait + time::Clock + Sync,
-    D: Disk + Drop + Send,
-    H: Wait + Drop + Send,
-    C: Clock + Copy + Send,
-    G: Gate + Sync,
-    W: Watch + Sync,
->(
-    rt: &R,
-    shared: &Shared,
-    course: Course,
-    nodes: &[Node<D, H>],
-    inboxes: Vec<Receiver<Letter>>,
-    staff: Staff,
-    clock: C,
-    gate: &G,
-    watch: &W,
-) -> Result<Report, Fault>
-    requires workers { length staff.inboxes.items ≡ course.workers }
-    requires staff { IsStaffOf shared.now staff }
-    ensures { IsCounted (course.workers * course.transactions) result }
-{
-    match served(rt, shared, nodes, inboxes, clock) {
-        Ok(served) => run_all(rt, shared, course, served, staff, clock, gate, watch),
+    let report = match served(rt, &shared, nodes, to_nodes, clock) {
+        Ok(served) => run_all(rt, &shared, course, served, staff, clock, gate, watch),
         Err(fault) => {
             drop(staff);
             Err(fault)
         }
-    }
+    };
+    drop(shared);
+    report
 }
 
 // What each node is served with.

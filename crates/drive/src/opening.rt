@@ -37,9 +37,10 @@ impl<D: Disk + Drop, H: Wait + Copy> Opened<D, H> {
             drop(disks);
             return Err(Fault::BadRequest(Reason::Settings));
         }
+        let viewers = Viewers::none(alloc, workers)?;
         let mut opened = Opened {
             nodes: Vec::new(alloc),
-            viewers: Viewers::none(alloc, workers)?,
+            viewers,
             epoch: Epoch::first(),
         };
         match opened.open_all(rt, alloc, settings, disks) {
@@ -77,7 +78,7 @@ impl<D: Disk + Drop, H: Wait + Copy> Opened<D, H> {
         ensures nodes { OnOk result
             (length self.new.nodes.items ≡ length self.old.nodes.items + 1) }
     {
-        let setup = self.next_setup(alloc, settings)?;
+        let setup = setup_of(alloc, settings, self.nodes.len())?;
         let core = match Core::open(alloc, disk, setup) {
             Ok(core) => core,
             Err((fault, disk)) => {
@@ -87,20 +88,6 @@ impl<D: Disk + Drop, H: Wait + Copy> Opened<D, H> {
         };
         self.epoch = later(self.epoch, core.epoch());
         self.serve(rt, alloc, core)
-    }
-
-    // What the next shard is told.
-    fn next_setup(&self, alloc: Global, settings: &Settings) -> Result<Setup, Fault> {
-        let number = u8::try_from(self.nodes.len()).ok();
-        let Some(shard) = number.and_then(ShardNo::new) else {
-            return Err(Fault::BadRequest(Reason::Settings));
-        };
-        Ok(Setup {
-            shard,
-            splits: settings.splits.copy(alloc)?,
-            stride: settings.stride,
-            book: Book::Off,
-        })
     }
 
     // Makes a node of a core, and deals its viewers out.
@@ -123,6 +110,19 @@ impl<D: Disk + Drop, H: Wait + Copy> Opened<D, H> {
     }
 }
 
+// What the shard of this number is told.
+fn setup_of(alloc: Global, settings: &Settings, number: usize) -> Result<Setup, Fault> {
+    let Some(shard) = u8::try_from(number).ok().and_then(ShardNo::new) else {
+        return Err(Fault::BadRequest(Reason::Settings));
+    };
+    Ok(Setup {
+        shard,
+        splits: settings.splits.copy(alloc)?,
+        stride: settings.stride,
+        book: Book::Off,
+    })
+}
+
 // The later of two epochs.
 fn later(epoch: Epoch, other: Epoch) -> Epoch
     ensures first { epoch ≤ result }
@@ -135,12 +135,10 @@ fn later(epoch: Epoch, other: Epoch) -> Epoch
     }
 }
 
-impl<D: Disk + Drop, H: Wait + Drop> Opened<D, H> {
-    /// The run of all ids: the greatest epoch.
-    pub fn run(&self) -> Run {
-        match Run::new(self.epoch.number()) {
-            Some(run) => run,
-            None => unreachable!(),
-        }
+/// The run of all ids: the greatest epoch.
+pub fn run_of(epoch: Epoch) -> Run {
+    match Run::new(epoch.number()) {
+        Some(run) => run,
+        None => unreachable!(),
     }
 }

@@ -21,7 +21,10 @@ pub fn drive_shards<
     W: Write + Drop + Send,
 >(rt: &R, alloc: Global, settings: &Settings, terminal: Option<W>) -> Result<Driven, Fault> {
     let turns = settings.workers.saturating_mul(settings.transactions);
-    let watch = terminal.map(|writer| Terminal::new(rt, alloc, writer, turns));
+    let watch = match terminal {
+        Some(writer) => Some(Terminal::new(rt, alloc, writer, turns)),
+        None => None,
+    };
     let driven = drive_watched(rt, alloc, settings, &watch);
     if let Some(terminal) = watch {
         terminal.finish();
@@ -55,7 +58,13 @@ fn drive_over<R: Threads + Wait + time::Clock + Sync, D: Disk + Drop + Send, W: 
     logs: Vec<D>,
     watch: &W,
 ) -> Result<Driven, Fault> {
-    let summary = drive(rt, alloc, settings, logs, &Open, watch)?.summary;
+    let drive::Driven {
+        summary,
+        lines,
+        disks,
+    } = drive(rt, alloc, settings, logs, &Open, watch)?;
+    drop(lines);
+    drop(disks);
     Ok(Driven {
         text: format!(in alloc; "{summary}")?,
         verdict: summary.verdict,

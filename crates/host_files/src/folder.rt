@@ -39,7 +39,10 @@ pub fn logs_in_memory(alloc: Global, shards: usize) -> Result<Vec<SimDisk>, Faul
     for _ in 0..shards {
         match GateLog::format(SimDisk::new(alloc)) {
             Ok(log) => logs.push(log.into_disk())?,
-            Err((fault, _)) => return Err(fault),
+            Err((fault, disk)) => {
+                drop(disk);
+                return Err(fault);
+            }
         }
     }
     Ok(logs)
@@ -59,8 +62,15 @@ fn log_at<R: Files<File = File>>(
     }
     let draft = format!(in alloc; "{path}.new")?;
     let log = formatted(rt, &draft)?;
-    name(rt, folder, &draft, path)?;
-    Ok(log)
+    let named = name(rt, folder, &draft, path);
+    drop(draft);
+    match named {
+        Ok(()) => Ok(log),
+        Err(fault) => {
+            drop(log);
+            Err(fault)
+        }
+    }
 }
 
 // A new log under a name that it does not keep, so that a file is a whole log once it has its own. What a drive left there that
@@ -75,7 +85,10 @@ fn formatted<R: Files<File = File>>(rt: &R, draft: &str) -> Result<FileDisk, Fau
     };
     match GateLog::format(file) {
         Ok(log) => Ok(log.into_disk()),
-        Err((fault, _)) => Err(fault),
+        Err((fault, file)) => {
+            drop(file);
+            Err(fault)
+        }
     }
 }
 

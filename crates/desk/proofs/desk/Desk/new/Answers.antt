@@ -6,8 +6,8 @@ use Rattle.desk.proofs.Follow.{entries_follow, opening_is_board}
 use Rattle.desk.proofs.InStep.{opened_desk}
 use Rattle.desk.proofs.desk.Desk.new.Goals as goal
 
-pub start-requires : goal.start-requires
-start-requires g c =
+pub board_of-requires : goal.board_of-requires
+board_of-requires g c =
     let core = seen c.args.core in
     (λ i. is_board (first_entries (c.installs.ensures i) (c.safe.ensures i))) ∙ opening_is_board core.facts.installs (safe_at core)
     (entries_follow [] core.facts.installs c.is_sound.ensures.showable.installs)
@@ -17,11 +17,11 @@ invariant_of-result g c =
     let core = seen c.args.core in
     record {
       in_step = opened_desk core.facts.installs c.installs.result.now c.installs-handed.result.now
-          (safe_at core) c.safe.result c.in-Ok-start.publisher.published c.in-Ok-start.publisher.pending
-          c.is_sound.ensures.showable.installs c.installs-handed.ensures c.installs.ensures c.safe.ensures c.in-Ok-start.ensures.publisher.0
-          c.in-Ok-start.ensures.publisher.1;
+          (safe_at core) c.safe.result c.in-Ok.publisher.published c.in-Ok.publisher.pending
+          c.is_sound.ensures.showable.installs c.installs-handed.ensures c.installs.ensures c.safe.ensures c.in-Ok.ensures.board.0
+          c.in-Ok.ensures.board.1;
     }
 
-pub returns-in-Ok-start-clause-board : goal.returns-in-Ok-start-clause-board
-returns-in-Ok-start-clause-board g c =
-    (c.in-Ok-start.ensures.publisher.0 ∙ (λ i. first_entries (c.installs.ensures i) (c.safe.ensures i)), c.in-Ok-start.ensures.publisher.1)
+pub returns-in-Ok-clause-board : goal.returns-in-Ok-clause-board
+returns-in-Ok-clause-board g c =
+    (c.in-Ok.ensures.board.0 ∙ (λ i. first_entries (c.installs.ensures i) (c.safe.ensures i)), c.in-Ok.ensures.board.1)
