@@ -4,7 +4,6 @@ ghost use Rattle.std.specs.Prelude.{◌≡◌, ℕ, IfOk, IfErr};
 ghost use Rattle.units.specs.Lists.{gather};
 ghost use Rattle.record.specs.Verdict.{is_late_ack};
 ghost use Rattle.findings.specs.Acks.{AscendsByMoment, as_ack, is_late_by, raised_acks};
-ghost use Rattle.findings.specs.declared.acks.Ack.{Ack};
 
 use std::alloc::Global;
 use units::{Fault, Line, Stamp};
