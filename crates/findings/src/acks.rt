@@ -1,10 +1,9 @@
 //! The acknowledgements of a report, by the moments at which they came.
 ghost use Rattle.std.specs.List.{list_any};
-ghost use Rattle.std.specs.Prelude.{◌≡◌, ℕ, Bool, IfOk, IfErr, OnOk};
+ghost use Rattle.std.specs.Prelude.{◌≡◌, ℕ, IfOk, IfErr};
 ghost use Rattle.units.specs.Lists.{gather};
 ghost use Rattle.record.specs.Verdict.{is_late_ack};
 ghost use Rattle.findings.specs.Acks.{AscendsByMoment, as_ack, is_late_by, raised_acks};
-ghost use Rattle.findings.specs.declared.acks.Ack.{Ack};
 
 use std::alloc::Global;
 use units::{Fault, Line, Stamp};
@@ -25,7 +24,7 @@ pub fn acks_by_moment(alloc: Global, lines: &[Line]) -> Result<Vec<Ack>, Fault>
     ensures memory { IfErr result (λ fault. fault ≡ Fault.Memory) }
 {
     let mut acks = acks_of(alloc, lines)?;
-    sort(&mut acks)?;
+    acks.sort_by_key(|ack| ack.moment)?;
     raised(alloc, &acks)
 }
 
@@ -43,16 +42,6 @@ fn acks_of(alloc: Global, lines: &[Line]) -> Result<Vec<Ack>, Fault>
         }
     }
     Ok(acks)
-}
-
-fn sort(acks: &mut Vec<Ack>) -> Result<(), Fault>
-    ensures order { OnOk result (AscendsByMoment acks.new.items) }
-    ensures same { OnOk result
-        ((test : Ack → Bool) → list_any test acks.new.items ≡ list_any test acks.old.items) }
-    ensures memory { IfErr result (λ fault. fault ≡ Fault.Memory) }
-{
-    acks.sort_by_key(|ack| ack.moment)?;
-    Ok(())
 }
 
 // Each with the greatest timestamp up to there.

@@ -35,7 +35,7 @@ pub fn entries_by_txn<'l>(alloc: Global, logs: &'l [Vec<Record>]) -> Result<Vec<
     ensures memory { IfErr result (λ fault. fault ≡ Fault.Memory) }
 {
     let mut found = entries_of(alloc, logs)?;
-    sort(&mut found)?;
+    found.sort_by_key(|entry| entry.txn)?;
     Ok(found)
 }
 
@@ -75,15 +75,6 @@ fn id_of(item: &Record) -> Option<TxnId>
         Record::Abort { txn } => Some(*txn),
         Record::Outcome { txn, .. } => Some(*txn),
     }
-}
-
-fn sort(found: &mut Vec<Entry<'_>>) -> Result<(), Fault>
-    ensures order { OnOk result (AscendsByTxn found.new.items) }
-    ensures same { OnOk result ((t : Id) → of_txn t found.new.items ≡ of_txn t found.old.items) }
-    ensures memory { IfErr result (λ fault. fault ≡ Fault.Memory) }
-{
-    found.sort_by_key(|entry| entry.txn)?;
-    Ok(())
 }
 
 /// Those of one transaction, among some that ascend.

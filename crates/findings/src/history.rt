@@ -4,7 +4,6 @@ ghost use Rattle.std.specs.Prelude.{flat_map, nat_eq};
 ghost use Rattle.std.specs.Prelude.{◌≡◌, ◌≤◌, ◌++◌, length, IfOk, IfErr, OnOk, map};
 ghost use Rattle.std.specs.Option.{option_copied};
 ghost use Rattle.units.specs.Ids.{Id};
-ghost use Rattle.units.specs.Lists.{insert, numbered};
 ghost use Rattle.units.specs.Fronts.{front};
 ghost use Rattle.record.specs.History.{serial_before, find_txn, history, serial, whole_txn};
 ghost use Rattle.findings.specs.Decided.{decided_in, promised_in, whole_in};
@@ -55,21 +54,6 @@ pub fn history_of(
         (entries (map (λ log. log.items) logs.now)) }
     ensures history { IfOk result
         (λ found. found.items ≡ history (map (λ log. log.items) logs.now)) }
-    ensures memory { IfErr result (λ fault. fault ≡ Fault.Memory) }
-{
-    decided(alloc, logs, about)
-}
-
-// The transactions that the logs decide.
-fn decided(
-    alloc: Global,
-    logs: &[Vec<Record>],
-    about: &[Entry<'_>],
-) -> Result<Vec<Transaction>, Fault>
-    requires order { AscendsByTxn about.now }
-    ensures found { IfOk result
-        (λ found. found.items ≡ flat_map (decided_in about.now)
-        (numbered 0 (map (λ log. log.items) logs.now))) }
     ensures memory { IfErr result (λ fault. fault ≡ Fault.Memory) }
 {
     let mut found = Vec::new(alloc);

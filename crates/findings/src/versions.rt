@@ -36,7 +36,7 @@ pub fn versions_by_key<'t>(
     ensures memory { IfErr result (λ fault. fault ≡ Fault.Memory) }
 {
     let mut found = versions_of(alloc, ordered)?;
-    sort(&mut found)?;
+    found.sort_by(|version, other| version.write.key.compare(&other.write.key))?;
     Ok(found)
 }
 
@@ -63,16 +63,6 @@ fn add_writes<'t>(
     for write in writes {
         found.push(Version { place, write })?;
     }
-    Ok(())
-}
-
-fn sort(found: &mut Vec<Version<'_>>) -> Result<(), Fault>
-    ensures order { OnOk result (AscendsByKey found.new.items) }
-    ensures same { OnOk result ((k : Bytes) →
-        placed_for k found.new.items ≡ placed_for k found.old.items) }
-    ensures memory { IfErr result (λ fault. fault ≡ Fault.Memory) }
-{
-    found.sort_by(|version, other| version.write.key.compare(&other.write.key))?;
     Ok(())
 }
 

@@ -35,13 +35,15 @@ impl<'t> LineReader<'t> {
 
     /// The word behind a values one on the next line, where the two are all of it.
     pub fn head(&mut self, alloc: Global, name: &str) -> Result<Option<&'t str>, Fault> {
-        match self.next(alloc)? {
-            Some(words) => match words.as_slice() {
-                [first, word] if *first == name => Ok(Some(word)),
-                _ => Ok(None),
-            },
-            None => Ok(None),
-        }
+        let Some(words) = self.next(alloc)? else {
+            return Ok(None);
+        };
+        let word = match words.as_slice() {
+            [first, word] if *first == name => Some(*word),
+            _ => None,
+        };
+        drop(words);
+        Ok(word)
     }
 
     /// What the line of the last words is refused with, by what one of them was refused with.
@@ -121,17 +123,17 @@ static FORMS: [Form<Told>; 4] = [
 
 fn line(alloc: Global, words: &[&str]) -> Result<Line, Fault> {
     let mut values = Values::none();
-    match values.read_form(&FORMS, words) {
-        Some((Told::Begin, [])) => Ok(Line::Begin(values.txn, values.number)),
-        Some((Told::Ack, [])) => Ok(Line::Ack(values.txn, values.stamp, values.number)),
-        Some((Told::Read, [value])) => {
-            let value = shown(alloc, value)?;
-            Ok(Line::Read(values.txn, values.key, value))
-        }
-        Some((Told::Look, [value])) => {
-            let value = shown(alloc, value)?;
-            Ok(Line::Look(values.key, values.stamp, value))
-        }
-        _ => Err(NO_WORD),
+    let (is_look, value) = match values.read_form(&FORMS, words) {
+        Some((Told::Begin, [])) => return Ok(Line::Begin(values.txn, values.number)),
+        Some((Told::Ack, [])) => return Ok(Line::Ack(values.txn, values.stamp, values.number)),
+        Some((Told::Read, [value])) => (false, *value),
+        Some((Told::Look, [value])) => (true, *value),
+        _ => return Err(NO_WORD),
+    };
+    let value = shown(alloc, value)?;
+    if is_look {
+        Ok(Line::Look(values.key, values.stamp, value))
+    } else {
+        Ok(Line::Read(values.txn, values.key, value))
     }
 }

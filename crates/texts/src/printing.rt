@@ -26,10 +26,19 @@ fn write_bytes<W: fmt::Write>(f: &mut fmt::Formatter<W>, mark: &str, bytes: &[u8
 
 impl fmt::Display for Text<'_, Option<Value>> {
     fn fmt<W: fmt::Write>(&self, f: &mut fmt::Formatter<W>) -> fmt::Result {
-        match self.0 {
-            None => f.write_str("none"),
-            Some(value) => write_bytes(f, "=", value.as_bytes()),
-        }
+        write_value(f, self.0, "none")
+    }
+}
+
+// A value, or this text where there is none.
+fn write_value<W: fmt::Write>(
+    f: &mut fmt::Formatter<W>,
+    value: &Option<Value>,
+    none: &str,
+) -> fmt::Result {
+    match value {
+        Some(value) => write_bytes(f, "=", value.as_bytes()),
+        None => f.write_str(none),
     }
 }
 
@@ -54,10 +63,7 @@ impl fmt::Display for Text<'_, Writes> {
         let mut mark = "";
         for write in self.0.as_slice() {
             write_bytes(f, mark, write.key.as_bytes())?;
-            match &write.value {
-                Some(value) => write_bytes(f, "=", value.as_bytes())?,
-                None => f.write_str("!")?,
-            }
+            write_value(f, &write.value, "!")?;
             mark = ",";
         }
         write_none(f, mark)
@@ -106,15 +112,15 @@ fn write_word<W: fmt::Write>(f: &mut fmt::Formatter<W>, word: &Word<'_>) -> fmt:
     match word {
         Word::Nothing => Ok(()),
         Word::Plain(text) => f.write_str(text),
-        Word::Number(number) => write!(f, "{number}"),
-        Word::Shard(shard) => write!(f, "{shard}"),
-        Word::Txn(txn) => write!(f, "{txn}"),
-        Word::Stamp(at) => write!(f, "{at}"),
+        Word::Number(number) => fmt::Display::fmt(number, f),
+        Word::Shard(shard) => fmt::Display::fmt(shard, f),
+        Word::Txn(txn) => fmt::Display::fmt(txn, f),
+        Word::Stamp(at) => fmt::Display::fmt(at, f),
         Word::Key(key) => write_bytes(f, "", key.as_bytes()),
         Word::Keys(keys) => fmt::Display::fmt(&Text(*keys), f),
         Word::Writes(writes) => fmt::Display::fmt(&Text(*writes), f),
         Word::Parts(parts) => fmt::Display::fmt(&Text(*parts), f),
-        Word::Value(value) => fmt::Display::fmt(&Text(*value), f),
+        Word::Value(value) => write_value(f, value, "none"),
         Word::Outcome(outcome) => fmt::Display::fmt(&Text(*outcome), f),
     }
 }
