@@ -1,3 +1,4 @@
+pub mod Acts
 pub mod Crashing
 pub mod Ending
 pub mod Fleets

@@ -1,5 +1,5 @@
 -- What the parts of a run answer is what the event comes to.
-use Rattle.std.proofs.Common.{◌≡◌, ◌⊎◌, inl, inr, ℕ, zero, suc, Bool, true, false, cond, nat_lt, List, [], ◌∷◌, ◌++◌, slice_get, Option}
+use Rattle.std.proofs.Common.{◌≡◌, ◌⊎◌, inl, inr, ℕ, zero, suc, Bool, true, false, cond, nat_lt, List, [], ◌∷◌, slice_get, Option}
 use Rattle.std.proofs.Common.{Some, None, Result, Ok, Err}
 use Rattle.std.proofs.Common.{refl, sym, ap, ◌∙◌, subst}
 use Rattle.units.specs.Ids.{Id}
@@ -14,15 +14,15 @@ use Rattle.message.specs.declared.message.Address.TheVariants.{Shard, Session}
 use Rattle.message.specs.declared.message.Envelope.{Envelope}
 use Rattle.message.specs.declared.message.Message.{Message}
 use Rattle.protocol.specs.Step.{Stepped, Refuses, Does}
-use Rattle.session.specs.Sessions.{Moved, begun}
-use Rattle.world.specs.World.{World, After, ShardNow, State, Runs, IsStopped, IsDown, at_shard, begin, crashed, crashed_in, deliver_to, did}
+use Rattle.world.specs.World.{World, After, ShardNow, State, Runs, IsStopped, IsDown, at_shard, crashed, crashed_in, deliver_to, did}
 use Rattle.world.specs.World.{did_with_failure, do_at}
-use Rattle.world.specs.World.{effect, failed_in, finished, look_noted, moved, note, put_out, read_log, refused, refused_doing}
+use Rattle.world.specs.World.{effect, failed_in, finished, look_noted, put_out, read_log, refused, refused_doing}
 use Rattle.world.specs.World.{set_client, set_shard, setup_of, to_session}
 use Rattle.world.specs.Steady.{IsSteady}
-use Rattle.world.specs.Hosts.{Hosts, MovesIn}
+use Rattle.world.specs.Hosts.{Hosts}
 use Rattle.world.specs.Passed.{IsOutput}
-use Rattle.world.specs.Comes.{HasHeard, HasReplied, Notes, TakesMessage}
+use Rattle.world.specs.Comes.{ComesOf, HasHeard, HasReplied, Notes, TakesMessage}
+use Rattle.world.specs.declared.event.Config.{Config}
 use Rattle.world.specs.declared.event.Doing.{Doing}
 use Rattle.world.specs.declared.event.Reply.{Reply}
 use Rattle.lives.specs.Carries.{answer_of, left_by_refusal, unopened}
@@ -52,41 +52,20 @@ module _ (w : World) (old new : Run) (h : IsRun old w) where
   unfolding deliver_to
   nobody_comes m now o none = subst (λ x. ComesAfter (deliver_to w m now x) old (Ok (Reply.Refused Stranger))) (sym none) (refl, h)
 
-  -- a session begins
-  pub begin_comes : (t : Id) (number : ℕ) (result : Result Reply Fault) → number ≡ w.event →
-      Hosts w.config.splits new.sessions (w.clients ++ begun t ∷ [])
-      → ((v : World) → IsOutput old.output v → HasHeard v (Ok (Some (Line.Begin t number))) new.output result)
-      → new.shards ≡ old.shards → new.time ≡ old.time → ComesAfter (begin t w, Reply.Done) new result
-  begin_comes t number (Err fault) is hosts heard shards time = heard w h.output
-  begin_comes t number (Ok reply) is hosts heard shards time =
-      let r = heard (record w { clients = w.clients ++ begun t ∷ [] })
-      (record { bag = h.output.bag; told = h.output.told; lines = h.output.lines; event = h.output.event }) in (
-        r.0,
-        record {
-          sessions = hosts;
-          shards = same_shards shards;
-          output = subst (λ n. IsOutput new.output (note (Line.Begin t n) (record w { clients = w.clients ++ begun t ∷ [] }))) is r.1;
-          time = time ∙ h.time;
-        },
-      )
-
-  -- a step of a session
-  pub session_comes : (m : Moved) (answer : Result (List Envelope) Fault) (result : Result Reply Fault) →
-      MovesIn w.config.splits m new.sessions w.clients answer
-      → ((v : World) → IsOutput old.output v → HasReplied v answer new.output result) → new.shards ≡ old.shards → new.time ≡ old.time →
-      ComesAfter (moved w m) new result
-  unfolding put_out
-  session_comes m (Ok out) (Ok reply) moves replies shards time =
-      let r = replies (set_client moves.0 w) (record { bag = h.output.bag; told = h.output.told; lines = h.output.lines; event = h.output.event }) in
-      subst (λ n. ComesAfter (moved w n) new (Ok reply)) (sym moves.1)
-      (r.0, record { sessions = moves.2; shards = same_shards shards; output = r.1; time = time ∙ h.time })
-  session_comes m (Ok out) (Err fault) moves replies shards time = replies w h.output
-  session_comes m (Err why) (Ok reply) (inl memory) replies shards time = absurd ((replies w h.output).0 memory)
-  session_comes m (Err why) (Ok reply) (inr moves) replies shards time =
-      let r = replies w h.output in
-      subst (λ n. ComesAfter (moved w n) new (Ok reply)) (sym moves.0)
-      (r.1, record { sessions = moves.1; shards = same_shards shards; output = r.2; time = time ∙ h.time })
-  session_comes m (Err why) (Err fault) moves replies shards time = replies w h.output
+  -- the act of a session
+  pub acts_come : (after : After) (result : Result Reply Fault) → ComesOf w after new.sessions new.output result → new.shards ≡ old.shards
+      → new.time ≡ old.time → ComesAfter after new result
+  acts_come after (Err fault) comes shards time = comes
+  acts_come after (Ok reply) comes shards time = (
+    comes.0,
+    record {
+      sessions = subst (λ (c : Config). Hosts c.splits new.sessions after.0.clients) (sym comes.3) comes.1;
+      shards = subst (λ ss. AreShards after.0.config new.shards ss) (sym comes.4)
+          (subst (λ (c : Config). AreShards c new.shards w.shards) (sym comes.3) (same_shards shards));
+      output = comes.2;
+      time = time ∙ h.time ∙ sym comes.5;
+    },
+  )
 
   -- a message that comes to one
   pub message_comes : (m : Message) (answer : Result (Option Line) Fault) (result : Result Reply Fault) → TakesMessage w m new.sessions answer

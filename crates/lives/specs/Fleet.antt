@@ -13,6 +13,7 @@ use Rattle.simdisk.specs.State.{disk_file}
 use Rattle.simdisk.specs.declared.simdisk.SimDisk.{SimDisk}
 use Rattle.world.specs.World.{ShardNow, effect, fresh_shard, setup_of}
 use Rattle.world.specs.Lawful.{is_down, is_up}
+use Rattle.world.specs.declared.event.Act.{Act}
 use Rattle.world.specs.declared.event.Config.{Config}
 use Rattle.world.specs.declared.event.Doing.{Doing}
 use Rattle.world.specs.declared.event.Reply.{Reply}
@@ -82,6 +83,16 @@ known_of ss n = record {
   stands = when (λ s. not (is_down s.state)) (slice_get ss n);
   views = elim (slice_get ss n) [ None ↦ 0 | Some s ↦ length s.views ];
 }
+
+-- the shard of an act
+abbrev pub act_shard : Act → Option ℕ
+act_shard (Act.At n doing) = Some n
+act_shard (Act.Look n k at) = Some n
+act_shard (Act.View n v k at) = Some n
+act_shard (Act.Crash n) = Some n
+act_shard (Act.CrashIn n call fate named doing) = Some n
+act_shard (Act.FailIn n call named doing) = Some n
+act_shard _ = None
 
 -- ---- what is left of them
 

@@ -138,9 +138,11 @@ pub fn take_logs(
         → AreStanding config n shards.old.items ss → IfErr result (λ fault. fault ≡ Fault.Memory) }
 {
     while !shards.is_empty() {
+        disks.reserve(1)?;
+        logs.reserve(1)?;
         let (disk, log) = read_back(alloc, shards.remove(0).into_disk())?;
-        disks.push(disk)?;
-        logs.push(log)?;
+        disks.push_reserved(disk);
+        logs.push_reserved(log);
     }
     Ok(())
 }

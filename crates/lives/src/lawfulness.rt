@@ -1,18 +1,18 @@
 //! Whether an event may happen.
-ghost use Rattle.std.specs.Prelude.{◌≡◌, ◌&&◌, slice_get};
-ghost use Rattle.units.specs.Lists.{when};
+ghost use Rattle.std.specs.Prelude.{◌≡◌, ℕ, Some, None};
 ghost use Rattle.truetime.specs.Reading.{is_honest};
 ghost use Rattle.world.specs.World.{World};
-ghost use Rattle.world.specs.Lawful.{can_come, may_do};
+ghost use Rattle.world.specs.Lawful.{may_act, may_do};
 ghost use Rattle.world.specs.Hosts.{Hosts};
-ghost use Rattle.lives.specs.Fleet.{known_of};
+ghost use Rattle.lives.specs.Fleet.{act_shard, known_of};
 
 use crate::fleet::Known;
+use crate::life::opens;
 use bag::Bag;
 use message::Address;
 use truetime::Reading;
 use units::{ShardNo, Stamp};
-use world::{Doing, Sessions};
+use world::{Act, Doing, Sessions};
 
 // The reading holds the true time.
 fn is_honest(time: u64, now: &Reading) -> bool
@@ -21,29 +21,74 @@ fn is_honest(time: u64, now: &Reading) -> bool
     now.earliest().micros() <= time && time <= now.latest().micros()
 }
 
-/// The message of a number may be delivered: it is taken by a shard, or by a session that has begun.
-pub fn may_deliver(
-    sessions: &Sessions<'_>,
-    bag: &Bag,
-    time: u64,
-    number: u64,
-    now: &Reading,
-) -> bool
-    ensures { (w : World) → Hosts w.config.splits sessions.now w.clients → bag.now ≡ w.bag
-        → result ≡ (is_honest time now.now && when (can_come w) (slice_get w.bag number)) }
+/// The shard of an act, where it is one of a shard.
+pub fn shard_of(act: &Act) -> Option<ShardNo>
+    ensures { result ≡ act_shard act.now }
 {
-    is_honest(time, now)
-        && match bag.nth(number) {
-            Some(envelope) => match envelope.to {
-                Address::Shard(_) => true,
-                Address::Session(txn) => sessions.has(txn),
-            },
-            None => false,
-        }
+    match act {
+        Act::At(shard, _) => Some(*shard),
+        Act::Look(shard, _, _) => Some(*shard),
+        Act::View(shard, _, _, _) => Some(*shard),
+        Act::Crash(shard) => Some(*shard),
+        Act::CrashIn(shard, _, _, _, _) => Some(*shard),
+        Act::FailIn(shard, _, _, _) => Some(*shard),
+        _ => None,
+    }
 }
 
-/// A shard, of which this is known, may do this. A message that it takes goes to it.
-pub fn may_do(known: Known, bag: &Bag, time: u64, shard: ShardNo, doing: &Doing) -> bool
+/// An act of no shard may happen: that of a session, or the delivery of a message, which is taken by a shard, or by a session
+/// that has begun.
+#[tactic(auto, unfolding(world::specs::Lawful::may_act))]
+pub fn may_come(sessions: &Sessions<'_>, bag: &Bag, time: u64, act: &Act) -> bool
+    ensures { (w : World) → Hosts w.config.splits sessions.now w.clients → bag.now ≡ w.bag
+        → act_shard act.now ≡ None → result ≡ may_act w time act.now }
+{
+    match act {
+        Act::Begin(txn) => !sessions.has(*txn),
+        Act::Read(txn, _) => sessions.has(*txn),
+        Act::Write(txn, _, _) => sessions.has(*txn),
+        Act::Close(txn) => sessions.has(*txn),
+        Act::Quit(txn) => sessions.has(*txn),
+        Act::Deliver(number, now) => {
+            is_honest(time, now)
+                && match bag.nth(*number) {
+                    Some(envelope) => match envelope.to {
+                        Address::Shard(_) => true,
+                        Address::Session(txn) => sessions.has(txn),
+                    },
+                    None => false,
+                }
+        }
+        _ => false,
+    }
+}
+
+/// An act of a shard, of which this is known, may happen.
+#[tactic(auto, unfolding(world::specs::Lawful::may_act))]
+pub fn may_be_done(known: Known, bag: &Bag, time: u64, act: &Act) -> bool
+    ensures { (w : World) (n : ℕ) → act_shard act.now ≡ Some n → known ≡ known_of w.shards n
+        → bag.now ≡ w.bag → result ≡ may_act w time act.now }
+{
+    match act {
+        Act::At(shard, doing) => known.exists && may_do(known, bag, time, *shard, doing),
+        Act::Look(_, _, _) => known.exists,
+        Act::View(_, number, _, _) => *number < known.views,
+        Act::Crash(_) => known.stands,
+        Act::CrashIn(shard, _, _, at, doing) => {
+            known.exists
+                && shard.number() == at.number()
+                && may_do(known, bag, time, *shard, doing)
+                && (opens(doing) || known.stands)
+        }
+        Act::FailIn(shard, _, at, doing) => {
+            known.exists && shard.number() == at.number() && may_do(known, bag, time, *shard, doing)
+        }
+        _ => false,
+    }
+}
+
+// A shard, of which this is known, may do this. A message that it takes goes to it.
+fn may_do(known: Known, bag: &Bag, time: u64, shard: ShardNo, doing: &Doing) -> bool
     ensures { (w : World) → known ≡ known_of w.shards shard → bag.now ≡ w.bag
         → result ≡ may_do w time shard doing.now }
 {

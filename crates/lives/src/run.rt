@@ -7,8 +7,7 @@ ghost use Rattle.lives.specs.Fleet.{AreOn};
 ghost use Rattle.lives.specs.Runs.{ComesAfter, IsRun, TakesEvent, act_at};
 
 use crate::fleet::{Shards, fill, spend_all, take_logs};
-use crate::lawfulness::{may_deliver, may_do};
-use crate::life::opens;
+use crate::lawfulness::{may_be_done, may_come, shard_of};
 use bag::Bag;
 use disk::Fate;
 use message::Address;
@@ -16,7 +15,7 @@ use record::Record;
 use simdisk::SimDisk;
 use std::alloc::Global;
 use truetime::Reading;
-use units::{Fault, Line, Reason, ShardNo, copy_value};
+use units::{Fault, Line, Reason, ShardNo};
 use world::{Act, Config, Doing, Event, Reply, RunOutput, Sessions};
 
 /// What a run ends with: its messages, the disk of each shard, the log that a read of each gives, and its lines.
@@ -61,39 +60,12 @@ impl<'s> Run<'s> {
     }
 
     // The act may happen at a true time.
-    #[tactic(auto, unfolding(world::specs::Lawful::may_act))]
     fn may_act(&self, time: u64, act: &Act) -> bool
         ensures { (w : World) → IsRun self.now w → result ≡ may_act w time act.now }
     {
-        match act {
-            Act::Begin(txn) => !self.sessions.has(*txn),
-            Act::Read(txn, _) => self.sessions.has(*txn),
-            Act::Write(txn, _, _) => self.sessions.has(*txn),
-            Act::Close(txn) => self.sessions.has(*txn),
-            Act::Quit(txn) => self.sessions.has(*txn),
-            Act::Deliver(number, now) => {
-                may_deliver(&self.sessions, &self.output.bag, time, *number, now)
-            }
-            Act::At(shard, doing) => {
-                let known = self.shards.known(*shard);
-                known.exists && may_do(known, &self.output.bag, time, *shard, doing)
-            }
-            Act::Look(shard, _, _) => self.shards.known(*shard).exists,
-            Act::View(shard, number, _, _) => *number < self.shards.known(*shard).views,
-            Act::Crash(shard) => self.shards.known(*shard).stands,
-            Act::CrashIn(shard, _, _, at, doing) => {
-                let known = self.shards.known(*shard);
-                known.exists
-                    && shard.number() == at.number()
-                    && may_do(known, &self.output.bag, time, *shard, doing)
-                    && (opens(doing) || known.stands)
-            }
-            Act::FailIn(shard, _, at, doing) => {
-                let known = self.shards.known(*shard);
-                known.exists
-                    && shard.number() == at.number()
-                    && may_do(known, &self.output.bag, time, *shard, doing)
-            }
+        match shard_of(act) {
+            Some(shard) => may_be_done(self.shards.known(shard), &self.output.bag, time, act),
+            None => may_come(&self.sessions, &self.output.bag, time, act),
         }
     }
 
@@ -122,32 +94,6 @@ impl<'s> Run<'s> {
             → may_act w time act.now ≡ true → ComesAfter (acts w act.now) self.new result }
     {
         match act {
-            Act::Begin(txn) => match self.sessions.begin(alloc, *txn) {
-                Ok(()) => {
-                    let line = Line::Begin(*txn, self.output.event);
-                    self.output.reply_line(Ok(Some(line)))
-                }
-                Err(fault) => Err(fault),
-            },
-            Act::Read(txn, key) => {
-                let moved = self.sessions.read(alloc, *txn, *key);
-                self.output.reply(moved)
-            }
-            Act::Write(txn, key, value) => match copy_value(alloc, value) {
-                Ok(value) => {
-                    let moved = self.sessions.write(alloc, *txn, *key, value);
-                    self.output.reply(moved)
-                }
-                Err(fault) => Err(fault),
-            },
-            Act::Close(txn) => {
-                let moved = self.sessions.close(alloc, *txn);
-                self.output.reply(moved)
-            }
-            Act::Quit(txn) => {
-                let moved = self.sessions.quit(alloc, *txn);
-                self.output.reply(moved)
-            }
             Act::Deliver(number, now) => self.deliver(alloc, *number, *now),
             Act::At(shard, doing) => self.act_at(alloc, *shard, None, doing),
             Act::Look(shard, key, at) => {
@@ -168,6 +114,7 @@ impl<'s> Run<'s> {
                     .crash(alloc, bag, *shard, Some((*call, *doing)), *fate)
             }
             Act::FailIn(shard, call, _, doing) => self.act_at(alloc, *shard, Some(*call), doing),
+            _ => self.sessions.act(alloc, &mut self.output, act),
         }
     }
 

@@ -226,12 +226,14 @@ pub fn read_back(alloc: Global, disk: SimDisk) -> Result<(SimDisk, Vec<Record>),
 {
     match GateLog::open(alloc, disk) {
         Ok((log, entries)) => {
-            let records = records_of(alloc, &entries);
+            let mut records = Vec::new(alloc);
+            let copied = copy_records(&mut records, alloc, &entries);
             drop(entries);
             let disk = log.into_disk();
-            match records {
-                Ok(records) => Ok((disk, records)),
+            match copied {
+                Ok(()) => Ok((disk, records)),
                 Err(fault) => {
+                    drop(records);
                     drop(disk);
                     Err(fault)
                 }
@@ -244,16 +246,18 @@ pub fn read_back(alloc: Global, disk: SimDisk) -> Result<(SimDisk, Vec<Record>),
     }
 }
 
-// The records of a log, each with memory of its own.
-fn records_of(alloc: Global, entries: &[Entry]) -> Result<Vec<Record>, Fault>
-    ensures same { IfOk result (λ records. records.items ≡ map (λ e. e.item) entries.now) }
+// The records of a log behind others, each with memory of its own.
+fn copy_records(records: &mut Vec<Record>, alloc: Global, entries: &[Entry]) -> Result<(), Fault>
+    ensures same { OnOk result
+        (records.new.items ≡ records.old.items ++ map (λ e. e.item) entries.now) }
     ensures memory { IfErr result (λ fault. fault ≡ Fault.Memory) }
 {
-    let mut records = Vec::new(alloc);
     for entry in entries {
-        records.push(entry.item().copy(alloc)?)?;
+        records.reserve(1)?;
+        let record = entry.item().copy(alloc)?;
+        records.push_reserved(record);
     }
-    Ok(records)
+    Ok(())
 }
 
 // Copies of versions behind others.
@@ -262,12 +266,13 @@ fn push_copies(installs: &mut Vec<Install>, alloc: Global, more: &[Install]) -> 
     ensures memory { IfErr result (λ fault. fault ≡ Fault.Memory) }
 {
     for install in more {
+        installs.reserve(1)?;
         let value = copy_value(alloc, &install.value)?;
-        installs.push(Install {
+        installs.push_reserved(Install {
             key: install.key,
             at: install.at,
             value,
-        })?;
+        });
     }
     Ok(())
 }

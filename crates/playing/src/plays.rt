@@ -34,13 +34,15 @@ pub fn play(alloc: Global, config: &Config, events: &[Event]) -> Result<Report, 
     ensures report { IfOk result (λ report. IsReport config.now events.now report) }
     ensures refused { IfErr result (λ fault. IsNoReport config.now events.now fault) }
 {
+    let mut run = Run::start(alloc, config)?;
     let mut replies = Vec::new(alloc);
     let mut counts = Vec::new(alloc);
-    let mut run = Run::start(alloc, config)?;
     match play_all(&mut run, alloc, events, &mut replies, &mut counts) {
         Ok(()) => report_of(run, alloc, replies, counts),
         Err(fault) => {
             run.spend();
+            drop(replies);
+            drop(counts);
             Err(fault)
         }
     }
@@ -53,7 +55,10 @@ pub fn lawful(alloc: Global, config: &Config, events: &[Event]) -> Result<bool, 
     ensures memory { IfErr result (λ fault. fault ≡ Fault.Memory) }
 {
     match play(alloc, config, events) {
-        Ok(_report) => Ok(true),
+        Ok(report) => {
+            drop(report);
+            Ok(true)
+        }
         Err(Fault::BadRequest(Reason::Unlawful(_))) => Ok(false),
         Err(fault) => Err(fault),
     }
@@ -72,9 +77,11 @@ fn play_all(
         → Plays config events.now run.new replies.new.items counts.new.items result }
 {
     for (number, event) in events.iter().enumerate() {
+        replies.reserve(1)?;
+        counts.reserve(1)?;
         let reply = run.take(alloc, number as u64, event)?;
-        replies.push(reply)?;
-        counts.push(run.output.bag.as_slice().len() as u64)?;
+        replies.push_reserved(reply);
+        counts.push_reserved(run.output.bag.as_slice().len() as u64);
     }
     Ok(())
 }
@@ -96,14 +103,30 @@ fn report_of(
         disks,
         logs,
         lines,
-    } = run.finish(alloc)?;
-    let lines = counted(alloc, &logs, lines)?;
-    Ok(Report {
-        replies,
-        counts,
-        bag,
-        disks,
-        logs,
-        lines,
-    })
+    } = match run.finish(alloc) {
+        Ok(finished) => finished,
+        Err(fault) => {
+            drop(replies);
+            drop(counts);
+            return Err(fault);
+        }
+    };
+    match counted(alloc, &logs, lines) {
+        Ok(lines) => Ok(Report {
+            replies,
+            counts,
+            bag,
+            disks,
+            logs,
+            lines,
+        }),
+        Err(fault) => {
+            drop(replies);
+            drop(counts);
+            drop(bag);
+            drop(disks);
+            drop(logs);
+            Err(fault)
+        }
+    }
 }

@@ -310,12 +310,6 @@ pub id_there : (bs xs : List Begun) (t : Id) (i : ℕ) (b : Begun) → xs ≡ bs
     same_id y.txn t ≡ true) → i < length bs → b ≡ get_or bs i b → same_id b.txn t ≡ true
 id_there bs xs t i b same there lt is = there b (subst (λ ys. i < length ys) (sym same) lt) (is ∙ ap (λ ys. get_or ys i b) (sym same))
 
--- the last put in a place stands there
-pub set_again : (bs : List Begun) (i : ℕ) (x y : Begun) → set (set bs i x) i y ≡ set bs i y
-set_again [] i x y = refl
-set_again (b ∷ bs) zero x y = refl
-set_again (b ∷ bs) (suc i) x y = ap (λ r. b ∷ r) (set_again bs i x y)
-
 -- there is no session
 pub none_moves : (splits : List Bytes) (s : Sessions) (cs : List Client) (t : Id) (at : ℕ) (f : Client → Moved) → Hosts splits s cs →
     at ≡ place_of s.begun.items t → length s.begun.items ≤ at

@@ -1,6 +1,7 @@
 -- What a step of a session or a message to it is, in the definitions.
-use Rattle.std.proofs.Common.{◌≡◌, inl, inr, ℕ, true, not, List, [], ◌++◌, Option, Some, None, Result, Ok, Err}
-use Rattle.std.proofs.Common.{refl, sym, ap, ◌∙◌}
+use Rattle.std.proofs.Common.{◌≡◌, inl, inr, ℕ, true, not, List, [], ◌∷◌, ◌++◌, Option, Some, None, Result, Ok, Err}
+use Rattle.std.proofs.Common.{refl, sym, ap, ◌∙◌, subst}
+use Rattle.units.specs.Keys.{Bytes}
 use Rattle.std.proofs.lemmas.List.{append-nil}
 use Rattle.units.specs.Ids.{Id}
 use Rattle.units.specs.Lists.{when}
@@ -11,16 +12,18 @@ use Rattle.message.specs.declared.message.Done.{Done}
 use Rattle.message.specs.declared.message.Envelope.{Envelope}
 use Rattle.message.specs.declared.message.Message.{Message}
 use Rattle.message.specs.declared.message.ReadAnswer.{ReadAnswer}
-use Rattle.session.specs.Sessions.{Client, Stage, IsOpen, IsClosing, IsOver, Moved, Denies, Goes, finishes}
-use Rattle.world.specs.World.{World, After, answered, client_of, if_closing, if_hearing, if_not_over, if_open, moved, put_out, read_lines, refused}
+use Rattle.session.specs.Sessions.{Client, Stage, IsOpen, IsClosing, IsOver, Moved, Denies, Goes, begun, finishes}
+use Rattle.world.specs.World.{World, After, answered, begin, client_of, if_closing, if_hearing, if_not_over, if_open, moved, note, put_out, read_lines, refused}
 use Rattle.world.specs.World.{set_client, to_session}
 use Rattle.world.specs.Lawful.{may_act}
 use Rattle.world.specs.Held.{when_closing, when_not_over, when_open}
-use Rattle.world.specs.Hosts.{HearsIn, MovesIn, session_step, with_client}
-use Rattle.world.specs.Comes.{TakesMessage, no_line, with_line}
+use Rattle.world.specs.Hosts.{HearsIn, Hosts, MovesIn, session_step, with_client}
+use Rattle.world.specs.Comes.{ComesOf, HasHeard, HasReplied, TakesMessage, is_of_session, no_line, with_line}
+use Rattle.world.specs.Passed.{IsOutput}
 use Rattle.world.specs.declared.event.Act.{Act}
 use Rattle.world.specs.declared.event.Reply.{Reply}
 use Rattle.world.specs.declared.hosting.Sessions.{Sessions}
+use Rattle.world.specs.declared.output.RunOutput.{RunOutput}
 
 -- ---- steps of sessions
 
@@ -140,3 +143,52 @@ module _ (w : World) (new : Sessions) where
   no_others (Message.Vote x) answer end = refl
   no_others (Message.Outcome x) answer end = refl
   no_others (Message.Ask x) answer end = refl
+
+-- ---- acts of sessions
+
+module _ (w : World) (old new : RunOutput) (s : Sessions) (h : IsOutput old w) where
+  -- a session begins
+  pub begin_comes : (t : Id) (number : ℕ) (result : Result Reply Fault) → number ≡ w.event
+      → Hosts w.config.splits s (w.clients ++ begun t ∷ [])
+      → ((v : World) → IsOutput old v → HasHeard v (Ok (Some (Line.Begin t number))) new result)
+      → ComesOf w (begin t w, Reply.Done) s new result
+  begin_comes t number (Err fault) is hosts heard = heard w h
+  begin_comes t number (Ok reply) is hosts heard =
+      let r = heard (record w { clients = w.clients ++ begun t ∷ [] }) (record { bag = h.bag; told = h.told; lines = h.lines; event = h.event }) in (
+        r.0,
+        hosts,
+        subst (λ n. IsOutput new (note (Line.Begin t n) (record w { clients = w.clients ++ begun t ∷ [] }))) is r.1,
+        refl,
+        refl,
+        refl,
+      )
+
+  -- a session takes a step
+  pub step_comes : (m : Moved) (answer : Result (List Envelope) Fault) (result : Result Reply Fault) → MovesIn w.config.splits m s w.clients answer
+      → ((v : World) → IsOutput old v → HasReplied v answer new result) → ComesOf w (moved w m) s new result
+  unfolding put_out
+  step_comes m (Ok out) (Ok reply) moves replies =
+      let r = replies (set_client moves.0 w) (record { bag = h.bag; told = h.told; lines = h.lines; event = h.event }) in
+      subst (λ n. ComesOf w (moved w n) s new (Ok reply)) (sym moves.1) (r.0, moves.2, r.1, refl, refl, refl)
+  step_comes m (Ok out) (Err fault) moves replies = replies w h
+  step_comes m (Err why) (Ok reply) (inl memory) replies = absurd ((replies w h).0 memory)
+  step_comes m (Err why) (Ok reply) (inr moves) replies =
+      let r = replies w h in
+      subst (λ n. ComesOf w (moved w n) s new (Ok reply)) (sym moves.0) (r.1, moves.1, r.2, refl, refl, refl)
+  step_comes m (Err why) (Err fault) moves replies = replies w h
+
+-- an act that is none of these is of no session
+pub no_session : (a : Act) → is_of_session a ≡ true → ((t : Id) → a ≡ Act.Begin t → ⊥) → ((t : Id) (k : Bytes) → a ≡ Act.Read t k → ⊥)
+    → ((t : Id) (k : Bytes) (x : Option Bytes) → a ≡ Act.Write t k x → ⊥) → ((t : Id) → a ≡ Act.Close t → ⊥) → ((t : Id) → a ≡ Act.Quit t → ⊥) → ⊥
+no_session (Act.Begin t) is begin read write close quit = begin t refl
+no_session (Act.Read t k) is begin read write close quit = read t k refl
+no_session (Act.Write t k x) is begin read write close quit = write t k x refl
+no_session (Act.Close t) is begin read write close quit = close t refl
+no_session (Act.Quit t) is begin read write close quit = quit t refl
+no_session (Act.Deliver m now) is begin read write close quit = cc
+no_session (Act.At n doing) is begin read write close quit = cc
+no_session (Act.Look n k at) is begin read write close quit = cc
+no_session (Act.View n v k at) is begin read write close quit = cc
+no_session (Act.Crash n) is begin read write close quit = cc
+no_session (Act.CrashIn n call fate named doing) is begin read write close quit = cc
+no_session (Act.FailIn n call named doing) is begin read write close quit = cc

@@ -6,10 +6,12 @@ use Rattle.units.specs.declared.fault.Fault.TheVariants.{Memory, Stranger}
 use Rattle.units.specs.declared.line.Line.{Line}
 use Rattle.message.specs.declared.message.Envelope.{Envelope}
 use Rattle.message.specs.declared.message.ReadAnswer.{ReadAnswer}
-use Rattle.session.specs.Sessions.{Client, IsOpen, IsClosing, IsOver, Moved, Denies, Goes, finishes, hears}
+use Rattle.session.specs.Sessions.{Client, IsOpen, IsClosing, IsOver, Moved, Denies, Goes, reads, buffers, closes, gives_up, finishes, hears}
 use Rattle.world.specs.World.{read_lines}
 use Rattle.world.specs.declared.begun.Begun.{Begun}
 use Rattle.world.specs.declared.begun.Held.{Held}
+use Rattle.world.specs.declared.begun.Leave.{Leave}
+use Rattle.world.specs.declared.begun.Step.{Step}
 use Rattle.world.specs.declared.begun.Held.TheVariants.{Open, Closing, Over}
 
 -- what is held of a session: all of it while it goes on, and nothing once it is over
@@ -34,6 +36,18 @@ when_not_over f c = elim c.stage [ IsOver ↦ Denies Stranger | _ ↦ f c ]
 -- a closing session hears the end
 abbrev pub when_closing : Client → Moved
 when_closing c = elim c.stage [ IsClosing ↦ finishes c | _ ↦ Denies Stranger ]
+
+-- how it goes on to its end
+abbrev pub ends : List Bytes → Leave → Client → Moved
+ends splits Leave.Close c = when_open (closes splits) c
+ends splits Leave.Quit c = when_not_over (gives_up splits) c
+ends splits (Leave.Hear outcome) c = when_closing c
+
+-- the step that it is asked for, or that it takes when it hears its end
+abbrev pub asks : List Bytes → Step → Client → Moved
+asks splits (Step.Read k) c = when_open (reads splits k) c
+asks splits (Step.Write k x) c = when_open (buffers (record { key = k; value = x.now })) c
+asks splits (Step.Leave leave) c = ends splits leave c
 
 -- what a step of a transaction answers: it is made, or refused for its own reason; or memory was refused
 abbrev pub Steps : Moved → Client → Client → Result (List Envelope) Fault → Type 0

@@ -2,14 +2,32 @@
 ghost use Rattle.std.specs.Prelude.{◌≡◌, [], ◌∷◌, List, true, IfOk, IfErr, OnOk, option_to_list};
 ghost use Rattle.units.specs.Ids.{same_id};
 ghost use Rattle.units.specs.Keys.{Bytes};
-ghost use Rattle.session.specs.Sessions.{Client, begun, reads, buffers, closes, gives_up, hears};
+ghost use Rattle.session.specs.Sessions.{Client, begun, reads, buffers, hears};
 ghost use Rattle.world.specs.World.{read_lines};
-ghost use Rattle.world.specs.Held.{IsBegun, Moves, Hears, Steps, when_open, when_not_over, when_closing};
+ghost use Rattle.world.specs.Held.{IsBegun, Moves, Hears, Steps, asks, ends};
 
 use message::{Done, Envelope, Outbox, ReadAnswer};
 use session::{Closing, Heard, Open, Tx};
 use std::alloc::Global;
-use units::{Fault, Key, Line, Splits, TxnId, Value};
+use std::mem::replace;
+use units::{Fault, Key, Line, Splits, Stamp, TxnId, Value, copy_value};
+
+/// What a session is asked for, or hears. `Write` has a value, or `None` for an erasure.
+#[derive(Clone, Copy)]
+pub enum Step<'v> {
+    Read(Key),
+    Write(Key, &'v Option<Value>),
+    Leave(Leave),
+}
+
+/// How a session goes on to its end: it closes, it gives up, or it hears the end of its transaction, which is a timestamp or
+/// `None` for aborted.
+#[derive(Clone, Copy)]
+pub enum Leave {
+    Close,
+    Quit,
+    Hear(Option<Stamp>),
+}
 
 /// A transaction in its stage. Of one that is over nothing is kept.
 pub enum Held<'s> {
@@ -35,174 +53,81 @@ impl<'s> Begun<'s> {
         }
     }
 
-    /// One that is over.
-    pub fn over(txn: TxnId) -> Begun<'s>
-        ensures { result ≡ record { txn = txn; held = Held.Over } }
+    /// A session takes a step.
+    pub fn step(&mut self, alloc: Global, step: &Step<'_>) -> Result<Outbox, Fault>
+        ensures { (splits : List Bytes) (c : Client) → IsBegun splits self.old c
+            → Moves splits (asks splits step.now c) self.new c result }
     {
-        Begun {
-            txn,
-            held: Held::Over,
-        }
-    }
-
-    /// An open session asks for the value of a key.
-    pub fn read(self, alloc: Global, key: Key) -> (Begun<'s>, Result<Outbox, Fault>)
-        ensures { (splits : List Bytes) (c : Client) → IsBegun splits self.entry c
-            → Moves splits (when_open (reads splits key) c) result.0 c result.1 }
-    {
-        let Begun { txn, held } = self;
-        match held {
-            Held::Open(mut tx) => {
-                let out = ask(alloc, &mut tx, key);
-                (
-                    Begun {
-                        txn,
-                        held: Held::Open(tx),
-                    },
-                    out,
-                )
+        match step {
+            Step::Read(key) => match &mut self.held {
+                Held::Open(tx) => ask(alloc, tx, *key),
+                _ => Err(Fault::Stranger),
+            },
+            Step::Write(key, value) => match &mut self.held {
+                Held::Open(tx) => buffer(alloc, tx, *key, value),
+                _ => Err(Fault::Stranger),
+            },
+            Step::Leave(leave) => {
+                let held = replace(&mut self.held, Held::Over);
+                let (held, result) = held.leave(alloc, self.txn, *leave);
+                replace(&mut self.held, held).spend();
+                result
             }
-            held => (Begun { txn, held }, Err(Fault::Stranger)),
-        }
-    }
-
-    /// An open session buffers a write.
-    pub fn write(
-        self,
-        alloc: Global,
-        key: Key,
-        value: Option<Value>,
-    ) -> (Begun<'s>, Result<Outbox, Fault>)
-        ensures { (splits : List Bytes) (c : Client) → IsBegun splits self.entry c
-            → Moves splits (when_open
-            (buffers (record { key = key; value = value })) c) result.0 c result.1 }
-    {
-        let Begun { txn, held } = self;
-        match held {
-            Held::Open(mut tx) => {
-                let out = buffer(alloc, &mut tx, key, value);
-                (
-                    Begun {
-                        txn,
-                        held: Held::Open(tx),
-                    },
-                    out,
-                )
-            }
-            held => (Begun { txn, held }, Err(Fault::Stranger)),
-        }
-    }
-
-    /// An open session closes.
-    pub fn close(self, alloc: Global) -> (Begun<'s>, Result<Outbox, Fault>)
-        ensures { (splits : List Bytes) (c : Client) → IsBegun splits self.entry c
-            → Moves splits (when_open (closes splits) c) result.0 c result.1 }
-    {
-        let Begun { txn, held } = self;
-        match held {
-            Held::Open(tx) => match tx.close(alloc) {
-                Ok((tx, out)) => (
-                    Begun {
-                        txn,
-                        held: Held::Closing(tx),
-                    },
-                    Ok(out),
-                ),
-                Err((fault, tx)) => (
-                    Begun {
-                        txn,
-                        held: Held::Open(tx),
-                    },
-                    Err(fault),
-                ),
-            },
-            held => (Begun { txn, held }, Err(Fault::Stranger)),
-        }
-    }
-
-    /// A session that is not over gives up.
-    pub fn quit(self, alloc: Global) -> (Begun<'s>, Result<Outbox, Fault>)
-        ensures { (splits : List Bytes) (c : Client) → IsBegun splits self.entry c
-            → Moves splits (when_not_over (gives_up splits) c) result.0 c result.1 }
-    {
-        let Begun { txn, held } = self;
-        match held {
-            Held::Open(tx) => match tx.give_up(alloc) {
-                Ok(out) => (Begun::over(txn), Ok(out)),
-                Err((fault, tx)) => (
-                    Begun {
-                        txn,
-                        held: Held::Open(tx),
-                    },
-                    Err(fault),
-                ),
-            },
-            Held::Closing(tx) => match tx.give_up(alloc) {
-                Ok(out) => (Begun::over(txn), Ok(out)),
-                Err((fault, tx)) => (
-                    Begun {
-                        txn,
-                        held: Held::Closing(tx),
-                    },
-                    Err(fault),
-                ),
-            },
-            Held::Over => (Begun::over(txn), Err(Fault::Stranger)),
-        }
-    }
-
-    /// A closing session hears the end of its transaction.
-    pub fn finish(self, alloc: Global, done: &Done) -> (Begun<'s>, Result<Outbox, Fault>)
-        requires { same_id self.txn done.now.txn ≡ true }
-        ensures { (splits : List Bytes) (c : Client) → IsBegun splits self.entry c
-            → Moves splits (when_closing c) result.0 c result.1 }
-    {
-        let Begun { txn, held } = self;
-        match held {
-            Held::Closing(tx) => match tx.take(done) {
-                Ok(_finished) => (Begun::over(txn), Ok(Outbox::none(alloc))),
-                Err((fault, tx)) => (
-                    Begun {
-                        txn,
-                        held: Held::Closing(tx),
-                    },
-                    Err(fault),
-                ),
-            },
-            held => (Begun { txn, held }, Err(Fault::Stranger)),
         }
     }
 
     /// An open session hears an answer. A value that it takes is a line.
-    pub fn hear(
-        self,
-        alloc: Global,
-        answer: &ReadAnswer,
-    ) -> (Begun<'s>, Result<Option<Line>, Fault>)
-        requires { same_id self.txn answer.now.txn ≡ true }
-        ensures { (splits : List Bytes) (c : Client) → IsBegun splits self.entry c
-            → Hears splits answer.now result.0 c result.1 }
+    pub fn hear(&mut self, alloc: Global, answer: &ReadAnswer) -> Result<Option<Line>, Fault>
+        requires { same_id self.old.txn answer.now.txn ≡ true }
+        ensures { (splits : List Bytes) (c : Client) → IsBegun splits self.old c
+            → Hears splits answer.now self.new c result }
     {
-        let Begun { txn, held } = self;
-        match held {
-            Held::Open(mut tx) => {
-                let line = take_answer(alloc, &mut tx, txn, answer);
-                (
-                    Begun {
-                        txn,
-                        held: Held::Open(tx),
-                    },
-                    line,
-                )
-            }
-            held => (Begun { txn, held }, Err(Fault::Stranger)),
+        let txn = self.txn;
+        match &mut self.held {
+            Held::Open(tx) => take_answer(alloc, tx, txn, answer),
+            _ => Err(Fault::Stranger),
+        }
+    }
+}
+
+impl<'s> Held<'s> {
+    // The session of this id goes on to its end.
+    fn leave(self, alloc: Global, txn: TxnId, leave: Leave) -> (Held<'s>, Result<Outbox, Fault>)
+        ensures { (splits : List Bytes) (c : Client)
+            → IsBegun splits (record { txn = txn; held = self.entry }) c
+            → Moves splits (ends splits leave c) (record { txn = txn; held = result.0 }) c
+            result.1 }
+    {
+        match self {
+            Held::Open(tx) => match leave {
+                Leave::Close => match tx.close(alloc) {
+                    Ok((tx, out)) => (Held::Closing(tx), Ok(out)),
+                    Err((fault, tx)) => (Held::Open(tx), Err(fault)),
+                },
+                Leave::Quit => match tx.give_up(alloc) {
+                    Ok(out) => (Held::Over, Ok(out)),
+                    Err((fault, tx)) => (Held::Open(tx), Err(fault)),
+                },
+                Leave::Hear(_) => (Held::Open(tx), Err(Fault::Stranger)),
+            },
+            Held::Closing(tx) => match leave {
+                Leave::Close => (Held::Closing(tx), Err(Fault::Stranger)),
+                Leave::Quit => match tx.give_up(alloc) {
+                    Ok(out) => (Held::Over, Ok(out)),
+                    Err((fault, tx)) => (Held::Closing(tx), Err(fault)),
+                },
+                Leave::Hear(outcome) => match tx.take(&Done { txn, outcome }) {
+                    Ok(_) => (Held::Over, Ok(Outbox::none(alloc))),
+                    Err((fault, tx)) => (Held::Closing(tx), Err(fault)),
+                },
+            },
+            Held::Over => (Held::Over, Err(Fault::Stranger)),
         }
     }
 
-    /// The session is not there any more, and nobody is told.
+    /// Nobody is told.
     pub fn spend(self) {
-        let Begun { txn: _, held } = self;
-        match held {
+        match self {
             Held::Open(tx) => tx.spend(),
             Held::Closing(tx) => tx.spend(),
             Held::Over => {}
@@ -227,14 +152,17 @@ fn buffer(
     alloc: Global,
     tx: &mut Tx<'_, Open>,
     key: Key,
-    value: Option<Value>,
+    value: &Option<Value>,
 ) -> Result<Outbox, Fault>
     ensures splits { tx.new.splits ≡ tx.old.splits }
-    ensures step { Steps (buffers
-        (record { key = key; value = value }) tx.old.client) tx.new.client tx.old.client result }
+    ensures step { Steps (buffers (record { key = key; value = value.now }) tx.old.client)
+        tx.new.client tx.old.client result }
 {
-    match tx.buffer(key, value) {
-        Ok(()) => Ok(Outbox::none(alloc)),
+    match copy_value(alloc, value) {
+        Ok(value) => match tx.buffer(key, value) {
+            Ok(()) => Ok(Outbox::none(alloc)),
+            Err(fault) => Err(fault),
+        },
         Err(fault) => Err(fault),
     }
 }

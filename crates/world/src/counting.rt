@@ -1,5 +1,5 @@
 //! The lines of a report that count.
-ghost use Rattle.std.specs.Prelude.{◌≡◌, ◌||◌, List, IfOk, IfErr, OnOk, filter, map};
+ghost use Rattle.std.specs.Prelude.{◌≡◌, ◌||◌, [], List, IfOk, IfErr, OnOk, filter, map};
 ghost use Rattle.units.specs.Ids.{Id, same_id};
 ghost use Rattle.units.specs.Lists.{when};
 ghost use Rattle.record.specs.History.{history};
@@ -20,8 +20,14 @@ pub fn counted(alloc: Global, logs: &[Vec<Record>], lines: Vec<Line>) -> Result<
         (λ counted. counted.items ≡ counted_lines (map (λ log. log.items) logs.now) lines.items) }
     ensures memory { IfErr result (λ fault. fault ≡ Fault.Memory) }
 {
-    let decided = decided_by(alloc, logs)?;
-    Ok(counting_by(&decided, lines))
+    let mut decided = IndexSet::new(alloc);
+    match note_all(&mut decided, logs) {
+        Ok(()) => Ok(counting_by(&decided, lines)),
+        Err(fault) => {
+            drop(lines);
+            Err(fault)
+        }
+    }
 }
 
 // The lines that count, where these transactions committed.
@@ -45,15 +51,15 @@ fn counts(decided: &IndexSet<TxnId>, line: &Line) -> bool
 }
 
 // The transactions whose commit decision stands in the log of their least part.
-fn decided_by(alloc: Global, logs: &[Vec<Record>]) -> Result<IndexSet<TxnId>, Fault>
-    ensures decided { IfOk result (λ ids. AreDecided ids.keys (map (λ log. log.items) logs.now)) }
+fn note_all(ids: &mut IndexSet<TxnId>, logs: &[Vec<Record>]) -> Result<(), Fault>
+    requires { ids.old.keys ≡ [] }
+    ensures decided { OnOk result (AreDecided ids.new.keys (map (λ log. log.items) logs.now)) }
     ensures memory { IfErr result (λ fault. fault ≡ Fault.Memory) }
 {
-    let mut ids = IndexSet::new(alloc);
     for (shard, log) in logs.iter().enumerate() {
-        note_decided(&mut ids, shard, log)?;
+        note_decided(ids, shard, log)?;
     }
-    Ok(ids)
+    Ok(())
 }
 
 // So for the log of one shard.

@@ -1,22 +1,20 @@
 //! The sessions of a run.
-ghost use Rattle.std.specs.Prelude.{◌≡◌, ◌<◌, ◌≤◌, [], ◌∷◌, ◌++◌, List, None, length, map, slice_set, slice_index_or, IfErr, OnOk, true};
+ghost use Rattle.std.specs.Prelude.{◌≡◌, ◌<◌, ◌≤◌, [], ◌∷◌, ◌++◌, ℕ, List, None, length, map, slice_index_or, IfErr, OnOk, true};
 ghost use Rattle.std.specs.List.{position_or_len};
 ghost use Rattle.units.specs.Ids.{same_id};
 ghost use Rattle.units.specs.Keys.{Bytes};
 ghost use Rattle.units.specs.Lists.{first, when};
-ghost use Rattle.session.specs.Sessions.{Client, begun, reads, buffers, closes, gives_up};
+ghost use Rattle.session.specs.Sessions.{Client, begun};
 ghost use Rattle.world.specs.Hosts.{Hosts, HearsIn, MovesIn, session_step};
 ghost use Rattle.world.specs.declared.begun.Begun.{Begun as Began};
-ghost use Rattle.world.specs.Comes.{no_line};
-ghost use Rattle.world.specs.declared.begun.Held.{Held};
-ghost use Rattle.world.specs.Held.{when_open, when_not_over, when_closing};
+ghost use Rattle.world.specs.Held.{asks};
 
-use crate::begun::Begun;
+use crate::begun::{Begun, Leave, Step};
+use crate::{Act, Reply, RunOutput};
 use indexmap::IndexSet;
-use message::{Done, Message, Outbox, ReadAnswer};
+use message::{Message, Outbox, ReadAnswer};
 use std::alloc::Global;
-use std::mem::replace;
-use units::{Fault, Key, Line, Splits, TxnId, Value};
+use units::{Fault, Line, Splits, TxnId};
 
 /// The sessions that have begun, the first first, and their ids in the same order: a look-up goes by the id's hash. They
 /// have to be spent.
@@ -27,8 +25,10 @@ pub struct Sessions<'s> {
 }
 
 impl<'s> Sessions<'s> {
-    ghost use Rattle.world.specs.World.{World};
-    ghost use Rattle.world.specs.Comes.{TakesMessage};
+    ghost use Rattle.world.specs.World.{World, acts, client_of, moved};
+    ghost use Rattle.world.specs.Lawful.{may_act};
+    ghost use Rattle.world.specs.Passed.{IsOutput};
+    ghost use Rattle.world.specs.Comes.{ComesOf, TakesMessage, is_of_session};
 
     /// No session has begun.
     pub fn none(alloc: Global, splits: &'s Splits) -> Sessions<'s>
@@ -49,109 +49,81 @@ impl<'s> Sessions<'s> {
         place(&self.ids, &self.begun, txn) < self.begun.len()
     }
 
-    /// A session begins.
-    pub fn begin(&mut self, alloc: Global, txn: TxnId) -> Result<(), Fault>
+    // A session begins.
+    fn begin(&mut self, alloc: Global, txn: TxnId) -> Result<(), Fault>
         ensures begun { (splits : List Bytes) (cs : List Client) → Hosts splits self.old cs
             → first (λ c. same_id c.txn txn) cs ≡ None
             → OnOk result (Hosts splits self.new (cs ++ begun txn ∷ [])) }
         ensures memory { IfErr result (λ fault. fault ≡ Fault.Memory) }
     {
-        self.begun.reserve(1)?;
-        self.ids.insert(txn)?;
+        let Ok(()) = self.begun.reserve(1) else {
+            return Err(Fault::Memory);
+        };
+        let Ok(_) = self.ids.insert(txn) else {
+            return Err(Fault::Memory);
+        };
         self.begun
             .push_reserved(Begun::new(alloc, txn, self.splits));
         Ok(())
     }
 
-    /// A session asks for the value of a key.
-    pub fn read(&mut self, alloc: Global, txn: TxnId, key: Key) -> Result<Outbox, Fault>
+    // The session of an id takes a step.
+    fn step(&mut self, alloc: Global, txn: TxnId, step: &Step<'_>) -> Result<Outbox, Fault>
         ensures { (splits : List Bytes) (cs : List Client) → Hosts splits self.old cs
-            → MovesIn splits (session_step (when_open (reads splits key))
+            → MovesIn splits (session_step (asks splits step.now)
             (first (λ c. same_id c.txn txn) cs)) self.new cs result }
     {
         let at = place(&self.ids, &self.begun, txn);
         if at >= self.begun.len() {
             return Err(Fault::Stranger);
         }
-        let begun = take(&mut self.begun, at, txn);
-        let (begun, result) = begun.read(alloc, key);
-        put(&mut self.begun, at, begun);
-        result
+        self.begun[at].step(alloc, step)
     }
 
-    /// A session buffers a write.
-    pub fn write(
+    /// The act of a session is done, where it may: the session begins, or takes a step, and what that puts out is put out. An act
+    /// of none is refused.
+    pub fn act(&mut self, alloc: Global, output: &mut RunOutput, act: &Act) -> Result<Reply, Fault>
+        ensures { (time : ℕ) (w : World) → Hosts w.config.splits self.old w.clients
+            → IsOutput output.old w → may_act w time act.now ≡ true
+            → is_of_session act.now ≡ true
+            → ComesOf w (acts w act.now) self.new output.new result }
+    {
+        match act {
+            Act::Begin(txn) => match self.begin(alloc, *txn) {
+                Ok(()) => {
+                    let line = Line::Begin(*txn, output.event);
+                    output.reply_line(Ok(Some(line)))
+                }
+                Err(fault) => Err(fault),
+            },
+            Act::Read(txn, key) => self.ask(alloc, output, *txn, &Step::Read(*key)),
+            Act::Write(txn, key, value) => {
+                self.ask(alloc, output, *txn, &Step::Write(*key, value))
+            }
+            Act::Close(txn) => self.ask(alloc, output, *txn, &Step::Leave(Leave::Close)),
+            Act::Quit(txn) => self.ask(alloc, output, *txn, &Step::Leave(Leave::Quit)),
+            _ => Ok(Reply::Refused(Fault::Stranger)),
+        }
+    }
+
+    // The session of an id takes a step, and what it puts out is put out.
+    fn ask(
         &mut self,
         alloc: Global,
+        output: &mut RunOutput,
         txn: TxnId,
-        key: Key,
-        value: Option<Value>,
-    ) -> Result<Outbox, Fault>
-        ensures { (splits : List Bytes) (cs : List Client) → Hosts splits self.old cs
-            → MovesIn splits (session_step
-            (when_open (buffers (record { key = key; value = value })))
-            (first (λ c. same_id c.txn txn) cs)) self.new cs result }
+        step: &Step<'_>,
+    ) -> Result<Reply, Fault>
+        ensures { (w : World) → Hosts w.config.splits self.old w.clients → IsOutput output.old w
+            → ComesOf w (moved w (session_step (asks w.config.splits step.now) (client_of w txn)))
+            self.new output.new result }
     {
-        let at = place(&self.ids, &self.begun, txn);
-        if at >= self.begun.len() {
-            return Err(Fault::Stranger);
-        }
-        let begun = take(&mut self.begun, at, txn);
-        let (begun, result) = begun.write(alloc, key, value);
-        put(&mut self.begun, at, begun);
-        result
+        let moved = self.step(alloc, txn, step);
+        output.reply(moved)
     }
 
-    /// A session closes.
-    pub fn close(&mut self, alloc: Global, txn: TxnId) -> Result<Outbox, Fault>
-        ensures { (splits : List Bytes) (cs : List Client) → Hosts splits self.old cs
-            → MovesIn splits (session_step (when_open (closes splits))
-            (first (λ c. same_id c.txn txn) cs)) self.new cs result }
-    {
-        let at = place(&self.ids, &self.begun, txn);
-        if at >= self.begun.len() {
-            return Err(Fault::Stranger);
-        }
-        let begun = take(&mut self.begun, at, txn);
-        let (begun, result) = begun.close(alloc);
-        put(&mut self.begun, at, begun);
-        result
-    }
-
-    /// A session gives up.
-    pub fn quit(&mut self, alloc: Global, txn: TxnId) -> Result<Outbox, Fault>
-        ensures { (splits : List Bytes) (cs : List Client) → Hosts splits self.old cs
-            → MovesIn splits (session_step (when_not_over (gives_up splits))
-            (first (λ c. same_id c.txn txn) cs)) self.new cs result }
-    {
-        let at = place(&self.ids, &self.begun, txn);
-        if at >= self.begun.len() {
-            return Err(Fault::Stranger);
-        }
-        let begun = take(&mut self.begun, at, txn);
-        let (begun, result) = begun.quit(alloc);
-        put(&mut self.begun, at, begun);
-        result
-    }
-
-    /// The end of a transaction comes to its session.
-    pub fn finish(&mut self, alloc: Global, done: &Done) -> Result<Outbox, Fault>
-        ensures { (splits : List Bytes) (cs : List Client) → Hosts splits self.old cs
-            → MovesIn splits (session_step when_closing
-            (first (λ c. same_id c.txn done.now.txn) cs)) self.new cs result }
-    {
-        let at = place(&self.ids, &self.begun, done.txn);
-        if at >= self.begun.len() {
-            return Err(Fault::Stranger);
-        }
-        let begun = take(&mut self.begun, at, done.txn);
-        let (begun, result) = begun.finish(alloc, done);
-        put(&mut self.begun, at, begun);
-        result
-    }
-
-    /// An answer comes to a session. A value that it takes is a line.
-    pub fn hear(&mut self, alloc: Global, answer: &ReadAnswer) -> Result<Option<Line>, Fault>
+    // An answer comes to a session. A value that it takes is a line.
+    fn hear(&mut self, alloc: Global, answer: &ReadAnswer) -> Result<Option<Line>, Fault>
         ensures { (splits : List Bytes) (cs : List Client) → Hosts splits self.old cs
             → HearsIn splits answer.now self.new cs
             (first (λ c. same_id c.txn answer.now.txn) cs) result }
@@ -160,10 +132,7 @@ impl<'s> Sessions<'s> {
         if at >= self.begun.len() {
             return Err(Fault::Stranger);
         }
-        let begun = take(&mut self.begun, at, answer.txn);
-        let (begun, result) = begun.hear(alloc, answer);
-        put(&mut self.begun, at, begun);
-        result
+        self.begun[at].hear(alloc, answer)
     }
 
     /// A message comes to the session that it names. A value that the session takes is a line.
@@ -173,7 +142,16 @@ impl<'s> Sessions<'s> {
     {
         match message {
             Message::ReadAnswer(answer) => self.hear(alloc, answer),
-            Message::Done(done) => no_line(self.finish(alloc, done)),
+            Message::Done(done) => {
+                let end = Step::Leave(Leave::Hear(done.outcome));
+                match self.step(alloc, done.txn, &end) {
+                    Ok(out) => {
+                        drop(out);
+                        Ok(None)
+                    }
+                    Err(fault) => Err(fault),
+                }
+            }
             _ => Err(Fault::Stranger),
         }
     }
@@ -187,21 +165,11 @@ impl<'s> Sessions<'s> {
         } = self;
         for _ in 0..begun.len() {
             match begun.pop() {
-                Some(begun) => begun.spend(),
+                Some(Begun { txn: _, held }) => held.spend(),
                 None => {}
             }
         }
         begun.destroy_empty();
-    }
-}
-
-// An end is no line.
-fn no_line(answer: Result<Outbox, Fault>) -> Result<Option<Line>, Fault>
-    ensures { result ≡ no_line answer }
-{
-    match answer {
-        Ok(_) => Ok(None),
-        Err(fault) => Err(fault),
     }
 }
 
@@ -221,23 +189,4 @@ fn place(ids: &IndexSet<TxnId>, begun: &[Begun<'_>], txn: TxnId) -> usize
     } else {
         begun.len()
     }
-}
-
-// Takes a session out. One that is over stands there meanwhile.
-fn take<'s>(begun: &mut Vec<Begun<'s>>, at: usize, txn: TxnId) -> Begun<'s>
-    requires { at < length begun.old.items }
-    ensures taken { result ≡ slice_index_or begun.old.items at result }
-    ensures rest { begun.new.items ≡ slice_set begun.old.items at
-        (record { txn = txn; held = Held.Over }) }
-{
-    replace(&mut begun[at], Begun::over(txn))
-}
-
-// Puts a session in a place.
-fn put<'s>(begun: &mut Vec<Begun<'s>>, at: usize, one: Begun<'s>)
-    requires { at < length begun.old.items }
-    ensures { begun.new.items ≡ slice_set begun.old.items at one.entry }
-{
-    let old = replace(&mut begun[at], one);
-    old.spend();
 }

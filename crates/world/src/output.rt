@@ -10,7 +10,7 @@ use bag::Bag;
 use indexmap::IndexSet;
 use message::{Envelope, Message, Outbox};
 use std::alloc::Global;
-use units::{Fault, Key, Line, Stamp, TxnId, copy_value};
+use units::{Fault, Key, Line, Stamp, TxnId, Value, copy_value};
 
 /// The messages and the lines so far, the transactions whose commit was told to their sessions, and the number of the event
 /// that is under way.
@@ -59,10 +59,10 @@ impl RunOutput {
         ensures { (w : World) → IsOutput self.old w → HasHeard w answer self.new result }
     {
         match answer {
-            Ok(Some(line)) => {
-                self.note(line)?;
-                Ok(Reply::Done)
-            }
+            Ok(Some(line)) => match self.lines.push(line) {
+                Ok(()) => Ok(Reply::Done),
+                Err(_) => Err(Fault::Memory),
+            },
             Ok(None) => Ok(Reply::Done),
             Err(Fault::Memory) => Err(Fault::Memory),
             Err(fault) => Ok(Reply::Refused(fault)),
@@ -79,30 +79,53 @@ impl RunOutput {
     ) -> Result<Reply, Fault>
         ensures { (w : World) → IsOutput self.old w → Notes w key at reply self.new result }
     {
-        if let Reply::Shows(value) = &reply {
-            self.note(Line::Look(key, at, copy_value(alloc, value)?))?;
+        let Reply::Shows(value) = &reply else {
+            return Ok(reply);
+        };
+        match self.note_shown(alloc, key, at, value) {
+            Ok(()) => Ok(reply),
+            Err(fault) => {
+                drop(reply);
+                Err(fault)
+            }
         }
-        Ok(reply)
     }
 
-    /// Messages are put out. Each that is the first to tell a session that it committed is a line.
-    pub fn put_out(&mut self, out: Outbox) -> Result<(), Fault>
+    // Messages are put out. Each that is the first to tell a session that it committed is a line.
+    fn put_out(&mut self, out: Outbox) -> Result<(), Fault>
         ensures put { (w : World) → IsOutput self.old w
             → OnOk result (IsOutput self.new (put_out out w)) }
         ensures memory { IfErr result (λ fault. fault ≡ Fault.Memory) }
     {
-        push_acknowledged(&mut self.lines, &self.told, self.event, out.as_slice())?;
-        note_told(&mut self.told, out.as_slice())?;
-        put_all(&mut self.bag, out)
+        match push_acknowledged(&mut self.lines, &self.told, self.event, out.as_slice()) {
+            Ok(()) => match note_told(&mut self.told, out.as_slice()) {
+                Ok(()) => put_all(&mut self.bag, out),
+                Err(fault) => {
+                    drop(out);
+                    Err(fault)
+                }
+            },
+            Err(fault) => {
+                drop(out);
+                Err(fault)
+            }
+        }
     }
 
-    /// A line is written.
-    pub fn note(&mut self, line: Line) -> Result<(), Fault>
+    // A look that showed a value is a line.
+    fn note_shown(
+        &mut self,
+        alloc: Global,
+        key: Key,
+        at: Stamp,
+        value: &Option<Value>,
+    ) -> Result<(), Fault>
         ensures noted { (w : World) → IsOutput self.old w
-            → OnOk result (IsOutput self.new (note line w)) }
+            → OnOk result (IsOutput self.new (note (Line.Look key at value.now) w)) }
         ensures memory { IfErr result (λ fault. fault ≡ Fault.Memory) }
     {
-        self.lines.push(line)?;
+        let value = copy_value(alloc, value)?;
+        self.lines.push(Line::Look(key, at, value))?;
         Ok(())
     }
 }

@@ -8,5 +8,5 @@ pub returns-clause-begun : goal.returns-clause-begun
 returns-clause-begun c splits cs h none =
     let s = c.args.self.now in
     begins splits s (record { splits = s.splits; ids = c.insert.new.self; begun = c.push_reserved.new.self }) cs c.new.result c.args.txn h none
-    (subst (λ ks. IsBegun ks c.new.result (begun c.args.txn)) h.splits_are c.new.ensures) h.splits_are c.in_ok-insert.ensures.keys
-    (c.push_reserved.ensures.items ∙ ap (λ bs. bs ++ c.new.result ∷ []) c.in_ok-reserve.ensures.items)
+    (subst (λ ks. IsBegun ks c.new.result (begun c.args.txn)) h.splits_are c.new.ensures) h.splits_are c.in-Ok-insert.ensures.keys
+    (c.push_reserved.ensures.items ∙ ap (λ bs. bs ++ c.new.result ∷ []) c.in-Ok.ensures.items)

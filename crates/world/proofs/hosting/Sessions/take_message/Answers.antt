@@ -1,5 +1,5 @@
-use Rattle.std.proofs.Common.{inr, sym, subst}
-use Rattle.world.specs.Comes.{TakesMessage, no_line}
+use Rattle.std.proofs.Common.{None, Ok, Err, inr, sym, subst}
+use Rattle.world.specs.Comes.{TakesMessage}
 use Rattle.world.proofs.Replying.{no_others, takes_answer, takes_end}
 use Rattle.world.proofs.hosting.Sessions.take_message.Goals as goal
 
@@ -11,8 +11,12 @@ returns-in-ReadAnswer c w h =
 pub returns-in_default : goal.returns-in_default
 returns-in_default c w h = inr (no_others w c.args.self.now c.args.message.now c.in_default.not-ReadAnswer c.in_default.not-Done, h)
 
-pub returns-in-Done : goal.returns-in-Done
-returns-in-Done c w h =
-    subst (λ r. TakesMessage w c.args.message.now c.finish.new.self r) (sym c.no_line.ensures)
-    (subst (λ m. TakesMessage w m c.finish.new.self (no_line c.finish.result)) (sym c.in-Done.is)
-    (takes_end w c.finish.new.self c.in-Done.done c.finish.result (c.finish.ensures w.config.splits w.clients h)))
+pub returns-in-Ok : goal.returns-in-Ok
+returns-in-Ok c w h =
+    subst (λ m. TakesMessage w m c.step.new.self (Ok None)) (sym c.in-Done.is)
+    (takes_end w c.step.new.self c.in-Done.done (Ok c.in-Ok.out) (c.in-Ok.ensures w.config.splits w.clients h))
+
+pub returns-in-Err : goal.returns-in-Err
+returns-in-Err c w h =
+    subst (λ m. TakesMessage w m c.step.new.self (Err c.in-Err.fault)) (sym c.in-Done.is)
+    (takes_end w c.step.new.self c.in-Done.done (Err c.in-Err.fault) (c.in-Err.ensures w.config.splits w.clients h))
