@@ -2,546 +2,408 @@
 //! are up, and then it happens.
 ghost use Rattle.std.specs.Prelude.{◌<◌, ◌-◌, ◌^◌};
 
-use crate::runs::{Shape, config, happens};
-use crate::steps::{At, Does, Step, Timed};
-use bag::Bag;
+use crate::sight::{OTHER, Sent, Sight, push_sent, seen_of};
+use crate::steps::{Does, FIRST, Step, Stop, event};
 use disk::Fate;
-use lives::{Life, Run, RunShard};
-use message::{Address, Message};
+use lives::Run;
 use std::alloc::Global;
 use world::Config;
 
-// A linear congruential generator modulo 2^64, with the multiplier 6364136223846793005 and the increment
-// 1442695040888963407. Its upper 31 bits are drawn.
+// Three keys for each of the shards that the splits `m` and `s` make.
+static KEYS: [u8; 9] = [b'a', b'c', b'f', b'n', b'p', b'r', b't', b'w', b'y'];
+
+static DIGITS: [u8; 10] = [b'0', b'1', b'2', b'3', b'4', b'5', b'6', b'7', b'8', b'9'];
+
+// What a crash may leave of each byte of a write: that of an open gate, that of a closed one, and others.
+static BYTES: [u8; 4] = [0xa5, 0x00, 0x37, 0xff];
+
+/// The length of a list.
+pub const LENGTH: usize = 300;
+
+// A list so far: its last step, the sessions 1 to `begun` have begun, and the messages below `next` were delivered in their
+// turn. So many steps of a kind come at once: reads, or writes and a close, of the step's transaction, or looks at its shard.
 #[derive(Clone, Copy)]
-pub struct Random {
-    state: u64,
+struct Drawn {
+    random: u64,
+    shards: u64,
+    begun: u64,
+    next: u64,
+    coming: Does,
+    left: u64,
+    step: Step,
 }
 
-impl Random {
-    // A number below a limit, or 0 where the limit is 0.
-    pub fn below(&mut self, limit: u64) -> u64 {
-        self.state = self
-            .state
+impl Drawn {
+    // A number below a limit, or 0 where the limit is 0. It is drawn by the upper 31 bits of a linear congruential generator
+    // modulo 2^64, with the multiplier 6364136223846793005 and the increment 1442695040888963407.
+    fn below(&mut self, limit: u64) -> u64 {
+        self.random = self
+            .random
             .wrapping_mul(6_364_136_223_846_793_005)
             .wrapping_add(1_442_695_040_888_963_407);
         if limit == 0 {
             0
         } else {
-            self.state / 8_589_934_592 % limit
+            self.random / 8_589_934_592 % limit
         }
     }
 
     // One of some bytes, or 0 where there is none.
-    pub fn one_of(&mut self, bytes: &[u8]) -> u8 {
+    fn one_of(&mut self, bytes: &[u8]) -> u8 {
         let number = self.below(bytes.len() as u64) as usize;
         match bytes.get(number) {
             Some(byte) => *byte,
             None => 0,
         }
     }
-}
 
-// Three keys for each of the shards that the splits `m` and `s` make.
-const KEYS: [u8; 9] = [b'a', b'c', b'f', b'n', b'p', b'r', b't', b'w', b'y'];
-
-const DIGITS: [u8; 10] = [b'0', b'1', b'2', b'3', b'4', b'5', b'6', b'7', b'8', b'9'];
-
-// What a crash may leave of each byte of a write: that of an open gate, that of a closed one, and others.
-const BYTES: [u8; 4] = [0xa5, 0x00, 0x37, 0xff];
-
-// The length of a list.
-pub const LENGTH: usize = 300;
-
-// So many shards, without a stride.
-pub fn shape_of(shards: u64) -> Shape<'static> {
-    let splits: &[u8] = match shards {
-        1 => b"",
-        2 => b"m",
-        _ => b"ms",
-    };
-    Shape { splits, stride: 0 }
-}
-
-// ---- what is seen of a run
-
-// A shard: how many views it made, and the first transaction that it has decided to commit and not settled.
-#[derive(Clone, Copy)]
-struct Seen {
-    is_up: bool,
-    is_down: bool,
-    views: u64,
-    decided: Option<u64>,
-}
-
-fn decided(life: &Life) -> Option<u64> {
-    let Life::Up(core) = life else {
-        return None;
-    };
-    match core.decided(0) {
-        Some((txn, _)) => Some(txn.number()),
-        None => None,
-    }
-}
-
-// The shard of a number. One that there is not needs no opening.
-fn seen_at(shards: &[RunShard], number: usize) -> Seen {
-    match shards.get(number) {
-        Some(shard) => Seen {
-            is_up: shard.is_up(),
-            is_down: shard.is_down(),
-            views: shard.views(),
-            decided: decided(&shard.life),
-        },
-        None => Seen {
-            is_up: true,
-            is_down: false,
-            views: 0,
-            decided: None,
-        },
-    }
-}
-
-// A run: its messages, and its shards.
-#[derive(Clone, Copy)]
-struct Sight<'a> {
-    bag: &'a Bag,
-    shards: [Seen; 3],
-}
-
-fn sight_of<'a>(run: &'a Run<'_>) -> Sight<'a> {
-    let shards = &run.shards.shards;
-    Sight {
-        bag: &run.output.bag,
-        shards: [seen_at(shards, 0), seen_at(shards, 1), seen_at(shards, 2)],
-    }
-}
-
-// Who a message asks or tells something.
-#[derive(Clone, Copy, PartialEq, Eq)]
-enum Told {
-    Coordinator,
-    Part,
-    Reader,
-    Another,
-}
-
-// A message: the shard that it is for, or 255 where it is for a session, and its transaction.
-#[derive(Clone, Copy)]
-struct Sent {
-    shard: u8,
-    txn: u64,
-    told: Told,
-}
-
-fn sent_of(shard: u8, message: &Message) -> Sent {
-    let (told, txn) = match message {
-        Message::Commit(asked) => (Told::Coordinator, asked.txn.number()),
-        Message::Vote(vote) => (Told::Coordinator, vote.txn.number()),
-        Message::Prepare(asked) => (Told::Part, asked.txn.number()),
-        Message::ReadAnswer(answer) => (Told::Reader, answer.txn.number()),
-        _ => (Told::Another, 0),
-    };
-    Sent { shard, txn, told }
-}
-
-// The message of a number.
-fn sent_as(bag: &Bag, number: u64) -> Option<Sent> {
-    let Some(envelope) = bag.nth(number) else {
-        return None;
-    };
-    let shard = match envelope.to {
-        Address::Shard(shard) => shard.number(),
-        Address::Session(_) => u8::MAX,
-    };
-    Some(sent_of(shard, &envelope.message))
-}
-
-impl Sight<'_> {
-    fn shard(&self, number: u8) -> Seen {
-        self.shards[number as usize % 3]
-    }
-
-    // The first shard that is not up.
-    fn resting(&self) -> Option<u8> {
-        for number in 0..3 {
-            if !self.shard(number).is_up {
-                return Some(number);
-            }
-        }
-        None
-    }
-
-    // The shard and the transaction of some decision that is not settled.
-    fn unsettled(&self) -> Option<(u8, u64)> {
-        for number in 0..3 {
-            if let Some(txn) = self.shard(number).decided {
-                return Some((number, txn));
-            }
-        }
-        None
-    }
-
-    // The shard and the transaction of the message of a number, where it tells one of these.
-    fn told(&self, number: u64, told: Told) -> Option<(u8, u64)> {
-        match sent_as(self.bag, number) {
-            Some(sent) if sent.told == told => Some((sent.shard, sent.txn)),
-            _ => None,
-        }
-    }
-
-    // The first message for a shard among the eight from a number on.
-    fn next_for(&self, shard: u8, first: u64) -> Option<u64> {
-        for number in first..first.saturating_add(8) {
-            match sent_as(self.bag, number) {
-                Some(sent) if sent.shard == shard => return Some(number),
-                _ => {}
-            }
-        }
-        None
-    }
-}
-
-// ---- what is drawn
-
-// What comes at once behind a step: so many reads, or writes and a close, of a transaction, or looks at a shard up to a time.
-#[derive(Clone, Copy)]
-enum Going {
-    Nothing,
-    Reads(u64, u64),
-    Writes(u64, u64),
-    Looks(u64, u8, u64),
-}
-
-// A list so far: the sessions 1 to `begun` have begun, and the messages below `next` were delivered in their turn.
-#[derive(Clone, Copy)]
-struct Drawn {
-    random: Random,
-    shards: u64,
-    time: u64,
-    begun: u64,
-    next: u64,
-    going: Going,
-}
-
-impl Drawn {
     // How far an end of a reading is from the true time: mostly little.
     fn width(&mut self) -> u64 {
-        let widest = match self.random.below(4) {
-            0 => 40,
-            _ => 8,
-        };
-        self.random.below(widest)
+        let widest = if self.below(4) == 0 { 40 } else { 8 };
+        self.below(widest)
     }
 
     // A shard does something now.
-    fn at(&mut self, shard: u8, does: Does) -> At {
-        let earliest = self.time.saturating_sub(self.width());
-        let latest = self.time.saturating_add(self.width());
-        At {
-            shard,
-            does,
-            reading: (earliest, latest),
-        }
+    fn now(&mut self, shard: u8, does: Does) {
+        let before = self.width();
+        let behind = self.width();
+        self.step.shard = shard;
+        self.step.does = does;
+        self.step.earliest = self.step.time.saturating_sub(before);
+        self.step.latest = self.step.time.saturating_add(behind);
     }
 
     fn shard(&mut self) -> u8 {
-        (self.random.below(self.shards) % 16) as u8
+        (self.below(self.shards) % 16) as u8
     }
 
-    // One of three keys of a shard, at times of any.
-    fn key_at(&mut self, shard: u8) -> u8 {
-        let at = match self.random.below(8) {
-            0 => self.random.below(9),
-            _ => self.random.below(3).saturating_add(3 * shard as u64),
+    // One of three keys of the step's shard, at times of any.
+    fn draw_key(&mut self) {
+        let at = match self.below(8) {
+            0 => self.below(9),
+            _ => self.below(3).saturating_add(3 * self.step.shard as u64),
         };
-        KEYS[at as usize % 9]
+        self.step.key = KEYS[at as usize % 9];
     }
 
-    // One of the last messages that were put out, or of all.
+    // The number of one of the last messages that were put out, or of all.
     fn message(&mut self, known: u64) -> u64 {
-        let reach = match self.random.below(4) {
-            0 => known,
-            _ => known.min(16),
+        let reach = if self.below(4) == 0 {
+            known
+        } else {
+            known.min(16)
         };
-        known
-            .saturating_sub(self.random.below(reach))
-            .saturating_sub(1)
+        known.saturating_sub(self.below(reach)).saturating_sub(1)
     }
 
-    fn write(&mut self, txn: u64) -> Step {
-        let key = self.random.one_of(&KEYS);
-        match self.random.below(8) {
-            0 => Step::Erase(txn, key),
-            _ => Step::Write(txn, key, self.random.one_of(&DIGITS)),
+    // One of these messages.
+    fn sent(&mut self, sight: &Sight<'_>) -> Sent {
+        let number = self.message(sight.sent.len() as u64);
+        match sight.sent.get(number as usize) {
+            Some(sent) => *sent,
+            None => OTHER,
         }
     }
 
-    // What a step before it left to come at once.
-    fn go_on(&mut self) -> Option<Step> {
-        match self.going {
-            Going::Reads(left, txn) if left > 0 => {
-                self.going = Going::Reads(left - 1, txn);
-                Some(Step::Read(txn, self.random.one_of(&KEYS)))
-            }
-            Going::Writes(left, txn) if left > 0 => {
-                self.going = Going::Writes(left - 1, txn);
-                Some(self.write(txn))
-            }
-            Going::Writes(_, txn) => {
-                self.going = Going::Nothing;
-                Some(Step::Close(txn))
-            }
-            Going::Looks(left, shard, at) if left > 0 => {
-                self.going = Going::Looks(left - 1, shard, at);
-                Some(Step::Look(shard, self.key_at(shard), at))
-            }
-            _ => None,
+    fn write(&mut self) {
+        self.step.key = self.one_of(&KEYS);
+        if self.below(8) == 0 {
+            self.step.does = Does::Erase;
+        } else {
+            self.step.does = Does::Write;
+            self.step.value = self.one_of(&DIGITS);
         }
+    }
+
+    // What a step before it left to come at once, if anything.
+    fn goes_on(&mut self) -> bool {
+        match self.coming {
+            Does::Write if self.left == 0 => {
+                self.coming = Does::Close;
+                self.step.does = Does::Close;
+                return true;
+            }
+            _ if self.left == 0 => return false,
+            Does::Write => self.write(),
+            Does::Read => {
+                self.step.does = Does::Read;
+                self.step.key = self.one_of(&KEYS);
+            }
+            _ => {
+                self.step.does = Does::Look;
+                self.draw_key();
+            }
+        }
+        self.left = self.left.saturating_sub(1);
+        true
     }
 
     // A new transaction reads, or writes and closes.
-    fn begin(&mut self, reads: bool) -> Step {
+    fn begin(&mut self, coming: Does, most: u64) {
         self.begun = self.begun.saturating_add(1);
-        self.going = if reads {
-            Going::Reads(self.random.below(2).saturating_add(1), self.begun)
-        } else {
-            Going::Writes(self.random.below(4).saturating_add(1), self.begun)
-        };
-        Step::Begin(self.begun)
+        self.coming = coming;
+        self.left = self.below(most).saturating_add(1);
+        self.step.does = Does::Begin;
+        self.step.txn = self.begun;
     }
 
     // Mostly the next message that was not delivered, at times any.
-    fn deliver(&mut self, known: u64) -> Step {
-        let now = self.at(0, Does::Resume).reading;
+    fn deliver(&mut self, known: u64) {
+        self.now(0, Does::Deliver);
         if known == 0 {
-            self.begin(false)
-        } else if self.next < known && self.random.below(5) != 0 {
-            let next = self.next;
-            self.next = next.saturating_add(1);
-            Step::Deliver(next, now)
+            self.begin(Does::Write, 4);
+        } else if self.next < known && self.below(5) != 0 {
+            self.step.number = self.next;
+            self.next = self.next.saturating_add(1);
         } else {
-            Step::Deliver(self.message(known), now)
+            self.step.number = self.message(known);
         }
     }
 
-    fn resume(&mut self) -> Step {
-        let shard = self.shard();
-        Step::Do(self.at(shard, Does::Resume))
+    // A shard does something for a transaction, or it goes on where there is none.
+    fn serve(&mut self, shard: u8, txn: u64, does: Does) {
+        self.step.txn = txn;
+        if txn == 0 {
+            let shard = self.shard();
+            self.now(shard, Does::Resume);
+        } else {
+            self.now(shard, does);
+        }
     }
 
     // Mostly a decided transaction is settled, at times that of any message.
-    fn settle(&mut self, sight: &Sight<'_>) -> Step {
-        let found = match self.random.below(4) {
-            0 => sight.told(self.message(sight.bag.len()), Told::Coordinator),
-            _ => sight.unsettled(),
+    fn settle(&mut self, sight: &Sight<'_>) {
+        let (shard, txn) = if self.below(4) == 0 {
+            let sent = self.sent(sight);
+            (sent.shard, sent.coordinator)
+        } else {
+            sight.unsettled()
         };
-        match found {
-            Some((shard, txn)) => Step::Do(self.at(shard, Does::Settle(txn))),
-            None => self.resume(),
-        }
+        self.serve(shard, txn, Does::Settle);
     }
 
     // The coordinator of a prepare's transaction is asked.
-    fn nudge(&mut self, sight: &Sight<'_>) -> Step {
-        match sight.told(self.message(sight.bag.len()), Told::Part) {
-            Some((shard, txn)) => Step::Do(self.at(shard, Does::Nudge(txn))),
-            None => self.resume(),
-        }
+    fn nudge(&mut self, sight: &Sight<'_>) {
+        let sent = self.sent(sight);
+        self.serve(sent.shard, sent.part, Does::Nudge);
     }
 
     // A session that was answered by one of the last messages writes, and closes.
-    fn close(&mut self, sight: &Sight<'_>) -> Step {
+    fn close(&mut self, sight: &Sight<'_>) {
         for _ in 0..6 {
-            if let Some((_, txn)) = sight.told(self.message(sight.bag.len()), Told::Reader) {
-                self.going = Going::Writes(0, txn);
-                return self.write(txn);
+            self.step.txn = self.sent(sight).reader;
+            if self.step.txn > 0 {
+                self.coming = Does::Write;
+                self.left = 0;
+                return self.write();
             }
         }
-        self.deliver(sight.bag.len())
+        self.deliver(sight.sent.len() as u64)
     }
 
     // A shard serves up to a time near the end of a wide reading. At once some of its keys are looked at then.
-    fn advance(&mut self) -> Step {
-        let shard = self.shard();
-        let earliest = self.time.saturating_sub(self.width());
-        let ahead = self.random.below(40).saturating_add(5);
-        let latest = self.time.saturating_add(ahead);
-        let to = latest
-            .saturating_add(2)
-            .saturating_sub(self.random.below(12));
-        self.going = Going::Looks(self.random.below(4), shard, to);
-        Step::Do(At {
-            shard,
-            does: Does::Advance(to),
-            reading: (earliest, latest),
-        })
+    fn advance(&mut self) {
+        self.step.does = Does::Advance;
+        self.step.shard = self.shard();
+        self.step.earliest = self.step.time.saturating_sub(self.width());
+        let ahead = self.below(40).saturating_add(5);
+        let latest = self.step.time.saturating_add(ahead);
+        self.step.latest = latest;
+        self.step.at = latest.saturating_add(2).saturating_sub(self.below(12));
+        self.coming = Does::Look;
+        self.left = self.below(4);
     }
 
-    fn look(&mut self) -> Step {
+    // A look at a shard, or at one of its views.
+    fn look(&mut self, views: Option<&Sight<'_>>) {
         let shard = self.shard();
-        let back = self.random.below(200);
-        let at = self.time.saturating_add(20).saturating_sub(back);
-        Step::Look(shard, self.key_at(shard), at)
-    }
-
-    fn view(&mut self, sight: &Sight<'_>) -> Step {
-        let shard = self.shard();
-        let number = self.random.below(sight.shard(shard).views);
-        let at = self.time.saturating_sub(self.random.below(300));
-        Step::View(shard, number, self.key_at(shard), at)
+        self.step.shard = shard;
+        self.step.does = Does::Look;
+        let mut back = 200;
+        let mut at = self.step.time.saturating_add(20);
+        if let Some(sight) = views {
+            self.step.does = Does::View;
+            self.step.number = self.below(sight.shards[shard as usize % 3].views);
+            back = 300;
+            at = self.step.time;
+        }
+        self.step.at = at.saturating_sub(self.below(back));
+        self.draw_key();
     }
 
     // One of the last sessions that have begun.
-    fn quit(&mut self) -> Step {
-        let back = self.random.below(6);
-        match self.begun {
-            0 => self.begin(true),
-            last => Step::Quit(last.saturating_sub(back).max(1)),
+    fn quit(&mut self) {
+        let back = self.below(6);
+        if self.begun == 0 {
+            self.begin(Does::Read, 2);
+        } else {
+            self.step.does = Does::Quit;
+            self.step.txn = self.begun.saturating_sub(back).max(1);
         }
-    }
-
-    // What a shard does where a call of it fails, or where it crashes.
-    fn doing(&mut self, sight: &Sight<'_>, shard: u8) -> At {
-        let mut at = self.at(shard, Does::Resume);
-        match self.random.below(4) {
-            0 => at.does = Does::Advance(at.reading.1),
-            1 => {
-                if let Some(txn) = sight.shard(shard).decided {
-                    at.does = Does::Settle(txn);
-                }
-            }
-            _ => {
-                if let Some(message) = sight.next_for(shard, self.next) {
-                    at.does = Does::Take(message);
-                }
-            }
-        }
-        at
     }
 
     // A crash or a failing call in what a shard does.
-    fn broken(&mut self, crashes: bool, at: At) -> Step {
-        let call = self.random.below(5);
-        if !crashes {
-            return Step::FailIn(call, at);
-        }
-        let fate = match self.random.below(4) {
-            0 => Fate::Old,
-            1 => Fate::New,
-            _ => Fate::Filled(self.random.one_of(&BYTES)),
+    fn stop(&mut self, crashes: bool) {
+        let call = self.below(5);
+        self.step.stop = if !crashes {
+            Stop::FailIn(call)
+        } else {
+            match self.below(4) {
+                0 => Stop::CrashIn(call, Fate::Old),
+                1 => Stop::CrashIn(call, Fate::New),
+                _ => Stop::CrashIn(call, Fate::Filled(self.one_of(&BYTES))),
+            }
         };
-        Step::CrashIn(call, fate, at)
+    }
+
+    // What a shard does where a call of it fails, or where it crashes.
+    fn act(&mut self, sight: &Sight<'_>, shard: u8, decided: u64) {
+        self.now(shard, Does::Resume);
+        match self.below(4) {
+            0 => {
+                self.step.does = Does::Advance;
+                self.step.at = self.step.latest;
+            }
+            1 => {
+                if decided > 0 {
+                    self.step.does = Does::Settle;
+                    self.step.txn = decided;
+                }
+            }
+            _ => {
+                if let Some(number) = sight.next_for(shard, self.next) {
+                    self.step.does = Does::Take;
+                    self.step.number = number;
+                }
+            }
+        }
     }
 
     // A shard that is up or stopped crashes, between events or in a call, or a call of it fails.
-    fn stop(&mut self, sight: &Sight<'_>) -> Step {
+    fn break_off(&mut self, sight: &Sight<'_>) {
         let shard = self.shard();
-        if sight.shard(shard).is_down {
+        let seen = sight.shards[shard as usize % 3];
+        if seen.is_down {
             return self.open(shard);
         }
-        let at = self.doing(sight, shard);
-        match self.random.below(5) {
-            0 => Step::Crash(shard),
-            1 | 2 => self.broken(false, at),
-            _ => self.broken(true, at),
+        self.act(sight, shard, seen.decided);
+        match self.below(5) {
+            0 => self.step.does = Does::Crash,
+            1 | 2 => self.stop(false),
+            _ => self.stop(true),
         }
     }
 
     // A shard that is not up is opened, mostly with success.
-    fn open(&mut self, shard: u8) -> Step {
-        let at = self.at(shard, Does::Open);
-        match self.random.below(10) {
-            0 => self.broken(false, at),
-            1 => self.broken(true, at),
-            _ => Step::Do(at),
+    fn open(&mut self, shard: u8) {
+        self.now(shard, Does::Open);
+        match self.below(10) {
+            0 => self.stop(false),
+            1 => self.stop(true),
+            _ => {}
         }
     }
 
-    fn draw_any(&mut self, sight: &Sight<'_>) -> Step {
-        match self.random.below(100) {
-            0..=8 => self.begin(false),
-            9..=13 => self.begin(true),
-            14..=47 => self.deliver(sight.bag.len()),
+    fn draw_any(&mut self, sight: &Sight<'_>) {
+        match self.below(100) {
+            0..=8 => self.begin(Does::Write, 4),
+            9..=13 => self.begin(Does::Read, 2),
+            14..=47 => self.deliver(sight.sent.len() as u64),
             48..=61 => self.settle(sight),
             62..=68 => self.close(sight),
-            69..=79 => self.look(),
-            80..=83 => self.view(sight),
+            69..=79 => self.look(None),
+            80..=83 => self.look(Some(sight)),
             84..=88 => self.advance(),
             89..=91 => self.nudge(sight),
-            92..=98 => self.resume(),
+            92..=98 => self.serve(0, 0, Does::Resume),
             _ => self.quit(),
         }
     }
 
     // Something happens, a little later.
-    fn draw(&mut self, sight: &Sight<'_>) -> Step {
-        self.time = self.time.saturating_add(self.random.below(6));
-        if let Some(step) = self.go_on() {
-            return step;
+    fn draw(&mut self, sight: &Sight<'_>) {
+        self.step.time = self.step.time.saturating_add(self.below(6));
+        self.step.stop = Stop::Never;
+        if self.goes_on() {
+            return;
         }
-        if self.random.below(3) == 0 {
+        if self.below(3) == 0 {
             if let Some(shard) = sight.resting() {
                 return self.open(shard);
             }
         }
-        if self.random.below(36) == 0 {
-            return self.stop(sight);
+        if self.below(36) == 0 {
+            return self.break_off(sight);
         }
-        let known = sight.bag.len();
-        if known.saturating_sub(self.next) > 6 && self.random.below(3) != 0 {
+        let known = sight.sent.len() as u64;
+        if known.saturating_sub(self.next) > 6 && self.below(3) != 0 {
             return self.deliver(known);
         }
         self.draw_any(sight)
     }
 }
 
-// As many steps as a list has are drawn, and happen.
-fn fill(steps: &mut Vec<Timed>, alloc: Global, run: &mut Run<'_>, seed: u64, shards: u64) -> bool {
-    let mut drawn = Drawn {
-        random: Random { state: seed },
-        shards,
-        time: 1_000,
-        begun: 0,
-        next: 0,
-        going: Going::Nothing,
+// The step of a number happens in a run, where it may.
+fn happens(run: &mut Run<'_>, alloc: Global, number: usize, step: &Step) -> bool
+    requires { number < 2 ^ 64 - 1 }
+{
+    let Ok(event) = event(alloc, step) else {
+        return false;
     };
+    let reply = run.take(alloc, number as u64, &event);
+    drop(event);
+    let happened = reply.is_ok();
+    drop(reply);
+    happened
+}
+
+// As many steps as a list has are drawn, and happen.
+fn fill(
+    steps: &mut Vec<Step>,
+    sent: &mut Vec<Sent>,
+    alloc: Global,
+    run: &mut Run<'_>,
+    drawn: &mut Drawn,
+) -> bool {
     for number in 0..LENGTH {
-        let step = drawn.draw(&sight_of(run));
-        let timed = (drawn.time, step);
-        if !happens(run, alloc, number, timed) || steps.push(timed).is_err() {
+        if !push_sent(sent, run.output.bag.as_slice()) {
+            return false;
+        }
+        drawn.draw(&Sight {
+            sent: sent.as_slice(),
+            shards: seen_of(&run.shards.shards),
+        });
+        let step = drawn.step;
+        if !happens(run, alloc, number, &step) || steps.push(step).is_err() {
             return false;
         }
     }
     true
 }
 
-fn is_filled(steps: &mut Vec<Timed>, alloc: Global, config: &Config, seed: u64) -> bool {
+/// Draws a list of events over so many shards, from a seed. False where one does not happen.
+pub fn is_drawn(
+    steps: &mut Vec<Step>,
+    alloc: Global,
+    config: &Config,
+    seed: u64,
+    shards: u64,
+) -> bool {
     let Ok(mut run) = Run::start(alloc, config) else {
         return false;
     };
-    let shards = run.shards.shards.len() as u64;
-    let filled = fill(steps, alloc, &mut run, seed, shards);
+    let mut drawn = Drawn {
+        random: seed,
+        shards,
+        begun: 0,
+        next: 0,
+        coming: Does::Begin,
+        left: 0,
+        step: FIRST,
+    };
+    let mut sent = Vec::new(alloc);
+    let filled = fill(steps, &mut sent, alloc, &mut run, &mut drawn);
+    drop(sent);
     run.spend();
     filled
-}
-
-fn is_drawn(steps: &mut Vec<Timed>, alloc: Global, seed: u64, shape: Shape<'static>) -> bool {
-    let Some(config) = config(alloc, shape) else {
-        return false;
-    };
-    let filled = is_filled(steps, alloc, &config, seed);
-    drop(config);
-    filled
-}
-
-// A list of events over shards of some shape.
-pub fn drawn_list(alloc: Global, seed: u64, shape: Shape<'static>) -> Option<Vec<Timed>> {
-    let mut steps = Vec::new(alloc);
-    if is_drawn(&mut steps, alloc, seed, shape) {
-        Some(steps)
-    } else {
-        drop(steps);
-        None
-    }
 }

@@ -1,135 +1,76 @@
 //! Drawn runs, 50 in a test: each list is lawful, and each report is judged by itself.
-use crate::drawing::{LENGTH, drawn_list, shape_of};
+use crate::drawing::{LENGTH, is_drawn};
 use crate::judging::judge;
-use crate::replying::{Stops, are_due};
-use crate::runs::{Shape, run};
-use crate::steps::Timed;
+use crate::replying::are_due;
+use crate::steps::{Step, config, play_steps};
+use crate::telling::{Told, put_report};
+use crate::totals::Totals;
 use playing::Report;
 use std::alloc::Global;
 use std::process::Abort;
-use units::{Line, Value};
-
-// What lists and their reports have: lines of some kinds, values in those of reads and looks, and stops of shards.
-#[derive(Clone, Copy)]
-struct Totals {
-    acknowledged: u64,
-    read: u64,
-    looked: u64,
-    valued: u64,
-    stops: Stops,
-}
-
-const NOTHING: Totals = Totals {
-    acknowledged: 0,
-    read: 0,
-    looked: 0,
-    valued: 0,
-    stops: Stops {
-        crashed: 0,
-        failed: 0,
-        opened: 0,
-    },
-};
-
-impl Totals {
-    fn count_value(&mut self, value: &Option<Value>) {
-        if value.is_some() {
-            self.valued = self.valued.saturating_add(1);
-        }
-    }
-
-    fn count(&mut self, line: &Line) {
-        match line {
-            Line::Begin(_, _) => {}
-            Line::Ack(_, _, _) => self.acknowledged = self.acknowledged.saturating_add(1),
-            Line::Read(_, _, value) => {
-                self.read = self.read.saturating_add(1);
-                self.count_value(value)
-            }
-            Line::Look(_, _, value) => {
-                self.looked = self.looked.saturating_add(1);
-                self.count_value(value)
-            }
-        }
-    }
-
-    fn count_lines(&mut self, lines: &[Line]) {
-        for line in lines {
-            self.count(line);
-        }
-    }
-
-    // The runs are not empty: what there is too little of, to judge.
-    fn scarce(&self) -> &'static str {
-        if self.acknowledged < 100 {
-            return "acknowledgements";
-        }
-        if self.read < 10 {
-            return "reads";
-        }
-        if self.looked < 300 {
-            return "looks";
-        }
-        if self.valued < 100 {
-            return "values";
-        }
-        self.stops.scarce()
-    }
-}
+use world::Config;
 
 // The first thing that is wrong with what a list comes to. Its lines and stops are counted too.
-fn wrong_of(report: &Report, steps: &[Timed], totals: &mut Totals) -> &'static str {
-    totals.count_lines(&report.lines);
-    totals.stops.count_all(steps, &report.replies);
+fn judge_report(
+    told: &mut Vec<Told>,
+    report: &Report,
+    steps: &[Step],
+    totals: &mut Totals,
+) -> &'static str {
+    let wrong = put_report(told, report);
+    if !wrong.is_empty() {
+        return wrong;
+    }
+    totals.count(told);
     if steps.len() != LENGTH {
         return "the length";
     }
-    if !are_due(report, steps) {
+    if !are_due(report, steps, totals) {
         return "the replies";
     }
-    judge(report)
+    judge(told)
 }
 
 // A list is played, and judged.
-fn play_one(
-    alloc: Global,
-    shape: Shape<'static>,
-    steps: &[Timed],
-    totals: &mut Totals,
-) -> &'static str {
-    let Ok(report) = run(alloc, shape, steps) else {
+fn play_one(alloc: Global, config: &Config, steps: &[Step], totals: &mut Totals) -> &'static str {
+    let Ok(report) = play_steps(alloc, config, steps) else {
         return "an unlawful list";
     };
-    let wrong = wrong_of(&report, steps, totals);
+    let mut told = Vec::new(alloc);
+    let wrong = judge_report(&mut told, &report, steps, totals);
+    drop(told);
     drop(report);
     wrong
 }
 
-// The list of a seed is played, and judged.
+// The list of a seed is drawn, played, and judged.
 fn draw_one(alloc: Global, seed: u64, shards: u64, totals: &mut Totals) -> &'static str {
-    let shape = shape_of(shards);
-    let Some(steps) = drawn_list(alloc, seed, shape) else {
-        return "no list";
+    let Ok(config) = config(alloc, shards) else {
+        return "no shards";
     };
-    let wrong = play_one(alloc, shape, &steps, totals);
+    let mut steps = Vec::new(alloc);
+    let wrong = if is_drawn(&mut steps, alloc, &config, seed, shards) {
+        play_one(alloc, &config, &steps, totals)
+    } else {
+        "no list"
+    };
     drop(steps);
+    drop(config);
     wrong
 }
 
 fn check(rt: &impl Abort, seed: u64, wrong: &str) {
-    assert!(rt; wrong.is_empty(), "seed {seed}: {wrong}");
+    assert!(rt; wrong.is_empty(), "from seed {seed} on: {wrong}");
 }
 
 // Draws 50 lists from a seed on, over 1 to 3 shards in turn.
 fn draw_all(rt: &impl Abort, alloc: Global, first: u64) {
-    let mut totals = NOTHING;
+    let mut totals = Totals::none();
     for number in 0..50 {
         let seed = first.saturating_add(number);
-        let wrong = draw_one(alloc, seed, number % 3 + 1, &mut totals);
-        check(rt, seed, wrong);
+        check(rt, seed, draw_one(alloc, seed, number % 3 + 1, &mut totals));
     }
-    let scarce = totals.scarce();
-    assert!(rt; scarce.is_empty(), "few {scarce}");
+    check(rt, first, totals.scarce());
 }
 
 #[test]

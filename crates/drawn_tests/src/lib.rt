@@ -12,6 +12,10 @@ mod long;
 #[cfg(test)]
 mod replying;
 #[cfg(test)]
-mod runs;
+mod sight;
 #[cfg(test)]
 mod steps;
+#[cfg(test)]
+mod telling;
+#[cfg(test)]
+mod totals;

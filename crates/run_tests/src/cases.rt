@@ -1,7 +1,7 @@
 //! Runs of which a part counts most: a promise, an outcome that comes twice, a question, a vote that comes first.
-use crate::comparing::{Case, compare_all};
+use crate::comparing::Case;
 
-static CASES: [Case; 10] = [
+pub static CASES: [Case; 10] = [
     // A promise at 200 holds the served time of its shard below it.
     Case {
         name: "a promise holds the served time",
@@ -359,8 +359,3 @@ verdict yes
 ",
     },
 ];
-
-#[test]
-fn cases(rt: HostRuntime) {
-    compare_all(&rt, rt.alloc(), &CASES);
-}

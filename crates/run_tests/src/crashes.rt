@@ -1,7 +1,7 @@
 //! Runs with crashes, failing calls and openings.
-use crate::comparing::{Case, compare_all};
+use crate::comparing::Case;
 
-static CASES: [Case; 7] = [
+pub static CRASHES: [Case; 7] = [
     // A ceiling is above the time that was served before the crash. What is promised behind the opening is above the ceiling. A
     // view is answered while its shard is down.
     Case {
@@ -309,8 +309,3 @@ verdict yes
 ",
     },
 ];
-
-#[test]
-fn crashes(rt: HostRuntime) {
-    compare_all(&rt, rt.alloc(), &CASES);
-}

@@ -1,7 +1,7 @@
 //! What befalls the core of a shard from outside a run shows in the run: the cores that it plays lie open here.
 ghost use Rattle.std.specs.Prelude.{◌<◌, ◌-◌, ◌^◌};
 
-use lives::{Life, Run, RunShard};
+use lives::{Life, Run};
 use message::Input;
 use script::schedule;
 use std::alloc::Global;
@@ -11,7 +11,6 @@ use world::{Config, Event, Reply};
 
 // Before the first Commit comes, which is event 3, the core of shard 0 is to serve up to 500, with a device call of it armed or
 // with none. It answers `Ok` or fails, and each event has its reply.
-#[derive(Clone, Copy)]
 struct Outside {
     name: &'static str,
     call: Option<u64>,
@@ -77,8 +76,11 @@ fn word_of(reply: &Reply) -> &'static str {
     }
 }
 
-// Whether the core of a shard, which is to serve up to 500, answers as it should.
-fn befalls(shard: &mut RunShard, alloc: Global, outside: &Outside) -> bool {
+// Whether the core of the first shard, which is to serve up to 500, answers as it should.
+fn befalls(run: &mut Run<'_>, alloc: Global, outside: &Outside) -> bool {
+    let Some(shard) = run.shards.shards.first_mut() else {
+        return false;
+    };
     let Life::Up(core) = &mut shard.life else {
         return false;
     };
@@ -101,14 +103,6 @@ fn befalls(shard: &mut RunShard, alloc: Global, outside: &Outside) -> bool {
     }
 }
 
-// The first shard of a run.
-fn first_befalls(run: &mut Run<'_>, alloc: Global, outside: &Outside) -> bool {
-    match run.shards.shards.first_mut() {
-        Some(shard) => befalls(shard, alloc, outside),
-        None => false,
-    }
-}
-
 // The event has a reply of that word.
 fn is_replied(run: &mut Run<'_>, alloc: Global, number: usize, event: &Event, word: &str) -> bool
     requires { number < 2 ^ 64 - 1 }
@@ -126,7 +120,7 @@ fn is_replied(run: &mut Run<'_>, alloc: Global, number: usize, event: &Event, wo
 // Each event has its reply, and the core answers as it should.
 fn are_replied(run: &mut Run<'_>, alloc: Global, events: &[Event], outside: &Outside) -> bool {
     for (number, event) in events.iter().enumerate() {
-        if number == 3 && !first_befalls(run, alloc, outside) {
+        if number == 3 && !befalls(run, alloc, outside) {
             return false;
         }
         match outside.replies.get(number) {

@@ -70,14 +70,7 @@ fn is_refused(alloc: Global, refused: &Refused) -> bool {
     }
 }
 
-#[test]
-fn other_lines_are_refused(rt: HostRuntime) {
-    for refused in &REFUSED {
-        assert!(rt; is_refused(rt.alloc(), refused), "{}", refused.text);
-    }
-}
-
-static EACH_KIND: &str = "shards 2
+const EACH_KIND: &str = "shards 2
 split m
 stride 7
 1 begin 1.1
@@ -102,94 +95,85 @@ stride 7
 4 fail 0 3 advance 0 5 1 9
 ";
 
-fn has_events(alloc: Global, text: &str, count: usize) -> bool {
-    let Ok((config, events)) = schedule(alloc, text) else {
-        return false;
-    };
-    drop(config);
-    let same = events.len() == count;
-    drop(events);
-    same
-}
-
-#[test]
-fn each_kind_of_event_is_read(rt: HostRuntime) {
-    assert!(rt; has_events(rt.alloc(), EACH_KIND, 20));
-}
-
-struct Faulty {
+// A schedule, how many events it has, and of the first one, where it is a stop in another event, the shard, the call, and the shard
+// that the other one names.
+struct Read {
     text: &'static str,
-    at: u8,
-    call: u64,
-    named: u8,
+    count: usize,
+    stop: Option<(u8, u64, u8)>,
 }
 
-// An event within another names its own shard, which is kept beside the first: whether they agree is no matter of the grammar.
-static FAULTY: [Faulty; 6] = [
-    Faulty {
+// Each kind of event is read. An event within another names its own shard, which is kept beside the first: whether they agree is no
+// matter of the grammar.
+static READ: [Read; 7] = [
+    Read {
+        text: EACH_KIND,
+        count: 20,
+        stop: None,
+    },
+    Read {
         text: "shards 2\nsplit m\nstride 0\n2 crash 0 1 old open 0\n",
-        at: 0,
-        call: 1,
-        named: 0,
+        count: 1,
+        stop: Some((0, 1, 0)),
     },
-    Faulty {
+    Read {
         text: "shards 2\nsplit m\nstride 0\n2 crash 0 1 old open 1\n",
-        at: 0,
-        call: 1,
-        named: 1,
+        count: 1,
+        stop: Some((0, 1, 1)),
     },
-    Faulty {
+    Read {
         text: "shards 2\nsplit m\nstride 0\n2 crash 1 3 a5 advance 0 5 1 9\n",
-        at: 1,
-        call: 3,
-        named: 0,
+        count: 1,
+        stop: Some((1, 3, 0)),
     },
-    Faulty {
+    Read {
         text: "shards 2\nsplit m\nstride 0\n2 crash 1 0 new deliver 0 1 9\n",
-        at: 1,
-        call: 0,
-        named: 1,
+        count: 1,
+        stop: Some((1, 0, 1)),
     },
-    Faulty {
+    Read {
         text: "shards 2\nsplit m\nstride 0\n2 fail 1 2 settle 0 1.1 1 9\n",
-        at: 1,
-        call: 2,
-        named: 0,
+        count: 1,
+        stop: Some((1, 2, 0)),
     },
-    Faulty {
+    Read {
         text: "shards 2\nsplit m\nstride 0\n2 fail 0 3 nudge 0 1.1 1 9\n",
-        at: 0,
-        call: 3,
-        named: 0,
+        count: 1,
+        stop: Some((0, 3, 0)),
     },
 ];
 
-// The event has these shards and this call.
-fn keeps(act: &Act, faulty: &Faulty) -> bool {
-    match act {
-        Act::CrashIn(at, call, _, named, _) | Act::FailIn(at, call, named, _) => {
-            at.number() == faulty.at && *call == faulty.call && named.number() == faulty.named
+// The act is this stop in another event, or none.
+fn is_stop(act: &Act, stop: &Option<(u8, u64, u8)>) -> bool {
+    match (act, stop) {
+        (Act::CrashIn(at, call, _, named, _) | Act::FailIn(at, call, named, _), Some(wanted)) => {
+            at.number() == wanted.0 && *call == wanted.1 && named.number() == wanted.2
         }
-        _ => false,
+        (Act::CrashIn(_, _, _, _, _) | Act::FailIn(_, _, _, _), None) => false,
+        _ => stop.is_none(),
     }
 }
 
-fn is_kept(alloc: Global, faulty: &Faulty) -> bool {
-    let Ok((config, events)) = schedule(alloc, faulty.text) else {
+fn is_read(alloc: Global, row: &Read) -> bool {
+    let Ok((config, events)) = schedule(alloc, row.text) else {
         return false;
     };
     drop(config);
-    let kept = match events.first() {
-        Some(event) => keeps(&event.act, faulty),
+    let is_first = match events.first() {
+        Some(event) => is_stop(&event.act, &row.stop),
         None => false,
     };
+    let is_read = is_first && events.len() == row.count;
     drop(events);
-    kept
+    is_read
 }
 
 #[test]
-fn an_event_within_another_keeps_its_shard(rt: HostRuntime) {
-    for faulty in &FAULTY {
-        assert!(rt; is_kept(rt.alloc(), faulty), "{}", faulty.text);
+fn schedules_are_read_or_refused(rt: HostRuntime) {
+    for refused in &REFUSED {
+        assert!(rt; is_refused(rt.alloc(), refused), "{}", refused.text);
+    }
+    for row in &READ {
+        assert!(rt; is_read(rt.alloc(), row), "{}", row.text);
     }
 }

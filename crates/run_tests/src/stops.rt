@@ -1,12 +1,12 @@
 //! A stop at each device call: the call fails, or the shard crashes in it. The first call writes a record behind the gate, the
 //! second makes that durable, the third opens the gate, and the fourth makes that durable.
-use crate::comparing::{Case, compare, compare_all};
+use crate::comparing::{Case, compare};
 use std::alloc::Global;
 use std::process::Abort;
 
 // A call of the first Commit fails. What comes next, at 108, comes to a shard that its device stopped: a look is answered, and
 // since it makes no call, a crash in one comes at once.
-static FAILED: [Case; 8] = [
+pub static FAILED: [Case; 8] = [
     Case {
         name: "the record is not written",
         schedule: "shards 2
@@ -273,11 +273,6 @@ verdict yes
     },
 ];
 
-#[test]
-fn failing_calls(rt: HostRuntime) {
-    compare_all(&rt, rt.alloc(), &FAILED);
-}
-
 // Shard 1 crashes in a call of an advance, and serves up to the same time behind the opening.
 fn crashing(alloc: Global, call: u64, fate: &str) -> String {
     let text = format!(in alloc;
@@ -331,7 +326,6 @@ verdict yes
 ";
 
 // A fate, and from which call on the record is kept.
-#[derive(Clone, Copy)]
 struct Crashed {
     fate: &'static str,
     kept_from: u64,

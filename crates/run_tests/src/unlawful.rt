@@ -8,7 +8,6 @@ use units::{Fault, Reason};
 use world::{Config, Event};
 
 // A list, with the number of the first event that may not happen, where there is one.
-#[derive(Clone, Copy)]
 struct List {
     name: &'static str,
     schedule: &'static str,
@@ -299,32 +298,24 @@ stride 0
     },
 ];
 
-// The events are played, or refused with that number.
-fn are_played(alloc: Global, config: &Config, events: &[Event], first: Option<u64>) -> bool {
-    match play(alloc, config, events) {
+// The events are played and lawful, or neither, where a number is given: that of the first that may not happen.
+fn are_judged(alloc: Global, config: &Config, events: &[Event], first: Option<u64>) -> bool {
+    let refused = match play(alloc, config, events) {
         Ok(report) => {
             drop(report);
-            first.is_none()
+            None
         }
-        Err(Fault::BadRequest(Reason::Unlawful(number))) => first == Some(number),
-        Err(_) => false,
-    }
-}
-
-// The events are lawful where no number is given.
-fn are_judged(alloc: Global, config: &Config, events: &[Event], first: Option<u64>) -> bool {
-    match lawful(alloc, config, events) {
-        Ok(lawful) => lawful == first.is_none(),
-        Err(_) => false,
-    }
+        Err(Fault::BadRequest(Reason::Unlawful(number))) => Some(number),
+        Err(_) => return false,
+    };
+    refused == first && lawful(alloc, config, events) == Ok(first.is_none())
 }
 
 fn is_so(alloc: Global, list: &List) -> bool {
     let Ok((config, events)) = schedule(alloc, list.schedule) else {
         return false;
     };
-    let so = are_played(alloc, &config, &events, list.first)
-        && are_judged(alloc, &config, &events, list.first);
+    let so = are_judged(alloc, &config, &events, list.first);
     drop(config);
     drop(events);
     so
@@ -337,16 +328,8 @@ fn are_so(rt: &impl Abort, alloc: Global, lists: &[List]) {
 }
 
 #[test]
-fn unlawful_lists(rt: HostRuntime) {
+fn lawful_and_unlawful_lists(rt: HostRuntime) {
     are_so(&rt, rt.alloc(), &LISTS);
-}
-
-#[test]
-fn unlawful_lists_with_stops(rt: HostRuntime) {
     are_so(&rt, rt.alloc(), &STOPPING_LISTS);
-}
-
-#[test]
-fn lawful_lists(rt: HostRuntime) {
     are_so(&rt, rt.alloc(), &LAWFUL);
 }

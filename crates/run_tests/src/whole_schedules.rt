@@ -1,5 +1,8 @@
-//! Whole schedules.
+//! Whole schedules, and the test that goes over all tables of runs.
+use crate::cases::CASES;
 use crate::comparing::{Case, compare_all};
+use crate::crashes::CRASHES;
+use crate::stops::FAILED;
 
 // One write at one shard. The first settling comes too early.
 pub const ONE_SHARD: &str = "shards 2
@@ -77,6 +80,9 @@ verdict yes
 ];
 
 #[test]
-fn schedules(rt: HostRuntime) {
+fn whole_runs(rt: HostRuntime) {
     compare_all(&rt, rt.alloc(), &SCHEDULES);
+    compare_all(&rt, rt.alloc(), &CASES);
+    compare_all(&rt, rt.alloc(), &CRASHES);
+    compare_all(&rt, rt.alloc(), &FAILED);
 }

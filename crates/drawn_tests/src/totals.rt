@@ -1,0 +1,64 @@
+//! What drawn lists and their reports have, counted, so that they are not empty.
+use crate::telling::{Kind, Told};
+
+/// Lines of some kinds, values in those of reads and looks, and stops of shards: crashes, failures of calls, and accepted
+/// openings.
+#[derive(Clone, Copy)]
+pub struct Totals {
+    pub acknowledged: u64,
+    pub read: u64,
+    pub looked: u64,
+    pub valued: u64,
+    pub crashed: u64,
+    pub failed: u64,
+    pub opened: u64,
+}
+
+impl Totals {
+    /// Nothing so far.
+    pub fn none() -> Totals {
+        Totals {
+            acknowledged: 0,
+            read: 0,
+            looked: 0,
+            valued: 0,
+            crashed: 0,
+            failed: 0,
+            opened: 0,
+        }
+    }
+
+    /// Counts the lines among rows.
+    pub fn count(&mut self, told: &[Told]) {
+        for one in told {
+            let count = match one.kind {
+                Kind::Ack => &mut self.acknowledged,
+                Kind::Read => &mut self.read,
+                Kind::Look => &mut self.looked,
+                _ => continue,
+            };
+            *count = count.saturating_add(1);
+            if one.value > 0 {
+                self.valued = self.valued.saturating_add(1);
+            }
+        }
+    }
+
+    /// What there is too little of, to judge.
+    pub fn scarce(&self) -> &'static str {
+        for (count, least, name) in [
+            (self.acknowledged, 100, "acknowledgements"),
+            (self.read, 10, "reads"),
+            (self.looked, 300, "looks"),
+            (self.valued, 100, "values"),
+            (self.crashed, 100, "crashes"),
+            (self.failed, 30, "failing calls"),
+            (self.opened, 100, "openings"),
+        ] {
+            if count < least {
+                return name;
+            }
+        }
+        ""
+    }
+}
