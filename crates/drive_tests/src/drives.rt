@@ -345,6 +345,12 @@ impl Clock for Stopped {
 const LOST: Row = Row {
     name: "one transaction",
     transactions: 1,
+    comes: Comes::Driven {
+        tried: 1,
+        committed: 1,
+        looks: 1,
+        run: 1,
+    },
     ..ONE_WORKER
 };
 
