@@ -11,9 +11,14 @@ use units::Fault;
 
 /// The messages that were put out, each with its number, from 0. A network may deliver each never, once or again, in any
 /// order, so none is ever taken out or altered.
-#[derive(Drop)]
 pub struct Bag {
     envelopes: Vec<Envelope>,
+}
+
+impl Drop for Bag {
+    fn drop(self) {
+        let Bag { envelopes: _ } = self;
+    }
 }
 
 impl Model for Bag {

@@ -20,13 +20,23 @@ use std::sync::Arc;
 use units::{Fault, Key, Seen, Stamp};
 
 /// One who looks at a board.
-#[derive(Drop)]
 pub struct Viewer {
     reader: Option<Reader<BoardCopy, SeenStates, OneList>>,
     home: Arc<Home, Global>,
     // The longest list that was told, as the two copies have had it.
     first: Beginning<BoardEntry>,
     second: Beginning<BoardEntry>,
+}
+
+impl Drop for Viewer {
+    fn drop(self) {
+        let Viewer {
+            reader: _,
+            home: _,
+            first: _,
+            second: _,
+        } = self;
+    }
 }
 
 impl Model for Viewer {

@@ -10,11 +10,20 @@ use units::{Capacity, Fault};
 
 /// What a shard's opening found in its log, and a page for each input that the shard accepted since. The space for all pages
 /// is taken when the book is begun.
-#[derive(Drop)]
 pub struct Book {
     capacity: Capacity,
     found: Vec<Record>,
     pages: Vec<Page>,
+}
+
+impl Drop for Book {
+    fn drop(self) {
+        let Book {
+            capacity: _,
+            found: _,
+            pages: _,
+        } = self;
+    }
 }
 
 impl Model for Book {

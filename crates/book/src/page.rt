@@ -9,11 +9,20 @@ use truetime::Reading;
 use units::Fault;
 
 /// An input that was accepted, with the reading at which it came and what was put out.
-#[derive(Drop)]
 pub struct Page {
     reading: Reading,
     input: Input,
     outbox: Outbox,
+}
+
+impl Drop for Page {
+    fn drop(self) {
+        let Page {
+            reading: _,
+            input: _,
+            outbox: _,
+        } = self;
+    }
 }
 
 impl Model for Page {

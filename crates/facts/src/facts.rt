@@ -17,7 +17,6 @@ use units::{Fault, Install, ShardNo, Stamp, TxnId};
 
 /// What a shard's log determines: the epoch, the greatest timestamp, how each transaction stands, and the versions in the
 /// log's order. It learns the records one by one, in the order of the log. A look-up goes by the id's hash.
-#[derive(Drop)]
 pub struct Facts {
     shard: ShardNo,
     epoch: u64,
@@ -25,6 +24,18 @@ pub struct Facts {
     // In the order in which the transactions came.
     statuses: IndexMap<TxnId, Status>,
     installs: Vec<Install>,
+}
+
+impl Drop for Facts {
+    fn drop(self) {
+        let Facts {
+            shard: _,
+            epoch: _,
+            floor: _,
+            statuses: _,
+            installs: _,
+        } = self;
+    }
 }
 
 impl Model for Facts {

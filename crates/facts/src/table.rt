@@ -37,8 +37,8 @@ pub fn install(installs: &mut Vec<Install>, former: Option<Status>, at: Stamp)
     ensures { installs.new.items ≡ installs.old.items ++ installs_at (meant former) (Some at) }
 {
     match former {
-        Some(Status::Prepared(prepared)) => install_writes(installs, prepared.writes, at),
-        Some(Status::Decided(committed)) => install_writes(installs, committed.writes, at),
+        Some(Status::Prepared(prepared)) => install_writes(installs, prepared.into_writes(), at),
+        Some(Status::Decided(committed)) => install_writes(installs, committed.into_writes(), at),
         _ => {}
     }
 }

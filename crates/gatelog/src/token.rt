@@ -11,10 +11,15 @@ use std::marker::Model;
 use units::Fault;
 
 /// A record that a log holds, and where.
-#[derive(Drop)]
 pub struct Entry {
     offset: u64,
     item: Record,
+}
+
+impl Drop for Entry {
+    fn drop(self) {
+        let Entry { offset: _, item: _ } = self;
+    }
 }
 
 impl Model for Entry {

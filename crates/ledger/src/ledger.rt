@@ -19,10 +19,18 @@ use versions::Versions;
 const MOST_INSTALLS: usize = 128;
 
 /// The facts of a shard's log, and its versions a second time, by key, for the look-ups. The two give the same values.
-#[derive(Drop)]
 pub struct Ledger {
     facts: Facts,
     versions: Versions,
+}
+
+impl Drop for Ledger {
+    fn drop(self) {
+        let Ledger {
+            facts: _,
+            versions: _,
+        } = self;
+    }
 }
 
 impl Model for Ledger {

@@ -13,11 +13,20 @@ use units::{Fault, ShardNo, TxnId};
 
 /// The inboxes of all nodes, by shard, and of all workers, and who runs which transaction. A letter to nobody, to one who is gone, or
 /// for which there is no memory, is lost.
-#[derive(Drop)]
 pub struct Network {
     nodes: Vec<Sender<Letter>>,
     workers: Vec<Sender<Message>>,
     sessions: Mutex<Sessions>,
+}
+
+impl Drop for Network {
+    fn drop(self) {
+        let Network {
+            nodes: _,
+            workers: _,
+            sessions: _,
+        } = self;
+    }
 }
 
 /// The inboxes of a network, to be read.

@@ -10,7 +10,6 @@ pub struct Read {
 }
 
 /// A session asks a part to promise its share; the coordinator decides.
-#[derive(Drop)]
 pub struct Prepare {
     pub txn: TxnId,
     pub coordinator: ShardNo,
@@ -18,13 +17,34 @@ pub struct Prepare {
     pub writes: Writes,
 }
 
+impl Drop for Prepare {
+    fn drop(self) {
+        let Prepare {
+            txn: _,
+            coordinator: _,
+            reads: _,
+            writes: _,
+        } = self;
+    }
+}
+
 /// A session asks the coordinator, which is the least of the parts, to commit.
-#[derive(Drop)]
 pub struct Commit {
     pub txn: TxnId,
     pub parts: Parts,
     pub reads: Reads,
     pub writes: Writes,
+}
+
+impl Drop for Commit {
+    fn drop(self) {
+        let Commit {
+            txn: _,
+            parts: _,
+            reads: _,
+            writes: _,
+        } = self;
+    }
 }
 
 /// A session gives a transaction up.
@@ -57,20 +77,38 @@ pub struct Ask {
 }
 
 /// What a read gave: the latest value, `None` where there is none, or a refusal.
-#[derive(Drop)]
 pub enum Answer {
     Holds(Option<Value>),
     Refused,
 }
 
+impl Drop for Answer {
+    fn drop(self) {
+        match self {
+            Answer::Holds(_) | Answer::Refused => {}
+        }
+    }
+}
+
 /// A shard answers a read, in its epoch.
-#[derive(Drop)]
 pub struct ReadAnswer {
     pub from: ShardNo,
     pub txn: TxnId,
     pub key: Key,
     pub epoch: Epoch,
     pub answer: Answer,
+}
+
+impl Drop for ReadAnswer {
+    fn drop(self) {
+        let ReadAnswer {
+            from: _,
+            txn: _,
+            key: _,
+            epoch: _,
+            answer: _,
+        } = self;
+    }
 }
 
 /// The coordinator tells a session how its transaction ended: at a timestamp, or `None` for aborted.
@@ -81,7 +119,6 @@ pub struct Done {
 }
 
 /// A message. Each names its transaction.
-#[derive(Drop)]
 pub enum Message {
     Read(Read),
     Prepare(Prepare),
@@ -92,6 +129,22 @@ pub enum Message {
     Ask(Ask),
     ReadAnswer(ReadAnswer),
     Done(Done),
+}
+
+impl Drop for Message {
+    fn drop(self) {
+        match self {
+            Message::Prepare(prepare) => drop(prepare),
+            Message::Commit(commit) => drop(commit),
+            Message::ReadAnswer(answer) => drop(answer),
+            Message::Read(_)
+            | Message::GiveUp(_)
+            | Message::Vote(_)
+            | Message::Outcome(_)
+            | Message::Ask(_)
+            | Message::Done(_) => {}
+        }
+    }
 }
 
 /// Where a message goes.
@@ -109,7 +162,6 @@ pub struct Envelope {
 }
 
 /// What a shard is given: a message, or one of its own chores.
-#[derive(Drop)]
 pub enum Input {
     Deliver(Message),
     /// The oldest wait that would be granted now goes on.
@@ -120,4 +172,13 @@ pub enum Input {
     Advance(Stamp),
     /// A prepared transaction's coordinator is asked how it ended.
     Nudge(TxnId),
+}
+
+impl Drop for Input {
+    fn drop(self) {
+        match self {
+            Input::Deliver(message) => drop(message),
+            Input::Resume | Input::Settle(_) | Input::Advance(_) | Input::Nudge(_) => {}
+        }
+    }
 }

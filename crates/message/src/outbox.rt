@@ -6,9 +6,14 @@ use std::alloc::Global;
 use std::marker::Model;
 
 /// The messages that a step puts out, in order.
-#[derive(Drop)]
 pub struct Outbox {
     envelopes: Vec<Envelope>,
+}
+
+impl Drop for Outbox {
+    fn drop(self) {
+        let Outbox { envelopes: _ } = self;
+    }
 }
 
 impl Model for Outbox {

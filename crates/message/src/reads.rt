@@ -8,10 +8,15 @@ use units::{Epoch, Fault, Keys};
 
 /// The keys that a transaction read at a shard, with the epoch of the shard in which it read them. The epoch is 0 exactly
 /// where there is no key.
-#[derive(Drop)]
 pub struct Reads {
     epoch: u64,
     keys: Keys,
+}
+
+impl Drop for Reads {
+    fn drop(self) {
+        let Reads { epoch: _, keys: _ } = self;
+    }
 }
 
 impl Model for Reads {

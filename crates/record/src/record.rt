@@ -5,7 +5,6 @@ use std::alloc::Global;
 use units::{Epoch, Fault, Keys, Parts, ShardNo, Stamp, TxnId, Writes};
 
 /// A transaction's part that a shard has promised at a timestamp, and the shard that decides.
-#[derive(Drop)]
 pub struct Prepared {
     pub txn: TxnId,
     pub coordinator: ShardNo,
@@ -14,15 +13,70 @@ pub struct Prepared {
     pub writes: Writes,
 }
 
+impl Drop for Prepared {
+    fn drop(self) {
+        let Prepared {
+            txn: _,
+            coordinator: _,
+            at: _,
+            reads: _,
+            writes: _,
+        } = self;
+    }
+}
+
+impl Prepared {
+    /// Its writes.
+    pub fn into_writes(self) -> Writes
+        ensures { result ≡ self.writes }
+    {
+        let Prepared {
+            txn: _,
+            coordinator: _,
+            at: _,
+            reads: _,
+            writes,
+        } = self;
+        writes
+    }
+}
+
 /// A commit decision at a timestamp, with the shards that take part and what was read and written at this one. It stands
 /// in the log of the least of its parts.
-#[derive(Drop)]
 pub struct Committed {
     pub txn: TxnId,
     pub at: Stamp,
     pub parts: Parts,
     pub reads: Keys,
     pub writes: Writes,
+}
+
+impl Drop for Committed {
+    fn drop(self) {
+        let Committed {
+            txn: _,
+            at: _,
+            parts: _,
+            reads: _,
+            writes: _,
+        } = self;
+    }
+}
+
+impl Committed {
+    /// Its writes.
+    pub fn into_writes(self) -> Writes
+        ensures { result ≡ self.writes }
+    {
+        let Committed {
+            txn: _,
+            at: _,
+            parts: _,
+            reads: _,
+            writes,
+        } = self;
+        writes
+    }
 }
 
 /// A record of a shard's log: an opening with its epoch, a ceiling of the served time, a promise, a commit decision, an

@@ -8,7 +8,6 @@ use crate::tear::{Fates, make_changes, put};
 use disk::Fate;
 use std::alloc::{AllocError, Global};
 
-#[derive(Drop)]
 pub struct Buffers {
     /// What the last sync left.
     pub durable: Vec<u8>,
@@ -24,6 +23,17 @@ pub struct Buffers {
     ghost durable_fits: { furthest changes.items ≤ vec_capacity durable },
     ghost seen_fits: { furthest changes.items ≤ vec_capacity seen },
     ghost copy_fits: { vec_len durable ≤ vec_capacity seen },
+}
+
+impl Drop for Buffers {
+    fn drop(self) {
+        let Buffers {
+            durable: _,
+            changes: _,
+            store: _,
+            seen: _,
+        } = self;
+    }
 }
 
 impl Buffers {

@@ -9,12 +9,22 @@ use std::alloc::Global;
 use units::Fault;
 
 /// A file in memory. It fails where it finds no memory for a change, and where it is told to.
-#[derive(Drop)]
 pub struct SimDisk {
     buffers: Buffers,
     past: Past<Buffers>,
     plan: FailurePlan,
     failures: Count,
+}
+
+impl Drop for SimDisk {
+    fn drop(self) {
+        let SimDisk {
+            buffers: _,
+            past: _,
+            plan: _,
+            failures: _,
+        } = self;
+    }
 }
 
 impl SimDisk {

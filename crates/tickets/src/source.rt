@@ -10,9 +10,14 @@ use std::marker::Model;
 use units::{Fault, Reason};
 
 /// The source, which threads share. A contract sees which one it is.
-#[derive(Drop)]
 pub struct Tickets {
     table: Table<u8, Hand, (), Counter, Global>,
+}
+
+impl Drop for Tickets {
+    fn drop(self) {
+        let Tickets { table: _ } = self;
+    }
 }
 
 impl Model for Tickets {
@@ -27,10 +32,15 @@ impl Model for Tickets {
 }
 
 /// The right to draw.
-#[derive(Drop)]
 pub struct Drawer {
     seat: Seat<u8, Hand>,
     draws: u64,
+}
+
+impl Drop for Drawer {
+    fn drop(self) {
+        let Drawer { seat: _, draws: _ } = self;
+    }
 }
 
 impl Model for Drawer {

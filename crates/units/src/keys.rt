@@ -8,9 +8,14 @@ use std::alloc::Global;
 use std::marker::Model;
 
 /// At most 128 keys, strictly ascending by bytes.
-#[derive(Drop)]
 pub struct Keys {
     keys: Vec<Key>,
+}
+
+impl Drop for Keys {
+    fn drop(self) {
+        let Keys { keys: _ } = self;
+    }
 }
 
 impl Model for Keys {

@@ -9,12 +9,21 @@ pub enum Seen {
 }
 
 /// A line of a report, in the order of events. The last number of `Begin` and `Ack` is the event's.
-#[derive(Drop)]
 pub enum Line {
     Begin(TxnId, u64),
     Ack(TxnId, Stamp, u64),
     Read(TxnId, Key, Option<Value>),
     Look(Key, Stamp, Option<Value>),
+}
+
+impl Drop for Line {
+    fn drop(self) {
+        match self {
+            Line::Begin(_, _) | Line::Ack(_, _, _) => {}
+            Line::Read(_, _, value) => drop(value),
+            Line::Look(_, _, value) => drop(value),
+        }
+    }
 }
 
 /// The verdict on logs and lines: all is well, or the first fault. An id is not whole, or its acknowledged commit is

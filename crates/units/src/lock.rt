@@ -22,9 +22,14 @@ pub struct Lock {
 }
 
 /// Ids of transactions, in ascending order.
-#[derive(Drop)]
 pub struct Ids {
     ids: Vec<TxnId>,
+}
+
+impl Drop for Ids {
+    fn drop(self) {
+        let Ids { ids: _ } = self;
+    }
 }
 
 impl Model for Ids {

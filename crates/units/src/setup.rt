@@ -99,12 +99,22 @@ pub enum Book {
 }
 
 /// What a shard is told when it is opened: its number, the splits of all shards, its stride and its book.
-#[derive(Drop)]
 pub struct Setup {
     pub shard: ShardNo,
     pub splits: Splits,
     pub stride: Stride,
     pub book: Book,
+}
+
+impl Drop for Setup {
+    fn drop(self) {
+        let Setup {
+            shard: _,
+            splits: _,
+            stride: _,
+            book: _,
+        } = self;
+    }
 }
 
 impl Setup {

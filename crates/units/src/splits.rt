@@ -9,9 +9,14 @@ use std::alloc::Global;
 use std::marker::Model;
 
 /// The keys that part the shards, at most 15, strictly ascending. There is one shard more than splits.
-#[derive(Drop)]
 pub struct Splits {
     keys: Vec<Key>,
+}
+
+impl Drop for Splits {
+    fn drop(self) {
+        let Splits { keys: _ } = self;
+    }
 }
 
 impl Model for Splits {

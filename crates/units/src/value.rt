@@ -6,9 +6,14 @@ use std::alloc::Global;
 use std::marker::Model;
 
 /// A value of at most 4,096 bytes.
-#[derive(Drop)]
 pub struct Value {
     bytes: Vec<u8>,
+}
+
+impl Drop for Value {
+    fn drop(self) {
+        let Value { bytes: _ } = self;
+    }
 }
 
 impl Model for Value {

@@ -36,9 +36,14 @@ pub struct Install {
 }
 
 /// At most 128 writes, by strictly ascending keys.
-#[derive(Drop)]
 pub struct Writes {
     writes: Vec<Write>,
+}
+
+impl Drop for Writes {
+    fn drop(self) {
+        let Writes { writes: _ } = self;
+    }
 }
 
 impl Model for Writes {

@@ -14,7 +14,6 @@ use std::marker::Model;
 use units::{Fault, Install, Key, Stamp, Value, Write, Writes};
 
 /// The versions of keys. Contracts see them ascending by key and timestamp, beside the room for more.
-#[derive(Drop)]
 pub struct Versions {
     // As they were installed.
     installs: Vec<Install>,
@@ -22,6 +21,16 @@ pub struct Versions {
     places: Places,
     // For how many more both have room.
     room: usize,
+}
+
+impl Drop for Versions {
+    fn drop(self) {
+        let Versions {
+            installs: _,
+            places: _,
+            room: _,
+        } = self;
+    }
 }
 
 impl Model for Versions {

@@ -33,13 +33,17 @@ impl Reads {
     pub fn ask(&mut self, tx: &mut Tx<'_, Open>, keys: &[Key]) -> Result<(), Fault> {
         for key in keys {
             let Envelope { to, message } = tx.read(*key)?;
-            match message {
-                Message::Read(read) => self.asked.push(Asked {
+            let read = match &message {
+                Message::Read(read) => Some(*read),
+                _ => None,
+            };
+            drop(message);
+            if let Some(read) = read {
+                self.asked.push(Asked {
                     to,
                     read,
                     answer: None,
-                })?,
-                other => drop(other),
+                })?;
             }
         }
         Ok(())

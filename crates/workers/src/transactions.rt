@@ -2,7 +2,7 @@
 use crate::reads::Reads;
 use crate::wire::{Hearing, Wire};
 use crate::worker::Worker;
-use message::Done;
+use message::{Done, Message};
 use progress::{Ended, Watch};
 use session::{Closing, Finished, Open, Phase, Tx};
 use std::sync::Wait;
@@ -80,14 +80,16 @@ impl<'s, R: Wait + time::Clock> Wire<'_, 's, R> {
                 return Ok(true);
             }
             match self.hear() {
-                Hearing::Answer(answer) => {
-                    let goes_on = reads.take(self.alloc, tx, &answer);
-                    drop(answer);
+                Hearing::Heard(message) => {
+                    let goes_on = match &message {
+                        Message::ReadAnswer(answer) => reads.take(self.alloc, tx, answer),
+                        _ => Ok(true),
+                    };
+                    drop(message);
                     if !goes_on? {
                         return Ok(false);
                     }
                 }
-                Hearing::Done(_) | Hearing::Other => {}
                 Hearing::Silence => reads.send(self.rt, self.network),
                 Hearing::Enough => return Ok(false),
             }
@@ -132,13 +134,17 @@ impl<'s, R: Wait + time::Clock> Wire<'_, 's, R> {
     fn await_done(&mut self, tx: &Tx<'s, Closing>, reads: &Reads) -> Result<Option<Done>, Fault> {
         for _heard in self.rt.forever() {
             match self.hear() {
-                Hearing::Done(done) => {
-                    if reads.txn() == Some(done.txn) {
-                        return Ok(Some(done));
+                Hearing::Heard(message) => {
+                    let done = match &message {
+                        Message::Done(done) => Some(*done),
+                        _ => None,
+                    };
+                    drop(message);
+                    match done {
+                        Some(done) if reads.txn() == Some(done.txn) => return Ok(Some(done)),
+                        _ => {}
                     }
                 }
-                Hearing::Answer(answer) => drop(answer),
-                Hearing::Other => {}
                 Hearing::Silence => {
                     let outbox = tx.again(self.alloc)?;
                     self.send_all(outbox);

@@ -1,7 +1,7 @@
 //! How a worker sends and hears.
 use crossbeam_channel::Receiver;
 use letters::Network;
-use message::{Done, Message, Outbox, ReadAnswer};
+use message::{Message, Outbox};
 use std::alloc::Global;
 use std::sync::Wait;
 use std::time;
@@ -17,12 +17,9 @@ pub struct Wire<'r, 's, R> {
     pub silences: u32,
 }
 
-/// What a worker hears: an answer, an end, or another message, which is nothing to it; nothing for 20 milliseconds, or that for the
-/// hundredth time in a transaction.
+/// What a worker hears: a message; nothing for 20 milliseconds, or that for the hundredth time in a transaction.
 pub enum Hearing {
-    Answer(ReadAnswer),
-    Done(Done),
-    Other,
+    Heard(Message),
     Silence,
     Enough,
 }
@@ -31,12 +28,7 @@ impl<R: Wait + time::Clock> Wire<'_, '_, R> {
     /// Waits for a message.
     pub fn hear(&mut self) -> Hearing {
         match self.inbox.recv_timeout(self.rt, Duration::from_millis(20)) {
-            Ok(Message::ReadAnswer(answer)) => Hearing::Answer(answer),
-            Ok(Message::Done(done)) => Hearing::Done(done),
-            Ok(other) => {
-                drop(other);
-                Hearing::Other
-            }
+            Ok(message) => Hearing::Heard(message),
             Err(_) => {
                 self.silences = self.silences.saturating_add(1);
                 if self.silences >= 100 {
