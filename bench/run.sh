@@ -9,7 +9,7 @@ made=$(mktemp -d "${TMPDIR:-/tmp}/bench.XXXXXX")
 
 # The crates that the core of a shard stands on, the lowest first.
 crates="units truetime counts waiting disk simdisk record gatelog message protocol locks facts versions safetime rows memory
-participant coordinator ceiling recovery serving book shard findings inspector growing board"
+participant coordinator ceiling recovery book shard inspector growing board"
 
 externs() {
     for library in "$1"/lib*.rlib; do

@@ -9,6 +9,7 @@ mod making;
 mod press;
 mod publisher;
 mod rule;
+mod snapshot;
 mod told;
 mod viewer;
 
@@ -16,5 +17,6 @@ pub use entry::{BoardEntry, copy_install};
 pub use home::Home;
 pub use making::{MOST_VIEWERS, start};
 pub use publisher::Publisher;
+pub use snapshot::Snapshot;
 pub use told::Told;
 pub use viewer::Viewer;

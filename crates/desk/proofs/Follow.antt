@@ -10,8 +10,8 @@ use Rattle.board.specs.declared.entry.BoardEntry.{BoardEntry}
 use Rattle.board.specs.declared.entry.BoardEntry.TheVariants.{Installed, Safe}
 use Rattle.board.specs.Board.{versions_on, safe_from, safe_on, is_past, is_rising, may_follow, is_board, first_entries}
 use Rattle.board.proofs.Longer.{follows_install, follows_safe}
-use Rattle.serving.specs.Showable.{rises_by_key}
-use Rattle.serving.proofs.Rising.{Alike, alike_more, below, below_more, rise_parts}
+use Rattle.protocol.specs.Showable.{rises_by_key}
+use Rattle.protocol.proofs.Rising.{Alike, alike_more, below, below_more, rise_parts}
 use Rattle.desk.specs.InStep.{as_entries}
 
 -- the versions before some entries and those among them, the last first

@@ -10,7 +10,7 @@ use Rattle.board.specs.declared.entry.BoardEntry.TheVariants.{Installed, Safe}
 use Rattle.board.specs.Board.{versions_on, safe_on, is_board, first_entries}
 use Rattle.board.specs.Views.{Publishing, Published, PublishesAll}
 use Rattle.board.proofs.Longer.{front_is_board, versions_on-more, safe_from-install, safe_from-safe}
-use Rattle.serving.specs.Showable.{rises_by_key}
+use Rattle.protocol.specs.Showable.{rises_by_key}
 use Rattle.desk.proofs.Follow.{board_news, board_safe, opening_is_board, as_entries-more, versions_on-entries, safe_from-more_entries, take_drop}
 use Rattle.desk.proofs.Follow.{entries_follow}
 use Rattle.desk.specs.InStep.{InStep, ShowsAll, as_entries}

@@ -17,10 +17,10 @@ use Rattle.protocol.specs.Step.{IsInLimit, facts_after, plan_input, step_within,
 use Rattle.shard.specs.On.{CoreView, IsDone, StandsAsBefore, step_of}
 use Rattle.shard.specs.Look.{safe_at}
 use Rattle.board.specs.declared.entry.BoardEntry.{BoardEntry}
-use Rattle.serving.specs.Showable.{IsShowable, WritesAscend, KeepsShowable, StepKeepsShowable, added}
+use Rattle.protocol.specs.Showable.{IsShowable, WritesAscend, KeepsShowable, StepKeepsShowable, added}
 use Rattle.desk.specs.InStep.{InStep}
 use Rattle.desk.proofs.InStep.{count_kept, same_kept, lawful_kept}
-use Rattle.serving.proofs.Serves.{grows}
+use Rattle.protocol.proofs.Serves.{grows}
 
 module _ {D : Type 0} (file : D → File) (old new : CoreView D) (now : Interval) (i : Input) (law : StepKeepsShowable) (limit : IsInLimit i)
     (ordered : WritesAscend i)

@@ -14,7 +14,7 @@ use board::{Publisher, Told, Viewer, copy_install, start};
 use book::Book;
 use disk::Disk;
 use message::{Input, Outbox};
-use serving::{step_keeps_showable, writes_ascend};
+use protocol::{step_keeps_showable, writes_ascend};
 use shard::Core;
 use std::alloc::Global;
 use std::sync::Wait;

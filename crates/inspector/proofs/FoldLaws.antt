@@ -4,7 +4,7 @@ use Rattle.std.proofs.Common.{◌≡◌, ℕ, Bool, true, false, cond, List, [],
 use Rattle.units.specs.Keys.{Bytes}
 use Rattle.units.specs.declared.writes.Write.{Write}
 use Rattle.record.specs.History.{Map, Txn, applied, put_all, put, serial, before, upto, serial_before, empty}
-use Rattle.findings.specs.Versions.{shown, written}
+use Rattle.inspector.specs.Versions.{shown, written}
 
 written_all : (ws : List Write) (m : Map) (k : Bytes) → put_all ws m k ≡ written ws k (m k)
 written_all [] m k = refl

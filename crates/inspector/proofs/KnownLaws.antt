@@ -14,13 +14,13 @@ use Rattle.units.proofs.IdLaws.{same_id_comm}
 use Rattle.record.specs.History.{Txn, before, find_txn, serial, serial_before, upto}
 use Rattle.record.specs.Verdict.{first_fault, first_lost, first_wrong_order, first_wrong_read, is_in_at, is_late_ack, late_acks, line_reads_right}
 use Rattle.record.specs.Verdict.{lost_by, same_value}
-use Rattle.findings.specs.Versions.{shown}
-use Rattle.findings.specs.Known.{HaveSame, of_id}
+use Rattle.inspector.specs.Versions.{shown}
+use Rattle.inspector.specs.Known.{HaveSame, of_id}
 use Rattle.inspector.specs.Faults.{line_fault}
 use Rattle.inspector.proofs.FoldLaws.{before_is, upto_is}
-use Rattle.findings.proofs.KnownLaws.{any_of_id}
-use Rattle.findings.proofs.SerialOrder.{serial_ascends, serial_order}
-use Rattle.findings.proofs.SortedLists.{one_ascends, stable_sorted}
+use Rattle.inspector.proofs.FoundLaws.{any_of_id}
+use Rattle.inspector.proofs.SerialOrder.{serial_ascends, serial_order}
+use Rattle.inspector.proofs.SortedLists.{one_ascends, stable_sorted}
 
 same_find : (us vs : List Txn) → HaveSame us vs → (t : Id) → find_txn us t ≡ find_txn vs t
 same_find us vs same t = ap (λ (l : List Txn). head l) (same t)

@@ -3,3 +3,15 @@ pub mod TornLaws
 pub mod KnownLaws
 pub mod AgeLaws
 pub mod FoldLaws
+pub mod FitsByRecord
+pub mod VersionLaws
+pub mod SerialOrder
+pub mod SortedLists
+pub mod HistoryByEntries
+pub mod WholeByEntries
+pub mod Numbers
+pub mod IdRuns
+pub mod FoundLaws
+pub mod AckLaws
+pub mod Sorting
+pub mod TallyLaws

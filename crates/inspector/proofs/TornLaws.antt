@@ -11,8 +11,8 @@ use Rattle.record.specs.Records.{id_in}
 use Rattle.record.specs.Verdict.{first_torn}
 use Rattle.record.specs.Whole.{is_whole}
 use Rattle.record.specs.declared.record.Record.{Record}
-use Rattle.findings.specs.Entries.{About, AscendsByTxn, about_in, entries, logs_from, of_txn}
-use Rattle.findings.proofs.WholeByEntries.{whole_by_entries}
+use Rattle.inspector.specs.Entries.{About, AscendsByTxn, about_in, entries, logs_from, of_txn}
+use Rattle.inspector.proofs.WholeByEntries.{whole_by_entries}
 
 -- ---- ids that rise are told by their members
 

@@ -7,12 +7,12 @@ use Rattle.std.proofs.lemmas.Bool.Decides.{nat_tests}
 use Rattle.units.specs.Fronts.{front}
 use Rattle.units.specs.Keys.{Bytes}
 use Rattle.record.specs.History.{Txn, serial, serial_before}
-use Rattle.findings.specs.Ascending.{AscendsBy}
-use Rattle.findings.specs.Versions.{shown}
-use Rattle.findings.specs.Versions.{PlacedWrite, before_place, last_value, placed_for, placed_from}
-use Rattle.findings.proofs.SerialOrder.{serial_ascends, serial_order}
-use Rattle.findings.proofs.Sorting.{before_partitioned}
-use Rattle.findings.proofs.VersionLaws.{Falls, shown_is}
+use Rattle.inspector.specs.Ascending.{AscendsBy}
+use Rattle.inspector.specs.Versions.{shown}
+use Rattle.inspector.specs.Versions.{PlacedWrite, before_place, last_value, placed_for, placed_from}
+use Rattle.inspector.proofs.SerialOrder.{serial_ascends, serial_order}
+use Rattle.inspector.proofs.Sorting.{before_partitioned}
+use Rattle.inspector.proofs.VersionLaws.{Falls, shown_is}
 
 pub serial_is_ascending : (h ts : List Txn) → ts ≡ serial h → AscendsBy serial_before ts
 serial_is_ascending h ts is = subst (AscendsBy serial_before) (sym is) (serial_ascends h)

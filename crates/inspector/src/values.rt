@@ -5,11 +5,12 @@ ghost use Rattle.units.specs.Lists.{same_numbers};
 ghost use Rattle.record.specs.History.{serial_before};
 ghost use Rattle.record.specs.Verdict.{same_value};
 ghost use Rattle.units.specs.Keys.{Bytes};
-ghost use Rattle.findings.specs.Ascending.{AscendsBy};
-ghost use Rattle.findings.specs.Versions.{shown};
-ghost use Rattle.findings.specs.Versions.{AscendsByKey, placed_for, placed_from};
+ghost use Rattle.inspector.specs.Ascending.{AscendsBy};
+ghost use Rattle.inspector.specs.Versions.{shown};
+ghost use Rattle.inspector.specs.Versions.{AscendsByKey, placed_for, placed_from};
 
-use findings::{Transaction, Version, value_before_place};
+use crate::history::Transaction;
+use crate::versions::{Version, value_before_place};
 use units::{Key, Stamp, Value};
 
 /// A key's value of the transactions before one, in the serial order.

@@ -11,5 +11,5 @@ mod verdicts;
 pub use boards::{install, look};
 pub use locking::shared_and_exclusive;
 pub use reading::decode;
-pub use serving::needed;
+pub use protocol::needed;
 pub use verdicts::inspect;

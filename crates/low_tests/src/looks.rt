@@ -4,7 +4,7 @@ ghost use Rattle.board.specs.declared.entry.BoardEntry.TheVariants.{Safe};
 
 use board::{Publisher, Viewer, start};
 use made::{key, stamp};
-use snapshot::Snapshot;
+use board::Snapshot;
 use std::alloc::Global;
 use std::sync::Wait;
 use std::thread;

@@ -29,3 +29,7 @@ mod ShardSteps
 pub mod StatusChanges
 pub mod StepSound
 pub mod WithinLimit
+pub mod Rising
+pub mod Serves
+pub mod Ascending
+pub mod Taken

@@ -9,3 +9,4 @@ pub mod Replay
 pub mod Rows
 pub mod Sound
 pub mod Step
+pub mod Showable

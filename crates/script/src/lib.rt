@@ -1,10 +1,13 @@
-//! Schedules are played and judged, and reports are printed with the verdict on them.
+//! Schedules are read, played and judged, and reports are printed with the verdict on them.
 #![tactic(auto)]
 
+mod events;
+mod forms;
 mod plays;
+mod reader;
 mod reports;
 
 pub use plays::{Played, judged};
+pub use reader::schedule;
 pub use reports::report;
-pub use schedules::schedule;
 pub use texts::lines;

@@ -15,7 +15,7 @@ use Rattle.memory.specs.Carry.{IsFit, MayFollow, MayInstall, writes_installed}
 use Rattle.memory.specs.Kept.{Kept}
 use Rattle.memory.specs.Plans.{plan_of}
 use Rattle.memory.specs.declared.plan.Plan.{Plan}
-use Rattle.serving.specs.Showable.{IsShowable}
+use Rattle.protocol.specs.Showable.{IsShowable}
 use Rattle.shard.specs.Due.{IsDue}
 use Rattle.units.specs.declared.setup.Setup.{Setup}
 use Rattle.disk.specs.File.{File, surface}

@@ -22,7 +22,7 @@ use Rattle.memory.specs.Carry.{IsFit, MayFollow, MayInstall, writes_installed}
 use Rattle.memory.specs.Kept.{Kept, start_of}
 use Rattle.memory.specs.Plans.{plan_of}
 use Rattle.memory.specs.declared.plan.Plan.{Plan as CodePlan}
-use Rattle.serving.specs.Showable.{IsShowable}
+use Rattle.protocol.specs.Showable.{IsShowable}
 use Rattle.shard.specs.Due.{IsDue}
 
 may_follow : (shard : ℕ) (facts : Facts) (logged : Option Record) → ((r : Record) → logged ≡ Some r → MayFollow shard facts (Some r)) →

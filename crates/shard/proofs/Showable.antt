@@ -19,7 +19,7 @@ use Rattle.memory.specs.Kept.{Kept, start_of}
 use Rattle.memory.specs.Plans.{plan_of}
 use Rattle.memory.specs.declared.plan.Plan.{Plan}
 use Rattle.recovery.specs.Recovered.{items}
-use Rattle.serving.specs.Showable.{IsShowable, KeepsShowable, StepKeepsShowable, TakenIsShowable, WritesAscend, record_ascends}
+use Rattle.protocol.specs.Showable.{IsShowable, KeepsShowable, StepKeepsShowable, TakenIsShowable, WritesAscend, record_ascends}
 
 pub as-showable : (facts given : Facts) (memory held : Memory) → facts ≡ given → memory ≡ held → IsShowable given held → IsShowable facts memory
 as-showable facts given memory held same also showable =

@@ -7,7 +7,7 @@ use Rattle.memory.specs.Carry.{IsFit, MayFollow, MayInstall, writes_installed}
 use Rattle.memory.specs.Kept.{Kept}
 use Rattle.memory.specs.Plans.{plan_of}
 use Rattle.memory.specs.declared.plan.Plan.{Plan}
-use Rattle.serving.specs.Showable.{IsShowable}
+use Rattle.protocol.specs.Showable.{IsShowable}
 
 -- the rows ascend by id; it may be carried out; its record may come next, and what that installs is above the versions of its keys; and the shard
 -- is sound then, and its versions may be put on a board

@@ -1,10 +1,10 @@
 //! The writes of a log's records.
 ghost use Rattle.std.specs.Prelude.{IsTrue};
 ghost use Rattle.std.specs.List.{list_all};
-ghost use Rattle.serving.specs.Showable.{record_ascends};
+ghost use Rattle.protocol.specs.Showable.{record_ascends};
 
 use gatelog::Entry;
-use serving::record_ascends;
+use protocol::record_ascends;
 
 /// The writes of each record ascend by key, as its type has it. It does nothing.
 pub fn all_ascend(entries: &[Entry])

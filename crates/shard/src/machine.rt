@@ -10,7 +10,7 @@ ghost use Rattle.protocol.specs.Plan.{carried};
 ghost use Rattle.protocol.specs.Step.{Does, plan_input};
 ghost use Rattle.protocol.specs.Sound.{IsSound};
 ghost use Rattle.record.specs.Facts.{facts_of, learn};
-ghost use Rattle.serving.specs.Showable.{IsShowable};
+ghost use Rattle.protocol.specs.Showable.{IsShowable};
 ghost use Rattle.shard.specs.Armed.{HasPlace};
 ghost use Rattle.shard.specs.Due.{IsDue};
 ghost use Rattle.shard.specs.Logs.{records_in, facts_logged, KeepsRecords};
@@ -28,7 +28,7 @@ use protocol::{
     step_keeps_sound,
 };
 use record::Record;
-use serving::{fresh_is_showable, step_keeps_showable, writes_ascend};
+use protocol::{fresh_is_showable, step_keeps_showable, writes_ascend};
 use std::alloc::Global;
 use truetime::Reading;
 use units::{Epoch, Fault, Setup};

@@ -9,7 +9,7 @@ use crate::summary::Counts;
 use crate::wire::Wire;
 use board::Viewer;
 use progress::{Ended, Stopwatch, Turn, Watch};
-use snapshot::Snapshot;
+use board::Snapshot;
 use std::alloc::Global;
 use std::mem::replace;
 use std::sync::Wait;

@@ -4,7 +4,7 @@ use Rattle.units.specs.Lists.{gather, head, numbered}
 use Rattle.record.specs.History.{Txn}
 use Rattle.record.specs.Verdict.{is_late_ack}
 use Rattle.inspector.specs.Faults.{first_late}
-use Rattle.findings.proofs.AckLaws.{none_late}
+use Rattle.inspector.proofs.AckLaws.{none_late}
 use Rattle.inspector.proofs.lines.late_ack.Goals as goal
 
 pub returns-else-is_late_by : goal.returns-else-is_late_by

@@ -3,7 +3,7 @@ use Rattle.std.specs.Option.{option_copied}
 use Rattle.units.specs.Lists.{when}
 use Rattle.record.specs.History.{Txn, before, serial_before, upto}
 use Rattle.record.specs.Verdict.{line_reads_right, same_value}
-use Rattle.findings.specs.Versions.{shown}
+use Rattle.inspector.specs.Versions.{shown}
 use Rattle.inspector.proofs.FoldLaws.{before_is, upto_is}
 use Rattle.inspector.proofs.lines.reads_right.Goals as goal
 

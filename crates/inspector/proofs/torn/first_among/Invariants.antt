@@ -1,7 +1,7 @@
 use Rattle.std.proofs.Common.{◌≡◌, drop, map, not, true, IfSome}
 use Rattle.units.specs.Lists.{first}
 use Rattle.record.specs.Whole.{is_whole}
-use Rattle.findings.specs.Entries.{logs_from, of_txn}
+use Rattle.inspector.specs.Entries.{logs_from, of_txn}
 use Rattle.inspector.proofs.torn.first_among.Given as goal
 
 abbrev pub invariant-loop-entry : goal.invariant-loop-entry

@@ -4,7 +4,7 @@ use Rattle.units.specs.Ids.{Id}
 use Rattle.units.specs.Lists.{first}
 use Rattle.record.specs.Whole.{is_whole}
 use Rattle.record.specs.declared.record.Record.{Record}
-use Rattle.findings.specs.Entries.{logs_from, of_txn}
+use Rattle.inspector.specs.Entries.{logs_from, of_txn}
 use Rattle.inspector.proofs.TornLaws.{torn_is}
 use Rattle.inspector.proofs.torn.first_torn.Goals as goal
 

@@ -3,8 +3,8 @@ use Rattle.std.proofs.lemmas.List.Sorted.{IsPartitionPoint-from_clause}
 use Rattle.units.proofs.FrontLaws.{point_is_front}
 use Rattle.record.specs.History.{serial_before}
 use Rattle.inspector.proofs.ValueLaws.{partitioned_before, shown_before}
-use Rattle.findings.specs.Versions.{AscendsByPlace}
-use Rattle.findings.proofs.VersionLaws.{places_ascend}
+use Rattle.inspector.specs.Versions.{AscendsByPlace}
+use Rattle.inspector.proofs.VersionLaws.{places_ascend}
 use Rattle.inspector.proofs.values.value_before.Goals as goal
 
 pub returns : goal.returns

@@ -2,8 +2,8 @@ use Rattle.std.proofs.Common.{◌∙◌, nat_le, rules, subst, sym}
 use Rattle.std.proofs.lemmas.List.Sorted.{IsPartitionPoint-from_clause}
 use Rattle.units.proofs.FrontLaws.{point_is_front}
 use Rattle.inspector.proofs.ValueLaws.{partitioned_up_to, shown_up_to}
-use Rattle.findings.specs.Versions.{AscendsByPlace}
-use Rattle.findings.proofs.VersionLaws.{places_ascend}
+use Rattle.inspector.specs.Versions.{AscendsByPlace}
+use Rattle.inspector.proofs.VersionLaws.{places_ascend}
 use Rattle.inspector.proofs.values.value_up_to.Goals as goal
 
 pub returns : goal.returns

@@ -2,7 +2,7 @@ use Rattle.std.proofs.Common.{◌≡◌, ◌∙◌, IfOk, List, ap, map, subst, 
 use Rattle.units.specs.declared.line.Verdict.{Verdict}
 use Rattle.record.specs.History.{Txn, history, serial}
 use Rattle.record.specs.declared.record.Record.{Record}
-use Rattle.findings.specs.Known.{HaveSame}
+use Rattle.inspector.specs.Known.{HaveSame}
 use Rattle.inspector.specs.Faults.{line_fault}
 use Rattle.inspector.proofs.KnownLaws.{same_fault, same_serial}
 use Rattle.inspector.proofs.verdict.verdict_on_lines.Goals as goal

@@ -1,6 +1,6 @@
 use Rattle.std.specs.List.{list_all}
 use Rattle.std.proofs.Common.{◌≡◌, drop}
-use Rattle.serving.specs.Showable.{record_ascends}
+use Rattle.protocol.specs.Showable.{record_ascends}
 use Rattle.shard.proofs.ascending.all_ascend.Given as goal
 
 abbrev pub invariant-loop-entry : goal.invariant-loop-entry

@@ -10,7 +10,7 @@ use Rattle.gatelog.specs.Frames.{IsFull, end_of}
 use Rattle.gatelog.specs.Shown.{disk_of, gate_at}
 use Rattle.protocol.specs.Rows.{rebuilt}
 use Rattle.recovery.specs.Recovered.{IsRebuilt, items}
-use Rattle.serving.specs.Showable.{record_ascends}
+use Rattle.protocol.specs.Showable.{record_ascends}
 use Rattle.shard.specs.Core.{book_of, seen_machine}
 use Rattle.shard.specs.Logs.{facts_logged}
 use Rattle.shard.specs.Opened.{HasNotOpened, next_opening}

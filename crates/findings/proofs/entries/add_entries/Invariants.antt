@@ -1,7 +1,0 @@
-use Rattle.std.proofs.Common.{◌≡◌, ◌++◌, drop}
-use Rattle.units.specs.Lists.{gather}
-use Rattle.findings.specs.Entries.{about_in}
-use Rattle.findings.proofs.entries.add_entries.Given as goal
-
-abbrev pub invariant-loop-item : goal.invariant-loop-item
-invariant-loop-item l = l.found.items ++ gather (about_in l.shard) (drop l.item-index l.log) ≡ l.initial.found.items ++ gather (about_in l.shard) l.log

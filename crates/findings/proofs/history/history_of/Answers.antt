@@ -1,6 +1,0 @@
-use Rattle.std.proofs.Common.{map, rules}
-use Rattle.findings.proofs.HistoryByEntries.{history_is}
-use Rattle.findings.proofs.history.history_of.Goals as goal
-
-pub loop-shard-init : goal.loop-shard-init
-loop-shard-init c = search (rules, history_is (map (λ log. log.items) c.args.logs.now) c.args.about.now c.requires.same)

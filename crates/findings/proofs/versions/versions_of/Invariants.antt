@@ -1,6 +1,0 @@
-use Rattle.std.proofs.Common.{◌≡◌, ◌++◌, drop}
-use Rattle.findings.specs.Versions.{placed_from}
-use Rattle.findings.proofs.versions.versions_of.Given as goal
-
-abbrev pub invariant-loop-place : goal.invariant-loop-place
-invariant-loop-place l = l.found.items ++ placed_from l.place (drop l.place l.ordered) ≡ placed_from 0 l.ordered

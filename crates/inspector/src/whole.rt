@@ -1,0 +1,280 @@
+//! Whether a transaction is whole over all logs.
+ghost use Rattle.std.specs.Prelude.{◌≡◌, IfOk, IfErr, ◌&&◌, map, not, nat_eq, nat_le, nat_lt, false};
+ghost use Rattle.std.specs.List.{list_all};
+ghost use Rattle.units.specs.Lists.{has, numbered};
+ghost use Rattle.record.specs.Whole.{decisions, fits_decision, outcomes_fit, is_whole};
+ghost use Rattle.inspector.specs.declared.whole.Tally.TheVariants.{Never};
+ghost use Rattle.inspector.specs.Entries.{log_numbered, logs_from};
+ghost use Rattle.inspector.specs.Tallies.{after, all_fit, decisions_here, fits_all, stand_of};
+
+use crate::entries::Entry;
+use record::{Committed, Prepared, Record};
+use std::alloc::Global;
+use units::{Fault, ShardNo, Stamp, TxnId};
+
+// The decisions of a transaction that were found so far: none, one and whether all logs fit it, or more.
+#[derive(Clone, Copy)]
+pub enum Tally {
+    Never,
+    Once(bool),
+    Again,
+}
+
+// How a record stands to a decision: it says nothing of it, or otherwise, or promises it, and whether that fits.
+#[derive(Clone, Copy)]
+pub enum Stand {
+    Nothing,
+    Otherwise,
+    Promised(bool),
+}
+
+/// The transaction is whole over a number of logs, of which these are the records.
+#[tactic(auto, using(crate::proofs::TallyLaws::whole_is_settled), unfolding(record::specs::Whole::is_whole))]
+pub fn is_whole(
+    alloc: Global,
+    count: usize,
+    entries: &[Entry<'_>],
+    txn: TxnId,
+) -> Result<bool, Fault>
+    ensures whole { IfOk result (λ whole. whole ≡ is_whole txn (logs_from count 0 entries.now)) }
+    ensures memory { IfErr result (λ fault. fault ≡ Fault.Memory) }
+{
+    match tally_of(alloc, count, entries, txn)? {
+        Tally::Never => Ok(never_ends(count, entries, txn)),
+        Tally::Once(fits) => Ok(fits),
+        Tally::Again => Ok(false),
+    }
+}
+
+// The decisions of all logs.
+fn tally_of(alloc: Global, count: usize, entries: &[Entry<'_>], txn: TxnId) -> Result<Tally, Fault>
+    ensures tally { IfOk result
+        (λ tally. tally ≡ after (fits_all (logs_from count 0 entries.now) txn) Never
+        (decisions (logs_from count 0 entries.now) txn)) }
+    ensures memory { IfErr result (λ fault. fault ≡ Fault.Memory) }
+{
+    let mut tally = Tally::Never;
+    for number in 0..count {
+        tally = tally_log(alloc, tally, count, entries, txn, number)?;
+    }
+    Ok(tally)
+}
+
+// The decisions of one log are found too.
+fn tally_log(
+    alloc: Global,
+    mut tally: Tally,
+    count: usize,
+    entries: &[Entry<'_>],
+    txn: TxnId,
+    number: usize,
+) -> Result<Tally, Fault>
+    ensures after { IfOk result
+        (λ found. found ≡ after (fits_all (logs_from count 0 entries.now) txn) tally
+        (decisions_here txn number (log_numbered number entries.now))) }
+    ensures memory { IfErr result (λ fault. fault ≡ Fault.Memory) }
+{
+    for entry in entries {
+        if number == entry.shard {
+            if let Record::Commit(committed) = entry.item {
+                if txn.is(committed.txn) {
+                    tally = match tally {
+                        Tally::Never => {
+                            Tally::Once(fits(alloc, count, entries, txn, number, committed)?)
+                        }
+                        _ => Tally::Again,
+                    };
+                }
+            }
+        }
+    }
+    Ok(tally)
+}
+
+// Every log fits the decision, and it stands in its least part's log.
+#[tactic(auto, using(crate::proofs::Numbers::from_length))]
+fn fits(
+    alloc: Global,
+    count: usize,
+    entries: &[Entry<'_>],
+    txn: TxnId,
+    shard: usize,
+    commit: &Committed,
+) -> Result<bool, Fault>
+    ensures fits { IfOk result
+        (λ fits. fits ≡ fits_all (logs_from count 0 entries.now) txn
+        (record { shard = shard; commit = commit.now })) }
+    ensures memory { IfErr result (λ fault. fault ≡ Fault.Memory) }
+{
+    let parts = commit.parts.shards(alloc)?;
+    Ok(
+        shard == commit.parts.least().number() as usize
+            && exist(&parts, count)
+            && each_fits(count, entries, txn, shard, commit, &parts),
+    )
+}
+
+// Each part is below a number.
+fn exist(parts: &[ShardNo], count: usize) -> bool
+    ensures { result ≡ list_all (λ n. nat_lt n count) parts.now }
+{
+    for part in parts {
+        if part.number() as usize >= count {
+            return false;
+        }
+    }
+    true
+}
+
+// Each log fits the decision.
+fn each_fits(
+    count: usize,
+    entries: &[Entry<'_>],
+    txn: TxnId,
+    shard: usize,
+    commit: &Committed,
+    parts: &[ShardNo],
+) -> bool
+    requires { parts.now ≡ commit.now.parts }
+    ensures { result ≡ list_all (fits_decision txn (record { shard = shard; commit = commit.now }))
+        (numbered 0 (logs_from count 0 entries.now)) }
+{
+    for number in 0..count {
+        if !log_fits(number, entries, txn, shard, commit, parts) {
+            return false;
+        }
+    }
+    true
+}
+
+// One log beside the decision.
+fn log_fits(
+    number: usize,
+    entries: &[Entry<'_>],
+    txn: TxnId,
+    shard: usize,
+    commit: &Committed,
+    parts: &[ShardNo],
+) -> bool
+    requires { parts.now ≡ commit.now.parts }
+    ensures { result ≡ all_fit (nat_eq number shard) (has commit.now.parts number) false
+        (map (stand_of txn (record { shard = shard; commit = commit.now }))
+        (log_numbered number entries.now)) }
+{
+    let is_own = number == shard;
+    let is_part = is_part(parts, number);
+    let mut found = false;
+    for entry in entries {
+        if number == entry.shard {
+            match stand_of(entry.item, txn, shard, commit) {
+                Stand::Nothing => {}
+                Stand::Otherwise => return false,
+                Stand::Promised(fits) => {
+                    if !is_own {
+                        if !is_part || found || !fits {
+                            return false;
+                        }
+                        found = true;
+                    }
+                }
+            }
+        }
+    }
+    is_own || found || !is_part
+}
+
+// The shard of this number is a part.
+fn is_part(parts: &[ShardNo], number: usize) -> bool
+    ensures { result ≡ has parts.now number }
+{
+    for part in parts {
+        if number == part.number() as usize {
+            return true;
+        }
+    }
+    false
+}
+
+// How a record stands to the decision.
+fn stand_of(item: &Record, txn: TxnId, shard: usize, commit: &Committed) -> Stand
+    ensures { result ≡ stand_of txn (record { shard = shard; commit = commit.now }) item.now }
+{
+    match item {
+        Record::Opened { .. } | Record::Ceiling { .. } | Record::Commit(_) => Stand::Nothing,
+        Record::Prepare(prepared) => {
+            if prepared.txn.is(txn) {
+                Stand::Promised(promise_fits(prepared, shard, commit))
+            } else {
+                Stand::Nothing
+            }
+        }
+        Record::Abort { txn: aborted } => {
+            if txn.is(*aborted) {
+                Stand::Otherwise
+            } else {
+                Stand::Nothing
+            }
+        }
+        Record::Outcome {
+            txn: ended,
+            outcome: None,
+        } => {
+            if ended.is(txn) {
+                Stand::Otherwise
+            } else {
+                Stand::Nothing
+            }
+        }
+        Record::Outcome {
+            txn: ended,
+            outcome: Some(at),
+        } => {
+            if txn.is(*ended) && commit.at.micros() != at.micros() {
+                Stand::Otherwise
+            } else {
+                Stand::Nothing
+            }
+        },
+    }
+}
+
+// The promise names the coordinator and is not above the commit's timestamp.
+fn promise_fits(prepared: &Prepared, shard: usize, commit: &Committed) -> bool
+    ensures { result ≡ (nat_eq prepared.now.coordinator shard
+        && nat_le prepared.now.at commit.now.at) }
+{
+    prepared.coordinator.number() as usize == shard && prepared.at.micros() <= commit.at.micros()
+}
+
+// No log ends the transaction at a timestamp.
+fn never_ends(count: usize, entries: &[Entry<'_>], txn: TxnId) -> bool
+    ensures { result ≡ list_all (λ l. outcomes_fit l txn (λ s. false))
+        (logs_from count 0 entries.now) }
+{
+    for number in 0..count {
+        if ends(number, entries, txn) {
+            return false;
+        }
+    }
+    true
+}
+
+// The log ends the transaction at a timestamp.
+fn ends(number: usize, entries: &[Entry<'_>], txn: TxnId) -> bool
+    ensures { result ≡ not (outcomes_fit (log_numbered number entries.now) txn (λ s. false)) }
+{
+    for entry in entries {
+        if number == entry.shard {
+            if let Record::Outcome {
+                txn: ended,
+                outcome: Some(_),
+            } = entry.item
+            {
+                if txn.is(*ended) {
+                    return true;
+                }
+            }
+        }
+    }
+    false
+}

@@ -1,4 +1,0 @@
-pub mod Rising
-pub mod Serves
-pub mod Ascending
-pub mod Taken

@@ -1,8 +1,0 @@
-use Rattle.std.proofs.Common.{refl}
-use Rattle.record.specs.Computing.{computing}
-use Rattle.serving.specs.Showable.{rises_by_key}
-use Rattle.serving.proofs.laws.fresh_is_showable.Goals as goal
-
-pub returns : goal.returns
-unfolding computing rises_by_key
-returns c = record { entries = refl; rows = refl; installs = refl }
