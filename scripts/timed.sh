@@ -20,8 +20,8 @@ room=$(mktemp -d)
 trap 'rm -rf "$room"' EXIT
 mkfifo "$room/lines"
 began=$(date +%s)
-# Nearly all stands on `units`, and while one processor proves it the others have little to do. So a second call proves it with all of
-# them, and the gate takes that over, as it does whatever was proved on this machine. Where nothing is kept here, it proves `units` itself.
+# Nearly all stands on `units`, and while one processor proves it the others have little to do. So where the kit can prove one crate so, a
+# second call proves it with all of them, and the gate takes that over. Another kit ends that call at once, and the gate proves `units` itself.
 env -u RT_JOBS rt ci units >/dev/null 2>&1 &
 first_crate=$!
 rt ci >"$room/lines" &

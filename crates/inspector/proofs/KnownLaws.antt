@@ -1,8 +1,8 @@
 -- What is told of a history is told of any list that has the same transactions of each id.
 use Rattle.std.specs.List.{list_any}
-use Rattle.std.specs.List.Sorted.{IsStableBy, ties}
+use Rattle.std.specs.List.Sorted.{ties}
 use Rattle.std.specs.Prelude.{option_map}
-use Rattle.std.proofs.Common.{◌≡◌, ◌∙◌, ℕ, Bool, true, false, not, cond, ◌&&◌, ◌||◌, List, [], ◌∷◌, Option, Some, None, filter, nat_eq, nat_le, refl}
+use Rattle.std.proofs.Common.{◌≡◌, ◌∙◌, ℕ, Bool, true, false, not, cond, ◌&&◌, List, [], ◌∷◌, Option, Some, None, filter, nat_eq, nat_le, refl}
 use Rattle.std.proofs.Common.{sym, ap, arith}
 use Rattle.std.proofs.lemmas.Bool.Decides.{nat_tests}
 use Rattle.units.specs.Ids.{Id, ids_once, same_id}
@@ -10,7 +10,6 @@ use Rattle.units.specs.Keys.{Bytes}
 use Rattle.units.specs.Lists.{first, gather, head, numbered, when}
 use Rattle.units.specs.declared.line.Line.{Line}
 use Rattle.units.specs.declared.line.Line.TheVariants.{Ack, Begin, Look, Read}
-use Rattle.units.proofs.IdLaws.{same_id_comm}
 use Rattle.record.specs.History.{Txn, before, find_txn, serial, serial_before, upto}
 use Rattle.record.specs.Verdict.{first_fault, first_lost, first_wrong_order, first_wrong_read, is_in_at, is_late_ack, late_acks, line_reads_right}
 use Rattle.record.specs.Verdict.{lost_by, same_value}

@@ -182,7 +182,7 @@ pub fn find(found: &[Transaction], txn: TxnId) -> Option<&Transaction>
 }
 
 /// The id is there at this timestamp, among some that ascend by id.
-#[tactic(auto, using(crate::proofs::KnownLaws::any_of_id))]
+#[tactic(auto, using(crate::proofs::FoundLaws::any_of_id))]
 pub fn is_in_at(found: &[Transaction], txn: TxnId, at: Stamp) -> bool
     requires { AscendsById found.now }
     ensures { result ≡ is_in_at found.now txn at }

@@ -2,9 +2,8 @@
 ghost use Rattle.std.specs.Prelude.{◌≡◌, [], ◌∷◌, IfOk};
 ghost use Rattle.board.specs.declared.entry.BoardEntry.TheVariants.{Safe};
 
-use board::{Publisher, Viewer, start};
+use board::{Publisher, Snapshot, Viewer, start};
 use made::{key, stamp};
-use board::Snapshot;
 use std::alloc::Global;
 use std::sync::Wait;
 use std::thread;

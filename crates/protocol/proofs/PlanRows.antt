@@ -9,7 +9,7 @@ use Rattle.units.proofs.IdLaws.{same_id_comm}
 use Rattle.units.proofs.ListLaws.{all-keep}
 use Rattle.units.proofs.ByIdLaws.{by_id-keep, all-without, find-with_same, find-without_other}
 use Rattle.units.proofs.ByIdTwice.{without-with_same, with-with_same, without-with_other}
-use Rattle.protocol.specs.Rows.{Row, Phase, standing, claims, find_row, without_row, with_row, held_by, without_rows, held_in}
+use Rattle.protocol.specs.Rows.{Row, Phase, claims, find_row, without_row, with_row, held_by, without_rows, held_in}
 use Rattle.protocol.proofs.RowTable.{with_row-is, claims-without_row}
 
 -- the rows ascend by id

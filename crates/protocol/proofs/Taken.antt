@@ -1,5 +1,5 @@
 -- What a log that is taken leaves of its shard.
-use Rattle.std.proofs.Common.{◌≡◌, ℕ, ◌+◌, Bool, true, false, not, ◌&&◌, cond, List, [], ◌∷◌, ◌++◌, Option, Some, None, refl, ap, sym, subst, ◌∙◌}
+use Rattle.std.proofs.Common.{◌≡◌, ℕ, ◌+◌, Bool, true, false, not, ◌&&◌, cond, List, [], ◌∷◌, ◌++◌, Some, None, refl, ap, sym, subst, ◌∙◌}
 use Rattle.std.specs.List.{list_all}
 use Rattle.std.proofs.lemmas.Bool.{and_parts}
 use Rattle.std.proofs.lemmas.List.{append-nil, append_assoc}
@@ -9,8 +9,8 @@ use Rattle.units.specs.Versions.{versions, above_versions}
 use Rattle.units.specs.declared.setup.Setup.{Setup}
 use Rattle.record.specs.Accepted.{Taken, Accepted, DamagedAt, StrangerAt, begins, belongs, fits_beside, followed, follows, taken, taken_from}
 use Rattle.record.specs.Computing.{computing}
-use Rattle.record.specs.Facts.{TxnStatus, Facts, facts_of, installs_at, learn, recorded}
-use Rattle.record.specs.Installs.{installs_of, writes_by}
+use Rattle.record.specs.Facts.{TxnStatus, Facts, facts_of, installs_at, recorded}
+use Rattle.record.specs.Installs.{writes_by}
 use Rattle.record.specs.Records.{Status, Unrecorded, StandsPrepared, StandsDecided, HasAborted, HasSettled, HasClosed, committed_of, ended_of}
 use Rattle.record.specs.Records.{is_aborted, prepared_of, status_by, status_of}
 use Rattle.record.specs.declared.record.Record.{Record}
@@ -21,7 +21,7 @@ use Rattle.facts.proofs.Known.{follows_as_known}
 use Rattle.protocol.specs.Rows.{rebuilt, standing_row}
 use Rattle.protocol.specs.Sound.{writes_standing}
 use Rattle.protocol.proofs.FitsBeside.{installs_are, writes_are}
-use Rattle.protocol.specs.Showable.{IsShowable, TakenIsShowable, added, record_ascends, rises_by_key}
+use Rattle.protocol.specs.Showable.{TakenIsShowable, added, record_ascends, rises_by_key}
 use Rattle.protocol.proofs.Ascending.{all_ascend, each_ascends, entries_after}
 use Rattle.protocol.proofs.Rising.{rise_none, installs_rise}
 use Rattle.protocol.proofs.Serves.{ascend_in, grows, versions_follow}

@@ -24,11 +24,10 @@ use gatelog::GateLog;
 use memory::{Plan, State, ready_plans_can_be_carried};
 use message::{Input, Outbox};
 use protocol::{
-    fresh_is_sound, installs_above, logged_follows, opening_keeps_sound, own_refusals,
-    step_keeps_sound,
+    fresh_is_showable, fresh_is_sound, installs_above, logged_follows, opening_keeps_sound,
+    own_refusals, step_keeps_showable, step_keeps_sound, writes_ascend,
 };
 use record::Record;
-use protocol::{fresh_is_showable, step_keeps_showable, writes_ascend};
 use std::alloc::Global;
 use truetime::Reading;
 use units::{Epoch, Fault, Setup};

@@ -1,13 +1,12 @@
 use Rattle.std.proofs.Common.{[], ap, ◌∙◌}
 use Rattle.protocol.specs.Plan.{Before, start_of_step}
-use Rattle.protocol.specs.Rows.{safe}
 use Rattle.protocol.proofs.PlanShapes.{shape_of}
 use Rattle.protocol.proofs.RowChanges.{by_id-claims}
 use Rattle.protocol.specs.Showable.{added, rises_by_key}
 use Rattle.protocol.proofs.Rising.{installs_rise}
 use Rattle.protocol.proofs.Ascending.{entries_kept, rows_kept}
 use Rattle.protocol.proofs.Serves.{AddsBy, rises_of, adds_of, ascend_of, grows}
-use Rattle.protocol.proofs.laws.step_keeps_showable.Goals as goal
+use Rattle.protocol.proofs.serving.step_keeps_showable.Goals as goal
 
 pub returns : goal.returns
 unfolding AddsBy
