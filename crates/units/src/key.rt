@@ -96,9 +96,7 @@ fn fill(row: &mut [u8], bytes: &[u8])
     requires short { length bytes.now ≤ 64 }
     ensures { row.new ≡ bytes.now ++ zeros_behind (length bytes.now) }
 {
-    for (i, byte) in bytes.iter().enumerate() {
-        row[i] = *byte;
-    }
+    row[..bytes.len()].copy_from_slice(bytes);
 }
 
 fn is_same(a: &[u8], b: &[u8]) -> bool

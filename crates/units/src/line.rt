@@ -28,7 +28,7 @@ impl Drop for Line {
 
 /// The verdict on logs and lines: all is well, or the first fault. An id is not whole, or its acknowledged commit is
 /// missing; a line shows a wrong value; a begin line and an earlier acknowledgement are out of order.
-#[derive(Clone, Copy, PartialEq, Eq)]
+#[derive(Clone, Copy)]
 pub enum Verdict {
     Yes,
     Torn(TxnId),

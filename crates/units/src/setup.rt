@@ -6,7 +6,7 @@ use crate::{Key, ShardNo, Splits, Writes};
 use std::marker::Model;
 
 /// How far ahead of the served time a ceiling is logged, in microseconds: 0 to 10,000,000.
-#[derive(Clone, Copy, PartialEq, Eq)]
+#[derive(Clone, Copy)]
 pub struct Stride {
     micros: u64,
 }
@@ -49,7 +49,7 @@ impl Stride {
 }
 
 /// How many inputs a book has room for: 1 to 65,536.
-#[derive(Clone, Copy, PartialEq, Eq)]
+#[derive(Clone, Copy)]
 pub struct Capacity {
     entries: u32,
 }
@@ -92,7 +92,7 @@ impl Capacity {
 }
 
 /// Whether a shard keeps a book of the inputs that it accepts, and for how many that has room.
-#[derive(Clone, Copy, PartialEq, Eq)]
+#[derive(Clone, Copy)]
 pub enum Book {
     Off,
     On(Capacity),

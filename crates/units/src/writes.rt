@@ -88,9 +88,9 @@ impl Writes {
         ensures same { IfOk result (λ writes. writes ≡ self.now) }
         ensures memory { IfErr result (λ fault. fault ≡ Fault.Memory) }
     {
-        let mut writes = Vec::new(alloc);
+        let mut writes = Vec::with_capacity(alloc, self.writes.len())?;
         for write in &self.writes {
-            writes.push(write.copy(alloc)?)?;
+            writes.push_reserved(write.copy(alloc)?);
         }
         Ok(Writes { writes })
     }
