@@ -9,7 +9,7 @@ loop-envelope-preserved c =
     let before = c.loop-envelope.lines.items in
     let one = ack_in c.args.told.now.keys c.args.event c.envelope-item.result in
     let more : c.match-acknowledged.lines.items ≡ before ++ one = elim c.match-acknowledged.branch [
-      in-Some+in_ok-push w ↦ ap (λ lines. lines.items) w.lines-is ∙ w.in_ok-push.ensures.items ∙ ap (λ l. before ++ l) w.in-Some.ensures
+      | in-Some+in_ok-push w ↦ ap (λ lines. lines.items) w.lines-is ∙ w.in_ok-push.ensures.items ∙ ap (λ l. before ++ l) w.in-Some.ensures
       | in_default w ↦ ap (λ lines. lines.items) w.lines-is ∙ sym (append-nil before) ∙ ap (λ l. before ++ l) w.in_default.ensures
     ] in
     added (ack_in c.args.told.now.keys c.args.event) c.args.out.now c.loop-envelope.envelope-index c.envelope-item.result c.args.lines.now.items
