@@ -1,4 +1,5 @@
 pub mod Acts
+pub mod Copies
 pub mod Crashing
 pub mod Ending
 pub mod Fleets

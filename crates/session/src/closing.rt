@@ -184,9 +184,7 @@ impl<'s, S: Phase> Tx<'s, S> {
     {
         let mut shards = Vec::new(alloc);
         push_taken(&mut shards, self.taken.as_slice())?;
-        if let Some(key) = &self.doom {
-            shards.push(self.splits.shard_of(key))?;
-        }
+        push_asked(&mut shards, self.splits, self.doom.as_slice())?;
         push_asked(&mut shards, self.splits, self.awaited.as_slice())?;
         Ok(Parts::of(shards.as_slice()))
     }

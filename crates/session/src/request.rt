@@ -106,7 +106,6 @@ impl Request<'_> {
         ensures memory { IfErr result (λ fault. fault ≡ Fault.Memory) }
     {
         let txn = self.txn;
-        let to = Address::Shard(shard);
         let reads = self.reads_at(alloc, shard)?;
         let writes = match self.writes_at(alloc, shard) {
             Ok(writes) => writes,
@@ -115,26 +114,24 @@ impl Request<'_> {
                 return Err(fault);
             }
         };
-        match parts {
-            Some(parts) => envelopes.push(Envelope {
-                to,
-                message: Message::Commit(Commit {
-                    txn,
-                    parts,
-                    reads,
-                    writes,
-                }),
-            })?,
-            None => envelopes.push(Envelope {
-                to,
-                message: Message::Prepare(Prepare {
-                    txn,
-                    coordinator,
-                    reads,
-                    writes,
-                }),
-            })?,
-        }
+        let message = match parts {
+            Some(parts) => Message::Commit(Commit {
+                txn,
+                parts,
+                reads,
+                writes,
+            }),
+            None => Message::Prepare(Prepare {
+                txn,
+                coordinator,
+                reads,
+                writes,
+            }),
+        };
+        envelopes.push(Envelope {
+            to: Address::Shard(shard),
+            message,
+        })?;
         Ok(())
     }
 

@@ -1,17 +1,29 @@
 //! The machine's clock as intervals.
-ghost use Rattle.std.specs.Prelude.{◌≡◌, ◌+◌, ◌-◌, ◌≤◌, ◌^◌, MatchOption};
+ghost use Rattle.std.specs.Prelude.{◌≡◌, ◌+◌, ◌-◌, ◌≤◌, ◌^◌, ⊤, MatchOption};
 
+use std::alloc::AllocError;
 use std::time;
 use truetime::{Clock, Reading};
 use units::Stamp;
 
 /// Readings of the machine's clock: the microseconds since 1970, and epsilon microseconds before and after. They are honest where the
 /// clock is within epsilon of the true time.
-#[derive_where(Clone, Copy)]
 pub struct MachineClock<'a, R> {
     pub rt: &'a R,
     pub epsilon: u64,
 }
+
+impl<R> Clone for MachineClock<'_, R> {
+    ghost is_clone = { λ s r. r ≡ s };
+
+    ghost is_infallible = { λ _. ⊤ };
+
+    fn clone(&self) -> Result<Self, AllocError> {
+        Ok(*self)
+    }
+}
+
+impl<R> Copy for MachineClock<'_, R> {}
 
 impl<R: time::Clock> Clock for MachineClock<'_, R> {
     fn now(&mut self) -> Option<Reading> {

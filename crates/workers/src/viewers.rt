@@ -32,8 +32,11 @@ impl Viewers {
     pub fn deal(&mut self, viewers: Vec<Viewer>) -> Result<(), Fault>
         ensures { length self.new.by_worker.items ≡ length self.old.by_worker.items }
     {
-        for (own, viewer) in self.by_worker.iter_mut().zip(viewers) {
-            own.push(viewer)?;
+        let mut viewers = viewers;
+        for own in self.by_worker.iter_mut() {
+            if let Some(viewer) = viewers.pop() {
+                own.push(viewer)?;
+            }
         }
         Ok(())
     }

@@ -10,3 +10,4 @@ pub mod Replying
 pub mod Rooms
 pub mod Sounds
 pub mod Untouched
+pub mod Adding
