@@ -8,12 +8,12 @@ ghost use Rattle.workers.specs.Staffs.{IsStaffOf};
 ghost use Rattle.workers.specs.Summaries.{tried};
 ghost use Rattle.inspection.specs.Judged.{IsJudged};
 
-use crate::opening::{Opened, run_of};
+use crate::opening::{Opened, Opens, run_of};
 use crossbeam_channel::Receiver;
 use disk::Disk;
 use inspection::judge;
-use letters::{Inboxes, Letter, Mail, Post};
-use node::{Gate, Node, Served, start};
+use letters::{Gate, Inboxes, Letter, Mail, Post, Served, Serves, start};
+use node::Node;
 use progress::Watch;
 use settings::Settings;
 use std::alloc::Global;
@@ -95,8 +95,41 @@ pub fn drive_by<
     ensures limits { IsOk result
         → IsDrivable settings.now.workers settings.now.transactions settings.now.keys }
 {
+    drive_nodes::<Node<D, &R>, R, D, C, G, W>(rt, alloc, settings, disks, clock, gate, watch)
+}
+
+// The same with nodes of any kind.
+fn drive_nodes<
+    'r,
+    N: Opens<&'r R, D> + Serves + Drop + Sync,
+    R: Threads + Wait + time::Clock + Sync,
+    D: Disk + Drop,
+    C: Clock + Copy + Send,
+    G: Gate + Sync,
+    W: Watch + Sync,
+>(
+    rt: &'r R,
+    alloc: Global,
+    settings: &Settings,
+    disks: Vec<D>,
+    clock: C,
+    gate: &G,
+    watch: &W,
+) -> Result<Driven<D>, Fault>
+    ensures verdict { IfOk result (λ driven. D.keeps_model
+        → IsJudged (λ disk. (surface (D.file disk)).seen) driven.disks.items driven.lines.items
+        driven.summary.verdict) }
+    ensures disks { IfOk result (λ driven. length driven.disks.items ≡ length disks.items) }
+    ensures tried { IfOk result (λ driven.
+        tried driven.summary.counts ≡ settings.now.workers * settings.now.transactions) }
+    ensures looks { IfOk result (λ driven.
+        driven.summary.counts.looks ≤ tried driven.summary.counts) }
+    ensures shards { IsOk result → length disks.items ≡ length settings.now.splits + 1 }
+    ensures limits { IsOk result
+        → IsDrivable settings.now.workers settings.now.transactions settings.now.keys }
+{
     let course = Course::of(settings)?;
-    let opened = Opened::over(rt, alloc, settings, disks, course.workers as usize)?;
+    let opened = Opened::<N>::over(rt, alloc, settings, disks, course.workers as usize)?;
     let Opened {
         nodes,
         viewers,
@@ -115,9 +148,9 @@ pub fn drive_by<
 }
 
 // What a drive comes to once its workers have reported: the verdict is on what the nodes leave on their disks.
-fn outcome<D: Disk + Drop, H: Wait + Drop>(
+fn outcome<N: Opens<H, D> + Drop, H, D: Disk + Drop>(
     alloc: Global,
-    nodes: Vec<Node<D, H>>,
+    nodes: Vec<N>,
     report: Report,
 ) -> Result<Driven<D>, Fault>
     ensures verdict { IfOk result (λ driven. D.keeps_model
@@ -137,9 +170,8 @@ fn outcome<D: Disk + Drop, H: Wait + Drop>(
 
 // Serves the nodes beside the workers of a course, until all workers have done their turns.
 fn run<
+    N: Serves + Sync,
     R: Threads + Wait + time::Clock + Sync,
-    D: Disk + Drop + Send,
-    H: Wait + Drop + Send,
     C: Clock + Copy + Send,
     G: Gate + Sync,
     W: Watch + Sync,
@@ -149,7 +181,7 @@ fn run<
     settings: &Settings,
     course: Course,
     ids: Run,
-    nodes: &[Node<D, H>],
+    nodes: &[N],
     viewers: Viewers,
     clock: C,
     gate: &G,
@@ -187,13 +219,13 @@ fn run<
 }
 
 // What each node is served with.
-fn served<'r, 's, 'n, R: Wait, D: Disk + Drop, H: Wait + Drop, C: Clock + Copy>(
+fn served<'r, 's, 'n, N, R: Wait, C: Clock + Copy>(
     rt: &'r R,
     shared: &'s Shared,
-    nodes: &'n [Node<D, H>],
+    nodes: &'n [N],
     inboxes: Vec<Receiver<Letter>>,
     clock: C,
-) -> Result<Vec<Served<'n, D, H, Mail<'r, 's, R>, C>>, Fault> {
+) -> Result<Vec<Served<'n, N, Mail<'r, 's, R>, C>>, Fault> {
     let mut all = Vec::new(shared.alloc);
     for (node, inbox) in nodes.iter().zip(inboxes) {
         let post = Mail {
@@ -213,11 +245,9 @@ fn served<'r, 's, 'n, R: Wait, D: Disk + Drop, H: Wait + Drop, C: Clock + Copy>(
 // The nodes on a thread, which starts more, beside the workers. Where it can't be made, the nodes are served behind the workers,
 // whose letters nobody answers then.
 fn run_all<
+    N: Serves + Sync,
     R: Threads + Wait + time::Clock + Sync,
-    D: Disk + Drop + Send,
-    H: Wait + Drop + Send,
     P: Post + Send + Drop,
-    N: Clock + Send + Drop,
     C: Clock + Copy + Send,
     G: Gate + Sync,
     W: Watch + Sync,
@@ -225,7 +255,7 @@ fn run_all<
     rt: &R,
     shared: &Shared,
     course: Course,
-    served: Vec<Served<D, H, P, N>>,
+    served: Vec<Served<N, P, C>>,
     staff: Staff,
     clock: C,
     gate: &G,
@@ -238,8 +268,7 @@ fn run_all<
     let (served, report) = thread::join(
         rt,
         || -> Result<(), Fault>
-            requires { IsSync R.row × IsSend D.row × IsSend H.row × IsSend P.row × IsSend N.row
-                × IsSync G.row }
+            requires { IsSync R.row × IsSync N.row × IsSend P.row × IsSend C.row × IsSync G.row }
         { start(rt, served, gate) },
         move || -> Result<Report, Fault>
             requires workers { IsSync R.row × IsSend C.row × IsSync W.row
@@ -253,10 +282,7 @@ fn run_all<
 }
 
 // Closes the nodes.
-fn closed<D: Disk + Drop, H: Wait + Drop>(
-    alloc: Global,
-    nodes: Vec<Node<D, H>>,
-) -> Result<Vec<D>, Fault>
+fn closed<N: Opens<H, D> + Drop, H, D: Drop>(alloc: Global, nodes: Vec<N>) -> Result<Vec<D>, Fault>
     ensures { IfOk result (λ disks. length disks.items ≡ length nodes.items) }
 {
     let mut disks = Vec::new(alloc);

@@ -1,7 +1,10 @@
-//! The engine of a drive: nodes and workers on threads over the disks of some shards, and the verdict on what they leave.
+//! The engine of a drive: nodes and workers on threads over the disks of some shards, and the verdict on what they leave; and drives over
+//! the machine's files.
 #![tactic(auto)]
 
 mod engine;
 mod opening;
+mod shards;
 
 pub use engine::{Driven, drive, drive_by};
+pub use shards::drive_shards;

@@ -1,6 +1,7 @@
 //! The nodes of a drive.
 ghost use Rattle.std.specs.Prelude.{◌≡◌, ◌≤◌, ◌+◌, length, IfOk, IsOk, OnOk};
 
+use board::Viewer;
 use disk::Disk;
 use node::Node;
 use settings::Settings;
@@ -10,24 +11,71 @@ use std::sync::Wait;
 use units::{Book, Epoch, Fault, Reason, Run, Setup, ShardNo};
 use workers::Viewers;
 
+/// What a drive asks of nodes besides being served: each is made over the log of a disk, and gives the disk back.
+pub trait Opens<H, D>: Sized {
+    /// A node of the shard whose log the disk holds, so many viewers of its board, and the epoch of this opening.
+    fn open(
+        rt: H,
+        alloc: Global,
+        disk: D,
+        setup: Setup,
+        n: usize,
+    ) -> Result<(Self, Vec<Viewer>, Epoch), Fault>;
+
+    /// Ends the node.
+    fn close(self) -> D;
+}
+
+impl<D: Disk + Drop, H: Wait + Copy> Opens<H, D> for Node<D, H> {
+    fn open(
+        rt: H,
+        alloc: Global,
+        disk: D,
+        setup: Setup,
+        n: usize,
+    ) -> Result<(Node<D, H>, Vec<Viewer>, Epoch), Fault> {
+        let core = match Core::open(alloc, disk, setup) {
+            Ok(core) => core,
+            Err((fault, disk)) => {
+                drop(disk);
+                return Err(fault);
+            }
+        };
+        let epoch = core.epoch();
+        match Node::new(rt, alloc, core, n) {
+            Ok((node, viewers)) => Ok((node, viewers, epoch)),
+            Err((fault, core)) => {
+                drop(core.stop());
+                Err(fault)
+            }
+        }
+    }
+
+    fn close(self) -> D {
+        Node::close(self)
+    }
+}
+
 /// Nodes over opened disks, by shard; the viewers of each worker, by shard; and the greatest epoch, which is the run of all ids.
 #[derive(Drop)]
-pub struct Opened<D: Disk + Drop, H: Wait + Drop> {
-    pub nodes: Vec<Node<D, H>>,
+pub struct Opened<N> {
+    pub nodes: Vec<N>,
     pub viewers: Viewers,
     pub epoch: Epoch,
 }
 
-impl<D: Disk + Drop, H: Wait + Copy> Opened<D, H> {
+impl<N: Drop> Opened<N> {
     /// Opens the disks of shards 0, 1 and so on, each with a viewer for each worker. Where there are more or fewer disks than shards, that
     /// is refused as `settings`.
-    pub fn over(
+    pub fn over<H: Copy, D: Drop>(
         rt: H,
         alloc: Global,
         settings: &Settings,
         disks: Vec<D>,
         workers: usize,
-    ) -> Result<Opened<D, H>, Fault>
+    ) -> Result<Opened<N>, Fault>
+    where
+        N: Opens<H, D>,
         ensures viewers { IfOk result (λ opened.
             length opened.viewers.by_worker.items ≡ workers) }
         ensures nodes { IfOk result (λ opened. length opened.nodes.items ≡ length disks.items) }
@@ -53,13 +101,15 @@ impl<D: Disk + Drop, H: Wait + Copy> Opened<D, H> {
     }
 
     // Opens the disks of the next shards.
-    fn open_all(
+    fn open_all<H: Copy, D: Drop>(
         &mut self,
         rt: H,
         alloc: Global,
         settings: &Settings,
         disks: Vec<D>,
     ) -> Result<(), Fault>
+    where
+        N: Opens<H, D>,
         ensures viewers { OnOk result (length self.new.viewers.by_worker.items
             ≡ length self.old.viewers.by_worker.items) }
         ensures nodes { OnOk result (length self.new.nodes.items
@@ -71,42 +121,26 @@ impl<D: Disk + Drop, H: Wait + Copy> Opened<D, H> {
         Ok(())
     }
 
-    // Opens the disk of the next shard.
-    fn open_next(&mut self, rt: H, alloc: Global, settings: &Settings, disk: D) -> Result<(), Fault>
+    // Opens the disk of the next shard, and deals its viewers out.
+    fn open_next<H: Copy, D: Drop>(
+        &mut self,
+        rt: H,
+        alloc: Global,
+        settings: &Settings,
+        disk: D,
+    ) -> Result<(), Fault>
+    where
+        N: Opens<H, D>,
         ensures viewers { length self.new.viewers.by_worker.items
             ≡ length self.old.viewers.by_worker.items }
         ensures nodes { OnOk result
             (length self.new.nodes.items ≡ length self.old.nodes.items + 1) }
     {
         let setup = setup_of(alloc, settings, self.nodes.len())?;
-        let core = match Core::open(alloc, disk, setup) {
-            Ok(core) => core,
-            Err((fault, disk)) => {
-                drop(disk);
-                return Err(fault);
-            }
-        };
-        self.epoch = later(self.epoch, core.epoch());
-        self.serve(rt, alloc, core)
-    }
-
-    // Makes a node of a core, and deals its viewers out.
-    fn serve(&mut self, rt: H, alloc: Global, core: Core<D>) -> Result<(), Fault>
-        ensures viewers { length self.new.viewers.by_worker.items
-            ≡ length self.old.viewers.by_worker.items }
-        ensures nodes { OnOk result
-            (length self.new.nodes.items ≡ length self.old.nodes.items + 1) }
-    {
-        match Node::new(rt, alloc, core, self.viewers.by_worker.len()) {
-            Ok((node, viewers)) => {
-                self.nodes.push(node)?;
-                self.viewers.deal(viewers)
-            }
-            Err((fault, core)) => {
-                drop(core.stop());
-                Err(fault)
-            }
-        }
+        let (node, viewers, epoch) = N::open(rt, alloc, disk, setup, self.viewers.by_worker.len())?;
+        self.epoch = later(self.epoch, epoch);
+        self.nodes.push(node)?;
+        self.viewers.deal(viewers)
     }
 }
 

@@ -1,7 +1,7 @@
 //! Commands, one after the other in one folder.
 use crate::folder::Folder;
 use cli::{Driven, Files, Stream, System, answer};
-use host::drive_shards;
+use drive::drive_shards;
 use host_files::HostFiles;
 use settings::Settings;
 use simdisk::SimDisk;

@@ -1,9 +1,15 @@
-//! Letters to nodes and messages to workers, and what carries them.
+//! Letters to nodes and messages to workers, what carries them, and threads that serve nodes by the letters of an inbox.
 #![tactic(auto)]
 
+mod gate;
 mod letter;
 mod network;
+mod serves;
 mod sessions;
+mod threads;
 
+pub use gate::Gate;
 pub use letter::{Letter, Post};
 pub use network::{Inboxes, Mail, Network};
+pub use serves::{Due, Serves, serve};
+pub use threads::{Served, start};

@@ -4,6 +4,7 @@ ghost use Rattle.std.specs.Prelude.{◌≡◌, IfOk, IfErr, IsSome};
 use board::{Told, Viewer};
 use desk::Desk;
 use disk::Disk;
+use letters::Due;
 use message::{Input, Outbox};
 use std::alloc::Global;
 use std::sync::Wait;
@@ -60,13 +61,6 @@ impl<D: Disk + Drop, R: Wait + Drop> Place<D, R> {
             Place::Resting(disk) => disk,
         }
     }
-}
-
-/// The standing of transactions that wait for a node's chores: decided and not settled, or prepared.
-#[derive(Clone, Copy)]
-pub enum Due {
-    Decided,
-    Prepared,
 }
 
 /// What a node's lock holds. The place is there whenever the lock is free.

@@ -1,11 +1,9 @@
-//! Nodes: a shard's core with the publisher of its board under a lock, and threads that serve it by the letters of an inbox.
+//! Nodes: a shard's core with the publisher of its board under a lock, as threads serve it by the letters of an inbox.
 #![tactic(auto)]
 
-mod gate;
 mod held;
 mod node;
-mod threads;
+mod serves;
 
-pub use gate::Gate;
+pub use letters::{Gate, Served, start};
 pub use node::Node;
-pub use threads::{Served, start};

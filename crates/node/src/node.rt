@@ -16,7 +16,7 @@ use units::{Fault, Setup, ShardNo, Stamp};
 
 /// A node. Whenever its lock is free, the desk keeps what a desk keeps, or the disk is there alone.
 pub struct Node<D: Disk + Drop, R: Wait + Drop> {
-    setup: Setup,
+    pub(crate) setup: Setup,
     pub(crate) held: Mutex<Held<D, R>>,
 }
 

@@ -1,8 +1,8 @@
 //! Shards on the machine's threads.
+use crate::engine::{self, drive};
 use disk::Disk;
-use drive::drive;
 use host_files::{logs_in, logs_in_memory};
-use node::Gate;
+use letters::Gate;
 use progress::{Terminal, Watch};
 use settings::Settings;
 use std::alloc::Global;
@@ -58,7 +58,7 @@ fn drive_over<R: Threads + Wait + time::Clock + Sync, D: Disk + Drop + Send, W: 
     logs: Vec<D>,
     watch: &W,
 ) -> Result<Driven, Fault> {
-    let drive::Driven {
+    let engine::Driven {
         summary,
         lines,
         disks,

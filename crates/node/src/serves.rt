@@ -1,0 +1,48 @@
+//! A node as threads serve it.
+use crate::node::Node;
+use crossbeam_channel::Receiver;
+use disk::Disk;
+use letters::{Due, Gate, Letter, Post, Serves, serve};
+use message::{Input, Outbox};
+use std::sync::Wait;
+use std::time;
+use truetime::Clock;
+use units::{ShardNo, TxnId};
+
+impl<D: Disk + Drop, R: Wait + Drop> Serves for Node<D, R> {
+    fn shard(&self) -> ShardNo {
+        self.setup.shard
+    }
+
+    fn take<W: Wait, C: Clock>(&self, rt: &W, clock: &mut C, input: &Input) -> Option<Outbox> {
+        let mut held = self.held.lock(rt);
+        let now = clock.now()?;
+        held.deliver(&now, input).ok()
+    }
+
+    fn due<W: Wait>(&self, rt: &W, due: Due, n: usize) -> Option<TxnId> {
+        self.held.lock(rt).due(due, n)
+    }
+
+    fn keep_up<W: Wait, C: Clock>(&self, rt: &W, clock: &mut C) {
+        let mut held = self.held.lock(rt);
+        if let Some(now) = clock.now() {
+            drop(held.advance(&now, now.latest()));
+        }
+    }
+}
+
+impl<D: Disk + Drop, R: Wait + Drop> Node<D, R> {
+    /// Serves the letters of the inbox until one says to close, or the inbox is closed. Whenever none has come for a
+    /// millisecond, the node does its chores.
+    pub fn serve<W: Wait + time::Clock, P: Post, C: Clock, G: Gate>(
+        &self,
+        rt: &W,
+        inbox: &Receiver<Letter>,
+        post: &mut P,
+        clock: &mut C,
+        gate: &G,
+    ) {
+        serve(self, rt, inbox, post, clock, gate);
+    }
+}
