@@ -1,7 +1,7 @@
 //! Commands that ask the system for files.
 use crate::given::{Asked, File};
 
-pub static FILES: [File; 17] = [
+pub static FILES: [File<'static>; 17] = [
     File {
         path: "empty",
         bytes: b"",

@@ -1,8 +1,9 @@
 //! What `play` prints of a file.
-use crate::given::{AMPLE, Asked, File, compare};
+use crate::given::{AMPLE, Asked, File, PLAY, compare};
+use std::alloc::Global;
+use std::process::Abort;
 
 // The bytes of a file, what is printed to both outputs, and the status.
-#[derive(Clone, Copy)]
 struct Played {
     name: &'static str,
     bytes: &'static [u8],
@@ -454,20 +455,19 @@ verdict yes
     },
 ];
 
-// Each of them is a file that is played.
-#[test]
-fn schedules_of_files_are_played(rt: HostRuntime) {
+/// Each of them is a file that is played.
+pub fn compare_all(rt: &impl Abort, alloc: Global) {
     for row in &PLAYED {
         let file = File {
             path: "a.schedule",
             bytes: row.bytes,
         };
         let asked = Asked {
-            words: &["play", "a.schedule"],
+            words: PLAY,
             printed: row.printed,
             refused: row.refused,
             status: row.status,
         };
-        compare(&rt, rt.alloc(), &[file], &asked, AMPLE, row.name);
+        compare(rt, alloc, &[file], &asked, AMPLE, row.name);
     }
 }

@@ -3,7 +3,6 @@ use crate::asked::{ASKED, FILES};
 use crate::given::{AMPLE, Asked, Writes, compare};
 use cli::{Command, command};
 use std::alloc::Global;
-use truetime::Reading;
 use units::{Fault, Reason};
 
 static PRINTED: [Asked; 10] = [
@@ -186,25 +185,75 @@ fn answers(rt: HostRuntime) {
     }
 }
 
-static WORDS: [&str; 7] = ["once", "a", "1", "100", "110", "112", "121"];
-
-static NO_COMMANDS: [&[&str]; 11] = [
-    &[],
-    &["once"],
-    &["once", "a", "1", "100", "110", "112"],
-    &["once", "a", "1", "100", "110", "112", "121", "x"],
-    &["one", "a", "1", "100", "110", "112", "121"],
-    &["once", "a", "1", "", "110", "112", "121"],
-    &["once", "a", "1", "+100", "110", "112", "121"],
-    &["help"],
-    &["once", "--helpful"],
-    &["play"],
-    &["play", "a", "b"],
-];
-
-fn is_reading(now: &Reading, earliest: u64, latest: u64) -> bool {
-    now.earliest().micros() == earliest && now.latest().micros() == latest
+// Words, and whether they are the command once, or else none.
+struct Words {
+    text: &'static str,
+    words: &'static [&'static str],
+    are_once: bool,
 }
+
+static WORDS: [Words; 12] = [
+    Words {
+        text: "once a 1 100 110 112 121",
+        words: &["once", "a", "1", "100", "110", "112", "121"],
+        are_once: true,
+    },
+    Words {
+        text: "no word",
+        words: &[],
+        are_once: false,
+    },
+    Words {
+        text: "once",
+        words: &["once"],
+        are_once: false,
+    },
+    Words {
+        text: "once a 1 100 110 112",
+        words: &["once", "a", "1", "100", "110", "112"],
+        are_once: false,
+    },
+    Words {
+        text: "once a 1 100 110 112 121 x",
+        words: &["once", "a", "1", "100", "110", "112", "121", "x"],
+        are_once: false,
+    },
+    Words {
+        text: "one a 1 100 110 112 121",
+        words: &["one", "a", "1", "100", "110", "112", "121"],
+        are_once: false,
+    },
+    Words {
+        text: "once a 1  110 112 121",
+        words: &["once", "a", "1", "", "110", "112", "121"],
+        are_once: false,
+    },
+    Words {
+        text: "once a 1 +100 110 112 121",
+        words: &["once", "a", "1", "+100", "110", "112", "121"],
+        are_once: false,
+    },
+    Words {
+        text: "help",
+        words: &["help"],
+        are_once: false,
+    },
+    Words {
+        text: "once --helpful",
+        words: &["once", "--helpful"],
+        are_once: false,
+    },
+    Words {
+        text: "play",
+        words: &["play"],
+        are_once: false,
+    },
+    Words {
+        text: "play a b",
+        words: &["play", "a", "b"],
+        are_once: false,
+    },
+];
 
 // Whether it is what the words say.
 fn is_once(command: &Command) -> bool {
@@ -216,33 +265,32 @@ fn is_once(command: &Command) -> bool {
             second,
         } => key.as_bytes() == b"a".as_slice()
             && value.as_bytes() == b"1".as_slice()
-            && is_reading(first, 100, 110)
-            && is_reading(second, 112, 121),
+            && first.earliest().micros() == 100
+            && first.latest().micros() == 110
+            && second.earliest().micros() == 112
+            && second.latest().micros() == 121,
         _ => false,
     }
 }
 
-// Whether the words are the command, and else why they are none.
-fn taken(alloc: Global, words: &'static [&'static str]) -> Result<bool, Fault> {
-    match command(alloc, words) {
+// Where there is memory, want of it is not the answer.
+fn are_taken(alloc: Global, row: &Words) -> bool {
+    match command(alloc, row.words) {
         Ok(command) => {
             let once = is_once(&command);
             drop(command);
-            Ok(once)
+            once && row.are_once
         }
-        Err(fault) => Err(fault),
+        Err(fault) => !row.are_once && fault == Fault::BadRequest(Reason::Command),
     }
 }
 
-// Where there is memory, want of it is not the answer.
-#[test]
-fn always_memory(rt: HostRuntime) {
-    assert!(rt; taken(rt.alloc(), &WORDS) == Ok(true));
-    for words in &NO_COMMANDS {
-        let fault = taken(rt.alloc(), words);
-        assert!(rt;
-            fault == Err(Fault::BadRequest(Reason::Command)),
-            "{words:?}"
-        );
+/// The first words that are not taken as they should.
+pub fn wrong(alloc: Global) -> &'static str {
+    for row in &WORDS {
+        if !are_taken(alloc, row) {
+            return row.text;
+        }
     }
+    ""
 }
