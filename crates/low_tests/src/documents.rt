@@ -108,10 +108,9 @@ static TAKEN: [Taken; 4] = [
 ];
 
 fn are(splits: &[Key], wanted: &[&[u8]]) -> bool {
-    for (place, bytes) in wanted.iter().enumerate() {
-        match splits.get(place) {
-            Some(split) if split.as_bytes() == *bytes => {}
-            _ => return false,
+    for (split, bytes) in splits.iter().zip(wanted) {
+        if split.as_bytes() != *bytes {
+            return false;
         }
     }
     splits.len() == wanted.len()
@@ -255,15 +254,15 @@ fn refusal(alloc: Global, at: usize, text: &str) -> Option<Fault> {
     refusal
 }
 
-// The first text for a line that is not refused so, or not taken.
-fn wrong_in(
-    alloc: Global,
-    line: usize,
-    texts: &'static [&'static str],
-    refused: Option<Fault>,
-) -> &'static str {
-    for text in texts {
-        if refusal(alloc, line, *text) != refused {
+// The first text for a line that is not taken, or not refused.
+fn wrong_in(alloc: Global, row: &Changed) -> &'static str {
+    for text in row.taken {
+        if refusal(alloc, row.line, *text).is_some() {
+            return *text;
+        }
+    }
+    for text in row.refused {
+        if refusal(alloc, row.line, *text) != Some(Fault::BadRequest(Reason::Settings)) {
             return if text.is_empty() {
                 "a line left out"
             } else {
@@ -282,12 +281,7 @@ pub fn wrong(alloc: Global) -> &'static str {
         }
     }
     for row in &CHANGED {
-        let wrong = wrong_in(alloc, row.line, row.taken, None);
-        if !wrong.is_empty() {
-            return wrong;
-        }
-        let refused = Some(Fault::BadRequest(Reason::Settings));
-        let wrong = wrong_in(alloc, row.line, row.refused, refused);
+        let wrong = wrong_in(alloc, row);
         if !wrong.is_empty() {
             return wrong;
         }
