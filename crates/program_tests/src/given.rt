@@ -7,7 +7,6 @@ use simdisk::SimDisk;
 use std::alloc::Global;
 use std::io;
 use std::io::Write;
-use std::process::Abort;
 use units::{Fault, Verdict};
 
 /// A file.
@@ -152,6 +151,8 @@ pub fn print<'a>(
 /// A command line, what is printed to both outputs, and the status.
 #[derive(Clone, Copy)]
 pub struct Asked {
+    /// The words as one text, which names the row.
+    pub text: &'static str,
     pub words: &'static [&'static str],
     pub printed: &'static str,
     pub refused: &'static str,
@@ -161,15 +162,8 @@ pub struct Asked {
 /// The words that play the file `a.schedule`.
 pub const PLAY: &[&str] = &["play", "a.schedule"];
 
-/// Compares what a command over some files comes to with the row.
-pub fn compare(
-    rt: &impl Abort,
-    alloc: Global,
-    files: &[File<'_>],
-    row: &Asked,
-    writes: Writes,
-    name: &str,
-) {
+/// Whether a command over some files comes to what the row says.
+pub fn comes_to(alloc: Global, files: &[File<'_>], row: &Asked, writes: Writes) -> bool {
     let printed = print(alloc, files, row.words, writes);
     let wanted = row.printed.as_bytes();
     let right = printed.out.starts_with(wanted)
@@ -177,5 +171,5 @@ pub fn compare(
         && printed.err.as_slice() == row.refused.as_bytes()
         && printed.status == row.status;
     drop(printed);
-    assert!(rt; right, "{}: {:?}", name, row.words);
+    right
 }

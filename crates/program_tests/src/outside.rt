@@ -1,10 +1,11 @@
 //! What befalls the core of a shard from outside a run shows in the run: the cores that it plays lie open here.
 use lives::{Life, Run};
+use made::stamp;
 use message::Input;
 use script::schedule;
 use std::alloc::Global;
 use truetime::Reading;
-use units::{Fault, Stamp};
+use units::Fault;
 use world::{Event, Reply};
 
 // Before the first Commit comes, which is event 3, the core of shard 0 is to serve up to 500, with a device call of it armed or
@@ -82,14 +83,11 @@ fn befalls(run: &mut Run<'_>, alloc: Global, outside: &Outside) -> bool {
     let Life::Up(core) = &mut shard.life else {
         return false;
     };
-    let (Ok(to), Ok(latest)) = (Stamp::new(500), Stamp::new(510)) else {
-        return false;
-    };
-    let Ok(now) = Reading::new(to, latest) else {
+    let Ok(now) = Reading::new(stamp(500), stamp(510)) else {
         return false;
     };
     core.arm(outside.call);
-    let input = Input::Advance(to);
+    let input = Input::Advance(stamp(500));
     let answer = core.on(alloc, &now, &input);
     drop(input);
     match answer {

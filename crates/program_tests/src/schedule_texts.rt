@@ -2,7 +2,7 @@
 use script::schedule;
 use std::alloc::Global;
 use units::{Fault, Reason};
-use world::Act;
+use world::{Act, Event};
 
 const EACH_KIND: &str = "shards 2
 split m
@@ -133,24 +133,29 @@ fn is_stop(act: &Act, stop: &Option<(u8, u64, u8)>) -> bool {
     }
 }
 
+// Whether these many events were read, the first of which is that stop.
+fn are_read(events: &[Event], count: usize, stop: &Option<(u8, u64, u8)>) -> bool {
+    match events.first() {
+        Some(event) => events.len() == count && is_stop(&event.act, stop),
+        None => false,
+    }
+}
+
 fn is_read(alloc: Global, row: &Row) -> bool {
-    match (schedule(alloc, row.text), &row.read) {
-        (Ok((config, events)), Read::As(count, stop)) => {
+    match schedule(alloc, row.text) {
+        Ok((config, events)) => {
             drop(config);
-            let is_first = match events.first() {
-                Some(event) => is_stop(&event.act, stop),
-                None => false,
+            let read = match &row.read {
+                Read::As(count, stop) => are_read(&events, *count, stop),
+                Read::Refused(_) => false,
             };
-            let is_read = is_first && events.len() == *count;
             drop(events);
-            is_read
+            read
         }
-        (Ok(read), Read::Refused(_)) => {
-            drop(read);
-            false
-        }
-        (Err(fault), Read::Refused(reason)) => fault == Fault::BadRequest(*reason),
-        (Err(_), Read::As(_, _)) => false,
+        Err(fault) => match row.read {
+            Read::Refused(reason) => fault == Fault::BadRequest(reason),
+            Read::As(_, _) => false,
+        },
     }
 }
 

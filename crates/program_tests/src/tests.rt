@@ -1,4 +1,4 @@
-//! The test of runs, schedules and words.
+//! The tests, each of some areas.
 use crate::cases::CASES;
 use crate::crashes::CRASHES;
 use crate::stops::FAILED;
@@ -13,16 +13,22 @@ fn check(rt: &impl Abort, area: &str, wrong: &str) {
 }
 
 #[test]
-fn runs_and_words(rt: HostRuntime) {
+fn answers(rt: HostRuntime) {
     let alloc = rt.alloc();
-    played::compare_all(&rt, alloc);
-    check(&rt, "words", printed::wrong(alloc));
-    check(&rt, "schedules", comparing::wrong(alloc, &SCHEDULES));
-    check(&rt, "runs", comparing::wrong(alloc, &CASES));
-    check(&rt, "crashes", comparing::wrong(alloc, &CRASHES));
-    check(&rt, "failing calls", comparing::wrong(alloc, &FAILED));
+    check(&rt, "commands", printed::wrong_answer(alloc));
+    check(&rt, "words", printed::wrong_words(alloc));
+    check(&rt, "files that are played", played::wrong(alloc));
     check(&rt, "crashes in calls", stops::wrong(alloc));
     check(&rt, "texts", schedule_texts::wrong(alloc));
     check(&rt, "lists", unlawful::wrong(alloc));
     check(&rt, "outside", outside::wrong(alloc));
+}
+
+#[test]
+fn whole_runs(rt: HostRuntime) {
+    let alloc = rt.alloc();
+    check(&rt, "schedules", comparing::wrong(alloc, &SCHEDULES));
+    check(&rt, "runs", comparing::wrong(alloc, &CASES));
+    check(&rt, "crashes", comparing::wrong(alloc, &CRASHES));
+    check(&rt, "failing calls", comparing::wrong(alloc, &FAILED));
 }
