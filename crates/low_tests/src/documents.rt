@@ -108,9 +108,10 @@ static TAKEN: [Taken; 4] = [
 ];
 
 fn are(splits: &[Key], wanted: &[&[u8]]) -> bool {
-    for (split, bytes) in splits.iter().zip(wanted) {
-        if split.as_bytes() != *bytes {
-            return false;
+    for (place, bytes) in wanted.iter().enumerate() {
+        match splits.get(place) {
+            Some(split) if split.as_bytes() == *bytes => {}
+            _ => return false,
         }
     }
     splits.len() == wanted.len()
@@ -254,15 +255,15 @@ fn refusal(alloc: Global, at: usize, text: &str) -> Option<Fault> {
     refusal
 }
 
-// The first text for a line that is not taken, or not refused.
-fn wrong_in(alloc: Global, row: &Changed) -> &'static str {
-    for text in row.taken {
-        if refusal(alloc, row.line, *text).is_some() {
-            return *text;
-        }
-    }
-    for text in row.refused {
-        if refusal(alloc, row.line, *text) != Some(Fault::BadRequest(Reason::Settings)) {
+// The first text for a line that is not refused so, or not taken.
+fn wrong_in(
+    alloc: Global,
+    line: usize,
+    texts: &'static [&'static str],
+    refused: Option<Fault>,
+) -> &'static str {
+    for text in texts {
+        if refusal(alloc, line, *text) != refused {
             return if text.is_empty() {
                 "a line left out"
             } else {
@@ -281,7 +282,12 @@ pub fn wrong(alloc: Global) -> &'static str {
         }
     }
     for row in &CHANGED {
-        let wrong = wrong_in(alloc, row);
+        let wrong = wrong_in(alloc, row.line, row.taken, None);
+        if !wrong.is_empty() {
+            return wrong;
+        }
+        let refused = Some(Fault::BadRequest(Reason::Settings));
+        let wrong = wrong_in(alloc, row.line, row.refused, refused);
         if !wrong.is_empty() {
             return wrong;
         }
