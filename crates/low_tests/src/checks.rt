@@ -11,6 +11,25 @@ pub fn check(rt: &impl Abort, area: &str, wrong: &str) {
     assert!(rt; wrong.is_empty(), "{area}: {wrong}");
 }
 
+/// A row of a table.
+pub trait Row {
+    fn holds(&self, rt: &HostRuntime) -> bool;
+}
+
+/// A row, and what it is about.
+pub struct Named<R> {
+    pub what: &'static str,
+    pub row: R,
+}
+
+/// Ends the test with the first row that does not hold, if there is one.
+pub fn check_rows<R: Row>(rt: &HostRuntime, test: &impl Abort, area: &str, rows: &[Named<R>]) {
+    for Named { what, row } in rows {
+        let holds = row.holds(rt);
+        assert!(test; holds, "{area}: {what}");
+    }
+}
+
 /// Whether there is memory for the text, and it is this one.
 pub fn is_text(text: Result<String, AllocError>, wanted: &str) -> bool {
     match text {

@@ -7,40 +7,6 @@ use std::thread::Threads;
 use tickets::{Drawer, Tickets};
 use units::{Fault, Reason};
 
-// The drawer's draws are 0 and 1.
-fn draws_two(tickets: &Tickets, mut drawer: Drawer) -> bool
-    requires { drawer.source ≡ tickets.now }
-{
-    let first = tickets.draw(&mut drawer);
-    let second = tickets.draw(&mut drawer);
-    drop(drawer);
-    matches!((first, second), (Ok(0), Ok(1)))
-}
-
-fn are_zero_and_one(alloc: Global) -> bool {
-    let Ok((tickets, mut drawers)) = Tickets::new(alloc, 1) else {
-        return false;
-    };
-    let drawn = match drawers.pop() {
-        Some(drawer) => draws_two(&tickets, drawer),
-        None => false,
-    };
-    drop(drawers);
-    drop(tickets);
-    drawn
-}
-
-fn are_refused(alloc: Global, drawers: usize) -> bool {
-    match Tickets::new(alloc, drawers) {
-        Ok((tickets, drawers)) => {
-            drop(tickets);
-            drop(drawers);
-            false
-        }
-        Err(fault) => fault == Fault::BadRequest(Reason::Many),
-    }
-}
-
 // A thousand draws. Those that memory is wanting for are not in the list.
 fn draw_many(tickets: &Tickets, alloc: Global, mut drawer: Drawer) -> Vec<u64>
     requires { drawer.source ≡ tickets.now }
@@ -85,32 +51,56 @@ fn count_up(numbers: &[u64]) -> bool {
     true
 }
 
-fn draw_each_once<R: Threads + Sync>(rt: &R, alloc: Global) -> bool {
-    let Ok((tickets, drawers)) = Tickets::new(alloc, 8) else {
-        return false;
-    };
-    let mut all = draw_all(rt, alloc, &tickets, drawers);
-    let sorted = all.sort().is_ok();
-    let once = all.len() == 8000 && count_up(all.as_slice());
-    drop(all);
-    drop(tickets);
-    sorted && once
+// So many drawers draw on threads of their own, and these draws there are then, where so many drawers may be.
+struct Row {
+    name: &'static str,
+    drawers: usize,
+    draws: Option<usize>,
+}
+
+static ROWS: [Row; 4] = [
+    Row {
+        name: "no drawer",
+        drawers: 0,
+        draws: None,
+    },
+    Row {
+        name: "257 drawers",
+        drawers: 257,
+        draws: None,
+    },
+    Row {
+        name: "one drawer draws 0, 1, 2 .. in turn",
+        drawers: 1,
+        draws: Some(1000),
+    },
+    Row {
+        name: "eight threads draw each number once",
+        drawers: 8,
+        draws: Some(8000),
+    },
+];
+
+fn is_so<R: Threads + Sync>(rt: &R, alloc: Global, row: &Row) -> bool {
+    match Tickets::new(alloc, row.drawers) {
+        Ok((tickets, drawers)) => {
+            let mut all = draw_all(rt, alloc, &tickets, drawers);
+            let ordered = row.drawers == 1 || all.sort().is_ok();
+            let right = ordered && row.draws == Some(all.len()) && count_up(all.as_slice());
+            drop(all);
+            drop(tickets);
+            right
+        }
+        Err(fault) => row.draws.is_none() && fault == Fault::BadRequest(Reason::Many),
+    }
 }
 
 /// The first row that is wrong.
 pub fn wrong<R: Threads + Sync>(rt: &R, alloc: Global) -> &'static str {
-    if !are_zero_and_one(alloc) {
-        return "the first draws are 0 and 1";
+    for row in &ROWS {
+        if !is_so(rt, alloc, row) {
+            return row.name;
+        }
     }
-    if !are_refused(alloc, 0) {
-        return "no drawer";
-    }
-    if !are_refused(alloc, 257) {
-        return "257 drawers";
-    }
-    if draw_each_once(rt, alloc) {
-        ""
-    } else {
-        "eight threads draw each number once"
-    }
+    ""
 }

@@ -1,10 +1,15 @@
-//! Tests of the low crates: what their clauses do not say, and drawn calls beside plain models.
+//! Tests of the low crates, of disks and logs, and of what a shard keeps of its log in memory: what their clauses do not say, and drawn
+//! calls beside plain models.
 #![tactic(auto)]
 
 #[cfg(test)]
 mod checks;
 #[cfg(test)]
 mod clocks;
+#[cfg(test)]
+mod devices;
+#[cfg(test)]
+mod disks;
 #[cfg(test)]
 mod documents;
 #[cfg(test)]
@@ -16,9 +21,23 @@ mod drive_lines;
 #[cfg(test)]
 mod figures;
 #[cfg(test)]
+mod file_logs;
+#[cfg(test)]
+mod files;
+#[cfg(test)]
+mod folder;
+#[cfg(test)]
 mod ids;
 #[cfg(test)]
+mod known;
+#[cfg(test)]
+mod ledgers;
+#[cfg(test)]
+mod left;
+#[cfg(test)]
 mod limits;
+#[cfg(test)]
+mod lines;
 #[cfg(test)]
 mod looks;
 #[cfg(test)]
@@ -34,6 +53,10 @@ mod seated;
 #[cfg(test)]
 mod sessions;
 #[cfg(test)]
+mod spellings;
+#[cfg(test)]
+mod steps;
+#[cfg(test)]
 mod tables;
 #[cfg(test)]
 mod terminals;
@@ -43,3 +66,5 @@ mod tests;
 mod text_logs;
 #[cfg(test)]
 mod verdicts;
+#[cfg(test)]
+mod versioned;

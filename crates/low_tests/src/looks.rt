@@ -181,37 +181,28 @@ fn is_read_back<R: Threads + Sync>(rt: &R, viewers: &mut [Viewer]) -> bool {
 }
 
 // Looks change with the publication, and not before; a snapshot is answered once its timestamp is served. Each of three
-// viewers looks for the first time after it.
-fn wrong_look<R: Threads + Sync, W: Wait + Drop>(
+// viewers looks for the first time after it, and one of them on another thread.
+fn follow<R: Threads + Sync, W: Wait + Drop>(
     rt: &R,
     publisher: &mut Publisher<W>,
     viewers: &mut [Viewer],
     alloc: Global,
-) -> &'static str
+) -> bool
     requires first { publisher.old.published ≡ Safe 5 ∷ [] }
     requires none { publisher.old.pending ≡ [] }
 {
     let Ok(now) = Reading::new(stamp(6), stamp(9)) else {
-        return "no reading";
+        return false;
     };
     let snapshot = Snapshot::start(&now);
-    if !sees(viewers, 0, &AT_FIRST) || !shows(&snapshot, viewers, Err(Fault::NotYet)) {
-        return "at first";
-    }
-    if !accepts(publisher, alloc) || !sees(viewers, 0, &AT_FIRST) {
-        return "before the publication";
-    }
-    if !publishes(publisher) || !sees(viewers, 0, &AFTER_ONE) {
-        return "after the publication";
-    }
-    if !shows(&snapshot, viewers, Ok(Seen::Value(3))) {
-        return "a snapshot is answered once its timestamp is served";
-    }
-    if is_read_back(rt, viewers) {
-        ""
-    } else {
-        "another thread reads a published write back"
-    }
+    sees(viewers, 0, &AT_FIRST)
+        && shows(&snapshot, viewers, Err(Fault::NotYet))
+        && accepts(publisher, alloc)
+        && sees(viewers, 0, &AT_FIRST)
+        && publishes(publisher)
+        && sees(viewers, 0, &AFTER_ONE)
+        && shows(&snapshot, viewers, Ok(Seen::Value(3)))
+        && is_read_back(rt, viewers)
 }
 
 // The board of shard 0 of two whose publisher has ended.
@@ -264,36 +255,26 @@ static BOARDS: [Board; 6] = [
 ];
 
 // A viewer of each board that is made sees it at first, and is stopped once the publisher has ended.
-fn wrong_board<R: Threads + Wait + Sync>(rt: &R, alloc: Global, row: &Board) -> &'static str {
+fn is_so<R: Threads + Wait + Sync>(rt: &R, alloc: Global, row: &Board) -> bool {
     match new_board(rt, alloc, row.viewers) {
         Ok((mut publisher, mut viewers)) => {
             let counted = row.made == Ok(viewers.len());
             let before = sees(&mut viewers, 0, &AT_FIRST);
-            let wrong = if viewers.len() == 3 {
-                wrong_look(rt, &mut publisher, &mut viewers, alloc)
-            } else {
-                ""
-            };
+            let during = viewers.len() != 3 || follow(rt, &mut publisher, &mut viewers, alloc);
             drop(publisher);
             let after = sees(&mut viewers, 0, &AT_THE_END);
             drop(viewers);
-            if counted && before && after {
-                wrong
-            } else {
-                row.name
-            }
+            counted && before && during && after
         }
-        Err(fault) if row.made == Err(fault) => "",
-        Err(_) => row.name,
+        Err(fault) => row.made == Err(fault),
     }
 }
 
 /// The first row that is wrong.
 pub fn wrong<R: Threads + Wait + Sync>(rt: &R, alloc: Global) -> &'static str {
     for row in &BOARDS {
-        let wrong = wrong_board(rt, alloc, row);
-        if !wrong.is_empty() {
-            return wrong;
+        if !is_so(rt, alloc, row) {
+            return row.name;
         }
     }
     ""

@@ -210,23 +210,33 @@ fn has(alloc: Global, bag: &Bag, number: u64, line: &str) -> bool {
     }
 }
 
-/// The first row that is wrong. Messages have numbers from 0 on.
+// The first row that is wrong, in an empty bag. Messages have numbers from 0 on.
+fn wrong_in(alloc: Global, bag: &mut Bag, rows: &[Row]) -> &'static str {
+    for (number, row) in rows.iter().enumerate() {
+        if !is_put(bag, number as u64, envelope(alloc, row)) {
+            return row.line;
+        }
+    }
+    for (number, row) in rows.iter().enumerate() {
+        if !has(alloc, bag, number as u64, row.line) {
+            return row.line;
+        }
+    }
+    if bag.len() == 16 && bag.nth(16).is_none() {
+        ""
+    } else {
+        "16 messages"
+    }
+}
+
+/// The first row that is wrong.
 pub fn wrong(alloc: Global) -> &'static str {
     let mut bag = Bag::new(alloc);
-    let mut wrong = if bag.len() == 0 { "" } else { "no message" };
-    for (number, row) in ROWS.iter().enumerate() {
-        if wrong.is_empty() && !is_put(&mut bag, number as u64, envelope(alloc, row)) {
-            wrong = row.line;
-        }
-    }
-    for (number, row) in ROWS.iter().enumerate() {
-        if wrong.is_empty() && !has(alloc, &bag, number as u64, row.line) {
-            wrong = row.line;
-        }
-    }
-    if wrong.is_empty() && (bag.len() != 16 || bag.nth(16).is_some()) {
-        wrong = "16 messages";
-    }
+    let wrong = if bag.len() == 0 {
+        wrong_in(alloc, &mut bag, &ROWS)
+    } else {
+        "no message"
+    };
     drop(bag);
     wrong
 }

@@ -1,9 +1,9 @@
-//! Records and lines as they are printed.
+//! Records and lines as they are printed, and lines that are refused.
 use crate::checks::is_printed;
 use crate::text_logs::reads;
 use std::alloc::Global;
 use texts::{Text, lines};
-use units::Line;
+use units::{Fault, Line, Reason};
 
 // One of each kind, with empty and longer lists.
 static RECORDS: &str = "opened 1
@@ -17,14 +17,65 @@ outcome 1.1 committed 111
 outcome 1.2 aborted
 ";
 
-// One of each kind. A value may be empty of bytes only where there is none.
-static LINES: &str = "begin 1.1 0
+// How many lines a text has, or else which of them is refused. A value may be empty of bytes only where there is none.
+struct Row {
+    text: &'static str,
+    read: Result<usize, u64>,
+}
+
+static ROWS: [Row; 11] = [
+    // One of each kind.
+    Row {
+        text: "begin 1.1 0
 ack 1.1 111 5
 read 1.1 a none
 read 1.1 a =Z_9
 look a 111 none
 look key_1 0 =1
-";
+",
+        read: Ok(6),
+    },
+    Row {
+        text: "",
+        read: Ok(0),
+    },
+    Row {
+        text: "\n",
+        read: Err(1),
+    },
+    Row {
+        text: "begin 1.1",
+        read: Err(1),
+    },
+    Row {
+        text: "begin 1.1 0\nlook a 5 =1",
+        read: Err(2),
+    },
+    Row {
+        text: "begin 1.1 0\n\nbegin 1.2 1\n",
+        read: Err(2),
+    },
+    Row {
+        text: "begin 0.1 0\n",
+        read: Err(1),
+    },
+    Row {
+        text: "ack 1.1 4611686018427387904 5\n",
+        read: Err(1),
+    },
+    Row {
+        text: "look a 5 1\n",
+        read: Err(1),
+    },
+    Row {
+        text: "look a-b 5 =1\n",
+        read: Err(1),
+    },
+    Row {
+        text: "begin 1.1 00\n",
+        read: Err(1),
+    },
+];
 
 fn are_printed(alloc: Global, found: &[Line], texts: &str) -> bool {
     for (line, text) in found.iter().zip(texts.split('\n')) {
@@ -35,15 +86,20 @@ fn are_printed(alloc: Global, found: &[Line], texts: &str) -> bool {
     true
 }
 
-// So many lines are read, and each is printed as it was.
-fn are_lines(alloc: Global, text: &str, count: usize) -> bool {
-    match lines(alloc, text) {
-        Ok(found) => {
-            let same = found.len() == count && are_printed(alloc, found.as_slice(), text);
+// So many lines are read, and each is printed as it was; or the text is refused.
+fn is_read(alloc: Global, row: &Row) -> bool {
+    match (lines(alloc, row.text), row.read) {
+        (Ok(found), Ok(count)) => {
+            let same = found.len() == count && are_printed(alloc, found.as_slice(), row.text);
             drop(found);
             same
         }
-        Err(_) => false,
+        (Ok(found), Err(_)) => {
+            drop(found);
+            false
+        }
+        (Err(fault), Err(line)) => fault == Fault::BadRequest(Reason::Syntax(line)),
+        (Err(_), Ok(_)) => false,
     }
 }
 
@@ -55,12 +111,14 @@ pub fn wrong(alloc: Global) -> &'static str {
     if !printed {
         return "a record of each kind";
     }
-    if !are_lines(alloc, LINES, 6) {
-        return "a line of each kind";
+    for row in &ROWS {
+        if !is_read(alloc, row) {
+            return if row.text.is_empty() {
+                "no line"
+            } else {
+                row.text
+            };
+        }
     }
-    if are_lines(alloc, "", 0) {
-        ""
-    } else {
-        "no line"
-    }
+    ""
 }

@@ -1,52 +1,6 @@
-//! Words and lines that are refused.
+//! Words that are taken or refused.
 use disk::Fate;
-use std::alloc::Global;
-use texts::{fate, key, lines, number, reading, txn};
-use units::{Fault, Reason};
-
-struct Refused {
-    text: &'static str,
-    line: u64,
-}
-
-static REFUSED: [Refused; 9] = [
-    Refused {
-        text: "\n",
-        line: 1,
-    },
-    Refused {
-        text: "begin 1.1",
-        line: 1,
-    },
-    Refused {
-        text: "begin 1.1 0\nlook a 5 =1",
-        line: 2,
-    },
-    Refused {
-        text: "begin 1.1 0\n\nbegin 1.2 1\n",
-        line: 2,
-    },
-    Refused {
-        text: "begin 0.1 0\n",
-        line: 1,
-    },
-    Refused {
-        text: "ack 1.1 4611686018427387904 5\n",
-        line: 1,
-    },
-    Refused {
-        text: "look a 5 1\n",
-        line: 1,
-    },
-    Refused {
-        text: "look a-b 5 =1\n",
-        line: 1,
-    },
-    Refused {
-        text: "begin 1.1 00\n",
-        line: 1,
-    },
-];
+use texts::{fate, key, number, reading, txn};
 
 struct Spelt {
     word: &'static str,
@@ -133,35 +87,30 @@ static LIMITS: [Limit; 4] = [
 fn is_taken(kind: &Kind, word: &str) -> bool {
     match kind {
         Kind::Key => key(word).is_ok(),
-        Kind::Number => number(word).is_ok(),
+        Kind::Number => number(word) == Ok(u64::MAX),
         Kind::Txn => txn(word).is_ok(),
         Kind::Reading => reading(word, "110").is_ok(),
     }
 }
 
-/// The first row that is wrong.
-pub fn wrong(alloc: Global) -> &'static str {
-    for row in &REFUSED {
-        let refused = Fault::BadRequest(Reason::Syntax(row.line));
-        if lines(alloc, row.text).err() != Some(refused) {
-            return row.text;
-        }
+fn is_spelt(row: &Spelt) -> bool {
+    match fate(row.word) {
+        Ok(fate) => row.fate == Some(fate),
+        Err(_) => row.fate.is_none(),
     }
+}
+
+/// The first row that is wrong.
+pub fn wrong() -> &'static str {
     for row in &FATES {
-        if fate(row.word).ok() != row.fate {
+        if !is_spelt(row) {
             return row.word;
         }
     }
     for row in &LIMITS {
-        if !is_taken(&row.kind, row.taken) {
+        if !is_taken(&row.kind, row.taken) || is_taken(&row.kind, row.refused) {
             return row.taken;
         }
-        if is_taken(&row.kind, row.refused) {
-            return row.refused;
-        }
     }
-    match number("18446744073709551615") {
-        Ok(u64::MAX) => "",
-        _ => "the greatest number",
-    }
+    ""
 }

@@ -86,8 +86,7 @@ static ROWS: [Row; 6] = [
     },
 ];
 
-// What is written of a row.
-fn written(alloc: Global, row: &Row) -> Vec<u8> {
+fn shows_its_lines(alloc: Global, row: &Row) -> bool {
     let paper = Paper {
         failures: row.failures,
         written: Vec::new(alloc),
@@ -100,17 +99,9 @@ fn written(alloc: Global, row: &Row) -> Vec<u8> {
         };
         screen.turned(alloc, turn, *moment);
     }
-    let Paper {
-        failures: _,
-        written,
-    } = screen.finish(alloc, row.end);
-    written
-}
-
-fn shows_its_lines(alloc: Global, row: &Row) -> bool {
-    let written = written(alloc, row);
-    let same = written.as_slice() == row.written.as_bytes();
-    drop(written);
+    let paper = screen.finish(alloc, row.end);
+    let same = paper.written.as_slice() == row.written.as_bytes();
+    drop(paper);
     same
 }
 

@@ -9,10 +9,18 @@ use made::key;
 use std::alloc::Global;
 use units::{Asked, Fault, Mode, TxnId};
 
+// What comes of a request.
+enum Gets {
+    Granted,
+    Waits,
+    // It ends 1.2 alone.
+    Wounds,
+}
+
 // What a transaction does.
 enum Does {
-    // It asks for `a`, and gets this: `granted`, `waits`, or `wounds 1.2`, which it ends alone.
-    Asks(Mode, &'static str),
+    // It asks for `a`, and gets this.
+    Asks(Mode, Gets),
     // From now on nobody ends it.
     BecomesFirm,
     GivesItsWaitUp,
@@ -41,17 +49,17 @@ static STORIES: [Story; 5] = [
         steps: &[
             Step {
                 number: 1,
-                does: Does::Asks(Mode::Shared, "granted"),
+                does: Does::Asks(Mode::Shared, Gets::Granted),
                 ready: None,
             },
             Step {
                 number: 3,
-                does: Does::Asks(Mode::Exclusive, "waits"),
+                does: Does::Asks(Mode::Exclusive, Gets::Waits),
                 ready: None,
             },
             Step {
                 number: 2,
-                does: Does::Asks(Mode::Shared, "granted"),
+                does: Does::Asks(Mode::Shared, Gets::Granted),
                 ready: None,
             },
             Step {
@@ -73,22 +81,22 @@ static STORIES: [Story; 5] = [
         steps: &[
             Step {
                 number: 1,
-                does: Does::Asks(Mode::Shared, "granted"),
+                does: Does::Asks(Mode::Shared, Gets::Granted),
                 ready: None,
             },
             Step {
                 number: 2,
-                does: Does::Asks(Mode::Shared, "granted"),
+                does: Does::Asks(Mode::Shared, Gets::Granted),
                 ready: None,
             },
             Step {
                 number: 1,
-                does: Does::Asks(Mode::Exclusive, "wounds 1.2"),
+                does: Does::Asks(Mode::Exclusive, Gets::Wounds),
                 ready: None,
             },
             Step {
                 number: 2,
-                does: Does::Asks(Mode::Shared, "granted"),
+                does: Does::Asks(Mode::Shared, Gets::Granted),
                 ready: None,
             },
         ],
@@ -99,12 +107,12 @@ static STORIES: [Story; 5] = [
         steps: &[
             Step {
                 number: 2,
-                does: Does::Asks(Mode::Shared, "granted"),
+                does: Does::Asks(Mode::Shared, Gets::Granted),
                 ready: None,
             },
             Step {
                 number: 1,
-                does: Does::Asks(Mode::Exclusive, "wounds 1.2"),
+                does: Does::Asks(Mode::Exclusive, Gets::Wounds),
                 ready: None,
             },
             Step {
@@ -114,7 +122,7 @@ static STORIES: [Story; 5] = [
             },
             Step {
                 number: 1,
-                does: Does::Asks(Mode::Exclusive, "granted"),
+                does: Does::Asks(Mode::Exclusive, Gets::Granted),
                 ready: None,
             },
         ],
@@ -126,7 +134,7 @@ static STORIES: [Story; 5] = [
         steps: &[
             Step {
                 number: 2,
-                does: Does::Asks(Mode::Exclusive, "granted"),
+                does: Does::Asks(Mode::Exclusive, Gets::Granted),
                 ready: None,
             },
             Step {
@@ -136,7 +144,7 @@ static STORIES: [Story; 5] = [
             },
             Step {
                 number: 1,
-                does: Does::Asks(Mode::Shared, "waits"),
+                does: Does::Asks(Mode::Shared, Gets::Waits),
                 ready: None,
             },
             Step {
@@ -151,7 +159,7 @@ static STORIES: [Story; 5] = [
             },
             Step {
                 number: 3,
-                does: Does::Asks(Mode::Exclusive, "waits"),
+                does: Does::Asks(Mode::Exclusive, Gets::Waits),
                 ready: None,
             },
         ],
@@ -162,12 +170,12 @@ static STORIES: [Story; 5] = [
         steps: &[
             Step {
                 number: 1,
-                does: Does::Asks(Mode::Exclusive, "granted"),
+                does: Does::Asks(Mode::Exclusive, Gets::Granted),
                 ready: None,
             },
             Step {
                 number: 2,
-                does: Does::Asks(Mode::Shared, "waits"),
+                does: Does::Asks(Mode::Shared, Gets::Waits),
                 ready: None,
             },
             Step {
@@ -208,25 +216,25 @@ fn enters(table: &mut Table, alloc: Global, number: u64) -> Option<Held>
 }
 
 // What a request gets is this.
-fn gets(answer: Result<Asked, Fault>, wanted: &str) -> bool {
+fn is_given(answer: Result<Asked, Fault>, wanted: &Gets) -> bool {
     match answer {
-        Ok(Asked::Granted) => wanted == "granted",
-        Ok(Asked::Waits) => wanted == "waits",
+        Ok(Asked::Granted) => matches!(wanted, Gets::Granted),
+        Ok(Asked::Waits) => matches!(wanted, Gets::Waits),
         Ok(Asked::Wounds(ids)) => {
             let ends = ids.as_slice() == [id(2)].as_slice();
             drop(ids);
-            ends && wanted == "wounds 1.2"
+            ends && matches!(wanted, Gets::Wounds)
         }
         Err(_) => false,
     }
 }
 
-fn asks(table: &mut Table, alloc: Global, held: &mut Held, mode: Mode, wanted: &str) -> bool
+fn asks(table: &mut Table, alloc: Global, held: &mut Held, mode: Mode, wanted: &Gets) -> bool
     requires { has_claim table.old held.old.txn ≡ true }
     ensures txn { held.new.txn ≡ held.old.txn }
     ensures claims { KeepsClaims table.old table.new }
 {
-    gets(table.request(alloc, held, &needs(key(b'a'), mode)), wanted)
+    is_given(table.request(alloc, held, &needs(key(b'a'), mode)), wanted)
 }
 
 // A step of a transaction that stays in the table.
@@ -236,7 +244,7 @@ fn acts(table: &mut Table, alloc: Global, held: &mut Held, does: &Does) -> bool
     ensures claims { KeepsClaims table.old table.new }
 {
     match does {
-        Does::Asks(mode, gets) => asks(table, alloc, held, *mode, *gets),
+        Does::Asks(mode, gets) => asks(table, alloc, held, *mode, gets),
         Does::BecomesFirm => {
             table.firm(held);
             true

@@ -1,37 +1,49 @@
 //! The tests, each of some areas.
-use crate::checks::check;
+use crate::checks::{check, check_rows};
 use crate::{
-    clocks, documents, drawers, drive_lines, figures, limits, looks, messages, records, refusals,
-    screens, seated, sessions, tables, terminals, verdicts,
+    clocks, devices, disks, documents, drawers, drive_lines, figures, files, known, ledgers, left,
+    limits, looks, messages, records, refusals, screens, seated, sessions, spellings, tables,
+    terminals, verdicts, versioned,
 };
 
 #[test]
-fn small_types_and_texts(rt: HostRuntime) {
+fn low_crates(rt: HostRuntime) {
     let alloc = rt.alloc();
     check(&rt, "limits", limits::wrong(alloc));
-    check(&rt, "refusals", refusals::wrong(alloc));
+    check(&rt, "words", refusals::wrong());
     check(&rt, "records", records::wrong(alloc));
     check(&rt, "messages", messages::wrong(alloc));
     check(&rt, "settings", documents::wrong(alloc));
     check(&rt, "verdicts", verdicts::wrong(alloc));
     check(&rt, "clocks", clocks::wrong(alloc));
-}
-
-#[test]
-fn locks_rows_and_sessions(rt: HostRuntime) {
-    let alloc = rt.alloc();
     check(&rt, "the lock table", tables::wrong(alloc));
     check(&rt, "rows", seated::wrong(alloc));
     check(&rt, "sessions", sessions::wrong(alloc));
-}
-
-#[test]
-fn boards_and_drives(rt: HostRuntime) {
-    let alloc = rt.alloc();
     check(&rt, "tickets", drawers::wrong(&rt, alloc));
     check(&rt, "looks", looks::wrong(&rt, alloc));
     check(&rt, "figures", figures::wrong());
     check(&rt, "lines", drive_lines::wrong(alloc));
     check(&rt, "screens", screens::wrong(alloc));
     check(&rt, "terminals", terminals::wrong(&rt, alloc));
+}
+
+#[test]
+fn disks_and_logs(rt: HostRuntime) {
+    check_rows(&rt, &rt, "failing calls", &devices::FAILING);
+    check_rows(&rt, &rt, "disks in memory", &devices::LIVES);
+    check_rows(&rt, &rt, "disks over files", &disks::ROWS);
+    check_rows(&rt, &rt, "spellings", &spellings::VECTORS);
+    check_rows(&rt, &rt, "bytes that are read", &spellings::READ);
+    check_rows(&rt, &rt, "the log in its file", &files::CASES);
+    check_rows(&rt, &rt, "files that are no logs", &files::REFUSED);
+}
+
+#[test]
+fn what_is_kept_of_logs(rt: HostRuntime) {
+    check_rows(&rt, &rt, "what logs determine", &known::CASES);
+    check_rows(&rt, &rt, "logs that are opened again", &left::REOPENED);
+    check_rows(&rt, &rt, "versions", &versioned::LOOKED);
+    check_rows(&rt, &rt, "drawn versions", &versioned::DRAWN);
+    assert!(rt; ledgers::is_installed(rt.alloc()), "a promise is installed");
+    assert!(rt; ledgers::are_added_once(rt.alloc()), "ids are added once");
 }

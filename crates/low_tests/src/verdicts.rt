@@ -195,20 +195,15 @@ static CASES: [Case; 24] = [
     },
 ];
 
-fn read_log(alloc: Global, text: &str, logs: &mut Vec<Vec<Record>>) -> bool {
-    let mut log = Vec::new(alloc);
-    let read = reads(alloc, text, &mut log);
-    logs.push(log).is_ok() && read
-}
-
 // The logs of all shards.
 fn read_logs(alloc: Global, texts: &[&str], logs: &mut Vec<Vec<Record>>) -> bool {
+    let mut read = true;
     for text in texts {
-        if !read_log(alloc, *text, logs) {
-            return false;
-        }
+        let mut log = Vec::new(alloc);
+        read = reads(alloc, *text, &mut log) && read;
+        read = logs.push(log).is_ok() && read;
     }
-    true
+    read
 }
 
 fn is_given(alloc: Global, logs: &[Vec<Record>], case: &Case) -> bool {

@@ -1,32 +1,29 @@
 //! Files in memory, and drives of nothing, for commands that ask for them.
-ghost use Rattle.std.specs.Prelude.{◌≡◌, IfErr};
-ghost use Rattle.units.specs.declared.fault.Fault.TheVariants.{Device};
-
 use cli::{Driven, Files, Stream, System, answer};
 use disk::Disk;
+use made::id;
 use settings::Settings;
 use simdisk::SimDisk;
 use std::alloc::Global;
 use std::io;
 use std::io::Write;
-use std::process::Abort;
-use units::{Fault, TxnId, Verdict};
+use units::{Fault, Verdict};
 
 /// A file.
 #[derive(Clone, Copy)]
-pub struct File {
+pub struct File<'f> {
     pub path: &'static str,
-    pub bytes: &'static [u8],
+    pub bytes: &'f [u8],
 }
 
 /// Some files.
 #[derive(Clone, Copy)]
 struct Memory<'f> {
-    files: &'f [File],
+    files: &'f [File<'f>],
 }
 
-impl Memory<'_> {
-    fn file(&self, path: &str) -> Option<&'static [u8]> {
+impl<'f> Memory<'f> {
+    fn file(&self, path: &str) -> Option<&'f [u8]> {
         for file in self.files {
             if file.path == path {
                 return Some(file.bytes);
@@ -54,35 +51,21 @@ impl Files for Memory<'_> {
     }
 
     fn open(&self, alloc: Global, path: &str) -> Result<SimDisk, Fault> {
-        match self.file(path) {
-            Some(bytes) => disk_with(alloc, bytes),
-            None => Err(Fault::Device),
+        let Some(bytes) = self.file(path) else {
+            return Err(Fault::Device);
+        };
+        let mut disk = SimDisk::new(alloc);
+        match disk.write_at(0, bytes) {
+            Ok(()) => Ok(disk),
+            Err(_) => Err(Fault::Device),
         }
-    }
-}
-
-fn disk_with(alloc: Global, bytes: &[u8]) -> Result<SimDisk, Fault>
-    ensures { IfErr result (λ fault. fault ≡ Device) }
-{
-    let mut disk = SimDisk::new(alloc);
-    match disk.write_at(0, bytes) {
-        Ok(()) => Ok(disk),
-        Err(_) => Err(Fault::Device),
-    }
-}
-
-// Transaction 1.2 is torn.
-fn torn() -> Verdict {
-    match TxnId::new(1, 2) {
-        Some(txn) => Verdict::Torn(txn),
-        None => Verdict::Yes,
     }
 }
 
 // Drives nothing. What came of it is told by the settings: a drive of one key is torn.
 fn told(alloc: Global, settings: &Settings) -> Result<Driven, Fault> {
     let (says, verdict) = if settings.keys == 1 {
-        ("no torn 1.2", torn())
+        ("no torn 1.2", Verdict::Torn(id(2)))
     } else {
         ("yes", Verdict::Yes)
     };
@@ -128,16 +111,21 @@ impl Write for Paper {
     }
 }
 
-// What was printed to both outputs, and the status.
+/// What was printed to both outputs, and the status.
 #[derive(Drop)]
-struct Printed {
-    out: Vec<u8>,
-    err: Vec<u8>,
-    status: u8,
+pub struct Printed {
+    pub out: Vec<u8>,
+    pub err: Vec<u8>,
+    pub status: u8,
 }
 
-// Carries a command over some files out.
-fn print<'a>(alloc: Global, files: &[File], words: &'a [&'a str], writes: Writes) -> Printed {
+/// Carries a command over some files out.
+pub fn print<'a>(
+    alloc: Global,
+    files: &[File<'_>],
+    words: &'a [&'a str],
+    writes: Writes,
+) -> Printed {
     let system = System {
         files: Memory { files },
         drive: told,
@@ -163,21 +151,19 @@ fn print<'a>(alloc: Global, files: &[File], words: &'a [&'a str], writes: Writes
 /// A command line, what is printed to both outputs, and the status.
 #[derive(Clone, Copy)]
 pub struct Asked {
+    /// The words as one text, which names the row.
+    pub text: &'static str,
     pub words: &'static [&'static str],
     pub printed: &'static str,
     pub refused: &'static str,
     pub status: u8,
 }
 
-/// Compares what a command over some files comes to with the row.
-pub fn compare(
-    rt: &impl Abort,
-    alloc: Global,
-    files: &[File],
-    row: &Asked,
-    writes: Writes,
-    name: &str,
-) {
+/// The words that play the file `a.schedule`.
+pub const PLAY: &[&str] = &["play", "a.schedule"];
+
+/// Whether a command over some files comes to what the row says.
+pub fn comes_to(alloc: Global, files: &[File<'_>], row: &Asked, writes: Writes) -> bool {
     let printed = print(alloc, files, row.words, writes);
     let wanted = row.printed.as_bytes();
     let right = printed.out.starts_with(wanted)
@@ -185,5 +171,5 @@ pub fn compare(
         && printed.err.as_slice() == row.refused.as_bytes()
         && printed.status == row.status;
     drop(printed);
-    assert!(rt; right, "{}: {:?}", name, row.words);
+    right
 }

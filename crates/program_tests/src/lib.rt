@@ -1,11 +1,29 @@
-//! Tests of what the program prints.
+//! Tests of whole runs, and of what the program prints.
 #![tactic(auto)]
 
 #[cfg(test)]
 mod asked;
 #[cfg(test)]
+mod cases;
+#[cfg(test)]
+mod comparing;
+#[cfg(test)]
+mod crashes;
+#[cfg(test)]
 mod given;
+#[cfg(test)]
+mod outside;
 #[cfg(test)]
 mod played;
 #[cfg(test)]
 mod printed;
+#[cfg(test)]
+mod schedule_texts;
+#[cfg(test)]
+mod stops;
+#[cfg(test)]
+mod tests;
+#[cfg(test)]
+mod unlawful;
+#[cfg(test)]
+mod whole_schedules;

@@ -1,49 +1,55 @@
 //! What the program prints.
 use crate::asked::{ASKED, FILES};
-use crate::given::{AMPLE, Asked, Writes, compare};
+use crate::given::{AMPLE, Asked, Writes, comes_to};
 use cli::{Command, command};
 use std::alloc::Global;
-use truetime::Reading;
 use units::{Fault, Reason};
 
 static PRINTED: [Asked; 10] = [
     Asked {
+        text: "once a 1 100 110 112 121",
         words: &["once", "a", "1", "100", "110", "112", "121"],
         printed: "commit 1.1 at 111\ndone 1.1 committed 111\n",
         refused: "",
         status: 0,
     },
     Asked {
+        text: "once a 1 100 110 111 120",
         words: &["once", "a", "1", "100", "110", "111", "120"],
         printed: "commit 1.1 at 111\nearly\n",
         refused: "",
         status: 1,
     },
     Asked {
+        text: "once a 1 110 100 112 121",
         words: &["once", "a", "1", "110", "100", "112", "121"],
         printed: "",
         refused: "fault: 7 BadRequest(stamp)\n",
         status: 2,
     },
     Asked {
+        text: "once a 1 0x 110 112 121",
         words: &["once", "a", "1", "0x", "110", "112", "121"],
         printed: "",
         refused: "fault: 7 BadRequest(command)\n",
         status: 2,
     },
     Asked {
+        text: "once a 1 100 4611686018427387903 112 121",
         words: &["once", "a", "1", "100", "4611686018427387903", "112", "121"],
         printed: "",
         refused: "fault: 4 TimeSpent\n",
         status: 2,
     },
     Asked {
+        text: "once a 1 100 4611686018427387904 112 0x",
         words: &["once", "a", "1", "100", "4611686018427387904", "112", "0x"],
         printed: "",
         refused: "fault: 7 BadRequest(stamp)\n",
         status: 2,
     },
     Asked {
+        text: "once a 1 100 99999999999999999999 112 121",
         words: &[
             "once",
             "a",
@@ -58,12 +64,14 @@ static PRINTED: [Asked; 10] = [
         status: 2,
     },
     Asked {
+        text: "once a 1 0100 110 121 112",
         words: &["once", "a", "1", "0100", "110", "121", "112"],
         printed: "",
         refused: "fault: 7 BadRequest(command)\n",
         status: 2,
     },
     Asked {
+        text: "once  1 0100 110 112 121",
         words: &["once", "", "1", "0100", "110", "112", "121"],
         printed: "",
         refused: "fault: 7 BadRequest(key)\n",
@@ -71,6 +79,7 @@ static PRINTED: [Asked; 10] = [
     },
     // Words behind `--` ask for no help.
     Asked {
+        text: "once -- -h --help 100 110 112 121",
         words: &["once", "--", "-h", "--help", "100", "110", "112", "121"],
         printed: "commit 1.1 at 111\ndone 1.1 committed 111\n",
         refused: "",
@@ -80,6 +89,7 @@ static PRINTED: [Asked; 10] = [
 
 // Help is printed before anything else is looked at. It begins like this.
 const HELP: Asked = Asked {
+    text: "",
     words: &[],
     printed: "usage: shards COMMAND",
     refused: "",
@@ -88,26 +98,37 @@ const HELP: Asked = Asked {
 
 static ASKING_HELP: [Asked; 5] = [
     Asked {
+        text: "--help",
         words: &["--help"],
         ..HELP
     },
     Asked {
+        text: "-h",
         words: &["-h"],
         ..HELP
     },
     Asked {
+        text: "once --help",
         words: &["once", "--help"],
         ..HELP
     },
     Asked {
+        text: "once a -h -- 1",
         words: &["once", "a", "-h", "--", "1"],
         ..HELP
     },
     Asked {
+        text: "-x --help",
         words: &["-x", "--help"],
         ..HELP
     },
 ];
+
+// All is printed, and its beginning compared.
+const BEGINNING: Writes = Writes {
+    whole: false,
+    ..AMPLE
+};
 
 // A command line, and how many writes each output takes.
 struct Failing {
@@ -116,6 +137,7 @@ struct Failing {
 }
 
 const ONCE: Asked = Asked {
+    text: "once a 1 100 110 112 121",
     words: &["once", "a", "1", "100", "110", "112", "121"],
     printed: "",
     refused: "",
@@ -147,64 +169,107 @@ static FAILING: [Failing; 4] = [
     Failing {
         writes: Writes { err: 0, ..AMPLE },
         asked: Asked {
+            text: "once a 1 110 100 112 121",
             words: &["once", "a", "1", "110", "100", "112", "121"],
             ..ONCE
         },
     },
 ];
 
-#[test]
-fn answers(rt: HostRuntime) {
+/// The first command that does not come to what its row says.
+pub fn wrong_answer(alloc: Global) -> &'static str {
     for row in &PRINTED {
-        compare(&rt, rt.alloc(), &[], row, AMPLE, "once");
+        if !comes_to(alloc, &[], row, AMPLE) {
+            return row.text;
+        }
     }
     for row in &ASKED {
-        compare(&rt, rt.alloc(), &FILES, row, AMPLE, "files");
+        if !comes_to(alloc, &FILES, row, AMPLE) {
+            return row.text;
+        }
     }
     for row in &ASKING_HELP {
-        compare(
-            &rt,
-            rt.alloc(),
-            &[],
-            row,
-            Writes {
-                whole: false,
-                ..AMPLE
-            },
-            "help",
-        );
+        if !comes_to(alloc, &[], row, BEGINNING) {
+            return row.text;
+        }
     }
     for row in &FAILING {
-        compare(
-            &rt,
-            rt.alloc(),
-            &[],
-            &row.asked,
-            row.writes,
-            "writes that fail",
-        );
+        if !comes_to(alloc, &[], &row.asked, row.writes) {
+            return row.asked.text;
+        }
     }
+    ""
 }
 
-static WORDS: [&str; 7] = ["once", "a", "1", "100", "110", "112", "121"];
+// Words, and whether they are the command once, or else none.
+struct Words {
+    text: &'static str,
+    words: &'static [&'static str],
+    are_once: bool,
+}
 
-static NO_COMMANDS: [&[&str]; 11] = [
-    &[],
-    &["once"],
-    &["once", "a", "1", "100", "110", "112"],
-    &["once", "a", "1", "100", "110", "112", "121", "x"],
-    &["one", "a", "1", "100", "110", "112", "121"],
-    &["once", "a", "1", "", "110", "112", "121"],
-    &["once", "a", "1", "+100", "110", "112", "121"],
-    &["help"],
-    &["once", "--helpful"],
-    &["play"],
-    &["play", "a", "b"],
+static WORDS: [Words; 12] = [
+    Words {
+        text: "once a 1 100 110 112 121",
+        words: &["once", "a", "1", "100", "110", "112", "121"],
+        are_once: true,
+    },
+    Words {
+        text: "no word",
+        words: &[],
+        are_once: false,
+    },
+    Words {
+        text: "once",
+        words: &["once"],
+        are_once: false,
+    },
+    Words {
+        text: "once a 1 100 110 112",
+        words: &["once", "a", "1", "100", "110", "112"],
+        are_once: false,
+    },
+    Words {
+        text: "once a 1 100 110 112 121 x",
+        words: &["once", "a", "1", "100", "110", "112", "121", "x"],
+        are_once: false,
+    },
+    Words {
+        text: "one a 1 100 110 112 121",
+        words: &["one", "a", "1", "100", "110", "112", "121"],
+        are_once: false,
+    },
+    Words {
+        text: "once a 1  110 112 121",
+        words: &["once", "a", "1", "", "110", "112", "121"],
+        are_once: false,
+    },
+    Words {
+        text: "once a 1 +100 110 112 121",
+        words: &["once", "a", "1", "+100", "110", "112", "121"],
+        are_once: false,
+    },
+    Words {
+        text: "help",
+        words: &["help"],
+        are_once: false,
+    },
+    Words {
+        text: "once --helpful",
+        words: &["once", "--helpful"],
+        are_once: false,
+    },
+    Words {
+        text: "play",
+        words: &["play"],
+        are_once: false,
+    },
+    Words {
+        text: "play a b",
+        words: &["play", "a", "b"],
+        are_once: false,
+    },
 ];
-
-fn is_reading(now: &Reading, earliest: u64, latest: u64) -> bool {
-    now.earliest().micros() == earliest && now.latest().micros() == latest
-}
 
 // Whether it is what the words say.
 fn is_once(command: &Command) -> bool {
@@ -216,33 +281,32 @@ fn is_once(command: &Command) -> bool {
             second,
         } => key.as_bytes() == b"a".as_slice()
             && value.as_bytes() == b"1".as_slice()
-            && is_reading(first, 100, 110)
-            && is_reading(second, 112, 121),
+            && first.earliest().micros() == 100
+            && first.latest().micros() == 110
+            && second.earliest().micros() == 112
+            && second.latest().micros() == 121,
         _ => false,
     }
 }
 
-// Whether the words are the command, and else why they are none.
-fn taken(alloc: Global, words: &'static [&'static str]) -> Result<bool, Fault> {
-    match command(alloc, words) {
+// Where there is memory, want of it is not the answer.
+fn are_taken(alloc: Global, row: &Words) -> bool {
+    match command(alloc, row.words) {
         Ok(command) => {
             let once = is_once(&command);
             drop(command);
-            Ok(once)
+            once && row.are_once
         }
-        Err(fault) => Err(fault),
+        Err(fault) => !row.are_once && fault == Fault::BadRequest(Reason::Command),
     }
 }
 
-// Where there is memory, want of it is not the answer.
-#[test]
-fn always_memory(rt: HostRuntime) {
-    assert!(rt; taken(rt.alloc(), &WORDS) == Ok(true));
-    for words in &NO_COMMANDS {
-        let fault = taken(rt.alloc(), words);
-        assert!(rt;
-            fault == Err(Fault::BadRequest(Reason::Command)),
-            "{words:?}"
-        );
+/// The first words that are not taken as they should.
+pub fn wrong_words(alloc: Global) -> &'static str {
+    for row in &WORDS {
+        if !are_taken(alloc, row) {
+            return row.text;
+        }
     }
+    ""
 }

@@ -1,5 +1,5 @@
 //! The log in its file.
-use crate::checks::Row;
+use crate::checks::{Named, Row};
 use crate::devices::crash;
 use crate::lines::{Line, is_spelled, record_of};
 use crate::spellings::{CEILING, COMMIT, OPENED, OUTCOME};
@@ -102,7 +102,6 @@ pub fn put_lines<D: Disk>(alloc: Global, log: &mut GateLog<D>, lines: &[Line]) -
 /// Records that are logged, what is done then, and what the log is when it is opened again.
 #[derive(Clone, Copy)]
 pub struct Case {
-    what: &'static str,
     lines: &'static [Line],
     // Ceiling 200 is to be logged, each time while that call of the append is to fail, and it is answered so.
     armed: &'static [(u64, Result<(), Fault>)],
@@ -129,7 +128,6 @@ const ONE_COMMIT: &[Place] = &[(8, OPENED), (22, COMMIT), (64, OUTCOME)];
 
 // A log that was opened once.
 const OPENED_ONCE: Case = Case {
-    what: "an opening",
     lines: &[Line::Opened(1)],
     armed: &[],
     is_stopped: false,
@@ -140,98 +138,120 @@ const OPENED_ONCE: Case = Case {
     places_with_more: AT_FIRST,
 };
 
-pub static CASES: [Case; 11] = [
-    Case {
+pub static CASES: [Named<Case>; 11] = [
+    Named {
         what: "an empty log",
-        lines: &[],
-        bytes: Some(b"SPNLOG01\0"),
-        places: &[],
-        places_with_more: &[],
-        ..OPENED_ONCE
+        row: Case {
+            lines: &[],
+            bytes: Some(b"SPNLOG01\0"),
+            places: &[],
+            places_with_more: &[],
+            ..OPENED_ONCE
+        },
     },
-    Case {
+    Named {
         what: "one commit",
-        lines: &[
-            Line::Opened(1),
-            Line::Commit(1, 111, b'a', 1),
-            Line::Committed(1, 111),
-        ],
-        bytes: Some(WHOLE),
-        places: ONE_COMMIT,
-        places_with_more: ONE_COMMIT,
-        ..OPENED_ONCE
+        row: Case {
+            lines: &[
+                Line::Opened(1),
+                Line::Commit(1, 111, b'a', 1),
+                Line::Committed(1, 111),
+            ],
+            bytes: Some(WHOLE),
+            places: ONE_COMMIT,
+            places_with_more: ONE_COMMIT,
+            ..OPENED_ONCE
+        },
     },
-    Case {
+    Named {
         what: "the first call fails",
-        armed: &[(0, Err(Fault::Device))],
-        is_stopped: true,
-        fate: Some(Fate::New),
-        ..OPENED_ONCE
+        row: Case {
+            armed: &[(0, Err(Fault::Device))],
+            is_stopped: true,
+            fate: Some(Fate::New),
+            ..OPENED_ONCE
+        },
     },
-    Case {
+    Named {
         what: "the second call fails",
-        armed: &[(1, Err(Fault::Device))],
-        is_stopped: true,
-        fate: Some(Fate::Filled(0xa5)),
-        ..OPENED_ONCE
+        row: Case {
+            armed: &[(1, Err(Fault::Device))],
+            is_stopped: true,
+            fate: Some(Fate::Filled(0xa5)),
+            ..OPENED_ONCE
+        },
     },
-    Case {
+    Named {
         what: "the third call fails, with its change lost",
-        armed: &[(2, Err(Fault::Device))],
-        is_stopped: true,
-        fate: Some(Fate::Old),
-        ..OPENED_ONCE
+        row: Case {
+            armed: &[(2, Err(Fault::Device))],
+            is_stopped: true,
+            fate: Some(Fate::Old),
+            ..OPENED_ONCE
+        },
     },
-    Case {
+    Named {
         what: "the third call fails, with its change kept",
-        armed: &[(2, Err(Fault::Device))],
-        is_stopped: true,
-        fate: Some(Fate::New),
-        places: WITH_CEILING,
-        places_with_more: WITH_CEILING,
-        ..OPENED_ONCE
+        row: Case {
+            armed: &[(2, Err(Fault::Device))],
+            is_stopped: true,
+            fate: Some(Fate::New),
+            places: WITH_CEILING,
+            places_with_more: WITH_CEILING,
+            ..OPENED_ONCE
+        },
     },
-    Case {
+    Named {
         what: "the third call fails, with its change filled",
-        armed: &[(2, Err(Fault::Device))],
-        is_stopped: true,
-        fate: Some(Fate::Filled(0xa5)),
-        places: WITH_CEILING,
-        places_with_more: WITH_CEILING,
-        ..OPENED_ONCE
+        row: Case {
+            armed: &[(2, Err(Fault::Device))],
+            is_stopped: true,
+            fate: Some(Fate::Filled(0xa5)),
+            places: WITH_CEILING,
+            places_with_more: WITH_CEILING,
+            ..OPENED_ONCE
+        },
     },
-    Case {
+    Named {
         what: "the fourth call fails",
-        armed: &[(3, Err(Fault::Device))],
-        is_stopped: true,
-        fate: Some(Fate::Filled(0x37)),
-        ..OPENED_ONCE
+        row: Case {
+            armed: &[(3, Err(Fault::Device))],
+            is_stopped: true,
+            fate: Some(Fate::Filled(0x37)),
+            ..OPENED_ONCE
+        },
     },
-    Case {
+    Named {
         what: "the fifth call fails",
-        armed: &[(4, Ok(()))],
-        fate: Some(Fate::Old),
-        places: WITH_CEILING,
-        places_with_more: WITH_CEILING,
-        ..OPENED_ONCE
+        row: Case {
+            armed: &[(4, Ok(()))],
+            fate: Some(Fate::Old),
+            places: WITH_CEILING,
+            places_with_more: WITH_CEILING,
+            ..OPENED_ONCE
+        },
     },
-    Case {
+    Named {
         what: "a closed gate is used again",
-        armed: &[(2, Err(Fault::Device))],
-        is_stopped: true,
-        fate: Some(Fate::Filled(0x37)),
-        more: &[Line::Ceiling(300)],
-        places_with_more: WITH_HIGHER,
-        ..OPENED_ONCE
+        row: Case {
+            armed: &[(2, Err(Fault::Device))],
+            is_stopped: true,
+            fate: Some(Fate::Filled(0x37)),
+            more: &[Line::Ceiling(300)],
+            places_with_more: WITH_HIGHER,
+            ..OPENED_ONCE
+        },
     },
     // The file has both entries, as it is read.
-    Case {
+    Named {
         what: "a failure stops it",
-        armed: &[(3, Err(Fault::Device)), (3, Err(Fault::Stopped))],
-        is_stopped: true,
-        places: WITH_CEILING,
-        places_with_more: WITH_CEILING,
-        ..OPENED_ONCE
+        row: Case {
+            armed: &[(3, Err(Fault::Device)), (3, Err(Fault::Stopped))],
+            is_stopped: true,
+            places: WITH_CEILING,
+            places_with_more: WITH_CEILING,
+            ..OPENED_ONCE
+        },
     },
 ];
 
@@ -262,10 +282,6 @@ fn is_left(alloc: Global, disk: &mut SimDisk, row: &Case) -> bool {
 
 // The log is filled, and opened again; then it takes more.
 impl Row for Case {
-    fn what(&self) -> &'static str {
-        self.what
-    }
-
     fn holds(&self, rt: &HostRuntime) -> bool {
         let alloc = rt.alloc();
         let Ok(mut log) = GateLog::format(SimDisk::new(alloc)) else {
@@ -285,56 +301,65 @@ impl Row for Case {
 
 /// How a file is refused.
 pub struct Refused {
-    what: &'static str,
     bytes: &'static [u8],
     fault: Option<Fault>,
 }
 
 const DAMAGED: Option<Fault> = Some(Fault::Damaged { offset: 8 });
 
-pub static REFUSED: [Refused; 7] = [
-    Refused {
+pub static REFUSED: [Named<Refused>; 7] = [
+    Named {
         what: "past the end",
-        bytes: b"SPNLOG01\xa5\0\0\0\x09",
-        fault: DAMAGED,
+        row: Refused {
+            bytes: b"SPNLOG01\xa5\0\0\0\x09",
+            fault: DAMAGED,
+        },
     },
-    Refused {
+    Named {
         what: "no gate",
-        bytes: b"SPNLOG01",
-        fault: DAMAGED,
+        row: Refused {
+            bytes: b"SPNLOG01",
+            fault: DAMAGED,
+        },
     },
-    Refused {
+    Named {
         what: "length 0",
-        bytes: b"SPNLOG01\xa5\0\0\0\0",
-        fault: DAMAGED,
+        row: Refused {
+            bytes: b"SPNLOG01\xa5\0\0\0\0",
+            fault: DAMAGED,
+        },
     },
-    Refused {
+    Named {
         what: "no record",
-        bytes: b"SPNLOG01\xa5\0\0\0\x01\x09",
-        fault: DAMAGED,
+        row: Refused {
+            bytes: b"SPNLOG01\xa5\0\0\0\x01\x09",
+            fault: DAMAGED,
+        },
     },
-    Refused {
+    Named {
         what: "another header",
-        bytes: b"SPNLOG02\0",
-        fault: Some(Fault::NotALog),
+        row: Refused {
+            bytes: b"SPNLOG02\0",
+            fault: Some(Fault::NotALog),
+        },
     },
-    Refused {
+    Named {
         what: "no byte",
-        bytes: b"",
-        fault: Some(Fault::NotALog),
+        row: Refused {
+            bytes: b"",
+            fault: Some(Fault::NotALog),
+        },
     },
-    Refused {
+    Named {
         what: "an empty log",
-        bytes: b"SPNLOG01\0",
-        fault: None,
+        row: Refused {
+            bytes: b"SPNLOG01\0",
+            fault: None,
+        },
     },
 ];
 
 impl Row for Refused {
-    fn what(&self) -> &'static str {
-        self.what
-    }
-
     fn holds(&self, rt: &HostRuntime) -> bool {
         let alloc = rt.alloc();
         let mut disk = SimDisk::new(alloc);

@@ -1,5 +1,5 @@
 //! Logs that are opened again: what they leave, and which are refused.
-use crate::checks::Row;
+use crate::checks::{Named, Row};
 use crate::files::{put, put_lines};
 use crate::lines::{Line, promise};
 use gatelog::{Entry, GateLog};
@@ -70,152 +70,177 @@ type Rebuilt = Result<Option<Shown>, Fault>;
 
 /// The log of a shard with so many promises at its end, and what it leaves.
 pub struct Reopened {
-    what: &'static str,
     shard: u8,
     lines: &'static [Line],
     promises: u16,
     left: Rebuilt,
 }
 
-pub static REOPENED: [Reopened; 13] = [
-    Reopened {
+pub static REOPENED: [Named<Reopened>; 13] = [
+    Named {
         what: "a promise stands",
-        shard: 1,
-        lines: &[
-            Line::Opened(1),
-            Line::Prepare(2, 200, b'z', 0),
-            Line::Opened(2),
-        ],
-        promises: 0,
-        left: Ok(Some(Shown {
-            prepared: (2, 200),
-            last: 200,
-            safe: 199,
-            epoch: 2,
-            ..NOTHING
-        })),
+        row: Reopened {
+            shard: 1,
+            lines: &[
+                Line::Opened(1),
+                Line::Prepare(2, 200, b'z', 0),
+                Line::Opened(2),
+            ],
+            promises: 0,
+            left: Ok(Some(Shown {
+                prepared: (2, 200),
+                last: 200,
+                safe: 199,
+                epoch: 2,
+                ..NOTHING
+            })),
+        },
     },
-    Reopened {
+    Named {
         what: "a decision stands until its outcome",
-        shard: 0,
-        lines: &[Line::Opened(1), Line::Commit(1, 111, b'a', 1)],
-        promises: 0,
-        left: Ok(Some(Shown {
-            decided: (1, 111),
-            last: 111,
-            safe: 110,
-            ..NOTHING
-        })),
+        row: Reopened {
+            shard: 0,
+            lines: &[Line::Opened(1), Line::Commit(1, 111, b'a', 1)],
+            promises: 0,
+            left: Ok(Some(Shown {
+                decided: (1, 111),
+                last: 111,
+                safe: 110,
+                ..NOTHING
+            })),
+        },
     },
-    Reopened {
+    Named {
         what: "a decision has its outcome",
-        shard: 0,
-        lines: &[
-            Line::Opened(1),
-            Line::Commit(1, 111, b'a', 1),
-            Line::Committed(1, 111),
-        ],
-        promises: 0,
-        left: Ok(Some(Shown {
-            last: 111,
-            safe: 111,
-            installs: 1,
-            ..NOTHING
-        })),
+        row: Reopened {
+            shard: 0,
+            lines: &[
+                Line::Opened(1),
+                Line::Commit(1, 111, b'a', 1),
+                Line::Committed(1, 111),
+            ],
+            promises: 0,
+            left: Ok(Some(Shown {
+                last: 111,
+                safe: 111,
+                installs: 1,
+                ..NOTHING
+            })),
+        },
     },
-    Reopened {
+    Named {
         what: "a ceiling is the last timestamp",
-        shard: 1,
-        lines: &[Line::Opened(1), Line::Ceiling(200)],
-        promises: 0,
-        left: Ok(Some(Shown {
-            last: 200,
-            safe: 200,
-            ..NOTHING
-        })),
+        row: Reopened {
+            shard: 1,
+            lines: &[Line::Opened(1), Line::Ceiling(200)],
+            promises: 0,
+            left: Ok(Some(Shown {
+                last: 200,
+                safe: 200,
+                ..NOTHING
+            })),
+        },
     },
-    Reopened {
+    Named {
         what: "no record",
-        shard: 1,
-        lines: &[],
-        promises: 0,
-        left: Ok(None),
+        row: Reopened {
+            shard: 1,
+            lines: &[],
+            promises: 0,
+            left: Ok(None),
+        },
     },
-    Reopened {
+    Named {
         what: "another epoch than the first",
-        shard: 1,
-        lines: &[Line::Opened(2)],
-        promises: 0,
-        left: Err(Fault::Damaged { offset: 8 }),
+        row: Reopened {
+            shard: 1,
+            lines: &[Line::Opened(2)],
+            promises: 0,
+            left: Err(Fault::Damaged { offset: 8 }),
+        },
     },
-    Reopened {
+    Named {
         what: "a promise before any opening",
-        shard: 1,
-        lines: &[Line::Prepare(2, 200, b'z', 0)],
-        promises: 0,
-        left: Err(Fault::Damaged { offset: 8 }),
+        row: Reopened {
+            shard: 1,
+            lines: &[Line::Prepare(2, 200, b'z', 0)],
+            promises: 0,
+            left: Err(Fault::Damaged { offset: 8 }),
+        },
     },
-    Reopened {
+    Named {
         what: "a strange key before any opening",
-        shard: 1,
-        lines: &[Line::Prepare(2, 200, b'a', 0)],
-        promises: 0,
-        left: Err(Fault::Stranger),
+        row: Reopened {
+            shard: 1,
+            lines: &[Line::Prepare(2, 200, b'a', 0)],
+            promises: 0,
+            left: Err(Fault::Stranger),
+        },
     },
-    Reopened {
+    Named {
         what: "a strange key before damage",
-        shard: 1,
-        lines: &[
-            Line::Opened(1),
-            Line::Prepare(2, 200, b'a', 0),
-            Line::Opened(9),
-        ],
-        promises: 0,
-        left: Err(Fault::Stranger),
+        row: Reopened {
+            shard: 1,
+            lines: &[
+                Line::Opened(1),
+                Line::Prepare(2, 200, b'a', 0),
+                Line::Opened(9),
+            ],
+            promises: 0,
+            left: Err(Fault::Stranger),
+        },
     },
-    Reopened {
+    Named {
         what: "another holds the key",
-        shard: 1,
-        lines: &[
-            Line::Opened(1),
-            Line::Prepare(2, 200, b'z', 0),
-            Line::Prepare(3, 300, b'z', 0),
-        ],
-        promises: 0,
-        left: Err(Fault::Damaged { offset: 63 }),
+        row: Reopened {
+            shard: 1,
+            lines: &[
+                Line::Opened(1),
+                Line::Prepare(2, 200, b'z', 0),
+                Line::Prepare(3, 300, b'z', 0),
+            ],
+            promises: 0,
+            left: Err(Fault::Damaged { offset: 63 }),
+        },
     },
-    Reopened {
+    Named {
         what: "a version of the key is not below it",
-        shard: 0,
-        lines: &[
-            Line::Opened(1),
-            Line::Commit(1, 111, b'a', 1),
-            Line::Committed(1, 111),
-            Line::Commit(2, 111, b'a', 1),
-        ],
-        promises: 0,
-        left: Err(Fault::Damaged { offset: 95 }),
+        row: Reopened {
+            shard: 0,
+            lines: &[
+                Line::Opened(1),
+                Line::Commit(1, 111, b'a', 1),
+                Line::Committed(1, 111),
+                Line::Commit(2, 111, b'a', 1),
+            ],
+            promises: 0,
+            left: Err(Fault::Damaged { offset: 95 }),
+        },
     },
     // 1,024 rows may stand, and no more.
-    Reopened {
+    Named {
         what: "a full table",
-        shard: 1,
-        lines: &[Line::Opened(1)],
-        promises: 1024,
-        left: Ok(Some(Shown {
-            prepared: (0, 200),
-            last: 200,
-            safe: 199,
-            ..NOTHING
-        })),
+        row: Reopened {
+            shard: 1,
+            lines: &[Line::Opened(1)],
+            promises: 1024,
+            left: Ok(Some(Shown {
+                prepared: (0, 200),
+                last: 200,
+                safe: 199,
+                ..NOTHING
+            })),
+        },
     },
     // Each frame has 43 bytes; the first stands behind that of the opening, at 22.
-    Reopened {
+    Named {
         what: "too many rows",
-        shard: 1,
-        lines: &[Line::Opened(1)],
-        promises: 1025,
-        left: Err(Fault::Damaged { offset: 44_054 }),
+        row: Reopened {
+            shard: 1,
+            lines: &[Line::Opened(1)],
+            promises: 1025,
+            left: Err(Fault::Damaged { offset: 44_054 }),
+        },
     },
 ];
 
@@ -254,10 +279,6 @@ fn rebuilt(alloc: Global, number: u8, entries: &[Entry]) -> Rebuilt {
 }
 
 impl Row for Reopened {
-    fn what(&self) -> &'static str {
-        self.what
-    }
-
     fn holds(&self, rt: &HostRuntime) -> bool {
         let alloc = rt.alloc();
         let Ok(mut log) = GateLog::format(SimDisk::new(alloc)) else {

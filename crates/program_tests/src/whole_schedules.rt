@@ -1,8 +1,5 @@
-//! Whole schedules, and the test that goes over all tables of runs.
-use crate::cases::CASES;
-use crate::comparing::{Case, compare_all};
-use crate::crashes::CRASHES;
-use crate::stops::FAILED;
+//! Whole schedules.
+use crate::comparing::Case;
 
 // One write at one shard. The first settling comes too early.
 pub const ONE_SHARD: &str = "shards 2
@@ -32,7 +29,7 @@ stride 0
 217 look 1 z 200
 ";
 
-static SCHEDULES: [Case; 2] = [
+pub static SCHEDULES: [Case; 2] = [
     // The timestamp is above the latest end of the reading.
     Case {
         name: "a commit at one shard",
@@ -78,11 +75,3 @@ verdict yes
 ",
     },
 ];
-
-#[test]
-fn whole_runs(rt: HostRuntime) {
-    compare_all(&rt, rt.alloc(), &SCHEDULES);
-    compare_all(&rt, rt.alloc(), &CASES);
-    compare_all(&rt, rt.alloc(), &CRASHES);
-    compare_all(&rt, rt.alloc(), &FAILED);
-}

@@ -1,7 +1,7 @@
 //! The versions of keys.
 ghost use Rattle.std.specs.Prelude.{◌≡◌, ◌<◌, []};
 
-use crate::checks::Row;
+use crate::checks::{Named, Row};
 use crate::lines::byte;
 use counts::Count;
 use made::{key, stamp};
@@ -102,221 +102,230 @@ struct Lookup {
 
 /// Versions, and what is found of them.
 pub struct Looked {
-    what: &'static str,
     versions: &'static [Version],
     // Instead of them, a value of `1` is written to `a` and `z` is erased, by writes at 200.
     written: bool,
     lookups: &'static [Lookup],
 }
 
-pub static LOOKED: [Looked; 5] = [
-    Looked {
+pub static LOOKED: [Named<Looked>; 5] = [
+    Named {
         what: "a value from its timestamp on",
-        versions: &[
-            Version {
-                key: b'a',
-                at: 111,
-                value: Some(b'1'),
-            },
-            Version {
-                key: b'z',
-                at: 200,
-                value: Some(b'2'),
-            },
-        ],
-        written: false,
-        lookups: &[
-            Lookup {
-                key: b'a',
-                at: Some(110),
-                value: None,
-                place: None,
-            },
-            Lookup {
-                key: b'a',
-                at: Some(111),
-                value: Some(b'1'),
-                place: None,
-            },
-            Lookup {
-                key: b'a',
-                at: Some(Stamp::MAX),
-                value: Some(b'1'),
-                place: None,
-            },
-            Lookup {
-                key: b'z',
-                at: Some(199),
-                value: None,
-                place: None,
-            },
-            Lookup {
-                key: b'z',
-                at: Some(200),
-                value: Some(b'2'),
-                place: None,
-            },
-            Lookup {
-                key: b'k',
-                at: Some(200),
-                value: None,
-                place: None,
-            },
-            Lookup {
-                key: b'z',
-                at: None,
-                value: Some(b'2'),
-                place: None,
-            },
-            Lookup {
-                key: b'k',
-                at: None,
-                value: None,
-                place: None,
-            },
-        ],
+        row: Looked {
+            versions: &[
+                Version {
+                    key: b'a',
+                    at: 111,
+                    value: Some(b'1'),
+                },
+                Version {
+                    key: b'z',
+                    at: 200,
+                    value: Some(b'2'),
+                },
+            ],
+            written: false,
+            lookups: &[
+                Lookup {
+                    key: b'a',
+                    at: Some(110),
+                    value: None,
+                    place: None,
+                },
+                Lookup {
+                    key: b'a',
+                    at: Some(111),
+                    value: Some(b'1'),
+                    place: None,
+                },
+                Lookup {
+                    key: b'a',
+                    at: Some(Stamp::MAX),
+                    value: Some(b'1'),
+                    place: None,
+                },
+                Lookup {
+                    key: b'z',
+                    at: Some(199),
+                    value: None,
+                    place: None,
+                },
+                Lookup {
+                    key: b'z',
+                    at: Some(200),
+                    value: Some(b'2'),
+                    place: None,
+                },
+                Lookup {
+                    key: b'k',
+                    at: Some(200),
+                    value: None,
+                    place: None,
+                },
+                Lookup {
+                    key: b'z',
+                    at: None,
+                    value: Some(b'2'),
+                    place: None,
+                },
+                Lookup {
+                    key: b'k',
+                    at: None,
+                    value: None,
+                    place: None,
+                },
+            ],
+        },
     },
-    Looked {
+    Named {
         what: "an erasure hides older values",
-        versions: &[
-            Version {
-                key: b'a',
-                at: 111,
-                value: Some(b'1'),
-            },
-            Version {
-                key: b'a',
-                at: 200,
-                value: None,
-            },
-        ],
-        written: false,
-        lookups: &[
-            Lookup {
-                key: b'a',
-                at: Some(199),
-                value: Some(b'1'),
-                place: None,
-            },
-            Lookup {
-                key: b'a',
-                at: Some(200),
-                value: None,
-                place: None,
-            },
-            Lookup {
-                key: b'a',
-                at: None,
-                value: None,
-                place: None,
-            },
-        ],
+        row: Looked {
+            versions: &[
+                Version {
+                    key: b'a',
+                    at: 111,
+                    value: Some(b'1'),
+                },
+                Version {
+                    key: b'a',
+                    at: 200,
+                    value: None,
+                },
+            ],
+            written: false,
+            lookups: &[
+                Lookup {
+                    key: b'a',
+                    at: Some(199),
+                    value: Some(b'1'),
+                    place: None,
+                },
+                Lookup {
+                    key: b'a',
+                    at: Some(200),
+                    value: None,
+                    place: None,
+                },
+                Lookup {
+                    key: b'a',
+                    at: None,
+                    value: None,
+                    place: None,
+                },
+            ],
+        },
     },
     // Keys and timestamps without an order, one of them twice. Four versions are below 2^3.
-    Looked {
+    Named {
         what: "in order by key and timestamp",
-        versions: &[
-            Version {
-                key: b'b',
-                at: 30,
-                value: None,
-            },
-            Version {
-                key: b'a',
-                at: 10,
-                value: None,
-            },
-            Version {
-                key: b'c',
-                at: 5,
-                value: None,
-            },
-            Version {
-                key: b'a',
-                at: 20,
-                value: None,
-            },
-            Version {
-                key: b'a',
-                at: 20,
-                value: None,
-            },
-        ],
-        written: false,
-        lookups: &[
-            Lookup {
-                key: b'b',
-                at: Some(30),
-                value: None,
-                place: Some((3, 3)),
-            },
-            Lookup {
-                key: b'a',
-                at: Some(10),
-                value: None,
-                place: Some((1, 3)),
-            },
-            Lookup {
-                key: b'c',
-                at: Some(5),
-                value: None,
-                place: Some((4, 3)),
-            },
-            Lookup {
-                key: b'a',
-                at: Some(20),
-                value: None,
-                place: Some((2, 3)),
-            },
-            Lookup {
+        row: Looked {
+            versions: &[
+                Version {
+                    key: b'b',
+                    at: 30,
+                    value: None,
+                },
+                Version {
+                    key: b'a',
+                    at: 10,
+                    value: None,
+                },
+                Version {
+                    key: b'c',
+                    at: 5,
+                    value: None,
+                },
+                Version {
+                    key: b'a',
+                    at: 20,
+                    value: None,
+                },
+                Version {
+                    key: b'a',
+                    at: 20,
+                    value: None,
+                },
+            ],
+            written: false,
+            lookups: &[
+                Lookup {
+                    key: b'b',
+                    at: Some(30),
+                    value: None,
+                    place: Some((3, 3)),
+                },
+                Lookup {
+                    key: b'a',
+                    at: Some(10),
+                    value: None,
+                    place: Some((1, 3)),
+                },
+                Lookup {
+                    key: b'c',
+                    at: Some(5),
+                    value: None,
+                    place: Some((4, 3)),
+                },
+                Lookup {
+                    key: b'a',
+                    at: Some(20),
+                    value: None,
+                    place: Some((2, 3)),
+                },
+                Lookup {
+                    key: b'b',
+                    at: Some(29),
+                    value: None,
+                    place: Some((2, 3)),
+                },
+            ],
+        },
+    },
+    Named {
+        what: "no version",
+        row: Looked {
+            versions: &[],
+            written: false,
+            lookups: &[Lookup {
                 key: b'b',
                 at: Some(29),
                 value: None,
-                place: Some((2, 3)),
-            },
-        ],
+                place: Some((0, 0)),
+            }],
+        },
     },
-    Looked {
-        what: "no version",
-        versions: &[],
-        written: false,
-        lookups: &[Lookup {
-            key: b'b',
-            at: Some(29),
-            value: None,
-            place: Some((0, 0)),
-        }],
-    },
-    Looked {
+    Named {
         what: "writes at one timestamp",
-        versions: &[],
-        written: true,
-        lookups: &[
-            Lookup {
-                key: b'a',
-                at: Some(199),
-                value: None,
-                place: None,
-            },
-            Lookup {
-                key: b'a',
-                at: Some(200),
-                value: Some(b'1'),
-                place: None,
-            },
-            Lookup {
-                key: b'z',
-                at: None,
-                value: None,
-                place: None,
-            },
-            Lookup {
-                key: b'z',
-                at: Some(200),
-                value: None,
-                place: Some((2, 2)),
-            },
-        ],
+        row: Looked {
+            versions: &[],
+            written: true,
+            lookups: &[
+                Lookup {
+                    key: b'a',
+                    at: Some(199),
+                    value: None,
+                    place: None,
+                },
+                Lookup {
+                    key: b'a',
+                    at: Some(200),
+                    value: Some(b'1'),
+                    place: None,
+                },
+                Lookup {
+                    key: b'z',
+                    at: None,
+                    value: None,
+                    place: None,
+                },
+                Lookup {
+                    key: b'z',
+                    at: Some(200),
+                    value: None,
+                    place: Some((2, 2)),
+                },
+            ],
+        },
     },
 ];
 
@@ -340,10 +349,6 @@ fn all_found(versions: &Versions, rows: &[Lookup]) -> bool {
 }
 
 impl Row for Looked {
-    fn what(&self) -> &'static str {
-        self.what
-    }
-
     fn holds(&self, rt: &HostRuntime) -> bool {
         let alloc = rt.alloc();
         let mut versions = Versions::none(alloc);
@@ -462,7 +467,6 @@ fn agree_at(versions: &Versions, all: &[Plain], sought: &Plain) -> bool {
 /// So many drawn versions of keys behind one of these numbers of letters. At each so many-th turn the new one is looked for, and
 /// another drawn one.
 pub struct Drawn {
-    what: &'static str,
     letters: [usize; 5],
     turns: u32,
     apart: u32,
@@ -471,42 +475,54 @@ pub struct Drawn {
 // Lengths of what keys begin with.
 const PREFIXES: [usize; 5] = [0, 3, 8, 9, 20];
 
-pub static DRAWN: [Drawn; 6] = [
-    Drawn {
+pub static DRAWN: [Named<Drawn>; 6] = [
+    Named {
         what: "behind no letter",
-        letters: [0; 5],
-        turns: 600,
-        apart: 4,
+        row: Drawn {
+            letters: [0; 5],
+            turns: 600,
+            apart: 4,
+        },
     },
-    Drawn {
+    Named {
         what: "behind 3 letters",
-        letters: [3; 5],
-        turns: 600,
-        apart: 4,
+        row: Drawn {
+            letters: [3; 5],
+            turns: 600,
+            apart: 4,
+        },
     },
-    Drawn {
+    Named {
         what: "behind 8 letters",
-        letters: [8; 5],
-        turns: 600,
-        apart: 4,
+        row: Drawn {
+            letters: [8; 5],
+            turns: 600,
+            apart: 4,
+        },
     },
-    Drawn {
+    Named {
         what: "behind 9 letters",
-        letters: [9; 5],
-        turns: 600,
-        apart: 4,
+        row: Drawn {
+            letters: [9; 5],
+            turns: 600,
+            apart: 4,
+        },
     },
-    Drawn {
+    Named {
         what: "behind 20 letters",
-        letters: [20; 5],
-        turns: 600,
-        apart: 4,
+        row: Drawn {
+            letters: [20; 5],
+            turns: 600,
+            apart: 4,
+        },
     },
-    Drawn {
+    Named {
         what: "behind several prefixes",
-        letters: PREFIXES,
-        turns: 3_000,
-        apart: 32,
+        row: Drawn {
+            letters: PREFIXES,
+            turns: 3_000,
+            apart: 32,
+        },
     },
 ];
 
@@ -527,10 +543,6 @@ fn agree(alloc: Global, versions: &mut Versions, all: &mut Vec<Plain>, row: &Dra
 }
 
 impl Row for Drawn {
-    fn what(&self) -> &'static str {
-        self.what
-    }
-
     fn holds(&self, rt: &HostRuntime) -> bool {
         let alloc = rt.alloc();
         let (mut versions, mut all) = (Versions::none(alloc), Vec::new(alloc));

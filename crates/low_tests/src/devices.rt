@@ -1,0 +1,312 @@
+//! Disks in memory: which calls fail, what is read, and what a crash leaves.
+use crate::checks::{Named, Row};
+use crate::steps::{Step, Stepped, call_any, go_well};
+use disk::{FailurePlan, Fate};
+use simdisk::{Choice, SimDisk};
+use std::alloc::Global;
+use std::mem;
+use units::Fault;
+
+// A call that a plan is asked about.
+enum Call {
+    Write,
+    Other,
+}
+
+/// A plan, and calls with whether each fails. Then no call is to fail any more.
+pub struct Failing {
+    plan: FailurePlan,
+    // The call by which `armed` makes that plan, where it does.
+    armed_by: Option<Option<u64>>,
+    calls: &'static [(Call, bool)],
+}
+
+pub static FAILING: [Named<Failing>; 3] = [
+    Named {
+        what: "the third call fails",
+        row: Failing {
+            plan: FailurePlan::After(2),
+            armed_by: None,
+            calls: &[
+                (Call::Other, false),
+                (Call::Write, false),
+                (Call::Other, true),
+            ],
+        },
+    },
+    Named {
+        what: "what is armed waits for a write",
+        row: Failing {
+            plan: FailurePlan::AfterWrite(1),
+            armed_by: Some(Some(1)),
+            calls: &[
+                (Call::Other, false),
+                (Call::Other, false),
+                (Call::Write, false),
+                (Call::Other, true),
+            ],
+        },
+    },
+    Named {
+        what: "no call fails",
+        row: Failing {
+            plan: FailurePlan::Never,
+            armed_by: Some(None),
+            calls: &[(Call::Write, false)],
+        },
+    },
+];
+
+fn fails_so(plan: &mut FailurePlan, calls: &[(Call, bool)]) -> bool {
+    for (call, wanted) in calls {
+        let fails = match call {
+            Call::Write => plan.write(),
+            Call::Other => plan.call(),
+        };
+        if fails != *wanted {
+            return false;
+        }
+    }
+    true
+}
+
+impl Row for Failing {
+    fn holds(&self, _rt: &HostRuntime) -> bool {
+        let armed = match self.armed_by {
+            Some(call) => FailurePlan::armed(call) == self.plan,
+            None => true,
+        };
+        let mut plan = self.plan;
+        armed
+            && fails_so(&mut plan, self.calls)
+            && matches!(plan, FailurePlan::Never)
+            && !plan.write()
+    }
+}
+
+/// A disk may go to another thread.
+pub fn sent<T: Send>(value: T) -> T {
+    value
+}
+
+/// Leaves what a crash leaves by these fates. Without memory every change is lost.
+pub fn crash(alloc: Global, disk: &mut SimDisk, fates: &[Fate]) {
+    let choice = match fates.to_vec(alloc) {
+        Ok(fates) => Choice::from_vec(fates),
+        Err(_) => Choice::none(alloc),
+    };
+    let torn = mem::replace(disk, SimDisk::new(alloc));
+    drop(mem::replace(disk, torn.crash(&choice)));
+    drop(choice);
+}
+
+impl Stepped for SimDisk {
+    fn called(&mut self, alloc: Global, step: &Step) -> Result<(), Fault> {
+        match step {
+            Step::FailNext(calls) => self.fail_next(*calls),
+            Step::Crash(fates) => crash(alloc, self, fates),
+            _ => return call_any(alloc, self, step),
+        }
+        Ok(())
+    }
+}
+
+/// What is done with a synced file of six letters, `abcdef`: changes, and what comes then.
+pub struct Life {
+    changes: &'static [Step],
+    then: &'static [Step],
+}
+
+// `XY` over the second and third letter, `gh` and `ij` behind all.
+const WRITES: &[Step] = &[
+    Step::Write(1, b"XY"),
+    Step::Write(6, b"gh"),
+    Step::Write(8, b"ij"),
+];
+
+// `Z` behind the first two letters alone.
+const A_CUT: &[Step] = &[Step::Cut(2), Step::Write(2, b"Z")];
+
+pub static LIVES: [Named<Life>; 15] = [
+    Named {
+        what: "no write",
+        row: Life {
+            changes: WRITES,
+            then: &[Step::Crash(&[]), Step::Holds(b"abcdef")],
+        },
+    },
+    Named {
+        what: "the first write",
+        row: Life {
+            changes: WRITES,
+            then: &[Step::Crash(&[Fate::New]), Step::Holds(b"aXYdef")],
+        },
+    },
+    Named {
+        what: "the second write",
+        row: Life {
+            changes: WRITES,
+            then: &[
+                Step::Crash(&[Fate::Old, Fate::New]),
+                Step::Holds(b"abcdefgh"),
+            ],
+        },
+    },
+    Named {
+        what: "a filled write",
+        row: Life {
+            changes: WRITES,
+            then: &[Step::Crash(&[Fate::Filled(0x2a)]), Step::Holds(b"a**def")],
+        },
+    },
+    Named {
+        what: "a filled write between two",
+        row: Life {
+            changes: WRITES,
+            then: &[
+                Step::Crash(&[Fate::New, Fate::Filled(0x2a), Fate::New]),
+                Step::Holds(b"aXYdef**ij"),
+            ],
+        },
+    },
+    Named {
+        what: "the third write",
+        row: Life {
+            changes: WRITES,
+            then: &[
+                Step::Crash(&[Fate::Old, Fate::Old, Fate::New]),
+                Step::Holds(b"abcdef\0\0ij"),
+            ],
+        },
+    },
+    Named {
+        what: "no cut, no write",
+        row: Life {
+            changes: A_CUT,
+            then: &[Step::Crash(&[Fate::Old, Fate::Old]), Step::Holds(b"abcdef")],
+        },
+    },
+    Named {
+        what: "a cut alone",
+        row: Life {
+            changes: A_CUT,
+            then: &[Step::Crash(&[Fate::New, Fate::Old]), Step::Holds(b"ab")],
+        },
+    },
+    Named {
+        what: "a write alone",
+        row: Life {
+            changes: A_CUT,
+            then: &[Step::Crash(&[Fate::Old, Fate::New]), Step::Holds(b"abZdef")],
+        },
+    },
+    Named {
+        what: "a filled cut and a write",
+        row: Life {
+            changes: A_CUT,
+            then: &[
+                Step::Crash(&[Fate::Filled(1), Fate::New]),
+                Step::Holds(b"abZ"),
+            ],
+        },
+    },
+    Named {
+        what: "what is synced stays",
+        row: Life {
+            changes: &[],
+            then: &[
+                Step::Write(4, b"EFG"),
+                Step::Sync,
+                Step::Crash(&[]),
+                Step::Holds(b"abcdEFG"),
+                Step::Write(7, b"h"),
+                Step::Crash(&[]),
+                Step::Holds(b"abcdEFG"),
+            ],
+        },
+    },
+    Named {
+        what: "a failed write may come out of a crash",
+        row: Life {
+            changes: &[],
+            then: &[
+                Step::FailNext(0),
+                Step::Fails(&Step::Write(1, b"XY")),
+                Step::Holds(b"abcdef"),
+                Step::Crash(&[Fate::New]),
+                Step::Holds(b"aXYdef"),
+            ],
+        },
+    },
+    Named {
+        what: "the next call but one fails, once",
+        row: Life {
+            changes: &[],
+            then: &[
+                Step::FailNext(1),
+                Step::Write(6, b"g"),
+                Step::Fails(&Step::Cut(3)),
+                Step::Holds(b"abcdefg"),
+                Step::Cut(3),
+                Step::Sync,
+                Step::Holds(b"abc"),
+            ],
+        },
+    },
+    Named {
+        what: "an armed call is counted from the next write",
+        row: Life {
+            changes: &[],
+            then: &[
+                Step::Arm(Some(1)),
+                Step::Sync,
+                Step::Sync,
+                Step::Write(0, b"A"),
+                Step::Fails(&Step::Sync),
+                Step::Sync,
+                Step::Arm(Some(0)),
+                Step::Sync,
+                Step::Fails(&Step::Write(0, b"B")),
+                Step::Arm(Some(0)),
+                Step::Arm(None),
+                Step::Write(1, b"C"),
+                Step::FailNext(0),
+                Step::Arm(None),
+                Step::Holds(b"ACcdef"),
+            ],
+        },
+    },
+    Named {
+        what: "eight calls on what was reserved",
+        row: Life {
+            changes: &[],
+            then: &[
+                Step::Reserve(8),
+                Step::Write(6, b"gh"),
+                Step::Sync,
+                Step::Cut(7),
+                Step::Write(7, b"HI"),
+                Step::Sync,
+                Step::Write(9, b"jk"),
+                Step::Write(0, b"AB"),
+                Step::Sync,
+                Step::Holds(b"ABcdefgHIjk"),
+            ],
+        },
+    },
+];
+
+// A synced file of six letters.
+static SIX_LETTERS: [Step; 2] = [Step::Write(0, b"abcdef"), Step::Sync];
+
+impl Row for Life {
+    fn holds(&self, rt: &HostRuntime) -> bool {
+        let alloc = rt.alloc();
+        let mut disk = sent(SimDisk::new(alloc));
+        let lived = go_well(alloc, &mut disk, &SIX_LETTERS)
+            && go_well(alloc, &mut disk, self.changes)
+            && go_well(alloc, &mut disk, self.then);
+        drop(disk);
+        lived
+    }
+}

@@ -1,0 +1,384 @@
+//! Disks over files.
+use crate::checks::{Named, Row};
+use crate::devices::sent;
+use crate::file_logs::{is_no_log, is_opened_again};
+use crate::folder::Folder;
+use crate::steps::{Step, Stepped, call_any, go_well, read_back};
+use disk::Disk;
+use filedisk::FileDisk;
+use std::alloc::Global;
+use std::{env, fs};
+use units::Fault;
+
+// What is there under a name.
+enum There {
+    Nothing,
+    File,
+    // A file that another disk has open.
+    Held,
+    Folder,
+}
+
+enum Call {
+    Create,
+    Open,
+}
+
+// What the file is, when it is opened again.
+enum Left {
+    Anything,
+    Bytes(&'static [u8]),
+    NoLog,
+    // A log, once it was formatted.
+    Log,
+}
+
+/// A call in a folder of its own, with the folder `logs` in it, and what is done with the disk.
+pub struct Asked {
+    // From that folder; and else the path of a log there.
+    path: Option<&'static str>,
+    there: There,
+    call: Call,
+    // The length of the file that is taken, or how it is refused.
+    wanted: Result<u64, Fault>,
+    steps: &'static [Step],
+    left: Left,
+}
+
+pub static ROWS: [Named<Asked>; 20] = [
+    Named {
+        what: "a new file",
+        row: Asked {
+            path: None,
+            there: There::Nothing,
+            call: Call::Create,
+            wanted: Ok(0),
+            steps: &[],
+            left: Left::Anything,
+        },
+    },
+    Named {
+        what: "a file is made anew",
+        row: Asked {
+            path: None,
+            there: There::File,
+            call: Call::Create,
+            wanted: Err(Fault::Device),
+            steps: &[],
+            left: Left::Anything,
+        },
+    },
+    Named {
+        what: "a file that is held is made anew",
+        row: Asked {
+            path: None,
+            there: There::Held,
+            call: Call::Create,
+            wanted: Err(Fault::Device),
+            steps: &[],
+            left: Left::Anything,
+        },
+    },
+    Named {
+        what: "a file is made in place of a folder",
+        row: Asked {
+            path: None,
+            there: There::Folder,
+            call: Call::Create,
+            wanted: Err(Fault::Device),
+            steps: &[],
+            left: Left::Anything,
+        },
+    },
+    Named {
+        what: "a file that is missing",
+        row: Asked {
+            path: None,
+            there: There::Nothing,
+            call: Call::Open,
+            wanted: Err(Fault::Device),
+            steps: &[],
+            left: Left::Anything,
+        },
+    },
+    Named {
+        what: "a file",
+        row: Asked {
+            path: None,
+            there: There::File,
+            call: Call::Open,
+            wanted: Ok(5),
+            steps: &[],
+            left: Left::Anything,
+        },
+    },
+    Named {
+        what: "a file that is held",
+        row: Asked {
+            path: None,
+            there: There::Held,
+            call: Call::Open,
+            wanted: Err(Fault::Device),
+            steps: &[],
+            left: Left::Anything,
+        },
+    },
+    Named {
+        what: "a folder is opened",
+        row: Asked {
+            path: None,
+            there: There::Folder,
+            call: Call::Open,
+            wanted: Err(Fault::Device),
+            steps: &[],
+            left: Left::Anything,
+        },
+    },
+    Named {
+        what: "log",
+        row: Asked {
+            path: Some("log"),
+            there: There::Nothing,
+            call: Call::Create,
+            wanted: Ok(0),
+            steps: &[],
+            left: Left::Anything,
+        },
+    },
+    Named {
+        what: "./log",
+        row: Asked {
+            path: Some("./log"),
+            there: There::Nothing,
+            call: Call::Create,
+            wanted: Ok(0),
+            steps: &[],
+            left: Left::Anything,
+        },
+    },
+    Named {
+        what: "logs/shard-0.log",
+        row: Asked {
+            path: Some("logs/shard-0.log"),
+            there: There::Nothing,
+            call: Call::Create,
+            wanted: Ok(0),
+            steps: &[],
+            left: Left::Anything,
+        },
+    },
+    Named {
+        what: "missing/log",
+        row: Asked {
+            path: Some("missing/log"),
+            there: There::Nothing,
+            call: Call::Create,
+            wanted: Err(Fault::Device),
+            steps: &[],
+            left: Left::Anything,
+        },
+    },
+    Named {
+        what: "logs/",
+        row: Asked {
+            path: Some("logs/"),
+            there: There::Nothing,
+            call: Call::Create,
+            wanted: Err(Fault::Device),
+            steps: &[],
+            left: Left::Anything,
+        },
+    },
+    Named {
+        what: "no path",
+        row: Asked {
+            path: Some(""),
+            there: There::Nothing,
+            call: Call::Create,
+            wanted: Err(Fault::Device),
+            steps: &[],
+            left: Left::Anything,
+        },
+    },
+    Named {
+        what: "an empty file",
+        row: Asked {
+            path: None,
+            there: There::Nothing,
+            call: Call::Create,
+            wanted: Ok(0),
+            steps: &[Step::Holds(b""), Step::Sync],
+            left: Left::Bytes(b""),
+        },
+    },
+    Named {
+        what: "writes behind and over each other",
+        row: Asked {
+            path: None,
+            there: There::Nothing,
+            call: Call::Create,
+            wanted: Ok(0),
+            steps: &[
+                Step::Reserve(20),
+                Step::Write(0, b"SPNLOG01"),
+                Step::Write(8, b"\0frame"),
+                Step::Write(8, b"\xa5"),
+                Step::Write(14, b""),
+                Step::Holds(b"SPNLOG01\xa5frame"),
+                Step::Sync,
+            ],
+            left: Left::Bytes(b"SPNLOG01\xa5frame"),
+        },
+    },
+    Named {
+        what: "cuts",
+        row: Asked {
+            path: None,
+            there: There::Nothing,
+            call: Call::Create,
+            wanted: Ok(0),
+            steps: &[
+                Step::Write(0, b"SPNLOG01"),
+                Step::Cut(8),
+                Step::Cut(3),
+                Step::Holds(b"SPN"),
+                Step::Write(3, b"!"),
+                Step::Sync,
+                Step::Holds(b"SPN!"),
+            ],
+            left: Left::Bytes(b"SPN!"),
+        },
+    },
+    Named {
+        what: "calls that the system refuses change nothing, and what is armed does nothing",
+        row: Asked {
+            path: None,
+            there: There::Nothing,
+            call: Call::Create,
+            wanted: Ok(0),
+            steps: &[
+                Step::Write(0, b"bytes"),
+                Step::Arm(Some(0)),
+                Step::Fails(&Step::ReadAnywhere(2, 4)),
+                Step::Fails(&Step::ReadAnywhere(u64::MAX, 1)),
+                Step::Fails(&Step::WriteAnywhere(u64::MAX, b"xy")),
+                Step::Fails(&Step::WriteAnywhere(1 << 63, b"x")),
+                Step::Fails(&Step::CutAnywhere(u64::MAX)),
+                Step::Write(5, b"."),
+                Step::Sync,
+                Step::Holds(b"bytes."),
+            ],
+            left: Left::Bytes(b"bytes."),
+        },
+    },
+    Named {
+        what: "a log is opened again",
+        row: Asked {
+            path: None,
+            there: There::Nothing,
+            call: Call::Create,
+            wanted: Ok(0),
+            steps: &[],
+            left: Left::Log,
+        },
+    },
+    Named {
+        what: "a new file is no log",
+        row: Asked {
+            path: None,
+            there: There::Nothing,
+            call: Call::Create,
+            wanted: Ok(0),
+            steps: &[],
+            left: Left::NoLog,
+        },
+    },
+];
+
+fn is_put(rt: &HostRuntime, path: &str, there: &There) -> bool {
+    match there {
+        There::Nothing => true,
+        There::Folder => fs::create_dir(rt, path).is_ok(),
+        There::File | There::Held => fs::write(rt, path, "bytes").is_ok(),
+    }
+}
+
+impl Stepped for FileDisk {
+    fn called(&mut self, alloc: Global, step: &Step) -> Result<(), Fault> {
+        match step {
+            Step::ReadAnywhere(at, count) => { self.read_at(*at, &mut [0u8; 4][..(*count).min(4)]) }
+            Step::WriteAnywhere(at, bytes) => self.write_at(*at, bytes),
+            Step::CutAnywhere(len) => self.cut(*len),
+            _ => call_any(alloc, self, step),
+        }
+    }
+}
+
+// The file is taken with that length, and each step on it goes well.
+fn goes_on(alloc: Global, taken: FileDisk, row: &Asked) -> bool {
+    let mut disk = sent(taken);
+    let went = row.wanted == Ok(disk.len()) && go_well(alloc, &mut disk, row.steps);
+    drop(disk);
+    went
+}
+
+// The call is answered so at a path where nothing is yet.
+fn is_answered_so(rt: &HostRuntime, path: &str, row: &Asked) -> bool {
+    if !is_put(rt, path, &row.there) {
+        return false;
+    }
+    let held = match row.there {
+        There::Held => FileDisk::open(rt, path).ok(),
+        _ => None,
+    };
+    let taken = match row.call {
+        Call::Create => FileDisk::create(rt, path),
+        Call::Open => FileDisk::open(rt, path),
+    };
+    let answered = match taken {
+        Ok(disk) => goes_on(rt.alloc(), disk, row),
+        Err(fault) => row.wanted == Err(fault),
+    };
+    drop(held);
+    answered
+}
+
+/// Whether the file, when it is opened, has these bytes.
+pub fn keeps(rt: &HostRuntime, path: &str, bytes: &[u8]) -> bool {
+    let Ok(mut disk) = FileDisk::open(rt, path) else {
+        return false;
+    };
+    let kept = read_back(rt.alloc(), &mut disk, bytes).is_ok();
+    drop(disk);
+    kept
+}
+
+fn is_left(rt: &HostRuntime, path: &str, left: &Left) -> bool {
+    match left {
+        Left::Anything => true,
+        Left::Bytes(bytes) => keeps(rt, path, bytes),
+        Left::NoLog => is_no_log(rt, path),
+        Left::Log => is_opened_again(rt, path),
+    }
+}
+
+fn is_so(rt: &HostRuntime, folder: &Folder, row: &Asked) -> bool {
+    let path = match row.path {
+        Some(path) => path,
+        None => folder.log.as_str(),
+    };
+    env::set_current_dir(rt, folder.path.as_str()).is_ok()
+        && fs::create_dir(rt, "logs").is_ok()
+        && is_answered_so(rt, path, row)
+        && is_left(rt, path, &row.left)
+}
+
+impl Row for Asked {
+    fn holds(&self, rt: &HostRuntime) -> bool {
+        let Some(folder) = Folder::new(rt) else {
+            return false;
+        };
+        let so = is_so(rt, &folder, self);
+        folder.remove(rt) && so
+    }
+}

@@ -1,0 +1,34 @@
+//! The tests, each of some areas.
+use crate::cases::CASES;
+use crate::crashes::CRASHES;
+use crate::stops::FAILED;
+use crate::whole_schedules::SCHEDULES;
+use crate::{comparing, outside, played, printed, schedule_texts, stops, unlawful};
+use std::process::Abort;
+
+// Ends the test with the row that is wrong, if there is one: each area names the first of its rows that does not hold, and else
+// gives an empty text.
+fn check(rt: &impl Abort, area: &str, wrong: &str) {
+    assert!(rt; wrong.is_empty(), "{area}: {wrong}");
+}
+
+#[test]
+fn answers(rt: HostRuntime) {
+    let alloc = rt.alloc();
+    check(&rt, "commands", printed::wrong_answer(alloc));
+    check(&rt, "words", printed::wrong_words(alloc));
+    check(&rt, "files that are played", played::wrong(alloc));
+    check(&rt, "crashes in calls", stops::wrong(alloc));
+    check(&rt, "texts", schedule_texts::wrong(alloc));
+    check(&rt, "lists", unlawful::wrong(alloc));
+    check(&rt, "outside", outside::wrong(alloc));
+}
+
+#[test]
+fn whole_runs(rt: HostRuntime) {
+    let alloc = rt.alloc();
+    check(&rt, "schedules", comparing::wrong(alloc, &SCHEDULES));
+    check(&rt, "runs", comparing::wrong(alloc, &CASES));
+    check(&rt, "crashes", comparing::wrong(alloc, &CRASHES));
+    check(&rt, "failing calls", comparing::wrong(alloc, &FAILED));
+}
