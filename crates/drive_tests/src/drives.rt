@@ -240,7 +240,7 @@ fn is_sound(summary: &Summary, tried: u64) -> bool {
         .committed
         .saturating_add(counts.aborted)
         .saturating_add(counts.unknown);
-    sum == tried && summary.verdict == Verdict::Yes
+    sum == tried && matches!(summary.verdict, Verdict::Yes)
 }
 
 // Whether each transaction that began is of the run.
