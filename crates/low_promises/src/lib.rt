@@ -10,6 +10,6 @@ mod verdicts;
 
 pub use boards::{install, look};
 pub use locking::shared_and_exclusive;
-pub use protocol::needed;
 pub use reading::decode;
+pub use serving::needed;
 pub use verdicts::inspect;
