@@ -93,7 +93,7 @@ fn is_seen_there<R: Threads + Sync>(rt: &R, viewers: &mut [Viewer], look: Look) 
     thread::join(rt, || is_seen(viewers, look), || ()).0
 }
 
-// Asks the node or its viewer, and says whether the answer is as told.
+// Asks the node or its viewer, and says whether the answer is as told. The viewer of a board whose node is opened again is refused.
 fn is_answered<'a, R: Threads + Wait + Sync + Abort>(
     rt: &'a R,
     alloc: Global,
@@ -118,8 +118,9 @@ fn is_answered<'a, R: Threads + Wait + Sync + Abort>(
             gives,
         } => match node.restart(rt, rt, alloc, count) {
             Ok(opened) => {
+                let ended = is_seen(viewers, (0, Err(Fault::Stopped)));
                 *viewers = opened;
-                gives == Ok(viewers.len())
+                ended && gives == Ok(viewers.len())
             }
             Err(fault) => gives == Err(fault),
         },

@@ -9,9 +9,14 @@ use crate::served::SERVING;
 use crate::viewed::VIEWED;
 use crate::{nodes, stories};
 
+// It fails where a call always answers that there is no memory.
+#[test]
+fn always_memory(rt: HostRuntime) {
+    stories::tell(&rt, rt.alloc(), &COMMITS);
+}
+
 #[test]
 fn cores(rt: HostRuntime) {
-    stories::tell(&rt, rt.alloc(), &COMMITS);
     stories::tell(&rt, rt.alloc(), &FAILING);
     stories::tell(&rt, rt.alloc(), &COORDINATING);
     stories::tell(&rt, rt.alloc(), &PROMISING);

@@ -9,119 +9,120 @@ use std::alloc::Global;
 use std::process::Abort;
 use units::Fault;
 
-// A command with the names of its files in the folder, how what is printed ends, in how many lines, the fault, and the status.
+// What is printed: of a drive its counts, whose first three are of so many transactions together, and the verdict yes.
+#[derive(Clone, Copy)]
+enum Output {
+    Nothing,
+    Yes,
+    Driven(u64),
+}
+
+// A command with the names of its files in the folder, what is printed, the fault, and the status.
 #[derive(Clone, Copy)]
 struct Step {
     command: &'static str,
     names: &'static [&'static str],
-    ends: &'static str,
-    lines: usize,
+    output: Output,
     fault: &'static str,
     status: u8,
 }
 
-static STEPS: [Step; 13] = [
+static STEPS: [Step; 14] = [
     Step {
         command: "format",
         names: &["a.log"],
-        ends: "",
-        lines: 0,
+        output: Output::Nothing,
         fault: "",
         status: 0,
     },
     Step {
         command: "format",
         names: &["a.log"],
-        ends: "",
-        lines: 0,
+        output: Output::Nothing,
         fault: "fault: 2 Device\n",
         status: 2,
     },
     Step {
         command: "inspect",
         names: &["no.lines", "a.log"],
-        ends: "yes\n",
-        lines: 1,
+        output: Output::Yes,
         fault: "",
         status: 0,
     },
     Step {
         command: "inspect",
         names: &["no.lines", "a.log", "a.log"],
-        ends: "",
-        lines: 0,
+        output: Output::Nothing,
         fault: "fault: 2 Device\n",
         status: 2,
     },
     Step {
         command: "inspect",
         names: &["no.lines", "missing.log"],
-        ends: "",
-        lines: 0,
+        output: Output::Nothing,
         fault: "fault: 2 Device\n",
         status: 2,
     },
     Step {
         command: "inspect",
         names: &["no.lines", "folder"],
-        ends: "",
-        lines: 0,
+        output: Output::Nothing,
         fault: "fault: 2 Device\n",
         status: 2,
     },
     Step {
         command: "inspect",
         names: &["folder", "a.log"],
-        ends: "",
-        lines: 0,
+        output: Output::Nothing,
         fault: "fault: 2 Device\n",
         status: 2,
     },
     Step {
         command: "inspect",
         names: &["no.lines", "no.lines"],
-        ends: "",
-        lines: 0,
+        output: Output::Nothing,
         fault: "fault: 12 NotALog\n",
         status: 2,
     },
     Step {
         command: "drive",
         names: &["folder"],
-        ends: "",
-        lines: 0,
+        output: Output::Nothing,
         fault: "fault: 2 Device\n",
         status: 2,
     },
     Step {
         command: "drive",
         names: &["missing.settings"],
-        ends: "",
-        lines: 0,
+        output: Output::Nothing,
         fault: "fault: 2 Device\n",
         status: 2,
     },
     Step {
         command: "drive",
-        names: &["files.settings"],
-        ends: "\nverdict yes\n",
-        lines: 5,
+        names: &["memory.settings"],
+        output: Output::Driven(200),
         fault: "",
         status: 0,
     },
     Step {
         command: "drive",
         names: &["files.settings"],
-        ends: "\nverdict yes\n",
-        lines: 5,
+        output: Output::Driven(200),
+        fault: "",
+        status: 0,
+    },
+    Step {
+        command: "drive",
+        names: &["files.settings"],
+        output: Output::Driven(200),
         fault: "",
         status: 0,
     },
     Step {
         command: "inspect",
         names: &["no.lines", "shard-0.log", "shard-1.log"],
-        ends: "yes\n",
-        lines: 1,
+        output: Output::Yes,
         fault: "",
         status: 0,
     },
@@ -132,69 +133,77 @@ static CLOSED: [Step; 5] = [
     Step {
         command: "format",
         names: &["closed"],
-        ends: "",
-        lines: 0,
+        output: Output::Nothing,
         fault: "fault: 2 Device\n",
         status: 2,
     },
     Step {
         command: "play",
         names: &["closed"],
-        ends: "",
-        lines: 0,
+        output: Output::Nothing,
         fault: "fault: 2 Device\n",
         status: 2,
     },
     Step {
         command: "inspect",
         names: &["closed", "no.lines"],
-        ends: "",
-        lines: 0,
+        output: Output::Nothing,
         fault: "fault: 2 Device\n",
         status: 2,
     },
     Step {
         command: "inspect",
         names: &["no.lines", "closed"],
-        ends: "",
-        lines: 0,
+        output: Output::Nothing,
         fault: "fault: 2 Device\n",
         status: 2,
     },
     Step {
         command: "drive",
         names: &["closed"],
-        ends: "",
-        lines: 0,
+        output: Output::Nothing,
         fault: "fault: 2 Device\n",
         status: 2,
     },
 ];
 
+// Settings of disks in memory.
+const IN_MEMORY: &str = "shards = 2\nsplits = [\"k0005\"]\nstride = 1000\nepsilon = 100\nworkers = 4\ntransactions = 50\nkeys = 10\n";
+
 // A folder with what the commands name.
 fn furnished(rt: &HostRuntime, test: &impl Abort) -> Folder {
     let folder = Folder::new(rt, test);
     let dir = folder.path(rt, test, ".");
-    let text = format!(in rt.alloc();
-        "shards = 2\nsplits = [\"k0005\"]\nstride = 1000\nepsilon = 100\nworkers = 4\ntransactions = 50\nkeys = 10\ndir = \"{dir}\"\n"
-    );
+    let text = format!(in rt.alloc(); "{IN_MEMORY}dir = \"{dir}\"\n");
     drop(dir);
     let text = text.ok().expect(test, "settings");
     folder.put(rt, test, "no.lines", Some(""));
+    folder.put(rt, test, "memory.settings", Some(IN_MEMORY));
     folder.put(rt, test, "files.settings", Some(text.as_str()));
     folder.put(rt, test, "folder", None);
     drop(text);
     folder
 }
 
-fn lines_in(bytes: &[u8]) -> usize {
-    let mut lines: usize = 0;
-    for byte in bytes {
-        if *byte == b'\n' {
-            lines = lines.saturating_add(1);
-        }
+// Whether this is printed of a drive of so many transactions.
+fn is_driven(text: &str, tried: u64) -> bool {
+    let mut counted: u64 = 0;
+    for count in ["committed ", "aborted ", "unknown "] {
+        let found = text.lines().find_map(|line| line.strip_prefix(count));
+        let Some(Ok(number)) = found.map(|number| number.parse::<u64>()) else {
+            return false;
+        };
+        counted = counted.saturating_add(number);
     }
-    lines
+    counted == tried && text.lines().count() == 5 && text.ends_with("\nverdict yes\n")
+}
+
+fn is_printed(text: &str, output: Output) -> bool {
+    match output {
+        Output::Nothing => text.is_empty(),
+        Output::Yes => text == "yes\n",
+        Output::Driven(tried) => is_driven(text, tried),
+    }
 }
 
 fn paths_of(rt: &HostRuntime, test: &impl Abort, folder: &Folder, names: &[&str]) -> Vec<String> {
@@ -222,9 +231,10 @@ fn words_of<'w>(
 
 // Whether this is printed to both outputs.
 fn is_right(out: &[u8], err: &[u8], step: &Step) -> bool {
-    out.ends_with(step.ends.as_bytes())
-        && lines_in(out) == step.lines
-        && err == step.fault.as_bytes()
+    let Ok(text) = str::from_utf8(out) else {
+        return false;
+    };
+    is_printed(text, step.output) && err == step.fault.as_bytes()
 }
 
 // Whether the words print what the step says, and give its status.

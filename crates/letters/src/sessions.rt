@@ -1,5 +1,5 @@
 //! Which worker runs which transaction.
-ghost use Rattle.std.specs.Prelude.{◌≡◌, ℕ, length, Some, IfOk, IfErr, IfSome, IfNone, slice_set, slice_get};
+ghost use Rattle.std.specs.Prelude.{◌≡◌, ◌<◌, ℕ, length, Some, IfOk, IfErr, IfSome, IfNone, slice_set, slice_get};
 
 use std::alloc::Global;
 use std::marker::Model;
@@ -42,6 +42,8 @@ impl Sessions {
     /// The first worker that runs the transaction.
     pub fn worker_of(&self, txn: TxnId) -> Option<usize>
         ensures one { IfSome result (λ worker. slice_get self.now worker ≡ Some (Some txn)) }
+        ensures first { IfSome result
+            (λ worker. (k : ℕ) → k < worker → slice_get self.now k ≡ Some (Some txn) → ⊥) }
         ensures nobody { IfNone result
             ((worker : ℕ) → slice_get self.now worker ≡ Some (Some txn) → ⊥) }
     {

@@ -51,7 +51,8 @@ has_shard (Act.FailIn n call named doing) is f0 f1 f2 f3 f4 f5 = absurd (cc)
 pub has_no_shard : (a : Act) → (n : ℕ) → act_shard a ≡ Some n
     → ((n : ℕ) (doing : Doing) → a ≡ Act.At n doing → ⊥) → ((n : ℕ) (k : Bytes) (at : ℕ) → a ≡ Act.Look n k at → ⊥)
     → ((n v : ℕ) (k : Bytes) (at : ℕ) → a ≡ Act.View n v k at → ⊥) → ((n : ℕ) → a ≡ Act.Crash n → ⊥)
-    → ((n call : ℕ) (fate : Fate) (named : ℕ) (doing : Doing) → a ≡ Act.CrashIn n call fate named doing → ⊥) → ((n call named : ℕ) (doing : Doing) → a ≡ Act.FailIn n call named doing → ⊥)
+    → ((n call : ℕ) (fate : Fate) (named : ℕ) (doing : Doing) → a ≡ Act.CrashIn n call fate named doing → ⊥)
+    → ((n call named : ℕ) (doing : Doing) → a ≡ Act.FailIn n call named doing → ⊥)
     → ⊥
 has_no_shard (Act.Begin t) n0 is f0 f1 f2 f3 f4 f5 = absurd (cc)
 has_no_shard (Act.Read t k) n0 is f0 f1 f2 f3 f4 f5 = absurd (cc)

@@ -280,7 +280,8 @@ module _ (old before after new : CoreView SimDisk) (call : Option ℕ) (arms : I
         → Left (where_room before.gate st) r
     running_comes (Refuses why) (Ok out) k follows = absurd (k.done.2)
     running_comes (Does logged memory outbox) (Ok out) k follows =
-        let whole : where_room before.gate (Does logged memory outbox) ≡ Does logged memory outbox = room_for before.gate logged memory outbox k.written.place in
+        let whole : where_room before.gate (Does logged memory outbox) ≡ Does logged memory outbox
+        = room_for before.gate logged memory outbox k.written.place in
         let is_past = past call arms.plan logged memory out outbox k in
         let core : IsRunningAs setup (stepped_shard s logged memory) memory new = done logged memory out outbox k (λ q e. follows q memory outbox (whole
         ∙ ap (λ l. Does l memory outbox) e)) in

@@ -44,12 +44,21 @@ enum Made {
     ShardNo,
 }
 
-// The numbers at the limits.
+// What comes of it: it is made, or refused, with a fault where one is told.
+#[derive(Clone, Copy, PartialEq, Eq)]
+enum Answer {
+    Taken,
+    Refused,
+    Told(Fault),
+}
+
+// The numbers at the limits, and how those beyond are refused.
 struct Limit {
     what: &'static str,
     made: Made,
     taken: &'static [u64],
     refused: &'static [u64],
+    answer: Answer,
 }
 
 static LIMITS: [Limit; 6] = [
@@ -58,67 +67,88 @@ static LIMITS: [Limit; 6] = [
         made: Made::Key,
         taken: &[1, 64],
         refused: &[0, 65],
+        answer: Answer::Told(Fault::BadRequest(Reason::Key)),
     },
     Limit {
         what: "a value",
         made: Made::Value,
         taken: &[0, 4096],
         refused: &[4097],
+        answer: Answer::Told(Fault::BadRequest(Reason::Value)),
     },
     Limit {
         what: "a timestamp",
         made: Made::Stamp,
         taken: &[Stamp::MAX],
         refused: &[4_611_686_018_427_387_904],
+        answer: Answer::Told(Fault::BadRequest(Reason::Stamp)),
     },
     Limit {
         what: "an epoch",
         made: Made::Epoch,
         taken: &[1, Stamp::MAX],
         refused: &[0, 4_611_686_018_427_387_904],
+        answer: Answer::Refused,
     },
     Limit {
         what: "a run",
         made: Made::Run,
         taken: &[1, Stamp::MAX],
         refused: &[0, 4_611_686_018_427_387_904],
+        answer: Answer::Refused,
     },
     Limit {
         what: "a shard",
         made: Made::ShardNo,
         taken: &[15],
         refused: &[16],
+        answer: Answer::Refused,
     },
 ];
 
-fn is_taken(alloc: Global, made: &Made, number: u64) -> bool {
+fn answer_of(alloc: Global, made: &Made, number: u64) -> Answer {
     match made {
-        Made::Key => is_made_of(alloc, number as usize, true),
-        Made::Value => is_made_of(alloc, number as usize, false),
-        Made::Stamp => Stamp::new(number).is_ok(),
-        Made::Epoch => Epoch::new(number).is_some(),
-        Made::Run => Run::new(number).is_some(),
-        Made::ShardNo => ShardNo::new(number.min(255) as u8).is_some(),
+        Made::Key => told(fault_of(alloc, number as usize, true)),
+        Made::Value => told(fault_of(alloc, number as usize, false)),
+        Made::Stamp => told(Stamp::new(number).err()),
+        Made::Epoch => untold(Epoch::new(number).is_some()),
+        Made::Run => untold(Run::new(number).is_some()),
+        Made::ShardNo => untold(ShardNo::new(number.min(255) as u8).is_some()),
     }
 }
 
-// Whether so many bytes make a key, or else a value.
-fn is_made_of(alloc: Global, len: usize, key: bool) -> bool {
+// The fault of a key of so many bytes, or else of a value, where it is refused.
+fn fault_of(alloc: Global, len: usize, key: bool) -> Option<Fault> {
     let Ok(bytes) = vec![in alloc; 7u8; len] else {
-        return false;
+        return Some(Fault::Memory);
     };
-    let made = if key {
-        Key::new(&bytes).is_ok()
+    let fault = if key {
+        Key::new(&bytes).err()
     } else {
-        Value::new(alloc, &bytes).is_ok()
+        Value::new(alloc, &bytes).err()
     };
     drop(bytes);
-    made
+    fault
 }
 
-fn all_are(alloc: Global, made: &Made, numbers: &[u64], taken: bool) -> bool {
+fn told(fault: Option<Fault>) -> Answer {
+    match fault {
+        Some(fault) => Answer::Told(fault),
+        None => Answer::Taken,
+    }
+}
+
+fn untold(taken: bool) -> Answer {
+    if taken {
+        Answer::Taken
+    } else {
+        Answer::Refused
+    }
+}
+
+fn all_are(alloc: Global, made: &Made, numbers: &[u64], answer: Answer) -> bool {
     for number in numbers {
-        if is_taken(alloc, made, *number) != taken {
+        if answer_of(alloc, made, *number) != answer {
             return false;
         }
     }
@@ -181,8 +211,8 @@ pub fn wrong(alloc: Global) -> &'static str {
         }
     }
     for row in &LIMITS {
-        if !all_are(alloc, &row.made, row.taken, true)
-            || !all_are(alloc, &row.made, row.refused, false)
+        if !all_are(alloc, &row.made, row.taken, Answer::Taken)
+            || !all_are(alloc, &row.made, row.refused, row.answer)
         {
             return row.what;
         }

@@ -180,8 +180,43 @@ fn is_read_back<R: Threads + Sync>(rt: &R, viewers: &mut [Viewer]) -> bool {
     thread::join(rt, || sees(viewers, 2, &AT_8), || ()).0
 }
 
+// How often one looks, and another one publishes, beside one another.
+const TURNS: u32 = 1_000;
+
+fn looks_again(viewers: &mut [Viewer]) -> bool {
+    for _turn in 0..TURNS {
+        if !sees(viewers, 2, &AT_8) {
+            return false;
+        }
+    }
+    true
+}
+
+fn publishes_again<R: Wait + Drop>(publisher: &mut Publisher<R>) -> bool {
+    for _turn in 0..TURNS {
+        if !publishes(publisher) {
+            return false;
+        }
+    }
+    true
+}
+
+// Looks on another thread are answered while this one publishes.
+fn goes_on<R: Threads + Sync, W: Wait + Drop>(
+    rt: &R,
+    publisher: &mut Publisher<W>,
+    viewers: &mut [Viewer],
+) -> bool {
+    let (sees, publishes) = thread::join(
+        rt,
+        || looks_again(viewers),
+        || publishes_again(publisher),
+    );
+    sees && publishes
+}
+
 // Looks change with the publication, and not before; a snapshot is answered once its timestamp is served. Each of three
-// viewers looks for the first time after it, and one of them on another thread.
+// viewers looks for the first time after it, and one of them on another thread, also while publications go on.
 fn follow<R: Threads + Sync, W: Wait + Drop>(
     rt: &R,
     publisher: &mut Publisher<W>,
@@ -203,6 +238,7 @@ fn follow<R: Threads + Sync, W: Wait + Drop>(
         && sees(viewers, 0, &AFTER_ONE)
         && shows(&snapshot, viewers, Ok(Seen::Value(3)))
         && is_read_back(rt, viewers)
+        && goes_on(rt, publisher, viewers)
 }
 
 // The board of shard 0 of two whose publisher has ended.

@@ -174,7 +174,7 @@ pub static ASKED: [Asked; 36] = [
         status: 1,
     },
     Asked {
-        text: "inspect empty opened.log opened.log opened.log opened.log opened.log opened.log opened.log opened.log opened.log opened.log opened.log opened.log opened.log opened.log opened.log opened.log",
+        text: "inspect empty, and opened.log 16 times",
         words: &[
             "inspect",
             "empty",
@@ -200,7 +200,7 @@ pub static ASKED: [Asked; 36] = [
         status: 0,
     },
     Asked {
-        text: "inspect empty opened.log opened.log opened.log opened.log opened.log opened.log opened.log opened.log opened.log opened.log opened.log opened.log opened.log opened.log opened.log opened.log opened.log",
+        text: "inspect empty, and opened.log 17 times",
         words: &[
             "inspect",
             "empty",

@@ -151,7 +151,7 @@ pub fn print<'a>(
 /// A command line, what is printed to both outputs, and the status.
 #[derive(Clone, Copy)]
 pub struct Asked {
-    /// The words as one text, which names the row.
+    /// The words as one text, which names the row; many words of one kind are counted.
     pub text: &'static str,
     pub words: &'static [&'static str],
     pub printed: &'static str,

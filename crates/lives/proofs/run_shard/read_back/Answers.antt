@@ -8,12 +8,14 @@ pub returns-in-Ok-copied-clause-disk : goal.returns-in-Ok-copied-clause-disk
 returns-in-Ok-copied-clause-disk c =
     ends_on c.args.disk c.into_disk-disk.result c.in-Ok.entries.items c.copy_records-copied.new.records.items (c.in-Ok.ensures.entries tt)
     (ap (λ d. surface (disk_file d)) c.into_disk-disk.ensures ∙ c.in-Ok.ensures.synced tt)
-    (c.in-Ok-copied.ensures.same ∙ ap (λ rs. rs ++ map (λ e. e.item) c.deref.result.now) c.new-records.ensures.items ∙ ap (map (λ e. e.item)) c.deref.ensures.value)
+    (c.in-Ok-copied.ensures.same ∙ ap (λ rs. rs ++ map (λ e. e.item) c.deref.result.now) c.new-records.ensures.items
+    ∙ ap (map (λ e. e.item)) c.deref.ensures.value)
 
 pub returns-in-Ok-copied-clause-log : goal.returns-in-Ok-copied-clause-log
 returns-in-Ok-copied-clause-log c s holds =
     ends_with s c.args.disk c.in-Ok.entries.items c.copy_records-copied.new.records.items holds (c.in-Ok.ensures.entries tt)
-    (c.in-Ok-copied.ensures.same ∙ ap (λ rs. rs ++ map (λ e. e.item) c.deref.result.now) c.new-records.ensures.items ∙ ap (map (λ e. e.item)) c.deref.ensures.value)
+    (c.in-Ok-copied.ensures.same ∙ ap (λ rs. rs ++ map (λ e. e.item) c.deref.result.now) c.new-records.ensures.items
+    ∙ ap (map (λ e. e.item)) c.deref.ensures.value)
 
 pub returns-in-Err-clause-memory : goal.returns-in-Err-clause-memory
 returns-in-Err-clause-memory c s holds =

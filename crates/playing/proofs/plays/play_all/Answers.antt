@@ -11,7 +11,8 @@ returns-in_err-reply c config h =
     let within : n < length c.args.events.now = omega (arith, c.loop-number-test.true) in
     none_next config c.args.events.now n c.index-events-number.result within c.index-events-number.is c.loop-number.run c.take.new.self
     c.loop-number.replies.items c.loop-number.counts.items
-    (c.loop-number.invariant config h) c.in_err-reply.field-0.0 c.from_residual-in_err-reply.result c.reserve.new.self.items c.reserve-in-loop-number.new.self.items
+    (c.loop-number.invariant config h) c.in_err-reply.field-0.0 c.from_residual-in_err-reply.result
+    c.reserve.new.self.items c.reserve-in-loop-number.new.self.items
     (search rules) c.in_err-reply.ensures
 
 pub loop-number-preserved : goal.loop-number-preserved
@@ -23,4 +24,5 @@ loop-number-preserved c config h =
     (c.loop-number.invariant config h) c.in_ok-reply.reply
     (length c.as_slice.result.now) c.push_reserved.new.self.items c.push_reserved-in-loop-number.new.self.items
     (c.push_reserved.ensures.items ∙ ap (λ rs. rs ++ c.in_ok-reply.reply ∷ []) c.in_ok-reserve.ensures.items)
-    (c.push_reserved-in-loop-number.ensures.items ∙ ap (λ ns. ns ++ length c.as_slice.result.now ∷ []) c.in_ok-reserve-2.ensures.items) (ap length c.as_slice.ensures) c.in_ok-reply.ensures
+    (c.push_reserved-in-loop-number.ensures.items ∙ ap (λ ns. ns ++ length c.as_slice.result.now ∷ []) c.in_ok-reserve-2.ensures.items)
+    (ap length c.as_slice.ensures) c.in_ok-reply.ensures

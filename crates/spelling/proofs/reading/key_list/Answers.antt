@@ -12,5 +12,6 @@ returns c = is_done key_at c.loop.keys.items c.args.count c.loop.counter c.loop.
     c.loop-test.false c.loop.invariant
 
 pub loop-preserved : goal.loop-preserved
-loop-preserved c = rw c.in-Ok.ensures.items (goes_on key_at c.loop.keys.items c.args.count c.loop.counter c.loop.rest.now c.in-Some.found.0 c.in-Some.found.1.now
+loop-preserved c = rw c.in-Ok.ensures.items (goes_on key_at c.loop.keys.items c.args.count c.loop.counter c.loop.rest.now
+    c.in-Some.found.0 c.in-Some.found.1.now
     (many_at key_at c.args.count c.args.bytes.now) c.loop-test.true c.in-Some.ensures c.loop.invariant)

@@ -13,7 +13,8 @@ returns-in-Ok-clause-crashed c setup s h orderly =
     let then : IsKept mid new = record { setup = refl; installs = refl; from = refl; views = refl } in
     subst (λ o. OnOk c.crash.result (StandsFor setup new (crashed_within setup c.args.bag.now o c.args.fate s))) (sym c.in-Some.is)
     (crash_in_so setup c.args.bag.now s c.in-Some.call c.args.fate c.in-Some.doing old mid new c.carry-answer.result c.crash.result h
-    first c.carry-answer.ensures c.in-Ok.ensures.other then (λ t k. c.crash.ensures.crashed old.setup t k) (orderly c.in-Some.call c.in-Some.doing c.in-Some.is))
+    first c.carry-answer.ensures c.in-Ok.ensures.other then
+    (λ t k. c.crash.ensures.crashed old.setup t k) (orderly c.in-Some.call c.in-Some.doing c.in-Some.is))
 
 pub returns-in-None-clause-crashed : goal.returns-in-None-clause-crashed
 returns-in-None-clause-crashed c setup s h orderly =
