@@ -8,8 +8,8 @@ top=$(dirname "$here")
 made=$(mktemp -d "${TMPDIR:-/tmp}/bench.XXXXXX")
 
 # The crates that the core of a shard stands on, the lowest first.
-crates="units truetime counts waiting disk simdisk record gatelog message protocol locks facts versions safetime rows memory
-participant coordinator ceiling recovery book shard inspector growing board"
+crates="units truetime counts waiting disk simdisk record spelling gatelog message protocol locks facts versions safetime rows
+ledger memory participant coordinator ceiling recovery book shard inspector growing board"
 
 externs() {
     for library in "$1"/lib*.rlib; do

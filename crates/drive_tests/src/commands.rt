@@ -168,7 +168,8 @@ static CLOSED: [Step; 5] = [
 ];
 
 // Settings of disks in memory.
-const IN_MEMORY: &str = "shards = 2\nsplits = [\"k0005\"]\nstride = 1000\nepsilon = 100\nworkers = 4\ntransactions = 50\nkeys = 10\n";
+const IN_MEMORY: &str =
+    "shards = 2\nsplits = [\"k0005\"]\nstride = 1000\nepsilon = 100\nworkers = 4\ntransactions = 50\nkeys = 10\n";
 
 // A folder with what the commands name.
 fn furnished(rt: &HostRuntime, test: &impl Abort) -> Folder {

@@ -41,7 +41,8 @@ pub enum Act {
     View(ShardNo, u64, Key, Stamp),
     /// A crash between events: all changes that are not synced are undone.
     Crash(ShardNo),
-    /// A crash of a shard in a device call of a doing, by its number from 0. Each change that is not synced has this fate.
+    /// A crash of a shard in a device call of a doing, by its number from 0. The oldest change that is not synced has this fate, and
+    /// the others are undone.
     /// The second shard is the one that the doing names: lawful where it is the same.
     CrashIn(ShardNo, u64, Fate, ShardNo, Doing),
     /// A device call of a doing, by its number from 0, fails at a shard. The second is the one that the doing names.

@@ -1,4 +1,4 @@
-//! Whole runs of the store: sessions, shards, a network that loses nothing, crashes. The events, the definitions, and code
+//! Whole runs of the store: sessions, shards, a network that loses, repeats and reorders, crashes. The events, the definitions, and code
 //! for the parts of a run. The laws of whole runs, and the code that plays them, stand in crates above.
 #![tactic(auto)]
 

@@ -26,7 +26,7 @@ loop-alloc-preserved c =
           (first_left left.items after c.remove.result there c.remove.ensures.value c.remove.ensures.items)
           (λ setup s is. c.in_ok-disk.ensures.log s (c.into_disk.ensures setup s is)) c.loop-alloc.invariant.0),
       subst (λ ds. AreOn ds (map (λ l. l.items) c.push_reserved-in-loop-alloc.new.self.items))
-      (sym (c.push_reserved.ensures.items ∙ ap (λ ds. ds ++ c.in_ok-disk.disk ∷ []) c.in_ok-reserve.ensures.items))
+          (sym (c.push_reserved.ensures.items ∙ ap (λ ds. ds ++ c.in_ok-disk.disk ∷ []) c.in_ok-reserve.ensures.items))
           (subst (λ ls. AreOn (c.loop-alloc.disks.items ++ c.in_ok-disk.disk ∷ []) ls) more
           (on_more c.loop-alloc.disks.items (map
           (λ l. l.items) c.loop-alloc.logs.items) c.in_ok-disk.disk log.items c.loop-alloc.invariant.1 c.in_ok-disk.ensures.disk)),
