@@ -3,6 +3,7 @@ use Rattle.std.specs.Prelude.{◌≡◌, ◌⊎◌, ℕ, ◌<◌, ◌≤◌, IsT
 use Rattle.units.specs.declared.fault.Fault.{Fault}
 use Rattle.units.specs.declared.fault.Fault.TheVariants.{Memory as WantsMemory, BadRequest}
 use Rattle.units.specs.declared.fault.Reason.TheVariants.{Many}
+use Rattle.units.specs.declared.setup.Setup.{Setup}
 use Rattle.units.specs.declared.writes.Install.{Install}
 use Rattle.disk.specs.declared.plan.FailurePlan.{FailurePlan}
 use Rattle.disk.specs.File.{File}
@@ -15,6 +16,7 @@ use Rattle.shard.specs.On.{CoreView, HasStepped, step_of}
 use Rattle.shard.specs.Look.{safe_at}
 use Rattle.board.specs.declared.entry.BoardEntry.{BoardEntry}
 use Rattle.board.specs.declared.entry.BoardEntry.TheVariants.{Installed, Safe}
+use Rattle.board.specs.declared.home.Home.{Home}
 use Rattle.board.specs.Board.{is_board, versions_on, safe_on}
 use Rattle.board.specs.Views.{Publishing, Published, Viewing}
 
@@ -36,9 +38,15 @@ IsInStep core handed p = InStep core.facts.installs (safe_at core) handed (p.pub
 abbrev pub IsNewBoard : Publishing → List BoardEntry → Type 0
 IsNewBoard p entries = (p.published ≡ entries) × (p.pending ≡ [])
 
--- so many viewers, each of the board, which have seen and were told its list
-abbrev pub AreOnBoard : ℕ → Publishing → List Viewing → Type 0
-AreOnBoard n p viewers = (length viewers ≡ n) × All (λ v. (v.board ≡ p.board) × (v.seen ≡ p.published) × (v.told ≡ p.published)) viewers
+-- the keys of the shard that is set up so
+abbrev pub home_of : Setup → Home
+home_of setup = record { splits = setup.splits; shard = setup.shard }
+
+-- so many viewers, each of the board, which have seen and were told its list, and answer for the keys of the shard
+abbrev pub AreOnBoard : ℕ → Setup → Publishing → List Viewing → Type 0
+AreOnBoard n setup p viewers =
+    (length viewers ≡ n)
+    × All (λ v. (v.board ≡ p.board) × (v.seen ≡ p.published) × (v.told ≡ p.published) × (v.home ≡ home_of setup)) viewers
 
 -- why there is no desk: want of memory, or a number of viewers that no board has
 abbrev pub IsNoDesk : ℕ → Fault → Type 0

@@ -53,7 +53,8 @@ impl<D: Disk + Drop, R: Wait + Drop> Desk<D, R> {
         ensures board { IfOk result (λ made.
             IsNewBoard (seen_desk made.0).board
             (first_entries (seen core).facts.installs (safe_at (seen core)))) }
-        ensures viewers { IfOk result (λ made. AreOnBoard n (seen_desk made.0).board made.1.items) }
+        ensures viewers { IfOk result
+            (λ made. AreOnBoard n (seen core).setup (seen_desk made.0).board made.1.items) }
         ensures refused { IfErr result
             (λ refused. IsNoDesk n refused.0 × (seen refused.1 ≡ seen core)
             × (book_of refused.1 ≡ book_of core)) }
@@ -93,7 +94,8 @@ impl<D: Disk + Drop, R: Wait + Drop> Desk<D, R> {
         ensures board { IfOk result (λ made. IsNewBoard (seen_desk made.0).board
             (first_entries (seen_desk made.0).core.facts.installs
             (safe_at (seen_desk made.0).core))) }
-        ensures viewers { IfOk result (λ made. AreOnBoard n (seen_desk made.0).board made.1.items) }
+        ensures viewers { IfOk result
+            (λ made. AreOnBoard n setup.now (seen_desk made.0).board made.1.items) }
         ensures refused { IfErr result
             (λ refused. HasNoDesk D.keeps_model D.obeys D.file D.clock D.since D.failures D.plan
             disk setup.now n refused.0 refused.1) }
@@ -203,7 +205,7 @@ fn board_of<R: Wait + Drop>(
     requires { is_board (first_entries installs.now safe) ≡ true }
     ensures board { IfOk result
         (λ made. IsNewBoard made.0 (first_entries installs.now safe)) }
-    ensures viewers { IfOk result (λ made. AreOnBoard n made.0 made.1.items) }
+    ensures viewers { IfOk result (λ made. AreOnBoard n setup.now made.0 made.1.items) }
     ensures refused { IfErr result (λ fault. IsNoDesk n fault) }
 {
     let splits = setup.splits.copy(alloc)?;

@@ -34,7 +34,7 @@ module _ {D : Type 0} (keeps obeys : Type 0) (file : D → File) (clock : D → 
     pub opened : HasOpened keeps obeys file clock since failures plan disk setup desk.core
     pub book : IsBegun keeps obeys file clock since failures plan disk setup desk.book
     pub board : IsNewBoard desk.board (first_entries desk.core.facts.installs (safe_at desk.core))
-    pub viewers : AreOnBoard n desk.board views
+    pub viewers : AreOnBoard n setup desk.board views
 
   -- what was stopped is served again
   abbrev pub HasRestarted : PlaceView D → PlaceView D → Setup → ℕ → List Viewing → Type 0
