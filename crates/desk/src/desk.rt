@@ -2,6 +2,7 @@
 ghost use Rattle.std.specs.Prelude.{◌≡◌, ◌<◌, ◌+◌, ◌++◌, true, length, IfOk, IfErr, OnOk};
 ghost use Rattle.std.specs.Option.{option_copied};
 ghost use Rattle.board.specs.Board.{first_entries, is_board};
+ghost use Rattle.disk.specs.File.{surface};
 ghost use Rattle.desk.specs.InStep.{InStep, IsInStep, IsNewBoard, AreOnBoard, IsNoDesk, StillShows, ShowsAll, HasAdvanced, HasNotAdvanced, HasTaken};
 ghost use Rattle.desk.specs.Opening.{HasNoDesk, IsBegun};
 ghost use Rattle.book.specs.Books.{IsBookOf};
@@ -9,6 +10,7 @@ ghost use Rattle.shard.specs.Booked.{stand_of};
 ghost use Rattle.shard.specs.Core.{seen, book_of};
 ghost use Rattle.shard.specs.Look.{safe_at};
 ghost use Rattle.shard.specs.Opened.{HasOpened};
+ghost use Rattle.shard.specs.Settled.{IsDurablySettled};
 
 use board::{Publisher, Told, Viewer, copy_install, start};
 use book::Book;
@@ -116,6 +118,8 @@ impl<D: Disk + Drop, R: Wait + Drop> Desk<D, R> {
         ensures stepped { HasTaken D.keeps_model D.obeys D.file D.clock D.since D.failures D.plan
             (seen_desk self.old).core (seen_desk self.new).core (seen_desk self.old).book
             (seen_desk self.new).book now.now input.now result }
+        ensures settled { IsDurablySettled D.keeps_model
+            (surface (D.file (seen_desk self.new).core.disk)) input.now result }
         ensures board { (seen_desk self.new).board ≡ (seen_desk self.old).board }
     {
         step_keeps_showable();
