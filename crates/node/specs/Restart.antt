@@ -8,10 +8,15 @@ use Rattle.disk.specs.declared.plan.FailurePlan.{FailurePlan}
 use Rattle.disk.specs.File.{File}
 use Rattle.shard.specs.Look.{safe_at}
 use Rattle.shard.specs.Opened.{HasOpened}
+use Rattle.board.specs.declared.entry.BoardEntry.{BoardEntry}
 use Rattle.board.specs.Board.{first_entries}
-use Rattle.board.specs.Views.{Viewing}
+use Rattle.board.specs.Views.{Publishing, Viewing}
 use Rattle.desk.specs.InStep.{DeskView, IsNewBoard, AreOnBoard}
 use Rattle.desk.specs.Opening.{HasNoDesk, IsBegun}
+
+-- so many viewers of one new board, which shows these entries, for the keys of the shard
+abbrev pub AreOnNewBoard : ℕ → Setup → List BoardEntry → List Viewing → Type 0
+AreOnNewBoard n setup entries viewers = (p : Publishing) × IsNewBoard p entries × AreOnBoard n setup p viewers
 
 -- a desk, or the disk of a desk that was stopped
 pub data PlaceView (D : Type 0) : Type 0 where

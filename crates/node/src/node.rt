@@ -1,7 +1,10 @@
 //! A desk under a lock.
 ghost use Rattle.std.specs.Prelude.{◌≡◌, length, IfOk, IfErr};
+ghost use Rattle.board.specs.Board.{first_entries};
 ghost use Rattle.desk.specs.InStep.{IsNoDesk};
+ghost use Rattle.node.specs.Restart.{AreOnNewBoard};
 ghost use Rattle.shard.specs.Core.{seen, book_of};
+ghost use Rattle.shard.specs.Look.{safe_at};
 
 use crate::held::{Held, Place};
 use board::{Told, Viewer};
@@ -37,6 +40,8 @@ impl<D: Disk + Drop, R: Wait + Drop> Node<D, R> {
         n: usize,
     ) -> Result<(Node<D, R>, Vec<Viewer>), (Fault, Core<D>)>
         ensures viewers { IfOk result (λ made. length made.1.items ≡ n) }
+        ensures board { IfOk result (λ made. AreOnNewBoard n (seen core).setup
+            (first_entries (seen core).facts.installs (safe_at (seen core))) made.1.items) }
         ensures refused { IfErr result
             (λ refused. IsNoDesk n refused.0 × (seen refused.1 ≡ seen core)
             × (book_of refused.1 ≡ book_of core)) }
