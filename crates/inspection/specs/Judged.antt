@@ -1,5 +1,5 @@
 -- The logs that some disks hold, as they are, and the verdict on them.
-use Rattle.std.specs.Prelude.{◌≡◌, ℕ, List, map, Result, Ok}
+use Rattle.std.specs.Prelude.{◌≡◌, ℕ, List, map, Result, Ok, Err, Contains}
 use Rattle.units.specs.declared.fault.Fault.{Fault}
 use Rattle.units.specs.declared.line.Line.{Line}
 use Rattle.units.specs.declared.line.Verdict.{Verdict}
@@ -20,3 +20,9 @@ HaveLogs seen disks logs = map (λ d. records_held (seen d)) disks ≡ map Ok lo
 abbrev pub IsJudged : {D : Type 0} → (D → List ℕ) → List D → List Line → Verdict → Type 0
 IsJudged seen disks lines found =
     (logs : List (List Record)) × HaveLogs seen disks logs × (found ≡ verdict logs lines)
+
+-- one of the disks holds no log that can be read, for this fault
+pub record OneIsRefused {D : Type 0} (seen : D → List ℕ) (disks : List D) (fault : Fault) : Type 0 where
+  pub disk : D
+  pub among : Contains disks disk
+  pub refused : records_held (seen disk) ≡ Err fault

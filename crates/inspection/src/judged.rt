@@ -1,9 +1,11 @@
 //! The verdict on disks that are handed back.
-ghost use Rattle.std.specs.Prelude.{◌≡◌, IfOk, IfErr, Ok, List, map, length};
+ghost use Rattle.std.specs.Prelude.{◌≡◌, ◌⊎◌, ◌<◌, IfOk, IfErr, IsTrue, Ok, Err, List, map, length};
 ghost use Rattle.disk.specs.File.{surface};
 ghost use Rattle.record.specs.declared.record.Record.{Record};
 ghost use Rattle.record.specs.Verdict.{verdict};
-ghost use Rattle.inspection.specs.Judged.{HaveLogs, IsJudged, records_held};
+ghost use Rattle.gatelog.specs.Log.{is_no_log};
+ghost use Rattle.inspection.specs.Files.{HasFailed};
+ghost use Rattle.inspection.specs.Judged.{HaveLogs, IsJudged, OneIsRefused, records_held};
 
 use disk::Disk;
 use gatelog::{Entry, GateLog};
@@ -21,6 +23,13 @@ pub fn judge<D: Disk + Drop>(
     ensures verdict { IfOk result (λ judged. D.keeps_model
         → IsJudged (λ disk. (surface (D.file disk)).seen) judged.1.items lines.now judged.0) }
     ensures disks { IfOk result (λ judged. length judged.1.items ≡ length disks.items) }
+    ensures same { IfOk result (λ judged. D.keeps_model
+        → map (λ disk. (surface (D.file disk)).seen) judged.1.items
+        ≡ map (λ disk. (surface (D.file disk)).seen) disks.items) }
+    ensures refused { IfErr result (λ fault. (fault ≡ Fault.Memory)
+        ⊎ (((fault ≡ Fault.Device) × HasFailed D.failures disks.items)
+        ⊎ (IsTrue (is_no_log fault) × (D.keeps_model
+        → OneIsRefused (λ disk. (surface (D.file disk)).seen) disks.items fault)))) }
 {
     let (logs, disks) = logs_of(alloc, disks)?;
     let found = inspect(alloc, &logs, lines)?;
@@ -36,6 +45,13 @@ fn logs_of<D: Disk + Drop>(
         → HaveLogs (λ disk. (surface (D.file disk)).seen) read.1.items
         (map (λ log. log.items) read.0.items)) }
     ensures disks { IfOk result (λ read. length read.1.items ≡ length disks.items) }
+    ensures same { IfOk result (λ read. D.keeps_model
+        → map (λ disk. (surface (D.file disk)).seen) read.1.items
+        ≡ map (λ disk. (surface (D.file disk)).seen) disks.items) }
+    ensures refused { IfErr result (λ fault. (fault ≡ Fault.Memory)
+        ⊎ (((fault ≡ Fault.Device) × HasFailed D.failures disks.items)
+        ⊎ (IsTrue (is_no_log fault) × (D.keeps_model
+        → OneIsRefused (λ disk. (surface (D.file disk)).seen) disks.items fault)))) }
 {
     let mut logs = Vec::new(alloc);
     let mut read = Vec::new(alloc);
@@ -49,8 +65,14 @@ fn logs_of<D: Disk + Drop>(
 
 // The records of the log that a disk holds, and the disk.
 fn log_of<D: Disk + Drop>(alloc: Global, disk: D) -> Result<(Vec<Record>, D), Fault>
-    ensures { IfOk result (λ read. D.keeps_model
+    ensures log { IfOk result (λ read. D.keeps_model
         → records_held (surface (D.file read.1)).seen ≡ Ok read.0.items) }
+    ensures same { IfOk result (λ read. D.keeps_model
+        → (surface (D.file read.1)).seen ≡ (surface (D.file disk)).seen) }
+    ensures refused { IfErr result (λ fault. (fault ≡ Fault.Memory)
+        ⊎ (((fault ≡ Fault.Device) × ((back : D) × (D.failures disk < D.failures back)))
+        ⊎ (IsTrue (is_no_log fault) × (D.keeps_model
+        → records_held (surface (D.file disk)).seen ≡ Err fault)))) }
 {
     match GateLog::open(alloc, disk) {
         Ok((gate_log, entries)) => {
