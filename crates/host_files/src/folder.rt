@@ -1,5 +1,10 @@
 //! The logs of the shards of a drive.
-ghost use Rattle.std.specs.Prelude.{◌≡◌, ◌⊎◌, IfOk, IfErr, length};
+ghost use Rattle.std.specs.Prelude.{◌≡◌, ◌⊎◌, [], IfOk, IfErr, Ok, All, length};
+ghost use Rattle.disk.specs.File.{surface};
+ghost use Rattle.disk.specs.declared.plan.FailurePlan.TheVariants.{Never};
+ghost use Rattle.gatelog.specs.Crash.{Stands};
+ghost use Rattle.gatelog.specs.Log.{log};
+ghost use Rattle.simdisk.specs.State.{disk_file, disk_plan};
 ghost use Rattle.units.specs.declared.fault.Fault.TheVariants.{Device, Memory};
 
 use filedisk::FileDisk;
@@ -33,7 +38,14 @@ pub fn logs_in<R: Files<File = File>>(
 /// New logs of so many shards, on disks in memory.
 pub fn logs_in_memory(alloc: Global, shards: usize) -> Result<Vec<SimDisk>, Fault>
     ensures all { IfOk result (λ logs. length logs.items ≡ shards) }
-    ensures refused { IfErr result (λ fault. (fault ≡ Memory) ⊎ (fault ≡ Device)) }
+    ensures memory { IfErr result (λ fault. fault ≡ Memory) }
+    // From then on every crash leaves the empty log, and a read gives it.
+    ensures empty { IfOk result
+        (λ logs. All (λ disk. Stands (surface (disk_file disk)) (Ok [])) logs.items) }
+    ensures read { IfOk result
+        (λ logs. All (λ disk. log (surface (disk_file disk)).seen ≡ Ok []) logs.items) }
+    // No call is armed to fail.
+    ensures planned { IfOk result (λ logs. All (λ disk. disk_plan disk ≡ Never) logs.items) }
 {
     let mut logs = Vec::new(alloc);
     for _ in 0..shards {
