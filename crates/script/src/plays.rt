@@ -1,7 +1,7 @@
 //! Schedules are played, and the reports are judged.
-ghost use Rattle.std.specs.Prelude.{◌≡◌, map, IfOk};
+ghost use Rattle.std.specs.Prelude.{◌≡◌, map, IfOk, IfErr};
 ghost use Rattle.record.specs.Verdict.{verdict};
-ghost use Rattle.playing.specs.Reports.{IsReport};
+ghost use Rattle.playing.specs.Reports.{IsNoReport, IsReport};
 
 use inspector::inspect;
 use playing::{Report, play};
@@ -22,6 +22,7 @@ pub fn judged(alloc: Global, config: &Config, events: &[Event]) -> Result<Played
     ensures verdict { IfOk result
         (λ played. played.verdict ≡ verdict
         (map (λ log. log.items) played.report.logs.items) played.report.lines.items) }
+    ensures refused { IfErr result (λ fault. IsNoReport config.now events.now fault) }
 {
     let report = play(alloc, config, events)?;
     let verdict = inspect(alloc, &report.logs, &report.lines)?;

@@ -1,4 +1,6 @@
 //! The text of a report.
+ghost use Rattle.std.specs.Prelude.{◌≡◌, IfErr};
+
 use crate::plays::Played;
 use playing::Report;
 use std::alloc::Global;
@@ -8,7 +10,9 @@ use units::Fault;
 use world::Reply;
 
 /// The text of a report, with the verdict on it.
-pub fn report(alloc: Global, played: &Played) -> Result<String, Fault> {
+pub fn report(alloc: Global, played: &Played) -> Result<String, Fault>
+    ensures { IfErr result (λ fault. fault ≡ Fault.Memory) }
+{
     Ok(format!(in alloc; "{played}")?)
 }
 
