@@ -1,5 +1,5 @@
 //! Drives nodes with workers, all on threads.
-ghost use Rattle.std.specs.Prelude.{◌≡◌, ◌+◌, ◌*◌, ◌≤◌, IfOk, IsOk, length};
+ghost use Rattle.std.specs.Prelude.{◌≡◌, ◌≢◌, ◌+◌, ◌*◌, ◌≤◌, IfOk, IsOk, Err, length};
 ghost use Rattle.std.specs.Thread.{IsSync, IsSend};
 ghost use Rattle.disk.specs.File.{surface};
 ghost use Rattle.workers.specs.Course.{IsDrivable};
@@ -21,7 +21,7 @@ use std::sync::Wait;
 use std::thread::Threads;
 use std::{thread, time};
 use truetime::Clock;
-use units::{Fault, Line, Run};
+use units::{Fault, Line, Reason, Run};
 use workers::{Course, MachineClock, Report, Shared, Staff, Summary, Viewers, work_and_close};
 
 /// What a drive comes to, and what its verdict is on: the lines of all workers, and the disks with the logs of the shards.
@@ -59,6 +59,10 @@ pub fn drive<
     ensures shards { IsOk result → length disks.items ≡ length settings.now.splits + 1 }
     ensures limits { IsOk result
         → IsDrivable settings.now.workers settings.now.transactions settings.now.keys }
+    ensures beyond { ¬ IsDrivable settings.now.workers settings.now.transactions settings.now.keys
+        → result ≡ Err (Fault.BadRequest Reason.Settings) }
+    ensures many { length disks.items ≢ length settings.now.splits + 1
+        → result ≡ Err (Fault.BadRequest Reason.Settings) }
 {
     let clock = MachineClock {
         rt,
@@ -94,6 +98,10 @@ pub fn drive_by<
     ensures shards { IsOk result → length disks.items ≡ length settings.now.splits + 1 }
     ensures limits { IsOk result
         → IsDrivable settings.now.workers settings.now.transactions settings.now.keys }
+    ensures beyond { ¬ IsDrivable settings.now.workers settings.now.transactions settings.now.keys
+        → result ≡ Err (Fault.BadRequest Reason.Settings) }
+    ensures many { length disks.items ≢ length settings.now.splits + 1
+        → result ≡ Err (Fault.BadRequest Reason.Settings) }
 {
     drive_nodes::<Node<D, &R>, R, D, C, G, W>(rt, alloc, settings, disks, clock, gate, watch)
 }
@@ -127,6 +135,10 @@ fn drive_nodes<
     ensures shards { IsOk result → length disks.items ≡ length settings.now.splits + 1 }
     ensures limits { IsOk result
         → IsDrivable settings.now.workers settings.now.transactions settings.now.keys }
+    ensures beyond { ¬ IsDrivable settings.now.workers settings.now.transactions settings.now.keys
+        → result ≡ Err (Fault.BadRequest Reason.Settings) }
+    ensures many { length disks.items ≢ length settings.now.splits + 1
+        → result ≡ Err (Fault.BadRequest Reason.Settings) }
 {
     let course = Course::of(settings)?;
     let opened = Opened::<N>::over(rt, alloc, settings, disks, course.workers as usize)?;

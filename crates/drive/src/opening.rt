@@ -1,5 +1,5 @@
 //! The nodes of a drive.
-ghost use Rattle.std.specs.Prelude.{◌≡◌, ◌≤◌, ◌+◌, length, IfOk, IsOk, OnOk};
+ghost use Rattle.std.specs.Prelude.{◌≡◌, ◌≢◌, ◌≤◌, ◌+◌, length, Err, IfOk, IsOk, OnOk};
 
 use board::Viewer;
 use disk::Disk;
@@ -80,6 +80,8 @@ impl<N: Drop> Opened<N> {
             length opened.viewers.by_worker.items ≡ workers) }
         ensures nodes { IfOk result (λ opened. length opened.nodes.items ≡ length disks.items) }
         ensures shards { IsOk result → length disks.items ≡ length settings.now.splits + 1 }
+        ensures refused { length disks.items ≢ length settings.now.splits + 1
+            → result ≡ Err (Fault.BadRequest Reason.Settings) }
     {
         if disks.len() != settings.splits.as_slice().len() + 1 {
             drop(disks);

@@ -1,4 +1,4 @@
-use Rattle.std.proofs.Common.{◌≡◌, ℕ, ◌≤◌, ◌*◌, Result, Ok, Err, IfOk, refl, ap, sym, subst, ◌∙◌}
+use Rattle.std.proofs.Common.{ℕ, ◌≤◌, ◌*◌, Result, Ok, Err, IfOk, refl, ap, sym, subst, ◌∙◌}
 use Rattle.units.specs.declared.fault.Fault.{Fault}
 use Rattle.workers.specs.Summaries.{tried}
 use Rattle.workers.specs.declared.summary.Counts.{Counts}
