@@ -1,4 +1,8 @@
 //! Shards on the machine's threads.
+ghost use Rattle.std.specs.Prelude.{◌*◌, IfOk, IsOk, string_bytes};
+ghost use Rattle.workers.specs.Course.{IsDrivable};
+ghost use Rattle.drive.specs.Told.{IsTold};
+
 use crate::engine::{self, drive};
 use disk::Disk;
 use host_files::{logs_in, logs_in_memory};
@@ -19,7 +23,13 @@ use units::{Fault, ShardNo};
 pub fn drive_shards<
     R: rt::Files<File = File> + Threads + Wait + time::Clock + Sync,
     W: Write + Drop + Send,
->(rt: &R, alloc: Global, settings: &Settings, terminal: Option<W>) -> Result<Driven, Fault> {
+>(rt: &R, alloc: Global, settings: &Settings, terminal: Option<W>) -> Result<Driven, Fault>
+    ensures told { IfOk result (λ driven. IsTold
+        (settings.now.workers * settings.now.transactions)
+        (string_bytes driven.text) driven.verdict) }
+    ensures limits { IsOk result
+        → IsDrivable settings.now.workers settings.now.transactions settings.now.keys }
+{
     let turns = settings.workers.saturating_mul(settings.transactions);
     let watch = match terminal {
         Some(writer) => Some(Terminal::new(rt, alloc, writer, turns)),
@@ -37,7 +47,13 @@ fn drive_watched<R: rt::Files<File = File> + Threads + Wait + time::Clock + Sync
     alloc: Global,
     settings: &Settings,
     watch: &W,
-) -> Result<Driven, Fault> {
+) -> Result<Driven, Fault>
+    ensures told { IfOk result (λ driven. IsTold
+        (settings.now.workers * settings.now.transactions)
+        (string_bytes driven.text) driven.verdict) }
+    ensures limits { IsOk result
+        → IsDrivable settings.now.workers settings.now.transactions settings.now.keys }
+{
     let shards = settings.splits.as_slice().len() + 1;
     match &settings.dir {
         Some(folder) => {
@@ -57,7 +73,13 @@ fn drive_over<R: Threads + Wait + time::Clock + Sync, D: Disk + Drop + Send, W: 
     settings: &Settings,
     logs: Vec<D>,
     watch: &W,
-) -> Result<Driven, Fault> {
+) -> Result<Driven, Fault>
+    ensures told { IfOk result (λ driven. IsTold
+        (settings.now.workers * settings.now.transactions)
+        (string_bytes driven.text) driven.verdict) }
+    ensures limits { IsOk result
+        → IsDrivable settings.now.workers settings.now.transactions settings.now.keys }
+{
     let engine::Driven {
         summary,
         lines,
