@@ -21,7 +21,8 @@ impl<W: Write> Stream<W> {
 
     /// Nothing has failed yet.
     pub fn new(writer: W) -> Stream<W>
-        ensures { writer_of result ≡ writer }
+        ensures over { writer_of result ≡ writer }
+        ensures none { failures_of result ≡ 0 }
     {
         Stream {
             writer,
@@ -47,6 +48,7 @@ impl<W: Write> Stream<W> {
         ensures unwritten { IfErr result (λ failure. failure ≡ Unwritten) }
         ensures failed { IfErr result (λ _. failures_of self.new ≡ failures_of self.old + 1) }
         ensures kept { failures_of self.old ≤ failures_of self.new }
+        ensures quiet { OnOk result (failures_of self.new ≡ failures_of self.old) }
     {
         match self.writer.write_all(text.as_bytes()) {
             Ok(()) => Ok(()),
@@ -65,6 +67,7 @@ impl<W: Write> Stream<W> {
         ensures unwritten { IfErr result (λ failure. failure ≡ Unwritten) }
         ensures failed { IfErr result (λ _. failures_of self.new ≡ failures_of self.old + 1) }
         ensures kept { failures_of self.old ≤ failures_of self.new }
+        ensures quiet { OnOk result (failures_of self.new ≡ failures_of self.old) }
     {
         match writeln!(self.writer, "fault: {fault}") {
             Ok(()) => Ok(()),
