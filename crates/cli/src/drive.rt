@@ -1,7 +1,9 @@
 //! The command `drive`: shards and workers in threads.
-ghost use Rattle.std.specs.Prelude.{◌≡◌, ◌⊎◌, ◌<◌, List, ℕ, None, IfOk, IfErr};
+ghost use Rattle.std.specs.Prelude.{◌≡◌, ◌⊎◌, ◌<◌, List, ℕ, None, Err, IfOk, IfErr};
 ghost use Rattle.std.specs.Io.KnownBytes.{Appends};
+ghost use Rattle.units.specs.declared.fault.Fault.{Fault};
 ghost use Rattle.output.specs.Failures.{FailsFor};
+ghost use Rattle.output.specs.declared.failure.Failure.TheVariants.{Refused};
 ghost use Rattle.output.specs.Streams.{failures_of, writer_of};
 
 use output::{Failure, Stream, status_of};
@@ -25,6 +27,7 @@ pub fn drive<F: Files, D: Fn(Global, &Settings) -> Result<Driven, Fault>, O: Wri
         × Appends (O.contents (writer_of out.old)) (O.contents (writer_of out.new)) text) }
     ensures failures { IfErr result
         (λ failure. FailsFor (failures_of out.old < failures_of out.new) failure None) }
+    ensures nothing { (fault : Fault) → result ≡ Err (Refused fault) → out.new ≡ out.old }
 {
     let driven = drive_by(alloc, file, system)?;
     out.print(&driven.text)?;

@@ -1,8 +1,10 @@
 //! The command `inspect`: the verdict on logs in files.
-ghost use Rattle.std.specs.Prelude.{◌≡◌, ◌<◌, ◌++◌, None, IfOk, IfErr, codes, string_bytes};
+ghost use Rattle.std.specs.Prelude.{◌≡◌, ◌<◌, ◌++◌, None, Err, IfOk, IfErr, codes, string_bytes};
 ghost use Rattle.std.specs.Io.KnownBytes.{Appends};
 ghost use Rattle.units.specs.declared.line.Verdict.{Verdict};
+ghost use Rattle.units.specs.declared.fault.Fault.{Fault};
 ghost use Rattle.output.specs.Failures.{FailsFor};
+ghost use Rattle.output.specs.declared.failure.Failure.TheVariants.{Refused};
 ghost use Rattle.output.specs.Streams.{failures_of, writer_of};
 ghost use Rattle.output.specs.Verdicts.{exit_status, text_of};
 
@@ -26,6 +28,7 @@ pub fn inspect<F: Files, O: Write>(
         (text_of verdict ++ codes "\n")) }
     ensures failures { IfErr result
         (λ failure. FailsFor (failures_of out.old < failures_of out.new) failure None) }
+    ensures nothing { (fault : Fault) → result ≡ Err (Refused fault) → out.new ≡ out.old }
 {
     let verdict = inspect_files(alloc, files, lines, logs)?;
     out.print(&line_of(alloc, verdict)?)?;

@@ -1,7 +1,9 @@
 //! The command `play`: the schedule of a file, played and reported.
-ghost use Rattle.std.specs.Prelude.{◌≡◌, ◌⊎◌, ◌<◌, List, None, ℕ, IfErr, IfOk};
+ghost use Rattle.std.specs.Prelude.{◌≡◌, ◌⊎◌, ◌<◌, List, None, Err, ℕ, IfErr, IfOk};
 ghost use Rattle.std.specs.Io.KnownBytes.{Appends};
+ghost use Rattle.units.specs.declared.fault.Fault.{Fault};
 ghost use Rattle.output.specs.Failures.{FailsFor};
+ghost use Rattle.output.specs.declared.failure.Failure.TheVariants.{Refused};
 ghost use Rattle.output.specs.Streams.{failures_of, writer_of};
 
 use output::{Failure, Stream, status_of};
@@ -24,6 +26,7 @@ pub fn play<F: Files, O: Write>(
         × Appends (O.contents (writer_of out.old)) (O.contents (writer_of out.new)) text) }
     ensures failures { IfErr result
         (λ failure. FailsFor (failures_of out.old < failures_of out.new) failure None) }
+    ensures nothing { (fault : Fault) → result ≡ Err (Refused fault) → out.new ≡ out.old }
 {
     let (text, status) = play_text(alloc, file, files)?;
     out.print(&text)?;
