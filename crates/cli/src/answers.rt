@@ -10,6 +10,7 @@ ghost use Rattle.command_line.specs.Views.{asked_for};
 ghost use Rattle.command_line.specs.declared.commands.Command.TheVariants.{Help};
 ghost use Rattle.command_line.specs.declared.usage.TheConstants.{USAGE};
 ghost use Rattle.output.specs.Failures.{FailsFor};
+ghost use Rattle.output.specs.declared.failure.Failure.TheVariants.{Refused, Unwritten};
 ghost use Rattle.command_line.specs.Lines.{are_plain, asks_help};
 ghost use Rattle.output.specs.Replies.{Is};
 ghost use Rattle.cli.specs.Disks.{LogsCommand, LogsTo};
@@ -69,6 +70,12 @@ pub fn answer<'a, F: Files, D: Fn(Global, &Settings) -> Result<Driven, Fault>, O
         × ((failures_of err.old < failures_of err.new)
         ⊎ Appends (E.contents (writer_of err.old)) (E.contents (writer_of err.new))
         (fault_line fault))) }
+    // So it is for any words.
+    ensures explained { result.0 ≡ 2 → (failures_of out.old < failures_of out.new)
+        ⊎ ((fault : Fault) × ((failures_of err.old < failures_of err.new)
+        ⊎ Appends (E.contents (writer_of err.old)) (E.contents (writer_of err.new))
+        (fault_line fault))) }
+    ensures silent { failures_of out.old < failures_of out.new → err.new ≡ err.old }
 {
     let (done, disk) = carry_out(alloc, words, system, disk, out);
     match done {
@@ -110,6 +117,9 @@ fn carry_out<'a, F: Files, D: Fn(Global, &Settings) -> Result<Driven, Fault>, O:
         → IfErr result.0 (λ failure.
         FailsFor (failures_of out.old < failures_of out.new) failure
         (reply_to (map (λ w. w.now) words.entry.now))) }
+    ensures unwritten { result.0 ≡ Err Unwritten → failures_of out.old < failures_of out.new }
+    ensures counted { (fault : Fault) → result.0 ≡ Err (Refused fault)
+        → failures_of out.new ≡ failures_of out.old }
 {
     match command(alloc, words) {
         Ok(asked) => run(alloc, asked, system, disk, out),
@@ -142,6 +152,9 @@ fn run<F: Files, D: Fn(Global, &Settings) -> Result<Driven, Fault>, O: Write>(
     ensures failures { IfErr result.0 (λ failure.
         FailsFor (failures_of out.old < failures_of out.new) failure
         (reply_of (asked_for asked.entry))) }
+    ensures unwritten { result.0 ≡ Err Unwritten → failures_of out.old < failures_of out.new }
+    ensures counted { (fault : Fault) → result.0 ≡ Err (Refused fault)
+        → failures_of out.new ≡ failures_of out.old }
 {
     match asked {
         Command::Help => (help(out), disk),

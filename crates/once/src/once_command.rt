@@ -4,6 +4,7 @@ ghost use Rattle.std.specs.Io.KnownBytes.{Appends};
 ghost use Rattle.units.specs.declared.fault.Fault.{Fault};
 ghost use Rattle.units.specs.declared.fault.Fault.TheVariants.{Memory};
 ghost use Rattle.output.specs.Failures.{FailsFor};
+ghost use Rattle.output.specs.declared.failure.Failure.TheVariants.{Refused};
 ghost use Rattle.once.specs.Replies.{commit_line, first_stamp, done_line, once_reply};
 ghost use Rattle.once.specs.Shards.{HasLog, IsLogged, new_log, log_after};
 ghost use Rattle.output.specs.Streams.{failures_of, writer_of};
@@ -42,6 +43,8 @@ pub fn once<O: Write>(
     ensures failures { IfErr result.0 (λ failure.
         FailsFor (failures_of out.old < failures_of out.new) failure
         (Some (once_reply first.now second.now))) }
+    ensures counted { (fault : Fault) → result.0 ≡ Err (Refused fault)
+        → failures_of out.new ≡ failures_of out.old }
 {
     let mut core = match open_new(alloc, disk) {
         Ok(core) => core,
@@ -72,6 +75,8 @@ fn commit_and_settle<O: Write>(
     ensures failures { IfErr result (λ failure.
         FailsFor (failures_of out.old < failures_of out.new) failure
         (Some (once_reply first.now second.now))) }
+    ensures counted { (fault : Fault) → result ≡ Err (Refused fault)
+        → failures_of out.new ≡ failures_of out.old }
 {
     let stamp = commit(alloc, core, key, value, first)?;
     out.print(&committed(alloc, stamp)?)?;
