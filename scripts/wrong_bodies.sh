@@ -2,7 +2,7 @@
 # Tries the wrong bodies of wrong-bodies/CRATE/*.edit, on a copy of the repository in which they stand in the place of the gate's: the
 # prover must refuse each of them. To be run when a crate's contracts change. With names of crates, as `scripts/wrong_bodies.sh units memory`,
 # only theirs are tried; as many checks at a time as there are processors, or JOBS. What the gate or an earlier run passed on this machine
-# is not proved again, where the kit keeps that; so behind a gate all of them take a quarter of an hour on four processors.
+# is not proved again, where the kit keeps that; so behind a gate all of them take 15 to 20 minutes on four processors.
 set -eu
 root=$(dirname "$(dirname "$(readlink -f "$0")")")
 export RT_JOBS="${JOBS:-$(nproc)}"
