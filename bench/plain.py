@@ -79,6 +79,7 @@ def plain(text):
     text = text.replace(".collect(alloc)", ".collect_in(alloc)").replace(".to_vec(alloc)", ".to_vec_in(alloc)")
     written = r"<W: (fmt::)?Write>\(&self, (\w+): &mut (fmt::)?Formatter<W>\)"
     text = re.sub(written, r"(&self, \2: &mut shim::fmt::Formatter<'_>)", text)
+    text = text.replace("BuildHasherDefault::new()", "BuildHasherDefault::default()")
     text = text.replace(" + Drop", "").replace("<T: Drop>", "<T>").replace("use thiserror::Error;\n", "")
     text = re.sub(r"\bstd::", "shim::", text)
     text = re.sub(r"\buse (byteorder|indexmap|left_right|crossbeam_utils|atomic_table)::", r"use shim::\1::", text)

@@ -158,6 +158,41 @@ fn ready<S: Shard>(waiters: u64) {
     store.end();
 }
 
+/// As `rows`, but all of them read the one key that is read then.
+fn sharers<S: Shard>(rows: u64) {
+    let mut store = S::new(1);
+    for n in 0..rows {
+        store.give(100, &S::read((1, n), key::<S>(b's', 0)));
+    }
+    let (taken, ended) = in_turn(
+        &mut store,
+        |n, _| S::read((2, n), key::<S>(b's', 0)),
+        |n, _| S::give_up((2, n)),
+    );
+    tell(&format!("read of one key, {rows} rows read it"), taken, 100);
+    tell(&format!("its ending, {rows} rows read it"), ended, 100);
+    store.end();
+}
+
+/// Each of some waiters waits for a key of its own.
+fn many<S: Shard>(waiters: u64) {
+    let mut store = S::new(1);
+    for n in 0..waiters {
+        store.give(100, &S::prepare((2, n), key::<S>(b'w', n)));
+    }
+    for n in 0..waiters {
+        store.give(100, &S::read((1, n), key::<S>(b'w', n)));
+    }
+    let mut least = Duration::MAX;
+    for _ in 0..50 {
+        let start = Cpu::now();
+        assert!(!black_box(&store).is_ready());
+        least = least.min(start.elapsed());
+    }
+    tell(&format!("ready, {waiters} waiters behind as many"), least, 1);
+    store.end();
+}
+
 /// Commits and settles, on from a number.
 fn write<S: Shard>(store: &mut S, n: u64, run: u64, place: u64) {
     let at = n * 100 + 100;
@@ -235,9 +270,11 @@ fn opening<S: Shard>(records: u64, is_scattered: bool) {
 
 /// Runs the scenes that the words name.
 pub fn run<S: Shard>() {
-    let scenes: [(&str, fn()); 5] = [
+    let scenes: [(&str, fn()); 7] = [
         ("rows", || [0, 900].into_iter().for_each(rows::<S>)),
         ("ready", || ready::<S>(1_000)),
+        ("sharers", || [0, 900].into_iter().for_each(sharers::<S>)),
+        ("many", || [100, 500].into_iter().for_each(many::<S>)),
         ("versions", || {
             [1_000, 10_000, 100_000, 1_000_000].into_iter().for_each(versions::<S>)
         }),

@@ -1,5 +1,5 @@
 //! What the crates use of their library, over Rust's own.
-pub use std::{cmp, fmt, marker, mem, ops, option, result};
+pub use std::{cmp, fmt, hash, marker, mem, ops, option, result};
 
 pub mod alloc {
     #[derive(Clone, Copy, Debug)]
@@ -258,11 +258,46 @@ pub mod byteorder {
 pub mod indexmap {
     use crate::alloc::{AllocError, Global};
     use std::collections::HashMap;
-    use std::hash::Hash;
+    use std::hash::{BuildHasher, BuildHasherDefault, Hash, Hasher};
+
+    /// The hasher of the ported map, which folds a product of 128 bits.
+    pub struct Fold(u64);
+    impl Default for Fold {
+        fn default() -> Self {
+            Fold(0x243f_6a88_85a3_08d3)
+        }
+    }
+    fn folded(a: u64, b: u64) -> u64 {
+        let product = a as u128 * b as u128;
+        product as u64 ^ (product >> 64) as u64
+    }
+    impl Hasher for Fold {
+        fn write(&mut self, bytes: &[u8]) {
+            let mut rest = bytes;
+            self.0 ^= rest.len() as u64;
+            while rest.len() >= 16 {
+                let a = u64::from_le_bytes(rest[..8].try_into().unwrap());
+                let b = u64::from_le_bytes(rest[8..16].try_into().unwrap());
+                self.0 = folded(a ^ self.0, b ^ 0x1319_8a2e_0370_7344);
+                rest = &rest[16..];
+            }
+            let mut last = [0; 16];
+            last[..rest.len()].copy_from_slice(rest);
+            let a = u64::from_le_bytes(last[..8].try_into().unwrap());
+            let b = u64::from_le_bytes(last[8..].try_into().unwrap());
+            self.0 = folded(a ^ self.0, b ^ 0xa409_3822_299f_31d0);
+        }
+        fn write_u64(&mut self, n: u64) {
+            self.0 = folded(self.0 ^ n, 0x5851_f42d_4c95_7f2d);
+        }
+        fn finish(&self) -> u64 {
+            self.0
+        }
+    }
 
     /// A map in the order of its entries.
-    pub struct IndexMap<K, V> {
-        places: HashMap<K, usize>,
+    pub struct IndexMap<K, V, S = BuildHasherDefault<Fold>> {
+        places: HashMap<K, usize, S>,
         entries: Vec<(K, V)>,
     }
 
@@ -270,10 +305,16 @@ pub mod indexmap {
         pub struct Slice<'a, K, V>(pub &'a [(K, V)]);
     }
 
-    impl<K: Hash + Ord + Copy, V> IndexMap<K, V> {
-        pub fn new(_: Global) -> Self {
+    impl<K: Hash + Eq + Copy, V> IndexMap<K, V> {
+        pub fn new(alloc: Global) -> Self {
+            IndexMap::with_hasher(alloc, BuildHasherDefault::default())
+        }
+    }
+
+    impl<K: Hash + Eq + Copy, V, S: BuildHasher> IndexMap<K, V, S> {
+        pub fn with_hasher(_: Global, hasher: S) -> Self {
             IndexMap {
-                places: HashMap::new(),
+                places: HashMap::with_hasher(hasher),
                 entries: Vec::new(),
             }
         }
@@ -282,11 +323,44 @@ pub mod indexmap {
             self.entries.reserve(n);
             Ok(())
         }
+        pub fn len(&self) -> usize {
+            self.entries.len()
+        }
+        pub fn is_empty(&self) -> bool {
+            self.entries.is_empty()
+        }
+        pub fn capacity(&self) -> usize {
+            self.places.capacity().min(self.entries.capacity())
+        }
+        pub fn clear(&mut self) {
+            self.places.clear();
+            self.entries.clear();
+        }
         pub fn get(&self, k: &K) -> Option<&V> {
             Some(&self.entries[*self.places.get(k)?].1)
         }
+        pub fn get_mut(&mut self, k: &K) -> Option<&mut V> {
+            Some(&mut self.entries[*self.places.get(k)?].1)
+        }
+        pub fn get_index_of(&self, k: &K) -> Option<usize> {
+            self.places.get(k).copied()
+        }
+        pub fn get_index(&self, at: usize) -> Option<(&K, &V)> {
+            self.entries.get(at).map(|e| (&e.0, &e.1))
+        }
+        pub fn contains_key(&self, k: &K) -> bool {
+            self.places.contains_key(k)
+        }
         pub fn as_slice(&self) -> map::Slice<'_, K, V> {
             map::Slice(&self.entries)
+        }
+        pub fn swap_remove(&mut self, k: &K) -> Option<V> {
+            let at = self.places.remove(k)?;
+            let gone = self.entries.swap_remove(at);
+            if let Some(moved) = self.entries.get(at) {
+                *self.places.get_mut(&moved.0).unwrap() = at;
+            }
+            Some(gone.1)
         }
         pub fn insert(&mut self, k: K, v: V) -> Result<Option<V>, AllocError> {
             if let Some(at) = self.places.get(&k) {
@@ -296,6 +370,9 @@ pub mod indexmap {
             self.entries.push((k, v));
             Ok(None)
         }
+    }
+
+    impl<K: Hash + Ord + Copy, V, S: BuildHasher> IndexMap<K, V, S> {
         pub fn insert_sorted(&mut self, k: K, v: V) -> Result<(usize, Option<V>), AllocError> {
             match self.entries.binary_search_by(|e| e.0.cmp(&k)) {
                 Ok(at) => Ok((at, Some(std::mem::replace(&mut self.entries[at].1, v)))),
@@ -311,5 +388,12 @@ pub mod indexmap {
                 }
             }
         }
+    }
+}
+
+impl<K: hash::Hash + Eq + Copy, V, S: hash::BuildHasher> ops::Index<usize> for indexmap::IndexMap<K, V, S> {
+    type Output = V;
+    fn index(&self, at: usize) -> &V {
+        self.get_index(at).unwrap().1
     }
 }
