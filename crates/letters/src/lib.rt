@@ -1,6 +1,8 @@
 //! Letters to nodes and messages to workers, what carries them, and threads that serve nodes by the letters of an inbox.
 #![tactic(auto)]
 
+mod acts;
+mod chores;
 mod gate;
 mod letter;
 mod network;

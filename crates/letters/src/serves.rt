@@ -1,4 +1,6 @@
 //! How a node is served.
+use crate::acts::act;
+use crate::chores::Chores;
 use crate::gate::Gate;
 use crate::letter::{Letter, Post};
 use crossbeam_channel::{Receiver, RecvTimeoutError};
@@ -7,7 +9,7 @@ use std::sync::Wait;
 use std::time;
 use std::time::Duration;
 use truetime::Clock;
-use units::{MOST_ROWS, ShardNo, Stamp, TxnId};
+use units::{ShardNo, Stamp, TxnId};
 
 /// The standing of transactions that wait for a node's chores: decided and not settled, or prepared.
 #[derive(Clone, Copy)]
@@ -24,15 +26,22 @@ pub trait Serves {
     /// Takes an input at a reading that is taken under the lock. What it puts out, where it was taken.
     fn take<W: Wait, C: Clock>(&self, rt: &W, clock: &mut C, input: &Input) -> Option<Outbox>;
 
-    /// The n-th transaction of this standing.
-    fn due<W: Wait>(&self, rt: &W, due: Due, n: usize) -> Option<TxnId>;
+    /// Whether there is a wait that can be granted.
+    fn is_ready<W: Wait>(&self, rt: &W) -> bool;
+
+    /// The n-th transaction of this standing, and the timestamp that it is prepared or decided at.
+    fn due<W: Wait>(&self, rt: &W, due: Due, n: usize) -> Option<(TxnId, Stamp)>;
 
     /// Serves up to the latest of a reading that is taken under the lock.
     fn keep_up<W: Wait, C: Clock>(&self, rt: &W, clock: &mut C);
 }
 
-/// Serves the letters of the inbox until one says to close, or the inbox is closed. Whenever none has come for a millisecond, the
-/// node does its chores.
+// So many letters are taken in a row before a node does its chores.
+const LETTERS_IN_A_ROW: u64 = 64;
+
+/// Serves the letters of the inbox until one says to close, or the inbox is closed. Whenever none is there the node does its
+/// chores, and then waits for a letter until more are due. No stream of letters keeps it from them for more than 64
+/// letters or, but for one letter, a millisecond.
 pub fn serve<N: Serves, W: Wait + time::Clock, P: Post, C: Clock, G: Gate>(
     node: &N,
     rt: &W,
@@ -41,9 +50,16 @@ pub fn serve<N: Serves, W: Wait + time::Clock, P: Post, C: Clock, G: Gate>(
     clock: &mut C,
     gate: &G,
 ) {
+    let mut chores = Chores::new();
     let mut n = 0;
+    let mut in_a_row: u64 = 0;
     for _letter in rt.forever() {
-        match inbox.recv_timeout(rt, Duration::from_millis(1)) {
+        let mut pause = Duration::ZERO;
+        if inbox.is_empty() || in_a_row >= LETTERS_IN_A_ROW || chores.are_late(rt) {
+            in_a_row = 0;
+            pause = chores.tend(node, rt, post, clock);
+        }
+        match inbox.recv_timeout(rt, pause) {
             Ok(Letter::Carry(message)) => {
                 gate.before(node.shard(), n);
                 act(node, rt, post, clock, Input::Deliver(message));
@@ -51,52 +67,12 @@ pub fn serve<N: Serves, W: Wait + time::Clock, P: Post, C: Clock, G: Gate>(
                 if n < Stamp::MAX {
                     n += 1;
                 }
+                in_a_row = in_a_row.saturating_add(1);
             }
             Ok(Letter::Close) => return,
-            Err(RecvTimeoutError::Timeout) => tend(node, rt, post, clock),
+            Err(RecvTimeoutError::Timeout) => {}
             Err(RecvTimeoutError::Disconnected) => return,
         }
     }
     unreachable!()
-}
-
-// The node takes an input, and what it puts out is posted. It says whether it was taken.
-fn act<N: Serves, W: Wait, P: Post, C: Clock>(
-    node: &N,
-    rt: &W,
-    post: &mut P,
-    clock: &mut C,
-    input: Input,
-) -> bool {
-    let taken = node.take(rt, clock, &input);
-    drop(input);
-    let Some(outbox) = taken else {
-        return false;
-    };
-    for envelope in outbox.into_vec() {
-        post.post(envelope);
-    }
-    true
-}
-
-// The chores of an idle node: waits go on, what is decided is settled, what is prepared is asked for, and the node serves up to its
-// reading's latest.
-fn tend<N: Serves, W: Wait, P: Post, C: Clock>(node: &N, rt: &W, post: &mut P, clock: &mut C) {
-    act(node, rt, post, clock, Input::Resume);
-    let mut unsettled: usize = 0;
-    for _row in 0..MOST_ROWS {
-        let Some(txn) = node.due(rt, Due::Decided, unsettled) else {
-            break;
-        };
-        if !act(node, rt, post, clock, Input::Settle(txn)) {
-            unsettled = unsettled.saturating_add(1);
-        }
-    }
-    for row in 0..MOST_ROWS {
-        let Some(txn) = node.due(rt, Due::Prepared, row) else {
-            break;
-        };
-        act(node, rt, post, clock, Input::Nudge(txn));
-    }
-    node.keep_up(rt, clock);
 }

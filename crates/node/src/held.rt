@@ -87,18 +87,22 @@ impl<D: Disk + Drop, R: Wait + Drop> Held<D, R> {
         }
     }
 
-    /// The n-th transaction of this standing.
-    pub fn due(&self, due: Due, n: usize) -> Option<TxnId> {
+    /// Whether there is a wait that can be granted.
+    pub fn is_ready(&self) -> bool {
+        match &self.place {
+            Some(Place::Serving(desk)) => desk.core().ready().is_some(),
+            Some(Place::Resting(_)) | None => false,
+        }
+    }
+
+    /// The n-th transaction of this standing, and the timestamp that it is prepared or decided at.
+    pub fn due(&self, due: Due, n: usize) -> Option<(TxnId, Stamp)> {
         let Some(Place::Serving(desk)) = &self.place else {
             return None;
         };
-        let found = match due {
+        match due {
             Due::Decided => desk.core().decided(n),
             Due::Prepared => desk.core().prepared(n),
-        };
-        match found {
-            Some((txn, _)) => Some(txn),
-            None => None,
         }
     }
 }

@@ -7,7 +7,7 @@ use message::{Input, Outbox};
 use std::sync::Wait;
 use std::time;
 use truetime::Clock;
-use units::{ShardNo, TxnId};
+use units::{ShardNo, Stamp, TxnId};
 
 impl<D: Disk + Drop, R: Wait + Drop> Serves for Node<D, R> {
     fn shard(&self) -> ShardNo {
@@ -20,7 +20,11 @@ impl<D: Disk + Drop, R: Wait + Drop> Serves for Node<D, R> {
         held.deliver(&now, input).ok()
     }
 
-    fn due<W: Wait>(&self, rt: &W, due: Due, n: usize) -> Option<TxnId> {
+    fn is_ready<W: Wait>(&self, rt: &W) -> bool {
+        self.held.lock(rt).is_ready()
+    }
+
+    fn due<W: Wait>(&self, rt: &W, due: Due, n: usize) -> Option<(TxnId, Stamp)> {
         self.held.lock(rt).due(due, n)
     }
 
@@ -33,8 +37,8 @@ impl<D: Disk + Drop, R: Wait + Drop> Serves for Node<D, R> {
 }
 
 impl<D: Disk + Drop, R: Wait + Drop> Node<D, R> {
-    /// Serves the letters of the inbox until one says to close, or the inbox is closed. Whenever none has come for a
-    /// millisecond, the node does its chores.
+    /// Serves the letters of the inbox until one says to close, or the inbox is closed. Whenever none is there the node does its
+    /// chores, and every millisecond or 64 letters while letters come.
     pub fn serve<W: Wait + time::Clock, P: Post, C: Clock, G: Gate>(
         &self,
         rt: &W,

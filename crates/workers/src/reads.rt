@@ -5,7 +5,7 @@ use message::{Address, Envelope, Message, Read, ReadAnswer};
 use session::{Heard, Open, Tx};
 use std::alloc::Global;
 use std::sync::Wait;
-use units::{Fault, Key, Line, Stamp, TxnId, Value};
+use units::{Fault, Key, Line, ShardNo, Stamp, TxnId, Value};
 
 // A read that was asked for, where, and its answer once it is taken.
 #[derive(Drop)]
@@ -13,6 +13,14 @@ struct Asked {
     to: Address,
     read: Read,
     answer: Option<Option<Value>>,
+}
+
+// Whether it is this shard.
+fn is_at(to: Address, shard: ShardNo) -> bool {
+    match to {
+        Address::Shard(other) => other.number() == shard.number(),
+        Address::Session(_) => false,
+    }
 }
 
 /// The reads of one transaction.
@@ -71,6 +79,21 @@ impl Reads {
     pub fn send<R: Wait>(&self, rt: &R, network: &Network) {
         for one in &self.asked {
             if one.answer.is_none() {
+                network.send(
+                    rt,
+                    Envelope {
+                        to: one.to,
+                        message: Message::Read(one.read),
+                    },
+                );
+            }
+        }
+    }
+
+    /// Sends each read of a shard that has no answer.
+    pub fn send_to<R: Wait>(&self, rt: &R, network: &Network, shard: ShardNo) {
+        for one in &self.asked {
+            if one.answer.is_none() && is_at(one.to, shard) {
                 network.send(
                     rt,
                     Envelope {

@@ -2,7 +2,7 @@
 use crate::reads::Reads;
 use crate::wire::{Hearing, Wire};
 use crate::worker::Worker;
-use message::{Done, Message};
+use message::{Done, Message, ReadAnswer};
 use progress::{Ended, Watch};
 use session::{Closing, Finished, Open, Phase, Tx};
 use std::sync::Wait;
@@ -82,7 +82,7 @@ impl<'s, R: Wait + time::Clock> Wire<'_, 's, R> {
             match self.hear() {
                 Hearing::Heard(message) => {
                     let goes_on = match &message {
-                        Message::ReadAnswer(answer) => reads.take(self.alloc, tx, answer),
+                        Message::ReadAnswer(answer) => self.take(tx, reads, answer),
                         _ => Ok(true),
                     };
                     drop(message);
@@ -95,6 +95,21 @@ impl<'s, R: Wait + time::Clock> Wire<'_, 's, R> {
             }
         }
         unreachable!()
+    }
+
+    // Takes an answer. A shard passes over what is read there while an earlier read waits, so what it has not answered is sent again, where
+    // nothing else has come.
+    fn take(
+        &self,
+        tx: &mut Tx<'s, Open>,
+        reads: &mut Reads,
+        answer: &ReadAnswer,
+    ) -> Result<bool, Fault> {
+        let goes_on = reads.take(self.alloc, tx, answer)?;
+        if goes_on && self.inbox.is_empty() {
+            reads.send_to(self.rt, self.network, answer.from);
+        }
+        Ok(goes_on)
     }
 
     // Closes the transaction. It tells how that ended, where the end comes.
