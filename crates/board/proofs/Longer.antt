@@ -20,7 +20,8 @@ use Rattle.board.specs.declared.entry.BoardEntry.{BoardEntry}
 use Rattle.board.specs.declared.entry.BoardEntry.TheVariants.{Installed, Safe}
 use Rattle.board.specs.declared.home.Home.{Home}
 use Rattle.board.specs.Board.{version_of, versions_on, safe_from, safe_on, has_safe, shown_at, is_past, is_rising, may_follow, is_board}
-use Rattle.board.specs.Look.{AnswerStays, look_answer, look_buffer, value_seen, buffer_filled, is_at_home}
+use Rattle.units.specs.Looks.{value_seen, buffer_filled}
+use Rattle.board.specs.Look.{AnswerStays, look_answer, look_buffer, is_at_home}
 use Rattle.board.specs.State.{AddsVersion}
 use Rattle.growing.proofs.Prefixes.{prefix_trans}
 

@@ -2,7 +2,8 @@
 ghost use Rattle.std.specs.Prelude.{◌≡◌, true, false, Some, [], ◌∷◌, ◌++◌, length, IsTrue, MatchResult, IfOk, IfErr, OnOk};
 ghost use mathlib.Core.List.{IsPrefix};
 ghost use Rattle.board.specs.Board.{safe_on, has_safe, first_entries, is_board};
-ghost use Rattle.board.specs.Look.{look_answer, look_buffer, value_seen, buffer_filled};
+ghost use Rattle.units.specs.Looks.{value_seen, buffer_filled};
+ghost use Rattle.board.specs.Look.{look_answer, look_buffer};
 ghost use Rattle.board.specs.State.{AddsVersion, Takes};
 ghost use Rattle.units.specs.Versions.{at_time};
 
@@ -268,17 +269,4 @@ fn read(versions: &Versions, key: &Key, at: Stamp, buffer: &mut [u8]) -> Result<
         None => Ok(Seen::Absent),
         Some(value) => put_in_front(value.as_bytes(), buffer),
     }
-}
-
-// Puts some bytes at the front of a buffer, where they have room.
-fn put_in_front(bytes: &[u8], buffer: &mut [u8]) -> Result<Seen, Fault>
-    ensures answer { result ≡ value_seen (Some bytes.now) (length buffer.old) }
-    ensures buffer { buffer.new ≡ buffer_filled (Some bytes.now) buffer.old }
-{
-    let size = bytes.len();
-    if buffer.len() < size {
-        return Err(Fault::Room);
-    }
-    buffer[..size].copy_from_slice(bytes);
-    Ok(Seen::Value(size))
 }

@@ -2,9 +2,11 @@ pub mod ById
 pub mod Faults
 pub mod Fronts
 pub mod Ids
+pub mod KeyEq
 pub mod Keys
 pub mod Limits
 pub mod Lists
+pub mod Looks
 pub mod LockLaws
 pub mod Locks
 pub mod Padded

@@ -1,12 +1,14 @@
 //! Keys.
-ghost use Rattle.std.specs.Prelude.{◌≡◌, ℕ, List, ◌<◌, ◌≤◌, ◌++◌, ◌⊎◌, length, MatchResult, take};
+ghost use Rattle.std.specs.Prelude.{◌≡◌, ℕ, List, [], ◌∷◌, ◌<◌, ◌≤◌, ◌++◌, ◌⊎◌, length, MatchResult, Some, refl, take};
 ghost use Rattle.units.specs.Padded.{zeros_behind};
-ghost use Rattle.std.specs.Cmp.Lexicographic.{slice_cmp};
+ghost use Rattle.std.specs.Cmp.Lexicographic.{slice_cmp, nat_list_cmp_total};
 ghost use Rattle.std.specs.Ordering.{nat_cmp};
 ghost use Rattle.units.specs.Keys.{same_key, key_before};
+ghost use Rattle.units.specs.KeyEq.{same_key-equivalence, same_key-partial, key_order, key_ties, same_input};
 
 use crate::{Fault, Reason};
 use std::cmp::Ordering;
+use std::hash::{Hash, Hasher};
 use std::marker::Model;
 
 /// A key of 1 to 64 bytes. It is a plain value, so a copy of it takes no memory. Keys are ordered by their bytes.
@@ -81,6 +83,54 @@ impl Key {
         ensures { result ≡ slice_cmp nat_cmp self.now other.now }
     {
         self.as_bytes().cmp(other.as_bytes())
+    }
+}
+
+impl PartialEq for Key {
+    ghost eq = { same_key };
+
+    ghost laws = { same_key-partial };
+
+    fn eq(&self, other: &Key) -> bool {
+        self.is(other)
+    }
+}
+
+impl Eq for Key {
+    ghost laws = { same_key-equivalence };
+}
+
+impl PartialOrd for Key {
+    ghost partial_cmp = { λ x y. Some (slice_cmp nat_cmp x y) };
+
+    ghost laws = { key_order };
+
+    fn partial_cmp(&self, other: &Key) -> Option<Ordering> {
+        Some(self.compare(other))
+    }
+}
+
+impl Ord for Key {
+    ghost cmp = { slice_cmp nat_cmp };
+
+    ghost total = { nat_list_cmp_total };
+
+    ghost matches_partial_cmp = { λ x y. refl };
+
+    ghost matches_eq = { key_ties };
+
+    fn cmp(&self, other: &Key) -> Ordering {
+        self.compare(other)
+    }
+}
+
+impl Hash for Key {
+    ghost hash_input = { λ b. b ∷ [] };
+
+    ghost respects_eq = { same_input };
+
+    fn hash<H: Hasher>(&self, state: &mut H) {
+        state.write(self.as_bytes());
     }
 }
 

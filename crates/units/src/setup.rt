@@ -1,8 +1,9 @@
 //! What a shard is told when it is opened.
 ghost use Rattle.std.specs.List.{list_all};
-ghost use Rattle.std.specs.Prelude.{◌≡◌, ◌≤◌, ◌↔◌, IsSome, IfSome, nat_eq};
+ghost use Rattle.std.specs.Prelude.{◌≡◌, ◌≤◌, ◌↔◌, IsSome, IfSome, IfOk, IfErr, nat_eq};
 
-use crate::{Key, ShardNo, Splits, Writes};
+use crate::{Fault, Key, ShardNo, Splits, Writes};
+use std::alloc::Global;
 use std::marker::Model;
 
 /// How far ahead of the served time a ceiling is logged, in microseconds: 0 to 10,000,000.
@@ -119,6 +120,20 @@ impl Drop for Setup {
 
 impl Setup {
     ghost use Rattle.units.specs.Keys.{shard_of};
+
+    /// The same setup with memory of its own. It is refused for want of memory alone.
+    pub fn copy(&self, alloc: Global) -> Result<Setup, Fault>
+        ensures same { IfOk result (λ copied. copied ≡ self.now) }
+        ensures memory { IfErr result (λ fault. fault ≡ Fault.Memory) }
+    {
+        Ok(Setup {
+            shard: self.shard,
+            splits: self.splits.copy(alloc)?,
+            stride: self.stride,
+            book: self.book,
+        })
+    }
+
     /// The key belongs to this shard.
     pub fn owns(&self, key: &Key) -> bool
         ensures { result ≡ nat_eq (shard_of self.now.splits key.now) self.now.shard }
