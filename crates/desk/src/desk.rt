@@ -102,7 +102,7 @@ impl<D: Disk + Drop, R: Wait + Drop> Desk<D, R> {
             (λ refused. HasNoDesk D.keeps_model D.obeys D.file D.clock D.since D.failures D.plan
             disk setup.now n refused.0 refused.1) }
     {
-        let told = match copy_setup(alloc, setup) {
+        let told = match setup.copy(alloc) {
             Ok(told) => told,
             Err(fault) => return Err((fault, disk)),
         };
@@ -182,19 +182,6 @@ impl<D: Disk + Drop, R: Wait + Drop> Desk<D, R> {
         drop(publisher);
         core.stop()
     }
-}
-
-/// The same setup with memory of its own.
-pub fn copy_setup(alloc: Global, setup: &Setup) -> Result<Setup, Fault>
-    ensures same { IfOk result (λ copied. copied ≡ setup.now) }
-    ensures memory { IfErr result (λ fault. fault ≡ Fault.Memory) }
-{
-    Ok(Setup {
-        shard: setup.shard,
-        splits: setup.splits.copy(alloc)?,
-        stride: setup.stride,
-        book: setup.book,
-    })
 }
 
 // The board of a shard that is set up so, with its versions and its served time, and so many viewers.

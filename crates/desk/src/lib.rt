@@ -3,4 +3,4 @@
 
 mod desk;
 
-pub use desk::{Desk, copy_setup};
+pub use desk::Desk;

@@ -8,7 +8,7 @@ ghost use Rattle.shard.specs.Look.{safe_at};
 
 use crate::held::{Held, Place};
 use board::{Told, Viewer};
-use desk::{Desk, copy_setup};
+use desk::Desk;
 use disk::Disk;
 use message::{Input, Outbox};
 use shard::Core;
@@ -46,7 +46,7 @@ impl<D: Disk + Drop, R: Wait + Drop> Node<D, R> {
             (λ refused. IsNoDesk n refused.0 × (seen refused.1 ≡ seen core)
             × (book_of refused.1 ≡ book_of core)) }
     {
-        let setup = match copy_setup(alloc, core.setup()) {
+        let setup = match core.setup().copy(alloc) {
             Ok(setup) => setup,
             Err(fault) => return Err((fault, core)),
         };

@@ -57,20 +57,7 @@ fn begin(alloc: Global, entry: &Entry, setup: &Setup) -> Result<State, Fault>
     if !is_first(entry.item()) {
         return Err(damage_at(entry));
     }
-    State::fresh(alloc, copied(alloc, setup)?)
-}
-
-// The same with memory of its own.
-fn copied(alloc: Global, setup: &Setup) -> Result<Setup, Fault>
-    ensures same { IfOk result (λ copied. copied ≡ setup.now) }
-    ensures memory { IfErr result (λ fault. fault ≡ Fault.Memory) }
-{
-    Ok(Setup {
-        shard: setup.shard,
-        splits: setup.splits.copy(alloc)?,
-        stride: setup.stride,
-        book: setup.book,
-    })
+    State::fresh(alloc, setup.copy(alloc)?)
 }
 
 // The record is the first opening.
