@@ -14,7 +14,7 @@ use growing::{Beginning, Growing};
 use left_right::Absorb;
 use std::alloc::{AllocError, Global};
 use std::marker::Model;
-use units::{Fault, Install, Key, Seen, Stamp};
+use units::{Fault, Install, Key, Seen, Stamp, put_in_front};
 use versions::{Versions, place_does_not_matter};
 
 /// What readers see. The list of entries itself exists in proofs alone.
