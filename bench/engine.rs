@@ -473,13 +473,11 @@ impl Engine {
     }
 }
 
-fn part(key: Key) -> Part {
+fn part(keys: Vec<Key>) -> Part {
+    let value = || Some(VALUE.to_vec());
     Part {
         reads: Vec::new(),
-        writes: vec![Write {
-            key,
-            value: Some(VALUE.to_vec()),
-        }],
+        writes: keys.into_iter().map(|key| Write { key, value: value() }).collect(),
     }
 }
 
@@ -505,11 +503,11 @@ impl Shard for Engine {
         Input::GiveUp(txn)
     }
 
-    fn prepare(txn: Txn, key: Key) -> Input {
+    fn prepare(txn: Txn, keys: Vec<Key>) -> Input {
         Input::Prepare {
             txn,
             coordinator: 0,
-            part: part(key),
+            part: part(keys),
         }
     }
 
@@ -522,7 +520,7 @@ impl Shard for Engine {
     }
 
     fn commit(txn: Txn, key: Key) -> Input {
-        Input::Commit { txn, part: part(key) }
+        Input::Commit { txn, part: part(vec![key]) }
     }
 
     fn settle(txn: Txn) -> Input {

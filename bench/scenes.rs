@@ -1,7 +1,9 @@
 //! The scenes that a shard is timed by, whatever it is made of. Each line is what was done, with how much beside it,
 //! and the microseconds of the processor that one such call took. The words are the scenes to run, none for all.
+use std::alloc::{GlobalAlloc, Layout, System};
 use std::hint::black_box;
-use std::time::Duration;
+use std::sync::atomic::{AtomicBool, AtomicIsize, Ordering::Relaxed};
+use std::time::{Duration, Instant};
 
 /// The value that is written everywhere.
 pub const VALUE: &[u8; 20] = b"a value of 20 bytes.";
@@ -14,15 +16,15 @@ pub trait Shard: Sized {
     type Key;
     type Input;
     type Stamp: Copy;
-    type Disk;
+    type Disk: Send;
 
     /// A new one, of the keys from `m` on where it is shard 1.
     fn new(shard: u8) -> Self;
     fn key(bytes: &[u8]) -> Self::Key;
     fn read(txn: Txn, key: Self::Key) -> Self::Input;
     fn give_up(txn: Txn) -> Self::Input;
-    /// It writes the value to the key, as does a commit. The coordinator is shard 0.
-    fn prepare(txn: Txn, key: Self::Key) -> Self::Input;
+    /// It writes the value to the keys, which ascend, as does a commit to its key. The coordinator is shard 0.
+    fn prepare(txn: Txn, keys: Vec<Self::Key>) -> Self::Input;
     fn outcome(txn: Txn, at: u64) -> Self::Input;
     fn commit(txn: Txn, key: Self::Key) -> Self::Input;
     fn settle(txn: Txn) -> Self::Input;
@@ -66,6 +68,60 @@ impl Cpu {
     fn elapsed(&self) -> Duration {
         Cpu::now().0 - self.0
     }
+}
+
+/// The memory that stands, and the most that stood, in bytes, while that is counted: it is not while something is timed.
+struct Counted {
+    counts: AtomicBool,
+    standing: AtomicIsize,
+    most: AtomicIsize,
+}
+
+#[global_allocator]
+static MEMORY: Counted = Counted {
+    counts: AtomicBool::new(false),
+    standing: AtomicIsize::new(0),
+    most: AtomicIsize::new(0),
+};
+
+impl Counted {
+    fn add(&self, size: isize) {
+        if self.counts.load(Relaxed) {
+            let standing = self.standing.fetch_add(size, Relaxed) + size;
+            self.most.fetch_max(standing, Relaxed);
+        }
+    }
+}
+
+// SAFETY: each call is the system's.
+unsafe impl GlobalAlloc for Counted {
+    unsafe fn alloc(&self, layout: Layout) -> *mut u8 {
+        self.add(layout.size() as isize);
+        unsafe { System.alloc(layout) }
+    }
+
+    unsafe fn dealloc(&self, place: *mut u8, layout: Layout) {
+        self.add(-(layout.size() as isize));
+        unsafe { System.dealloc(place, layout) }
+    }
+
+    // The old block stands until the new one is filled.
+    unsafe fn realloc(&self, place: *mut u8, layout: Layout, size: usize) -> *mut u8 {
+        self.add(size as isize);
+        self.add(-(layout.size() as isize));
+        unsafe { System.realloc(place, layout, size) }
+    }
+}
+
+/// What a call gives, and in megabytes the most memory that it took at a time, and what it left standing.
+fn memory<T>(call: impl FnOnce() -> T) -> (T, f64, f64) {
+    MEMORY.standing.store(0, Relaxed);
+    MEMORY.most.store(0, Relaxed);
+    MEMORY.counts.store(true, Relaxed);
+    let given = call();
+    MEMORY.counts.store(false, Relaxed);
+    let megabytes = |bytes: &AtomicIsize| bytes.load(Relaxed) as f64 / 1e6;
+    (given, megabytes(&MEMORY.most), megabytes(&MEMORY.standing))
 }
 
 /// A key of 21 bytes, of which ten are those of its kind.
@@ -126,7 +182,7 @@ fn rows<S: Shard>(rows: u64) {
     tell(&format!("its ending, {rows} rows"), ended, 100);
     let (taken, ended) = in_turn(
         &mut store,
-        |n, _| S::prepare((3, n), key::<S>(b'p', n)),
+        |n, _| S::prepare((3, n), vec![key::<S>(b'p', n)]),
         |n, at| S::outcome((3, n), at + 900),
     );
     tell(&format!("prepare, {rows} rows"), taken, 100);
@@ -135,9 +191,26 @@ fn rows<S: Shard>(rows: u64) {
     store.end();
 }
 
+/// Each prepare writes some keys of its own, beside rows of other keys.
+fn wide<S: Shard>(rows: u64) {
+    const KEYS: u64 = 16;
+    let mut store = S::new(1);
+    for n in 0..rows {
+        store.give(100, &S::read((1, n), key::<S>(b's', n)));
+    }
+    let (taken, ended) = in_turn(
+        &mut store,
+        |n, _| S::prepare((3, n), (0..KEYS).map(|m| key::<S>(b'p', n * KEYS + m)).collect()),
+        |n, at| S::outcome((3, n), at + 900),
+    );
+    tell(&format!("prepare of {KEYS} keys, {rows} rows"), taken, 100);
+    tell(&format!("its outcome, {rows} rows"), ended, 100);
+    store.end();
+}
+
 fn ready<S: Shard>(waiters: u64) {
     let mut store = S::new(1);
-    store.give(100, &S::prepare((2, 0), key::<S>(b'w', 0)));
+    store.give(100, &S::prepare((2, 0), vec![key::<S>(b'w', 0)]));
     for n in 0..waiters {
         store.give(100, &S::read((1, n), key::<S>(b'w', 0)));
     }
@@ -178,7 +251,7 @@ fn sharers<S: Shard>(rows: u64) {
 fn many<S: Shard>(waiters: u64) {
     let mut store = S::new(1);
     for n in 0..waiters {
-        store.give(100, &S::prepare((2, n), key::<S>(b'w', n)));
+        store.give(100, &S::prepare((2, n), vec![key::<S>(b'w', n)]));
     }
     for n in 0..waiters {
         store.give(100, &S::read((1, n), key::<S>(b'w', n)));
@@ -249,29 +322,58 @@ fn ids<S: Shard>(count: u64, runs: u64) {
     store.end();
 }
 
+/// The disk of a shard whose log has so many records.
+fn logged<S: Shard>(records: u64, place: impl Fn(u64) -> u64) -> S::Disk {
+    let mut store = S::new(0);
+    for n in 0..records / 2 {
+        write(&mut store, n, 1, place(n));
+    }
+    store.end()
+}
+
 fn opening<S: Shard>(records: u64, is_scattered: bool) {
-    let mut least = Duration::MAX;
     let place = |n| if is_scattered { scattered(n) } else { n };
-    for _ in 0..2 {
-        let mut store = S::new(0);
-        for n in 0..records / 2 {
-            write(&mut store, n, 1, place(n));
-        }
-        let disk = store.end();
+    let order = if is_scattered { "scattered" } else { "ascending" };
+    let mut disk = logged::<S>(records, place);
+    let mut least = Duration::MAX;
+    for _ in 0..3 {
         let start = Cpu::now();
         let store = S::reopen(disk);
         least = least.min(start.elapsed());
         (0..records / 2).for_each(|n| check(&store, &key::<S>(b'k', place(n))));
-        store.end();
+        disk = store.end();
     }
-    let order = if is_scattered { "scattered" } else { "ascending" };
     tell(&format!("opening, {records} records, {order} keys"), least, 1);
+    let (store, most, left) = memory(|| S::reopen(disk));
+    println!("opening, {records} records, {order} keys, at most {most:.1} MB, {left:.1} MB left");
+    store.end();
+}
+
+/// How long it takes by the clock until so many shards are opened, each by a thread of its own.
+fn aside<S: Shard>(records: u64, shards: u64) {
+    let mut disks: Vec<S::Disk> = (0..shards).map(|_| logged::<S>(records, scattered)).collect();
+    let mut least = Duration::MAX;
+    for _ in 0..7 {
+        let start = Instant::now();
+        let opened: Vec<(Duration, S::Disk)> = std::thread::scope(|scope| {
+            let open = |disk| {
+                let store = S::reopen(disk);
+                (start.elapsed(), store.end())
+            };
+            let threads: Vec<_> = disks.into_iter().map(|disk| scope.spawn(move || open(disk))).collect();
+            threads.into_iter().map(|thread| thread.join().expect("an opening")).collect()
+        });
+        least = least.min(opened.iter().map(|it| it.0).max().unwrap_or_default());
+        disks = opened.into_iter().map(|it| it.1).collect();
+    }
+    tell(&format!("by the clock, {shards} openings side by side, {records} records each"), least, 1);
 }
 
 /// Runs the scenes that the words name.
 pub fn run<S: Shard>() {
-    let scenes: [(&str, fn()); 7] = [
+    let scenes: [(&str, fn()); 8] = [
         ("rows", || [0, 900].into_iter().for_each(rows::<S>)),
+        ("wide", || [0, 900].into_iter().for_each(wide::<S>)),
         ("ready", || ready::<S>(1_000)),
         ("sharers", || [0, 900].into_iter().for_each(sharers::<S>)),
         ("many", || [100, 500].into_iter().for_each(many::<S>)),
@@ -280,8 +382,11 @@ pub fn run<S: Shard>() {
         }),
         ("ids", || [1, 2].into_iter().for_each(|runs| ids::<S>(60_000, runs))),
         ("opening", || {
-            [false, true].into_iter().for_each(|order| opening::<S>(100_000, order))
+            for records in [100_000, 1_000_000] {
+                [false, true].into_iter().for_each(|order| opening::<S>(records, order));
+            }
         }),
+        ("aside", || [1, 4].into_iter().for_each(|shards| aside::<S>(100_000, shards))),
     ];
     let told: Vec<String> = std::env::args().skip(1).collect();
     for (name, scene) in scenes {

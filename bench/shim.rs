@@ -125,6 +125,9 @@ impl<T> Vec<T> {
     pub fn clear(&mut self) {
         self.0.clear();
     }
+    pub fn drain(&mut self, range: std::ops::RangeTo<usize>) -> std::vec::Drain<'_, T> {
+        self.0.drain(range)
+    }
     pub fn truncate(&mut self, n: usize) {
         self.0.truncate(n);
     }
@@ -257,7 +260,6 @@ pub mod byteorder {
 
 pub mod indexmap {
     use crate::alloc::{AllocError, Global};
-    use std::collections::HashMap;
     use std::hash::{BuildHasher, BuildHasherDefault, Hash, Hasher};
 
     /// The hasher of the ported map, which folds a product of 128 bits.
@@ -295,14 +297,16 @@ pub mod indexmap {
         }
     }
 
-    /// A map in the order of its entries.
+    /// A map in the order of its entries. As in the ported map, a key is hashed once a call, and an entry that is moved not at all.
     pub struct IndexMap<K, V, S = BuildHasherDefault<Fold>> {
-        places: HashMap<K, usize, S>,
-        entries: Vec<(K, V)>,
+        // The place of an entry and one more, by its hash: as many as a power of two, of which a quarter are 0, for none.
+        slots: Vec<u32>,
+        entries: Vec<(u32, K, V)>,
+        hasher: S,
     }
 
     pub mod map {
-        pub struct Slice<'a, K, V>(pub &'a [(K, V)]);
+        pub struct Slice<'a, K, V>(pub &'a [(u32, K, V)]);
     }
 
     impl<K: Hash + Eq + Copy, V> IndexMap<K, V> {
@@ -314,13 +318,65 @@ pub mod indexmap {
     impl<K: Hash + Eq + Copy, V, S: BuildHasher> IndexMap<K, V, S> {
         pub fn with_hasher(_: Global, hasher: S) -> Self {
             IndexMap {
-                places: HashMap::with_hasher(hasher),
+                slots: Vec::new(),
                 entries: Vec::new(),
+                hasher,
+            }
+        }
+        fn hash(&self, k: &K) -> u32 {
+            let hash = self.hasher.hash_one(k);
+            (hash ^ (hash >> 32)) as u32
+        }
+        fn first_slot(&self, hash: u32) -> usize {
+            hash as usize & (self.slots.len() - 1)
+        }
+        fn next_slot(&self, slot: usize) -> usize {
+            (slot + 1) & (self.slots.len() - 1)
+        }
+        /// The slot of the entry of this hash that is meant, or the free one behind those of its hash.
+        fn slot(&self, hash: u32, is_meant: impl Fn(usize) -> bool) -> usize {
+            let mut slot = self.first_slot(hash);
+            loop {
+                let place = self.slots[slot] as usize;
+                if place == 0 || (self.entries[place - 1].0 == hash && is_meant(place - 1)) {
+                    return slot;
+                }
+                slot = self.next_slot(slot);
+            }
+        }
+        fn find(&self, hash: u32, k: &K) -> Option<usize> {
+            if self.slots.is_empty() {
+                return None;
+            }
+            let slot = self.slot(hash, |at| self.entries[at].1 == *k);
+            (self.slots[slot] as usize).checked_sub(1)
+        }
+        fn free(&mut self, mut slot: usize) {
+            let mut next = self.next_slot(slot);
+            while self.slots[next] != 0 {
+                let first = self.first_slot(self.entries[self.slots[next] as usize - 1].0);
+                let mask = self.slots.len() - 1;
+                if (next.wrapping_sub(first) & mask) >= (next.wrapping_sub(slot) & mask) {
+                    self.slots[slot] = self.slots[next];
+                    slot = next;
+                }
+                next = self.next_slot(next);
+            }
+            self.slots[slot] = 0;
+        }
+        fn place_all(&mut self, slots: usize) {
+            self.slots = vec![0; slots];
+            for at in 0..self.entries.len() {
+                let slot = self.slot(self.entries[at].0, |_| false);
+                self.slots[slot] = at as u32 + 1;
             }
         }
         pub fn reserve(&mut self, n: usize) -> Result<(), AllocError> {
-            self.places.reserve(n);
-            self.entries.reserve(n);
+            let all = self.entries.len() + n;
+            if self.slots.len() / 4 * 3 < all {
+                self.place_all((all * 4 / 3 + 1).next_power_of_two().max(16));
+            }
+            self.entries.reserve(self.slots.len() / 4 * 3 - self.entries.len());
             Ok(())
         }
         pub fn len(&self) -> usize {
@@ -330,70 +386,105 @@ pub mod indexmap {
             self.entries.is_empty()
         }
         pub fn capacity(&self) -> usize {
-            self.places.capacity().min(self.entries.capacity())
+            self.slots.len() / 4 * 3
         }
         pub fn clear(&mut self) {
-            self.places.clear();
+            self.slots.fill(0);
             self.entries.clear();
         }
         pub fn get(&self, k: &K) -> Option<&V> {
-            Some(&self.entries[*self.places.get(k)?].1)
+            Some(&self.entries[self.get_index_of(k)?].2)
         }
         pub fn get_mut(&mut self, k: &K) -> Option<&mut V> {
-            Some(&mut self.entries[*self.places.get(k)?].1)
+            let at = self.get_index_of(k)?;
+            Some(&mut self.entries[at].2)
         }
         pub fn get_index_of(&self, k: &K) -> Option<usize> {
-            self.places.get(k).copied()
+            self.find(self.hash(k), k)
+        }
+        pub fn get_full(&self, k: &K) -> Option<(usize, &K, &V)> {
+            let at = self.get_index_of(k)?;
+            Some((at, &self.entries[at].1, &self.entries[at].2))
         }
         pub fn get_index(&self, at: usize) -> Option<(&K, &V)> {
-            self.entries.get(at).map(|e| (&e.0, &e.1))
+            self.entries.get(at).map(|e| (&e.1, &e.2))
+        }
+        pub fn pair_mut(&mut self, at: usize) -> (&K, &mut V) {
+            let (_, key, value) = &mut self.entries[at];
+            (key, value)
         }
         pub fn contains_key(&self, k: &K) -> bool {
-            self.places.contains_key(k)
+            self.get_index_of(k).is_some()
         }
         pub fn as_slice(&self) -> map::Slice<'_, K, V> {
             map::Slice(&self.entries)
         }
         pub fn swap_remove(&mut self, k: &K) -> Option<V> {
-            let at = self.places.remove(k)?;
-            let gone = self.entries.swap_remove(at);
-            if let Some(moved) = self.entries.get(at) {
-                *self.places.get_mut(&moved.0).unwrap() = at;
+            let at = self.get_index_of(k)?;
+            Some(self.swap_remove_index(at)?.1)
+        }
+        pub fn swap_remove_index(&mut self, at: usize) -> Option<(K, V)> {
+            let last = self.entries.len().checked_sub(1)?;
+            let slot = self.slot(self.entries.get(at)?.0, |it| it == at);
+            self.free(slot);
+            if at < last {
+                let moved = self.slot(self.entries[last].0, |it| it == last);
+                self.slots[moved] = at as u32 + 1;
             }
-            Some(gone.1)
+            let gone = self.entries.swap_remove(at);
+            Some((gone.1, gone.2))
+        }
+        fn insert_at(&mut self, at: usize, hash: u32, k: K, v: V) -> Result<(), AllocError> {
+            if self.capacity() == self.len() {
+                self.reserve(1)?;
+            }
+            if at < self.entries.len() {
+                for place in &mut self.slots {
+                    *place += u32::from(*place as usize > at);
+                }
+            }
+            self.entries.insert(at, (hash, k, v));
+            let slot = self.slot(hash, |_| false);
+            self.slots[slot] = at as u32 + 1;
+            Ok(())
+        }
+        pub fn insert_full(&mut self, k: K, v: V) -> Result<(usize, Option<V>), AllocError> {
+            let hash = self.hash(&k);
+            if let Some(at) = self.find(hash, &k) {
+                return Ok((at, Some(std::mem::replace(&mut self.entries[at].2, v))));
+            }
+            let at = self.entries.len();
+            self.insert_at(at, hash, k, v)?;
+            Ok((at, None))
         }
         pub fn insert(&mut self, k: K, v: V) -> Result<Option<V>, AllocError> {
-            if let Some(at) = self.places.get(&k) {
-                return Ok(Some(std::mem::replace(&mut self.entries[*at].1, v)));
-            }
-            self.places.insert(k, self.entries.len());
-            self.entries.push((k, v));
-            Ok(None)
+            Ok(self.insert_full(k, v)?.1)
         }
     }
 
     impl<K: Hash + Ord + Copy, V, S: BuildHasher> IndexMap<K, V, S> {
         pub fn insert_sorted(&mut self, k: K, v: V) -> Result<(usize, Option<V>), AllocError> {
-            match self.entries.binary_search_by(|e| e.0.cmp(&k)) {
-                Ok(at) => Ok((at, Some(std::mem::replace(&mut self.entries[at].1, v)))),
+            match self.entries.binary_search_by(|e| e.1.cmp(&k)) {
+                Ok(at) => Ok((at, Some(std::mem::replace(&mut self.entries[at].2, v)))),
                 Err(at) => {
-                    if at < self.entries.len() {
-                        for place in self.places.values_mut() {
-                            *place += usize::from(*place >= at);
-                        }
-                    }
-                    self.places.insert(k, at);
-                    self.entries.insert(at, (k, v));
+                    let hash = self.hash(&k);
+                    self.insert_at(at, hash, k, v)?;
                     Ok((at, None))
                 }
             }
         }
     }
-}
 
-impl<K: hash::Hash + Eq + Copy, V, S: hash::BuildHasher> ops::Index<usize> for indexmap::IndexMap<K, V, S> {
-    type Output = V;
-    fn index(&self, at: usize) -> &V {
-        self.get_index(at).unwrap().1
+    impl<K, V, S> std::ops::Index<usize> for IndexMap<K, V, S> {
+        type Output = V;
+        fn index(&self, at: usize) -> &V {
+            &self.entries[at].2
+        }
+    }
+
+    impl<K, V, S> std::ops::IndexMut<usize> for IndexMap<K, V, S> {
+        fn index_mut(&mut self, at: usize) -> &mut V {
+            &mut self.entries[at].2
+        }
     }
 }

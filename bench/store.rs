@@ -35,14 +35,12 @@ fn id(txn: Txn) -> TxnId {
     TxnId::new(txn.0, txn.1).unwrap()
 }
 
-fn writes(key: Key) -> Writes {
-    let value = Value::new(Global, VALUE).unwrap();
+fn writes(keys: Vec<Key>) -> Writes {
     let mut list = List::new(Global);
-    list.push(Write {
-        key,
-        value: Some(value),
-    })
-    .unwrap();
+    for key in keys {
+        let value = Some(Value::new(Global, VALUE).unwrap());
+        list.push(Write { key, value }).unwrap();
+    }
     Writes::from_vec(list).ok().unwrap()
 }
 
@@ -71,12 +69,12 @@ impl Shard for Store {
         Input::Deliver(Message::GiveUp(GiveUp { txn: id(txn) }))
     }
 
-    fn prepare(txn: Txn, key: Key) -> Input {
+    fn prepare(txn: Txn, keys: Vec<Key>) -> Input {
         Input::Deliver(Message::Prepare(Prepare {
             txn: id(txn),
             coordinator: ShardNo::new(0).unwrap(),
             reads: Reads::none(Global),
-            writes: writes(key),
+            writes: writes(keys),
         }))
     }
 
@@ -93,7 +91,7 @@ impl Shard for Store {
             txn: id(txn),
             parts: Parts::only(ShardNo::new(0).unwrap()),
             reads: Reads::none(Global),
-            writes: writes(key),
+            writes: writes(vec![key]),
         }))
     }
 

@@ -15,7 +15,7 @@ mod viewer;
 
 pub use entry::{BoardEntry, copy_install};
 pub use home::Home;
-pub use making::{MOST_VIEWERS, start};
+pub use making::{MOST_VIEWERS, check_viewers, start};
 pub use publisher::Publisher;
 pub use snapshot::Snapshot;
 pub use told::Told;

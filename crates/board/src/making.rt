@@ -1,5 +1,5 @@
 //! A new board.
-ghost use Rattle.std.specs.Prelude.{◌≡◌, ◌<◌, ◌≤◌, true, [], ◌∷◌, length, drop, All, IfOk, ◌⊎◌, IfErr};
+ghost use Rattle.std.specs.Prelude.{◌≡◌, ◌<◌, ◌≤◌, true, false, [], ◌∷◌, length, drop, All, IfOk, ◌⊎◌, IfErr, OnOk};
 ghost use Rattle.std.specs.Arc.{arc_value};
 ghost use Rattle.board.specs.Board.{first_entries, is_board};
 ghost use Rattle.board.specs.State.{HasList};
@@ -8,7 +8,7 @@ ghost use Rattle.left_right.specs.Sides.{view};
 
 use crate::board_copy::BoardCopy;
 use crate::home::Home;
-use crate::press::{BoardWriter, Press, settle};
+use crate::press::{BoardWriter, Press, begin};
 use crate::publisher::Publisher;
 use crate::rule::Note;
 use crate::told::Told;
@@ -21,6 +21,18 @@ use units::{Fault, Install, Reason, ShardNo, Splits, Stamp};
 
 /// The most viewers of a board.
 pub const MOST_VIEWERS: usize = 64;
+
+/// Refuses a number of viewers that no board has, as `many`: none, or more than 64.
+pub fn check_viewers(n: usize) -> Result<(), Fault>
+    ensures fits { OnOk result ((0 < n) × (n ≤ 64)) }
+    ensures many { IfErr result
+        (λ fault. (fault ≡ Fault.BadRequest Reason.Many) × ((n ≡ 0) ⊎ (64 < n))) }
+{
+    if n == 0 || n > MOST_VIEWERS {
+        return Err(Fault::BadRequest(Reason::Many));
+    }
+    Ok(())
+}
 
 // A viewer that knows of what the writer knows of.
 fn viewer(
@@ -82,9 +94,7 @@ pub fn start<R: Wait + Drop>(
     ensures many { (n ≡ 0) ⊎ (64 < n) → result ≡ Err (Fault.BadRequest Reason.Many) }
     ensures refused { (0 < n) × (n ≤ 64) → IfErr result (λ e. e ≡ Fault.Memory) }
 {
-    if n == 0 || n > MOST_VIEWERS {
-        return Err(Fault::BadRequest(Reason::Many));
-    }
+    check_viewers(n)?;
     let home = Home { splits, shard };
     make(rt, alloc, installs, safe, home, n)
 }
@@ -94,6 +104,7 @@ fn copies(alloc: Global, installs: &[Install], safe: Stamp) -> Result<(BoardCopy
     ensures first { IfOk result (λ c. HasList c.0 (first_entries installs.now safe)) }
     ensures second { IfOk result (λ c. HasList c.1 (first_entries installs.now safe)) }
     ensures board { IfOk result (λ c. c.1.board ≡ c.0.board) }
+    ensures sides { IfOk result (λ c. (c.0.second ≡ false) × (c.1.second ≡ true)) }
 {
     let (first, second) = Growing::twins();
     let (one, other) = Growing::twins();
@@ -120,8 +131,13 @@ fn make<R: Wait + Drop>(
 {
     let home = Arc::new(alloc, home)?;
     let (first, second) = copies(alloc, installs, safe)?;
+    let told = Told::of(false, first.so_far(), second.so_far(), first.safe());
     let writer = Writer::new(alloc, first, second, n)?;
-    let (mut writer, told) = settle(&rt, writer);
+    let (mut writer, shown) = begin(&rt, writer);
+    if shown.is_err() {
+        writer.take(&rt);
+        return Err(Fault::Memory);
+    }
     match viewers(&mut writer, alloc, &home, &told, n) {
         Ok(viewers) => Ok((Publisher::over(rt, Press::over(writer)), viewers)),
         Err(_) => {

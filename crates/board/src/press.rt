@@ -73,8 +73,19 @@ fn commit<R: Wait>(rt: &R, writer: BoardWriter) -> BoardWriter
     unreachable!()
 }
 
+/// Shows a new board by the other copy, once: nobody looks at it yet. Refused for want of memory, it shows what it showed.
+pub(crate) fn begin<R: Wait>(rt: &R, writer: BoardWriter) -> (BoardWriter, Result<(), AllocError>)
+    requires none { drop writer.behind writer.log.items ≡ [] }
+    ensures state { board_state result.0.desk.shown.value ≡ board_state writer.desk.shown.value }
+    ensures none { drop result.0.behind result.0.log.items ≡ [] }
+    ensures view { OnOk result.1
+        (view result.0.desk.place ≡ board_state writer.desk.shown.value ∷ []) }
+{
+    step(rt, writer)
+}
+
 /// Shows the list by the other copy too, so that both have it, and gives news of it. It waits for viewers that still look at that copy.
-pub(crate) fn settle<R: Wait>(rt: &R, writer: BoardWriter) -> (BoardWriter, Told)
+fn settle<R: Wait>(rt: &R, writer: BoardWriter) -> (BoardWriter, Told)
     requires none { drop writer.behind writer.log.items ≡ [] }
     ensures state { board_state result.0.desk.shown.value ≡ board_state writer.desk.shown.value }
     ensures none { drop result.0.behind result.0.log.items ≡ [] }

@@ -14,10 +14,11 @@ ghost use Rattle.output.specs.declared.failure.Failure.TheVariants.{Refused, Unw
 ghost use Rattle.command_line.specs.Lines.{are_plain, asks_help};
 ghost use Rattle.output.specs.Replies.{Is};
 ghost use Rattle.cli.specs.Disks.{LogsCommand, LogsTo};
+ghost use Rattle.cli.specs.Faults.{FailsAs, MayRefuse, MayRefuseTo};
 ghost use Rattle.cli.specs.Replies.{Tells, TellsTo, reply_of, reply_to};
 ghost use Rattle.output.specs.Streams.{failures_of, fault_line, writer_of};
 
-use crate::drive::drive;
+use crate::drive_command::run_drive;
 use crate::format::format;
 use crate::help::help;
 use crate::inspect::inspect;
@@ -70,6 +71,13 @@ pub fn answer<'a, F: Files, D: Fn(Global, &Settings) -> Result<Driven, Fault>, O
         × ((failures_of err.old < failures_of err.new)
         ⊎ Appends (E.contents (writer_of err.old)) (E.contents (writer_of err.new))
         (fault_line fault))) }
+    // The fault of a command over files is one of its own.
+    ensures numbered { are_plain (map (λ w. w.now) words.entry.now) ≡ true → result.0 ≡ 2
+        → (failures_of out.old < failures_of out.new)
+        ⊎ ((fault : Fault) × MayRefuseTo (command_of (map (λ w. w.now) words.entry.now)) fault
+        × ((failures_of err.old < failures_of err.new)
+        ⊎ Appends (E.contents (writer_of err.old)) (E.contents (writer_of err.new))
+        (fault_line fault))) }
     // So it is for any words.
     ensures explained { result.0 ≡ 2 → (failures_of out.old < failures_of out.new)
         ⊎ ((fault : Fault) × ((failures_of err.old < failures_of err.new)
@@ -117,6 +125,8 @@ fn carry_out<'a, F: Files, D: Fn(Global, &Settings) -> Result<Driven, Fault>, O:
         → IfErr result.0 (λ failure.
         FailsFor (failures_of out.old < failures_of out.new) failure
         (reply_to (map (λ w. w.now) words.entry.now))) }
+    ensures numbered { are_plain (map (λ w. w.now) words.entry.now) ≡ true → IfErr result.0
+        (FailsAs (MayRefuseTo (command_of (map (λ w. w.now) words.entry.now)))) }
     ensures unwritten { result.0 ≡ Err Unwritten → failures_of out.old < failures_of out.new }
     ensures counted { (fault : Fault) → result.0 ≡ Err (Refused fault)
         → failures_of out.new ≡ failures_of out.old }
@@ -152,6 +162,7 @@ fn run<F: Files, D: Fn(Global, &Settings) -> Result<Driven, Fault>, O: Write>(
     ensures failures { IfErr result.0 (λ failure.
         FailsFor (failures_of out.old < failures_of out.new) failure
         (reply_of (asked_for asked.entry))) }
+    ensures numbered { IfErr result.0 (FailsAs (MayRefuse (asked_for asked.entry))) }
     ensures unwritten { result.0 ≡ Err Unwritten → failures_of out.old < failures_of out.new }
     ensures counted { (fault : Fault) → result.0 ≡ Err (Refused fault)
         → failures_of out.new ≡ failures_of out.old }
@@ -169,6 +180,6 @@ fn run<F: Files, D: Fn(Global, &Settings) -> Result<Driven, Fault>, O: Write>(
         Command::Inspect { lines, logs } => {
             (inspect(alloc, lines, &logs, &system.files, out), disk)
         }
-        Command::Drive { file } => (drive(alloc, file, system, out), disk),
+        Command::Drive { file } => (run_drive(alloc, file, system, out), disk),
     }
 }

@@ -3,6 +3,8 @@ ghost use Rattle.std.specs.Prelude.{◌≡◌, ◌<◌, ◌++◌, None, Err, IfO
 ghost use Rattle.std.specs.Io.KnownBytes.{Appends};
 ghost use Rattle.units.specs.declared.line.Verdict.{Verdict};
 ghost use Rattle.units.specs.declared.fault.Fault.{Fault};
+ghost use Rattle.cli.specs.Faults.{FailsAs};
+ghost use Rattle.inspection.specs.Files.{IsNotJudged};
 ghost use Rattle.output.specs.Failures.{FailsFor};
 ghost use Rattle.output.specs.declared.failure.Failure.TheVariants.{Refused};
 ghost use Rattle.output.specs.Streams.{failures_of, writer_of};
@@ -28,6 +30,7 @@ pub fn inspect<F: Files, O: Write>(
         (text_of verdict ++ codes "\n")) }
     ensures failures { IfErr result
         (λ failure. FailsFor (failures_of out.old < failures_of out.new) failure None) }
+    ensures numbered { IfErr result (FailsAs IsNotJudged) }
     ensures nothing { (fault : Fault) → result ≡ Err (Refused fault) → out.new ≡ out.old }
 {
     let verdict = inspect_files(alloc, files, lines, logs)?;

@@ -2,13 +2,16 @@
 #![tactic(auto)]
 
 mod answers;
-mod drive;
+mod drive_command;
 mod format;
 mod help;
 mod inspect;
 mod play;
+mod settings_text;
 
 pub use answers::answer;
 pub use command_line::{Command, command};
+pub use drive::run;
 pub use output::Stream;
+pub use settings_text::settings;
 pub use system::{Driven, Files, System};

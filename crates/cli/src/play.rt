@@ -2,6 +2,7 @@
 ghost use Rattle.std.specs.Prelude.{◌≡◌, ◌⊎◌, ◌<◌, List, None, Err, ℕ, IfErr, IfOk};
 ghost use Rattle.std.specs.Io.KnownBytes.{Appends};
 ghost use Rattle.units.specs.declared.fault.Fault.{Fault};
+ghost use Rattle.cli.specs.Faults.{FailsAs, IsNotPlayed};
 ghost use Rattle.output.specs.Failures.{FailsFor};
 ghost use Rattle.output.specs.declared.failure.Failure.TheVariants.{Refused};
 ghost use Rattle.output.specs.Streams.{failures_of, writer_of};
@@ -26,6 +27,7 @@ pub fn play<F: Files, O: Write>(
         × Appends (O.contents (writer_of out.old)) (O.contents (writer_of out.new)) text) }
     ensures failures { IfErr result
         (λ failure. FailsFor (failures_of out.old < failures_of out.new) failure None) }
+    ensures numbered { IfErr result (FailsAs IsNotPlayed) }
     ensures nothing { (fault : Fault) → result ≡ Err (Refused fault) → out.new ≡ out.old }
 {
     let (text, status) = play_text(alloc, file, files)?;
@@ -35,7 +37,8 @@ pub fn play<F: Files, O: Write>(
 
 // What is printed, and the status.
 fn play_text<F: Files>(alloc: Global, file: &str, files: &F) -> Result<(String, u8), Fault>
-    ensures { IfOk result (λ printed. (printed.1 ≡ 0) ⊎ (printed.1 ≡ 1)) }
+    ensures status { IfOk result (λ printed. (printed.1 ≡ 0) ⊎ (printed.1 ≡ 1)) }
+    ensures refused { IfErr result IsNotPlayed }
 {
     let text = read_text(alloc, files, file, Reason::Syntax(1))?;
     let (config, events) = schedule(alloc, &text)?;

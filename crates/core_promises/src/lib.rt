@@ -5,7 +5,9 @@
 mod cores;
 mod desks;
 mod openings;
+mod refused;
 
 pub use cores::{look, on, safe};
 pub use desks::advance;
 pub use openings::rebuild;
+pub use refused::memory_leaves_all;

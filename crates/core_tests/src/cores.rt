@@ -28,8 +28,8 @@ pub fn plain(shard: u8, stride: u64) -> Setting {
     }
 }
 
-// A shard of two, which are split at `m`.
-fn setup(rt: &impl Abort, alloc: Global, setting: Setting) -> Setup {
+/// What a shard of two, which are split at `m`, is told.
+pub fn setup(rt: &impl Abort, alloc: Global, setting: Setting) -> Setup {
     let stride = Stride::new(setting.stride).expect(rt, "a stride");
     let book = match Capacity::new(setting.capacity) {
         Some(capacity) => Book::On(capacity),

@@ -6,9 +6,13 @@ mod answers;
 #[cfg(test)]
 mod booked;
 #[cfg(test)]
+mod chores;
+#[cfg(test)]
 mod coordinating;
 #[cfg(test)]
 mod cores;
+#[cfg(test)]
+mod damaged;
 #[cfg(test)]
 mod given;
 #[cfg(test)]
@@ -16,11 +20,17 @@ mod inboxes;
 #[cfg(test)]
 mod logs;
 #[cfg(test)]
+mod narrow;
+#[cfg(test)]
 mod nodes;
 #[cfg(test)]
 mod one_commit;
 #[cfg(test)]
+mod pieces;
+#[cfg(test)]
 mod promising;
+#[cfg(test)]
+mod refused;
 #[cfg(test)]
 mod reopening;
 #[cfg(test)]

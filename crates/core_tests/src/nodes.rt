@@ -74,8 +74,8 @@ pub fn fresh_node<R: Wait + Drop>(
     }
 }
 
-// Whether a look of the viewer sees this, in a buffer of four bytes which were 9 before: the value is 2.
-fn is_seen(viewers: &mut [Viewer], look: Look) -> bool {
+/// Whether a look of the viewer sees this, in a buffer of four bytes which were 9 before: the value is 2.
+pub fn is_seen(viewers: &mut [Viewer], look: Look) -> bool {
     let Some(viewer) = viewers.first_mut() else {
         return false;
     };

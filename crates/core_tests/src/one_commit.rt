@@ -8,7 +8,7 @@ const A: Given = Given::Commit(1, 0, b"a", b"1");
 
 const DONE: Told = Told::Says(&[(b'd', 9, 1, 111)]);
 
-pub static COMMITS: [Story; 4] = [
+pub static COMMITS: [Story; 5] = [
     Story {
         name: "one commit and its log",
         shard: 0,
@@ -29,7 +29,11 @@ pub static COMMITS: [Story; 4] = [
         moments: &[
             Moment {
                 after: 2,
-                shows: &[Shows::Decided(1, 111), Shows::Second(0, 0)],
+                shows: &[
+                    Shows::Decided(1, 111),
+                    Shows::Second(0, 0),
+                    Shows::Earliest(1, 111),
+                ],
             },
             // The header; Opened 1; Commit 1.1 at 111, parts 0, no reads, a=1; Outcome 1.1 committed 111; a closed gate.
             Moment {
@@ -78,6 +82,31 @@ pub static COMMITS: [Story; 4] = [
             after: 4,
             shows: &[Shows::Size(65)],
         }],
+    },
+    // The younger one is decided first.
+    Story {
+        name: "the earliest decided is not the oldest",
+        shard: 0,
+        stride: 0,
+        origin: Origin::New,
+        exchanges: &[
+            (100, 110, Given::Commit(2, 0, b"b", b"1"), Told::Says(&[])),
+            (100, 110, A, Told::Says(&[])),
+        ],
+        moments: &[
+            Moment {
+                after: 0,
+                shows: &[Shows::Earliest(0, 0)],
+            },
+            Moment {
+                after: 2,
+                shows: &[
+                    Shows::Decided(1, 112),
+                    Shows::Second(2, 111),
+                    Shows::Earliest(2, 111),
+                ],
+            },
+        ],
     },
     // One of the same key waits until the first is settled, and is decided above all that was decided before.
     Story {

@@ -133,16 +133,11 @@ pub static NODES: [Story; 6] = [
             OPENS,
             (250, 260, Ask::Look((250, Ok(Seen::Absent)))),
         ],
-        // The opening stands of which the board was refused.
+        // A number of viewers that no board has is refused before anything is opened.
         moments: &[Moment {
             name: "a node with its disk alone",
             after: 5,
-            log: &[
-                Line::Opened(1),
-                Line::Ceiling(250),
-                Line::Opened(2),
-                Line::Opened(3),
-            ],
+            log: &[Line::Opened(1), Line::Ceiling(250), Line::Opened(2)],
         }],
     },
     // What 1.2 wrote at 200, once the node has advanced to 210.

@@ -37,10 +37,11 @@ pub enum Shows {
     // It is not opened. Nothing else is shown then.
     Refused(Fault),
     Ready(u64),
-    // The first that is prepared, and the first two that are decided.
+    // The first that is prepared, the first two that are decided, and the one of these with the least timestamp.
     Prepared(u64, u64),
     Decided(u64, u64),
     Second(u64, u64),
+    Earliest(u64, u64),
     Last(u64),
     Safe(u64),
     Epoch(u64),
@@ -100,6 +101,7 @@ fn is_shown(rt: &impl Abort, core: &Core<SimDisk>, fact: &Shows) -> bool {
         Shows::Prepared(number, at) => stands(core.prepared(0), number, at),
         Shows::Decided(number, at) => stands(core.decided(0), number, at),
         Shows::Second(number, at) => stands(core.decided(1), number, at),
+        Shows::Earliest(number, at) => stands(core.earliest_decided(), number, at),
         Shows::Last(at) => core.last().micros() == at,
         Shows::Safe(at) => core.safe().micros() == at,
         Shows::Epoch(epoch) => core.epoch().number() == epoch,

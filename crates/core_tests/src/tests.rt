@@ -7,7 +7,7 @@ use crate::reopening::{ARMED, REFUSED, REOPENED};
 use crate::restarts::NODES;
 use crate::served::SERVING;
 use crate::viewed::VIEWED;
-use crate::{nodes, stories};
+use crate::{damaged, nodes, stories};
 
 // It fails where a call always answers that there is no memory.
 #[test]
@@ -25,6 +25,13 @@ fn cores(rt: HostRuntime) {
     stories::tell(&rt, rt.alloc(), &ARMED);
     stories::tell(&rt, rt.alloc(), &REFUSED);
     keep_books(&rt, rt.alloc());
+}
+
+#[test]
+fn damaged_files(rt: HostRuntime) {
+    damaged::cut_to_each_length(&rt, rt.alloc());
+    damaged::with_one_byte_altered(&rt, rt.alloc());
+    damaged::ten_thousand(&rt, rt.alloc());
 }
 
 #[test]

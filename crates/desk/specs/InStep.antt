@@ -48,9 +48,16 @@ AreOnBoard n setup p viewers =
     (length viewers ≡ n)
     × All (λ v. (v.board ≡ p.board) × (v.seen ≡ p.published) × (v.told ≡ p.published) × (v.home ≡ home_of setup)) viewers
 
--- why there is no desk: want of memory, or a number of viewers that no board has
+-- a number of viewers that a board may have, and one that none has
+abbrev pub IsCount : ℕ → Type 0
+IsCount n = (0 < n) × (n ≤ 64)
+
+abbrev pub IsNoCount : ℕ → Type 0
+IsNoCount n = (n ≡ 0) ⊎ (64 < n)
+
+-- why there is no desk: a number of viewers that no board has; or, with one that it may have, want of memory
 abbrev pub IsNoDesk : ℕ → Fault → Type 0
-IsNoDesk n fault = (fault ≡ WantsMemory) ⊎ ((fault ≡ BadRequest Many) × ((n ≡ 0) ⊎ (64 < n)))
+IsNoDesk n fault = (IsCount n × (fault ≡ WantsMemory)) ⊎ (IsNoCount n × (fault ≡ BadRequest Many))
 
 -- viewers see what they saw, on the same board
 abbrev pub StillShows : Publishing → Publishing → Type 0

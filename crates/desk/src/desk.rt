@@ -12,7 +12,7 @@ ghost use Rattle.shard.specs.Look.{safe_at};
 ghost use Rattle.shard.specs.Opened.{HasOpened};
 ghost use Rattle.shard.specs.Settled.{IsDurablySettled};
 
-use board::{Publisher, Told, Viewer, copy_install, start};
+use board::{Publisher, Told, Viewer, check_viewers, copy_install, start};
 use book::Book;
 use disk::Disk;
 use message::{Input, Outbox};
@@ -78,8 +78,8 @@ impl<D: Disk + Drop, R: Wait + Drop> Desk<D, R> {
     }
 
     /// A desk for the shard whose log a disk holds, and so many viewers of its board: the log is taken up as the core does, and
-    /// the next opening is logged. The disk is given back where it is refused; where that is for the board, the opening is
-    /// logged.
+    /// the next opening is logged. The disk is given back where it is refused: as it was where no board has so many viewers, and
+    /// with the opening logged where memory for the board is refused.
     pub fn open(
         rt: R,
         alloc: Global,
@@ -102,6 +102,9 @@ impl<D: Disk + Drop, R: Wait + Drop> Desk<D, R> {
             (λ refused. HasNoDesk D.keeps_model D.obeys D.file D.clock D.since D.failures D.plan
             disk setup.now n refused.0 refused.1) }
     {
+        if let Err(fault) = check_viewers(n) {
+            return Err((fault, disk));
+        }
         let told = match setup.copy(alloc) {
             Ok(told) => told,
             Err(fault) => return Err((fault, disk)),
@@ -199,6 +202,7 @@ fn board_of<R: Wait + Drop>(
     ensures viewers { IfOk result (λ made. AreOnBoard n setup.now made.0 made.1.items) }
     ensures refused { IfErr result (λ fault. IsNoDesk n fault) }
 {
+    check_viewers(n)?;
     let splits = setup.splits.copy(alloc)?;
     start(rt, alloc, installs, safe, splits, setup.shard, n)
 }

@@ -3,7 +3,7 @@ ghost use Rattle.std.specs.Prelude.{◌≡◌, ◌≢◌, ◌+◌, ◌*◌, ◌�
 ghost use Rattle.std.specs.Thread.{IsSync, IsSend};
 ghost use Rattle.disk.specs.File.{surface};
 ghost use Rattle.workers.specs.Course.{IsDrivable};
-ghost use Rattle.workers.specs.Reports.{IsCounted};
+ghost use Rattle.workers.specs.Reports.{IsCounted, IsTally};
 ghost use Rattle.workers.specs.Staffs.{IsStaffOf};
 ghost use Rattle.workers.specs.Summaries.{tried};
 ghost use Rattle.inspection.specs.Judged.{IsJudged};
@@ -56,6 +56,9 @@ pub fn drive<
         tried driven.summary.counts ≡ settings.now.workers * settings.now.transactions) }
     ensures looks { IfOk result (λ driven.
         driven.summary.counts.looks ≤ tried driven.summary.counts) }
+    ensures told { IfOk result (λ driven.
+        IsTally (settings.now.workers * settings.now.transactions)
+        driven.summary.counts driven.lines.items) }
     ensures shards { IsOk result → length disks.items ≡ length settings.now.splits + 1 }
     ensures limits { IsOk result
         → IsDrivable settings.now.workers settings.now.transactions settings.now.keys }
@@ -64,11 +67,18 @@ pub fn drive<
     ensures many { length disks.items ≢ length settings.now.splits + 1
         → result ≡ Err (Fault.BadRequest Reason.Settings) }
 {
-    let clock = MachineClock {
+    let clock = clock_of(rt, settings);
+    drive_by(rt, alloc, settings, disks, clock, gate, watch)
+}
+
+// The machine's clock, whose readings are as wide as the settings say.
+fn clock_of<'r, R>(rt: &'r R, settings: &Settings) -> MachineClock<'r, R>
+    ensures { result.epsilon ≡ settings.now.epsilon }
+{
+    MachineClock {
         rt,
         epsilon: settings.epsilon,
-    };
-    drive_by(rt, alloc, settings, disks, clock, gate, watch)
+    }
 }
 
 /// The same by a clock, of which each node and each worker has a copy.
@@ -95,6 +105,9 @@ pub fn drive_by<
         tried driven.summary.counts ≡ settings.now.workers * settings.now.transactions) }
     ensures looks { IfOk result (λ driven.
         driven.summary.counts.looks ≤ tried driven.summary.counts) }
+    ensures told { IfOk result (λ driven.
+        IsTally (settings.now.workers * settings.now.transactions)
+        driven.summary.counts driven.lines.items) }
     ensures shards { IsOk result → length disks.items ≡ length settings.now.splits + 1 }
     ensures limits { IsOk result
         → IsDrivable settings.now.workers settings.now.transactions settings.now.keys }
@@ -132,6 +145,9 @@ fn drive_nodes<
         tried driven.summary.counts ≡ settings.now.workers * settings.now.transactions) }
     ensures looks { IfOk result (λ driven.
         driven.summary.counts.looks ≤ tried driven.summary.counts) }
+    ensures told { IfOk result (λ driven.
+        IsTally (settings.now.workers * settings.now.transactions)
+        driven.summary.counts driven.lines.items) }
     ensures shards { IsOk result → length disks.items ≡ length settings.now.splits + 1 }
     ensures limits { IsOk result
         → IsDrivable settings.now.workers settings.now.transactions settings.now.keys }
@@ -170,6 +186,7 @@ fn outcome<N: Opens<H, D> + Drop, H, D: Disk + Drop>(
         driven.summary.verdict) }
     ensures disks { IfOk result (λ driven. length driven.disks.items ≡ length nodes.items) }
     ensures counts { IfOk result (λ driven. driven.summary.counts ≡ report.counts) }
+    ensures lines { IfOk result (λ driven. driven.lines.items ≡ report.lines.items) }
 {
     let Report { counts, lines } = report;
     let (verdict, disks) = judge(alloc, closed(alloc, nodes)?, &lines)?;

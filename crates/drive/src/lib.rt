@@ -7,4 +7,4 @@ mod opening;
 mod shards;
 
 pub use engine::{Driven, drive, drive_by};
-pub use shards::drive_shards;
+pub use shards::{drive_shards, run};

@@ -1,5 +1,6 @@
 //! The nodes of a drive.
-ghost use Rattle.std.specs.Prelude.{◌≡◌, ◌≢◌, ◌≤◌, ◌+◌, length, Err, IfOk, IsOk, OnOk};
+ghost use Rattle.std.specs.Prelude.{◌≡◌, ◌≢◌, ◌⊎◌, ◌≤◌, ◌+◌, length, Err, IfErr, IfOk, IsOk, OnOk};
+ghost use Rattle.drive.specs.Setups.{IsSetupOf};
 
 use board::Viewer;
 use disk::Disk;
@@ -147,9 +148,16 @@ impl<N: Drop> Opened<N> {
 }
 
 // What the shard of this number is told.
-fn setup_of(alloc: Global, settings: &Settings, number: usize) -> Result<Setup, Fault> {
-    let Some(shard) = u8::try_from(number).ok().and_then(ShardNo::new) else {
+fn setup_of(alloc: Global, settings: &Settings, number: usize) -> Result<Setup, Fault>
+    ensures setup { IfOk result (IsSetupOf settings.now number) }
+    ensures refused { IfErr result (λ fault. (fault ≡ Fault.Memory)
+        ⊎ ((fault ≡ Fault.BadRequest Reason.Settings) × (16 ≤ number))) }
+{
+    if number >= 16 {
         return Err(Fault::BadRequest(Reason::Settings));
+    }
+    let Some(shard) = ShardNo::new(number as u8) else {
+        unreachable!()
     };
     Ok(Setup {
         shard,
@@ -163,6 +171,7 @@ fn setup_of(alloc: Global, settings: &Settings, number: usize) -> Result<Setup, 
 fn later(epoch: Epoch, other: Epoch) -> Epoch
     ensures first { epoch ≤ result }
     ensures second { other ≤ result }
+    ensures one { (result ≡ epoch) ⊎ (result ≡ other) }
 {
     if epoch.number() < other.number() {
         other
@@ -172,7 +181,9 @@ fn later(epoch: Epoch, other: Epoch) -> Epoch
 }
 
 /// The run of all ids: the greatest epoch.
-pub fn run_of(epoch: Epoch) -> Run {
+pub fn run_of(epoch: Epoch) -> Run
+    ensures { result ≡ epoch }
+{
     match Run::new(epoch.number()) {
         Some(run) => run,
         None => unreachable!(),

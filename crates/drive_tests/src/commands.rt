@@ -52,9 +52,9 @@ static STEPS: [Step; 14] = [
     Step {
         command: "inspect",
         names: &["no.lines", "a.log", "a.log"],
-        output: Output::Nothing,
-        fault: "fault: 2 Device\n",
-        status: 2,
+        output: Output::Yes,
+        fault: "",
+        status: 0,
     },
     Step {
         command: "inspect",
@@ -299,7 +299,10 @@ fn first_wrong<F: Files, D: Fn(Global, &Settings) -> Result<Driven, Fault>>(
 fn commands_over_files(rt: HostRuntime) {
     let folder = furnished(&rt, &rt);
     let system = System {
-        files: HostFiles(&rt),
+        files: HostFiles {
+            rt: &rt,
+            is_watched: false,
+        },
         drive: |alloc: Global, settings: &Settings| {
             drive_shards(&rt, alloc, settings, Some(Vec::<u8>::new(alloc)))
         },

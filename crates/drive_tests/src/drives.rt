@@ -1,13 +1,16 @@
 //! Drives of two shards, which part at `k0005`, with a stride of 1,000 and a clock that is within 100.
 use crate::gates::Meeting;
+use crate::kept::Kept;
+use cli::run;
 use drive::{Driven, drive, drive_by};
 use gatelog::GateLog;
-use progress::NoWatch;
+use progress::{Ended, NoWatch, Turn, Watch};
 use settings::Settings;
 use simdisk::SimDisk;
 use std::alloc::Global;
 use std::process::Abort;
 use std::sync::Wait;
+use std::sync::atomic::{AtomicU64, Ordering};
 use std::thread::Threads;
 use std::time;
 use truetime::{Clock, Reading};
@@ -243,6 +246,22 @@ fn is_sound(summary: &Summary, tried: u64) -> bool {
     sum == tried && matches!(summary.verdict, Verdict::Yes)
 }
 
+// Whether each transaction has a line of its begin, each that committed one of its acknowledgement, and each answered look its own.
+fn are_told(summary: &Summary, tried: u64, lines: &[Line]) -> bool {
+    let mut begins: u64 = 0;
+    let mut acks: u64 = 0;
+    let mut looks: u64 = 0;
+    for line in lines {
+        match line {
+            Line::Begin(_, _) => begins = begins.saturating_add(1),
+            Line::Ack(_, _, _) => acks = acks.saturating_add(1),
+            Line::Read(_, _, _) => {}
+            Line::Look(_, _, _) => looks = looks.saturating_add(1),
+        }
+    }
+    begins == tried && acks == summary.counts.committed && looks == summary.counts.looks
+}
+
 // Whether each transaction that began is of the run.
 fn are_of(lines: &[Line], run: u64) -> bool {
     for line in lines {
@@ -264,6 +283,7 @@ fn is_driven(summary: &Summary, lines: &[Line], comes: Comes) -> bool {
             looks,
             run,
         } => is_sound(summary, tried)
+            && are_told(summary, tried, lines)
             && summary.counts.committed >= committed
             && summary.counts.looks >= looks
             && are_of(lines, run),
@@ -318,18 +338,129 @@ fn drives(rt: HostRuntime) {
     drop(left);
 }
 
+// A drive over keys of shard 0 alone.
+static LOW_KEYS: Row = Row {
+    name: "a drive of four keys",
+    workers: 1,
+    transactions: 5,
+    keys: 4,
+    logs: 2,
+    blank: false,
+    comes: Comes::Driven {
+        tried: 5,
+        committed: 1,
+        looks: 0,
+        run: 1,
+    },
+};
+
+static LOW_KEYS_AGAIN: Row = Row {
+    name: "a second one, beside a new log of shard 1",
+    workers: 1,
+    transactions: 5,
+    keys: 4,
+    logs: 2,
+    blank: false,
+    comes: Comes::Driven {
+        tried: 5,
+        committed: 1,
+        looks: 0,
+        run: 2,
+    },
+};
+
+// It fails where the run of all ids is not the greatest epoch of the shards, but that of the last one.
+#[test]
+fn greatest_epoch(rt: HostRuntime) {
+    let gate = Meeting::new(&rt, false);
+    let fresh = disks_of(&rt, rt.alloc(), &LOW_KEYS);
+    let mut left = go(&rt, rt.alloc(), &LOW_KEYS, fresh, &gate);
+    drop(left.pop());
+    let mut others = disks_of(&rt, rt.alloc(), &LOW_KEYS);
+    left.push(others.pop().expect(&rt, "a disk"))
+        .ok()
+        .expect(&rt, "memory");
+    drop(others);
+    drop(go(&rt, rt.alloc(), &LOW_KEYS_AGAIN, left, &gate));
+}
+
+// Is told how long the shortest transaction took that committed.
+#[derive(Drop)]
+struct Shortest {
+    micros: AtomicU64,
+}
+
+impl Watch for Shortest {
+    fn turned(&self, turn: Turn) {
+        if let Ended::Committed = turn.ended {
+            if turn.micros < self.micros.load(Ordering::SeqCst) {
+                self.micros.store(turn.micros, Ordering::SeqCst);
+            }
+        }
+    }
+}
+
+// The greatest timestamp of a look.
+fn last_look(lines: &[Line]) -> u64 {
+    let mut last = 0;
+    for line in lines {
+        if let Line::Look(_, at, _) = line {
+            last = at.micros().max(last);
+        }
+    }
+    last
+}
+
+// A drive of one worker, with a stride of ten seconds and a clock that is within a tenth of one. Commit wait takes as long as a
+// reading is wide, but for how far two clocks of the machine go apart meanwhile. Ceilings are logged a stride ahead: one at
+// each shard that is looked at, since all is over within five seconds. And what was written behind a number is the next one.
+#[test]
+fn as_settings_say(rt: HostRuntime) {
+    let mut settings = settings_of(&rt, rt.alloc(), &ONE_WORKER);
+    settings.stride = Stride::new(10_000_000).expect(&rt, "a stride");
+    settings.epsilon = 100_000;
+    settings.transactions = 6;
+    settings.keys = 3;
+    let gate = Meeting::new(&rt, false);
+    let watch = Shortest {
+        micros: AtomicU64::new(u64::MAX),
+    };
+    let disks = disks_of(&rt, rt.alloc(), &ONE_WORKER);
+    let driven = drive(&rt, rt.alloc(), &settings, disks, &gate, &watch);
+    drop(settings);
+    let Driven {
+        summary,
+        lines,
+        disks,
+    } = driven.expect(&rt, "a drive");
+    assert!(rt; is_sound(&summary, 6) && are_told(&summary, 6, &lines));
+    let last = last_look(&lines);
+    drop(lines);
+    let kept = Kept::of(&rt, rt.alloc(), disks);
+    let shortest = watch.micros.load(Ordering::SeqCst);
+    let waited = summary.counts.committed > 0 && shortest >= 199_000 && shortest < u64::MAX;
+    let ahead = kept.ceilings >= 1
+        && kept.ceilings <= 2
+        && last > 0
+        && kept.least_ceiling > last.saturating_add(5_000_000);
+    let counted = kept.writes > 0 && kept.sum() == kept.writes;
+    drop(kept);
+    assert!(rt; waited);
+    assert!(rt; ahead);
+    assert!(rt; counted);
+}
+
 // It fails where nodes are served one after the other, or one letter at a time over both.
 #[test]
 fn nodes_in_turn(rt: HostRuntime) {
     let gate = Meeting::new(&rt, true);
-    drop(go(
-        &rt,
-        rt.alloc(),
-        &MEETING,
-        disks_of(&rt, rt.alloc(), &MEETING),
-        &gate,
-    ));
-    assert!(rt; gate.have_met());
+    let settings = settings_of(&rt, rt.alloc(), &MEETING);
+    let told = run(&rt, rt.alloc(), &settings, &gate);
+    drop(settings);
+    let text = told.expect(&rt, MEETING.name);
+    let sound = text.starts_with("committed ") && text.ends_with("\nverdict yes\n");
+    drop(text);
+    assert!(rt; sound && gate.have_met());
 }
 
 // Never has a reading, so that each letter is lost.

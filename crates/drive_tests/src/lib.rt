@@ -9,3 +9,7 @@ mod drives;
 mod folder;
 #[cfg(test)]
 mod gates;
+#[cfg(test)]
+mod kept;
+#[cfg(test)]
+mod stores;

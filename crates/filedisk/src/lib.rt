@@ -3,21 +3,26 @@
 
 ghost use Rattle.std.specs.Prelude.{◌≡◌, ◌+◌, IfOk, IfErr, OnOk, length, max};
 
+mod names;
+
 use counts::Count;
 use disk::Disk;
+use names::{locked, or_device, plain, same_name, sync_folder};
 use std::fs::{File, OpenOptions};
 use std::os::unix::fs::FileExt;
-use std::path::Path;
 use std::rt::Files;
 use units::Fault;
 
-/// A file of the system, open for reads and writes at offsets, and locked (`flock`) against every other `FileDisk`, also one
-/// of another program, until it is dropped. It goes on with calls that a signal interrupts and with those that move fewer bytes
-/// than they are asked for. What the system refuses counts as a failure, and its length is then measured again.
+/// A file of the system, open for reads and writes at offsets, and locked (`flock`) against every other `FileDisk` that may be
+/// written to, also one of another program, until it is dropped; or open for reads alone, without the lock. It goes on with calls that a
+/// signal interrupts and with those that move fewer bytes than they are asked for. What the system refuses counts as a failure, and
+/// its length is then measured again.
 #[derive(Drop)]
 pub struct FileDisk {
     file: File,
     len: u64,
+    // It was opened for reads alone.
+    read_only: bool,
     // A sync has failed. What it was to write may be lost, though a read still shows it and the system would take the next sync.
     torn: bool,
     failures: Count,
@@ -27,39 +32,57 @@ impl FileDisk {
     ghost use Rattle.filedisk.specs.State.{file_length, file_failures};
 
     /// Makes a new file, which is empty. Its name is on the device when this returns: the folder that it stands in is synced
-    /// (`fsync`). `Device` where there is something of that name, or where the system refuses; a file that was made before the
-    /// system refused is left.
+    /// (`fsync`). `Device` where there is something of that name, also a link, or where the system refuses; a file that was made
+    /// before the system refused is left.
     pub fn create<R: Files<File = File>>(rt: &R, path: &str) -> Result<FileDisk, Fault>
         ensures length { IfOk result (λ disk. file_length disk ≡ 0) }
         ensures failures { IfOk result (λ disk. file_failures disk ≡ 0) }
         ensures cause { IfErr result (λ fault. fault ≡ Fault.Device) }
     {
-        let file = or_device(File::create_new(rt, path))?;
-        let file = locked(file)?;
+        let file = locked(or_device(File::create_new(rt, path))?)?;
+        let file = same_name(rt, path, file)?;
         sync_folder(rt, path)?;
-        Ok(FileDisk {
-            file,
-            len: 0,
-            torn: false,
-            failures: Count::none(),
-        })
+        Ok(FileDisk::over(file, 0, false))
     }
 
-    /// Opens a file that is there. `Device` where there is none of that name, it is no plain file, another `FileDisk` has it
-    /// open, or the system refuses.
+    /// Opens a file that is there, for reads and writes. `Device` where there is none of that name, it is no plain file but a link, a
+    /// folder or a device, another `FileDisk` has it open for writes, or the system refuses. Once it has the lock, the file is still
+    /// the one of that name.
     pub fn open<R: Files<File = File>>(rt: &R, path: &str) -> Result<FileDisk, Fault>
         ensures failures { IfOk result (λ disk. file_failures disk ≡ 0) }
         ensures cause { IfErr result (λ fault. fault ≡ Fault.Device) }
     {
+        plain(rt, path)?;
         let opened = OpenOptions::new().read(true).write(true).open(rt, path);
-        let file = locked(or_device(opened)?)?;
+        let file = same_name(rt, path, locked(or_device(opened)?)?)?;
         let len = plain_len(&file)?;
-        Ok(FileDisk {
+        Ok(FileDisk::over(file, len, false))
+    }
+
+    /// Opens a file that is there for reads alone: it needs no right to write, and neither takes the lock nor asks who has it. What is
+    /// read while somebody writes may be no one moment's. A link is followed. `Device` where there is no plain file of that name, or the
+    /// system refuses. Each write and each cut is refused, and a sync has nothing to do.
+    pub fn open_to_read<R: Files<File = File>>(rt: &R, path: &str) -> Result<FileDisk, Fault>
+        ensures failures { IfOk result (λ disk. file_failures disk ≡ 0) }
+        ensures cause { IfErr result (λ fault. fault ≡ Fault.Device) }
+    {
+        let file = or_device(File::open(rt, path))?;
+        let len = plain_len(&file)?;
+        Ok(FileDisk::over(file, len, true))
+    }
+
+    // No call has failed yet.
+    fn over(file: File, len: u64, read_only: bool) -> FileDisk
+        ensures length { file_length result ≡ len }
+        ensures failures { file_failures result ≡ 0 }
+    {
+        FileDisk {
             file,
             len,
+            read_only,
             torn: false,
             failures: Count::none(),
-        })
+        }
     }
 
     // The call was refused. The length is what the system says of it now, or as it was where the system says nothing.
@@ -132,8 +155,9 @@ impl Disk for FileDisk {
             (file_length self.new ≡ max (file_length self.old) (at + length bytes.now)) }
         ensures cause { Counts (file_failures self.old) (file_failures self.new) result }
     {
-        let Some(end) = at.checked_add(bytes.len() as u64) else {
-            return Err(self.refused());
+        let end = match at.checked_add(bytes.len() as u64) {
+            Some(end) if !self.read_only => end,
+            _ => return Err(self.refused()),
         };
         match self.file.write_all_at(bytes, at) {
             Ok(()) => {
@@ -148,21 +172,19 @@ impl Disk for FileDisk {
         ensures length { OnOk result (file_length self.new ≡ len) }
         ensures cause { Counts (file_failures self.old) (file_failures self.new) result }
     {
-        match self.file.set_len(len) {
-            Ok(()) => {
-                self.len = len;
-                Ok(())
-            }
-            Err(_) => Err(self.refused()),
+        if !self.read_only && self.file.set_len(len).is_ok() {
+            self.len = len;
+            return Ok(());
         }
+        Err(self.refused())
     }
 
-    /// It is `fsync`. Once it has failed, it fails until the file is opened again.
+    /// It is `fsync`, but of a file that was opened for reads alone. Once it has failed, it fails until the file is opened again.
     fn sync(&mut self) -> Result<(), Fault>
         ensures length { OnOk result (file_length self.new ≡ file_length self.old) }
         ensures cause { Counts (file_failures self.old) (file_failures self.new) result }
     {
-        if !self.torn && self.file.sync_all().is_ok() {
+        if self.read_only || !self.torn && self.file.sync_all().is_ok() {
             return Ok(());
         }
         self.torn = true;
@@ -172,25 +194,6 @@ impl Disk for FileDisk {
     fn arm(&mut self, _call: Option<u64>) {}
 }
 
-fn or_device(opened: std::io::Result<File>) -> Result<File, Fault>
-    ensures { IfErr result (λ fault. fault ≡ Fault.Device) }
-{
-    match opened {
-        Ok(file) => Ok(file),
-        Err(_) => Err(Fault::Device),
-    }
-}
-
-// The file, once no other open one has the lock.
-fn locked(file: File) -> Result<File, Fault>
-    ensures { IfErr result (λ fault. fault ≡ Fault.Device) }
-{
-    match file.try_lock() {
-        Ok(()) => Ok(file),
-        Err(_) => Err(Fault::Device),
-    }
-}
-
 // The length of a plain file.
 fn plain_len(file: &File) -> Result<u64, Fault>
     ensures { IfErr result (λ fault. fault ≡ Fault.Device) }
@@ -198,24 +201,5 @@ fn plain_len(file: &File) -> Result<u64, Fault>
     match file.metadata() {
         Ok(metadata) if metadata.is_file() => Ok(metadata.len()),
         _ => Err(Fault::Device),
-    }
-}
-
-// Waits until the names in the folder of a path are on the device.
-fn sync_folder<R: Files<File = File>>(rt: &R, path: &str) -> Result<(), Fault>
-    ensures { IfErr result (λ fault. fault ≡ Fault.Device) }
-{
-    let folder = or_device(File::open(rt, folder_of(path)))?;
-    match folder.sync_all() {
-        Ok(()) => Ok(()),
-        Err(_) => Err(Fault::Device),
-    }
-}
-
-// The folder that a path stands in.
-fn folder_of(path: &str) -> Path<'_> {
-    match Path::new(path).parent() {
-        Some(folder) if !folder.as_os_str().is_empty() => folder,
-        _ => Path::new("."),
     }
 }

@@ -16,17 +16,17 @@ use Rattle.gatelog.specs.Gates.{first_gate, open_gate}
 use Rattle.gatelog.specs.Log.{framed, with_entry, entries_at, scan}
 use Rattle.gatelog.proofs.Scan.{Found, with_entries, frame_parts, open_step, closed_step, skips}
 
-damaged_step : (at gate : ℕ) (bytes : List ℕ) → gate ≡ open_gate → framed bytes ≡ None → entries_at at 0 (gate ∷ bytes) ≡ Err (Damaged at)
+pub damaged_step : (at gate : ℕ) (bytes : List ℕ) → gate ≡ open_gate → framed bytes ≡ None → entries_at at 0 (gate ∷ bytes) ≡ Err (Damaged at)
 unfolding entries_at
 damaged_step at gate bytes opened is =
     let same : eqb gate open_gate ≡ true = eq-eqb gate open_gate opened in
     rw (same, is) refl
 
-end_step : (at : ℕ) → entries_at at 0 [] ≡ Err (Damaged at)
+pub end_step : (at : ℕ) → entries_at at 0 [] ≡ Err (Damaged at)
 unfolding entries_at
 end_step at = refl
 
-one_more : (es : List Placed) (e : Placed) (found : Found) → with_entries es (with_entry e found) ≡ with_entries (es ++ e ∷ []) found
+pub one_more : (es : List Placed) (e : Placed) (found : Found) → with_entries es (with_entry e found) ≡ with_entries (es ++ e ∷ []) found
 one_more es e (Ok found) = ap (λ (l : List Placed). Ok (l, found.1)) (sym (append_assoc es (e ∷ []) found.0))
 one_more es e (Err fault) = refl
 

@@ -15,15 +15,11 @@ use Rattle.spelling.proofs.Again.{wide32, read_again}
 use Rattle.gatelog.specs.Placed.{Placed}
 use Rattle.gatelog.specs.Frames.{header, behind_gate}
 use Rattle.gatelog.specs.Gates.{open_gate}
+pub use Rattle.gatelog.specs.Log.{with_entries}
 use Rattle.gatelog.specs.Log.{framed, frame_length, with_entry, with_frame, entries_at, scan}
 
 abbrev pub Found : Type 0
 Found = Result (List Placed × ℕ) Fault
-
--- entries, and then what follows them
-abbrev pub with_entries : List Placed → Found → Found
-with_entries front (Ok found) = Ok (front ++ found.0, found.1)
-with_entries front (Err fault) = Err fault
 
 with_entries-cons : (e : Placed) (front : List Placed) (found : Found) → with_entry e (with_entries front found) ≡ with_entries (e ∷ front) found
 with_entries-cons e front (Ok found) = refl

@@ -5,3 +5,5 @@ pub mod Gates
 pub mod Log
 pub mod Placed
 pub mod Shown
+pub mod Ahead
+pub mod Front

@@ -29,6 +29,11 @@ abbrev pub with_entry : Placed → Result (List Placed × ℕ) Fault → Result 
 with_entry entry (Ok found) = Ok (entry ∷ found.0, found.1)
 with_entry entry (Err fault) = Err fault
 
+-- entries, and then what follows them
+abbrev pub with_entries : List Placed → Result (List Placed × ℕ) Fault → Result (List Placed × ℕ) Fault
+with_entries front (Ok found) = Ok (front ++ found.0, found.1)
+with_entries front (Err fault) = Err fault
+
 -- the frame at an open gate, and then what follows it
 abbrev pub with_frame : ℕ → Option (Record × ℕ) → Result (List Placed × ℕ) Fault → Result (List Placed × ℕ) Fault
 with_frame gate (Some frame) rest = with_entry (record { offset = gate; item = frame.0 }) rest

@@ -14,7 +14,7 @@ ghost use Rattle.gatelog.specs.Log.{log, and_entry, ends_at, is_no_log};
 
 use crate::change::{write_and_sync, write_frame};
 use crate::frame::{FIRST_GATE, HEADER_AND_GATE};
-use crate::opening::{entries_of, read_synced};
+use crate::scanning::{Found, Sink, scan_synced};
 use crate::token::{Entry, Logged, Staged};
 use disk::Disk;
 use record::Record;
@@ -86,8 +86,69 @@ impl<D: Disk> GateLog<D> {
         })
     }
 
-    /// Takes up the log of a file: its entries in order. It syncs before it reads. `NotALog` where the file does not
-    /// begin with the header, and `Damaged` at the gate where a frame is due and none is whole.
+    /// Takes up the log of a file, and hands its entries to a sink, one by one in order. It syncs before it reads, in pieces of
+    /// 65,536 bytes at most. `NotALog` where the file does not begin with the header, and `Damaged` at the gate where a frame is due
+    /// and none is whole. Of what a sink was handed by a scan that is refused nothing is said.
+    pub fn scan<S: Sink>(alloc: Global, disk: D, sink: &mut S) -> Result<GateLog<D>, (Fault, D)>
+        requires fresh { S.taken sink.old ≡ [] }
+        ensures told { S.told sink.new ≡ S.told sink.old }
+        ensures entries { IfOk result
+            (λ made. D.keeps_model → log (surface (D.file disk)).seen ≡ Ok (S.taken sink.new)) }
+        ensures gate { IfOk result (λ made. D.keeps_model
+            → IsTrue (ends_at (surface (D.file disk)).seen (gate_at made))) }
+        ensures end { IfOk result
+            (λ made. gate_at made ≡ end_of (map (λ e. e.item) (S.taken sink.new))) }
+        ensures running { IfOk result (λ made. IsFalse (is_stopped made)) }
+        ensures synced { IfOk result
+            (λ made. D.keeps_model
+            → surface (D.file (disk_of made)) ≡ after_sync (surface (D.file disk))) }
+        // A crash at any moment of the call leaves no more than one before it.
+        ensures any_moment { IfOk result
+            (λ made. D.keeps_model
+            → LeavesOnly D.clock D.since disk (disk_of made)
+            (MayLeave (surface (D.file disk)))) }
+        ensures refused_moment { IfErr result
+            (λ refused. D.keeps_model
+            → LeavesOnly D.clock D.since disk refused.1 (MayLeave (surface (D.file disk)))) }
+        ensures cause { IfErr result (λ refused. (refused.0 ≡ Fault.Memory)
+            ⊎ (((refused.0 ≡ Fault.Device) × (D.failures disk < D.failures refused.1))
+            ⊎ (IsTrue (is_no_log refused.0)
+            × (D.keeps_model → log (surface (D.file disk)).seen ≡ Err refused.0)))) }
+        // Refused, but for `Device`, the file reads as it did.
+        ensures unchanged { IfErr result
+            (λ refused. (refused.0 ≡ Fault.Device)
+            ⊎ (D.keeps_model → (surface (D.file refused.1)).seen ≡ (surface (D.file disk)).seen)) }
+        ensures failures_stay { IfOk result
+            (λ made. D.failures disk ≤ D.failures (disk_of made)) }
+
+        // Refused, but for `Memory` and `Device`, the file is synced.
+        ensures refused_synced { IfErr result
+            (λ refused. (refused.0 ≡ Fault.Memory) ⊎ ((refused.0 ≡ Fault.Device)
+            ⊎ (D.keeps_model → surface (D.file refused.1) ≡ after_sync (surface (D.file disk))))) }
+
+        // With no call to fail before the next write, the device does not fail.
+        ensures planned { D.obeys → waits (D.plan disk) ≡ true
+            → IfOk result (λ made. (D.plan (disk_of made) ≡ D.plan disk)
+            × (D.file (disk_of made) ≡ synced (D.file disk))) }
+        ensures refused_planned { D.obeys → waits (D.plan disk) ≡ true
+            → IfErr result (λ refused.
+            ((D.file refused.1 ≡ D.file disk) ⊎ (D.file refused.1 ≡ synced (D.file disk)))
+            × ((refused.0 ≡ Fault.Memory)
+            ⊎ (IsTrue (is_no_log refused.0)
+            × (D.keeps_model → log (surface (D.file disk)).seen ≡ Err refused.0)))) }
+    {
+        let mut disk = disk;
+        match scan_synced(alloc, &mut disk, sink) {
+            Ok(gate) => Ok(GateLog {
+                disk,
+                gate,
+                stopped: false,
+            }),
+            Err(fault) => Err((fault, disk)),
+        }
+    }
+
+    /// Takes up the log of a file: its entries in order, as a scan hands them.
     pub fn open(alloc: Global, disk: D) -> Result<(GateLog<D>, Vec<Entry>), (Fault, D)>
         ensures entries { IfOk result
             (λ opened. D.keeps_model → log (surface (D.file disk)).seen ≡ Ok opened.1.items) }
@@ -135,21 +196,18 @@ impl<D: Disk> GateLog<D> {
             ⊎ (IsTrue (is_no_log refused.0)
             × (D.keeps_model → log (surface (D.file disk)).seen ≡ Err refused.0)))) }
     {
-        let mut disk = disk;
-        let image = match read_synced(alloc, &mut disk) {
-            Ok(image) => image,
-            Err(fault) => return Err((fault, disk)),
+        let mut found = Found {
+            entries: Vec::new(alloc),
         };
-        match entries_of(alloc, &image) {
-            Ok((entries, gate)) => Ok((
-                GateLog {
-                    disk,
-                    gate,
-                    stopped: false,
-                },
-                entries,
-            )),
-            Err(fault) => Err((fault, disk)),
+        match GateLog::scan(alloc, disk, &mut found) {
+            Ok(log) => {
+                let Found { entries } = found;
+                Ok((log, entries))
+            }
+            Err(refused) => {
+                drop(found);
+                Err(refused)
+            }
         }
     }
 

@@ -3,9 +3,13 @@
 
 mod change;
 mod frame;
+mod front;
 mod gatelog;
 mod opening;
+mod pieces;
+mod scanning;
 mod token;
 
 pub use gatelog::GateLog;
+pub use scanning::Sink;
 pub use token::{Entry, Logged, Staged};

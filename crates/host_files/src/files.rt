@@ -2,34 +2,45 @@
 ghost use Rattle.std.specs.Prelude.{◌≡◌, ◌⊎◌, IfErr};
 ghost use Rattle.units.specs.declared.fault.Fault.TheVariants.{Device, Memory};
 
+use crate::names::read_front;
 use filedisk::FileDisk;
 use std::alloc::Global;
 use std::fs::File;
-use std::io::ErrorKind;
-use std::{fs, rt};
-use system::Files;
+use std::rt;
+use system::{Files, Note};
 use units::Fault;
 
-/// The files behind a runtime.
+/// The files behind a runtime: texts are read as they are, links are followed, and logs are opened to be read alone. `create` makes a
+/// file, and nothing else does. Notes are told on standard error, where that is watched.
 #[derive(Clone, Copy)]
-pub struct HostFiles<'r, R>(pub &'r R);
+pub struct HostFiles<'r, R> {
+    pub rt: &'r R,
+    /// Standard error is a terminal.
+    pub is_watched: bool,
+}
 
-impl<R: rt::Files<File = File> + AllocGlobal> Files for HostFiles<'_, R> {
+impl<R: rt::Files<File = File> + Eprint> Files for HostFiles<'_, R> {
     type Log = FileDisk;
 
-    fn read(&self, _alloc: Global, path: &str) -> Result<Vec<u8>, Fault> {
-        match fs::read(self.0, path) {
-            Ok(bytes) => Ok(bytes),
-            Err(error) if error.kind() == ErrorKind::OutOfMemory => Err(Fault::Memory),
-            Err(_) => Err(Fault::Device),
-        }
+    fn read(&self, alloc: Global, path: &str, most: u64) -> Result<Vec<u8>, Fault> {
+        read_front(self.rt, alloc, path, most)
     }
 
     fn create(&self, _alloc: Global, path: &str) -> Result<FileDisk, Fault> {
-        FileDisk::create(self.0, path)
+        FileDisk::create(self.rt, path)
     }
 
     fn open(&self, _alloc: Global, path: &str) -> Result<FileDisk, Fault> {
-        FileDisk::open(self.0, path)
+        FileDisk::open_to_read(self.rt, path)
+    }
+
+    fn wants_notes(&self) -> bool {
+        self.is_watched
+    }
+
+    fn tell(&self, note: Note) {
+        if self.is_watched {
+            let _told = self.rt.eprintln(note);
+        }
     }
 }

@@ -1,38 +1,173 @@
 //! The logs of the shards of a drive.
-ghost use Rattle.std.specs.Prelude.{◌≡◌, ◌⊎◌, [], IfOk, IfErr, Ok, All, length};
+ghost use Rattle.std.specs.Prelude.{◌≡◌, ◌⊎◌, ◌+◌, ◌<◌, [], IfOk, IfErr, OnOk, Ok, All, length, IsTrue};
 ghost use Rattle.disk.specs.File.{surface};
 ghost use Rattle.disk.specs.declared.plan.FailurePlan.TheVariants.{Never};
 ghost use Rattle.gatelog.specs.Crash.{Stands};
 ghost use Rattle.gatelog.specs.Log.{log};
+ghost use Rattle.host_files.specs.Folders.{IsFolderFault, names_are_synced};
 ghost use Rattle.simdisk.specs.State.{disk_file, disk_plan};
 ghost use Rattle.units.specs.declared.fault.Fault.TheVariants.{Device, Memory};
 
+use crate::beginning::begin;
+use crate::manifest::{MANIFEST, MOST_MANIFEST, is_manifest_of};
+use crate::names::{Kind, StoreFolder};
+use crate::owners::first_fits;
+use crate::shards::{draft_of, log_of, setup_of};
 use filedisk::FileDisk;
 use gatelog::GateLog;
 use simdisk::SimDisk;
 use std::alloc::Global;
 use std::fs::File;
-use std::path::Path;
+use std::random::RandomSource;
 use std::rt::Files;
-use std::{fs, io};
-use units::Fault;
+use units::{Fault, Reason, Splits};
 
-/// The logs of so many shards in files of a folder, `shard-0.log` and so on. Each that is missing is made, the folder is not.
-pub fn logs_in<R: Files<File = File>>(
+/// The logs of a store in a folder, `shard-0.log` and so on, one more than there are splits, each open and locked. The folder has to be
+/// there, and is locked meanwhile.
+///
+/// A folder with a manifest (`store.toml`) has one log a shard: where the manifest tells of other splits, or is none, that is refused
+/// as `settings`, then a log that is missing as `Device`, and then a log of another shard as its opening would refuse it. A folder
+/// without a manifest gets one, and the logs that are missing, where each log that is there belongs to its shard and none has a number
+/// beyond them (`settings`). Until the manifest has its name on the device no log gets one, and nothing is written to a log that
+/// holds a record. Before this returns all names are on the device.
+pub fn logs_in<R: Files<File = File> + RandomSource>(
     rt: &R,
     alloc: Global,
     folder: &str,
-    shards: usize,
+    splits: &Splits,
 ) -> Result<Vec<FileDisk>, Fault>
-    ensures all { IfOk result (λ logs. length logs.items ≡ shards) }
-    ensures refused { IfErr result (λ fault. (fault ≡ Memory) ⊎ (fault ≡ Device)) }
+    ensures all { IfOk result (λ logs. length logs.items ≡ length splits.now + 1) }
+    ensures refused { IfErr result IsFolderFault }
 {
+    let mut folder = StoreFolder::lock(rt, alloc, folder)?;
+    let logs = logs_of(&mut folder, rt, alloc, splits);
+    drop(folder);
+    logs
+}
+
+// The same in a folder that is locked.
+fn logs_of<R: Files<File = File> + RandomSource>(
+    folder: &mut StoreFolder<'_, R>,
+    rt: &R,
+    alloc: Global,
+    splits: &Splits,
+) -> Result<Vec<FileDisk>, Fault>
+    ensures all { IfOk result (λ logs. length logs.items ≡ length splits.now + 1) }
+    ensures synced { OnOk result (IsTrue (names_are_synced folder.new)) }
+    ensures refused { IfErr result IsFolderFault }
+{
+    if !is_known(folder, alloc, splits)? {
+        begin(folder, alloc, splits, drawn(rt)?)?;
+    }
+    name_all(folder, alloc, splits)?;
+    let logs = open_all(folder, alloc, splits)?;
+    folder.sync()?;
+    Ok(logs)
+}
+
+// Whether there is a manifest, which is then that of a store with these splits.
+fn is_known<R: Files<File = File>>(
+    folder: &StoreFolder<'_, R>,
+    alloc: Global,
+    splits: &Splits,
+) -> Result<bool, Fault>
+    ensures { IfErr result IsFolderFault }
+{
+    if let Kind::Nothing = folder.kind(MANIFEST)? {
+        return Ok(false);
+    }
+    let text = folder.read(MANIFEST, MOST_MANIFEST)?;
+    if is_manifest_of(alloc, &text, splits)? {
+        Ok(true)
+    } else {
+        Err(Fault::BadRequest(Reason::Settings))
+    }
+}
+
+// Some number for the name of a new store.
+fn drawn<R: RandomSource>(rt: &R) -> Result<u64, Fault>
+    ensures { IfErr result (λ fault. fault ≡ Device) }
+{
+    let mut bytes = [0; 8];
+    match rt.fill_bytes(&mut bytes) {
+        Ok(()) => Ok(u64::from_be_bytes(bytes)),
+        Err(_) => Err(Fault::Device),
+    }
+}
+
+// Gives each draft whose log is missing the name of the log. Before any is named each log is there, or its draft is.
+fn name_all<R: Files<File = File>>(
+    folder: &mut StoreFolder<'_, R>,
+    alloc: Global,
+    splits: &Splits,
+) -> Result<(), Fault>
+    ensures { IfErr result IsFolderFault }
+{
+    let missing = missing_logs(folder, alloc, splits)?;
+    for shard in &missing {
+        folder.sync()?;
+        folder.name(&draft_of(alloc, *shard)?, &log_of(alloc, *shard)?)?;
+    }
+    Ok(())
+}
+
+// The shards whose logs are missing, each with a draft.
+fn missing_logs<R: Files<File = File>>(
+    folder: &StoreFolder<'_, R>,
+    alloc: Global,
+    splits: &Splits,
+) -> Result<Vec<usize>, Fault>
+    ensures { IfErr result IsFolderFault }
+{
+    let mut missing = Vec::new(alloc);
+    for shard in 0..splits.as_slice().len() + 1 {
+        if let Kind::Nothing = folder.kind(&log_of(alloc, shard)?)? {
+            let Kind::Plain = folder.kind(&draft_of(alloc, shard)?)? else {
+                return Err(Fault::Device);
+            };
+            missing.push(shard)?;
+        }
+    }
+    Ok(missing)
+}
+
+// Opens each log, which is that of its shard.
+fn open_all<R: Files<File = File>>(
+    folder: &StoreFolder<'_, R>,
+    alloc: Global,
+    splits: &Splits,
+) -> Result<Vec<FileDisk>, Fault>
+    ensures all { IfOk result (λ logs. length logs.items ≡ length splits.now + 1) }
+    ensures refused { IfErr result IsFolderFault }
+{
+    let shards = splits.as_slice().len() + 1;
     let mut logs = Vec::new(alloc);
     for shard in 0..shards {
-        let path = format!(in alloc; "{folder}/shard-{shard}.log")?;
-        logs.push(log_at(rt, alloc, folder, &path)?)?;
+        logs.push(opened(folder, alloc, splits, shard)?)?;
     }
     Ok(logs)
+}
+
+// Opens the log of a shard.
+fn opened<R: Files<File = File>>(
+    folder: &StoreFolder<'_, R>,
+    alloc: Global,
+    splits: &Splits,
+    shard: usize,
+) -> Result<FileDisk, Fault>
+    ensures { IfErr result IsFolderFault }
+{
+    let mut log = folder.open(&log_of(alloc, shard)?)?;
+    let setup = setup_of(alloc, splits, shard)?;
+    let fits = first_fits(alloc, &mut log, &setup);
+    drop(setup);
+    match fits {
+        Ok(()) => Ok(log),
+        Err(fault) => {
+            drop(log);
+            Err(fault)
+        }
+    }
 }
 
 /// New logs of so many shards, on disks in memory.
@@ -58,69 +193,4 @@ pub fn logs_in_memory(alloc: Global, shards: usize) -> Result<Vec<SimDisk>, Faul
         }
     }
     Ok(logs)
-}
-
-// The log in a file, which is made where it is missing.
-fn log_at<R: Files<File = File>>(
-    rt: &R,
-    alloc: Global,
-    folder: &str,
-    path: &str,
-) -> Result<FileDisk, Fault>
-    ensures { IfErr result (λ fault. (fault ≡ Memory) ⊎ (fault ≡ Device)) }
-{
-    if or_device(Path::new(path).try_exists(rt))? {
-        return FileDisk::open(rt, path);
-    }
-    let draft = format!(in alloc; "{path}.new")?;
-    let log = formatted(rt, &draft)?;
-    let named = name(rt, folder, &draft, path);
-    drop(draft);
-    match named {
-        Ok(()) => Ok(log),
-        Err(fault) => {
-            drop(log);
-            Err(fault)
-        }
-    }
-}
-
-// A new log under a name that it does not keep, so that a file is a whole log once it has its own. What a drive left there that
-// was cut off is written over; its lock shuts out whoever else makes this log.
-fn formatted<R: Files<File = File>>(rt: &R, draft: &str) -> Result<FileDisk, Fault>
-    ensures { IfErr result (λ fault. (fault ≡ Memory) ⊎ (fault ≡ Device)) }
-{
-    let file = if or_device(Path::new(draft).try_exists(rt))? {
-        FileDisk::open(rt, draft)?
-    } else {
-        FileDisk::create(rt, draft)?
-    };
-    match GateLog::format(file) {
-        Ok(log) => Ok(log.into_disk()),
-        Err((fault, file)) => {
-            drop(file);
-            Err(fault)
-        }
-    }
-}
-
-// Gives the draft its own name, which nothing has, and waits until the folder tells it on the device.
-fn name<R: Files<File = File>>(rt: &R, folder: &str, draft: &str, path: &str) -> Result<(), Fault>
-    ensures { IfErr result (λ fault. fault ≡ Device) }
-{
-    if or_device(Path::new(path).try_exists(rt))? {
-        return Err(Fault::Device);
-    }
-    or_device(fs::rename(rt, draft, path))?;
-    let names = or_device(File::open(rt, folder))?;
-    or_device(names.sync_all())
-}
-
-fn or_device<T: Drop>(answer: io::Result<T>) -> Result<T, Fault>
-    ensures { IfErr result (λ fault. fault ≡ Device) }
-{
-    match answer {
-        Ok(value) => Ok(value),
-        Err(_) => Err(Fault::Device),
-    }
 }

@@ -1,7 +1,7 @@
 -- The logs of shards 0, 1 and so on, by what a read of their files gives, and the verdict on them.
-use Rattle.std.specs.Prelude.{◌<◌, ℕ, Bool, true, false, List, [], ◌∷◌, ◌++◌, length, Result, Ok, Err, if◌then◌else◌, nat_lt, Contains}
+use Rattle.std.specs.Prelude.{◌≡◌, ◌⊎◌, ◌<◌, IsTrue, ℕ, Bool, true, false, List, [], ◌∷◌, ◌++◌, length, Result, Ok, Err, if◌then◌else◌, nat_lt, Contains}
 use Rattle.units.specs.declared.fault.Fault.{Fault}
-use Rattle.units.specs.declared.fault.Fault.TheVariants.{BadRequest, Damaged, NotALog}
+use Rattle.units.specs.declared.fault.Fault.TheVariants.{BadRequest, Damaged, Device, NotALog}
 use Rattle.units.specs.declared.fault.Reason.TheVariants as reason
 use Rattle.units.specs.declared.line.Line.{Line}
 use Rattle.units.specs.declared.line.Verdict.{Verdict}
@@ -11,6 +11,7 @@ use Rattle.record.specs.declared.record.Record.{Record}
 use Rattle.gatelog.specs.Log.{log}
 use Rattle.gatelog.specs.Placed.{Placed}
 use Rattle.texts.specs.Numbers.{and_then}
+use Rattle.texts.specs.Refusals.{IsNoText}
 
 -- some records of a shard with those of some entries behind them, where each follows those before it by the rules of one id
 -- and of openings; else the log is damaged at the first that does not
@@ -49,3 +50,7 @@ pub record HasFailed {D : Type 0} (failures : D → ℕ) (disks : List D) : Type
   pub among : Contains disks disk
   pub back : D
   pub rises : failures disk < failures back
+
+-- why files are not judged: the lines are not read, a device failed, or it is for what the files hold, or for their number
+abbrev pub IsNotJudged : Fault → Type 0
+IsNotJudged fault = IsNoText fault ⊎ ((fault ≡ Device) ⊎ IsTrue (is_refusal fault))

@@ -1,20 +1,29 @@
 //! The verdict on files.
+ghost use Rattle.std.specs.Prelude.{IfErr};
+ghost use Rattle.inspection.specs.Files.{IsNotJudged};
+
 use crate::judging::inspect_disks;
+use crate::noting::note_refusals;
 use std::alloc::Global;
 use system::{Files, open_all, read_text};
 use texts::lines;
 use units::{Fault, Reason, Verdict};
 
 /// The verdict on the logs in the files of shards 0, 1 and so on, 16 at most, and on the lines of a report in another file. That
-/// one is read first, and all logs are opened before the first is read. Bytes that are no text are a fault of line 1.
+/// one is read first, and all logs are opened before the first is read. Bytes that are no text are a fault of line 1. Logs are opened to be
+/// read alone. Of each log that an opening would refuse though it is judged, who wants that told is told.
 pub fn inspect_files<F: Files>(
     alloc: Global,
     files: &F,
     lines_file: &str,
     logs: &[&str],
-) -> Result<Verdict, Fault> {
+) -> Result<Verdict, Fault>
+    ensures { IfErr result IsNotJudged }
+{
     let text = read_text(alloc, files, lines_file, Reason::Syntax(1))?;
     let told = lines(alloc, &text)?;
     let disks = open_all(alloc, files, logs)?;
-    inspect_disks(alloc, disks, &told)
+    let verdict = inspect_disks(alloc, disks, &told)?;
+    note_refusals(alloc, files, logs);
+    Ok(verdict)
 }

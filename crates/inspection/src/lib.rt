@@ -5,6 +5,7 @@ mod following;
 mod inspecting;
 mod judged;
 mod judging;
+mod noting;
 
 pub use inspecting::inspect_files;
 pub use judged::judge;

@@ -168,7 +168,7 @@ abbrev pub OneValue : List Install → Type 0
 OneValue is = (i j : Install) → IsAmong is i → IsAmong is j → i.key ≡ j.key → i.at ≡ j.at → i.value ≡ j.value
 
 -- what one more record installs
-abbrev installs_by : List Record → Record → List Install
+abbrev pub installs_by : List Record → Record → List Install
 installs_by log (Outcome t o) = installs_at (recorded (facts_of log) t) o
 installs_by log (Record.Opened epoch) = []
 installs_by log (Record.Ceiling s) = []
@@ -176,7 +176,7 @@ installs_by log (Record.Prepare p) = []
 installs_by log (Record.Commit c) = []
 installs_by log (Record.Abort u) = []
 
-installs_more : (shard : ℕ) (log : List Record) (r : Record) → followed shard (log ++ r ∷ []) ≡ true →
+pub installs_more : (shard : ℕ) (log : List Record) (r : Record) → followed shard (log ++ r ∷ []) ≡ true →
     installs_of (log ++ r ∷ []) ≡ installs_of log ++ installs_by log r
 unfolding facts_of learn
 installs_more shard log r h = ap (λ (f : Facts). f.installs) (learn_agrees shard log r h) ∙ by_kind r
@@ -190,17 +190,17 @@ installs_more shard log r h = ap (λ (f : Facts). f.installs) (learn_agrees shar
     by_kind (Outcome t o) = refl
 
 -- a new version is of the writes of its id
-record IsNew (log : List Record) (r : Record) (i : Install) : Type 0 where
-  txn : Id
-  stamp : ℕ
-  is : r ≡ Outcome txn (Some stamp)
-  write : Write
-  among : IsAmong (writes_by (committed_of log txn) (prepared_of log txn)) write
-  key : i.key ≡ write.key
-  at : i.at ≡ stamp
-  value : i.value ≡ write.value
+pub record IsNew (log : List Record) (r : Record) (i : Install) : Type 0 where
+  pub txn : Id
+  pub stamp : ℕ
+  pub is : r ≡ Outcome txn (Some stamp)
+  pub write : Write
+  pub among : IsAmong (writes_by (committed_of log txn) (prepared_of log txn)) write
+  pub key : i.key ≡ write.key
+  pub at : i.at ≡ stamp
+  pub value : i.value ≡ write.value
 
-new_from : (log : List Record) (r : Record) (i : Install) → IsAmong (installs_by log r) i → IsNew log r i
+pub new_from : (log : List Record) (r : Record) (i : Install) → IsAmong (installs_by log r) i → IsNew log r i
 unfolding status_of
 new_from log (Opened epoch) i h = absurd h
 new_from log (Ceiling at) i h = absurd h

@@ -34,6 +34,7 @@ use Rattle.session.specs.Sessions.{Client, IsClosing, Moved, Denies, Goes, unles
 use Rattle.session.specs.Sessions.{with_write, was_taken, was_answered, asked_keys, is_doomed, is_none, closing_messages, begun}
 use Rattle.law.specs.Acknowledged.{committed_to}
 use Rattle.law.specs.Among.{IsAmong}
+use Rattle.law.specs.Passes.{ShowsView, view_in}
 use Rattle.world.specs.Lawful.{may_act}
 use Rattle.world.specs.World.{World, ShardNow, View, State, Runs, IsStopped, IsDown, Unsure, shown_records, read_log, view_of, setup_of, finished}
 use Rattle.world.specs.World.{new_view, makes_view, crashed, failed_in, set_shard, set_client, put_out, acks_of, ack_of, commit_told, moved, answered}
@@ -50,16 +51,6 @@ use Rattle.law.proofs.Acts.{Step, Reads, Buffers, Closes, GivesUp, Finishes, act
 use Rattle.law.proofs.Kept.{IsPresent}
 
 -- ---- what a shard shows
-
--- the view of a shard that can be looked at
-abbrev pub view_in : State → List Record → Option View
-view_in (Runs m) log = Some (view_of (facts_of log) m)
-view_in (IsStopped m) log = Some (view_of (facts_of log) m)
-view_in IsDown log = None
-
--- one of its views, or what it shows now
-abbrev pub ShowsView : ShardNow → View → Type 0
-ShowsView s v = IsAmong s.views v ⊎ (view_in s.state s.log ≡ Some v)
 
 -- what it shows while it runs
 pub record RunsWith (s : ShardNow) (v : View) : Type 0 where

@@ -73,7 +73,7 @@ module _ (n : ℕ) (v : View) where
     pub accepted : taken setup log ≡ Accepted
     pub shown : setup.shard ≡ n → IsShown log v
 
-  rises : (setup : Setup) (f : Facts) (m : Memory) (now : Interval) (i : Input) (p : Plan) →
+  pub rises : (setup : Setup) (f : Facts) (m : Memory) (now : Interval) (i : Input) (p : Plan) →
       plan_input setup (start_of_step most_rows setup f m) now i ≡ Ok p → v.safe ≤ m.last → (v.safe ≤ p.last) × LoggedAbove v.safe p.logged
   unfolding Rises
   rises setup f m now i p e low = subst (λ q. Rises v.safe q) e (rising v.safe (start_of_step most_rows setup f m) low setup now i)
@@ -129,7 +129,7 @@ least_below n [] m h = absurd h
 least_below n (x ∷ ms) m (inl same) = omega (arith, same)
 least_below n (x ∷ ms) m (inr later) = let ih = least_below n ms m later in omega (arith, ih)
 
-safe_low : (m : Memory) → safe m ≤ m.last
+pub safe_low : (m : Memory) → safe m ≤ m.last
 unfolding safe
 safe_low m = least_low m.last (map (λ s. s - 1) (gather (λ (r : Row). held_stamp r.phase) m.rows))
 

@@ -23,8 +23,10 @@ pub mod LookedAt
 pub mod LooksHold
 pub mod Members
 pub mod Moves
+pub mod OfLogs
 pub mod OfSessions
 pub mod Orderly
+pub mod Passing
 pub mod Picked
 pub mod Quiet
 pub mod ReadBefore
@@ -36,6 +38,7 @@ pub mod Rising
 pub mod Said
 pub mod Says
 pub mod Serial
+pub mod ServedHold
 pub mod Sessions
 pub mod Shards
 pub mod SortedParts
@@ -44,4 +47,5 @@ pub mod Stamps
 pub mod Standing
 pub mod Steps
 pub mod Table
+pub mod Undisturbed
 pub mod WholeLaw

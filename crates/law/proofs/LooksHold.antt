@@ -24,6 +24,7 @@ use Rattle.law.specs.Evidence.{Scene, Holds, IsOfClosing}
 use Rattle.world.specs.Headline.{AllAccepted, MayBeLeft}
 use Rattle.world.specs.Lawful.{lawful, lawful_from, may_happen, may_act}
 use Rattle.law.specs.Left.{AreLeft}
+use Rattle.law.specs.Passes.{ShowsView}
 use Rattle.world.specs.World.{World, ShardNow, View, setup_of, view_of, fresh_log, fresh_shard, start, run, run_from, happens}
 use Rattle.world.specs.declared.event.Config.{Config}
 use Rattle.world.specs.declared.event.Event.{Event}
@@ -36,7 +37,7 @@ use Rattle.law.proofs.Orderly.{orderly}
 use Rattle.law.proofs.Recorded.{among_first, among_keep}
 use Rattle.world.proofs.Sounds.{ActAllowed, acts_sound}
 use Rattle.law.proofs.Accepts.{AllWriteOnce, WritesOnce, member_taken, one_value}
-use Rattle.law.proofs.Changed.{AcksAreLines, AllOnce, Changes, HasShard, Offers, RunsWith, ShowsView, acts_change}
+use Rattle.law.proofs.Changed.{AcksAreLines, AllOnce, Changes, HasShard, Offers, RunsWith, acts_change}
 use Rattle.law.proofs.Kept.{IsPresent, IsShown, KeptView, Serves, Shows, present_is_kept, quiet_lower, serves_keeps, serves_opens, shows_follows}
 use Rattle.law.proofs.Kept.{shows_logs, shows_opens}
 use Rattle.law.proofs.LookedAt.{shows_serially}
@@ -74,7 +75,7 @@ unfolding happens
 well_on w e limit well = acts_sound InLimit IsWell IsTaken keeps opens accepted_follows logs opening_taken w well e.act limit
 
 -- the clock changes none of it
-changes : (w : World) (e : Event) → WellWorld w → may_happen w e ≡ true → Changes w (happens w e).0
+pub changes : (w : World) (e : Event) → WellWorld w → may_happen w e ≡ true → Changes w (happens w e).0
 unfolding happens
 changes w e well may =
     let c = acts_change w well e.time e.act (and_parts (nat_le w.time e.time) (may_act w e.time e.act) may).1 in
@@ -163,7 +164,7 @@ fresh_runs v (inr e) = record {
       (view_of (facts_of fresh_log) (rebuilt (facts_of fresh_log))) v e;
 }
 
-start_present : (config : Config) (n : ℕ) (v : View) → Offers (start config) n v → IsPresent (start config) n v
+pub start_present : (config : Config) (n : ℕ) (v : View) → Offers (start config) n v → IsPresent (start config) n v
 unfolding start
 start_present config n v o =
     let same : fresh_shard ≡ o.shard = replicated (suc (length config.splits)) n o.shard o.there in

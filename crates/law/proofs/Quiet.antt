@@ -66,7 +66,7 @@ quiet_stays log r at q above = record {
 
 -- ---- an outcome that follows is above the time
 
-not_ended : (log : List Record) (t : Id) → HasEnd log t → not (when (λ e. true) (ended_of log t)) ≡ true → ⊥
+pub not_ended : (log : List Record) (t : Id) → HasEnd log t → not (when (λ e. true) (ended_of log t)) ≡ true → ⊥
 not_ended log t e h = both_ways (when (λ x. true) (ended_of log t)) h
     (there_first (λ (x : Ended). same_id x.txn t) (gather as_ended log)
     ∙ any_of (λ (x : Ended). same_id x.txn t) (gather as_ended log) (record { txn = t; outcome = e.outcome })
@@ -76,7 +76,7 @@ not_ended log t e h = both_ways (when (λ x. true) (ended_of log t)) h
     both_ways true k l = cc
     both_ways false k l = cc
 
-outcome_above : (log : List Record) (at : ℕ) (t : Id) (s : ℕ) → IsQuiet log at → not (when (λ e. true) (ended_of log t)) ≡ true →
+pub outcome_above : (log : List Record) (at : ℕ) (t : Id) (s : ℕ) → IsQuiet log at → not (when (λ e. true) (ended_of log t)) ≡ true →
     (p : Option Prepared) → prepared_of log t ≡ p → (c : Option Committed) → committed_of log t ≡ c → outcome_fits p c (Some s) ≡ true → at < s
 outcome_above log at t s q fresh p hp c hc fits = elim (cases_lt at s) [
   | inl above ↦ above

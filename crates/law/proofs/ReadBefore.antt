@@ -81,7 +81,7 @@ IsStamped log = (front : List Record) (r : Record) (back : List Record) (t : Id)
 -- ---- one place and another
 
 -- a member stands at the place of another, before it or behind it
-data Order (front : List Record) (r : Record) (f : List Record) (q : Record) : Type 0 where
+pub data Order (front : List Record) (r : Record) (f : List Record) (q : Record) : Type 0 where
   IsSame : r ≡ q → front ≡ f → Order front r f q
   IsEarlier : (mid : List Record) → front ≡ f ++ q ∷ mid → Order front r f q
   IsLater : (mid : List Record) → f ≡ front ++ r ∷ mid → Order front r f q
@@ -89,7 +89,7 @@ data Order (front : List Record) (r : Record) (f : List Record) (q : Record) : T
 first_same : (x y : Record) (xs ys : List Record) → ◌≡◌ {A = List Record} (x ∷ xs) (y ∷ ys) → (x ≡ y) × (xs ≡ ys)
 first_same x y xs ys e = (cc, cc)
 
-order : (front : List Record) (r : Record) (back f : List Record) (q : Record) (b : List Record) → front ++ r ∷ back ≡ f ++ q ∷ b → Order front r f q
+pub order : (front : List Record) (r : Record) (back f : List Record) (q : Record) (b : List Record) → front ++ r ∷ back ≡ f ++ q ∷ b → Order front r f q
 order [] r back [] q b e = IsSame (first_same r q back b e).0 refl
 order [] r back (x ∷ f) q b e = IsLater f (ap (λ z. z ∷ f) (sym (first_same r x back (f ++ q ∷ b) e).0))
 order (x ∷ front) r back [] q b e = IsEarlier front (ap (λ z. z ∷ front) (first_same x q (front ++ r ∷ back) b e).0)
@@ -209,7 +209,7 @@ stands_there log o (Abort x) t at ks ws h c none = absurd c
 stands_there log o (Outcome x y) t at ks ws h c none = absurd c
 
 -- the end of a promise or a decision is at its outcome's timestamp
-stamp_of_end : (log : List Record) → IsOrderly log → (r : Record) (t : Id) (at : ℕ) (ks : List Bytes) (ws : List Write) (s : ℕ) → IsAmong log r →
+pub stamp_of_end : (log : List Record) → IsOrderly log → (r : Record) (t : Id) (at : ℕ) (ks : List Bytes) (ws : List Write) (s : ℕ) → IsAmong log r →
     Claims r t at ks ws → (x : EndIs log t) → x.ended.outcome ≡ Some s →
     ((c : Committed) → r ≡ Commit c → c.at ≡ s) → end_stamp (status_of log t) ≡ Some s
 unfolding status_of
@@ -329,7 +329,7 @@ claim_of_wrote (Ceiling x) v w h = absurd h
 claim_of_wrote (Abort x) v w h = absurd h
 claim_of_wrote (Outcome x y) v w h = absurd h
 
-same_claim_id : (q : Record) (t u : Id) (at bt : ℕ) (ks js : List Bytes) (ws vs : List Write) → Claims q t at ks ws → Claims q u bt js vs → t ≡ u
+pub same_claim_id : (q : Record) (t u : Id) (at bt : ℕ) (ks js : List Bytes) (ws vs : List Write) → Claims q t at ks ws → Claims q u bt js vs → t ≡ u
 same_claim_id (Prepare p) t u at bt ks js ws vs a b = sym a.0 ∙ b.0
 same_claim_id (Commit c) t u at bt ks js ws vs a b = sym a.0 ∙ b.0
 same_claim_id (Opened x) t u at bt ks js ws vs a b = absurd a

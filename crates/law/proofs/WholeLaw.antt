@@ -103,11 +103,11 @@ look_line w (Act.CrashIn n call fate named doing) k at x e shows = cc
 look_line w (Act.FailIn n call named doing) k at x e shows = cc
 
 -- more events go on from the world of the first
-run_on : (w : World) (es more : List Event) → run_from w (es ++ more) ≡ run_from (run_from w es) more
+pub run_on : (w : World) (es more : List Event) → run_from w (es ++ more) ≡ run_from (run_from w es) more
 run_on w [] more = refl
 run_on w (x ∷ xs) more = run_on ((happens w x).0) xs more
 
-lawful_on : (w : World) (es more : List Event) → lawful_from w (es ++ more) ≡ true → lawful_from (run_from w es) more ≡ true
+pub lawful_on : (w : World) (es more : List Event) → lawful_from w (es ++ more) ≡ true → lawful_from (run_from w es) more ≡ true
 lawful_on w [] more h = h
 lawful_on w (x ∷ xs) more h = lawful_on ((happens w x).0) xs more (and_parts (may_happen w x) (lawful_from ((happens w x).0) (xs ++ more)) h).1
 

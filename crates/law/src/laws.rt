@@ -1,9 +1,11 @@
 //! The laws of whole runs.
 ghost use Rattle.law.specs.Acknowledged.{CommitsAreLines};
 ghost use Rattle.law.specs.InOrder.{BeforeIsInFront, IdsStandOnce};
+ghost use Rattle.law.specs.Passes.{AllAreWhole, HeldReadsAreLatest, OutcomesHavePassed, PutOutIsLogged, ServedIsBelow, ShardsAreOfTheirLogs};
 ghost use Rattle.law.specs.TimeLaws.{InstalledInThePast, LooksShowAcknowledged};
 ghost use Rattle.law.specs.Written.{WrittenBySessions};
 ghost use Rattle.world.specs.Headline.{ExternalConsistency};
+ghost use Rattle.world.specs.Steady.{AlwaysSteady};
 
 /// The law of the store, of every list of events and at every moment: the contract of a function that does nothing.
 ///
@@ -31,4 +33,40 @@ pub fn ids_stand_once()
 /// The map before a transaction is what those in front of it in the serial order leave.
 pub fn before_is_in_front()
     ensures { BeforeIsInFront }
+{}
+
+/// The records of a shard's log follow one another, whatever a crash leaves of them; and what a running shard keeps in memory (its rows
+/// with their locks, its versions, the status of each id) is what its log says.
+pub fn shards_are_of_their_logs()
+    ensures records { AlwaysSteady }
+    ensures rows { ShardsAreOfTheirLogs }
+{}
+
+/// Each vote, each outcome and each done that was ever put out has its record in a log: the promise; the abort; or the decision with its
+/// outcome, whose timestamp has passed.
+pub fn what_was_put_out_is_logged()
+    ensures { PutOutIsLogged }
+{}
+
+/// Whatever a crash leaves, each transaction is whole over all logs.
+pub fn all_are_whole()
+    ensures { AllAreWhole }
+{}
+
+/// A value that a session took stays its key's latest while its reader holds the key, until the reader is logged above it; and from
+/// there no other version of the key is made before the reader's outcome, nor one below its timestamp.
+pub fn held_reads_are_latest()
+    ensures { HeldReadsAreLatest }
+{}
+
+/// What a shard served, now or through a view, is at most the floor of its log, whatever a crash leaves; and all that it promises,
+/// decides or installs later is above it.
+pub fn served_is_below()
+    ensures { ServedIsBelow }
+{}
+
+/// An outcome that commits is logged, and its versions are installed, only once its timestamp has passed.
+pub fn outcomes_have_passed()
+    ensures logged { OutcomesHavePassed }
+    ensures installed { InstalledInThePast }
 {}

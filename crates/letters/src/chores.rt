@@ -1,5 +1,6 @@
 //! What a node does besides its letters.
 use crate::acts::act;
+use crate::bell::left;
 use crate::letter::Post;
 use crate::serves::{Due, Serves};
 use message::Input;
@@ -9,12 +10,13 @@ use std::time::{Duration, Instant};
 use truetime::{Clock, Reading};
 use units::{MOST_ROWS, Stamp};
 
-// How many milliseconds a node goes without chores at most, and at least before it serves up to its clock's latest again.
-const BETWEEN_CHORES: u64 = 1;
+// A millisecond: so long a node goes without chores at most, waits behind its last letter before it advances, and lets pass between two
+// advances where nothing else happens.
+fn moment() -> Duration {
+    Duration::from_millis(1)
+}
 
-const BETWEEN_ADVANCES: u64 = 1;
-
-// An advance may log, and wait for a device. Behind each a node lets so many times as long pass as it took.
+// An advance may log, and wait for a device. Under letters that go on, so many times as long pass behind each as it took.
 const SHARE_OF_ADVANCES: u32 = 10;
 
 // How many milliseconds it waits for the outcome of what is prepared before it asks, and at most before it asks again.
@@ -22,24 +24,28 @@ const FIRST_ASK: u64 = 20;
 
 const LAST_ASK: u64 = 640;
 
-/// When a node did its chores last, advanced last, and asked last for what is prepared, and how many milliseconds it waits before
-/// it asks again.
+/// When a node did its chores last, and took a letter or settled; when it advanced last, how long that took, and how many versions it
+/// showed then; and when it asked last for what is prepared, and how many milliseconds it waits before it asks again.
 #[derive(Clone, Copy)]
 pub struct Chores {
     done: Option<Instant>,
+    busy: Option<Instant>,
     advanced: Option<Instant>,
-    rest: Duration,
+    took: Duration,
+    shown: usize,
     asked: Option<Instant>,
     patience: u64,
 }
 
 impl Chores {
-    /// Nothing was done yet.
-    pub fn new() -> Chores {
+    /// Nothing was done yet, and what the node has is shown.
+    pub fn new<N: Serves, W: Wait>(node: &N, rt: &W) -> Chores {
         Chores {
             done: None,
+            busy: None,
             advanced: None,
-            rest: Duration::ZERO,
+            took: Duration::ZERO,
+            shown: node.versions(rt),
             asked: None,
             patience: FIRST_ASK,
         }
@@ -47,12 +53,16 @@ impl Chores {
 
     /// Whether none was done for a millisecond.
     pub fn are_late<W: time::Clock>(&self, rt: &W) -> bool {
-        is_over(rt, self.done, Duration::from_millis(BETWEEN_CHORES))
+        left(rt, self.done, moment()) == Duration::ZERO
+    }
+
+    /// A letter was taken.
+    pub fn took_letter<W: time::Clock>(&mut self, rt: &W) {
+        self.busy = Instant::now(rt).ok();
     }
 
     /// Does what is due: waits go on, what is decided is settled once its timestamp has passed, what was prepared long ago is asked
-    /// for, and the node serves up to its reading's latest, once a millisecond at most. It says how long nothing more is due, where no
-    /// letter comes.
+    /// for, and the node advances where that is wanted. It says how long nothing more is due, where no letter comes.
     pub fn tend<N: Serves, W: Wait + time::Clock, P: Post, C: Clock>(
         &mut self,
         node: &N,
@@ -61,54 +71,85 @@ impl Chores {
         clock: &mut C,
     ) -> Duration {
         self.done = Instant::now(rt).ok();
-        let settles = go_on(node, rt, post, clock);
-        if is_over(rt, self.asked, Duration::from_millis(self.patience)) {
-            self.asked = Instant::now(rt).ok();
-            self.patience = if ask(node, rt, post, clock) {
-                self.patience.saturating_mul(2).min(LAST_ASK)
-            } else {
-                FIRST_ASK
-            };
+        let (settled, next) = go_on(node, rt, post, clock);
+        if settled {
+            self.busy = Instant::now(rt).ok();
         }
-        if is_over(rt, self.advanced, self.rest) {
-            self.advance(node, rt, clock);
+        self.ask_in_turn(node, rt, post, clock);
+        let ask = left(rt, self.asked, Duration::from_millis(self.patience));
+        let pause = sooner(next, ask);
+        match self.until_advance(node, rt, post) {
+            None => pause,
+            Some(wait) if wait > Duration::ZERO => sooner(Some(wait), pause),
+            Some(_) => {
+                self.advance(node, rt, post, clock);
+                // What it waits for may have come meanwhile.
+                Duration::ZERO
+            }
         }
-        sooner(settles, left(rt, self.advanced, self.rest))
     }
 
-    // Serves up to the latest of a reading. The rest behind it is a millisecond at least.
-    fn advance<N: Serves, W: Wait + time::Clock, C: Clock>(
+    // How long it is until the node advances: where somebody looked in vain, or it has versions that it did not show.
+    fn until_advance<N: Serves, W: Wait + time::Clock, P: Post>(
+        &self,
+        node: &N,
+        rt: &W,
+        post: &P,
+    ) -> Option<Duration> {
+        let share = self.took.saturating_mul(SHARE_OF_ADVANCES);
+        let rest = if post.is_looked_for(node.shard()) {
+            share
+        } else if node.versions(rt) != self.shown {
+            later(share, moment())
+        } else {
+            return None;
+        };
+        let quiet = later(
+            left(rt, self.busy, moment()),
+            left(rt, self.advanced, moment()),
+        );
+        Some(sooner(Some(quiet), left(rt, self.advanced, rest)))
+    }
+
+    // Serves up to the latest of a reading, and tells who looks.
+    fn advance<N: Serves, W: Wait + time::Clock, P: Post, C: Clock>(
         &mut self,
         node: &N,
         rt: &W,
+        post: &mut P,
         clock: &mut C,
     ) {
         let start = Instant::now(rt).ok();
-        node.keep_up(rt, clock);
+        let versions = node.versions(rt);
+        post.silence(node.shard());
+        if let Some(served) = node.keep_up(rt, clock) {
+            self.shown = versions;
+            post.tell(node.shard(), served);
+        }
         self.advanced = Instant::now(rt).ok();
-        let took = match (start, self.advanced) {
+        self.took = match (start, self.advanced) {
             (Some(start), Some(end)) => end.duration_since(start),
             _ => Duration::ZERO,
         };
-        let least = Duration::from_millis(BETWEEN_ADVANCES);
-        let rest = took.saturating_mul(SHARE_OF_ADVANCES);
-        self.rest = if rest < least { least } else { rest };
     }
-}
 
-// Whether so long has passed since then. It has, where the clock can't be read.
-fn is_over<W: time::Clock>(rt: &W, since: Option<Instant>, pause: Duration) -> bool {
-    left(rt, since, pause) == Duration::ZERO
-}
-
-// How much of a pause is left.
-fn left<W: time::Clock>(rt: &W, since: Option<Instant>, pause: Duration) -> Duration {
-    let Some(since) = since else {
-        return Duration::ZERO;
-    };
-    match since.elapsed(rt) {
-        Ok(elapsed) => pause.saturating_sub(elapsed),
-        Err(_) => Duration::ZERO,
+    // Asks for what was prepared long ago, each time that it finds any twice as long behind the last.
+    fn ask_in_turn<N: Serves, W: Wait + time::Clock, P: Post, C: Clock>(
+        &mut self,
+        node: &N,
+        rt: &W,
+        post: &mut P,
+        clock: &mut C,
+    ) {
+        if left(rt, self.asked, Duration::from_millis(self.patience)) > Duration::ZERO {
+            return;
+        }
+        self.asked = Instant::now(rt).ok();
+        self.patience = if ask(node, rt, post, clock) {
+            self.patience.saturating_mul(2).min(LAST_ASK)
+        } else {
+            FIRST_ASK
+        };
     }
 }
 
@@ -120,22 +161,29 @@ fn sooner(one: Option<Duration>, other: Duration) -> Duration {
     }
 }
 
-// Waits that can be granted go on, and what has passed is settled, until there is no more of either. It says when the next of what is
-// decided will have passed.
+// The longer one.
+fn later(one: Duration, other: Duration) -> Duration {
+    if one < other { other } else { one }
+}
+
+// Waits that can be granted go on, and what has passed is settled, until there is no more of either. It says whether anything was settled,
+// and when the next of what is decided will have passed.
 fn go_on<N: Serves, W: Wait, P: Post, C: Clock>(
     node: &N,
     rt: &W,
     post: &mut P,
     clock: &mut C,
-) -> Option<Duration> {
+) -> (bool, Option<Duration>) {
+    let mut any = false;
     for _round in 0..MOST_ROWS {
         resume(node, rt, post, clock);
         let (settled, next) = settle(node, rt, post, clock);
         if !settled {
-            return next;
+            return (any, next);
         }
+        any = true;
     }
-    None
+    (any, Some(Duration::ZERO))
 }
 
 // Each wait goes on that can be granted.
@@ -147,32 +195,31 @@ fn resume<N: Serves, W: Wait, P: Post, C: Clock>(node: &N, rt: &W, post: &mut P,
     }
 }
 
-// Settles what is decided and has passed. It says whether there was any, and when the next will have passed.
+// Settles what is decided and has passed, the earliest first. It says whether there was any, and when the next will have passed, or
+// be tried again.
 fn settle<N: Serves, W: Wait, P: Post, C: Clock>(
     node: &N,
     rt: &W,
     post: &mut P,
     clock: &mut C,
 ) -> (bool, Option<Duration>) {
-    let Some(now) = clock.now() else {
-        return (false, None);
-    };
     let mut settled = false;
-    let mut next = None;
-    let mut stay: usize = 0;
     for _row in 0..MOST_ROWS {
-        let Some((txn, at)) = node.due(rt, Due::Decided, stay) else {
-            break;
+        let Some((txn, at)) = node.earliest_decided(rt) else {
+            return (settled, None);
+        };
+        let Some(now) = clock.now() else {
+            return (settled, Some(moment()));
         };
         if !now.after(at) {
-            next = Some(sooner(next, until_after(&now, at)));
-        } else if act(node, rt, post, clock, Input::Settle(txn)) {
-            settled = true;
-            continue;
+            return (settled, Some(until_after(&now, at)));
         }
-        stay = stay.saturating_add(1);
+        if !act(node, rt, post, clock, Input::Settle(txn)) {
+            return (settled, Some(moment()));
+        }
+        settled = true;
     }
-    (settled, next)
+    (settled, Some(Duration::ZERO))
 }
 
 // How long it takes until a timestamp has surely passed.

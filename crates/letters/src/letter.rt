@@ -1,14 +1,28 @@
 //! What comes to a node, and where goes what it puts out.
 use message::{Envelope, Message};
+use units::{ShardNo, Stamp};
 
-/// What an inbox carries: a message, or the end.
+/// What an inbox carries: a message, the word that somebody looked in vain, or the end.
 #[derive(Drop)]
 pub enum Letter {
     Carry(Message),
+    Look,
     Close,
 }
 
-/// Where the messages go that a node puts out.
+/// Where the messages go that a node puts out, and what passes between it and those who look at what it shows. Where nobody looks,
+/// `post` is all.
 pub trait Post {
     fn post(&mut self, envelope: Envelope);
+
+    /// Whether somebody looked at the shard in vain since `silence`.
+    fn is_looked_for(&self, _shard: ShardNo) -> bool {
+        false
+    }
+
+    /// What was looked for till now is about to be served.
+    fn silence(&mut self, _shard: ShardNo) {}
+
+    /// The shard serves up to this timestamp.
+    fn tell(&mut self, _shard: ShardNo, _served: Stamp) {}
 }

@@ -2,6 +2,7 @@
 #![tactic(auto)]
 
 mod acts;
+mod bell;
 mod chores;
 mod gate;
 mod letter;

@@ -1,6 +1,7 @@
 //! How letters get to nodes and to workers.
 ghost use Rattle.std.specs.Prelude.{◌≡◌, [], length, IfOk, IfErr, OnOk};
 
+use crate::bell::Bell;
 use crate::letter::{Letter, Post};
 use crate::sessions::Sessions;
 use crossbeam_channel::{Receiver, Sender, unbounded};
@@ -9,12 +10,13 @@ use std::alloc::Global;
 use std::sync::{Mutex, Wait};
 use std::time::Duration;
 use std::{thread, time};
-use units::{Fault, ShardNo, TxnId};
+use units::{Fault, ShardNo, Stamp, TxnId};
 
-/// The inboxes of all nodes, by shard, and of all workers, and who runs which transaction. A letter to nobody, to one who is gone, or
+/// The inboxes and bells of all nodes, by shard, the inboxes of all workers, and who runs which transaction. A letter to nobody, to one who is gone, or
 /// for which there is no memory, is lost.
 pub struct Network {
     nodes: Vec<Sender<Letter>>,
+    bells: Vec<Bell>,
     workers: Vec<Sender<Message>>,
     sessions: Mutex<Sessions>,
 }
@@ -23,6 +25,7 @@ impl Drop for Network {
     fn drop(self) {
         let Network {
             nodes: _,
+            bells: _,
             workers: _,
             sessions: _,
         } = self;
@@ -49,6 +52,7 @@ impl Network {
         };
         let mut network = Network {
             nodes: Vec::new(alloc),
+            bells: Vec::new(alloc),
             workers: Vec::new(alloc),
             sessions,
         };
@@ -95,6 +99,32 @@ impl Network {
         }
     }
 
+    /// Who looked in vain at a shard, at a timestamp, waits until its node has told that it serves that, or so long. The first since the node
+    /// last served wakes it by a letter.
+    pub fn await_served<R: Wait + time::Clock>(
+        &self,
+        rt: &R,
+        shard: ShardNo,
+        at: Stamp,
+        longest: Duration,
+    ) {
+        let number = usize::from(shard.number());
+        match (self.bells.get(number), self.nodes.get(number)) {
+            (Some(bell), Some(inbox)) => {
+                if bell.ring() {
+                    drop(inbox.send(rt, Letter::Look));
+                }
+                bell.wait(rt, at, longest);
+            }
+            _ => thread::sleep(rt, longest),
+        }
+    }
+
+    // The bell of a shard.
+    fn bell(&self, shard: ShardNo) -> Option<&Bell> {
+        self.bells.get(usize::from(shard.number()))
+    }
+
     /// Sends each node the end, again and again until it is taken or the node is gone.
     pub fn close<R: Wait + time::Clock>(&self, rt: &R) {
         for inbox in &self.nodes {
@@ -133,10 +163,21 @@ fn connect(
         × (length inboxes.new.workers.items ≡ workers)) }
     ensures memory { IfErr result (λ fault. fault ≡ Fault.Memory) }
 {
+    hang(nodes, &mut network.bells)?;
     match channels(alloc, nodes, &mut network.nodes, &mut inboxes.nodes) {
         Ok(()) => channels(alloc, workers, &mut network.workers, &mut inboxes.workers),
         Err(fault) => Err(fault),
     }
+}
+
+// So many bells.
+fn hang(nodes: usize, bells: &mut Vec<Bell>) -> Result<(), Fault>
+    ensures memory { IfErr result (λ fault. fault ≡ Fault.Memory) }
+{
+    for _node in 0..nodes {
+        bells.push(Bell::new())?;
+    }
+    Ok(())
 }
 
 // So many channels without a limit.
@@ -158,7 +199,7 @@ fn channels<T: Drop>(
     Ok(())
 }
 
-/// Posts what a node puts out.
+/// Posts what a node puts out, and passes on to those who look at what it shows.
 #[derive(Drop)]
 pub struct Mail<'r, 's, R> {
     pub rt: &'r R,
@@ -168,5 +209,24 @@ pub struct Mail<'r, 's, R> {
 impl<R: Wait> Post for Mail<'_, '_, R> {
     fn post(&mut self, envelope: Envelope) {
         self.network.send(self.rt, envelope);
+    }
+
+    fn is_looked_for(&self, shard: ShardNo) -> bool {
+        match self.network.bell(shard) {
+            Some(bell) => bell.is_rung(),
+            None => false,
+        }
+    }
+
+    fn silence(&mut self, shard: ShardNo) {
+        if let Some(bell) = self.network.bell(shard) {
+            bell.silence();
+        }
+    }
+
+    fn tell(&mut self, shard: ShardNo, served: Stamp) {
+        if let Some(bell) = self.network.bell(shard) {
+            bell.tell(served);
+        }
     }
 }

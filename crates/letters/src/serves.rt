@@ -29,11 +29,17 @@ pub trait Serves {
     /// Whether there is a wait that can be granted.
     fn is_ready<W: Wait>(&self, rt: &W) -> bool;
 
+    /// A transaction that is decided and not settled, of the least timestamp, with it.
+    fn earliest_decided<W: Wait>(&self, rt: &W) -> Option<(TxnId, Stamp)>;
+
     /// The n-th transaction of this standing, and the timestamp that it is prepared or decided at.
     fn due<W: Wait>(&self, rt: &W, due: Due, n: usize) -> Option<(TxnId, Stamp)>;
 
-    /// Serves up to the latest of a reading that is taken under the lock.
-    fn keep_up<W: Wait, C: Clock>(&self, rt: &W, clock: &mut C);
+    /// How many versions the shard has.
+    fn versions<W: Wait>(&self, rt: &W) -> usize;
+
+    /// Advances to the latest of a reading that is taken under the lock, and shows that. Up to when it serves then.
+    fn keep_up<W: Wait, C: Clock>(&self, rt: &W, clock: &mut C) -> Option<Stamp>;
 }
 
 // So many letters are taken in a row before a node does its chores.
@@ -50,7 +56,7 @@ pub fn serve<N: Serves, W: Wait + time::Clock, P: Post, C: Clock, G: Gate>(
     clock: &mut C,
     gate: &G,
 ) {
-    let mut chores = Chores::new();
+    let mut chores = Chores::new(node, rt);
     let mut n = 0;
     let mut in_a_row: u64 = 0;
     for _letter in rt.forever() {
@@ -60,19 +66,41 @@ pub fn serve<N: Serves, W: Wait + time::Clock, P: Post, C: Clock, G: Gate>(
             pause = chores.tend(node, rt, post, clock);
         }
         match inbox.recv_timeout(rt, pause) {
-            Ok(Letter::Carry(message)) => {
+            Ok(letter) => {
                 gate.before(node.shard(), n);
-                act(node, rt, post, clock, Input::Deliver(message));
+                let goes_on = take(node, rt, post, clock, &mut chores, letter);
                 gate.after(node.shard(), n);
+                if !goes_on {
+                    return;
+                }
                 if n < Stamp::MAX {
                     n += 1;
                 }
                 in_a_row = in_a_row.saturating_add(1);
             }
-            Ok(Letter::Close) => return,
             Err(RecvTimeoutError::Timeout) => {}
             Err(RecvTimeoutError::Disconnected) => return,
         }
     }
     unreachable!()
+}
+
+// Takes a letter. It says whether more are taken. The word that somebody looked in vain only wakes the node.
+fn take<N: Serves, W: Wait + time::Clock, P: Post, C: Clock>(
+    node: &N,
+    rt: &W,
+    post: &mut P,
+    clock: &mut C,
+    chores: &mut Chores,
+    letter: Letter,
+) -> bool {
+    match letter {
+        Letter::Carry(message) => {
+            act(node, rt, post, clock, Input::Deliver(message));
+            chores.took_letter(rt);
+            true
+        }
+        Letter::Look => true,
+        Letter::Close => false,
+    }
 }

@@ -1,4 +1,5 @@
 //! Threads that serve nodes.
+ghost use Rattle.std.specs.Prelude.{◌≡◌, IfErr};
 ghost use Rattle.std.specs.Thread.{IsSync, IsSend};
 
 use crate::gate::Gate;
@@ -27,7 +28,9 @@ pub fn start<
     P: Post + Send + Drop,
     C: Clock + Send + Drop,
     G: Gate + Sync,
->(rt: &W, served: Vec<Served<N, P, C>>, gate: &G) -> Result<(), Fault> {
+>(rt: &W, served: Vec<Served<N, P, C>>, gate: &G) -> Result<(), Fault>
+    ensures { IfErr result (λ fault. fault ≡ Fault.Memory) }
+{
     let refused = thread::scope(
         thread::scope_env(),
         rt,

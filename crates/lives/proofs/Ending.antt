@@ -1,5 +1,5 @@
 -- What a read of a disk gives at the end of a run.
-use Rattle.std.proofs.Common.{◌≡◌, ◌⊎◌, inl, inr, IsTrue, true, List, map, Result, Ok, Err, refl, sym, ap, ◌∙◌}
+use Rattle.std.proofs.Common.{◌≡◌, ◌⊎◌, inl, inr, IsTrue, true, List, map, Result, Ok, Err, refl, sym, ap, subst, ◌∙◌}
 use Rattle.units.specs.declared.fault.Fault.{Fault}
 use Rattle.units.specs.declared.fault.Fault.TheVariants.{Memory}
 use Rattle.disk.specs.File.{surface}
@@ -9,18 +9,23 @@ use Rattle.gatelog.specs.Armed.{waits}
 use Rattle.gatelog.specs.Log.{is_no_log, log}
 use Rattle.gatelog.specs.Placed.{Placed}
 use Rattle.record.specs.declared.record.Record.{Record}
-use Rattle.shard.specs.Logs.{items_of, records_in}
+use Rattle.shard.specs.Logs.{KeepsRecords, items_of, records_in}
 use Rattle.simdisk.specs.State.{disk_file, disk_plan}
 use Rattle.simdisk.specs.declared.simdisk.SimDisk.{SimDisk}
 use Rattle.world.specs.World.{ShardNow, read_log}
 use Rattle.lives.specs.Fleet.{IsOn}
 use Rattle.lives.specs.Lives.{HoldsLog}
 
--- a disk that was read and synced gives what was read
+-- a disk that was read and synced holds what was read, whatever a crash leaves
 pub ends_on : (old new : SimDisk) (entries : List Placed) (records : List Record) → log (surface (disk_file old)).seen ≡ Ok entries
     → surface (disk_file new) ≡ after_sync (surface (disk_file old)) → records ≡ map (λ (e : Placed). e.item) entries → IsOn new records
 ends_on old new entries records read synced same =
-    ap (λ (s : Surface). records_in s.seen) synced ∙ ap items_of read ∙ ap (λ rs. Ok rs) (sym same)
+    let shown : records_in (surface (disk_file new)).seen ≡ Ok records = ap (λ (s : Surface). records_in s.seen) synced ∙ ap items_of read
+    ∙ ap (λ rs. Ok rs) (sym same) in (
+      subst (λ s. KeepsRecords s (Ok records)) (sym synced) (λ image may.
+          ap records_in (may.unchanged refl ∙ ap (λ (s : Surface). s.seen) (sym synced)) ∙ shown),
+      shown,
+    )
 
 abbrev Found : Type 0
 Found = Result (List Record) Fault

@@ -8,7 +8,7 @@ use Rattle.disk.specs.File.{surface}
 use Rattle.disk.specs.declared.plan.Fate.{Fate as Left}
 use Rattle.record.specs.declared.record.Record.{Record}
 use Rattle.message.specs.declared.message.Envelope.{Envelope}
-use Rattle.shard.specs.Logs.{records_in}
+use Rattle.shard.specs.Logs.{KeepsRecords, records_in}
 use Rattle.simdisk.specs.State.{disk_file}
 use Rattle.simdisk.specs.declared.simdisk.SimDisk.{SimDisk}
 use Rattle.world.specs.World.{ShardNow, effect, fresh_shard, setup_of}
@@ -96,9 +96,9 @@ act_shard _ = None
 
 -- ---- what is left of them
 
--- a read of the disk gives the log
+-- the disk holds the log: every image that a crash now may leave has it, and so has what a read gives
 abbrev pub IsOn : SimDisk → List Record → Type 0
-IsOn disk log = records_in (surface (disk_file disk)).seen ≡ Ok log
+IsOn disk log = KeepsRecords (surface (disk_file disk)) (Ok log) × (records_in (surface (disk_file disk)).seen ≡ Ok log)
 
 -- so of each disk
 abbrev pub AreOn : List SimDisk → List (List Record) → Type 0

@@ -155,7 +155,7 @@ impl<'s> Run<'s> {
         self.output.reply(done)
     }
 
-    /// Ends the run: its messages, the disks that it ends with, the logs as reads of these give them, and all lines.
+    /// Ends the run: its messages, the disks that it ends with, the logs that these hold whatever a crash leaves, and all lines.
     pub fn finish(self, alloc: Global) -> Result<Finished, Fault>
         ensures disks { IfOk result
             (λ r. AreOn r.disks.items (map (λ log. log.items) r.logs.items)) }

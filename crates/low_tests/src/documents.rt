@@ -91,7 +91,7 @@ static TAKEN: [Taken; 4] = [
                workers = 2\n\
                transactions = 2\n\
                keys = 2\n\
-               dir = \"\"\n",
+               dir = \".\"\n",
         wanted: Wanted {
             splits: &[
                 b"0",
@@ -102,7 +102,7 @@ static TAKEN: [Taken; 4] = [
             workers: 2,
             transactions: 2,
             keys: 2,
-            dir: Some(""),
+            dir: Some("."),
         },
     },
 ];
@@ -230,6 +230,7 @@ static CHANGED: [Changed; 7] = [
             "keys = 10001",
             "keys = 99999999999999999999",
             "keys = 10\ndir = 1",
+            "keys = 10\ndir = \"\"",
             "keys = 10\ndir = [\"logs\"]",
             "keys = 10\nother = 1",
             "keys = 10\n[dir]",

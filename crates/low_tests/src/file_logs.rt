@@ -5,6 +5,7 @@ use crate::lines::Line;
 use crate::spellings::OPENED;
 use filedisk::FileDisk;
 use gatelog::GateLog;
+use made::FIRST_GATE;
 use units::Fault;
 
 // The header; Opened 1; Opened 2; a closed gate.
@@ -14,7 +15,10 @@ const TWO_OPENINGS: &[u8] = &[
 ];
 
 // The entries of the same.
-const OPENINGS: &[Place] = &[(8, OPENED), (22, &[1, 0, 0, 0, 0, 0, 0, 0, 2])];
+const OPENINGS: &[Place] = &[
+    (FIRST_GATE, OPENED),
+    (FIRST_GATE + 14, &[1, 0, 0, 0, 0, 0, 0, 0, 2]),
+];
 
 // The log is made in a file, takes its first record, and is not opened meanwhile.
 fn begins(rt: &HostRuntime, path: &str) -> bool {

@@ -6,7 +6,7 @@ use crate::spellings::{CEILING, COMMIT, OPENED, OUTCOME};
 use crate::steps::read_back;
 use disk::{Disk, Fate};
 use gatelog::{Entry, GateLog};
-use made::stamp;
+use made::{FIRST_GATE, stamp};
 use record::Record;
 use simdisk::SimDisk;
 use std::alloc::Global;
@@ -116,15 +116,24 @@ pub struct Case {
     places_with_more: &'static [Place],
 }
 
-const AT_FIRST: &[Place] = &[(8, OPENED)];
+const AT_FIRST: &[Place] = &[(FIRST_GATE, OPENED)];
 
-// The closed gate of a log that was opened once is at 22.
-const WITH_CEILING: &[Place] = &[(8, OPENED), (22, CEILING)];
+// The closed gate of a log that was opened once.
+const BEHIND_ONE: u64 = FIRST_GATE + 14;
+
+const WITH_CEILING: &[Place] = &[(FIRST_GATE, OPENED), (BEHIND_ONE, CEILING)];
 
 // Ceiling 300, where the closed gate was.
-const WITH_HIGHER: &[Place] = &[(8, OPENED), (22, &[2, 0, 0, 0, 0, 0, 0, 1, 0x2c])];
+const WITH_HIGHER: &[Place] = &[
+    (FIRST_GATE, OPENED),
+    (BEHIND_ONE, &[2, 0, 0, 0, 0, 0, 0, 1, 0x2c]),
+];
 
-const ONE_COMMIT: &[Place] = &[(8, OPENED), (22, COMMIT), (64, OUTCOME)];
+const COMMITTED: &[Place] = &[
+    (FIRST_GATE, OPENED),
+    (BEHIND_ONE, COMMIT),
+    (FIRST_GATE + 56, OUTCOME),
+];
 
 // A log that was opened once.
 const OPENED_ONCE: Case = Case {
@@ -158,8 +167,8 @@ pub static CASES: [Named<Case>; 11] = [
                 Line::Committed(1, 111),
             ],
             bytes: Some(WHOLE),
-            places: ONE_COMMIT,
-            places_with_more: ONE_COMMIT,
+            places: COMMITTED,
+            places_with_more: COMMITTED,
             ..OPENED_ONCE
         },
     },
@@ -305,7 +314,7 @@ pub struct Refused {
     fault: Option<Fault>,
 }
 
-const DAMAGED: Option<Fault> = Some(Fault::Damaged { offset: 8 });
+const DAMAGED: Option<Fault> = Some(Fault::Damaged { offset: FIRST_GATE });
 
 pub static REFUSED: [Named<Refused>; 7] = [
     Named {

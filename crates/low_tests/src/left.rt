@@ -3,7 +3,7 @@ use crate::checks::{Named, Row};
 use crate::files::{put, put_lines};
 use crate::lines::{Line, promise};
 use gatelog::{Entry, GateLog};
-use made::{key, shard};
+use made::{FIRST_GATE, key, shard};
 use memory::State;
 use record::Record;
 use recovery::rebuild;
@@ -156,7 +156,7 @@ pub static REOPENED: [Named<Reopened>; 13] = [
             shard: 1,
             lines: &[Line::Opened(2)],
             promises: 0,
-            left: Err(Fault::Damaged { offset: 8 }),
+            left: Err(Fault::Damaged { offset: FIRST_GATE }),
         },
     },
     Named {
@@ -165,7 +165,7 @@ pub static REOPENED: [Named<Reopened>; 13] = [
             shard: 1,
             lines: &[Line::Prepare(2, 200, b'z', 0)],
             promises: 0,
-            left: Err(Fault::Damaged { offset: 8 }),
+            left: Err(Fault::Damaged { offset: FIRST_GATE }),
         },
     },
     Named {
@@ -200,7 +200,9 @@ pub static REOPENED: [Named<Reopened>; 13] = [
                 Line::Prepare(3, 300, b'z', 0),
             ],
             promises: 0,
-            left: Err(Fault::Damaged { offset: 63 }),
+            left: Err(Fault::Damaged {
+                offset: FIRST_GATE + 55,
+            }),
         },
     },
     Named {
@@ -214,7 +216,9 @@ pub static REOPENED: [Named<Reopened>; 13] = [
                 Line::Commit(2, 111, b'a', 1),
             ],
             promises: 0,
-            left: Err(Fault::Damaged { offset: 95 }),
+            left: Err(Fault::Damaged {
+                offset: FIRST_GATE + 87,
+            }),
         },
     },
     // 1,024 rows may stand, and no more.
@@ -232,14 +236,16 @@ pub static REOPENED: [Named<Reopened>; 13] = [
             })),
         },
     },
-    // Each frame has 43 bytes; the first stands behind that of the opening, at 22.
+    // Each frame has 43 bytes; the first stands behind that of the opening, of 14.
     Named {
         what: "too many rows",
         row: Reopened {
             shard: 1,
             lines: &[Line::Opened(1)],
             promises: 1025,
-            left: Err(Fault::Damaged { offset: 44_054 }),
+            left: Err(Fault::Damaged {
+                offset: FIRST_GATE + 44_046,
+            }),
         },
     },
 ];

@@ -2,9 +2,10 @@
 use crate::checks::is_printed;
 use crate::text_logs::reads;
 use inspector::inspect;
+use output::VerdictText;
 use record::Record;
 use std::alloc::Global;
-use texts::{Text, lines};
+use texts::lines;
 
 struct Case {
     name: &'static str,
@@ -213,7 +214,7 @@ fn is_given(alloc: Global, logs: &[Vec<Record>], case: &Case) -> bool {
     let verdict = inspect(alloc, logs, lines.as_slice());
     drop(lines);
     match verdict {
-        Ok(verdict) => is_printed(alloc, &Text(&verdict), case.verdict),
+        Ok(verdict) => is_printed(alloc, &VerdictText(verdict), case.verdict),
         Err(_) => false,
     }
 }

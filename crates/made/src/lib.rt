@@ -5,6 +5,18 @@ ghost use Rattle.std.specs.Prelude.{◌≡◌, ◌<◌, ◌^◌};
 
 use units::{Key, ShardNo, Stamp, TxnId};
 
+/// Where the first gate stands in the file of a log.
+pub const FIRST_GATE: u64 = 8;
+
+/// The file of one settled commit: the header; Opened 1; Commit 1.1 at 111, parts 0, no reads, a=1; Outcome 1.1 committed 111; a closed
+/// gate. The gates stand 14, 56 and 87 bytes behind the first.
+pub const ONE_COMMIT: [u8; 96] = [
+    0x53, 0x50, 0x4e, 0x4c, 0x4f, 0x47, 0x30, 0x31, 0xa5, 0, 0, 0, 9, 1, 0, 0, 0, 0, 0, 0, 0, 1,
+    0xa5, 0, 0, 0, 37, 4, 0, 0, 0, 0, 0, 0, 0, 1, 0, 0, 0, 0, 0, 0, 0, 1, 0, 0, 0, 0, 0, 0, 0,
+    0x6f, 0, 1, 0, 0, 0, 1, 1, 0x61, 1, 0, 1, 0x31, 0xa5, 0, 0, 0, 26, 6, 0, 0, 0, 0, 0, 0, 0, 1,
+    0, 0, 0, 0, 0, 0, 0, 1, 1, 0, 0, 0, 0, 0, 0, 0, 0x6f, 0,
+];
+
 /// A key of one letter.
 pub fn key(letter: u8) -> Key {
     match Key::new(&[letter]) {

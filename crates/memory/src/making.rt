@@ -1,7 +1,8 @@
 //! How a state is made and ended, and what it shows of its rows.
 ghost use Rattle.std.specs.Prelude.{◌≡◌, ◌<◌, ◌≤◌, [], ◌∷◌, IfOk, IfErr};
 ghost use Rattle.record.specs.Facts.{facts_of};
-ghost use Rattle.rows.specs.RowTable.{nth_prepared, nth_decided};
+ghost use Rattle.rows.specs.RowTable.{nth_prepared, nth_decided, decided_row, IsEarliest};
+ghost use Rattle.units.specs.Lists.{gather};
 
 use crate::state::State;
 use ledger::{Ended, Ledger};
@@ -87,6 +88,13 @@ impl State {
         ensures { result ≡ nth_decided self.now.memory.rows n }
     {
         self.rows.nth_decided(n)
+    }
+
+    /// A decided transaction of the least timestamp, with it.
+    pub fn earliest_decided(&self) -> Option<(TxnId, Stamp)>
+        ensures { IsEarliest (gather decided_row self.now.memory.rows) result }
+    {
+        self.rows.earliest_decided()
     }
 }
 

@@ -1,76 +1,65 @@
-//! What lies under a node's lock: a desk, or the disk of one that was stopped.
-ghost use Rattle.std.specs.Prelude.{◌≡◌, IfOk, IfErr, IsSome};
+//! What lies under a node's lock.
+ghost use Rattle.std.specs.Prelude.{◌≡◌, IfOk, IfErr, IsSome, length};
+ghost use Rattle.board.specs.Board.{first_entries};
+ghost use Rattle.desk.specs.InStep.{IsNoDesk};
+ghost use Rattle.node.specs.Restart.{AreOnNewBoard};
+ghost use Rattle.shard.specs.Core.{seen, book_of};
+ghost use Rattle.shard.specs.Look.{safe_at};
 
-use board::{Told, Viewer};
+use crate::place::Place;
+use board::{Told, Viewer, check_viewers};
 use desk::Desk;
 use disk::Disk;
 use letters::Due;
 use message::{Input, Outbox};
+use shard::Core;
 use std::alloc::Global;
 use std::sync::Wait;
 use truetime::Reading;
-use units::{Fault, Reason, Setup, Stamp, TxnId};
+use units::{Fault, Setup, Stamp, TxnId};
 
-/// A desk; or the disk alone, where it was closed to be opened again, and that was refused.
-#[derive(Drop)]
-pub enum Place<D: Disk + Drop, R: Wait + Drop> {
-    Serving(Desk<D, R>),
-    Resting(D),
-}
-
-impl<D: Disk + Drop, R: Wait + Drop> Place<D, R> {
-    ghost use Rattle.node.specs.Seen.{seen_place};
-    ghost use Rattle.node.specs.Restart.{HasRestarted, HasNotRestarted, disk_of_place};
-
-    /// What is stopped is opened again, as a core is, with a new board and so many viewers.
-    pub fn restart(
-        self,
-        rt: R,
-        alloc: Global,
-        setup: &Setup,
-        n: usize,
-    ) -> (Place<D, R>, Result<Vec<Viewer>, Fault>)
-        ensures restarted { IfOk result.1
-            (λ viewers. HasRestarted D.keeps_model D.obeys D.file D.clock D.since D.failures D.plan
-            (seen_place self) (seen_place result.0) setup.now n viewers.items) }
-        ensures refused { IfErr result.1
-            (HasNotRestarted D.keeps_model D.obeys D.file D.clock D.since D.failures D.plan
-            (seen_place self) (seen_place result.0) setup.now n) }
-    {
-        let disk = match self {
-            Place::Serving(desk) => {
-                if !desk.core().is_stopped() {
-                    return (Place::Serving(desk), Err(Fault::BadRequest(Reason::Again)));
-                }
-                desk.close()
-            }
-            Place::Resting(disk) => disk,
-        };
-        match Desk::open(rt, alloc, disk, setup, n) {
-            Ok((desk, viewers)) => (Place::Serving(desk), Ok(viewers)),
-            Err((fault, disk)) => (Place::Resting(disk), Err(fault)),
-        }
-    }
-
-    /// Ends it, and gives its disk back as it is.
-    pub fn close(self) -> D
-        ensures { result ≡ disk_of_place (seen_place self) }
-    {
-        match self {
-            Place::Serving(desk) => desk.close(),
-            Place::Resting(disk) => disk,
-        }
-    }
-}
-
-/// What a node's lock holds. The place is there whenever the lock is free.
+/// What a node's lock holds: what its shard is told, and the place, which is there whenever the lock is free.
 #[derive(Drop)]
 pub struct Held<D: Disk + Drop, R: Wait + Drop> {
+    pub setup: Setup,
     pub place: Option<Place<D, R>>,
     ghost there: { IsSome place },
 }
 
 impl<D: Disk + Drop, R: Wait + Drop> Held<D, R> {
+    /// A core that is served, and so many viewers of its board.
+    pub fn new(
+        rt: R,
+        alloc: Global,
+        core: Core<D>,
+        n: usize,
+    ) -> Result<(Held<D, R>, Vec<Viewer>), (Fault, Core<D>)>
+        ensures viewers { IfOk result (λ made. length made.1.items ≡ n) }
+        ensures board { IfOk result (λ made. AreOnNewBoard n (seen core).setup
+            (first_entries (seen core).facts.installs (safe_at (seen core))) made.1.items) }
+        ensures refused { IfErr result
+            (λ refused. IsNoDesk n refused.0 × (seen refused.1 ≡ seen core)
+            × (book_of refused.1 ≡ book_of core)) }
+    {
+        if let Err(fault) = check_viewers(n) {
+            return Err((fault, core));
+        }
+        let setup = match core.setup().copy(alloc) {
+            Ok(setup) => setup,
+            Err(fault) => return Err((fault, core)),
+        };
+        match Desk::new(rt, alloc, core, n) {
+            Ok((desk, viewers)) => {
+                let place = Some(Place::Serving(desk));
+                Ok((Held { setup, place }, viewers))
+            }
+            Err(refused) => {
+                drop(setup);
+                Err(refused)
+            }
+        }
+    }
+
     /// One step of the core. A disk alone is refused as a core that is stopped.
     pub fn deliver(&mut self, now: &Reading, input: &Input) -> Result<Outbox, Fault> {
         match &mut self.place {
@@ -103,6 +92,42 @@ impl<D: Disk + Drop, R: Wait + Drop> Held<D, R> {
         match due {
             Due::Decided => desk.core().decided(n),
             Due::Prepared => desk.core().prepared(n),
+        }
+    }
+
+    /// A transaction that is decided and not settled, of the least timestamp, with it. There is none in a disk alone.
+    pub fn earliest_decided(&self) -> Option<(TxnId, Stamp)> {
+        match &self.place {
+            Some(Place::Serving(desk)) => desk.core().earliest_decided(),
+            Some(Place::Resting(_)) | None => None,
+        }
+    }
+
+    /// How many versions the core has. A disk alone has none.
+    pub fn versions(&self) -> usize {
+        match &self.place {
+            Some(Place::Serving(desk)) => desk.core().installs().len(),
+            Some(Place::Resting(_)) | None => 0,
+        }
+    }
+
+    /// What is stopped is opened again, as it was told before, with a new board and so many viewers.
+    pub fn restart(&mut self, rt: R, alloc: Global, n: usize) -> Result<Vec<Viewer>, Fault> {
+        let Some(place) = self.place.take() else {
+            unreachable!()
+        };
+        let (place, viewers) = place.restart(rt, alloc, &self.setup, n);
+        self.place = Some(place);
+        viewers
+    }
+
+    /// Ends it, and gives its disk back as it is.
+    pub fn close(self) -> D {
+        let Held { setup, place } = self;
+        drop(setup);
+        match place {
+            Some(place) => place.close(),
+            None => unreachable!(),
         }
     }
 }

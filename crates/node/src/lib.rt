@@ -3,7 +3,9 @@
 
 mod held;
 mod node;
+mod place;
 mod serves;
 
-pub use letters::{Gate, Served, start};
+pub use desk::Desk;
+pub use letters::{Gate, Letter, Post, Served, start};
 pub use node::Node;

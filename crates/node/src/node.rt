@@ -6,28 +6,26 @@ ghost use Rattle.node.specs.Restart.{AreOnNewBoard};
 ghost use Rattle.shard.specs.Core.{seen, book_of};
 ghost use Rattle.shard.specs.Look.{safe_at};
 
-use crate::held::{Held, Place};
+use crate::held::Held;
 use board::{Told, Viewer};
-use desk::Desk;
 use disk::Disk;
 use message::{Input, Outbox};
 use shard::Core;
 use std::alloc::Global;
 use std::sync::{Mutex, Wait};
 use truetime::Reading;
-use units::{Fault, Setup, ShardNo, Stamp};
+use units::{Fault, ShardNo, Stamp};
 
 /// A node. Whenever its lock is free, the desk keeps what a desk keeps, or the disk is there alone.
 pub struct Node<D: Disk + Drop, R: Wait + Drop> {
-    pub(crate) setup: Setup,
+    pub(crate) shard: ShardNo,
     pub(crate) held: Mutex<Held<D, R>>,
 }
 
 impl<D: Disk + Drop, R: Wait + Drop> Drop for Node<D, R> {
     fn drop(self) {
-        let Node { setup, held } = self;
+        let Node { shard: _, held } = self;
         drop(held);
-        drop(setup);
     }
 }
 
@@ -46,25 +44,19 @@ impl<D: Disk + Drop, R: Wait + Drop> Node<D, R> {
             (λ refused. IsNoDesk n refused.0 × (seen refused.1 ≡ seen core)
             × (book_of refused.1 ≡ book_of core)) }
     {
-        let setup = match core.setup().copy(alloc) {
-            Ok(setup) => setup,
-            Err(fault) => return Err((fault, core)),
-        };
-        let (desk, viewers) = Desk::new(rt, alloc, core, n)?;
-        Ok((
-            Node {
-                setup,
-                held: Mutex::new(Held {
-                    place: Some(Place::Serving(desk)),
-                }),
-            },
-            viewers,
-        ))
+        let shard = core.setup().shard;
+        match Held::new(rt, alloc, core, n) {
+            Ok((held, viewers)) => {
+                let held = Mutex::new(held);
+                Ok((Node { shard, held }, viewers))
+            }
+            Err(refused) => Err(refused),
+        }
     }
 
     /// The shard's number.
     pub fn shard(&self) -> ShardNo {
-        self.setup.shard
+        self.shard
     }
 
     /// One step of the core, under the lock.
@@ -87,24 +79,12 @@ impl<D: Disk + Drop, R: Wait + Drop> Node<D, R> {
         alloc: Global,
         n: usize,
     ) -> Result<Vec<Viewer>, Fault> {
-        let mut guard = self.held.lock(rt);
-        let held = &mut *guard;
-        let Some(place) = held.place.take() else {
-            unreachable!()
-        };
-        let (place, viewers) = place.restart(own, alloc, &self.setup, n);
-        held.place = Some(place);
-        viewers
+        self.held.lock(rt).restart(own, alloc, n)
     }
 
     /// Ends the node, and gives its disk back.
     pub fn close(self) -> D {
-        let Node { setup, held } = self;
-        drop(setup);
-        let Held { place } = held.into_inner();
-        match place {
-            Some(place) => place.close(),
-            None => unreachable!(),
-        }
+        let Node { shard: _, held } = self;
+        held.into_inner().close()
     }
 }

@@ -11,7 +11,7 @@ use units::{ShardNo, Stamp, TxnId};
 
 impl<D: Disk + Drop, R: Wait + Drop> Serves for Node<D, R> {
     fn shard(&self) -> ShardNo {
-        self.setup.shard
+        self.shard
     }
 
     fn take<W: Wait, C: Clock>(&self, rt: &W, clock: &mut C, input: &Input) -> Option<Outbox> {
@@ -24,14 +24,24 @@ impl<D: Disk + Drop, R: Wait + Drop> Serves for Node<D, R> {
         self.held.lock(rt).is_ready()
     }
 
+    fn earliest_decided<W: Wait>(&self, rt: &W) -> Option<(TxnId, Stamp)> {
+        self.held.lock(rt).earliest_decided()
+    }
+
     fn due<W: Wait>(&self, rt: &W, due: Due, n: usize) -> Option<(TxnId, Stamp)> {
         self.held.lock(rt).due(due, n)
     }
 
-    fn keep_up<W: Wait, C: Clock>(&self, rt: &W, clock: &mut C) {
+    fn versions<W: Wait>(&self, rt: &W) -> usize {
+        self.held.lock(rt).versions()
+    }
+
+    fn keep_up<W: Wait, C: Clock>(&self, rt: &W, clock: &mut C) -> Option<Stamp> {
         let mut held = self.held.lock(rt);
-        if let Some(now) = clock.now() {
-            drop(held.advance(&now, now.latest()));
+        let now = clock.now()?;
+        match held.advance(&now, now.latest()) {
+            Ok(told) => Some(told.safe()),
+            Err(_) => None,
         }
     }
 }

@@ -36,9 +36,9 @@ impl<'f> Memory<'f> {
 impl Files for Memory<'_> {
     type Log = SimDisk;
 
-    fn read(&self, alloc: Global, path: &str) -> Result<Vec<u8>, Fault> {
+    fn read(&self, alloc: Global, path: &str, most: u64) -> Result<Vec<u8>, Fault> {
         match self.file(path) {
-            Some(bytes) => Ok(bytes.to_vec(alloc)?),
+            Some(bytes) => Ok(bytes[..bytes.len().min(most as usize)].to_vec(alloc)?),
             None => Err(Fault::Device),
         }
     }

@@ -51,6 +51,14 @@ impl<W: Write> Screen<W> {
         }
     }
 
+    /// Shows a line that stays.
+    pub fn tell(&mut self, alloc: Global, line: &str)
+        ensures tally { tally_of self.new ≡ tally_of self.old }
+        ensures last { last_of self.new ≡ last_of self.old }
+    {
+        let _ = write_over(alloc, &mut self.writer, line, "\n");
+    }
+
     fn show(&mut self, alloc: Global, micros: u64) -> io::Result<()>
         ensures tally { tally_of self.new ≡ tally_of self.old }
         ensures last { last_of self.new ≡ last_of self.old }

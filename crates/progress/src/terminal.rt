@@ -44,4 +44,10 @@ impl<R: Wait + time::Clock, W: Write + Drop> Watch for Terminal<'_, R, W> {
         let micros = self.stopwatch.micros(self.rt);
         self.screen.lock(self.rt).turned(self.alloc, turn, micros);
     }
+
+    fn stopped(&self, shard: usize) {
+        if let Ok(line) = format!(in self.alloc; "shard {shard}: stopped: 2 Device") {
+            self.screen.lock(self.rt).tell(self.alloc, &line);
+        }
+    }
 }

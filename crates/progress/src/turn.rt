@@ -18,6 +18,9 @@ pub struct Turn {
 /// Who is told of each turn that ended, by the thread that ran it. Threads tell at the same time.
 pub trait Watch {
     fn turned(&self, turn: Turn);
+
+    /// The device of this shard failed, so that it has stopped.
+    fn stopped(&self, _shard: usize) {}
 }
 
 /// Does nothing.
@@ -32,6 +35,12 @@ impl<W: Watch> Watch for Option<W> {
     fn turned(&self, turn: Turn) {
         if let Some(watch) = self {
             watch.turned(turn);
+        }
+    }
+
+    fn stopped(&self, shard: usize) {
+        if let Some(watch) = self {
+            watch.stopped(shard);
         }
     }
 }

@@ -6,3 +6,6 @@ pub mod Replayed
 pub mod First
 pub mod Verdicts
 pub mod Soundness
+pub mod Progress
+pub mod Props
+pub mod Ended

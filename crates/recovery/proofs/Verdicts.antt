@@ -27,6 +27,7 @@ use Rattle.facts.proofs.Known.{follows_as_known}
 use Rattle.gatelog.specs.Placed.{Placed}
 use Rattle.protocol.specs.Sound.{writes_standing}
 use Rattle.protocol.proofs.FitsBeside.{installs_are, length-held, standing_is, writes_are}
+pub use Rattle.recovery.specs.Rebuilding.{Stands}
 use Rattle.recovery.specs.Recovered.{fault_in, fault_next, fits_facts, items, standing_rows, stands_in}
 
 -- ---- a record has its place by the log where it has by the facts
@@ -80,18 +81,11 @@ place_is shard log r before = ap (λ b. b && fits_beside log r) (follows_is shar
 
 -- ---- a log of which some records were taken
 
--- these entries were taken, those are left, and this is known
-pub record Stands (setup : Setup) (entries done left : List Placed) (facts : Facts) : Type 0 where
-  pub whole : entries ≡ done ++ left
-  pub before : followed setup.shard (items done) ≡ true
-  pub known : facts ≡ facts_of (items done)
-  pub verdict : taken setup (items entries) ≡ taken_from setup (items done) (length done) (items left)
-
 pub at_start : (setup : Setup) (entries : List Placed) → Stands setup entries [] entries (facts_of [])
 unfolding taken followed
 at_start setup entries = record { whole = refl; before = refl; known = refl; verdict = refl }
 
-items-append : (a b : List Placed) → items (a ++ b) ≡ items a ++ items b
+pub items-append : (a b : List Placed) → items (a ++ b) ≡ items a ++ items b
 items-append [] b = refl
 items-append (e ∷ es) b = ap (λ rs. e.item ∷ rs) (items-append es b)
 

@@ -1,1 +1,3 @@
 pub mod Recovered
+pub mod Rebuilding
+pub mod Taken

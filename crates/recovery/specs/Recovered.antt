@@ -100,8 +100,12 @@ pub record IsRecovered (k : Kept) : Type 0 where
   pub good : AllByRecursion (IsGood k.facts) k.facts.entries
   pub covered : IsTrue (list_all (λ i. nat_le i.at k.facts.floor) k.facts.installs)
 
--- what was found in a log: nothing where no record stands, else what its facts leave, which is sound
+-- what was found in a log: nothing where no record stands, else what its facts leave
 abbrev pub IsRebuilt : Setup → List Record → Option Kept → Type 0
 IsRebuilt setup log None = log ≡ []
-IsRebuilt setup log (Some k) =
-    (k.setup ≡ setup) × (k.facts ≡ facts_of log) × (k.memory ≡ rebuilt (facts_of log)) × IsSound setup.shard k.facts k.memory
+IsRebuilt setup log (Some k) = (k.setup ≡ setup) × (k.facts ≡ facts_of log) × (k.memory ≡ rebuilt (facts_of log))
+
+-- and that is sound
+abbrev pub IsSoundlyRebuilt : Setup → Option Kept → Type 0
+IsSoundlyRebuilt setup None = Unit {0}
+IsSoundlyRebuilt setup (Some k) = ∥ IsSound setup.shard k.facts k.memory ∥₁

@@ -4,6 +4,8 @@
 mod belonging;
 mod rebuilding;
 mod replaying;
+mod whole;
 
 pub use belonging::owns_all;
-pub use rebuilding::rebuild;
+pub use rebuilding::Rebuild;
+pub use whole::rebuild;

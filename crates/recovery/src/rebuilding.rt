@@ -1,44 +1,148 @@
 //! A whole log, record by record.
-ghost use Rattle.std.specs.Prelude.{◌≡◌, ◌⊎◌, [], ◌∷◌, map, Some, None, OnOk, IfOk, IfErr};
+ghost use Rattle.std.specs.Prelude.{◌≡◌, ◌⊎◌, ◌++◌, [], ◌∷◌, map, reverse, Some, None, OnOk, IfOk, IfErr, IsSome};
+ghost use Rattle.recovery.specs.Rebuilding.{Progresses, IsStateOf, known_of};
 ghost use Rattle.record.specs.Accepted.{Accepted, taken};
 ghost use Rattle.record.specs.Facts.{facts_of, learn};
-ghost use Rattle.recovery.specs.Recovered.{IsRebuilt, IsRecovered, fault_next, fault_in, is_first, items};
+ghost use Rattle.recovery.specs.Recovered.{IsRebuilt, IsSoundlyRebuilt, IsRecovered, fault_next, fault_in, is_first, items};
 
 use crate::belonging::belongs;
 use crate::replaying::{fits_beside, replay};
+use counts::Past;
 use gatelog::Entry;
 use memory::State;
 use record::Record;
 use std::alloc::Global;
 use units::{Fault, Setup};
 
-/// What a log leaves of its shard: the facts with the versions, and for each promise and each decision that stands a row with
-/// its locks, all of them sound. There is nothing yet where no record stands.
-///
-/// The first record that may not come after those before it counts: one that names a key of another shard makes the log a
-/// stranger's, and any other is damage at its gate.
-pub fn rebuild(alloc: Global, entries: &[Entry], setup: &Setup) -> Result<Option<State>, Fault>
-    ensures found { IfOk result (λ found. IsRebuilt setup.now (items entries.now) found) }
-    ensures accepted { OnOk result (taken setup.now (items entries.now) ≡ Accepted) }
-    ensures refused { IfErr result
-        (λ fault. (fault ≡ Fault.Memory)
-        ⊎ (fault_in (taken setup.now (items entries.now)) entries.now ≡ Some fault)) }
-{
-    let Some((first, rest)) = entries.split_first() else {
-        return Ok(None);
-    };
-    let mut state = begin(alloc, first, setup)?;
-    for entry in rest {
-        match take(&mut state, alloc, entry) {
-            Ok(()) => {}
+/// What a log leaves of its shard, told record by record: the facts with the versions, and for each promise and each decision that
+/// stands a row with its locks, all of them sound. Behind a record that is refused it takes the others as they come, and only that
+/// one counts. It has to be spent, by `finish` or `stop`.
+pub struct Rebuild {
+    setup: Setup,
+    entries: Past<Entry>,
+    state: Option<State>,
+    refused: Option<Fault>,
+    ghost progress: { ∥ Progresses setup (reverse entries.entries) state refused ∥₁ },
+}
+
+impl Rebuild {
+    ghost use Rattle.recovery.specs.Taken.{taken_by, setup_of};
+
+    /// Of a shard that is told this, and no record.
+    pub fn new(alloc: Global, setup: &Setup) -> Result<Rebuild, Fault>
+        ensures setup { IfOk result (λ made. setup_of made ≡ setup.now) }
+        ensures none { IfOk result (λ made. taken_by made ≡ []) }
+        ensures memory { IfErr result (λ fault. fault ≡ Fault.Memory) }
+    {
+        Ok(Rebuild {
+            setup: setup.copy(alloc)?,
+            entries: Past::none(),
+            state: None,
+            refused: None,
+        })
+    }
+
+    /// Takes one more record. It is refused for want of memory alone.
+    pub fn take(&mut self, alloc: Global, entry: &Entry) -> Result<(), Fault>
+        ensures setup { setup_of self.new ≡ setup_of self.old }
+        ensures taken { taken_by self.new ≡ taken_by self.old ++ entry.now ∷ [] }
+        ensures memory { IfErr result (λ fault. fault ≡ Fault.Memory) }
+    {
+        if self.refused.is_some() {
+            self.entries.add(entry);
+            return Ok(());
+        }
+        match go_on(&mut self.state, alloc, &self.setup, entry) {
+            Ok(()) => {
+                self.entries.add(entry);
+                Ok(())
+            }
             Err(fault) => {
-                state.stop();
-                return Err(fault);
+                self.entries.add(entry);
+                self.refused = Some(fault);
+                if fault == Fault::Memory {
+                    Err(fault)
+                } else {
+                    Ok(())
+                }
             }
         }
     }
-    state.laws();
-    Ok(Some(state))
+
+    /// What the records leave, or why they are refused. There is nothing yet where no record was taken.
+    pub fn finish(self) -> Result<Option<State>, Fault>
+        ensures found { IfOk result (IsRebuilt (setup_of self) (items (taken_by self))) }
+        ensures sound { IfOk result (IsSoundlyRebuilt (setup_of self)) }
+        ensures accepted { OnOk result (taken (setup_of self) (items (taken_by self)) ≡ Accepted) }
+        ensures refused { IfErr result (λ fault. (fault ≡ Fault.Memory)
+            ⊎ (fault_in (taken (setup_of self) (items (taken_by self))) (taken_by self) ≡ Some fault)) }
+    {
+        let Rebuild {
+            setup,
+            entries,
+            state,
+            refused,
+        } = self;
+        drop(setup);
+        drop(entries);
+        match refused {
+            None => {
+                if let Some(state) = &state {
+                    state.laws();
+                }
+                Ok(state)
+            }
+            Some(fault) => {
+                if let Some(state) = state {
+                    state.stop();
+                }
+                Err(fault)
+            }
+        }
+    }
+
+    /// Lets all go.
+    pub fn stop(self) {
+        let Rebuild {
+            setup,
+            entries,
+            state,
+            refused: _,
+        } = self;
+        drop(setup);
+        drop(entries);
+        if let Some(state) = state {
+            state.stop();
+        }
+    }
+}
+
+// What one more record makes of what there is, which is nothing before the first.
+fn go_on(
+    state: &mut Option<State>,
+    alloc: Global,
+    setup: &Setup,
+    entry: &Entry,
+) -> Result<(), Fault>
+    requires { IsStateOf setup.now state.old }
+    ensures next { OnOk result (fault_next setup.now (known_of state.old) entry.now ≡ None) }
+    ensures there { OnOk result (IsSome state.new) }
+    ensures state_of { OnOk result (IsStateOf setup.now state.new) }
+    ensures known { OnOk result (known_of state.new ≡ learn (known_of state.old) entry.now.item) }
+    ensures refused { IfErr result (λ fault. (fault ≡ Fault.Memory)
+        ⊎ (fault_next setup.now (known_of state.old) entry.now ≡ Some fault)) }
+{
+    match state {
+        Some(state) => take(state, alloc, entry),
+        None => {
+            let first = begin(alloc, entry, setup)?;
+            match state.replace(first) {
+                None => {}
+                Some(former) => former.stop(),
+            }
+            Ok(())
+        }
+    }
 }
 
 // What the first record leaves, which is the first opening.

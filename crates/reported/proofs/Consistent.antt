@@ -3,10 +3,13 @@ use Rattle.std.proofs.Common.{◌≡◌, ◌⊎◌, inl, inr, ℕ, zero, suc, Bo
 use Rattle.std.proofs.Common.{None, refl, sym, ap, ◌∙◌, subst}
 use Rattle.std.proofs.lemmas.List.{append-nil}
 use Rattle.record.specs.Serially.{LooksSerially, OrderedByTime, ReadsSerially}
-use Rattle.record.specs.Verdict.{IsLine}
+use Rattle.record.specs.Verdict.{IsLine, verdict}
+use Rattle.record.specs.VerdictLaws.{IsBorneOut, ReadsCommitted, SoundIsYes}
+use Rattle.units.specs.Lists.{when}
 use Rattle.units.specs.declared.line.Line.{Line}
+use Rattle.units.specs.declared.line.Verdict.TheVariants.{Yes}
 use Rattle.record.specs.declared.record.Record.{Record}
-use Rattle.record.specs.History.{history}
+use Rattle.record.specs.History.{Txn, find_txn, history}
 use Rattle.world.specs.World.{ShardNow, Unsure, Nothing, Shown, Hidden, counted_lines, line_counts, logs_of, read_log, run, shown_records}
 use Rattle.world.specs.Headline.{IsExternallyConsistent, IsUnsure, MayLeaveLog, MayLeaveLogs}
 use Rattle.law.proofs.WholeLaw.{externally_consistent}
@@ -56,13 +59,55 @@ fewer config logs lines some are h = record {
   order = λ t u at m n x ack began before found. h.order t u at m n x (are (Line.Ack t at m) ack) (are (Line.Begin u n) began) before found;
 }
 
-pub consistent : ReportsAreConsistent
-unfolding logs_of counted_lines
-consistent config es r h = record {
-  on_disks = h.disks;
-  consistent = subst (λ logs. IsExternallyConsistent config logs r.lines.items) (sym h.logs)
-      (subst (IsExternallyConsistent config (logs_of (run config es))) (sym h.lines)
-      (fewer config (logs_of (run config es)) (run config es).lines (counted_lines (logs_of (run config es)) (run config es).lines)
-      (λ l is. was_there (line_counts (history (logs_of (run config es)))) (run config es).lines l is)
-      (externally_consistent config es (logs_of (run config es)) h.fair (inl (all_may_leave (run config es).shards)))));
+-- a line that is kept passes
+passes : (p : Line → Bool) (ls : List Line) (l : Line) → IsLine (filter p ls) l → p l ≡ true
+passes p [] l h = absurd (nothing h.0 h.1)
+  where
+    nothing : (i : ℕ) → slice_get [] i ≡ Some l → ⊥
+    nothing i e = cc
+passes p (x ∷ ls) l h = by_test (p x) refl (λ k. passes p ls l k) h
+  where
+    by_place : p x ≡ true → (IsLine (filter p ls) l → p l ≡ true) → (i : ℕ) → slice_get (x ∷ filter p ls) i ≡ Some l → p l ≡ true
+    by_place kept rest zero e = subst (λ y. p y ≡ true) (one e) kept
+      where
+        one : Some x ≡ Some l → x ≡ l
+        one same = cc
+    by_place kept rest (suc i) e = rest (i, e)
+
+    by_test : (b : Bool) → p x ≡ b → (IsLine (filter p ls) l → p l ≡ true) → IsLine (cond b (x ∷ filter p ls) (filter p ls)) l → p l ≡ true
+    by_test true kept rest k = by_place kept rest k.0 k.1
+    by_test false dropped rest k = rest k
+
+found : (o : Option Txn) → when (λ u. true) o ≡ true → (u : Txn) × (o ≡ Some u)
+found None e = absurd (cc)
+found (Some u) e = (u, refl)
+
+-- each read that counts is of a transaction that is committed
+reads_committed : (logs : List (List Record)) (ls : List Line) → ReadsCommitted logs (filter (line_counts (history logs)) ls)
+reads_committed logs ls t k x is = found (find_txn (history logs) t) (passes (line_counts (history logs)) ls (Line.Read t k x) is)
+
+borne_out : (config : Config) (logs : List (List Record)) (lines : List Line) → IsExternallyConsistent config logs lines → IsBorneOut logs lines
+borne_out config logs lines h = record {
+  whole = λ t. (h.all_or_nothing t).0;
+  acknowledged = λ t at m is. (h.acknowledged t at m is).0;
+  looks = h.looks;
+  reads = h.reads;
+  order = h.order;
 }
+
+pub consistent : SoundIsYes → ReportsAreConsistent
+unfolding logs_of counted_lines
+consistent sound_is_yes config es r h =
+    let logs : List (List Record) = logs_of (run config es) in
+    let ends = fewer config logs (run config es).lines (counted_lines logs (run config es).lines)
+    (λ l is. was_there (line_counts (history logs)) (run config es).lines l is)
+    (externally_consistent config es logs h.fair (inl (all_may_leave (run config es).shards))) in
+    let is_yes : verdict logs (counted_lines logs (run config es).lines) ≡ Yes =
+    sound_is_yes logs (counted_lines logs (run config es).lines) (borne_out config logs (counted_lines logs (run config es).lines) ends)
+    (reads_committed logs (run config es).lines) in
+    record {
+      on_disks = h.disks;
+      consistent = subst (λ logs. IsExternallyConsistent config logs r.lines.items) (sym h.logs)
+          (subst (IsExternallyConsistent config logs) (sym h.lines) ends);
+      judged = subst (λ logs. verdict logs r.lines.items ≡ Yes) (sym h.logs) (subst (λ lines. verdict logs lines ≡ Yes) (sym h.lines) is_yes);
+    }

@@ -1,11 +1,16 @@
 //! The law of reports.
 ghost use Rattle.reported.specs.Reported.{ReportsAreConsistent};
 
+use record::sound_is_yes;
+
 /// The law of the store, of the report of each run that is played: the contract of a function that does nothing.
 ///
-/// The logs that a read of the run's own disks gives are taken by openings and hold each commit that its lines acknowledge;
-/// each transaction stands at one timestamp on all its shards or on none; its looks and its reads of committed transactions
-/// are those of the serial run by timestamp; and what began after an acknowledgement has the larger timestamp.
+/// The logs on the run's own disks, which every image that a crash may leave of them holds, are taken by openings and hold each commit
+/// that its lines acknowledge; each transaction stands at one timestamp on all its shards or on none; its looks and its reads of
+/// committed transactions are those of the serial run by timestamp; and what began after an acknowledgement has the larger timestamp.
+/// So the verdict on them is yes.
 pub fn reports()
     ensures { ReportsAreConsistent }
-{}
+{
+    sound_is_yes();
+}

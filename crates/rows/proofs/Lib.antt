@@ -1,4 +1,5 @@
 pub mod Ballots
+pub mod Earliest
 pub mod Lists
 pub mod Rooms
 pub mod Stamps

@@ -1,5 +1,6 @@
 -- What a contract sees of the rows and of their lock table.
-use Rattle.std.specs.Prelude.{◌≡◌, ℕ, Bool, true, List, [], ◌∷◌, map, slice_get, Option, None, Some}
+use Rattle.std.specs.Prelude.{◌≡◌, ◌≤◌, ℕ, nat_le, cond, Bool, true, List, [], ◌∷◌, map, slice_get, All, Option, None, Some, MatchOption}
+use Rattle.std.specs.List.{Contains}
 use Rattle.units.specs.Lists.{when, tail, gather}
 use Rattle.units.specs.Ids.{Id}
 use Rattle.units.specs.ById.{find_member, without_member}
@@ -110,3 +111,14 @@ nth_prepared rows n = slice_get (gather prepared_row rows) n
 
 abbrev pub nth_decided : List Row → ℕ → Option (Id × ℕ)
 nth_decided rows n = slice_get (gather decided_row rows) n
+
+-- the one of the lower timestamp, where both are there
+abbrev pub earlier : Option (Id × ℕ) → Option (Id × ℕ) → Option (Id × ℕ)
+earlier None other = other
+earlier (Some first) None = Some first
+earlier (Some first) (Some second) = cond (nat_le first.1 second.1) (Some first) (Some second)
+
+-- of some transactions with their timestamps one of the least, none where there are none
+abbrev pub IsEarliest : List (Id × ℕ) → Option (Id × ℕ) → Type 0
+IsEarliest stamps found = MatchOption found (stamps ≡ [])
+    (λ first. Contains stamps first × All (λ stamp. first.1 ≤ stamp.1) stamps)

@@ -7,6 +7,7 @@ ghost use Rattle.units.specs.ById.{IsById};
 ghost use Rattle.units.specs.Ids.{same_id, older};
 ghost use Rattle.units.specs.Lists.{gather};
 ghost use Rattle.rows.specs.CodeRows.{txn_of, has_txn, row_of, passes, is_reading, stamp_if_prepared, stamp_if_decided, without_txn, put_in, IsRowList};
+ghost use Rattle.rows.specs.RowTable.{IsEarliest, earlier};
 
 use crate::row::Row;
 use crate::states::RowReading;
@@ -76,6 +77,13 @@ impl RowList {
         ensures { result ≡ slice_get (gather stamp_if_decided self.now) n }
     {
         nth_decided(&self.rows, n)
+    }
+
+    /// A decided transaction of the least timestamp, with it.
+    pub fn earliest_decided(&self) -> Option<(TxnId, Stamp)>
+        ensures { IsEarliest (gather stamp_if_decided self.now) result }
+    {
+        earliest_decided(&self.rows)
     }
 
     /// Spends the token of each row.
@@ -180,6 +188,34 @@ fn nth_decided(rows: &[Row], n: usize) -> Option<(TxnId, Stamp)>
         }
     }
     None
+}
+
+// A decided transaction of the least timestamp.
+fn earliest_decided(rows: &[Row]) -> Option<(TxnId, Stamp)>
+    ensures { IsEarliest (gather stamp_if_decided rows.now) result }
+{
+    let mut earliest = None;
+    for row in rows {
+        earliest = earlier(earliest, row.decided());
+    }
+    earliest
+}
+
+// The one with the lower timestamp, where both are there.
+fn earlier(one: Option<(TxnId, Stamp)>, other: Option<(TxnId, Stamp)>) -> Option<(TxnId, Stamp)>
+    ensures { result ≡ earlier one other }
+{
+    match (one, other) {
+        (Some(first), Some(second)) => {
+            if first.1 <= second.1 {
+                Some(first)
+            } else {
+                Some(second)
+            }
+        }
+        (Some(first), None) => Some(first),
+        (None, second) => second,
+    }
 }
 
 // Where the transaction's row stands.

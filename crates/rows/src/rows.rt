@@ -6,7 +6,8 @@ ghost use Rattle.units.specs.LockLaws.{IsLawfulTable};
 ghost use Rattle.units.specs.Locks.{holds, is_free, ready, wounded};
 ghost use Rattle.protocol.specs.Rows.{Idle, claims, find_row, without_row, held_in, without_rows};
 ghost use Rattle.rows.specs.CodeRows.{phase_of, is_reading};
-ghost use Rattle.rows.specs.RowTable.{has_phase, put_row, nth_prepared, nth_decided, without_token};
+ghost use Rattle.rows.specs.RowTable.{has_phase, put_row, nth_prepared, nth_decided, decided_row, IsEarliest, without_token};
+ghost use Rattle.units.specs.Lists.{gather};
 
 use crate::list::RowList;
 use crate::row::Row;
@@ -145,6 +146,13 @@ impl Rows {
         ensures { result ≡ nth_decided self.now.rows n }
     {
         self.rows.nth_decided(n)
+    }
+
+    /// A decided transaction of the least commit timestamp, with it. None is decided where there is none.
+    pub fn earliest_decided(&self) -> Option<(TxnId, Stamp)>
+        ensures { IsEarliest (gather decided_row self.now.rows) result }
+    {
+        self.rows.earliest_decided()
     }
 
     /// Takes in a transaction that is new. It reads, and holds nothing. It is refused for want of memory alone.

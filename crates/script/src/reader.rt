@@ -1,4 +1,8 @@
 //! Schedules, line by line.
+ghost use Rattle.std.specs.Prelude.{◌≡◌, ◌≤◌, ◌+◌, [], length, IfErr, OnOk};
+ghost use Rattle.script.specs.Refusals.{IsNoSchedule};
+ghost use Rattle.texts.specs.Refusals.{IsNoText};
+
 use crate::events::event;
 use std::alloc::Global;
 use texts::{Kind, LineReader, NO_WORD, Values};
@@ -7,7 +11,9 @@ use world::{Config, Event};
 
 /// The shards and the events that a text tells. A line outside the grammar is refused with its number, from 1, as `syntax`;
 /// a head that ends early, with the number of the line that it lacks. Splits that do not ascend are refused as `splits`.
-pub fn schedule(alloc: Global, text: &str) -> Result<(Config, Vec<Event>), Fault> {
+pub fn schedule(alloc: Global, text: &str) -> Result<(Config, Vec<Event>), Fault>
+    ensures { IfErr result IsNoSchedule }
+{
     let mut reader = LineReader::of(text);
     let config = config(alloc, &mut reader)?;
     let mut events = Vec::new(alloc);
@@ -26,7 +32,9 @@ fn add_events(
     alloc: Global,
     reader: &mut LineReader<'_>,
     events: &mut Vec<Event>,
-) -> Result<(), Fault> {
+) -> Result<(), Fault>
+    ensures { IfErr result IsNoText }
+{
     for _ in 0..u64::MAX {
         let Some(words) = reader.next(alloc)? else {
             break;
@@ -42,7 +50,9 @@ fn add_events(
 }
 
 // The shards, by the first lines.
-fn config(alloc: Global, reader: &mut LineReader<'_>) -> Result<Config, Fault> {
+fn config(alloc: Global, reader: &mut LineReader<'_>) -> Result<Config, Fault>
+    ensures { IfErr result IsNoSchedule }
+{
     let mut keys = Vec::new(alloc);
     let config = config_of(alloc, reader, &mut keys);
     drop(keys);
@@ -54,7 +64,10 @@ fn config_of(
     alloc: Global,
     reader: &mut LineReader<'_>,
     keys: &mut Vec<Key>,
-) -> Result<Config, Fault> {
+) -> Result<Config, Fault>
+    requires { keys.old.items ≡ [] }
+    ensures { IfErr result IsNoSchedule }
+{
     let mut values = Values::none();
     read_head(alloc, reader, &mut values, "shards", Kind::Number)?;
     add_splits(alloc, reader, values.number, keys)?;
@@ -72,12 +85,16 @@ fn add_splits(
     reader: &mut LineReader<'_>,
     count: u64,
     keys: &mut Vec<Key>,
-) -> Result<(), Fault> {
+) -> Result<(), Fault>
+    requires { keys.old.items ≡ [] }
+    ensures few { OnOk result (length keys.new.items ≤ 15) }
+    ensures refused { IfErr result IsNoText }
+{
     if count == 0 || count > 16 {
         return Err(reader.fault(NO_WORD));
     }
     let mut values = Values::none();
-    for _ in 1..count {
+    for _split in 1..count {
         read_head(alloc, reader, &mut values, "split", Kind::Key)?;
         keys.push(values.key)?;
     }
@@ -91,7 +108,9 @@ fn read_head(
     values: &mut Values,
     name: &str,
     kind: Kind,
-) -> Result<(), Fault> {
+) -> Result<(), Fault>
+    ensures { IfErr result IsNoText }
+{
     if let Some(word) = reader.head(alloc, name)? {
         if values.read_word(kind, word) {
             return Ok(());

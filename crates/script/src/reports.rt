@@ -2,6 +2,7 @@
 ghost use Rattle.std.specs.Prelude.{◌≡◌, IfErr};
 
 use crate::plays::Played;
+use output::VerdictText;
 use playing::Report;
 use std::alloc::Global;
 use std::fmt;
@@ -29,7 +30,7 @@ impl fmt::Display for Played {
         for line in &self.report.lines {
             writeln!(f, "{}", Text(line))?;
         }
-        writeln!(f, "verdict {}", Text(&self.verdict))
+        writeln!(f, "verdict {}", VerdictText(self.verdict))
     }
 }
 

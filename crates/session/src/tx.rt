@@ -94,7 +94,8 @@ impl<'s> Tx<'s, Open> {
         }
     }
 
-    /// A transaction of a run, whose number is drawn. A drawer that may draw no more is `TimeSpent`.
+    /// A transaction of a run, whose number is drawn: no two of one run and one source share an id, by `ids_stay_apart` of `tickets`. A
+    /// drawer that may draw no more is `TimeSpent`.
     pub fn begin_drawn(
         alloc: Global,
         run: Run,
@@ -120,7 +121,9 @@ impl<'s> Tx<'s, Open> {
     }
 
     /// Asks the key's shard for its value. More than 128 keys are `many`; a key whose answer was taken is `again`, one
-    /// whose answer is not yet taken is `awaited`; a transaction that can only give up is `doomed`.
+    /// whose answer is not yet taken is `awaited`; a transaction that can only give up is `doomed`. A shard passes over a read
+    /// of a transaction whose earlier read waits there, and says nothing of it: it is to be sent again, as soon as the
+    /// earlier one is answered.
     pub fn read(&mut self, key: Key) -> Result<Envelope, Fault>
         ensures splits { self.new.splits ≡ self.old.splits }
         ensures step { MatchResult result
@@ -189,6 +192,13 @@ impl<'s> Tx<'s, Open> {
         drop_write(&mut self.writes, &key);
         insert_write(&mut self.writes, Write { key, value });
         Ok(())
+    }
+
+    /// Its id.
+    pub fn txn(&self) -> TxnId
+        ensures { result ≡ self.now.client.txn }
+    {
+        self.txn
     }
 
     /// No key that is awaited was taken before.

@@ -66,10 +66,10 @@ abbrev pub splits_in : ℕ → Members → Option (List Bytes)
 splits_in shards ms = option_and_then (parted shards)
     (option_and_then keys_in (option_and_then as_array (get_member (codes "splits") ms)))
 
--- a text, or nothing
+-- a text that is not empty, or nothing
 abbrev pub text_or_none : Option Data → Option (Option Bytes)
 text_or_none None = Some None
-text_or_none (Some d) = option_map (λ s. Some s) (as_str d)
+text_or_none (Some d) = option_and_then (λ s. if_passes (nat_le 1 (length s)) (Some s)) (as_str d)
 
 abbrev pub dir_in : Members → Option (Option Bytes)
 dir_in ms = text_or_none (get_member (codes "dir") ms)

@@ -38,7 +38,7 @@ pub struct Settings {
 
 impl Settings {
     /// The settings that a TOML text gives. Its keys are `shards` (1 to 16), `splits` (an array of texts of 1 to 64 bytes that ascend,
-    /// one less than the shards), `dir`, which may be left out, and the other fields by their names. Any other text is refused as
+    /// one less than the shards), `dir` (a text that is not empty), which may be left out, and the other fields by their names. Any other text is refused as
     /// `settings`.
     pub fn read(alloc: Global, text: &str) -> Result<Settings, Fault>
         ensures { MatchResult result

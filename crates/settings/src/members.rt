@@ -1,5 +1,5 @@
 // The members of a table that are read.
-ghost use Rattle.std.specs.Prelude.{◌≡◌, ◌≤◌, Some, IfOk, MatchResult, option_and_then, option_map, string_bytes, codes};
+ghost use Rattle.std.specs.Prelude.{◌≡◌, ◌≤◌, Some, IfOk, MatchResult, option_and_then, option_map, string_bytes, codes, length, nat_le};
 ghost use Rattle.std.specs.BTreeMap.{keys};
 ghost use Rattle.std.specs.List.{list_all};
 ghost use Rattle.toml.specs.Data.{as_array, as_integer, get_member};
@@ -102,8 +102,15 @@ pub(crate) fn folder(alloc: Global, table: &Table) -> Result<Option<String>, Fau
     match member(table, "dir") {
         None => Ok(None),
         Some(value) => match value.as_str() {
-            Some(text) => Ok(Some(String::from_str(alloc, text)?)),
-            None => Err(WRONG),
+            Some(text) if names_some(text) => Ok(Some(String::from_str(alloc, text)?)),
+            _ => Err(WRONG),
         },
     }
+}
+
+// It is not empty.
+fn names_some(text: &str) -> bool
+    ensures { result ≡ nat_le 1 (length text.now) }
+{
+    1 <= text.len()
 }

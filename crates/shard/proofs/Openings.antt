@@ -1,12 +1,14 @@
 -- The next opening behind what a log leaves.
 use Rattle.std.proofs.Common.{◌≡◌, ◌∙◌, ℕ, ◌+◌, true, IsFalse, List, [], ◌∷◌, Option, Some, Ok, inl, inr, refl, sym, ap, subst, arith}
+use Rattle.std.proofs.Math.Logic.{∥∥₁_elim, ∥∥₁_map}
+use Rattle.shard.proofs.Plans.{by_id-prop}
 use Rattle.std.proofs.lemmas.Bool.Decides.{nat_tests}
 use Rattle.record.specs.Facts.{Facts, facts_of, learn}
 use Rattle.record.specs.Installs.{installs_of}
 use Rattle.record.specs.declared.record.Record.{Record}
 use Rattle.facts.specs.Rules.{follows_facts}
 use Rattle.protocol.specs.Plan as protocol
-use Rattle.protocol.specs.Rows.{Memory, rebuilt}
+use Rattle.protocol.specs.Rows.{Memory, Row, rebuilt}
 use Rattle.protocol.specs.Plan.{carried, ended_by, after_change}
 use Rattle.protocol.specs.Step.{facts_after}
 use Rattle.protocol.specs.Sound.{FreshIsSound, IsSound, OpeningKeepsSound}
@@ -60,18 +62,18 @@ opened_memory k p last logged again same plan =
     ∙ ap (λ m. record { last = m.last; rows = m.rows; ended = m.ended }) again
 
 -- and may be logged and carried out
-pub opening_due : OpeningKeepsSound → (k : Kept) (p : Plan) (last : ℕ) → k.memory ≡ rebuilt k.facts → IsSound k.setup.shard k.facts k.memory →
+pub opening_due : OpeningKeepsSound → (k : Kept) (p : Plan) (last : ℕ) → k.memory ≡ rebuilt k.facts → ∥ IsSound k.setup.shard k.facts k.memory ∥₁ →
     IsShowable k.facts k.memory → last ≡ k.memory.last → IsFit k p
     → plan_of k.memory.rows p ≡ record { wounded = []; change = protocol.Keeps; logged = Some (next k.facts); last = last; outbox = [] } → IsDue k p
 opening_due law k p last again sound showable same fit plan = record {
-  order = by_id-claims k.memory.rows sound.table.order;
+  order = ∥∥₁_elim sound (by_id-prop (λ (r : Row). r.txn) k.memory.rows) (λ s. by_id-claims k.memory.rows s.table.order);
   fit = fit;
   follows = subst (MayFollow k.setup.shard k.facts) (sym logged) (follows_next k.setup.shard k.facts);
   installs = subst (λ o. MayInstall k.facts o (writes_installed k.facts o)) (sym logged) tt;
-  sound =
-      ∣ subst (λ o. IsSound k.setup.shard (facts_after k.facts o) (carried (plan_of k.memory.rows p) k.memory)) (sym logged)
+  sound = ∥∥₁_map sound (λ s.
+      subst (λ o. IsSound k.setup.shard (facts_after k.facts o) (carried (plan_of k.memory.rows p) k.memory)) (sym logged)
       (subst (IsSound k.setup.shard (learn k.facts (next k.facts))) (sym (opened_memory k (plan_of k.memory.rows p) last (Some (next k.facts)) again same plan))
-      (law k.setup.shard k.facts k.memory sound)) ∣₁;
+      (law k.setup.shard k.facts k.memory s)));
   showable =
       subst (λ o. IsShowable (facts_after k.facts o) (carried (plan_of k.memory.rows p) k.memory)) (sym logged)
       (subst (IsShowable (learn k.facts (next k.facts))) (sym (opened_memory k (plan_of k.memory.rows p) last (Some (next k.facts)) again same plan))

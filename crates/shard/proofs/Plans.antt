@@ -43,7 +43,7 @@ may_install facts (Some (Record.Commit c)) installs = tt
 may_install facts (Some (Record.Abort t)) installs = tt
 may_install facts (Some (Record.Ceiling at)) installs = tt
 
-by_id-prop : {A : Type 0} (id : A → Id) (xs : List A) → IsProp (IsById id xs)
+pub by_id-prop : {A : Type 0} (id : A → Id) (xs : List A) → IsProp (IsById id xs)
 by_id-prop id [] = Unit-prop
 by_id-prop id (x ∷ xs) = ×_prop (hlevel props) (by_id-prop id xs)
 

@@ -7,3 +7,4 @@ pub mod Settled
 pub mod Core
 pub mod Look
 pub mod Opened
+pub mod Taking

@@ -16,7 +16,6 @@ ghost use Rattle.shard.specs.On.{HasStepped, IsLogFull};
 use crate::machine::Machine;
 use book::{Book, Page};
 use disk::Disk;
-use gatelog::Entry;
 use memory::Plan;
 use message::{Input, Outbox};
 use record::Record;
@@ -24,39 +23,27 @@ use std::alloc::Global;
 use truetime::Reading;
 use units::{Book as Setting, Fault};
 
-// The book of a shard that was told this, whose opening found these entries.
-pub(crate) fn begin_book(
+// The book of a shard that was told this, whose opening found these records.
+pub(crate) fn book_of_records(
     alloc: Global,
     setting: Setting,
-    entries: &[Entry],
+    found: Vec<Record>,
 ) -> Result<Option<Book>, Fault>
-    ensures new { IfOk result (λ book. book ≡ new_book setting (items entries.now)) }
+    ensures new { IfOk result (λ book. book ≡ new_book setting found.items) }
     ensures memory { IfErr result (λ fault. fault ≡ Fault.Memory) }
 {
     match setting {
-        Setting::Off => Ok(None),
+        Setting::Off => {
+            drop(found);
+            Ok(None)
+        }
         Setting::On(capacity) => {
-            let Ok(found) = records_of(alloc, entries) else {
-                return Err(Fault::Memory);
-            };
             let Ok(book) = Book::new(alloc, capacity, found) else {
                 return Err(Fault::Memory);
             };
             Ok(Some(book))
         }
     }
-}
-
-// The records of some entries, with memory of their own.
-fn records_of(alloc: Global, entries: &[Entry]) -> Result<Vec<Record>, Fault>
-    ensures same { IfOk result (λ records. records.items ≡ items entries.now) }
-    ensures memory { IfErr result (λ fault. fault ≡ Fault.Memory) }
-{
-    let mut records = Vec::new(alloc);
-    for entry in entries {
-        records.push(entry.item().copy(alloc)?)?;
-    }
-    Ok(records)
 }
 
 // The page of an input that would be taken. Its memory is taken here.

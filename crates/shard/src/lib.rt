@@ -2,11 +2,13 @@
 #![tactic(auto)]
 
 mod addressing;
-mod ascending;
 mod booking;
 mod inputs;
 mod logging;
 mod machine;
+mod opening;
 mod shard_core;
 
+pub use message::Input;
 pub use shard_core::Core;
+pub use units::Setup;

@@ -176,7 +176,7 @@ impl<D: Disk> Machine<D> {
             → facts_logged (records_in (surface (D.file (disk_of gate_log))).seen) ≡
             Some state.facts }
         requires rebuilt { state.memory ≡ rebuilt state.facts }
-        requires sound { IsSound state.setup.shard state.facts state.memory }
+        requires sound { ∥ IsSound state.setup.shard state.facts state.memory ∥₁ }
         requires showable { IsShowable state.facts state.memory }
         ensures setup { IfOk result (λ machine. (seen_machine machine).setup ≡ state.setup) }
         ensures facts { IfOk result

@@ -11,7 +11,8 @@ ghost use Rattle.memory.specs.Plans.{plan_of};
 ghost use Rattle.protocol.specs.Rows.{claims};
 ghost use Rattle.protocol.specs.Sound.{IsSound};
 ghost use Rattle.protocol.specs.Step.{plan_input};
-ghost use Rattle.rows.specs.RowTable.{nth_prepared, nth_decided};
+ghost use Rattle.rows.specs.RowTable.{nth_prepared, nth_decided, decided_row, IsEarliest};
+ghost use Rattle.units.specs.Lists.{gather};
 ghost use Rattle.protocol.specs.Showable.{IsShowable};
 ghost use Rattle.shard.specs.Booked.{HasEntered, IsCrowded, stand_of};
 ghost use Rattle.shard.specs.Due.{IsDue};
@@ -22,9 +23,9 @@ ghost use Rattle.shard.specs.Look.{IsLook, IsSeen, safe_at};
 ghost use Rattle.shard.specs.Settled.{IsDurablySettled};
 ghost use Rattle.units.specs.Locks.{ready};
 
-use crate::ascending::all_ascend;
-use crate::booking::{begin_book, write_page};
+use crate::booking::write_page;
 use crate::machine::Machine;
+use crate::opening::Opening;
 use book::{Book, a_page_is_a_step};
 use disk::Disk;
 use gatelog::GateLog;
@@ -32,7 +33,6 @@ use memory::Plan;
 use message::{Input, Outbox};
 use protocol::taken_is_showable;
 use record::{Record, accepted_follows, learn_agrees, learnt_agrees};
-use recovery::rebuild;
 use std::alloc::Global;
 use truetime::Reading;
 use units::{Epoch, Fault, Install, Key, Seen, Setup, Stamp, TxnId};
@@ -68,29 +68,23 @@ impl<D: Disk> Core<D> {
         learn_agrees();
         accepted_follows();
         taken_is_showable();
-        let (gate_log, entries) = GateLog::open(alloc, disk)?;
-        let book = match begin_book(alloc, setup.book, &entries) {
-            Ok(book) => book,
-            Err(fault) => {
-                drop(entries);
-                return Err((fault, gate_log.into_disk()));
+        let mut opening = match Opening::new(alloc, &setup) {
+            Ok(opening) => opening,
+            Err(fault) => return Err((fault, disk)),
+        };
+        let gate_log = match GateLog::scan(alloc, disk, &mut opening) {
+            Ok(gate_log) => gate_log,
+            Err(refused) => {
+                opening.stop();
+                return Err(refused);
             }
         };
-        match rebuild(alloc, &entries, &setup) {
-            Ok(Some(state)) => {
-                all_ascend(&entries);
-                drop(entries);
-                Core::with_book(Machine::take_up(alloc, gate_log, state), book)
-            }
-            Ok(None) => {
-                drop(entries);
-                Core::with_book(Machine::begin(alloc, gate_log, setup), book)
-            }
-            Err(fault) => {
-                drop(entries);
-                drop(book);
-                Err((fault, gate_log.into_disk()))
-            }
+        match opening.finish(alloc) {
+            Ok((state, book)) => match state {
+                Some(state) => Core::with_book(Machine::take_up(alloc, gate_log, state), book),
+                None => Core::with_book(Machine::begin(alloc, gate_log, setup), book),
+            },
+            Err(fault) => Err((fault, gate_log.into_disk())),
         }
     }
 
@@ -187,6 +181,13 @@ impl<D: Disk> Core<D> {
         ensures { result ≡ nth_decided (seen self.now).memory.rows n }
     {
         self.machine.state.nth_decided(n)
+    }
+
+    /// A transaction that is decided and not settled, of the least timestamp, with it.
+    pub fn earliest_decided(&self) -> Option<(TxnId, Stamp)>
+        ensures { IsEarliest (gather decided_row (seen self.now).memory.rows) result }
+    {
+        self.machine.state.earliest_decided()
     }
 
     /// The value of a key at a timestamp that is served, put at the front of the buffer. A core that is stopped still answers.

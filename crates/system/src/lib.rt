@@ -3,8 +3,10 @@
 
 mod asked;
 mod kept;
+mod notes;
 mod reading;
 
 pub use asked::{Driven, System};
 pub use kept::Files;
-pub use reading::{format_file, open_all, read_text};
+pub use notes::Note;
+pub use reading::{MOST_TEXT, format_file, open_all, read_text};

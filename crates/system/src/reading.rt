@@ -1,5 +1,5 @@
 //! Texts and logs in files.
-ghost use Rattle.std.specs.Prelude.{◌≡◌, ◌⊎◌, IfOk, IfErr, length};
+ghost use Rattle.std.specs.Prelude.{◌≡◌, ◌⊎◌, ◌≤◌, ◌^◌, IfOk, IfErr, length, string_bytes};
 ghost use Rattle.units.specs.declared.fault.Fault.TheVariants.{BadRequest, Device, Memory};
 
 use crate::kept::Files;
@@ -7,17 +7,32 @@ use gatelog::GateLog;
 use std::alloc::Global;
 use units::{Fault, Reason};
 
-/// The text of a file. Bytes that are no UTF-8 are refused for the reason that is given.
+/// How many bytes a text may have: 256 MiB. No more than one byte beyond is read of a file.
+pub const MOST_TEXT: u64 = 1 << 28;
+
+/// The text of a file. A text of more than 256 MiB, and bytes that are no UTF-8, are refused for the reason that is given.
 pub fn read_text<F: Files>(
     alloc: Global,
     files: &F,
     path: &str,
     no_text: Reason,
 ) -> Result<String, Fault>
-    ensures { IfErr result
+    ensures refused { IfErr result
         (λ fault. (fault ≡ Memory) ⊎ ((fault ≡ Device) ⊎ (fault ≡ BadRequest no_text))) }
+    ensures limit { IfOk result (λ text. length (string_bytes text) ≤ 2 ^ 28) }
 {
-    let bytes = files.read(alloc, path)?;
+    let bytes = files.read(alloc, path, MOST_TEXT + 1)?;
+    text_of(bytes, no_text)
+}
+
+// Some bytes as a text, where they are one and not too many.
+fn text_of(bytes: Vec<u8>, no_text: Reason) -> Result<String, Fault>
+    ensures refused { IfErr result (λ fault. fault ≡ BadRequest no_text) }
+    ensures limit { IfOk result (λ text. length (string_bytes text) ≤ 2 ^ 28) }
+{
+    if bytes.len() as u64 > MOST_TEXT {
+        return Err(Fault::BadRequest(no_text));
+    }
     String::from_utf8(bytes).map_err(|_error| Fault::BadRequest(no_text))
 }
 
@@ -32,7 +47,7 @@ pub fn format_file<F: Files>(alloc: Global, files: &F, path: &str) -> Result<(),
     }
 }
 
-/// Opens some files, in their order.
+/// Opens some files to be read, in their order.
 pub fn open_all<F: Files>(alloc: Global, files: &F, paths: &[&str]) -> Result<Vec<F::Log>, Fault>
     ensures all { IfOk result (λ opened. length opened.items ≡ length paths.now) }
     ensures refused { IfErr result (λ fault. (fault ≡ Memory) ⊎ (fault ≡ Device)) }

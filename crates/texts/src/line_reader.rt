@@ -1,4 +1,7 @@
 //! Texts, line by line.
+ghost use Rattle.std.specs.Prelude.{IfErr};
+ghost use Rattle.texts.specs.Refusals.{IsNoText};
+
 use crate::forms::{Form, Kind, Values};
 use crate::words::{NO_WORD, shown};
 use std::alloc::Global;
@@ -22,7 +25,9 @@ impl<'t> LineReader<'t> {
     }
 
     /// The words of the next line, where there is one. A line ends in a line feed, and its words are parted by one space.
-    pub fn next(&mut self, alloc: Global) -> Result<Option<Vec<&'t str>>, Fault> {
+    pub fn next(&mut self, alloc: Global) -> Result<Option<Vec<&'t str>>, Fault>
+        ensures { IfErr result IsNoText }
+    {
         self.number = self.number.saturating_add(1);
         let Some(line) = self.lines.next() else {
             return Ok(None);
@@ -34,7 +39,9 @@ impl<'t> LineReader<'t> {
     }
 
     /// The word behind a values one on the next line, where the two are all of it.
-    pub fn head(&mut self, alloc: Global, name: &str) -> Result<Option<&'t str>, Fault> {
+    pub fn head(&mut self, alloc: Global, name: &str) -> Result<Option<&'t str>, Fault>
+        ensures { IfErr result IsNoText }
+    {
         let Some(words) = self.next(alloc)? else {
             return Ok(None);
         };
@@ -47,7 +54,9 @@ impl<'t> LineReader<'t> {
     }
 
     /// What the line of the last words is refused with, by what one of them was refused with.
-    pub fn fault(&self, fault: Fault) -> Fault {
+    pub fn fault(&self, fault: Fault) -> Fault
+        ensures { IsNoText result }
+    {
         match fault {
             Fault::Memory => Fault::Memory,
             _ => Fault::BadRequest(Reason::Syntax(self.number)),
@@ -56,7 +65,9 @@ impl<'t> LineReader<'t> {
 }
 
 /// The lines of a report that a text tells. One outside the grammar is refused with its number, from 1.
-pub fn lines(alloc: Global, text: &str) -> Result<Vec<Line>, Fault> {
+pub fn lines(alloc: Global, text: &str) -> Result<Vec<Line>, Fault>
+    ensures { IfErr result IsNoText }
+{
     let mut reader = LineReader::of(text);
     let mut lines = Vec::new(alloc);
     match add_lines(alloc, &mut reader, &mut lines) {
@@ -69,11 +80,9 @@ pub fn lines(alloc: Global, text: &str) -> Result<Vec<Line>, Fault> {
 }
 
 // Puts in the lines that are left.
-fn add_lines(
-    alloc: Global,
-    reader: &mut LineReader<'_>,
-    lines: &mut Vec<Line>,
-) -> Result<(), Fault> {
+fn add_lines(alloc: Global, reader: &mut LineReader<'_>, lines: &mut Vec<Line>) -> Result<(), Fault>
+    ensures { IfErr result IsNoText }
+{
     for _ in 0..u64::MAX {
         let Some(words) = reader.next(alloc)? else {
             break;

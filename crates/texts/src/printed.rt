@@ -4,7 +4,7 @@ use crate::printed::Word::{
 };
 use message::{Address, Answer, Commit, Message, Prepare};
 use record::Record;
-use units::{Line, ShardNo, TxnId, Verdict};
+use units::{Line, ShardNo, TxnId};
 
 /// A word of a line that is printed, or none.
 #[derive(Clone, Copy)]
@@ -136,16 +136,5 @@ pub fn line_words(line: &Line) -> [Word<'_>; 4] {
         Line::Ack(txn, at, moment) => [Plain("ack"), Txn(*txn), Stamp(*at), Number(*moment)],
         Line::Read(txn, key, value) => [Plain("read"), Txn(*txn), Key(key), Value(value)],
         Line::Look(key, at, value) => [Plain("look"), Key(key), Stamp(*at), Value(value)],
-    }
-}
-
-/// The words of a verdict.
-pub fn verdict_words(verdict: &Verdict) -> [Word<'static>; 3] {
-    match *verdict {
-        Verdict::Yes => [Plain("yes"), NO, NO],
-        Verdict::Torn(txn) => [Plain("no torn"), Txn(txn), NO],
-        Verdict::Lost(txn) => [Plain("no lost"), Txn(txn), NO],
-        Verdict::WrongRead(line) => [Plain("no read"), Number(line), NO],
-        Verdict::WrongOrder(begin, ack) => [Plain("no order"), Number(begin), Number(ack)],
     }
 }

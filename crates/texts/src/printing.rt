@@ -1,9 +1,9 @@
 //! How each thing of schedules and reports is printed.
-use crate::printed::{Word, address_words, line_words, message_words, record_words, verdict_words};
+use crate::printed::{Word, address_words, line_words, message_words, record_words};
 use message::Envelope;
 use record::Record;
 use std::fmt;
-use units::{Key, Keys, Line, Parts, Stamp, Value, Verdict, Writes};
+use units::{Key, Keys, Line, Parts, Stamp, Value, Writes};
 
 /// A thing, to be printed. A byte of a key or a value is printed as one character.
 #[derive(Drop)]
@@ -142,11 +142,5 @@ impl fmt::Display for Text<'_, Envelope> {
 impl fmt::Display for Text<'_, Line> {
     fn fmt<W: fmt::Write>(&self, f: &mut fmt::Formatter<W>) -> fmt::Result {
         write_words(f, &line_words(self.0))
-    }
-}
-
-impl fmt::Display for Text<'_, Verdict> {
-    fn fmt<W: fmt::Write>(&self, f: &mut fmt::Formatter<W>) -> fmt::Result {
-        write_words(f, &verdict_words(self.0))
     }
 }

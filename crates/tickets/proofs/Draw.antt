@@ -9,7 +9,8 @@ use Rattle.atomic_table.specs.Table.{State, Allows, Splits, keeps}
 use Rattle.atomic_table.proofs.Lists.{at_set, at_snoc, set_else}
 use Rattle.tickets.specs.declared.rule.Hand.{Hand}
 use Rattle.tickets.specs.Draws.{times, once_below, IsDrawn}
-use Rattle.tickets.specs.EachOnce.{EachOnce, WordCounts}
+use Rattle.units.specs.Ids.{Id}
+use Rattle.tickets.specs.EachOnce.{EachOnce, WordCounts, IdsDiffer, IdsStayApart, id_of}
 
 total-set : {A : Type 0} (f : A → ℕ) (l : List A) (j : ℕ) (v w : A) → get_elem? l j ≡ some v → sum_by f (set l j w) + f v ≡ sum_by f l + f w
 total-set f [] j v w e = absurd (some-ne-none v (sym e))
@@ -157,3 +158,24 @@ each_once s is =
 
     has_one : (x : ℕ) → x < is.word → once_below x is.word ≡ 1
     has_one x h = grind (arith, nat_tests)
+
+-- the numbers of equal ids are equal
+number_of : (run x y : ℕ) → id_of run x ≡ id_of run y → x ≡ y
+number_of run x y same = ap (λ (t : Id). t.number) same
+
+counts_itself : (x y : ℕ) → x ≡ y → 1 ≤ (if nat_eq x y then 1 else 0)
+counts_itself x y same = grind (arith, nat_tests)
+
+-- ids of numbers that are drawn once differ
+pub ids_differ : IdsStayApart
+ids_differ s is =
+    let counts = each_once s is in
+    record {
+      drawers = λ one two v w run x y other at_one at_two in_one in_two same.
+          let there : 0 < times x w = subst (λ (n : ℕ). 0 < times n w) (sym (number_of run x y same)) in_two in
+          omega (arith, counts.apart one two v w x other at_one at_two, in_one, there);
+      draws = λ seat v earlier run x y at last in_earlier same.
+          let more : times x v ≡ times x earlier + (if nat_eq x y then 1 else 0) =
+          ap (sum_by (λ (z : ℕ). if nat_eq x z then 1 else 0)) last ∙ times-snoc x y earlier in
+          omega (arith, counts.once seat v x at, more, counts_itself x y (number_of run x y same), in_earlier);
+    }

@@ -4,4 +4,4 @@
 mod rule;
 mod source;
 
-pub use source::{Drawer, Tickets, each_once};
+pub use source::{Drawer, Tickets, each_once, ids_stay_apart};

@@ -1,7 +1,7 @@
 //! A source of tickets, and those who draw from it.
 ghost use Rattle.std.specs.Prelude.{◌≡◌, ◌<◌, ◌≤◌, ◌^◌, ◌-◌, ◌⊎◌, [], ◌∷◌, ◌++◌, length, All, IfOk, IfErr, Err, MatchResult};
 ghost use Rattle.tickets.specs.Draws.{IsNew, IsRest};
-ghost use Rattle.tickets.specs.EachOnce.{WordCounts};
+ghost use Rattle.tickets.specs.EachOnce.{IdsStayApart, WordCounts};
 
 use crate::rule::{Counter, Drawn, Hand, OneDrawer};
 use atomic_table::{Seat, Table};
@@ -133,4 +133,9 @@ impl Tickets {
 /// below the word.
 pub fn each_once()
     ensures { WordCounts }
+{}
+
+/// What that means for sessions of one run whose ids have numbers of one source: no two of them share an id.
+pub fn ids_stay_apart()
+    ensures { IdsStayApart }
 {}

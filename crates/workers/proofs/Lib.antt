@@ -1,3 +1,5 @@
 pub mod Values
 pub mod Reports
 pub mod Staffs
+pub mod Buffered
+pub mod Turns

@@ -1,5 +1,6 @@
 pub mod Course
 pub mod Keys
 pub mod Summaries
+pub mod Turns
 pub mod Reports
 pub mod Staffs

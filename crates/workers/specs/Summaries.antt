@@ -1,23 +1,26 @@
 -- What is printed of a drive.
-use Rattle.std.specs.Prelude.{ℕ, ◌+◌, List, ◌++◌, codes}
+use Rattle.std.specs.Prelude.{ℕ, ◌+◌, Bool, true, false, List, ◌++◌, codes}
 use Rattle.std.specs.Fmt.{decimal}
-use Rattle.units.specs.Texts.{txn_text}
+use Rattle.progress.specs.declared.turn.Ended.{Ended}
+use Rattle.progress.specs.declared.turn.Ended.TheVariants.{Committed, Aborted, Unknown}
 use Rattle.units.specs.declared.line.Verdict.{Verdict}
-use Rattle.units.specs.declared.line.Verdict.TheVariants.{Yes, Torn, Lost, WrongRead, WrongOrder}
+use Rattle.output.specs.Verdicts.{text_of}
 use Rattle.workers.specs.declared.summary.Counts.{Counts}
 
 -- how many transactions were tried
 abbrev pub tried : Counts → ℕ
 tried c = c.committed + c.aborted + c.unknown
 
--- the verdict
-abbrev pub verdict_text : Verdict → List ℕ
-verdict_text Yes = codes "yes"
-verdict_text (Torn txn) = codes "no torn " ++ txn_text txn
-verdict_text (Lost txn) = codes "no lost " ++ txn_text txn
-verdict_text (WrongRead line) = codes "no read " ++ decimal line
-verdict_text (WrongOrder begin ack) =
-    codes "no order " ++ (decimal begin ++ (codes " " ++ decimal ack))
+-- a transaction that ended so counts this often among those that committed
+abbrev pub one_if_committed : Ended → ℕ
+one_if_committed Committed = 1
+one_if_committed Aborted = 0
+one_if_committed Unknown = 0
+
+-- a look that was answered counts once
+abbrev pub one_if : Bool → ℕ
+one_if true = 1
+one_if false = 0
 
 -- a line of a word and a number
 abbrev pub line : List ℕ → ℕ → List ℕ
@@ -30,4 +33,4 @@ summary_text c v =
     ++ (line (codes "aborted") c.aborted
     ++ (line (codes "unknown") c.unknown
     ++ (line (codes "looks") c.looks
-    ++ (codes "verdict " ++ (verdict_text v ++ codes "\n")))))
+    ++ (codes "verdict " ++ (text_of v ++ codes "\n")))))

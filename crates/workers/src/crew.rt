@@ -46,6 +46,7 @@ impl Staff {
             rt,
             alloc: shared.alloc,
             network: &shared.network,
+            stop: &shared.stop,
             inbox: self.inboxes.pop().unwrap(),
             silences: 0,
         };
@@ -58,7 +59,6 @@ impl Staff {
             viewers: self.viewers.by_worker.pop().unwrap(),
             clock,
             watch,
-            lines: Vec::new(shared.alloc),
         }
     }
 }

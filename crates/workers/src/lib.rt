@@ -17,7 +17,7 @@ mod worker;
 pub use course::Course;
 pub use crew::{Staff, work_and_close};
 pub use machine_clock::MachineClock;
-pub use shared::{Drawers, Shared};
+pub use shared::{Drawers, Shared, Stop};
 pub use summary::{Counts, Summary};
 pub use viewers::Viewers;
 pub use worker::Report;

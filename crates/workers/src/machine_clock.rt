@@ -1,5 +1,5 @@
 //! The machine's clock as intervals.
-ghost use Rattle.std.specs.Prelude.{◌≡◌, ◌+◌, ◌-◌, ◌≤◌, ◌^◌, ⊤, MatchOption};
+ghost use Rattle.std.specs.Prelude.{◌≡◌, ◌+◌, ◌-◌, ◌≤◌, ◌^◌, ⊤, ℕ, IfSome, MatchOption};
 
 use std::alloc::AllocError;
 use std::time;
@@ -26,7 +26,11 @@ impl<R> Clone for MachineClock<'_, R> {
 impl<R> Copy for MachineClock<'_, R> {}
 
 impl<R: time::Clock> Clock for MachineClock<'_, R> {
-    fn now(&mut self) -> Option<Reading> {
+    fn now(&mut self) -> Option<Reading>
+        ensures wide { IfSome result (λ now. (micros : ℕ)
+            × (now.earliest ≡ micros - self.old.epsilon)
+            × (now.latest ≡ micros + self.old.epsilon)) }
+    {
         let since = self.rt.since_1970().ok()?;
         let micros = u64::try_from(since.as_micros()).ok()?;
         around(micros, self.epsilon)

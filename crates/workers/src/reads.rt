@@ -1,4 +1,9 @@
 //! The reads of a transaction, and their answers.
+ghost use Rattle.std.specs.List.{list_all};
+ghost use Rattle.std.specs.Prelude.{◌≡◌, ◌<◌, ◌∷◌, ◌++◌, [], length, IfSome, OnOk, Some};
+ghost use Rattle.units.specs.declared.line.Line.TheVariants.{Ack};
+ghost use Rattle.workers.specs.Turns.{AreNext, asked_keys, is_answered, read_lines, IsNextOf};
+
 use crate::counting::next_value;
 use letters::Network;
 use message::{Address, Envelope, Message, Read, ReadAnswer};
@@ -11,7 +16,7 @@ use units::{Fault, Key, Line, ShardNo, Stamp, TxnId, Value};
 #[derive(Drop)]
 struct Asked {
     to: Address,
-    read: Read,
+    key: Key,
     answer: Option<Option<Value>>,
 }
 
@@ -26,47 +31,50 @@ fn is_at(to: Address, shard: ShardNo) -> bool {
 /// The reads of one transaction.
 #[derive(Drop)]
 pub struct Reads {
+    txn: TxnId,
     asked: Vec<Asked>,
 }
 
 impl Reads {
-    /// No read.
-    pub fn none(alloc: Global) -> Reads {
+    /// No read yet of a transaction.
+    pub fn none(alloc: Global, txn: TxnId) -> Reads
+        ensures { (result.txn ≡ txn) × (result.asked.items ≡ []) }
+    {
         Reads {
+            txn,
             asked: Vec::new(alloc),
         }
     }
 
     /// Asks for each key. Nothing is sent.
-    pub fn ask(&mut self, tx: &mut Tx<'_, Open>, keys: &[Key]) -> Result<(), Fault> {
+    pub fn ask(&mut self, tx: &mut Tx<'_, Open>, keys: &[Key]) -> Result<(), Fault>
+        ensures txn { self.new.txn ≡ self.old.txn }
+        ensures keys { OnOk result
+            (asked_keys self.new.asked.items ≡ asked_keys self.old.asked.items ++ keys.now) }
+    {
         for key in keys {
             let Envelope { to, message } = tx.read(*key)?;
-            let read = match &message {
-                Message::Read(read) => Some(*read),
-                _ => None,
-            };
             drop(message);
-            if let Some(read) = read {
-                self.asked.push(Asked {
-                    to,
-                    read,
-                    answer: None,
-                })?;
-            }
+            self.asked.push(Asked {
+                to,
+                key: *key,
+                answer: None,
+            })?;
         }
         Ok(())
     }
 
-    /// The transaction, where there is a read.
-    pub fn txn(&self) -> Option<TxnId> {
-        match self.asked.first() {
-            Some(one) => Some(one.read.txn),
-            None => None,
-        }
+    /// The transaction.
+    pub fn txn(&self) -> TxnId
+        ensures { result ≡ self.now.txn }
+    {
+        self.txn
     }
 
     /// Each read has its answer.
-    pub fn are_answered(&self) -> bool {
+    pub fn are_answered(&self) -> bool
+        ensures { result ≡ list_all is_answered self.now.asked.items }
+    {
         for one in &self.asked {
             if one.answer.is_none() {
                 return false;
@@ -83,7 +91,10 @@ impl Reads {
                     rt,
                     Envelope {
                         to: one.to,
-                        message: Message::Read(one.read),
+                        message: Message::Read(Read {
+                            txn: self.txn,
+                            key: one.key,
+                        }),
                     },
                 );
             }
@@ -98,7 +109,10 @@ impl Reads {
                     rt,
                     Envelope {
                         to: one.to,
-                        message: Message::Read(one.read),
+                        message: Message::Read(Read {
+                            txn: self.txn,
+                            key: one.key,
+                        }),
                     },
                 );
             }
@@ -111,7 +125,10 @@ impl Reads {
         alloc: Global,
         tx: &mut Tx<'_, Open>,
         answer: &ReadAnswer,
-    ) -> Result<bool, Fault> {
+    ) -> Result<bool, Fault>
+        ensures txn { self.new.txn ≡ self.old.txn }
+        ensures keys { asked_keys self.new.asked.items ≡ asked_keys self.old.asked.items }
+    {
         match tx.answered(alloc, answer) {
             Ok(Heard::Value(value)) => {
                 self.keep(&answer.key, value);
@@ -124,36 +141,76 @@ impl Reads {
     }
 
     // Keeps the answer of a key.
-    fn keep(&mut self, key: &Key, value: Option<Value>) {
-        for one in self.asked.iter_mut() {
-            if one.read.key.is(key) {
-                one.answer = Some(value);
-                return;
+    fn keep(&mut self, key: &Key, value: Option<Value>)
+        ensures txn { self.new.txn ≡ self.old.txn }
+        ensures keys { asked_keys self.new.asked.items ≡ asked_keys self.old.asked.items }
+    {
+        match self.place_of(key) {
+            Some(place) => self.asked[place].answer = Some(value),
+            None => drop(value),
+        }
+    }
+
+    // Where the read of a key stands.
+    fn place_of(&self, key: &Key) -> Option<usize>
+        ensures { IfSome result (λ place. place < length self.now.asked.items) }
+    {
+        for (place, one) in self.asked.iter().enumerate() {
+            if one.key.is(key) {
+                return Some(place);
             }
         }
-        drop(value);
+        None
     }
 
     /// Buffers what follows each answer, as a write of its key.
-    pub fn write_next(&self, alloc: Global, tx: &mut Tx<'_, Open>) -> Result<(), Fault> {
-        for one in &self.asked {
-            if let Some(value) = &one.answer {
-                tx.buffer(one.read.key, Some(next_value(alloc, value)?))?;
+    pub fn write_next(&self, alloc: Global, tx: &mut Tx<'_, Open>) -> Result<(), Fault>
+        ensures next { OnOk result (AreNext self.now.asked.items tx.old.client.writes
+            tx.new.client.writes) }
+    {
+        write_each(self.asked.as_slice(), alloc, tx)
+    }
+
+    /// Adds the lines of a commit, acknowledged at a moment: its acknowledgement, and what each answer showed.
+    pub fn report(self, lines: &mut Vec<Line>, at: Stamp, moment: u64) -> Result<(), Fault>
+        ensures { OnOk result (lines.new.items ≡ lines.old.items
+            ++ Ack self.txn at moment ∷ read_lines self.txn self.asked.items) }
+    {
+        let Reads { txn, asked } = self;
+        lines.push(Line::Ack(txn, at, moment))?;
+        for one in asked {
+            let Asked { to: _, key, answer } = one;
+            if let Some(value) = answer {
+                lines.push(Line::Read(txn, key, value))?;
             }
         }
         Ok(())
     }
+}
 
-    /// Adds the lines of a commit, acknowledged at a moment, and takes the answers for them.
-    pub fn report(&mut self, lines: &mut Vec<Line>, at: Stamp, moment: u64) -> Result<(), Fault> {
-        if let Some(txn) = self.txn() {
-            lines.push(Line::Ack(txn, at, moment))?;
+// Buffers what follows each of some answers.
+fn write_each(asked: &[Asked], alloc: Global, tx: &mut Tx<'_, Open>) -> Result<(), Fault>
+    ensures next { OnOk result (AreNext asked.now tx.old.client.writes tx.new.client.writes) }
+{
+    match asked.split_first() {
+        None => Ok(()),
+        Some((one, rest)) => {
+            write_one(one, alloc, tx)?;
+            write_each(rest, alloc, tx)
         }
-        for one in self.asked.iter_mut() {
-            if let Some(value) = one.answer.take() {
-                lines.push(Line::Read(one.read.txn, one.read.key, value))?;
-            }
+    }
+}
+
+// Buffers what follows an answer, where it was taken.
+fn write_one(one: &Asked, alloc: Global, tx: &mut Tx<'_, Open>) -> Result<(), Fault>
+    ensures next { OnOk result (IsNextOf one.now tx.old.client.writes tx.new.client.writes) }
+{
+    match &one.answer {
+        None => Ok(()),
+        Some(value) => {
+            let next = next_value(alloc, value)?;
+            tx.buffer(one.key, Some(next))?;
+            Ok(())
         }
-        Ok(())
     }
 }

@@ -4,6 +4,7 @@ ghost use Rattle.std.specs.Prelude.{◌≡◌, All, length, IfOk};
 use crate::course::Course;
 use letters::{Inboxes, Network};
 use std::alloc::Global;
+use std::sync::atomic::{AtomicU64, Ordering};
 use tickets::{Drawer, Tickets};
 use units::{Fault, Run, Splits};
 
@@ -16,6 +17,31 @@ pub struct Shared {
     pub network: Network,
     pub ids: Tickets,
     pub moments: Tickets,
+    pub stop: Stop,
+}
+
+/// The word that the workers are to wait for nothing any more.
+#[derive(Drop)]
+pub struct Stop {
+    told: AtomicU64,
+}
+
+impl Stop {
+    fn new() -> Stop {
+        Stop {
+            told: AtomicU64::new(0),
+        }
+    }
+
+    /// From now on each worker ends its turns as soon as nothing is there for it to hear.
+    pub fn tell(&self) {
+        self.told.store(1, Ordering::SeqCst);
+    }
+
+    /// Whether that was told.
+    pub fn is_told(&self) -> bool {
+        self.told.load(Ordering::SeqCst) != 0
+    }
 }
 
 impl Drop for Shared {
@@ -27,6 +53,7 @@ impl Drop for Shared {
             network: _,
             ids: _,
             moments: _,
+            stop: _,
         } = self;
     }
 }
@@ -70,6 +97,7 @@ impl Shared {
             network,
             ids,
             moments,
+            stop: Stop::new(),
         };
         let drawers = Drawers {
             ids: id_drawers,

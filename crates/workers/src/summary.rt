@@ -1,7 +1,8 @@
 //! What a drive comes to, and how that is printed.
 ghost use Rattle.std.specs.Prelude.{◌≡◌, ◌+◌, ◌<◌, ◌≤◌, ◌^◌, Some};
-ghost use Rattle.workers.specs.Summaries.{tried, verdict_text};
+ghost use Rattle.workers.specs.Summaries.{one_if, one_if_committed, tried};
 
+use output::VerdictText;
 use progress::Ended;
 use std::fmt;
 use units::Verdict;
@@ -19,7 +20,7 @@ pub struct Counts {
 impl Counts {
     /// Nothing was done.
     pub fn none() -> Counts
-        ensures { (tried result ≡ 0) × (result.looks ≡ 0) }
+        ensures { (tried result ≡ 0) × (result.committed ≡ 0) × (result.looks ≡ 0) }
     {
         Counts {
             committed: 0,
@@ -33,7 +34,8 @@ impl Counts {
     pub fn add(&mut self, ended: Ended, looked: bool)
         requires { (tried self.old + 1 < 2 ^ 64) × (self.old.looks ≤ tried self.old) }
         ensures tried { tried self.new ≡ tried self.old + 1 }
-        ensures looks { self.new.looks ≤ tried self.new }
+        ensures committed { self.new.committed ≡ self.old.committed + one_if_committed ended }
+        ensures looks { self.new.looks ≡ self.old.looks + one_if looked }
     {
         match ended {
             Ended::Committed => self.committed += 1,
@@ -52,6 +54,7 @@ impl Counts {
         requires { (tried self.old + tried other < 2 ^ 64)
             × (self.old.looks + other.looks < 2 ^ 64) }
         ensures tried { tried self.new ≡ tried self.old + tried other }
+        ensures committed { self.new.committed ≡ self.old.committed + other.committed }
         ensures looks { self.new.looks ≡ self.old.looks + other.looks }
     {
         self.committed += other.committed;
@@ -68,24 +71,6 @@ pub struct Summary {
     pub verdict: Verdict,
 }
 
-// A verdict, to be printed.
-#[derive(Clone, Copy)]
-struct Judgement(Verdict);
-
-impl fmt::Display for Judgement {
-    ghost output = { λ j. Some (verdict_text j.0) };
-
-    fn fmt<W: fmt::Write>(&self, f: &mut fmt::Formatter<W>) -> fmt::Result {
-        match self.0 {
-            Verdict::Yes => f.write_str("yes"),
-            Verdict::Torn(txn) => write!(f, "no torn {txn}"),
-            Verdict::Lost(txn) => write!(f, "no lost {txn}"),
-            Verdict::WrongRead(line) => write!(f, "no read {line}"),
-            Verdict::WrongOrder(begin, ack) => write!(f, "no order {begin} {ack}"),
-        }
-    }
-}
-
 impl fmt::Display for Summary {
     ghost use Rattle.workers.specs.Summaries.{summary_text};
 
@@ -98,7 +83,7 @@ impl fmt::Display for Summary {
             unknown,
             looks,
         } = self.counts;
-        let verdict = Judgement(self.verdict);
+        let verdict = VerdictText(self.verdict);
         write!(
             f,
             "committed {committed}\naborted {aborted}\nunknown {unknown}\nlooks {looks}\nverdict {verdict}\n"

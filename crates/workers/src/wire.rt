@@ -1,4 +1,5 @@
 //! How a worker sends and hears.
+use crate::shared::Stop;
 use crossbeam_channel::Receiver;
 use letters::Network;
 use message::{Message, Outbox};
@@ -13,11 +14,13 @@ pub struct Wire<'r, 's, R> {
     pub rt: &'r R,
     pub alloc: Global,
     pub network: &'s Network,
+    pub stop: &'s Stop,
     pub inbox: Receiver<Message>,
     pub silences: u32,
 }
 
-/// What a worker hears: a message; nothing for 20 milliseconds, or that for the hundredth time in a transaction.
+/// What a worker hears: a message; nothing for 20 milliseconds, or that for the hundredth time in a transaction. Once it was told to
+/// stop, it hears what is there, and then enough.
 pub enum Hearing {
     Heard(Message),
     Silence,
@@ -27,11 +30,16 @@ pub enum Hearing {
 impl<R: Wait + time::Clock> Wire<'_, '_, R> {
     /// Waits for a message.
     pub fn hear(&mut self) -> Hearing {
-        match self.inbox.recv_timeout(self.rt, Duration::from_millis(20)) {
+        let stops = self.stop.is_told();
+        let patience = if stops { 0 } else { 20 };
+        match self
+            .inbox
+            .recv_timeout(self.rt, Duration::from_millis(patience))
+        {
             Ok(message) => Hearing::Heard(message),
             Err(_) => {
                 self.silences = self.silences.saturating_add(1);
-                if self.silences >= 100 {
+                if stops || self.silences >= 100 {
                     Hearing::Enough
                 } else {
                     Hearing::Silence

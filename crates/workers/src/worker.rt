@@ -1,22 +1,25 @@
 //! A worker: turns of a transaction and a look, one after the other.
-ghost use Rattle.std.specs.Prelude.{◌≡◌, ◌<◌, ◌+◌, ◌*◌, ◌^◌, length};
+ghost use Rattle.std.specs.Prelude.{◌≡◌, ◌<◌, ◌+◌, ◌*◌, ◌^◌, ◌++◌, ℕ, List, Option, length, IfOk, IfSome, OnOk};
+ghost use Rattle.units.specs.Keys.{Bytes};
+ghost use Rattle.units.specs.declared.line.Line.{Line};
+ghost use Rattle.units.specs.declared.line.Line.TheVariants.{Look};
 ghost use Rattle.workers.specs.Reports.{AreCounted, IsCounted};
 ghost use Rattle.workers.specs.Summaries.{tried};
+ghost use Rattle.workers.specs.Turns.{AreTurns, IsLooked, IsTurn};
 
 use crate::course::Course;
-use crate::shared::Shared;
+use crate::shared::{Shared, Stop};
 use crate::summary::Counts;
 use crate::wire::Wire;
 use board::{Snapshot, Viewer};
 use progress::{Ended, Stopwatch, Turn, Watch};
 use std::alloc::Global;
-use std::mem::replace;
 use std::sync::Wait;
+use std::time;
 use std::time::Duration;
-use std::{thread, time};
 use tickets::Drawer;
 use truetime::Clock;
-use units::{Fault, Key, Line, Seen, Value};
+use units::{Fault, Key, Line, Seen, Stamp, Value};
 
 /// A worker, with its wire, and a viewer of each shard, by the shard's number. The watch is told by the clock of the wire's `rt`.
 #[derive(Drop)]
@@ -29,7 +32,6 @@ pub struct Worker<'r, 's, R, C, W> {
     pub viewers: Vec<Viewer>,
     pub clock: C,
     pub watch: &'r W,
-    pub lines: Vec<Line>,
     ghost few: { number < 64 },
     ghost ids_drawn: { ids.source ≡ shared.now.ids },
     ghost moments_drawn: { moments.source ≡ shared.now.moments },
@@ -43,82 +45,102 @@ pub struct Report {
 }
 
 impl<R: Wait + time::Clock, C: Clock + Drop, W: Watch> Worker<'_, '_, R, C, W> {
-    /// Does its turns of a course.
+    /// Does its turns of a course, each over the keys of that turn.
     pub fn work(&mut self, course: Course) -> Result<Report, Fault>
-        ensures { IsCounted course.transactions result }
+        ensures counted { IsCounted course.transactions result }
+        ensures turns { IfOk result (λ report.
+            AreTurns course.keys self.old.number course.transactions report.lines.items) }
     {
+        let worker = self.number as u64;
         let mut counts = Counts::none();
+        let mut lines = Vec::new(self.shared.alloc);
         for turn in 0..course.transactions {
-            let keys = course.turn_keys(self.shared.alloc, self.number as u64, turn)?;
-            let turned = self.turn(&keys);
+            let keys = course.turn_keys(self.shared.alloc, worker, turn)?;
+            let turned = self.turn(&keys, &mut lines);
             drop(keys);
             let (ended, looked) = turned?;
             counts.add(ended, looked);
         }
-        Ok(Report {
-            counts,
-            lines: replace(&mut self.lines, Vec::new(self.shared.alloc)),
-        })
+        Ok(Report { counts, lines })
     }
 
     // A transaction, whose end the watch is told, and then a look at its first key. It says whether that was answered.
-    fn turn(&mut self, keys: &[Key]) -> Result<(Ended, bool), Fault> {
+    fn turn(&mut self, keys: &[Key], lines: &mut Vec<Line>) -> Result<(Ended, bool), Fault>
+        ensures { IfOk result (λ turned. (told : List Line)
+            × IsTurn keys.now turned.0 turned.1 told
+            × (lines.new.items ≡ lines.old.items ++ told)) }
+    {
         let stopwatch = Stopwatch::start(self.wire.rt);
-        let ended = self.transact(keys)?;
+        let ended = self.transact(keys, lines)?;
         self.watch.turned(Turn {
             ended,
             micros: stopwatch.micros(self.wire.rt),
         });
-        let looked = match keys.first() {
-            Some(key) => self.look(key)?,
-            None => false,
-        };
+        let looked = self.look_at_first(keys, lines)?;
         Ok((ended, looked))
     }
 
-    // Looks at a key at the latest of a reading. It says whether it was answered.
-    fn look(&mut self, key: &Key) -> Result<bool, Fault> {
+    // Looks at the first of some keys at the latest of a reading. It says whether it was answered.
+    fn look_at_first(&mut self, keys: &[Key], lines: &mut Vec<Line>) -> Result<bool, Fault>
+        ensures { IfOk result (λ looked. (told : List Line) × IsLooked looked keys.now told
+            × (lines.new.items ≡ lines.old.items ++ told)) }
+    {
+        match keys.split_first() {
+            Some((key, _others)) => match self.look(key)? {
+                Some(line) => {
+                    lines.push(line)?;
+                    Ok(true)
+                }
+                None => Ok(false),
+            },
+            None => Ok(false),
+        }
+    }
+
+    // The line of a look at a key, at the latest of a reading, where it was answered.
+    fn look(&mut self, key: &Key) -> Result<Option<Line>, Fault>
+        ensures { IfOk result (λ line. IfSome line (λ told. (at : ℕ) × (value : Option Bytes)
+            × (told ≡ Look key.now at value))) }
+    {
         let Some(now) = self.clock.now() else {
-            return Ok(false);
+            return Ok(None);
         };
         let snapshot = Snapshot::start(&now);
-        let shard = usize::from(self.shared.splits.shard_of(key).number());
         let mut buffer = [0; 4096];
-        let found = look_for(
-            self.wire.rt,
-            &mut self.viewers,
-            shard,
-            &snapshot,
-            key,
-            &mut buffer,
-        );
+        let found = self.look_for(&snapshot, now.latest(), key, &mut buffer);
         let Some(seen) = found else {
-            return Ok(false);
+            return Ok(None);
         };
         let value = value_seen(self.shared.alloc, seen, &buffer)?;
-        self.lines.push(Line::Look(*key, now.latest(), value))?;
-        Ok(true)
+        Ok(Some(Line::Look(*key, now.latest(), value)))
     }
-}
 
-// Looks at a key through the viewer of a shard, a hundred times at most, a millisecond apart.
-fn look_for<R: time::Clock>(
-    rt: &R,
-    viewers: &mut Vec<Viewer>,
-    shard: usize,
-    snapshot: &Snapshot,
-    key: &Key,
-    buffer: &mut [u8],
-) -> Option<Seen> {
-    for _try in 0..100 {
-        if let Some(viewer) = viewers.get_mut(shard) {
-            if let Ok(seen) = snapshot.look(viewer, key, buffer) {
-                return Some(seen);
+    // Looks at a key at the snapshot, which is at this timestamp, a hundred times at most, and once behind the word to stop, until its
+    // shard serves that. The tries are a millisecond apart, or less, where the shard has told that it serves the timestamp.
+    fn look_for(
+        &mut self,
+        snapshot: &Snapshot,
+        at: Stamp,
+        key: &Key,
+        buffer: &mut [u8],
+    ) -> Option<Seen> {
+        let shard = self.shared.splits.shard_of(key);
+        for _try in 0..100 {
+            if let Some(viewer) = self.viewers.get_mut(usize::from(shard.number())) {
+                if let Ok(seen) = snapshot.look(viewer, key, buffer) {
+                    return Some(seen);
+                }
             }
+            if self.wire.stop.is_told() {
+                return None;
+            }
+            let longest = Duration::from_millis(1);
+            self.shared
+                .network
+                .await_served(self.wire.rt, shard, at, longest);
         }
-        thread::sleep(rt, Duration::from_millis(1));
+        None
     }
-    None
 }
 
 // The value that a look put at the front of the buffer.
@@ -138,7 +160,11 @@ impl Report {
         requires { (tried self.old.counts + tried other.counts < 2 ^ 64)
             × (self.old.counts.looks + other.counts.looks < 2 ^ 64) }
         ensures tried { tried self.new.counts ≡ tried self.old.counts + tried other.counts }
+        ensures committed { self.new.counts.committed ≡
+            self.old.counts.committed + other.counts.committed }
         ensures looks { self.new.counts.looks ≡ self.old.counts.looks + other.counts.looks }
+        ensures lines { OnOk result
+            (self.new.lines.items ≡ self.old.lines.items ++ other.lines.items) }
     {
         let Report { counts, mut lines } = other;
         self.counts.merge(counts);

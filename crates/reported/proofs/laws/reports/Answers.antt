@@ -2,4 +2,4 @@ use Rattle.reported.proofs.Consistent.{consistent}
 use Rattle.reported.proofs.laws.reports.Goals as goal
 
 pub returns : goal.returns
-returns c = consistent
+returns c = consistent c.sound_is_yes.ensures

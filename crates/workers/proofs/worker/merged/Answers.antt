@@ -1,7 +1,8 @@
-use Rattle.std.proofs.Common.{◌≡◌, ◌≤◌, ◌+◌, ◌*◌, ◌++◌, ◌∷◌, [], ◌∙◌, sym, ap, subst, length, arith}
+use Rattle.std.proofs.Common.{◌≡◌, ◌≤◌, ℕ, ◌+◌, ◌*◌, ◌++◌, ◌∷◌, [], ◌∙◌, sym, ap, subst, length, arith}
 use Rattle.std.proofs.lemmas.List.{append_assoc, length-append}
-use Rattle.workers.specs.Reports.{IsCounted}
+use Rattle.workers.specs.Reports.{IsCounted, IsTally}
 use Rattle.workers.proofs.Reports.{next_counted, next_product, product_fits}
+use Rattle.workers.proofs.Turns.{both_tallied}
 use Rattle.workers.proofs.worker.merged.Goals as goal
 
 pub merge-requires : goal.merge-requires
@@ -15,7 +16,8 @@ merge-requires c =
     let some : length seen + 1 ≤ c.args.course.workers =
     omega (arith, ap length whole, length-append seen (c.in-Some.report ∷ rest), c.requires.all) in
     let fits = product_fits (length seen) c.args.course.workers turns some c.args.course.drivable.workers_most c.args.course.drivable.transactions_most in
-    (omega (arith, c.loop-report.invariant.tried, counted.0, fits), omega (arith, c.loop-report.invariant.looks, counted.1, fits))
+    let tally = c.loop-report.invariant.tally in
+    (omega (arith, tally.tried, counted.tried, fits), omega (arith, tally.looks, counted.looks, fits))
 
 pub loop-report-preserved : goal.loop-report-preserved
 loop-report-preserved c =
@@ -29,6 +31,8 @@ loop-report-preserved c =
     ap (λ n. n * turns) (length-append seen (c.in-Some.report ∷ [])) ∙ next_product (length seen) turns in
     record {
       whole = append_assoc seen (c.in-Some.report ∷ []) rest ∙ whole;
-      tried = omega (arith, c.merge.ensures.tried, c.loop-report.invariant.tried, counted.0, more);
-      looks = omega (arith, c.merge.ensures.looks, c.loop-report.invariant.looks, counted.1, more);
+      tally = subst (λ (n : ℕ). IsTally n c.merge.new.self.counts c.merge.new.self.lines.items) (sym more)
+          (both_tallied (length seen * turns) turns c.loop-report.all.counts c.in_ok-report.field-0.counts c.merge.new.self.counts
+          c.loop-report.all.lines.items c.in_ok-report.field-0.lines.items c.merge.new.self.lines.items c.loop-report.invariant.tally counted
+          c.in_ok-merge.ensures.lines c.merge.ensures.tried c.merge.ensures.committed c.merge.ensures.looks);
     }

@@ -1,0 +1,48 @@
+//! The command `drive`: shards and workers in threads.
+ghost use Rattle.std.specs.Prelude.{◌≡◌, ◌⊎◌, ◌<◌, List, ℕ, None, Err, IfOk, IfErr};
+ghost use Rattle.std.specs.Io.KnownBytes.{Appends};
+ghost use Rattle.units.specs.declared.fault.Fault.{Fault};
+ghost use Rattle.output.specs.Failures.{FailsFor};
+ghost use Rattle.output.specs.declared.failure.Failure.TheVariants.{Refused};
+ghost use Rattle.output.specs.Streams.{failures_of, writer_of};
+
+use output::{Failure, Stream, status_of};
+use settings::Settings;
+use std::alloc::Global;
+use std::io::Write;
+use system::{Driven, Files, System, read_text};
+use units::{Fault, Reason};
+
+/// Drives shards and workers by the settings of a file, and prints what came of it. Gives 0, or 1 where the verdict is a no.
+pub fn run_drive<F: Files, D: Fn(Global, &Settings) -> Result<Driven, Fault>, O: Write>(
+    alloc: Global,
+    file: &str,
+    system: &System<F, D>,
+    out: &mut Stream<O>,
+) -> Result<u8, Failure>
+    requires { D.IsAlwaysCallable system.now.drive }
+    ensures status { IfOk result (λ status. (status ≡ 0) ⊎ (status ≡ 1)) }
+    ensures printed { IfOk result
+        (λ status. (text : List ℕ)
+        × Appends (O.contents (writer_of out.old)) (O.contents (writer_of out.new)) text) }
+    ensures failures { IfErr result
+        (λ failure. FailsFor (failures_of out.old < failures_of out.new) failure None) }
+    ensures nothing { (fault : Fault) → result ≡ Err (Refused fault) → out.new ≡ out.old }
+{
+    let driven = driven_by(alloc, file, system)?;
+    out.print(&driven.text)?;
+    Ok(status_of(driven.verdict))
+}
+
+// What came of a drive by the settings of a file.
+fn driven_by<F: Files, D: Fn(Global, &Settings) -> Result<Driven, Fault>>(
+    alloc: Global,
+    file: &str,
+    system: &System<F, D>,
+) -> Result<Driven, Fault>
+    requires { D.IsAlwaysCallable system.now.drive }
+{
+    let text = read_text(alloc, &system.files, file, Reason::Settings)?;
+    let settings = Settings::read(alloc, &text)?;
+    (system.drive)(alloc, &settings)
+}

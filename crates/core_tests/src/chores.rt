@@ -1,0 +1,338 @@
+//! What a node does besides its letters, while they come and while none does.
+use crate::given::{Given, message_of, reading};
+use crate::logs::{Line, compare_log};
+use crate::nodes::fresh_node;
+use crate::verdict::told;
+use crossbeam_channel::{Receiver, Sender, unbounded};
+use letters::{Letter, Post};
+use message::{Address, Envelope};
+use node::{Gate, Node};
+use simdisk::SimDisk;
+use std::alloc::Global;
+use std::process::Abort;
+use std::sync::Wait;
+use std::sync::atomic::{AtomicBool, AtomicU64, Ordering};
+use std::thread::Threads;
+use std::time::Duration;
+use std::{thread, time};
+use truetime::{Clock, Reading};
+use units::{ShardNo, Stamp};
+
+// How the letters come that follow the first ones.
+#[derive(Clone, Copy)]
+enum Pace {
+    // All at once, and then the end.
+    Burst,
+    // One each 500 microseconds, until 1.1 is answered.
+    Steady,
+    // Each once the one before was taken.
+    OneByOne,
+}
+
+// What a node of fresh shard 1 is sent, and what comes of it.
+struct Row {
+    name: &'static str,
+    first: &'static [Given],
+    pace: Pace,
+    // So many letters follow at most: reads of `y` by 1.9, which has read it before, or words that somebody looked in vain.
+    letters: u64,
+    reads: bool,
+    // Somebody has looked in vain.
+    looked: bool,
+    // By how many microseconds each reading is later than the one before.
+    tick: u64,
+    // So many sessions are answered, 1.1 and on, one right after the other, and so many answers come before these at most.
+    sessions: usize,
+    before: u64,
+    // How often the node tells up to when it serves, at most, and the log at the end, where it matters.
+    tells: u64,
+    log: Option<&'static [Line]>,
+}
+
+// Each reading is ten microseconds wide, and later than the one before.
+#[derive(Drop)]
+struct Ticking<'a> {
+    now: &'a AtomicU64,
+    tick: u64,
+}
+
+impl Clock for Ticking<'_> {
+    fn now(&mut self) -> Option<Reading> {
+        let earliest = self.now.fetch_add(self.tick, Ordering::SeqCst);
+        let latest = earliest.saturating_add(10);
+        let earliest = Stamp::new(earliest).ok()?;
+        let latest = Stamp::new(latest).ok()?;
+        Reading::new(earliest, latest).ok()
+    }
+}
+
+// What was seen of a node: how many messages it posted, which of them was the first to 1.1, 1.2 and 1.3, counted from 1, how many letters it has
+// taken, whether somebody has looked in vain, and how often it told up to when it serves.
+struct Seen {
+    posted: AtomicU64,
+    places: [AtomicU64; 3],
+    taken: AtomicU64,
+    looked: AtomicBool,
+    tells: AtomicU64,
+}
+
+impl Drop for Seen {
+    fn drop(self) {
+        let Seen {
+            posted: _,
+            places: _,
+            taken: _,
+            looked: _,
+            tells: _,
+        } = self;
+    }
+}
+
+impl Seen {
+    fn new(looked: bool) -> Seen {
+        Seen {
+            posted: AtomicU64::new(0),
+            places: [AtomicU64::new(0), AtomicU64::new(0), AtomicU64::new(0)],
+            taken: AtomicU64::new(0),
+            looked: AtomicBool::new(looked),
+            tells: AtomicU64::new(0),
+        }
+    }
+
+    // Which message was the first to a session, from 1, or 0.
+    fn place(&self, session: usize) -> u64 {
+        match self.places.get(session) {
+            Some(place) => place.load(Ordering::SeqCst),
+            None => 0,
+        }
+    }
+
+    // So many sessions, 1.1 and on, were answered one right after the other, behind so many messages at most.
+    fn answered(&self, sessions: usize, before: u64) -> bool {
+        if sessions > 0 && (self.place(0) == 0 || self.place(0) > before.saturating_add(1)) {
+            return false;
+        }
+        for session in 1..sessions {
+            if self.place(session) != self.place(session - 1).saturating_add(1) {
+                return false;
+            }
+        }
+        true
+    }
+}
+
+impl Post for &Seen {
+    fn post(&mut self, envelope: Envelope) {
+        let to = envelope.to;
+        drop(envelope);
+        let place = self.posted.fetch_add(1, Ordering::SeqCst).saturating_add(1);
+        let Address::Session(txn) = to else {
+            return;
+        };
+        let number = txn.number();
+        if number >= 1 && number <= 3 {
+            if let Some(first) = self.places.get((number - 1) as usize) {
+                if first.load(Ordering::SeqCst) == 0 {
+                    first.store(place, Ordering::SeqCst);
+                }
+            }
+        }
+    }
+
+    fn is_looked_for(&self, _shard: ShardNo) -> bool {
+        self.looked.load(Ordering::SeqCst)
+    }
+
+    fn silence(&mut self, _shard: ShardNo) {
+        self.looked.store(false, Ordering::SeqCst);
+    }
+
+    fn tell(&mut self, _shard: ShardNo, _served: Stamp) {
+        self.tells.fetch_add(1, Ordering::SeqCst);
+    }
+}
+
+impl Gate for &Seen {
+    fn before(&self, _shard: ShardNo, _n: u64) {}
+
+    fn after(&self, _shard: ShardNo, _n: u64) {
+        self.taken.fetch_add(1, Ordering::SeqCst);
+    }
+}
+
+fn send<R: Wait + Abort>(rt: &R, to: &Sender<Letter>, letter: Letter) {
+    to.send(rt, letter).ok().expect(rt, "a letter");
+}
+
+// Waits until so many letters were taken, for 100,000 turns at most.
+fn await_taken<R: time::Clock>(rt: &R, seen: &Seen, letters: u64) {
+    for _turn in 0..100_000 {
+        if seen.taken.load(Ordering::SeqCst) >= letters {
+            return;
+        }
+        thread::sleep(rt, Duration::from_micros(100));
+    }
+}
+
+// Sends the letters of a row, at its pace, and then the end.
+fn send_all<R: Wait + time::Clock + Abort>(
+    rt: &R,
+    alloc: Global,
+    to: &Sender<Letter>,
+    seen: &Seen,
+    row: &Row,
+) {
+    for given in row.first {
+        send(rt, to, Letter::Carry(message_of(rt, alloc, *given)));
+    }
+    for sent in 0..row.letters {
+        match row.pace {
+            Pace::Burst => {}
+            Pace::Steady => {
+                if seen.place(0) > 0 {
+                    break;
+                }
+                thread::sleep(rt, Duration::from_micros(500));
+            }
+            Pace::OneByOne => await_taken(rt, seen, sent),
+        }
+        let letter = if row.reads {
+            Letter::Carry(message_of(rt, alloc, Given::Read(9, b"y")))
+        } else {
+            Letter::Look
+        };
+        send(rt, to, letter);
+    }
+    send(rt, to, Letter::Close);
+}
+
+fn serve<'r, R: Wait + time::Clock>(
+    rt: &R,
+    node: &Node<SimDisk, &'r R>,
+    inbox: &Receiver<Letter>,
+    seen: &Seen,
+    row: &Row,
+) {
+    let now = AtomicU64::new(1_000);
+    let mut clock = Ticking {
+        now: &now,
+        tick: row.tick,
+    };
+    let mut post = seen;
+    node.serve(rt, inbox, &mut post, &mut clock, &seen);
+}
+
+// A node is served by the letters of the row, and does what the row tells.
+fn tell<R: Threads + Wait + time::Clock + Sync + Abort>(rt: &R, alloc: Global, row: &Row) {
+    let (node, viewers) = fresh_node(rt, rt, alloc, 1, None);
+    drop(viewers);
+    let (to, inbox) = unbounded(alloc).ok().expect(rt, "a channel");
+    let seen = Seen::new(row.looked);
+    thread::join(
+        rt,
+        || serve(rt, &node, &inbox, &seen, row),
+        || send_all(rt, alloc, &to, &seen, row),
+    );
+    drop(to);
+    drop(inbox);
+    let answered = seen.answered(row.sessions, row.before);
+    told(rt, answered, row.name, seen.place(0));
+    let tells = seen.tells.load(Ordering::SeqCst);
+    told(rt, tells <= row.tells, row.name, tells);
+    drop(seen);
+    let disk = node.close();
+    match row.log {
+        Some(lines) => compare_log(rt, alloc, disk, row.name, lines),
+        None => drop(disk),
+    }
+}
+
+static OPEN: [Row; 3] = [
+    Row {
+        name: "a commit is settled while letters come",
+        first: &[Given::Commit(1, 1, b"z", b"1")],
+        pace: Pace::Steady,
+        letters: 20_000,
+        reads: true,
+        looked: false,
+        tick: 1,
+        sessions: 1,
+        before: 20_000,
+        tells: 20_000,
+        log: None,
+    },
+    Row {
+        name: "a commit is settled within a burst of letters",
+        first: &[Given::Commit(1, 1, b"z", b"1")],
+        pace: Pace::Burst,
+        letters: 10_000,
+        reads: true,
+        looked: false,
+        tick: 5,
+        sessions: 1,
+        before: 1_000,
+        tells: 10_000,
+        log: None,
+    },
+    Row {
+        name: "who waits behind a commit goes on with it",
+        first: &[
+            Given::Commit(1, 1, b"z", b"1"),
+            Given::Read(2, b"z"),
+            Given::Read(3, b"z"),
+        ],
+        pace: Pace::Burst,
+        letters: 1_000,
+        reads: true,
+        looked: false,
+        tick: 5,
+        sessions: 3,
+        before: 1_000,
+        tells: 10_000,
+        log: None,
+    },
+];
+
+#[test]
+fn letters_keep_a_node_from_its_chores(rt: HostRuntime) {
+    for row in &OPEN {
+        tell(&rt, rt.alloc(), row);
+    }
+}
+
+// A millisecond passes with each reading.
+static SILENT: [Row; 2] = [
+    Row {
+        name: "an idle node logs and shows nothing",
+        first: &[],
+        pace: Pace::OneByOne,
+        letters: 1_000,
+        reads: false,
+        looked: false,
+        tick: 1_000,
+        sessions: 0,
+        before: 0,
+        tells: 0,
+        log: Some(&[Line::Opened(1)]),
+    },
+    Row {
+        name: "a node advances once for who looked",
+        first: &[],
+        pace: Pace::OneByOne,
+        letters: 1_000,
+        reads: false,
+        looked: true,
+        tick: 0,
+        sessions: 0,
+        before: 0,
+        tells: 1,
+        log: Some(&[Line::Opened(1), Line::Ceiling(1_010)]),
+    },
+];
+
+#[test]
+fn idle_nodes_log(rt: HostRuntime) {
+    for row in &SILENT {
+        tell(&rt, rt.alloc(), row);
+    }
+}

@@ -1,0 +1,212 @@
+//! Logs that are read in pieces, on a disk that fails every longer read.
+use crate::cores::formatted;
+use crate::given::reading;
+use crate::narrow::Narrow;
+use crate::verdict::told;
+use disk::Disk;
+use made::{id, key, shard};
+use message::{Commit, Input, Message, Reads};
+use shard::Core;
+use simdisk::SimDisk;
+use std::alloc::Global;
+use std::process::Abort;
+use units::{Book, Key, Parts, Setup, Splits, Stride, Value, Write, Writes};
+
+// Commits of one value each: the n-th is of 1.n, and writes the n-th letter.
+struct Row {
+    name: &'static str,
+    // How long the values are: so many of 4,096 bytes, and then these.
+    full: u8,
+    lengths: &'static [usize],
+    // How long the file is.
+    size: u64,
+    // In how many reads it is read.
+    reads: u64,
+}
+
+static ROWS: [Row; 7] = [
+    Row {
+        name: "the last gate is the last byte of a piece",
+        full: 15,
+        lengths: &[3_417, 1],
+        size: 65_578,
+        reads: 2,
+    },
+    Row {
+        name: "the last gate is the first byte of a piece",
+        full: 15,
+        lengths: &[3_418, 1],
+        size: 65_579,
+        reads: 2,
+    },
+    Row {
+        name: "a length stands in two pieces",
+        full: 15,
+        lengths: &[3_415, 1],
+        size: 65_576,
+        reads: 2,
+    },
+    Row {
+        name: "a body is the first of a piece",
+        full: 15,
+        lengths: &[3_413, 1],
+        size: 65_574,
+        reads: 2,
+    },
+    Row {
+        name: "a body stands in two pieces",
+        full: 16,
+        lengths: &[1],
+        size: 66_257,
+        reads: 2,
+    },
+    Row {
+        name: "the closed gate is the last byte of a piece",
+        full: 15,
+        lengths: &[3_417],
+        size: 65_536,
+        reads: 1,
+    },
+    Row {
+        name: "the closed gate is the first byte of a piece",
+        full: 15,
+        lengths: &[3_418],
+        size: 65_537,
+        reads: 2,
+    },
+];
+
+// A shard alone, that keeps no book.
+fn alone(rt: &impl Abort, alloc: Global) -> Setup {
+    Setup {
+        shard: shard(0),
+        splits: Splits::new(alloc, &[]).expect(rt, "no splits"),
+        stride: Stride::new(0).expect(rt, "a stride"),
+        book: Book::Off,
+    }
+}
+
+fn value(rt: &impl Abort, alloc: Global, length: usize) -> Value {
+    Value::new(alloc, &[7; 4_096][..length.min(4_096)]).expect(rt, "a value")
+}
+
+// The commit of 1.number.
+fn commit(rt: &impl Abort, alloc: Global, number: u16, writes: Vec<Write>) -> Input {
+    Input::Deliver(Message::Commit(Commit {
+        txn: id(number),
+        parts: Parts::only(shard(0)),
+        reads: Reads::none(alloc),
+        writes: Writes::from_vec(writes).ok().expect(rt, "writes"),
+    }))
+}
+
+// Makes the commit of the number, of one value.
+fn write_one(rt: &impl Abort, alloc: Global, core: &mut Core<SimDisk>, number: u8, length: usize) {
+    let write = Write {
+        key: key(b'`'.saturating_add(number)),
+        value: Some(value(rt, alloc, length)),
+    };
+    let writes = vec![in alloc; write].ok().expect(rt, "memory");
+    give(
+        rt,
+        alloc,
+        core,
+        &commit(rt, alloc, u16::from(number), writes),
+    );
+}
+
+fn give(rt: &impl Abort, alloc: Global, core: &mut Core<SimDisk>, input: &Input) {
+    let out = core.on(alloc, &reading(rt, 100, 110), input);
+    drop(out.expect(rt, "a commit"));
+}
+
+// How many transactions are decided, up to 100.
+fn decided<D: Disk>(core: &Core<D>) -> usize {
+    for number in 0..100 {
+        if core.decided(number).is_none() {
+            return number;
+        }
+    }
+    100
+}
+
+// Opens the log of the row, which was written over another disk, and counts.
+fn open_in_pieces(rt: &impl Abort, alloc: Global, disk: SimDisk, row: &Row) {
+    told(rt, disk.len() == row.size, row.name, disk.len());
+    let narrow = Narrow { disk, reads: 0 };
+    let core = match Core::open(alloc, narrow, alone(rt, alloc)) {
+        Ok(core) => core,
+        Err((_, narrow)) => {
+            drop(narrow);
+            return told(rt, false, row.name, 0);
+        }
+    };
+    let found = decided(&core);
+    let narrow = core.stop();
+    told(
+        rt,
+        found == usize::from(row.full) + row.lengths.len(),
+        row.name,
+        found as u64,
+    );
+    told(rt, narrow.reads == row.reads, row.name, narrow.reads);
+}
+
+// The disk with the log of the row.
+fn written(rt: &impl Abort, alloc: Global, row: &Row) -> SimDisk {
+    let mut core = opened(rt, alloc);
+    let mut number = 0u8;
+    for _full in 0..row.full {
+        number = number.saturating_add(1);
+        write_one(rt, alloc, &mut core, number, 4_096);
+    }
+    for length in row.lengths {
+        number = number.saturating_add(1);
+        write_one(rt, alloc, &mut core, number, *length);
+    }
+    core.stop()
+}
+
+fn opened(rt: &impl Abort, alloc: Global) -> Core<SimDisk> {
+    match Core::open(alloc, formatted(rt, alloc), alone(rt, alloc)) {
+        Ok(core) => core,
+        Err((_, disk)) => {
+            drop(disk);
+            rt.panic("a core")
+        }
+    }
+}
+
+#[test]
+fn read_in_pieces(rt: HostRuntime) {
+    let alloc = rt.alloc();
+    for row in &ROWS {
+        let disk = written(&rt, alloc, row);
+        open_in_pieces(&rt, alloc, disk, row);
+    }
+}
+
+static LONG: Row = Row {
+    name: "a long body",
+    full: 0,
+    lengths: &[4_096],
+    size: 524_987,
+    reads: 9,
+};
+
+// A commit of 128 values, each of 4,096 bytes: its frame of 524,964 bytes is gathered from nine reads.
+#[test]
+fn a_long_body_is_gathered(rt: HostRuntime) {
+    let alloc = rt.alloc();
+    let mut writes = Vec::new(alloc);
+    for number in 0..128u8 {
+        let write = Write {
+            key: Key::new(&[number]).expect(&rt, "a key"),
+            value: Some(value(&rt, alloc, 4_096)),
+        };
+        writes.push(write).ok().expect(&rt, "memory");
+    }
+    let mut core = opened(&rt, alloc);
+    give(&rt, alloc, &mut core, &commit(&rt, alloc, 1, writes));
+    open_in_pieces(&rt, alloc, core.stop(), &LONG);
+}

@@ -1,0 +1,23 @@
+-- Time goes on over calls that leave a file as it is.
+use Rattle.std.proofs.Common.{◌≡◌, ◌⊎◌, inl, inr, ℕ, ◌≤◌, List, sym, subst, arith}
+use Rattle.disk.specs.File.{File, surface}
+use Rattle.disk.specs.Image.{MayLeave}
+use Rattle.disk.specs.Moments.{Elapses}
+
+pub elapses_on : {D : Type 0} (file : D → File) (clock : D → ℕ) (since : D → ℕ → List ℕ → Type 0) (failures : D → ℕ) (old mid new : D) →
+    Elapses file clock since failures old mid → Elapses file clock since failures mid new → file new ≡ file mid → Elapses file clock since failures old new
+elapses_on file clock since failures old mid new first second same = record {
+  later = omega (arith, first.later, second.later);
+  nothing_else = λ moment image le was. by_second moment image le (second.nothing_else moment image (omega (arith, le, first.later)) was);
+  stays = λ moment image le was. second.stays moment image (omega (arith, le, first.later)) (first.stays moment image le was);
+  failures_stay = omega (arith, first.failures_stay, second.failures_stay);
+}
+  where
+    by_first : (moment : ℕ) (image : List ℕ) → since old moment image ⊎ MayLeave (surface (file mid)) image → since old moment image ⊎ MayLeave (surface (file new)) image
+    by_first moment image (inl was) = inl was
+    by_first moment image (inr may) = inr (subst (λ f. MayLeave (surface f) image) (sym same) may)
+
+    by_second : (moment : ℕ) (image : List ℕ) → moment ≤ clock old → since mid moment image ⊎ MayLeave (surface (file new)) image
+        → since old moment image ⊎ MayLeave (surface (file new)) image
+    by_second moment image le (inl was) = by_first moment image (first.nothing_else moment image le was)
+    by_second moment image le (inr may) = inr may

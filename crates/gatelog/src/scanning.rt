@@ -1,0 +1,206 @@
+//! A scan of a log's file, piece by piece.
+ghost use Rattle.std.specs.Prelude.{◌≡◌, ◌⊎◌, ◌≤◌, ◌<◌, ◌+◌, ◌++◌, ◌∷◌, [], List, ℕ, length, take, drop, map, Ok, Err, OnOk, IfOk, IfErr, IfSome, IfNone, IsTrue, Result, true};
+ghost use Rattle.units.specs.declared.fault.Fault.{Fault};
+ghost use Rattle.disk.specs.File.{surface};
+ghost use Rattle.disk.specs.Image.{MayLeave, after_sync};
+ghost use Rattle.disk.specs.File.{synced};
+ghost use Rattle.disk.specs.Moments.{Elapses, LeavesOnly};
+ghost use Rattle.gatelog.specs.Ahead.{IsAhead, ToDo};
+ghost use Rattle.gatelog.specs.Armed.{waits};
+ghost use Rattle.gatelog.specs.Frames.{end_of, header};
+ghost use Rattle.gatelog.specs.Gates.{first_gate};
+ghost use Rattle.gatelog.specs.Placed.{Placed};
+ghost use Rattle.gatelog.specs.Log.{scan, entries_at, with_entries, is_no_log};
+
+use crate::frame::{FIRST_GATE, HEADER};
+use crate::front::{Front, front_of};
+use crate::opening::sync_first;
+use crate::pieces::Pieces;
+use crate::token::Entry;
+use disk::Disk;
+use std::alloc::Global;
+use units::Fault;
+
+/// What takes the entries of a log, one by one, the first first.
+pub trait Sink {
+    /// What of it no entry changes.
+    ghost Told: { Type 0 };
+
+    ghost told: { Self → Told };
+
+    /// The entries that it took.
+    ghost taken: { Self → List Placed };
+
+    /// Takes the next entry. It is refused for want of memory alone.
+    fn take(&mut self, alloc: Global, entry: Entry) -> Result<(), Fault>
+        ensures taken { OnOk result (taken self.new ≡ taken self.old ++ entry ∷ []) }
+        ensures told { told self.new ≡ told self.old }
+        ensures memory { IfErr result (λ fault. fault ≡ Fault.Memory) };
+}
+
+/// All entries of a log.
+#[derive(Drop)]
+pub struct Found {
+    pub entries: Vec<Entry>,
+}
+
+impl Sink for Found {
+    ghost Told = { Unit {0} };
+
+    ghost told = { λ found. tt };
+
+    ghost taken = { λ found. found.entries.items };
+
+    fn take(&mut self, _alloc: Global, entry: Entry) -> Result<(), Fault> {
+        self.entries.push(entry)?;
+        Ok(())
+    }
+}
+
+// Hands the next entry over, or reads on. At the closed gate it answers its offset.
+fn hand_next<D: Disk, S: Sink>(
+    alloc: Global,
+    disk: &mut D,
+    ahead: &mut Pieces,
+    sink: &mut S,
+) -> Result<Option<u64>, Fault>
+    requires there { D.keeps_model → IsAhead (surface (D.file disk.old)).seen ahead.old }
+    ensures told { S.told sink.new ≡ S.told sink.old }
+    ensures there { OnOk result
+        (D.keeps_model → IsAhead (surface (D.file disk.old)).seen ahead.new) }
+    ensures less { IfOk result (λ found. IfNone found (ToDo ahead.new < ToDo ahead.old)) }
+    ensures goes_on { IfOk result (λ found. IfNone found
+        (D.keeps_model → (total : Result (List Placed × ℕ) Fault)
+        → with_entries (S.taken sink.old)
+        (entries_at ahead.old.at 0 (drop ahead.old.at (surface (D.file disk.old)).seen)) ≡ total
+        → with_entries (S.taken sink.new)
+        (entries_at ahead.new.at 0 (drop ahead.new.at (surface (D.file disk.old)).seen)) ≡ total)) }
+    ensures counted { IfOk result (λ found. IfNone found
+        (ahead.old.at ≡ end_of (map (λ e. e.item) (S.taken sink.old))
+        → ahead.new.at ≡ end_of (map (λ e. e.item) (S.taken sink.new)))) }
+    ensures closed { IfOk result (λ found. IfSome found (λ gate. (gate ≡ ahead.old.at)
+        × (S.taken sink.new ≡ S.taken sink.old)
+        × (D.keeps_model
+        → entries_at ahead.old.at 0 (drop ahead.old.at (surface (D.file disk.old)).seen)
+        ≡ Ok ([], gate)))) }
+    ensures same { D.file disk.new ≡ D.file disk.old }
+    ensures time { Elapses D.file D.clock D.since D.failures disk.old disk.new }
+    ensures cause { IfErr result (λ fault. (fault ≡ Fault.Memory)
+        ⊎ (((fault ≡ Fault.Device) × (D.failures disk.old < D.failures disk.new))
+        ⊎ ((fault ≡ Fault.Damaged ahead.old.at) × (D.keeps_model
+        → entries_at ahead.old.at 0 (drop ahead.old.at (surface (D.file disk.old)).seen)
+        ≡ Err fault)))) }
+    ensures waits { D.obeys → waits (D.plan disk.old) ≡ true →
+        IfErr result (λ fault. (fault ≡ Fault.Memory) ⊎ IsTrue (is_no_log fault))
+        × (D.plan disk.new ≡ D.plan disk.old) }
+{
+    let at = ahead.at();
+    match front_of(alloc, ahead.bytes(), ahead.left()) {
+        Ok(Front::Closed) => Ok(Some(at)),
+        Ok(Front::Whole(item, size)) => {
+            sink.take(alloc, Entry::new(at, item))?;
+            ahead.pass(size);
+            Ok(None)
+        }
+        Ok(Front::Part) => {
+            ahead.more(alloc, disk)?;
+            Ok(None)
+        }
+        Ok(Front::Broken) => Err(Fault::Damaged { offset: at }),
+        Err(fault) => Err(fault),
+    }
+}
+
+/// Hands the entries of a file over to a sink, and answers the offset of its closed gate.
+pub fn hand_over<D: Disk, S: Sink>(alloc: Global, disk: &mut D, sink: &mut S) -> Result<u64, Fault>
+    requires fresh { S.taken sink.old ≡ [] }
+    ensures told { S.told sink.new ≡ S.told sink.old }
+    ensures found { IfOk result (λ gate. D.keeps_model
+        → scan (surface (D.file disk.old)).seen ≡ Ok (S.taken sink.new, gate)) }
+    ensures end { IfOk result (λ gate. gate ≡ end_of (map (λ e. e.item) (S.taken sink.new))) }
+    ensures same { D.file disk.new ≡ D.file disk.old }
+    ensures time { Elapses D.file D.clock D.since D.failures disk.old disk.new }
+    ensures cause { IfErr result (λ fault. (fault ≡ Fault.Memory)
+        ⊎ (((fault ≡ Fault.Device) × (D.failures disk.old < D.failures disk.new))
+        ⊎ (IsTrue (is_no_log fault) × (D.keeps_model
+        → scan (surface (D.file disk.old)).seen ≡ Err fault)))) }
+    ensures waits { D.obeys → waits (D.plan disk.old) ≡ true →
+        IfErr result (λ fault. (fault ≡ Fault.Memory) ⊎ IsTrue (is_no_log fault))
+        × (D.plan disk.new ≡ D.plan disk.old) }
+{
+    let mut ahead = begin(alloc, disk)?;
+    let mut gate = None;
+    while gate.is_none() {
+        gate = hand_next(alloc, disk, &mut ahead, sink)?;
+    }
+    match gate {
+        Some(gate) => Ok(gate),
+        None => unreachable!(),
+    }
+}
+
+/// Syncs a file, and hands its entries over to a sink. Answers the offset of its closed gate.
+pub fn scan_synced<D: Disk, S: Sink>(
+    alloc: Global,
+    disk: &mut D,
+    sink: &mut S,
+) -> Result<u64, Fault>
+    requires fresh { S.taken sink.old ≡ [] }
+    ensures told { S.told sink.new ≡ S.told sink.old }
+    ensures found { IfOk result (λ gate. D.keeps_model
+        → scan (surface (D.file disk.old)).seen ≡ Ok (S.taken sink.new, gate)) }
+    ensures end { IfOk result (λ gate. gate ≡ end_of (map (λ e. e.item) (S.taken sink.new))) }
+    ensures synced { OnOk result
+        (D.keeps_model → surface (D.file disk.new) ≡ after_sync (surface (D.file disk.old))) }
+    ensures crash { D.keeps_model →
+        LeavesOnly D.clock D.since disk.old disk.new (MayLeave (surface (D.file disk.old))) }
+    ensures unchanged { IfErr result (λ fault. (fault ≡ Fault.Device)
+        ⊎ (D.keeps_model → (surface (D.file disk.new)).seen ≡ (surface (D.file disk.old)).seen)) }
+    ensures refused_synced { IfErr result (λ fault. (fault ≡ Fault.Memory) ⊎ ((fault ≡ Fault.Device)
+        ⊎ (D.keeps_model → surface (D.file disk.new) ≡ after_sync (surface (D.file disk.old))))) }
+    ensures failures_stay { D.failures disk.old ≤ D.failures disk.new }
+    ensures cause { IfErr result (λ fault. (fault ≡ Fault.Memory)
+        ⊎ (((fault ≡ Fault.Device) × (D.failures disk.old < D.failures disk.new))
+        ⊎ (IsTrue (is_no_log fault) × (D.keeps_model
+        → scan (surface (D.file disk.old)).seen ≡ Err fault)))) }
+    // With no call to fail before the next write, the device does not fail.
+    ensures waits { D.obeys → waits (D.plan disk.old) ≡ true →
+        IfErr result (λ fault. ((fault ≡ Fault.Memory) ⊎ IsTrue (is_no_log fault))
+        × ((D.file disk.new ≡ D.file disk.old) ⊎ (D.file disk.new ≡ synced (D.file disk.old))))
+        × OnOk result (D.file disk.new ≡ synced (D.file disk.old))
+        × (D.plan disk.new ≡ D.plan disk.old) }
+{
+    sync_first(disk)?;
+    hand_over(alloc, disk, sink)
+}
+
+// Reads on from the front of a file behind its header.
+fn begin<D: Disk>(alloc: Global, disk: &mut D) -> Result<Pieces, Fault>
+    ensures at { IfOk result (λ ahead. ahead.at ≡ first_gate) }
+    ensures there { IfOk result (λ ahead. D.keeps_model
+        → IsAhead (surface (D.file disk.old)).seen ahead) }
+    ensures header { OnOk result (D.keeps_model
+        → take 8 (surface (D.file disk.old)).seen ≡ header) }
+    ensures same { D.file disk.new ≡ D.file disk.old }
+    ensures time { Elapses D.file D.clock D.since D.failures disk.old disk.new }
+    ensures cause { IfErr result (λ fault. (fault ≡ Fault.Memory)
+        ⊎ (((fault ≡ Fault.Device) × (D.failures disk.old < D.failures disk.new))
+        ⊎ ((fault ≡ Fault.NotALog) × (D.keeps_model
+        → scan (surface (D.file disk.old)).seen ≡ Err fault)))) }
+    ensures waits { D.obeys → waits (D.plan disk.old) ≡ true →
+        IfErr result (λ fault. (fault ≡ Fault.Memory) ⊎ IsTrue (is_no_log fault))
+        × (D.plan disk.new ≡ D.plan disk.old) }
+{
+    let len = disk.len();
+    if len < FIRST_GATE {
+        return Err(Fault::NotALog);
+    }
+    let mut ahead = Pieces::of(alloc, len);
+    ahead.more(alloc, disk)?;
+    let (front, _) = ahead.bytes().split_at(8);
+    if front != HEADER.as_slice() {
+        return Err(Fault::NotALog);
+    }
+    ahead.pass(8);
+    Ok(ahead)
+}

@@ -1,0 +1,16 @@
+-- What contracts see of a store's folder.
+use Rattle.std.specs.Prelude.{◌≡◌, ◌⊎◌, Bool, ℕ}
+use Rattle.units.specs.declared.fault.Fault.{Fault}
+use Rattle.units.specs.declared.fault.Fault.TheVariants.{BadRequest, Damaged, Device, Memory, NotALog, Stranger}
+use Rattle.units.specs.declared.fault.Reason.TheVariants as reason
+use Rattle.host_files.specs.declared.names.StoreFolder.{StoreFolder}
+
+-- every name that was made, changed or taken away in it is on the device
+abbrev pub names_are_synced : {R : Type 0} → StoreFolder R → Bool
+names_are_synced f = f.synced
+
+-- why the logs of a folder are refused: what the system refuses, want of memory, another store's shards or splits, or a log of
+-- another shard, or none
+abbrev pub IsFolderFault : Fault → Type 0
+IsFolderFault fault = (fault ≡ Memory) ⊎ (fault ≡ Device) ⊎ (fault ≡ BadRequest reason.Settings) ⊎ (fault ≡ Stranger)
+    ⊎ (fault ≡ NotALog) ⊎ ((offset : ℕ) × (fault ≡ Damaged offset))

@@ -1,0 +1,99 @@
+//! What a folder says of its store.
+ghost use Rattle.std.specs.Prelude.{◌≡◌, ◌<◌, IfErr};
+ghost use Rattle.units.specs.declared.fault.Fault.TheVariants.{Memory};
+
+use std::alloc::Global;
+use units::{Fault, Key, Splits};
+
+/// The name of the manifest in its folder.
+pub const MANIFEST: &str = "store.toml";
+
+/// The name that it has until it is whole.
+pub const MANIFEST_DRAFT: &str = "store.toml.new";
+
+/// How long a manifest may be: 16 shards take no more than 6,000 bytes.
+pub const MOST_MANIFEST: u64 = 1 << 16;
+
+/// The manifest of a store with these splits, by the name that was drawn for it: a TOML text of the format's version, the number of
+/// shards, the splits, in which each byte but letters, digits, `_`, `-` and `.` stands as `\u00XX`, and the name.
+pub fn manifest_text(alloc: Global, splits: &Splits, name: u64) -> Result<String, Fault>
+    ensures { IfErr result (λ fault. fault ≡ Memory) }
+{
+    let head = head_of(alloc, splits)?;
+    Ok(format!(in alloc; "{head}name = \"{name:016x}\"\n")?)
+}
+
+/// Whether a text is the manifest of a store with these splits, whatever its name is.
+pub fn is_manifest_of(alloc: Global, text: &[u8], splits: &Splits) -> Result<bool, Fault>
+    ensures { IfErr result (λ fault. fault ≡ Memory) }
+{
+    let head = head_of(alloc, splits)?;
+    match text.strip_prefix(head.as_bytes()) {
+        Some(line) => Ok(is_name_line(line)),
+        None => Ok(false),
+    }
+}
+
+// All of it but the name.
+fn head_of(alloc: Global, splits: &Splits) -> Result<String, Fault>
+    ensures { IfErr result (λ fault. fault ≡ Memory) }
+{
+    let keys = splits.as_slice();
+    let shards = keys.len() + 1;
+    let mut head = format!(in alloc; "version = 1\nshards = {shards}\nsplits = [")?;
+    for (place, key) in keys.iter().enumerate() {
+        if place > 0 {
+            head.push_str(", ")?;
+        }
+        push_key(&mut head, key)?;
+    }
+    head.push_str("]\n")?;
+    Ok(head)
+}
+
+// A key as a TOML text.
+fn push_key(text: &mut String, key: &Key) -> Result<(), Fault>
+    ensures { IfErr result (λ fault. fault ≡ Memory) }
+{
+    text.push('"')?;
+    for byte in key.as_bytes() {
+        push_byte(text, *byte)?;
+    }
+    text.push('"')?;
+    Ok(())
+}
+
+fn push_byte(text: &mut String, byte: u8) -> Result<(), Fault>
+    ensures { IfErr result (λ fault. fault ≡ Memory) }
+{
+    if byte.is_ascii_alphanumeric() || byte == b'_' || byte == b'-' || byte == b'.' {
+        text.push(char::from(byte))?;
+        return Ok(());
+    }
+    text.push_str("\\u00")?;
+    text.push(digit_of(byte / 16))?;
+    text.push(digit_of(byte % 16))?;
+    Ok(())
+}
+
+// The hexadecimal digit of a number below 16.
+fn digit_of(number: u8) -> char
+    requires { number < 16 }
+{
+    char::from(if number < 10 {
+        b'0' + number
+    } else {
+        b'a' + (number - 10)
+    })
+}
+
+// The line of a name: 16 hexadecimal digits.
+fn is_name_line(line: &[u8]) -> bool {
+    let Some(rest) = line.strip_prefix(b"name = \"".as_slice()) else {
+        return false;
+    };
+    let Some(digits) = rest.strip_suffix(b"\"\n".as_slice()) else {
+        return false;
+    };
+    digits.len() == 16 && digits.iter().all(|digit| digit.is_ascii_hexdigit())
+}

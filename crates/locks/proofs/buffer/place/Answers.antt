@@ -1,0 +1,14 @@
+use Rattle.std.proofs.Common.{◌∙◌, rules}
+use Rattle.std.proofs.lemmas.List.Sorted.{IsPartitionPoint-from_clause}
+use Rattle.units.specs.Keys.{key_before}
+use Rattle.units.proofs.FrontLaws.{point_is_front}
+use Rattle.locks.proofs.Places.{locks_before, front_is_place}
+use Rattle.locks.proofs.buffer.place.Goals as goal
+
+pub returns-clause-place : goal.returns-clause-place
+returns-clause-place c =
+    let l = c.args.lock.now in
+    let held = c.args.locks.now in
+    point_is_front (λ h. key_before h.key l.key) held _ c.partition_point.ensures.bound
+    (IsPartitionPoint-from_clause (λ h. key_before h.key l.key) _ _ c.partition_point.ensures.partitioned (locks_before l held c.requires) (λ a r q k. search rules))
+    ∙ front_is_place l held

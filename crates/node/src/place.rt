@@ -1,0 +1,61 @@
+//! A desk, or the disk of one that was stopped.
+ghost use Rattle.std.specs.Prelude.{◌≡◌, IfOk, IfErr};
+
+use board::Viewer;
+use desk::Desk;
+use disk::Disk;
+use std::alloc::Global;
+use std::sync::Wait;
+use units::{Fault, Reason, Setup};
+
+/// A desk; or the disk alone, where it was closed to be opened again, and that was refused.
+#[derive(Drop)]
+pub enum Place<D: Disk + Drop, R: Wait + Drop> {
+    Serving(Desk<D, R>),
+    Resting(D),
+}
+
+impl<D: Disk + Drop, R: Wait + Drop> Place<D, R> {
+    ghost use Rattle.node.specs.Seen.{seen_place};
+    ghost use Rattle.node.specs.Restart.{HasRestarted, HasNotRestarted, disk_of_place};
+
+    /// What is stopped is opened again, as a core is, with a new board and so many viewers.
+    pub fn restart(
+        self,
+        rt: R,
+        alloc: Global,
+        setup: &Setup,
+        n: usize,
+    ) -> (Place<D, R>, Result<Vec<Viewer>, Fault>)
+        ensures restarted { IfOk result.1
+            (λ viewers. HasRestarted D.keeps_model D.obeys D.file D.clock D.since D.failures D.plan
+            (seen_place self) (seen_place result.0) setup.now n viewers.items) }
+        ensures refused { IfErr result.1
+            (HasNotRestarted D.keeps_model D.obeys D.file D.clock D.since D.failures D.plan
+            (seen_place self) (seen_place result.0) setup.now n) }
+    {
+        let disk = match self {
+            Place::Serving(desk) => {
+                if !desk.core().is_stopped() {
+                    return (Place::Serving(desk), Err(Fault::BadRequest(Reason::Again)));
+                }
+                desk.close()
+            }
+            Place::Resting(disk) => disk,
+        };
+        match Desk::open(rt, alloc, disk, setup, n) {
+            Ok((desk, viewers)) => (Place::Serving(desk), Ok(viewers)),
+            Err((fault, disk)) => (Place::Resting(disk), Err(fault)),
+        }
+    }
+
+    /// Ends it, and gives its disk back as it is.
+    pub fn close(self) -> D
+        ensures { result ≡ disk_of_place (seen_place self) }
+    {
+        match self {
+            Place::Serving(desk) => desk.close(),
+            Place::Resting(disk) => disk,
+        }
+    }
+}

@@ -1,0 +1,72 @@
+#!/usr/bin/env python3
+"""Counts the calls of fsync in drives over files: two for each record that is logged, one for each log that is made and one for each opening;
+and the folder is synced behind the last name that is given and before the first record is logged, also by a drive that finds all logs. A
+second drive goes on with the bytes that the first one left. It wants the program built and strace; without that it says so and ends well."""
+import os
+import sys
+import tempfile
+
+import traced
+
+SHARDS = 2
+
+
+def fail(why):
+    print(f"count_syncs: {why}", file=sys.stderr)
+    sys.exit(1)
+
+
+def one_drive(room, folder, settings, name):
+    """Drives, and compares the calls with the records that were added."""
+    before = [traced.records_in(path) for path in traced.logs_of(folder, SHARDS)]
+    made = [not os.path.exists(path) for path in traced.logs_of(folder, SHARDS)]
+    trace = os.path.join(room, "trace")
+    answer = traced.drive(settings, trace=trace)
+    if not answer.is_yes:
+        fail(f"{name} did not go well: {answer}")
+    files, synced, order = {}, {}, []
+    for call, begins in traced.events(trace):
+        if begins or call.result is None or call.result < 0:
+            continue
+        if call.name == "openat":
+            files[call.result] = call.text(0).decode()
+        elif call.name == "fsync":
+            path = files[call.number(0)]
+            place = "folder" if os.path.realpath(path) == folder else os.path.basename(path).removesuffix(".new")
+            synced[place] = synced.get(place, 0) + 1
+            order.append(place)
+        elif call.name == "rename":
+            order.append("name")
+        elif call.name == "pwrite64" and call.number(3) > 9 and call.number(2) > 1:
+            order.append("record")
+    for shard, path in enumerate(traced.logs_of(folder, SHARDS)):
+        after = traced.records_in(path)
+        if after[: len(before[shard])] != before[shard] or len(after) == len(before[shard]):
+            fail(f"{name}: the log of shard {shard} does not begin with what was there, or has nothing more")
+        # That of the making, that of the opening, that of the judging, and two for each record.
+        wanted = 2 * (len(after) - len(before[shard])) + made[shard] + 2
+        if synced.get(f"shard-{shard}.log", 0) != wanted:
+            fail(f"{name}: {synced.get(f'shard-{shard}.log', 0)} syncs of the log of shard {shard}, and not {wanted}")
+    first = order.index("record") if "record" in order else len(order)
+    last = max((place for place, what in enumerate(order[:first]) if what == "name"), default=-1)
+    if "folder" not in order[last + 1 : first] or "name" in order[first:]:
+        fail(f"{name}: the folder is not synced between the last name and the first record")
+    opened = [body for body in traced.records_in(traced.logs_of(folder, SHARDS)[0]) if body[:1] == b"\x01"]
+    return sum(synced.values()), len(opened)
+
+
+def main():
+    traced.need_tools("count_syncs")
+    with tempfile.TemporaryDirectory() as room:
+        folder = os.path.realpath(os.path.join(room, "logs"))
+        os.mkdir(folder)
+        settings = os.path.join(room, "settings")
+        traced.settings(settings, folder, SHARDS, 2, 10, 8)
+        first, runs = one_drive(room, folder, settings, "a drive that makes its logs")
+        second, more = one_drive(room, folder, settings, "a drive that finds them")
+        if (runs, more) != (1, 2):
+            fail(f"the logs were opened {runs} and {more} times")
+        print(f"count_syncs: {first} and {second} syncs, two for each record; the second drive went on with run 2")
+
+
+main()

@@ -1,0 +1,90 @@
+#!/bin/sh
+# Runs programs with the N-th growth of their memory refused, for N = 1, 2, .. until none is. `refusing` has to ask again, and to end as
+# without. The program has to end as without, or with `1 Memory` behind what it printed so far: `once`, `play`, `inspect`, and `drive`
+# at some of its growths, whose number depends on its threads. It wants both programs built (as the gate does), and the kit's own clang;
+# where there is none, nothing is tried.
+set -eu
+root=$(dirname "$(dirname "$(readlink -f "$0")")")
+clang=$(dirname "$(rt doc | head -n 1)")/toolchain/bin/clang
+if [ ! -x "$clang" ]; then
+    echo "refused_memory: not tried, since the kit has no clang"
+    exit
+fi
+room=$(mktemp -d)
+trap 'rm -rf "$room"' EXIT
+"$clang" -O1 -shared -fPIC -nostdlib -fuse-ld=lld -o "$room/refuse.so" "$root/scripts/refuse.c"
+program=$root/crates/shards/out/shards
+
+fail() {
+    echo "refused_memory: FAILED: $name, growth $n: status $status, $(tail -n 1 "$room/err" "$room/out")" >&2
+    exit 1
+}
+
+# Runs some words with growth n refused, and says whether it was.
+run() {
+    : >"$room/refused"
+    status=0
+    REFUSE_AT=$n LD_PRELOAD=$room/refuse.so "$@" >"$room/out" 2>"$room/err" 9>"$room/refused" || status=$?
+    [ -s "$room/refused" ]
+}
+
+# It said `1 Memory`, behind a beginning of what it prints without a refusal.
+is_memory() {
+    [ "$status" -eq 2 ] && [ "$(cat "$room/err")" = 'fault: 1 Memory' ] && head -c "$(wc -c <"$room/out")" "$room/whole" | cmp -s - "$room/out"
+}
+
+# It ended as without a refusal, but for what says which call was refused.
+is_whole() {
+    [ "$status" -eq 0 ] && [ ! -s "$room/err" ] && grep -v '^refused: ' "$room/out" | cmp -s - "$room/whole"
+}
+
+# The drive ended with the verdict yes, or with `1 Memory`.
+is_driven() {
+    if [ "$status" -eq 0 ]; then
+        [ ! -s "$room/err" ] && [ "$(tail -n 1 "$room/out")" = 'verdict yes' ]
+    else
+        : >"$room/whole"
+        is_memory
+    fi
+}
+
+# Refuses each growth of some words, or one of so many, until none is, and wants each end to be one of these two.
+sweep() {
+    name=$1 step=$2 first=$3 second=$4
+    shift 4
+    n=0
+    run "$@" || true
+    cp "$room/out" "$room/whole"
+    [ "$status" -eq 0 ] || fail
+    n=1 tried=0
+    while run "$@"; do
+        "$first" || "$second" || fail
+        n=$((n + step)) tried=$((tried + 1))
+    done
+    [ "$tried" -gt 0 ] || fail
+    done="${done:+$done, }$name $tried"
+}
+
+cat >"$room/settings" <<END
+shards = 2
+splits = ["k0005"]
+stride = 1000
+epsilon = 100
+workers = 2
+transactions = 2
+keys = 10
+END
+mkdir "$room/logs"
+(cat "$room/settings" && echo "dir = \"$room/logs\"") >"$room/with.files"
+"$program" drive "$room/with.files" >/dev/null
+: >"$room/no.lines"
+
+from=$(date +%s)
+done=
+sweep refusing 1 is_whole is_whole "$root/crates/refusing/out/refusing"
+cmp -s "$room/whole" "$root/crates/refusing/stdout" || fail
+sweep once 1 is_whole is_memory "$program" once a 1 100 110 112 121
+sweep play 1 is_whole is_memory "$program" play "$root/docs/example.schedule"
+sweep inspect 1 is_whole is_memory "$program" inspect "$room/no.lines" "$room/logs/shard-0.log" "$room/logs/shard-1.log"
+sweep drive 13 is_driven is_driven "$program" drive "$room/settings"
+echo "refused_memory: $done growths refused in $(($(date +%s) - from)) seconds, each as it should be"

@@ -1,0 +1,165 @@
+"""What the scripts share that look at the program from outside: settings, drives under strace, the calls of a trace, and the records of logs."""
+import os
+import re
+import shutil
+import subprocess
+import sys
+
+ROOT = os.path.dirname(os.path.dirname(os.path.abspath(__file__)))
+PROGRAM = os.environ.get("SHARDS_PROGRAM", os.path.join(ROOT, "crates/shards/out/shards"))
+CALLS = "openat,flock,fsync,ftruncate,pwrite64,pread64,rename,unlink,statx,close"
+
+
+def leave(script, why):
+    """Ends a script that can't be run here, and is no failure."""
+    print(f"{script}: left out, since {why}")
+    sys.exit(0)
+
+
+def need_tools(script):
+    if not os.access(PROGRAM, os.X_OK):
+        print(f"{script}: it wants the program built (./run --build)", file=sys.stderr)
+        sys.exit(2)
+    if not shutil.which("strace"):
+        leave(script, "there is no strace")
+    if subprocess.run(["strace", "-o", "/dev/null", "true"], capture_output=True).returncode:
+        leave(script, "strace may not trace here")
+
+
+def settings(path, folder, shards, workers, transactions, keys):
+    """Writes settings whose keys are parted evenly."""
+    splits = ", ".join(f'"k{keys * shard // shards:04}"' for shard in range(1, shards))
+    with open(path, "w") as file:
+        file.write(
+            f"shards = {shards}\nsplits = [{splits}]\nstride = 100000\nepsilon = 100\nworkers = {workers}\n"
+            f'transactions = {transactions}\nkeys = {keys}\ndir = "{folder}"\n'
+        )
+
+
+class Answer:
+    """What a drive printed, and how it ended."""
+
+    def __init__(self, ran):
+        self.status, self.out, self.err = ran.returncode, ran.stdout, ran.stderr
+        found = re.search(r"^committed (\d+)$", self.out, re.M)
+        self.committed = int(found.group(1)) if found else 0
+        self.is_yes = self.status == 0 and self.out.endswith("verdict yes\n")
+
+    def __str__(self):
+        return f"status {self.status}, {self.out!r}, {self.err!r}"
+
+
+def run(words, seconds=120):
+    try:
+        return subprocess.run(words, capture_output=True, text=True, stdin=subprocess.DEVNULL, timeout=seconds)
+    except subprocess.TimeoutExpired:
+        return subprocess.CompletedProcess(words, 124, "", f"no end within {seconds} seconds")
+
+
+def drive(settings_file, inject=None, trace=None, path=None):
+    """A drive, by strace where calls are injected into it or recorded."""
+    words = [PROGRAM, "drive", settings_file]
+    if inject or trace:
+        strace = ["strace", "-f", "-qq", "-e", f"trace={CALLS}", "-o", trace or "/dev/null"]
+        if trace:
+            strace += ["-xx", "-s", "1100000"]
+        if path:
+            strace += ["-P", path]
+        if inject:
+            strace += ["-e", f"inject={inject}"]
+        words = strace + words
+    return Answer(run(words))
+
+
+def logs_of(folder, shards):
+    return [os.path.join(folder, f"shard-{shard}.log") for shard in range(shards)]
+
+
+def verdict(folder, shards, no_lines):
+    """The verdict on the logs alone."""
+    ran = run([PROGRAM, "inspect", no_lines] + logs_of(folder, shards))
+    return (ran.stdout + ran.stderr).strip()
+
+
+def records(image):
+    """The bodies of the records of a log, by its file; none where it is no log."""
+    found, at = [], 8
+    if image[:8] != b"SPNLOG01":
+        return found
+    while at + 5 <= len(image) and image[at] == 0xA5:
+        count = int.from_bytes(image[at + 1 : at + 5], "big")
+        if at + 5 + count > len(image):
+            break
+        found.append(image[at + 5 : at + 5 + count])
+        at += 5 + count
+    return found
+
+
+def records_in(path):
+    try:
+        with open(path, "rb") as file:
+            return records(file.read())
+    except OSError:
+        return []
+
+
+def commits(folder, shards):
+    """How many commit decisions stand in the logs of a folder."""
+    return sum(body[:1] == b"\x04" for path in logs_of(folder, shards) for body in records_in(path))
+
+
+class Call:
+    """A call of a trace: its thread, name, words, and result, which is None where it did not come back."""
+
+    def __init__(self, thread, name, words):
+        self.thread, self.name, self.words, self.result = thread, name, words, None
+
+    def text(self, place):
+        """The bytes of its text at a place, from the front."""
+        spelled = re.findall(r'"((?:\\x[0-9a-f]{2})*)"', self.words)[place]
+        return bytes.fromhex(spelled.replace("\\x", ""))
+
+    def number(self, place):
+        """Its number at a place, its texts taken out."""
+        words = re.sub(r'"[^"]*"(\.\.\.)?', "text", self.words).split(", ")
+        return int(words[place], 0)
+
+
+START = re.compile(r"^(\d+) +(\w+)\((.*)$")
+RESUMED = re.compile(r"^(\d+) +<\.\.\. (\w+) resumed>(.*)$")
+RESULT = re.compile(r"\) += (-?\d+|\?)")
+
+
+def result_of(rest):
+    found = RESULT.findall(rest)
+    return int(found[-1]) if found and found[-1] != "?" else None
+
+
+def events(trace):
+    """The calls of a trace, as pairs of a call and whether it begins or comes back."""
+    open_calls = {}
+    with open(trace, errors="replace") as lines:
+        for line in lines:
+            line = line.rstrip("\n")
+            found = RESUMED.match(line)
+            if found:
+                call = open_calls.pop((found[1], found[2]), None)
+                if call:
+                    call.result = result_of(found[3])
+                    if call.result is not None:
+                        yield call, False
+                continue
+            found = START.match(line)
+            if not found:
+                continue
+            rest = found[3]
+            if rest.endswith("<unfinished ...>"):
+                call = Call(found[1], found[2], rest[: -len(" <unfinished ...>")])
+                open_calls[(found[1], found[2])] = call
+                yield call, True
+                continue
+            call = Call(found[1], found[2], rest[: rest.rfind(") ")])
+            yield call, True
+            call.result = result_of(rest)
+            if call.result is not None:
+                yield call, False
