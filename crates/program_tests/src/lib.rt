@@ -10,8 +10,6 @@ mod comparing;
 #[cfg(test)]
 mod crashes;
 #[cfg(test)]
-mod each_call;
-#[cfg(test)]
 mod given;
 #[cfg(test)]
 mod outside;
