@@ -7,6 +7,8 @@ mod checks;
 #[cfg(test)]
 mod clocks;
 #[cfg(test)]
+mod crowd;
+#[cfg(test)]
 mod devices;
 #[cfg(test)]
 mod disks;
@@ -43,6 +45,8 @@ mod looks;
 #[cfg(test)]
 mod messages;
 #[cfg(test)]
+mod plain;
+#[cfg(test)]
 mod records;
 #[cfg(test)]
 mod refusals;
@@ -64,6 +68,8 @@ mod terminals;
 mod tests;
 #[cfg(test)]
 mod text_logs;
+#[cfg(test)]
+mod tokens;
 #[cfg(test)]
 mod verdicts;
 #[cfg(test)]

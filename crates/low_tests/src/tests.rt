@@ -1,9 +1,9 @@
 //! The tests, each of some areas.
 use crate::checks::{check, check_rows};
 use crate::{
-    clocks, devices, disks, documents, drawers, drive_lines, figures, files, known, ledgers, left,
-    limits, looks, messages, records, refusals, screens, seated, sessions, spellings, tables,
-    terminals, verdicts, versioned,
+    clocks, crowd, devices, disks, documents, drawers, drive_lines, figures, files, known, ledgers,
+    left, limits, looks, messages, plain, records, refusals, screens, seated, sessions, spellings,
+    tables, terminals, verdicts, versioned,
 };
 
 #[test]
@@ -25,6 +25,12 @@ fn low_crates(rt: HostRuntime) {
     check(&rt, "lines", drive_lines::wrong(alloc));
     check(&rt, "screens", screens::wrong(alloc));
     check(&rt, "terminals", terminals::wrong(&rt, alloc));
+}
+
+#[test]
+fn crowded_lock_tables(rt: HostRuntime) {
+    check(&rt, "a thousand waiters", crowd::wrong(rt.alloc()));
+    check(&rt, "a plain lock table", plain::wrong(rt.alloc()));
 }
 
 #[test]

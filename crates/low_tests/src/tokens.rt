@@ -1,0 +1,104 @@
+//! The tokens of the transactions of a lock table. Each is used only where the table has its claim.
+use locks::{Held, Table};
+use made::id;
+use std::alloc::Global;
+use units::{Asked, Lock};
+
+/// Takes in a transaction that is not in the table, and keeps its token.
+pub fn enters(table: &mut Table, alloc: Global, tokens: &mut Vec<Held>, number: u16) -> bool {
+    let txn = id(number);
+    if table.has(txn) {
+        return false;
+    }
+    let Ok(()) = tokens.reserve(1) else {
+        return false;
+    };
+    match table.enter(alloc, txn) {
+        Ok(held) => {
+            tokens.push_reserved(held);
+            true
+        }
+        Err(_) => false,
+    }
+}
+
+// The place of a transaction's token.
+fn place(tokens: &[Held], number: u16) -> Option<usize> {
+    for (at, held) in tokens.iter().enumerate() {
+        if held.txn() == id(number) {
+            return Some(at);
+        }
+    }
+    None
+}
+
+/// What a transaction's request gets.
+pub fn requests(
+    table: &mut Table,
+    alloc: Global,
+    tokens: &mut [Held],
+    number: u16,
+    needs: &[Lock],
+) -> Option<Asked> {
+    for held in tokens {
+        if held.txn() == id(number) && table.has(held.txn()) {
+            return match table.request(alloc, held, needs) {
+                Ok(asked) => Some(asked),
+                Err(_) => None,
+            };
+        }
+    }
+    None
+}
+
+/// The transaction is ready, and gets what it waits for.
+pub fn goes_on(table: &mut Table, tokens: &mut [Held], number: u16) -> bool {
+    for held in tokens {
+        if held.txn() == id(number) {
+            return table.ready() == Some(held.txn()) && table.resume(held).is_ok();
+        }
+    }
+    false
+}
+
+/// From now on nobody ends the transaction.
+pub fn becomes_firm(table: &mut Table, tokens: &[Held], number: u16) {
+    for held in tokens {
+        if held.txn() == id(number) && table.has(held.txn()) {
+            table.firm(held);
+        }
+    }
+}
+
+/// The transaction waits no longer.
+pub fn gives_up(table: &mut Table, tokens: &[Held], number: u16) {
+    for held in tokens {
+        if held.txn() == id(number) && table.has(held.txn()) {
+            table.withdraw(held);
+        }
+    }
+}
+
+/// The transaction is released, if it has a token.
+pub fn leaves(table: &mut Table, tokens: &mut Vec<Held>, number: u16) {
+    match place(tokens, number) {
+        Some(at) => {
+            if at < tokens.len() {
+                table.release(tokens.remove(at));
+            }
+        }
+        None => {}
+    }
+}
+
+/// All are released.
+pub fn release_all(table: &mut Table, tokens: Vec<Held>) {
+    let mut tokens = tokens;
+    for _ in 0..tokens.len() {
+        match tokens.pop() {
+            Some(held) => table.release(held),
+            None => {}
+        }
+    }
+    tokens.destroy_empty();
+}
