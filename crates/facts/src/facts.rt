@@ -206,13 +206,13 @@ impl Facts {
         if !self.follows(&item) {
             return Err((Fault::Damaged { offset }, item));
         }
-        self.note(item);
+        self.learn_next(item);
         Ok(())
     }
 
-    // Notes a record that may come next.
+    /// Learns a record that may come next in the log. It takes no memory.
     #[tactic(auto, unfolding(record::specs::Facts::learn, crate::specs::Rules::follows_facts))]
-    fn note(&mut self, item: Record)
+    pub fn learn_next(&mut self, item: Record)
         requires room { 1 ≤ self.old.room }
         requires follows { IsTrue (follows_facts self.old.shard self.old.facts item) }
         ensures facts { self.new.facts ≡ learn self.old.facts item }

@@ -1,9 +1,10 @@
 //! What a log hands out.
-ghost use Rattle.std.specs.Prelude.{◌≡◌, ◌≤◌, ◌+◌, ◌^◌, [], IsTrue, IfOk, IfErr, OnOk};
+ghost use Rattle.std.specs.Prelude.{◌≡◌, ◌≤◌, ◌+◌, ◌^◌, [], ◌∷◌, IsTrue, IfOk, IfErr, OnOk};
 ghost use Rattle.gatelog.specs.Frames.{next_gate, staged_bytes};
 ghost use Rattle.spelling.specs.Grammar.{IsRecord};
 
 use byteorder::{BigEndian, ByteOrder};
+use counts::Past;
 use record::Record;
 use spelling::{encode_into, encoded_len};
 use std::alloc::Global;
@@ -60,6 +61,23 @@ impl Entry {
         ensures memory { IfErr result (λ fault. fault ≡ Fault.Memory) }
     {
         Ok(Logged::new(self.item.copy(alloc)?))
+    }
+
+    /// Its record, which stands in the log.
+    pub fn into_logged(self) -> Logged
+        ensures { result ≡ self.item }
+    {
+        let Entry { offset: _, item } = self;
+        Logged::new(item)
+    }
+
+    /// An equal entry with memory of its own. It is refused for want of memory alone.
+    pub fn copy(&self, alloc: Global) -> Result<Entry, Fault>
+        ensures same { IfOk result (λ copy. copy ≡ self.now) }
+        ensures memory { IfErr result (λ fault. fault ≡ Fault.Memory) }
+    {
+        let item = self.item.copy(alloc)?;
+        Ok(Entry::new(self.offset, item))
     }
 }
 
@@ -170,5 +188,41 @@ impl Logged {
     {
         let Logged { item } = self;
         item
+    }
+
+    /// Its record, and the word that this stands in the log.
+    pub fn part(self) -> (Record, Word)
+        ensures record { result.0 ≡ self }
+        ensures word { result.1 ≡ self ∷ [] }
+    {
+        let Logged { item } = self;
+        let mut said = Past::none();
+        said.add(&item);
+        (item, Word { said })
+    }
+}
+
+/// The word that a record stands in the log, apart from the record. It takes no bytes.
+#[derive(Drop)]
+pub struct Word {
+    said: Past<Record>,
+}
+
+impl Model for Word {
+    ghost use Rattle.std.specs.Prelude.{List};
+    ghost use Rattle.record.specs.declared.record.Record.{Record};
+
+    ghost Value = { List Record };
+
+    ghost view = { λ w. w.said.entries };
+}
+
+impl Word {
+    /// The record, of which this is the word.
+    pub fn with(self, item: Record) -> Logged
+        requires { self ≡ item ∷ [] }
+        ensures { result ≡ item }
+    {
+        Logged::new(item)
     }
 }

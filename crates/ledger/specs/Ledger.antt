@@ -1,9 +1,8 @@
 -- What the record that comes next installs.
-use Rattle.std.specs.Prelude.{◌≡◌, ℕ, IsTrue, List, [], Option, Some, None}
+use Rattle.std.specs.Prelude.{◌≡◌, ℕ, IsTrue, List, Option, Some, None}
 use Rattle.units.specs.Versions.{above_versions}
 use Rattle.units.specs.declared.writes.Write.{Write}
 use Rattle.record.specs.Facts.{Facts, recorded}
-use Rattle.record.specs.Records.{Status, StandsPrepared, StandsDecided}
 use Rattle.record.specs.declared.record.Record.{Record}
 use Rattle.record.specs.declared.record.Record.TheVariants.{Opened, Ceiling, Prepare, Commit, Abort, Outcome}
 use Rattle.protocol.specs.Sound.{writes_standing}

@@ -177,23 +177,10 @@ impl Ledger {
         ensures shard { self.new.shard ≡ self.old.shard }
     {
         let at = outcome_stamp(&item);
-        learn_next(&mut self.facts, item);
+        self.facts.learn_next(item);
         if let Some(at) = at {
             self.versions.install_all(writes, at);
         }
-    }
-}
-
-// Learns the record that comes next in the log. It is not damaged, so its offset does not matter. It takes no memory.
-fn learn_next(facts: &mut Facts, item: Record)
-    requires room { 1 ≤ facts.old.room }
-    requires follows { IsTrue (follows_facts facts.old.shard facts.old.facts item) }
-    ensures facts { facts.new.facts ≡ learn facts.old.facts item }
-    ensures shard { facts.new.shard ≡ facts.old.shard }
-{
-    match facts.learn(0, item) {
-        Ok(()) => {}
-        Err(_) => unreachable!(),
     }
 }
 

@@ -1,9 +1,10 @@
 //! A whole log, record by record.
-ghost use Rattle.std.specs.Prelude.{◌≡◌, ◌⊎◌, ◌++◌, [], ◌∷◌, map, reverse, Some, None, OnOk, IfOk, IfErr, IsSome};
+ghost use Rattle.std.specs.Prelude.{◌≡◌, ◌⊎◌, ◌++◌, [], ◌∷◌, map, reverse, true, Some, None, OnOk, IfOk, IfErr, IsSome};
 ghost use Rattle.recovery.specs.Rebuilding.{Progresses, IsStateOf, known_of};
 ghost use Rattle.record.specs.Accepted.{Accepted, taken};
 ghost use Rattle.record.specs.Facts.{facts_of, learn};
-ghost use Rattle.recovery.specs.Recovered.{IsRebuilt, IsSoundlyRebuilt, IsRecovered, fault_next, fault_in, is_first, items};
+ghost use Rattle.facts.specs.Rules.{follows_facts};
+ghost use Rattle.recovery.specs.Recovered.{IsRebuilt, IsSoundlyRebuilt, IsRecovered, fault_next, fault_in, fits_facts, is_first, items};
 
 use crate::belonging::belongs;
 use crate::replaying::{fits_beside, replay};
@@ -52,13 +53,30 @@ impl Rebuild {
             self.entries.add(entry);
             return Ok(());
         }
-        match go_on(&mut self.state, alloc, &self.setup, entry) {
-            Ok(()) => {
-                self.entries.add(entry);
-                Ok(())
-            }
+        match entry.copy(alloc) {
+            Ok(entry) => self.take_over(alloc, entry),
             Err(fault) => {
                 self.entries.add(entry);
+                self.refused = Some(fault);
+                Err(fault)
+            }
+        }
+    }
+
+    /// Takes one more record, which is moved into what it leaves. It is refused for want of memory alone.
+    pub fn take_over(&mut self, alloc: Global, entry: Entry) -> Result<(), Fault>
+        ensures setup { setup_of self.new ≡ setup_of self.old }
+        ensures taken { taken_by self.new ≡ taken_by self.old ++ entry ∷ [] }
+        ensures memory { IfErr result (λ fault. fault ≡ Fault.Memory) }
+    {
+        self.entries.add(&entry);
+        if self.refused.is_some() {
+            drop(entry);
+            return Ok(());
+        }
+        match go_on(&mut self.state, alloc, &self.setup, entry) {
+            Ok(()) => Ok(()),
+            Err(fault) => {
                 self.refused = Some(fault);
                 if fault == Fault::Memory {
                     Err(fault)
@@ -118,30 +136,31 @@ impl Rebuild {
 }
 
 // What one more record makes of what there is, which is nothing before the first.
-fn go_on(
-    state: &mut Option<State>,
-    alloc: Global,
-    setup: &Setup,
-    entry: &Entry,
-) -> Result<(), Fault>
+fn go_on(state: &mut Option<State>, alloc: Global, setup: &Setup, entry: Entry) -> Result<(), Fault>
     requires { IsStateOf setup.now state.old }
-    ensures next { OnOk result (fault_next setup.now (known_of state.old) entry.now ≡ None) }
+    ensures next { OnOk result (fault_next setup.now (known_of state.old) entry ≡ None) }
     ensures there { OnOk result (IsSome state.new) }
     ensures state_of { OnOk result (IsStateOf setup.now state.new) }
-    ensures known { OnOk result (known_of state.new ≡ learn (known_of state.old) entry.now.item) }
+    ensures known { OnOk result (known_of state.new ≡ learn (known_of state.old) entry.item) }
     ensures refused { IfErr result (λ fault. (fault ≡ Fault.Memory)
-        ⊎ (fault_next setup.now (known_of state.old) entry.now ≡ Some fault)) }
+        ⊎ (fault_next setup.now (known_of state.old) entry ≡ Some fault)) }
 {
     match state {
         Some(state) => take(state, alloc, entry),
-        None => {
-            let first = begin(alloc, entry, setup)?;
-            match state.replace(first) {
-                None => {}
-                Some(former) => former.stop(),
+        None => match begin(alloc, &entry, setup) {
+            Ok(first) => {
+                drop(entry);
+                match state.replace(first) {
+                    None => {}
+                    Some(former) => former.stop(),
+                }
+                Ok(())
             }
-            Ok(())
-        }
+            Err(fault) => {
+                drop(entry);
+                Err(fault)
+            }
+        },
     }
 }
 
@@ -176,15 +195,35 @@ fn is_first(item: &Record) -> bool
 }
 
 // What one more record makes of the state.
-fn take(state: &mut State, alloc: Global, entry: &Entry) -> Result<(), Fault>
+fn take(state: &mut State, alloc: Global, entry: Entry) -> Result<(), Fault>
     requires recovered { IsRecovered state.old }
     ensures setup { state.new.setup ≡ state.old.setup }
-    ensures next { OnOk result (fault_next state.old.setup state.old.facts entry.now ≡ None) }
-    ensures facts { OnOk result (state.new.facts ≡ learn state.old.facts entry.now.item) }
+    ensures next { OnOk result (fault_next state.old.setup state.old.facts entry ≡ None) }
+    ensures facts { OnOk result (state.new.facts ≡ learn state.old.facts entry.item) }
     ensures recovered { OnOk result (IsRecovered state.new) }
     ensures refused { IfErr result
         (λ fault. (fault ≡ Fault.Memory)
-        ⊎ (fault_next state.old.setup state.old.facts entry.now ≡ Some fault)) }
+        ⊎ (fault_next state.old.setup state.old.facts entry ≡ Some fault)) }
+{
+    match comes_next(state, alloc, &entry) {
+        Ok(()) => replay(state, alloc, entry.into_logged()),
+        Err(fault) => {
+            drop(entry);
+            Err(fault)
+        }
+    }
+}
+
+// The record may come next in the log of a state, and has its place beside what stands.
+fn comes_next(state: &State, alloc: Global, entry: &Entry) -> Result<(), Fault>
+    requires recovered { IsRecovered state.now }
+    ensures next { OnOk result (fault_next state.now.setup state.now.facts entry.now ≡ None) }
+    ensures follows { OnOk result
+        (follows_facts state.now.setup.shard state.now.facts entry.now.item ≡ true) }
+    ensures fits { OnOk result (fits_facts state.now.facts entry.now.item ≡ true) }
+    ensures refused { IfErr result
+        (λ fault. (fault ≡ Fault.Memory)
+        ⊎ (fault_next state.now.setup state.now.facts entry.now ≡ Some fault)) }
 {
     let item = entry.item();
     if !belongs(state.setup(), item) {
@@ -196,8 +235,7 @@ fn take(state: &mut State, alloc: Global, entry: &Entry) -> Result<(), Fault>
     if !fits_beside(state, alloc, item)? {
         return Err(damage_at(entry));
     }
-    let logged = entry.logged(alloc)?;
-    replay(state, alloc, logged)
+    Ok(())
 }
 
 // The log is damaged at the entry.

@@ -48,68 +48,88 @@ pub fn replay(state: &mut State, alloc: Global, logged: Logged) -> Result<(), Fa
 {
     ready_plans_can_be_carried();
     state.laws();
-    match ready_again(state, alloc, logged.item()) {
+    let (item, word) = logged.part();
+    match ready_again(state, alloc, item) {
         Ok((plan, ready)) => {
-            state.carry(plan, ready, Some(logged));
+            let mut plan = plan;
+            let Some(item) = plan.logged.take() else {
+                unreachable!()
+            };
+            state.carry(plan, ready, Some(word.with(item)));
             Ok(())
         }
         Err(fault) => {
-            logged.spend();
+            drop(word);
             Err(fault)
         }
     }
 }
 
 // The plan that logs the record once more, with the memory that it takes.
-fn ready_again(state: &mut State, alloc: Global, item: &Record) -> Result<(Plan, Ready), Fault>
+fn ready_again(state: &mut State, alloc: Global, item: Record) -> Result<(Plan, Ready), Fault>
     requires recovered { IsRecovered state.old }
-    requires follows { follows_facts state.old.setup.shard state.old.facts item.now ≡ true }
-    requires fits { fits_facts state.old.facts item.now ≡ true }
+    requires follows { follows_facts state.old.setup.shard state.old.facts item ≡ true }
+    requires fits { fits_facts state.old.facts item ≡ true }
     ensures setup { state.new.setup ≡ state.old.setup }
-    ensures logged { IfOk result (λ made. made.0.logged ≡ Some item.now) }
+    ensures logged { IfOk result (λ made. made.0.logged ≡ Some item) }
     ensures fit { IfOk result (λ made. IsFit state.old made.0) }
     ensures memory_after { IfOk result
         (λ made. carried (plan_of state.old.memory.rows made.0) state.old.memory ≡
-        rebuilt (learn state.old.facts item.now)) }
+        rebuilt (learn state.old.facts item)) }
     ensures ready { IfOk result (λ made. HasMemoryFor state.old state.new made.0) }
     ensures writes { IfOk result
         (λ made. made.1.writes ≡ writes_installed state.old.facts made.0.logged) }
     ensures memory { IfErr result (λ fault. fault ≡ Fault.Memory) }
 {
     let plan = plan_again(state, alloc, item)?;
-    let ready = state.make_ready(alloc, &plan)?;
-    Ok((plan, ready))
+    match state.make_ready(alloc, &plan) {
+        Ok(ready) => Ok((plan, ready)),
+        Err(fault) => {
+            drop(plan);
+            Err(fault)
+        }
+    }
 }
 
 // The plan that logs the record once more.
-fn plan_again(state: &State, alloc: Global, item: &Record) -> Result<Plan, Fault>
+fn plan_again(state: &State, alloc: Global, item: Record) -> Result<Plan, Fault>
     requires recovered { IsRecovered state.now }
-    requires follows { follows_facts state.now.setup.shard state.now.facts item.now ≡ true }
-    requires fits { fits_facts state.now.facts item.now ≡ true }
-    ensures logged { IfOk result (λ plan. plan.logged ≡ Some item.now) }
+    requires follows { follows_facts state.now.setup.shard state.now.facts item ≡ true }
+    requires fits { fits_facts state.now.facts item ≡ true }
+    ensures logged { IfOk result (λ plan. plan.logged ≡ Some item) }
     ensures fit { IfOk result (IsFit state.now) }
     ensures memory_after { IfOk result
         (λ plan. carried (plan_of state.now.memory.rows plan) state.now.memory ≡
-        rebuilt (learn state.now.facts item.now)) }
+        rebuilt (learn state.now.facts item)) }
     ensures memory { IfErr result (λ fault. fault ≡ Fault.Memory) }
 {
-    let copy = item.copy(alloc)?;
     let last = state.last();
-    match item {
-        Record::Opened { .. } => Ok(state.serves(alloc, Some(copy), last)),
-        Record::Ceiling { at } => Ok(state.serves(alloc, Some(copy), last.later(*at))),
-        Record::Abort { txn } => Ok(state.drops(alloc, *txn, copy, last, Vec::new(alloc))),
+    match &item {
+        Record::Opened { .. } => Ok(state.serves(alloc, Some(item), last)),
+        Record::Ceiling { at } => {
+            let last = last.later(*at);
+            Ok(state.serves(alloc, Some(item), last))
+        }
+        Record::Abort { txn } => {
+            let txn = *txn;
+            Ok(state.drops(alloc, txn, item, last, Vec::new(alloc)))
+        }
         Record::Outcome { txn, outcome } => {
+            let txn = *txn;
             let last = raised_by(last, *outcome);
-            Ok(state.drops(alloc, *txn, copy, last, Vec::new(alloc)))
+            Ok(state.drops(alloc, txn, item, last, Vec::new(alloc)))
         }
         Record::Prepare(p) => {
+            let txn = p.txn;
+            let at = p.at;
             let needs = shared_and_exclusive(alloc, &p.reads, &p.writes)?;
-            stand_again(state, alloc, p.txn, p.at, needs, copy)
+            stand_again(state, alloc, txn, at, needs, item)
         }
         Record::Commit(c) => {
+            let txn = c.txn;
+            let at = c.at;
             let needs = shared_and_exclusive(alloc, &c.reads, &c.writes)?;
-            stand_again(state, alloc, c.txn, c.at, needs, copy)
+            stand_again(state, alloc, txn, at, needs, item)
         }
     }
 }

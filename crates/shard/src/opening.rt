@@ -106,6 +106,6 @@ impl Sink for Opening {
             let copy = entry.item().copy(alloc)?;
             self.found.push(copy)?;
         }
-        self.rebuild.take(alloc, &entry)
+        self.rebuild.take_over(alloc, entry)
     }
 }

@@ -97,6 +97,52 @@ pub fn find(
     (low, probes)
 }
 
+// How many versions are not after the key and the timestamp, in microseconds. Where all are, as where keys come in order, one
+// comparison finds that.
+fn count(installs: &[Install], places: &Places, key: &Key, at: u64) -> usize
+    requires within { AreWithin places.now.places (length installs.now) }
+    requires order { AscendsByVersion (arranged installs.now places.now.places) }
+    requires heads { AreHeads places.now.prefix (arranged installs.now places.now.places)
+        places.now.heads }
+    ensures count { result ≡ count_not_after key.now at (arranged installs.now places.now.places) }
+    ensures before { AllUpTo key.now at (arranged installs.now places.now.places) result }
+    ensures after { AllAfter key.now at (arranged installs.now places.now.places) result }
+    ensures bound { result ≤ length places.now.places }
+{
+    let mut compared = Count::none();
+    let len = places.len();
+    let key_head = places.head_of(key);
+    if len > 0 && is_not_after_at(installs, places, len - 1, key, key_head, at, &mut compared) {
+        return len;
+    }
+    let (count, _) = find(installs, places, key, at, &mut compared);
+    count
+}
+
+// The newest of so many versions from the front, where it is of the key.
+fn newest_in<'a>(
+    installs: &'a [Install],
+    places: &Places,
+    key: &Key,
+    at: u64,
+    count: usize,
+) -> Option<&'a Install>
+    requires within { AreWithin places.now.places (length installs.now) }
+    requires order { AscendsByVersion (arranged installs.now places.now.places) }
+    requires before { AllUpTo key.now at (arranged installs.now places.now.places) count }
+    requires after { AllAfter key.now at (arranged installs.now places.now.places) count }
+    requires bound { count ≤ length places.now.places }
+    ensures { option_copied result ≡
+        newest (filter (is_by key.now at) (arranged installs.now places.now.places)) }
+{
+    if count == 0 {
+        return None;
+    }
+    let place = places.get(count - 1);
+    let last = &installs[place];
+    if last.key.is(key) { Some(last) } else { None }
+}
+
 /// The newest version of the key at the timestamp, in microseconds, or before.
 pub fn newest_by<'a>(
     installs: &'a [Install],
@@ -112,12 +158,7 @@ pub fn newest_by<'a>(
         newest (filter (is_by key.now at) (arranged installs.now places.now.places)) }
 {
     let (count, _) = find(installs, places, key, at, &mut Count::none());
-    if count == 0 {
-        return None;
-    }
-    let place = places.get(count - 1);
-    let last = &installs[place];
-    if last.key.is(key) { Some(last) } else { None }
+    newest_in(installs, places, key, at, count)
 }
 
 /// The newest version of the key.
@@ -130,7 +171,8 @@ pub fn newest_of<'a>(installs: &'a [Install], places: &Places, key: &Key) -> Opt
     ensures { option_copied result ≡
         newest (of_key (arranged installs.now places.now.places) key.now) }
 {
-    newest_by(installs, places, key, Stamp::MAX)
+    let count = count(installs, places, key, Stamp::MAX);
+    newest_in(installs, places, key, Stamp::MAX, count)
 }
 
 /// Adds a version, and puts in its place. There is room.
@@ -150,13 +192,7 @@ pub fn install(installs: &mut Vec<Install>, places: &mut Places, new: Install)
     ensures in_time { new.at < 2 ^ 62 }
     ensures capacity { vec_capacity installs.new ≡ vec_capacity installs.old }
 {
-    let (count, _) = find(
-        installs,
-        places,
-        &new.key,
-        new.at.micros(),
-        &mut Count::none(),
-    );
+    let count = count(installs, places, &new.key, new.at.micros());
     let key_head = places.head_of(&new.key);
     places.insert(count, installs.len(), key_head);
     installs.push_reserved(new);

@@ -19,14 +19,14 @@ use Rattle.recovery.proofs.replaying.plan_again.Goals as goal
 pub drops-requires-clause-drops : goal.drops-requires-clause-drops
 drops-requires-clause-drops c =
     let k = c.args.state.now in
-    subst (λ r. MayDrop k.memory.rows c.in-Abort.txn (Some r)) (sym (c.in_ok-copy.ensures.same ∙ c.in-Abort.is))
+    subst (λ r. MayDrop k.memory.rows c.in-Abort.txn (Some r)) (sym c.in-Abort.is)
     (may_abort_again k k.setup.shard c.in-Abort.txn c.requires.recovered
     (subst (λ r. follows_facts k.setup.shard k.facts r ≡ true) c.in-Abort.is c.requires.follows))
 
 pub drops-requires-in-Outcome-clause-drops : goal.drops-requires-in-Outcome-clause-drops
 drops-requires-in-Outcome-clause-drops c =
     let k = c.args.state.now in
-    subst (λ r. MayDrop k.memory.rows c.in-Outcome.txn (Some r)) (sym (c.in_ok-copy.ensures.same ∙ c.in-Outcome.is))
+    subst (λ r. MayDrop k.memory.rows c.in-Outcome.txn (Some r)) (sym c.in-Outcome.is)
     (may_close_again k k.setup.shard c.in-Outcome.txn c.in-Outcome.outcome c.requires.recovered
     (subst (λ r. follows_facts k.setup.shard k.facts r ≡ true) c.in-Outcome.is c.requires.follows))
 
@@ -54,28 +54,28 @@ pub returns-in-Opened-clause-memory_after : goal.returns-in-Opened-clause-memory
 returns-in-Opened-clause-memory_after c =
     let k = c.args.state.now in
     subst (λ r. carried (plan_of k.memory.rows c.serves.result) k.memory ≡ rebuilt (learn k.facts r)) (sym c.in-Opened.is)
-    (opens_again k c.in-Opened.epoch c.last-last.result (Some c.in_ok-copy.copy) (plan_of k.memory.rows c.serves.result) c.requires.recovered
+    (opens_again k c.in-Opened.epoch c.last-last.result (Some c.args.item) (plan_of k.memory.rows c.serves.result) c.requires.recovered
     c.last-last.ensures c.serves.ensures.plan)
 
 pub returns-in-Ceiling-clause-memory_after : goal.returns-in-Ceiling-clause-memory_after
 returns-in-Ceiling-clause-memory_after c =
     let k = c.args.state.now in
     subst (λ r. carried (plan_of k.memory.rows c.serves-in-Ceiling.result) k.memory ≡ rebuilt (learn k.facts r)) (sym c.in-Ceiling.is)
-    (serves_again k c.in-Ceiling.at c.later.result (Some c.in_ok-copy.copy) (plan_of k.memory.rows c.serves-in-Ceiling.result) c.requires.recovered
-    (c.later.ensures ∙ ap (λ n. max n c.in-Ceiling.at) c.last-last.ensures) c.serves-in-Ceiling.ensures.plan)
+    (serves_again k c.in-Ceiling.at c.later-last.result (Some c.args.item) (plan_of k.memory.rows c.serves-in-Ceiling.result) c.requires.recovered
+    (c.later-last.ensures ∙ ap (λ n. max n c.in-Ceiling.at) c.last-last.ensures) c.serves-in-Ceiling.ensures.plan)
 
 pub returns-in-Abort-clause-memory_after : goal.returns-in-Abort-clause-memory_after
 returns-in-Abort-clause-memory_after c =
     let k = c.args.state.now in
     subst (λ r. carried (plan_of k.memory.rows c.drops.result) k.memory ≡ rebuilt (learn k.facts r)) (sym c.in-Abort.is)
-    (abort_again k c.in-Abort.txn c.last-last.result c.in_ok-copy.copy c.new.result.items
+    (abort_again k c.in-Abort.txn c.last-last.result c.args.item c.new.result.items
     (plan_of k.memory.rows c.drops.result) c.requires.recovered c.last-last.ensures c.drops.ensures.plan)
 
 pub returns-in-Outcome-clause-memory_after : goal.returns-in-Outcome-clause-memory_after
 returns-in-Outcome-clause-memory_after c =
     let k = c.args.state.now in
     subst (λ r. carried (plan_of k.memory.rows c.drops-in-Outcome.result) k.memory ≡ rebuilt (learn k.facts r)) (sym c.in-Outcome.is)
-    (outcome_again k k.setup.shard c.in-Outcome.txn c.in-Outcome.outcome c.raised_by-last.result c.in_ok-copy.copy c.new-in-Outcome.result.items
+    (outcome_again k k.setup.shard c.in-Outcome.txn c.in-Outcome.outcome c.raised_by-last.result c.args.item c.new-in-Outcome.result.items
     (plan_of k.memory.rows c.drops-in-Outcome.result) c.requires.recovered
     (subst (λ r. follows_facts k.setup.shard k.facts r ≡ true) c.in-Outcome.is c.requires.follows)
     (c.raised_by-last.ensures ∙ ap (λ n. or_floor n c.in-Outcome.outcome) c.last-last.ensures) c.drops-in-Outcome.ensures.plan)
@@ -84,9 +84,9 @@ pub returns-in_ok-needs-in-Prepare-clause-memory_after : goal.returns-in_ok-need
 returns-in_ok-needs-in-Prepare-clause-memory_after c =
     let k = c.args.state.now in
     let x = c.in-Prepare.p in
-    let copy = c.in_ok-copy.copy in
+    let copy = c.args.item in
     let last = max k.memory.last x.at in
-    let same : copy ≡ Record.Prepare x = c.in_ok-copy.ensures.same ∙ c.in-Prepare.is in
+    let same : copy ≡ Record.Prepare x = c.in-Prepare.is in
     let follows = subst (λ r. follows_facts k.setup.shard k.facts r ≡ true) c.in-Prepare.is c.requires.follows in
     IfOk-weaker c.stand_again.result _ _
     (λ plan is.
@@ -108,9 +108,9 @@ pub returns-in_ok-needs-in-Commit-clause-memory_after : goal.returns-in_ok-needs
 returns-in_ok-needs-in-Commit-clause-memory_after c =
     let k = c.args.state.now in
     let x = c.in-Commit.c in
-    let copy = c.in_ok-copy.copy in
+    let copy = c.args.item in
     let last = max k.memory.last x.at in
-    let same : copy ≡ Record.Commit x = c.in_ok-copy.ensures.same ∙ c.in-Commit.is in
+    let same : copy ≡ Record.Commit x = c.in-Commit.is in
     let follows = subst (λ r. follows_facts k.setup.shard k.facts r ≡ true) c.in-Commit.is c.requires.follows in
     IfOk-weaker c.stand_again-in-Commit.result _ _
     (λ plan is.

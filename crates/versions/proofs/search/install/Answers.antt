@@ -14,7 +14,7 @@ returns-clause-items c =
     let new = c.args.new in
     let items = c.args.installs.now.items in
     let places = c.args.places.now.places in
-    let found = c.find-count.result.0 in
+    let found = c.count-count.result in
     let ordered = arranged items places in
     let same : arranged c.deref.result.now places ≡ ordered = ap (λ t. arranged t places) c.deref.ensures.value in
     let at : c.micros.result ≡ new.at = c.micros.ensures.same in
@@ -23,15 +23,15 @@ returns-clause-items c =
     ∙ ap (λ t. arranged t c.insert.new.self.places) c.push_reserved.ensures.items
     ∙ ap (arranged (items ++ new ∷ [])) (c.insert.ensures.places ∙ ap (insert places found) count)
     ∙ insert_is_arranged items new places found c.requires.within
-    ∙ insert_is_installed new ordered found (omega (arith, c.find-count.ensures.bound, length_arranged items places))
-    (subst (λ (n : ℕ). AllUpTo new.key n ordered found) at (subst (λ t. AllUpTo new.key c.micros.result t found) same c.find-count.ensures.before))
-    (subst (λ (n : ℕ). AllAfter new.key n ordered found) at (subst (λ t. AllAfter new.key c.micros.result t found) same c.find-count.ensures.after))
+    ∙ insert_is_installed new ordered found (omega (arith, c.count-count.ensures.bound, length_arranged items places))
+    (subst (λ (n : ℕ). AllUpTo new.key n ordered found) at (subst (λ t. AllUpTo new.key c.micros.result t found) same c.count-count.ensures.before))
+    (subst (λ (n : ℕ). AllAfter new.key n ordered found) at (subst (λ t. AllAfter new.key c.micros.result t found) same c.count-count.ensures.after))
 
 pub returns-clause-within : goal.returns-clause-within
 returns-clause-within c =
     let items = c.args.installs.now.items in
     let places = c.args.places.now.places in
-    let found = c.find-count.result.0 in
+    let found = c.count-count.result in
     let count : c.len.result ≡ length items = omega (arith, c.len.ensures, c.deref.ensures.len, ap length c.deref.ensures.value) in
     let more : length c.push_reserved.new.self.items ≡ length items + 1 = ap length c.push_reserved.ensures.items ∙ length-append items (c.args.new ∷ []) in
     subst (λ (t : List ℕ). AreWithin t (length c.push_reserved.new.self.items))
@@ -42,7 +42,7 @@ pub renew-requires-clause-within : goal.renew-requires-clause-within
 renew-requires-clause-within c =
     let items = c.args.installs.now.items in
     let places = c.args.places.now.places in
-    let found = c.find-count.result.0 in
+    let found = c.count-count.result in
     let count : c.len.result ≡ length items = omega (arith, c.len.ensures, c.deref.ensures.len, ap length c.deref.ensures.value) in
     let more : length c.deref-2.result.now ≡ length items + 1 =
     ap length c.deref-2.ensures.value ∙ ap length c.push_reserved.ensures.items ∙ length-append items (c.args.new ∷ []) in
@@ -56,7 +56,7 @@ renew-requires-clause-heads c =
     let places = c.args.places.now.places in
     let heads = c.args.places.now.heads in
     let prefix = c.args.places.now.prefix in
-    let found = c.find-count.result.0 in
+    let found = c.count-count.result in
     let count : c.len.result ≡ length items = omega (arith, c.len.ensures, c.deref.ensures.len, ap length c.deref.ensures.value) in
     let listed : arranged c.deref-2.result.now c.insert.new.self.places ≡ insert (arranged items places) found new =
     ap (λ t. arranged t c.insert.new.self.places) (c.deref-2.ensures.value ∙ c.push_reserved.ensures.items)

@@ -16,7 +16,7 @@ invariant_of-self c =
     let can : CanInstall f c.args.item c.args.writes = subst (λ (k : Known). CanInstall k.facts c.args.item c.args.writes)
     (sym c.self.view_is) c.requires.writes in
     let is : outcome_stamp c.args.item ≡ Some c.in-Some.at = sym c.outcome_stamp-at.ensures ∙ c.in-Some.is in
-    subst (λ (t : List Install). SameValues t c.learn_next.new.facts.facts.installs) (sym c.install_all.ensures.installs)
+    subst (λ (t : List Install). SameValues t c.learn_next.new.self.facts.installs) (sym c.install_all.ensures.installs)
     (subst (λ (g : Facts). SameValues (all_installed ordered (versions c.args.writes c.in-Some.at)) g.installs) (sym c.learn_next.ensures.facts)
     (same_learnt ordered f c.args.item c.args.writes c.in-Some.at is can c.install_all.ensures.order c.self.invariant))
 
