@@ -79,10 +79,14 @@ def plain(text):
     text = text.replace(".collect(alloc)", ".collect_in(alloc)").replace(".to_vec(alloc)", ".to_vec_in(alloc)")
     written = r"<W: (fmt::)?Write>\(&self, (\w+): &mut (fmt::)?Formatter<W>\)"
     text = re.sub(written, r"(&self, \2: &mut shim::fmt::Formatter<'_>)", text)
+    text = re.sub(r"vec!\[in (\w+); ([^;\]]*); ([^;\]]*)\]", r"Vec::from_elem(\1, \2, \3)", text)
+    text = re.sub(r"fn clone\(&self\) -> Result<Self, AllocError> \{\s*Ok\(\*self\)", "fn clone(&self) -> Self { *self", text)
     text = text.replace("BuildHasherDefault::new()", "BuildHasherDefault::default()")
+    text = re.sub(r"format!\(in \w+; ([^)]*)\)", r"shim::said(format!(\1))", text)
+    text = re.sub(r": Drop\b(?=[,>])", "", text)
     text = text.replace(" + Drop", "").replace("<T: Drop>", "<T>").replace("use thiserror::Error;\n", "")
     text = re.sub(r"\bstd::", "shim::", text)
-    text = re.sub(r"\buse (byteorder|indexmap|left_right|crossbeam_utils|atomic_table)::", r"use shim::\1::", text)
+    text = re.sub(r"\buse (byteorder|crossbeam_channel|indexmap|left_right|crossbeam_utils|atomic_table)::", r"use shim::\1::", text)
     return "#[allow(unused_imports)]\nuse shim::prelude::*;\n" + text
 
 

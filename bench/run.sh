@@ -1,7 +1,7 @@
 #!/bin/sh
 # Times the store as it stands here, as it stood at each revision that is named, and a plain engine of the same design, side by
-# side: bench/run.sh [REVISION..] [-- SCENE..]. The scenes `inspect` and `boards` are programs of their own, and are named alone. It
-# needs rustc and python3, proves nothing, and leaves all that it makes in a new folder, which it names.
+# side: bench/run.sh [REVISION..] [-- SCENE..]. The scenes `inspect`, `boards` and `drives` are programs of their own, and are named
+# alone. It needs rustc and python3, proves nothing, and leaves all that it makes in a new folder, which it names.
 set -eu
 here=$(cd "$(dirname "$0")" && pwd)
 top=$(dirname "$here")
@@ -26,6 +26,35 @@ link() {
         -o "$folder/$program"
 }
 
+# A library of some file, over those that are there: library CRATE FILE FOLDER.
+library() {
+    # shellcheck disable=SC2046
+    rustc --edition 2021 -O -A warnings --crate-type rlib --crate-name "$1" "$2" $(externs "$3") -L "$3" -o "$3/lib$1.rlib"
+}
+
+# The threads of a drive over the crates of a tree. In the place of settings as text, of ids that are drawn, and of what is shown while it
+# runs stands what is in `standins`; of two crates only the files that a drive over disks needs are taken.
+build_drives() {
+    tree=$1 to=$2
+    for crate in progress output settings tickets; do
+        library "$crate" "$here/standins/$crate.rs" "$to"
+    done
+    for crate in session letters workers desk node inspection drive; do
+        python3 "$here/plain.py" "$tree/crates/$crate/src" "$to/$crate"
+        case $crate in
+        inspection) echo 'use shim::prelude::*; mod judged; pub use judged::judge;' >"$to/$crate/lib.rs" ;;
+        drive)
+            rm -f "$to/drive/shards.rs"
+            { echo 'use shim::prelude::*; pub use engine::drive;' && (cd "$to/drive" && ls | sed -n 's/^\(.*\)\.rs$/mod \1;/p' | grep -v lib); } >"$to/lib.rs"
+            mv "$to/lib.rs" "$to/drive/lib.rs"
+            ;;
+        esac
+        library "$crate" "$to/$crate/lib.rs" "$to"
+    done
+    # shellcheck disable=SC2046
+    link drives "$to" $(externs "$to") -L "$to" -A warnings
+}
+
 # The programs over the crates of a tree.
 build() {
     tree=$1 to=$2
@@ -34,10 +63,9 @@ build() {
     for crate in $crates; do
         [ -d "$tree/crates/$crate" ] || continue
         python3 "$here/plain.py" "$tree/crates/$crate/src" "$to/$crate"
-        # shellcheck disable=SC2046
-        rustc --edition 2021 -O -A warnings --crate-type rlib --crate-name "$crate" "$to/$crate/lib.rs" $(externs "$to") \
-            -L "$to" -o "$to/lib$crate.rlib"
+        library "$crate" "$to/$crate/lib.rs" "$to"
     done
+    [ ! "$driven" ] || build_drives "$tree" "$to"
     for program in store inspect viewing; do
         # Earlier revisions lack what some need.
         case $program in
@@ -58,8 +86,12 @@ done
 
 # Scenes of the store, and so of the engine, are named, or all.
 case "$*" in
-inspect | boards | 'inspect boards' | 'boards inspect') timed= ;;
+inspect | boards | drives | 'inspect boards' | 'boards inspect') timed= ;;
 *) timed=yes ;;
+esac
+case " $* " in
+*' drives '*) driven=yes ;;
+*) driven= ;;
 esac
 
 build "$top" "$made/here"
@@ -79,6 +111,10 @@ for place in here $revisions; do
     case " $* " in
     '  ' | *' boards '*) [ ! -x "$made/$place/viewing" ] || "$made/$place/viewing" ;;
     esac
+    if [ "$driven" ]; then
+        "$made/$place/drives" memory,files 1,2,4 1,4,16,64 1000 100000
+        "$made/$place/drives" slow 1,2 1,4,16 100 100000
+    fi
 done
 if [ "$timed" ]; then
     echo "== engine"

@@ -371,7 +371,7 @@ fn aside<S: Shard>(records: u64, shards: u64) {
 
 /// Runs the scenes that the words name.
 pub fn run<S: Shard>() {
-    let scenes: [(&str, fn()); 8] = [
+    let scenes: [(&str, fn()); 9] = [
         ("rows", || [0, 900].into_iter().for_each(rows::<S>)),
         ("wide", || [0, 900].into_iter().for_each(wide::<S>)),
         ("ready", || ready::<S>(1_000)),

@@ -1,9 +1,13 @@
 #!/usr/bin/env python3
 """Drives over files while a system call fails, moves nothing, or is the last one: at each call of an opening, of a new store and of one that is there,
-and at 100 drawn ones of drives. After each the next drive has to come to its end with the verdict yes, and the logs have to hold as many
-commits as all drives told. A call fails with EIO, ENOSPC or EINTR; a write moves nothing; or the program is killed before it (and so behind
-the call before it). Some drives may write no file beyond a drawn length, so that a write is cut short and the next one fails.
-It wants the program built and strace; without that it says so and ends well. SECONDS (300) bounds it, and it says how many it tried."""
+and at 100 drawn ones of drives. Each has to end soon, with the verdict yes, or with a fault and either no counts or those of all its transactions.
+After each the next drive has to come to its end with the verdict yes, and the logs have to hold as many commits as all drives told. A call
+fails with EIO, ENOSPC or EINTR; a write moves nothing; or the program is killed before it (and so behind the call before it). Some drives
+may write no file beyond a drawn length, so that a write is cut short and the next one fails. Then long drives: a log's write or sync fails, or
+a node's thread does not start, and each has to end soon.
+It wants the program built and strace; without that it says so and ends well. SHARDS and WORKERS (2) tell how many there are, DRAWN (100) how many
+calls are drawn, EACH=0 leaves out the others; SOON (20) is how many seconds a drive may take. SECONDS (300) bounds it, and it says how many it
+tried; with LOUD it names each."""
 import os
 import random
 import shutil
@@ -16,8 +20,13 @@ import traced
 SHARDS = int(os.environ.get("SHARDS", "2"))
 WORKERS = int(os.environ.get("WORKERS", "2"))
 DRAWN = int(os.environ.get("DRAWN", "100"))
+EACH = os.environ.get("EACH", "1") != "0"
+LOUD = "LOUD" in os.environ
 SECONDS = int(os.environ.get("SECONDS", "300"))
 SEED = int(os.environ.get("SEED", "1"))
+# What a drive takes at most. Where nobody stops the workers, a turn takes two seconds.
+SOON = int(os.environ.get("SOON", "20"))
+TURNS = 4
 FAILS = ["error=EIO", "error=ENOSPC", "error=EINTR", "signal=KILL"]
 
 
@@ -29,17 +38,25 @@ def fail(why):
 class Store:
     """A folder that is driven, and how many commits its drives told."""
 
-    def __init__(self, room):
+    def __init__(self, room, turns=TURNS):
+        self.turns = turns * WORKERS
         self.folder = os.path.join(room, "logs")
         self.settings = os.path.join(room, "settings")
         self.no_lines = os.path.join(room, "no.lines")
         self.told = 0
         os.mkdir(self.folder)
         open(self.no_lines, "w").close()
-        traced.settings(self.settings, self.folder, SHARDS, WORKERS, 4, 4 * SHARDS)
+        traced.settings(self.settings, self.folder, SHARDS, WORKERS, turns, 4 * SHARDS)
 
     def drive(self, **how):
-        answer = traced.drive(self.settings, **how)
+        return self.add(traced.drive(self.settings, **how), how)
+
+    def add(self, answer, how):
+        """Looks at what a drive came to, and adds its commits."""
+        if not answer.is_sound(self.turns):
+            fail(f"a drive with {how} came to {answer}")
+        if answer.seconds > SOON:
+            fail(f"a drive with {how} did not end soon: {answer}")
         self.told += answer.committed
         return answer
 
@@ -92,9 +109,29 @@ def try_limit(room, length):
     """A drive whose files may grow to a length and no further."""
     store = Store(room)
     store.drive()
-    answer = traced.Answer(traced.run(["prlimit", f"--fsize={length}", traced.PROGRAM, "drive", store.settings]))
-    store.told += answer.committed
+    store.add(traced.answer(["prlimit", f"--fsize={length}", traced.PROGRAM, "drive", store.settings]), length)
     store.judge(f"a limit of {length} bytes")
+
+
+def try_long(room, inject, wanted, path):
+    """A drive of many turns ends soon, with a fault, and with counts where its workers have begun."""
+    store = Store(room, turns=5000)
+    answer = store.drive(inject=inject, path=path and os.path.join(store.folder, path))
+    if answer.is_yes or answer.err != wanted or bool(answer.counts) != bool(path):
+        fail(f"{inject} in a long drive came to {answer}")
+    traced.settings(store.settings, store.folder, SHARDS, WORKERS, TURNS, 4 * SHARDS)
+    store.turns = TURNS * WORKERS
+    store.judge(f"{inject} in a long drive")
+
+
+LONG = [
+    ("pwrite64:error=EIO:when=30", "fault: 2 Device\n", "shard-0.log"),
+    ("pwrite64:error=ENOSPC:when=31", "fault: 2 Device\n", "shard-1.log"),
+    ("fsync:error=EIO:when=30", "fault: 2 Device\n", "shard-0.log"),
+    ("fsync:error=EIO:when=31", "fault: 2 Device\n", "shard-1.log"),
+    ("clone3:error=EAGAIN:when=1", "fault: 1 Memory\n", None),
+    ("clone3:error=EAGAIN:when=2", "fault: 1 Memory\n", None),
+]
 
 
 def main():
@@ -102,7 +139,7 @@ def main():
     began, tried, left_out = time.time(), 0, 0
     random.seed(SEED)
     cases = []
-    for is_new, name in [(True, "a drive of a new store"), (False, "a drive that goes on")]:
+    for is_new, name in [(True, "a drive of a new store"), (False, "a drive that goes on")] if EACH else []:
         for call, count in sorted(in_room(counted, is_new).items()):
             kinds = FAILS + (["retval=0"] if call == "pwrite64" else [])
             for place in range(1, min(count, 60) + 1):
@@ -120,11 +157,18 @@ def main():
             continue
         in_room(try_one, *case)
         tried += 1
+        if LOUD:
+            print(f"{tried}: {case[1]}: {case[2]}", flush=True)
+    for case in LONG:
+        in_room(try_long, *case)
     limits = 0
     while limits < 20 and shutil.which("prlimit") and time.time() - began < SECONDS + 30:
         in_room(try_limit, random.randint(20, 4000))
         limits += 1
-    print(f"failed_calls: {tried} failing calls and {limits} limits, nothing that was told is lost; {left_out} calls left out for time")
+    print(
+        f"failed_calls: {tried} failing calls, {len(LONG)} in long drives and {limits} limits, each drive ended soon, and nothing that was "
+        f"told is lost; {left_out} calls left out for time"
+    )
 
 
 main()

@@ -1,10 +1,10 @@
 #!/bin/sh
 # Drives over files under a limit on their size, as on a disk that is full. An opening that has no room is refused as `2 Device`; a
-# shard that runs into the limit stops, and the drive goes on to its end without it. The verdict on the logs has to be yes each time,
-# and once the limit is gone the next drive goes on where they end. It wants the program built (`./run --build`).
+# shard that runs into the limit stops, and then the drive ends, prints its counts and is refused as `2 Device`. The verdict on the logs has
+# to be yes each time, and once the limit is gone the next drive goes on where they end. It wants the program built (`./run --build`).
 set -eu
 root=$(dirname "$(dirname "$(readlink -f "$0")")")
-program=$root/crates/shards/out/shards
+program=${SHARDS_PROGRAM:-$root/crates/shards/out/shards}
 room=$(mktemp -d)
 trap 'rm -rf "$room"' EXIT
 # A write past the limit is an error then, and no signal.
@@ -53,7 +53,9 @@ if drive "$(blocks)" || [ "$(cat "$room/said")" != 'fault: 2 Device' ]; then
 fi
 inspect "an opening without room"
 
-drive $(($(blocks) + 2)) || fail "a drive that runs into the limit did not come to its end"
+if drive $(($(blocks) + 2)) || [ "$(sed 's/ .*//' "$room/said" | tr '\n' ' ')" != 'committed aborted unknown looks fault: ' ]; then
+    fail "a drive that runs into the limit did not print its counts and then why it is refused"
+fi
 cut=$(cat "$room/said")
 inspect "a drive that ran into the limit"
 

@@ -4,7 +4,7 @@
 # that come before the logs were made are counted apart. It wants the program built (`./run --build`).
 set -eu
 root=$(dirname "$(dirname "$(readlink -f "$0")")")
-program=$root/crates/shards/out/shards
+program=${SHARDS_PROGRAM:-$root/crates/shards/out/shards}
 kills=${1:-20}
 room=$(mktemp -d)
 trap 'rm -rf "$room"' EXIT

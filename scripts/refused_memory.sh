@@ -38,13 +38,14 @@ is_whole() {
     [ "$status" -eq 0 ] && [ ! -s "$room/err" ] && grep -v '^refused: ' "$room/out" | cmp -s - "$room/whole"
 }
 
-# The drive ended with the verdict yes, or with `1 Memory`.
+# The drive ended with the verdict yes, or with `1 Memory`, behind its four counts where its workers had reported.
 is_driven() {
     if [ "$status" -eq 0 ]; then
         [ ! -s "$room/err" ] && [ "$(tail -n 1 "$room/out")" = 'verdict yes' ]
     else
-        : >"$room/whole"
-        is_memory
+        words=$(sed 's/ [0-9]*$//' "$room/out" | tr '\n' ' ')
+        [ "$status" -eq 2 ] && [ "$(cat "$room/err")" = 'fault: 1 Memory' ] \
+            && { [ -z "$words" ] || [ "$words" = 'committed aborted unknown looks ' ]; }
     fi
 }
 

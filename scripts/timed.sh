@@ -5,8 +5,9 @@
 #     tests     until the tests of the last crate were proved
 #     edits     from the first crate whose wrong bodies were tried, until the last of them was refused
 #     runs      of the programs and the tests, once nothing is left to prove
-# The first three go beside one another. What the gate prints passes through, and its exit status is passed on. Where a misuse is not
-# refused, that is the last line, and the status is 1.
+# The first three go beside one another. Behind a gate that passed, the programs that it built run with each growth of their memory refused.
+# What the gate prints passes through, and its exit status is passed on. Where a misuse is not refused, or a program does not end as it should
+# where memory is refused, that is the last line, and the status is 1.
 set -u
 # The gate counts the memory of a check from the lines below its crate, up to 10 GB, and holds checks back by that. Most take under 3 GB,
 # and the tests of the low crates 5. So it is told how many checks may go beside one another: one a processor, where there are 4 GB for each.
@@ -67,6 +68,9 @@ if [ -n "$misuse" ]; then
     wait "$misuse" || misused=yes
     cat "$room/misuse"
 fi
+if [ "$status" -eq 0 ]; then
+    scripts/refused_memory.sh </dev/null 2>&1 || unended=yes
+fi
 
 whole=$(now)
 times >"$room/times"
@@ -77,6 +81,10 @@ echo "time: $(minutes "$whole") on $(nproc) processors, of which (user, system) 
 printf '%s\n' "${last-}"
 if [ -n "${misused:-}" ]; then
     echo 'misuse: FAILED'
+    exit 1
+fi
+if [ -n "${unended:-}" ]; then
+    echo 'refused_memory: FAILED'
     exit 1
 fi
 exit "$status"

@@ -4,10 +4,11 @@ import re
 import shutil
 import subprocess
 import sys
+import time
 
 ROOT = os.path.dirname(os.path.dirname(os.path.abspath(__file__)))
 PROGRAM = os.environ.get("SHARDS_PROGRAM", os.path.join(ROOT, "crates/shards/out/shards"))
-CALLS = "openat,flock,fsync,ftruncate,pwrite64,pread64,rename,unlink,statx,close"
+CALLS = "openat,flock,fsync,ftruncate,pwrite64,pread64,rename,unlink,statx,close,clone3"
 
 
 def leave(script, why):
@@ -36,22 +37,35 @@ def settings(path, folder, shards, workers, transactions, keys):
         )
 
 
-class Answer:
-    """What a drive printed, and how it ended."""
+COUNTS = re.compile(r"committed (\d+)\naborted (\d+)\nunknown (\d+)\nlooks \d+\n")
 
-    def __init__(self, ran):
-        self.status, self.out, self.err = ran.returncode, ran.stdout, ran.stderr
-        found = re.search(r"^committed (\d+)$", self.out, re.M)
-        self.committed = int(found.group(1)) if found else 0
-        self.is_yes = self.status == 0 and self.out.endswith("verdict yes\n")
+
+class Answer:
+    """What a drive printed, how it ended, and how many seconds it took."""
+
+    def __init__(self, ran, seconds):
+        self.status, self.out, self.err, self.seconds = ran.returncode, ran.stdout, ran.stderr, seconds
+        found = COUNTS.match(self.out)
+        self.counts = [int(count) for count in found.groups()] if found else []
+        self.committed = self.counts[0] if found else 0
+        self.is_yes = self.status == 0 and found is not None and self.out[found.end() :] == "verdict yes\n"
+        self.is_refused = self.status == 2 and self.err.startswith("fault: ") and self.out == (found[0] if found else "")
+        self.is_killed = self.status in (-9, 137) and self.out == ""
+
+    def is_sound(self, transactions):
+        """It ended as a drive may, and its counts are those of all transactions."""
+        return (self.is_yes or self.is_refused or self.is_killed) and (not self.counts or sum(self.counts) == transactions)
 
     def __str__(self):
-        return f"status {self.status}, {self.out!r}, {self.err!r}"
+        return f"status {self.status} after {self.seconds:.1f} seconds, {self.out!r}, {self.err!r}"
 
 
 def run(words, seconds=120):
     try:
-        return subprocess.run(words, capture_output=True, text=True, stdin=subprocess.DEVNULL, timeout=seconds)
+        # A write past a limit is an error and no signal, as it is here.
+        return subprocess.run(
+            words, capture_output=True, text=True, stdin=subprocess.DEVNULL, timeout=seconds, restore_signals=False
+        )
     except subprocess.TimeoutExpired:
         return subprocess.CompletedProcess(words, 124, "", f"no end within {seconds} seconds")
 
@@ -68,7 +82,14 @@ def drive(settings_file, inject=None, trace=None, path=None):
         if inject:
             strace += ["-e", f"inject={inject}"]
         words = strace + words
-    return Answer(run(words))
+    return answer(words)
+
+
+def answer(words):
+    """What a drive by these words came to."""
+    began = time.time()
+    ran = run(words)
+    return Answer(ran, time.time() - began)
 
 
 def logs_of(folder, shards):

@@ -24,6 +24,7 @@ use crate::help::help;
 use crate::inspect::inspect;
 use crate::play::play;
 use command_line::{Command, command};
+use drive::NoVerdict;
 use once::once;
 use output::{Failure, Stream};
 use settings::Settings;
@@ -31,12 +32,17 @@ use simdisk::SimDisk;
 use std::alloc::Global;
 use std::io::Write;
 use system::{Driven, Files, System};
-use units::Fault;
 
 /// Carries a command line out, with what it asks of the system, on an empty disk and over standard output and standard error.
 /// Gives the status, 0, 1 for a verdict of no or for early, 2 for a fault, and the disk, which holds what was printed of a
 /// commit. A fault is printed on standard error, except that after a failed write nothing more is printed.
-pub fn answer<'a, F: Files, D: Fn(Global, &Settings) -> Result<Driven, Fault>, O: Write, E: Write>(
+pub fn answer<
+    'a,
+    F: Files,
+    D: Fn(Global, &Settings) -> Result<Driven, NoVerdict>,
+    O: Write,
+    E: Write,
+>(
     alloc: Global,
     words: &'a [&'a str],
     system: &System<F, D>,
@@ -96,7 +102,7 @@ pub fn answer<'a, F: Files, D: Fn(Global, &Settings) -> Result<Driven, Fault>, O
     }
 }
 
-fn carry_out<'a, F: Files, D: Fn(Global, &Settings) -> Result<Driven, Fault>, O: Write>(
+fn carry_out<'a, F: Files, D: Fn(Global, &Settings) -> Result<Driven, NoVerdict>, O: Write>(
     alloc: Global,
     words: &'a [&'a str],
     system: &System<F, D>,
@@ -138,7 +144,7 @@ fn carry_out<'a, F: Files, D: Fn(Global, &Settings) -> Result<Driven, Fault>, O:
 }
 
 // Carries one command out.
-fn run<F: Files, D: Fn(Global, &Settings) -> Result<Driven, Fault>, O: Write>(
+fn run<F: Files, D: Fn(Global, &Settings) -> Result<Driven, NoVerdict>, O: Write>(
     alloc: Global,
     asked: Command<'_>,
     system: &System<F, D>,

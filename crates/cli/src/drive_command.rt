@@ -6,15 +6,17 @@ ghost use Rattle.output.specs.Failures.{FailsFor};
 ghost use Rattle.output.specs.declared.failure.Failure.TheVariants.{Refused};
 ghost use Rattle.output.specs.Streams.{failures_of, writer_of};
 
+use drive::NoVerdict;
 use output::{Failure, Stream, status_of};
 use settings::Settings;
 use std::alloc::Global;
 use std::io::Write;
 use system::{Driven, Files, System, read_text};
-use units::{Fault, Reason};
+use units::Reason;
 
-/// Drives shards and workers by the settings of a file, and prints what came of it. Gives 0, or 1 where the verdict is a no.
-pub fn run_drive<F: Files, D: Fn(Global, &Settings) -> Result<Driven, Fault>, O: Write>(
+/// Drives shards and workers by the settings of a file, and prints what came of it. Gives 0, or 1 where the verdict is a no. Where there
+/// is no verdict, the counts are printed, if there are any, and then that is refused.
+pub fn run_drive<F: Files, D: Fn(Global, &Settings) -> Result<Driven, NoVerdict>, O: Write>(
     alloc: Global,
     file: &str,
     system: &System<F, D>,
@@ -27,19 +29,45 @@ pub fn run_drive<F: Files, D: Fn(Global, &Settings) -> Result<Driven, Fault>, O:
         × Appends (O.contents (writer_of out.old)) (O.contents (writer_of out.new)) text) }
     ensures failures { IfErr result
         (λ failure. FailsFor (failures_of out.old < failures_of out.new) failure None) }
-    ensures nothing { (fault : Fault) → result ≡ Err (Refused fault) → out.new ≡ out.old }
+    ensures refused { (fault : Fault) → result ≡ Err (Refused fault) → (out.new ≡ out.old)
+        ⊎ ((text : List ℕ)
+        × Appends (O.contents (writer_of out.old)) (O.contents (writer_of out.new)) text) }
+    ensures counted { (fault : Fault) → result ≡ Err (Refused fault)
+        → failures_of out.new ≡ failures_of out.old }
 {
-    let driven = driven_by(alloc, file, system)?;
-    out.print(&driven.text)?;
-    Ok(status_of(driven.verdict))
+    match driven_by(alloc, file, system) {
+        Ok(driven) => {
+            out.print(&driven.text)?;
+            Ok(status_of(driven.verdict))
+        }
+        Err(none) => refuse(none, out),
+    }
+}
+
+// Prints the counts, where there are any, and says why there is no verdict.
+fn refuse<O: Write>(none: NoVerdict, out: &mut Stream<O>) -> Result<u8, Failure>
+    ensures refusal { IfErr result
+        (λ failure. FailsFor (failures_of out.old < failures_of out.new) failure None) }
+    ensures refused { (fault : Fault) → result ≡ Err (Refused fault) → (out.new ≡ out.old)
+        ⊎ ((text : List ℕ)
+        × Appends (O.contents (writer_of out.old)) (O.contents (writer_of out.new)) text) }
+    ensures counted { (fault : Fault) → result ≡ Err (Refused fault)
+        → failures_of out.new ≡ failures_of out.old }
+    ensures never { IfOk result (λ status. ⊥) }
+{
+    let NoVerdict { fault, text } = none;
+    if let Some(text) = text {
+        out.print(&text)?;
+    }
+    Err(Failure::Refused(fault))
 }
 
 // What came of a drive by the settings of a file.
-fn driven_by<F: Files, D: Fn(Global, &Settings) -> Result<Driven, Fault>>(
+fn driven_by<F: Files, D: Fn(Global, &Settings) -> Result<Driven, NoVerdict>>(
     alloc: Global,
     file: &str,
     system: &System<F, D>,
-) -> Result<Driven, Fault>
+) -> Result<Driven, NoVerdict>
     requires { D.IsAlwaysCallable system.now.drive }
 {
     let text = read_text(alloc, &system.files, file, Reason::Settings)?;

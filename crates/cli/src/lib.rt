@@ -11,7 +11,7 @@ mod settings_text;
 
 pub use answers::answer;
 pub use command_line::{Command, command};
-pub use drive::run;
+pub use drive::{NoVerdict, run};
 pub use output::Stream;
 pub use settings_text::settings;
 pub use system::{Driven, Files, System};

@@ -18,11 +18,13 @@ use std::{thread, time};
 use truetime::{Clock, Reading};
 use units::ShardNo;
 
-// Nodes of fresh shards, each with a key of its own, and how many letters come to each: reads of that key, of 1.1 and on.
+// Nodes of fresh shards, each with a key of its own, and how many letters come to each: reads of that key, of 1.1 and on, and where the row
+// says so a commit of one more transaction, which writes it.
 struct Row {
     name: &'static str,
     nodes: &'static [(u8, &'static [u8])],
     letters: u16,
+    closes: bool,
     // The letters of shards 0 and 1 wait for each other.
     meet: bool,
     // How many answers there are.
@@ -126,19 +128,27 @@ impl<R: time::Clock> Gate for Meeting<'_, R> {
     fn after(&self, _shard: ShardNo, _n: u64) {}
 }
 
-// An inbox with so many reads of a key, of 1.1 and on, and then the end.
+// An inbox with the letters of a row for a shard and its key, and then the end.
 fn inbox<R: Wait + Abort>(
     rt: &R,
     alloc: Global,
+    row: &Row,
+    shard: u8,
     key: &'static [u8],
-    letters: u16,
 ) -> Receiver<Letter> {
     let (to, from) = unbounded(alloc).ok().expect(rt, "a channel");
-    for before in 0..letters {
-        let message = message_of(rt, alloc, Given::Read(before + 1, key));
+    for before in 0..row.letters {
+        let message = message_of(rt, alloc, Given::Read(before.saturating_add(1), key));
         to.send(rt, Letter::Carry(message))
             .ok()
             .expect(rt, "a letter");
+    }
+    if row.closes {
+        let number = row.letters.saturating_add(1);
+        let message = message_of(rt, alloc, Given::Commit(number, shard, key, b"1"));
+        to.send(rt, Letter::Carry(message))
+            .ok()
+            .expect(rt, "a commit");
     }
     to.send(rt, Letter::Close).ok().expect(rt, "the end");
     drop(to);
@@ -175,7 +185,7 @@ fn serve<'r, R: Threads + Wait + time::Clock + Sync + Abort>(
         };
         let pushed = served.push(Served {
             node,
-            inbox: inbox(rt, alloc, key, row.letters),
+            inbox: inbox(rt, alloc, row, *from, key),
             post,
             clock: Standing {
                 now: reading(rt, 100, 110),
@@ -212,6 +222,7 @@ static LETTERS: Row = Row {
     name: "letters",
     nodes: &[(1, b"z")],
     letters: 100,
+    closes: false,
     meet: false,
     answers: 100,
 };
@@ -222,10 +233,27 @@ fn lose_letters(rt: HostRuntime) {
     meet(&rt, rt.alloc(), &LETTERS);
 }
 
+// The commit is taken first, and decided at a time that does not pass, so each read waits for its lock.
+static CLOSING: Row = Row {
+    name: "reads that came beside a commit",
+    nodes: &[(1, b"z")],
+    letters: 100,
+    closes: true,
+    meet: false,
+    answers: 0,
+};
+
+// It fails where reads are not taken behind the letters that came beside them.
+#[test]
+fn reads_before_a_commit(rt: HostRuntime) {
+    meet(&rt, rt.alloc(), &CLOSING);
+}
+
 static MEETING: Row = Row {
     name: "letters of two nodes",
     nodes: &[(0, b"a"), (1, b"z")],
     letters: 10,
+    closes: false,
     meet: true,
     answers: 20,
 };

@@ -4,6 +4,8 @@
 #[cfg(test)]
 mod answers;
 #[cfg(test)]
+mod awaiting;
+#[cfg(test)]
 mod booked;
 #[cfg(test)]
 mod chores;
@@ -41,6 +43,8 @@ mod served;
 mod stories;
 #[cfg(test)]
 mod tests;
+#[cfg(test)]
+mod together;
 #[cfg(test)]
 mod verdict;
 #[cfg(test)]

@@ -7,7 +7,7 @@ use crate::reopening::{ARMED, REFUSED, REOPENED};
 use crate::restarts::NODES;
 use crate::served::SERVING;
 use crate::viewed::VIEWED;
-use crate::{damaged, nodes, stories};
+use crate::{damaged, nodes, stories, together};
 
 // It fails where a call always answers that there is no memory.
 #[test]
@@ -32,6 +32,12 @@ fn damaged_files(rt: HostRuntime) {
     damaged::cut_to_each_length(&rt, rt.alloc());
     damaged::with_one_byte_altered(&rt, rt.alloc());
     damaged::ten_thousand(&rt, rt.alloc());
+}
+
+// It fails where disks are opened one after another.
+#[test]
+fn shards_are_opened_side_by_side(rt: HostRuntime) {
+    together::open_rows(&rt, rt.alloc());
 }
 
 #[test]

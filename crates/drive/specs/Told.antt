@@ -1,8 +1,10 @@
--- The text that tells a drive.
-use Rattle.std.specs.Prelude.{◌≡◌, ◌≤◌, ℕ, List}
+-- What is told of a drive.
+use Rattle.std.specs.Prelude.{◌≡◌, ◌≤◌, ℕ, List, None}
+use Rattle.units.specs.declared.fault.Fault.{Fault}
 use Rattle.units.specs.declared.line.Verdict.{Verdict}
 use Rattle.workers.specs.declared.summary.Counts.{Counts}
-use Rattle.workers.specs.Summaries.{summary_text, tried}
+use Rattle.workers.specs.Summaries.{counts_text, summary_text, tried}
+use Rattle.drive.specs.declared.engine.NoVerdict.{NoVerdict}
 
 -- it is the summary of so many transactions in all and a verdict
 pub record IsTold (transactions : ℕ) (text : List ℕ) (verdict : Verdict) : Type 0 where
@@ -10,3 +12,17 @@ pub record IsTold (transactions : ℕ) (text : List ℕ) (verdict : Verdict) : T
   pub summary : text ≡ summary_text counts verdict
   pub all : tried counts ≡ transactions
   pub looks : counts.looks ≤ tried counts
+
+-- it is the counts of so many transactions in all
+pub record AreCounts (transactions : ℕ) (text : List ℕ) : Type 0 where
+  pub counts : Counts
+  pub lines : text ≡ counts_text counts
+  pub all : tried counts ≡ transactions
+  pub looks : counts.looks ≤ tried counts
+
+-- nothing was driven
+abbrev pub refused_for : Fault → NoVerdict
+refused_for fault = record {
+  fault = fault;
+  counts = None;
+}

@@ -1,19 +1,20 @@
 //! Drives nodes with workers, all on threads.
-ghost use Rattle.std.specs.Prelude.{◌≡◌, ◌≢◌, ◌+◌, ◌*◌, ◌≤◌, IfOk, IsOk, Err, length};
+ghost use Rattle.std.specs.Prelude.{◌≡◌, ◌≢◌, ◌+◌, ◌*◌, ◌≤◌, IfErr, IfOk, IfSome, IsOk, Err, Some, length};
 ghost use Rattle.std.specs.Thread.{IsSync, IsSend};
 ghost use Rattle.disk.specs.File.{surface};
+ghost use Rattle.drive.specs.Told.{refused_for};
 ghost use Rattle.workers.specs.Course.{IsDrivable};
 ghost use Rattle.workers.specs.Reports.{IsCounted, IsTally};
 ghost use Rattle.workers.specs.Staffs.{IsStaffOf};
 ghost use Rattle.workers.specs.Summaries.{tried};
 ghost use Rattle.inspection.specs.Judged.{IsJudged};
 
-use crate::opening::{Opened, Opens, run_of};
+use crate::opening::{Closes, Opened, open_shards, run_of};
+use crate::watched::Watched;
 use crossbeam_channel::Receiver;
 use disk::Disk;
 use inspection::judge;
-use letters::{Gate, Inboxes, Letter, Mail, Post, Served, Serves, start};
-use node::Node;
+use letters::{Gate, Inboxes, Letter, Mail, Post, Served, Serves, start_in};
 use progress::Watch;
 use settings::Settings;
 use std::alloc::Global;
@@ -21,8 +22,10 @@ use std::sync::Wait;
 use std::thread::Threads;
 use std::{thread, time};
 use truetime::Clock;
-use units::{Fault, Line, Reason, Run};
-use workers::{Course, MachineClock, Report, Shared, Staff, Summary, Viewers, work_and_close};
+use units::{Fault, Line, Reason, Run, Verdict};
+use workers::{
+    Counts, Course, MachineClock, Report, Shared, Staff, Summary, Viewers, work_and_close,
+};
 
 /// What a drive comes to, and what its verdict is on: the lines of all workers, and the disks with the logs of the shards.
 #[derive(Drop)]
@@ -32,9 +35,31 @@ pub struct Driven<D> {
     pub disks: Vec<D>,
 }
 
+/// Why there is no verdict on a drive, and its counts, where its workers have reported.
+#[derive(Clone, Copy)]
+pub struct NoVerdict {
+    pub fault: Fault,
+    pub counts: Option<Counts>,
+}
+
+impl From<Fault> for NoVerdict {
+    ghost use Rattle.std.specs.Prelude.{◌≡◌};
+    ghost use Rattle.drive.specs.Told.{refused_for};
+
+    ghost from_gives = { λ fault none. none ≡ refused_for fault };
+
+    fn from(fault: Fault) -> NoVerdict {
+        NoVerdict {
+            fault,
+            counts: None,
+        }
+    }
+}
+
 /// Drives the shards of some disks, one a shard, by the machine's clock. Each disk has a formatted log. Settings beyond their limits,
 /// and more or fewer disks than shards, are refused as `settings`; a disk that is refused, as `Core::open` refuses it. The watch
-/// is told of each turn, by the thread of its worker.
+/// is told of each turn, by the thread of its worker, and of each shard whose device fails: then the workers end soon, and there is no
+/// verdict, but `Device`.
 pub fn drive<
     R: Threads + Wait + time::Clock + Sync,
     D: Disk + Drop + Send,
@@ -71,8 +96,8 @@ pub fn drive<
     drive_by(rt, alloc, settings, disks, clock, gate, watch)
 }
 
-// The machine's clock, whose readings are as wide as the settings say.
-fn clock_of<'r, R>(rt: &'r R, settings: &Settings) -> MachineClock<'r, R>
+/// The machine's clock, whose readings are as wide as the settings say.
+pub fn clock_of<'r, R>(rt: &'r R, settings: &Settings) -> MachineClock<'r, R>
     ensures { result.epsilon ≡ settings.now.epsilon }
 {
     MachineClock {
@@ -116,27 +141,28 @@ pub fn drive_by<
     ensures many { length disks.items ≢ length settings.now.splits + 1
         → result ≡ Err (Fault.BadRequest Reason.Settings) }
 {
-    drive_nodes::<Node<D, &R>, R, D, C, G, W>(rt, alloc, settings, disks, clock, gate, watch)
+    match drive_counted(rt, alloc, settings, disks, clock, gate, watch) {
+        Ok(driven) => Ok(driven),
+        Err(none) => Err(none.fault),
+    }
 }
 
-// The same with nodes of any kind.
-fn drive_nodes<
-    'r,
-    N: Opens<&'r R, D> + Serves + Drop + Sync,
+/// The same by a clock, of which each node and each worker has a copy. Where there is no verdict, the counts are told all the same.
+pub fn drive_counted<
     R: Threads + Wait + time::Clock + Sync,
-    D: Disk + Drop,
+    D: Disk + Drop + Send,
     C: Clock + Copy + Send,
     G: Gate + Sync,
     W: Watch + Sync,
 >(
-    rt: &'r R,
+    rt: &R,
     alloc: Global,
     settings: &Settings,
     disks: Vec<D>,
     clock: C,
     gate: &G,
     watch: &W,
-) -> Result<Driven<D>, Fault>
+) -> Result<Driven<D>, NoVerdict>
     ensures verdict { IfOk result (λ driven. D.keeps_model
         → IsJudged (λ disk. (surface (D.file disk)).seen) driven.disks.items driven.lines.items
         driven.summary.verdict) }
@@ -148,16 +174,56 @@ fn drive_nodes<
     ensures told { IfOk result (λ driven.
         IsTally (settings.now.workers * settings.now.transactions)
         driven.summary.counts driven.lines.items) }
+    ensures counted { IfErr result (λ none. IfSome none.counts (λ counts.
+        (tried counts ≡ settings.now.workers * settings.now.transactions)
+        × (counts.looks ≤ tried counts))) }
     ensures shards { IsOk result → length disks.items ≡ length settings.now.splits + 1 }
     ensures limits { IsOk result
         → IsDrivable settings.now.workers settings.now.transactions settings.now.keys }
     ensures beyond { ¬ IsDrivable settings.now.workers settings.now.transactions settings.now.keys
-        → result ≡ Err (Fault.BadRequest Reason.Settings) }
+        → result ≡ Err (refused_for (Fault.BadRequest Reason.Settings)) }
     ensures many { length disks.items ≢ length settings.now.splits + 1
-        → result ≡ Err (Fault.BadRequest Reason.Settings) }
+        → result ≡ Err (refused_for (Fault.BadRequest Reason.Settings)) }
 {
     let course = Course::of(settings)?;
-    let opened = Opened::<N>::over(rt, alloc, settings, disks, course.workers as usize)?;
+    let opened = open_shards(rt, alloc, settings, disks, course.workers as usize)?;
+    drive_nodes(rt, alloc, settings, course, opened, clock, gate, watch)
+}
+
+// Drives nodes of any kind, with a viewer for each worker.
+fn drive_nodes<
+    N: Closes<D> + Serves + Drop + Sync,
+    R: Threads + Wait + time::Clock + Sync,
+    D: Disk + Drop,
+    C: Clock + Copy + Send,
+    G: Gate + Sync,
+    W: Watch + Sync,
+>(
+    rt: &R,
+    alloc: Global,
+    settings: &Settings,
+    course: Course,
+    opened: Opened<N>,
+    clock: C,
+    gate: &G,
+    watch: &W,
+) -> Result<Driven<D>, NoVerdict>
+    requires { length opened.viewers.by_worker.items ≡ course.workers }
+    ensures verdict { IfOk result (λ driven. D.keeps_model
+        → IsJudged (λ disk. (surface (D.file disk)).seen) driven.disks.items driven.lines.items
+        driven.summary.verdict) }
+    ensures disks { IfOk result (λ driven.
+        length driven.disks.items ≡ length opened.nodes.items) }
+    ensures tried { IfOk result (λ driven.
+        tried driven.summary.counts ≡ course.workers * course.transactions) }
+    ensures looks { IfOk result (λ driven.
+        driven.summary.counts.looks ≤ tried driven.summary.counts) }
+    ensures told { IfOk result (λ driven. IsTally (course.workers * course.transactions)
+        driven.summary.counts driven.lines.items) }
+    ensures counted { IfErr result (λ none. IfSome none.counts (λ counts.
+        (tried counts ≡ course.workers * course.transactions)
+        × (counts.looks ≤ tried counts))) }
+{
     let Opened {
         nodes,
         viewers,
@@ -167,34 +233,72 @@ fn drive_nodes<
     match run(
         rt, alloc, settings, course, ids, &nodes, viewers, clock, gate, watch,
     ) {
-        Ok(report) => outcome(alloc, nodes, report),
+        Ok(report) => outcome(rt, alloc, nodes, report),
         Err(fault) => {
             drop(nodes);
-            Err(fault)
+            Err(NoVerdict::from(fault))
         }
     }
 }
 
-// What a drive comes to once its workers have reported: the verdict is on what the nodes leave on their disks.
-fn outcome<N: Opens<H, D> + Drop, H, D: Disk + Drop>(
+// What a drive comes to once its workers have reported.
+fn outcome<N: Closes<D> + Serves + Drop, D: Disk + Drop, R: Wait>(
+    rt: &R,
     alloc: Global,
     nodes: Vec<N>,
     report: Report,
-) -> Result<Driven<D>, Fault>
+) -> Result<Driven<D>, NoVerdict>
     ensures verdict { IfOk result (λ driven. D.keeps_model
         → IsJudged (λ disk. (surface (D.file disk)).seen) driven.disks.items driven.lines.items
         driven.summary.verdict) }
     ensures disks { IfOk result (λ driven. length driven.disks.items ≡ length nodes.items) }
     ensures counts { IfOk result (λ driven. driven.summary.counts ≡ report.counts) }
     ensures lines { IfOk result (λ driven. driven.lines.items ≡ report.lines.items) }
+    ensures counted { IfErr result (λ none. none.counts ≡ Some report.counts) }
 {
     let Report { counts, lines } = report;
-    let (verdict, disks) = judge(alloc, closed(alloc, nodes)?, &lines)?;
-    Ok(Driven {
-        summary: Summary { counts, verdict },
-        lines,
-        disks,
-    })
+    match judged(rt, alloc, nodes, &lines) {
+        Ok((verdict, disks)) => Ok(Driven {
+            summary: Summary { counts, verdict },
+            lines,
+            disks,
+        }),
+        Err(fault) => {
+            drop(lines);
+            Err(NoVerdict {
+                fault,
+                counts: Some(counts),
+            })
+        }
+    }
+}
+
+// The verdict on some lines and on what nodes leave on their disks, with these. A disk that has failed is judged no more.
+fn judged<N: Closes<D> + Serves + Drop, D: Disk + Drop, R: Wait>(
+    rt: &R,
+    alloc: Global,
+    nodes: Vec<N>,
+    lines: &[Line],
+) -> Result<(Verdict, Vec<D>), Fault>
+    ensures verdict { IfOk result (λ judged. D.keeps_model
+        → IsJudged (λ disk. (surface (D.file disk)).seen) judged.1.items lines.now judged.0) }
+    ensures disks { IfOk result (λ judged. length judged.1.items ≡ length nodes.items) }
+{
+    if any_stopped(rt, &nodes) {
+        drop(nodes);
+        return Err(Fault::Device);
+    }
+    judge(alloc, closed(alloc, nodes)?, lines)
+}
+
+// Whether the device of a node has failed.
+fn any_stopped<N: Serves, R: Wait>(rt: &R, nodes: &[N]) -> bool {
+    for node in nodes {
+        if node.is_stopped(rt) {
+            return true;
+        }
+    }
+    false
 }
 
 // Serves the nodes beside the workers of a course, until all workers have done their turns.
@@ -271,8 +375,7 @@ fn served<'r, 's, 'n, N, R: Wait, C: Clock + Copy>(
     Ok(all)
 }
 
-// The nodes on a thread, which starts more, beside the workers. Where it can't be made, the nodes are served behind the workers,
-// whose letters nobody answers then.
+// Runs the nodes and the workers, who are told where a node has stopped.
 fn run_all<
     N: Serves + Sync,
     R: Threads + Wait + time::Clock + Sync,
@@ -294,24 +397,58 @@ fn run_all<
     requires staff { IsStaffOf shared.now staff }
     ensures { IsCounted (course.workers * course.transactions) result }
 {
-    let (served, report) = thread::join(
+    let gate = Watched {
+        gate,
+        watch,
+        stop: &shared.stop,
+    };
+    run_beside(rt, shared, course, served, staff, clock, &gate, watch)
+}
+
+// The nodes on a thread each, beside the workers. Where one has none, no worker begins.
+fn run_beside<
+    N: Serves + Sync,
+    R: Threads + Wait + time::Clock + Sync,
+    P: Post + Send + Drop,
+    C: Clock + Copy + Send,
+    G: Gate + Sync,
+    W: Watch + Sync,
+>(
+    rt: &R,
+    shared: &Shared,
+    course: Course,
+    served: Vec<Served<N, P, C>>,
+    staff: Staff,
+    clock: C,
+    gate: &G,
+    watch: &W,
+) -> Result<Report, Fault>
+    requires workers { length staff.inboxes.items ≡ course.workers }
+    requires staff { IsStaffOf shared.now staff }
+    ensures { IsCounted (course.workers * course.transactions) result }
+{
+    thread::scope(
+        thread::scope_env(),
         rt,
-        || -> Result<(), Fault>
-            requires { IsSync R.row × IsSync N.row × IsSend P.row × IsSend C.row × IsSync G.row }
-        { start(rt, served, gate) },
-        move || -> Result<Report, Fault>
-            requires workers { IsSync R.row × IsSend C.row × IsSync W.row
-                × (length staff.inboxes.items ≡ course.workers) }
+        |scope| -> Result<Report, Fault>
+            requires workers { IsSync R.row × IsSync N.row × IsSend P.row × IsSend C.row
+                × IsSync G.row × IsSync W.row × (length staff.inboxes.items ≡ course.workers) }
             requires staff { IsStaffOf shared.now staff }
             ensures { IsCounted (course.workers * course.transactions) result }
-        { work_and_close(rt, shared, course, staff, clock, watch) },
-    );
-    served?;
-    report
+        {
+            if start_in(scope, rt, served, gate) {
+                work_and_close(rt, shared, course, staff, clock, watch)
+            } else {
+                drop(staff);
+                shared.network.close(rt);
+                Err(Fault::Memory)
+            }
+        },
+    )
 }
 
 // Closes the nodes.
-fn closed<N: Opens<H, D> + Drop, H, D: Drop>(alloc: Global, nodes: Vec<N>) -> Result<Vec<D>, Fault>
+fn closed<N: Closes<D> + Drop, D: Drop>(alloc: Global, nodes: Vec<N>) -> Result<Vec<D>, Fault>
     ensures { IfOk result (λ disks. length disks.items ≡ length nodes.items) }
 {
     let mut disks = Vec::new(alloc);

@@ -5,6 +5,7 @@
 mod engine;
 mod opening;
 mod shards;
+mod watched;
 
 pub use engine::{Driven, drive, drive_by};
-pub use shards::{drive_shards, run};
+pub use shards::{NoVerdict, drive_shards, run};

@@ -1,57 +1,25 @@
 //! The nodes of a drive.
-ghost use Rattle.std.specs.Prelude.{◌≡◌, ◌≢◌, ◌⊎◌, ◌≤◌, ◌+◌, length, Err, IfErr, IfOk, IsOk, OnOk};
+ghost use Rattle.std.specs.Prelude.{◌≡◌, ◌≢◌, ◌⊎◌, ◌≤◌, ◌+◌, ◌<◌, ℕ, length, slice_index_or, Err, IfErr, IfOk, IsOk, OnOk};
 ghost use Rattle.drive.specs.Setups.{IsSetupOf};
 
 use board::Viewer;
 use disk::Disk;
-use node::Node;
+use node::{Node, open_all};
 use settings::Settings;
 use shard::Core;
 use std::alloc::Global;
 use std::sync::Wait;
+use std::thread::Threads;
 use units::{Book, Epoch, Fault, Reason, Run, Setup, ShardNo};
 use workers::Viewers;
 
-/// What a drive asks of nodes besides being served: each is made over the log of a disk, and gives the disk back.
-pub trait Opens<H, D>: Sized {
-    /// A node of the shard whose log the disk holds, so many viewers of its board, and the epoch of this opening.
-    fn open(
-        rt: H,
-        alloc: Global,
-        disk: D,
-        setup: Setup,
-        n: usize,
-    ) -> Result<(Self, Vec<Viewer>, Epoch), Fault>;
-
+/// What a drive asks of nodes besides being served: each gives its disk back.
+pub trait Closes<D>: Sized {
     /// Ends the node.
     fn close(self) -> D;
 }
 
-impl<D: Disk + Drop, H: Wait + Copy> Opens<H, D> for Node<D, H> {
-    fn open(
-        rt: H,
-        alloc: Global,
-        disk: D,
-        setup: Setup,
-        n: usize,
-    ) -> Result<(Node<D, H>, Vec<Viewer>, Epoch), Fault> {
-        let core = match Core::open(alloc, disk, setup) {
-            Ok(core) => core,
-            Err((fault, disk)) => {
-                drop(disk);
-                return Err(fault);
-            }
-        };
-        let epoch = core.epoch();
-        match Node::new(rt, alloc, core, n) {
-            Ok((node, viewers)) => Ok((node, viewers, epoch)),
-            Err((fault, core)) => {
-                drop(core.stop());
-                Err(fault)
-            }
-        }
-    }
-
+impl<D: Disk + Drop, H: Wait + Drop> Closes<D> for Node<D, H> {
     fn close(self) -> D {
         Node::close(self)
     }
@@ -66,85 +34,144 @@ pub struct Opened<N> {
 }
 
 impl<N: Drop> Opened<N> {
-    /// Opens the disks of shards 0, 1 and so on, each with a viewer for each worker. Where there are more or fewer disks than shards, that
-    /// is refused as `settings`.
-    pub fn over<H: Copy, D: Drop>(
-        rt: H,
-        alloc: Global,
-        settings: &Settings,
-        disks: Vec<D>,
-        workers: usize,
-    ) -> Result<Opened<N>, Fault>
-    where
-        N: Opens<H, D>,
-        ensures viewers { IfOk result (λ opened.
-            length opened.viewers.by_worker.items ≡ workers) }
-        ensures nodes { IfOk result (λ opened. length opened.nodes.items ≡ length disks.items) }
-        ensures shards { IsOk result → length disks.items ≡ length settings.now.splits + 1 }
-        ensures refused { length disks.items ≢ length settings.now.splits + 1
-            → result ≡ Err (Fault.BadRequest Reason.Settings) }
-    {
-        if disks.len() != settings.splits.as_slice().len() + 1 {
-            drop(disks);
-            return Err(Fault::BadRequest(Reason::Settings));
-        }
-        let viewers = Viewers::none(alloc, workers)?;
-        let mut opened = Opened {
-            nodes: Vec::new(alloc),
-            viewers,
-            epoch: Epoch::first(),
-        };
-        match opened.open_all(rt, alloc, settings, disks) {
-            Ok(()) => Ok(opened),
-            Err(fault) => {
-                drop(opened);
-                Err(fault)
-            }
-        }
-    }
-
-    // Opens the disks of the next shards.
-    fn open_all<H: Copy, D: Drop>(
-        &mut self,
-        rt: H,
-        alloc: Global,
-        settings: &Settings,
-        disks: Vec<D>,
-    ) -> Result<(), Fault>
-    where
-        N: Opens<H, D>,
-        ensures viewers { OnOk result (length self.new.viewers.by_worker.items
-            ≡ length self.old.viewers.by_worker.items) }
-        ensures nodes { OnOk result (length self.new.nodes.items
-            ≡ length self.old.nodes.items + length disks.items) }
-    {
-        for disk in disks {
-            self.open_next(rt, alloc, settings, disk)?;
-        }
-        Ok(())
-    }
-
-    // Opens the disk of the next shard, and deals its viewers out.
-    fn open_next<H: Copy, D: Drop>(
-        &mut self,
-        rt: H,
-        alloc: Global,
-        settings: &Settings,
-        disk: D,
-    ) -> Result<(), Fault>
-    where
-        N: Opens<H, D>,
+    // One node more, of an opening of this epoch. Its viewers are dealt out.
+    fn add(&mut self, node: N, viewers: Vec<Viewer>, epoch: Epoch) -> Result<(), Fault>
         ensures viewers { length self.new.viewers.by_worker.items
             ≡ length self.old.viewers.by_worker.items }
         ensures nodes { OnOk result
             (length self.new.nodes.items ≡ length self.old.nodes.items + 1) }
     {
-        let setup = setup_of(alloc, settings, self.nodes.len())?;
-        let (node, viewers, epoch) = N::open(rt, alloc, disk, setup, self.viewers.by_worker.len())?;
         self.epoch = later(self.epoch, epoch);
         self.nodes.push(node)?;
         self.viewers.deal(viewers)
     }
+}
+
+/// Opens the disks of shards 0, 1 and so on side by side, each with a viewer for each worker. Where there are more or fewer disks than
+/// shards, that is refused as `settings`. Else the first shard that is refused counts.
+pub fn open_shards<'r, R: Threads + Wait + Sync, D: Disk + Drop + Send>(
+    rt: &'r R,
+    alloc: Global,
+    settings: &Settings,
+    disks: Vec<D>,
+    workers: usize,
+) -> Result<Opened<Node<D, &'r R>>, Fault>
+    ensures viewers { IfOk result (λ opened.
+        length opened.viewers.by_worker.items ≡ workers) }
+    ensures nodes { IfOk result (λ opened. length opened.nodes.items ≡ length disks.items) }
+    ensures shards { IsOk result → length disks.items ≡ length settings.now.splits + 1 }
+    ensures refused { length disks.items ≢ length settings.now.splits + 1
+        → result ≡ Err (Fault.BadRequest Reason.Settings) }
+{
+    if disks.len() != settings.splits.as_slice().len() + 1 {
+        drop(disks);
+        return Err(Fault::BadRequest(Reason::Settings));
+    }
+    let told = told(alloc, settings, disks)?;
+    let viewers = match Viewers::none(alloc, workers) {
+        Ok(viewers) => viewers,
+        Err(fault) => {
+            drop(told);
+            return Err(fault);
+        }
+    };
+    match open_all(rt, alloc, told) {
+        Ok(cores) => nodes_over(rt, alloc, cores, viewers),
+        Err((fault, disks)) => {
+            drop(disks);
+            drop(viewers);
+            Err(fault)
+        }
+    }
+}
+
+// Each disk, with what its shard is told.
+fn told<D: Drop>(
+    alloc: Global,
+    settings: &Settings,
+    disks: Vec<D>,
+) -> Result<Vec<(D, Setup)>, Fault>
+    ensures disks { IfOk result (λ told. length told.items ≡ length disks.items) }
+    ensures setups { IfOk result (λ told. (number : ℕ) (d : _) → number < length told.items
+        → IsSetupOf settings.now number (slice_index_or told.items number d).1) }
+{
+    let mut told = Vec::new(alloc);
+    for disk in disks {
+        let setup = setup_of(alloc, settings, told.len())?;
+        told.push((disk, setup))?;
+    }
+    Ok(told)
+}
+
+// The nodes over what the openings of some disks came to, in their order. The first that is refused counts; the cores that are left
+// are stopped then.
+fn nodes_over<D: Disk + Drop, H: Wait + Copy>(
+    rt: H,
+    alloc: Global,
+    cores: Vec<Result<Core<D>, (Fault, D)>>,
+    viewers: Viewers,
+) -> Result<Opened<Node<D, H>>, Fault>
+    ensures viewers { IfOk result (λ opened. length opened.viewers.by_worker.items
+        ≡ length viewers.by_worker.items) }
+    ensures nodes { IfOk result (λ opened. length opened.nodes.items ≡ length cores.items) }
+{
+    let mut cores = cores;
+    let mut opened = Opened {
+        nodes: Vec::new(alloc),
+        viewers,
+        epoch: Epoch::first(),
+    };
+    while !cores.is_empty() {
+        if let Err(fault) = add_node(&mut opened, rt, alloc, cores.remove(0)) {
+            drop(opened);
+            stop_all(cores);
+            return Err(fault);
+        }
+    }
+    cores.destroy_empty();
+    Ok(opened)
+}
+
+// The next node, over what the opening of its disk came to.
+fn add_node<D: Disk + Drop, H: Wait + Copy>(
+    opened: &mut Opened<Node<D, H>>,
+    rt: H,
+    alloc: Global,
+    core: Result<Core<D>, (Fault, D)>,
+) -> Result<(), Fault>
+    ensures viewers { length opened.new.viewers.by_worker.items
+        ≡ length opened.old.viewers.by_worker.items }
+    ensures nodes { OnOk result
+        (length opened.new.nodes.items ≡ length opened.old.nodes.items + 1) }
+{
+    let core = match core {
+        Ok(core) => core,
+        Err((fault, disk)) => {
+            drop(disk);
+            return Err(fault);
+        }
+    };
+    let epoch = core.epoch();
+    match Node::new(rt, alloc, core, opened.viewers.by_worker.len()) {
+        Ok((node, viewers)) => opened.add(node, viewers, epoch),
+        Err((fault, core)) => {
+            drop(core.stop());
+            Err(fault)
+        }
+    }
+}
+
+// Stops the cores, and lets all disks go.
+fn stop_all<D: Disk + Drop>(cores: Vec<Result<Core<D>, (Fault, D)>>) {
+    let mut cores = cores;
+    for _ in 0..cores.len() {
+        match cores.pop() {
+            Some(Ok(core)) => drop(core.stop()),
+            Some(Err(refused)) => drop(refused),
+            None => {}
+        }
+    }
+    cores.destroy_empty();
 }
 
 // What the shard of this number is told.

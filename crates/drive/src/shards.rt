@@ -1,10 +1,12 @@
 //! Shards on the machine's threads.
-ghost use Rattle.std.specs.Prelude.{◌*◌, IfOk, IsOk, string_bytes};
+ghost use Rattle.std.specs.Prelude.{◌≡◌, ◌*◌, IfErr, IfOk, IfSome, IsOk, Some, string_bytes};
 ghost use Rattle.units.specs.declared.line.Verdict.{Verdict};
 ghost use Rattle.workers.specs.Course.{IsDrivable};
-ghost use Rattle.drive.specs.Told.{IsTold};
+ghost use Rattle.workers.specs.Summaries.{counts_text, summary_text};
+ghost use Rattle.workers.specs.declared.summary.Counts.{Counts};
+ghost use Rattle.drive.specs.Told.{AreCounts, IsTold};
 
-use crate::engine::{self, drive};
+use crate::engine::{self, clock_of, drive_counted};
 use disk::Disk;
 use host_files::{logs_in, logs_in_memory};
 use letters::Gate;
@@ -19,16 +21,37 @@ use std::thread::Threads;
 use std::{rt, time};
 use system::Driven;
 use units::{Fault, ShardNo};
+use workers::Summary;
+
+/// Why there is no verdict on a drive, and the text that tells its counts, where its workers have reported.
+#[derive(Drop)]
+pub struct NoVerdict {
+    pub fault: Fault,
+    pub text: Option<String>,
+}
+
+impl From<Fault> for NoVerdict {
+    ghost use Rattle.std.specs.Prelude.{◌≡◌, None};
+
+    ghost from_gives = { λ fault none. (none.fault ≡ fault) × (none.text ≡ None) };
+
+    fn from(fault: Fault) -> NoVerdict {
+        NoVerdict { fault, text: None }
+    }
+}
 
 /// Runs shards and workers by some settings. The logs lie in the folder of the settings, where it has one, and else on disks in
-/// memory. Where there is a terminal, it shows how far the drive is, and each shard whose device fails.
+/// memory. Where there is a terminal, it shows how far the drive is, and each shard whose device fails. Then the drive ends soon, and is
+/// refused as `Device`, with its counts.
 pub fn drive_shards<
     R: rt::Files<File = File> + RandomSource + Threads + Wait + time::Clock + Sync,
     W: Write + Drop + Send,
->(rt: &R, alloc: Global, settings: &Settings, terminal: Option<W>) -> Result<Driven, Fault>
+>(rt: &R, alloc: Global, settings: &Settings, terminal: Option<W>) -> Result<Driven, NoVerdict>
     ensures told { IfOk result (λ driven. IsTold
         (settings.now.workers * settings.now.transactions)
         (string_bytes driven.text) driven.verdict) }
+    ensures counted { IfErr result (λ none. IfSome none.text (λ text.
+        AreCounts (settings.now.workers * settings.now.transactions) (string_bytes text))) }
     ensures limits { IsOk result
         → IsDrivable settings.now.workers settings.now.transactions settings.now.keys }
 {
@@ -55,18 +78,22 @@ pub fn run<
     ensures limits { IsOk result
         → IsDrivable settings.now.workers settings.now.transactions settings.now.keys }
 {
-    let driven = drive_watched(rt, alloc, settings, gate, &NoWatch)?;
-    Ok(driven.text)
+    match drive_watched(rt, alloc, settings, gate, &NoWatch) {
+        Ok(driven) => Ok(driven.text),
+        Err(none) => Err(none.fault),
+    }
 }
 
 fn drive_watched<
     R: rt::Files<File = File> + RandomSource + Threads + Wait + time::Clock + Sync,
     G: Gate + Sync,
     W: Watch + Sync,
->(rt: &R, alloc: Global, settings: &Settings, gate: &G, watch: &W) -> Result<Driven, Fault>
+>(rt: &R, alloc: Global, settings: &Settings, gate: &G, watch: &W) -> Result<Driven, NoVerdict>
     ensures told { IfOk result (λ driven. IsTold
         (settings.now.workers * settings.now.transactions)
         (string_bytes driven.text) driven.verdict) }
+    ensures counted { IfErr result (λ none. IfSome none.text (λ text.
+        AreCounts (settings.now.workers * settings.now.transactions) (string_bytes text))) }
     ensures limits { IsOk result
         → IsDrivable settings.now.workers settings.now.transactions settings.now.keys }
 {
@@ -94,24 +121,54 @@ fn drive_over<
     logs: Vec<D>,
     gate: &G,
     watch: &W,
-) -> Result<Driven, Fault>
+) -> Result<Driven, NoVerdict>
     ensures told { IfOk result (λ driven. IsTold
         (settings.now.workers * settings.now.transactions)
         (string_bytes driven.text) driven.verdict) }
+    ensures counted { IfErr result (λ none. IfSome none.text (λ text.
+        AreCounts (settings.now.workers * settings.now.transactions) (string_bytes text))) }
     ensures limits { IsOk result
         → IsDrivable settings.now.workers settings.now.transactions settings.now.keys }
 {
-    let engine::Driven {
-        summary,
-        lines,
-        disks,
-    } = drive(rt, alloc, settings, logs, gate, watch)?;
-    drop(lines);
-    drop(disks);
-    Ok(Driven {
-        text: format!(in alloc; "{summary}")?,
-        verdict: summary.verdict,
-    })
+    let clock = clock_of(rt, settings);
+    match drive_counted(rt, alloc, settings, logs, clock, gate, watch) {
+        Ok(
+            engine::Driven {
+                summary,
+                lines,
+                disks,
+            },
+        ) => {
+            drop(lines);
+            drop(disks);
+            Ok(Driven {
+                text: text_of(alloc, summary)?,
+                verdict: summary.verdict,
+            })
+        }
+        Err(none) => Err(told_without(alloc, none)),
+    }
+}
+
+// What is printed of a drive.
+fn text_of(alloc: Global, summary: Summary) -> Result<String, Fault>
+    ensures { IfOk result (λ text. string_bytes text ≡ summary_text summary.counts summary.verdict) }
+{
+    Ok(format!(in alloc; "{summary}")?)
+}
+
+// What is printed where there is no verdict: nothing where there is no memory for it.
+fn told_without(alloc: Global, none: engine::NoVerdict) -> NoVerdict
+    ensures fault { result.fault ≡ none.fault }
+    ensures text { IfSome result.text (λ text. (counts : Counts) × (none.counts ≡ Some counts)
+        × (string_bytes text ≡ counts_text counts)) }
+{
+    let engine::NoVerdict { fault, counts } = none;
+    let text = match counts {
+        Some(counts) => format!(in alloc; "{counts}").ok(),
+        None => None,
+    };
+    NoVerdict { fault, text }
 }
 
 // Lets all letters through.

@@ -1,13 +1,12 @@
 //! Commands, one after the other in one folder.
 use crate::folder::Folder;
-use cli::{Driven, Files, Stream, System, answer};
+use cli::{Driven, Files, NoVerdict, Stream, System, answer};
 use drive::drive_shards;
 use host_files::HostFiles;
 use settings::Settings;
 use simdisk::SimDisk;
 use std::alloc::Global;
 use std::process::Abort;
-use units::Fault;
 
 // What is printed: of a drive its counts, whose first three are of so many transactions together, and the verdict yes.
 #[derive(Clone, Copy)]
@@ -239,7 +238,7 @@ fn is_right(out: &[u8], err: &[u8], step: &Step) -> bool {
 }
 
 // Whether the words print what the step says, and give its status.
-fn prints<'w, F: Files, D: Fn(Global, &Settings) -> Result<Driven, Fault>>(
+fn prints<'w, F: Files, D: Fn(Global, &Settings) -> Result<Driven, NoVerdict>>(
     alloc: Global,
     system: &System<F, D>,
     words: &'w [&'w str],
@@ -260,7 +259,7 @@ fn prints<'w, F: Files, D: Fn(Global, &Settings) -> Result<Driven, Fault>>(
 }
 
 // Whether a command prints what it should, and gives its status.
-fn is_answered<F: Files, D: Fn(Global, &Settings) -> Result<Driven, Fault>>(
+fn is_answered<F: Files, D: Fn(Global, &Settings) -> Result<Driven, NoVerdict>>(
     rt: &HostRuntime,
     test: &impl Abort,
     system: &System<F, D>,
@@ -278,7 +277,7 @@ fn is_answered<F: Files, D: Fn(Global, &Settings) -> Result<Driven, Fault>>(
 }
 
 // The first of some commands that is not answered as it should be: it and the names of its files.
-fn first_wrong<F: Files, D: Fn(Global, &Settings) -> Result<Driven, Fault>>(
+fn first_wrong<F: Files, D: Fn(Global, &Settings) -> Result<Driven, NoVerdict>>(
     rt: &HostRuntime,
     test: &impl Abort,
     system: &System<F, D>,

@@ -12,4 +12,6 @@ mod gates;
 #[cfg(test)]
 mod kept;
 #[cfg(test)]
+mod stops;
+#[cfg(test)]
 mod stores;

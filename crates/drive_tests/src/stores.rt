@@ -434,7 +434,7 @@ fn driven<R: Files<File = File> + RandomSource + Threads + Wait + time::Clock + 
     settings: &Settings,
 ) -> [Vec<u8>; 2] {
     let driven = drive_shards(test, rt.alloc(), settings, None::<Vec<u8>>);
-    drop(driven.expect(test, "a drive"));
+    drop(driven.ok().expect(test, "a drive"));
     let first = folder.path(rt, test, "shard-0.log");
     let second = folder.path(rt, test, "shard-1.log");
     let logs = [

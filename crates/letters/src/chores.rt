@@ -17,7 +17,10 @@ fn moment() -> Duration {
 }
 
 // An advance may log, and wait for a device. Under letters that go on, so many times as long pass behind each as it took.
-const SHARE_OF_ADVANCES: u32 = 10;
+const SHARE_OF_ADVANCES: u32 = 4;
+
+// A thread that sleeps wakes some 50 microseconds late, or a little more.
+const LATE_WAKE: u64 = 70;
 
 // How many milliseconds it waits for the outcome of what is prepared before it asks, and at most before it asks again.
 const FIRST_ASK: u64 = 20;
@@ -222,12 +225,13 @@ fn settle<N: Serves, W: Wait, P: Post, C: Clock>(
     (settled, Some(Duration::ZERO))
 }
 
-// How long it takes until a timestamp has surely passed.
+// How long it takes until a timestamp has surely passed, less what a sleep may take longer than it should. For the last of it the
+// node stays awake.
 fn until_after(now: &Reading, at: Stamp) -> Duration {
     Duration::from_micros(
         at.micros()
             .saturating_sub(now.earliest().micros())
-            .saturating_add(1),
+            .saturating_sub(LATE_WAKE),
     )
 }
 

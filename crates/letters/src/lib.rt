@@ -10,9 +10,10 @@ mod network;
 mod serves;
 mod sessions;
 mod threads;
+mod waiting;
 
 pub use gate::Gate;
 pub use letter::{Letter, Post};
 pub use network::{Inboxes, Mail, Network};
 pub use serves::{Due, Serves, serve};
-pub use threads::{Served, start};
+pub use threads::{Served, start, start_in};

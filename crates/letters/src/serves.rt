@@ -3,8 +3,10 @@ use crate::acts::act;
 use crate::chores::Chores;
 use crate::gate::Gate;
 use crate::letter::{Letter, Post};
-use crossbeam_channel::{Receiver, RecvTimeoutError};
+use crate::waiting::{Next, Waiting};
+use crossbeam_channel::Receiver;
 use message::{Input, Outbox};
+use std::alloc::Global;
 use std::sync::Wait;
 use std::time;
 use std::time::Duration;
@@ -35,19 +37,29 @@ pub trait Serves {
     /// The n-th transaction of this standing, and the timestamp that it is prepared or decided at.
     fn due<W: Wait>(&self, rt: &W, due: Due, n: usize) -> Option<(TxnId, Stamp)>;
 
+    /// Whether its device failed, so that it takes nothing more.
+    fn is_stopped<W: Wait>(&self, rt: &W) -> bool;
+
     /// How many versions the shard has.
     fn versions<W: Wait>(&self, rt: &W) -> usize;
 
     /// Advances to the latest of a reading that is taken under the lock, and shows that. Up to when it serves then.
     fn keep_up<W: Wait, C: Clock>(&self, rt: &W, clock: &mut C) -> Option<Stamp>;
+
+    /// Memory for letters that wait.
+    fn alloc(&self) -> Global;
 }
 
 // So many letters are taken in a row before a node does its chores.
 const LETTERS_IN_A_ROW: u64 = 64;
 
+// So many reads wait at most. On a slow device a worker sends one again each 20 milliseconds.
+const READS_AT_MOST: usize = 1_024;
+
 /// Serves the letters of the inbox until one says to close, or the inbox is closed. Whenever none is there the node does its
 /// chores, and then waits for a letter until more are due. No stream of letters keeps it from them for more than 64
-/// letters or, but for one letter, a millisecond.
+/// letters or, but for one letter, a millisecond. Behind its chores the gate is told where the node has stopped. Reads are taken behind the
+/// letters that came beside them, 64 at most.
 pub fn serve<N: Serves, W: Wait + time::Clock, P: Post, C: Clock, G: Gate>(
     node: &N,
     rt: &W,
@@ -56,51 +68,110 @@ pub fn serve<N: Serves, W: Wait + time::Clock, P: Post, C: Clock, G: Gate>(
     clock: &mut C,
     gate: &G,
 ) {
-    let mut chores = Chores::new(node, rt);
-    let mut n = 0;
-    let mut in_a_row: u64 = 0;
+    let mut round = Round {
+        chores: Chores::new(node, rt),
+        reads: Waiting::none(node.alloc(), READS_AT_MOST),
+        n: 0,
+        in_a_row: 0,
+        stopped: false,
+    };
     for _letter in rt.forever() {
-        let mut pause = Duration::ZERO;
-        if inbox.is_empty() || in_a_row >= LETTERS_IN_A_ROW || chores.are_late(rt) {
-            in_a_row = 0;
-            pause = chores.tend(node, rt, post, clock);
-        }
-        match inbox.recv_timeout(rt, pause) {
-            Ok(letter) => {
-                gate.before(node.shard(), n);
-                let goes_on = take(node, rt, post, clock, &mut chores, letter);
-                gate.after(node.shard(), n);
-                if !goes_on {
+        let is_idle = round.reads.is_none() && inbox.is_empty();
+        let is_due = is_idle || round.in_a_row >= LETTERS_IN_A_ROW || round.chores.are_late(rt);
+        let pause = if is_due {
+            tend(node, rt, post, clock, gate, &mut round)
+        } else {
+            Duration::ZERO
+        };
+        match round.reads.first_of(rt, inbox, pause) {
+            Next::Take(letter) => {
+                round.in_a_row = round.in_a_row.saturating_add(1);
+                if !take(node, rt, post, clock, gate, &mut round, letter) {
                     return;
                 }
-                if n < Stamp::MAX {
-                    n += 1;
-                }
-                in_a_row = in_a_row.saturating_add(1);
             }
-            Err(RecvTimeoutError::Timeout) => {}
-            Err(RecvTimeoutError::Disconnected) => return,
+            Next::Nothing => {}
+            Next::Gone => return,
         }
     }
     unreachable!()
 }
 
-// Takes a letter. It says whether more are taken. The word that somebody looked in vain only wakes the node.
-fn take<N: Serves, W: Wait + time::Clock, P: Post, C: Clock>(
+// What a node is in the midst of: its chores, the reads that wait, how many letters were taken, how many came since it did its chores, and
+// whether it had stopped then.
+#[derive(Drop)]
+struct Round {
+    chores: Chores,
+    reads: Waiting,
+    n: u64,
+    in_a_row: u64,
+    stopped: bool,
+}
+
+// Does the chores, behind the reads that wait where other letters have kept them back for long, and tells the gate where the node has
+// stopped. It says how long nothing more is due.
+fn tend<N: Serves, W: Wait + time::Clock, P: Post, C: Clock, G: Gate>(
     node: &N,
     rt: &W,
     post: &mut P,
     clock: &mut C,
-    chores: &mut Chores,
+    gate: &G,
+    round: &mut Round,
+) -> Duration {
+    if round.in_a_row >= LETTERS_IN_A_ROW {
+        take_reads(node, rt, post, clock, gate, round);
+    }
+    round.in_a_row = 0;
+    let pause = round.chores.tend(node, rt, post, clock);
+    let stopped = node.is_stopped(rt);
+    if stopped && !round.stopped {
+        gate.stopped(node.shard());
+    }
+    round.stopped = stopped;
+    pause
+}
+
+// Takes the reads that wait, in the order in which they came.
+fn take_reads<N: Serves, W: Wait + time::Clock, P: Post, C: Clock, G: Gate>(
+    node: &N,
+    rt: &W,
+    post: &mut P,
+    clock: &mut C,
+    gate: &G,
+    round: &mut Round,
+) {
+    for _read in 0..LETTERS_IN_A_ROW {
+        let Some(letter) = round.reads.next() else {
+            return;
+        };
+        take(node, rt, post, clock, gate, round, letter);
+    }
+}
+
+// Takes a letter, which is the next one of the gate. It says whether more are taken. The word that somebody looked in vain only wakes the
+// node.
+fn take<N: Serves, W: Wait + time::Clock, P: Post, C: Clock, G: Gate>(
+    node: &N,
+    rt: &W,
+    post: &mut P,
+    clock: &mut C,
+    gate: &G,
+    round: &mut Round,
     letter: Letter,
 ) -> bool {
-    match letter {
+    gate.before(node.shard(), round.n);
+    let goes_on = match letter {
         Letter::Carry(message) => {
             act(node, rt, post, clock, Input::Deliver(message));
-            chores.took_letter(rt);
+            round.chores.took_letter(rt);
             true
         }
         Letter::Look => true,
         Letter::Close => false,
+    };
+    gate.after(node.shard(), round.n);
+    if round.n < Stamp::MAX {
+        round.n += 1;
     }
+    goes_on
 }

@@ -7,7 +7,7 @@ use crate::letter::{Letter, Post};
 use crate::serves::{Serves, serve};
 use crossbeam_channel::Receiver;
 use std::sync::Wait;
-use std::thread::Threads;
+use std::thread::{Scope, Threads};
 use std::{thread, time};
 use truetime::Clock;
 use units::Fault;
@@ -21,6 +21,32 @@ pub struct Served<'a, N, P, C> {
     pub clock: C,
 }
 
+/// Starts a thread of a scope for each node, which serves it. It says whether all have started.
+pub fn start_in<
+    's,
+    'e,
+    N: Serves + Sync,
+    W: Threads + Wait + time::Clock + Sync,
+    P: Post + Send + Drop + 'e,
+    C: Clock + Send + Drop + 'e,
+    G: Gate + Sync,
+>(scope: &'s Scope<'s, &'e ()>, rt: &'e W, served: Vec<Served<'e, N, P, C>>, gate: &'e G) -> bool {
+    let mut all = true;
+    for one in served {
+        let Served {
+            node,
+            inbox,
+            mut post,
+            mut clock,
+        } = one;
+        let spawned = scope.spawn(move || serve(node, rt, &inbox, &mut post, &mut clock, gate));
+        if spawned.is_err() {
+            all = false;
+        }
+    }
+    all
+}
+
 /// Serves each node on a thread of its own, until all have ended. Where a thread does not start, the others are served.
 pub fn start<
     N: Serves + Sync,
@@ -31,29 +57,12 @@ pub fn start<
 >(rt: &W, served: Vec<Served<N, P, C>>, gate: &G) -> Result<(), Fault>
     ensures { IfErr result (λ fault. fault ≡ Fault.Memory) }
 {
-    let refused = thread::scope(
+    let all = thread::scope(
         thread::scope_env(),
         rt,
         |scope| -> bool
             requires { IsSync W.row × IsSync N.row × IsSend P.row × IsSend C.row × IsSync G.row }
-        {
-            let mut refused = false;
-            for one in served {
-                let Served {
-                    node,
-                    inbox,
-                    mut post,
-                    mut clock,
-                } = one;
-                let spawned = scope.spawn(move || serve(
-                    node, rt, &inbox, &mut post, &mut clock, gate,
-                ));
-                if spawned.is_err() {
-                    refused = true;
-                }
-            }
-            refused
-        },
+        { start_in(scope, rt, served, gate) },
     );
-    if refused { Err(Fault::Memory) } else { Ok(()) }
+    if all { Ok(()) } else { Err(Fault::Memory) }
 }

@@ -5,7 +5,7 @@ use Rattle.std.proofs.Common.{◌∷◌, ◌++◌, length, map, take, drop, slic
 use Rattle.std.proofs.Common.{Option, Some, None, Result, Ok, Err, OnOk, refl, sym, ap, ◌∙◌, subst, arith, option_to_list}
 use Rattle.std.proofs.lemmas.Bool.{and_parts}
 use Rattle.std.proofs.lemmas.Bool.Decides.{nat_tests}
-use Rattle.std.proofs.lemmas.List.{length-append, length-drop, take-append-le, drop-append-le, take_all, map-append, append-nil}
+use Rattle.std.proofs.lemmas.List.{length-append, length-drop, take-append-le, take-append-drop, drop-append-le, take_all, map-append, append-nil}
 use Rattle.std.proofs.Math.Seq.{drop-append_seam}
 use Rattle.std.proofs.lemmas.Option.{slice_get-map}
 use Rattle.units.specs.Keys.{Bytes, shard_of}
@@ -32,7 +32,7 @@ use Rattle.world.specs.declared.event.Reply.{Reply}
 use Rattle.lives.specs.Lives.{IsCoreIn, IsCoreOf, IsDiskIn, IsRunningAs, LivesAs, LivesIn, crash_by, disk_log}
 use Rattle.lives.specs.Carries.{Carries, Comes, IsOrderly, by_call, left_by, left_by_refusal, stepped_shard, unopened}
 use Rattle.lives.specs.Looks.{look_at}
-use Rattle.lives.specs.Shows.{Acts, HasNoted, IsKept, NotesOfLife, ShowsLog, StandsFor, done_by, is_within, shown_view, view_now}
+use Rattle.lives.specs.Shows.{Acts, AreShared, BeginsAt, HasNoted, IsKept, NotesOfLife, ShowsLog, StandsFor, done_by, is_within, shown_view, view_now}
 use Rattle.lives.specs.declared.life.Life.{Life}
 use Rattle.lives.specs.declared.life.Life.TheVariants.{Up, Down}
 use Rattle.lives.specs.declared.run_shard.RunShard.{RunShard}
@@ -92,13 +92,6 @@ all_behind is all n le same =
     let many : length all ≡ length is - n = ap length (sym same) ∙ length-drop n is in
     omega (arith, many, le)
 
-nothing_less : (n : ℕ) → n - n ≡ 0
-nothing_less n = omega arith
-
--- those of a core that was opened are a list of their own
-opened_behind : (is all : List Install) → drop (length is) (is ++ drop (length is - length is) all) ≡ all
-opened_behind is all = drop-append_seam is (drop (length is - length is) all) ∙ ap (λ n. drop n all) (nothing_less (length is))
-
 -- those of one that goes on are what they were, and more
 more_behind : (is front more : List Install) (n : ℕ) → n ≤ length is → drop n is ≡ front → drop n (is ++ drop (length is - n) (front ++ more)) ≡ front ++ more
 more_behind is front more n le same =
@@ -106,6 +99,12 @@ more_behind is front more n le same =
     drop-append-le n is (drop (length is - n) (front ++ more)) le
     ∙ (λ i. same i ++ drop (sym many i) (front ++ more))
     ∙ ap (λ l. front ++ l) (drop-append_seam front more)
+
+-- those of one that was opened begin with those behind the place
+opened_behind : (is all : List Install) (n : ℕ) → AreShared is all n → drop n (is ++ drop (length is - n) all) ≡ all
+opened_behind is all n h =
+    subst (λ l. drop n (is ++ drop (length is - n) l) ≡ l) (take-append-drop (length is - n) all)
+    (more_behind is (take (length is - n) all) (drop (length is - n) all) n h.0 (sym h.1))
 
 -- ---- a view of now
 
@@ -262,18 +261,20 @@ module _ (setup : Setup) (bag : List Envelope) (s : ShardNow) (call : Option ℕ
     more_facts sure = facts_with setup.shard s.log logged (follows sure) ∙ ap (λ l. facts_of (l ++ option_to_list logged)) (sym (read_is sure))
 
     -- all that its core shows stands behind the place where its versions begin
-    behind_is : (all : List Install) → all ≡ (facts_of log_now).installs → (g : Bool) → goes_on doing ≡ g
-        → (cond g mid.from (length mid.installs.items) ≤ length mid.installs.items)
-        × (drop (cond g mid.from (length mid.installs.items))
-        (mid.installs.items ++ drop (length mid.installs.items - cond g mid.from (length mid.installs.items)) all) ≡ all)
-    behind_is all are false e = (omega arith, opened_behind mid.installs.items all)
-    behind_is all are true e =
+    behind_is : (all : List Install) → all ≡ (facts_of log_now).installs → (n : ℕ) → BeginsAt doing mid.from mid.installs.items all n
+        → (g : Bool) → goes_on doing ≡ g
+        → (n ≤ length mid.installs.items) × (drop n (mid.installs.items ++ drop (length mid.installs.items - n) all) ≡ all)
+    behind_is all are n begins false e =
+        let shared : AreShared mid.installs.items all n = begins.opens e in (shared.0, opened_behind mid.installs.items all n shared)
+    behind_is all are n begins true e =
         let run = ran logged memory out e is in
         let sure : s.unsure ≡ Nothing = sure_of setup s old.life h.lives run.0 run.1 in
         let shows : ShowsLog mid.installs.items mid.from s (Runs run.0) = still_shows (Runs run.0)
         (subst (ShowsLog old.installs.items old.from s) run.1 h.shows) in
         let p = added (facts_of s.log) logged in
-        let more : all ≡ (facts_of s.log).installs ++ p.0 = are ∙ ap (λ (f : Facts). f.installs) (sym (more_facts sure)) ∙ p.1 in (
+        let more : all ≡ (facts_of s.log).installs ++ p.0 = are ∙ ap (λ (f : Facts). f.installs) (sym (more_facts sure)) ∙ p.1 in
+        subst (λ x. (x ≤ length mid.installs.items) × (drop x (mid.installs.items ++ drop (length mid.installs.items - x) all) ≡ all))
+        (sym (begins.goes e)) (
           shows.0,
           subst (λ l. drop mid.from (mid.installs.items ++ drop (length mid.installs.items - mid.from) l) ≡ l) (sym more)
               (more_behind mid.installs.items (facts_of s.log).installs p.0 mid.from shows.0 shows.1),
@@ -292,8 +293,7 @@ module _ (setup : Setup) (bag : List Envelope) (s : ShardNow) (call : Option ℕ
       more = drop (length mid.installs.items - new.from) shown_all
 
       from_is : (new.from ≤ length mid.installs.items) × (drop new.from (mid.installs.items ++ more) ≡ shown_all)
-      from_is = subst (λ x. (x ≤ length mid.installs.items) × (drop x (mid.installs.items ++ drop (length mid.installs.items - x) shown_all) ≡ shown_all))
-          (sym n.from) (behind_is shown_all all_is (goes_on doing) refl)
+      from_is = behind_is shown_all all_is new.from n.from (goes_on doing) refl
 
       behind_now : drop new.from new.installs.items ≡ shown_all
       behind_now = ap (drop new.from) n.installs ∙ from_is.1

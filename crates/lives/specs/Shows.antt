@@ -1,6 +1,6 @@
 -- How a shard of a run in the code stands for one of the definitions, with its views.
 use Rattle.std.specs.List.{list_all}
-use Rattle.std.specs.Prelude.{◌≡◌, ◌≤◌, ℕ, ◌+◌, ◌-◌, Bool, true, cond, nat_le, List, [], ◌∷◌, ◌++◌, length, map, take, drop, Option, Some}
+use Rattle.std.specs.Prelude.{◌≡◌, ◌≤◌, ℕ, ◌+◌, ◌-◌, Bool, true, false, cond, nat_le, List, [], ◌∷◌, ◌++◌, length, map, take, drop, Option, Some}
 use Rattle.std.specs.Prelude.{None, Result, slice_get}
 use Rattle.units.specs.Keys.{Bytes}
 use Rattle.units.specs.declared.fault.Fault.{Fault}
@@ -72,9 +72,14 @@ Acts setup bag s call doing new result =
 
 -- ---- what is kept of a core behind a doing
 
--- where the versions of the core begin: those of an opened one are a list of their own
-abbrev pub begins_at : Doing → ℕ → ℕ → ℕ
-begins_at doing from len = cond (goes_on doing) from len
+-- all versions behind a place are the first that a core shows
+abbrev pub AreShared : List Install → List Install → ℕ → Type 0
+AreShared installs shown place = (place ≤ length installs) × (take (length installs - place) shown ≡ drop place installs)
+
+-- where the versions of the core begin: an opened one shares all that stand behind that place, or none
+pub record BeginsAt (doing : Doing) (from : ℕ) (installs shown : List Install) (place : ℕ) : Type 0 where
+  pub goes : goes_on doing ≡ true → place ≡ from
+  pub opens : goes_on doing ≡ false → AreShared installs shown place
 
 -- what a core shows now, as a view
 abbrev pub view_now : ℕ → CoreView SimDisk → CodeView
@@ -84,7 +89,7 @@ view_now from core = record { from = from; count = length core.facts.installs; s
 pub record HasNoted (doing : Doing) (core : CoreView SimDisk) (old new : RunShard) : Type 0 where
   pub setup : new.setup ≡ old.setup
   pub life : new.life ≡ old.life
-  pub from : new.from ≡ begins_at doing old.from (length old.installs.items)
+  pub from : BeginsAt doing old.from old.installs.items core.facts.installs new.from
   pub installs : new.installs.items ≡ old.installs.items ++ drop (length old.installs.items - new.from) core.facts.installs
   pub views : new.views.items ≡ old.views.items ++ cond (makes_view doing) (view_now new.from core ∷ []) []
 

@@ -1,6 +1,6 @@
 //! A core while it is up, and its disk while it is down.
 
-ghost use Rattle.std.specs.Prelude.{◌≡◌, Some, true, not, IfOk, IfErr, OnOk};
+ghost use Rattle.std.specs.Prelude.{◌≡◌, Some, true, not, IfOk, IfErr, OnErr, OnOk};
 ghost use Rattle.units.specs.declared.setup.Setup.{Setup};
 ghost use Rattle.shard.specs.Core.{seen};
 ghost use Rattle.world.specs.World.{ShardNow, input_of};
@@ -56,6 +56,7 @@ impl Life {
             → OnOk result (LivesAs setup (crash_by fate s) self.new) }
         ensures reply { IfOk result (λ reply. reply ≡ Reply.Crashed) }
         ensures memory { IfErr result (λ fault. fault ≡ Fault.Memory) }
+        ensures same { OnErr result (self.new ≡ self.old) }
     {
         let mut fates = Vec::new(alloc);
         fates.push(fate)?;

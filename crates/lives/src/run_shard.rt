@@ -6,10 +6,10 @@ ghost use Rattle.world.specs.declared.event.Config.{Config};
 ghost use Rattle.lives.specs.Lives.{HoldsLog};
 ghost use Rattle.lives.specs.Carries.{IsOrderly};
 ghost use Rattle.lives.specs.Fleet.{IsOn};
-ghost use Rattle.lives.specs.Shows.{StandsFor, begins_at};
+ghost use Rattle.lives.specs.Shows.{BeginsAt, StandsFor};
 
 use crate::life::{Life, opens, setup_with};
-use crate::view::{View, behind};
+use crate::view::{View, begin_with, behind};
 use disk::Fate;
 use gatelog::{Entry, GateLog};
 use message::{Envelope, Outbox};
@@ -135,9 +135,10 @@ impl RunShard {
         let Life::Up(core) = &self.life else {
             return Ok(());
         };
-        let from = begins_at(doing, self.from, self.installs.len());
+        let shown = core.installs();
+        let from = begins_at(doing, self.from, &self.installs, shown);
         let known = self.installs.len().saturating_sub(from);
-        push_copies(&mut self.installs, alloc, behind(core.installs(), known))?;
+        push_copies(&mut self.installs, alloc, behind(shown, known))?;
         self.from = from;
         if makes_view(doing) {
             self.views.push(View::of(core, from))?;
@@ -292,11 +293,18 @@ fn unless_memory(answer: Result<Outbox, Fault>) -> Result<(), Fault>
     }
 }
 
-// Where the versions of a core begin behind a doing: those of an opened one are a list of their own.
-fn begins_at(doing: &Doing, from: usize, len: usize) -> usize
-    ensures { result ≡ begins_at doing.now from len }
+// Where the versions of a core begin behind a doing. An opened one shows the versions of the core before it, and maybe more, so they are
+// shared with it. Where it shows others, they are a list of their own.
+fn begins_at(doing: &Doing, from: usize, installs: &[Install], shown: &[Install]) -> usize
+    ensures { BeginsAt doing.now from installs.now shown.now result }
 {
-    if opens(doing) { len } else { from }
+    if !opens(doing) {
+        return from;
+    }
+    if from <= installs.len() && begin_with(shown, behind(installs, from)) {
+        return from;
+    }
+    installs.len()
 }
 
 // The doing makes a view: an opening does, and an advance.

@@ -1,5 +1,5 @@
 //! What a shard shows at one moment.
-ghost use Rattle.std.specs.Prelude.{◌≡◌, IfOk, IfErr, take, drop};
+ghost use Rattle.std.specs.Prelude.{◌≡◌, true, IfOk, IfErr, length, take, drop};
 ghost use Rattle.std.specs.Option.{option_copied};
 ghost use Rattle.units.specs.Versions.{at_time};
 ghost use Rattle.shard.specs.Core.{seen};
@@ -68,6 +68,42 @@ pub fn behind(installs: &[Install], place: usize) -> &[Install]
     ensures { result.now ≡ drop place installs.now }
 {
     &installs[place.min(installs.len())..]
+}
+
+/// The versions begin with these.
+pub fn begin_with(installs: &[Install], known: &[Install]) -> bool
+    ensures { result ≡ true → take (length known.now) installs.now ≡ known.now }
+{
+    if known.len() > installs.len() {
+        return false;
+    }
+    for (place, one) in known.iter().enumerate() {
+        if !is_same(one, &installs[place]) {
+            return false;
+        }
+    }
+    true
+}
+
+// The two versions are one.
+fn is_same(one: &Install, other: &Install) -> bool
+    ensures { result ≡ true → one.now ≡ other.now }
+{
+    if one.at.micros() != other.at.micros() || !one.key.is(&other.key) {
+        return false;
+    }
+    is_same_value(&one.value, &other.value)
+}
+
+// The two values are one, or both are erasures.
+fn is_same_value(value: &Option<Value>, other: &Option<Value>) -> bool
+    ensures { result ≡ true → value.now ≡ other.now }
+{
+    match (value, other) {
+        (Some(value), Some(other)) => value.as_bytes() == other.as_bytes(),
+        (None, None) => true,
+        _ => false,
+    }
 }
 
 // The newest version of a key up to a time.

@@ -103,6 +103,14 @@ impl<D: Disk + Drop, R: Wait + Drop> Held<D, R> {
         }
     }
 
+    /// Whether the core is stopped. A disk alone is.
+    pub fn is_stopped(&self) -> bool {
+        match &self.place {
+            Some(Place::Serving(desk)) => desk.core().is_stopped(),
+            Some(Place::Resting(_)) | None => true,
+        }
+    }
+
     /// How many versions the core has. A disk alone has none.
     pub fn versions(&self) -> usize {
         match &self.place {

@@ -3,9 +3,11 @@
 
 mod held;
 mod node;
+mod opening;
 mod place;
 mod serves;
 
 pub use desk::Desk;
 pub use letters::{Gate, Letter, Post, Served, start};
 pub use node::Node;
+pub use opening::open_all;

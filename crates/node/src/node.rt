@@ -18,13 +18,18 @@ use units::{Fault, ShardNo, Stamp};
 
 /// A node. Whenever its lock is free, the desk keeps what a desk keeps, or the disk is there alone.
 pub struct Node<D: Disk + Drop, R: Wait + Drop> {
+    pub(crate) alloc: Global,
     pub(crate) shard: ShardNo,
     pub(crate) held: Mutex<Held<D, R>>,
 }
 
 impl<D: Disk + Drop, R: Wait + Drop> Drop for Node<D, R> {
     fn drop(self) {
-        let Node { shard: _, held } = self;
+        let Node {
+            alloc: _,
+            shard: _,
+            held,
+        } = self;
         drop(held);
     }
 }
@@ -48,7 +53,7 @@ impl<D: Disk + Drop, R: Wait + Drop> Node<D, R> {
         match Held::new(rt, alloc, core, n) {
             Ok((held, viewers)) => {
                 let held = Mutex::new(held);
-                Ok((Node { shard, held }, viewers))
+                Ok((Node { alloc, shard, held }, viewers))
             }
             Err(refused) => Err(refused),
         }
@@ -84,7 +89,11 @@ impl<D: Disk + Drop, R: Wait + Drop> Node<D, R> {
 
     /// Ends the node, and gives its disk back.
     pub fn close(self) -> D {
-        let Node { shard: _, held } = self;
+        let Node {
+            alloc: _,
+            shard: _,
+            held,
+        } = self;
         held.into_inner().close()
     }
 }

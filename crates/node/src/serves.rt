@@ -4,6 +4,7 @@ use crossbeam_channel::Receiver;
 use disk::Disk;
 use letters::{Due, Gate, Letter, Post, Serves, serve};
 use message::{Input, Outbox};
+use std::alloc::Global;
 use std::sync::Wait;
 use std::time;
 use truetime::Clock;
@@ -32,6 +33,10 @@ impl<D: Disk + Drop, R: Wait + Drop> Serves for Node<D, R> {
         self.held.lock(rt).due(due, n)
     }
 
+    fn is_stopped<W: Wait>(&self, rt: &W) -> bool {
+        self.held.lock(rt).is_stopped()
+    }
+
     fn versions<W: Wait>(&self, rt: &W) -> usize {
         self.held.lock(rt).versions()
     }
@@ -43,6 +48,10 @@ impl<D: Disk + Drop, R: Wait + Drop> Serves for Node<D, R> {
             Ok(told) => Some(told.safe()),
             Err(_) => None,
         }
+    }
+
+    fn alloc(&self) -> Global {
+        self.alloc
     }
 }
 

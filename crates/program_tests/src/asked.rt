@@ -1,7 +1,7 @@
 //! Commands that ask the system for files.
 use crate::given::{Asked, File};
 
-pub static FILES: [File<'static>; 17] = [
+pub static FILES: [File<'static>; 18] = [
     File {
         path: "empty",
         bytes: b"",
@@ -76,12 +76,16 @@ pub static FILES: [File<'static>; 17] = [
         bytes: b"shards = 1\nsplits = []\nstride = 0\nepsilon = 0\nworkers = 1\ntransactions = 1\nkeys = 1\n",
     },
     File {
+        path: "stopped.settings",
+        bytes: b"shards = 1\nsplits = []\nstride = 0\nepsilon = 0\nworkers = 1\ntransactions = 1\nkeys = 2\n",
+    },
+    File {
         path: "unknown.settings",
         bytes: b"shards = 1\nsplits = []\nstride = 0\nepsilon = 0\nworkers = 1\ntransactions = 1\nkeys = 1\nkey = 1\n",
     },
 ];
 
-pub static ASKED: [Asked; 36] = [
+pub static ASKED: [Asked; 37] = [
     Asked {
         text: "format new.log",
         words: &["format", "new.log"],
@@ -337,6 +341,13 @@ pub static ASKED: [Asked; 36] = [
         printed: "looks 1\nverdict no torn 1.2\n",
         refused: "",
         status: 1,
+    },
+    Asked {
+        text: "drive stopped.settings",
+        words: &["drive", "stopped.settings"],
+        printed: "looks 2\n",
+        refused: "fault: 2 Device\n",
+        status: 2,
     },
     Asked {
         text: "drive missing",

@@ -1,5 +1,5 @@
 //! Files in memory, and drives of nothing, for commands that ask for them.
-use cli::{Driven, Files, Stream, System, answer};
+use cli::{Driven, Files, NoVerdict, Stream, System, answer};
 use disk::Disk;
 use made::id;
 use settings::Settings;
@@ -62,8 +62,14 @@ impl Files for Memory<'_> {
     }
 }
 
-// Drives nothing. What came of it is told by the settings: a drive of one key is torn.
-fn told(alloc: Global, settings: &Settings) -> Result<Driven, Fault> {
+// Drives nothing. What came of it is told by the settings: a drive of one key is torn, and one of two has counts and no verdict.
+fn told(alloc: Global, settings: &Settings) -> Result<Driven, NoVerdict> {
+    if settings.keys == 2 {
+        return Err(NoVerdict {
+            fault: Fault::Device,
+            text: format!(in alloc; "looks 2\n").ok(),
+        });
+    }
     let (says, verdict) = if settings.keys == 1 {
         ("no torn 1.2", Verdict::Torn(id(2)))
     } else {
@@ -71,7 +77,7 @@ fn told(alloc: Global, settings: &Settings) -> Result<Driven, Fault> {
     };
     match format!(in alloc; "looks {}\nverdict {says}\n", settings.keys) {
         Ok(text) => Ok(Driven { text, verdict }),
-        Err(_) => Err(Fault::Memory),
+        Err(_) => Err(NoVerdict::from(Fault::Memory)),
     }
 }
 

@@ -10,6 +10,8 @@ mod comparing;
 #[cfg(test)]
 mod crashes;
 #[cfg(test)]
+mod each_call;
+#[cfg(test)]
 mod given;
 #[cfg(test)]
 mod outside;

@@ -93,12 +93,12 @@ static ROWS: [Row; 19] = [
         read: Read::Refused(Reason::Splits),
     },
     Row {
-        text: "shards 1\nstride 0\n0100 begin 1.1\n",
-        read: Read::Refused(Reason::Syntax(3)),
+        text: "shards 2\nsplit m\nstride 0\n0100 begin 1.1\n",
+        read: Read::Refused(Reason::Syntax(4)),
     },
     Row {
-        text: "shards 1\nstride 0\n100 begin 1.1",
-        read: Read::Refused(Reason::Syntax(3)),
+        text: "shards 2\nsplit m\nstride 0\n100 begin 1.1",
+        read: Read::Refused(Reason::Syntax(4)),
     },
     Row {
         text: "shards 1\nstride 0\n100  begin 1.1\n",

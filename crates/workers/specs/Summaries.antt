@@ -26,11 +26,14 @@ one_if false = 0
 abbrev pub line : List ℕ → ℕ → List ℕ
 line word n = word ++ (codes " " ++ (decimal n ++ codes "\n"))
 
--- the lines
-abbrev pub summary_text : Counts → Verdict → List ℕ
-summary_text c v =
+-- four lines
+abbrev pub counts_text : Counts → List ℕ
+counts_text c =
     line (codes "committed") c.committed
     ++ (line (codes "aborted") c.aborted
     ++ (line (codes "unknown") c.unknown
-    ++ (line (codes "looks") c.looks
-    ++ (codes "verdict " ++ (text_of v ++ codes "\n")))))
+    ++ line (codes "looks") c.looks))
+
+-- and that of the verdict behind them
+abbrev pub summary_text : Counts → Verdict → List ℕ
+summary_text c v = counts_text c ++ (codes "verdict " ++ (text_of v ++ codes "\n"))

@@ -20,7 +20,7 @@ pub struct Shared {
     pub stop: Stop,
 }
 
-/// The word that the workers are to wait for nothing any more.
+/// The word that the workers are to end: what they still have to do is given up as it begins.
 #[derive(Drop)]
 pub struct Stop {
     told: AtomicU64,
@@ -33,7 +33,7 @@ impl Stop {
         }
     }
 
-    /// From now on each worker ends its turns as soon as nothing is there for it to hear.
+    /// From now on each worker waits for nothing any more, gives up each transaction as it begins, and does not look.
     pub fn tell(&self) {
         self.told.store(1, Ordering::SeqCst);
     }

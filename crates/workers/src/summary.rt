@@ -64,6 +64,25 @@ impl Counts {
     }
 }
 
+impl fmt::Display for Counts {
+    ghost use Rattle.workers.specs.Summaries.{counts_text};
+
+    ghost output = { λ c. Some (counts_text c) };
+
+    fn fmt<W: fmt::Write>(&self, f: &mut fmt::Formatter<W>) -> fmt::Result {
+        let Counts {
+            committed,
+            aborted,
+            unknown,
+            looks,
+        } = *self;
+        write!(
+            f,
+            "committed {committed}\naborted {aborted}\nunknown {unknown}\nlooks {looks}\n"
+        )
+    }
+}
+
 /// The counts and the verdict, to be printed: five lines.
 #[derive(Clone, Copy)]
 pub struct Summary {
@@ -77,16 +96,8 @@ impl fmt::Display for Summary {
     ghost output = { λ s. Some (summary_text s.counts s.verdict) };
 
     fn fmt<W: fmt::Write>(&self, f: &mut fmt::Formatter<W>) -> fmt::Result {
-        let Counts {
-            committed,
-            aborted,
-            unknown,
-            looks,
-        } = self.counts;
+        let counts = self.counts;
         let verdict = VerdictText(self.verdict);
-        write!(
-            f,
-            "committed {committed}\naborted {aborted}\nunknown {unknown}\nlooks {looks}\nverdict {verdict}\n"
-        )
+        write!(f, "{counts}verdict {verdict}\n")
     }
 }

@@ -220,7 +220,7 @@ impl<'s, R: Wait + time::Clock> Wire<'_, 's, R> {
         unreachable!()
     }
 
-    // Gives a transaction up, which has then ended so.
+    // Gives a transaction up, which has then ended so. Its shards are told, unless all workers are to stop.
     fn give_up<S: Phase>(
         &self,
         tx: Tx<'s, S>,
@@ -230,7 +230,11 @@ impl<'s, R: Wait + time::Clock> Wire<'_, 's, R> {
     {
         match tx.give_up(self.alloc) {
             Ok(outbox) => {
-                self.send_all(outbox);
+                if self.stop.is_told() {
+                    drop(outbox);
+                } else {
+                    self.send_all(outbox);
+                }
                 Ok(finished)
             }
             Err((fault, tx)) => {
@@ -241,7 +245,7 @@ impl<'s, R: Wait + time::Clock> Wire<'_, 's, R> {
     }
 }
 
-// Sends the reads, and waits for all answers. It says whether they have come.
+// Sends the reads, and waits for all answers. It says whether they have come. Behind the word to stop nothing is sent.
 fn await_answers<'s, R: Wait + time::Clock>(
     wire: &mut Wire<'_, 's, R>,
     tx: &mut Tx<'s, Open>,
@@ -251,6 +255,9 @@ fn await_answers<'s, R: Wait + time::Clock>(
     ensures keys { asked_keys reads.new.asked.items ≡ asked_keys reads.old.asked.items }
     ensures answered { result ≡ Ok true → list_all is_answered reads.new.asked.items ≡ true }
 {
+    if wire.stop.is_told() {
+        return Ok(false);
+    }
     reads.send(wire.rt, wire.network);
     for _heard in wire.rt.forever() {
         if reads.are_answered() {

@@ -115,7 +115,7 @@ impl<R: Wait + time::Clock, C: Clock + Drop, W: Watch> Worker<'_, '_, R, C, W> {
         Ok(Some(Line::Look(*key, now.latest(), value)))
     }
 
-    // Looks at a key at the snapshot, which is at this timestamp, a hundred times at most, and once behind the word to stop, until its
+    // Looks at a key at the snapshot, which is at this timestamp, a hundred times at most, and not behind the word to stop, until its
     // shard serves that. The tries are a millisecond apart, or less, where the shard has told that it serves the timestamp.
     fn look_for(
         &mut self,
@@ -126,13 +126,13 @@ impl<R: Wait + time::Clock, C: Clock + Drop, W: Watch> Worker<'_, '_, R, C, W> {
     ) -> Option<Seen> {
         let shard = self.shared.splits.shard_of(key);
         for _try in 0..100 {
+            if self.wire.stop.is_told() {
+                return None;
+            }
             if let Some(viewer) = self.viewers.get_mut(usize::from(shard.number())) {
                 if let Ok(seen) = snapshot.look(viewer, key, buffer) {
                     return Some(seen);
                 }
-            }
-            if self.wire.stop.is_told() {
-                return None;
             }
             let longest = Duration::from_millis(1);
             self.shared

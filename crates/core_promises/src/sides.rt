@@ -1,0 +1,25 @@
+//! What openings side by side give.
+ghost use Rattle.std.specs.Prelude.{◌≡◌, IfOk, IfErr};
+ghost use Rattle.std.specs.List.{AllZip};
+ghost use Rattle.node.specs.Openings.{IsOpening};
+
+use disk::Disk;
+use shard::Core;
+use std::alloc::Global;
+use std::thread::Threads;
+use units::{Fault, Setup};
+
+/// Each result is what the opening of the disk at its place gives, and there are no others; or all disks come back.
+pub fn open_all<R: Threads + Sync, D: Disk + Drop + Send>(
+    rt: &R,
+    alloc: Global,
+    disks: Vec<(D, Setup)>,
+) -> Result<Vec<Result<Core<D>, (Fault, D)>>, (Fault, Vec<(D, Setup)>)>
+    ensures each { IfOk result (λ opened. AllZip
+        (IsOpening D.keeps_model D.obeys D.file D.clock D.since D.failures D.plan)
+        disks.items opened.items) }
+    ensures refused { IfErr result
+        (λ refused. (refused.0 ≡ Fault.Memory) × (refused.1.items ≡ disks.items)) }
+{
+    node::open_all(rt, alloc, disks)
+}

@@ -1,0 +1,96 @@
+//! A disk in memory that waits for another.
+use disk::Disk;
+use simdisk::SimDisk;
+use std::sync::atomic::{AtomicBool, Ordering};
+use std::time::Duration;
+use std::{thread, time};
+use units::Fault;
+
+/// A disk in memory whose first sync waits until the other's has begun, for 10,000 turns at most, each a look and a millisecond's sleep.
+/// Where it waits in vain, it fails.
+#[derive(Drop)]
+pub struct Awaiting<'a, R> {
+    pub disk: SimDisk,
+    pub rt: &'a R,
+    // Whether its first sync has begun, and whether the other's has.
+    pub own: &'a AtomicBool,
+    pub other: &'a AtomicBool,
+}
+
+impl<R: time::Clock> Awaiting<'_, R> {
+    // Whether the other's first sync begins in time.
+    fn has_come(&self) -> bool {
+        for _turn in 0..10_000 {
+            if self.other.load(Ordering::SeqCst) {
+                return true;
+            }
+            thread::sleep(self.rt, Duration::from_millis(1));
+        }
+        false
+    }
+}
+
+impl<R: time::Clock> Disk for Awaiting<'_, R> {
+    ghost use Rattle.std.proofs.Common.{inl};
+    ghost use Rattle.disk.proofs.Crashes.{seen_may};
+    ghost use Rattle.disk.specs.declared.plan.FailurePlan.TheVariants.{Never};
+    ghost use Rattle.simdisk.specs.Moments.{left_now};
+    ghost use Rattle.simdisk.specs.State.{disk_file, disk_past, disk_failures, disk_clock, LeftSince};
+
+    ghost keeps_model = { Unit {0} };
+
+    // Which syncs fail, no plan says.
+    ghost obeys = { ⊥ };
+
+    ghost file = { λ d. disk_file d.disk };
+
+    ghost clock = { λ d. disk_clock d.disk };
+
+    ghost since = { λ d moment image. LeftSince d.disk moment image };
+
+    ghost failures = { λ d. disk_failures d.disk };
+
+    ghost plan = { λ d. Never };
+
+    ghost has_room = { λ d calls bytes. ⊥ };
+
+    ghost room_less = { λ d calls bytes fewer less few small room. room };
+
+    ghost counts_now = { λ d moment image le may. inl (le, may) };
+
+    ghost reads_now = { λ d. seen_may (disk_file d.disk) };
+
+    ghost only_now = { λ d image left. left_now (disk_file d.disk) (disk_past d.disk) image left };
+
+    fn len(&self) -> u64 {
+        self.disk.len()
+    }
+
+    fn reserve(&mut self, bytes: u64) -> Result<(), Fault> {
+        self.disk.reserve(bytes)
+    }
+
+    fn read_at(&mut self, at: u64, buffer: &mut [u8]) -> Result<(), Fault> {
+        self.disk.read_at(at, buffer)
+    }
+
+    fn write_at(&mut self, at: u64, bytes: &[u8]) -> Result<(), Fault> {
+        self.disk.write_at(at, bytes)
+    }
+
+    fn cut(&mut self, len: u64) -> Result<(), Fault> {
+        self.disk.cut(len)
+    }
+
+    fn sync(&mut self) -> Result<(), Fault> {
+        if !self.own.load(Ordering::SeqCst) {
+            self.own.store(true, Ordering::SeqCst);
+            if !self.has_come() {
+                self.disk.fail_next(0);
+            }
+        }
+        self.disk.sync()
+    }
+
+    fn arm(&mut self, _call: Option<u64>) {}
+}

@@ -1,0 +1,208 @@
+//! Shards that are opened side by side.
+use crate::awaiting::Awaiting;
+use crate::cores::{formatted, opened, plain, setup};
+use crate::verdict::told;
+use disk::Disk;
+use node::open_all;
+use shard::Core;
+use simdisk::SimDisk;
+use std::alloc::Global;
+use std::process::Abort;
+use std::sync::atomic::AtomicBool;
+use std::thread::Threads;
+use std::time;
+use units::{Fault, Setup};
+
+// A disk, of a shard of two.
+struct Given {
+    shard: u8,
+    // How often it was opened before; nothing where it holds the bytes `log`, which are no log.
+    before: Option<u64>,
+    // Its first sync waits for that of the other one.
+    waits: bool,
+    // The epoch of its opening; or why it is refused.
+    gives: Result<u64, Fault>,
+    // How long the file is then.
+    size: u64,
+}
+
+struct Row {
+    name: &'static str,
+    disks: &'static [Given],
+}
+
+// A log of nothing takes nine bytes, and each opening 14: a gate, four bytes of length, a kind and a number of eight.
+static ROWS: [Row; 4] = [
+    Row {
+        name: "no disk",
+        disks: &[],
+    },
+    Row {
+        name: "two disks wait for each other",
+        disks: &[
+            Given {
+                shard: 0,
+                before: Some(0),
+                waits: true,
+                gives: Ok(1),
+                size: 23,
+            },
+            Given {
+                shard: 1,
+                before: Some(0),
+                waits: true,
+                gives: Ok(1),
+                size: 23,
+            },
+        ],
+    },
+    Row {
+        name: "the results stand in the order of the disks",
+        disks: &[
+            Given {
+                shard: 1,
+                before: Some(2),
+                waits: false,
+                gives: Ok(3),
+                size: 51,
+            },
+            Given {
+                shard: 0,
+                before: Some(0),
+                waits: false,
+                gives: Ok(1),
+                size: 23,
+            },
+            Given {
+                shard: 1,
+                before: Some(1),
+                waits: false,
+                gives: Ok(2),
+                size: 37,
+            },
+        ],
+    },
+    Row {
+        name: "one that is refused has its disk back",
+        disks: &[
+            Given {
+                shard: 0,
+                before: Some(1),
+                waits: false,
+                gives: Ok(2),
+                size: 37,
+            },
+            Given {
+                shard: 1,
+                before: None,
+                waits: false,
+                gives: Err(Fault::NotALog),
+                size: 3,
+            },
+            Given {
+                shard: 1,
+                before: Some(0),
+                waits: false,
+                gives: Ok(1),
+                size: 23,
+            },
+        ],
+    },
+];
+
+fn disk_of(rt: &impl Abort, alloc: Global, given: &Given) -> SimDisk {
+    let Some(before) = given.before else {
+        let mut disk = SimDisk::new(alloc);
+        disk.write_at(0, b"log").ok().expect(rt, "a write");
+        return disk;
+    };
+    let mut disk = formatted(rt, alloc);
+    for _ in 0..before {
+        let core = opened(rt, alloc, disk, plain(given.shard, 0)).ok();
+        disk = core.expect(rt, "a core").stop();
+    }
+    disk
+}
+
+// Opens the disks of the row, and compares what that gives.
+fn open<R: Threads + time::Clock + Sync + Abort>(rt: &R, alloc: Global, row: &Row) {
+    let first = AtomicBool::new(false);
+    let second = AtomicBool::new(false);
+    let mut disks = Vec::new(alloc);
+    for given in row.disks {
+        let is_first = disks.is_empty();
+        let own = if is_first { &first } else { &second };
+        let other = if is_first { &second } else { &first };
+        let disk = Awaiting {
+            disk: disk_of(rt, alloc, given),
+            rt,
+            own,
+            other: if given.waits { other } else { own },
+        };
+        let told = (disk, setup(rt, alloc, plain(given.shard, 0)));
+        disks.push(told).ok().expect(rt, "memory");
+    }
+    compare(rt, row, opened_all(rt, alloc, disks));
+}
+
+fn opened_all<'a, R: Threads + time::Clock + Sync + Abort>(
+    rt: &'a R,
+    alloc: Global,
+    disks: Vec<(Awaiting<'a, R>, Setup)>,
+) -> Vec<Result<Core<Awaiting<'a, R>>, (Fault, Awaiting<'a, R>)>> {
+    match open_all(rt, alloc, disks) {
+        Ok(opened) => opened,
+        Err(refused) => {
+            drop(refused);
+            rt.panic("memory")
+        }
+    }
+}
+
+fn compare<R: time::Clock + Abort>(
+    rt: &R,
+    row: &Row,
+    opened: Vec<Result<Core<Awaiting<R>>, (Fault, Awaiting<R>)>>,
+) {
+    let mut opened = opened;
+    told(rt, opened.len() == row.disks.len(), row.name, 0);
+    for _ in 0..opened.len() {
+        match opened.pop() {
+            Some(result) => {
+                let given = row.disks.get(opened.len()).expect(rt, row.name);
+                told(rt, is_given(result, given), row.name, opened.len() as u64);
+            }
+            None => {}
+        }
+    }
+    opened.destroy_empty();
+}
+
+// The result is a core of this shard in this epoch, or this refusal, and its disk has this length.
+fn is_given<R: time::Clock>(
+    opening: Result<Core<Awaiting<R>>, (Fault, Awaiting<R>)>,
+    given: &Given,
+) -> bool {
+    match opening {
+        Ok(core) => {
+            let shard = core.setup().shard.number();
+            let epoch = core.epoch().number();
+            let disk = core.stop();
+            let size = disk.len();
+            drop(disk);
+            given.gives == Ok(epoch) && shard == given.shard && size == given.size
+        }
+        Err((fault, disk)) => {
+            let size = disk.len();
+            drop(disk);
+            given.gives == Err(fault) && size == given.size
+        }
+    }
+}
+
+/// The shards of each row are opened side by side.
+pub fn open_rows<R: Threads + time::Clock + Sync + Abort>(rt: &R, alloc: Global) {
+    for row in &ROWS {
+        open(rt, alloc, row);
+    }
+}

@@ -1,0 +1,10 @@
+use Rattle.std.proofs.Common.{◌∙◌}
+use Rattle.std.proofs.lemmas.Slice.Zip.{AllZip-long}
+use Rattle.drive.proofs.Outcomes.{on_ok}
+use Rattle.drive.proofs.opening.open_shards.Goals as goal
+
+pub returns-in-Ok-open_all-clause-nodes : goal.returns-in-Ok-open_all-clause-nodes
+returns-in-Ok-open_all-clause-nodes g c =
+    on_ok _ _ c.nodes_over.result
+    (λ opened is. is ∙ AllZip-long _ c.in_ok-told.told.items c.in-Ok-open_all.cores.items c.in-Ok-open_all.ensures.each ∙ c.in_ok-told.ensures.disks)
+    c.nodes_over.ensures.nodes

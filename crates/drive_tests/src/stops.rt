@@ -1,0 +1,187 @@
+//! Drives over two disks in memory, one of which fails.
+use drive::drive;
+use gatelog::GateLog;
+use node::Gate;
+use progress::{Turn, Watch};
+use settings::Settings;
+use simdisk::SimDisk;
+use std::alloc::Global;
+use std::process::Abort;
+use std::sync::Wait;
+use std::sync::atomic::{AtomicU64, Ordering};
+use std::thread::Threads;
+use std::time;
+use std::time::{Duration, Instant};
+use units::{Fault, Key, ShardNo, Splits, Stride};
+
+// Which shard's disk fails, at which of its calls from the opening on, and whether the drive has begun by then.
+#[derive(Clone, Copy)]
+struct Row {
+    name: &'static str,
+    shard: usize,
+    call: u64,
+    begins: bool,
+}
+
+static ROWS: [Row; 8] = [
+    Row {
+        name: "the first call of shard 0",
+        shard: 0,
+        call: 0,
+        begins: false,
+    },
+    Row {
+        name: "the first call of shard 1",
+        shard: 1,
+        call: 0,
+        begins: false,
+    },
+    Row {
+        name: "call 20 of shard 0",
+        shard: 0,
+        call: 20,
+        begins: true,
+    },
+    Row {
+        name: "call 21 of shard 0",
+        shard: 0,
+        call: 21,
+        begins: true,
+    },
+    Row {
+        name: "call 22 of shard 1",
+        shard: 1,
+        call: 22,
+        begins: true,
+    },
+    Row {
+        name: "call 23 of shard 1",
+        shard: 1,
+        call: 23,
+        begins: true,
+    },
+    Row {
+        name: "call 100 of shard 0",
+        shard: 0,
+        call: 100,
+        begins: true,
+    },
+    Row {
+        name: "call 101 of shard 1",
+        shard: 1,
+        call: 101,
+        begins: true,
+    },
+];
+
+const WORKERS: u64 = 4;
+
+const TRANSACTIONS: u64 = 1_000;
+
+// Counts what it is told: turns, and stops of each shard.
+#[derive(Drop)]
+struct Told {
+    turns: AtomicU64,
+    stops: [AtomicU64; 2],
+}
+
+impl Told {
+    fn new() -> Told {
+        Told {
+            turns: AtomicU64::new(0),
+            stops: [AtomicU64::new(0), AtomicU64::new(0)],
+        }
+    }
+
+    // So many turns were told, and of this shard alone one stop, where there is one.
+    fn has(&self, turns: u64, stopped: Option<usize>) -> bool {
+        for (shard, stops) in self.stops.iter().enumerate() {
+            let wanted = if stopped == Some(shard) { 1 } else { 0 };
+            if stops.load(Ordering::SeqCst) != wanted {
+                return false;
+            }
+        }
+        self.turns.load(Ordering::SeqCst) == turns
+    }
+}
+
+impl Watch for Told {
+    fn turned(&self, _turn: Turn) {
+        self.turns.fetch_add(1, Ordering::SeqCst);
+    }
+
+    fn stopped(&self, shard: usize) {
+        if let Some(stops) = self.stops.get(shard) {
+            stops.fetch_add(1, Ordering::SeqCst);
+        }
+    }
+}
+
+// Lets all letters through.
+#[derive(Clone, Copy)]
+struct Open;
+
+impl Gate for Open {
+    fn before(&self, _shard: ShardNo, _n: u64) {}
+
+    fn after(&self, _shard: ShardNo, _n: u64) {}
+}
+
+fn settings_of(rt: &impl Abort, alloc: Global) -> Settings {
+    let split = Key::new(b"k0005").expect(rt, "a key");
+    Settings {
+        splits: Splits::new(alloc, &[split]).expect(rt, "splits"),
+        stride: Stride::new(1_000).expect(rt, "a stride"),
+        epsilon: 100,
+        workers: WORKERS,
+        transactions: TRANSACTIONS,
+        keys: 10,
+        dir: None,
+    }
+}
+
+// Two disks with an empty log, one of which fails as the row says.
+fn disks_of(rt: &impl Abort, alloc: Global, row: &Row) -> Vec<SimDisk> {
+    let mut disks = Vec::new(alloc);
+    for shard in 0..2 {
+        let log = GateLog::format(SimDisk::new(alloc)).ok();
+        let mut disk = log.expect(rt, "a log").into_disk();
+        if shard == row.shard {
+            disk.fail_next(row.call);
+        }
+        disks.push(disk).ok().expect(rt, "memory");
+    }
+    disks
+}
+
+// Whether a drive as the row says is refused as `Device` within ten seconds, though each turn that waits for a shard in vain takes two; and
+// each turn is told, and the stop of the shard.
+fn goes<R: Threads + Wait + time::Clock + Sync + Abort>(rt: &R, alloc: Global, row: &Row) -> bool {
+    let settings = settings_of(rt, alloc);
+    let told = Told::new();
+    let start = Instant::now(rt).ok().expect(rt, "a clock");
+    let driven = drive(rt, alloc, &settings, disks_of(rt, alloc, row), &Open, &told);
+    drop(settings);
+    let took = start.elapsed(rt).ok().expect(rt, "a clock");
+    let is_refused = match driven {
+        Ok(driven) => {
+            drop(driven);
+            false
+        }
+        Err(fault) => fault == Fault::Device,
+    };
+    let is_told = if row.begins {
+        told.has(WORKERS * TRANSACTIONS, Some(row.shard))
+    } else {
+        told.has(0, None)
+    };
+    is_refused && is_told && took < Duration::from_secs(10)
+}
+
+#[test]
+fn stops(rt: HostRuntime) {
+    for row in &ROWS {
+        let went = goes(&rt, rt.alloc(), row);
+        assert!(rt; went, "{}", row.name);
+    }
+}

@@ -1,0 +1,110 @@
+//! Reads that wait while other letters are taken.
+use crate::letter::Letter;
+use crossbeam_channel::{Receiver, RecvTimeoutError};
+use message::Message;
+use std::alloc::Global;
+use std::collections::VecDeque;
+use std::sync::Wait;
+use std::time;
+use std::time::Duration;
+
+/// What a node does next: take a letter, or nothing, since none came, or end, since none can come any more.
+#[derive(Drop)]
+pub enum Next {
+    Take(Letter),
+    Nothing,
+    Gone,
+}
+
+/// Reads that came beside letters which are not taken yet. They are taken behind those: a transaction that closes is firm then, and does
+/// not wound one that began to read just before it. Where there is no room for a read more, the first does not wait.
+#[derive(Drop)]
+pub struct Waiting {
+    reads: VecDeque<Letter>,
+    closes: bool,
+}
+
+impl Waiting {
+    /// None yet, and room for so many, where there is memory.
+    pub fn none(alloc: Global, room: usize) -> Waiting {
+        match VecDeque::with_capacity(alloc, room) {
+            Ok(reads) => Waiting {
+                reads,
+                closes: false,
+            },
+            Err(_) => Waiting {
+                reads: VecDeque::new(alloc),
+                closes: false,
+            },
+        }
+    }
+
+    /// Whether no read waits.
+    pub fn is_none(&self) -> bool {
+        self.reads.is_empty()
+    }
+
+    /// The first of those that wait.
+    pub fn next(&mut self) -> Option<Letter> {
+        self.reads.pop_front()
+    }
+
+    /// The next letter to be taken: the first of the inbox that is no read, and else the first read. Where nothing is there, one is waited
+    /// for, for so long at most. The end comes behind all reads that wait, and behind it nothing.
+    pub fn first_of<W: Wait + time::Clock>(
+        &mut self,
+        rt: &W,
+        inbox: &Receiver<Letter>,
+        pause: Duration,
+    ) -> Next {
+        let mut pause = if self.is_none() {
+            pause
+        } else {
+            Duration::ZERO
+        };
+        for _read in 0..=self.reads.capacity() {
+            if self.closes {
+                return Next::Take(self.next().unwrap_or(Letter::Close));
+            }
+            match inbox.recv_timeout(rt, pause) {
+                Ok(letter) => match self.keep(letter) {
+                    Some(letter) => return Next::Take(letter),
+                    None => pause = Duration::ZERO,
+                },
+                Err(error) => return self.next_read(error),
+            }
+        }
+        Next::Nothing
+    }
+
+    // The first of those that wait, where the inbox has nothing. Where none waits and nobody is left to send any, that was all.
+    fn next_read(&mut self, error: RecvTimeoutError) -> Next {
+        match (self.next(), error) {
+            (Some(letter), _) => Next::Take(letter),
+            (None, RecvTimeoutError::Timeout) => Next::Nothing,
+            (None, RecvTimeoutError::Disconnected) => Next::Gone,
+        }
+    }
+
+    // Lets a read wait, behind those that do; where there is no room, the first of them goes in its place. The end waits too. Any other
+    // letter is handed back.
+    fn keep(&mut self, letter: Letter) -> Option<Letter> {
+        match &letter {
+            Letter::Carry(Message::Read(_)) => {}
+            Letter::Close => {
+                self.closes = true;
+                return None;
+            }
+            Letter::Carry(_) | Letter::Look => return Some(letter),
+        }
+        if self.reads.len() < self.reads.capacity() {
+            drop(self.reads.push_back(letter));
+            return None;
+        }
+        let Some(first) = self.reads.pop_front() else {
+            return Some(letter);
+        };
+        drop(self.reads.push_back(letter));
+        Some(first)
+    }
+}

@@ -1,0 +1,279 @@
+//! One transaction over three shards is stopped at each device call of each append: the shard crashes in the call, or the call fails.
+//! Then the shard is opened, each message comes once more, the transaction is settled, and each message comes again. In the end it is
+//! committed on all three, at one timestamp.
+use crate::given::{AMPLE, File, PLAY, print};
+use std::alloc::{AllocError, Global};
+
+const BEGUN: &str = "shards 3
+split m
+split s
+stride 0
+100 begin 1.1
+100 write 1.1 a 1
+100 write 1.1 n 2
+100 write 1.1 t 3
+100 close 1.1
+";
+
+// What a shard does at a true time.
+struct Step {
+    time: u64,
+    shard: u8,
+    act: &'static str,
+}
+
+// Events 5 to 12: the Commit, two promises, two votes, of which the second decides, the settling, and two outcomes.
+static STEPS: [Step; 8] = [
+    Step {
+        time: 105,
+        shard: 0,
+        act: "deliver 0 100 110",
+    },
+    Step {
+        time: 205,
+        shard: 1,
+        act: "deliver 1 200 210",
+    },
+    Step {
+        time: 215,
+        shard: 2,
+        act: "deliver 2 210 220",
+    },
+    Step {
+        time: 225,
+        shard: 0,
+        act: "deliver 3 220 230",
+    },
+    Step {
+        time: 235,
+        shard: 0,
+        act: "deliver 4 230 240",
+    },
+    Step {
+        time: 245,
+        shard: 0,
+        act: "settle 0 1.1 240 250",
+    },
+    Step {
+        time: 255,
+        shard: 1,
+        act: "deliver 6 250 260",
+    },
+    Step {
+        time: 265,
+        shard: 2,
+        act: "deliver 7 260 270",
+    },
+];
+
+// A step in which its shard stops, by its place among the steps, and the transaction's timestamp: where the step's record is kept, and
+// where it is not.
+struct Stop {
+    name: &'static str,
+    place: usize,
+    kept: u64,
+    lost: u64,
+}
+
+static STOPS: [Stop; 6] = [
+    Stop {
+        name: "the promise of shard 1",
+        place: 1,
+        kept: 300,
+        lost: 300,
+    },
+    Stop {
+        name: "the promise of shard 2",
+        place: 2,
+        kept: 210,
+        lost: 300,
+    },
+    Stop {
+        name: "the decision",
+        place: 4,
+        kept: 210,
+        lost: 311,
+    },
+    Stop {
+        name: "the settling",
+        place: 5,
+        kept: 210,
+        lost: 210,
+    },
+    Stop {
+        name: "the outcome at shard 1",
+        place: 6,
+        kept: 210,
+        lost: 210,
+    },
+    Stop {
+        name: "the outcome at shard 2",
+        place: 7,
+        kept: 210,
+        lost: 210,
+    },
+];
+
+// A stop in a call of a step, with the fate of the write under way where it is a crash, and the first call from which on the record is
+// kept.
+struct Kind {
+    word: &'static str,
+    fate: &'static str,
+    kept_from: u64,
+}
+
+static KINDS: [Kind; 4] = [
+    Kind {
+        word: "crash",
+        fate: " old",
+        kept_from: 4,
+    },
+    Kind {
+        word: "crash",
+        fate: " new",
+        kept_from: 2,
+    },
+    Kind {
+        word: "crash",
+        fate: " 37",
+        kept_from: 4,
+    },
+    Kind {
+        word: "fail",
+        fate: "",
+        kept_from: 3,
+    },
+];
+
+// Adds the events up to the stop, and the opening behind it.
+fn add_stop(text: &mut String, stop: &Stop, kind: &Kind, call: u64) -> Result<(), AllocError> {
+    text.push_str(BEGUN)?;
+    for (place, step) in STEPS.iter().enumerate() {
+        let Step { time, shard, act } = step;
+        if place < stop.place {
+            write!(text, "{time} {act}\n")?;
+        } else if place == stop.place {
+            let Kind { word, fate, .. } = kind;
+            write!(
+                text,
+                "{time} {word} {shard} {call}{fate} {act}\n290 open {shard}\n"
+            )?;
+        }
+    }
+    Ok(())
+}
+
+// What the program prints of a schedule.
+fn played(alloc: Global, text: &str) -> Vec<u8> {
+    let file = File {
+        path: "a.schedule",
+        bytes: text.as_bytes(),
+    };
+    print(alloc, &[file], PLAY, AMPLE).out
+}
+
+// How many messages a schedule puts out.
+fn count_put(alloc: Global, text: &str) -> u64 {
+    let report = played(alloc, text);
+    let mut count: u64 = 0;
+    if let Ok(report) = str::from_utf8(&report) {
+        for line in report.split_inclusive('\n') {
+            if line.starts_with("put ") {
+                count = count.saturating_add(1);
+            }
+        }
+    }
+    count
+}
+
+// Each message comes at that true time and reading, also those that are put out meanwhile.
+fn deliver_all(
+    alloc: Global,
+    text: &mut String,
+    time: u64,
+    reading: &str,
+) -> Result<(), AllocError> {
+    let mut next = 0;
+    for _ in 0..10 {
+        let count = count_put(alloc, text.as_str());
+        if count == next {
+            return Ok(());
+        }
+        for message in next..count {
+            write!(text, "{time} deliver {message} {reading}\n")?;
+        }
+        next = count;
+    }
+    Ok(())
+}
+
+// The lines of a report that tell which log begins, how a transaction ended in it, and the verdict.
+fn endings(alloc: Global, report: &str) -> Result<String, AllocError> {
+    let mut endings = String::new(alloc);
+    for line in report.split_inclusive('\n') {
+        if line.starts_with("log ")
+            || line.starts_with("outcome ")
+            || line.starts_with("verdict ")
+        {
+            endings.push_str(line)?;
+        }
+    }
+    Ok(endings)
+}
+
+// In the logs of all three shards the transaction is committed at that timestamp, once, and the verdict is yes.
+fn is_committed(alloc: Global, report: &[u8], at: u64) -> bool {
+    let wanted = format!(in alloc;
+        "log 0
+outcome 1.1 committed {at}
+log 1
+outcome 1.1 committed {at}
+log 2
+outcome 1.1 committed {at}
+verdict yes
+"
+    );
+    let Ok(report) = str::from_utf8(report) else {
+        return false;
+    };
+    match (wanted, endings(alloc, report)) {
+        (Ok(wanted), Ok(endings)) => endings.as_bytes() == wanted.as_bytes(),
+        _ => false,
+    }
+}
+
+// The schedule of a stop, to its end.
+fn whole(alloc: Global, stop: &Stop, kind: &Kind, call: u64) -> Result<String, AllocError> {
+    let mut text = String::new(alloc);
+    add_stop(&mut text, stop, kind, call)?;
+    deliver_all(alloc, &mut text, 305, "300 310")?;
+    text.push_str("405 settle 0 1.1 400 410\n")?;
+    deliver_all(alloc, &mut text, 505, "500 510")?;
+    Ok(text)
+}
+
+fn is_so(alloc: Global, stop: &Stop, kind: &Kind, call: u64) -> bool {
+    let Ok(text) = whole(alloc, stop, kind, call) else {
+        return false;
+    };
+    let at = if call < kind.kept_from {
+        stop.lost
+    } else {
+        stop.kept
+    };
+    is_committed(alloc, &played(alloc, text.as_str()), at)
+}
+
+/// The first row that is wrong.
+pub fn wrong(alloc: Global) -> &'static str {
+    for stop in &STOPS {
+        for kind in &KINDS {
+            for call in 0..4 {
+                if !is_so(alloc, stop, kind, call) {
+                    return stop.name;
+                }
+            }
+        }
+    }
+    ""
+}
