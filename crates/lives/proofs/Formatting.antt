@@ -53,11 +53,11 @@ formatted_stands setup disk shard never stands read told life installs views = r
 -- ---- the first opening
 
 -- it logs that it is the first, and finds nothing
-opens_first : (setup : Setup) → effect setup [] unopened_shard Doing.Open ≡ Does (Some (Record.Opened 1)) (rebuilt (facts_of [])) []
+pub opens_first : (setup : Setup) → effect setup [] unopened_shard Doing.Open ≡ Does (Some (Record.Opened 1)) (rebuilt (facts_of [])) []
 unfolding effect wanted step_of_opening facts_of installs_of
 opens_first setup = refl
 
-none_taken : (setup : Setup) → taken setup [] ≡ Accepted
+pub none_taken : (setup : Setup) → taken setup [] ≡ Accepted
 unfolding taken
 none_taken setup = refl
 
@@ -77,7 +77,7 @@ orderly_first setup off = record {
 }
 
 -- so it is the fresh shard
-fresh_is : finished unopened_shard Doing.Open (Some (Record.Opened 1)) (rebuilt (facts_of [])) ≡ fresh_shard
+pub fresh_is : finished unopened_shard Doing.Open (Some (Record.Opened 1)) (rebuilt (facts_of [])) ≡ fresh_shard
 unfolding finished rebuilt facts_of installs_of
 fresh_is = refl
 

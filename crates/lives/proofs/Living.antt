@@ -56,7 +56,7 @@ module _ (setup : Setup) (bag : List Envelope) (s : ShardNow) where
   goes_as Doing.Open g = absurd (false≢true g)
 
   -- with an input it is the step
-  asks : (doing : Doing) (now : Interval) (i : Input) → goes_on doing ≡ true → input_of bag doing ≡ Some (now, i)
+  pub asks : (doing : Doing) (now : Interval) (i : Input) → goes_on doing ≡ true → input_of bag doing ≡ Some (now, i)
       → effect setup bag s doing ≡ asked_if_room setup s now i
   asks doing now i g is = goes_as doing g ∙ ap (where_room (end_of (disk_log s))) (by_state s.state)
     where
@@ -76,11 +76,16 @@ module _ (setup : Setup) (bag : List Envelope) (s : ShardNow) where
       by_state (IsStopped m) = refl
       by_state IsDown = refl
 
-  asks_the_down : (doing : Doing) → goes_on doing ≡ true → s.state ≡ IsDown → effect setup bag s doing ≡ Refuses Stopped
-  asks_the_down doing g is =
-      goes_as doing g
-      ∙ ap (λ st. where_room (end_of (disk_log s))
-      (elim st as (λ x. Stepped) [ Runs m ↦ step_with setup (facts_of s.log) m (input_of bag doing) | _ ↦ Refuses Stopped ])) is
+  -- nor does a shard take one that does not run
+  pub asks_the_resting : (doing : Doing) → goes_on doing ≡ true → is_up s.state ≡ false → effect setup bag s doing ≡ Refuses Stopped
+  asks_the_resting doing g rests = goes_as doing g ∙ by_state s.state rests
+    where
+      by_state : (st : State) → is_up st ≡ false
+          → where_room (end_of (disk_log s))
+          (elim st as (λ x. Stepped) [ Runs m ↦ step_with setup (facts_of s.log) m (input_of bag doing) | _ ↦ Refuses Stopped ]) ≡ Refuses Stopped
+      by_state (Runs m) k = absurd (false≢true (sym k))
+      by_state (IsStopped m) k = refl
+      by_state IsDown k = refl
 
 -- a core takes the input of a doing
 pub does_input : (old new : CoreView SimDisk) (bag : List Envelope) (call : Option ℕ) (doing : Doing) (now : Interval) (i : Input)
@@ -130,7 +135,7 @@ module _ (setup : Setup) (bag : List Envelope) (s : ShardNow) (call : Option ℕ
   -- a disk does not
   pub down_carries : (disk : SimDisk) → goes_on doing ≡ true → IsDiskIn s disk s.state → Carries setup bag s call doing (Down disk) (Err Stopped)
   down_carries disk g h =
-      λ order. subst Left (sym (asks_the_down setup bag s doing g (is_down s.state h)))
+      λ order. subst Left (sym (asks_the_resting setup bag s doing g (ap is_up (is_down s.state h))))
       (inr (refl, subst (λ t. LivesAs setup t (Down disk)) (sym (refused_same s doing g)) h))
     where
       Left : Stepped → Type 0
@@ -175,7 +180,7 @@ module _ (setup : Setup) (bag : List Envelope) (s : ShardNow) where
       by_state IsDown is u = absurd (false≢true u)
 
   -- any other is
-  not_up_opens : is_up s.state ≡ false → (effect setup bag s Doing.Open ≡ opens_as s) × (left_by_refusal s Doing.Open ≡ crashed s (disk_log s))
+  pub not_up_opens : is_up s.state ≡ false → (effect setup bag s Doing.Open ≡ opens_as s) × (left_by_refusal s Doing.Open ≡ crashed s (disk_log s))
   not_up_opens down = by_state s.state refl down
     where
       by_state : (st : State) → s.state ≡ st → is_up st ≡ false → (effect setup bag s Doing.Open ≡ opens_as s) × (unopened s s.state ≡ crashed s (disk_log s))

@@ -42,7 +42,7 @@ use Rattle.lives.specs.Carries.{Comes, answer_of, comes_to, opened_by, opens_as,
 use Rattle.lives.proofs.Holding.{holds_failed, holds_kept}
 use Rattle.lives.proofs.Stepping.{IsArmedFrom, IsPast, past_answer, past_left}
 
-epoch_is : (log : List Record) → (facts_of log).epoch ≡ epoch_of log
+pub epoch_is : (log : List Record) → (facts_of log).epoch ≡ epoch_of log
 unfolding facts_of
 epoch_is log = refl
 
@@ -59,17 +59,17 @@ at_limit : (n : ℕ) → 2 ^ 62 ≤ n + 1 → nat_lt n time_limit ≡ false
 at_limit n h = not_below n (2 ^ 62) time_limit refl h
 
 -- rows and the greatest timestamp are not changed by an opening
-rebuilt_same : (f : Facts) (epoch : ℕ) → rebuilt (learn f (Record.Opened epoch)) ≡ rebuilt f
+pub rebuilt_same : (f : Facts) (epoch : ℕ) → rebuilt (learn f (Record.Opened epoch)) ≡ rebuilt f
 unfolding rebuilt learn
 rebuilt_same f epoch = refl
 
 -- what does not run is down behind a failure
-not_up : (state : State) → is_up state ≡ false → stopped_state state ≡ IsDown
+pub not_up : (state : State) → is_up state ≡ false → stopped_state state ≡ IsDown
 not_up (Runs m) is = absurd (false≢true (sym is))
 not_up (IsStopped m) is = refl
 not_up IsDown is = refl
 
-ok_same : (a b : List Record) (x : Result (List Record) Fault) → x ≡ Ok a → x ≡ Ok b → a ≡ b
+pub ok_same : (a b : List Record) (x : Result (List Record) Fault) → x ≡ Ok a → x ≡ Ok b → a ≡ b
 ok_same a b x p q = ap (λ (r : Result (List Record) Fault). elim r as (λ y. List Record) [ Ok l ↦ l | Err f ↦ a ]) (sym p ∙ q)
 
 -- records that are taken give no fault
@@ -81,23 +81,21 @@ accepted_entries setup entries records fault same accepted found =
     none : None ≡ Some fault → ⊥
     none e = cc
 
-no_fault : (setup : Setup) (scanned : Result (List Placed) Fault) (records : List Record) (fault : Fault) → items_of scanned ≡ Ok records
+pub no_fault : (setup : Setup) (scanned : Result (List Placed) Fault) (records : List Record) (fault : Fault) → items_of scanned ≡ Ok records
     → taken setup records ≡ Accepted →
     fault_of setup scanned ≡ Some fault → ⊥
 no_fault setup (Ok entries) records fault read accepted found =
     accepted_entries setup entries records fault (ok_same (items entries) records (items_of (Ok entries)) refl read) accepted found
 no_fault setup (Err why) records fault read accepted found = absurd (cc)
 
-module _ (disk armed_disk : SimDisk) (call : Option ℕ) (plan : disk_plan armed_disk ≡ armed call) (file : disk_file armed_disk ≡ disk_file disk)
-    (setup : Setup) (s : ShardNow) (holds : HoldsLog s disk) (down : is_up s.state ≡ false) (accepted : taken setup (disk_log s) ≡ Accepted) where
-  records : records_in (surface (disk_file armed_disk)).seen ≡ Ok (disk_log s)
-  records = ap (λ f. records_in (surface f).seen) file ∙ holds.read
+-- ---- what an opening comes to
 
+module _ (s : ShardNow) where
   item_is : Record.Opened ((facts_of (disk_log s)).epoch + 1) ≡ next_opening (disk_log s)
   item_is = ap (λ n. Record.Opened (n + 1)) (epoch_is (disk_log s))
 
   -- it has room
-  does : epoch_of (disk_log s) + 1 < 2 ^ 62 → HasPlace (end_of (disk_log s)) (Some (next_opening (disk_log s)))
+  pub does : epoch_of (disk_log s) + 1 < 2 ^ 62 → HasPlace (end_of (disk_log s)) (Some (next_opening (disk_log s)))
       → opens_as s ≡ Does (Some (next_opening (disk_log s))) (rebuilt (facts_of (disk_log s))) []
   unfolding step_of_opening
   does epoch place =
@@ -109,7 +107,7 @@ module _ (disk armed_disk : SimDisk) (call : Option ℕ) (plan : disk_plan armed
       ∙ room_is (end_of (disk_log s)) (next_opening (disk_log s)) (rebuilt (facts_of (disk_log s))) [] place
 
   -- it has none
-  refuses : (2 ^ 62 ≤ epoch_of (disk_log s) + 1) ⊎ IsFull (end_of (disk_log s)) (next_opening (disk_log s)) → opens_as s ≡ Refuses TimeSpent
+  pub refuses : (2 ^ 62 ≤ epoch_of (disk_log s) + 1) ⊎ IsFull (end_of (disk_log s)) (next_opening (disk_log s)) → opens_as s ≡ Refuses TimeSpent
   unfolding step_of_opening
   refuses (inl spent) =
       let over : nat_lt (facts_of (disk_log s)).epoch time_limit ≡ false = ap (λ n. nat_lt n time_limit) (epoch_is (disk_log s))
@@ -127,18 +125,25 @@ module _ (disk armed_disk : SimDisk) (call : Option ℕ) (plan : disk_plan armed
           ap (λ r. where_room (end_of (disk_log s)) (Does (Some r) (rebuilt (facts_of (disk_log s))) [])) item_is
           ∙ full_is (end_of (disk_log s)) (next_opening (disk_log s)) (rebuilt (facts_of (disk_log s))) [] full
 
+  -- the facts behind it
+  pub learnt : (setup : Setup) → taken setup (disk_log s) ≡ Accepted
+      → facts_of (disk_log s ++ next_opening (disk_log s) ∷ []) ≡ learn (facts_of (disk_log s)) (next_opening (disk_log s))
+  learnt setup accepted =
+      learn_agrees setup.shard (disk_log s) (next_opening (disk_log s))
+      (subst (λ r. followed setup.shard (disk_log s ++ r ∷ []) ≡ true) item_is (opening_follows setup.shard (disk_log s)
+      (accepted_follows setup (disk_log s) accepted)))
+
+module _ (disk armed_disk : SimDisk) (call : Option ℕ) (plan : disk_plan armed_disk ≡ armed call) (file : disk_file armed_disk ≡ disk_file disk)
+    (setup : Setup) (s : ShardNow) (holds : HoldsLog s disk) (down : is_up s.state ≡ false) (accepted : taken setup (disk_log s) ≡ Accepted) where
+  records : records_in (surface (disk_file armed_disk)).seen ≡ Ok (disk_log s)
+  records = ap (λ f. records_in (surface f).seen) file ∙ holds.read
+
   -- ---- the log was taken up
 
   module _ (core new : CoreView SimDisk) (disarms : IsArmedFrom core new None)
       (h : HasOpened (Unit {0}) (Unit {0}) disk_file disk_clock LeftSince disk_failures disk_plan armed_disk setup core) where
     facts_are : core.facts ≡ facts_of (disk_log s ++ next_opening (disk_log s) ∷ [])
     facts_are = (subst (λ x. IsTaken setup x core.facts) records (h.taken tt)).1
-
-    learnt : facts_of (disk_log s ++ next_opening (disk_log s) ∷ []) ≡ learn (facts_of (disk_log s)) (next_opening (disk_log s))
-    learnt =
-        learn_agrees setup.shard (disk_log s) (next_opening (disk_log s))
-        (subst (λ r. followed setup.shard (disk_log s ++ r ∷ []) ≡ true) item_is (opening_follows setup.shard (disk_log s)
-        (accepted_follows setup (disk_log s) accepted)))
 
     running : IsRunningAs setup (stepped_shard s (Some (next_opening (disk_log s))) (rebuilt (facts_of (disk_log s)))) (rebuilt (facts_of (disk_log s))) new
     running =
@@ -152,7 +157,7 @@ module _ (disk armed_disk : SimDisk) (call : Option ℕ) (plan : disk_plan armed
           core_of = record {
             setup_is = disarms.setup ∙ h.setup;
             knows = disarms.facts ∙ facts_are;
-            memory = disarms.memory ∙ h.memory ∙ ap rebuilt (facts_are ∙ learnt) ∙ rebuilt_same (facts_of (disk_log s)) (epoch_of (disk_log s) + 1);
+            memory = disarms.memory ∙ h.memory ∙ ap rebuilt (facts_are ∙ learnt s setup accepted) ∙ rebuilt_same (facts_of (disk_log s)) (epoch_of (disk_log s) + 1);
             disk = holds_kept (stepped_shard s (Some (next_opening (disk_log s))) (rebuilt (facts_of (disk_log s)))) new.disk disarms.plan refl kept read;
           };
           runs = disarms.stopped ∙ h.running;
@@ -167,7 +172,7 @@ module _ (disk armed_disk : SimDisk) (call : Option ℕ) (plan : disk_plan armed
 
     pub opened : Comes call (opens_as s) (Ok []) (IsCoreIn setup (opened_by s call) new (opened_by s call).state)
     opened =
-        let is = does (h.epoch (disk_log s) tt records) ((h.gate (disk_log s) tt records).1) in
+        let is = does s (h.epoch (disk_log s) tt records) ((h.gate (disk_log s) tt records).1) in
         let is_past = past call plan in
         let refused = crashed s (disk_log s) in
         subst (λ x. Comes call x (Ok []) (IsCoreIn setup (comes_to s refused call x) new (comes_to s refused call x).state)) (sym is)
@@ -199,7 +204,7 @@ module _ (disk armed_disk : SimDisk) (call : Option ℕ) (plan : disk_plan armed
         let f = told.0 device in
         let q = next_opening (disk_log s) in
         let memory = rebuilt (facts_of (disk_log s)) in
-        let whole = does (told.1 device) f.1 in
+        let whole = does s (told.1 device) f.1 in
         let disk_holds : HoldsLog (failed_in s c q) new = holds_failed s c q new never f.0 (subst (AreArmed c (Ok (disk_log s)) q) (sym same) f.2) in
         let left : comes_to s (crashed s (disk_log s)) call (Does (Some q) memory []) ≡ failed_in s c q =
         ap (λ k. comes_to s (crashed s (disk_log s)) k (Does (Some q) memory [])) (sym e)
@@ -213,7 +218,7 @@ module _ (disk armed_disk : SimDisk) (call : Option ℕ) (plan : disk_plan armed
 
     -- the opening has no room
     spent : fault ≡ TimeSpent → (2 ^ 62 ≤ epoch_of (disk_log s) + 1) ⊎ IsFull (end_of (disk_log s)) (next_opening (disk_log s)) → Left (opens_as s)
-    spent is why = subst Left (sym (refuses why)) (inr (ap (λ x. Err x) is, synced h.synced))
+    spent is why = subst Left (sym (refuses s why)) (inr (ap (λ x. Err x) is, synced h.synced))
       where
         synced : (fault ≡ WantsMemory) ⊎ ((fault ≡ Device) ⊎ (Unit {0} → surface (disk_file back) ≡ after_sync (surface (disk_file armed_disk))))
             → HoldsLog (crashed s (disk_log s)) new

@@ -36,7 +36,7 @@ use Rattle.lives.specs.Carries.{Comes, IsOrderly, TakesInput, answer_of, asked_i
 use Rattle.lives.proofs.Holding.{holds_failed, holds_kept, holds_same}
 
 -- a step for whose record, where it has one, there is room
-room_for : (gate : ℕ) (logged : Option Record) (memory : Memory) (out : List Envelope) → HasPlace gate logged →
+pub room_for : (gate : ℕ) (logged : Option Record) (memory : Memory) (out : List Envelope) → HasPlace gate logged →
     where_room gate (Does logged memory out) ≡ Does logged memory out
 room_for gate None memory out place = refl
 room_for gate (Some r) memory out place = room_is gate r memory out place
@@ -82,7 +82,7 @@ core_in setup s old new same (IsStopped m) h = record { core_of = core_as setup 
 core_in setup s old new same IsDown h = h
 
 -- the records with the one that a step logs
-with_logged : (log : List Record) (logged : Option Record) → and_logged (Ok log) logged ≡ Ok (log ++ option_to_list logged)
+pub with_logged : (log : List Record) (logged : Option Record) → and_logged (Ok log) logged ≡ Ok (log ++ option_to_list logged)
 with_logged log None = ap (λ l. Ok l) (sym (append-nil log))
 with_logged log (Some r) = refl
 
@@ -93,7 +93,7 @@ facts_with n log None h = ap facts_of (sym (append-nil log))
 facts_with n log (Some r) h = sym (learn_agrees n log r (h r refl))
 
 -- and where it ends
-end_with : (log : List Record) (logged : Option Record) → gate_behind (end_of log) logged ≡ end_of (log ++ option_to_list logged)
+pub end_with : (log : List Record) (logged : Option Record) → gate_behind (end_of log) logged ≡ end_of (log ++ option_to_list logged)
 end_with log None = ap end_of (sym (append-nil log))
 end_with log (Some r) = sym (fold-append next_gate first_gate log (r ∷ []))
 

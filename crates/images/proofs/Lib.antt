@@ -1,0 +1,5 @@
+pub mod Acted
+pub mod Called
+pub mod Held
+pub mod Placed
+pub mod Turned

@@ -1,0 +1,260 @@
+-- From bytes to history. Beside a run of the definitions stand cores on disks that keep the disk model, call by call: of each call
+-- there is what the contract of `Core::on` or of `Core::open` says, and nothing else. Whatever images a crash then leaves of these
+-- disks, between two calls or within one, each is read as a log, and the logs are some that the law of the store speaks of.
+use Rattle.std.specs.Prelude.{ℕ, ◌≡◌, ◌≢◌, ◌⊎◌, cond, nat_le, nat_lt, IsTrue, IsFalse, List, [], ◌∷◌, ◌++◌, length, map, slice_get}
+use Rattle.std.specs.Prelude.{Option, Some, None, Result, Ok, Err}
+use Rattle.units.specs.declared.fault.Fault.{Fault}
+use Rattle.units.specs.declared.fault.Fault.TheVariants.{Memory, Device}
+use Rattle.units.specs.declared.setup.Setup.{Setup}
+use Rattle.truetime.specs.Interval.{Interval}
+use Rattle.disk.specs.declared.plan.FailurePlan.{FailurePlan}
+use Rattle.disk.specs.File.{File, surface}
+use Rattle.disk.specs.Image.{MayLeave}
+use Rattle.record.specs.declared.record.Record.{Record}
+use Rattle.message.specs.declared.message.Envelope.{Envelope}
+use Rattle.message.specs.declared.message.Input.{Input}
+use Rattle.protocol.specs.Rows.{Memory as Kept}
+use Rattle.protocol.specs.Step.{Stepped, Refuses, Does}
+use Rattle.shard.specs.Logs.{HoldsOldOrWith, KeepsRecords, records_in}
+use Rattle.shard.specs.On.{CoreView, HasStepped, step_of}
+use Rattle.shard.specs.Opened.{HasNotOpened, HasOpened}
+use Rattle.world.specs.Headline.{IsExternallyConsistent, MayBeLeft, doing_of}
+use Rattle.world.specs.Lawful.{lawful}
+use Rattle.world.specs.World.{World, ShardNow, Nothing, crashed_in, effect, failed_in, happens, input_of, read_log, run, setup_of, start}
+use Rattle.world.specs.declared.event.Act.{Act}
+use Rattle.world.specs.declared.event.Config.{Config}
+use Rattle.world.specs.declared.event.Doing.{Doing}
+use Rattle.world.specs.declared.event.Event.{Event}
+
+-- what there is of a shard: its core, or the disk of one that is down
+pub data Life (D : Type 0) : Type 0 where
+  Up : CoreView D → Life D
+  Down : D → Life D
+
+-- its disk
+abbrev pub disk_of : {D : Type 0} → Life D → D
+disk_of (Up core) = core.disk
+disk_of (Down disk) = disk
+
+-- it does not run, and this disk may be opened: that of one that is down, or what `Core::stop` gives back of one that is stopped
+abbrev pub RestsOn : {D : Type 0} → Life D → D → Type 0
+RestsOn (Up core) disk = IsTrue core.stopped × (core.disk ≡ disk)
+RestsOn (Down old) disk = old ≡ disk
+
+-- `Core::stop` ended a core that ran
+abbrev pub WasEnded : {D : Type 0} → Life D → Life D → Type 0
+WasEnded (Up core) (Down disk) = IsFalse core.stopped × (core.disk ≡ disk)
+WasEnded _ _ = ⊥
+
+-- there is no core that takes an input
+abbrev pub IsDisk : {D : Type 0} → Life D → Type 0
+IsDisk (Up core) = ⊥
+IsDisk (Down disk) = Unit {0}
+
+-- all shards but one are as they were
+abbrev pub AreElsewhere : {D : Type 0} → ℕ → (ℕ → Life D) → (ℕ → Life D) → Type 0
+AreElsewhere n old new = (m : ℕ) → n ≢ m → new m ≡ old m
+
+-- all shards are
+abbrev pub AreSame : {D : Type 0} → (ℕ → Life D) → (ℕ → Life D) → Type 0
+AreSame old new = (m : ℕ) → new m ≡ old m
+
+-- what comes next: an event of the run, or a call of which the run has nothing
+pub data Turn : Type 0 where
+  Happens : Event → Turn
+  Starves : ℕ → Doing → Turn
+
+-- the events of the run
+abbrev pub events_of : List Turn → List Event
+events_of [] = []
+events_of (Happens e ∷ ts) = e ∷ events_of ts
+events_of (Starves n doing ∷ ts) = events_of ts
+
+-- a refusal that the definitions have: for no want of memory, and no device failed
+abbrev pub IsOwn : Fault → Type 0
+IsOwn fault = (fault ≢ Memory) × (fault ≢ Device)
+
+-- an answer that they have
+abbrev pub IsOwnAnswer : {T : Type 0} → Result T Fault → Type 0
+IsOwnAnswer (Ok done) = Unit {0}
+IsOwnAnswer (Err fault) = IsOwn fault
+
+-- the record of a doing in which a call fails, where the call of this number is one of the four of its append
+abbrev pub failing : ℕ → Stepped → Option Record
+failing call (Refuses fault) = None
+failing call (Does None memory out) = None
+failing call (Does (Some r) memory out) = cond (nat_lt call 4) (Some r) None
+
+-- one image of each shard's disk
+pub record AreImages (w : World) (leaves : ℕ → List ℕ → Type 0) (images : List (List ℕ)) : Type 0 where
+  pub count : length images ≡ length w.shards
+  pub each : (n : ℕ) (image : List ℕ) → slice_get images n ≡ Some image → leaves n image
+
+-- each image is read as a log, a crash may leave these logs, and the law holds of them
+pub record HaveLogs (config : Config) (es : List Event) (images : List (List ℕ)) : Type 0 where
+  pub logs : List (List Record)
+  pub read : map records_in images ≡ map (λ log. Ok log) logs
+  pub left : MayBeLeft config es logs
+  pub consistent : IsExternallyConsistent config logs (run config es).lines
+
+module _ {D : Type 0} (file : D → File) where
+  -- what a crash now may leave of a shard's disk
+  abbrev pub LeavesNow : Life D → List ℕ → Type 0
+  LeavesNow life image = MayLeave (surface (file (disk_of life))) image
+
+  -- each image that a crash now may leave has these records, and no other
+  abbrev pub HoldsSurely : D → List Record → Type 0
+  HoldsSurely disk log = KeepsRecords (surface (file disk)) (Ok log)
+
+  -- a shard is down, on a disk that surely holds these records
+  abbrev pub RestartsWith : List Record → Life D → Type 0
+  RestartsWith log (Up core) = ⊥
+  RestartsWith log (Down disk) = HoldsSurely disk log
+
+module _ {D : Type 0} (keeps obeys : Type 0) (file : D → File) (clock : D → ℕ) (since : D → ℕ → List ℕ → Type 0) (failures : D → ℕ)
+    (plan : D → FailurePlan) where
+  -- ---- one call
+
+  -- a core takes an input, by the contract of `Core::on`
+  abbrev pub Takes : Interval → Input → Life D → Life D → Result (List Envelope) Fault → Type 0
+  Takes now i (Up old) (Up new) result = HasStepped keeps obeys file clock since failures plan old new (step_of old now i) result
+  Takes now i _ _ result = ⊥
+
+  -- so it takes what a doing stands for
+  abbrev pub TakesWhat : Option (Interval × Input) → Life D → Life D → Result (List Envelope) Fault → Type 0
+  TakesWhat None old new result = ⊥
+  TakesWhat (Some p) old new result = Takes p.0 p.1 old new result
+
+  -- a disk was opened, or was not, by the contract of `Core::open`
+  abbrev pub OpensTo : D → Setup → Life D → Result (List Envelope) Fault → Type 0
+  OpensTo disk setup (Up core) (Ok out) = HasOpened keeps obeys file clock since failures plan disk setup core
+  OpensTo disk setup (Down back) (Err fault) = HasNotOpened keeps obeys file clock since failures plan disk setup fault back
+  OpensTo disk setup _ _ = ⊥
+
+  -- so was the disk of a shard
+  pub record Opens (setup : Setup) (old new : Life D) (result : Result (List Envelope) Fault) : Type 0 where
+    pub disk : D
+    pub rests : RestsOn old disk
+    pub opened : OpensTo disk setup new result
+
+  -- the call of a doing
+  abbrev pub Calls : Setup → List Envelope → Doing → Life D → Life D → Result (List Envelope) Fault → Type 0
+  Calls setup bag Doing.Open old new result = Opens setup old new result
+  Calls setup bag doing old new result = TakesWhat (input_of bag doing) old new result
+
+  -- ---- one event, at one shard
+
+  -- a doing is done, or refused as the definitions refuse
+  pub record Answers (setup : Setup) (bag : List Envelope) (doing : Doing) (old new : Life D) : Type 0 where
+    pub result : Result (List Envelope) Fault
+    pub own : IsOwnAnswer result
+    pub called : Calls setup bag doing old new result
+
+  -- so it is; or there is no core to take its input
+  abbrev pub GoesOn : Setup → List Envelope → Doing → Life D → Life D → Type 0
+  GoesOn setup bag doing old new = Answers setup bag doing old new ⊎ ((doing ≢ Doing.Open) × IsDisk old × (new ≡ old))
+
+  -- The device fails in the append of a record, or an opening was refused for memory. The event has the number of a call that tells what
+  -- is then read, and whether a crash may leave the record; an opening fails in its append, and not in the sync that comes before it
+  pub record Fails (setup : Setup) (bag : List Envelope) (s : ShardNow) (doing : Doing) (call : ℕ) (r : Record) (old new : Life D) : Type 0 where
+    pub fault : Fault
+    pub called : Calls setup bag doing old new (Err fault)
+    pub failed : (fault ≡ Device) ⊎ ((doing ≡ Doing.Open) × (fault ≡ Memory))
+    pub read : records_in (surface (file (disk_of new))).seen ≡ Ok (read_log (failed_in s call r))
+    pub told : IsTrue (nat_le 2 call) ⊎ HoldsSurely file (disk_of new) (read_log s)
+    pub behind : (s.unsure ≡ Nothing) ⊎ ((image : List ℕ) → LeavesNow file new image → HoldsOldOrWith (Ok (read_log s)) (Some r) image)
+
+  abbrev pub FailsOr : Setup → List Envelope → ShardNow → Doing → ℕ → Option Record → Life D → Life D → Type 0
+  FailsOr setup bag s doing call None old new = GoesOn setup bag doing old new
+  FailsOr setup bag s doing call (Some r) old new = Fails setup bag s doing call r old new
+
+  -- at one shard, where it exists
+  pub record AtShard (w : World) (n : ℕ) (old new : ℕ → Life D) (P : Setup → ShardNow → Life D → Life D → Type 0) : Type 0 where
+    pub elsewhere : AreElsewhere n old new
+    pub here : (s : ShardNow) → slice_get w.shards n ≡ Some s → P (setup_of w.config n) s (old n) (new n)
+
+  -- where there is a doing
+  abbrev pub AtDoing : World → Option (ℕ × Doing) → (ℕ → Life D) → (ℕ → Life D) → Type 0
+  AtDoing w None old new = AreSame old new
+  AtDoing w (Some p) old new = AtShard w p.0 old new (λ setup s before after. GoesOn setup w.bag p.1 before after)
+
+  -- What an act is at the shards. A crash leaves disks that surely hold what the run tells of them, or a core that ran was ended
+  abbrev pub Turns : World → Act → (ℕ → Life D) → (ℕ → Life D) → Type 0
+  Turns w (Act.Crash n) old new =
+      AtShard w n old new (λ setup s before after. RestartsWith file s.log after ⊎ WasEnded before after)
+  Turns w (Act.CrashIn n call fate named doing) old new =
+      AtShard w n old new (λ setup s before after. RestartsWith file (crashed_in s call fate doing (effect setup w.bag s doing)).log after)
+  Turns w (Act.FailIn n call named doing) old new =
+      AtShard w n old new (λ setup s before after. FailsOr setup w.bag s doing call (failing call (effect setup w.bag s doing)) before after)
+  Turns w act old new = AtDoing w (doing_of w act) old new
+
+  -- ---- calls of which the run has nothing
+
+  -- an opening that is refused for memory, or by its device, before its append leaves no more than a crash might have left before it
+  pub record FailsEarly (setup : Setup) (old new : Life D) : Type 0 where
+    pub fault : Fault
+    pub called : Opens setup old new (Err fault)
+    pub failed : (fault ≡ Memory) ⊎ (fault ≡ Device)
+    pub read : records_in (surface (file (disk_of new))).seen ≡ records_in (surface (file (disk_of old))).seen
+    pub within : (image : List ℕ) → LeavesNow file new image → LeavesNow file old image
+
+  -- memory is refused
+  abbrev pub StarvesIn : Setup → List Envelope → Doing → Life D → Life D → Type 0
+  StarvesIn setup bag Doing.Open old new = FailsEarly setup old new
+  StarvesIn setup bag doing old new = Calls setup bag doing old new (Err Memory)
+
+  -- ---- a whole run
+
+  -- an empty log was opened
+  pub record IsFresh (setup : Setup) (life : Life D) : Type 0 where
+    pub disk : D
+    pub empty : HoldsSurely file disk []
+    pub opened : OpensTo disk setup life (Ok [])
+
+  abbrev pub AreFresh : Config → (ℕ → Life D) → Type 0
+  AreFresh config lives = (n : ℕ) (s : ShardNow) → slice_get (start config).shards n ≡ Some s → IsFresh (setup_of config n) (lives n)
+
+  -- turn by turn
+  abbrev pub Leads : World → List Turn → (ℕ → Life D) → (ℕ → Life D) → Type 0
+  Leads w [] old new = AreSame old new
+  Leads w (Happens e ∷ ts) old new = (between : ℕ → Life D) × Turns w e.act old between × Leads (happens w e).0 ts between new
+  Leads w (Starves n doing ∷ ts) old new =
+      (between : ℕ → Life D) × AtShard w n old between (λ setup s before after. StarvesIn setup w.bag doing before after) × Leads w ts between new
+
+  -- ---- crashes
+
+  -- A call is under way, of an event that may come next, whatever it will answer: one that the definitions do
+  pub record IsUnderWay (config : Config) (es : List Event) (lives : ℕ → Life D) (n : ℕ) (after : Life D) : Type 0 where
+    pub event : Event
+    pub doing : Doing
+    pub may : IsTrue (lawful config (es ++ event ∷ []))
+    pub of : doing_of (run config es) event.act ≡ Some (n, doing)
+    pub shard : ShardNow
+    pub there : slice_get (run config es).shards n ≡ Some shard
+    pub logged : Option Record
+    pub memory : Kept
+    pub out : List Envelope
+    pub does : effect (setup_of config n) (run config es).bag shard doing ≡ Does logged memory out
+    pub result : Result (List Envelope) Fault
+    pub called : Calls (setup_of config n) (run config es).bag doing (lives n) after result
+
+  -- of its disk a crash leaves what it may leave at some moment since the call began; of each other what it may leave now
+  abbrev pub LeavesWithin : (ℕ → Life D) → ℕ → Life D → ℕ → List ℕ → Type 0
+  LeavesWithin lives n after m image = ((n ≡ m) × since (disk_of after) (clock (disk_of (lives n))) image) ⊎ ((n ≢ m) × LeavesNow file (lives m) image)
+
+  -- within a call
+  pub record AreLeftWithin (config : Config) (es : List Event) (lives : ℕ → Life D) (images : List (List ℕ)) : Type 0 where
+    pub n : ℕ
+    pub after : Life D
+    pub under_way : IsUnderWay config es lives n after
+    pub leaves : AreImages (run config es) (LeavesWithin lives n after) images
+
+  -- so there, or between two calls
+  abbrev pub AreLeft : Config → List Event → (ℕ → Life D) → List (List ℕ) → Type 0
+  AreLeft config es lives images = AreImages (run config es) (λ n image. LeavesNow file (lives n) image) images ⊎ AreLeftWithin config es lives images
+
+  abbrev pub ImagesHaveLogs : Type 0
+  ImagesHaveLogs =
+      keeps → (config : Config) (turns : List Turn) (first lives : ℕ → Life D) → IsTrue (lawful config (events_of turns)) → AreFresh config first →
+      Leads (start config) turns first lives → (images : List (List ℕ)) → AreLeft config (events_of turns) lives images →
+      HaveLogs config (events_of turns) images

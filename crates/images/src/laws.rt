@@ -1,0 +1,13 @@
+//! The law of images.
+ghost use Rattle.images.specs.Images.{ImagesHaveLogs};
+
+use disk::Disk;
+
+/// From bytes to history, of every lawful run and at every moment of it: the contract of a function that does nothing.
+///
+/// Beside the run stand cores on disks of this type. Of each call there is what the contracts of `Core::open` and `Core::on` say, and
+/// nothing else. Where the disks keep the disk model, each image that a crash may leave of them, between two calls or at any moment
+/// within one, is read as a log; the logs of all shards are some that `law::moments` speaks of, and what it says holds of them.
+pub fn images_have_logs<D: Disk>()
+    ensures { ImagesHaveLogs D.keeps_model D.obeys D.file D.clock D.since D.failures D.plan }
+{}

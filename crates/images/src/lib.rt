@@ -1,0 +1,6 @@
+//! From bytes to history: what the law of the store says of the disks of cores, whatever a crash leaves of them.
+#![tactic(auto)]
+
+mod laws;
+
+pub use laws::images_have_logs;
