@@ -31,7 +31,7 @@ use Rattle.world.specs.declared.event.Doing.{Doing}
 use Rattle.world.specs.declared.event.Reply.{Reply}
 use Rattle.lives.specs.Lives.{IsCoreIn, IsCoreOf, IsDiskIn, IsRunningAs, LivesAs, LivesIn, crash_by, disk_log}
 use Rattle.lives.specs.Carries.{Carries, Comes, IsOrderly, by_call, left_by, left_by_refusal, stepped_shard, unopened}
-use Rattle.lives.specs.Looks.{look_at}
+use Rattle.lives.specs.Looks.{look_at, look_core}
 use Rattle.lives.specs.Shows.{Acts, AreShared, BeginsAt, HasNoted, IsKept, NotesOfLife, ShowsLog, StandsFor, done_by, is_within, shown_view, view_now}
 use Rattle.lives.specs.declared.life.Life.{Life}
 use Rattle.lives.specs.declared.life.Life.TheVariants.{Up, Down}
@@ -497,20 +497,15 @@ looked_at_none setup is vs views n k at same there =
     sym (ap (λ o. look_at_view setup o k at) (ap (λ l. slice_get l n) (sym same) ∙ slice_get-map (shown_view is) vs n ∙ ap (option_map (shown_view is)) there))
 
 -- a look at what a core shows now
-pub looked : (setup : Setup) (s : ShardNow) (core : CoreView SimDisk) (here : Bool) (k : Bytes) (at : ℕ) → IsCoreIn setup s core s.state
-    → here ≡ nat_eq (shard_of setup.splits k) setup.shard
-    → look_at here (take (length core.facts.installs) core.facts.installs) (safe core.memory) k at ≡ look_shard setup s k at
-looked setup s core here k at h is_here = by_state s.state h
+pub looked : (setup : Setup) (s : ShardNow) (core : CoreView SimDisk) (k : Bytes) (at : ℕ) → IsCoreIn setup s core s.state
+    → look_core core k at ≡ look_shard setup s k at
+looked setup s core k at h = by_state s.state h
   where
-    of_core : (m : Kept) → IsCoreOf setup s m core
-        → look_at here (take (length core.facts.installs) core.facts.installs) (safe core.memory) k at ≡ look_view setup (view_of (facts_of s.log) m) k at
-    of_core m c =
-        let all : take (length core.facts.installs) core.facts.installs ≡ (facts_of s.log).installs =
-        take_all (length core.facts.installs) core.facts.installs (omega arith) ∙ ap (λ (f : Facts). f.installs) c.knows in
-        λ i. look_at (is_here i) (all i) (safe (c.memory i)) k at
+    of_core : (m : Kept) → IsCoreOf setup s m core → look_core core k at ≡ look_view setup (view_of (facts_of s.log) m) k at
+    of_core m c = λ i. look_at (nat_eq (shard_of (c.setup_is i).splits k) (c.setup_is i).shard) (c.knows i).installs (safe (c.memory i)) k at
 
     by_state : (st : State) → IsCoreIn setup s core st
-        → look_at here (take (length core.facts.installs) core.facts.installs) (safe core.memory) k at
+        → look_core core k at
         ≡ elim st as (λ x. Reply) [
           | Runs m ↦ look_view setup (view_of (facts_of s.log) m) k at
           | IsStopped m ↦

@@ -4,6 +4,7 @@
 mod fleet;
 mod lawfulness;
 mod life;
+mod looking;
 mod run;
 mod run_shard;
 mod view;

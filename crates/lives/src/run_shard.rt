@@ -9,6 +9,7 @@ ghost use Rattle.lives.specs.Fleet.{IsOn};
 ghost use Rattle.lives.specs.Shows.{BeginsAt, StandsFor};
 
 use crate::life::{Life, opens, setup_with};
+use crate::looking::look_at_core;
 use crate::view::{View, begin_with, behind};
 use disk::Fate;
 use gatelog::{Entry, GateLog};
@@ -193,7 +194,7 @@ impl RunShard {
                 None => Ok(Reply::Refused(Fault::Stranger)),
             },
             None => match &self.life {
-                Life::Up(core) => View::of(core, 0).look(alloc, core.installs(), is_here, key, at),
+                Life::Up(core) => look_at_core(alloc, core, key, at),
                 Life::Down(_) => Ok(Reply::Refused(Fault::Stopped)),
             },
         }

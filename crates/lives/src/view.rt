@@ -137,9 +137,9 @@ fn newer<'a>(
     }
 }
 
-// The value of a key at a time.
+/// The value of a key at a time.
 #[tactic(auto, using(crate::proofs::Newest::value_of))]
-fn value_at(
+pub fn value_at(
     alloc: Global,
     installs: &[Install],
     key: &Key,

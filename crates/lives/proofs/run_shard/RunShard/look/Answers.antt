@@ -33,10 +33,9 @@ pub returns-in-Up-clause-shown : goal.returns-in-Up-clause-shown
 returns-in-Up-clause-shown c setup s h here =
     let k = c.args.key.now in
     let at = c.args.at in
-    subst (λ x. IfOk c.look-in-Up.result (λ reply. reply ≡ x))
-    ((λ i. look_at c.args.is_here (take (c.of.ensures i).count (drop (c.of.ensures i).from (c.installs.ensures i))) (c.of.ensures i).safe k at)
-    ∙ looked setup s (seen c.in-Up.core) c.args.is_here k at (subst (LivesAs setup s) c.in-Up.is h.lives) here
-    ∙ ap (λ o. look_by setup s o k at) (sym c.in-None.is)) c.look-in-Up.ensures.shown
+    subst (λ x. IfOk c.look_at_core.result (λ reply. reply ≡ x))
+    (looked setup s (seen c.in-Up.core) k at (subst (LivesAs setup s) c.in-Up.is h.lives) ∙ ap (λ o. look_by setup s o k at) (sym c.in-None.is))
+    c.look_at_core.ensures.shown
 
 pub returns-in-Down-clause-shown : goal.returns-in-Down-clause-shown
 returns-in-Down-clause-shown c setup s h here =
