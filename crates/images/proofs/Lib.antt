@@ -2,4 +2,5 @@ pub mod Acted
 pub mod Called
 pub mod Held
 pub mod Placed
+pub mod Told
 pub mod Turned

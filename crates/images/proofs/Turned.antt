@@ -123,7 +123,7 @@ module _ {D : Type 0} (keeps obeys : Type 0) (file : D → File) (clock : D → 
           (subst (Comes keeps obeys file clock since failures plan counts kept setup unopened_shard Doing.Open (Up core)) is comes)
       by_life (Down back) k = absurd k
 
-  abbrev HoldRun : Config → List Event → (ℕ → Life D) → Type 0
+  abbrev pub HoldRun : Config → List Event → (ℕ → Life D) → Type 0
   HoldRun config es lives = Hold keeps obeys file clock since failures plan counts kept (run config es).config (run config es).shards lives
 
   fresh_hold : (config : Config) (lives : ℕ → Life D) → AreFresh keeps obeys file clock since failures plan config lives → HoldRun config [] lives
@@ -325,9 +325,14 @@ module _ {D : Type 0} (keeps obeys : Type 0) (file : D → File) (clock : D → 
   unfolding run
   started config turns first lives leads = leads
 
+  pub holds : (config : Config) (turns : List Turn) (first lives : ℕ → Life D) → lawful config (events_of turns) ≡ true →
+      AreFresh keeps obeys file clock since failures plan config first → Leads keeps obeys file clock since failures plan (start config) turns first lives →
+      HoldRun config (events_of turns) lives
+  holds config turns first lives fair fresh leads =
+      leads_hold config turns [] fair first lives (fresh_hold config first fresh) (started config turns first lives leads)
+
   pub images_have_logs : ImagesHaveLogs keeps obeys file clock since failures plan
-  images_have_logs keep config turns first lives fair fresh leads images left = by_left
-      (leads_hold config turns [] fair first lives (fresh_hold config first fresh) (started config turns first lives leads)) left
+  images_have_logs keep config turns first lives fair fresh leads images left = by_left (holds config turns first lives fair fresh leads) left
     where
       by_left : HoldRun config (events_of turns) lives → AreLeft keeps obeys file clock since failures plan config (events_of turns) lives images →
           HaveLogs config (events_of turns) images

@@ -1,7 +1,7 @@
 -- From bytes to history. Beside a run of the definitions stand cores on disks that keep the disk model, call by call: of each call
 -- there is what the contract of `Core::on` or of `Core::open` says, and nothing else. Whatever images a crash then leaves of these
 -- disks, between two calls or within one, each is read as a log, and the logs are some that the law of the store speaks of.
-use Rattle.std.specs.Prelude.{ℕ, ◌≡◌, ◌≢◌, ◌⊎◌, cond, nat_le, nat_lt, IsTrue, IsFalse, List, [], ◌∷◌, ◌++◌, length, map, slice_get}
+use Rattle.std.specs.Prelude.{ℕ, ◌≡◌, ◌≢◌, ◌⊎◌, false, cond, nat_le, nat_lt, IsTrue, IsFalse, List, [], ◌∷◌, ◌++◌, length, map, slice_get}
 use Rattle.std.specs.Prelude.{Option, Some, None, Result, Ok, Err}
 use Rattle.units.specs.declared.fault.Fault.{Fault}
 use Rattle.units.specs.declared.fault.Fault.TheVariants.{Memory, Device}
@@ -19,7 +19,7 @@ use Rattle.shard.specs.Logs.{HoldsOldOrWith, KeepsRecords, records_in}
 use Rattle.shard.specs.On.{CoreView, HasStepped, step_of}
 use Rattle.shard.specs.Opened.{HasNotOpened, HasOpened}
 use Rattle.world.specs.Headline.{IsExternallyConsistent, MayBeLeft, doing_of}
-use Rattle.world.specs.Lawful.{lawful}
+use Rattle.world.specs.Lawful.{is_down, lawful, may_happen}
 use Rattle.world.specs.World.{World, ShardNow, Nothing, crashed_in, effect, failed_in, happens, input_of, read_log, run, setup_of, start}
 use Rattle.world.specs.declared.event.Act.{Act}
 use Rattle.world.specs.declared.event.Config.{Config}
@@ -110,6 +110,11 @@ module _ {D : Type 0} (file : D → File) where
   abbrev pub RestartsWith : List Record → Life D → Type 0
   RestartsWith log (Up core) = ⊥
   RestartsWith log (Down disk) = HoldsSurely disk log
+
+  -- it is down, on a disk of which each image that a crash now may leave is read as this one
+  abbrev pub RestartsFrom : List ℕ → Life D → Type 0
+  RestartsFrom image (Up core) = ⊥
+  RestartsFrom image (Down disk) = (later : List ℕ) → MayLeave (surface (file disk)) later → records_in later ≡ records_in image
 
 module _ {D : Type 0} (keeps obeys : Type 0) (file : D → File) (clock : D → ℕ) (since : D → ℕ → List ℕ → Type 0) (failures : D → ℕ)
     (plan : D → FailurePlan) where
@@ -258,3 +263,25 @@ module _ {D : Type 0} (keeps obeys : Type 0) (file : D → File) (clock : D → 
       keeps → (config : Config) (turns : List Turn) (first lives : ℕ → Life D) → IsTrue (lawful config (events_of turns)) → AreFresh config first →
       Leads (start config) turns first lives → (images : List (List ℕ)) → AreLeft config (events_of turns) lives images →
       HaveLogs config (events_of turns) images
+
+  -- ---- every crash is told
+
+  -- an event tells that a crash left this image of a shard's disk: it may come next, and whoever goes on from what was left is beside the run
+  pub record IsTold (config : Config) (es : List Event) (lives : ℕ → Life D) (n : ℕ) (image : List ℕ) : Type 0 where
+    pub event : Event
+    pub may : IsTrue (may_happen (run config es) event)
+    pub tells : (new : ℕ → Life D) → AreElsewhere n lives new → RestartsFrom file image (new n) → Turns (run config es) event.act lives new
+
+  -- a crash leaves this image of a shard's disk, between two calls or within one
+  abbrev pub LeavesImage : Config → List Event → (ℕ → Life D) → ℕ → List ℕ → Type 0
+  LeavesImage config es lives n image =
+      LeavesNow file (lives n) image
+      ⊎ ((after : Life D) × IsUnderWay config es lives n after × since (disk_of after) (clock (disk_of (lives n))) image)
+
+  -- the shard is not down, or no record on its disk is unsure
+  abbrev pub CrashesAreTold : Type 0
+  CrashesAreTold =
+      keeps → (config : Config) (turns : List Turn) (first lives : ℕ → Life D) → IsTrue (lawful config (events_of turns)) → AreFresh config first →
+      Leads (start config) turns first lives → (n : ℕ) (s : ShardNow) → slice_get (run config (events_of turns)).shards n ≡ Some s →
+      (is_down s.state ≡ false) ⊎ (s.unsure ≡ Nothing) → (image : List ℕ) → LeavesImage config (events_of turns) lives n image →
+      IsTold config (events_of turns) lives n image

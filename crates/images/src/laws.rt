@@ -1,5 +1,5 @@
 //! The law of images.
-ghost use Rattle.images.specs.Images.{ImagesHaveLogs};
+ghost use Rattle.images.specs.Images.{CrashesAreTold, ImagesHaveLogs};
 
 use disk::Disk;
 
@@ -9,5 +9,7 @@ use disk::Disk;
 /// nothing else. Where the disks keep the disk model, each image that a crash may leave of them, between two calls or at any moment
 /// within one, is read as a log; the logs of all shards are some that `law::moments` speaks of, and what it says holds of them.
 pub fn images_have_logs<D: Disk>()
-    ensures { ImagesHaveLogs D.keeps_model D.obeys D.file D.clock D.since D.failures D.plan }
+    ensures logs { ImagesHaveLogs D.keeps_model D.obeys D.file D.clock D.since D.failures D.plan }
+    // Whatever image a crash leaves, some event of the run tells it, and cores that go on from there stand beside the run.
+    ensures told { CrashesAreTold D.keeps_model D.obeys D.file D.clock D.since D.failures D.plan }
 {}
