@@ -25,7 +25,7 @@ use Rattle.world.specs.World.{effect, finished, fresh_shard, step_of_opening, wa
 use Rattle.world.specs.declared.event.Doing.{Doing}
 use Rattle.lives.specs.Carries.{Comes, IsOrderly}
 use Rattle.lives.specs.Lives.{HoldsLog, LivesAs}
-use Rattle.lives.specs.Shows.{Acts, StandsFor, done_by, is_within, shown_view}
+use Rattle.lives.specs.Shows.{Acts, StandsFor, done_by, is_apart, is_within, shown_view}
 use Rattle.lives.specs.Unopened.{unopened_shard}
 use Rattle.lives.specs.declared.life.Life.TheVariants.{Down}
 use Rattle.lives.specs.declared.run_shard.RunShard.{RunShard}
@@ -47,6 +47,7 @@ formatted_stands setup disk shard never stands read told life installs views = r
   lives = subst (λ l. LivesAs setup unopened_shard l) (sym life) (holds_none disk never stands read);
   views = (λ i. map (shown_view (installs i)) (views i));
   within = (λ i. list_all (is_within (installs i)) (views i));
+  apart = λ rises. (λ i. list_all (is_apart (installs i) shard.high) (views i));
   shows = tt;
 }
 

@@ -10,5 +10,6 @@ pub mod Living
 pub mod Newest
 pub mod Opening
 pub mod Replying
+pub mod Shared
 pub mod Showing
 pub mod Stepping

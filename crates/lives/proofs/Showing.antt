@@ -1,12 +1,12 @@
 -- The views of a shard stay what they are, and what a doing shows more is kept.
 use Rattle.std.specs.List.{list_all}
-use Rattle.std.proofs.Common.{◌≡◌, ◌≢◌, inl, inr, ◌≤◌, ◌+◌, ◌-◌, ℕ, Bool, true, false, cond, ◌&&◌, nat_lt, nat_eq, IsTrue, List, []}
+use Rattle.std.proofs.Common.{◌≡◌, ◌≢◌, inl, inr, ◌≤◌, ◌+◌, ◌-◌, ℕ, Bool, true, false, cond, ◌&&◌, nat_le, nat_lt, nat_eq, IsTrue, List, []}
 use Rattle.std.proofs.Common.{◌∷◌, ◌++◌, length, map, take, drop, slice_get, option_map}
 use Rattle.std.proofs.Common.{Option, Some, None, Result, Ok, Err, OnOk, refl, sym, ap, ◌∙◌, subst, arith, option_to_list}
 use Rattle.std.proofs.lemmas.Bool.{and_parts}
 use Rattle.std.proofs.lemmas.Bool.Decides.{nat_tests}
 use Rattle.std.proofs.lemmas.List.{length-append, length-drop, take-append-le, take-append-drop, drop-append-le, take_all, map-append, append-nil}
-use Rattle.std.proofs.Math.Seq.{drop-append_seam}
+use Rattle.std.proofs.Math.Seq.{drop-append_seam, drop-length}
 use Rattle.std.proofs.lemmas.Option.{slice_get-map}
 use Rattle.units.specs.Keys.{Bytes, shard_of}
 use Rattle.units.specs.declared.fault.Fault.{Fault}
@@ -20,8 +20,10 @@ use Rattle.record.specs.declared.record.Record.{Record}
 use Rattle.gatelog.specs.Frames.{end_of}
 use Rattle.message.specs.declared.message.Envelope.{Envelope}
 use Rattle.protocol.specs.Rows.{Memory as Kept, safe}
+use Rattle.protocol.proofs.AboveVersions.{each_append}
 use Rattle.protocol.specs.Step.{Stepped, Refuses, Does, facts_after}
 use Rattle.shard.specs.Core.{seen}
+use Rattle.shard.specs.Look.{safe_at}
 use Rattle.shard.specs.On.{CoreView}
 use Rattle.simdisk.specs.declared.simdisk.SimDisk.{SimDisk}
 use Rattle.world.specs.World.{ShardNow, State, Runs, IsStopped, IsDown, Nothing, View, crashed, crashed_in, effect, failed_in, finished, input_of}
@@ -31,8 +33,8 @@ use Rattle.world.specs.declared.event.Doing.{Doing}
 use Rattle.world.specs.declared.event.Reply.{Reply}
 use Rattle.lives.specs.Lives.{IsCoreIn, IsCoreOf, IsDiskIn, IsRunningAs, LivesAs, LivesIn, crash_by, disk_log}
 use Rattle.lives.specs.Carries.{Carries, Comes, IsOrderly, by_call, left_by, left_by_refusal, stepped_shard, unopened}
-use Rattle.lives.specs.Looks.{look_at, look_core}
-use Rattle.lives.specs.Shows.{Acts, AreShared, BeginsAt, HasNoted, IsKept, NotesOfLife, ShowsLog, StandsFor, done_by, is_within, shown_view, view_now}
+use Rattle.lives.specs.Looks.{is_above, look_at, look_core}
+use Rattle.lives.specs.Shows.{Acts, AreShared, BeginsAt, HasNoted, IsKept, NotesOfLife, ShowsLog, StandsFor, done_by, is_apart, is_within, shown_view, view_now}
 use Rattle.lives.specs.declared.life.Life.{Life}
 use Rattle.lives.specs.declared.life.Life.TheVariants.{Up, Down}
 use Rattle.lives.specs.declared.run_shard.RunShard.{RunShard}
@@ -73,6 +75,36 @@ within_more is (v ∷ vs) ws h k =
     let p : (is_within is v ≡ true) × (list_all (is_within is) vs ≡ true) = and_parts _ _ h in
     ap (λ b. b && list_all (is_within is) (vs ++ ws)) p.0 ∙ within_more is vs ws p.1 k
 
+-- views stay apart from what comes later, where that is above all that they serve
+still_apart : (is more : List Install) (high higher : ℕ) (vs : List CodeView) → high ≤ higher → list_all (is_within is) vs ≡ true →
+    list_all (is_above high) more ≡ true → list_all (is_apart is high) vs ≡ true → list_all (is_apart (is ++ more) higher) vs ≡ true
+still_apart is more high higher [] le h above k = refl
+still_apart is more high higher (v ∷ vs) le h above k =
+    let p : (is_within is v ≡ true) × (list_all (is_within is) vs ≡ true) = and_parts _ _ h in
+    let q : (is_apart is high v ≡ true) × (list_all (is_apart is high) vs ≡ true) = and_parts _ _ k in
+    let r : (nat_le v.safe high ≡ true) × (list_all (is_above v.safe) (drop (v.from + v.count) is) ≡ true) = and_parts _ _ q.0 in
+    let low : nat_le v.safe higher ≡ true = less_too v.safe high higher r.0 le in
+    let later : list_all (is_above v.safe) (drop (v.from + v.count) (is ++ more)) ≡ true =
+    ap (list_all (is_above v.safe)) (drop-append-le (v.from + v.count) is more (counted is v p.0))
+    ∙ each_append (is_above v.safe) (drop (v.from + v.count) is) more r.1 (all_above v.safe high more (under v.safe high r.0) above) in
+    let here : is_apart (is ++ more) higher v ≡ true = ap (λ b. b && list_all (is_above v.safe) (drop (v.from + v.count) (is ++ more))) low ∙ later in
+    ap (λ b. b && list_all (is_apart (is ++ more) higher) vs) here ∙ still_apart is more high higher vs le p.1 above q.1
+  where
+    under : (a b : ℕ) → nat_le a b ≡ true → a ≤ b
+    under a b e = grind (arith, nat_tests)
+
+    less_too : (a b c : ℕ) → nat_le a b ≡ true → b ≤ c → nat_le a c ≡ true
+    less_too a b c e f = grind (arith, nat_tests)
+
+    less_above : (a b c : ℕ) → a ≤ b → nat_lt b c ≡ true → nat_lt a c ≡ true
+    less_above a b c e f = grind (arith, nat_tests)
+
+    all_above : (low high : ℕ) (ys : List Install) → low ≤ high → list_all (is_above high) ys ≡ true → list_all (is_above low) ys ≡ true
+    all_above low high [] e f = refl
+    all_above low high (y ∷ ys) e f =
+        let s : (is_above high y ≡ true) × (list_all (is_above high) ys ≡ true) = and_parts _ _ f in
+        ap (λ b. b && list_all (is_above low) ys) (less_above low high y.at e s.0) ∙ all_above low high ys e s.1
+
 -- the versions that a record adds stand behind those before it
 added : (facts : Facts) (logged : Option Record) → (more : List Install) × ((facts_after facts logged).installs ≡ facts.installs ++ more)
 unfolding learn
@@ -83,6 +115,9 @@ added facts (Some (Record.Prepare p)) = ([], sym (append-nil facts.installs))
 added facts (Some (Record.Commit c)) = ([], sym (append-nil facts.installs))
 added facts (Some (Record.Abort t)) = ([], sym (append-nil facts.installs))
 added facts (Some (Record.Outcome t outcome)) = (installs_at (recorded facts t) outcome, refl)
+
+at_most : (a b : ℕ) → a ≤ b → nat_le a b ≡ true
+at_most a b h = grind (arith, nat_tests)
 
 -- ---- the list of all versions
 
@@ -158,6 +193,11 @@ same_views setup s old mid installs views h = (
   (λ i. list_all (is_within (installs i)) (views i)) ∙ h.within,
 )
 
+same_apart : (setup : Setup) (s : ShardNow) (old mid : RunShard) → IsKept old mid → StandsFor setup old s → mid.rises ≡ true →
+    list_all (is_apart mid.installs.items mid.high) mid.views.items ≡ true
+same_apart setup s old mid kept h rises =
+    (λ i. list_all (is_apart (kept.installs i) (kept.high i)) (kept.views i)) ∙ h.apart (sym kept.rises ∙ rises)
+
 module _ (setup : Setup) (bag : List Envelope) (s : ShardNow) (call : Option ℕ) (doing : Doing) (old mid : RunShard) (h : StandsFor setup old s)
     (kept : IsKept old mid) where
   told : mid.setup ≡ setup
@@ -166,6 +206,9 @@ module _ (setup : Setup) (bag : List Envelope) (s : ShardNow) (call : Option ℕ
   same : (map (shown_view mid.installs.items) mid.views.items ≡ s.views) × (list_all (is_within mid.installs.items) mid.views.items ≡ true)
   same = same_views setup s old mid kept.installs kept.views h
 
+  apart_as_before : mid.rises ≡ true → list_all (is_apart mid.installs.items mid.high) mid.views.items ≡ true
+  apart_as_before = same_apart setup s old mid kept h
+
   still_shows : (st : State) → ShowsLog old.installs.items old.from s st → ShowsLog mid.installs.items mid.from s st
   still_shows (Runs m) k = subst (λ n. (n ≤ length mid.installs.items) × (drop n mid.installs.items ≡ (facts_of s.log).installs)) (sym kept.from)
       (subst (λ is. (old.from ≤ length is) × (drop old.from is ≡ (facts_of s.log).installs)) (sym kept.installs) k)
@@ -173,11 +216,11 @@ module _ (setup : Setup) (bag : List Envelope) (s : ShardNow) (call : Option ℕ
   still_shows IsDown k = tt
 
   as_it_was : LivesAs setup s mid.life → StandsFor setup mid s
-  as_it_was l = record { setup_is = told; lives = l; views = same.0; within = same.1; shows = still_shows s.state h.shows }
+  as_it_was l = record { setup_is = told; lives = l; views = same.0; within = same.1; apart = apart_as_before; shows = still_shows s.state h.shows }
 
   -- down, with some log
   falls : (log : List Record) → LivesAs setup (crashed s log) mid.life → StandsFor setup mid (crashed s log)
-  falls log l = record { setup_is = told; lives = l; views = same.0; within = same.1; shows = tt }
+  falls log l = record { setup_is = told; lives = l; views = same.0; within = same.1; apart = apart_as_before; shows = tt }
 
   refused_stands : (d : Doing) → LivesAs setup (left_by_refusal s d) mid.life → StandsFor setup mid (left_by_refusal s d)
   refused_stands (Doing.Take n now) l = as_it_was l
@@ -194,7 +237,7 @@ module _ (setup : Setup) (bag : List Envelope) (s : ShardNow) (call : Option ℕ
 
   failed_stands : (c : ℕ) (r : Record) → LivesAs setup (failed_in s c r) mid.life → StandsFor setup mid (failed_in s c r)
   unfolding failed_in
-  failed_stands c r l = record { setup_is = told; lives = l; views = same.0; within = same.1; shows = no_more s.state }
+  failed_stands c r l = record { setup_is = told; lives = l; views = same.0; within = same.1; apart = apart_as_before; shows = no_more s.state }
     where
       no_more : (st : State) → ShowsLog mid.installs.items mid.from (failed_in s c r) (stopped st)
       no_more (Runs m) = tt
@@ -328,6 +371,24 @@ module _ (setup : Setup) (bag : List Envelope) (s : ShardNow) (call : Option ℕ
           ((λ j. list_all (is_within (n.installs j)) mid.views.items) ∙ still_within mid.installs.items more mid.views.items same.1)
           (made_within (makes_view doing))
 
+      made_apart : (b : Bool) → (b ≡ true → safe_at core ≤ new.high) → list_all (is_apart new.installs.items new.high)
+          (cond b (view_now new.from core ∷ []) []) ≡ true
+      made_apart false low = refl
+      made_apart true low =
+          let none : drop (new.from + length shown_all) new.installs.items ≡ [] =
+          ap (λ n. drop n new.installs.items) (all_behind new.installs.items shown_all new.from from_within behind_now) ∙ drop-length new.installs.items in
+          let under : nat_le (safe_at core) new.high ≡ true = at_most (safe_at core) new.high (low refl) in
+          (λ i. (under i && list_all (is_above (safe_at core)) (none i)) && true)
+
+      apart_is : new.rises ≡ true → list_all (is_apart new.installs.items new.high) new.views.items ≡ true
+      apart_is rises =
+          let was = n.rises rises in
+          ap (list_all (is_apart new.installs.items new.high)) n.views
+          ∙ each_append (is_apart new.installs.items new.high) mid.views.items made
+          ((λ j. list_all (is_apart (n.installs j) new.high) mid.views.items)
+          ∙ still_apart mid.installs.items more mid.high new.high mid.views.items n.high.0 same.1 was.1 (apart_as_before was.0))
+          (made_apart (makes_view doing) n.high.1)
+
       done_stands : StandsFor setup new (finished s doing logged memory)
       unfolding finished
       done_stands = record {
@@ -336,6 +397,7 @@ module _ (setup : Setup) (bag : List Envelope) (s : ShardNow) (call : Option ℕ
             (lives_with setup (stepped_shard s logged memory) (s.views ++ cond (makes_view doing) (view_of (facts_of log_now) memory ∷ []) []) mid.life l);
         views = views_are;
         within = within_is;
+        apart = apart_is;
         shows = (from_within, behind_now ∙ all_is);
       }
 
@@ -431,7 +493,7 @@ pub crash_stands : (setup : Setup) (s t : ShardNow) (fate : Left) (old new : Run
     → LivesAs setup (crash_by fate t) new.life → StandsFor setup new (crash_by fate t)
 crash_stands setup s t fate old new h kept views l =
     let same = same_views setup s old new kept.installs kept.views h in
-    record { setup_is = kept.setup ∙ h.setup_is; lives = l; views = same.0 ∙ sym views; within = same.1; shows = tt }
+    record { setup_is = kept.setup ∙ h.setup_is; lives = l; views = same.0 ∙ sym views; within = same.1; apart = same_apart setup s old new kept h; shows = tt }
 
 pub crash_in_stands : (setup : Setup) (bag : List Envelope) (s : ShardNow) (call : ℕ) (fate : Left) (doing : Doing) (old new : RunShard)
     (h : StandsFor setup old s)
@@ -463,6 +525,8 @@ crash_in_so setup bag s call fate doing old mid new answer (Ok reply) h kept car
       installs = later.installs ∙ kept.installs;
       from = later.from ∙ kept.from;
       views = later.views ∙ kept.views;
+      high = later.high ∙ kept.high;
+      rises = later.rises ∙ kept.rises;
     })
     (subst (λ x. LivesAs x (crash_by fate t) new.life) told (fallen t (subst (λ x. LivesAs x t mid.life) (sym told) lives)))
   where

@@ -1,5 +1,5 @@
 -- A look at some versions and a served time.
-use Rattle.std.specs.Prelude.{ℕ, Bool, cond, not, nat_le, List}
+use Rattle.std.specs.Prelude.{ℕ, Bool, cond, not, nat_le, nat_lt, List}
 use Rattle.units.specs.Keys.{Bytes}
 use Rattle.units.specs.Versions.{at_time}
 use Rattle.units.specs.declared.fault.Fault.TheVariants.{NotYet, Stranger}
@@ -16,3 +16,7 @@ look_at here installs safe k at = cond (not here) (Reply.Refused Stranger) (cond
 -- a look at what a core shows now
 abbrev pub look_core : CoreView SimDisk → Bytes → ℕ → Reply
 look_core core k at = look_at (is_here core k) core.facts.installs (safe_at core) k at
+
+-- a version of a later time
+abbrev pub is_above : ℕ → Install → Bool
+is_above time i = nat_lt time i.at

@@ -10,7 +10,7 @@ ghost use Rattle.lives.specs.Shows.{BeginsAt, StandsFor};
 
 use crate::life::{Life, opens, setup_with};
 use crate::looking::look_at_core;
-use crate::view::{View, begin_with, behind};
+use crate::view::{View, are_above, begin_with, behind};
 use disk::Fate;
 use gatelog::{Entry, GateLog};
 use message::{Envelope, Outbox};
@@ -21,20 +21,24 @@ use units::{Book, Fault, Install, Key, Setup, ShardNo, Stamp, copy_value};
 use world::{Config, Doing, Reply};
 
 /// A shard of a run: what it is told, its core or its disk, every version that a core of it ever showed, where those of the
-/// last core begin, and the views that count into them. It has to be spent.
+/// last core begin, and the views that count into them. Of these also the greatest time that one serves, and whether each version
+/// that came behind a view is above what it serves: in lawful runs it is. It has to be spent.
 pub struct RunShard {
     pub setup: Setup,
     pub life: Life,
     pub installs: Vec<Install>,
     pub from: usize,
     pub views: Vec<View>,
+    pub high: Stamp,
+    pub rises: bool,
 }
 
 impl RunShard {
-    ghost use Rattle.std.specs.Prelude.{nat_eq};
+    ghost use Rattle.std.specs.Prelude.{nat_eq, slice_get, take, drop};
     ghost use Rattle.units.specs.Keys.{shard_of};
     ghost use Rattle.world.specs.Lawful.{is_down, is_up};
     ghost use Rattle.world.specs.declared.event.Doing.{Doing};
+    ghost use Rattle.lives.specs.Looks.{look_at};
     ghost use Rattle.lives.specs.Shows.{Acts, NotesOfLife, crashed_within, look_by};
 
     /// The shard of a number on a new disk, formatted and opened, with its first view. It is told to keep no book.
@@ -65,6 +69,8 @@ impl RunShard {
             installs: Vec::new(alloc),
             from: 0,
             views: Vec::new(alloc),
+            high: Stamp::zero(),
+            rises: true,
         };
         match shard.act(alloc, &[], None, &Doing::Open) {
             Ok(out) => {
@@ -139,10 +145,14 @@ impl RunShard {
         let shown = core.installs();
         let from = begins_at(doing, self.from, &self.installs, shown);
         let known = self.installs.len().saturating_sub(from);
-        push_copies(&mut self.installs, alloc, behind(shown, known))?;
+        let more = behind(shown, known);
+        let rises = self.rises && are_above(more, self.high);
+        push_copies(&mut self.installs, alloc, more)?;
         self.from = from;
+        self.rises = rises;
         if makes_view(doing) {
             self.views.push(View::of(core, from))?;
+            self.high = self.high.later(core.safe());
         }
         Ok(())
     }
@@ -190,7 +200,7 @@ impl RunShard {
     {
         match view {
             Some(number) => match self.views.get(number as usize) {
-                Some(view) => view.look(alloc, &self.installs, is_here, key, at),
+                Some(view) => self.look_at_view(alloc, *view, is_here, key, at),
                 None => Ok(Reply::Refused(Fault::Stranger)),
             },
             None => match &self.life {
@@ -198,6 +208,36 @@ impl RunShard {
                 Life::Down(_) => Ok(Reply::Refused(Fault::Stopped)),
             },
         }
+    }
+
+    // A look at one of its views. Where it runs, its core has the view's versions, and what came since is above what the view serves: then
+    // it is the core that is looked at, which finds a version by halves.
+    fn look_at_view(
+        &self,
+        alloc: Global,
+        view: View,
+        is_here: bool,
+        key: &Key,
+        at: Stamp,
+    ) -> Result<Reply, Fault>
+        ensures shown { (setup : Setup) (s : ShardNow) (n : ℕ) → StandsFor setup self.now s
+            → slice_get self.now.views.items n ≡ Some view
+            → is_here ≡ nat_eq (shard_of setup.splits key.now) setup.shard
+            → IfOk result (λ reply. reply ≡ look_at is_here
+            (take view.count (drop view.from self.now.installs.items)) view.safe key.now at) }
+        ensures memory { IfErr result (λ fault. fault ≡ Fault.Memory) }
+    {
+        if let Life::Up(core) = &self.life {
+            if self.rises
+                && view.from == self.from
+                && !core.is_stopped()
+                && at <= view.safe
+                && at <= core.safe()
+            {
+                return look_at_core(alloc, core, key, at);
+            }
+        }
+        view.look(alloc, &self.installs, is_here, key, at)
     }
 
     /// Its disk as it is.
@@ -210,6 +250,8 @@ impl RunShard {
             installs,
             from: _,
             views,
+            high: _,
+            rises: _,
         } = self;
         drop(setup);
         drop(installs);

@@ -1,10 +1,11 @@
 //! What a shard shows at one moment.
 ghost use Rattle.std.specs.Prelude.{◌≡◌, true, IfOk, IfErr, length, take, drop};
+ghost use Rattle.std.specs.List.{list_all};
 ghost use Rattle.std.specs.Option.{option_copied};
 ghost use Rattle.units.specs.Versions.{at_time};
 ghost use Rattle.shard.specs.Core.{seen};
 ghost use Rattle.lives.specs.Newer.{newer, newest_upto};
-ghost use Rattle.lives.specs.Looks.{look_at};
+ghost use Rattle.lives.specs.Looks.{is_above, look_at};
 ghost use Rattle.lives.specs.Shows.{view_now};
 
 use shard::Core;
@@ -79,6 +80,18 @@ pub fn begin_with(installs: &[Install], known: &[Install]) -> bool
     }
     for (place, one) in known.iter().enumerate() {
         if !is_same(one, &installs[place]) {
+            return false;
+        }
+    }
+    true
+}
+
+/// All of them are above a time.
+pub fn are_above(installs: &[Install], time: Stamp) -> bool
+    ensures { result ≡ true → list_all (is_above time) installs.now ≡ true }
+{
+    for place in 0..installs.len() {
+        if installs[place].at <= time {
             return false;
         }
     }

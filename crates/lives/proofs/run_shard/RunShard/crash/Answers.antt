@@ -7,10 +7,10 @@ use Rattle.lives.proofs.run_shard.RunShard.crash.Goals as goal
 pub returns-in-Ok-clause-crashed : goal.returns-in-Ok-clause-crashed
 returns-in-Ok-clause-crashed c setup s h orderly =
     let old : RunShard = c.args.self.now in
-    let mid : RunShard = record { setup = old.setup; life = c.carry-answer.new.self; installs = old.installs; from = old.from; views = old.views } in
-    let new : RunShard = record { setup = old.setup; life = c.crash.new.self; installs = old.installs; from = old.from; views = old.views } in
-    let first : IsKept old mid = record { setup = refl; installs = refl; from = refl; views = refl } in
-    let then : IsKept mid new = record { setup = refl; installs = refl; from = refl; views = refl } in
+    let mid : RunShard = record { setup = old.setup; life = c.carry-answer.new.self; installs = old.installs; from = old.from; views = old.views; high = old.high; rises = old.rises } in
+    let new : RunShard = record { setup = old.setup; life = c.crash.new.self; installs = old.installs; from = old.from; views = old.views; high = old.high; rises = old.rises } in
+    let first : IsKept old mid = record { setup = refl; installs = refl; from = refl; views = refl; high = refl; rises = refl } in
+    let then : IsKept mid new = record { setup = refl; installs = refl; from = refl; views = refl; high = refl; rises = refl } in
     subst (λ o. OnOk c.crash.result (StandsFor setup new (crashed_within setup c.args.bag.now o c.args.fate s))) (sym c.in-Some.is)
     (crash_in_so setup c.args.bag.now s c.in-Some.call c.args.fate c.in-Some.doing old mid new c.carry-answer.result c.crash.result h
     first c.carry-answer.ensures c.in-Ok.ensures.other then
@@ -19,7 +19,7 @@ returns-in-Ok-clause-crashed c setup s h orderly =
 pub returns-in-None-clause-crashed : goal.returns-in-None-clause-crashed
 returns-in-None-clause-crashed c setup s h orderly =
     let old : RunShard = c.args.self.now in
-    let new : RunShard = record { setup = old.setup; life = c.crash-in-None.new.self; installs = old.installs; from = old.from; views = old.views } in
+    let new : RunShard = record { setup = old.setup; life = c.crash-in-None.new.self; installs = old.installs; from = old.from; views = old.views; high = old.high; rises = old.rises } in
     subst (λ o. OnOk c.crash-in-None.result (StandsFor setup new (crashed_within setup c.args.bag.now o c.args.fate s))) (sym c.in-None.is)
     (crash_so setup s c.args.fate old new c.crash-in-None.result h
-    (record { setup = refl; installs = refl; from = refl; views = refl }) (λ t k. c.crash-in-None.ensures.crashed old.setup t k))
+    (record { setup = refl; installs = refl; from = refl; views = refl; high = refl; rises = refl }) (λ t k. c.crash-in-None.ensures.crashed old.setup t k))
