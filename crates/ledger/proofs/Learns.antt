@@ -1,25 +1,26 @@
--- The versions by key and those in the log's order, as a record is learnt.
-use Rattle.std.proofs.Common.{◌≡◌, ℕ, true, List, [], ◌++◌, Some, None, refl, sym, ap, subst, ◌∙◌}
-use Rattle.std.proofs.lemmas.List.{append-nil}
-use Rattle.units.specs.Versions.{latest, versions, above_versions}
+-- The places of the versions, as a record is learnt.
+use Rattle.std.proofs.Common.{◌≡◌, ℕ, ◌+◌, Bool, true, [], ◌++◌, Some, None, length, refl, sym, ap, subst, ◌∙◌}
+use Rattle.std.proofs.lemmas.List.{append-nil, length-append, length-map}
+use Rattle.units.specs.Versions.{versions, above_versions}
 use Rattle.units.specs.Keys.{write_before}
 use Rattle.units.specs.Lists.{ascends}
-use Rattle.units.specs.declared.writes.Install.{Install}
-use Rattle.units.specs.declared.writes.Write.{Write}
 use Rattle.record.specs.Facts.{Facts, facts_of, learn, recorded, installs_at}
 use Rattle.record.specs.Installs.{installs_of}
 use Rattle.record.specs.Records.{Status, Unrecorded, StandsPrepared, StandsDecided, HasAborted, HasSettled, HasClosed}
 use Rattle.record.specs.declared.record.Record.{Record}
 use Rattle.record.specs.declared.record.Record.TheVariants.{Opened, Ceiling, Prepare, Commit, Abort, Outcome}
-use Rattle.versions.specs.Ordered.{all_installed}
-use Rattle.versions.specs.Places.{SameValues}
-use Rattle.versions.proofs.AtOnce.{places_do_not_matter}
+use Rattle.versions.specs.Headed.{Headed}
+use Rattle.versions.specs.Orders.{Orders, AreBehind}
+use Rattle.versions.proofs.Orders.{orders_more, behind_written}
 use Rattle.protocol.specs.Sound.{writes_standing}
-use Rattle.ledger.specs.Ledger.{outcome_stamp, CanInstall}
+use Rattle.ledger.specs.Ledger.{writes_given, CanInstall}
 
-pub no_versions : SameValues [] (facts_of []).installs
-unfolding latest facts_of installs_of
-no_versions = record { now = λ key. refl; at = λ key t. refl; above = λ key t. refl }
+abbrev pub is_up : Facts → Record → Bool
+is_up facts item = ascends write_before (writes_given facts item)
+
+pub no_installs : (facts_of []).installs ≡ []
+unfolding facts_of installs_of
+no_installs = refl
 
 -- an outcome at a timestamp installs the writes that stand
 installs_standing : (status : Status) (s : ℕ) → installs_at status (Some s) ≡ versions (writes_standing status) s
@@ -38,48 +39,48 @@ installs_none HasAborted = refl
 installs_none (HasSettled at parts) = refl
 installs_none (HasClosed c o) = refl
 
--- what is given for a record at a timestamp is what it installs
-pub installs_given : (facts : Facts) (item : Record) (writes : List Write) (s : ℕ) → outcome_stamp item ≡ Some s → CanInstall facts item writes
-    → ((learn facts item).installs ≡ facts.installs ++ versions writes s) × (above_versions facts.installs s writes ≡ true)
+-- what a record installs: writes at a timestamp, above the versions of their keys
+record Installs (facts : Facts) (item : Record) : Type 0 where
+  at : ℕ
+  all : (learn facts item).installs ≡ facts.installs ++ versions (writes_given facts item) at
+  above : above_versions facts.installs at (writes_given facts item) ≡ true
+
+nothing : (facts : Facts) (item : Record) → (learn facts item).installs ≡ facts.installs → writes_given facts item ≡ [] → Installs facts item
+nothing facts item same none = record {
+  at = 0;
+  all = same ∙ sym (append-nil facts.installs) ∙ ap (λ ws. facts.installs ++ versions ws 0) (sym none);
+  above = ap (above_versions facts.installs 0) none;
+}
+
+installs : (facts : Facts) (item : Record) → CanInstall facts item → Installs facts item
 unfolding learn
-installs_given facts (Opened e) writes s is can = cc
-installs_given facts (Ceiling at) writes s is can = cc
-installs_given facts (Prepare p) writes s is can = cc
-installs_given facts (Commit c) writes s is can = cc
-installs_given facts (Abort t) writes s is can = cc
-installs_given facts (Outcome t None) writes s is can = cc
-installs_given facts (Outcome t (Some at)) writes s is can =
-    let one : at ≡ s = cc in (
-      ap (λ is. facts.installs ++ is) (installs_standing (recorded facts t) at ∙ ap (λ ws. versions ws at) (sym can.0) ∙ ap (versions writes) one),
-      subst (λ n. above_versions facts.installs n writes ≡ true) one can.1,
-    )
+installs facts (Opened e) can = nothing facts (Opened e) refl refl
+installs facts (Ceiling at) can = nothing facts (Ceiling at) refl refl
+installs facts (Prepare p) can = nothing facts (Prepare p) refl refl
+installs facts (Commit c) can = nothing facts (Commit c) refl refl
+installs facts (Abort t) can = nothing facts (Abort t) refl refl
+installs facts (Outcome t None) can =
+    nothing facts (Outcome t None) (ap (λ is. facts.installs ++ is) (installs_none (recorded facts t)) ∙ append-nil facts.installs) refl
+installs facts (Outcome t (Some s)) can = record {
+  at = s;
+  all = ap (λ is. facts.installs ++ is) (installs_standing (recorded facts t) s);
+  above = can;
+}
 
--- any other record leaves the versions
-pub installs_left : (facts : Facts) (item : Record) → outcome_stamp item ≡ None → (learn facts item).installs ≡ facts.installs
-unfolding learn
-installs_left facts (Opened e) is = refl
-installs_left facts (Ceiling at) is = refl
-installs_left facts (Prepare p) is = refl
-installs_left facts (Commit c) is = refl
-installs_left facts (Abort t) is = refl
-installs_left facts (Outcome t None) is = ap (λ is. facts.installs ++ is) (installs_none (recorded facts t)) ∙ append-nil facts.installs
-installs_left facts (Outcome t (Some at)) is = cc
+-- what is installed comes behind the versions whose places are known
+module _ (facts : Facts) (item : Record) (can : CanInstall facts item) where
+  pub still_orders : (p : Headed) → Orders facts.installs (length facts.installs) p → Orders (learn facts item).installs (length facts.installs) p
+  still_orders p o =
+      let i = installs facts item can in
+      subst (λ t. Orders t (length facts.installs) p) (sym i.all) (orders_more facts.installs (versions (writes_given facts item) i.at) p o)
 
--- so the two stay the same where a record's writes are installed in both
-pub same_learnt : (ordered : List Install) (facts : Facts) (item : Record) (writes : List Write) (s : ℕ) → outcome_stamp item ≡ Some s →
-    CanInstall facts item writes
-    → ascends write_before writes ≡ true → SameValues ordered facts.installs → SameValues (all_installed ordered (versions writes s))
-    (learn facts item).installs
-same_learnt ordered facts item writes s is can up same =
-    let given = installs_given facts item writes s is can in
-    subst (SameValues (all_installed ordered (versions writes s))) (sym given.0) (places_do_not_matter writes s ordered facts.installs up given.1 same)
+  pub are_behind : ascends write_before (writes_given facts item) ≡ true → AreBehind (learn facts item).installs (length facts.installs)
+  are_behind up =
+      let i = installs facts item can in
+      subst (λ t. AreBehind t (length facts.installs)) (sym i.all) (behind_written facts.installs (writes_given facts item) i.at up i.above)
 
--- any writes may be given for a record that installs nothing
-pub installs_nothing : (facts : Facts) (item : Record) (writes : List Write) → outcome_stamp item ≡ None → CanInstall facts item writes
-installs_nothing facts (Opened e) writes is = tt
-installs_nothing facts (Ceiling at) writes is = tt
-installs_nothing facts (Prepare p) writes is = tt
-installs_nothing facts (Commit c) writes is = tt
-installs_nothing facts (Abort t) writes is = tt
-installs_nothing facts (Outcome t None) writes is = tt
-installs_nothing facts (Outcome t (Some at)) writes is = cc
+  pub as_many_more : length (learn facts item).installs ≡ length facts.installs + length (writes_given facts item)
+  as_many_more =
+      let i = installs facts item can in
+      ap length i.all ∙ length-append facts.installs (versions (writes_given facts item) i.at)
+      ∙ ap (λ n. length facts.installs + n) (length-map (writes_given facts item) (λ w. record { key = w.key; at = i.at; value = w.value }))

@@ -1,51 +1,55 @@
 //! The facts of a log beside the versions by key.
-ghost use Rattle.std.specs.Prelude.{◌≡◌, ◌<◌, ◌≤◌, ◌^◌, [], IsTrue, IsOk, IfOk, IfErr, OnOk};
+ghost use Rattle.std.specs.Prelude.{◌≡◌, ◌<◌, ◌≤◌, ◌^◌, [], length, IsTrue, IsOk, IfErr, OnOk};
 ghost use Rattle.std.specs.Option.{option_copied};
+ghost use Rattle.units.specs.Keys.{write_before};
+ghost use Rattle.units.specs.Lists.{ascends};
 ghost use Rattle.units.specs.Versions.{latest, at_time, above_versions};
 ghost use Rattle.record.specs.Facts.{facts_of, learn, recorded};
 ghost use Rattle.facts.specs.Rules.{follows_facts};
 ghost use Rattle.facts.specs.Shown.{meant};
 ghost use Rattle.protocol.specs.Sound.{writes_standing};
-ghost use Rattle.ledger.specs.Ledger.{outcome_stamp, CanInstall};
+ghost use Rattle.versions.specs.Orders.{Orders};
+ghost use Rattle.ledger.specs.Ledger.{writes_given, CanInstall};
 
 use facts::{Facts, Status};
 use record::Record;
 use std::alloc::Global;
 use std::marker::Model;
 use units::{Fault, Install, Key, ShardNo, Stamp, TxnId, Value, Write, Writes};
-use versions::Versions;
+use versions::Places;
 
 // How many versions a record installs at most.
 const MOST_INSTALLS: usize = 128;
 
-/// The facts of a shard's log, and its versions a second time, by key, for the look-ups. The two give the same values.
+/// The facts of a shard's log, and the places of its versions by key, for the look-ups. A version stands once, in the log's order.
 pub struct Ledger {
     facts: Facts,
-    versions: Versions,
+    places: Places,
 }
 
 impl Drop for Ledger {
     fn drop(self) {
         let Ledger {
             facts: _,
-            versions: _,
+            places: _,
         } = self;
     }
 }
 
 impl Model for Ledger {
+    ghost use Rattle.std.specs.Prelude.{length};
     ghost use Rattle.facts.specs.Known.{Known, room_for};
-    ghost use Rattle.versions.specs.Places.{SameValues};
+    ghost use Rattle.versions.specs.Orders.{Orders};
 
     ghost Value = { Known };
 
     ghost view = { λ l. record {
       shard = l.facts.shard;
       facts = l.facts.facts;
-      room = room_for l.facts.room l.versions.room;
+      room = room_for l.facts.room l.places.room;
     } };
 
-    ghost invariant = { λ l. SameValues l.versions.installs l.facts.facts.installs };
+    ghost invariant = { λ l. Orders l.facts.facts.installs (length l.facts.facts.installs) l.places };
 }
 
 impl Ledger {
@@ -56,7 +60,7 @@ impl Ledger {
     {
         Ledger {
             facts: Facts::new(alloc, shard),
-            versions: Versions::none(alloc),
+            places: Places::none(alloc),
         }
     }
 
@@ -100,14 +104,14 @@ impl Ledger {
     pub fn latest(&self, key: &Key) -> Option<&Value>
         ensures { option_copied result ≡ latest self.now.facts.installs key.now }
     {
-        self.versions.latest(key)
+        self.places.latest(self.facts.installs(), key)
     }
 
     /// The value that a key has at a timestamp: none where there is none or it was erased.
     pub fn at(&self, key: &Key, at: Stamp) -> Option<&Value>
         ensures { option_copied result ≡ at_time self.now.facts.installs key.now at }
     {
-        self.versions.at(key, at)
+        self.places.at(self.facts.installs(), key, at)
     }
 
     /// The record may come next in the log, by the rules of one transaction and of openings.
@@ -121,7 +125,7 @@ impl Ledger {
     pub fn takes(&self, writes: &Writes, at: Stamp) -> bool
         ensures { result ≡ above_versions self.now.facts.installs at writes.now }
     {
-        are_above(&self.versions, writes.as_slice(), at)
+        are_above(self.facts.installs(), &self.places, writes.as_slice(), at)
     }
 
     /// The timestamp is above all versions of the keys that a promise or decision of the transaction writes, where one stands.
@@ -147,62 +151,53 @@ impl Ledger {
         let Ok(()) = self.facts.reserve() else {
             return Err(Fault::Memory);
         };
-        let Ok(()) = self.versions.reserve(MOST_INSTALLS) else {
+        let Ok(()) = self.places.reserve(MOST_INSTALLS) else {
             return Err(Fault::Memory);
         };
         Ok(())
     }
 
-    /// The writes of the promise or the decision of a transaction that stands, with memory of their own. There are none
-    /// where nothing stands.
-    pub fn copy_of_writes(&self, alloc: Global, txn: TxnId) -> Result<Writes, Fault>
-        ensures writes { IfOk result
-            (λ writes. writes ≡ writes_standing (recorded self.now.facts txn)) }
-        ensures memory { IfErr result (λ fault. fault ≡ Fault.Memory) }
-    {
-        match self.status(txn) {
-            Some(Status::Prepared(prepared)) => prepared.writes.copy(alloc),
-            Some(Status::Decided(committed)) => committed.writes.copy(alloc),
-            _ => Ok(Writes::none(alloc)),
-        }
-    }
-
-    /// Learns the record that comes next in the log. It takes no memory: an outcome at a timestamp comes with the copy of
-    /// the writes that it installs.
-    pub fn learn(&mut self, item: Record, writes: Writes)
+    /// Learns the record that comes next in the log. It takes no memory: what an outcome installs is moved from what stands.
+    pub fn learn(&mut self, item: Record)
         requires room { 1 ≤ self.old.room }
         requires follows { IsTrue (follows_facts self.old.shard self.old.facts item) }
-        requires writes { CanInstall self.old.facts item writes }
+        requires installs { CanInstall self.old.facts item }
         ensures facts { self.new.facts ≡ learn self.old.facts item }
         ensures shard { self.new.shard ≡ self.old.shard }
     {
-        let at = outcome_stamp(&item);
+        self.ascend(&item);
         self.facts.learn_next(item);
-        if let Some(at) = at {
-            self.versions.install_all(writes, at);
+        self.places.follow(self.facts.installs());
+    }
+
+    // The writes that a record installs ascend by key, and are not many. It does nothing.
+    fn ascend(&self, item: &Record)
+        ensures up { IsTrue (ascends write_before (writes_given self.now.facts item.now)) }
+        ensures few { length (writes_given self.now.facts item.now) ≤ 128 }
+    {
+        if let Record::Outcome {
+            txn,
+            outcome: Some(_),
+        } = item
+        {
+            let _ = match self.status(*txn) {
+                Some(Status::Prepared(prepared)) => prepared.writes.as_slice(),
+                Some(Status::Decided(committed)) => committed.writes.as_slice(),
+                _ => &[],
+            };
         }
     }
 }
 
 // The timestamp is above all versions of the keys that are written.
-fn are_above(versions: &Versions, writes: &[Write], at: Stamp) -> bool
-    ensures { result ≡ above_versions versions.now.installs at writes.now }
+fn are_above(installs: &[Install], places: &Places, writes: &[Write], at: Stamp) -> bool
+    requires { Orders installs.now (length installs.now) places.now }
+    ensures { result ≡ above_versions installs.now at writes.now }
 {
     for write in writes {
-        if !versions.takes(&write.key, at) {
+        if !places.takes(installs, &write.key, at) {
             return false;
         }
     }
     true
-}
-
-// The timestamp of an outcome.
-fn outcome_stamp(item: &Record) -> Option<Stamp>
-    ensures { result ≡ outcome_stamp item.now }
-{
-    match item {
-        Record::Outcome { txn: _, outcome } => *outcome,
-        Record::Opened { .. } | Record::Ceiling { .. } | Record::Abort { .. } => None,
-        Record::Prepare(_) | Record::Commit(_) => None,
-    }
 }

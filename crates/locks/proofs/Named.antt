@@ -87,6 +87,13 @@ ends_nobody counts table t n right few =
     ap (map (λ (c : Claim). c.txn)) (own_alone (claim_in held) (gives_way t (n ∷ [])) (gives_light t n) t (gives_mine t (n ∷ [])) table
     (by_number (tallied counts held) (own_in held table t) (sum_by (claim_in held) table) few (right held)))
 
+-- where no lock of another clashes, it ends nobody
+pub alone_ends : (counts : Numbers) (table : List Claim) (t : Id) (n : Lock) → IsTally counts table → seems_alone counts table t n ≡ true
+    → ids_in_way t (n ∷ []) table ≡ []
+alone_ends counts table t n right seems =
+    ends_nobody counts table t n right
+    (parts (is_own (tallied counts (held_against n)) (own_in (held_against n) table t)) (is_own (tallied counts (asked_against n)) (own_in (asked_against n) table t)) seems).0
+
 pub ends_one : (table : List Claim) (t o : Id) (n : Lock) (y : Claim) (count mine theirs : ℕ) → same_id o t ≡ false
     → find_member (λ c. c.txn) table o ≡ Some y → (count < 4294967295 → count ≡ sum_by (claim_in (held_against n)) table)
     → mine ≡ own_in (held_against n) table t → theirs ≡ claim_in (held_against n) y → is_own count (mine + theirs) ≡ true

@@ -1,18 +1,16 @@
 //! The ledger of a shard, and the ids that ended there.
-ghost use Rattle.std.specs.Prelude.{◌≡◌, None};
-ghost use Rattle.ledger.specs.Ledger.{outcome_stamp};
+ghost use Rattle.ledger.specs.Ledger.{CanInstall};
 
 use crate::lines::{byte, promise};
 use ledger::{Ended, Ledger};
 use made::{id, key, shard, stamp};
 use record::Record;
 use std::alloc::Global;
-use units::{Epoch, TxnId, Writes};
+use units::{Epoch, TxnId};
 
-// Learns a record that installs nothing, where it may come next.
-#[tactic(auto, using(ledger::proofs::Learns::installs_nothing))]
-fn learn(alloc: Global, ledger: &mut Ledger, item: Record) -> bool
-    requires { outcome_stamp item ≡ None }
+// Learns a record, where it may come next.
+fn learn(ledger: &mut Ledger, item: Record) -> bool
+    requires { CanInstall ledger.old.facts item }
 {
     let Ok(()) = ledger.reserve() else {
         drop(item);
@@ -20,7 +18,7 @@ fn learn(alloc: Global, ledger: &mut Ledger, item: Record) -> bool
     };
     let follows = ledger.follows(&item);
     if follows {
-        ledger.learn(item, Writes::none(alloc));
+        ledger.learn(item);
     } else {
         drop(item);
     }
@@ -28,24 +26,20 @@ fn learn(alloc: Global, ledger: &mut Ledger, item: Record) -> bool
 }
 
 // Learns that transaction 1 committed at 120, where that may come next.
-fn settle(alloc: Global, ledger: &mut Ledger) -> bool {
+fn settle(ledger: &mut Ledger) -> bool {
     let (txn, at) = (id(1), stamp(120));
     let Ok(()) = ledger.reserve() else {
-        return false;
-    };
-    let Ok(copied) = ledger.copy_of_writes(alloc, txn) else {
         return false;
     };
     let item = Record::Outcome {
         txn,
         outcome: Some(at),
     };
-    let fits = ledger.follows(&item) && ledger.takes(&copied, at);
+    let fits = ledger.follows(&item) && ledger.takes_standing(txn, at);
     if fits {
-        ledger.learn(item, copied);
+        ledger.learn(item);
     } else {
         drop(item);
-        drop(copied);
     }
     fits
 }
@@ -55,11 +49,11 @@ fn prepare(alloc: Global, ledger: &mut Ledger) -> bool {
     let Some(epoch) = Epoch::new(1) else {
         return false;
     };
-    if !learn(alloc, ledger, Record::Opened { epoch }) {
+    if !learn(ledger, Record::Opened { epoch }) {
         return false;
     }
     match promise(alloc, 1, 111, key(b'a'), 0) {
-        Some(promise) => learn(alloc, ledger, Record::Prepare(promise)),
+        Some(promise) => learn(ledger, Record::Prepare(promise)),
         None => false,
     }
 }
@@ -78,7 +72,7 @@ fn is_settled(ledger: &Ledger) -> bool {
 pub fn is_installed(alloc: Global) -> bool {
     let mut ledger = Ledger::new(alloc, shard(1));
     let installed = prepare(alloc, &mut ledger)
-        && settle(alloc, &mut ledger)
+        && settle(&mut ledger)
         && is_settled(&ledger);
     drop(ledger);
     installed

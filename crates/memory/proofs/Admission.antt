@@ -141,7 +141,7 @@ admission_is_unseen m p up fits =
     λ i. record { last = p.last; rows = rows i; ended = ended i }
 
 pub ready_is_carriable : ReadyIsCarriable
-ready_is_carriable old new p writes up fit ready follows installs =
+ready_is_carriable old new p up fit ready follows installs =
     let rows : new.memory.rows ≡ admitted old.memory.rows (asker p.change) = ap (λ (m : Memory). m.rows) ready.memory in
     let last : new.memory.last ≡ old.memory.last = ap (λ (m : Memory). m.last) ready.memory in
     record {
@@ -156,5 +156,5 @@ ready_is_carriable old new p writes up fit ready follows installs =
       locks = ready.locks;
       follows = subst (λ (n : ℕ). MayFollow n new.facts p.logged) (ap (λ (s : Setup). s.shard) (sym ready.setup))
           (subst (λ (f : Facts). MayFollow old.setup.shard f p.logged) (sym ready.facts) follows);
-      installs = subst (λ (f : Facts). MayInstall f p.logged writes) (sym ready.facts) installs;
+      installs = subst (λ (f : Facts). MayInstall f p.logged) (sym ready.facts) installs;
     }

@@ -5,8 +5,7 @@ use Rattle.units.specs.ById.{IsById}
 use Rattle.units.specs.Ids.{Id}
 use Rattle.units.specs.Locks.{is_free, wounded}
 use Rattle.units.specs.declared.lock.Lock.{Lock}
-use Rattle.units.specs.declared.writes.Write.{Write}
-use Rattle.record.specs.Facts.{Facts, recorded}
+use Rattle.record.specs.Facts.{Facts}
 use Rattle.record.specs.declared.record.Record.{Record}
 use Rattle.facts.specs.Rules.{follows_facts}
 use Rattle.protocol.specs.Rows.{Row, Memory, Idle, claims, find_row, needs_of, held_in, without_rows}
@@ -15,7 +14,6 @@ use Rattle.rows.specs.CodeRows.{is_reading, is_collecting, is_idle, may_decide, 
 use Rattle.rows.specs.RowTable.{RowTable, put_row, has_phase, room}
 use Rattle.rows.specs.declared.row.Row.{Row as CodeRow}
 use Rattle.memory.specs.Kept.{Kept}
-use Rattle.protocol.specs.Sound.{writes_standing}
 use Rattle.ledger.specs.Ledger.{CanInstall}
 use Rattle.memory.specs.Plans.{plan_of}
 use Rattle.memory.specs.declared.plan.Plan.{Plan}
@@ -127,26 +125,15 @@ AskerHasRoom table (Some t) more = length (held_in table.rows t) + more ≤ room
 abbrev pub table_in : Kept → RowTable
 table_in k = record { rows = k.memory.rows; tokens = k.tokens }
 
--- the writes that a record installs
-abbrev pub writes_installed : Facts → Option Record → List Write
-writes_installed facts (Some (Record.Outcome t (Some s))) = writes_standing (recorded facts t)
-writes_installed facts (Some (Record.Outcome t None)) = []
-writes_installed facts None = []
-writes_installed facts (Some (Record.Opened epoch)) = []
-writes_installed facts (Some (Record.Ceiling at)) = []
-writes_installed facts (Some (Record.Prepare p)) = []
-writes_installed facts (Some (Record.Commit c)) = []
-writes_installed facts (Some (Record.Abort u)) = []
-
 -- a record, where there is one, may come next in the log
 abbrev pub MayFollow : ℕ → Facts → Option Record → Type 0
 MayFollow shard facts None = Unit {0}
 MayFollow shard facts (Some r) = follows_facts shard facts r ≡ true
 
 -- what a record installs is above the versions of its keys
-abbrev pub MayInstall : Facts → Option Record → List Write → Type 0
-MayInstall facts None writes = Unit {0}
-MayInstall facts (Some r) writes = CanInstall facts r writes
+abbrev pub MayInstall : Facts → Option Record → Type 0
+MayInstall facts None = Unit {0}
+MayInstall facts (Some r) = CanInstall facts r
 
 -- all memory for a plan is there: the state is what it was, with the asker taken in
 pub record HasMemoryFor (old new : Kept) (p : Plan) : Type 0 where
@@ -164,14 +151,14 @@ Admits rows (Some t) taken = elim (find_row rows t) [ None ↦ taken ≡ true | 
 
 -- a plan that can be carried out now: it fits, its asker has a row, all memory is there, its record may come next, and what
 -- it installs is above the versions of its keys
-pub record IsCarriable (k : Kept) (p : Plan) (writes : List Write) : Type 0 where
+pub record IsCarriable (k : Kept) (p : Plan) : Type 0 where
   pub fit : IsFit k p
   pub there : admitted k.memory.rows (asker p.change) ≡ k.memory.rows
   pub records : 1 ≤ k.records
   pub ends : length p.wounded < k.ends
   pub locks : AskerHasRoom (table_in k) (asker p.change) (length p.needs.items)
   pub follows : MayFollow k.setup.shard k.facts p.logged
-  pub installs : MayInstall k.facts p.logged writes
+  pub installs : MayInstall k.facts p.logged
 
 -- who asks may
 abbrev pub MayAsk : List Row → Option Id → Type 0
@@ -211,5 +198,5 @@ AdmissionIsUnseen =
 -- a plan that fits can be carried out once all is ready, where its record may come next and install what it does
 abbrev pub ReadyIsCarriable : Type 0
 ReadyIsCarriable =
-    (old new : Kept) (p : Plan) (writes : List Write) → IsById (λ r. r.txn) old.memory.rows → IsFit old p → HasMemoryFor old new p →
-    MayFollow old.setup.shard old.facts p.logged → MayInstall old.facts p.logged writes → IsCarriable new p writes
+    (old new : Kept) (p : Plan) → IsById (λ r. r.txn) old.memory.rows → IsFit old p → HasMemoryFor old new p →
+    MayFollow old.setup.shard old.facts p.logged → MayInstall old.facts p.logged → IsCarriable new p

@@ -6,7 +6,7 @@ ghost use Rattle.protocol.specs.Step.{facts_after};
 ghost use Rattle.rows.specs.RowTable.{put_row, phase_by, room};
 ghost use Rattle.memory.specs.Carry.{AdmissionIsUnseen, ReadyIsCarriable, IsFit, MayAsk, HasMemoryFor, IsCarriable, IsDated, Admits, MayUndo};
 ghost use Rattle.memory.specs.Carry.{MayDrop, MayFollow, MayInstall, CanStand, FitsRows, AskerHasRoom, asker, admitted, admitted_to};
-ghost use Rattle.memory.specs.Carry.{writes_installed, may_ask, may_end};
+ghost use Rattle.memory.specs.Carry.{may_ask, may_end};
 ghost use Rattle.memory.specs.Plans.{plan_of, change_of, logging};
 ghost use Rattle.memory.specs.Served.{IsHolding, stamp_held};
 
@@ -19,12 +19,11 @@ use record::Record;
 use rows::{Row, Rows};
 use safetime::SafeTime;
 use std::alloc::Global;
-use units::{Fault, Lock, Stamp, TxnId, Writes};
+use units::{Fault, Lock, Stamp, TxnId};
 
-/// What was made ready for a plan: a copy of the writes that its record installs, and whether its transaction got a row.
-#[derive(Drop)]
+/// What was made ready for a plan: whether its transaction got a row.
+#[derive(Clone, Copy)]
 pub struct Ready {
-    pub writes: Writes,
     pub admitted: bool,
 }
 
@@ -49,8 +48,6 @@ impl State {
     pub fn make_ready(&mut self, alloc: Global, plan: &Plan) -> Result<Ready, Fault>
         requires { IsFit self.old plan.now }
         ensures ready { OnOk result (HasMemoryFor self.old self.new plan.now) }
-        ensures writes { IfOk result
-            (λ ready. ready.writes ≡ writes_installed self.old.facts plan.now.logged) }
         ensures admits { IfOk result
             (λ ready. Admits self.old.memory.rows (asker plan.now.change) ready.admitted) }
         ensures undo { IfOk result
@@ -62,7 +59,8 @@ impl State {
     {
         self.ledger.reserve()?;
         self.ended.reserve(plan.wounded.as_slice().len() + 1)?;
-        ready_for(plan, alloc, &self.ledger, &mut self.rows)
+        let admitted = admit_asker(&mut self.rows, alloc, plan.change.asker(), plan.needs.len())?;
+        Ok(Ready { admitted })
     }
 
     /// Takes back what was made ready for a plan whose record was not logged: the row that its transaction got.
@@ -73,8 +71,7 @@ impl State {
         ensures memory { (m : Memory) → Admits m.rows (asker plan.now.change) ready.admitted
             → self.old.memory ≡ admitted_to m (asker plan.now.change) → self.new.memory ≡ m }
     {
-        let Ready { writes, admitted } = ready;
-        drop(writes);
+        let Ready { admitted } = ready;
         self.rows.laws();
         match plan.change.asker() {
             Some(txn) if admitted => self.rows.end(txn),
@@ -84,8 +81,8 @@ impl State {
 
     /// Carries out a plan for which all was made ready, once its record is logged: what the plan itself has as its record
     /// may have been moved out of it. It takes no memory.
-    pub fn carry(&mut self, plan: Plan, ready: Ready, logged: Option<Logged>) -> Outbox
-        requires ready { IsCarriable self.old (logging logged plan) ready.writes }
+    pub fn carry(&mut self, plan: Plan, logged: Option<Logged>) -> Outbox
+        requires ready { IsCarriable self.old (logging logged plan) }
         ensures setup { self.new.setup ≡ self.old.setup }
         ensures facts { self.new.facts ≡ facts_after self.old.facts logged }
         ensures memory { self.new.memory ≡
@@ -113,7 +110,7 @@ impl State {
         );
         drop(wounded);
         drop(needs);
-        learn(&mut self.ledger, item, ready.writes);
+        learn(&mut self.ledger, item);
         outbox
     }
 }
@@ -124,55 +121,6 @@ pub fn ready_plans_can_be_carried()
     ensures unseen { AdmissionIsUnseen }
     ensures carriable { ReadyIsCarriable }
 {}
-
-// Takes a copy of the writes that a plan's record installs, and the memory for its locks.
-fn ready_for(plan: &Plan, alloc: Global, ledger: &Ledger, rows: &mut Rows) -> Result<Ready, Fault>
-    requires { MayAsk rows.old.rows (asker plan.now.change) }
-    ensures writes { IfOk result
-        (λ ready. ready.writes ≡ writes_installed ledger.now.facts plan.now.logged) }
-    ensures rows { OnOk result (rows.new.rows ≡ admitted rows.old.rows (asker plan.now.change)) }
-    ensures room { OnOk result
-        (AskerHasRoom rows.new (asker plan.now.change) (length plan.now.needs.items)) }
-    ensures admits { IfOk result
-        (λ ready. Admits rows.old.rows (asker plan.now.change) ready.admitted) }
-    ensures undo { IfOk result
-        (λ ready. MayUndo rows.new.rows (asker plan.now.change) ready.admitted) }
-    ensures holding { (holds : List ℕ) → IsHolding holds rows.old.rows
-        → IsHolding holds rows.new.rows }
-    ensures kept { OnErr result (rows.new.rows ≡ rows.old.rows) }
-    ensures memory { IfErr result (λ fault. fault ≡ Fault.Memory) }
-{
-    let Ok(writes) = writes_for(ledger, alloc, plan) else {
-        return Err(Fault::Memory);
-    };
-    match admit_asker(rows, alloc, plan.change.asker(), plan.needs.len()) {
-        Ok(admitted) => Ok(Ready { writes, admitted }),
-        Err(fault) => {
-            drop(writes);
-            Err(fault)
-        }
-    }
-}
-
-// A copy of the writes that the record of a plan installs.
-fn writes_for(ledger: &Ledger, alloc: Global, plan: &Plan) -> Result<Writes, Fault>
-    ensures writes { IfOk result
-        (λ writes. writes ≡ writes_installed ledger.now.facts plan.now.logged) }
-    ensures memory { IfErr result (λ fault. fault ≡ Fault.Memory) }
-{
-    match &plan.logged {
-        Some(
-            Record::Outcome {
-                txn,
-                outcome: Some(_),
-            },
-        ) => ledger.copy_of_writes(alloc, *txn),
-        Some(Record::Outcome { outcome: None, .. }) | None => Ok(Writes::none(alloc)),
-        Some(Record::Opened { .. }) | Some(Record::Ceiling { .. }) => Ok(Writes::none(alloc)),
-        Some(Record::Prepare(_)) | Some(Record::Commit(_)) => Ok(Writes::none(alloc)),
-        Some(Record::Abort { .. }) => Ok(Writes::none(alloc)),
-    }
-}
 
 // Takes the memory for some locks of the transaction that asks for them, where there is one.
 fn admit_asker(
@@ -363,17 +311,17 @@ fn note_ended(ended: &mut Ended, txns: &[TxnId])
 }
 
 // Learns the record that was logged, where there is one.
-fn learn(ledger: &mut Ledger, item: Option<Record>, writes: Writes)
+fn learn(ledger: &mut Ledger, item: Option<Record>)
     requires room { 1 ≤ ledger.old.room }
     requires opened { 0 < ledger.old.facts.epoch }
     requires follows { MayFollow ledger.old.shard ledger.old.facts item }
-    requires installs { MayInstall ledger.old.facts item writes }
+    requires installs { MayInstall ledger.old.facts item }
     ensures facts { ledger.new.facts ≡ facts_after ledger.old.facts item }
     ensures shard { ledger.new.shard ≡ ledger.old.shard }
     ensures opened { 0 < ledger.new.facts.epoch }
 {
     if let Some(item) = item {
-        ledger.learn(item, writes);
+        ledger.learn(item);
     }
 }
 

@@ -10,7 +10,7 @@ use record::Record;
 use rows::Rows;
 use safetime::SafeTime;
 use std::alloc::Global;
-use units::{Epoch, Fault, Setup, ShardNo, Stamp, TxnId, Writes};
+use units::{Epoch, Fault, Setup, ShardNo, Stamp, TxnId};
 
 impl State {
     /// What a shard keeps once its first opening is logged. It is refused for want of memory alone.
@@ -107,7 +107,7 @@ fn opened_ledger(alloc: Global, shard: ShardNo) -> Result<Ledger, Fault>
     let mut ledger = Ledger::new(alloc, shard);
     match ledger.reserve() {
         Ok(()) => {
-            learn_opening(&mut ledger, alloc);
+            learn_opening(&mut ledger);
             Ok(ledger)
         }
         Err(fault) => {
@@ -118,7 +118,7 @@ fn opened_ledger(alloc: Global, shard: ShardNo) -> Result<Ledger, Fault>
 }
 
 // Learns the first opening of a log, as its first record. It takes no memory.
-fn learn_opening(ledger: &mut Ledger, alloc: Global)
+fn learn_opening(ledger: &mut Ledger)
     requires room { 1 ≤ ledger.old.room }
     requires none { ledger.old.facts ≡ facts_of [] }
     ensures facts { ledger.new.facts ≡ facts_of (Record.Opened 1 ∷ []) }
@@ -127,5 +127,5 @@ fn learn_opening(ledger: &mut Ledger, alloc: Global)
     let first = Record::Opened {
         epoch: Epoch::first(),
     };
-    ledger.learn(first, Writes::none(alloc));
+    ledger.learn(first);
 }

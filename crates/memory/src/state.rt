@@ -223,6 +223,14 @@ impl State {
         true
     }
 
+    /// By the numbers of locks alone, nobody is in the way of exclusive locks of what is written. It may be so where this says no.
+    pub fn is_undisputed(&self, txn: TxnId, writes: &Writes) -> bool
+        ensures nobody { result ≡ true → in_way (start_of self.now) txn (exclusive writes.now) ≡ [] }
+        ensures opens { result ≡ true → opens (start_of self.now) txn (exclusive writes.now) ≡ true }
+    {
+        self.rows.is_undisputed(txn, writes)
+    }
+
     /// The transaction has no row, and there is no room for one.
     pub fn is_crowded(&self, txn: TxnId) -> bool
         ensures crowded { result ≡ is_crowded (start_of self.now) txn }

@@ -1,5 +1,5 @@
 -- What a participant plans for each message, by how its transaction stands.
-use Rattle.std.specs.Prelude.{ℕ, List, [], Result}
+use Rattle.std.specs.Prelude.{◌≡◌, ℕ, List, [], Result}
 use Rattle.units.specs.Ids.{Id}
 use Rattle.units.specs.Keys.{Bytes}
 use Rattle.units.specs.Locks.{exclusive}
@@ -43,6 +43,10 @@ MakesGrantedRead k ended t key result = MakesPlan k (granted_read (start_of k) e
 -- the promise of a request, once its locks are granted
 abbrev pub MakesPromise : Kept → List Id → Id → ℕ → PrepareRequest → Result Plan Fault → Type 0
 MakesPromise k ended t at r result = MakesPlan k (promised_by (start_of k) ended t at r.coordinator r.reads r.writes) result
+
+-- nobody is in the way of a prepare's locks whom it would end
+abbrev pub EndsNobody : Kept → Prepare → Type 0
+EndsNobody k m = in_way (start_of k) m.txn (exclusive m.writes) ≡ []
 
 -- whoever is in the way is ended, and the promise made
 abbrev pub MakesPromiseAnew : Kept → ℕ → Prepare → Result Plan Fault → Type 0

@@ -9,7 +9,7 @@ ghost use Rattle.rows.specs.CodeRows.{phase_of};
 ghost use Rattle.memory.specs.Carry.{Asks, IsFit, MayTurn, may_ask, may_end};
 ghost use Rattle.memory.specs.Kept.{start_of, standing_of, IsPlanned};
 ghost use Rattle.memory.specs.Standings.{standing_in, standing_by_row, opens_writes, MakesPlan, MakesReply};
-ghost use Rattle.participant.specs.ByMessage.{PlansPrepare, PlansPrepareNow, PlansPromise, MakesPromise, MakesPromiseAnew};
+ghost use Rattle.participant.specs.ByMessage.{PlansPrepare, PlansPrepareNow, PlansPromise, EndsNobody, MakesPromise, MakesPromiseAnew};
 
 use locks::exclusive;
 use memory::{Change, PastStanding, Plan, Request, State, reads_stand, vote_to};
@@ -146,8 +146,9 @@ fn prepare_now(
     ensures planned { PlansPrepareNow state.now now.now.earliest prepare.now result }
     ensures fit { IfOk result (IsFit state.now) }
 {
-    if state.opens_writes(prepare.txn, &prepare.writes) {
-        promise_now(state, alloc, now, prepare)
+    let undisputed = state.is_undisputed(prepare.txn, &prepare.writes);
+    if undisputed || state.opens_writes(prepare.txn, &prepare.writes) {
+        promise_now(state, alloc, now, prepare, undisputed)
     } else {
         wait(state, alloc, prepare)
     }
@@ -159,7 +160,9 @@ fn promise_now(
     alloc: Global,
     now: &Reading,
     prepare: &Prepare,
+    undisputed: bool,
 ) -> Result<Plan, Fault>
+    requires nobody { undisputed ≡ true → EndsNobody state.now prepare.now }
     requires opens { opens_writes state.now prepare.now.txn prepare.now.writes ≡ true }
     requires ends { may_end state.now.memory.rows prepare.now.txn ≡ true }
     ensures planned { PlansPrepareNow state.now now.now.earliest prepare.now result }
@@ -172,18 +175,25 @@ fn promise_now(
     if state.is_crowded(prepare.txn) {
         return Err(Fault::RowsFull);
     }
-    promise_anew(state, alloc, prepare, at)
+    promise_anew(state, alloc, prepare, at, undisputed)
 }
 
 // Whoever is in the way is ended, and the promise logged.
-fn promise_anew(state: &State, alloc: Global, prepare: &Prepare, at: Stamp) -> Result<Plan, Fault>
+fn promise_anew(
+    state: &State,
+    alloc: Global,
+    prepare: &Prepare,
+    at: Stamp,
+    undisputed: bool,
+) -> Result<Plan, Fault>
+    requires nobody { undisputed ≡ true → EndsNobody state.now prepare.now }
     requires opens { opens_writes state.now prepare.now.txn prepare.now.writes ≡ true }
     requires asks { may_ask state.now.memory.rows prepare.now.txn ≡ true }
     ensures plan { MakesPromiseAnew state.now at prepare.now result }
     ensures fit { IfOk result (IsFit state.now) }
     ensures memory { IfErr result (λ fault. fault ≡ Fault.Memory) }
 {
-    let Ok((wounded, needs, request)) = asked_anew(state, alloc, prepare) else {
+    let Ok((wounded, needs, request)) = asked_anew(state, alloc, prepare, undisputed) else {
         return Err(Fault::Memory);
     };
     promise_at(state, alloc, wounded, needs, prepare.txn, at, request)
@@ -214,7 +224,7 @@ fn wait_in_row(state: &State, alloc: Global, prepare: &Prepare) -> Result<Plan, 
     ensures fit { IfOk result (IsFit state.now) }
     ensures memory { IfErr result (λ fault. fault ≡ Fault.Memory) }
 {
-    let Ok((wounded, needs, request)) = asked_anew(state, alloc, prepare) else {
+    let Ok((wounded, needs, request)) = asked_anew(state, alloc, prepare, false) else {
         return Err(Fault::Memory);
     };
     let waits = Request {
@@ -230,7 +240,9 @@ fn asked_anew(
     state: &State,
     alloc: Global,
     prepare: &Prepare,
+    undisputed: bool,
 ) -> Result<(Ids, Vec<Lock>, PrepareRequest), Fault>
+    requires { undisputed ≡ true → EndsNobody state.now prepare.now }
     ensures ids { IfOk result (λ asked. asked.0 ≡
         in_way (start_of state.now) prepare.now.txn (exclusive prepare.now.writes)) }
     ensures locks { IfOk result (λ asked. asked.1.items ≡ exclusive prepare.now.writes) }
@@ -244,7 +256,7 @@ fn asked_anew(
     let Ok(needs) = exclusive(alloc, &prepare.writes) else {
         return Err(Fault::Memory);
     };
-    let Ok(wounded) = state.in_way(alloc, prepare.txn, &needs) else {
+    let Ok(wounded) = ended(state, alloc, prepare.txn, &needs, undisputed) else {
         return Err(Fault::Memory);
     };
     let (reads, writes) = (prepare.reads.keys(), &prepare.writes);
@@ -252,6 +264,24 @@ fn asked_anew(
         return Err(Fault::Memory);
     };
     Ok((wounded, needs, request))
+}
+
+// Whom a request ends: nobody where it is undisputed.
+fn ended(
+    state: &State,
+    alloc: Global,
+    txn: TxnId,
+    needs: &[Lock],
+    undisputed: bool,
+) -> Result<Ids, Fault>
+    requires { undisputed ≡ true → in_way (start_of state.now) txn needs.now ≡ [] }
+    ensures ids { IfOk result (λ ids. ids ≡ in_way (start_of state.now) txn needs.now) }
+    ensures memory { IfErr result (λ fault. fault ≡ Fault.Memory) }
+{
+    if undisputed {
+        return Ok(Ids::from_vec(Vec::new(alloc)));
+    }
+    state.in_way(alloc, txn, needs)
 }
 
 /// The prepare that a transaction waits with, once its locks are granted.

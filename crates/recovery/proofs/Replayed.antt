@@ -13,7 +13,7 @@ use Rattle.protocol.specs.Rows.{Memory, Row, claims, rebuilt}
 use Rattle.protocol.specs.Plan.{carried}
 use Rattle.protocol.specs.Step.{facts_after}
 use Rattle.protocol.proofs.OpenedRows.{by_id-gather}
-use Rattle.memory.specs.Carry.{AdmissionIsUnseen, IsCarriable, IsFit, HasMemoryFor, MayFollow, MayInstall, ReadyIsCarriable, writes_installed}
+use Rattle.memory.specs.Carry.{AdmissionIsUnseen, IsCarriable, IsFit, HasMemoryFor, MayFollow, MayInstall, ReadyIsCarriable}
 use Rattle.memory.specs.Kept.{Kept}
 use Rattle.ledger.specs.Ledger.{CanInstall}
 use Rattle.memory.specs.Plans.{plan_of, logging}
@@ -29,24 +29,23 @@ rows_by_id k recovered =
     subst (IsById (λ (r : Row). r.txn)) (sym (rows_are k recovered)) (by_id-gather k.facts.entries recovered.order (own_rows k.facts.entries recovered.own))
 
 -- what it installs is above the versions of its keys
-installs_again : (facts : Facts) (item : Record) (writes : List Write) → fits_facts facts item ≡ true → writes ≡ writes_installed facts (Some item) →
-    CanInstall facts item writes
-installs_again facts (Record.Outcome t (Some s)) writes fits same = (same, subst (λ ws. above_versions facts.installs s ws ≡ true) (sym same) fits)
-installs_again facts (Record.Outcome t None) writes fits same = tt
-installs_again facts (Record.Opened epoch) writes fits same = tt
-installs_again facts (Record.Ceiling at) writes fits same = tt
-installs_again facts (Record.Prepare p) writes fits same = tt
-installs_again facts (Record.Commit c) writes fits same = tt
-installs_again facts (Record.Abort t) writes fits same = tt
+installs_again : (facts : Facts) (item : Record) → fits_facts facts item ≡ true → CanInstall facts item
+installs_again facts (Record.Outcome t (Some s)) fits = fits
+installs_again facts (Record.Outcome t None) fits = tt
+installs_again facts (Record.Opened epoch) fits = tt
+installs_again facts (Record.Ceiling at) fits = tt
+installs_again facts (Record.Prepare p) fits = tt
+installs_again facts (Record.Commit c) fits = tt
+installs_again facts (Record.Abort t) fits = tt
 
-pub can_carry_again : (old new : Kept) (p : Plan) (item : Record) (writes : List Write) → IsRecovered old →
+pub can_carry_again : (old new : Kept) (p : Plan) (item : Record) → IsRecovered old →
     follows_facts old.setup.shard old.facts item ≡ true → fits_facts old.facts item ≡ true
-    → p.logged ≡ Some item → IsFit old p → HasMemoryFor old new p → ReadyIsCarriable → writes ≡ writes_installed old.facts p.logged
-    → IsCarriable new (logging (Some item) p) writes
-can_carry_again old new p item writes recovered follows fits logged fit ready law same =
-    subst (λ (l : Option Record). IsCarriable new (logging l p) writes) logged (law old new p writes (rows_by_id old recovered) fit ready
+    → p.logged ≡ Some item → IsFit old p → HasMemoryFor old new p → ReadyIsCarriable
+    → IsCarriable new (logging (Some item) p)
+can_carry_again old new p item recovered follows fits logged fit ready law =
+    subst (λ (l : Option Record). IsCarriable new (logging l p)) logged (law old new p (rows_by_id old recovered) fit ready
     (subst (MayFollow old.setup.shard old.facts) (sym logged) follows)
-    (subst (λ o. MayInstall old.facts o writes) (sym logged) (installs_again old.facts item writes fits (same ∙ ap (writes_installed old.facts) logged))))
+    (subst (MayInstall old.facts) (sym logged) (installs_again old.facts item fits)))
 
 -- the memory after it
 memory_again : (old new : Kept) (p : Plan) (after : Memory) → IsRecovered old → IsFit old p → HasMemoryFor old new p → AdmissionIsUnseen

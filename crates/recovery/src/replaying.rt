@@ -4,7 +4,7 @@ ghost use Rattle.record.specs.Facts.{learn, or_floor};
 ghost use Rattle.facts.specs.Rules.{follows_facts};
 ghost use Rattle.protocol.specs.Rows.{rebuilt, find_row};
 ghost use Rattle.protocol.specs.Plan.{Puts, carried};
-ghost use Rattle.memory.specs.Carry.{Asks, HasMemoryFor, IsFit, MayStand, writes_installed};
+ghost use Rattle.memory.specs.Carry.{Asks, HasMemoryFor, IsFit, MayStand};
 ghost use Rattle.memory.specs.Plans.{plan_of};
 ghost use Rattle.rows.specs.RowTable.{phase_by};
 ghost use Rattle.recovery.specs.Recovered.{IsRecovered, fits_facts, stands_in};
@@ -55,7 +55,7 @@ pub fn replay(state: &mut State, alloc: Global, logged: Logged) -> Result<(), Fa
             let Some(item) = plan.logged.take() else {
                 unreachable!()
             };
-            state.carry(plan, ready, Some(word.with(item)));
+            state.carry(plan, Some(word.with(item)));
             Ok(())
         }
         Err(fault) => {
@@ -77,8 +77,6 @@ fn ready_again(state: &mut State, alloc: Global, item: Record) -> Result<(Plan, 
         (λ made. carried (plan_of state.old.memory.rows made.0) state.old.memory ≡
         rebuilt (learn state.old.facts item)) }
     ensures ready { IfOk result (λ made. HasMemoryFor state.old state.new made.0) }
-    ensures writes { IfOk result
-        (λ made. made.1.writes ≡ writes_installed state.old.facts made.0.logged) }
     ensures memory { IfErr result (λ fault. fault ≡ Fault.Memory) }
 {
     let plan = plan_again(state, alloc, item)?;

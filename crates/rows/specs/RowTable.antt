@@ -7,7 +7,7 @@ use Rattle.units.specs.ById.{find_member, without_member}
 use Rattle.units.specs.Locks.{Claim}
 use Rattle.units.specs.declared.lock.Lock.{Lock}
 use Rattle.record.specs.declared.record.Record.{Record}
-use Rattle.protocol.specs.Rows.{Row, Phase, Idle, Collecting, IsPrepared, IsDecided, find_row, with_row, without_row, needs_of, held_in, without_rows}
+use Rattle.protocol.specs.Rows.{Row, Phase, Idle, Collecting, IsPrepared, IsDecided, find_row, with_row, without_row, needs_of}
 use Rattle.protocol.specs.Rows.{with_vote}
 use Rattle.locks.specs.Table.{Token}
 use Rattle.rows.specs.CodeRows.{token_of, txn_of, phase_of, is_reading}

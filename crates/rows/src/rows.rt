@@ -3,7 +3,7 @@ ghost use Rattle.std.specs.List.{list_all};
 ghost use Rattle.std.specs.Prelude.{◌≡◌, ◌<◌, ◌≤◌, [], true, Some, None, nat_le, length, MatchOption, IfOk, IfErr, OnOk, OnErr};
 ghost use Rattle.units.specs.ById.{IsById};
 ghost use Rattle.units.specs.LockLaws.{IsLawfulTable};
-ghost use Rattle.units.specs.Locks.{holds, is_free, ready, wounded};
+ghost use Rattle.units.specs.Locks.{exclusive, holds, is_free, ready, wounded};
 ghost use Rattle.protocol.specs.Rows.{Idle, claims, find_row, without_row, held_in, without_rows};
 ghost use Rattle.rows.specs.CodeRows.{phase_of, is_reading};
 ghost use Rattle.rows.specs.RowTable.{has_phase, put_row, nth_prepared, nth_decided, decided_row, IsEarliest, without_token};
@@ -15,7 +15,7 @@ use crate::states::RowReading;
 use locks::Table;
 use std::alloc::Global;
 use std::marker::Model;
-use units::{Fault, Ids, Key, Keys, Lock, MOST_ROWS, Stamp, TxnId};
+use units::{Fault, Ids, Key, Keys, Lock, MOST_ROWS, Stamp, TxnId, Writes};
 
 /// The transactions of a shard: each has a row, in a state that holds its token of the lock table. There are at most
 /// 1,024.
@@ -125,6 +125,19 @@ impl Rows {
             (wounded (claims self.now.rows) txn needs.now))) txn needs.now }
     {
         self.locks.opens(txn, needs)
+    }
+
+    /// Whether the numbers of locks alone tell that a request for what is written ends nobody and is granted. It may be so where
+    /// this says no.
+    pub fn is_undisputed(&self, txn: TxnId, writes: &Writes) -> bool
+        ensures nobody { result ≡ true →
+            wounded (claims self.now.rows) txn (exclusive writes.now) ≡ [] }
+        ensures opens { result ≡ true →
+            is_free (claims (without_rows self.now.rows
+            (wounded (claims self.now.rows) txn (exclusive writes.now))))
+            txn (exclusive writes.now) ≡ true }
+    {
+        self.locks.is_undisputed(txn, writes)
     }
 
     /// The oldest transaction that waits and would be granted now.

@@ -10,7 +10,7 @@ use Rattle.protocol.specs.Rows.{Memory}
 use Rattle.protocol.specs.Plan.{carried}
 use Rattle.protocol.specs.Step.{facts_after}
 use Rattle.protocol.specs.Sound.{IsSound}
-use Rattle.memory.specs.Carry.{AdmissionIsUnseen, ReadyIsCarriable, HasMemoryFor, IsCarriable, MayInstall, writes_installed}
+use Rattle.memory.specs.Carry.{AdmissionIsUnseen, ReadyIsCarriable, HasMemoryFor, IsCarriable, MayInstall}
 use Rattle.memory.specs.Kept.{Kept}
 use Rattle.memory.specs.Plans.{plan_of, logging}
 use Rattle.memory.specs.declared.plan.Plan.{Plan}
@@ -38,10 +38,9 @@ facts-logged (Err fault) f r known = absurd (cc)
 -- its record is handed over beside it
 module _ (k ready : Kept) (p : Plan) (l : Option Record) (own : p.logged ≡ l) (due : IsDue k p) (made : HasMemoryFor k ready p) where
   -- it can be carried out
-  pub can_carry : ReadyIsCarriable → (writes : List Write) → writes ≡ writes_installed k.facts p.logged → IsCarriable ready (logging l p) writes
-  can_carry law writes is =
-      subst (λ (o : Option Record). IsCarriable ready (logging o p) writes) own
-      (law k ready p writes due.order due.fit made due.follows (subst (MayInstall k.facts p.logged) (sym is) due.installs))
+  pub can_carry : ReadyIsCarriable → IsCarriable ready (logging l p)
+  can_carry law =
+      subst (λ (o : Option Record). IsCarriable ready (logging o p)) own (law k ready p due.order due.fit made due.follows due.installs)
 
   -- and makes of the memory what the plan says, told from the state before
   pub memory_after : AdmissionIsUnseen → (after : Memory) → after ≡ carried (plan_of ready.memory.rows (logging l p)) ready.memory →

@@ -13,7 +13,7 @@ use Rattle.protocol.specs.Plan.{carried, ended_by, after_change}
 use Rattle.protocol.specs.Step.{facts_after}
 use Rattle.protocol.specs.Sound.{FreshIsSound, IsSound, OpeningKeepsSound}
 use Rattle.protocol.proofs.RowChanges.{by_id-claims}
-use Rattle.memory.specs.Carry.{IsFit, MayFollow, MayInstall, writes_installed}
+use Rattle.memory.specs.Carry.{IsFit, MayFollow, MayInstall}
 use Rattle.memory.specs.Kept.{Kept}
 use Rattle.memory.specs.Plans.{plan_of}
 use Rattle.memory.specs.declared.plan.Plan.{Plan}
@@ -69,7 +69,7 @@ opening_due law k p last again sound showable same fit plan = record {
   order = ∥∥₁_elim sound (by_id-prop (λ (r : Row). r.txn) k.memory.rows) (λ s. by_id-claims k.memory.rows s.table.order);
   fit = fit;
   follows = subst (MayFollow k.setup.shard k.facts) (sym logged) (follows_next k.setup.shard k.facts);
-  installs = subst (λ o. MayInstall k.facts o (writes_installed k.facts o)) (sym logged) tt;
+  installs = subst (MayInstall k.facts) (sym logged) tt;
   sound = ∥∥₁_map sound (λ s.
       subst (λ o. IsSound k.setup.shard (facts_after k.facts o) (carried (plan_of k.memory.rows p) k.memory)) (sym logged)
       (subst (IsSound k.setup.shard (learn k.facts (next k.facts))) (sym (opened_memory k (plan_of k.memory.rows p) last (Some (next k.facts)) again same plan))

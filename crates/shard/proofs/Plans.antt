@@ -18,7 +18,7 @@ use Rattle.protocol.specs.Plan.{carried}
 use Rattle.protocol.specs.Step.{IsInLimit, facts_after, plan_input}
 use Rattle.protocol.proofs.RowChanges.{by_id-claims}
 use Rattle.protocol.specs.Sound.{IsSound, StepKeepsSound, LoggedFollows, InstallsAbove}
-use Rattle.memory.specs.Carry.{IsFit, MayFollow, MayInstall, writes_installed}
+use Rattle.memory.specs.Carry.{IsFit, MayFollow, MayInstall}
 use Rattle.memory.specs.Kept.{Kept, start_of}
 use Rattle.memory.specs.Plans.{plan_of}
 use Rattle.memory.specs.declared.plan.Plan.{Plan as CodePlan}
@@ -31,9 +31,8 @@ may_follow shard facts None follows = tt
 may_follow shard facts (Some r) follows = follows r refl
 
 may_install : (facts : Facts) (logged : Option Record)
-    → ((t : Id) (s : ℕ) → logged ≡ Some (Record.Outcome t (Some s)) → MayInstall facts (Some (Record.Outcome t (Some s)))
-    (writes_installed facts (Some (Record.Outcome t (Some s)))))
-    → MayInstall facts logged (writes_installed facts logged)
+    → ((t : Id) (s : ℕ) → logged ≡ Some (Record.Outcome t (Some s)) → MayInstall facts (Some (Record.Outcome t (Some s))))
+    → MayInstall facts logged
 may_install facts None installs = tt
 may_install facts (Some (Record.Outcome t (Some s))) installs = installs t s refl
 may_install facts (Some (Record.Outcome t None)) installs = tt
@@ -69,7 +68,7 @@ module _ (k : Kept) (now : Interval) (i : Input) (p : CodePlan) (limit : IsInLim
     order = ascending k.setup.shard k.facts k.memory sound;
     fit = fit;
     follows = may_follow k.setup.shard k.facts p.logged (follows_next follows sound);
-    installs = may_install k.facts p.logged (λ t s e. (refl, installs_next installs sound t s e));
+    installs = may_install k.facts p.logged (installs_next installs sound);
     sound = ∥∥₁_map sound (λ s. keeps most_rows k.setup k.facts k.memory now i (plan_of k.memory.rows p) limit s planned);
     showable = showable;
   }

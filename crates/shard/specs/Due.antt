@@ -3,7 +3,7 @@ use Rattle.units.specs.ById.{IsById}
 use Rattle.protocol.specs.Plan.{carried}
 use Rattle.protocol.specs.Step.{facts_after}
 use Rattle.protocol.specs.Sound.{IsSound}
-use Rattle.memory.specs.Carry.{IsFit, MayFollow, MayInstall, writes_installed}
+use Rattle.memory.specs.Carry.{IsFit, MayFollow, MayInstall}
 use Rattle.memory.specs.Kept.{Kept}
 use Rattle.memory.specs.Plans.{plan_of}
 use Rattle.memory.specs.declared.plan.Plan.{Plan}
@@ -15,6 +15,6 @@ pub record IsDue (k : Kept) (p : Plan) : Type 0 where
   pub order : IsById (λ r. r.txn) k.memory.rows
   pub fit : IsFit k p
   pub follows : MayFollow k.setup.shard k.facts p.logged
-  pub installs : MayInstall k.facts p.logged (writes_installed k.facts p.logged)
+  pub installs : MayInstall k.facts p.logged
   pub sound : ∥ IsSound k.setup.shard (facts_after k.facts p.logged) (carried (plan_of k.memory.rows p) k.memory) ∥₁
   pub showable : IsShowable (facts_after k.facts p.logged) (carried (plan_of k.memory.rows p) k.memory)

@@ -106,10 +106,10 @@ impl<D: Disk> Machine<D> {
             }
         };
         let Some(item) = plan.logged.take() else {
-            return Ok(self.state.carry(plan, ready, None));
+            return Ok(self.state.carry(plan, None));
         };
         match append_record(&mut self.gate_log, alloc, item) {
-            Ok(logged) => Ok(self.state.carry(plan, ready, Some(logged))),
+            Ok(logged) => Ok(self.state.carry(plan, Some(logged))),
             Err(fault) => {
                 self.state.undo(&plan, ready);
                 drop(plan);

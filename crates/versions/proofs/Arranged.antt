@@ -1,5 +1,5 @@
 -- Versions read in the order of their places.
-use Rattle.std.proofs.Common.{◌≡◌, ℕ, zero, suc, ◌+◌, ◌<◌, List, [], ◌∷◌, ◌++◌, length, get_or, refl, sym, ap, ◌∙◌, arith}
+use Rattle.std.proofs.Common.{◌≡◌, ℕ, zero, suc, ◌+◌, ◌<◌, ◌≤◌, List, [], ◌∷◌, ◌++◌, length, get_or, refl, sym, ap, ◌∙◌, arith}
 use Rattle.std.specs.List.{insert}
 use Rattle.std.proofs.lemmas.List.{length-map, get_or-map, get_or_append_left, get_or_push, get_or_default}
 use Rattle.units.specs.declared.writes.Install.{Install}
@@ -25,19 +25,27 @@ arranged_at installs places k x d within lt is =
 cons : {a b : Install} {s t : List Install} → a ≡ b → s ≡ t → a ∷ s ≡ b ∷ t
 cons {a} {b} {s} {t} first rest = ap (λ x. x ∷ s) first ∙ ap (λ r. b ∷ r) rest
 
--- one more version at the end is read at none of the places before
-still_arranged : (installs : List Install) (x : Install) (places : List ℕ) → AreWithin places (length installs) →
-    arranged (installs ++ x ∷ []) places ≡ arranged installs places
-still_arranged installs x [] within = refl
-still_arranged installs x (p ∷ places) within = cons (get_or_append_left installs (x ∷ []) no_install p within.0) (still_arranged installs x places within.1)
+-- more versions at the end are read at none of the places before
+pub still_arranged : (installs more : List Install) (places : List ℕ) → AreWithin places (length installs) →
+    arranged (installs ++ more) places ≡ arranged installs places
+still_arranged installs more [] within = refl
+still_arranged installs more (p ∷ places) within = cons (get_or_append_left installs more no_install p within.0) (still_arranged installs more places within.1)
 
--- a version at the end whose place is put in is put in there
-pub insert_is_arranged : (installs : List Install) (x : Install) (places : List ℕ) (k : ℕ) → AreWithin places (length installs)
-    → arranged (installs ++ x ∷ []) (insert places k (length installs)) ≡ insert (arranged installs places) k x
-insert_is_arranged installs x places zero within = cons (get_or_push installs x no_install (length installs) refl) (still_arranged installs x places within)
-insert_is_arranged installs x [] (suc k) within = cons (get_or_push installs x no_install (length installs) refl) refl
-insert_is_arranged installs x (p ∷ places) (suc k) within =
-    cons (get_or_append_left installs (x ∷ []) no_install p within.0) (insert_is_arranged installs x places k within.1)
+-- the version at the end is read there
+pub last_pushed : (installs : List Install) (x : Install) → get_or (installs ++ x ∷ []) (length installs) no_install ≡ x
+last_pushed installs x = get_or_push installs x no_install (length installs) refl
+
+-- a version whose place is put in is put in there
+pub insert_is_arranged : (installs : List Install) (places : List ℕ) (k at : ℕ)
+    → arranged installs (insert places k at) ≡ insert (arranged installs places) k (get_or installs at no_install)
+insert_is_arranged installs places zero at = refl
+insert_is_arranged installs [] (suc k) at = refl
+insert_is_arranged installs (p ∷ places) (suc k) at = ap (λ r. get_or installs p no_install ∷ r) (insert_is_arranged installs places k at)
+
+-- there are more versions than the places are of
+pub within_more : (places : List ℕ) (known len : ℕ) → known ≤ len → AreWithin places known → AreWithin places len
+within_more [] known len le within = tt
+within_more (p ∷ places) known len le within = (omega (arith, within.0, le), within_more places known len le within.1)
 
 one_more : (places : List ℕ) (len : ℕ) → AreWithin places len → AreWithin places (len + 1)
 one_more [] len within = tt

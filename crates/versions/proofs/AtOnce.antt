@@ -11,7 +11,7 @@ use Rattle.units.specs.declared.writes.Install.{Install}
 use Rattle.units.specs.declared.writes.Write.{Write}
 use Rattle.versions.specs.Ordered.{installed, all_installed, is_above}
 use Rattle.versions.specs.Places.{SameValues, PlacesDoNotMatter}
-use Rattle.versions.proofs.Places.{keep-installed, keep-last, place_does_not_matter}
+use Rattle.versions.proofs.OneMore.{keep-installed, keep-last, place_does_not_matter}
 
 -- a version of a write
 abbrev version : Write → ℕ → Install
@@ -33,7 +33,7 @@ right : (a b : Bool) → (a && b) ≡ true → b ≡ true
 right true b h = h
 right false b h = absurd (false≢true h)
 
-rest_ascends : (w : Write) (ws : List Write) → ascends write_before (w ∷ ws) ≡ true → ascends write_before ws ≡ true
+pub rest_ascends : (w : Write) (ws : List Write) → ascends write_before (w ∷ ws) ≡ true → ascends write_before ws ≡ true
 rest_ascends w [] h = refl
 rest_ascends w (v ∷ ws) h = right _ _ h
 
@@ -43,7 +43,7 @@ skipped w v [] h = refl
 skipped w v (u ∷ ws) h = and_from _ _ (key_before-trans w.key v.key u.key (left _ _ h) (left _ _ (right _ _ h))) (right _ _ (right _ _ h))
 
 -- a version of an earlier key leaves what the later keys take, in the log
-still_above : (w : Write) (at : ℕ) (log : List Install) (ws : List Write) → ascends write_before (w ∷ ws) ≡ true → above_versions log at ws ≡ true
+pub still_above : (w : Write) (at : ℕ) (log : List Install) (ws : List Write) → ascends write_before (w ∷ ws) ≡ true → above_versions log at ws ≡ true
     → above_versions (log ++ version w at ∷ []) at ws ≡ true
 still_above w at log [] up above = refl
 still_above w at log (v ∷ ws) up above =

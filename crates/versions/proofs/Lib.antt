@@ -2,8 +2,9 @@ pub mod Arranged
 pub mod Halves
 pub mod Newest
 pub mod Kept
-pub mod Places
+pub mod OneMore
 pub mod AtOnce
 pub mod Pieces
 pub mod Heads
 pub mod Spots
+pub mod Orders

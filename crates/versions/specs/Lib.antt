@@ -6,3 +6,4 @@ pub mod Store
 pub mod Pieces
 pub mod Heads
 pub mod Headed
+pub mod Orders

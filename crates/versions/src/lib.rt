@@ -4,10 +4,12 @@
 mod chunk;
 mod head;
 mod laws;
+mod order;
 mod placed;
 mod search;
 mod sequence;
 mod store;
 
 pub use laws::place_does_not_matter;
+pub use placed::Places;
 pub use store::Versions;

@@ -1,8 +1,10 @@
 //! The places of versions in order, each with the head of its key.
-ghost use Rattle.std.specs.Prelude.{◌≡◌, ◌+◌, ◌<◌, ◌≤◌, [], length, IsOk, IfErr, OnOk, slice_index_or, slice_set};
+ghost use Rattle.std.specs.Prelude.{◌≡◌, ℕ, List, ◌+◌, ◌<◌, ◌≤◌, [], length, IsOk, IfErr, OnOk, slice_index_or, slice_set};
 ghost use Rattle.std.specs.List.{insert};
 ghost use Rattle.units.specs.Keys.{same_key};
+ghost use Rattle.units.specs.declared.writes.Install.{Install};
 ghost use Rattle.versions.specs.Heads.{AreBytes, head, prefix_of};
+ghost use Rattle.versions.specs.Orders.{Orders};
 
 use crate::chunk::Spot;
 use crate::head::{head, prefix_bytes};
@@ -11,7 +13,8 @@ use std::alloc::Global;
 use std::marker::Model;
 use units::{Fault, Key};
 
-/// Places in order, beside each the head of its key, and the room for more.
+/// The places, by key and timestamp, of versions that stand in a list as they were installed, beside each the head of its key, and
+/// the room for more. The list is somebody else's, and each look-up is given it.
 #[derive(Drop)]
 pub struct Places {
     spots: Sequence,
@@ -39,6 +42,7 @@ impl Places {
     pub fn none(alloc: Global) -> Places
         ensures places { result.places ≡ [] }
         ensures heads { result.heads ≡ [] }
+        ensures orders { Orders [] 0 result }
     {
         Places {
             spots: Sequence::none(alloc),
@@ -47,14 +51,14 @@ impl Places {
     }
 
     /// How many there are.
-    pub fn len(&self) -> usize
+    pub(crate) fn len(&self) -> usize
         ensures { result ≡ length self.now.places }
     {
         self.spots.len()
     }
 
     /// One of the places.
-    pub fn get(&self, at: usize) -> usize
+    pub(crate) fn get(&self, at: usize) -> usize
         requires { at < length self.now.places }
         ensures { result ≡ slice_index_or self.now.places at 0 }
     {
@@ -62,7 +66,7 @@ impl Places {
     }
 
     /// The head beside a place.
-    pub fn head(&self, at: usize) -> u64
+    pub(crate) fn head(&self, at: usize) -> u64
         requires { at < length self.now.places }
         ensures { result ≡ slice_index_or self.now.heads at 0 }
     {
@@ -70,7 +74,7 @@ impl Places {
     }
 
     /// The head that a key has beside these places.
-    pub fn head_of(&self, key: &Key) -> u64
+    pub(crate) fn head_of(&self, key: &Key) -> u64
         ensures head { result ≡ head self.now.prefix key.now }
         ensures bytes { AreBytes key.now }
     {
@@ -84,6 +88,8 @@ impl Places {
         ensures heads { self.new.heads ≡ self.old.heads }
         ensures prefix { self.new.prefix ≡ self.old.prefix }
         ensures keeps { self.old.room ≤ self.new.room }
+        ensures orders { (installs : List Install) (known : ℕ) → Orders installs known self.old
+            → Orders installs known self.new }
         ensures memory { IfErr result (λ fault. fault ≡ Fault.Memory) }
         ensures succeeds { more ≤ self.old.room → IsOk result }
     {
@@ -91,7 +97,7 @@ impl Places {
     }
 
     /// Puts in a place with its head. It takes no memory.
-    pub fn insert(&mut self, at: usize, place: usize, head: u64)
+    pub(crate) fn insert(&mut self, at: usize, place: usize, head: u64)
         requires at { at ≤ length self.old.places }
         requires room { 0 < self.old.room }
         ensures places { self.new.places ≡ insert self.old.places at place }
@@ -103,14 +109,14 @@ impl Places {
     }
 
     /// Heads are behind this prefix.
-    pub fn are_behind(&self, prefix: &Option<Key>) -> bool
+    pub(crate) fn are_behind(&self, prefix: &Option<Key>) -> bool
         ensures { result ≡ same_key self.now.prefix (prefix_of prefix.now) }
     {
         are_same(prefix_bytes(&self.prefix), prefix_bytes(prefix))
     }
 
     /// Heads are behind this prefix from now on. Those that stand are to be written anew.
-    pub fn set_prefix(&mut self, prefix: Option<Key>)
+    pub(crate) fn set_prefix(&mut self, prefix: Option<Key>)
         ensures prefix { self.new.prefix ≡ prefix_of prefix }
         ensures places { self.new.places ≡ self.old.places }
         ensures heads { self.new.heads ≡ self.old.heads }
@@ -120,7 +126,7 @@ impl Places {
     }
 
     /// Writes over the head beside a place.
-    pub fn set_head(&mut self, at: usize, head: u64)
+    pub(crate) fn set_head(&mut self, at: usize, head: u64)
         requires { at < length self.old.places }
         ensures heads { self.new.heads ≡ slice_set self.old.heads at head }
         ensures places { self.new.places ≡ self.old.places }

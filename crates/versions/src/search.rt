@@ -1,17 +1,17 @@
 //! Searches by halves among versions that are read in the order of their places.
 ghost use Rattle.std.specs.Prelude.{◌≡◌, ◌+◌, ◌<◌, ◌≤◌, ◌^◌, ℕ, length, vec_len, vec_capacity, filter, slice_index_or};
 ghost use Rattle.std.specs.Option.{option_copied};
-ghost use Rattle.units.specs.Versions.{newest, of_key};
+ghost use Rattle.units.specs.Versions.{latest, at_time, newest, of_key};
 ghost use Rattle.versions.specs.Arranged.{arranged, no_install, AreWithin};
 ghost use Rattle.versions.specs.Halves.{AllUpTo, AllAfter};
 ghost use Rattle.versions.specs.Heads.{AreBytes, AreHeads, head};
-ghost use Rattle.versions.specs.Ordered.{is_by, is_not_after, count_not_after, installed, AscendsByVersion, IsInOrder};
+ghost use Rattle.versions.specs.Ordered.{is_by, is_not_after, count_not_after, installed, is_above, AscendsByVersion, IsInOrder};
 
 use crate::head::shared;
 use crate::placed::Places;
 use counts::Count;
 use std::cmp::Ordering;
-use units::{Install, Key, Stamp};
+use units::{Install, Key, Stamp, Value};
 
 // The version is of this key and the timestamp, in microseconds, or it comes before them. Each comparison is counted.
 fn is_not_after(install: &Install, key: &Key, at: u64, compared: &mut Count) -> bool
@@ -143,8 +143,8 @@ fn newest_in<'a>(
     if last.key.is(key) { Some(last) } else { None }
 }
 
-/// The newest version of the key at the timestamp, in microseconds, or before.
-pub fn newest_by<'a>(
+// The newest version of the key at the timestamp, in microseconds, or before.
+fn newest_by<'a>(
     installs: &'a [Install],
     places: &Places,
     key: &Key,
@@ -161,9 +161,9 @@ pub fn newest_by<'a>(
     newest_in(installs, places, key, at, count)
 }
 
-/// The newest version of the key.
+// The newest version of the key.
 #[tactic(auto, using(crate::proofs::Newest::newest_is))]
-pub fn newest_of<'a>(installs: &'a [Install], places: &Places, key: &Key) -> Option<&'a Install>
+fn newest_of<'a>(installs: &'a [Install], places: &Places, key: &Key) -> Option<&'a Install>
     requires within { AreWithin places.now.places (length installs.now) }
     requires kept { IsInOrder Stamp.MAX (arranged installs.now places.now.places) }
     requires heads { AreHeads places.now.prefix (arranged installs.now places.now.places)
@@ -173,6 +173,53 @@ pub fn newest_of<'a>(installs: &'a [Install], places: &Places, key: &Key) -> Opt
 {
     let count = count(installs, places, key, Stamp::MAX);
     newest_in(installs, places, key, Stamp::MAX, count)
+}
+
+/// The timestamp is above all versions of the key.
+#[tactic(auto, using(crate::proofs::Newest::above_newest))]
+pub fn is_above(installs: &[Install], places: &Places, key: &Key, at: Stamp) -> bool
+    requires within { AreWithin places.now.places (length installs.now) }
+    requires kept { IsInOrder Stamp.MAX (arranged installs.now places.now.places) }
+    requires heads { AreHeads places.now.prefix (arranged installs.now places.now.places)
+        places.now.heads }
+    ensures { result ≡ is_above (arranged installs.now places.now.places) key.now at }
+{
+    match newest_of(installs, places, key) {
+        Some(newest) => newest.at < at,
+        None => true,
+    }
+}
+
+/// The most recent value of a key: none where there is none or it was erased.
+#[tactic(auto, using(crate::proofs::Newest::latest_is))]
+pub fn latest<'a>(installs: &'a [Install], places: &Places, key: &Key) -> Option<&'a Value>
+    requires within { AreWithin places.now.places (length installs.now) }
+    requires kept { IsInOrder Stamp.MAX (arranged installs.now places.now.places) }
+    requires heads { AreHeads places.now.prefix (arranged installs.now places.now.places)
+        places.now.heads }
+    ensures { option_copied result ≡ latest (arranged installs.now places.now.places) key.now }
+{
+    newest_of(installs, places, key)?.value.as_ref()
+}
+
+/// The value that a key has at a timestamp: none where there is none or it was erased.
+#[tactic(auto, using(crate::proofs::Newest::at_time_is))]
+pub fn value_at<'a>(
+    installs: &'a [Install],
+    places: &Places,
+    key: &Key,
+    at: Stamp,
+) -> Option<&'a Value>
+    requires within { AreWithin places.now.places (length installs.now) }
+    requires kept { IsInOrder Stamp.MAX (arranged installs.now places.now.places) }
+    requires heads { AreHeads places.now.prefix (arranged installs.now places.now.places)
+        places.now.heads }
+    ensures { option_copied result ≡
+        at_time (arranged installs.now places.now.places) key.now at }
+{
+    newest_by(installs, places, key, at.micros())?
+        .value
+        .as_ref()
 }
 
 /// Adds a version, and puts in its place. There is room.
@@ -192,10 +239,33 @@ pub fn install(installs: &mut Vec<Install>, places: &mut Places, new: Install)
     ensures in_time { new.at < 2 ^ 62 }
     ensures capacity { vec_capacity installs.new ≡ vec_capacity installs.old }
 {
+    let at = installs.len();
+    installs.push_reserved(new);
+    place(installs, places, at);
+}
+
+/// Puts in the place of the version that stands there, behind those whose places are known. There is room.
+pub fn place(installs: &[Install], places: &mut Places, at: usize)
+    requires there { at < length installs.now }
+    requires within { AreWithin places.old.places at }
+    requires order { AscendsByVersion (arranged installs.now places.old.places) }
+    requires heads { AreHeads places.old.prefix (arranged installs.now places.old.places)
+        places.old.heads }
+    requires room { 0 < places.old.room }
+    ensures items { arranged installs.now places.new.places ≡
+        installed (arranged installs.now places.old.places)
+        (slice_index_or installs.now at no_install) }
+    ensures within { AreWithin places.new.places (at + 1) }
+    ensures heads { AreHeads places.new.prefix (arranged installs.now places.new.places)
+        places.new.heads }
+    ensures len { length places.new.places ≡ length places.old.places + 1 }
+    ensures room { places.new.room + 1 ≡ places.old.room }
+    ensures in_time { (slice_index_or installs.now at no_install).at < 2 ^ 62 }
+{
+    let new = &installs[at];
     let count = count(installs, places, &new.key, new.at.micros());
     let key_head = places.head_of(&new.key);
-    places.insert(count, installs.len(), key_head);
-    installs.push_reserved(new);
+    places.insert(count, at, key_head);
     renew(installs, places);
 }
 

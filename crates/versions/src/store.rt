@@ -7,7 +7,7 @@ ghost use Rattle.units.specs.Lists.{ascends};
 ghost use Rattle.versions.specs.Ordered.{installed, all_installed, count_not_after, is_above};
 
 use crate::placed::Places;
-use crate::search::{find, install, newest_by, newest_of};
+use crate::search::{self, find, install};
 use counts::Count;
 use std::alloc::Global;
 use std::marker::Model;
@@ -76,14 +76,10 @@ impl Versions {
     }
 
     /// The timestamp is above all versions of the key, so that one may be installed there.
-    #[tactic(auto, using(crate::proofs::Newest::above_newest))]
     pub fn takes(&self, key: &Key, at: Stamp) -> bool
         ensures { result ≡ is_above self.now.installs key.now at }
     {
-        match newest_of(&self.installs, &self.places, key) {
-            Some(newest) => newest.at < at,
-            None => true,
-        }
+        search::is_above(&self.installs, &self.places, key, at)
     }
 
     /// Installs a value, or an erasure, at a timestamp above the key's others. It takes no memory.
@@ -115,21 +111,17 @@ impl Versions {
     }
 
     /// The most recent value of a key: none where there is none or it was erased.
-    #[tactic(auto, using(crate::proofs::Newest::latest_is))]
     pub fn latest(&self, key: &Key) -> Option<&Value>
         ensures { option_copied result ≡ latest self.now.installs key.now }
     {
-        newest_of(&self.installs, &self.places, key)?.value.as_ref()
+        search::latest(&self.installs, &self.places, key)
     }
 
     /// The value that a key has at a timestamp: none where there is none or it was erased.
-    #[tactic(auto, using(crate::proofs::Newest::at_time_is))]
     pub fn at(&self, key: &Key, at: Stamp) -> Option<&Value>
         ensures { option_copied result ≡ at_time self.now.installs key.now at }
     {
-        newest_by(&self.installs, &self.places, key, at.micros())?
-            .value
-            .as_ref()
+        search::value_at(&self.installs, &self.places, key, at)
     }
 
     /// How many versions are not after a key and timestamp, and how many were compared to find that: as many as their number

@@ -5,4 +5,4 @@ use Rattle.ledger.proofs.ledger.are_above.Given as goal
 -- the writes that are left tell
 abbrev pub invariant-loop-write : goal.invariant-loop-write
 invariant-loop-write l =
-    above_versions l.versions.installs l.at (drop l.write-index l.writes) ≡ above_versions l.versions.installs l.at l.writes
+    above_versions l.installs l.at (drop l.write-index l.writes) ≡ above_versions l.installs l.at l.writes

@@ -1,9 +1,13 @@
-use Rattle.std.proofs.Common.{◌∙◌, rules}
+use Rattle.std.proofs.Common.{◌∙◌, sym, rules}
 use Rattle.std.proofs.lemmas.List.Sorted.{IsPartitionPoint-from_clause}
 use Rattle.units.specs.Keys.{key_before}
 use Rattle.units.proofs.FrontLaws.{point_is_front}
-use Rattle.locks.proofs.Places.{locks_before, front_is_place}
+use Rattle.locks.proofs.Places.{behind_all, locks_before, front_is_place}
 use Rattle.locks.proofs.buffer.place.Goals as goal
+
+pub returns-then-is_before-clause-place : goal.returns-then-is_before-clause-place
+returns-then-is_before-clause-place c =
+    behind_all c.args.lock.now c.in-Some.last.now c.args.locks.now c.requires (sym c.in-Some.ensures.value) (sym c.is_before.ensures ∙ c.if-is_before.true)
 
 pub returns-clause-place : goal.returns-clause-place
 returns-clause-place c =

@@ -34,10 +34,9 @@ carry-requires c =
     let given : Some c.args.logged ≡ Some c.with.result =
     sym own ∙ sym c.take.ensures.value ∙ c.in-Some.is ∙ ap (λ (r : Record). Some r) (sym c.with.ensures) in
     record {
-      ready = subst (λ (l : Option Record). IsCarriable c.ready_again.new.state (logging l c.in-Ok.plan) c.in-Ok.ready.writes) given
-          (can_carry_again c.args.state.now c.ready_again.new.state c.in-Ok.plan c.args.logged c.in-Ok.ready.writes c.requires.recovered
-          c.requires.follows c.requires.fits own c.in-Ok.ensures.fit c.in-Ok.ensures.ready c.ready_plans_can_be_carried.ensures.carriable
-          c.in-Ok.ensures.writes);
+      ready = subst (λ (l : Option Record). IsCarriable c.ready_again.new.state (logging l c.in-Ok.plan)) given
+          (can_carry_again c.args.state.now c.ready_again.new.state c.in-Ok.plan c.args.logged c.requires.recovered
+          c.requires.follows c.requires.fits own c.in-Ok.ensures.fit c.in-Ok.ensures.ready c.ready_plans_can_be_carried.ensures.carriable);
     }
 
 pub returns-in-Some-clause-ok : goal.returns-in-Some-clause-ok

@@ -1,4 +1,4 @@
-use Rattle.std.proofs.Common.{◌≡◌, arith, sym, ap, ◌∙◌, true, Some}
+use Rattle.std.proofs.Common.{◌≡◌, arith, sym, ap, ◌∙◌, true}
 use Rattle.std.proofs.lemmas.List.{get_or_default}
 use Rattle.units.specs.Ids.{same_id}
 use Rattle.rows.specs.declared.row.Row.{Row}

@@ -1,5 +1,4 @@
 use Rattle.std.proofs.Common.{arith}
-use Rattle.rows.specs.declared.row.Row.{Row}
 use Rattle.rows.specs.CodeRows.{txn_of}
 use Rattle.units.proofs.ByIdLaws.{place_within}
 use Rattle.units.proofs.ByIdHalves.{place_by_halves}

@@ -1,5 +1,5 @@
 use Rattle.versions.proofs.AtOnce.{places_do_not_matter}
-use Rattle.versions.proofs.Places as places
+use Rattle.versions.proofs.OneMore as places
 use Rattle.versions.proofs.laws.place_does_not_matter.Goals as goal
 
 pub returns-clause-one : goal.returns-clause-one

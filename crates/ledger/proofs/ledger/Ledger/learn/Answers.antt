@@ -1,28 +1,42 @@
-use Rattle.std.proofs.Common.{◌≡◌, ◌∙◌, Some, List, sym, subst}
-use Rattle.units.specs.Versions.{versions}
+use Rattle.std.proofs.Common.{◌≡◌, ◌∙◌, ◌≤◌, ℕ, true, List, length, min, ◌/◌, sym, ap, subst, arith}
 use Rattle.units.specs.declared.writes.Install.{Install}
-use Rattle.record.specs.Facts.{Facts}
+use Rattle.record.specs.Facts.{Facts, learn}
 use Rattle.facts.specs.Known.{Known}
-use Rattle.versions.specs.Ordered.{all_installed}
-use Rattle.versions.specs.Places.{SameValues}
-use Rattle.ledger.specs.Ledger.{outcome_stamp, CanInstall}
-use Rattle.ledger.proofs.Learns.{same_learnt, installs_left}
+use Rattle.versions.specs.Orders.{Orders, AreBehind}
+use Rattle.ledger.specs.Ledger.{writes_given, CanInstall}
+use Rattle.ledger.proofs.Learns.{still_orders, are_behind, as_many_more, is_up}
 use Rattle.ledger.proofs.ledger.Ledger.learn.Goals as goal
 
-pub invariant_of-self : goal.invariant_of-self
-invariant_of-self c =
+pub follow-requires-clause-known : goal.follow-requires-clause-known
+follow-requires-clause-known c =
     let f = c.self.inside.facts.facts in
-    let ordered : List Install = c.self.inside.versions.installs in
-    let can : CanInstall f c.args.item c.args.writes = subst (λ (k : Known). CanInstall k.facts c.args.item c.args.writes)
-    (sym c.self.view_is) c.requires.writes in
-    let is : outcome_stamp c.args.item ≡ Some c.in-Some.at = sym c.outcome_stamp-at.ensures ∙ c.in-Some.is in
-    subst (λ (t : List Install). SameValues t c.learn_next.new.self.facts.installs) (sym c.install_all.ensures.installs)
-    (subst (λ (g : Facts). SameValues (all_installed ordered (versions c.args.writes c.in-Some.at)) g.installs) (sym c.learn_next.ensures.facts)
-    (same_learnt ordered f c.args.item c.args.writes c.in-Some.at is can c.install_all.ensures.order c.self.invariant))
+    let places = c.self.inside.places in
+    let can : CanInstall f c.args.item = subst (λ (k : Known). CanInstall k.facts c.args.item) (sym c.self.view_is) c.requires.installs in
+    subst (λ (t : List Install). Orders t (length places.places) places)
+    (sym (c.installs.ensures ∙ ap (λ (g : Facts). g.installs) c.learn_next.ensures.facts))
+    (subst (λ (n : ℕ). Orders (learn f c.args.item).installs n places) (sym c.self.invariant.all) (still_orders f c.args.item can places c.self.invariant))
 
-pub invariant_of-self-in-None-1 : goal.invariant_of-self-in-None-1
-invariant_of-self-in-None-1 c =
+pub follow-requires-clause-behind : goal.follow-requires-clause-behind
+follow-requires-clause-behind c =
     let f = c.self.inside.facts.facts in
-    let ordered : List Install = c.self.inside.versions.installs in
-    subst (λ (g : Facts). SameValues ordered g.installs) (sym c.learn_next.ensures.facts)
-    (subst (SameValues ordered) (sym (installs_left f c.args.item (sym c.outcome_stamp-at.ensures ∙ c.in_default.is))) c.self.invariant)
+    let can : CanInstall f c.args.item = subst (λ (k : Known). CanInstall k.facts c.args.item) (sym c.self.view_is) c.requires.installs in
+    let up = subst (λ (k : Known). is_up k.facts c.args.item ≡ true) (sym c.self.view_is) c.ascend.ensures.up in
+    subst (λ (t : List Install). AreBehind t (length c.self.inside.places.places))
+    (sym (c.installs.ensures ∙ ap (λ (g : Facts). g.installs) c.learn_next.ensures.facts))
+    (subst (AreBehind (learn f c.args.item).installs) (sym c.self.invariant.all) (are_behind f c.args.item can up))
+
+pub follow-requires-clause-longer : goal.follow-requires-clause-longer
+follow-requires-clause-longer c =
+    let f = c.self.inside.facts.facts in
+    let can : CanInstall f c.args.item = subst (λ (k : Known). CanInstall k.facts c.args.item) (sym c.self.view_is) c.requires.installs in
+    let long = ap length (c.installs.ensures ∙ ap (λ (g : Facts). g.installs) c.learn_next.ensures.facts) ∙ as_many_more f c.args.item can in
+    omega (arith, long, c.self.invariant.all)
+
+pub follow-requires-clause-room : goal.follow-requires-clause-room
+follow-requires-clause-room c =
+    let f = c.self.inside.facts.facts in
+    let can : CanInstall f c.args.item = subst (λ (k : Known). CanInstall k.facts c.args.item) (sym c.self.view_is) c.requires.installs in
+    let long = ap length (c.installs.ensures ∙ ap (λ (g : Facts). g.installs) c.learn_next.ensures.facts) ∙ as_many_more f c.args.item can in
+    let few = subst (λ (k : Known). length (writes_given k.facts c.args.item) ≤ 128) (sym c.self.view_is) c.ascend.ensures.few in
+    let room : 1 ≤ min c.self.inside.facts.room (c.self.inside.places.room / 128) = subst (λ (k : Known). 1 ≤ k.room) (sym c.self.view_is) c.requires.room in
+    omega (arith, long, few, room, c.self.invariant.all)

@@ -1,11 +1,11 @@
-use Rattle.std.proofs.Common.{[], List, sym, subst}
+use Rattle.std.proofs.Common.{List, length, sym, subst}
 use Rattle.units.specs.declared.writes.Install.{Install}
 use Rattle.record.specs.Facts.{Facts}
-use Rattle.versions.specs.Places.{SameValues}
-use Rattle.ledger.proofs.Learns.{no_versions}
+use Rattle.versions.specs.Orders.{Orders}
+use Rattle.ledger.proofs.Learns.{no_installs}
 use Rattle.ledger.proofs.ledger.Ledger.new.Goals as goal
 
 pub invariant_of-result : goal.invariant_of-result
 invariant_of-result c =
-    subst (λ (is : List Install). SameValues is c.new.result.facts.installs) (sym c.none.ensures)
-    (subst (λ (f : Facts). SameValues [] f.installs) (sym c.new.ensures.facts) no_versions)
+    subst (λ (f : Facts). Orders f.installs (length f.installs) c.none.result) (sym c.new.ensures.facts)
+    (subst (λ (t : List Install). Orders t (length t) c.none.result) (sym no_installs) c.none.ensures.orders)

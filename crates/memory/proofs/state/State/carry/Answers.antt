@@ -37,8 +37,8 @@ learn-requires-clause-follows c =
 
 pub learn-requires-clause-installs : goal.learn-requires-clause-installs
 learn-requires-clause-installs c =
-    subst (λ (o : Option Record). MayInstall c.self.inside.ledger.facts o c.args.ready.writes) (sym c.make_change-item.ensures.record)
-    (subst (λ (k : Kept). MayInstall k.facts c.args.logged c.args.ready.writes) (sym c.self.view_is) c.requires.ready.installs)
+    subst (λ (o : Option Record). MayInstall c.self.inside.ledger.facts o) (sym c.make_change-item.ensures.record)
+    (subst (λ (k : Kept). MayInstall k.facts c.args.logged) (sym c.self.view_is) c.requires.ready.installs)
 
 pub make_change-item-requires-clause-dated : goal.make_change-item-requires-clause-dated
 make_change-item-requires-clause-dated c =

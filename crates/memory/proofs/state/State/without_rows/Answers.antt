@@ -1,4 +1,4 @@
-use Rattle.std.proofs.Common.{ℕ, List, [], refl, sym, ap, subst}
+use Rattle.std.proofs.Common.{List, [], refl, sym, subst}
 use Rattle.protocol.specs.Rows.{Row}
 use Rattle.safetime.specs.Laws.{SameHolds}
 use Rattle.safetime.specs.Safe.{Times}

@@ -15,7 +15,7 @@ pub carry-requires : goal.carry-requires
 carry-requires g c =
     record {
       ready = can_carry c.args.self.now.state c.make_ready.new.self c.args.plan None (sym c.take.ensures.value ∙ c.in_default.is) c.requires.due
-          c.in-Ok.ensures.ready c.ready_plans_can_be_carried.ensures.carriable c.in-Ok.ready.writes c.in-Ok.ensures.writes;
+          c.in-Ok.ensures.ready c.ready_plans_can_be_carried.ensures.carriable;
     }
 
 pub carry-requires-in-Ok-append_record : goal.carry-requires-in-Ok-append_record
@@ -25,7 +25,7 @@ carry-requires-in-Ok-append_record g c =
     in
     record {
       ready = can_carry c.args.self.now.state c.make_ready.new.self c.args.plan (Some logged) own c.requires.due c.in-Ok.ensures.ready
-          c.ready_plans_can_be_carried.ensures.carriable c.in-Ok.ready.writes c.in-Ok.ensures.writes;
+          c.ready_plans_can_be_carried.ensures.carriable;
     }
 
 pub invariant_of-self-in_default : goal.invariant_of-self-in_default

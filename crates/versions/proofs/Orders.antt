@@ -1,0 +1,121 @@
+-- Places by which versions of another list are read, as that list grows.
+use Rattle.std.proofs.Common.{◌≡◌, ℕ, ◌+◌, ◌<◌, ◌^◌, ◌-◌, true, List, [], ◌∷◌, ◌++◌, length, get_or, take, drop, refl, sym, ap, subst, ◌∙◌, arith}
+use Rattle.std.proofs.lemmas.Bool.{and_parts}
+use Rattle.std.proofs.lemmas.List.{drop_more, take_more}
+use Rattle.units.specs.Keys.{write_before}
+use Rattle.units.specs.Lists.{ascends}
+use Rattle.units.specs.Versions.{latest, at_time, versions, above_versions}
+use Rattle.units.specs.declared.writes.Install.{Install}
+use Rattle.units.specs.declared.writes.Write.{Write}
+use Rattle.versions.specs.Arranged.{arranged, no_install, AreWithin}
+use Rattle.versions.specs.Headed.{Headed}
+use Rattle.versions.specs.Heads.{AreHeads}
+use Rattle.versions.specs.Ordered.{installed, is_above, IsInOrder}
+use Rattle.versions.specs.Orders.{Orders, AreBehind}
+use Rattle.versions.specs.Places.{SameValues}
+use Rattle.versions.proofs.Arranged.{still_arranged}
+use Rattle.versions.proofs.AtOnce.{still_above, rest_ascends}
+use Rattle.versions.proofs.Kept.{kept-installed}
+use Rattle.versions.proofs.OneMore.{place_does_not_matter}
+
+pub take_whole : (t : List Install) → take (length t) t ≡ t
+take_whole [] = refl
+take_whole (x ∷ t) = ap (λ r. x ∷ r) (take_whole t)
+
+take_front : (t more : List Install) → take (length t) (t ++ more) ≡ t
+take_front [] more = refl
+take_front (x ∷ t) more = ap (λ r. x ∷ r) (take_front t more)
+
+drop_front : (t more : List Install) → drop (length t) (t ++ more) ≡ more
+drop_front [] more = refl
+drop_front (x ∷ t) more = drop_front t more
+
+-- the list has grown
+pub orders_more : (t more : List Install) (p : Headed) → Orders t (length t) p → Orders (t ++ more) (length t) p
+orders_more t more p o =
+    let same : arranged t p.places ≡ arranged (t ++ more) p.places = sym (still_arranged t more p.places o.within) in
+    record {
+      within = o.within;
+      all = o.all;
+      kept = subst (IsInOrder (2 ^ 62 - 1)) same o.kept;
+      headed = subst (λ r. AreHeads p.prefix r p.heads) same o.headed;
+      same = subst (λ r. SameValues r (take (length t) (t ++ more))) same
+          (subst (SameValues (arranged t p.places)) (take_whole t ∙ sym (take_front t more)) o.same);
+    }
+
+-- what is read by the places is read of the list
+module _ (t : List Install) (p : Headed) (o : Orders t (length t) p) where
+  pub latest_by : (key : List ℕ) → latest t key ≡ latest (arranged t p.places) key
+  latest_by key = ap (λ r. latest r key) (sym (take_whole t)) ∙ sym (o.same.now key)
+
+  pub at_time_by : (key : List ℕ) (at : ℕ) → at_time t key at ≡ at_time (arranged t p.places) key at
+  at_time_by key at = ap (λ r. at_time r key at) (sym (take_whole t)) ∙ sym (o.same.at key at)
+
+  pub above_by : (key : List ℕ) (at : ℕ) → is_above t key at ≡ is_above (arranged t p.places) key at
+  above_by key at = ap (λ r. is_above r key at) (sym (take_whole t)) ∙ sym (o.same.above key at)
+
+-- the writes of one transaction came behind
+pub behind_written : (t : List Install) (ws : List Write) (at : ℕ) → ascends write_before ws ≡ true → above_versions t at ws ≡ true
+    → AreBehind (t ++ versions ws at) (length t)
+behind_written t ws at up above = record {
+  writes = ws;
+  at = at;
+  rest = drop_front t (versions ws at);
+  up = up;
+  above = subst (λ r. above_versions r at ws ≡ true) (sym (take_front t (versions ws at))) above;
+}
+
+-- the first of those behind, and the others
+module _ (t : List Install) (k : ℕ) (lt : k < length t) where
+  first : Install
+  first = get_or t k no_install
+
+  pub first_above : AreBehind t k → is_above (take k t) (get_or t k no_install).key (get_or t k no_install).at ≡ true
+  first_above b = by_writes b.writes b.rest b.above
+    where
+      by_writes : (ws : List Write) → drop k t ≡ versions ws b.at → above_versions (take k t) b.at ws ≡ true
+          → is_above (take k t) (get_or t k no_install).key (get_or t k no_install).at ≡ true
+      by_writes [] rest above =
+          let clash : ◌≡◌ {A = List Install} (get_or t k no_install ∷ drop (k + 1) t) [] = sym (drop_more t k no_install lt) ∙ rest in cc
+      by_writes (w ∷ ws) rest above =
+          let both : get_or t k no_install ∷ drop (k + 1) t ≡ versions (w ∷ ws) b.at = sym (drop_more t k no_install lt) ∙ rest in
+          let is : ◌≡◌ {A = Install} (get_or t k no_install) (record { key = w.key; at = b.at; value = w.value }) = cc in
+          subst (λ (x : Install). is_above (take k t) x.key x.at ≡ true) (sym is) (and_parts _ _ above).0
+
+  pub others_behind : AreBehind t k → AreBehind t (k + 1)
+  others_behind b = by_writes b.writes b.rest b.up b.above
+    where
+      by_writes : (ws : List Write) → drop k t ≡ versions ws b.at → ascends write_before ws ≡ true → above_versions (take k t) b.at ws ≡ true
+          → AreBehind t (k + 1)
+      by_writes [] rest up above =
+          let clash : ◌≡◌ {A = List Install} (get_or t k no_install ∷ drop (k + 1) t) [] = sym (drop_more t k no_install lt) ∙ rest in cc
+      by_writes (w ∷ ws) rest up above =
+          let both : get_or t k no_install ∷ drop (k + 1) t ≡ versions (w ∷ ws) b.at = sym (drop_more t k no_install lt) ∙ rest in
+          let is : ◌≡◌ {A = Install} (get_or t k no_install) (record { key = w.key; at = b.at; value = w.value }) = cc in
+          let more : drop (k + 1) t ≡ versions ws b.at = cc in
+          record {
+            writes = ws;
+            at = b.at;
+            rest = more;
+            up = rest_ascends w ws up;
+            above = subst (λ r. above_versions r b.at ws ≡ true) (ap (λ (x : Install). take k t ++ x ∷ []) (sym is) ∙ sym (take_more t k no_install lt))
+                (still_above w b.at (take k t) ws up (and_parts _ _ above).1);
+          }
+
+  -- the place of the first is put in
+  pub orders_next : (p q : Headed) → Orders t k p → AreBehind t k → arranged t q.places ≡ installed (arranged t p.places) (get_or t k no_install)
+      → AreWithin q.places (k + 1) → AreHeads q.prefix (arranged t q.places) q.heads → length q.places ≡ length p.places + 1
+      → (get_or t k no_install).at < 2 ^ 62 → Orders t (k + 1) q
+  orders_next p q o b items within heads long in_time =
+      let x = get_or t k no_install in
+      let above = first_above b in
+      let above_here = o.same.above x.key x.at ∙ above in
+      record {
+        within = within;
+        all = omega (arith, long, o.all);
+        kept = subst (IsInOrder (2 ^ 62 - 1)) (sym items) (kept-installed (2 ^ 62 - 1) x (arranged t p.places) above_here (omega (arith, in_time)) o.kept);
+        headed = heads;
+        same = subst (λ r. SameValues r (take (k + 1) t)) (sym items)
+            (subst (SameValues (installed (arranged t p.places) x)) (sym (take_more t k no_install lt))
+            (place_does_not_matter x (arranged t p.places) (take k t) above o.same));
+      }

@@ -1,0 +1,6 @@
+use Rattle.std.proofs.Common.{◌∙◌, sym}
+use Rattle.versions.proofs.Orders.{at_time_by}
+use Rattle.versions.proofs.placed.Places.at.Goals as goal
+
+pub returns : goal.returns
+returns c = c.value_at.ensures ∙ sym (at_time_by c.args.installs.now c.args.self.now c.requires c.args.key.now c.args.at)

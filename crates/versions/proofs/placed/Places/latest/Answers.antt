@@ -1,0 +1,6 @@
+use Rattle.std.proofs.Common.{◌∙◌, sym}
+use Rattle.versions.proofs.Orders.{latest_by}
+use Rattle.versions.proofs.placed.Places.latest.Goals as goal
+
+pub returns : goal.returns
+returns c = c.latest.ensures ∙ sym (latest_by c.args.installs.now c.args.self.now c.requires c.args.key.now)
