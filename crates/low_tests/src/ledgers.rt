@@ -71,9 +71,7 @@ fn is_settled(ledger: &Ledger) -> bool {
 /// Whether shard 1 is opened once, and its one promise is settled.
 pub fn is_installed(alloc: Global) -> bool {
     let mut ledger = Ledger::new(alloc, shard(1));
-    let installed = prepare(alloc, &mut ledger)
-        && settle(&mut ledger)
-        && is_settled(&ledger);
+    let installed = prepare(alloc, &mut ledger) && settle(&mut ledger) && is_settled(&ledger);
     drop(ledger);
     installed
 }
