@@ -1,3 +1,4 @@
+pub mod Agrees
 pub mod Appends
 pub mod Booked
 pub mod Carried

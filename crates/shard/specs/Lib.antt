@@ -1,4 +1,5 @@
 pub mod Logs
+pub mod Agrees
 pub mod Armed
 pub mod On
 pub mod Due

@@ -11,6 +11,7 @@ ghost use Rattle.protocol.specs.Step.{Does, plan_input};
 ghost use Rattle.protocol.specs.Sound.{IsSound};
 ghost use Rattle.record.specs.Facts.{facts_of, learn};
 ghost use Rattle.protocol.specs.Showable.{IsShowable};
+ghost use Rattle.shard.specs.Agrees.{AgreesWithLog};
 ghost use Rattle.shard.specs.Armed.{HasPlace};
 ghost use Rattle.shard.specs.Due.{IsDue};
 ghost use Rattle.shard.specs.Logs.{records_in, facts_logged, KeepsRecords};
@@ -37,7 +38,7 @@ use units::{Epoch, Fault, Setup};
 pub(crate) struct Machine<D: Disk> {
     pub(crate) gate_log: GateLog<D>,
     pub(crate) state: State,
-    ghost agrees: { IsFalse (is_stopped gate_log) → D.keeps_model → facts_logged (records_in (surface (D.file (disk_of gate_log))).seen) ≡ Some state.facts },
+    ghost agrees: { D.keeps_model → ∥ AgreesWithLog (is_stopped gate_log) (surface (D.file (disk_of gate_log))) state.facts ∥₁ },
     ghost sound: { ∥ IsSound state.setup.shard state.facts state.memory ∥₁ },
     ghost showable: { IsShowable state.facts state.memory },
 }

@@ -14,6 +14,7 @@ ghost use Rattle.protocol.specs.Step.{plan_input};
 ghost use Rattle.rows.specs.RowTable.{nth_prepared, nth_decided, decided_row, IsEarliest};
 ghost use Rattle.units.specs.Lists.{gather};
 ghost use Rattle.protocol.specs.Showable.{IsShowable};
+ghost use Rattle.shard.specs.Agrees.{AgreesWithLog};
 ghost use Rattle.shard.specs.Booked.{HasEntered, IsCrowded, stand_of};
 ghost use Rattle.shard.specs.Due.{IsDue};
 ghost use Rattle.shard.specs.Logs.{records_in, KeepsRecords};
@@ -290,11 +291,14 @@ impl<D: Disk> Core<D> {
         self.machine.gate_log.is_stopped()
     }
 
-    /// Its rows, facts and locks agree, its versions may be put on a board, and its book replays. It does nothing.
+    /// Its rows, facts and locks agree, its versions may be put on a board, its facts are those of its log (where it is stopped, of
+    /// the log before the step that stopped it), and its book replays. It does nothing.
     pub fn is_sound(&self)
         ensures sound { ∥ IsSound (seen self.now).setup.shard (seen self.now).facts
             (seen self.now).memory ∥₁ }
         ensures showable { IsShowable (seen self.now).facts (seen self.now).memory }
+        ensures agrees { D.keeps_model → ∥ AgreesWithLog (seen self.now).stopped
+            (surface (D.file (seen self.now).disk)) (seen self.now).facts ∥₁ }
         ensures replays { ∥ IsBookOf (seen self.now).setup (book_of self.now)
             (stand_of (seen self.now)) ∥₁ }
     {}

@@ -1,11 +1,13 @@
-use Rattle.std.proofs.Common.{◌≡◌, ◌∙◌, Option, Some, None, sym, ap}
+use Rattle.std.proofs.Common.{◌≡◌, ◌∙◌, Option, Some, None, refl, sym, ap}
 use Rattle.record.specs.Facts.{Facts}
 use Rattle.record.specs.declared.record.Record.{Record}
 use Rattle.protocol.specs.Plan.{carried}
 use Rattle.protocol.specs.Step.{facts_after}
 use Rattle.memory.specs.Plans.{plan_of}
+use Rattle.disk.specs.File.{surface}
+use Rattle.gatelog.specs.Shown.{disk_of}
 use Rattle.shard.specs.Core.{seen_machine}
-use Rattle.shard.specs.Logs.{facts_logged}
+use Rattle.shard.proofs.Agrees.{agrees_kept, agrees_refused, agrees_still, facts-held, stopped-or-same}
 use Rattle.shard.proofs.Carried.{can_carry, memory_after, facts_then, sound_then, facts-logged}
 use Rattle.shard.proofs.Showable.{as-showable}
 use Rattle.shard.proofs.Results.{served_as, logged_as}
@@ -38,9 +40,8 @@ invariant_of-self-in_default g c =
     let memory = memory_after k ready p None none c.requires.due c.in-Ok.ensures.ready c.ready_plans_can_be_carried.ensures.unseen
     c.carry.new.self.memory c.carry.ensures.memory in
     record {
-      agrees = λ running keeps.
-          c.args.self.now.agrees running keeps
-          ∙ ap (λ (l : Option Record). Some (facts_after k.facts l)) (sym none) ∙ ap (λ (f : Facts). Some f) (sym facts);
+      agrees = λ keeps.
+          agrees_still _ _ _ _ k.facts c.carry.new.self.facts refl refl (facts ∙ ap (facts_after k.facts) none) (c.args.self.now.agrees keeps);
       sound = sound_then k ready p None none c.requires.due c.in-Ok.ensures.ready _ _ _ (c.carry.ensures.setup ∙ c.in-Ok.ensures.ready.setup) facts memory;
       showable = as-showable c.carry.new.self.facts _ c.carry.new.self.memory _ facts memory c.requires.due.showable;
     }
@@ -73,14 +74,26 @@ invariant_of-self-in-Ok-append_record g c =
     let memory = memory_after k ready p (Some logged) own c.requires.due c.in-Ok.ensures.ready c.ready_plans_can_be_carried.ensures.unseen
     after.new.self.memory after.ensures.memory in
     record {
-      agrees = λ running keeps.
-          ap facts_logged (c.in-Ok-append_record.ensures.read keeps)
-          ∙ facts-logged _ k.facts c.in-Some.item (c.args.self.now.agrees c.requires.running keeps)
-          ∙ ap (λ (l : Option Record). Some (facts_after k.facts l)) (sym item) ∙ ap (λ (f : Facts). Some f) (sym facts);
+      agrees = λ keeps.
+          let disk = disk_of c.args.self.now.gate_log in
+          let known = facts-held _ (surface (g.D.Disk.file disk)) k.facts c.requires.running (g.met.D.Disk.reads_now disk) (c.args.self.now.agrees keeps) in
+          ∣ agrees_kept _ _ _ after.new.self.facts c.in-Ok-append_record.ensures.running.1 (c.in-Ok-append_record.ensures.durable keeps) (
+            facts-logged _ k.facts c.in-Some.item known
+            ∙ ap (λ (l : Option Record). Some (facts_after k.facts l)) (sym item) ∙ ap (λ (f : Facts). Some f) (sym facts)) ∣₁;
       sound = sound_then k ready p (Some logged) own c.requires.due c.in-Ok.ensures.ready _ _ _
           (after.ensures.setup ∙ c.in-Ok.ensures.ready.setup) facts memory;
       showable = as-showable after.new.self.facts _ after.new.self.memory _ facts memory c.requires.due.showable;
     }
+
+pub invariant_of-self-in-Err-append_record-clause-agrees : goal.invariant_of-self-in-Err-append_record-clause-agrees
+invariant_of-self-in-Err-append_record-clause-agrees g c keeps =
+    let k = c.args.self.now.state in
+    let disk = disk_of c.args.self.now.gate_log in
+    let refused = c.in-Err-append_record.ensures in
+    agrees_refused g.D.Disk.file g.D.Disk.clock g.D.Disk.since g.met.D.Disk.counts_now disk (disk_of c.append_record.new.gate_log) _ _
+    k.facts c.undo.new.self.facts c.in-Some.item c.requires.running (g.met.D.Disk.reads_now disk) (c.undo.ensures.facts ∙ c.in-Ok.ensures.ready.facts)
+    (stopped-or-same c.in-Err-append_record.fault _ _ _ _ _ _ refused.cause refused.kept)
+    (refused.any_moment c.requires.running keeps) (c.args.self.now.agrees keeps)
 
 pub returns-in-Ok-append_record : goal.returns-in-Ok-append_record
 returns-in-Ok-append_record g c =

@@ -11,6 +11,7 @@ use Rattle.shard.specs.Booked.{IsCrowded, stand_of}
 use Rattle.shard.specs.Core.{seen, seen_machine}
 use Rattle.shard.specs.Logs.{records_in}
 use Rattle.shard.specs.On.{step_of}
+use Rattle.shard.proofs.Agrees.{facts-held}
 use Rattle.shard.proofs.Booked.{full-in, kept-book, room-in, went}
 use Rattle.shard.proofs.Results.{by_step, outbox_of}
 use Rattle.shard.proofs.Settling.{durably_settled}
@@ -48,7 +49,9 @@ returns-in-None-clause-settled g c =
     (records_in (surface (g.D.Disk.file (disk_of c.args.self.now.machine.gate_log))).seen) c.args.input.now c.carry_out.result c.requires.planned
     (outbox_of (seen c.args.self.now) (seen_machine c.carry_out.new.self) c.args.plan.logged (carried (plan_of k.memory.rows c.args.plan) k.memory)
     c.args.plan.outbox c.carry_out.result c.carry_out.ensures.done)
-    c.carry_out.ensures.written.durable (c.args.self.now.machine.agrees c.requires.running)
+    c.carry_out.ensures.written.durable (λ keeps.
+    let disk = disk_of c.args.self.now.machine.gate_log in
+    facts-held _ (surface (g.D.Disk.file disk)) _ c.requires.running (g.met.D.Disk.reads_now disk) (c.args.self.now.machine.agrees keeps))
 
 pub returns-in-Some-clause-stepped : goal.returns-in-Some-clause-stepped
 unfolding step_within
@@ -72,4 +75,6 @@ returns-in-Some-clause-settled g c =
     durably_settled c.args.self.now.machine.state c.args.now.now c.args.plan c.args.self.now.machine.sound g.D.Disk.keeps_model
     (surface (g.D.Disk.file (disk_of c.write_page.new.machine.gate_log)))
     (records_in (surface (g.D.Disk.file (disk_of c.args.self.now.machine.gate_log))).seen) c.args.input.now c.write_page.result c.requires.planned
-    c.write_page.ensures.out c.write_page.ensures.durable (c.args.self.now.machine.agrees c.requires.running)
+    c.write_page.ensures.out c.write_page.ensures.durable (λ keeps.
+    let disk = disk_of c.args.self.now.machine.gate_log in
+    facts-held _ (surface (g.D.Disk.file disk)) _ c.requires.running (g.met.D.Disk.reads_now disk) (c.args.self.now.machine.agrees keeps))
