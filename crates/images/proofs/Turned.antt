@@ -35,7 +35,7 @@ use Rattle.lives.proofs.Formatting.{fresh_is, none_taken, opens_first}
 use Rattle.lives.proofs.Living.{asks_the_resting, not_up_opens}
 use Rattle.law.proofs.Instants.{lawful_front}
 use Rattle.law.proofs.WholeLaw.{externally_consistent, run_on}
-use Rattle.images.specs.Images.{AreFresh, AreImages, AreLeft, AreLeftWithin, Calls, HaveLogs, ImagesHaveLogs, IsFresh, Leads}
+use Rattle.images.specs.Images.{AreFresh, AreImages, AreLeft, AreLeftWithin, Calls, CoresKnowTheRun, HaveLogs, ImagesHaveLogs, IsFresh, KnowsShard, Leads}
 use Rattle.images.specs.Images.{LeavesNow, LeavesWithin, Life, Up, Down, OpensTo, RestsOn, Takes, TakesWhat, Turn, Happens, Starves, Turns, disk_of, events_of}
 use Rattle.images.proofs.Acted.{acts_hold, starves_hold}
 use Rattle.images.proofs.Called.{Comes, LeavesRead, left_since, not_opened_since, opened, opened_since}
@@ -330,6 +330,18 @@ module _ {D : Type 0} (keeps obeys : Type 0) (file : D → File) (clock : D → 
       HoldRun config (events_of turns) lives
   holds config turns first lives fair fresh leads =
       leads_hold config turns [] fair first lives (fresh_hold config first fresh) (started config turns first lives leads)
+
+  -- a shard that runs has a core that runs
+  knows : (setup : Setup) (s : ShardNow) (m : Memory) (life : Life D) → LivesIn file setup s life (Runs m) →
+      KnowsShard s m life
+  knows setup s m (Up core) h = record { core = core; is = refl; runs = h.runs; facts = h.knows; memory = h.memory }
+  knows setup s m (Down disk) h = absurd h
+
+  pub cores_know_the_run : CoresKnowTheRun keeps obeys file clock since failures plan
+  cores_know_the_run keep config turns first lives fair fresh leads n s m there runs =
+      let h : HoldRun config (events_of turns) lives = holds config turns first lives fair fresh leads in
+      knows (setup_of (run config (events_of turns)).config n) s m (lives n)
+      (subst (LivesIn file (setup_of (run config (events_of turns)).config n) s (lives n)) runs (h n s there))
 
   pub images_have_logs : ImagesHaveLogs keeps obeys file clock since failures plan
   images_have_logs keep config turns first lives fair fresh leads images left = by_left (holds config turns first lives fair fresh leads) left

@@ -10,6 +10,7 @@ use Rattle.truetime.specs.Interval.{Interval}
 use Rattle.disk.specs.declared.plan.FailurePlan.{FailurePlan}
 use Rattle.disk.specs.File.{File, surface}
 use Rattle.disk.specs.Image.{MayLeave}
+use Rattle.record.specs.Facts.{facts_of}
 use Rattle.record.specs.declared.record.Record.{Record}
 use Rattle.message.specs.declared.message.Envelope.{Envelope}
 use Rattle.message.specs.declared.message.Input.{Input}
@@ -20,7 +21,7 @@ use Rattle.shard.specs.On.{CoreView, HasStepped, step_of}
 use Rattle.shard.specs.Opened.{HasNotOpened, HasOpened}
 use Rattle.world.specs.Headline.{IsExternallyConsistent, MayBeLeft, doing_of}
 use Rattle.world.specs.Lawful.{is_down, lawful, may_happen}
-use Rattle.world.specs.World.{World, ShardNow, Nothing, crashed_in, effect, failed_in, happens, input_of, read_log, run, setup_of, start}
+use Rattle.world.specs.World.{World, ShardNow, Runs, Nothing, crashed_in, effect, failed_in, happens, input_of, read_log, run, setup_of, start}
 use Rattle.world.specs.declared.event.Act.{Act}
 use Rattle.world.specs.declared.event.Config.{Config}
 use Rattle.world.specs.declared.event.Doing.{Doing}
@@ -96,6 +97,14 @@ pub record HaveLogs (config : Config) (es : List Event) (images : List (List ℕ
   pub read : map records_in images ≡ map (λ log. Ok log) logs
   pub left : MayBeLeft config es logs
   pub consistent : IsExternallyConsistent config logs (run config es).lines
+
+-- a core that runs, and knows and keeps what a shard of the run does: so what it puts out and how it is looked at is as the run has it
+pub record KnowsShard {D : Type 0} (s : ShardNow) (m : Kept) (life : Life D) : Type 0 where
+  pub core : CoreView D
+  pub is : life ≡ Up core
+  pub runs : IsFalse core.stopped
+  pub facts : core.facts ≡ facts_of s.log
+  pub memory : core.memory ≡ m
 
 module _ {D : Type 0} (file : D → File) where
   -- what a crash now may leave of a shard's disk
@@ -263,6 +272,14 @@ module _ {D : Type 0} (keeps obeys : Type 0) (file : D → File) (clock : D → 
       keeps → (config : Config) (turns : List Turn) (first lives : ℕ → Life D) → IsTrue (lawful config (events_of turns)) → AreFresh config first →
       Leads (start config) turns first lives → (images : List (List ℕ)) → AreLeft config (events_of turns) lives images →
       HaveLogs config (events_of turns) images
+
+  -- ---- what cores know
+
+  abbrev pub CoresKnowTheRun : Type 0
+  CoresKnowTheRun =
+      keeps → (config : Config) (turns : List Turn) (first lives : ℕ → Life D) → IsTrue (lawful config (events_of turns)) → AreFresh config first →
+      Leads (start config) turns first lives → (n : ℕ) (s : ShardNow) (m : Kept) → slice_get (run config (events_of turns)).shards n ≡ Some s →
+      s.state ≡ Runs m → KnowsShard s m (lives n)
 
   -- ---- every crash is told
 

@@ -1,5 +1,5 @@
 //! The law of images.
-ghost use Rattle.images.specs.Images.{CrashesAreTold, ImagesHaveLogs};
+ghost use Rattle.images.specs.Images.{CoresKnowTheRun, CrashesAreTold, ImagesHaveLogs};
 
 use disk::Disk;
 
@@ -10,6 +10,8 @@ use disk::Disk;
 /// within one, is read as a log; the logs of all shards are some that `law::moments` speaks of, and what it says holds of them.
 pub fn images_have_logs<D: Disk>()
     ensures logs { ImagesHaveLogs D.keeps_model D.obeys D.file D.clock D.since D.failures D.plan }
+    // A core that runs knows and keeps what the run says of its shard.
+    ensures cores { CoresKnowTheRun D.keeps_model D.obeys D.file D.clock D.since D.failures D.plan }
     // Whatever image a crash leaves, some event of the run tells it, and cores that go on from there stand beside the run.
     ensures told { CrashesAreTold D.keeps_model D.obeys D.file D.clock D.since D.failures D.plan }
 {}

@@ -2,7 +2,7 @@
 use Rattle.std.specs.List.{list_all}
 use Rattle.std.proofs.Common.{◌≡◌, ℕ, zero, suc, ◌+◌, ◌≤◌, Bool, true, false, not, cond, nat_eq, nat_le, nat_lt, List, [], ◌∷◌, ◌++◌, take, drop}
 use Rattle.std.proofs.Common.{filter, slice_get, Some, refl, sym, ap, ◌∙◌, subst, arith}
-use Rattle.std.proofs.lemmas.Bool.{and_parts, false≢true}
+use Rattle.std.proofs.lemmas.Bool.{and_parts}
 use Rattle.std.proofs.lemmas.Bool.Decides.{nat_tests}
 use Rattle.std.proofs.lemmas.List.{append-nil, drop-drop, take-append-drop}
 use Rattle.std.proofs.lemmas.List.Elements.{filter-append}
@@ -11,12 +11,14 @@ use Rattle.units.specs.Versions.{at_time, latest}
 use Rattle.units.specs.declared.fault.Fault.TheVariants.{NotYet, Stranger}
 use Rattle.units.specs.declared.setup.Setup.{Setup}
 use Rattle.units.specs.declared.writes.Install.{Install}
+use Rattle.protocol.specs.Rows.{Memory}
+use Rattle.record.specs.Facts.{facts_of}
 use Rattle.shard.specs.Look.{safe_at}
 use Rattle.shard.specs.On.{CoreView}
 use Rattle.simdisk.specs.declared.simdisk.SimDisk.{SimDisk}
 use Rattle.world.specs.World.{ShardNow, State, Runs, IsStopped, IsDown}
 use Rattle.world.specs.declared.event.Reply.{Reply}
-use Rattle.lives.specs.Lives.{IsCoreIn}
+use Rattle.lives.specs.Lives.{IsCoreIn, IsCoreOf}
 use Rattle.lives.specs.Looks.{is_above, look_at, look_core}
 use Rattle.lives.specs.Shows.{ShowsLog, is_apart}
 use Rattle.lives.specs.declared.view.View.{View as CodeView}
@@ -52,11 +54,11 @@ at_most : (a b : ℕ) → a ≤ b → nat_le a b ≡ true
 at_most a b h = grind (arith, nat_tests)
 
 pub by_core : (setup : Setup) (s : ShardNow) (core : CoreView SimDisk) (is : List Install) (from high : ℕ) (vs : List CodeView) (n : ℕ) (v : CodeView)
-    (here : Bool) (k : Bytes) (at : ℕ) → IsCoreIn setup s core s.state → ShowsLog is from s s.state → core.stopped ≡ false →
+    (here : Bool) (k : Bytes) (at : ℕ) → IsCoreIn setup s core s.state → ShowsLog is from s s.state →
     list_all (is_apart is high) vs ≡ true → slice_get vs n ≡ Some v → v.from ≡ from → at ≤ v.safe → at ≤ safe_at core →
     here ≡ nat_eq (shard_of setup.splits k) setup.shard →
     look_core core k at ≡ look_at here (take v.count (drop v.from is)) v.safe k at
-by_core setup s core is from high vs n v here k at lives shows runs apart there same low served is_here = by_state s.state lives shows
+by_core setup s core is from high vs n v here k at lives shows apart there same low served is_here = by_state s.state lives shows
   where
     later : list_all (is_above v.safe) (drop v.count (drop v.from is)) ≡ true
     later = ap (list_all (is_above v.safe)) (drop-drop v.count v.from is)
@@ -66,14 +68,18 @@ by_core setup s core is from high vs n v here k at lives shows runs apart there 
     value = ap (λ l. at_time l k at) (sym (take-append-drop v.count (drop v.from is)))
         ∙ earlier v.safe at (take v.count (drop v.from is)) (drop v.count (drop v.from is)) k low later
 
-    by_state : (st : State) → IsCoreIn setup s core st → ShowsLog is from s st →
+    of_core : (m : Memory) → IsCoreOf setup s m core → drop from is ≡ (facts_of s.log).installs →
         look_core core k at ≡ look_at here (take v.count (drop v.from is)) v.safe k at
-    by_state (Runs m) c shown =
+    of_core m c shown =
         let all : at_time core.facts.installs k at ≡ at_time (take v.count (drop v.from is)) k at =
-        ap (λ l. at_time l k at) ((λ i. (c.core_of.knows i).installs) ∙ sym shown.1 ∙ ap (λ f. drop f is) (sym same)) ∙ value in
+        ap (λ l. at_time l k at) ((λ i. (c.knows i).installs) ∙ sym shown ∙ ap (λ f. drop f is) (sym same)) ∙ value in
         let owns : nat_eq (shard_of core.setup.splits k) core.setup.shard ≡ here =
-        (λ i. nat_eq (shard_of (c.core_of.setup_is i).splits k) (c.core_of.setup_is i).shard) ∙ sym is_here in
+        (λ i. nat_eq (shard_of (c.setup_is i).splits k) (c.setup_is i).shard) ∙ sym is_here in
         let both : nat_le at (safe_at core) ≡ nat_le at v.safe = at_most at (safe_at core) served ∙ sym (at_most at v.safe low) in
         λ i. cond (not (owns i)) (Reply.Refused Stranger) (cond (both i) (Reply.Shows (all i)) (Reply.Refused NotYet))
-    by_state (IsStopped m) c shown = absurd (false≢true (sym runs ∙ c.stopped))
+
+    by_state : (st : State) → IsCoreIn setup s core st → ShowsLog is from s st →
+        look_core core k at ≡ look_at here (take v.count (drop v.from is)) v.safe k at
+    by_state (Runs m) c shown = of_core m c.core_of shown.1
+    by_state (IsStopped m) c shown = of_core m c.core_of shown.1
     by_state IsDown c shown = absurd c

@@ -209,10 +209,14 @@ module _ (setup : Setup) (bag : List Envelope) (s : ShardNow) (call : Option ℕ
   apart_as_before : mid.rises ≡ true → list_all (is_apart mid.installs.items mid.high) mid.views.items ≡ true
   apart_as_before = same_apart setup s old mid kept h
 
-  still_shows : (st : State) → ShowsLog old.installs.items old.from s st → ShowsLog mid.installs.items mid.from s st
-  still_shows (Runs m) k = subst (λ n. (n ≤ length mid.installs.items) × (drop n mid.installs.items ≡ (facts_of s.log).installs)) (sym kept.from)
+  still_behind : (old.from ≤ length old.installs.items) × (drop old.from old.installs.items ≡ (facts_of s.log).installs)
+      → (mid.from ≤ length mid.installs.items) × (drop mid.from mid.installs.items ≡ (facts_of s.log).installs)
+  still_behind k = subst (λ n. (n ≤ length mid.installs.items) × (drop n mid.installs.items ≡ (facts_of s.log).installs)) (sym kept.from)
       (subst (λ is. (old.from ≤ length is) × (drop old.from is ≡ (facts_of s.log).installs)) (sym kept.installs) k)
-  still_shows (IsStopped m) k = tt
+
+  still_shows : (st : State) → ShowsLog old.installs.items old.from s st → ShowsLog mid.installs.items mid.from s st
+  still_shows (Runs m) k = still_behind k
+  still_shows (IsStopped m) k = still_behind k
   still_shows IsDown k = tt
 
   as_it_was : LivesAs setup s mid.life → StandsFor setup mid s
@@ -235,14 +239,27 @@ module _ (setup : Setup) (bag : List Envelope) (s : ShardNow) (call : Option ℕ
       by_state (IsStopped m) k = falls (disk_log s) k
       by_state IsDown k = falls (disk_log s) k
 
+  read_is : s.unsure ≡ Nothing → read_log s ≡ s.log
+  read_is sure = ap (λ u. s.log ++ shown_records u) sure ∙ append-nil s.log
+
   failed_stands : (c : ℕ) (r : Record) → LivesAs setup (failed_in s c r) mid.life → StandsFor setup mid (failed_in s c r)
   unfolding failed_in
-  failed_stands c r l = record { setup_is = told; lives = l; views = same.0; within = same.1; apart = apart_as_before; shows = no_more s.state }
+  failed_stands c r l = record {
+    setup_is = told;
+    lives = l;
+    views = same.0;
+    within = same.1;
+    apart = apart_as_before;
+    shows = no_more s.state refl h.shows;
+  }
     where
-      no_more : (st : State) → ShowsLog mid.installs.items mid.from (failed_in s c r) (stopped st)
-      no_more (Runs m) = tt
-      no_more (IsStopped m) = tt
-      no_more IsDown = tt
+      no_more : (st : State) → s.state ≡ st → ShowsLog old.installs.items old.from s st →
+          ShowsLog mid.installs.items mid.from (failed_in s c r) (stopped st)
+      no_more (Runs m) is k =
+          let behind = still_behind k in
+          (behind.0, behind.1 ∙ ap (λ log. (facts_of log).installs) (sym (read_is (sure_of setup s old.life h.lives m is))))
+      no_more (IsStopped m) is k = tt
+      no_more IsDown is k = tt
 
   -- a refusal, and a call that failed
   pub acts_not : (fault : Fault) → Carries setup bag s call doing mid.life (Err fault) → Acts setup bag s call doing mid (Err fault)
@@ -267,9 +284,6 @@ module _ (setup : Setup) (bag : List Envelope) (s : ShardNow) (call : Option ℕ
       by_step (Refuses f) (inr (e, l)) = inr (e, refused_stands doing l)
       by_step (Does None memory out) (inr (e, l)) = absurd (cc)
       by_step (Does (Some r) memory out) (inr (e, l)) = inr (e, by_call_of call r memory out e l)
-
-  read_is : s.unsure ≡ Nothing → read_log s ≡ s.log
-  read_is sure = ap (λ u. s.log ++ shown_records u) sure ∙ append-nil s.log
 
   -- ---- it is done
 

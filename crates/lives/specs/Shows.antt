@@ -38,10 +38,10 @@ is_within installs v = nat_le (v.from + v.count) (length installs)
 abbrev pub is_apart : List Install → ℕ → CodeView → Bool
 is_apart installs high v = nat_le v.safe high && list_all (is_above v.safe) (drop (v.from + v.count) installs)
 
--- while a shard runs, the last versions are those of its log
+-- while a shard runs or is stopped, the last versions are those of its log
 abbrev pub ShowsLog : List Install → ℕ → ShardNow → State → Type 0
 ShowsLog installs from s (Runs m) = (from ≤ length installs) × (drop from installs ≡ (facts_of s.log).installs)
-ShowsLog installs from s (IsStopped m) = Unit {0}
+ShowsLog installs from s (IsStopped m) = (from ≤ length installs) × (drop from installs ≡ (facts_of s.log).installs)
 ShowsLog installs from s IsDown = Unit {0}
 
 -- what lives of it, and its views

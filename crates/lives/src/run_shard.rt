@@ -210,8 +210,8 @@ impl RunShard {
         }
     }
 
-    // A look at one of its views. Where it runs, its core has the view's versions, and what came since is above what the view serves: then
-    // it is the core that is looked at, which finds a version by halves.
+    // A look at one of its views. Where its core has the view's versions, and what came since is above what the view serves, it is the core
+    // that is looked at, which finds a version by halves.
     fn look_at_view(
         &self,
         alloc: Global,
@@ -228,12 +228,7 @@ impl RunShard {
         ensures memory { IfErr result (λ fault. fault ≡ Fault.Memory) }
     {
         if let Life::Up(core) = &self.life {
-            if self.rises
-                && view.from == self.from
-                && !core.is_stopped()
-                && at <= view.safe
-                && at <= core.safe()
-            {
+            if self.rises && view.from == self.from && at <= view.safe && at <= core.safe() {
                 return look_at_core(alloc, core, key, at);
             }
         }

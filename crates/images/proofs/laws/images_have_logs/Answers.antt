@@ -1,5 +1,5 @@
 use Rattle.images.proofs.Told.{crashes_are_told}
-use Rattle.images.proofs.Turned.{images_have_logs}
+use Rattle.images.proofs.Turned.{cores_know_the_run, images_have_logs}
 use Rattle.images.proofs.laws.images_have_logs.Goals as goal
 
 pub returns-clause-logs : goal.returns-clause-logs
@@ -9,3 +9,7 @@ returns-clause-logs g c = λ keeps. images_have_logs g.D.Disk.keeps_model g.D.Di
 pub returns-clause-told : goal.returns-clause-told
 returns-clause-told g c = λ keeps. crashes_are_told g.D.Disk.keeps_model g.D.Disk.obeys g.D.Disk.file g.D.Disk.clock g.D.Disk.since g.D.Disk.failures
     g.D.Disk.plan g.met.D.Disk.counts_now keeps keeps
+
+pub returns-clause-cores : goal.returns-clause-cores
+returns-clause-cores g c = λ keeps. cores_know_the_run g.D.Disk.keeps_model g.D.Disk.obeys g.D.Disk.file g.D.Disk.clock g.D.Disk.since
+    g.D.Disk.failures g.D.Disk.plan g.met.D.Disk.counts_now keeps keeps

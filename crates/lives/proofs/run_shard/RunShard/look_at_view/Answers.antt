@@ -1,4 +1,4 @@
-use Rattle.std.proofs.Common.{◌≡◌, ◌≤◌, true, false, IfOk, subst, rules}
+use Rattle.std.proofs.Common.{◌≡◌, ◌≤◌, IfOk, subst, rules}
 use Rattle.shard.specs.Core.{seen}
 use Rattle.shard.specs.Look.{safe_at}
 use Rattle.lives.specs.Lives.{LivesAs}
@@ -11,10 +11,9 @@ returns-then-le-2-clause-shown c setup s n h there here =
     let v = c.args.view in
     let k = c.args.key.now in
     let core = seen c.in-Up.core in
-    let runs : core.stopped ≡ false = search rules in
     let same : v.from ≡ r.from = search rules in
     let low : c.args.at ≤ v.safe = search rules in
     let served : c.args.at ≤ safe_at core = search rules in
     subst (λ x. IfOk c.look_at_core.result (λ reply. reply ≡ x))
     (by_core setup s core r.installs.items r.from r.high r.views.items n v c.args.is_here k c.args.at
-    (subst (LivesAs setup s) c.in-Up.is h.lives) h.shows runs (h.apart c.if-self.true) there same low served here) c.look_at_core.ensures.shown
+    (subst (LivesAs setup s) c.in-Up.is h.lives) h.shows (h.apart c.if-self.true) there same low served here) c.look_at_core.ensures.shown
