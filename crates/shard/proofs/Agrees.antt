@@ -55,9 +55,11 @@ agrees_refused file clock since counts_now old new was stopped known facts r run
     record {
       records = a.records;
       learnt = is ∙ a.learnt;
-      held = subst (λ b. AreHeld b (surface (file new)) a.records) (sym stops)
-          (r, λ image may. subst (λ records. HoldsOldOrWith records (Some r) image) (held (surface (file old)).seen now)
-          (moments.each image (counts_now new (clock old) image moments.later may)));
+      held = subst (λ b. AreHeld b (surface (file new)) a.records) (sym stops) (
+        r,
+        λ image may. subst (λ records. HoldsOldOrWith records (Some r) image) (held (surface (file old)).seen now)
+            (moments.each image (counts_now new (clock old) image moments.later may)),
+      );
     })
 agrees_refused file clock since counts_now old new was stopped known facts r running now is (inr same) moments agrees =
     agrees_still was stopped (surface (file old)) (surface (file new)) known facts same.0 (ap surface same.1) is agrees

@@ -15,9 +15,9 @@ pub invariant_of-result : goal.invariant_of-result
 invariant_of-result g c = record {
   agrees = λ keeps.
       ∣ agrees_kept _ _ _ c.in-Ok.state.facts c.in-Ok-append_record.ensures.running.1 (c.in-Ok-append_record.ensures.durable keeps) (
-        ap (λ records. facts_logged (and_logged records (Some (Record.Opened c.first.result)))) (c.requires.empty keeps)
-        ∙ ap (λ n. facts_logged (and_logged (Ok []) (Some (Record.Opened n)))) c.first.ensures
-        ∙ first-learnt ∙ ap (λ (f : Facts). Some f) (sym c.in-Ok.ensures.facts)) ∣₁;
+      ap (λ records. facts_logged (and_logged records (Some (Record.Opened c.first.result)))) (c.requires.empty keeps)
+      ∙ ap (λ n. facts_logged (and_logged (Ok []) (Some (Record.Opened n)))) c.first.ensures
+      ∙ first-learnt ∙ ap (λ (f : Facts). Some f) (sym c.in-Ok.ensures.facts)) ∣₁;
   sound = ∣ first-sound c.args.setup c.in-Ok.state.setup c.in-Ok.state.facts c.in-Ok.state.memory c.fresh_is_sound.ensures c.in-Ok.ensures.setup
       c.in-Ok.ensures.facts c.in-Ok.ensures.empty ∣₁;
   showable = as-showable c.in-Ok.state.facts _ c.in-Ok.state.memory _ c.in-Ok.ensures.facts c.in-Ok.ensures.empty c.fresh_is_showable.ensures;

@@ -78,8 +78,8 @@ invariant_of-self-in-Ok-append_record g c =
           let disk = disk_of c.args.self.now.gate_log in
           let known = facts-held _ (surface (g.D.Disk.file disk)) k.facts c.requires.running (g.met.D.Disk.reads_now disk) (c.args.self.now.agrees keeps) in
           ∣ agrees_kept _ _ _ after.new.self.facts c.in-Ok-append_record.ensures.running.1 (c.in-Ok-append_record.ensures.durable keeps) (
-            facts-logged _ k.facts c.in-Some.item known
-            ∙ ap (λ (l : Option Record). Some (facts_after k.facts l)) (sym item) ∙ ap (λ (f : Facts). Some f) (sym facts)) ∣₁;
+          facts-logged _ k.facts c.in-Some.item known
+          ∙ ap (λ (l : Option Record). Some (facts_after k.facts l)) (sym item) ∙ ap (λ (f : Facts). Some f) (sym facts)) ∣₁;
       sound = sound_then k ready p (Some logged) own c.requires.due c.in-Ok.ensures.ready _ _ _
           (after.ensures.setup ∙ c.in-Ok.ensures.ready.setup) facts memory;
       showable = as-showable after.new.self.facts _ after.new.self.memory _ facts memory c.requires.due.showable;
