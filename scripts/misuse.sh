@@ -20,7 +20,7 @@ judge() {
     fi
     sed '1,/^code:$/d' "$1" >"$crate/src/misuse.rt"
     printf '\nmod misuse;\n' >>"$crate/src/lib.rt"
-    (cd "$crate" && timeout 300 rt check --jobs 1) >"$2/said" 2>&1 || true
+    (cd "$crate" && timeout 900 rt check --jobs 1) >"$2/said" 2>&1 || true
 
     grep 'error\[' "$2/said" >"$2/errors" || true
     if [ "$(wc -l <"$2/errors")" -ne 1 ]; then

@@ -1,0 +1,138 @@
+//! The program: what it answers to words.
+ghost use Rattle.std.specs.Prelude.{◌≡◌, ◌≢◌, ◌⊎◌, ◌<◌, Some, Ok, Err, IfOk, IfErr, map, true, List, ℕ};
+ghost use Rattle.std.specs.Io.KnownBytes.{Appends};
+ghost use Rattle.units.specs.declared.fault.Fault.{Fault};
+ghost use Rattle.units.specs.declared.fault.Fault.TheVariants.{Memory};
+ghost use Rattle.command_line.specs.Commands.{command_of};
+ghost use Rattle.command_line.specs.declared.commands.Command.TheVariants.{Help};
+ghost use Rattle.command_line.specs.declared.usage.TheConstants.{USAGE};
+ghost use Rattle.command_line.specs.Lines.{are_plain, asks_help};
+ghost use Rattle.output.specs.Replies.{Is};
+ghost use Rattle.cli.specs.Faults.{FailsAs, MayRefuse, MayRefuseTo};
+ghost use Rattle.cli.specs.Replies.{Tells, TellsTo, reply_of, reply_to};
+ghost use Rattle.output.specs.Streams.{failures_of, fault_line, writer_of};
+
+use crate::answers::answer;
+use drive::{NoVerdict, drive_shards};
+use host_files::HostFiles;
+use output::Stream;
+use settings::Settings;
+use simdisk::SimDisk;
+use std::alloc::Global;
+use std::fs::File;
+use std::io::{Stderr, Write};
+use std::random::RandomSource;
+use std::sync::Wait;
+use std::thread::Threads;
+use std::{rt, time};
+use system::{Driven, Files, System};
+
+/// Carries a command line out, with the files and threads of the machine, over standard output and standard error. Gives the
+/// status: 0, 1 for a verdict of no or for early, 2 for a fault. A fault is printed on standard error, except that after a failed
+/// write nothing more is printed. Where standard error is a terminal, a drive shows how far it is there.
+pub fn program<
+    R: rt::Files<File = File> + Eprint + RandomSource + Threads + Wait + time::Clock + Sync,
+    O: Write,
+    E: Write,
+>(
+    rt: &R,
+    alloc: Global,
+    terminal: Option<Stderr>,
+    words: &[&str],
+    out: &mut Stream<O>,
+    err: &mut Stream<E>,
+) -> u8
+    ensures status { (result ≡ 0) ⊎ (result ≡ 1) ⊎ (result ≡ 2) }
+    ensures printed { are_plain (map (λ w. w.now) words.entry.now) ≡ true → result ≢ 2
+        → (text : List ℕ) × Is (reply_to (map (λ w. w.now) words.entry.now)) (Ok (text, result))
+        × Appends (O.contents (writer_of out.old)) (O.contents (writer_of out.new)) text }
+    ensures refused { are_plain (map (λ w. w.now) words.entry.now) ≡ true → (fault : Fault)
+        → reply_to (map (λ w. w.now) words.entry.now) ≡ Some (Err fault) → (result ≡ 2)
+        × (out.new ≡ out.old) }
+    ensures helped { asks_help (map (λ w. w.now) words.entry.now) ≡ true → result ≢ 2
+        → (result ≡ 0)
+        × Appends (O.contents (writer_of out.old)) (O.contents (writer_of out.new)) USAGE.now }
+    // What files tell: a format prints nothing, and an inspection a verdict, which its status goes with.
+    ensures tells { are_plain (map (λ w. w.now) words.entry.now) ≡ true → result ≢ 2
+        → (text : List ℕ) × TellsTo (command_of (map (λ w. w.now) words.entry.now)) result text
+        × Appends (O.contents (writer_of out.old)) (O.contents (writer_of out.new)) text }
+    ensures quiet { result ≢ 2 → err.new ≡ err.old }
+    // A status of 2 has a reason: a write to standard output that failed, or a fault, whose line is on standard error.
+    ensures told { are_plain (map (λ w. w.now) words.entry.now) ≡ true → result ≡ 2
+        → (failures_of out.old < failures_of out.new)
+        ⊎ ((fault : Fault) × ((fault ≡ Memory)
+        ⊎ Is (reply_to (map (λ w. w.now) words.entry.now)) (Err fault))
+        × ((failures_of err.old < failures_of err.new)
+        ⊎ Appends (E.contents (writer_of err.old)) (E.contents (writer_of err.new))
+        (fault_line fault))) }
+    // The fault of a command over files is one of its own.
+    ensures numbered { are_plain (map (λ w. w.now) words.entry.now) ≡ true → result ≡ 2
+        → (failures_of out.old < failures_of out.new)
+        ⊎ ((fault : Fault) × MayRefuseTo (command_of (map (λ w. w.now) words.entry.now)) fault
+        × ((failures_of err.old < failures_of err.new)
+        ⊎ Appends (E.contents (writer_of err.old)) (E.contents (writer_of err.new))
+        (fault_line fault))) }
+    // So it is for any words.
+    ensures explained { result ≡ 2 → (failures_of out.old < failures_of out.new)
+        ⊎ ((fault : Fault) × ((failures_of err.old < failures_of err.new)
+        ⊎ Appends (E.contents (writer_of err.old)) (E.contents (writer_of err.new))
+        (fault_line fault))) }
+    ensures silent { failures_of out.old < failures_of out.new → err.new ≡ err.old }
+{
+    let drive = |alloc: Global, settings: &Settings| drive_shards(rt, alloc, settings, terminal);
+    let files = HostFiles {
+        rt,
+        is_watched: terminal.is_some(),
+    };
+    answer_by(alloc, files, drive, words, out, err)
+}
+
+// The same, with these files, and with what drives shards.
+fn answer_by<
+    F: Files + Drop,
+    D: Fn(Global, &Settings) -> Result<Driven, NoVerdict>,
+    O: Write,
+    E: Write,
+>(alloc: Global, files: F, drive: D, words: &[&str], out: &mut Stream<O>, err: &mut Stream<E>) -> u8
+    requires { D.IsAlwaysCallable drive }
+    ensures status { (result ≡ 0) ⊎ (result ≡ 1) ⊎ (result ≡ 2) }
+    ensures printed { are_plain (map (λ w. w.now) words.entry.now) ≡ true → result ≢ 2
+        → (text : List ℕ) × Is (reply_to (map (λ w. w.now) words.entry.now)) (Ok (text, result))
+        × Appends (O.contents (writer_of out.old)) (O.contents (writer_of out.new)) text }
+    ensures refused { are_plain (map (λ w. w.now) words.entry.now) ≡ true → (fault : Fault)
+        → reply_to (map (λ w. w.now) words.entry.now) ≡ Some (Err fault) → (result ≡ 2)
+        × (out.new ≡ out.old) }
+    ensures helped { asks_help (map (λ w. w.now) words.entry.now) ≡ true → result ≢ 2
+        → (result ≡ 0)
+        × Appends (O.contents (writer_of out.old)) (O.contents (writer_of out.new)) USAGE.now }
+    // What files tell: a format prints nothing, and an inspection a verdict, which its status goes with.
+    ensures tells { are_plain (map (λ w. w.now) words.entry.now) ≡ true → result ≢ 2
+        → (text : List ℕ) × TellsTo (command_of (map (λ w. w.now) words.entry.now)) result text
+        × Appends (O.contents (writer_of out.old)) (O.contents (writer_of out.new)) text }
+    ensures quiet { result ≢ 2 → err.new ≡ err.old }
+    // A status of 2 has a reason: a write to standard output that failed, or a fault, whose line is on standard error.
+    ensures told { are_plain (map (λ w. w.now) words.entry.now) ≡ true → result ≡ 2
+        → (failures_of out.old < failures_of out.new)
+        ⊎ ((fault : Fault) × ((fault ≡ Memory)
+        ⊎ Is (reply_to (map (λ w. w.now) words.entry.now)) (Err fault))
+        × ((failures_of err.old < failures_of err.new)
+        ⊎ Appends (E.contents (writer_of err.old)) (E.contents (writer_of err.new))
+        (fault_line fault))) }
+    // The fault of a command over files is one of its own.
+    ensures numbered { are_plain (map (λ w. w.now) words.entry.now) ≡ true → result ≡ 2
+        → (failures_of out.old < failures_of out.new)
+        ⊎ ((fault : Fault) × MayRefuseTo (command_of (map (λ w. w.now) words.entry.now)) fault
+        × ((failures_of err.old < failures_of err.new)
+        ⊎ Appends (E.contents (writer_of err.old)) (E.contents (writer_of err.new))
+        (fault_line fault))) }
+    // So it is for any words.
+    ensures explained { result ≡ 2 → (failures_of out.old < failures_of out.new)
+        ⊎ ((fault : Fault) × ((failures_of err.old < failures_of err.new)
+        ⊎ Appends (E.contents (writer_of err.old)) (E.contents (writer_of err.new))
+        (fault_line fault))) }
+    ensures silent { failures_of out.old < failures_of out.new → err.new ≡ err.old }
+{
+    let system = System { files, drive };
+    let (status, _) = answer(alloc, words, &system, SimDisk::new(alloc), out, err);
+    status
+}
