@@ -1,3 +1,5 @@
 pub mod Openings
 pub mod Restart
 pub mod Seen
+pub mod SeenHeld
+pub mod Under

@@ -1,8 +1,10 @@
 //! What lies under a node's lock.
-ghost use Rattle.std.specs.Prelude.{◌≡◌, IfOk, IfErr, IsSome, length};
+ghost use Rattle.std.specs.Prelude.{◌≡◌, IfOk, IfErr, IfSome, IfNone, IsSome, length};
 ghost use Rattle.board.specs.Board.{first_entries};
 ghost use Rattle.desk.specs.InStep.{IsNoDesk};
-ghost use Rattle.node.specs.Restart.{AreOnNewBoard};
+ghost use Rattle.node.specs.Restart.{AreOnNewBoard, HasRestarted, HasNotRestarted, is_at_rest, disk_of_place};
+ghost use Rattle.node.specs.Under.{IsDeskOf, IsUnder, IsEarliestIn, Became, HasDelivered, HasAdvancedIn, HasNotAdvancedIn, HasKeptUp, HasNotKeptUp};
+ghost use Rattle.node.specs.Under.{is_ready_in, due_in, versions_in};
 ghost use Rattle.shard.specs.Core.{seen, book_of};
 ghost use Rattle.shard.specs.Look.{safe_at};
 
@@ -27,6 +29,8 @@ pub struct Held<D: Disk + Drop, R: Wait + Drop> {
 }
 
 impl<D: Disk + Drop, R: Wait + Drop> Held<D, R> {
+    ghost use Rattle.node.specs.SeenHeld.{seen_held};
+
     /// A core that is served, and so many viewers of its board.
     pub fn new(
         rt: R,
@@ -34,6 +38,9 @@ impl<D: Disk + Drop, R: Wait + Drop> Held<D, R> {
         core: Core<D>,
         n: usize,
     ) -> Result<(Held<D, R>, Vec<Viewer>), (Fault, Core<D>)>
+        ensures setup { IfOk result (λ made. (seen_held made.0).setup ≡ (seen core).setup) }
+        ensures desk { IfOk result (λ made. IsUnder (seen_held made.0)
+            (λ place. IsDeskOf place (seen core) (book_of core) n made.1.items)) }
         ensures viewers { IfOk result (λ made. length made.1.items ≡ n) }
         ensures board { IfOk result (λ made. AreOnNewBoard n (seen core).setup
             (first_entries (seen core).facts.installs (safe_at (seen core))) made.1.items) }
@@ -61,7 +68,11 @@ impl<D: Disk + Drop, R: Wait + Drop> Held<D, R> {
     }
 
     /// One step of the core. A disk alone is refused as a core that is stopped.
-    pub fn deliver(&mut self, now: &Reading, input: &Input) -> Result<Outbox, Fault> {
+    pub fn deliver(&mut self, now: &Reading, input: &Input) -> Result<Outbox, Fault>
+        ensures { Became (seen_held self.old) (seen_held self.new)
+            (λ old. λ new. HasDelivered D.keeps_model D.obeys D.file D.clock D.since D.failures D.plan
+            old new now.now input.now result) }
+    {
         match &mut self.place {
             Some(Place::Serving(desk)) => desk.deliver(now, input),
             Some(Place::Resting(_)) | None => Err(Fault::Stopped),
@@ -69,15 +80,39 @@ impl<D: Disk + Drop, R: Wait + Drop> Held<D, R> {
     }
 
     /// Advances the core and publishes its board.
-    pub fn advance(&mut self, now: &Reading, to: Stamp) -> Result<Told, Fault> {
+    pub fn advance(&mut self, now: &Reading, to: Stamp) -> Result<Told, Fault>
+        ensures advanced { IfOk result (λ told. Became (seen_held self.old) (seen_held self.new)
+            (λ old. λ new. HasAdvancedIn D.keeps_model D.obeys D.file D.clock D.since D.failures D.plan
+            old new now.now to told)) }
+        ensures refused { IfErr result (λ fault. Became (seen_held self.old) (seen_held self.new)
+            (λ old. λ new. HasNotAdvancedIn D.keeps_model D.obeys D.file D.clock D.since D.failures D.plan
+            old new now.now to fault)) }
+    {
         match &mut self.place {
             Some(Place::Serving(desk)) => desk.advance(now, to),
             Some(Place::Resting(_)) | None => Err(Fault::Stopped),
         }
     }
 
+    /// Advances to the latest of the reading, and shows that. Up to when it serves then, where it was not refused.
+    pub fn keep_up(&mut self, now: &Reading) -> Option<Stamp>
+        ensures kept { IfSome result (λ safe. Became (seen_held self.old) (seen_held self.new)
+            (λ old. λ new. HasKeptUp D.keeps_model D.obeys D.file D.clock D.since D.failures D.plan
+            old new now.now safe)) }
+        ensures refused { IfNone result (Became (seen_held self.old) (seen_held self.new)
+            (λ old. λ new. HasNotKeptUp D.keeps_model D.obeys D.file D.clock D.since D.failures D.plan
+            old new now.now)) }
+    {
+        match self.advance(now, now.latest()) {
+            Ok(told) => Some(told.safe()),
+            Err(_) => None,
+        }
+    }
+
     /// Whether there is a wait that can be granted.
-    pub fn is_ready(&self) -> bool {
+    pub fn is_ready(&self) -> bool
+        ensures { IsUnder (seen_held self.now) (λ place. result ≡ is_ready_in place) }
+    {
         match &self.place {
             Some(Place::Serving(desk)) => desk.core().ready().is_some(),
             Some(Place::Resting(_)) | None => false,
@@ -85,7 +120,9 @@ impl<D: Disk + Drop, R: Wait + Drop> Held<D, R> {
     }
 
     /// The n-th transaction of this standing, and the timestamp that it is prepared or decided at.
-    pub fn due(&self, due: Due, n: usize) -> Option<(TxnId, Stamp)> {
+    pub fn due(&self, due: Due, n: usize) -> Option<(TxnId, Stamp)>
+        ensures { IsUnder (seen_held self.now) (λ place. result ≡ due_in place due n) }
+    {
         let Some(Place::Serving(desk)) = &self.place else {
             return None;
         };
@@ -96,7 +133,9 @@ impl<D: Disk + Drop, R: Wait + Drop> Held<D, R> {
     }
 
     /// A transaction that is decided and not settled, of the least timestamp, with it. There is none in a disk alone.
-    pub fn earliest_decided(&self) -> Option<(TxnId, Stamp)> {
+    pub fn earliest_decided(&self) -> Option<(TxnId, Stamp)>
+        ensures { IsUnder (seen_held self.now) (λ place. IsEarliestIn place result) }
+    {
         match &self.place {
             Some(Place::Serving(desk)) => desk.core().earliest_decided(),
             Some(Place::Resting(_)) | None => None,
@@ -104,7 +143,9 @@ impl<D: Disk + Drop, R: Wait + Drop> Held<D, R> {
     }
 
     /// Whether the core is stopped. A disk alone is.
-    pub fn is_stopped(&self) -> bool {
+    pub fn is_stopped(&self) -> bool
+        ensures { IsUnder (seen_held self.now) (λ place. result ≡ is_at_rest place) }
+    {
         match &self.place {
             Some(Place::Serving(desk)) => desk.core().is_stopped(),
             Some(Place::Resting(_)) | None => true,
@@ -112,7 +153,9 @@ impl<D: Disk + Drop, R: Wait + Drop> Held<D, R> {
     }
 
     /// How many versions the core has. A disk alone has none.
-    pub fn versions(&self) -> usize {
+    pub fn versions(&self) -> usize
+        ensures { IsUnder (seen_held self.now) (λ place. result ≡ versions_in place) }
+    {
         match &self.place {
             Some(Place::Serving(desk)) => desk.core().installs().len(),
             Some(Place::Resting(_)) | None => 0,
@@ -120,7 +163,14 @@ impl<D: Disk + Drop, R: Wait + Drop> Held<D, R> {
     }
 
     /// What is stopped is opened again, as it was told before, with a new board and so many viewers.
-    pub fn restart(&mut self, rt: R, alloc: Global, n: usize) -> Result<Vec<Viewer>, Fault> {
+    pub fn restart(&mut self, rt: R, alloc: Global, n: usize) -> Result<Vec<Viewer>, Fault>
+        ensures restarted { IfOk result (λ viewers. Became (seen_held self.old) (seen_held self.new)
+            (λ old. λ new. HasRestarted D.keeps_model D.obeys D.file D.clock D.since D.failures D.plan
+            old new (seen_held self.old).setup n viewers.items)) }
+        ensures refused { IfErr result (λ fault. Became (seen_held self.old) (seen_held self.new)
+            (λ old. λ new. HasNotRestarted D.keeps_model D.obeys D.file D.clock D.since D.failures D.plan
+            old new (seen_held self.old).setup n fault)) }
+    {
         let Some(place) = self.place.take() else {
             unreachable!()
         };
@@ -130,7 +180,9 @@ impl<D: Disk + Drop, R: Wait + Drop> Held<D, R> {
     }
 
     /// Ends it, and gives its disk back as it is.
-    pub fn close(self) -> D {
+    pub fn close(self) -> D
+        ensures { IsUnder (seen_held self) (λ place. result ≡ disk_of_place place) }
+    {
         let Held { setup, place } = self;
         drop(setup);
         match place {

@@ -44,10 +44,7 @@ impl<D: Disk + Drop, R: Wait + Drop> Serves for Node<D, R> {
     fn keep_up<W: Wait, C: Clock>(&self, rt: &W, clock: &mut C) -> Option<Stamp> {
         let mut held = self.held.lock(rt);
         let now = clock.now()?;
-        match held.advance(&now, now.latest()) {
-            Ok(told) => Some(told.safe()),
-            Err(_) => None,
-        }
+        held.keep_up(&now)
     }
 
     fn alloc(&self) -> Global {

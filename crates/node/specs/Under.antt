@@ -1,0 +1,95 @@
+-- What the calls come to of what lies under a node's lock. A desk takes them as a desk does. A disk alone takes nothing, as a core
+-- that is stopped.
+use Rattle.std.specs.Prelude.{◌≡◌, ℕ, Bool, false, List, [], Option, Some, None, Result, Err, length, is_some, IsSomeAnd}
+use Rattle.units.specs.declared.fault.Fault.{Fault}
+use Rattle.units.specs.declared.fault.Fault.TheVariants.{Stopped}
+use Rattle.units.specs.declared.setup.Setup.{Setup}
+use Rattle.units.specs.Ids.{Id}
+use Rattle.units.specs.Lists.{gather}
+use Rattle.units.specs.Locks.{ready}
+use Rattle.disk.specs.declared.plan.FailurePlan.{FailurePlan}
+use Rattle.disk.specs.File.{File, surface}
+use Rattle.letters.specs.declared.serves.Due.{Due}
+use Rattle.letters.specs.declared.serves.Due.TheVariants.{Decided, Prepared}
+use Rattle.message.specs.declared.message.Envelope.{Envelope}
+use Rattle.message.specs.declared.message.Input.{Input}
+use Rattle.truetime.specs.Interval.{Interval}
+use Rattle.protocol.specs.Rows.{claims}
+use Rattle.rows.specs.RowTable.{nth_prepared, nth_decided, decided_row, IsEarliest}
+use Rattle.shard.specs.Settled.{IsDurablySettled}
+use Rattle.book.specs.Books.{BookView}
+use Rattle.shard.specs.On.{CoreView}
+use Rattle.shard.specs.Look.{safe_at}
+use Rattle.board.specs.Board.{first_entries, safe_on}
+use Rattle.board.specs.Views.{Published, Viewing}
+use Rattle.desk.specs.InStep.{HasTaken, HasAdvanced, HasNotAdvanced, IsNewBoard, AreOnBoard}
+use Rattle.node.specs.Restart.{PlaceView, Serving, Resting}
+
+-- what the shard is told, and the place
+pub record Under (D : Type 0) : Type 0 where
+  pub setup : Setup
+  pub place : Option (PlaceView D)
+
+-- the place is there, and this is so of it
+abbrev pub IsUnder : {D : Type 0} → Under D → (PlaceView D → Type 0) → Type 0
+IsUnder under P = IsSomeAnd under.place P
+
+-- a desk of this core, with its book, and so many viewers of its new board
+abbrev pub IsDeskOf : {D : Type 0} → PlaceView D → CoreView D → Option BookView → ℕ → List Viewing → Type 0
+IsDeskOf (Serving desk) core book n viewers =
+    (desk.core ≡ core) × (desk.book ≡ book) × IsNewBoard desk.board (first_entries core.facts.installs (safe_at core))
+    × AreOnBoard n core.setup desk.board viewers
+IsDeskOf (Resting disk) core book n viewers = ⊥
+
+-- The shard is told what it was told. The place was there and is, and this is so of both.
+abbrev pub Became : {D : Type 0} → Under D → Under D → (PlaceView D → PlaceView D → Type 0) → Type 0
+Became old new P = (new.setup ≡ old.setup) × IsUnder old (λ before. IsUnder new (λ after. P before after))
+
+-- there is a transaction whose wait can be granted
+abbrev pub is_ready_in : {D : Type 0} → PlaceView D → Bool
+is_ready_in (Serving desk) = is_some (ready (claims desk.core.memory.rows))
+is_ready_in (Resting disk) = false
+
+-- the n-th row of this standing
+abbrev pub due_in : {D : Type 0} → PlaceView D → Due → ℕ → Option (Id × ℕ)
+due_in (Serving desk) Decided n = nth_decided desk.core.memory.rows n
+due_in (Serving desk) Prepared n = nth_prepared desk.core.memory.rows n
+due_in (Resting disk) due n = None
+
+-- a decided row of the least timestamp
+abbrev pub IsEarliestIn : {D : Type 0} → PlaceView D → Option (Id × ℕ) → Type 0
+IsEarliestIn (Serving desk) found = IsEarliest (gather decided_row desk.core.memory.rows) found
+IsEarliestIn (Resting disk) found = found ≡ None
+
+abbrev pub versions_in : {D : Type 0} → PlaceView D → ℕ
+versions_in (Serving desk) = length desk.core.facts.installs
+versions_in (Resting disk) = 0
+
+module _ {D : Type 0} (keeps obeys : Type 0) (file : D → File) (clock : D → ℕ) (since : D → ℕ → List ℕ → Type 0) (failures : D → ℕ)
+    (plan : D → FailurePlan) where
+  -- the desk took an input, or refused it
+  abbrev pub HasDelivered : PlaceView D → PlaceView D → Interval → Input → Result (List Envelope) Fault → Type 0
+  HasDelivered (Serving old) (Serving new) now i result =
+      HasTaken keeps obeys file clock since failures plan old.core new.core old.book new.book now i result
+      × IsDurablySettled keeps (surface (file new.core.disk)) i result × (new.board ≡ old.board)
+  HasDelivered (Resting old) (Resting new) now i result = (new ≡ old) × (result ≡ Err Stopped)
+  HasDelivered _ _ now i result = ⊥
+
+  -- the desk advanced, and its board shows that
+  abbrev pub HasAdvancedIn : PlaceView D → PlaceView D → Interval → ℕ → Published → Type 0
+  HasAdvancedIn (Serving old) (Serving new) now to news = HasAdvanced keeps obeys file clock since failures plan old new now to news
+  HasAdvancedIn _ _ now to news = ⊥
+
+  -- the desk did not advance, or its board does not show it
+  abbrev pub HasNotAdvancedIn : PlaceView D → PlaceView D → Interval → ℕ → Fault → Type 0
+  HasNotAdvancedIn (Serving old) (Serving new) now to fault = HasNotAdvanced keeps obeys file clock since failures plan old new now to fault
+  HasNotAdvancedIn (Resting old) (Resting new) now to fault = (new ≡ old) × (fault ≡ Stopped)
+  HasNotAdvancedIn _ _ now to fault = ⊥
+
+  -- the desk advanced to the latest of the reading, and it serves up to the last time that its board shows
+  abbrev pub HasKeptUp : PlaceView D → PlaceView D → Interval → ℕ → Type 0
+  HasKeptUp old new now safe = (news : Published) × HasAdvancedIn old new now now.latest news × (safe ≡ safe_on news.list)
+
+  -- the desk was to advance to the latest of the reading, and did not, or its board does not show it
+  abbrev pub HasNotKeptUp : PlaceView D → PlaceView D → Interval → Type 0
+  HasNotKeptUp old new now = (fault : Fault) × HasNotAdvancedIn old new now now.latest fault
