@@ -369,6 +369,18 @@ fn aside<S: Shard>(records: u64, shards: u64) {
     tell(&format!("by the clock, {shards} openings side by side, {records} records each"), least, 1);
 }
 
+/// Tells the least time of a call, of 50, each of which has to say yes.
+#[allow(dead_code)]
+pub fn time(what: &str, call: impl Fn() -> bool) {
+    let mut least = Duration::MAX;
+    for _ in 0..50 {
+        let start = Cpu::now();
+        assert!(black_box(call()));
+        least = least.min(start.elapsed());
+    }
+    tell(what, least, 1);
+}
+
 /// Runs the scenes that the words name.
 pub fn run<S: Shard>() {
     let scenes: [(&str, fn()); 9] = [

@@ -2,6 +2,7 @@
 mod scenes;
 
 use gatelog::GateLog;
+use locks::Table;
 use message::{Commit, GiveUp, Input, Message, Outcome, Prepare, Read, Reads};
 use scenes::{Shard, Txn, VALUE};
 use shard::Core;
@@ -9,7 +10,7 @@ use shim::alloc::Global;
 use shim::Vec as List;
 use simdisk::SimDisk;
 use truetime::Reading;
-use units::{Book, Key, Parts, Seen, Setup, ShardNo, Splits, Stamp, Stride, TxnId, Value, Write, Writes};
+use units::{Book, Key, Lock, Mode, Parts, Seen, Setup, ShardNo, Splits, Stamp, Stride, TxnId, Value, Write, Writes};
 
 type Store = Core<SimDisk>;
 
@@ -135,6 +136,23 @@ impl Shard for Store {
     }
 }
 
+/// Finds the one that is ready in a lock table alone, where waiters stand behind as many holders and none is. A shard has 1,024 rows.
+fn table(waiters: u64) {
+    let mut table = Table::new(Global);
+    let mut tokens = Vec::new();
+    for txn in [1, 2].into_iter().flat_map(|run| (0..waiters).map(move |n| (run, n))) {
+        let mut held = table.enter(Global, id(txn)).ok().unwrap();
+        let key = Key::new(format!("table-{:06}", txn.1).as_bytes()).unwrap();
+        let lock = Lock { key, mode: Mode::Exclusive };
+        assert!(table.request(Global, &mut held, &[lock]).is_ok());
+        tokens.push(held);
+    }
+    scenes::time(&format!("ready of a table, {waiters} waiters behind as many"), || table.ready().is_none());
+}
+
 fn main() {
     scenes::run::<Store>();
+    if std::env::args().len() < 2 || std::env::args().any(|it| it == "table") {
+        table(1_000);
+    }
 }
