@@ -1,5 +1,5 @@
 -- What a coordinator plans for each message, by how its transaction stands.
-use Rattle.std.specs.Prelude.{ℕ, List, [], ◌∷◌, Ok, None, Some, Option, Result}
+use Rattle.std.specs.Prelude.{ℕ, List, [], ◌∷◌, None, Some, Option, Result}
 use Rattle.units.specs.Ids.{Id}
 use Rattle.units.specs.Locks.{exclusive}
 use Rattle.units.specs.declared.fault.Fault.{Fault}
@@ -15,7 +15,7 @@ use Rattle.protocol.specs.Rows.{Standing, find_row, with_vote}
 use Rattle.protocol.specs.Outputs.{done_to}
 use Rattle.protocol.specs.Plan.{Before, Planned, drops, in_way, puts}
 use Rattle.protocol.specs.Cells.{commit_stamp, of_part, other_parts, plan_ask, plan_commit, plan_commit_granted, plan_commit_now, plan_count}
-use Rattle.protocol.specs.Cells.{plan_give_up, plan_settle, plan_vote, tells}
+use Rattle.protocol.specs.Cells.{plan_settle, plan_vote, tells}
 use Rattle.memory.specs.Kept.{Kept, start_of, IsPlanned}
 use Rattle.memory.specs.Plans.{counted}
 use Rattle.memory.specs.Standings.{MakesPlan}
@@ -28,9 +28,6 @@ PlansCommit k latest m standing result = IsPlanned k (plan_commit (start_of k) l
 -- the reads still stand
 abbrev pub PlansCommitNow : Kept → ℕ → Commit → Result Plan Fault → Type 0
 PlansCommitNow k latest m result = IsPlanned k (plan_commit_now (start_of k) latest m) result
-
-abbrev pub PlansGiveUp : Kept → Id → Standing → Result Plan Fault → Type 0
-PlansGiveUp k t standing result = IsPlanned k (Ok (plan_give_up (start_of k) t standing)) result
 
 abbrev pub PlansAsk : Kept → Ask → Standing → Result Plan Fault → Type 0
 PlansAsk k m standing result = IsPlanned k (plan_ask (start_of k) m.from m.txn standing) result

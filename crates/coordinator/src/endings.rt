@@ -4,69 +4,51 @@ ghost use Rattle.protocol.specs.Outputs.{outcome_to};
 ghost use Rattle.protocol.specs.Cells.{plan_abort_for};
 ghost use Rattle.rows.specs.CodeRows.{may_close, phase_of};
 ghost use Rattle.rows.specs.RowTable.{has_phase};
-ghost use Rattle.memory.specs.Carry.{IsFit, MayTurn, may_drop, may_end};
+ghost use Rattle.memory.specs.Carry.{IsFit, MayTurn, may_drop};
 ghost use Rattle.memory.specs.Kept.{start_of, standing_of};
-ghost use Rattle.memory.specs.Standings.{standing_in, standing_by_row, MakesPlan, MakesReply};
-ghost use Rattle.coordinator.specs.ByMessage.{PlansGiveUp, PlansAsk, PlansSettle, MakesSettled};
+ghost use Rattle.memory.specs.Standings.{standing_in, standing_by_row, HasRowIn, MakesPlan, MakesReply, PlansGiveUp};
+ghost use Rattle.coordinator.specs.ByMessage.{PlansAsk, PlansSettle, MakesSettled};
 
 use crate::parts::is_of_part;
 use memory::{PastStanding, Plan, State, done_to, outcome_to};
 use message::{Ask, Envelope, GiveUp, Outcome};
 use record::Record;
-use rows::{Row, Wait};
+use rows::{Row, RowCollecting, Wait};
 use std::alloc::Global;
 use truetime::Reading;
 use units::{Fault, Parts, Stamp, TxnId};
 use waiting::pass;
 
-/// A giving up: a transaction that reads is ended, and one that collects votes is aborted; any other goes on.
-pub fn give_up(state: &State, alloc: Global, given: &GiveUp) -> Result<Plan, Fault>
+/// A giving up of a transaction that collects votes: it is aborted. What it comes to of any other `participant::on_give_up` tells.
+pub fn give_up(
+    state: &State,
+    alloc: Global,
+    given: &GiveUp,
+    collecting: &RowCollecting,
+) -> Result<Plan, Fault>
+    requires { HasRowIn state.now given.now.txn (phase_of (Row.Collecting collecting.now)) }
     ensures planned { PlansGiveUp state.now given.now.txn (standing_in state.now given.now.txn)
         result }
     ensures fit { IfOk result (IsFit state.now) }
 {
-    match state.row(given.txn) {
-        Some(row) => give_up_with_row(state, alloc, given, row),
-        None => give_up_without_row(state, alloc, given, state.past(given.txn)),
-    }
+    abort_given(state, alloc, given, collecting)
 }
 
-// A giving up of a transaction that has a row.
+// A transaction that is given up while it collects votes is aborted.
 #[tactic(auto, unfolding(protocol::specs::Cells::plan_give_up))]
-fn give_up_with_row(state: &State, alloc: Global, given: &GiveUp, row: &Row) -> Result<Plan, Fault>
-    requires { MayTurn state.now.memory.rows given.now.txn row.now }
-    ensures planned { PlansGiveUp state.now given.now.txn
-        (standing_by_row state.now given.now.txn (phase_of row.now)) result }
-    ensures fit { IfOk result (IsFit state.now) }
-{
-    match row {
-        Row::Reading(reading) => state.ends_reading(alloc, given.txn, reading.wait()),
-        Row::Collecting(collecting) => {
-            state.aborts(alloc, given.txn, collecting.request().parts)
-        }
-        Row::Prepared(_) | Row::Decided(_) => Ok(state.idles(alloc)),
-    }
-}
-
-// A giving up of a transaction that has no row.
-#[tactic(auto, unfolding(protocol::specs::Cells::plan_give_up))]
-fn give_up_without_row(
+fn abort_given(
     state: &State,
     alloc: Global,
     given: &GiveUp,
-    past: PastStanding,
+    collecting: &RowCollecting,
 ) -> Result<Plan, Fault>
-    requires { may_end state.now.memory.rows given.now.txn ≡ true }
-    ensures planned { PlansGiveUp state.now given.now.txn (standing_of past) result }
+    requires { may_drop state.now.memory.rows given.now.txn ≡ true }
+    ensures planned { PlansGiveUp state.now given.now.txn
+        (standing_by_row state.now given.now.txn (phase_of (Row.Collecting collecting.now)))
+        result }
     ensures fit { IfOk result (IsFit state.now) }
 {
-    match past {
-        PastStanding::Unknown => state.ends_reading(alloc, given.txn, None),
-        PastStanding::Ended
-        | PastStanding::Aborted
-        | PastStanding::Settled { .. }
-        | PastStanding::Closed { .. } => Ok(state.idles(alloc)),
-    }
+    state.aborts(alloc, given.txn, collecting.request().parts)
 }
 
 /// The question how a transaction ended. One that is not known, or only reads, is aborted before it is answered.

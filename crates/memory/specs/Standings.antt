@@ -1,13 +1,14 @@
 -- What planners are asked and answer, by the memory of a shard.
-use Rattle.std.specs.Prelude.{◌≡◌, Bool, List, [], ◌∷◌, Some, Result, IfOk}
+use Rattle.std.specs.Prelude.{◌≡◌, Bool, List, [], ◌∷◌, Some, Result, Ok, IfOk}
 use Rattle.units.specs.Ids.{Id}
 use Rattle.units.specs.Locks.{exclusive}
 use Rattle.units.specs.declared.fault.Fault.{Fault}
 use Rattle.units.specs.declared.writes.Write.{Write}
 use Rattle.message.specs.declared.message.Envelope.{Envelope}
 use Rattle.protocol.specs.Rows.{Phase, Standing, HasRow, find_row, held_in}
+use Rattle.protocol.specs.Cells.{plan_give_up}
 use Rattle.protocol.specs.Plan as protocol
-use Rattle.memory.specs.Kept.{Kept, start_of}
+use Rattle.memory.specs.Kept.{Kept, start_of, IsPlanned}
 use Rattle.memory.specs.Plans.{plan_of}
 use Rattle.memory.specs.declared.plan.Plan.{Plan}
 
@@ -34,3 +35,7 @@ MakesPlan k p result = IfOk result (λ plan. plan_of k.memory.rows plan ≡ p)
 -- where there is a plan, it answers this alone
 abbrev pub MakesReply : Kept → Envelope → Result Plan Fault → Type 0
 MakesReply k envelope result = MakesPlan k (protocol.replies (start_of k) (envelope ∷ [])) result
+
+-- what a giving up comes to, which both planners answer in part: the coordinator where votes are collected, the participant elsewhere
+abbrev pub PlansGiveUp : Kept → Id → Standing → Result Plan Fault → Type 0
+PlansGiveUp k t standing result = IsPlanned k (Ok (plan_give_up (start_of k) t standing)) result

@@ -8,13 +8,16 @@ ghost use Rattle.rows.specs.CodeRows.{phase_of, phase_of_wait};
 ghost use Rattle.rows.specs.RowTable.{needs_in};
 ghost use Rattle.memory.specs.Carry.{Asks, IsFit};
 ghost use Rattle.memory.specs.Kept.{start_of, IsPlanned};
+ghost use Rattle.memory.specs.Standings.{standing_in, PlansGiveUp};
 
 use crate::addressing::is_for;
 use ceiling::needed;
 use coordinator::{give_up, on_ask, on_commit, on_vote, resume_commit, settle};
 use memory::{Plan, State};
-use message::{Input, Message};
-use participant::{on_nudge, on_outcome, on_prepare, on_read, resume_prepare, resume_read};
+use message::{GiveUp, Input, Message};
+use participant::{
+    on_give_up, on_nudge, on_outcome, on_prepare, on_read, resume_prepare, resume_read,
+};
 use rows::{Row, Wait};
 use std::alloc::Global;
 use truetime::Reading;
@@ -62,11 +65,25 @@ fn plan_message(
         Message::Read(read) => on_read(state, alloc, read),
         Message::Prepare(prepare) => on_prepare(state, alloc, now, prepare),
         Message::Commit(commit) => on_commit(state, alloc, now, commit),
-        Message::GiveUp(given) => give_up(state, alloc, given),
+        Message::GiveUp(given) => plan_given_up(state, alloc, given),
         Message::Vote(vote) => on_vote(state, alloc, vote),
         Message::Outcome(told) => on_outcome(state, alloc, told),
         Message::Ask(ask) => on_ask(state, alloc, ask),
         Message::ReadAnswer(_) | Message::Done(_) => Err(Fault::Stranger),
+    }
+}
+
+// A giving up: by the coordinator where votes are collected, else by the participant.
+fn plan_given_up(state: &State, alloc: Global, given: &GiveUp) -> Result<Plan, Fault>
+    ensures planned { PlansGiveUp state.now given.now.txn (standing_in state.now given.now.txn)
+        result }
+    ensures fit { IfOk result (IsFit state.now) }
+{
+    match state.row(given.txn) {
+        Some(Row::Collecting(collecting)) => give_up(state, alloc, given, collecting),
+        Some(Row::Reading(_) | Row::Prepared(_) | Row::Decided(_)) | None => {
+            on_give_up(state, alloc, given)
+        }
     }
 }
 
