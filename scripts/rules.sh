@@ -1,5 +1,6 @@
 #!/bin/sh
-# Checks the page of rules, docs/RULES.md: that each definition, function and wrong body that it names exists.
+# Checks the page of rules, docs/RULES.md: that each definition, function and wrong body that it names exists. And that no other files
+# than these make an end of a transaction for which nothing was waited: of what a log tells, of the messages of a model, and of tests.
 set -eu
 cd "$(dirname "$(dirname "$(readlink -f "$0")")")"
 missing=0
@@ -24,5 +25,11 @@ while IFS='|' read -r definition function body; do
     grep -qrE "fn ${function##*::}[(<]" "crates/$crate/src" || say "no function $function"
     [ "$body" = - ] || [ -f "crates/${body%/*}/must-fail/${body#*/}.edit" ] || [ -f "wrong-bodies/$body.edit" ] || say "no wrong body $body"
 done <"$rows"
+for file in $(grep -rlE '::said\b' crates/*/src | sort); do
+    case $file in
+    crates/message/src/message.rt | crates/memory/src/state.rt | crates/world/src/begun.rt | crates/*_tests/src/*) ;;
+    *) say "an end that is only said: $file" ;;
+    esac
+done
 [ "$missing" = 0 ] && echo "rules: $(wc -l <"$rows") stand"
 exit "$missing"

@@ -16,7 +16,7 @@ ghost use Rattle.coordinator.specs.ByMessage.{MakesCollectingAnew};
 
 use locks::exclusive;
 use memory::{Change, PastStanding, Plan, Request, State, done_to, reads_stand};
-use message::Commit;
+use message::{Commit, Done};
 use record::{Committed, Record};
 use rows::{CommitRequest, Gathering, Row, Wait};
 use std::alloc::Global;
@@ -84,8 +84,8 @@ fn commit_without_row(
     match past {
         PastStanding::Unknown => commit_fresh(state, alloc, now, commit),
         PastStanding::Ended => state.aborts(alloc, commit.txn, commit.parts),
-        PastStanding::Aborted => state.reply(alloc, done_to(commit.txn, None)),
-        PastStanding::Settled { at, parts: _ } => state.reply(alloc, done_to(commit.txn, Some(at))),
+        PastStanding::Aborted => state.reply(alloc, done_to(Done::aborted(commit.txn))),
+        PastStanding::Settled(settled) => state.reply(alloc, done_to(settled.done(commit.txn))),
         PastStanding::Closed { .. } => Err(Fault::Stranger),
     }
 }

@@ -11,13 +11,13 @@ ghost use Rattle.coordinator.specs.ByMessage.{PlansAsk, PlansSettle, MakesSettle
 
 use crate::parts::is_of_part;
 use memory::{PastStanding, Plan, State, done_to, outcome_to};
-use message::{Ask, Envelope, GiveUp, Outcome};
+use message::{Ask, Done, Envelope, GiveUp, Outcome};
 use record::Record;
 use rows::{Row, RowCollecting, Wait};
 use std::alloc::Global;
 use truetime::Reading;
 use units::{Fault, Parts, Stamp, TxnId};
-use waiting::pass;
+use waiting::{Waited, pass};
 
 /// A giving up of a transaction that collects votes: it is aborted. What it comes to of any other `participant::on_give_up` tells.
 pub fn give_up(
@@ -96,11 +96,11 @@ fn ask_without_row(
     match past {
         PastStanding::Unknown | PastStanding::Ended => abort_for(state, alloc, ask),
         PastStanding::Aborted => answer(state, alloc, ask, None),
-        PastStanding::Settled { at, parts } => {
-            if !is_of_part(state, parts, ask.from) {
+        PastStanding::Settled(settled) => {
+            if !is_of_part(state, settled.parts(), ask.from) {
                 return Err(Fault::Stranger);
             }
-            answer(state, alloc, ask, Some(at))
+            answer(state, alloc, ask, Some(settled.at()))
         }
         PastStanding::Closed { .. } => Err(Fault::Stranger),
     }
@@ -176,7 +176,7 @@ fn settle_with_row(
             let Ok(waited) = pass(decided.at(), now) else {
                 return Err(Fault::Early);
             };
-            settle_at(state, alloc, txn, waited.spend(), decided.parts())
+            settle_at(state, alloc, txn, waited, decided.parts())
         }
         Row::Reading(_) | Row::Collecting(_) | Row::Prepared(_) => Err(Fault::Stranger),
     }
@@ -187,15 +187,16 @@ fn settle_at(
     state: &State,
     alloc: Global,
     txn: TxnId,
-    at: Stamp,
+    waited: Waited,
     parts: Parts,
 ) -> Result<Plan, Fault>
     requires { has_phase may_close state.now.memory.rows txn ≡ true }
-    ensures plan { MakesSettled state.now txn at parts result }
+    ensures plan { MakesSettled state.now txn waited parts result }
     ensures fit { IfOk result (IsFit state.now) }
     ensures memory { IfErr result (λ fault. fault ≡ Fault.Memory) }
 {
-    let end = done_to(txn, Some(at));
+    let at = waited.at();
+    let end = done_to(Done::committed(txn, waited));
     let Ok(out) = state.ending(alloc, end, txn, Some(at), parts) else {
         return Err(Fault::Memory);
     };

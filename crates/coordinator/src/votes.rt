@@ -67,11 +67,11 @@ fn vote_without_row(
     match past {
         PastStanding::Unknown | PastStanding::Ended => Ok(state.idles(alloc)),
         PastStanding::Aborted => tell(state, alloc, vote, None),
-        PastStanding::Settled { at, parts } => {
-            if !is_of_part(state, parts, vote.from) {
+        PastStanding::Settled(settled) => {
+            if !is_of_part(state, settled.parts(), vote.from) {
                 return Err(Fault::Stranger);
             }
-            tell(state, alloc, vote, Some(at))
+            tell(state, alloc, vote, Some(settled.at()))
         }
         PastStanding::Closed { .. } => Err(Fault::Stranger),
     }

@@ -27,7 +27,7 @@ fn is_shaped(envelope: &Envelope, wanted: &Shape) -> bool {
     let (kind, number, at) = match &envelope.message {
         Message::Vote(vote) => (b'v', vote.txn.number(), micros(vote.vote)),
         Message::Outcome(told) => (b'o', told.txn.number(), micros(told.outcome)),
-        Message::Done(done) => (b'd', done.txn.number(), micros(done.outcome)),
+        Message::Done(done) => (b'd', done.txn().number(), micros(done.outcome())),
         Message::Ask(ask) => (b'a', ask.txn.number(), 0),
         Message::ReadAnswer(answer) => (b'r', answer.txn.number(), answer.epoch.number()),
         _ => (b'?', 0, 0),

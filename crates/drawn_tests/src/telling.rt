@@ -176,7 +176,7 @@ fn put_messages(told: &mut Vec<Told>, envelopes: &[Envelope]) -> bool {
     one.kind = Kind::Message;
     for envelope in envelopes {
         let (txn, outcome) = match &envelope.message {
-            Message::Done(done) => (done.txn, done.outcome),
+            Message::Done(done) => (done.txn(), done.outcome()),
             Message::Outcome(ended) => (ended.txn, ended.outcome),
             _ => continue,
         };

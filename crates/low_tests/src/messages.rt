@@ -180,7 +180,7 @@ fn message(alloc: Global, sent: &Sent) -> Message {
         Sent::NoValue => answer(Answer::Holds(None)),
         Sent::Value => answer(Answer::Holds(value_of(alloc, "7"))),
         Sent::RefusedRead => answer(Answer::Refused),
-        Sent::Done => Message::Done(Done { txn, outcome: None }),
+        Sent::Done => Message::Done(Done::aborted(txn)),
     }
 }
 

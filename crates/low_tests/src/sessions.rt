@@ -188,7 +188,7 @@ fn gives_up<S: Phase>(tx: Tx<'_, S>, alloc: Global, lines: &[&str]) -> bool {
 
 fn takes_its_end(tx: Tx<'_, Closing>) -> bool {
     let (txn, outcome) = (id(2), Some(stamp(200)));
-    match tx.take(&Done { txn, outcome }) {
+    match tx.take(&Done::said(txn, outcome)) {
         Ok(finished) => finished == Finished::Committed(stamp(200)),
         Err((_, tx)) => {
             tx.spend();
@@ -199,7 +199,7 @@ fn takes_its_end(tx: Tx<'_, Closing>) -> bool {
 
 fn takes_no_other(tx: Tx<'_, Closing>) -> bool {
     let (txn, outcome) = (id(3), None);
-    match tx.take(&Done { txn, outcome }) {
+    match tx.take(&Done::said(txn, outcome)) {
         Ok(_) => false,
         Err((fault, tx)) => takes_its_end(tx) && fault == Fault::Stranger,
     }

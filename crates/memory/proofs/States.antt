@@ -43,7 +43,7 @@ is_past : (standing : Standing) (past : PastStanding) → StandsAs standing past
 is_past standing PastStanding.Unknown e = e
 is_past standing PastStanding.Ended e = e
 is_past standing PastStanding.Aborted e = e
-is_past standing (PastStanding.Settled at parts) e = e
+is_past standing (PastStanding.Settled c) e = e
 is_past standing (PastStanding.Closed outcome) e = e
 
 -- ---- plans by how a transaction stands

@@ -30,7 +30,7 @@ abbrev pub StandsAs : Standing → PastStanding → Type 0
 StandsAs standing PastStanding.Unknown = standing ≡ IsUnknown
 StandsAs standing PastStanding.Ended = standing ≡ WasEnded
 StandsAs standing PastStanding.Aborted = standing ≡ WasAborted
-StandsAs standing (PastStanding.Settled at parts) = standing ≡ WasSettled at parts
+StandsAs standing (PastStanding.Settled c) = standing ≡ WasSettled c.at c.parts
 StandsAs standing (PastStanding.Closed outcome) = standing ≡ WasClosed outcome
 
 -- the plan's own refusal; or, where there is a plan, want of memory
@@ -48,5 +48,5 @@ abbrev pub standing_of : PastStanding → Standing
 standing_of PastStanding.Unknown = IsUnknown
 standing_of PastStanding.Ended = WasEnded
 standing_of PastStanding.Aborted = WasAborted
-standing_of (PastStanding.Settled at parts) = WasSettled at parts
+standing_of (PastStanding.Settled c) = WasSettled c.at c.parts
 standing_of (PastStanding.Closed outcome) = WasClosed outcome

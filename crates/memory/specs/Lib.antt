@@ -3,5 +3,6 @@ pub mod Kept
 pub mod Plans
 pub mod Served
 pub mod ServedLaws
+pub mod Settled
 pub mod Standings
 pub mod Votes

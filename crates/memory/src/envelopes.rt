@@ -31,13 +31,13 @@ pub fn answer_to(from: ShardNo, txn: TxnId, key: Key, epoch: Epoch, answer: Answ
     }
 }
 
-/// The end of a transaction, to its session: at a timestamp, or `None` for aborted.
-pub fn done_to(txn: TxnId, outcome: Option<Stamp>) -> Envelope
-    ensures { result ≡ done_to txn outcome }
+/// The end of a transaction, to its session.
+pub fn done_to(done: Done) -> Envelope
+    ensures { result ≡ done_to done.txn done.outcome }
 {
     Envelope {
-        to: Address::Session(txn),
-        message: Message::Done(Done { txn, outcome }),
+        to: Address::Session(done.txn()),
+        message: Message::Done(done),
     }
 }
 

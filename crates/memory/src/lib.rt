@@ -15,4 +15,4 @@ pub use envelopes::{answer_to, ask_to, done_to, outcome_to, vote_to};
 pub use laws::holds_follow_rows;
 pub use plan::{Change, Plan, Request};
 pub use planning::reads_stand;
-pub use state::{PastStanding, State};
+pub use state::{PastCommit, PastStanding, State};

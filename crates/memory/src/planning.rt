@@ -15,7 +15,7 @@ ghost use Rattle.memory.specs.Standings.{MakesPlan, MakesReply};
 use crate::envelopes::{answer_to, done_to, outcome_to, vote_to};
 use crate::plan::{Change, Plan, Request};
 use crate::state::State;
-use message::{Answer, Envelope, Outbox, Outcome, Reads};
+use message::{Answer, Done, Envelope, Outbox, Outcome, Reads};
 use record::Record;
 use rows::{Row, Wait};
 use std::alloc::Global;
@@ -166,7 +166,7 @@ impl State {
         ensures fit { IfOk result (IsFit self.now) }
         ensures memory { IfErr result (λ fault. fault ≡ Fault.Memory) }
     {
-        let Ok(out) = self.ending(alloc, done_to(txn, None), txn, None, parts) else {
+        let Ok(out) = self.ending(alloc, done_to(Done::aborted(txn)), txn, None, parts) else {
             return Err(Fault::Memory);
         };
         Ok(self.drops(alloc, txn, Record::Abort { txn }, self.last(), out))

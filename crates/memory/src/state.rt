@@ -19,6 +19,7 @@ ghost use Rattle.memory.specs.Standings.{standing_in, HasRowIn};
 
 use facts::Status;
 use ledger::{Ended, Ledger};
+use message::Done;
 use record::Record;
 use rows::{Row, Rows};
 use safetime::SafeTime;
@@ -64,8 +65,49 @@ pub enum PastStanding {
     Unknown,
     Ended,
     Aborted,
-    Settled { at: Stamp, parts: Parts },
+    Settled(PastCommit),
     Closed { outcome: Option<Stamp> },
+}
+
+/// A commit that the log tells: its transaction is settled. Only `State::past` makes it, so who holds one may tell of that commit
+/// again.
+#[derive(Clone, Copy)]
+pub struct PastCommit {
+    at: Stamp,
+    parts: Parts,
+}
+
+impl Model for PastCommit {
+    ghost use Rattle.memory.specs.Settled.{SettledCommit};
+
+    ghost Value = { SettledCommit };
+
+    ghost view = { λ c. record { at = c.at; parts = c.parts } };
+
+    ghost inverse = { λ c. record { at = c.at; parts = c.parts } };
+}
+
+impl PastCommit {
+    /// Its timestamp.
+    pub fn at(&self) -> Stamp
+        ensures { result ≡ self.now.at }
+    {
+        self.at
+    }
+
+    /// The shards that took part.
+    pub fn parts(&self) -> Parts
+        ensures { result ≡ self.now.parts }
+    {
+        self.parts
+    }
+
+    /// The end of the transaction, which its session may be told again.
+    pub fn done(&self, txn: TxnId) -> Done
+        ensures { result ≡ record { txn = txn; outcome = Some self.now.at } }
+    {
+        Done::said(txn, Some(self.at))
+    }
 }
 
 impl State {
@@ -257,10 +299,10 @@ fn past_by(status: Option<&Status>, ended: bool) -> PastStanding
 {
     match status {
         Some(Status::Aborted) => PastStanding::Aborted,
-        Some(Status::Settled { at, parts }) => PastStanding::Settled {
+        Some(Status::Settled { at, parts }) => PastStanding::Settled(PastCommit {
             at: *at,
             parts: *parts,
-        },
+        }),
         Some(
             Status::Closed {
                 coordinator: _,

@@ -1,6 +1,10 @@
 //! The messages, and where they go.
+ghost use Rattle.std.specs.Prelude.{◌≡◌, Some, None};
+
 use crate::Reads;
+use std::marker::Model;
 use units::{Epoch, Key, Parts, ShardNo, Stamp, TxnId, Value, Writes};
+use waiting::Waited;
 
 /// A session asks for the value of a key.
 #[derive(Clone, Copy)]
@@ -111,11 +115,64 @@ impl Drop for ReadAnswer {
     }
 }
 
-/// The coordinator tells a session how its transaction ended: at a timestamp, or `None` for aborted.
+/// The coordinator tells a session how its transaction ended: at a timestamp, or `None` for aborted. A commit is told by who
+/// holds the word that its timestamp has passed (`committed`), or who repeats what was told once (`said`).
 #[derive(Clone, Copy)]
 pub struct Done {
-    pub txn: TxnId,
-    pub outcome: Option<Stamp>,
+    txn: TxnId,
+    outcome: Option<Stamp>,
+}
+
+impl Model for Done {
+    ghost use Rattle.message.specs.Ends.{End};
+
+    ghost Value = { End };
+
+    ghost view = { λ d. record { txn = d.txn; outcome = d.outcome } };
+
+    ghost inverse = { λ e. record { txn = e.txn; outcome = e.outcome } };
+}
+
+impl Done {
+    /// The transaction was aborted.
+    pub fn aborted(txn: TxnId) -> Done
+        ensures { result ≡ record { txn = txn; outcome = None } }
+    {
+        Done { txn, outcome: None }
+    }
+
+    /// The transaction committed at a timestamp that has surely passed. The word of it is spent.
+    pub fn committed(txn: TxnId, waited: Waited) -> Done
+        ensures { result ≡ record { txn = txn; outcome = Some waited } }
+    {
+        Done {
+            txn,
+            outcome: Some(waited.spend()),
+        }
+    }
+
+    /// What was told before, of any outcome: for what a log tells of a transaction that was settled (`memory::PastCommit`), and
+    /// for what stands outside a shard, as a model of its network, and tests. Nothing is waited for, so no shard makes a
+    /// new end by it: `scripts/rules.sh` names the files that may call it.
+    pub fn said(txn: TxnId, outcome: Option<Stamp>) -> Done
+        ensures { result ≡ record { txn = txn; outcome = outcome } }
+    {
+        Done { txn, outcome }
+    }
+
+    /// Whose end it is.
+    pub fn txn(&self) -> TxnId
+        ensures { result ≡ self.now.txn }
+    {
+        self.txn
+    }
+
+    /// At which timestamp it committed, or `None` for aborted.
+    pub fn outcome(&self) -> Option<Stamp>
+        ensures { result ≡ self.now.outcome }
+    {
+        self.outcome
+    }
 }
 
 /// A message. Each names its transaction.

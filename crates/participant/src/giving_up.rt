@@ -58,7 +58,7 @@ fn give_up_without_row(
         PastStanding::Unknown => state.ends_reading(alloc, given.txn, None),
         PastStanding::Ended
         | PastStanding::Aborted
-        | PastStanding::Settled { .. }
+        | PastStanding::Settled(_)
         | PastStanding::Closed { .. } => Ok(state.idles(alloc)),
     }
 }

@@ -90,7 +90,7 @@ fn outcome_without_row(
             None => state.ends_reading(alloc, told.txn, None),
         },
         PastStanding::Ended | PastStanding::Closed { .. } => Ok(state.idles(alloc)),
-        PastStanding::Aborted | PastStanding::Settled { .. } => Err(Fault::Stranger),
+        PastStanding::Aborted | PastStanding::Settled(_) => Err(Fault::Stranger),
     }
 }
 

@@ -83,7 +83,7 @@ fn prepare_without_row(
         PastStanding::Ended => vote(state, alloc, prepare, None),
         PastStanding::Closed { outcome: None } => vote(state, alloc, prepare, None),
         PastStanding::Closed { outcome: Some(_) } => Ok(state.idles(alloc)),
-        PastStanding::Aborted | PastStanding::Settled { .. } => Err(Fault::Stranger),
+        PastStanding::Aborted | PastStanding::Settled(_) => Err(Fault::Stranger),
     }
 }
 

@@ -61,7 +61,7 @@ fn read_without_row(
         PastStanding::Unknown => read_now(state, alloc, read.txn, &read.key),
         PastStanding::Ended
         | PastStanding::Aborted
-        | PastStanding::Settled { .. }
+        | PastStanding::Settled(_)
         | PastStanding::Closed { .. } => { refuse(state, alloc, read.txn, &read.key) }
     }
 }

@@ -107,11 +107,11 @@ impl<'s> Tx<'s, Closing> {
             (λ r. (r.1 ≡ self.entry) × (r.0 ≡ Fault.Stranger)
             × (same_id self.entry.client.txn done.now.txn ≡ false)) }
     {
-        if !self.is_of(done.txn) {
+        if !self.is_of(done.txn()) {
             return Err((Fault::Stranger, self));
         }
         self.spend();
-        Ok(match done.outcome {
+        Ok(match done.outcome() {
             Some(at) => Finished::Committed(at),
             None => Finished::Aborted,
         })

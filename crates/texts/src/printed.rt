@@ -20,7 +20,7 @@ pub enum Word<'t> {
     Writes(&'t units::Writes),
     Parts(&'t units::Parts),
     Value(&'t Option<units::Value>),
-    Outcome(&'t Option<units::Stamp>),
+    Outcome(Option<units::Stamp>),
 }
 
 const NO: Word<'static> = Word::Nothing;
@@ -50,7 +50,7 @@ pub fn record_words(record: &Record) -> [Word<'_>; 6] {
         Record::Outcome { txn, outcome } => [
             Plain("outcome"),
             Txn(*txn),
-            Outcome(outcome),
+            Outcome(*outcome),
             NO,
             NO,
             NO,
@@ -84,7 +84,7 @@ pub fn message_words(message: &Message) -> [Word<'_>; 6] {
             Plain("outcome"),
             Shard(m.from),
             Txn(m.txn),
-            Outcome(&m.outcome),
+            Outcome(m.outcome),
             NO,
             NO,
         ],
@@ -103,7 +103,14 @@ pub fn message_words(message: &Message) -> [Word<'_>; 6] {
                 answer,
             ]
         }
-        Message::Done(m) => [Plain("done"), Txn(m.txn), Outcome(&m.outcome), NO, NO, NO],
+        Message::Done(m) => [
+            Plain("done"),
+            Txn(m.txn()),
+            Outcome(m.outcome()),
+            NO,
+            NO,
+            NO,
+        ],
     }
 }
 

@@ -121,7 +121,7 @@ fn write_word<W: fmt::Write>(f: &mut fmt::Formatter<W>, word: &Word<'_>) -> fmt:
         Word::Writes(writes) => fmt::Display::fmt(&Text(*writes), f),
         Word::Parts(parts) => fmt::Display::fmt(&Text(*parts), f),
         Word::Value(value) => write_value(f, value, "none"),
-        Word::Outcome(outcome) => fmt::Display::fmt(&Text(*outcome), f),
+        Word::Outcome(outcome) => fmt::Display::fmt(&Text(outcome), f),
     }
 }
 

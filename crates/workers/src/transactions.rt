@@ -206,7 +206,7 @@ impl<'s, R: Wait + time::Clock> Wire<'_, 's, R> {
                     };
                     drop(message);
                     match done {
-                        Some(done) if reads.txn() == done.txn => return Ok(Some(done)),
+                        Some(done) if reads.txn() == done.txn() => return Ok(Some(done)),
                         _ => {}
                     }
                 }

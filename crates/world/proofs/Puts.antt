@@ -8,7 +8,7 @@ use Rattle.units.specs.Ids.{Id, same_id}
 use Rattle.units.proofs.Folds.{any_append}
 use Rattle.units.proofs.IdLaws.{same_id_comm}
 use Rattle.units.specs.declared.line.Line.{Line}
-use Rattle.message.specs.declared.message.Done.{Done}
+use Rattle.message.specs.Ends.{End}
 use Rattle.message.specs.declared.message.Envelope.{Envelope}
 use Rattle.message.specs.declared.message.Message.{Message}
 use Rattle.world.specs.World.{World, ack_of, acks_of, commit_told, put_out}
@@ -33,7 +33,7 @@ told_alike t e = by_message e.message
     by_none true = refl
     by_none false = refl
 
-    by_value : (d : Done) (o : Option ℕ) → is_among (option_to_list (option_map (λ s. d.txn) o)) t ≡ when (λ x. true) (cond (same_id d.txn t) o None)
+    by_value : (d : End) (o : Option ℕ) → is_among (option_to_list (option_map (λ s. d.txn) o)) t ≡ when (λ x. true) (cond (same_id d.txn t) o None)
     by_value d None = by_none (same_id d.txn t)
     by_value d (Some s) = ap (λ b. b || false) (same_id_comm t d.txn) ∙ by_test s (same_id d.txn t)
 

@@ -8,7 +8,7 @@ use Rattle.units.specs.Lists.{when}
 use Rattle.units.specs.declared.fault.Fault.{Fault}
 use Rattle.units.specs.declared.fault.Fault.TheVariants.{Stranger}
 use Rattle.units.specs.declared.line.Line.{Line}
-use Rattle.message.specs.declared.message.Done.{Done}
+use Rattle.message.specs.Ends.{End}
 use Rattle.message.specs.declared.message.Envelope.{Envelope}
 use Rattle.message.specs.declared.message.Message.{Message}
 use Rattle.message.specs.declared.message.ReadAnswer.{ReadAnswer}
@@ -103,7 +103,7 @@ module _ (w : World) (new : Sessions) where
           (λ i. (put_out (none i) (set_client d w), Reply.Done)) ∙ (λ i. (nothing_put d i, Reply.Done))
 
   -- the end of a transaction
-  pub takes_end : (e : Done) (answer : Result (List Envelope) Fault) → MovesIn w.config.splits
+  pub takes_end : (e : End) (answer : Result (List Envelope) Fault) → MovesIn w.config.splits
       (session_step when_closing (client_of w e.txn)) new w.clients answer → TakesMessage w (Message.Done e) new (no_line answer)
   unfolding to_session
   takes_end e (Ok out) moves = (
@@ -131,7 +131,7 @@ module _ (w : World) (new : Sessions) where
   takes_answer a (Err fault) (inr hears) = inr (others_hear_not w (client_of w a.txn) a hears.1 ∙ ap (λ f. refused w f) (sym hears.0), hears.2)
 
   -- no other message is for a session
-  pub no_others : (m : Message) → ((x : ReadAnswer) → m ≡ Message.ReadAnswer x → ⊥) → ((x : Done) → m ≡ Message.Done x → ⊥) →
+  pub no_others : (m : Message) → ((x : ReadAnswer) → m ≡ Message.ReadAnswer x → ⊥) → ((x : End) → m ≡ Message.Done x → ⊥) →
       to_session w m ≡ refused w Stranger
   unfolding to_session
   no_others (Message.ReadAnswer x) answer end = absurd (answer x refl)

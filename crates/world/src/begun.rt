@@ -116,7 +116,7 @@ impl<'s> Held<'s> {
                     Ok(out) => (Held::Over, Ok(out)),
                     Err((fault, tx)) => (Held::Closing(tx), Err(fault)),
                 },
-                Leave::Hear(outcome) => match tx.take(&Done { txn, outcome }) {
+                Leave::Hear(outcome) => match tx.take(&Done::said(txn, outcome)) {
                     Ok(_) => (Held::Over, Ok(Outbox::none(alloc))),
                     Err((fault, tx)) => (Held::Closing(tx), Err(fault)),
                 },

@@ -143,8 +143,8 @@ impl<'s> Sessions<'s> {
         match message {
             Message::ReadAnswer(answer) => self.hear(alloc, answer),
             Message::Done(done) => {
-                let end = Step::Leave(Leave::Hear(done.outcome));
-                match self.step(alloc, done.txn, &end) {
+                let end = Step::Leave(Leave::Hear(done.outcome()));
+                match self.step(alloc, done.txn(), &end) {
                     Ok(out) => {
                         drop(out);
                         Ok(None)

@@ -179,12 +179,13 @@ fn acknowledged(told: &IndexSet<TxnId>, event: u64, envelope: &Envelope) -> Opti
     ensures { option_to_list result ≡ ack_in told.now.keys event envelope.now }
 {
     match &envelope.message {
-        Message::Done(done) => match done.outcome {
+        Message::Done(done) => match done.outcome() {
             Some(at) => {
-                if told.contains(&done.txn) {
+                let txn = done.txn();
+                if told.contains(&txn) {
                     None
                 } else {
-                    Some(Line::Ack(done.txn, at, event))
+                    Some(Line::Ack(txn, at, event))
                 }
             }
             None => None,
@@ -198,8 +199,8 @@ fn told_in(envelope: &Envelope) -> Option<TxnId>
     ensures { option_to_list result ≡ told_in envelope.now }
 {
     match &envelope.message {
-        Message::Done(done) => match done.outcome {
-            Some(_) => Some(done.txn),
+        Message::Done(done) => match done.outcome() {
+            Some(_) => Some(done.txn()),
             None => None,
         },
         _ => None,
