@@ -10,7 +10,7 @@ ghost use Rattle.rows.specs.CodeRows.{phase_of};
 ghost use Rattle.memory.specs.Carry.{Asks, IsFit, MayTurn, may_ask, may_drop, may_end};
 ghost use Rattle.memory.specs.Kept.{start_of, standing_of, IsPlanned};
 ghost use Rattle.coordinator.specs.Granted.{waits_commit};
-ghost use Rattle.memory.specs.Standings.{standing_in, standing_by_row, opens_writes, MakesPlan};
+ghost use Rattle.memory.specs.Standings.{standing_in, standing_by_row, opens_writes, EndsNobody, MakesPlan};
 ghost use Rattle.coordinator.specs.ByMessage.{PlansCommit, PlansCommitNow, PlansGranted, MakesDecision, MakesCollecting, MakesDecisionAnew};
 ghost use Rattle.coordinator.specs.ByMessage.{MakesCollectingAnew};
 
@@ -105,8 +105,7 @@ fn commit_fresh(state: &State, alloc: Global, now: &Reading, commit: &Commit) ->
     state.aborts(alloc, commit.txn, commit.parts)
 }
 
-// A commit may come only while there is a timestamp above the reading. Where the locks of what is written are granted, it goes
-// on; else it waits.
+// A commit may come only while there is a timestamp above the reading.
 fn commit_in_time(
     state: &State,
     alloc: Global,
@@ -122,18 +121,53 @@ fn commit_in_time(
     let Ok(_) = Stamp::above(now.latest()) else {
         return Err(Fault::TimeSpent);
     };
-    if !state.opens_writes(commit.txn, &commit.writes) {
-        return wait(state, alloc, now, commit);
-    }
-    if commit.parts.has_others(state.setup().shard) {
-        collect_now(state, alloc, now, commit)
+    commit_now(state, alloc, now, commit)
+}
+
+// Where the locks of what is written are granted, it goes on; else it waits.
+fn commit_now(state: &State, alloc: Global, now: &Reading, commit: &Commit) -> Result<Plan, Fault>
+    requires { may_end state.now.memory.rows commit.now.txn ≡ true }
+    ensures planned { PlansCommitNow state.now now.now.latest commit.now result }
+    ensures fit { IfOk result (IsFit state.now) }
+{
+    let undisputed = state.is_undisputed(commit.txn, &commit.writes);
+    if undisputed || state.opens_writes(commit.txn, &commit.writes) {
+        commit_open(state, alloc, now, commit, undisputed)
     } else {
-        decide_now(state, alloc, now, commit)
+        wait(state, alloc, now, commit)
+    }
+}
+
+// The locks are granted: it is decided at once, or collects votes.
+fn commit_open(
+    state: &State,
+    alloc: Global,
+    now: &Reading,
+    commit: &Commit,
+    undisputed: bool,
+) -> Result<Plan, Fault>
+    requires nobody { undisputed ≡ true → EndsNobody state.now commit.now.txn commit.now.writes }
+    requires opens { opens_writes state.now commit.now.txn commit.now.writes ≡ true }
+    requires ends { may_end state.now.memory.rows commit.now.txn ≡ true }
+    ensures planned { PlansCommitNow state.now now.now.latest commit.now result }
+    ensures fit { IfOk result (IsFit state.now) }
+{
+    if commit.parts.has_others(state.setup().shard) {
+        collect_now(state, alloc, now, commit, undisputed)
+    } else {
+        decide_now(state, alloc, now, commit, undisputed)
     }
 }
 
 // The locks are granted, and no other shard takes part.
-fn decide_now(state: &State, alloc: Global, now: &Reading, commit: &Commit) -> Result<Plan, Fault>
+fn decide_now(
+    state: &State,
+    alloc: Global,
+    now: &Reading,
+    commit: &Commit,
+    undisputed: bool,
+) -> Result<Plan, Fault>
+    requires nobody { undisputed ≡ true → EndsNobody state.now commit.now.txn commit.now.writes }
     requires opens { opens_writes state.now commit.now.txn commit.now.writes ≡ true }
     requires alone { list_any (λ n. not (nat_eq n state.now.setup.shard)) commit.now.parts ≡ false }
     requires ends { may_end state.now.memory.rows commit.now.txn ≡ true }
@@ -147,7 +181,7 @@ fn decide_now(state: &State, alloc: Global, now: &Reading, commit: &Commit) -> R
     if state.is_crowded(commit.txn) {
         return Err(Fault::RowsFull);
     }
-    decide_anew(state, alloc, now, commit, at)
+    decide_anew(state, alloc, now, commit, at, undisputed)
 }
 
 // Whoever is in the way is ended, and the decision logged.
@@ -157,21 +191,30 @@ fn decide_anew(
     now: &Reading,
     commit: &Commit,
     at: Stamp,
+    undisputed: bool,
 ) -> Result<Plan, Fault>
+    requires nobody { undisputed ≡ true → EndsNobody state.now commit.now.txn commit.now.writes }
     requires opens { opens_writes state.now commit.now.txn commit.now.writes ≡ true }
     requires asks { may_ask state.now.memory.rows commit.now.txn ≡ true }
     ensures plan { MakesDecisionAnew state.now at commit.now result }
     ensures fit { IfOk result (IsFit state.now) }
     ensures memory { IfErr result (λ fault. fault ≡ Fault.Memory) }
 {
-    let Ok((wounded, needs, request)) = asked_anew(state, alloc, now, commit) else {
+    let Ok((wounded, needs, request)) = asked_anew(state, alloc, now, commit, undisputed) else {
         return Err(Fault::Memory);
     };
     decide(state, alloc, wounded, needs, commit.txn, at, request)
 }
 
 // The locks are granted, and other shards take part.
-fn collect_now(state: &State, alloc: Global, now: &Reading, commit: &Commit) -> Result<Plan, Fault>
+fn collect_now(
+    state: &State,
+    alloc: Global,
+    now: &Reading,
+    commit: &Commit,
+    undisputed: bool,
+) -> Result<Plan, Fault>
+    requires nobody { undisputed ≡ true → EndsNobody state.now commit.now.txn commit.now.writes }
     requires opens { opens_writes state.now commit.now.txn commit.now.writes ≡ true }
     requires others { list_any (λ n. not (nat_eq n state.now.setup.shard)) commit.now.parts ≡ true }
     requires ends { may_end state.now.memory.rows commit.now.txn ≡ true }
@@ -181,18 +224,25 @@ fn collect_now(state: &State, alloc: Global, now: &Reading, commit: &Commit) -> 
     if state.is_crowded(commit.txn) {
         return Err(Fault::RowsFull);
     }
-    collect_anew(state, alloc, now, commit)
+    collect_anew(state, alloc, now, commit, undisputed)
 }
 
 // Whoever is in the way is ended, and votes are collected.
-fn collect_anew(state: &State, alloc: Global, now: &Reading, commit: &Commit) -> Result<Plan, Fault>
+fn collect_anew(
+    state: &State,
+    alloc: Global,
+    now: &Reading,
+    commit: &Commit,
+    undisputed: bool,
+) -> Result<Plan, Fault>
+    requires nobody { undisputed ≡ true → EndsNobody state.now commit.now.txn commit.now.writes }
     requires opens { opens_writes state.now commit.now.txn commit.now.writes ≡ true }
     requires asks { may_ask state.now.memory.rows commit.now.txn ≡ true }
     ensures plan { MakesCollectingAnew state.now now.now.latest commit.now result }
     ensures fit { IfOk result (IsFit state.now) }
     ensures memory { IfErr result (λ fault. fault ≡ Fault.Memory) }
 {
-    let Ok((wounded, needs, request)) = asked_anew(state, alloc, now, commit) else {
+    let Ok((wounded, needs, request)) = asked_anew(state, alloc, now, commit, undisputed) else {
         return Err(Fault::Memory);
     };
     collect(state, alloc, wounded, needs, commit.txn, request)
@@ -220,7 +270,7 @@ fn wait_in_row(state: &State, alloc: Global, now: &Reading, commit: &Commit) -> 
     ensures fit { IfOk result (IsFit state.now) }
     ensures memory { IfErr result (λ fault. fault ≡ Fault.Memory) }
 {
-    let Ok((wounded, needs, request)) = asked_anew(state, alloc, now, commit) else {
+    let Ok((wounded, needs, request)) = asked_anew(state, alloc, now, commit, false) else {
         return Err(Fault::Memory);
     };
     let asked = Request {
@@ -237,7 +287,9 @@ fn asked_anew(
     alloc: Global,
     now: &Reading,
     commit: &Commit,
+    undisputed: bool,
 ) -> Result<(Ids, Vec<Lock>, CommitRequest), Fault>
+    requires { undisputed ≡ true → EndsNobody state.now commit.now.txn commit.now.writes }
     ensures ids { IfOk result (λ asked. asked.0 ≡
         in_way (start_of state.now) commit.now.txn (exclusive commit.now.writes)) }
     ensures locks { IfOk result (λ asked. asked.1.items ≡ exclusive commit.now.writes) }
@@ -252,7 +304,7 @@ fn asked_anew(
     let Ok(needs) = exclusive(alloc, &commit.writes) else {
         return Err(Fault::Memory);
     };
-    let Ok(wounded) = state.in_way(alloc, commit.txn, &needs) else {
+    let Ok(wounded) = state.in_way_unless(alloc, commit.txn, &needs, undisputed) else {
         return Err(Fault::Memory);
     };
     let (reads, writes) = (commit.reads.keys(), &commit.writes);

@@ -28,6 +28,10 @@ HasRowIn k t phase = find_row k.memory.rows t ≡ Some (record { txn = t; held =
 abbrev pub opens_writes : Kept → Id → List Write → Bool
 opens_writes k t ws = protocol.opens (start_of k) t (exclusive ws)
 
+-- nobody is in the way of exclusive locks of what is written whom they would end
+abbrev pub EndsNobody : Kept → Id → List Write → Type 0
+EndsNobody k t ws = protocol.in_way (start_of k) t (exclusive ws) ≡ []
+
 -- where there is a plan, it is this one of the definitions
 abbrev pub MakesPlan : Kept → protocol.Plan → Result Plan Fault → Type 0
 MakesPlan k p result = IfOk result (λ plan. plan_of k.memory.rows plan ≡ p)

@@ -241,6 +241,24 @@ impl State {
         self.rows.wounded(alloc, txn, needs)
     }
 
+    /// Whom a request of these locks ends, where it may be known that it ends nobody (`is_undisputed`).
+    pub fn in_way_unless(
+        &self,
+        alloc: Global,
+        txn: TxnId,
+        needs: &[Lock],
+        undisputed: bool,
+    ) -> Result<Ids, Fault>
+        requires { undisputed ≡ true → in_way (start_of self.now) txn needs.now ≡ [] }
+        ensures ids { IfOk result (λ ids. ids ≡ in_way (start_of self.now) txn needs.now) }
+        ensures memory { IfErr result (λ fault. fault ≡ Fault.Memory) }
+    {
+        if undisputed {
+            return Ok(Ids::from_vec(Vec::new(alloc)));
+        }
+        self.in_way(alloc, txn, needs)
+    }
+
     /// The request is granted once those that it ends are gone.
     pub fn opens(&self, txn: TxnId, needs: &[Lock]) -> bool
         ensures { result ≡ opens (start_of self.now) txn needs.now }

@@ -44,10 +44,6 @@ MakesGrantedRead k ended t key result = MakesPlan k (granted_read (start_of k) e
 abbrev pub MakesPromise : Kept → List Id → Id → ℕ → PrepareRequest → Result Plan Fault → Type 0
 MakesPromise k ended t at r result = MakesPlan k (promised_by (start_of k) ended t at r.coordinator r.reads r.writes) result
 
--- nobody is in the way of a prepare's locks whom it would end
-abbrev pub EndsNobody : Kept → Prepare → Type 0
-EndsNobody k m = in_way (start_of k) m.txn (exclusive m.writes) ≡ []
-
 -- whoever is in the way is ended, and the promise made
 abbrev pub MakesPromiseAnew : Kept → ℕ → Prepare → Result Plan Fault → Type 0
 MakesPromiseAnew k at m result =

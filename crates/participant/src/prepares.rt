@@ -8,8 +8,8 @@ ghost use Rattle.protocol.specs.Cells.{plan_prepare_fresh};
 ghost use Rattle.rows.specs.CodeRows.{phase_of};
 ghost use Rattle.memory.specs.Carry.{Asks, IsFit, MayTurn, may_ask, may_end};
 ghost use Rattle.memory.specs.Kept.{start_of, standing_of, IsPlanned};
-ghost use Rattle.memory.specs.Standings.{standing_in, standing_by_row, opens_writes, MakesPlan, MakesReply};
-ghost use Rattle.participant.specs.ByMessage.{PlansPrepare, PlansPrepareNow, PlansPromise, EndsNobody, MakesPromise, MakesPromiseAnew};
+ghost use Rattle.memory.specs.Standings.{standing_in, standing_by_row, opens_writes, EndsNobody, MakesPlan, MakesReply};
+ghost use Rattle.participant.specs.ByMessage.{PlansPrepare, PlansPrepareNow, PlansPromise, MakesPromise, MakesPromiseAnew};
 
 use locks::exclusive;
 use memory::{Change, PastStanding, Plan, Request, State, reads_stand, vote_to};
@@ -162,7 +162,7 @@ fn promise_now(
     prepare: &Prepare,
     undisputed: bool,
 ) -> Result<Plan, Fault>
-    requires nobody { undisputed ≡ true → EndsNobody state.now prepare.now }
+    requires nobody { undisputed ≡ true → EndsNobody state.now prepare.now.txn prepare.now.writes }
     requires opens { opens_writes state.now prepare.now.txn prepare.now.writes ≡ true }
     requires ends { may_end state.now.memory.rows prepare.now.txn ≡ true }
     ensures planned { PlansPrepareNow state.now now.now.earliest prepare.now result }
@@ -186,7 +186,7 @@ fn promise_anew(
     at: Stamp,
     undisputed: bool,
 ) -> Result<Plan, Fault>
-    requires nobody { undisputed ≡ true → EndsNobody state.now prepare.now }
+    requires nobody { undisputed ≡ true → EndsNobody state.now prepare.now.txn prepare.now.writes }
     requires opens { opens_writes state.now prepare.now.txn prepare.now.writes ≡ true }
     requires asks { may_ask state.now.memory.rows prepare.now.txn ≡ true }
     ensures plan { MakesPromiseAnew state.now at prepare.now result }
@@ -242,7 +242,7 @@ fn asked_anew(
     prepare: &Prepare,
     undisputed: bool,
 ) -> Result<(Ids, Vec<Lock>, PrepareRequest), Fault>
-    requires { undisputed ≡ true → EndsNobody state.now prepare.now }
+    requires { undisputed ≡ true → EndsNobody state.now prepare.now.txn prepare.now.writes }
     ensures ids { IfOk result (λ asked. asked.0 ≡
         in_way (start_of state.now) prepare.now.txn (exclusive prepare.now.writes)) }
     ensures locks { IfOk result (λ asked. asked.1.items ≡ exclusive prepare.now.writes) }
@@ -256,7 +256,7 @@ fn asked_anew(
     let Ok(needs) = exclusive(alloc, &prepare.writes) else {
         return Err(Fault::Memory);
     };
-    let Ok(wounded) = ended(state, alloc, prepare.txn, &needs, undisputed) else {
+    let Ok(wounded) = state.in_way_unless(alloc, prepare.txn, &needs, undisputed) else {
         return Err(Fault::Memory);
     };
     let (reads, writes) = (prepare.reads.keys(), &prepare.writes);
@@ -264,24 +264,6 @@ fn asked_anew(
         return Err(Fault::Memory);
     };
     Ok((wounded, needs, request))
-}
-
-// Whom a request ends: nobody where it is undisputed.
-fn ended(
-    state: &State,
-    alloc: Global,
-    txn: TxnId,
-    needs: &[Lock],
-    undisputed: bool,
-) -> Result<Ids, Fault>
-    requires { undisputed ≡ true → in_way (start_of state.now) txn needs.now ≡ [] }
-    ensures ids { IfOk result (λ ids. ids ≡ in_way (start_of state.now) txn needs.now) }
-    ensures memory { IfErr result (λ fault. fault ≡ Fault.Memory) }
-{
-    if undisputed {
-        return Ok(Ids::from_vec(Vec::new(alloc)));
-    }
-    state.in_way(alloc, txn, needs)
 }
 
 /// The prepare that a transaction waits with, once its locks are granted.
