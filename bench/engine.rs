@@ -519,8 +519,8 @@ impl Shard for Engine {
         }
     }
 
-    fn commit(txn: Txn, key: Key) -> Input {
-        Input::Commit { txn, part: part(vec![key]) }
+    fn commit(txn: Txn, keys: Vec<Key>) -> Input {
+        Input::Commit { txn, part: part(keys) }
     }
 
     fn settle(txn: Txn) -> Input {

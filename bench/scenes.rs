@@ -26,7 +26,7 @@ pub trait Shard: Sized {
     /// It writes the value to the keys, which ascend, as does a commit to its key. The coordinator is shard 0.
     fn prepare(txn: Txn, keys: Vec<Self::Key>) -> Self::Input;
     fn outcome(txn: Txn, at: u64) -> Self::Input;
-    fn commit(txn: Txn, key: Self::Key) -> Self::Input;
+    fn commit(txn: Txn, keys: Vec<Self::Key>) -> Self::Input;
     fn settle(txn: Txn) -> Self::Input;
     /// The oldest wait that would be granted goes on.
     fn resume() -> Self::Input;
@@ -146,7 +146,8 @@ fn check<S: Shard>(store: &S, key: &S::Key) {
     assert_eq!(&buffer[..VALUE.len()], VALUE);
 }
 
-/// Each call of the first kind on a hundred ids, then of the second kind, over and over; the least of several rounds.
+/// Each call of the first kind on a hundred ids, then, 200 microseconds later, of the second kind, over and over; the least of several
+/// rounds.
 fn in_turn<S: Shard>(
     store: &mut S,
     first: impl Fn(u64, u64) -> S::Input,
@@ -162,7 +163,7 @@ fn in_turn<S: Shard>(
         least.0 = least.0.min(start.elapsed());
         let inputs: Vec<S::Input> = ids.map(|n| second(n, at)).collect();
         let start = Cpu::now();
-        inputs.iter().for_each(|input| store.give(at, input));
+        inputs.iter().for_each(|input| store.give(at + 200, input));
         least.1 = least.1.min(start.elapsed());
     }
     least
@@ -191,7 +192,7 @@ fn rows<S: Shard>(rows: u64) {
     store.end();
 }
 
-/// Each prepare writes some keys of its own, beside rows of other keys.
+/// Each prepare writes some keys of its own, beside rows of other keys; and so does each commit.
 fn wide<S: Shard>(rows: u64) {
     const KEYS: u64 = 16;
     let mut store = S::new(1);
@@ -205,6 +206,18 @@ fn wide<S: Shard>(rows: u64) {
     );
     tell(&format!("prepare of {KEYS} keys, {rows} rows"), taken, 100);
     tell(&format!("its outcome, {rows} rows"), ended, 100);
+    store.end();
+    let mut store = S::new(0);
+    for n in 0..rows {
+        store.give(100, &S::read((1, n), key::<S>(b'a', n)));
+    }
+    let (taken, ended) = in_turn(
+        &mut store,
+        |n, _| S::commit((3, n), (0..KEYS).map(|m| key::<S>(b'k', n * KEYS + m)).collect()),
+        |n, _| S::settle((3, n)),
+    );
+    tell(&format!("commit of {KEYS} keys, {rows} rows"), taken, 100);
+    tell(&format!("its settling, {rows} rows"), ended, 100);
     store.end();
 }
 
@@ -269,7 +282,7 @@ fn many<S: Shard>(waiters: u64) {
 /// Commits and settles, on from a number.
 fn write<S: Shard>(store: &mut S, n: u64, run: u64, place: u64) {
     let at = n * 100 + 100;
-    store.give(at, &S::commit((run, n), key::<S>(b'k', place)));
+    store.give(at, &S::commit((run, n), vec![key::<S>(b'k', place)]));
     store.give(at + 50, &S::settle((run, n)));
 }
 

@@ -87,12 +87,12 @@ impl Shard for Store {
         }))
     }
 
-    fn commit(txn: Txn, key: Key) -> Input {
+    fn commit(txn: Txn, keys: Vec<Key>) -> Input {
         Input::Deliver(Message::Commit(Commit {
             txn: id(txn),
             parts: Parts::only(ShardNo::new(0).unwrap()),
             reads: Reads::none(Global),
-            writes: writes(vec![key]),
+            writes: writes(keys),
         }))
     }
 
