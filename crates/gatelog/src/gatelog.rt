@@ -8,7 +8,7 @@ ghost use Rattle.disk.specs.Planned.{IsAsPlanned, armed};
 ghost use Rattle.disk.specs.Moments.{LeavesOnly};
 ghost use Rattle.gatelog.specs.Armed.{fails_in_append, appended, waits, IsArmed};
 ghost use Rattle.gatelog.specs.Crash.{Stands, IsOldOrWith};
-ghost use Rattle.gatelog.specs.Frames.{end_of, next_gate, staged_bytes, IsFull};
+ghost use Rattle.gatelog.specs.Frames.{IsNearLimit, end_of, next_gate, staged_bytes, IsFull};
 ghost use Rattle.gatelog.specs.Gates.{first_gate};
 ghost use Rattle.gatelog.specs.Log.{log, and_entry, ends_at, is_no_log};
 
@@ -229,6 +229,14 @@ impl<D: Disk> GateLog<D> {
     {
         let size = encoded_len(item) + 6;
         self.gate <= 1 << 40 && size <= (1 << 40) - self.gate
+    }
+
+    /// The file ends so near its limit of 2^40 bytes that a record may be too long for it.
+    pub fn is_near_limit(&self) -> bool
+        ensures near { IsTrue result → IsNearLimit (gate_at self.now) }
+        ensures far { IsFalse result → gate_at self.now + 2 ^ 20 + 6 ≤ 2 ^ 40 }
+    {
+        (1 << 40) - (1 << 20) - 6 < self.gate
     }
 
     /// Takes all the memory that an append of this record needs, the disk's too. `TimeSpent` where the file would grow

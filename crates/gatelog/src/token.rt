@@ -54,15 +54,6 @@ impl Entry {
         &self.item
     }
 
-    /// A copy of its record, which stands in the log: what an append gives for a record that it adds. It is refused for want
-    /// of memory alone.
-    pub fn logged(&self, alloc: Global) -> Result<Logged, Fault>
-        ensures same { IfOk result (λ logged. logged ≡ self.now.item) }
-        ensures memory { IfErr result (λ fault. fault ≡ Fault.Memory) }
-    {
-        Ok(Logged::new(self.item.copy(alloc)?))
-    }
-
     /// Its record, which stands in the log.
     pub fn into_logged(self) -> Logged
         ensures { result ≡ self.item }

@@ -3,9 +3,9 @@ use Rattle.std.proofs.Common.{◌≡◌, ◌⊎◌, inl, inr, ⊎_elim, ℕ, ◌
 use Rattle.std.proofs.Common.{Some, None, Result, Ok, Err, IfOk, IfErr, refl, sym, ap, subst, arith}
 use Rattle.std.proofs.Math.Logic.{∥∥₁_elim}
 use Rattle.std.proofs.Props.{props}
-use Rattle.std.proofs.lemmas.Bool.{cases_lt}
+use Rattle.std.proofs.lemmas.Bool.{cases_lt, false≢true}
 use Rattle.units.specs.declared.fault.Fault.{Fault}
-use Rattle.units.specs.declared.fault.Fault.TheVariants.{Memory as WantsMemory, TimeSpent, BookFull}
+use Rattle.units.specs.declared.fault.Fault.TheVariants.{Memory as WantsMemory, Stopped, TimeSpent, BookFull}
 use Rattle.units.specs.declared.setup.Setup.{Setup}
 use Rattle.units.specs.declared.setup.Book.{Book}
 use Rattle.units.specs.declared.setup.Book.TheVariants.{Off, On}
@@ -18,30 +18,55 @@ use Rattle.record.specs.declared.record.Record.{Record}
 use Rattle.truetime.specs.Interval.{Interval}
 use Rattle.protocol.specs.Rows.{Memory, rebuilt}
 use Rattle.protocol.specs.Replay.{Stand}
-use Rattle.protocol.specs.Step.{Stepped, Refuses, Does, facts_after}
+use Rattle.protocol.specs.Step.{Stepped, Refuses, Does, facts_after, stepped}
 use Rattle.book.specs.Books.{BookView, HasBookRoom, IsBookFull, IsBookOf, PageIsStep, Replays, new_book, with_page}
+use Rattle.gatelog.specs.Frames.{IsNearLimit}
+use Rattle.protocol.specs.Plan.{Planned}
+use Rattle.protocol.specs.Refusals.{Owns, is_own}
 use Rattle.shard.specs.Armed.{HasPlace}
-use Rattle.shard.specs.Booked.{IsCrowded, IsFullCause, stand_of}
+use Rattle.shard.specs.Booked.{IsCrowded, IsFirst, IsFullCause, stand_of}
 use Rattle.shard.specs.On.{CoreView, HasStepped, IsCause, IsDone, IsLogFull, StandsAsBefore, record_of, step_of}
 use Rattle.shard.specs.Opened.{next_opening}
 
 -- ---- where a book is full
 
+not-full : (gate : ℕ) (logged : Option Record) → (IsNearLimit gate → ⊥) → IsLogFull gate logged → ⊥
+not-full gate None far full = full
+not-full gate (Some r) far full = far full.1
+
+has-place : (gate : ℕ) (logged : Option Record) → HasPlace gate logged → IsLogFull gate logged → ⊥
+has-place gate None place full = full
+has-place gate (Some r) place full = absurd (omega (arith, place, full.0))
+
+-- what is answered where the plan of an input was refused
+first-cause : (memory : Memory) (stopped : Bool) (gate : ℕ) (p : Planned) (Failed : Type 0) (planned fault : Fault) → Owns p → (Failed → ⊥)
+    → IsCause stopped (stepped memory p) planned (IsLogFull gate (record_of (stepped memory p))) Failed → IsFirst gate planned fault
+    → IsFullCause stopped gate (stepped memory p) fault
+first-cause memory true gate p Failed planned fault own runs because (inl first) = absurd (other because first.0)
+  where
+    other : planned ≡ Stopped → planned ≡ WantsMemory → ⊥
+    other stopped want = cc
+first-cause memory true gate p Failed planned fault own runs because (inr same) = same.0 ∙ because
+first-cause memory false gate (Err why) Failed planned fault own runs because (inl first) =
+    absurd (false≢true (subst (λ (f : Fault). is_own f ≡ true) (sym because ∙ first.0) own))
+first-cause memory false gate (Err why) Failed planned fault own runs because (inr same) = same.0 ∙ because
+first-cause memory false gate (Ok p) Failed planned fault own runs (inl want) (inl first) = inr (inr (first.1.0, not-full gate p.logged first.1.1))
+first-cause memory false gate (Ok p) Failed planned fault own runs (inl want) (inr same) = inl (same.0 ∙ want, same.1 want)
+first-cause memory false gate (Ok p) Failed planned fault own runs (inr (inl spent)) (inl first) = absurd (other spent.0 first.0)
+  where
+    other : planned ≡ TimeSpent → planned ≡ WantsMemory → ⊥
+    other spent want = cc
+first-cause memory false gate (Ok p) Failed planned fault own runs (inr (inl spent)) (inr same) = inr (inl (same.0 ∙ spent.0, spent.1))
+first-cause memory false gate (Ok p) Failed planned fault own runs (inr (inr device)) first = absurd (runs device.1)
+
 module _ {D : Type 0} (keeps obeys : Type 0) (file : D → File) (clock : D → ℕ) (since : D → ℕ → List ℕ → Type 0) (failures : D → ℕ)
     (plan : D → FailurePlan) where
   -- what is refused before anything is done
-  pub crowded-refused : (core : CoreView D) (step : Stepped) (fault : Fault) → HasStepped keeps obeys file clock since failures plan core core step (Err fault)
-      → IsCrowded core core step (Err fault)
-  crowded-refused core step fault h = (refl, by_cause core.stopped step h.cause)
-    where
-      by_cause : (stopped : Bool) (s : Stepped)
-          → IsCause stopped s fault (IsLogFull core.gate (record_of s)) ((failures core.disk < failures core.disk) × IsTrue core.stopped)
-          → IsFullCause stopped core.gate s fault
-      by_cause true s because = because
-      by_cause false (Refuses why) because = because
-      by_cause false (Does logged memory out) (inl want) = inl want
-      by_cause false (Does logged memory out) (inr (inl spent)) = inr (inl spent)
-      by_cause false (Does logged memory out) (inr (inr device)) = absurd (omega (arith, device.1.0))
+  pub crowded-refused : (core : CoreView D) (memory : Memory) (p : Planned) (planned fault : Fault) → Owns p
+      → HasStepped keeps obeys file clock since failures plan core core (stepped memory p) (Err planned) → IsFirst core.gate planned fault
+      → IsCrowded core core (stepped memory p) (Err fault)
+  crowded-refused core memory p planned fault own h first =
+      (refl, first-cause memory core.stopped core.gate p _ planned fault own (λ failed. absurd (omega (arith, failed.0))) h.cause first)
 
 -- why there is no page
 abbrev pub NoPage : ℕ → BookView → Option Record → Fault → Type 0
@@ -50,13 +75,14 @@ NoPage gate b logged fault =
     ⊎ ((b.capacity ≤ length b.pages) × (((fault ≡ TimeSpent) × IsLogFull gate logged) ⊎ ((fault ≡ BookFull) × HasPlace gate logged)))
 
 pub crowded-page : {D : Type 0} (core : CoreView D) (b : BookView) (logged : Option Record) (memory : Memory) (out : List Envelope) (fault : Fault)
-    → IsFalse core.stopped → NoPage core.gate b logged fault → IsCrowded core core (Does logged memory out) (Err fault)
-crowded-page core b logged memory out fault running none =
+    → IsFalse core.stopped → b.capacity ≤ length b.pages → NoPage core.gate b logged fault → IsCrowded core core (Does logged memory out) (Err fault)
+crowded-page core b logged memory out fault running full none =
     (refl, subst (λ s. IsFullCause s core.gate (Does logged memory out) fault) (sym running) (by_cause none))
   where
     by_cause : NoPage core.gate b logged fault → IsFullCause false core.gate (Does logged memory out) fault
-    by_cause (inl want) = inl want.0
-    by_cause (inr full) = inr full.1
+    by_cause (inl want) = absurd (omega (arith, full, want.1))
+    by_cause (inr (_, inl spent)) = inr (inl spent)
+    by_cause (inr (_, inr crowded)) = inr (inr (crowded.0, has-place core.gate logged crowded.1))
 
 pub wants-memory : (gate : ℕ) (b : BookView) (logged : Option Record) (fault : Fault) → NoPage gate b logged fault → length b.pages < b.capacity
     → fault ≡ WantsMemory

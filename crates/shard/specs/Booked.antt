@@ -8,7 +8,7 @@ use Rattle.message.specs.declared.message.Input.{Input}
 use Rattle.protocol.specs.Replay.{Stand}
 use Rattle.protocol.specs.Step.{Stepped, Refuses, Does}
 use Rattle.book.specs.Books.{BookView, and_page}
-use Rattle.shard.specs.Armed.{HasPlace}
+use Rattle.gatelog.specs.Frames.{IsNearLimit}
 use Rattle.shard.specs.On.{CoreView, IsLogFull}
 
 -- where a core stands
@@ -21,12 +21,20 @@ HasEntered old new now i (Ok out) = new ≡ and_page old (record { input = i; no
 HasEntered old new now i (Err fault) = new ≡ old
 
 -- Why an input is refused by a core whose book is full. A stopped core refuses all. Else it is the step's own refusal; or, where
--- the step would be done: a growth was refused, the log would pass its limit, or the book is full.
+-- the step would be done: the log would pass its limit, or the book is full. A growth that was refused is answered only near the
+-- log's limit, where the record may not have been made, so that its length is not known.
 abbrev pub IsFullCause : Bool → ℕ → Stepped → Fault → Type 0
 IsFullCause true gate step fault = fault ≡ Stopped
 IsFullCause false gate (Refuses why) fault = fault ≡ why
 IsFullCause false gate (Does logged memory outbox) fault =
-    (fault ≡ WantsMemory) ⊎ (((fault ≡ TimeSpent) × IsLogFull gate logged) ⊎ ((fault ≡ BookFull) × HasPlace gate logged))
+    ((fault ≡ WantsMemory) × IsNearLimit gate)
+    ⊎ (((fault ≡ TimeSpent) × IsLogFull gate logged) ⊎ ((fault ≡ BookFull) × (IsLogFull gate logged → ⊥)))
+
+-- what a core whose book is full answers where the plan of an input was refused so
+abbrev pub IsFirst : ℕ → Fault → Fault → Type 0
+IsFirst gate planned fault =
+    ((planned ≡ WantsMemory) × (fault ≡ BookFull) × (IsNearLimit gate → ⊥))
+    ⊎ ((fault ≡ planned) × (planned ≡ WantsMemory → IsNearLimit gate))
 
 -- a core whose book is full takes no input, and all stays as it was
 abbrev pub IsCrowded : {D : Type 0} → CoreView D → CoreView D → Stepped → Result (List Envelope) Fault → Type 0

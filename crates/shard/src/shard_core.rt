@@ -15,7 +15,7 @@ ghost use Rattle.rows.specs.RowTable.{nth_prepared, nth_decided, decided_row, Is
 ghost use Rattle.units.specs.Lists.{gather};
 ghost use Rattle.protocol.specs.Showable.{IsShowable};
 ghost use Rattle.shard.specs.Agrees.{AgreesWithLog};
-ghost use Rattle.shard.specs.Booked.{HasEntered, IsCrowded, stand_of};
+ghost use Rattle.shard.specs.Booked.{HasEntered, IsCrowded, IsFirst, stand_of};
 ghost use Rattle.shard.specs.Due.{IsDue};
 ghost use Rattle.shard.specs.Logs.{records_in, KeepsRecords};
 ghost use Rattle.shard.specs.On.{HasStepped, step_of};
@@ -32,7 +32,7 @@ use disk::Disk;
 use gatelog::GateLog;
 use memory::Plan;
 use message::{Input, Outbox};
-use protocol::taken_is_showable;
+use protocol::{own_refusals, taken_is_showable};
 use record::{Record, accepted_follows, learn_agrees, learnt_agrees};
 use std::alloc::Global;
 use truetime::Reading;
@@ -123,9 +123,30 @@ impl<D: Disk> Core<D> {
         ensures entered { HasEntered (book_of self.old)
             (book_of self.new) now.now input.now result }
     {
+        own_refusals();
         match self.machine.plan(alloc, now, input) {
             Ok(plan) => self.enter(alloc, now, input, plan),
-            Err(fault) => Err(fault),
+            Err(fault) => Err(self.first_refusal(fault)),
+        }
+    }
+
+    // What is answered where the plan was refused: a full book comes before want of memory, but not near the log's limit, where a
+    // full log would come before both and the record may not have been made.
+    fn first_refusal(&self, fault: Fault) -> Fault
+        ensures room { HasBookRoom (seen self.now).setup.book (book_of self.now)
+            → result ≡ fault }
+        ensures full { IsBookFull (seen self.now).setup.book (book_of self.now)
+            → IsFirst (seen self.now).gate fault result }
+    {
+        match &self.book {
+            Some(book)
+                if fault == Fault::Memory
+                    && book.is_full()
+                    && !self.machine.is_near_limit() =>
+            {
+                Fault::BookFull
+            }
+            _ => fault,
         }
     }
 
