@@ -140,10 +140,7 @@ impl<D: Disk> Core<D> {
     {
         match &self.book {
             Some(book)
-                if fault == Fault::Memory
-                    && book.is_full()
-                    && !self.machine.is_near_limit() =>
-            {
+                if fault == Fault::Memory && book.is_full() && !self.machine.is_near_limit() => {
                 Fault::BookFull
             }
             _ => fault,
